@@ -1,0 +1,116 @@
+//! A reader or a writer that notes what its calls answered.
+ghost use Rattle.std.specs.Prelude.{◌≡◌, ◌+◌, ◌-◌, ◌^◌, min, length, false, true, MatchResult};
+ghost use Rattle.std.specs.Io.{ReadsAtMost, WritesAtMost};
+ghost use Rattle.std.specs.Io.KnownBytes.{Keeps, ReadConsumes, WriteAppends};
+
+use std::io;
+use std::io::{Read, Write};
+
+/// A reader or a writer, with a count of the bytes that went through and a note of whether a call answered an error or
+/// a write of some bytes took none. It takes no memory.
+#[derive(Drop)]
+pub struct Counted<T> {
+    inner: T,
+    bytes: u64,
+    failed: bool,
+}
+
+impl<T> Counted<T> {
+    ghost use Rattle.cdi_devices.specs.Counted.{inner_of, bytes_of, has_failed};
+
+    /// Nothing went through yet, and no call failed.
+    pub fn new(inner: T) -> Counted<T>
+        ensures inner { inner_of result ≡ inner }
+        ensures bytes { bytes_of result ≡ 0 }
+        ensures failed { has_failed result ≡ false }
+    {
+        Counted {
+            inner,
+            bytes: 0,
+            failed: false,
+        }
+    }
+
+    /// How many bytes went through. It stays at the greatest `u64`.
+    pub fn count(&self) -> u64
+        ensures { result ≡ bytes_of self.now }
+    {
+        self.bytes
+    }
+
+    /// Whether a call answered an error, or a write took no byte.
+    pub fn has_failed(&self) -> bool
+        ensures { result ≡ has_failed self.now }
+    {
+        self.failed
+    }
+
+    /// The reader or the writer itself.
+    pub fn into_inner(self) -> T
+        ensures { result ≡ inner_of self }
+    {
+        self.inner
+    }
+}
+
+impl<R: Read> Read for Counted<R> {
+    ghost use Rattle.cdi_devices.specs.Counted.{inner_of, bytes_of, has_failed, NotesRead};
+
+    ghost remaining = { λ c. R.remaining c.inner };
+
+    fn read(&mut self, buf: &mut [u8]) -> io::Result<usize>
+        ensures bound { ReadsAtMost result buf.new }
+        ensures bytes { ReadConsumes (R.remaining (inner_of self.old)) (R.remaining (inner_of self.new)) result buf.new }
+        ensures noted { NotesRead self.old self.new result }
+    {
+        match self.inner.read(buf) {
+            Ok(n) => {
+                self.bytes = self.bytes.saturating_add(n as u64);
+                Ok(n)
+            }
+            Err(e) => {
+                self.failed = true;
+                Err(e)
+            }
+        }
+    }
+}
+
+impl<W: Write> Write for Counted<W> {
+    ghost use Rattle.cdi_devices.specs.Counted.{inner_of, bytes_of, has_failed, NotesWrite, NotesFlush};
+
+    ghost contents = { λ c. W.contents c.inner };
+
+    fn write(&mut self, buf: &[u8]) -> io::Result<usize>
+        ensures bound { WritesAtMost result buf.now }
+        ensures bytes { WriteAppends (W.contents (inner_of self.old)) (W.contents (inner_of self.new)) result buf.now }
+        ensures noted { NotesWrite self.old self.new result }
+    {
+        match self.inner.write(buf) {
+            Ok(n) => {
+                self.bytes = self.bytes.saturating_add(n as u64);
+                if n == 0 {
+                    self.failed = true;
+                }
+                Ok(n)
+            }
+            Err(e) => {
+                self.failed = true;
+                Err(e)
+            }
+        }
+    }
+
+    fn flush(&mut self) -> io::Result<()>
+        ensures bytes { Keeps (W.contents (inner_of self.old)) (W.contents (inner_of self.new)) }
+        ensures noted { NotesFlush self.old self.new result }
+    {
+        match self.inner.flush() {
+            Ok(()) => Ok(()),
+            Err(e) => {
+                self.failed = true;
+                Err(e)
+            }
+        }
+    }
+}

@@ -1,0 +1,8 @@
+//! Reading from any reader and writing to any writer, with a count and a note of failures.
+#![tactic(auto)]
+
+mod counted;
+mod devices;
+
+pub use counted::Counted;
+pub use devices::{RunFault, SCRIPT_LIMIT, read_some, write_out};

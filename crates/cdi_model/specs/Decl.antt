@@ -1,0 +1,18 @@
+-- What a declaration is found by.
+use Rattle.std.specs.Prelude.{ℕ, List}
+use Rattle.cdi_model.specs.declared.decl.Decl.{Decl}
+use Rattle.cdi_model.specs.declared.decl.Decl.TheVariants as decls
+use Rattle.cdi_model.specs.declared.decl.Kind.{Kind}
+use Rattle.cdi_model.specs.declared.decl.Kind.TheVariants as kinds
+use Rattle.cdi_model.specs.declared.key.Key.{Key}
+
+abbrev pub kind_of : Decl → Kind
+kind_of (decls.Type d) = kinds.Type
+kind_of (decls.Bean d) = kinds.Bean
+
+abbrev pub name_of_decl : Decl → List ℕ
+name_of_decl (decls.Type d) = d.name
+name_of_decl (decls.Bean d) = d.name
+
+abbrev pub key_of : Decl → Key
+key_of d = record { kind = kind_of d; name = name_of_decl d }
