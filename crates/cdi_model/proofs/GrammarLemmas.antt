@@ -1,9 +1,10 @@
 -- A name is identifiers joined by dots.
-use Rattle.std.proofs.Common.{◌≡◌, ◌≤◌, ℕ, Bool, true, false, List, [], ◌∷◌, ◌++◌, length, refl, ap, sym, ◌∙◌, inl, inr}
+use Rattle.std.proofs.Common.{◌≡◌, ◌≤◌, ◌<◌, ℕ, Bool, true, false, List, [], ◌∷◌, ◌++◌, length, refl, ap, sym, ◌∙◌, inl, inr, arith}
 use Rattle.std.specs.Prelude.{◌==◌, ◌↔◌, nat_le, ◌≢◌}
 use Rattle.std.specs.List.{AllByRecursion, join_with_byte}
 use Rattle.std.proofs.lemmas.Bool.{cases_Bool, and_parts, and_from, false≢true}
 use Rattle.std.proofs.lemmas.Bool.{eqb-true, leb-true, le-leb}
+use Rattle.std.proofs.lemmas.Bool.Decides.{nat_tests}
 use Rattle.cdi_model.specs.Grammar.{is_letter, is_word, are_words, is_ident_text, begins, goes_on, is_name, JoinsIdentifiers}
 
 abbrev AreIdentifiers : List (List ℕ) → Type 0
@@ -110,3 +111,30 @@ name_meaning bytes = (
       (ap begins joins.joined ∙ begins-joined joins.parts joins.some joins.identifiers)
       (le-leb (length bytes) 64 joins.short),
 )
+
+letter_is_ascii : (b : ℕ) → is_letter b ≡ true → b < 128
+letter_is_ascii b h = grind (arith, nat_tests)
+
+word_is_ascii : (b : ℕ) → is_word b ≡ true → b < 128
+word_is_ascii b h = grind (arith, nat_tests)
+
+-- a name is ASCII
+mutual
+  begins_is_ascii : (bytes : List ℕ) → begins bytes ≡ true → AllByRecursion (λ b. b < 128) bytes
+  begins_is_ascii [] h = tt
+  begins_is_ascii (b ∷ bs) h =
+      let (letter, more) = and_parts (is_letter b) (goes_on bs) h in
+      (letter_is_ascii b letter, goes_on_is_ascii bs more)
+
+  goes_on_is_ascii : (bytes : List ℕ) → goes_on bytes ≡ true → AllByRecursion (λ b. b < 128) bytes
+  goes_on_is_ascii [] h = tt
+  goes_on_is_ascii (b ∷ bs) h = by (b == 46) refl (begins_is_ascii bs) (goes_on_is_ascii bs)
+    where
+      by : (dot : Bool) → (b == 46) ≡ dot → (begins bs ≡ true → AllByRecursion (λ b. b < 128) bs) → (goes_on bs ≡ true → AllByRecursion (λ b. b < 128) bs) → AllByRecursion (λ b. b < 128) (b ∷ bs)
+      by true dot whole rest = (let e : b ≡ 46 = eqb-true b 46 dot in omega arith, whole (rw dot at h))
+      by false dot whole rest =
+          let (word, more) = and_parts (is_word b) (goes_on bs) (rw dot at h) in
+          (word_is_ascii b word, rest more)
+
+pub is_name-ascii : (bytes : List ℕ) → is_name bytes ≡ true → AllByRecursion (λ b. b < 128) bytes
+is_name-ascii bytes h = begins_is_ascii bytes (and_parts (begins bytes) (nat_le (length bytes) 64) h).0

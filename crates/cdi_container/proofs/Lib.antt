@@ -1,0 +1,6 @@
+mod Runs
+mod Ran
+mod Serving
+mod Taking
+mod Feeding
+mod Going

@@ -1,0 +1,13 @@
+use Rattle.std.proofs.Common.{refl}
+use Rattle.std.proofs.lemmas.Result.{on_ok_weaker}
+use Rattle.cdi_container.specs.Commands.{Drop, Choose}
+use Rattle.cdi_container.proofs.Taking.{takes_one}
+use Rattle.cdi_container.proofs.session.Session.take_command.Goals as goal
+
+pub returns-in-Drop-clause-ok : goal.returns-in-Drop-clause-ok
+returns-in-Drop-clause-ok c = on_ok_weaker c.remove.result
+    (takes_one c.args.self.now (record c.args.self.now { runner = c.remove.new.self }) (Drop c.in-Drop.kind c.in-Drop.name) c.args.command _ c.in-Drop.is c.requires refl refl refl refl) c.remove.ensures.ok
+
+pub returns-in-Choose-clause-ok : goal.returns-in-Choose-clause-ok
+returns-in-Choose-clause-ok c = on_ok_weaker c.choose.result
+    (takes_one c.args.self.now (record c.args.self.now { runner = c.choose.new.self }) (Choose c.in-Choose.bean_type) c.args.command _ c.in-Choose.is c.requires refl refl refl refl) c.choose.ensures.ok

@@ -1,0 +1,77 @@
+-- The commands that the bytes of a script spell.
+use Rattle.std.specs.Prelude.{ℕ, Bool, List, [], ◌∷◌, ◌++◌, codes, Result, Ok, Err, if◌then◌else◌}
+use Rattle.std.specs.Str.{bytes_eq}
+use Rattle.cdi_model.specs.declared.decl.Kind.{Kind}
+use Rattle.cdi_model.specs.declared.refusal.Refusal.{Refusal}
+use Rattle.cdi_lines.specs.declared.command.Command.{Command as Said}
+use Rattle.cdi_lines.specs.declared.command.Command.TheVariants as said
+use Rattle.cdi_lines.specs.Lines.{ended_lines, lines}
+use Rattle.cdi_lines.specs.Words.{without_return}
+use Rattle.cdi_lines.specs.Command.{command_of_line}
+use Rattle.cdi_lines.specs.Kept.{with_line}
+
+pub data Command : Type 0 where
+  Put : List ℕ → Command
+  Drop : Kind → List ℕ → Command
+  Choose : List ℕ → Command
+  -- what is no command
+  Unreadable : Command
+
+-- where a line stands: outside a put block, or in one with this text so far
+pub data Mode : Type 0 where
+  Outside : Mode
+  InPut : List ℕ → Mode
+
+-- the command that a line outside a put block completes, if it does
+abbrev pub commands_said : Result Said Refusal → List Command
+commands_said (Ok said.Skip) = []
+commands_said (Ok said.Put) = []
+commands_said (Ok (said.Drop kind name)) = Drop kind name ∷ []
+commands_said (Ok (said.Choose t)) = Choose t ∷ []
+commands_said (Err refusal) = Unreadable ∷ []
+
+-- and where the next line stands
+abbrev pub mode_said : Result Said Refusal → Mode
+mode_said (Ok said.Skip) = Outside
+mode_said (Ok said.Put) = InPut []
+mode_said (Ok (said.Drop kind name)) = Outside
+mode_said (Ok (said.Choose t)) = Outside
+mode_said (Err refusal) = Outside
+
+abbrev pub is_dot : List ℕ → Bool
+is_dot line = bytes_eq (without_return line) (codes ".")
+
+-- the command that a line completes, if it does
+abbrev pub commands_of_line : Mode → List ℕ → List Command
+commands_of_line Outside line = commands_said (command_of_line line)
+commands_of_line (InPut text) line = if is_dot line then Put text ∷ [] else []
+
+-- where the next line stands
+abbrev pub mode_after : Mode → List ℕ → Mode
+mode_after Outside line = mode_said (command_of_line line)
+mode_after (InPut text) line = if is_dot line then Outside else InPut (with_line text line)
+
+abbrev pub commands_of_lines : Mode → List (List ℕ) → List Command
+commands_of_lines mode [] = []
+commands_of_lines mode (line ∷ rest) = commands_of_line mode line ++ commands_of_lines (mode_after mode line) rest
+
+abbrev pub mode_of_lines : Mode → List (List ℕ) → Mode
+mode_of_lines mode [] = mode
+mode_of_lines mode (line ∷ rest) = mode_of_lines (mode_after mode line) rest
+
+-- the commands whose lines are complete
+abbrev pub complete_commands : List ℕ → List Command
+complete_commands bytes = commands_of_lines Outside (ended_lines bytes)
+
+-- where a line stands after the complete lines
+abbrev pub mode_of : List ℕ → Mode
+mode_of bytes = mode_of_lines Outside (ended_lines bytes)
+
+-- a put block without its end is no command
+abbrev pub unclosed : Mode → List Command
+unclosed Outside = []
+unclosed (InPut text) = Unreadable ∷ []
+
+-- the commands that a script's bytes spell
+abbrev pub commands : List ℕ → List Command
+commands bytes = commands_of_lines Outside (lines bytes) ++ unclosed (mode_of_lines Outside (lines bytes))

@@ -1,0 +1,16 @@
+pub mod Choices
+pub mod Commands
+pub mod History
+pub mod Seen
+pub mod Text
+pub mod Printed
+pub mod Runner
+pub mod Session
+pub mod Run
+pub use Rattle.cdi_model.specs.Edits
+pub use Rattle.cdi_model.specs.DeclList
+pub use Rattle.cdi_lines.specs.Lines
+pub use Rattle.cdi_lines.specs.Words
+pub use Rattle.cdi_lines.specs.Command
+pub use Rattle.cdi_text.specs.Reading
+pub use Rattle.cdi_devices.specs.Counted

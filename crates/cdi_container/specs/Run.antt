@@ -1,0 +1,158 @@
+-- What a run of a script wrote.
+use Rattle.std.specs.Prelude.{◌≡◌, ℕ, ◌<◌, ◌≤◌, Bool, true, false, List, [], ◌++◌, length, map, Option, Some}
+use Rattle.std.specs.List.{list_any}
+use Rattle.std.specs.Io.KnownBytes.{Appends, Consumes, IsAtEnd}
+use Rattle.cdi_container.specs.Commands.{Command, commands, complete_commands, mode_of}
+use Rattle.cdi_lines.specs.Lines.{begun_line}
+use Rattle.cdi_container.specs.History.{State, empty, History, LegalHistory}
+use Rattle.cdi_container.specs.Seen.{state_of}
+use Rattle.cdi_container.specs.Text.{text_of, is_refused, is_out_of_memory}
+use Rattle.cdi_devices.specs.Counted.{inner_of, bytes_of, has_failed}
+use Rattle.cdi_devices.specs.declared.counted.Counted.{Counted}
+use Rattle.cdi_container.specs.declared.runner.Runner.{Runner}
+use Rattle.cdi_container.specs.Session.{Keeps}
+use Rattle.cdi_container.specs.declared.session.Session.{Session}
+
+-- a legal history from an empty container, of these commands, none of which wanted memory
+pub record IsHistoryOf (commands : List Command) (history : History) (state : State) : Type 0 where
+  pub legal : LegalHistory empty history state
+  pub commands_are : map (λ step. step.command) history ≡ commands
+  pub memory : list_any (λ step. is_out_of_memory step.answer) history ≡ false
+
+-- the text of such a history was written
+pub record WroteAll (quiet : Bool) (start now : Option (List ℕ)) (commands : List Command) : Type 0 where
+  pub history : History
+  pub state : State
+  pub is_history : IsHistoryOf commands history state
+  pub written : Appends start now (text_of quiet history)
+
+-- a front part of the text of such a history was written
+pub record WrotePart (quiet : Bool) (start now : Option (List ℕ)) (commands : List Command) : Type 0 where
+  pub history : History
+  pub state : State
+  pub is_history : IsHistoryOf commands history state
+  pub part : List ℕ
+  pub rest : List ℕ
+  pub text : text_of quiet history ≡ part ++ rest
+  pub written : Appends start now part
+
+-- the text of a legal history of the script's commands was written, and it tells whether one was refused
+pub record RunsWhole (quiet : Bool) (start now : Option (List ℕ)) (commands : List Command) (refused : Bool) : Type 0 where
+  pub history : History
+  pub state : State
+  pub is_history : IsHistoryOf commands history state
+  pub written : Appends start now (text_of quiet history)
+  pub refused_is : refused ≡ list_any (λ step. is_refused step.answer) history
+
+-- the first commands of a script
+abbrev pub AreFirst : List Command → List Command → Type 0
+AreFirst first all = (later : List Command) × (all ≡ first ++ later)
+
+-- the commands of a script before the one that wants memory were run, and their text was written
+abbrev pub RunsOutOfMemory : Bool → Option (List ℕ) → Option (List ℕ) → List ℕ → Type 0
+RunsOutOfMemory quiet start now input = (first : List Command) × AreFirst first (commands input) × WroteAll quiet start now first
+
+-- some commands of a script were run, and a front part of their text was written
+abbrev pub FailsToWrite : Bool → Option (List ℕ) → Option (List ℕ) → List ℕ → Type 0
+FailsToWrite quiet start now input = (first : List Command) × AreFirst first (commands input) × WrotePart quiet start now first
+
+module _ {R W : Type 0} (remaining : R → Option (List ℕ)) (contents : W → Option (List ℕ)) (limit : ℕ) (quiet : Bool) where
+  -- some input came to its end, at most as many bytes as the limit, and the text of a legal history of its commands was written
+  pub record RunsScript (reader reader_after : Counted R) (writer writer_after : Counted W) (refused : Bool) : Type 0 where
+    pub input : List ℕ
+    pub came : Consumes (remaining (inner_of reader)) (remaining (inner_of reader_after)) input
+    pub end : IsAtEnd (remaining (inner_of reader_after))
+    pub count : bytes_of reader_after ≡ length input
+    pub within : length input ≤ limit
+    pub runs : RunsWhole quiet (contents (inner_of writer)) (contents (inner_of writer_after)) (commands input) refused
+
+  -- some input came, at most as many bytes as the limit and then at most one behind it, and the text of the commands whose lines were complete was written
+  pub record FailsToRead (reader reader_after : Counted R) (writer writer_after : Counted W) : Type 0 where
+    pub given : List ℕ
+    pub extra : List ℕ
+    pub came : Consumes (remaining (inner_of reader)) (remaining (inner_of reader_after)) (given ++ extra)
+    pub within : length given ≤ limit
+    pub behind : 0 < length extra → (length given ≡ limit) × (length extra ≡ 1)
+    pub wrote : WroteAll quiet (contents (inner_of writer)) (contents (inner_of writer_after)) (complete_commands given)
+
+-- ---- on the way
+
+-- the runner's history is of these commands, and its text was written but for what is printed last
+pub record Printed (quiet : Bool) (start now : Option (List ℕ)) (r : Runner) (commands : List Command) : Type 0 where
+  pub history : History
+  pub is_history : IsHistoryOf commands history (state_of r.container)
+  pub sent : List ℕ
+  pub text : text_of quiet history ≡ sent ++ r.out.items
+  pub written : Appends start now sent
+  pub refused_is : r.refused ≡ list_any (λ step. is_refused step.answer) history
+  pub quiet_is : r.quiet ≡ quiet
+
+-- a session stands as these bytes leave it
+pub record Stands (quiet : Bool) (start now : Option (List ℕ)) (s : Session) (given : List ℕ) : Type 0 where
+  pub printed : Printed quiet start now s.runner (complete_commands given)
+  pub keeps : Keeps s (mode_of given) (begun_line given)
+
+module _ {W : Type 0} (contents : W → Option (List ℕ)) where
+  abbrev pub contents_of : Counted W → Option (List ℕ)
+  contents_of w = contents (inner_of w)
+
+  -- what is printed was written
+  pub record Sends (old new : Runner) (before after : Counted W) : Type 0 where
+    pub written : Appends (contents_of before) (contents_of after) old.out.items
+    pub out : new.out.items ≡ []
+    pub container : new.container ≡ old.container
+    pub refused : new.refused ≡ old.refused
+    pub quiet : new.quiet ≡ old.quiet
+    pub still : has_failed after ≡ has_failed before
+
+  -- a front part of what is printed was written, and the writer failed
+  pub record SendsPart (old : Runner) (before after : Counted W) : Type 0 where
+    pub part : List ℕ
+    pub rest : List ℕ
+    pub out : old.out.items ≡ part ++ rest
+    pub written : Appends (contents_of before) (contents_of after) part
+    pub failed : has_failed after ≡ true
+
+  -- all that is printed was written
+  pub record SendsLast (old : Runner) (before after : Counted W) : Type 0 where
+    pub written : Appends (contents_of before) (contents_of after) old.out.items
+    pub still : has_failed after ≡ has_failed before
+
+  -- wherever the session stood, it stands behind these bytes now
+  abbrev pub Feeds : Session → Session → Counted W → Counted W → List ℕ → Type 0
+  Feeds old new before after bytes = (quiet : Bool) (start : Option (List ℕ)) (given : List ℕ) → Stands quiet start (contents_of before) old given
+      → Stands quiet start (contents_of after) new (given ++ bytes)
+
+  -- wherever the session stood, a front part of these bytes was taken and the text of the commands so far was written
+  abbrev pub FeedsBeforeMemory : Session → Counted W → Counted W → List ℕ → Type 0
+  FeedsBeforeMemory old before after bytes = (done : List ℕ) × (rest : List ℕ) × (bytes ≡ done ++ rest)
+      × ((quiet : Bool) (start : Option (List ℕ)) (given : List ℕ) → Stands quiet start (contents_of before) old given → WroteAll quiet start (contents_of after) (complete_commands (given ++ done)))
+
+  abbrev pub FeedsPart : Session → Counted W → Counted W → List ℕ → Type 0
+  FeedsPart old before after bytes = (done : List ℕ) × (rest : List ℕ) × (bytes ≡ done ++ rest)
+      × ((quiet : Bool) (start : Option (List ℕ)) (given : List ℕ) → Stands quiet start (contents_of before) old given → WrotePart quiet start (contents_of after) (complete_commands (given ++ done)))
+
+  -- the end of input was taken, and the text of all commands was written
+  abbrev pub Ends : Session → Counted W → Counted W → Bool → Type 0
+  Ends old before after refused = (quiet : Bool) (start : Option (List ℕ)) (given : List ℕ) → Stands quiet start (contents_of before) old given
+      → RunsWhole quiet start (contents_of after) (commands given) refused
+
+  abbrev pub EndsBeforeMemory : Session → Counted W → Counted W → Type 0
+  EndsBeforeMemory old before after = (quiet : Bool) (start : Option (List ℕ)) (given : List ℕ) → Stands quiet start (contents_of before) old given
+      → RunsOutOfMemory quiet start (contents_of after) given
+
+  abbrev pub EndsPart : Session → Counted W → Counted W → Type 0
+  EndsPart old before after = (quiet : Bool) (start : Option (List ℕ)) (given : List ℕ) → Stands quiet start (contents_of before) old given
+      → FailsToWrite quiet start (contents_of after) given
+
+module _ {R W : Type 0} (remaining : R → Option (List ℕ)) (contents : W → Option (List ℕ)) (limit : ℕ) where
+  -- a run between two reads: what came so far was taken, and its text written
+  pub record Goes (quiet : Bool) (first_reader : Counted R) (first_writer : Counted W) (reader : Counted R) (writer : Counted W) (s : Session) : Type 0 where
+    pub given : List ℕ
+    pub came : Consumes (remaining (inner_of first_reader)) (remaining (inner_of reader)) given
+    pub stands : Stands quiet (contents (inner_of first_writer)) (contents (inner_of writer)) s given
+    pub out : s.runner.out.items ≡ []
+    pub count : bytes_of reader ≡ length given
+    pub within : bytes_of reader ≤ limit
+    pub reader_still : has_failed reader ≡ false
+    pub writer_still : has_failed writer ≡ false

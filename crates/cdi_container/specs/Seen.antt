@@ -1,0 +1,38 @@
+-- What is seen of a container, and the steps of its calls.
+use Rattle.std.specs.Prelude.{ℕ, List, [], Result, Ok, Err}
+use Rattle.std.specs.declared.alloc.AllocError.{AllocError}
+use Rattle.cdi_model.specs.declared.decl.Kind.{Kind}
+use Rattle.cdi_model.specs.declared.refusal.Error.{Error}
+use Rattle.cdi_model.specs.declared.refusal.Error.TheVariants as errors
+use Rattle.cdi_container.specs.declared.choice.Choice.{Choice}
+use Rattle.cdi_container.specs.declared.container.Container.{Container}
+use Rattle.cdi_container.specs.Commands.{Command, Put, Drop, Choose}
+use Rattle.cdi_container.specs.History.{State, Answer, Done, Chosen, Refused, OutOfMemory, LegalAnswer}
+
+-- the state that a container holds
+abbrev pub state_of : Container → State
+state_of c = record { decls = c.decls }
+
+-- the answer of a call that gives no value
+abbrev pub edit_answer : Result (Unit {0}) Error → Answer
+edit_answer (Ok u) = Done
+edit_answer (Err errors.OutOfMemory) = OutOfMemory
+edit_answer (Err (errors.Refused refusal)) = Refused refusal
+
+-- the answer of a call that gives a choice and is never refused
+abbrev pub choice_answer : Result Choice AllocError → Answer
+choice_answer (Ok choice) = Chosen choice
+choice_answer (Err e) = OutOfMemory
+
+-- a call is a legal step from the state that the container held to the one that it holds
+abbrev pub IsStep : Container → Command → Answer → Container → Type 0
+IsStep old command answer new = LegalAnswer (state_of old) command answer [] (state_of new)
+
+abbrev pub PutStep : Container → List ℕ → Result (Unit {0}) Error → Container → Type 0
+PutStep old text result new = IsStep old (Put text) (edit_answer result) new
+
+abbrev pub DropStep : Container → Kind → List ℕ → Result (Unit {0}) Error → Container → Type 0
+DropStep old kind name result new = IsStep old (Drop kind name) (edit_answer result) new
+
+abbrev pub ChooseStep : Container → List ℕ → Result Choice AllocError → Container → Type 0
+ChooseStep old t result new = IsStep old (Choose t) (choice_answer result) new

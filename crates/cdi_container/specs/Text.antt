@@ -1,0 +1,64 @@
+-- The text that steps print.
+use Rattle.std.specs.Prelude.{ℕ, Bool, true, false, List, [], ◌∷◌, ◌++◌, codes, flat_map, if◌then◌else◌}
+use Rattle.cdi_model.specs.declared.refusal.Refusal.{Refusal}
+use Rattle.cdi_model.specs.declared.refusal.Refusal.TheVariants.{TooLong, NotToml, UnknownKind, UnknownKey, MissingKey, WrongKind, BadName, TooMany, Absent, BadCommand}
+use Rattle.cdi_container.specs.declared.choice.BeanId.{BeanId}
+use Rattle.cdi_container.specs.declared.choice.Choice.{Choice}
+use Rattle.cdi_container.specs.declared.choice.Choice.TheVariants.{One, Unsatisfied, Ambiguous}
+use Rattle.cdi_container.specs.History.{Answer, Done, Chosen, Refused, OutOfMemory, Entry, Step, History}
+
+-- the code and the word of a refusal
+abbrev pub word_of : Refusal → List ℕ
+word_of TooLong = codes "E01 TooLong"
+word_of NotToml = codes "E02 NotToml"
+word_of UnknownKind = codes "E03 UnknownKind"
+word_of UnknownKey = codes "E04 UnknownKey"
+word_of MissingKey = codes "E05 MissingKey"
+word_of WrongKind = codes "E06 WrongKind"
+word_of BadName = codes "E07 BadName"
+word_of TooMany = codes "E10 TooMany"
+word_of Absent = codes "E11 Absent"
+word_of BadCommand = codes "E20 BadCommand"
+
+abbrev pub text_of_id : BeanId → List ℕ
+text_of_id id = id.class
+
+-- each bean after a space
+abbrev pub text_of_ids : List BeanId → List ℕ
+text_of_ids ids = flat_map (λ id. 32 ∷ text_of_id id) ids
+
+abbrev pub text_of_choice : Choice → List ℕ
+text_of_choice (One id) = codes "one " ++ text_of_id id
+text_of_choice Unsatisfied = codes "unsatisfied"
+text_of_choice (Ambiguous ids) = codes "ambiguous" ++ text_of_ids ids
+
+-- what an answer prints before the end of its line; want of memory ends a script and prints nothing
+abbrev pub words_of_answer : Answer → List ℕ
+words_of_answer Done = codes "ok"
+words_of_answer (Chosen choice) = text_of_choice choice
+words_of_answer (Refused refusal) = codes "refused " ++ word_of refusal
+words_of_answer OutOfMemory = []
+
+abbrev pub text_of_answer : Answer → List ℕ
+text_of_answer answer = words_of_answer answer ++ 10 ∷ []
+
+abbrev pub text_of_entry : Entry → List ℕ
+text_of_entry entry = elim entry [ ]
+
+abbrev pub text_of_trace : Bool → List Entry → List ℕ
+text_of_trace quiet trace = if quiet then [] else flat_map text_of_entry trace
+
+-- a command's trace, unless it is left out, and then its answer
+abbrev pub text_of_step : Bool → Step → List ℕ
+text_of_step quiet step = text_of_trace quiet step.trace ++ text_of_answer step.answer
+
+abbrev pub text_of : Bool → History → List ℕ
+text_of quiet history = flat_map (text_of_step quiet) history
+
+abbrev pub is_refused : Answer → Bool
+is_refused (Refused refusal) = true
+is_refused answer = false
+
+abbrev pub is_out_of_memory : Answer → Bool
+is_out_of_memory OutOfMemory = true
+is_out_of_memory answer = false

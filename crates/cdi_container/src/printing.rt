@@ -1,0 +1,122 @@
+//! The text that steps print.
+ghost use Rattle.std.specs.Prelude.{◌≡◌, ◌++◌, ◌∷◌, [], OnOk, OnErr, IfOk, flat_map};
+ghost use Rattle.cdi_container.specs.Text.{word_of, text_of_ids, text_of_choice, words_of_answer, text_of_answer, text_of_trace};
+ghost use Rattle.cdi_container.specs.Printed.{answer_seen, Answered};
+ghost use Rattle.cdi_container.specs.Seen.{edit_answer, choice_answer};
+
+use crate::choice::{BeanId, Choice};
+use cdi_model::{Error, Refusal};
+use std::alloc::AllocError;
+
+/// What a command answers that does not run out of memory.
+#[derive(Drop)]
+pub(crate) enum Answer {
+    Done,
+    Chosen(Choice),
+    Refused(Refusal),
+}
+
+fn refusal_word(refusal: Refusal) -> &'static [u8]
+    ensures { result.now ≡ word_of refusal }
+{
+    match refusal {
+        Refusal::TooLong => b"E01 TooLong",
+        Refusal::NotToml => b"E02 NotToml",
+        Refusal::UnknownKind => b"E03 UnknownKind",
+        Refusal::UnknownKey => b"E04 UnknownKey",
+        Refusal::MissingKey => b"E05 MissingKey",
+        Refusal::WrongKind => b"E06 WrongKind",
+        Refusal::BadName => b"E07 BadName",
+        Refusal::TooMany => b"E10 TooMany",
+        Refusal::Absent => b"E11 Absent",
+        Refusal::BadCommand => b"E20 BadCommand",
+    }
+}
+
+fn push_refusal(text: &mut Vec<u8>, refusal: Refusal) -> Result<(), AllocError>
+    ensures { OnOk result (text.new.items ≡ text.old.items ++ words_of_answer (answer_seen (Answer.Refused refusal))) }
+{
+    text.extend_from_slice(b"refused ")?;
+    text.extend_from_slice(refusal_word(refusal))?;
+    Ok(())
+}
+
+/// Each bean after a space.
+fn push_ids(text: &mut Vec<u8>, ids: &[BeanId]) -> Result<(), AllocError>
+    ensures { OnOk result (text.new.items ≡ text.old.items ++ text_of_ids ids.now) }
+{
+    for id in ids {
+        text.push(b' ')?;
+        text.extend_from_slice(id.class.as_bytes())?;
+    }
+    Ok(())
+}
+
+fn push_choice(text: &mut Vec<u8>, choice: &Choice) -> Result<(), AllocError>
+    ensures { OnOk result (text.new.items ≡ text.old.items ++ text_of_choice choice.now) }
+{
+    match choice {
+        Choice::One(id) => {
+            text.extend_from_slice(b"one ")?;
+            text.extend_from_slice(id.class.as_bytes())
+        }
+        Choice::Unsatisfied => text.extend_from_slice(b"unsatisfied"),
+        Choice::Ambiguous(ids) => {
+            text.extend_from_slice(b"ambiguous")?;
+            push_ids(text, ids.as_slice())
+        }
+    }
+}
+
+fn push_words(text: &mut Vec<u8>, answer: &Answer) -> Result<(), AllocError>
+    ensures { OnOk result (text.new.items ≡ text.old.items ++ words_of_answer (answer_seen answer.now)) }
+{
+    match answer {
+        Answer::Done => text.extend_from_slice(b"ok"),
+        Answer::Chosen(choice) => push_choice(text, choice),
+        Answer::Refused(refusal) => push_refusal(text, *refusal),
+    }
+}
+
+fn push_answer(text: &mut Vec<u8>, answer: &Answer) -> Result<(), AllocError>
+    ensures { OnOk result (text.new.items ≡ text.old.items ++ text_of_answer (answer_seen answer.now)) }
+{
+    push_words(text, answer)?;
+    text.push(b'\n')?;
+    Ok(())
+}
+
+/// Prints a step behind the rest, whose trace is empty; at `Err` nothing is printed. The step's text is built apart.
+pub(crate) fn print_step(
+    out: &mut Vec<u8>,
+    scratch: &mut Vec<u8>,
+    answer: &Answer,
+) -> Result<(), AllocError>
+    ensures ok { OnOk result (out.new.items ≡ out.old.items ++ text_of_answer (answer_seen answer.now)) }
+    ensures err { OnErr result (out.new.items ≡ out.old.items) }
+{
+    scratch.clear();
+    push_answer(scratch, answer)?;
+    out.extend_from_slice(scratch.as_slice())
+}
+
+/// The answer of a call that gives no value, unless it runs out of memory.
+pub(crate) fn answer_of_edit(outcome: Result<(), Error>) -> Result<Answer, AllocError>
+    ensures { IfOk result (λ answer. Answered answer (edit_answer outcome)) }
+{
+    match outcome {
+        Ok(()) => Ok(Answer::Done),
+        Err(Error::OutOfMemory) => Err(AllocError),
+        Err(Error::Refused(refusal)) => Ok(Answer::Refused(refusal)),
+    }
+}
+
+/// The answer of a question for a bean, unless it runs out of memory.
+pub(crate) fn answer_of_choice(outcome: Result<Choice, AllocError>) -> Result<Answer, AllocError>
+    ensures { IfOk result (λ answer. Answered answer (choice_answer outcome)) }
+{
+    match outcome {
+        Ok(choice) => Ok(Answer::Chosen(choice)),
+        Err(error) => Err(error),
+    }
+}

@@ -1,0 +1,222 @@
+//! Running a script.
+ghost use Rattle.std.specs.Prelude.{◌≡◌, ◌≢◌, ◌≤◌, ◌<◌, ◌+◌, ◌⊎◌, ◌++◌, length, OnOk, OnErr, IfOk, IfErr, IfSome, IsErrOf, false, true, take, []};
+ghost use Rattle.cdi_devices.specs.Counted.{inner_of, bytes_of, has_failed};
+ghost use Rattle.cdi_container.specs.Run.{Sends, SendsPart, SendsLast, Feeds, FeedsBeforeMemory, FeedsPart, Ends, EndsBeforeMemory, EndsPart, RunsScript, FailsToRead, RunsOutOfMemory, FailsToWrite};
+ghost use Rattle.cdi_container.specs.Session.{IsFresh};
+
+use crate::runner::Runner;
+use crate::session::Session;
+use cdi_devices::{Counted, RunFault, SCRIPT_LIMIT, read_some, write_out};
+use std::alloc::Global;
+use std::io::{Read, Write};
+
+/// How many bytes are read at a time.
+const BUFFER: usize = 65536;
+
+/// How many bytes may be printed before they are written.
+const MAX_OUT: usize = 65536;
+
+/// How a script is run.
+#[derive(Clone, Copy, Debug)]
+pub struct Options {
+    /// Leaves trace lines out.
+    pub quiet: bool,
+}
+
+/// What a script that ran to its end tells.
+#[derive(Clone, Copy, Debug)]
+pub struct Summary {
+    /// Whether a command was refused.
+    pub refused: bool,
+}
+
+/// Writes what is printed.
+fn send<W: Write>(runner: &mut Runner, writer: &mut Counted<W>) -> Result<(), RunFault>
+    ensures ok { OnOk result (Sends W.contents runner.old runner.new writer.old writer.new) }
+    ensures part { OnErr result (SendsPart W.contents runner.old writer.old writer.new) }
+    ensures error { IfErr result (λ fault. fault ≡ RunFault.Write) }
+{
+    write_out(writer, runner.out.as_slice())?;
+    runner.out.clear();
+    match writer.flush() {
+        Ok(()) => Ok(()),
+        Err(_) => Err(RunFault::Write),
+    }
+}
+
+/// Writes what is printed before the run ends for want of memory.
+fn give_up<W: Write>(runner: &Runner, writer: &mut Counted<W>) -> RunFault
+    ensures memory { result ≡ RunFault.Memory → SendsLast W.contents runner.now writer.old writer.new }
+    ensures write { result ≡ RunFault.Write → SendsPart W.contents runner.now writer.old writer.new }
+    ensures not_read { result ≢ RunFault.Read }
+{
+    match write_out(writer, runner.out.as_slice()) {
+        Ok(()) => RunFault::Memory,
+        Err(_) => RunFault::Write,
+    }
+}
+
+/// Writes what is printed, and goes on.
+fn settle<W: Write>(session: &mut Session, writer: &mut Counted<W>) -> Result<(), RunFault>
+    ensures ok { OnOk result (Feeds W.contents session.old session.new writer.old writer.new []) }
+    ensures part { OnErr result (FeedsPart W.contents session.old writer.old writer.new []) }
+    ensures still { OnOk result (has_failed writer.new ≡ has_failed writer.old) }
+    ensures failed { OnErr result (has_failed writer.new ≡ true) }
+    ensures error { IfErr result (λ fault. fault ≡ RunFault.Write) }
+    ensures empty { OnOk result (session.new.runner.out.items ≡ []) }
+{
+    send(&mut session.runner, writer)
+}
+
+/// Takes some bytes of the script, at most one line's, and tells how many.
+fn take_some<W: Write>(
+    session: &mut Session,
+    writer: &mut Counted<W>,
+    chunk: &[u8],
+) -> Result<usize, RunFault>
+    requires { 0 < length chunk.now }
+    ensures ok { IfOk result (λ n. Feeds W.contents session.old session.new writer.old writer.new (take n chunk.now)) }
+    ensures some { IfOk result (λ n. 0 < n) }
+    ensures bound { IfOk result (λ n. n ≤ length chunk.now) }
+    ensures still { OnOk result (has_failed writer.new ≡ has_failed writer.old) }
+    ensures memory { IsErrOf result RunFault.Memory → FeedsBeforeMemory W.contents session.old writer.old writer.new chunk.now }
+    ensures memory_still { IsErrOf result RunFault.Memory → has_failed writer.new ≡ has_failed writer.old }
+    ensures write { IsErrOf result RunFault.Write → FeedsPart W.contents session.old writer.old writer.new chunk.now }
+    ensures write_cause { IsErrOf result RunFault.Write → has_failed writer.new ≡ true }
+    ensures not_read { IfErr result (λ fault. fault ≢ RunFault.Read) }
+{
+    match session.advance(chunk) {
+        Err(_) => Err(give_up(&session.runner, writer)),
+        Ok(n) => {
+            if session.runner.out.len() < MAX_OUT {
+                return Ok(n);
+            }
+            match settle(session, writer) {
+                Ok(()) => Ok(n),
+                Err(fault) => Err(fault),
+            }
+        }
+    }
+}
+
+/// Takes bytes of the script, and writes what their commands print.
+fn feed<W: Write>(
+    session: &mut Session,
+    writer: &mut Counted<W>,
+    chunk: &[u8],
+) -> Result<(), RunFault>
+    ensures ok { OnOk result (Feeds W.contents session.old session.new writer.old writer.new chunk.now) }
+    ensures still { OnOk result (has_failed writer.new ≡ has_failed writer.old) }
+    ensures memory { IsErrOf result RunFault.Memory → FeedsBeforeMemory W.contents session.old writer.old writer.new chunk.now }
+    ensures memory_still { IsErrOf result RunFault.Memory → has_failed writer.new ≡ has_failed writer.old }
+    ensures write { IsErrOf result RunFault.Write → FeedsPart W.contents session.old writer.old writer.new chunk.now }
+    ensures write_cause { IsErrOf result RunFault.Write → has_failed writer.new ≡ true }
+    ensures empty { OnOk result (session.new.runner.out.items ≡ []) }
+    ensures not_read { IfErr result (λ fault. fault ≢ RunFault.Read) }
+{
+    let mut rest = chunk;
+    while !rest.is_empty() {
+        match take_some(session, writer, rest) {
+            Ok(n) => rest = rest.split_at(n).1,
+            Err(fault) => return Err(fault),
+        }
+    }
+    settle(session, writer)
+}
+
+/// Takes the end of the script, and writes what is printed.
+fn finish<W: Write>(session: &mut Session, writer: &mut Counted<W>) -> Result<Summary, RunFault>
+    ensures ok { IfOk result (λ summary. Ends W.contents session.old writer.old writer.new summary.refused) }
+    ensures still { OnOk result (has_failed writer.new ≡ has_failed writer.old) }
+    ensures memory { IsErrOf result RunFault.Memory → EndsBeforeMemory W.contents session.old writer.old writer.new }
+    ensures memory_still { IsErrOf result RunFault.Memory → has_failed writer.new ≡ has_failed writer.old }
+    ensures write { IsErrOf result RunFault.Write → EndsPart W.contents session.old writer.old writer.new }
+    ensures write_cause { IsErrOf result RunFault.Write → has_failed writer.new ≡ true }
+    ensures not_read { IfErr result (λ fault. fault ≢ RunFault.Read) }
+{
+    let Ok(()) = session.end_last_line() else {
+        return Err(give_up(&session.runner, writer));
+    };
+    let Ok(()) = session.end_mode() else {
+        return Err(give_up(&session.runner, writer));
+    };
+    match send(&mut session.runner, writer) {
+        Ok(()) => Ok(Summary {
+            refused: session.runner.refused,
+        }),
+        Err(fault) => Err(fault),
+    }
+}
+
+/// Reads a script to its end.
+fn read_all<R: Read, W: Write>(
+    session: &mut Session,
+    buffer: &mut [u8],
+    reader: &mut Counted<R>,
+    writer: &mut Counted<W>,
+) -> Result<Summary, RunFault>
+    requires room { 0 < length buffer.old }
+    requires fresh { IsFresh session.old }
+    requires reader_fresh { (bytes_of reader.old ≡ 0) × (has_failed reader.old ≡ false) }
+    requires writer_fresh { has_failed writer.old ≡ false }
+    ensures ok { IfOk result (λ summary.
+        RunsScript R.remaining W.contents SCRIPT_LIMIT session.old.runner.quiet reader.old reader.new writer.old writer.new summary.refused) }
+    ensures read { IsErrOf result RunFault.Read →
+        FailsToRead R.remaining W.contents SCRIPT_LIMIT session.old.runner.quiet reader.old reader.new writer.old writer.new }
+    ensures memory { IsErrOf result RunFault.Memory → IfSome (R.remaining (inner_of reader.old)) (λ input.
+        RunsOutOfMemory session.old.runner.quiet (W.contents (inner_of writer.old)) (W.contents (inner_of writer.new)) input) }
+    ensures write { IsErrOf result RunFault.Write → IfSome (R.remaining (inner_of reader.old)) (λ input.
+        FailsToWrite session.old.runner.quiet (W.contents (inner_of writer.old)) (W.contents (inner_of writer.new)) input) }
+    ensures read_cause { IsErrOf result RunFault.Read → (has_failed reader.new ≡ true) ⊎ (SCRIPT_LIMIT < bytes_of reader.new) }
+    ensures reader_sound { IsErrOf result RunFault.Read ⊎ ((has_failed reader.new ≡ false) × (bytes_of reader.new ≤ SCRIPT_LIMIT)) }
+    ensures write_cause { IsErrOf result RunFault.Write → has_failed writer.new ≡ true }
+    ensures writer_sound { IsErrOf result RunFault.Write ⊎ (has_failed writer.new ≡ false) }
+    ensures most { bytes_of reader.new ≤ SCRIPT_LIMIT + 1 }
+{
+    loop {
+        match read_some(reader, buffer) {
+            Err(fault) => return Err(fault),
+            Ok(0) => return finish(session, writer),
+            Ok(n) => match feed(session, writer, &buffer[..n]) {
+                Ok(()) => {}
+                Err(fault) => return Err(fault),
+            },
+        }
+    }
+}
+
+/// Reads a script, runs each command on a container that is empty at first, and writes each command's lines before more
+/// is read. It takes a buffer of 65,536 bytes, what the container takes, and a bounded number of bytes for the line and
+/// the put block that have begun.
+pub fn run<R: Read, W: Write>(
+    alloc: Global,
+    reader: &mut Counted<R>,
+    writer: &mut Counted<W>,
+    options: Options,
+) -> Result<Summary, RunFault>
+    requires reader_fresh { (bytes_of reader.old ≡ 0) × (has_failed reader.old ≡ false) }
+    requires writer_fresh { has_failed writer.old ≡ false }
+
+    // The text of a legal history of exactly the script's commands was written, and the summary tells of it.
+    ensures ok { IfOk result (λ summary.
+        RunsScript R.remaining W.contents SCRIPT_LIMIT options.quiet reader.old reader.new writer.old writer.new summary.refused) }
+
+    // What was written where the run ended early.
+    ensures read { IsErrOf result RunFault.Read →
+        FailsToRead R.remaining W.contents SCRIPT_LIMIT options.quiet reader.old reader.new writer.old writer.new }
+    ensures memory { IsErrOf result RunFault.Memory → IfSome (R.remaining (inner_of reader.old)) (λ input.
+        RunsOutOfMemory options.quiet (W.contents (inner_of writer.old)) (W.contents (inner_of writer.new)) input) }
+    ensures write { IsErrOf result RunFault.Write → IfSome (R.remaining (inner_of reader.old)) (λ input.
+        FailsToWrite options.quiet (W.contents (inner_of writer.old)) (W.contents (inner_of writer.new)) input) }
+
+    // `Read` and `Write` come exactly where a device failed, or the reader gave a byte behind the limit.
+    ensures read_cause { IsErrOf result RunFault.Read → (has_failed reader.new ≡ true) ⊎ (SCRIPT_LIMIT < bytes_of reader.new) }
+    ensures reader_sound { IsErrOf result RunFault.Read ⊎ ((has_failed reader.new ≡ false) × (bytes_of reader.new ≤ SCRIPT_LIMIT)) }
+    ensures write_cause { IsErrOf result RunFault.Write → has_failed writer.new ≡ true }
+    ensures writer_sound { IsErrOf result RunFault.Write ⊎ (has_failed writer.new ≡ false) }
+    ensures most { bytes_of reader.new ≤ SCRIPT_LIMIT + 1 }
+{
+    let mut buffer = vec![in alloc; 0u8; BUFFER]?;
+    let mut session = Session::new(alloc, options.quiet);
+    read_all(&mut session, buffer.as_mut_slice(), reader, writer)
+}
