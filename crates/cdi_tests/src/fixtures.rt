@@ -1,0 +1,96 @@
+//! What several tests share.
+use cdi_container::{Choice, Container, Counted, Options, run};
+use cdi_model::{Error, Kind, Name, Refusal};
+use std::alloc::Global;
+use std::test::Fail;
+
+/// A script in which a type and a bean are put, the bean is chosen, and a type that is absent is dropped.
+pub(crate) const STORED_SCRIPT: &[u8] = b"put\nkind=\"type\"\nname=\"Corner\"\n.\nput\nkind=\"bean\"\nname=\"Corner\"\n.\nchoose Corner\ndrop type Mall\n";
+
+/// What it prints.
+pub(crate) const STORED_TEXT: &[u8] = b"ok\nok\none Corner\nrefused E11 Absent\n";
+
+/// A call of a container.
+#[derive(Clone, Copy, Debug)]
+pub(crate) enum Call {
+    Put(&'static [u8]),
+    Remove(Kind, &'static [u8]),
+    Choose(&'static [u8]),
+}
+
+/// What a call is to answer. Beans are given by their names.
+#[derive(Clone, Copy, Debug)]
+pub(crate) enum Answer {
+    Done,
+    Refused(Refusal),
+    One(&'static [u8]),
+    Unsatisfied,
+    Ambiguous(&'static [&'static [u8]]),
+}
+
+/// What a call answered.
+#[derive(Drop)]
+pub(crate) enum Answered {
+    Edit(Result<(), Error>),
+    Chosen(Choice),
+}
+
+/// The name that a text is.
+pub(crate) fn name(text: &[u8]) -> Result<Name, Fail> {
+    let name = Name::parse(text).ok_or("no name")?;
+    Ok(name)
+}
+
+/// Makes a call. A `choose` that gets no memory answers as an edit that gets none.
+pub(crate) fn make(container: &mut Container, call: Call) -> Result<Answered, Fail> {
+    let answered = match call {
+        Call::Put(text) => Answered::Edit(container.put(text)),
+        Call::Remove(kind, text) => Answered::Edit(container.remove(kind, name(text)?)),
+        Call::Choose(text) => match container.choose(name(text)?) {
+            Ok(choice) => Answered::Chosen(choice),
+            Err(_) => Answered::Edit(Err(Error::OutOfMemory)),
+        },
+    };
+    Ok(answered)
+}
+
+/// Whether a call answered for want of memory.
+pub(crate) fn wants_memory(answered: &Answered) -> bool {
+    matches!(answered, Answered::Edit(Err(Error::OutOfMemory)))
+}
+
+/// Whether a call answered what it is to answer.
+pub(crate) fn agrees(answered: &Answered, answer: Answer) -> bool {
+    match answered {
+        Answered::Edit(Ok(())) => matches!(answer, Answer::Done),
+        Answered::Edit(Err(error)) => match answer {
+            Answer::Refused(refusal) => *error == Error::Refused(refusal),
+            _ => false,
+        },
+        Answered::Chosen(choice) => is_choice(choice, answer),
+    }
+}
+
+fn is_choice(choice: &Choice, answer: Answer) -> bool {
+    match (choice, answer) {
+        (Choice::One(bean), Answer::One(class)) => bean.class.as_bytes() == class,
+        (Choice::Unsatisfied, Answer::Unsatisfied) => true,
+        (Choice::Ambiguous(beans), Answer::Ambiguous(classes)) => {
+            beans.len() == classes.len()
+                && beans
+                    .as_slice()
+                    .iter()
+                    .zip(classes.iter())
+                    .all(|(bean, class)| bean.class.as_bytes() == *class)
+        }
+        _ => false,
+    }
+}
+
+/// What the run of a script wrote, and whether a command was refused.
+pub(crate) fn outcome(alloc: Global, script: &[u8]) -> Result<(Vec<u8>, bool), Fail> {
+    let mut reader = Counted::new(script);
+    let mut writer = Counted::new(Vec::new(alloc));
+    let summary = run(alloc, &mut reader, &mut writer, Options { quiet: false })?;
+    Ok((writer.into_inner(), summary.refused))
+}

@@ -1,0 +1,15 @@
+//! Tests of the container, its lists, its texts and its devices together.
+#![tactic(auto)]
+
+//#[cfg(test)]
+//mod container;
+//#[cfg(test)]
+//mod devices;
+#[cfg(test)]
+mod fixtures;
+//#[cfg(test)]
+//mod memory;
+//#[cfg(test)]
+//mod parts;
+#[cfg(test)]
+mod rows;

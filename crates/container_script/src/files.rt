@@ -1,0 +1,20 @@
+//! What opens a path.
+use std::fs;
+use std::fs::File;
+use std::io;
+use std::io::Read;
+
+/// What opens a path for reading.
+pub trait Files {
+    type File: Read + Drop;
+
+    fn open(&self, path: &str) -> io::Result<Self::File>;
+}
+
+impl Files for HostRuntime {
+    type File = File;
+
+    fn open(&self, path: &str) -> io::Result<File> {
+        fs::open(self, path)
+    }
+}
