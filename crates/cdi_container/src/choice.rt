@@ -38,19 +38,19 @@ fn eligible(alloc: Global, decls: &Decls, bean_type: Name) -> Result<Vec<BeanId>
 {
     let mut beans = Vec::new(alloc);
     for decl in decls.iter() {
-        if is_eligible(decl, bean_type) {
+        if is_eligible(decl, &bean_type) {
             beans.push(BeanId { class: decl.name() })?;
         }
     }
     Ok(beans)
 }
 
-fn is_eligible(decl: &Decl, bean_type: Name) -> bool
-    ensures { result ≡ is_eligible bean_type decl.now }
+fn is_eligible(decl: &Decl, bean_type: &Name) -> bool
+    ensures { result ≡ is_eligible bean_type.now decl.now }
 {
     match decl {
         Decl::Type(_) => false,
-        Decl::Bean(bean) => bean.name == bean_type || bean_type.as_bytes() == b"Object".as_slice(),
+        Decl::Bean(bean) => bean.name == *bean_type || bean_type.as_bytes() == b"Object".as_slice(),
     }
 }
 

@@ -6,12 +6,13 @@ use Rattle.std.specs.Str.{bytes_eq, is_utf8, IsAscii}
 use Rattle.std.specs.Cmp.Lexicographic.{bytes_decides}
 use Rattle.std.proofs.lemmas.Str.{IsUtf8-from_ascii, is_utf8-from_IsUtf8}
 use Rattle.std.proofs.lemmas.Bool.{eqb-true, false≢true, le-ltb}
+use Rattle.cdi_model.specs.Decl.{kind_of_word}
 use Rattle.cdi_model.specs.Grammar.{is_name, name_of}
 use Rattle.cdi_model.specs.declared.decl.Kind.{Kind}
 use Rattle.cdi_model.specs.declared.refusal.Refusal.TheVariants.{BadCommand}
 use Rattle.cdi_model.proofs.GrammarLemmas.{is_name-ascii}
 use Rattle.cdi_lines.specs.Words.{words_of, onto_words, begins_with_word, begins_with_hash}
-use Rattle.cdi_lines.specs.Command.{kind_of_word, put_of, drop_at, drop_of, choose_at, choose_of, command_of, command_of_text}
+use Rattle.cdi_lines.specs.Command.{put_of, drop_at, drop_of, choose_at, choose_of, command_of, command_of_text}
 use Rattle.cdi_lines.proofs.WordLemmas.{is_or_not}
 
 abbrev Ascii : List ℕ → Type 0

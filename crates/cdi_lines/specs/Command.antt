@@ -1,20 +1,14 @@
 -- What a line outside a put block says.
 use Rattle.std.specs.Prelude.{ℕ, Bool, not, ◌||◌, nat_lt, List, [], ◌∷◌, length, codes, Option, Some, None, Result, Ok, Err, if◌then◌else◌}
 use Rattle.std.specs.Str.{bytes_eq, is_utf8}
+use Rattle.cdi_model.specs.Decl.{kind_of_word}
 use Rattle.cdi_model.specs.Grammar.{name_of}
 use Rattle.cdi_model.specs.declared.decl.Kind.{Kind}
-use Rattle.cdi_model.specs.declared.decl.Kind.TheVariants as kinds
 use Rattle.cdi_model.specs.declared.refusal.Refusal.{Refusal}
 use Rattle.cdi_model.specs.declared.refusal.Refusal.TheVariants.{BadCommand}
 use Rattle.cdi_lines.specs.declared.command.Command.{Command}
 use Rattle.cdi_lines.specs.declared.command.Command.TheVariants as commands
 use Rattle.cdi_lines.specs.Words.{without_return, words_of, has_no_words, begins_with_hash}
-
-abbrev pub kind_of_word : List ℕ → Option Kind
-kind_of_word word =
-    if bytes_eq word (codes "type") then Some kinds.Type
-    else if bytes_eq word (codes "bean") then Some kinds.Bean
-    else None
 
 -- put
 abbrev pub put_of : List (List ℕ) → Result Command Refusal

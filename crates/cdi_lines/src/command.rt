@@ -1,7 +1,7 @@
 //! What a line outside a put block says.
 ghost use Rattle.std.specs.Prelude.{◌≡◌};
 ghost use Rattle.cdi_lines.specs.Words.{words_of};
-ghost use Rattle.cdi_lines.specs.Command.{kind_of_word, put_of, drop_of, choose_of, command_of, command_of_line};
+ghost use Rattle.cdi_lines.specs.Command.{put_of, drop_of, choose_of, command_of, command_of_line};
 
 use crate::words::{split_word, strip_return};
 use cdi_model::{Kind, Name, Refusal};
@@ -23,19 +23,6 @@ pub enum Command {
     Choose {
         bean_type: Name,
     },
-}
-
-/// The kind of declaration that a word names.
-pub fn kind_of_word(word: &[u8]) -> Option<Kind>
-    ensures { result ≡ kind_of_word word.now }
-{
-    if word == b"type".as_slice() {
-        Some(Kind::Type)
-    } else if word == b"bean".as_slice() {
-        Some(Kind::Bean)
-    } else {
-        None
-    }
 }
 
 /// What a line outside a put block says. It takes no memory.
@@ -93,7 +80,7 @@ fn read_drop(rest: &[u8]) -> Result<Command, Refusal>
     if split_word(rest).is_some() {
         return Err(Refusal::BadCommand);
     }
-    match (kind_of_word(kind), Name::parse(name)) {
+    match (Kind::of_word(kind), Name::parse(name)) {
         (Some(kind), Some(name)) => Ok(Command::Drop { kind, name }),
         _ => Err(Refusal::BadCommand),
     }

@@ -13,6 +13,9 @@ const LINE_KEPT: usize = 65_540;
 /// A text of so many bytes is too long for a declaration.
 const TEXT_KEPT: usize = 65_537;
 
+/// Room for the text of most put blocks, so that it does not grow in small steps.
+const TEXT_ROOM: usize = 256;
+
 /// What is kept of a line that has begun: all of it, or a line of 65,540 bytes that says the same however it goes on.
 #[derive(Debug, Drop)]
 pub struct Line {
@@ -164,6 +167,9 @@ fn add_line(bytes: &mut Vec<u8>, line: &[u8], keep: usize) -> Result<(), AllocEr
 {
     if bytes.len() >= keep {
         return Ok(());
+    }
+    if bytes.is_empty() {
+        bytes.reserve(TEXT_ROOM)?;
     }
     bytes.reserve(line.len() + 1)?;
     bytes.extend_from_slice(line)?;

@@ -6,7 +6,7 @@ mod feeds;
 mod kept;
 mod words;
 
-pub use command::{Command, kind_of_word, read_line};
+pub use command::{Command, read_line};
 pub use feeds::find_feed;
 pub use kept::{Block, Line};
 pub use words::ends_block;

@@ -1,10 +1,18 @@
 -- What a declaration is found by.
-use Rattle.std.specs.Prelude.{ℕ, List}
+use Rattle.std.specs.Prelude.{ℕ, List, codes, Option, Some, None, if◌then◌else◌}
+use Rattle.std.specs.Str.{bytes_eq}
 use Rattle.cdi_model.specs.declared.decl.Decl.{Decl}
 use Rattle.cdi_model.specs.declared.decl.Decl.TheVariants as decls
 use Rattle.cdi_model.specs.declared.decl.Kind.{Kind}
 use Rattle.cdi_model.specs.declared.decl.Kind.TheVariants as kinds
 use Rattle.cdi_model.specs.declared.key.Key.{Key}
+
+-- the kind that a word names
+abbrev pub kind_of_word : List ℕ → Option Kind
+kind_of_word word =
+    if bytes_eq word (codes "type") then Some kinds.Type
+    else if bytes_eq word (codes "bean") then Some kinds.Bean
+    else None
 
 abbrev pub kind_of : Decl → Kind
 kind_of (decls.Type d) = kinds.Type

@@ -1,6 +1,6 @@
 //! Declarations.
 ghost use Rattle.std.specs.Prelude.{◌≡◌};
-ghost use Rattle.cdi_model.specs.Decl.{kind_of, name_of_decl, key_of};
+ghost use Rattle.cdi_model.specs.Decl.{kind_of_word, kind_of, name_of_decl, key_of};
 
 use crate::key::Key;
 use crate::name::Name;
@@ -39,6 +39,21 @@ pub struct BeanDecl {
 pub enum Decl {
     Type(TypeDecl),
     Bean(BeanDecl),
+}
+
+impl Kind {
+    /// The kind that a word names, in a declaration and in a command.
+    pub fn of_word(word: &[u8]) -> Option<Kind>
+        ensures { result ≡ kind_of_word word.now }
+    {
+        if word == b"type".as_slice() {
+            Some(Kind::Type)
+        } else if word == b"bean".as_slice() {
+            Some(Kind::Bean)
+        } else {
+            None
+        }
+    }
 }
 
 impl Decl {

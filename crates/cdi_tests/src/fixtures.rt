@@ -1,11 +1,14 @@
 //! What several tests share.
-use cdi_container::{Choice, Container, Counted, Options, run};
+use cdi_container::{Choice, Container, Counted, Options, RunFault, Summary, run};
 use cdi_model::{Error, Kind, Name, Refusal};
-use std::alloc::Global;
+use std::alloc::{AllocError, Global};
+use std::fmt::Display;
+use std::process::Abort;
 use std::test::Fail;
 
 /// A script in which a type and a bean are put, the bean is chosen, and a type that is absent is dropped.
-pub(crate) const STORED_SCRIPT: &[u8] = b"put\nkind=\"type\"\nname=\"Corner\"\n.\nput\nkind=\"bean\"\nname=\"Corner\"\n.\nchoose Corner\ndrop type Mall\n";
+pub(crate) const STORED_SCRIPT: &[u8] =
+    b"put\nkind=\"type\"\nname=\"Corner\"\n.\nput\nkind=\"bean\"\nname=\"Corner\"\n.\nchoose Corner\ndrop type Mall\n";
 
 /// What it prints.
 pub(crate) const STORED_TEXT: &[u8] = b"ok\nok\none Corner\nrefused E11 Absent\n";
@@ -42,7 +45,7 @@ pub(crate) fn name(text: &[u8]) -> Result<Name, Fail> {
 }
 
 /// Makes a call. A `choose` that gets no memory answers as an edit that gets none.
-pub(crate) fn make(container: &mut Container, call: Call) -> Result<Answered, Fail> {
+pub(crate) fn make_once(container: &mut Container, call: Call) -> Result<Answered, Fail> {
     let answered = match call {
         Call::Put(text) => Answered::Edit(container.put(text)),
         Call::Remove(kind, text) => Answered::Edit(container.remove(kind, name(text)?)),
@@ -51,6 +54,15 @@ pub(crate) fn make(container: &mut Container, call: Call) -> Result<Answered, Fa
             Err(_) => Answered::Edit(Err(Error::OutOfMemory)),
         },
     };
+    Ok(answered)
+}
+
+/// Makes a call for which there is memory.
+pub(crate) fn make(container: &mut Container, call: Call) -> Result<Answered, Fail> {
+    let answered = make_once(container, call)?;
+    if wants_memory(&answered) {
+        return Err(Fail::new("out of memory"));
+    }
     Ok(answered)
 }
 
@@ -87,10 +99,29 @@ fn is_choice(choice: &Choice, answer: Answer) -> bool {
     }
 }
 
+/// An output with room for each text that a test prints.
+pub(crate) fn empty_page(alloc: Global) -> Result<Vec<u8>, AllocError> {
+    Vec::with_capacity(alloc, 2048)
+}
+
+/// Why a run for which there is memory ended before its script's end.
+pub(crate) fn fault_of(outcome: Result<Summary, RunFault>) -> Result<Option<RunFault>, Fail> {
+    match outcome {
+        Ok(_) => Ok(None),
+        Err(RunFault::Memory) => Err(Fail::new("out of memory")),
+        Err(fault) => Ok(Some(fault)),
+    }
+}
+
 /// What the run of a script wrote, and whether a command was refused.
 pub(crate) fn outcome(alloc: Global, script: &[u8]) -> Result<(Vec<u8>, bool), Fail> {
     let mut reader = Counted::new(script);
-    let mut writer = Counted::new(Vec::new(alloc));
+    let mut writer = Counted::new(empty_page(alloc)?);
     let summary = run(alloc, &mut reader, &mut writer, Options { quiet: false })?;
     Ok((writer.into_inner(), summary.refused))
+}
+
+/// Asserts that a text is the one that is wanted.
+pub(crate) fn assert_text(rt: &impl Abort, found: &[u8], wanted: &[u8], place: &impl Display) {
+    assert!(rt; found == wanted, "{place}: {found:?}");
 }

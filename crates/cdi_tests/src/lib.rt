@@ -1,15 +1,17 @@
 //! Tests of the container, its lists, its texts and its devices together.
 #![tactic(auto)]
 
-//#[cfg(test)]
-//mod container;
-//#[cfg(test)]
-//mod devices;
+#[cfg(test)]
+mod container;
+#[cfg(test)]
+mod devices;
 #[cfg(test)]
 mod fixtures;
-//#[cfg(test)]
-//mod memory;
-//#[cfg(test)]
-//mod parts;
+#[cfg(test)]
+mod long_rows;
+#[cfg(test)]
+mod memory;
+#[cfg(test)]
+mod parts;
 #[cfg(test)]
 mod rows;

@@ -1,7 +1,5 @@
 //! Scripts and what they print.
-use crate::fixtures::{STORED_SCRIPT, STORED_TEXT, outcome};
-use std::alloc::{AllocError, Global};
-use std::process::Abort;
+use crate::fixtures::{STORED_SCRIPT, STORED_TEXT, assert_text, outcome};
 use std::test::Fail;
 
 /// A script and what it prints.
@@ -13,23 +11,7 @@ struct Row {
     refused: bool,
 }
 
-/// A text that stands so many times.
-#[derive(Clone, Copy)]
-struct Piece {
-    text: &'static [u8],
-    times: usize,
-}
-
-/// A script of pieces, one behind the other, and what it prints.
-#[derive(Clone, Copy)]
-struct LongRow {
-    name: &'static str,
-    script: &'static [Piece],
-    text: &'static [u8],
-    refused: bool,
-}
-
-const ROWS: [Row; 14] = [
+const ROWS: [Row; 15] = [
     Row {
         name: "nothing",
         script: b"",
@@ -37,38 +19,146 @@ const ROWS: [Row; 14] = [
         refused: false,
     },
     Row {
-        name: "the stored script",
+        name: "a choice between two edits and a refusal",
         script: STORED_SCRIPT,
         text: STORED_TEXT,
         refused: true,
     },
     Row {
         name: "each bean is an Object",
-        script: b"put\nkind=\"type\"\nname=\"A\"\n.\nput\nkind=\"bean\"\nname=\"A\"\n.\nput\nkind=\"type\"\nname=\"B\"\n.\nput\nkind=\"bean\"\nname=\"B\"\n.\nchoose Object\ndrop bean A\nchoose Object\n",
-        text: b"ok\nok\nok\nok\nambiguous A B\nok\none B\n",
+        script: br#"put
+kind="type"
+name="A"
+.
+put
+kind="bean"
+name="A"
+.
+put
+kind="type"
+name="B"
+.
+put
+kind="bean"
+name="B"
+.
+choose Object
+drop bean A
+choose Object
+"#,
+        text: br#"ok
+ok
+ok
+ok
+ambiguous A B
+ok
+one B
+"#,
         refused: false,
     },
     Row {
-        name: "commands that there are not",
-        script: b"put\nkind=\"type\"\nname=\"A\"\n.\nchoose A\nput\nkind=\"bean\"\nname=\"A\"\n.\nchoose A\nchoose A A\nreport\n",
-        text: b"ok\nunsatisfied\nok\none A\nrefused E20 BadCommand\nrefused E20 BadCommand\n",
+        name: "a word too many, and a word that is no command",
+        script: br#"put
+kind="type"
+name="A"
+.
+choose A
+put
+kind="bean"
+name="A"
+.
+choose A
+choose A A
+report
+"#,
+        text: br#"ok
+unsatisfied
+ok
+one A
+refused E20 BadCommand
+refused E20 BadCommand
+"#,
         refused: true,
     },
     Row {
         name: "words out of their grammar",
-        script: b"put\nkind = \"type\"\nname = \"A\"\n.\nput\nkind = \"bean\"\nname = \"A\"\n.\nchoose 1x\nchoose A.\nchoose .A\nchoose A..B\ndrop type 1x\ndrop tape A\ndrop type\nchoose\nchoose A\n",
-        text: b"ok\nok\nrefused E20 BadCommand\nrefused E20 BadCommand\nrefused E20 BadCommand\nrefused E20 BadCommand\nrefused E20 BadCommand\nrefused E20 BadCommand\nrefused E20 BadCommand\nrefused E20 BadCommand\none A\n",
+        script: br#"put
+kind = "type"
+name = "A"
+.
+put
+kind = "bean"
+name = "A"
+.
+choose 1x
+choose A.
+choose .A
+choose A..B
+drop type 1x
+drop tape A
+drop type
+choose
+choose A
+"#,
+        text: br#"ok
+ok
+refused E20 BadCommand
+refused E20 BadCommand
+refused E20 BadCommand
+refused E20 BadCommand
+refused E20 BadCommand
+refused E20 BadCommand
+refused E20 BadCommand
+refused E20 BadCommand
+one A
+"#,
         refused: true,
     },
     Row {
         name: "one refusal after the other",
-        script: b"put\nkind=\n.\nput\nkind=\"bear\"\nname=\"A\"\n.\nput\nkind=\"type\"\n.\nput\nkind=\"type\"\nname=\"A\"\nfinal=1\n.\nput\nkind=\"type\"\nname=\"Object\"\n.\ndrop type A\nfrob\n",
-        text: b"refused E02 NotToml\nrefused E03 UnknownKind\nrefused E05 MissingKey\nrefused E06 WrongKind\nrefused E07 BadName\nrefused E11 Absent\nrefused E20 BadCommand\n",
+        script: br#"put
+kind=
+.
+put
+kind="bear"
+name="A"
+.
+put
+kind="type"
+.
+put
+kind="type"
+name="A"
+final=1
+.
+put
+kind="type"
+name="Object"
+.
+drop type A
+frob
+"#,
+        text: br#"refused E02 NotToml
+refused E03 UnknownKind
+refused E05 MissingKey
+refused E06 WrongKind
+refused E07 BadName
+refused E11 Absent
+refused E20 BadCommand
+"#,
         refused: true,
     },
     Row {
         name: "names of 64 and of 65 bytes",
-        script: b"put\nkind=\"type\"\nname=\"aaaaaaaaaaaaaaaaaaaaaaaaaaaaaaaaaaaaaaaaaaaaaaaaaaaaaaaaaaaaaaaa\"\n.\nput\nkind=\"type\"\nname=\"aaaaaaaaaaaaaaaaaaaaaaaaaaaaaaaaaaaaaaaaaaaaaaaaaaaaaaaaaaaaaaaaa\"\n.\n",
+        script: br#"put
+kind="type"
+name="aaaaaaaaaaaaaaaaaaaaaaaaaaaaaaaaaaaaaaaaaaaaaaaaaaaaaaaaaaaaaaaa"
+.
+put
+kind="type"
+name="aaaaaaaaaaaaaaaaaaaaaaaaaaaaaaaaaaaaaaaaaaaaaaaaaaaaaaaaaaaaaaaaa"
+.
+"#,
         text: b"ok\nrefused E07 BadName\n",
         refused: true,
     },
@@ -85,7 +175,13 @@ const ROWS: [Row; 14] = [
         refused: true,
     },
     Row {
-        name: "a kind that there is not",
+        name: "a put block that is not UTF-8",
+        script: b"put\nkind=\"\xff\"\n.\n",
+        text: b"refused E02 NotToml\n",
+        refused: true,
+    },
+    Row {
+        name: "a word that is no kind",
         script: b"drop qualifier Q\n",
         text: b"refused E20 BadCommand\n",
         refused: true,
@@ -97,40 +193,39 @@ const ROWS: [Row; 14] = [
         refused: true,
     },
     Row {
-        name: "a key that there is not",
-        script: b"put\nkind=\"type\"\nname=\"Big\"\n.\nput\nkind=\"bean\"\nname=\"Big\"\nspecializes=true\n.\n",
+        name: "a key that is not in the table",
+        script: br#"put
+kind="type"
+name="Big"
+.
+put
+kind="bean"
+name="Big"
+specializes=true
+.
+"#,
         text: b"ok\nrefused E04 UnknownKey\n",
         refused: true,
     },
     Row {
-        name: "a word that is no command",
+        name: "the word batch is no command",
         script: b"batch\n",
         text: b"refused E20 BadCommand\n",
         refused: true,
     },
     Row {
-        name: "another word that is no command",
+        name: "the word counts is no command",
         script: b"counts\n",
         text: b"refused E20 BadCommand\n",
         refused: true,
     },
 ];
 
-const BYTE_ROW: Row = Row {
-    name: "a block that is not UTF-8",
-    script: b"put\nkind=\"\xff\"\n.\n",
-    text: b"refused E02 NotToml\n",
-    refused: true,
-};
-
-const fn once(text: &'static [u8]) -> Piece {
-    Piece { text, times: 1 }
-}
 #[test]
 fn scripts_print_their_texts(rt: HostRuntime) -> Result<(), Fail> {
     for row in ROWS {
         let (written, refused) = outcome(rt.alloc(), row.script)?;
-        assert_eq!(rt; written.as_slice(), row.text, "{}", row.name);
+        assert_text(&rt, written.as_slice(), row.text, &row.name);
         assert_eq!(rt; refused, row.refused, "{}", row.name);
     }
     Ok(())

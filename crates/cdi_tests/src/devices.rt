@@ -1,0 +1,256 @@
+//! Runs over readers and writers that fail, that never end, and that watch each other.
+use crate::fixtures::{STORED_SCRIPT, STORED_TEXT, assert_text, empty_page, fault_of, outcome};
+use cdi_container::{Counted, Options, RunFault, run};
+use cdi_devices::SCRIPT_LIMIT;
+use std::cell::Cell;
+use std::io;
+use std::io::{ErrorKind, Read, Write};
+use std::rc::Rc;
+use std::test::Fail;
+
+const OPTIONS: Options = Options { quiet: false };
+
+/// Up to this many bytes of the stored script, and what they print.
+#[derive(Clone, Copy)]
+struct Cut(usize, &'static [u8]);
+
+/// What is printed where no more comes than so many bytes and then a failure: the answers of the complete lines.
+const CUTS_BY_FAILURE: [Cut; 5] = [
+    Cut(31, b""),
+    Cut(63, b"ok\n"),
+    Cut(77, b"ok\nok\n"),
+    Cut(92, b"ok\nok\none Corner\n"),
+    Cut(93, STORED_TEXT),
+];
+
+/// What is printed where the script ends after so many bytes. A last line without its line feed counts, and a put block
+/// that is open is refused.
+const CUTS_BY_END: [Cut; 10] = [
+    Cut(0, b""),
+    // `p`, `pu`, and the first put block.
+    Cut(30, b"refused E20 BadCommand\n"),
+    Cut(32, b"ok\n"),
+    Cut(62, b"ok\nrefused E20 BadCommand\n"),
+    Cut(64, b"ok\nok\n"),
+    // `c` to `choose `.
+    Cut(71, b"ok\nok\nrefused E20 BadCommand\n"),
+    // `choose C` to `choose Corne`.
+    Cut(76, b"ok\nok\nunsatisfied\n"),
+    Cut(78, b"ok\nok\none Corner\n"),
+    // `d` to `drop type `.
+    Cut(88, b"ok\nok\none Corner\nrefused E20 BadCommand\n"),
+    // `drop type M` to the end.
+    Cut(93, b"ok\nok\none Corner\nrefused E11 Absent\n"),
+];
+
+/// What so many bytes print.
+fn text_of(cuts: &[Cut], count: usize) -> Option<&'static [u8]> {
+    for cut in cuts {
+        if count <= cut.0 {
+            return Some(cut.1);
+        }
+    }
+    None
+}
+
+/// A piece of a script, and what it prints once it has come.
+#[derive(Clone, Copy)]
+struct Step(&'static [u8], &'static [u8]);
+
+const STEPS: [Step; 12] = [
+    Step(b"put\n", b""),
+    Step(b"kind=\"type\"\n", b""),
+    Step(b"name=\"Corner\"\n", b""),
+    Step(b".\n", b"ok\n"),
+    Step(b"# a comment\n", b""),
+    Step(b"put\nkind=\"bean\"\nname=\"Corner\"\n", b""),
+    Step(b".\n", b"ok\n"),
+    Step(b"choose C", b""),
+    Step(b"orner\ncho", b"one Corner\n"),
+    Step(b"ose Mall\n", b"unsatisfied\n"),
+    Step(b"drop type Mall", b""),
+    Step(b"\nfrob\n", b"refused E11 Absent\nrefused E20 BadCommand\n"),
+];
+
+/// A reader that gives one step at a time, and notes whether it was asked for one while something else was flushed than
+/// the answers of the steps that it gave.
+#[derive(Drop)]
+struct Paced {
+    steps: &'static [Step],
+    due: usize,
+    flushed: Rc<Cell<usize>>,
+    is_out_of_step: bool,
+}
+
+impl Read for Paced {
+    fn read(&mut self, buf: &mut [u8]) -> io::Result<usize> {
+        if self.flushed.get() != self.due {
+            self.is_out_of_step = true;
+        }
+        let Some((step, rest)) = self.steps.split_first() else {
+            return Ok(0);
+        };
+        self.steps = rest;
+        self.due = self.due.saturating_add(step.1.len());
+        let mut line = step.0;
+        line.read(buf)
+    }
+}
+
+/// A writer that tells how many bytes it has flushed.
+#[derive(Drop)]
+struct Watched {
+    bytes: Vec<u8>,
+    flushed: Rc<Cell<usize>>,
+}
+
+impl Write for Watched {
+    fn write(&mut self, buf: &[u8]) -> io::Result<usize> {
+        self.bytes.extend_from_slice(buf)?;
+        Ok(buf.len())
+    }
+
+    fn flush(&mut self) -> io::Result<()> {
+        self.flushed.set(self.bytes.len());
+        Ok(())
+    }
+}
+
+#[test]
+fn answers_are_written_before_more_is_read(rt: HostRuntime) -> Result<(), Fail> {
+    let flushed = Rc::new(rt.alloc(), Cell::new(0))?;
+    let mut reader = Counted::new(Paced {
+        steps: &STEPS,
+        due: 0,
+        flushed: flushed.clone()?,
+        is_out_of_step: false,
+    });
+    let mut writer = Counted::new(Watched {
+        bytes: empty_page(rt.alloc())?,
+        flushed,
+    });
+    let summary = run(rt.alloc(), &mut reader, &mut writer, OPTIONS)?;
+    assert!(rt; summary.refused);
+    assert!(rt; !reader.into_inner().is_out_of_step);
+    let written = writer.into_inner().bytes;
+    let text = b"ok\nok\none Corner\nunsatisfied\nrefused E11 Absent\nrefused E20 BadCommand\n";
+    assert_text(&rt, written.as_slice(), text.as_slice(), &"in steps");
+    Ok(())
+}
+
+/// A reader that gives five bytes at each of so many reads, and then fails.
+#[derive(Drop)]
+struct Broken {
+    rest: &'static [u8],
+    reads: usize,
+}
+
+impl Read for Broken {
+    fn read(&mut self, buf: &mut [u8]) -> io::Result<usize> {
+        if self.reads == 0 {
+            return Err(io::Error::from(ErrorKind::Other));
+        }
+        self.reads -= 1;
+        let most = buf.len().min(5);
+        self.rest.read(&mut buf[..most])
+    }
+}
+
+#[test]
+fn reads_that_fail(rt: HostRuntime) -> Result<(), Fail> {
+    for reads in 0..=19usize {
+        let mut reader = Counted::new(Broken {
+            rest: STORED_SCRIPT,
+            reads,
+        });
+        let mut writer = Counted::new(empty_page(rt.alloc())?);
+        let outcome = run(rt.alloc(), &mut reader, &mut writer, OPTIONS);
+        assert_eq!(rt; fault_of(outcome)?, Some(RunFault::Read), "after {reads}");
+        let count = STORED_SCRIPT.len().min(reads * 5);
+        let text = text_of(&CUTS_BY_FAILURE, count).ok_or("no text")?;
+        assert_text(&rt, writer.into_inner().as_slice(), text, &reads);
+    }
+    Ok(())
+}
+
+/// A reader of number signs without end, which notes how many bytes it was asked for.
+#[derive(Drop)]
+struct Endless {
+    asked: u64,
+}
+
+impl Read for Endless {
+    fn read(&mut self, buf: &mut [u8]) -> io::Result<usize> {
+        self.asked = self.asked.saturating_add(buf.len() as u64);
+        buf.fill(b'#');
+        Ok(buf.len())
+    }
+}
+
+#[test]
+fn a_script_without_end_is_a_failed_read(rt: HostRuntime) -> Result<(), Fail> {
+    let mut reader = Counted::new(Endless { asked: 0 });
+    let mut writer = Counted::new(empty_page(rt.alloc())?);
+    let outcome = run(rt.alloc(), &mut reader, &mut writer, OPTIONS);
+    assert_eq!(rt; fault_of(outcome)?, Some(RunFault::Read));
+    assert!(rt; writer.into_inner().is_empty());
+    assert_eq!(rt; SCRIPT_LIMIT, 16_777_216);
+    assert_eq!(rt; reader.count(), 16_777_217);
+    assert_eq!(rt; reader.into_inner().asked, 16_777_217);
+    Ok(())
+}
+
+/// A writer that takes so many bytes in all; then it fails, or takes none.
+#[derive(Drop)]
+struct Full {
+    left: usize,
+    fails: bool,
+    bytes: Vec<u8>,
+}
+
+impl Write for Full {
+    fn write(&mut self, buf: &[u8]) -> io::Result<usize> {
+        if self.left == 0 && self.fails {
+            return Err(io::Error::from(ErrorKind::StorageFull));
+        }
+        let count = self.left.min(buf.len());
+        self.bytes.extend_from_slice(&buf[..count])?;
+        self.left -= count;
+        Ok(count)
+    }
+
+    fn flush(&mut self) -> io::Result<()> {
+        Ok(())
+    }
+}
+
+#[test]
+fn writes_that_fail(rt: HostRuntime) -> Result<(), Fail> {
+    for left in 0..STORED_TEXT.len() {
+        for fails in [true, false] {
+            let mut reader = Counted::new(STORED_SCRIPT);
+            let mut writer = Counted::new(Full {
+                left,
+                fails,
+                bytes: empty_page(rt.alloc())?,
+            });
+            let outcome = run(rt.alloc(), &mut reader, &mut writer, OPTIONS);
+            assert_eq!(rt; fault_of(outcome)?, Some(RunFault::Write), "at {left}");
+            assert!(rt; writer.has_failed());
+            assert_eq!(rt; writer.count(), left as u64);
+            let bytes = writer.into_inner().bytes;
+            assert_text(&rt, bytes.as_slice(), &STORED_TEXT[..left], &left);
+        }
+    }
+    Ok(())
+}
+
+#[test]
+fn scripts_that_end_early(rt: HostRuntime) -> Result<(), Fail> {
+    for count in 0..=STORED_SCRIPT.len() {
+        let (written, _) = outcome(rt.alloc(), &STORED_SCRIPT[..count])?;
+        let text = text_of(&CUTS_BY_END, count).ok_or("no text")?;
+        assert_text(&rt, written.as_slice(), text, &count);
+    }
+    Ok(())
+}

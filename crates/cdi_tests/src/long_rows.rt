@@ -1,0 +1,133 @@
+//! Scripts with lines, blocks or lists at a limit, and what they print.
+use crate::fixtures::{assert_text, outcome};
+use std::alloc::{AllocError, Global};
+use std::io;
+use std::io::Write;
+use std::test::Fail;
+
+/// How many times a text stands, one behind the other.
+#[derive(Clone, Copy)]
+struct Piece(usize, &'static [u8]);
+
+/// A script of pieces, one behind the other, and what it prints.
+#[derive(Clone, Copy)]
+struct LongRow {
+    name: &'static str,
+    script: &'static [Piece],
+    text: &'static [u8],
+    refused: bool,
+}
+
+const LONG_ROWS: [LongRow; 7] = [
+    LongRow {
+        name: "a command line of more than 4,096 bytes",
+        script: &[Piece(4097, b"a"), Piece(1, b"\n")],
+        text: b"refused E20 BadCommand\n",
+        refused: true,
+    },
+    LongRow {
+        name: "a comment and a blank line have no limit",
+        script: &[
+            Piece(5000, b"#"),
+            Piece(1, b"\n"),
+            Piece(5000, b" "),
+            Piece(1, b"\ndrop type A\n"),
+        ],
+        text: b"refused E11 Absent\n",
+        refused: true,
+    },
+    LongRow {
+        name: "a carriage return at a line's end does not count, and only one is taken off",
+        script: &[
+            Piece(1, b"put\r\nkind=\"type\"\r\nname=\"A\"\r\n.\r\nchoose A"),
+            Piece(4088, b" "),
+            Piece(1, b"\r\nchoose A"),
+            Piece(4089, b" "),
+            Piece(1, b"\nchoose A\r\r\n"),
+        ],
+        text: b"ok\nunsatisfied\nrefused E20 BadCommand\nrefused E20 BadCommand\n",
+        refused: true,
+    },
+    LongRow {
+        name: "a carriage return does not count in a put block of 65,536 bytes",
+        script: &[
+            Piece(1, b"put\r\nkind=\"type\"\nname=\"A\"\n#"),
+            Piece(65513, b"x"),
+            Piece(1, b"\r\n.\r\n"),
+        ],
+        text: b"ok\n",
+        refused: false,
+    },
+    LongRow {
+        name: "a put block of 65,537 bytes",
+        script: &[Piece(1, b"put\n# "), Piece(65534, b"x"), Piece(1, b"\n.\n")],
+        text: b"refused E01 TooLong\n",
+        refused: true,
+    },
+    LongRow {
+        name: "a put block of many lines",
+        script: &[
+            Piece(1, b"put\n"),
+            Piece(2000, b"# 34567890123456789012345678901234567890\n"),
+            Piece(1, b".\ndrop type A\n"),
+        ],
+        text: b"refused E01 TooLong\nrefused E11 Absent\n",
+        refused: true,
+    },
+    LongRow {
+        name: "brackets that nest too deep",
+        script: &[
+            Piece(1, b"put\nkind=\"type\"\nname="),
+            Piece(10000, b"["),
+            Piece(1, b"\n.\ndrop type A\n"),
+        ],
+        text: b"refused E02 NotToml\nrefused E11 Absent\n",
+        refused: true,
+    },
+];
+
+/// The pieces, one behind the other.
+fn joined(alloc: Global, pieces: &[Piece]) -> Result<Vec<u8>, AllocError> {
+    let mut script = Vec::new(alloc);
+    for piece in pieces {
+        for _ in 0..piece.0 {
+            script.extend_from_slice(piece.1)?;
+        }
+    }
+    Ok(script)
+}
+
+#[test]
+fn long_scripts_print_their_texts(rt: HostRuntime) -> Result<(), Fail> {
+    for row in LONG_ROWS {
+        let script = joined(rt.alloc(), row.script)?;
+        let (written, refused) = outcome(rt.alloc(), script.as_slice())?;
+        assert_text(&rt, written.as_slice(), row.text, &row.name);
+        assert_eq!(rt; refused, row.refused, "{}", row.name);
+    }
+    Ok(())
+}
+
+/// A script that puts so many types, and then the seventh again.
+fn many_types(alloc: Global, count: u32) -> io::Result<Vec<u8>> {
+    let mut script = Vec::new(alloc);
+    for number in 1..=count {
+        write!(script, "put\nkind=\"type\"\nname=\"A{number}\"\n.\n")?;
+    }
+    script.extend_from_slice(b"put\nkind=\"type\"\nname=\"A7\"\n.\n")?;
+    Ok(script)
+}
+
+#[test]
+fn the_513th_declaration_is_refused(rt: HostRuntime) -> Result<(), Fail> {
+    let script = many_types(rt.alloc(), 513)?;
+    let mut text = Vec::new(rt.alloc());
+    for _ in 0..512 {
+        text.extend_from_slice(b"ok\n")?;
+    }
+    text.extend_from_slice(b"refused E10 TooMany\nok\n")?;
+    let (written, refused) = outcome(rt.alloc(), script.as_slice())?;
+    assert_text(&rt, written.as_slice(), text.as_slice(), &"513");
+    assert!(rt; refused);
+    Ok(())
+}
