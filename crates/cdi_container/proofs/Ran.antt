@@ -5,7 +5,7 @@ use Rattle.cdi_container.specs.Commands.{Command}
 use Rattle.cdi_container.specs.History.{Answer, LegalAnswer}
 use Rattle.cdi_container.specs.Seen.{state_of, IsStep}
 use Rattle.cdi_container.specs.Printed.{answer_seen, Answered}
-use Rattle.cdi_container.specs.Text.{is_out_of_memory, text_of_trace, text_of_answer}
+use Rattle.cdi_container.specs.Text.{text_of_trace, text_of_answer}
 use Rattle.cdi_container.specs.Runner.{RunsStep, Prints}
 use Rattle.cdi_container.specs.declared.container.Container.{Container}
 use Rattle.cdi_container.specs.declared.printing.Answer.{Answer as CodeAnswer}

@@ -1,11 +1,10 @@
 -- What is kept of a line or a put block does what all of it would do.
 use Rattle.std.proofs.Common.{◌≡◌, ℕ, ◌+◌, ◌<◌, ◌≤◌, List, [], ◌∷◌, ◌++◌, length, refl, ap, sym, ◌∙◌, subst, Some, None, false, inl, inr, append_assoc, arith}
 use Rattle.std.proofs.Math.Bool.{and-false}
-use Rattle.std.specs.Prelude.{◌==◌, codes, Err, Option}
+use Rattle.std.specs.Prelude.{◌==◌, codes, Err}
 use Rattle.std.specs.Str.{bytes_eq}
 use Rattle.std.proofs.lemmas.List.{append-nil, length-append}
 use Rattle.std.proofs.lemmas.Bool.{lt-ltb}
-use Rattle.cdi_model.specs.declared.refusal.Refusal.{Refusal}
 use Rattle.cdi_model.specs.declared.refusal.Refusal.TheVariants.{TooLong}
 use Rattle.cdi_text.specs.Reading.{decl_of}
 use Rattle.cdi_lines.specs.Words.{without_return}

@@ -23,11 +23,11 @@ takes_said old new kept said outside is h = record {
   line = h.line;
   runs = λ was whole sm sl.
       let says : commands_of_line was whole ≡ commands_said said =
-          ap (λ m. commands_of_line m whole) (stood was sm) ∙ ap commands_said (sym (serves_command kept whole sl) ∙ is) in
+      ap (λ m. commands_of_line m whole) (stood was sm) ∙ ap commands_said (sym (serves_command kept whole sl) ∙ is) in
       subst (Runs old.runner new.runner) (sym says) h.runs;
   mode = λ was whole sm sl.
       let says : mode_after was whole ≡ mode_said said =
-          ap (λ m. mode_after m whole) (stood was sm) ∙ ap mode_said (sym (serves_command kept whole sl) ∙ is) in
+      ap (λ m. mode_after m whole) (stood was sm) ∙ ap mode_said (sym (serves_command kept whole sl) ∙ is) in
       serves_as (mode_seen new.mode) (mode_said said) (mode_after was whole) (mode_said said) h.mode says (serves_mode_itself (mode_said said));
 }
   where

@@ -1,5 +1,5 @@
 -- What a session keeps of the bytes so far, and what it does with further ones.
-use Rattle.std.specs.Prelude.{◌≡◌, ℕ, List, [], ◌∷◌, ◌++◌, Result, false}
+use Rattle.std.specs.Prelude.{◌≡◌, ℕ, List, [], Result, false}
 use Rattle.cdi_model.specs.declared.refusal.Refusal.{Refusal}
 use Rattle.cdi_lines.specs.declared.command.Command.{Command as Said}
 use Rattle.cdi_lines.specs.Lines.{ended_from, begun_from, last_line}

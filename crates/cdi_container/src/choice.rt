@@ -21,11 +21,7 @@ pub enum Choice {
 }
 
 /// The bean for a type, among all that are declared. It takes memory for the eligible beans.
-pub(crate) fn choose(
-    alloc: Global,
-    decls: &Decls,
-    bean_type: Name,
-) -> Result<Choice, AllocError>
+pub(crate) fn choose(alloc: Global, decls: &Decls, bean_type: Name) -> Result<Choice, AllocError>
     ensures { IfOk result (λ choice. choice ≡ chosen decls.now bean_type) }
 {
     let beans = eligible(alloc, decls, bean_type)?;

@@ -4,7 +4,6 @@
 mod choice;
 mod container;
 mod printing;
-
 mod runner;
 mod script;
 mod session;

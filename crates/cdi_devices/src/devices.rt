@@ -45,10 +45,7 @@ impl<T: Drop> From<AllocFailed<T>> for RunFault {
 
 /// One read into the buffer, of at most as many bytes as the limit of a script leaves; at the limit it asks for one
 /// byte more, and a byte that comes then is a fault. An `Ok(0)` is the end of the input. It takes no memory.
-pub fn read_some<R: Read>(
-    reader: &mut Counted<R>,
-    buffer: &mut [u8],
-) -> Result<usize, RunFault>
+pub fn read_some<R: Read>(reader: &mut Counted<R>, buffer: &mut [u8]) -> Result<usize, RunFault>
     requires within { bytes_of reader.old ≤ SCRIPT_LIMIT }
     requires room { 0 < length buffer.old }
     ensures gives { IfOk result (λ n. Gives R.remaining SCRIPT_LIMIT reader.old reader.new n buffer.new) }

@@ -94,10 +94,10 @@ module _ (n : ℕ) (big : 65540 ≤ n) where
       let within : n - 1 < length l = omega arith in
       let at_end : length l - 1 < length l = omega arith in
       let kept_is : set (take n l) (n - 1) last ≡ xs ++ last ∷ [] =
-          sym (take-set-lt n l (n - 1) last (omega arith)) ∙ ap (λ k. take k (set l (n - 1) last)) (sym room) ∙ take_more_set l (n - 1) last within in
+      sym (take-set-lt n l (n - 1) last (omega arith)) ∙ ap (λ k. take k (set l (n - 1) last)) (sym room) ∙ take_more_set l (n - 1) last within in
       let line_is : l ≡ front ++ last ∷ [] =
-          sym (take_all (length l) l (omega arith)) ∙ ap (λ k. take k l) (sym count) ∙ take_more l (length l - 1) d at_end
-          ∙ ap (λ f. f ++ get_or l (length l - 1) d ∷ []) (sym is) ∙ ap (λ b. front ++ b ∷ []) (sym last_is) in
+      sym (take_all (length l) l (omega arith)) ∙ ap (λ k. take k l) (sym count) ∙ take_more l (length l - 1) d at_end
+      ∙ ap (λ f. f ++ get_or l (length l - 1) d ∷ []) (sym is) ∙ ap (λ b. front ++ b ∷ []) (sym last_is) in
       let front_spaces : AllSpaces front = all_spaces front blank in
       let front_count : length front ≡ length l - 1 = ap length is ∙ length-take-le (length l - 1) l (omega arith) in
       let xs_is : xs ≡ take (n - 1) front = sym (ap (take (n - 1)) is ∙ take-take (n - 1) (length l - 1) l (omega arith)) in

@@ -1,6 +1,6 @@
 -- Every word of the command table is ASCII, so a line that is not UTF-8 is not of the table.
 use Rattle.std.proofs.Common.{◌≡◌, ◌<◌, ◌≤◌, ℕ, zero, suc, Bool, true, false, not, List, [], ◌∷◌, length, Option, Some, None, refl, sym, ap, ◌∙◌, subst, inl, inr, arith, rules, cond, lit<}
-use Rattle.std.specs.Prelude.{◌==◌, ◌⊎◌, Ok, Err, Result, codes}
+use Rattle.std.specs.Prelude.{◌==◌, ◌⊎◌, Err, codes}
 use Rattle.std.specs.List.{AllByRecursion}
 use Rattle.std.specs.Str.{bytes_eq, is_utf8, IsAscii}
 use Rattle.std.specs.Cmp.Lexicographic.{bytes_decides}
@@ -44,9 +44,6 @@ ascii_words (b ∷ bs) h = by (b == 32) refl (ascii_words bs)
 
 same_word : (word text : List ℕ) → bytes_eq word text ≡ true → Ascii text → Ascii word
 same_word word text same ascii = subst Ascii (sym ((bytes_decides word text).0 same)) ascii
-
-
-
 
 name_told : (word : List ℕ) → (name_of word ≡ None) ⊎ Ascii word
 name_told word = elim (is_or_not (is_name word)) [

@@ -16,13 +16,8 @@ pub enum Command {
     Skip,
     /// A put block begins.
     Put,
-    Drop {
-        kind: Kind,
-        name: Name,
-    },
-    Choose {
-        bean_type: Name,
-    },
+    Drop { kind: Kind, name: Name },
+    Choose { bean_type: Name },
 }
 
 /// What a line outside a put block says. It takes no memory.

@@ -1,5 +1,5 @@
 -- The entries of the map beside the list of declarations.
-use Rattle.std.proofs.Common.{◌≡◌, ℕ, ◌+◌, Bool, true, false, cond, List, [], ◌∷◌, ◌++◌, length, map, Option, Some, None, is_some, option_map, refl, sym, ap, ◌∙◌, subst, Global}
+use Rattle.std.proofs.Common.{◌≡◌, ℕ, Bool, true, false, cond, List, [], ◌∷◌, Option, Some, None, is_some, option_map, refl, sym, ap, ◌∙◌, Global}
 use Rattle.std.specs.Map.{lookup, remove_entry}
 use Rattle.std.specs.declared.rc.Rc.{Rc}
 use Rattle.std.proofs.lemmas.Bool.{cases_Bool, and_parts}
@@ -10,7 +10,6 @@ use Rattle.cdi_model.specs.declared.decl.Kind.{Kind}
 use Rattle.cdi_model.specs.declared.decl.Kind.TheVariants as kinds
 use Rattle.std.proofs.Common.{zero, suc, nat_eq}
 use borrow.Author.Tests.{eqb-true}
-use Rattle.std.specs.List.{AllZip}
 use Rattle.std.specs.Cmp.Lexicographic.{pointwise, bytes_decides}
 use Rattle.cdi_model.specs.Key.{kind_number}
 use Rattle.cdi_model.specs.declared.key.Key.{Key}

@@ -1,5 +1,5 @@
 -- When two keys are one.
-use Rattle.std.specs.Prelude.{ℕ, List, nat_eq, Bool, ◌&&◌}
+use Rattle.std.specs.Prelude.{ℕ, List, nat_eq, Bool}
 use Rattle.std.specs.Cmp.{IsEquivalence}
 use Rattle.std.specs.Cmp.Lexicographic.{pointwise}
 use Rattle.std.specs.Cmp.Rules.{comparing}

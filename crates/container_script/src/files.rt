@@ -1,8 +1,7 @@
 //! What opens a path.
-use std::fs;
 use std::fs::File;
-use std::io;
 use std::io::Read;
+use std::{fs, io};
 
 /// What opens a path for reading.
 pub trait Files {

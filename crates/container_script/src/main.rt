@@ -6,9 +6,8 @@ mod options;
 mod session;
 
 use session::{refuse_words, session};
-use std::env;
-use std::io;
 use std::process::ExitCode;
+use std::{env, io};
 
 fn main(rt: HostRuntime) -> ExitCode {
     ExitCode::from(run_words(&rt))

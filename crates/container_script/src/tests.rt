@@ -57,7 +57,8 @@ impl Read for Broken {
     }
 }
 
-const SCRIPT: &[u8] = b"put\nkind = \"type\"\nname = \"Corner\"\n.\nput\nkind = \"bean\"\nname = \"Corner\"\n.\nchoose Corner\ndrop type Mall\n";
+const SCRIPT: &[u8] =
+    b"put\nkind = \"type\"\nname = \"Corner\"\n.\nput\nkind = \"bean\"\nname = \"Corner\"\n.\nchoose Corner\ndrop type Mall\n";
 
 const TEXT: &str = "ok\nok\none Corner\nrefused E11 Absent\n";
 
@@ -66,7 +67,12 @@ fn statuses(rt: HostRuntime) -> Result<(), Fail> {
     let cases = [
         (["program", "script", "--strict"], 1, TEXT, ""),
         (["program", "script", "--quiet"], 0, TEXT, ""),
-        (["program", "other", "--strict"], 3, "", "error: read failed\n"),
+        (
+            ["program", "other", "--strict"],
+            3,
+            "",
+            "error: read failed\n",
+        ),
     ];
     for (words, status, text, complaint) in cases {
         let mut output = Vec::new(rt.alloc());
@@ -155,7 +161,11 @@ fn reader_that_fails_leaves_the_complete_lines(rt: HostRuntime) -> Result<(), Fa
 fn words_that_cannot_be_had(rt: HostRuntime) -> Result<(), Fail> {
     let cases = [
         (ErrorKind::OutOfMemory, 4, "error: out of memory\n"),
-        (ErrorKind::InvalidData, 2, "error: an argument is not UTF-8\n"),
+        (
+            ErrorKind::InvalidData,
+            2,
+            "error: an argument is not UTF-8\n",
+        ),
     ];
     for (kind, status, complaint) in cases {
         let mut errors = Vec::new(rt.alloc());

@@ -1,7 +1,7 @@
 use Rattle.std.proofs.Common.{length, ap, ◌∙◌}
 use Rattle.std.proofs.lemmas.Result.{on_ok_weaker}
 use borrow.Author.Tests.{both_ways, eq-eqb}
-use Rattle.cdi_container.proofs.Taking.{ends_last, ends_none}
+use Rattle.cdi_container.proofs.Taking.{ends_last}
 use Rattle.cdi_container.proofs.session.Session.end_last_line.Goals as goal
 
 pub returns-else-is_empty-clause-ok : goal.returns-else-is_empty-clause-ok
