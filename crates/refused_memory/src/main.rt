@@ -1,0 +1,76 @@
+//! The program: makes calls and a run of which any one allocation may be refused, and says whether each answer is right.
+//!
+//! The number on the standard input is how many allocations come before the first of the calls.
+#![tactic(auto)]
+
+mod calls;
+mod scripts;
+
+use calls::make_calls;
+use scripts::run_script;
+use std::alloc::Global;
+use std::io;
+use std::io::{ErrorKind, Read};
+use std::process::ExitCode;
+use thiserror::Error;
+
+/// The status where every answer is right, and one allocation of the calls and the run was refused.
+const STATUS_REFUSED: u8 = 3;
+
+/// What is not as it is to be.
+#[derive(Clone, Copy, Debug, Error)]
+pub enum Difference {
+    #[error("call {0} answers something else")]
+    Answer(usize),
+    #[error("call {0} has no memory, and changes something")]
+    Changes(usize),
+    #[error("the run of the script writes or answers something else")]
+    Run,
+    #[error("a second allocation is refused")]
+    RefusedAgain,
+}
+
+fn main(rt: HostRuntime) -> ExitCode {
+    drop_boxes(rt.alloc(), read_count(&mut rt.reader()));
+    let outcome = compare(rt.alloc());
+    let printed = match print(&rt, outcome) {
+        Err(error) if error.kind() == ErrorKind::OutOfMemory => print(&rt, outcome),
+        printed => printed,
+    };
+    match (printed, outcome) {
+        (Ok(()), Ok(refused)) => ExitCode::from(if refused { STATUS_REFUSED } else { 0 }),
+        _ => ExitCode::from(1),
+    }
+}
+
+/// The number that a reader gives, or 0 where it gives none. It takes no memory.
+fn read_count<R: Read>(reader: &mut R) -> u16 {
+    let mut page = [0u8; 8];
+    let count = reader.read(&mut page).unwrap_or(0);
+    let text = str::from_utf8(page.get(..count).unwrap_or(&[])).unwrap_or("");
+    text.trim().parse().unwrap_or(0)
+}
+
+/// Makes so many allocations, any of which may be refused, and lets each go.
+fn drop_boxes(alloc: Global, count: u16) {
+    for number in 0..count {
+        let _ = Box::new(alloc, number);
+    }
+}
+
+/// Makes the calls and the run, and tells whether one allocation of theirs is refused. At most one may be.
+fn compare(alloc: Global) -> Result<bool, Difference> {
+    let calls_refused = make_calls(alloc)?;
+    let run_refused = !run_script(alloc)?;
+    if run_refused && (calls_refused || !run_script(alloc)?) {
+        return Err(Difference::RefusedAgain);
+    }
+    Ok(calls_refused || run_refused)
+}
+
+fn print(rt: &impl Print, outcome: Result<bool, Difference>) -> io::Result<()> {
+    match outcome {
+        Ok(_) => println!(rt; "every answer is right"),
+        Err(difference) => println!(rt; "{difference}"),
+    }
+}
