@@ -4,3 +4,4 @@ mod Serving
 mod Taking
 mod Feeding
 mod Going
+mod Putting

@@ -2,6 +2,7 @@
 use Rattle.std.specs.Prelude.{ℕ, Bool, List, [], ◌∷◌, ◌++◌, codes, Result, Ok, Err, if◌then◌else◌}
 use Rattle.std.specs.Str.{bytes_eq}
 use Rattle.cdi_model.specs.declared.decl.Kind.{Kind}
+use Rattle.cdi_model.specs.declared.quals.Qual.{Qual}
 use Rattle.cdi_model.specs.declared.refusal.Refusal.{Refusal}
 use Rattle.cdi_lines.specs.declared.command.Command.{Command as Said}
 use Rattle.cdi_lines.specs.declared.command.Command.TheVariants as said
@@ -13,7 +14,7 @@ use Rattle.cdi_lines.specs.Kept.{with_line}
 pub data Command : Type 0 where
   Put : List ℕ → Command
   Drop : Kind → List ℕ → Command
-  Choose : List ℕ → Command
+  Choose : List ℕ → List Qual → Command
   -- what is no command
   Unreadable : Command
 
@@ -27,7 +28,7 @@ abbrev pub commands_said : Result Said Refusal → List Command
 commands_said (Ok said.Skip) = []
 commands_said (Ok said.Put) = []
 commands_said (Ok (said.Drop kind name)) = Drop kind name ∷ []
-commands_said (Ok (said.Choose t)) = Choose t ∷ []
+commands_said (Ok (said.Choose t quals)) = Choose t quals ∷ []
 commands_said (Err refusal) = Unreadable ∷ []
 
 -- and where the next line stands
@@ -35,7 +36,7 @@ abbrev pub mode_said : Result Said Refusal → Mode
 mode_said (Ok said.Skip) = Outside
 mode_said (Ok said.Put) = InPut []
 mode_said (Ok (said.Drop kind name)) = Outside
-mode_said (Ok (said.Choose t)) = Outside
+mode_said (Ok (said.Choose t quals)) = Outside
 mode_said (Err refusal) = Outside
 
 abbrev pub is_dot : List ℕ → Bool

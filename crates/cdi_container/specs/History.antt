@@ -46,14 +46,14 @@ refusal_of_put ds (Err refusal) = Some refusal
 abbrev pub refusal_of : State → Command → Option Refusal
 refusal_of state (Put text) = refusal_of_put state.decls (decl_of text)
 refusal_of state (Drop kind name) = refusal_of_edit state.decls (Remove kind name)
-refusal_of state (Choose t) = None
+refusal_of state (Choose t quals) = None
 refusal_of state Unreadable = Some BadCommand
 
 -- what a command that isn't refused answers, and the state and the trace that it leaves
 abbrev pub Acts : State → Command → Answer → List Entry → State → Type 0
 Acts old (Put text) Done trace new = (d : Decl) × (decl_of text ≡ Ok d) × (trace ≡ []) × (new ≡ with_edit old (PutEdit d))
 Acts old (Drop kind name) Done trace new = (trace ≡ []) × (new ≡ with_edit old (Remove kind name))
-Acts old (Choose t) (Chosen choice) trace new = (choice ≡ chosen old.decls t) × (trace ≡ []) × (new ≡ old)
+Acts old (Choose t quals) (Chosen choice) trace new = (choice ≡ chosen old.decls t quals) × (trace ≡ []) × (new ≡ old)
 Acts old command answer trace new = ⊥
 
 -- A refusal is the first whose condition holds. It changes nothing, and neither does want of memory.

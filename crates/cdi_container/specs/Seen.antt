@@ -2,6 +2,7 @@
 use Rattle.std.specs.Prelude.{ℕ, List, [], Result, Ok, Err}
 use Rattle.std.specs.declared.alloc.AllocError.{AllocError}
 use Rattle.cdi_model.specs.declared.decl.Kind.{Kind}
+use Rattle.cdi_model.specs.declared.quals.Qual.{Qual}
 use Rattle.cdi_model.specs.declared.refusal.Error.{Error}
 use Rattle.cdi_model.specs.declared.refusal.Error.TheVariants as errors
 use Rattle.cdi_container.specs.declared.choice.Choice.{Choice}
@@ -34,5 +35,5 @@ PutStep old text result new = IsStep old (Put text) (edit_answer result) new
 abbrev pub DropStep : Container → Kind → List ℕ → Result (Unit {0}) Error → Container → Type 0
 DropStep old kind name result new = IsStep old (Drop kind name) (edit_answer result) new
 
-abbrev pub ChooseStep : Container → List ℕ → Result Choice AllocError → Container → Type 0
-ChooseStep old t result new = IsStep old (Choose t) (choice_answer result) new
+abbrev pub ChooseStep : Container → List ℕ → List Qual → Result Choice AllocError → Container → Type 0
+ChooseStep old t quals result new = IsStep old (Choose t quals) (choice_answer result) new

@@ -1,7 +1,7 @@
 -- The text that steps print.
 use Rattle.std.specs.Prelude.{ℕ, Bool, true, false, List, [], ◌∷◌, ◌++◌, codes, flat_map, if◌then◌else◌}
 use Rattle.cdi_model.specs.declared.refusal.Refusal.{Refusal}
-use Rattle.cdi_model.specs.declared.refusal.Refusal.TheVariants.{TooLong, NotToml, UnknownKind, UnknownKey, MissingKey, WrongKind, BadName, TooMany, Absent, BadCommand}
+use Rattle.cdi_model.specs.declared.refusal.Refusal.TheVariants.{TooLong, NotToml, UnknownKind, UnknownKey, MissingKey, WrongKind, BadName, Twice, ListTooLong, TooMany, Absent, BadCommand}
 use Rattle.cdi_container.specs.declared.choice.BeanId.{BeanId}
 use Rattle.cdi_container.specs.declared.choice.Choice.{Choice}
 use Rattle.cdi_container.specs.declared.choice.Choice.TheVariants.{One, Unsatisfied, Ambiguous}
@@ -16,6 +16,8 @@ word_of UnknownKey = codes "E04 UnknownKey"
 word_of MissingKey = codes "E05 MissingKey"
 word_of WrongKind = codes "E06 WrongKind"
 word_of BadName = codes "E07 BadName"
+word_of Twice = codes "E08 Twice"
+word_of ListTooLong = codes "E09 ListTooLong"
 word_of TooMany = codes "E10 TooMany"
 word_of Absent = codes "E11 Absent"
 word_of BadCommand = codes "E20 BadCommand"

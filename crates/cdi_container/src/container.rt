@@ -2,7 +2,7 @@
 ghost use Rattle.std.specs.Prelude.{◌≡◌};
 
 use crate::choice::{Choice, choose};
-use cdi_model::{Decls, Error, Kind, Name};
+use cdi_model::{Decls, Error, Kind, Name, Quals};
 use cdi_text::read_decl;
 use std::alloc::{AllocError, Global};
 
@@ -48,10 +48,11 @@ impl Container {
         }
     }
 
-    /// Which bean has a type. It takes memory for the beans that have it.
-    pub fn choose(&mut self, bean_type: Name) -> Result<Choice, AllocError>
-        ensures { ChooseStep self.old bean_type result self.new }
+    /// Which bean is right for a type and qualifiers (CDI 4.0, Performing typesafe resolution). Where no qualifier is
+    /// named, `Default` is asked for. It takes memory for the types of each bean and for the beans that are right.
+    pub fn choose(&mut self, bean_type: Name, quals: &Quals) -> Result<Choice, AllocError>
+        ensures { ChooseStep self.old bean_type quals.now result self.new }
     {
-        choose(self.alloc, &self.decls, bean_type)
+        choose(self.alloc, &self.decls, bean_type, quals)
     }
 }

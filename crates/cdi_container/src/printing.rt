@@ -27,6 +27,8 @@ fn refusal_word(refusal: Refusal) -> &'static [u8]
         Refusal::MissingKey => b"E05 MissingKey",
         Refusal::WrongKind => b"E06 WrongKind",
         Refusal::BadName => b"E07 BadName",
+        Refusal::Twice => b"E08 Twice",
+        Refusal::ListTooLong => b"E09 ListTooLong",
         Refusal::TooMany => b"E10 TooMany",
         Refusal::Absent => b"E11 Absent",
         Refusal::BadCommand => b"E20 BadCommand",

@@ -8,7 +8,7 @@ ghost use Rattle.cdi_container.specs.Seen.{state_of};
 
 use crate::container::Container;
 use crate::printing::{Answer, answer_of_choice, answer_of_edit, print_step};
-use cdi_model::{Kind, Name, Refusal};
+use cdi_model::{Kind, Name, Quals, Refusal};
 use std::alloc::{AllocError, Global};
 
 #[derive(Drop)]
@@ -55,11 +55,11 @@ impl Runner {
         self.print(&answer)
     }
 
-    pub(crate) fn choose(&mut self, bean_type: Name) -> Result<(), AllocError>
-        ensures ok { OnOk result (RunsStep self.old self.new (Choose bean_type)) }
+    pub(crate) fn choose(&mut self, bean_type: Name, quals: &Quals) -> Result<(), AllocError>
+        ensures ok { OnOk result (RunsStep self.old self.new (Choose bean_type quals.now)) }
         ensures err { OnErr result (PrintsNothing self.old self.new) }
     {
-        let answer = answer_of_choice(self.container.choose(bean_type))?;
+        let answer = answer_of_choice(self.container.choose(bean_type, quals))?;
         self.print(&answer)
     }
 

@@ -9,6 +9,7 @@ ghost use Rattle.cdi_container.specs.Session.{mode_seen, TakesLine, TakesSaid, T
 
 use crate::runner::Runner;
 use cdi_lines::{Block, Command, Line, ends_block, find_feed, read_line};
+use cdi_model::Error;
 use std::alloc::{AllocError, Global};
 use std::mem;
 
@@ -129,9 +130,10 @@ impl Session {
         ensures ok { OnOk result (TakesLine self.old self.new line.now) }
         ensures err { OnErr result (PrintsNothing self.old.runner self.new.runner) }
     {
-        match read_line(line) {
+        match read_line(self.alloc, line) {
             Ok(command) => self.take_command(command),
-            Err(_) => self.runner.refuse(),
+            Err(Error::OutOfMemory) => Err(AllocError),
+            Err(Error::Refused(_)) => self.runner.refuse(),
         }
     }
 
@@ -148,7 +150,7 @@ impl Session {
                 Ok(())
             }
             Command::Drop { kind, name } => self.runner.remove(kind, name),
-            Command::Choose { bean_type } => self.runner.choose(bean_type),
+            Command::Choose { bean_type, quals } => self.runner.choose(bean_type, &quals),
         }
     }
 

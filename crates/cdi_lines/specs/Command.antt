@@ -1,11 +1,15 @@
 -- What a line outside a put block says.
-use Rattle.std.specs.Prelude.{ℕ, not, ◌||◌, nat_lt, List, [], ◌∷◌, length, codes, Option, Some, None, Result, Ok, Err, if◌then◌else◌}
+use Rattle.std.specs.Prelude.{ℕ, Bool, not, ◌||◌, ◌&&◌, nat_lt, nat_le, map, List, [], ◌∷◌, length, codes, Option, Some, None, Result, Ok, Err, if◌then◌else◌}
+use Rattle.std.specs.List.{list_any, list_all}
 use Rattle.std.specs.Str.{bytes_eq, is_utf8}
 use Rattle.cdi_model.specs.Decl.{kind_of_word}
 use Rattle.cdi_model.specs.Grammar.{name_of}
 use Rattle.cdi_model.specs.declared.decl.Kind.{Kind}
+use Rattle.cdi_model.specs.declared.quals.Qual.{Qual}
 use Rattle.cdi_model.specs.declared.refusal.Refusal.{Refusal}
 use Rattle.cdi_model.specs.declared.refusal.Refusal.TheVariants.{BadCommand}
+use Rattle.cdi_uses.specs.Twice.{has_twice}
+use Rattle.cdi_uses.specs.Uses.{is_use, use_name, repeats_member, quals_from}
 use Rattle.cdi_lines.specs.declared.command.Command.{Command}
 use Rattle.cdi_lines.specs.declared.command.Command.TheVariants as commands
 use Rattle.cdi_lines.specs.Words.{without_return, words_of, has_no_words, begins_with_hash}
@@ -24,14 +28,22 @@ abbrev pub drop_of : List (List ℕ) → Result Command Refusal
 drop_of (kind ∷ name ∷ []) = drop_at (kind_of_word kind) (name_of name)
 drop_of words = Err BadCommand
 
--- choose TYPE
-abbrev pub choose_at : Option (List ℕ) → Result Command Refusal
-choose_at (Some name) = Ok (commands.Choose name)
-choose_at None = Err BadCommand
+-- USE..: uses of distinct qualifiers, at most 32, none of which writes a member twice
+abbrev pub are_uses : List (List ℕ) → Bool
+are_uses words = (nat_le (length words) 32 && list_all is_use words) && (not (has_twice (map use_name words)) && not (list_any repeats_member words))
+
+-- the uses in the order of their names, if the words are such
+abbrev pub quals_of : List (List ℕ) → Option (List Qual)
+quals_of words = if are_uses words then Some (quals_from [] words) else None
+
+-- choose TYPE USE..
+abbrev pub choose_at : Option (List ℕ) → Option (List Qual) → Result Command Refusal
+choose_at (Some name) (Some quals) = Ok (commands.Choose name quals)
+choose_at name quals = Err BadCommand
 
 abbrev pub choose_of : List (List ℕ) → Result Command Refusal
-choose_of (name ∷ []) = choose_at (name_of name)
-choose_of words = Err BadCommand
+choose_of [] = Err BadCommand
+choose_of (name ∷ uses) = choose_at (name_of name) (quals_of uses)
 
 -- the command table: a verb, and what stands behind it
 abbrev pub command_of : List ℕ → List (List ℕ) → Result Command Refusal

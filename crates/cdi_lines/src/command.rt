@@ -1,56 +1,82 @@
 //! What a line outside a put block says.
 ghost use Rattle.std.specs.Prelude.{◌≡◌};
-ghost use Rattle.cdi_lines.specs.Words.{words_of};
+ghost use Rattle.cdi_model.specs.Outcome.{Answers};
+ghost use Rattle.std.specs.Str.{is_utf8};
+ghost use Rattle.cdi_lines.specs.Words.{words_of, begins_with_hash};
 ghost use Rattle.cdi_lines.specs.Command.{put_of, drop_of, choose_of, command_of, command_of_line};
 
+use crate::uses::read_uses;
 use crate::words::{split_word, strip_return};
-use cdi_model::{Kind, Name, Refusal};
+use cdi_model::{Error, Kind, Name, Quals, Refusal};
+use std::alloc::Global;
 
 /// How many bytes a command line has at most, its end not counted.
 const LINE_LIMIT: usize = 4096;
 
 /// What a line outside a put block says.
-#[derive(Clone, Copy, Debug)]
+#[derive(Drop)]
 pub enum Command {
     /// Nothing: the line is of spaces alone, or a comment.
     Skip,
     /// A put block begins.
     Put,
     Drop { kind: Kind, name: Name },
-    Choose { bean_type: Name },
+    Choose { bean_type: Name, quals: Quals },
 }
 
-/// What a line outside a put block says. It takes no memory.
+/// What a line outside a put block says.
 ///
-/// The line comes without its line feed. A line that is neither skipped nor of the command table is refused as
-/// `BadCommand`, and so is one of more than 4,096 bytes or that is not UTF-8.
-pub fn read_line(line: &[u8]) -> Result<Command, Refusal>
-    ensures { result ≡ command_of_line line.now }
+/// The line comes without its line feed. It takes memory for the qualifiers of a question alone.
+///
+/// # Errors
+///
+/// `OutOfMemory`; `BadCommand` of a line that is neither skipped nor of the command table, of one of more than 4,096
+/// bytes, and of one that is not UTF-8.
+pub fn read_line(alloc: Global, line: &[u8]) -> Result<Command, Error>
+    ensures { Answers result (command_of_line line.now) }
 {
     let text = strip_return(line);
-    if text.first() == Some(&b'#') {
+    if is_comment(text) {
         return Ok(Command::Skip);
     }
     let Some((verb, rest)) = split_word(text) else {
         return Ok(Command::Skip);
     };
-    if text.len() > LINE_LIMIT {
-        return Err(Refusal::BadCommand);
+    if text.len() > LINE_LIMIT || !is_utf8(text) {
+        return Err(Error::Refused(Refusal::BadCommand));
     }
-    read_command(verb, rest)
+    read_command(alloc, verb, rest)
 }
 
-fn read_command(verb: &[u8], rest: &[u8]) -> Result<Command, Refusal>
-    ensures { result ≡ command_of verb.now (words_of rest.now) }
+fn is_comment(text: &[u8]) -> bool
+    ensures { result ≡ begins_with_hash text.now }
+{
+    match text {
+        [first, ..] => *first == b'#',
+        [] => false,
+    }
+}
+
+fn is_utf8(text: &[u8]) -> bool
+    ensures { result ≡ is_utf8 text.now }
+{
+    match str::from_utf8(text) {
+        Ok(_) => true,
+        Err(_) => false,
+    }
+}
+
+fn read_command(alloc: Global, verb: &[u8], rest: &[u8]) -> Result<Command, Error>
+    ensures { Answers result (command_of verb.now (words_of rest.now)) }
 {
     if verb == b"put".as_slice() {
-        read_put(rest)
+        Ok(read_put(rest)?)
     } else if verb == b"drop".as_slice() {
-        read_drop(rest)
+        Ok(read_drop(rest)?)
     } else if verb == b"choose".as_slice() {
-        read_choose(rest)
+        read_choose(alloc, rest)
     } else {
-        Err(Refusal::BadCommand)
+        Err(Error::Refused(Refusal::BadCommand))
     }
 }
 
@@ -81,17 +107,17 @@ fn read_drop(rest: &[u8]) -> Result<Command, Refusal>
     }
 }
 
-fn read_choose(rest: &[u8]) -> Result<Command, Refusal>
-    ensures { result ≡ choose_of (words_of rest.now) }
+fn read_choose(alloc: Global, rest: &[u8]) -> Result<Command, Error>
+    ensures { Answers result (choose_of (words_of rest.now)) }
 {
     let Some((name, rest)) = split_word(rest) else {
-        return Err(Refusal::BadCommand);
+        return Err(Error::Refused(Refusal::BadCommand));
     };
-    if split_word(rest).is_some() {
-        return Err(Refusal::BadCommand);
-    }
-    match Name::parse(name) {
-        Some(bean_type) => Ok(Command::Choose { bean_type }),
-        None => Err(Refusal::BadCommand),
+    let Some(bean_type) = Name::parse(name) else {
+        return Err(Error::Refused(Refusal::BadCommand));
+    };
+    match read_uses(alloc, rest)? {
+        Some(quals) => Ok(Command::Choose { bean_type, quals }),
+        None => Err(Error::Refused(Refusal::BadCommand)),
     }
 }

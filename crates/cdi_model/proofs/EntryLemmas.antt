@@ -41,11 +41,13 @@ put-insert d v (e ∷ es) s h =
 -- the kind of a number
 kind_at : ℕ → Kind
 kind_at zero = kinds.Type
-kind_at (suc n) = kinds.Bean
+kind_at (suc zero) = kinds.Qualifier
+kind_at (suc (suc n)) = kinds.Bean
 
 kind_again : (k : Kind) → kind_at (kind_number k) ≡ k
 unfolding kind_at
 kind_again kinds.Type = refl
+kind_again kinds.Qualifier = refl
 kind_again kinds.Bean = refl
 
 -- keys that the test takes for one are one

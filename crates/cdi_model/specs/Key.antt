@@ -12,7 +12,8 @@ use Rattle.cdi_model.specs.declared.key.Key.{Key}
 -- its place among the kinds
 abbrev pub kind_number : Kind → ℕ
 kind_number kinds.Type = 0
-kind_number kinds.Bean = 1
+kind_number kinds.Qualifier = 1
+kind_number kinds.Bean = 2
 
 -- the keys have one kind and one name
 abbrev pub same_key : Key → Key → Bool

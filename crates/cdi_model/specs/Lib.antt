@@ -1,6 +1,8 @@
 pub mod ShortText
 pub mod Grammar
 pub mod Key
+pub mod Quals
+pub mod BeanName
 pub mod Decl
 pub mod DeclList
 pub mod Edits

@@ -20,7 +20,8 @@ impl Kind {
     {
         match self {
             Kind::Type => 0,
-            Kind::Bean => 1,
+            Kind::Qualifier => 1,
+            Kind::Bean => 2,
         }
     }
 }

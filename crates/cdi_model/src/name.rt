@@ -59,6 +59,7 @@ impl Name {
     /// The bytes.
     pub fn as_bytes(&self) -> &[u8]
         ensures value { result.now ≡ self.now }
+        ensures grammar { is_name self.now ≡ true }
     {
         self.text.as_bytes()
     }
@@ -110,6 +111,7 @@ impl Ident {
     /// The bytes.
     pub fn as_bytes(&self) -> &[u8]
         ensures value { result.now ≡ self.now }
+        ensures grammar { is_ident self.now ≡ true }
     {
         self.text.as_bytes()
     }

@@ -1,11 +1,10 @@
 //! The container, its declarations and its refusals.
-use crate::fixtures::{Answer, Call, agrees, assert_text, make, name, outcome};
+use crate::fixtures::{Answer, Call, agrees, declared, make, name};
 use cdi_container::Container;
-use cdi_model::{BeanDecl, Decl, Decls, Form, Kind, Refusal, TypeDecl};
+use cdi_model::{Decl, Decls, Form, Kind, Refusal};
 use cdi_text::read_decl;
 use std::alloc::Global;
 use std::io::Write;
-use std::process::Abort;
 use std::test::Fail;
 
 /// Whether a declaration is of the class or interface that is named.
@@ -14,91 +13,126 @@ fn is_type(decl: &Decl, name: &[u8], form: Form, is_final: bool) -> bool {
         Decl::Type(found) => {
             found.name.as_bytes() == name && found.form == form && found.is_final == is_final
         }
-        Decl::Bean(_) => false,
+        _ => false,
     }
 }
 
-fn is_bean(decl: &Decl, name: &[u8]) -> bool {
-    match decl {
-        Decl::Type(_) => false,
-        Decl::Bean(found) => found.name.as_bytes() == name,
-    }
-}
+/// A type with its name and every other key of its kind, and what it is.
+#[derive(Clone, Copy)]
+struct TypeText(&'static [u8], &'static [u8], Form, bool);
 
-/// Declarations of both kinds, with every key.
-fn read_declarations(rt: &impl Abort, alloc: Global) -> Result<(), Fail> {
-    let least = read_decl(alloc, b"kind=\"type\"\nname=\"shop.Corner\"\n")?;
-    assert!(rt; is_type(&least, b"shop.Corner", Form::Class, false));
-    let text = b"final = true\nform = \"interface\"\nname = \"A\"\nkind = \"type\"\n";
-    assert!(rt; is_type(&read_decl(alloc, text)?, b"A", Form::Interface, true));
-    let text = b"form = \"class\"\nkind = \"type\"\nname = \"A\"\nfinal = false\n";
-    assert!(rt; is_type(&read_decl(alloc, text)?, b"A", Form::Class, false));
-    let bean = read_decl(alloc, b"kind=\"bean\"\nname=\"Corner\"\n")?;
-    assert!(rt; is_bean(&bean, b"Corner"));
-    assert_eq!(rt; bean.kind(), Kind::Bean);
-    assert!(rt; bean.key().name == bean.name());
+static TYPE_TEXTS: [TypeText; 3] = [
+    TypeText(
+        b"kind=\"type\"\nname=\"shop.Corner\"\n",
+        b"shop.Corner",
+        Form::Class,
+        false,
+    ),
+    TypeText(
+        b"final = true\nform = \"interface\"\nname = \"A\"\nkind = \"type\"\n",
+        b"A",
+        Form::Interface,
+        true,
+    ),
+    TypeText(
+        b"form = \"class\"\nkind = \"type\"\nname = \"A\"\nfinal = false\n",
+        b"A",
+        Form::Class,
+        false,
+    ),
+];
+
+#[test]
+fn declarations_are_read(rt: HostRuntime) -> Result<(), Fail> {
+    for (place, TypeText(text, name, form, is_final)) in TYPE_TEXTS.iter().enumerate() {
+        let decl = read_decl(rt.alloc(), text)?;
+        assert!(rt; is_type(&decl, name, *form, *is_final), "text {place}");
+    }
+    let bean = read_decl(rt.alloc(), b"kind=\"bean\"\nname=\"Corner\"\n")?;
+    assert!(rt; bean.kind() == Kind::Bean && bean.key().name == name(b"Corner")?);
     Ok(())
 }
 
-/// A list of a bean, a type and a bean, in which the first is replaced and the second removed.
-fn edit_a_list(rt: &impl Abort, alloc: Global) -> Result<(), Fail> {
-    let mut decls = Decls::new(alloc);
-    assert!(rt; decls.is_empty());
-    for text in [b"B".as_slice(), b"A".as_slice()] {
-        decls.put(Decl::Bean(BeanDecl { name: name(text)? }))?;
-    }
-    for (form, is_final) in [(Form::Class, true), (Form::Interface, false)] {
-        let name = name(b"B")?;
-        decls.put(Decl::Type(TypeDecl {
-            name,
-            form,
-            is_final,
-        }))?;
-    }
-    assert_eq!(rt; decls.len(), 3);
+/// Texts of which the last replaces the type.
+static EDITS: [&[u8]; 4] = [
+    b"kind=\"bean\"\nname=\"B\"\n",
+    b"kind=\"bean\"\nname=\"A\"\n",
+    b"kind=\"type\"\nname=\"B\"\nfinal=true\n",
+    b"kind=\"type\"\nname=\"B\"\nform=\"interface\"\n",
+];
+
+/// Whether the declarations are of these kinds and names, in this order.
+fn are_keyed(decls: &Decls, keys: &[(Kind, &[u8])]) -> bool {
+    decls.len() == keys.len()
+        && decls.iter().zip(keys.iter()).all(|(decl, (kind, name))| decl.kind() == *kind
+            && decl.name().as_bytes() == *name)
+}
+
+#[test]
+fn a_list_is_edited(rt: HostRuntime) -> Result<(), Fail> {
+    let mut decls = declared(rt.alloc(), &EDITS)?;
+    let other = decls.get(Kind::Type, name(b"A")?);
     let found = decls.get(Kind::Type, name(b"B")?).ok_or("no type")?;
-    assert!(rt; is_type(found, b"B", Form::Interface, false));
-    assert!(rt; decls.get(Kind::Type, name(b"A")?).is_none());
-    assert_eq!(rt; decls.remove(Kind::Bean, name(b"B")?), Ok(()));
-    let refused = decls.remove(Kind::Bean, name(b"B")?);
-    assert_eq!(rt; refused, Err(Refusal::Absent));
-    let mut left = decls.iter();
-    assert!(rt; is_bean(left.next().ok_or("no bean")?, b"A"));
-    assert_eq!(rt; left.next().ok_or("no type")?.kind(), Kind::Type);
-    assert!(rt; left.next().is_none());
+    assert!(rt; other.is_none() && is_type(found, b"B", Form::Interface, false));
+    let bean = name(b"B")?;
+    let answers = [
+        decls.remove(Kind::Bean, bean),
+        decls.remove(Kind::Bean, bean),
+    ];
+    assert!(rt; answers == [Ok(()), Err(Refusal::Absent)]);
+    assert!(rt; !decls.is_empty() && are_keyed(&decls, &[(Kind::Bean, b"A"), (Kind::Type, b"B")]));
     Ok(())
 }
 
-const CALLS: [(Call, Answer); 10] = [
-    (Call::Choose(b"Object"), Answer::Unsatisfied),
+static CALLS: [(Call, Answer); 15] = [
+    (Call::Choose(b"Object", &[]), Answer::Unsatisfied),
     (Call::Put(b"kind=\"bean\"\nname=\"shop.B\"\n"), Answer::Done),
     (Call::Put(b"kind=\"type\"\nname=\"shop.A\"\n"), Answer::Done),
     (Call::Put(b"kind=\"bean\"\nname=\"shop.A\"\n"), Answer::Done),
     // Put again, a bean keeps its place.
     (Call::Put(b"kind=\"bean\"\nname=\"shop.B\"\n"), Answer::Done),
-    (Call::Choose(b"shop.A"), Answer::One(b"shop.A")),
+    (Call::Choose(b"shop.A", &[]), Answer::One(b"shop.A")),
     (
-        Call::Choose(b"Object"),
+        Call::Choose(b"Object", &[]),
         Answer::Ambiguous(&[b"shop.B", b"shop.A"]),
     ),
     (Call::Remove(Kind::Bean, b"shop.B"), Answer::Done),
-    (Call::Choose(b"shop.B"), Answer::Unsatisfied),
-    (Call::Choose(b"Object"), Answer::One(b"shop.A")),
+    (Call::Choose(b"shop.B", &[]), Answer::Unsatisfied),
+    (Call::Choose(b"Object", &[]), Answer::One(b"shop.A")),
+    (Call::Put(b"kind=\"qualifier\"\nname=\"Q\"\n"), Answer::Done),
+    (
+        Call::Put(b"kind=\"bean\"\nname=\"C\"\nqualifiers=[\"Q\"]\nnamed=\"c\"\n"),
+        Answer::Done,
+    ),
+    (Call::Choose(b"Object", &[b"Q"]), Answer::One(b"C")),
+    (
+        Call::Choose(b"Object", &[b"Any", b"Named(c)"]),
+        Answer::One(b"C"),
+    ),
+    (Call::Remove(Kind::Qualifier, b"Q"), Answer::Done),
 ];
 
 #[test]
 fn answers_with_ample_memory(rt: HostRuntime) -> Result<(), Fail> {
-    read_declarations(&rt, rt.alloc())?;
-    edit_a_list(&rt, rt.alloc())?;
     let mut container = Container::new(rt.alloc());
     for (place, (call, answer)) in CALLS.iter().enumerate() {
-        let answered = make(&mut container, *call)?;
+        let answered = make(rt.alloc(), &mut container, *call)?;
         assert!(rt; agrees(&answered, *answer), "call {place}");
     }
     Ok(())
 }
 
-const REFUSED: [(Call, Refusal); 14] = [
+/// A bean with 33 qualifiers.
+const MANY_USES: &[u8] =
+    b"kind=\"bean\"\nname=\"A\"\nqualifiers=[\"Q0\",\"Q1\",\"Q2\",\"Q3\",\"Q4\",\"Q5\",\"Q6\",\"Q7\",\"Q8\",\"Q9\",\"Q10\",\"Q11\",\"Q12\",\"Q13\",\"Q14\",\"Q15\",\"Q16\",\"Q17\",\"Q18\",\"Q19\",\"Q20\",\"Q21\",\"Q22\",\"Q23\",\"Q24\",\"Q25\",\"Q26\",\"Q27\",\"Q28\",\"Q29\",\"Q30\",\"Q31\",\"Q32\"]";
+
+/// What is asked after each refused call.
+const ASKED: Call = Call::Choose(b"Object", &[]);
+
+/// The answer.
+const ONLY: Answer = Answer::One(b"Corner");
+
+static REFUSED: [(Call, Refusal); 24] = [
     (Call::Put(b"kind="), Refusal::NotToml),
     (Call::Put(b"\xff"), Refusal::NotToml),
     (Call::Put(b""), Refusal::UnknownKind),
@@ -119,6 +153,44 @@ const REFUSED: [(Call, Refusal); 14] = [
         Call::Put(b"kind=\"type\"\nname=\"Object\""),
         Refusal::BadName,
     ),
+    (
+        Call::Put(b"kind=\"qualifier\"\nname=\"Any\""),
+        Refusal::BadName,
+    ),
+    (
+        Call::Put(b"kind=\"qualifier\"\nname=\"Q\"\nmembers=[{name=\"n\",colour=1}]"),
+        Refusal::UnknownKey,
+    ),
+    (
+        Call::Put(b"kind=\"qualifier\"\nname=\"Q\"\nmembers=[{default=1}]"),
+        Refusal::MissingKey,
+    ),
+    // The tables in a list with an entry that is none are not looked at.
+    (
+        Call::Put(b"kind=\"qualifier\"\nname=\"Q\"\nmembers=[{colour=1},2]"),
+        Refusal::WrongKind,
+    ),
+    (
+        Call::Put(b"kind=\"type\"\nname=\"A\"\nimplements=[\"B\",1]"),
+        Refusal::WrongKind,
+    ),
+    (
+        Call::Put(b"kind=\"bean\"\nname=\"A\"\nqualifiers=[\"Named(x)\"]"),
+        Refusal::BadName,
+    ),
+    (
+        Call::Put(b"kind=\"bean\"\nname=\"A\"\nnamed=\"a b\""),
+        Refusal::BadName,
+    ),
+    (
+        Call::Put(b"kind=\"qualifier\"\nname=\"Q\"\nmembers=[{name=\"n\"},{name=\"n\"}]"),
+        Refusal::Twice,
+    ),
+    (
+        Call::Put(b"kind=\"bean\"\nname=\"A\"\nqualifiers=[\"Q(n=1,n=1)\"]"),
+        Refusal::Twice,
+    ),
+    (Call::Put(MANY_USES), Refusal::ListTooLong),
     (
         Call::Put(b"kind=\"bean\"\nname=\"One.Too.Many\""),
         Refusal::TooMany,
@@ -143,26 +215,21 @@ fn full_container(alloc: Global) -> Result<Container, Fail> {
 fn refusals_change_nothing(rt: HostRuntime) -> Result<(), Fail> {
     let mut container = full_container(rt.alloc())?;
     for (place, (call, refusal)) in REFUSED.iter().enumerate() {
-        let answered = make(&mut container, *call)?;
-        assert!(rt;
-            agrees(&answered, Answer::Refused(*refusal)),
-            "call {place}"
-        );
-        let choice = make(&mut container, Call::Choose(b"Object"))?;
-        assert!(rt;
-            agrees(&choice, Answer::One(b"Corner")),
-            "after call {place}"
-        );
+        let answered = make(rt.alloc(), &mut container, *call)?;
+        let choice = make(rt.alloc(), &mut container, ASKED)?;
+        let is_right = agrees(&answered, Answer::Refused(*refusal));
+        assert!(rt; is_right && agrees(&choice, ONLY), "call {place}");
     }
-    let too_long = vec![in rt.alloc(); b'#'; 65_537]?;
-    let refused = container.put(too_long.as_slice());
-    assert_eq!(rt; refused, Err(Refusal::TooLong.into()));
-    let choice = make(&mut container, Call::Choose(b"Object"))?;
-    assert!(rt; agrees(&choice, Answer::One(b"Corner")));
-    let script = b"put\nkind=\"bean\"\nname=\"A\"\n.\nfrob\nchoose Object\n";
-    let (written, refused) = outcome(rt.alloc(), script)?;
-    let text = b"ok\nrefused E20 BadCommand\none A\n";
-    assert_text(&rt, written.as_slice(), text, &"frob");
-    assert!(rt; refused);
+    Ok(())
+}
+
+#[test]
+fn a_text_is_too_long(rt: HostRuntime) -> Result<(), Fail> {
+    let text = vec![in rt.alloc(); b'#'; 65_537]?;
+    let mut container = Container::new(rt.alloc());
+    container.put(b"kind=\"bean\"\nname=\"Corner\"\n")?;
+    let refused = container.put(text.as_slice());
+    let choice = make(rt.alloc(), &mut container, ASKED)?;
+    assert!(rt; refused == Err(Refusal::TooLong.into()) && agrees(&choice, ONLY));
     Ok(())
 }

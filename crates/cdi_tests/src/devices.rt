@@ -15,7 +15,7 @@ const OPTIONS: Options = Options { quiet: false };
 struct Cut(usize, &'static [u8]);
 
 /// What is printed where no more comes than so many bytes and then a failure: the answers of the complete lines.
-const CUTS_BY_FAILURE: [Cut; 5] = [
+static CUTS_BY_FAILURE: [Cut; 5] = [
     Cut(31, b""),
     Cut(63, b"ok\n"),
     Cut(77, b"ok\nok\n"),
@@ -25,7 +25,7 @@ const CUTS_BY_FAILURE: [Cut; 5] = [
 
 /// What is printed where the script ends after so many bytes. A last line without its line feed counts, and a put block
 /// that is open is refused.
-const CUTS_BY_END: [Cut; 10] = [
+static CUTS_BY_END: [Cut; 10] = [
     Cut(0, b""),
     // `p`, `pu`, and the first put block.
     Cut(30, b"refused E20 BadCommand\n"),
@@ -57,7 +57,7 @@ fn text_of(cuts: &[Cut], count: usize) -> Option<&'static [u8]> {
 #[derive(Clone, Copy)]
 struct Step(&'static [u8], &'static [u8]);
 
-const STEPS: [Step; 12] = [
+static STEPS: [Step; 12] = [
     Step(b"put\n", b""),
     Step(b"kind=\"type\"\n", b""),
     Step(b"name=\"Corner\"\n", b""),
@@ -130,8 +130,7 @@ fn answers_are_written_before_more_is_read(rt: HostRuntime) -> Result<(), Fail> 
         flushed,
     });
     let summary = run(rt.alloc(), &mut reader, &mut writer, OPTIONS)?;
-    assert!(rt; summary.refused);
-    assert!(rt; !reader.into_inner().is_out_of_step);
+    assert!(rt; summary.refused && !reader.into_inner().is_out_of_step);
     let written = writer.into_inner().bytes;
     let text = b"ok\nok\none Corner\nunsatisfied\nrefused E11 Absent\nrefused E20 BadCommand\n";
     assert_text(&rt, written.as_slice(), text.as_slice(), &"in steps");
@@ -165,7 +164,8 @@ fn reads_that_fail(rt: HostRuntime) -> Result<(), Fail> {
         });
         let mut writer = Counted::new(empty_page(rt.alloc())?);
         let outcome = run(rt.alloc(), &mut reader, &mut writer, OPTIONS);
-        assert_eq!(rt; fault_of(outcome)?, Some(RunFault::Read), "after {reads}");
+        let is_read = fault_of(outcome)? == Some(RunFault::Read);
+        assert!(rt; is_read, "after {reads}");
         let count = STORED_SCRIPT.len().min(reads * 5);
         let text = text_of(&CUTS_BY_FAILURE, count).ok_or("no text")?;
         assert_text(&rt, writer.into_inner().as_slice(), text, &reads);
@@ -192,11 +192,11 @@ fn a_script_without_end_is_a_failed_read(rt: HostRuntime) -> Result<(), Fail> {
     let mut reader = Counted::new(Endless { asked: 0 });
     let mut writer = Counted::new(empty_page(rt.alloc())?);
     let outcome = run(rt.alloc(), &mut reader, &mut writer, OPTIONS);
-    assert_eq!(rt; fault_of(outcome)?, Some(RunFault::Read));
-    assert!(rt; writer.into_inner().is_empty());
-    assert_eq!(rt; SCRIPT_LIMIT, 16_777_216);
-    assert_eq!(rt; reader.count(), 16_777_217);
-    assert_eq!(rt; reader.into_inner().asked, 16_777_217);
+    let is_read = fault_of(outcome)? == Some(RunFault::Read);
+    assert!(rt; is_read && writer.into_inner().is_empty());
+    let count = reader.count();
+    let asked = reader.into_inner().asked;
+    assert!(rt; SCRIPT_LIMIT == 16_777_216 && count == 16_777_217 && asked == count);
     Ok(())
 }
 
@@ -235,9 +235,9 @@ fn writes_that_fail(rt: HostRuntime) -> Result<(), Fail> {
                 bytes: empty_page(rt.alloc())?,
             });
             let outcome = run(rt.alloc(), &mut reader, &mut writer, OPTIONS);
-            assert_eq!(rt; fault_of(outcome)?, Some(RunFault::Write), "at {left}");
-            assert!(rt; writer.has_failed());
-            assert_eq!(rt; writer.count(), left as u64);
+            let is_write = fault_of(outcome)? == Some(RunFault::Write);
+            let is_right = is_write && writer.has_failed() && writer.count() == left as u64;
+            assert!(rt; is_right, "at {left}");
             let bytes = writer.into_inner().bytes;
             assert_text(&rt, bytes.as_slice(), &STORED_TEXT[..left], &left);
         }

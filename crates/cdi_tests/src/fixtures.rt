@@ -1,6 +1,7 @@
 //! What several tests share.
-use cdi_container::{Choice, Container, Counted, Options, RunFault, Summary, run};
-use cdi_model::{Error, Kind, Name, Refusal};
+use cdi_container::{BeanId, Choice, Container, Counted, Options, RunFault, Summary, run};
+use cdi_model::{Decls, Error, Kind, Name, Quals, Refusal};
+use cdi_text::{read_decl, read_qualifier};
 use std::alloc::{AllocError, Global};
 use std::fmt::Display;
 use std::process::Abort;
@@ -13,16 +14,16 @@ pub(crate) const STORED_SCRIPT: &[u8] =
 /// What it prints.
 pub(crate) const STORED_TEXT: &[u8] = b"ok\nok\none Corner\nrefused E11 Absent\n";
 
-/// A call of a container.
-#[derive(Clone, Copy, Debug)]
+/// A call of a container. A type is chosen with uses of qualifiers.
+#[derive(Clone, Copy)]
 pub(crate) enum Call {
     Put(&'static [u8]),
     Remove(Kind, &'static [u8]),
-    Choose(&'static [u8]),
+    Choose(&'static [u8], &'static [&'static [u8]]),
 }
 
 /// What a call is to answer. Beans are given by their names.
-#[derive(Clone, Copy, Debug)]
+#[derive(Clone, Copy)]
 pub(crate) enum Answer {
     Done,
     Refused(Refusal),
@@ -44,31 +45,48 @@ pub(crate) fn name(text: &[u8]) -> Result<Name, Fail> {
     Ok(name)
 }
 
-/// Makes a call. A `choose` that gets no memory answers as an edit that gets none.
-pub(crate) fn make_once(container: &mut Container, call: Call) -> Result<Answered, Fail> {
+/// The declarations that texts spell.
+pub(crate) fn declared(alloc: Global, texts: &[&[u8]]) -> Result<Decls, Error> {
+    let mut decls = Decls::new(alloc);
+    for text in texts {
+        decls.put(read_decl(alloc, text)?)?;
+    }
+    Ok(decls)
+}
+
+/// The uses of qualifiers that texts are.
+pub(crate) fn quals(alloc: Global, texts: &[&[u8]]) -> Result<Quals, Error> {
+    let mut quals = Quals::new(alloc);
+    for text in texts {
+        if quals.is_full() {
+            return Err(Error::Refused(Refusal::ListTooLong));
+        }
+        quals.insert(read_qualifier(alloc, text)?)?;
+    }
+    Ok(quals)
+}
+
+fn choose(
+    alloc: Global,
+    container: &mut Container,
+    bean_type: Name,
+    uses: &[&[u8]],
+) -> Result<Choice, Error> {
+    let quals = quals(alloc, uses)?;
+    Ok(container.choose(bean_type, &quals)?)
+}
+
+/// Makes a call. A question that gets no answer answers as an edit that is not done.
+pub(crate) fn make(alloc: Global, container: &mut Container, call: Call) -> Result<Answered, Fail> {
     let answered = match call {
         Call::Put(text) => Answered::Edit(container.put(text)),
         Call::Remove(kind, text) => Answered::Edit(container.remove(kind, name(text)?)),
-        Call::Choose(text) => match container.choose(name(text)?) {
+        Call::Choose(text, uses) => match choose(alloc, container, name(text)?, uses) {
             Ok(choice) => Answered::Chosen(choice),
-            Err(_) => Answered::Edit(Err(Error::OutOfMemory)),
+            Err(error) => Answered::Edit(Err(error)),
         },
     };
     Ok(answered)
-}
-
-/// Makes a call for which there is memory.
-pub(crate) fn make(container: &mut Container, call: Call) -> Result<Answered, Fail> {
-    let answered = make_once(container, call)?;
-    if wants_memory(&answered) {
-        return Err(Fail::new("out of memory"));
-    }
-    Ok(answered)
-}
-
-/// Whether a call answered for want of memory.
-pub(crate) fn wants_memory(answered: &Answered) -> bool {
-    matches!(answered, Answered::Edit(Err(Error::OutOfMemory)))
 }
 
 /// Whether a call answered what it is to answer.
@@ -88,15 +106,19 @@ fn is_choice(choice: &Choice, answer: Answer) -> bool {
         (Choice::One(bean), Answer::One(class)) => bean.class.as_bytes() == class,
         (Choice::Unsatisfied, Answer::Unsatisfied) => true,
         (Choice::Ambiguous(beans), Answer::Ambiguous(classes)) => {
-            beans.len() == classes.len()
-                && beans
-                    .as_slice()
-                    .iter()
-                    .zip(classes.iter())
-                    .all(|(bean, class)| bean.class.as_bytes() == *class)
+            are_of(beans.as_slice(), classes)
         }
         _ => false,
     }
+}
+
+/// Whether beans are of these classes, in this order.
+fn are_of(beans: &[BeanId], classes: &[&[u8]]) -> bool {
+    beans.len() == classes.len()
+        && beans
+            .iter()
+            .zip(classes.iter())
+            .all(|(bean, class)| bean.class.as_bytes() == *class)
 }
 
 /// An output with room for each text that a test prints.

@@ -10,8 +10,10 @@ mod fixtures;
 #[cfg(test)]
 mod long_rows;
 #[cfg(test)]
-mod memory;
+mod matching;
 #[cfg(test)]
 mod parts;
+#[cfg(test)]
+mod qualifiers;
 #[cfg(test)]
 mod rows;

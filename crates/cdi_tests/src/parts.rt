@@ -2,21 +2,22 @@
 use crate::fixtures::assert_text;
 use cdi_container::Counted;
 use cdi_lines::{Block, Command, Line, ends_block, find_feed, read_line};
-use cdi_model::{Ident, Kind, Name, Refusal, Seq, is_ident, is_name};
-use std::alloc::Global;
+use cdi_model::{Error, Ident, Kind, Name, Quals, Refusal, Seq, is_ident, is_name};
+use std::alloc::{AllocError, Global};
 use std::io::{ErrorKind, Read, Write};
-use std::process::Abort;
 use std::test::Fail;
 
+/// 64 bytes.
 const LONGEST: &[u8] = b"aaaaaaaaaaaaaaaaaaaaaaaaaaaaaaaaaaaaaaaaaaaaaaaaaaaaaaaaaaaaaaaa";
 
+/// 65 bytes.
 const TOO_LONG: &[u8] = b"aaaaaaaaaaaaaaaaaaaaaaaaaaaaaaaaaaaaaaaaaaaaaaaaaaaaaaaaaaaaaaaaa";
 
 /// A text, and whether it is a name and an identifier.
 #[derive(Clone, Copy)]
 struct Spelling(&'static [u8], bool, bool);
 
-const SPELLINGS: [Spelling; 17] = [
+static SPELLINGS: [Spelling; 17] = [
     Spelling(b"A", true, true),
     Spelling(b"_", true, true),
     Spelling(b"a_1Z", true, true),
@@ -36,135 +37,171 @@ const SPELLINGS: [Spelling; 17] = [
     Spelling(TOO_LONG, false, false),
 ];
 
+/// Whether a text is a name and an identifier where it is to be, and is kept as it is.
+fn is_spelled(spelling: Spelling) -> bool {
+    let Spelling(text, as_name, as_ident) = spelling;
+    let name = match Name::parse(text) {
+        Some(name) => as_name && name.as_bytes() == text,
+        None => !as_name,
+    };
+    let ident = match Ident::parse(text) {
+        Some(ident) => as_ident && ident.as_bytes() == text,
+        None => !as_ident,
+    };
+    name && ident && is_name(text) == as_name && is_ident(text) == as_ident
+}
+
 #[test]
-fn names_and_identifiers(rt: HostRuntime) -> Result<(), Fail> {
-    assert_eq!(rt; LONGEST.len(), 64);
-    assert_eq!(rt; TOO_LONG.len(), 65);
-    for Spelling(text, as_name, as_ident) in SPELLINGS {
-        assert_eq!(rt; is_name(text), as_name, "{text:?}");
-        assert_eq!(rt; is_ident(text), as_ident, "{text:?}");
-        let name = Name::parse(text);
-        assert_eq!(rt; name.is_some(), as_name, "{text:?}");
-        if let Some(name) = name {
-            assert_text(&rt, name.as_bytes(), text, &"a name");
+fn names_and_identifiers(rt: HostRuntime) {
+    assert!(rt; LONGEST.len() == 64 && TOO_LONG.len() == 65);
+    for spelling in &SPELLINGS {
+        assert!(rt; is_spelled(*spelling), "{:?}", spelling.0);
+    }
+}
+
+/// A line, and what it says.
+#[derive(Clone, Copy)]
+struct Saying(&'static [u8], &'static [u8]);
+
+static SAYINGS: [Saying; 27] = [
+    Saying(b"", b"skip"),
+    Saying(b"   ", b"skip"),
+    Saying(b"\r", b"skip"),
+    Saying(b"#", b"skip"),
+    Saying(b"# frob", b"skip"),
+    Saying(b"#\xff", b"skip"),
+    Saying(b"put", b"put"),
+    Saying(b"  put ", b"put"),
+    Saying(b"put\r", b"put"),
+    Saying(b"drop type shop.A", b"drop Type shop.A"),
+    Saying(b" drop   bean A \r", b"drop Bean A"),
+    Saying(b"drop qualifier Any", b"drop Qualifier Any"),
+    Saying(b"choose A", b"choose A"),
+    Saying(b"  choose  Object  ", b"choose Object"),
+    Saying(b"choose A Q(n=1) Any", b"choose A Any Q"),
+    Saying(b"frob", b"refused"),
+    Saying(b"puts", b"refused"),
+    Saying(b"put x", b"refused"),
+    Saying(b"Put", b"refused"),
+    Saying(b"drop", b"refused"),
+    Saying(b"drop type", b"refused"),
+    Saying(b"drop tape A", b"refused"),
+    Saying(b"drop type 1x", b"refused"),
+    Saying(b"drop type A A", b"refused"),
+    Saying(b"choose", b"refused"),
+    Saying(b"choose A.", b"refused"),
+    Saying(b"choose\xff A", b"refused"),
+];
+
+/// What a line says: its verb, its kind, its name, and the names of its qualifiers; or that it is no command.
+fn said(alloc: Global, line: &[u8]) -> Result<Vec<u8>, Fail> {
+    let mut text = Vec::new(alloc);
+    match read_line(alloc, line) {
+        Ok(Command::Skip) => text.extend_from_slice(b"skip")?,
+        Ok(Command::Put) => text.extend_from_slice(b"put")?,
+        Ok(Command::Drop { kind, name }) => {
+            write!(text, "drop {kind:?} ")?;
+            text.extend_from_slice(name.as_bytes())?;
         }
-        let ident = Ident::parse(text);
-        assert_eq!(rt; ident.is_some(), as_ident, "{text:?}");
-        if let Some(ident) = ident {
-            assert_text(&rt, ident.as_bytes(), text, &"an identifier");
+        Ok(Command::Choose { bean_type, quals }) => {
+            text.extend_from_slice(b"choose ")?;
+            text.extend_from_slice(bean_type.as_bytes())?;
+            push_names(&mut text, &quals)?;
         }
+        Err(Error::Refused(Refusal::BadCommand)) => text.extend_from_slice(b"refused")?,
+        Err(_) => text.extend_from_slice(b"another error")?,
+    }
+    Ok(text)
+}
+
+fn push_names(text: &mut Vec<u8>, quals: &Quals) -> Result<(), AllocError> {
+    for qual in quals.as_slice() {
+        text.push(b' ')?;
+        text.extend_from_slice(qual.name.as_bytes())?;
     }
     Ok(())
 }
 
-/// Whether a line was read as the command that drops a declaration.
-fn is_drop(read: &Result<Command, Refusal>, dropped: Kind, text: &[u8]) -> bool {
-    match read {
-        Ok(Command::Drop { kind, name }) => *kind == dropped && name.as_bytes() == text,
-        _ => false,
+#[test]
+fn lines_say_commands(rt: HostRuntime) -> Result<(), Fail> {
+    for (place, Saying(line, wanted)) in SAYINGS.iter().enumerate() {
+        let found = said(rt.alloc(), line)?;
+        assert_text(&rt, found.as_slice(), wanted, &place);
     }
+    Ok(())
 }
-
-/// Whether a line was read as the question for a bean.
-fn is_choose(read: &Result<Command, Refusal>, text: &[u8]) -> bool {
-    match read {
-        Ok(Command::Choose { bean_type }) => bean_type.as_bytes() == text,
-        _ => false,
-    }
-}
-
-const BAD_LINES: [&[u8]; 12] = [
-    b"frob",
-    b"puts",
-    b"put x",
-    b"Put",
-    b"drop",
-    b"drop type",
-    b"drop tape A",
-    b"drop type 1x",
-    b"drop type A A",
-    b"choose",
-    b"choose A.",
-    b"choose\xff A",
-];
 
 #[test]
-fn lines_say_commands(rt: HostRuntime) {
-    for line in [b"".as_slice(), b"   ", b"\r", b"#", b"# frob", b"#\xff"] {
-        assert!(rt; matches!(read_line(line), Ok(Command::Skip)), "{line:?}");
-    }
-    for line in [b"put".as_slice(), b"  put ", b"put\r"] {
-        assert!(rt; matches!(read_line(line), Ok(Command::Put)), "{line:?}");
-    }
-    assert!(rt; is_drop(&read_line(b"drop type shop.A"), Kind::Type, b"shop.A"));
-    assert!(rt; is_drop(&read_line(b" drop   bean A \r"), Kind::Bean, b"A"));
-    assert!(rt; is_choose(&read_line(b"choose A"), b"A"));
-    assert!(rt; is_choose(&read_line(b"  choose  Object  "), b"Object"));
-    for line in BAD_LINES {
-        assert_eq!(rt;
-            read_line(line).err(),
-            Some(Refusal::BadCommand),
-            "{line:?}"
-        );
-    }
-    assert_eq!(rt; Kind::of_word(b"bean"), Some(Kind::Bean));
-    assert_eq!(rt; Kind::of_word(b"Bean"), None);
-    assert_eq!(rt; find_feed(b"ab\nc\n"), Some(2));
-    assert_eq!(rt; find_feed(b"ab"), None);
+fn words_and_ends_of_lines(rt: HostRuntime) {
+    let kinds = [
+        Kind::of_word(b"bean"),
+        Kind::of_word(b"qualifier"),
+        Kind::of_word(b"Bean"),
+    ];
+    assert!(rt; kinds == [Some(Kind::Bean), Some(Kind::Qualifier), None]);
+    assert!(rt; find_feed(b"ab\nc\n") == Some(2) && find_feed(b"ab").is_none());
     assert!(rt; ends_block(b".") && ends_block(b".\r"));
     assert!(rt; !ends_block(b". ") && !ends_block(b"..") && !ends_block(b".\r\r"));
 }
 
-/// Pushes more to a line and to a block than they keep.
-fn overfill(rt: &impl Abort, alloc: Global) -> Result<(), Fail> {
-    let piece = vec![in alloc; b'#'; 50_000]?;
-    let mut line = Line::new(alloc);
-    let mut block = Block::new(alloc);
-    assert!(rt; line.is_empty());
+#[test]
+fn what_is_kept_is_bounded(rt: HostRuntime) -> Result<(), Fail> {
+    let piece = vec![in rt.alloc(); b'#'; 50_000]?;
+    let mut line = Line::new(rt.alloc());
+    let mut block = Block::new(rt.alloc());
     for _ in 0..3 {
         line.push(piece.as_slice())?;
         block.push_line(piece.as_slice())?;
     }
-    assert_eq!(rt; line.as_slice().len(), 65_540);
-    assert_eq!(rt; block.as_slice().len(), 65_537);
+    assert!(rt; line.as_slice().len() == 65_540 && block.as_slice().len() == 65_537);
     Ok(())
 }
 
 #[test]
-fn what_is_kept_is_bounded(rt: HostRuntime) -> Result<(), Fail> {
+fn what_is_kept_comes_in_pieces(rt: HostRuntime) -> Result<(), Fail> {
     let mut line = Line::new(rt.alloc());
+    let was_empty = line.is_empty();
     line.push(b"choose ")?;
     line.push(b"A")?;
-    assert_text(&rt, line.as_slice(), b"choose A", &"a line");
     let mut block = Block::new(rt.alloc());
     block.push_line(b"a\r")?;
     block.push_line(b"")?;
-    assert_text(&rt, block.as_slice(), b"a\n\n", &"a block");
-    overfill(&rt, rt.alloc())?;
-    let values = Seq::from_vec(vec![in rt.alloc(); 1u8, 2]?);
-    assert_eq!(rt; values.as_slice(), [1, 2].as_slice());
-    assert!(rt; values.len() == 2 && !values.is_empty());
+    assert!(rt; was_empty && line.as_slice() == b"choose A".as_slice());
+    assert!(rt; block.as_slice() == b"a\n\n".as_slice());
     Ok(())
 }
 
 #[test]
-fn counts_and_failures(rt: HostRuntime) -> Result<(), Fail> {
+fn lists(rt: HostRuntime) -> Result<(), Fail> {
+    let mut values = Seq::from_vec(vec![in rt.alloc(); 1u8]?);
+    values.push(2)?;
+    assert!(rt; values.as_slice() == [1, 2].as_slice() && values.len() == 2 && !values.is_empty());
+    Ok(())
+}
+
+#[test]
+fn counts_of_a_reader(rt: HostRuntime) -> Result<(), Fail> {
     let mut reader = Counted::new(b"abcde".as_slice());
     let mut bytes = [0u8; 3];
-    assert_eq!(rt; reader.read(&mut bytes)?, 3);
-    assert_eq!(rt; reader.read(&mut bytes)?, 2);
-    assert_eq!(rt; reader.read(&mut bytes)?, 0);
-    assert_eq!(rt; bytes, *b"dec");
-    assert_eq!(rt; reader.count(), 5);
-    assert!(rt; !reader.has_failed());
-    assert!(rt; reader.into_inner().is_empty());
+    let counts = [
+        reader.read(&mut bytes)?,
+        reader.read(&mut bytes)?,
+        reader.read(&mut bytes)?,
+    ];
+    assert!(rt; counts == [3, 2, 0] && bytes == *b"dec");
+    assert!(rt; reader.count() == 5 && !reader.has_failed() && reader.into_inner().is_empty());
+    Ok(())
+}
+
+#[test]
+fn counts_of_a_writer(rt: HostRuntime) -> Result<(), Fail> {
     let mut room = [0u8; 2];
     let mut writer = Counted::new(&mut room[..]);
-    assert_eq!(rt; writer.write(b"abc")?, 2);
-    assert!(rt; !writer.has_failed());
-    assert_eq!(rt; writer.write(b"c")?, 0);
-    assert!(rt; writer.has_failed());
-    assert_eq!(rt; writer.count(), 2);
-    assert_eq!(rt; room, *b"ab");
+    let count = writer.write(b"abc")?;
+    let failed_first = writer.has_failed();
+    let last_count = writer.write(b"c")?;
+    assert!(rt; count == 2 && !failed_first && last_count == 0);
+    assert!(rt; writer.has_failed() && writer.count() == 2);
+    assert!(rt; room == *b"ab");
     Ok(())
 }

@@ -1,12 +1,15 @@
-//! The program: makes calls and a run of which any one allocation may be refused, and says whether each answer is right.
+//! The program: makes calls, asks questions and runs a script, of which any one allocation may be refused, and says
+//! whether each answer is right.
 //!
 //! The number on the standard input is how many allocations come before the first of the calls.
 #![tactic(auto)]
 
 mod calls;
+mod questions;
 mod scripts;
 
 use calls::make_calls;
+use questions::ask_questions;
 use scripts::run_script;
 use std::alloc::Global;
 use std::io;
@@ -14,7 +17,7 @@ use std::io::{ErrorKind, Read};
 use std::process::ExitCode;
 use thiserror::Error;
 
-/// The status where every answer is right, and one allocation of the calls and the run was refused.
+/// The status where every answer is right, and one allocation of the calls, questions and run was refused.
 const STATUS_REFUSED: u8 = 3;
 
 /// What is not as it is to be.
@@ -24,6 +27,10 @@ pub enum Difference {
     Answer(usize),
     #[error("call {0} has no memory, and changes something")]
     Changes(usize),
+    #[error("question {0} answers something else")]
+    Question(usize),
+    #[error("the declarations that are asked about are not read")]
+    Declarations,
     #[error("the run of the script writes or answers something else")]
     Run,
     #[error("a second allocation is refused")]
@@ -58,14 +65,19 @@ fn drop_boxes(alloc: Global, count: u16) {
     }
 }
 
-/// Makes the calls and the run, and tells whether one allocation of theirs is refused. At most one may be.
+/// Makes the calls, asks the questions and runs the script, and tells whether an allocation of theirs is refused. At most
+/// one may be.
 fn compare(alloc: Global) -> Result<bool, Difference> {
-    let calls_refused = make_calls(alloc)?;
-    let run_refused = !run_script(alloc)?;
-    if run_refused && (calls_refused || !run_script(alloc)?) {
-        return Err(Difference::RefusedAgain);
+    let parts = [
+        make_calls(alloc)?,
+        ask_questions(alloc)?,
+        run_script(alloc)?,
+    ];
+    match parts.iter().filter(|refused| **refused).count() {
+        0 => Ok(false),
+        1 => Ok(true),
+        _ => Err(Difference::RefusedAgain),
     }
-    Ok(calls_refused || run_refused)
 }
 
 fn print(rt: &impl Print, outcome: Result<bool, Difference>) -> io::Result<()> {

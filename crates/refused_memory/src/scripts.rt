@@ -3,18 +3,38 @@ use crate::Difference;
 use cdi_container::{Counted, Options, RunFault, run};
 use std::alloc::Global;
 
-/// A script in which a type and a bean are put, the bean is chosen, and a type that is absent is dropped.
+/// A script in which a qualifier, a type and a bean are put, the bean is chosen by its qualifier, and a type that is
+/// absent is dropped.
 const SCRIPT: &[u8] =
-    b"put\nkind=\"type\"\nname=\"Corner\"\n.\nput\nkind=\"bean\"\nname=\"Corner\"\n.\nchoose Corner\ndrop type Mall\n";
+    b"put\nkind=\"qualifier\"\nname=\"Rank\"\nmembers=[{name=\"n\"}]\n.\nput\nkind=\"type\"\nname=\"Corner\"\n.\nput\nkind=\"bean\"\nname=\"Corner\"\nqualifiers=[\"Rank(n=2)\"]\n.\nchoose Corner Rank(n=2) Any\ndrop type Mall\n";
 
 /// What it prints.
-const TEXT: &[u8] = b"ok\nok\none Corner\nrefused E11 Absent\n";
+const TEXT: &[u8] = b"ok\nok\nok\none Corner\nrefused E11 Absent\n";
 
 /// What may be written where the run gets no memory: the answers of the first commands.
-const WHOLE_ANSWERS: [&[u8]; 5] = [b"", b"ok\n", b"ok\nok\n", b"ok\nok\none Corner\n", TEXT];
+const WHOLE_ANSWERS: [&[u8]; 6] = [
+    b"",
+    b"ok\n",
+    b"ok\nok\n",
+    b"ok\nok\nok\n",
+    b"ok\nok\nok\none Corner\n",
+    TEXT,
+];
+
+/// Runs the script, and tells whether an allocation was refused; where one was, the script is run again.
+pub fn run_script(alloc: Global) -> Result<bool, Difference> {
+    if run_once(alloc)? {
+        return Ok(false);
+    }
+    if run_once(alloc)? {
+        Ok(true)
+    } else {
+        Err(Difference::RefusedAgain)
+    }
+}
 
 /// Runs the script into an array, and tells whether there was memory for it.
-pub fn run_script(alloc: Global) -> Result<bool, Difference> {
+fn run_once(alloc: Global) -> Result<bool, Difference> {
     let mut page = [0u8; 64];
     let mut reader = Counted::new(SCRIPT);
     let mut writer = Counted::new(&mut page[..]);

@@ -5,4 +5,4 @@ use Rattle.cdi_container.proofs.runner.Runner.choose.Goals as goal
 
 pub returns-clause-ok : goal.returns-clause-ok
 returns-clause-ok c = on_ok_weaker c.print.result
-    (ran c.args.self.now c.print.new.self c.choose.new.self (Choose c.args.bean_type) c.in_ok-answer.answer _ c.in_ok-answer.ensures c.choose.ensures) c.print.ensures.ok
+    (ran c.args.self.now c.print.new.self c.choose.new.self (Choose c.args.bean_type c.args.quals.now) c.in_ok-answer.answer _ c.in_ok-answer.ensures c.choose.ensures) c.print.ensures.ok

@@ -10,4 +10,4 @@ returns-in-Drop-clause-ok c = on_ok_weaker c.remove.result
 
 pub returns-in-Choose-clause-ok : goal.returns-in-Choose-clause-ok
 returns-in-Choose-clause-ok c = on_ok_weaker c.choose.result
-    (takes_one c.args.self.now (record c.args.self.now { runner = c.choose.new.self }) (Choose c.in-Choose.bean_type) c.args.command _ c.in-Choose.is c.requires refl refl refl refl) c.choose.ensures.ok
+    (takes_one c.args.self.now (record c.args.self.now { runner = c.choose.new.self }) (Choose c.in-Choose.bean_type c.in-Choose.quals) c.args.command _ c.in-Choose.is c.requires refl refl refl refl) c.choose.ensures.ok

@@ -1,6 +1,10 @@
-use Rattle.std.proofs.Common.{refl, sym}
+use Rattle.std.proofs.Common.{◌≡◌, refl, subst}
 use Rattle.std.specs.Prelude.{Ok, Err}
 use Rattle.std.proofs.lemmas.Result.{on_ok_weaker}
+use Rattle.cdi_model.specs.Outcome.{Answers}
+use Rattle.cdi_model.specs.declared.refusal.Error.{Error}
+use Rattle.cdi_lines.specs.Command.{command_of_line}
+use Rattle.cdi_lines.specs.declared.command.Command.{Command as Said}
 use Rattle.cdi_container.specs.Commands.{Unreadable}
 use Rattle.cdi_container.proofs.Runs.{runs_one}
 use Rattle.cdi_container.proofs.Taking.{takes_said}
@@ -8,9 +12,13 @@ use Rattle.cdi_container.proofs.session.Session.take_outside.Goals as goal
 
 pub returns-in-Ok-clause-ok : goal.returns-in-Ok-clause-ok
 returns-in-Ok-clause-ok c = on_ok_weaker c.take_command.result
-    (takes_said c.args.self.now c.take_command.new.self c.args.line.now (Ok c.in-Ok.command) c.requires (sym c.in-Ok.ensures)) c.take_command.ensures.ok
+    (takes_said c.args.self.now c.take_command.new.self c.args.line.now (Ok c.in-Ok.command) c.requires c.in-Ok.ensures) c.take_command.ensures.ok
 
-pub returns-in-Err-clause-ok : goal.returns-in-Err-clause-ok
-returns-in-Err-clause-ok c = on_ok_weaker c.refuse.result
-    (λ step. takes_said c.args.self.now (record c.args.self.now { runner = c.refuse.new.self }) c.args.line.now (Err c.in-Err.field-0) c.requires (sym c.in-Err.ensures)
+pub returns-in-Err-Refused-clause-ok : goal.returns-in-Err-Refused-clause-ok
+returns-in-Err-Refused-clause-ok c =
+    let refusal = c.in-Err-Refused.field-0-0 in
+    let Is : Error → Type 0 = λ e. Answers {X = Said} (Err e) (command_of_line c.args.line.now) in
+    let said : command_of_line c.args.line.now ≡ Err refusal = subst Is c.in-Err-Refused.field-0-is c.in-Err-Refused.ensures in
+    on_ok_weaker c.refuse.result
+    (λ step. takes_said c.args.self.now (record c.args.self.now { runner = c.refuse.new.self }) c.args.line.now (Err refusal) c.requires said
     (record { line = refl; runs = runs_one c.args.self.now.runner c.refuse.new.self Unreadable step; mode = c.requires })) c.refuse.ensures.ok

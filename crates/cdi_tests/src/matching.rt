@@ -1,0 +1,120 @@
+//! The types of types, and the members of uses with their defaults.
+use crate::fixtures::{declared, name};
+use cdi_match::{closure, covers, fill_members, is_type};
+use cdi_model::{Decls, Ident, Members, Name};
+use cdi_text::read_qualifier;
+use std::alloc::Global;
+use std::process::Abort;
+use std::test::Fail;
+
+/// A class with an interface, two classes that extend each other, and a qualifier.
+static TEXTS: [&[u8]; 5] = [
+    b"kind=\"type\"\nname=\"Shop\"\nform=\"interface\"\n",
+    b"kind=\"type\"\nname=\"Corner\"\nimplements=[\"Shop\"]\n",
+    b"kind=\"type\"\nname=\"Hen\"\nextends=\"Egg\"\n",
+    b"kind=\"type\"\nname=\"Egg\"\nextends=\"Hen\"\n",
+    b"kind=\"qualifier\"\nname=\"Rank\"\nmembers=[{name=\"n\"},{name=\"note\",default=0,binding=false},{name=\"size\",default=3}]\n",
+];
+
+/// A type, its types in byte order, and one that it has not.
+#[derive(Clone, Copy)]
+struct Types(&'static [u8], &'static [&'static [u8]], &'static [u8]);
+
+static TYPES: [Types; 5] = [
+    Types(b"Corner", &[b"Corner", b"Object", b"Shop"], b"Hen"),
+    Types(b"Shop", &[b"Object", b"Shop"], b"Corner"),
+    Types(b"Hen", &[b"Egg", b"Hen", b"Object"], b"Shop"),
+    // It is not declared.
+    Types(b"Zoo", &[b"Object", b"Zoo"], b"Corner"),
+    Types(b"Object", &[b"Object"], b"Corner"),
+];
+
+fn are_names(found: &[Name], wanted: &[&[u8]]) -> bool {
+    found.len() == wanted.len()
+        && found
+            .iter()
+            .zip(wanted.iter())
+            .all(|(name, text)| name.as_bytes() == *text)
+}
+
+fn assert_types(rt: &impl Abort, alloc: Global, decls: &Decls, types: &Types) -> Result<(), Fail> {
+    let Types(text, wanted, other) = types;
+    let this = name(text)?;
+    let found = closure(alloc, decls, this)?;
+    assert!(rt; are_names(found.as_slice(), wanted), "{found:?}");
+    for text in *wanted {
+        let has = is_type(alloc, decls, this, name(text)?)?;
+        assert!(rt; has, "{this:?} and {text:?}");
+    }
+    let has = is_type(alloc, decls, this, name(other)?)?;
+    assert!(rt; !has, "{this:?} and {other:?}");
+    Ok(())
+}
+
+#[test]
+fn types_of_types(rt: HostRuntime) -> Result<(), Fail> {
+    let decls = declared(rt.alloc(), &TEXTS)?;
+    for types in &TYPES {
+        assert_types(&rt, rt.alloc(), &decls, types)?;
+    }
+    Ok(())
+}
+
+/// Two uses, and whether the first covers the second.
+#[derive(Clone, Copy)]
+struct Pair(&'static [u8], &'static [u8], bool);
+
+static PAIRS: [Pair; 13] = [
+    Pair(b"Rank(n=2)", b"Rank(n=2)", true),
+    Pair(b"Rank(n=2)", b"Rank(n=3)", false),
+    // A member that is not binding.
+    Pair(b"Rank(n=2,note=5)", b"Rank(n=2)", true),
+    Pair(b"Rank(n=2)", b"Rank(n=2,note=5)", true),
+    // A value on one side.
+    Pair(b"Rank(n=2)", b"Rank", false),
+    Pair(b"Rank", b"Rank(n=2)", false),
+    // A default.
+    Pair(b"Rank(n=2,size=3)", b"Rank(n=2)", true),
+    Pair(b"Rank(n=2)", b"Rank(n=2,size=4)", false),
+    // A qualifier that is not declared.
+    Pair(b"Q(a=1,b=2)", b"Q(b=2,a=1)", true),
+    Pair(b"Q(a=1)", b"Q", false),
+    Pair(b"Named(a)", b"Named(a)", true),
+    Pair(b"Named(a)", b"Named(b)", false),
+    Pair(b"Rank", b"Q", false),
+];
+
+#[test]
+fn covering(rt: HostRuntime) -> Result<(), Fail> {
+    let decls = declared(rt.alloc(), &TEXTS)?;
+    for Pair(have, want, wanted) in &PAIRS {
+        let have_qual = read_qualifier(rt.alloc(), have)?;
+        let want_qual = read_qualifier(rt.alloc(), want)?;
+        let found = covers(&decls, &have_qual, &want_qual);
+        assert!(rt; found == *wanted, "{have:?} and {want:?}");
+    }
+    Ok(())
+}
+
+/// The value of a member.
+fn value_of(members: &Members, name: &[u8]) -> Option<i64> {
+    members.get(Ident::parse(name)?)
+}
+
+#[test]
+fn defaults_are_filled_in(rt: HostRuntime) -> Result<(), Fail> {
+    let decls = declared(rt.alloc(), &TEXTS)?;
+    let qual = read_qualifier(rt.alloc(), b"Rank(n=2,size=5,more=-1)")?;
+    let filled = fill_members(rt.alloc(), &decls, &qual)?;
+    let values = [
+        value_of(&filled, b"n"),
+        value_of(&filled, b"note"),
+        value_of(&filled, b"size"),
+        value_of(&filled, b"more"),
+    ];
+    assert!(rt; filled.len() == 4 && values == [Some(2), Some(0), Some(5), Some(-1)]);
+    let other = read_qualifier(rt.alloc(), b"Q")?;
+    let empty = fill_members(rt.alloc(), &decls, &other)?;
+    assert!(rt; empty.is_empty());
+    Ok(())
+}
