@@ -13,7 +13,7 @@ use Rattle.cdi_text.specs.Schema.{rows, shape_of}
 use Rattle.cdi_text.specs.Kinds.{fits}
 use Rattle.cdi_text.specs.Grammar.{is_bad}
 use Rattle.cdi_text.specs.Lists.{repeats, is_too_long}
-use Rattle.cdi_text.specs.Conditions.{is_required}
+use Rattle.cdi_text.specs.Conditions.{is_required, first_condition}
 
 -- ---- which tables are reached
 
@@ -71,3 +71,7 @@ earlier ListTooLong = UnknownKey ∷ MissingKey ∷ WrongKind ∷ BadName ∷ Tw
 abbrev pub IsFirst : Option Condition → TableKind → Members → Type 0
 IsFirst (Some c) kind ms = Holds c kind ms × AllByRecursion (λ b. ¬ Holds b kind ms) (earlier c)
 IsFirst None kind ms = (c : Condition) → ¬ Holds c kind ms
+
+-- the condition for which a table is refused is the first that holds of it, and of a table that isn't refused none holds
+abbrev pub RefusedForFirst : Type 0
+RefusedForFirst = (kind : TableKind) (ms : Members) → IsFirst (first_condition kind ms) kind ms
