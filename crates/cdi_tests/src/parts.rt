@@ -97,21 +97,28 @@ static SAYINGS: [Saying; 27] = [
 fn said(alloc: Global, line: &[u8]) -> Result<Vec<u8>, Fail> {
     let mut text = Vec::new(alloc);
     match read_line(alloc, line) {
-        Ok(Command::Skip) => text.extend_from_slice(b"skip")?,
-        Ok(Command::Put) => text.extend_from_slice(b"put")?,
-        Ok(Command::Drop { kind, name }) => {
-            write!(text, "drop {kind:?} ")?;
-            text.extend_from_slice(name.as_bytes())?;
-        }
-        Ok(Command::Choose { bean_type, quals }) => {
-            text.extend_from_slice(b"choose ")?;
-            text.extend_from_slice(bean_type.as_bytes())?;
-            push_names(&mut text, &quals)?;
-        }
+        Ok(command) => push_command(&mut text, &command)?,
         Err(Error::Refused(Refusal::BadCommand)) => text.extend_from_slice(b"refused")?,
         Err(_) => text.extend_from_slice(b"another error")?,
     }
     Ok(text)
+}
+
+fn push_command(text: &mut Vec<u8>, command: &Command) -> Result<(), Fail> {
+    match command {
+        Command::Skip => text.extend_from_slice(b"skip")?,
+        Command::Put => text.extend_from_slice(b"put")?,
+        Command::Drop { kind, name } => {
+            write!(text, "drop {kind:?} ")?;
+            text.extend_from_slice(name.as_bytes())?;
+        }
+        Command::Choose { bean_type, quals } => {
+            text.extend_from_slice(b"choose ")?;
+            text.extend_from_slice(bean_type.as_bytes())?;
+            push_names(text, quals)?;
+        }
+    }
+    Ok(())
 }
 
 fn push_names(text: &mut Vec<u8>, quals: &Quals) -> Result<(), AllocError> {

@@ -1,12 +1,10 @@
-use Rattle.std.proofs.Common.{◌≡◌, ◌++◌, false, None, Some, sym, ap, ◌∙◌}
+use Rattle.std.proofs.Common.{◌≡◌, false, None, Some, sym, ap, ◌∙◌}
 use Rattle.std.specs.Bool.{Decides}
-use Rattle.std.specs.List.{list_all}
-use Rattle.std.specs.Map.{keys_of}
 use Rattle.std.specs.Str.{bytes_eq}
 use Rattle.std.proofs.lemmas.Bool.{both_ways, not-true, not-false}
 use Rattle.std.proofs.lemmas.Bool.Decides.{same_from_decides, Decides-at}
-use Rattle.cdi_match.specs.Filling.{find_qualifier, value_or_default}
-use Rattle.cdi_match.specs.Covering.{CoversBy, is_binding, agree_at, given_name, covers}
+use Rattle.cdi_match.specs.Filling.{find_qualifier}
+use Rattle.cdi_match.specs.Covering.{CoversBy, given_name, covers}
 use Rattle.cdi_match.proofs.Names.{one_name, same_name}
 use Rattle.cdi_match.proofs.CoverLemmas.{covers_by_decides, named_decides, members_decide, unlike_decides, other_decides}
 use Rattle.cdi_match.proofs.covering.covers.Goals as goal
@@ -34,8 +32,7 @@ agreed c =
     let hs = c.in-Members-Members.have_values in
     let ws = c.in-Members-Members.want_values in
     let one : c.args.have.now.name ≡ c.args.want.now.name = one_name _ _ (not-false _ (sym c.ne.ensures ∙ c.if-ne.false)) in
-    Decides-at c.agree.result _
-    (c.agree.ensures ∙ ap (λ ms. list_all (agree_at (is_binding ms) (value_or_default ms hs) (value_or_default ms ws)) (keys_of hs ++ keys_of ws)) c.declared_members.ensures)
+    Decides-at c.agree.result _ c.agree.ensures
     (members_decide declared c.args.have.now c.args.want.now hs ws c.in-Members-Members.is-0 c.in-Members-Members.is-1 one)
 
 pub returns-in-Members-Members-clause-value : goal.returns-in-Members-Members-clause-value
