@@ -19,18 +19,18 @@ use Rattle.cdi_container.specs.declared.runner.Runner.{Runner}
 use Rattle.cdi_container.specs.declared.session.Session.{Session}
 use Rattle.cdi_container.proofs.Runs.{LegalHistory-append, cc_append, cc_or}
 use Rattle.cdi_devices.proofs.Known.{Appends-more}
-use Rattle.cdi_lines.proofs.WordLemmas.{is_or_not}
+use Rattle.std.proofs.lemmas.Bool.{cases_Bool}
 
 pub begun_from-append : (b xs ys : List ℕ) → begun_from b (xs ++ ys) ≡ begun_from (begun_from b xs) ys
 begun_from-append b [] ys = refl
-begun_from-append b (x ∷ xs) ys = elim (is_or_not (x == 10)) [
+begun_from-append b (x ∷ xs) ys = elim (cases_Bool (x == 10)) [
   | inl e ↦ rw e (begun_from-append [] xs ys)
   | inr e ↦ rw e (begun_from-append (b ++ x ∷ []) xs ys)
 ]
 
 pub ended_from-append : (b xs ys : List ℕ) → ended_from b (xs ++ ys) ≡ ended_from b xs ++ ended_from (begun_from b xs) ys
 ended_from-append b [] ys = refl
-ended_from-append b (x ∷ xs) ys = elim (is_or_not (x == 10)) [
+ended_from-append b (x ∷ xs) ys = elim (cases_Bool (x == 10)) [
   | inl e ↦ rw e (ap (λ l. b ∷ l) (ended_from-append [] xs ys))
   | inr e ↦ rw e (ended_from-append (b ++ x ∷ []) xs ys)
 ]

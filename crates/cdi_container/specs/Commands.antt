@@ -15,6 +15,7 @@ pub data Command : Type 0 where
   Put : List ℕ → Command
   Drop : Kind → List ℕ → Command
   Choose : List ℕ → List Qual → Command
+  Named : List ℕ → Command
   -- what is no command
   Unreadable : Command
 
@@ -29,6 +30,7 @@ commands_said (Ok said.Skip) = []
 commands_said (Ok said.Put) = []
 commands_said (Ok (said.Drop kind name)) = Drop kind name ∷ []
 commands_said (Ok (said.Choose t quals)) = Choose t quals ∷ []
+commands_said (Ok (said.Named name)) = Named name ∷ []
 commands_said (Err refusal) = Unreadable ∷ []
 
 -- and where the next line stands
@@ -37,6 +39,7 @@ mode_said (Ok said.Skip) = Outside
 mode_said (Ok said.Put) = InPut []
 mode_said (Ok (said.Drop kind name)) = Outside
 mode_said (Ok (said.Choose t quals)) = Outside
+mode_said (Ok (said.Named name)) = Outside
 mode_said (Err refusal) = Outside
 
 abbrev pub is_dot : List ℕ → Bool

@@ -5,9 +5,10 @@ use Rattle.cdi_model.specs.declared.refusal.Refusal.{Refusal}
 use Rattle.cdi_model.specs.declared.refusal.Refusal.TheVariants.{BadCommand}
 use Rattle.cdi_model.specs.Edits.{Edit, Put as PutEdit, Remove, edited, refusal_of_edit}
 use Rattle.cdi_text.specs.Reading.{decl_of}
-use Rattle.cdi_container.specs.declared.choice.Choice.{Choice}
-use Rattle.cdi_container.specs.Choices.{chosen}
-use Rattle.cdi_container.specs.Commands.{Command, Put, Drop, Choose, Unreadable}
+use Rattle.cdi_effective.specs.Beans.{beans}
+use Rattle.cdi_resolve.specs.declared.choice.Choice.{Choice}
+use Rattle.cdi_resolve.specs.Choices.{chosen, chosen_by_name}
+use Rattle.cdi_container.specs.Commands.{Command, Put, Drop, Choose, Named, Unreadable}
 
 -- what a container holds
 pub record State : Type 0 where
@@ -47,13 +48,15 @@ abbrev pub refusal_of : State → Command → Option Refusal
 refusal_of state (Put text) = refusal_of_put state.decls (decl_of text)
 refusal_of state (Drop kind name) = refusal_of_edit state.decls (Remove kind name)
 refusal_of state (Choose t quals) = None
+refusal_of state (Named name) = None
 refusal_of state Unreadable = Some BadCommand
 
 -- what a command that isn't refused answers, and the state and the trace that it leaves
 abbrev pub Acts : State → Command → Answer → List Entry → State → Type 0
 Acts old (Put text) Done trace new = (d : Decl) × (decl_of text ≡ Ok d) × (trace ≡ []) × (new ≡ with_edit old (PutEdit d))
 Acts old (Drop kind name) Done trace new = (trace ≡ []) × (new ≡ with_edit old (Remove kind name))
-Acts old (Choose t quals) (Chosen choice) trace new = (choice ≡ chosen old.decls t quals) × (trace ≡ []) × (new ≡ old)
+Acts old (Choose t quals) (Chosen choice) trace new = (choice ≡ chosen old.decls (beans old.decls) t quals) × (trace ≡ []) × (new ≡ old)
+Acts old (Named name) (Chosen choice) trace new = (choice ≡ chosen_by_name (beans old.decls) name) × (trace ≡ []) × (new ≡ old)
 Acts old command answer trace new = ⊥
 
 -- A refusal is the first whose condition holds. It changes nothing, and neither does want of memory.

@@ -1,4 +1,3 @@
-pub mod Choices
 pub mod Commands
 pub mod History
 pub mod Seen
@@ -13,4 +12,6 @@ pub use Rattle.cdi_lines.specs.Lines
 pub use Rattle.cdi_lines.specs.Words
 pub use Rattle.cdi_lines.specs.Command
 pub use Rattle.cdi_text.specs.Reading
+pub use Rattle.cdi_effective.specs.Beans
+pub use Rattle.cdi_resolve.specs.Choices
 pub use Rattle.cdi_devices.specs.Counted

@@ -5,14 +5,14 @@ use Rattle.cdi_model.specs.declared.decl.Kind.{Kind}
 use Rattle.cdi_model.specs.declared.quals.Qual.{Qual}
 use Rattle.cdi_model.specs.declared.refusal.Error.{Error}
 use Rattle.cdi_model.specs.declared.refusal.Error.TheVariants as errors
-use Rattle.cdi_container.specs.declared.choice.Choice.{Choice}
+use Rattle.cdi_resolve.specs.declared.choice.Choice.{Choice}
 use Rattle.cdi_container.specs.declared.container.Container.{Container}
-use Rattle.cdi_container.specs.Commands.{Command, Put, Drop, Choose}
+use Rattle.cdi_container.specs.Commands.{Command, Put, Drop, Choose, Named}
 use Rattle.cdi_container.specs.History.{State, Answer, Done, Chosen, Refused, OutOfMemory, LegalAnswer}
 
 -- the state that a container holds
 abbrev pub state_of : Container → State
-state_of c = record { decls = c.decls }
+state_of c = record { decls = c.deployment }
 
 -- the answer of a call that gives no value
 abbrev pub edit_answer : Result (Unit {0}) Error → Answer
@@ -37,3 +37,6 @@ DropStep old kind name result new = IsStep old (Drop kind name) (edit_answer res
 
 abbrev pub ChooseStep : Container → List ℕ → List Qual → Result Choice AllocError → Container → Type 0
 ChooseStep old t quals result new = IsStep old (Choose t quals) (choice_answer result) new
+
+abbrev pub NamedStep : Container → List ℕ → Result Choice AllocError → Container → Type 0
+NamedStep old name result new = IsStep old (Named name) (choice_answer result) new

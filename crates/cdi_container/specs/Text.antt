@@ -1,10 +1,10 @@
 -- The text that steps print.
-use Rattle.std.specs.Prelude.{ℕ, Bool, true, false, List, [], ◌∷◌, ◌++◌, codes, flat_map, if◌then◌else◌}
+use Rattle.std.specs.Prelude.{ℕ, Bool, true, false, List, [], ◌∷◌, ◌++◌, codes, flat_map, Option, Some, None, if◌then◌else◌}
 use Rattle.cdi_model.specs.declared.refusal.Refusal.{Refusal}
 use Rattle.cdi_model.specs.declared.refusal.Refusal.TheVariants.{TooLong, NotToml, UnknownKind, UnknownKey, MissingKey, WrongKind, BadName, Twice, ListTooLong, TooMany, Absent, BadCommand}
-use Rattle.cdi_container.specs.declared.choice.BeanId.{BeanId}
-use Rattle.cdi_container.specs.declared.choice.Choice.{Choice}
-use Rattle.cdi_container.specs.declared.choice.Choice.TheVariants.{One, Unsatisfied, Ambiguous}
+use Rattle.cdi_effective.specs.declared.records.BeanId.{BeanId}
+use Rattle.cdi_resolve.specs.declared.choice.Choice.{Choice}
+use Rattle.cdi_resolve.specs.declared.choice.Choice.TheVariants.{One, Unsatisfied, Ambiguous}
 use Rattle.cdi_container.specs.History.{Answer, Done, Chosen, Refused, OutOfMemory, Entry, Step, History}
 
 -- the code and the word of a refusal
@@ -22,8 +22,13 @@ word_of TooMany = codes "E10 TooMany"
 word_of Absent = codes "E11 Absent"
 word_of BadCommand = codes "E20 BadCommand"
 
+-- the class, and the producer method behind a slash
+abbrev pub text_of_producer : Option (List ℕ) → List ℕ
+text_of_producer None = []
+text_of_producer (Some name) = 47 ∷ name
+
 abbrev pub text_of_id : BeanId → List ℕ
-text_of_id id = id.class
+text_of_id id = id.class ++ text_of_producer id.producer
 
 -- each bean after a space
 abbrev pub text_of_ids : List BeanId → List ℕ

@@ -1,8 +1,9 @@
 //! The container.
 ghost use Rattle.std.specs.Prelude.{◌≡◌};
 
-use crate::choice::{Choice, choose};
-use cdi_model::{Decls, Error, Kind, Name, Quals};
+use crate::deployment::Deployment;
+use cdi_model::{Error, Kind, Name, Quals, Work};
+use cdi_resolve::Choice;
 use cdi_text::read_decl;
 use std::alloc::{AllocError, Global};
 
@@ -13,12 +14,13 @@ use std::alloc::{AllocError, Global};
 #[derive(Drop)]
 pub struct Container {
     alloc: Global,
-    decls: Decls,
+    deployment: Deployment,
+    work: Work,
 }
 
 impl Container {
     ghost use Rattle.cdi_container.specs.History.{empty};
-    ghost use Rattle.cdi_container.specs.Seen.{state_of, PutStep, DropStep, ChooseStep};
+    ghost use Rattle.cdi_container.specs.Seen.{state_of, PutStep, DropStep, ChooseStep, NamedStep};
 
     /// An empty container. It keeps the allocator, and takes no memory yet.
     pub fn new(alloc: Global) -> Container
@@ -26,7 +28,8 @@ impl Container {
     {
         Container {
             alloc,
-            decls: Decls::new(alloc),
+            deployment: Deployment::new(alloc),
+            work: Work::new(),
         }
     }
 
@@ -35,24 +38,35 @@ impl Container {
         ensures { PutStep self.old text.now result self.new }
     {
         let decl = read_decl(self.alloc, text)?;
-        self.decls.put(decl)
+        self.deployment.put(decl)
     }
 
     /// Removes the declaration of a kind and name.
     pub fn remove(&mut self, kind: Kind, name: Name) -> Result<(), Error>
         ensures { DropStep self.old kind name result self.new }
     {
-        match self.decls.remove(kind, name) {
+        match self.deployment.remove(kind, name) {
             Ok(()) => Ok(()),
             Err(refusal) => Err(Error::Refused(refusal)),
         }
     }
 
     /// Which bean is right for a type and qualifiers (CDI 4.0, Performing typesafe resolution). Where no qualifier is
-    /// named, `Default` is asked for. It takes memory for the types of each bean and for the beans that are right.
+    /// named, `Default` is asked for.
+    ///
+    /// It takes memory for the beans that are right, and at the first question after an edit for the list of all beans,
+    /// which further questions use again.
     pub fn choose(&mut self, bean_type: Name, quals: &Quals) -> Result<Choice, AllocError>
         ensures { ChooseStep self.old bean_type quals.now result self.new }
     {
-        choose(self.alloc, &self.decls, bean_type, quals)
+        self.deployment
+            .choose(self.alloc, bean_type, quals, &mut self.work)
+    }
+
+    /// Which bean has a name (CDI 4.0, Name resolution). It takes memory as `choose` does.
+    pub fn named(&mut self, name: Name) -> Result<Choice, AllocError>
+        ensures { NamedStep self.old name result self.new }
+    {
+        self.deployment.named(self.alloc, name)
     }
 }

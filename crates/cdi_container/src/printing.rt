@@ -1,11 +1,12 @@
 //! The text that steps print.
 ghost use Rattle.std.specs.Prelude.{◌≡◌, ◌++◌, ◌∷◌, [], OnOk, OnErr, IfOk, flat_map};
-ghost use Rattle.cdi_container.specs.Text.{word_of, text_of_ids, text_of_choice, words_of_answer, text_of_answer, text_of_trace};
+ghost use Rattle.cdi_container.specs.Text.{word_of, text_of_id, text_of_ids, text_of_choice, words_of_answer, text_of_answer, text_of_trace};
 ghost use Rattle.cdi_container.specs.Printed.{answer_seen, Answered};
 ghost use Rattle.cdi_container.specs.Seen.{edit_answer, choice_answer};
 
-use crate::choice::{BeanId, Choice};
+use cdi_effective::BeanId;
 use cdi_model::{Error, Refusal};
+use cdi_resolve::Choice;
 use std::alloc::AllocError;
 
 /// What a command answers that does not run out of memory.
@@ -43,13 +44,24 @@ fn push_refusal(text: &mut Vec<u8>, refusal: Refusal) -> Result<(), AllocError>
     Ok(())
 }
 
+fn push_id(text: &mut Vec<u8>, id: &BeanId) -> Result<(), AllocError>
+    ensures { OnOk result (text.new.items ≡ text.old.items ++ text_of_id id.now) }
+{
+    text.extend_from_slice(id.class.as_bytes())?;
+    if let Some(producer) = id.producer {
+        text.push(b'/')?;
+        text.extend_from_slice(producer.as_bytes())?;
+    }
+    Ok(())
+}
+
 /// Each bean after a space.
 fn push_ids(text: &mut Vec<u8>, ids: &[BeanId]) -> Result<(), AllocError>
     ensures { OnOk result (text.new.items ≡ text.old.items ++ text_of_ids ids.now) }
 {
     for id in ids {
         text.push(b' ')?;
-        text.extend_from_slice(id.class.as_bytes())?;
+        push_id(text, id)?;
     }
     Ok(())
 }
@@ -60,7 +72,7 @@ fn push_choice(text: &mut Vec<u8>, choice: &Choice) -> Result<(), AllocError>
     match choice {
         Choice::One(id) => {
             text.extend_from_slice(b"one ")?;
-            text.extend_from_slice(id.class.as_bytes())
+            push_id(text, id)
         }
         Choice::Unsatisfied => text.extend_from_slice(b"unsatisfied"),
         Choice::Ambiguous(ids) => {

@@ -1,6 +1,6 @@
 //! Running one command after another, and printing what each answered.
 ghost use Rattle.std.specs.Prelude.{◌≡◌, [], OnOk, OnErr, false};
-ghost use Rattle.cdi_container.specs.Commands.{Put, Drop, Choose, Unreadable};
+ghost use Rattle.cdi_container.specs.Commands.{Put, Drop, Choose, Named, Unreadable};
 ghost use Rattle.cdi_container.specs.History.{empty};
 ghost use Rattle.cdi_container.specs.Printed.{answer_seen};
 ghost use Rattle.cdi_container.specs.Runner.{RunsStep, PrintsNothing, Prints};
@@ -60,6 +60,14 @@ impl Runner {
         ensures err { OnErr result (PrintsNothing self.old self.new) }
     {
         let answer = answer_of_choice(self.container.choose(bean_type, quals))?;
+        self.print(&answer)
+    }
+
+    pub(crate) fn named(&mut self, name: Name) -> Result<(), AllocError>
+        ensures ok { OnOk result (RunsStep self.old self.new (Named name)) }
+        ensures err { OnErr result (PrintsNothing self.old self.new) }
+    {
+        let answer = answer_of_choice(self.container.named(name))?;
         self.print(&answer)
     }
 

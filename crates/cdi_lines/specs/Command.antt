@@ -45,12 +45,22 @@ abbrev pub choose_of : List (List ℕ) → Result Command Refusal
 choose_of [] = Err BadCommand
 choose_of (name ∷ uses) = choose_at (name_of name) (quals_of uses)
 
+-- name NAME
+abbrev pub named_at : Option (List ℕ) → Result Command Refusal
+named_at (Some name) = Ok (commands.Named name)
+named_at None = Err BadCommand
+
+abbrev pub named_of : List (List ℕ) → Result Command Refusal
+named_of (name ∷ []) = named_at (name_of name)
+named_of words = Err BadCommand
+
 -- the command table: a verb, and what stands behind it
 abbrev pub command_of : List ℕ → List (List ℕ) → Result Command Refusal
 command_of verb words =
     if bytes_eq verb (codes "put") then put_of words
     else if bytes_eq verb (codes "drop") then drop_of words
     else if bytes_eq verb (codes "choose") then choose_of words
+    else if bytes_eq verb (codes "name") then named_of words
     else Err BadCommand
 
 abbrev pub command_of_words : List (List ℕ) → Result Command Refusal

@@ -3,7 +3,7 @@ ghost use Rattle.std.specs.Prelude.{◌≡◌};
 ghost use Rattle.cdi_model.specs.Outcome.{Answers};
 ghost use Rattle.std.specs.Str.{is_utf8};
 ghost use Rattle.cdi_lines.specs.Words.{words_of, begins_with_hash};
-ghost use Rattle.cdi_lines.specs.Command.{put_of, drop_of, choose_of, command_of, command_of_line};
+ghost use Rattle.cdi_lines.specs.Command.{put_of, drop_of, choose_of, named_of, command_of, command_of_line};
 
 use crate::uses::read_uses;
 use crate::words::{split_word, strip_return};
@@ -22,6 +22,7 @@ pub enum Command {
     Put,
     Drop { kind: Kind, name: Name },
     Choose { bean_type: Name, quals: Quals },
+    Named { name: Name },
 }
 
 /// What a line outside a put block says.
@@ -75,6 +76,8 @@ fn read_command(alloc: Global, verb: &[u8], rest: &[u8]) -> Result<Command, Erro
         Ok(read_drop(rest)?)
     } else if verb == b"choose".as_slice() {
         read_choose(alloc, rest)
+    } else if verb == b"name".as_slice() {
+        Ok(read_named(rest)?)
     } else {
         Err(Error::Refused(Refusal::BadCommand))
     }
@@ -119,5 +122,17 @@ fn read_choose(alloc: Global, rest: &[u8]) -> Result<Command, Error>
     match read_uses(alloc, rest)? {
         Some(quals) => Ok(Command::Choose { bean_type, quals }),
         None => Err(Error::Refused(Refusal::BadCommand)),
+    }
+}
+
+fn read_named(rest: &[u8]) -> Result<Command, Refusal>
+    ensures { result ≡ named_of (words_of rest.now) }
+{
+    let Some((name, rest)) = split_word(rest) else {
+        return Err(Refusal::BadCommand);
+    };
+    match (Name::parse(name), split_word(rest)) {
+        (Some(name), None) => Ok(Command::Named { name }),
+        _ => Err(Refusal::BadCommand),
     }
 }

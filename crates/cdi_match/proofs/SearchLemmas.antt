@@ -1,20 +1,24 @@
 -- The search: what one more found name changes, and what is found when none is left.
-use Rattle.std.proofs.Common.{◌≡◌, ◌≤◌, ◌<◌, ◌+◌, Some, ℕ, zero, suc, Bool, true, false, not, cond, ◌&&◌, ◌||◌, List, [], ◌∷◌, ◌++◌, length, refl, sym, ◌∙◌, subst, inl, inr, ap, arith, length-append}
+use Rattle.std.proofs.Common.{◌≡◌, ◌≤◌, ◌<◌, ◌+◌, ℕ, zero, suc, Bool, true, false, not, cond, ◌&&◌, ◌||◌, List, [], ◌∷◌, ◌++◌, length, refl, sym, ◌∙◌, subst, inl, inr, ap, arith, length-append}
+use Rattle.std.specs.Bool.{Decides}
 use Rattle.std.specs.List.{filter}
 use Rattle.std.specs.Str.{bytes_eq}
+use Rattle.std.proofs.Math.Bool.{or-false, or_assoc, and-true}
+use Rattle.std.proofs.lemmas.Bool.{or_cases, or_left, or_right, cases_Bool, false≢true, both_ways}
 use Rattle.std.proofs.lemmas.Bool.Decides.{same_from_decides}
+use Rattle.std.proofs.lemmas.List.Folds.{list_any-append}
 use Rattle.cdi_model.specs.declared.decl.Decl.{Decl}
 use Rattle.cdi_model.specs.declared.decl.Kind.TheVariants as kinds
-use Rattle.cdi_model.specs.Key.{same_key, key_at}
-use Rattle.cdi_model.specs.Decl.{key_of}
-use Rattle.std.proofs.lemmas.Bool.{or_cases, or_left, or_right, cases_Bool, false≢true, both_ways}
-use Rattle.std.proofs.lemmas.List.Folds.{list_any-append}
-use Rattle.cdi_match.specs.Chain.{Steps, Chain, has, leads}
-use Rattle.cdi_match.specs.Search.{Adds, Closing, Within, work, all_supers}
-use Rattle.cdi_match.specs.Types.{supers, supers_of, is_reached}
-use Rattle.cdi_match.proofs.TypeLemmas.{is_reached_decides}
-use Rattle.cdi_match.proofs.Names.{one_name, same_name}
-use Rattle.cdi_match.proofs.Chains.{chain_more}
+use Rattle.cdi_match.specs.declared.search.Links.{Links}
+use Rattle.cdi_match.specs.declared.search.Links.TheVariants as links
+use Rattle.cdi_match.specs.Chain.{Steps, ChainFromOne, has, leads, LeaveOnly}
+use Rattle.cdi_match.specs.Search.{Adds, Closing, Within, work, next_of, all_next, is_led_to}
+use Rattle.cdi_match.specs.Types.{supers_of, is_reached}
+use Rattle.cdi_match.specs.Stereotypes.{has_stereotype}
+use Rattle.cdi_match.proofs.Chains.{Next, reaches_from_one_decides, chain_more}
+use Rattle.cdi_match.proofs.Listed.{names_of, length-names_of, listed_only, listed_within}
+use Rattle.cdi_match.proofs.Names.{one_name, same_text}
+use Rattle.cdi_match.proofs.StereotypeLemmas.{stereotypes_in}
 
 abbrev Found : Type 0
 Found = List ℕ → Bool
@@ -44,7 +48,7 @@ one_fewer found found' name [] finds new h = absurd (false≢true h)
 one_fewer found found' name (u ∷ us) finds new h = elim (cases_Bool (bytes_eq u name)) [
   | inl is ↦
       let old : found u ≡ false = ap found (one_name u name is) ∙ new in
-      let now : found' u ≡ true = finds u ∙ or_right (found u) (has (name ∷ []) u) (or_left (bytes_eq name u) false (same_name name u (sym (one_name u name is)))) in
+      let now : found' u ≡ true = finds u ∙ or_right (found u) (has (name ∷ []) u) (or_left (bytes_eq name u) false (same_text name u (sym (one_name u name is)))) in
       rw (old, now) (omega (arith, fewer found found' (name ∷ []) us finds))
   | inr other ↦ by (found u) refl (found' u) refl (one_fewer found found' name us finds new (rw other at h))
 ]
@@ -65,7 +69,7 @@ Adds-new name found left found' left' updates new e =
       finds = finds;
       leaves = λ s. ap (λ names. has names s) e ∙ list_any-append (λ n. bytes_eq n s) left (name ∷ []) ∙ ap (λ b. has left s || b) (only s);
       works = λ all within. (
-          let less = one_fewer found found' name all finds new (within name (or_left (bytes_eq name name) false (same_name name name refl))) in
+          let less = one_fewer found found' name all finds new (within name (or_left (bytes_eq name name) false (same_text name name refl))) in
           omega (arith, less, ap length e, length-append left (name ∷ [])));
     }
   where
@@ -93,22 +97,13 @@ Adds-again name found left found' left' updates was e =
       | inr other ↦ rw other refl
     ]
 
-or_none : (b : Bool) → b ≡ (b || false)
-or_none true = refl
-or_none false = refl
-
 -- no name is found
 pub Adds-none : (found : Found) (left : List (List ℕ)) → Adds [] found left found left
 Adds-none found left = record {
-  finds = λ s. or_none (found s);
-  leaves = λ s. or_none (has left s);
+  finds = λ s. sym (or-false (found s));
+  leaves = λ s. sym (or-false (has left s));
   works = λ all within. (omega arith);
 }
-
-either : (f x y : Bool) → ((f || x) || y) ≡ (f || (x || y))
-either true x y = refl
-either false true y = refl
-either false false y = refl
 
 newly : (l f x y : Bool) → ((l || (x && not f)) || (y && not (f || x))) ≡ (l || ((x || y) && not f))
 newly true f x y = refl
@@ -124,7 +119,7 @@ newly false false false false = refl
 -- some names are found, and then others
 pub Adds-then : (xs ys : List (List ℕ)) (f : Found) (l : List (List ℕ)) (g : Found) (m : List (List ℕ)) (h : Found) (n : List (List ℕ)) → Adds xs f l g m → Adds ys g m h n → Adds (xs ++ ys) f l h n
 Adds-then xs ys f l g m h n a b = record {
-  finds = λ s. (b.finds s ∙ ap (λ t. t || has ys s) (a.finds s) ∙ either (f s) (has xs s) (has ys s) ∙ ap (λ t. f s || t) (sym (list_any-append (λ z. bytes_eq z s) xs ys)));
+  finds = λ s. (b.finds s ∙ ap (λ t. t || has ys s) (a.finds s) ∙ or_assoc (f s) (has xs s) (has ys s) ∙ ap (λ t. f s || t) (sym (list_any-append (λ z. bytes_eq z s) xs ys)));
   leaves = λ s. (b.leaves s ∙ ap (λ t. t || (has ys s && not (g s))) (a.leaves s) ∙ ap (λ t. (has l s || (has xs s && not (f s))) || (has ys s && not t)) (a.finds s)
       ∙ newly (has l s) (f s) (has xs s) (has ys s) ∙ ap (λ t. has l s || (t && not (f s))) (sym (list_any-append (λ z. bytes_eq z s) xs ys)));
   works = λ all within. (
@@ -133,37 +128,30 @@ Adds-then xs ys f l g m h n a b = record {
       omega (arith, first, second));
 }
 
--- the start is found, and left to be taken
-pub Closing-start : (next : List ℕ → List (List ℕ)) (start : List ℕ) (f : Found) (l : List (List ℕ)) (g : Found) (m : List (List ℕ)) → ((s : List ℕ) → f s ≡ false) → l ≡ [] → Adds (start ∷ []) f l g m → Closing next start g m
-Closing-start next start f l g m none e a =
-    let found_is : (s : List ℕ) → g s ≡ has (start ∷ []) s = λ s. a.finds s ∙ ap (λ b. b || has (start ∷ []) s) (none s) in
-    let left_is : (s : List ℕ) → has m s ≡ has (start ∷ []) s = λ s. (a.leaves s ∙ ap (λ names. has names s || (has (start ∷ []) s && not (f s))) e ∙ ap (λ b. has (start ∷ []) s && not b) (none s) ∙ and_true (has (start ∷ []) s)) in
+-- the starts are found, and left to be taken
+pub Closing-start : (next : Next) (starts : List (List ℕ)) (f : Found) (l : List (List ℕ)) (g : Found) (m : List (List ℕ)) → ((s : List ℕ) → f s ≡ false) → l ≡ [] → Adds starts f l g m → Closing next starts g m
+Closing-start next starts f l g m none e a =
+    let found_is : (s : List ℕ) → g s ≡ has starts s = λ s. a.finds s ∙ ap (λ b. b || has starts s) (none s) in
+    let left_is : (s : List ℕ) → has m s ≡ has starts s = λ s. (a.leaves s ∙ ap (λ names. has names s || (has starts s && not (f s))) e ∙ ap (λ b. has starts s && not b) (none s) ∙ and-true (has starts s)) in
     record {
-      sound = λ s h. (0, one_name start s (first (bytes_eq start s) (sym (found_is s) ∙ h)));
-      begun = found_is start ∙ or_left (bytes_eq start start) false (same_name start start refl);
+      sound = λ s h. (s, sym (found_is s) ∙ h, (0, refl));
+      begun = λ s h. found_is s ∙ h;
       taken = λ x h. found_is x ∙ sym (left_is x) ∙ h;
       closed = λ x s h gone leads. absurd (both_ways (g x) (found_is x ∙ sym (left_is x) ∙ gone) h);
     }
-  where
-    and_true : (b : Bool) → (b && true) ≡ b
-    and_true true = refl
-    and_true false = refl
-
-    first : (b : Bool) → (b || false) ≡ true → b ≡ true
-    first true h = refl
-    first false h = h
 
 -- One name that is left is taken: what follows it is found.
-pub Closing-step : (next : List ℕ → List (List ℕ)) (start name : List ℕ) (f : Found) (l rest : List (List ℕ)) (g : Found) (m : List (List ℕ)) → Closing next start f l → l ≡ rest ++ name ∷ [] → Adds (next name) f rest g m → Closing next start g m
-Closing-step next start name f l rest g m i e a =
+pub Closing-step : (next : Next) (starts : List (List ℕ)) (name : List ℕ) (f : Found) (l rest : List (List ℕ)) (g : Found) (m : List (List ℕ)) → Closing next starts f l → l ≡ rest ++ name ∷ [] → Adds (next name) f rest g m → Closing next starts g m
+Closing-step next starts name f l rest g m i e a =
     let left_is : (s : List ℕ) → has l s ≡ (has rest s || (bytes_eq name s || false)) = λ s. ap (λ names. has names s) e ∙ list_any-append (λ n. bytes_eq n s) rest (name ∷ []) in
-    let was : f name ≡ true = i.taken name (left_is name ∙ or_right (has rest name) _ (or_left (bytes_eq name name) false (same_name name name refl))) in
+    let was : f name ≡ true = i.taken name (left_is name ∙ or_right (has rest name) _ (or_left (bytes_eq name name) false (same_text name name refl))) in
+    let to_name : ChainFromOne (leads next) starts name = i.sound name was in
     record {
       sound = λ s h. elim (or_cases (f s) (has (next name) s) (sym (a.finds s) ∙ h)) [
         | inl old ↦ i.sound s old
-        | inr new ↦ chain_more (leads next) start name s (i.sound name was) new
+        | inr new ↦ (to_name.0, to_name.1, chain_more (leads next) to_name.0 name s to_name.2 new)
       ];
-      begun = a.finds start ∙ or_left (f start) _ i.begun;
+      begun = λ s h. a.finds s ∙ or_left (f s) _ (i.begun s h);
       taken = λ x h. elim (or_cases (has rest x) (has (next name) x && not (f x)) (sym (a.leaves x) ∙ h)) [
         | inl old ↦ a.finds x ∙ or_left (f x) _ (i.taken x (left_is x ∙ or_left (has rest x) _ old))
         | inr new ↦ a.finds x ∙ or_right (f x) _ (left_of (has (next name) x) (not (f x)) new)
@@ -191,35 +179,52 @@ Closing-step next start name f l rest g m i e a =
     before false false h k = k
 
 -- when no name is left, each name to which a chain leads was found
-closed_steps : (next : List ℕ → List (List ℕ)) (start : List ℕ) (f : Found) → Closing next start f [] → (n : ℕ) (x s : List ℕ) → f x ≡ true → Steps (leads next) n x s → f s ≡ true
-closed_steps next start f i zero x s h e = subst (λ z. f z ≡ true) e h
-closed_steps next start f i (suc n) x s h c = closed_steps next start f i n c.0 s (i.closed x c.0 h refl c.1) c.2
+closed_steps : (next : Next) (starts : List (List ℕ)) (f : Found) → Closing next starts f [] → (n : ℕ) (x s : List ℕ) → f x ≡ true → Steps (leads next) n x s → f s ≡ true
+closed_steps next starts f i zero x s h e = subst (λ z. f z ≡ true) e h
+closed_steps next starts f i (suc n) x s h c = closed_steps next starts f i n c.0 s (i.closed x c.0 h refl c.1) c.2
 
-pub Closing-all : (next : List ℕ → List (List ℕ)) (start : List ℕ) (f : Found) (l : List (List ℕ)) → Closing next start f l → l ≡ [] → (s : List ℕ) → Chain (leads next) start s → f s ≡ true
-Closing-all next start f l i none s c = closed_steps next start f (subst (λ names. Closing next start f names) none i) c.0 start s i.begun c.1
+Closing-all : (next : Next) (starts : List (List ℕ)) (f : Found) → Closing next starts f [] → (s : List ℕ) → ChainFromOne (leads next) starts s → f s ≡ true
+Closing-all next starts f i s c = closed_steps next starts f i (c.2).0 c.0 s (i.begun c.0 c.1) (c.2).1
 
 -- one name that is left to be taken is one step of work
 pub work_less : (all names : List (List ℕ)) (name : List ℕ) (f : Found) (l rest : List (List ℕ)) (g : Found) (m : List (List ℕ)) → Within names all → l ≡ rest ++ name ∷ [] → Adds names f rest g m → work all g m < work all f l
 work_less all names name f l rest g m within e a = omega (arith, a.works all within, ap length e, length-append rest (name ∷ []))
 
--- what a declaration lists is among all that are listed
-pub supers_within : (ds : List Decl) (t : List ℕ) → Within (supers ds t) (all_supers ds)
-supers_within [] t s h = h
-supers_within (d ∷ ds) t s h = by (same_key (key_at kinds.Type t) (key_of d)) refl (supers_within ds t s)
-  where
-    by : (b : Bool) → same_key (key_at kinds.Type t) (key_of d) ≡ b → (has (supers ds t) s ≡ true → has (all_supers ds) s ≡ true) → has (supers_of (Some d) ++ all_supers ds) s ≡ true
-    by true e more = list_any-append (λ z. bytes_eq z s) (supers_of (Some d)) (all_supers ds) ∙ or_left _ _ (rw e at h)
-    by false e more = list_any-append (λ z. bytes_eq z s) (supers_of (Some d)) (all_supers ds) ∙ or_right _ _ (more (rw e at h))
+-- ---- what declarations list
+
+next_only : (which : Links) (ds : List Decl) → LeaveOnly (names_of ds) (next_of which ds)
+next_only links.Supers ds = listed_only kinds.Type supers_of refl ds
+next_only links.Stereotypes ds = listed_only kinds.Stereotype stereotypes_in refl ds
+
+pub next_within : (which : Links) (ds : List Decl) (x : List ℕ) → Within (next_of which ds x) (all_next which ds)
+next_within links.Supers ds x = listed_within kinds.Type supers_of refl ds x
+next_within links.Stereotypes ds x = listed_within kinds.Stereotype stereotypes_in refl ds x
+
+is_led_to_decides : (which : Links) (ds : List Decl) (starts : List (List ℕ)) (s : List ℕ) → Decides (is_led_to which ds starts s) (ChainFromOne (leads (next_of which ds)) starts s)
+is_led_to_decides which ds starts s = reaches_from_one_decides (names_of ds) (next_of which ds) (next_only which ds) (length ds) (length-names_of ds) starts s
 
 nothing : (l : List (List ℕ)) → length l ≡ 0 → l ≡ []
 nothing [] e = refl
 nothing (x ∷ xs) e = absurd (omega arith)
 
 -- when no name is left, those to which a chain leads were found
-pub reached-all : (ds : List Decl) (start : List ℕ) (f : Found) (l : List (List ℕ)) → Closing (supers ds) start f l → length l ≡ 0 → (s : List ℕ) → f s ≡ is_reached ds start s
-reached-all ds start f l i none s =
-    same_from_decides (f s) (is_reached ds start s) (i.sound s, Closing-all (supers ds) start f l i (nothing l none) s) (is_reached_decides ds start s)
+pub led_to-all : (which : Links) (ds : List Decl) (starts : List (List ℕ)) (f : Found) (l : List (List ℕ)) → Closing (next_of which ds) starts f l → length l ≡ 0 → (s : List ℕ) → f s ≡ is_led_to which ds starts s
+led_to-all which ds starts f l i none s =
+    let next : Next = next_of which ds in
+    same_from_decides (f s) (is_led_to which ds starts s)
+    (i.sound s, Closing-all next starts f (subst (λ names. Closing next starts f names) (nothing l none) i) s)
+    (is_led_to_decides which ds starts s)
 
--- a found name is reached
-pub reached-found : (ds : List Decl) (start : List ℕ) (f : Found) (l : List (List ℕ)) → Closing (supers ds) start f l → (s : List ℕ) → f s ≡ true → is_reached ds start s ≡ true
-reached-found ds start f l i s h = (is_reached_decides ds start s).1 (i.sound s h)
+-- a chain leads to a found name
+pub led_to-found : (which : Links) (ds : List Decl) (starts : List (List ℕ)) (f : Found) (l : List (List ℕ)) → Closing (next_of which ds) starts f l → (s : List ℕ) → f s ≡ true → is_led_to which ds starts s ≡ true
+led_to-found which ds starts f l i s h = (is_led_to_decides which ds starts s).1 (i.sound s h)
+
+-- from one type, by supers
+pub led_to-reached : (ds : List Decl) (t s : List ℕ) → is_led_to links.Supers ds (t ∷ []) s ≡ is_reached ds t s
+unfolding is_reached
+led_to-reached ds t s = or-false (is_reached ds t s)
+
+-- from some stereotypes, by those that they declare
+pub led_to-stereotype : (ds : List Decl) (declared : List (List ℕ)) (s : List ℕ) → is_led_to links.Stereotypes ds declared s ≡ has_stereotype ds declared s
+unfolding has_stereotype
+led_to-stereotype ds declared s = refl

@@ -25,6 +25,14 @@ unfoldable pub reaches : ℕ → (List ℕ → List (List ℕ)) → List ℕ →
 reaches zero next x y = bytes_eq x y
 reaches (suc k) next x y = bytes_eq x y || list_any (λ u. reaches k next u y) (next x)
 
+-- a chain of edges leads to y from one of some names
+abbrev pub ChainFromOne : (List ℕ → List ℕ → Bool) → List (List ℕ) → List ℕ → Type 0
+ChainFromOne edge starts y = (x : List ℕ) × (has starts x ≡ true) × Chain edge x y
+
+-- a chain of at most k edges does
+abbrev pub reaches_from_one : ℕ → (List ℕ → List (List ℕ)) → List (List ℕ) → List ℕ → Bool
+reaches_from_one k next starts y = list_any (λ x. reaches k next x y) starts
+
 -- edges leave these names only
 abbrev pub LeaveOnly : List (List ℕ) → (List ℕ → List (List ℕ)) → Type 0
 LeaveOnly owners next = (x : List ℕ) → has owners x ≡ false → next x ≡ []

@@ -1,5 +1,5 @@
 -- The types of a type (CDI 4.0, Bean types).
-use Rattle.std.specs.Prelude.{◌≡◌, ℕ, Bool, true, false, ◌||◌, ◌⊎◌, List, [], ◌∷◌, ◌++◌, length, codes, Option, Some, None}
+use Rattle.std.specs.Prelude.{◌≡◌, ℕ, Bool, true, false, ◌||◌, ◌⊎◌, List, [], ◌∷◌, ◌++◌, length, codes, filter, flat_map, Option, Some, None}
 use Rattle.std.specs.Option.{option_to_list}
 use Rattle.std.specs.Str.{bytes_eq}
 use Rattle.cdi_model.specs.declared.decl.Decl.{Decl}
@@ -7,6 +7,7 @@ use Rattle.cdi_model.specs.declared.decl.Decl.TheVariants as decls
 use Rattle.cdi_model.specs.declared.decl.Kind.TheVariants as kinds
 use Rattle.cdi_model.specs.DeclList.{find_decl}
 use Rattle.cdi_match.specs.Chain.{Chain, leads, reaches}
+use Rattle.cdi_match.specs.Order.{in_order}
 
 -- the type that every type has
 abbrev pub object : List ℕ
@@ -17,6 +18,7 @@ abbrev pub supers_of : Option Decl → List (List ℕ)
 supers_of None = []
 supers_of (Some (decls.Type d)) = option_to_list d.extends ++ d.implements
 supers_of (Some (decls.Qualifier d)) = []
+supers_of (Some (decls.Stereotype d)) = []
 supers_of (Some (decls.Bean d)) = []
 
 abbrev pub supers : List Decl → List ℕ → List (List ℕ)
@@ -42,3 +44,11 @@ is_reached ds t s = reaches (length ds) (supers ds) t s
 -- the same as a test
 unfoldable pub is_type : List Decl → List ℕ → List ℕ → Bool
 is_type ds t s = bytes_eq s object || is_reached ds t s
+
+-- all names that a declaration of a type lists
+abbrev pub all_supers : List Decl → List (List ℕ)
+all_supers ds = flat_map (λ d. supers_of (Some d)) ds
+
+-- the types of t, each once, in byte order
+unfoldable pub types_of : List Decl → List ℕ → List (List ℕ)
+types_of ds t = in_order (filter (is_type ds t) (t ∷ object ∷ all_supers ds))

@@ -15,22 +15,12 @@ pub fn fill_members(alloc: Global, decls: &Decls, qual: &Qual) -> Result<Members
 {
     let mut filled = match &qual.arguments {
         Arguments::Name(_) => Members::new(alloc),
-        Arguments::Members(values) => copy(alloc, values)?,
+        Arguments::Members(values) => values.clone()?,
     };
     for member in declared_members(decls, qual.name) {
         add_default(&mut filled, member)?;
     }
     Ok(filled)
-}
-
-fn copy(alloc: Global, values: &Members) -> Result<Members, AllocError>
-    ensures { IfOk result (λ copy. copy ≡ values.now) }
-{
-    let mut copy = Members::new(alloc);
-    for (name, value) in values.iter() {
-        copy.insert(*name, *value)?;
-    }
-    Ok(copy)
 }
 
 fn add_default(values: &mut Members, member: &MemberDecl) -> Result<(), AllocError>

@@ -1,17 +1,15 @@
 //! The types of a bean (CDI 4.0, Bean types).
 ghost use Rattle.std.specs.Prelude.{◌≡◌, ◌↔◌, ℕ, List, IsTrue, IfOk};
 ghost use Rattle.std.specs.Ordering.{nat_cmp};
-ghost use Rattle.std.specs.BTreeSet.{contains};
 ghost use Rattle.std.specs.Cmp.Lexicographic.{slice_cmp};
 ghost use Rattle.std.specs.List.Sorted.{IsStrictlySortedBy};
 ghost use Rattle.cdi_match.specs.Chain.{has};
-ghost use Rattle.cdi_match.specs.Locality.{EditsKeepTypes, SameTypesApart};
-ghost use Rattle.cdi_match.specs.Types.{is_type, IsType, is_reached, object, supers, has_some};
+ghost use Rattle.cdi_match.specs.Locality.{EditsKeepClosure, EditsKeepTypes, SameTypesApart};
+ghost use Rattle.cdi_match.specs.Types.{is_type, IsType, is_reached, object, supers, has_some, types_of};
 
-use crate::search::Search;
+use crate::search::{Links, Search, in_order, reached};
 use cdi_model::{Decl, Decls, Kind, Name};
 use std::alloc::{AllocError, Global};
-use std::collections::BTreeSet;
 
 /// The name of the type that every type has.
 fn object() -> Name
@@ -22,32 +20,16 @@ fn object() -> Name
 
 /// The types of a type (CDI 4.0, Bean types), each once, in the byte order of their names: the type itself, each type
 /// to which a chain of `extends` and `implements` leads, and `Object`. A type that is not declared has itself and
-/// `Object`.
+/// `Object`. It takes memory for the list and for the search.
 pub fn closure(alloc: Global, decls: &Decls, type_name: Name) -> Result<Vec<Name>, AllocError>
+    ensures value { IfOk result (λ types. types.items ≡ types_of decls.now type_name) }
     ensures order { IfOk result (λ types. IsStrictlySortedBy (slice_cmp nat_cmp) types.items) }
     ensures types { IfOk result (λ types. (s : List ℕ) → has types.items s ≡ is_type decls.now type_name s) }
+    ensures edits { EditsKeepClosure }
 {
-    let mut found = reached(alloc, decls, type_name)?;
+    let mut found = reached(alloc, decls, Links::Supers, &[type_name])?;
     found.insert(object())?;
     in_order(alloc, found)
-}
-
-/// The names of a set, in order.
-fn in_order(alloc: Global, names: BTreeSet<Name>) -> Result<Vec<Name>, AllocError>
-    ensures { IfOk result (λ list. list.items ≡ names.keys) }
-{
-    names.into_iter().collect(alloc)
-}
-
-/// The types to which chains lead.
-fn reached(alloc: Global, decls: &Decls, start: Name) -> Result<BTreeSet<Name>, AllocError>
-    ensures { IfOk result (λ found. (s : List ℕ) → contains (slice_cmp nat_cmp) found s ≡ is_reached decls.now start s) }
-{
-    let mut search = Search::new(alloc, start)?;
-    'taken: while let Some(taken) = search.left.pop() {
-        search.add_supers(decls, taken)?;
-    }
-    Ok(search.found)
 }
 
 /// Whether a type has another (CDI 4.0, Bean types). The search ends where the other is found.
@@ -95,12 +77,12 @@ fn has_supers(decls: &Decls, name: Name) -> bool
 fn finds(alloc: Global, decls: &Decls, start: Name, goal: Name) -> Result<bool, AllocError>
     ensures { IfOk result (λ is. is ≡ is_reached decls.now start goal) }
 {
-    let mut search = Search::new(alloc, start)?;
+    let mut search = Search::new(alloc, &[start])?;
     'taken: while !search.has(goal) {
         let Some(name) = search.left.pop() else {
             return Ok(false);
         };
-        search.add_supers(decls, name)?;
+        search.add_next(decls, Links::Supers, name)?;
     }
     Ok(true)
 }

@@ -12,17 +12,20 @@ abbrev pub kind_of_word : List ℕ → Option Kind
 kind_of_word word =
     if bytes_eq word (codes "type") then Some kinds.Type
     else if bytes_eq word (codes "qualifier") then Some kinds.Qualifier
+    else if bytes_eq word (codes "stereotype") then Some kinds.Stereotype
     else if bytes_eq word (codes "bean") then Some kinds.Bean
     else None
 
 abbrev pub kind_of : Decl → Kind
 kind_of (decls.Type d) = kinds.Type
 kind_of (decls.Qualifier d) = kinds.Qualifier
+kind_of (decls.Stereotype d) = kinds.Stereotype
 kind_of (decls.Bean d) = kinds.Bean
 
 abbrev pub name_of_decl : Decl → List ℕ
 name_of_decl (decls.Type d) = d.name
 name_of_decl (decls.Qualifier d) = d.name
+name_of_decl (decls.Stereotype d) = d.name
 name_of_decl (decls.Bean d) = d.name
 
 abbrev pub key_of : Decl → Key

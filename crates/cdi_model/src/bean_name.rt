@@ -1,30 +1,41 @@
 //! The names of beans.
 ghost use Rattle.std.specs.Prelude.{◌≡◌, ◌<◌, true, length};
-ghost use Rattle.cdi_model.specs.BeanName.{last_identifier, lowered, default_name, name_said, bean_name};
+ghost use Rattle.cdi_model.specs.BeanName.{last_identifier, lowered, default_name, name_said, own_name};
 ghost use Rattle.cdi_model.specs.Grammar.{is_ident};
 
-use crate::decl::{BeanDecl, Named};
+use crate::decl::{Attributes, BeanDecl, Named, ProducerDecl};
 use crate::name::Name;
 
-impl BeanDecl {
-    /// The name of the bean, if it has one (CDI 4.0, Bean names). It takes no memory.
-    pub fn bean_name(&self) -> Option<Name>
-        ensures { result ≡ bean_name self.now }
+impl Attributes {
+    /// The name that a bean gives itself, where this is its default name (CDI 4.0, Bean names). It takes no memory.
+    pub fn own_name(&self, default: Name) -> Option<Name>
+        ensures { result ≡ own_name self.now default }
     {
         match self.named {
-            Some(Named::Default) => Some(default_name(&self.name)),
+            Some(Named::Default) => Some(default),
             Some(Named::Given(name)) => Some(name),
             None => None,
         }
     }
 }
 
-/// The default name of a bean of a class: the last identifier of the class with its first letter lowered (CDI 4.0,
-/// Default bean names).
-fn default_name(class: &Name) -> Name
-    ensures { result ≡ default_name class.now }
-{
-    lowered(last_identifier(class.as_bytes()))
+impl BeanDecl {
+    /// The default name of the bean: the last identifier of its class with its first letter lowered (CDI 4.0, Default
+    /// bean names). It takes no memory.
+    pub fn default_name(&self) -> Name
+        ensures { result ≡ default_name self.now.name }
+    {
+        lowered(last_identifier(self.name.as_bytes()))
+    }
+}
+
+impl ProducerDecl {
+    /// The default name of the bean: its member name (profile). It takes no memory.
+    pub fn default_name(&self) -> Name
+        ensures { result ≡ self.now.name }
+    {
+        Name::new(self.name.as_bytes())
+    }
 }
 
 /// What stands behind the last dot, or all of a name without one.

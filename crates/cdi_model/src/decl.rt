@@ -12,6 +12,7 @@ use crate::seq::Seq;
 pub enum Kind {
     Type,
     Qualifier,
+    Stereotype,
     Bean,
 }
 
@@ -52,6 +53,28 @@ pub struct QualifierDecl {
     pub members: Seq<MemberDecl>,
 }
 
+/// A scope (CDI 4.0, Built-in scope types).
+#[derive(Clone, Copy, Debug, PartialEq, Eq)]
+pub enum Scope {
+    Dependent,
+    Request,
+    Application,
+}
+
+/// A stereotype (CDI 4.0, Defining new stereotypes).
+#[derive(Drop)]
+pub struct StereotypeDecl {
+    pub name: Name,
+    /// The default scope of the beans that have it.
+    pub scope: Option<Scope>,
+    /// Whether these beans have their default names.
+    pub is_named: bool,
+    /// Whether they are alternatives.
+    pub is_alternative: bool,
+    /// The stereotypes that it inherits.
+    pub stereotypes: Seq<Name>,
+}
+
 /// What a bean says of its name (CDI 4.0, Bean names).
 #[derive(Clone, Copy, Debug)]
 pub enum Named {
@@ -60,13 +83,63 @@ pub enum Named {
     Given(Name),
 }
 
+/// What a managed bean and a producer method declare of the bean that they are.
+#[derive(Drop)]
+pub struct Attributes {
+    /// The types to which it restricts those that it has (CDI 4.0, Restricting the bean types of a bean).
+    pub types: Option<Seq<Name>>,
+    /// The qualifiers that it declares (CDI 4.0, Declaring the qualifiers of a bean).
+    pub qualifiers: Quals,
+    pub named: Option<Named>,
+    /// The scope that it declares (CDI 4.0, Declaring the bean scope).
+    pub scope: Option<Scope>,
+    /// The stereotypes that it declares (CDI 4.0, Declaring the stereotypes for a bean).
+    pub stereotypes: Seq<Name>,
+    /// Whether it declares itself an alternative (CDI 4.0, Declaring an alternative).
+    pub is_alternative: bool,
+}
+
+/// An injection point: a parameter of a constructor or of a producer method (CDI 4.0, Injection points).
+#[derive(Drop)]
+pub struct PointDecl {
+    pub name: Ident,
+    /// The type that it requires.
+    pub required_type: Name,
+    /// The qualifiers that it requires.
+    pub qualifiers: Quals,
+}
+
+/// A producer method (CDI 4.0, Producer methods).
+#[derive(Drop)]
+pub struct ProducerDecl {
+    pub name: Ident,
+    /// The type that it declares to return.
+    pub product_type: Name,
+    pub attributes: Attributes,
+    pub is_static: bool,
+    pub params: Seq<PointDecl>,
+    pub body: Ident,
+}
+
+/// A disposer method, by its disposed parameter (CDI 4.0, Disposer methods).
+#[derive(Drop)]
+pub struct DisposerDecl {
+    pub name: Ident,
+    pub product_type: Name,
+    pub qualifiers: Quals,
+    pub body: Ident,
+}
+
 /// A managed bean (CDI 4.0, Managed beans). Its name is that of its class.
 #[derive(Drop)]
 pub struct BeanDecl {
     pub name: Name,
-    /// The qualifiers that it declares (CDI 4.0, Declaring the qualifiers of a bean).
-    pub qualifiers: Quals,
-    pub named: Option<Named>,
+    pub attributes: Attributes,
+    pub priority: Option<i64>,
+    /// The parameters of its constructor.
+    pub points: Seq<PointDecl>,
+    pub producers: Seq<ProducerDecl>,
+    pub disposers: Seq<DisposerDecl>,
 }
 
 /// A declaration.
@@ -74,6 +147,7 @@ pub struct BeanDecl {
 pub enum Decl {
     Type(TypeDecl),
     Qualifier(QualifierDecl),
+    Stereotype(StereotypeDecl),
     Bean(BeanDecl),
 }
 
@@ -86,6 +160,8 @@ impl Kind {
             Some(Kind::Type)
         } else if word == b"qualifier".as_slice() {
             Some(Kind::Qualifier)
+        } else if word == b"stereotype".as_slice() {
+            Some(Kind::Stereotype)
         } else if word == b"bean".as_slice() {
             Some(Kind::Bean)
         } else {
@@ -102,6 +178,7 @@ impl Decl {
         match self {
             Decl::Type(_) => Kind::Type,
             Decl::Qualifier(_) => Kind::Qualifier,
+            Decl::Stereotype(_) => Kind::Stereotype,
             Decl::Bean(_) => Kind::Bean,
         }
     }
@@ -113,6 +190,7 @@ impl Decl {
         match self {
             Decl::Type(decl) => decl.name,
             Decl::Qualifier(decl) => decl.name,
+            Decl::Stereotype(decl) => decl.name,
             Decl::Bean(decl) => decl.name,
         }
     }

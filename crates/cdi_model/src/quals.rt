@@ -80,6 +80,16 @@ impl Members {
     }
 }
 
+impl Clone for Members {
+    ghost is_clone = { λ m n. n ≡ m };
+
+    fn clone(&self) -> Result<Members, AllocError> {
+        Ok(Members {
+            map: self.map.clone()?,
+        })
+    }
+}
+
 /// What stands in a use beside its name.
 #[derive(Drop)]
 pub enum Arguments {
@@ -89,11 +99,33 @@ pub enum Arguments {
     Members(Members),
 }
 
+impl Clone for Arguments {
+    ghost is_clone = { λ a b. b ≡ a };
+
+    fn clone(&self) -> Result<Arguments, AllocError> {
+        match self {
+            Arguments::Name(name) => Ok(Arguments::Name(*name)),
+            Arguments::Members(members) => Ok(Arguments::Members(members.clone()?)),
+        }
+    }
+}
+
 /// A use of a qualifier (CDI 4.0, Qualifiers).
 #[derive(Drop)]
 pub struct Qual {
     pub name: Name,
     pub arguments: Arguments,
+}
+
+impl Clone for Qual {
+    ghost is_clone = { λ q r. r ≡ q };
+
+    fn clone(&self) -> Result<Qual, AllocError> {
+        Ok(Qual {
+            name: self.name,
+            arguments: self.arguments.clone()?,
+        })
+    }
 }
 
 /// Uses of distinct names in the byte order of these, at most 32.
@@ -154,14 +186,15 @@ impl Quals {
         self.uses.as_slice()
     }
 
-    /// Adds a use, in the place of the one of its name where there is one.
+    /// Adds a use, in the place of the one of its name where there is one. Fewer than 32 may stand, and it takes memory
+    /// for one more.
     pub fn insert(&mut self, qual: Qual) -> Result<(), AllocError>
         requires { length self.old < 32 }
         ensures ok { OnOk result (self.new ≡ put_use self.old qual) }
         ensures err { OnErr result (self.new ≡ self.old) }
         ensures count { length self.new ≤ length self.old + 1 }
     {
-        put_in_place(&mut self.uses, qual)
+        put_use(&mut self.uses, qual)
     }
 }
 
@@ -173,11 +206,9 @@ fn count_below(uses: &[Qual], name: &Name) -> usize
     uses.iter().take_while(|u| u.name < *name).count()
 }
 
-fn put_in_place(uses: &mut Vec<Qual>, qual: Qual) -> Result<(), AllocError>
-    requires order { AreInOrder uses.old.items }
-    requires room { length uses.old.items < 32 }
-    ensures order { AreInOrder uses.new.items }
-    ensures count { length uses.new.items ≤ length uses.old.items + 1 }
+/// Puts a use among others in the order of their names, in the place of the one of its name where there is one. It takes
+/// memory for one more.
+pub fn put_use(uses: &mut Vec<Qual>, qual: Qual) -> Result<(), AllocError>
     ensures ok { OnOk result (uses.new.items ≡ put_use uses.old.items qual) }
     ensures err { OnErr result (uses.new.items ≡ uses.old.items) }
 {

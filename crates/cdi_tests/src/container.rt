@@ -1,8 +1,7 @@
 //! The container, its declarations and its refusals.
-use crate::fixtures::{Answer, Call, agrees, declared, make, name};
 use cdi_container::Container;
+use cdi_fixtures::{Answer, Call, agrees, declared, make, name};
 use cdi_model::{Decl, Decls, Form, Kind, Refusal};
-use cdi_text::read_decl;
 use std::alloc::Global;
 use std::io::Write;
 use std::test::Fail;
@@ -15,42 +14,6 @@ fn is_type(decl: &Decl, name: &[u8], form: Form, is_final: bool) -> bool {
         }
         _ => false,
     }
-}
-
-/// A type with its name and every other key of its kind, and what it is.
-#[derive(Clone, Copy)]
-struct TypeText(&'static [u8], &'static [u8], Form, bool);
-
-static TYPE_TEXTS: [TypeText; 3] = [
-    TypeText(
-        b"kind=\"type\"\nname=\"shop.Corner\"\n",
-        b"shop.Corner",
-        Form::Class,
-        false,
-    ),
-    TypeText(
-        b"final = true\nform = \"interface\"\nname = \"A\"\nkind = \"type\"\n",
-        b"A",
-        Form::Interface,
-        true,
-    ),
-    TypeText(
-        b"form = \"class\"\nkind = \"type\"\nname = \"A\"\nfinal = false\n",
-        b"A",
-        Form::Class,
-        false,
-    ),
-];
-
-#[test]
-fn declarations_are_read(rt: HostRuntime) -> Result<(), Fail> {
-    for (place, TypeText(text, name, form, is_final)) in TYPE_TEXTS.iter().enumerate() {
-        let decl = read_decl(rt.alloc(), text)?;
-        assert!(rt; is_type(&decl, name, *form, *is_final), "text {place}");
-    }
-    let bean = read_decl(rt.alloc(), b"kind=\"bean\"\nname=\"Corner\"\n")?;
-    assert!(rt; bean.kind() == Kind::Bean && bean.key().name == name(b"Corner")?);
-    Ok(())
 }
 
 /// Texts of which the last replaces the type.
@@ -84,7 +47,7 @@ fn a_list_is_edited(rt: HostRuntime) -> Result<(), Fail> {
     Ok(())
 }
 
-static CALLS: [(Call, Answer); 15] = [
+static CALLS: [(Call, Answer); 24] = [
     (Call::Choose(b"Object", &[]), Answer::Unsatisfied),
     (Call::Put(b"kind=\"bean\"\nname=\"shop.B\"\n"), Answer::Done),
     (Call::Put(b"kind=\"type\"\nname=\"shop.A\"\n"), Answer::Done),
@@ -110,13 +73,32 @@ static CALLS: [(Call, Answer); 15] = [
         Answer::One(b"C"),
     ),
     (Call::Remove(Kind::Qualifier, b"Q"), Answer::Done),
+    (Call::Named(b"c"), Answer::One(b"C")),
+    (
+        Call::Put(b"kind=\"stereotype\"\nname=\"Mock\"\nalternative=true\nnamed=true\n"),
+        Answer::Done,
+    ),
+    (
+        Call::Put(b"kind=\"bean\"\nname=\"shop.B\"\nstereotypes=[\"Mock\"]\n"),
+        Answer::Done,
+    ),
+    // An alternative without a priority.
+    (Call::Choose(b"shop.B", &[]), Answer::Unsatisfied),
+    (Call::Named(b"b"), Answer::Unsatisfied),
+    (
+        Call::Put(b"kind=\"bean\"\nname=\"shop.B\"\nstereotypes=[\"Mock\"]\npriority=0\n"),
+        Answer::Done,
+    ),
+    (Call::Named(b"b"), Answer::One(b"shop.B")),
+    (Call::Choose(b"Object", &[]), Answer::One(b"shop.B")),
+    (Call::Remove(Kind::Stereotype, b"Mock"), Answer::Done),
 ];
 
 #[test]
 fn answers_with_ample_memory(rt: HostRuntime) -> Result<(), Fail> {
     let mut container = Container::new(rt.alloc());
     for (place, (call, answer)) in CALLS.iter().enumerate() {
-        let answered = make(rt.alloc(), &mut container, *call)?;
+        let answered = make(rt.alloc(), &mut container, *call);
         assert!(rt; agrees(&answered, *answer), "call {place}");
     }
     Ok(())
@@ -132,7 +114,7 @@ const ASKED: Call = Call::Choose(b"Object", &[]);
 /// The answer.
 const ONLY: Answer = Answer::One(b"Corner");
 
-static REFUSED: [(Call, Refusal); 24] = [
+static REFUSED: [(Call, Refusal); 33] = [
     (Call::Put(b"kind="), Refusal::NotToml),
     (Call::Put(b"\xff"), Refusal::NotToml),
     (Call::Put(b""), Refusal::UnknownKind),
@@ -190,6 +172,40 @@ static REFUSED: [(Call, Refusal); 24] = [
         Call::Put(b"kind=\"bean\"\nname=\"A\"\nqualifiers=[\"Q(n=1,n=1)\"]"),
         Refusal::Twice,
     ),
+    (
+        Call::Put(b"kind=\"stereotype\"\nname=\"S\"\npriority=1"),
+        Refusal::UnknownKey,
+    ),
+    (Call::Put(b"kind=\"stereotype\""), Refusal::MissingKey),
+    (
+        Call::Put(b"kind=\"stereotype\"\nname=\"S\"\nscope=\"session\""),
+        Refusal::WrongKind,
+    ),
+    // Of a stereotype `named` is a boolean.
+    (
+        Call::Put(b"kind=\"stereotype\"\nname=\"S\"\nnamed=\"\""),
+        Refusal::WrongKind,
+    ),
+    (
+        Call::Put(b"kind=\"stereotype\"\nname=\"S\"\nstereotypes=[\"T(n=1)\"]"),
+        Refusal::BadName,
+    ),
+    (
+        Call::Put(b"kind=\"bean\"\nname=\"A\"\npriority=1.0"),
+        Refusal::WrongKind,
+    ),
+    (
+        Call::Put(b"kind=\"bean\"\nname=\"A\"\nscope=\"Request\""),
+        Refusal::WrongKind,
+    ),
+    (
+        Call::Put(b"kind=\"bean\"\nname=\"A\"\ntypes=[\"B\",\"B\"]"),
+        Refusal::Twice,
+    ),
+    (
+        Call::Put(b"kind=\"bean\"\nname=\"A\"\nstereotypes=[\"S\",\"S\"]"),
+        Refusal::Twice,
+    ),
     (Call::Put(MANY_USES), Refusal::ListTooLong),
     (
         Call::Put(b"kind=\"bean\"\nname=\"One.Too.Many\""),
@@ -215,8 +231,8 @@ fn full_container(alloc: Global) -> Result<Container, Fail> {
 fn refusals_change_nothing(rt: HostRuntime) -> Result<(), Fail> {
     let mut container = full_container(rt.alloc())?;
     for (place, (call, refusal)) in REFUSED.iter().enumerate() {
-        let answered = make(rt.alloc(), &mut container, *call)?;
-        let choice = make(rt.alloc(), &mut container, ASKED)?;
+        let answered = make(rt.alloc(), &mut container, *call);
+        let choice = make(rt.alloc(), &mut container, ASKED);
         let is_right = agrees(&answered, Answer::Refused(*refusal));
         assert!(rt; is_right && agrees(&choice, ONLY), "call {place}");
     }
@@ -229,7 +245,7 @@ fn a_text_is_too_long(rt: HostRuntime) -> Result<(), Fail> {
     let mut container = Container::new(rt.alloc());
     container.put(b"kind=\"bean\"\nname=\"Corner\"\n")?;
     let refused = container.put(text.as_slice());
-    let choice = make(rt.alloc(), &mut container, ASKED)?;
+    let choice = make(rt.alloc(), &mut container, ASKED);
     assert!(rt; refused == Err(Refusal::TooLong.into()) && agrees(&choice, ONLY));
     Ok(())
 }

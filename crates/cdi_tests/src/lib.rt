@@ -1,19 +1,19 @@
-//! Tests of the container, its lists, its texts and its devices together.
+//! Tests of the container, its lists, its texts and its beans, by calls of the libraries.
 #![tactic(auto)]
 
 #[cfg(test)]
+mod beans;
+#[cfg(test)]
+mod choices;
+#[cfg(test)]
 mod container;
 #[cfg(test)]
-mod devices;
+mod declarations;
 #[cfg(test)]
 mod fixtures;
-#[cfg(test)]
-mod long_rows;
 #[cfg(test)]
 mod matching;
 #[cfg(test)]
 mod parts;
 #[cfg(test)]
 mod qualifiers;
-#[cfg(test)]
-mod rows;

@@ -1,19 +1,24 @@
-//! The types of types, and the members of uses with their defaults.
-use crate::fixtures::{declared, name};
-use cdi_match::{closure, covers, fill_members, is_type};
+//! The types of types, the stereotypes of stereotypes, and the members of uses with their defaults.
+use cdi_fixtures::{are_names, declared, name, names};
+use cdi_match::{closure, covers, fill_members, find_stereotype, is_type, stereotypes};
 use cdi_model::{Decls, Ident, Members, Name};
 use cdi_text::read_qualifier;
 use std::alloc::Global;
 use std::process::Abort;
 use std::test::Fail;
 
-/// A class with an interface, two classes that extend each other, and a qualifier.
-static TEXTS: [&[u8]; 5] = [
+/// A class with an interface, two classes that extend each other, a qualifier, and stereotypes of which two declare each
+/// other.
+static TEXTS: [&[u8]; 9] = [
     b"kind=\"type\"\nname=\"Shop\"\nform=\"interface\"\n",
     b"kind=\"type\"\nname=\"Corner\"\nimplements=[\"Shop\"]\n",
     b"kind=\"type\"\nname=\"Hen\"\nextends=\"Egg\"\n",
     b"kind=\"type\"\nname=\"Egg\"\nextends=\"Hen\"\n",
     b"kind=\"qualifier\"\nname=\"Rank\"\nmembers=[{name=\"n\"},{name=\"note\",default=0,binding=false},{name=\"size\",default=3}]\n",
+    b"kind=\"stereotype\"\nname=\"Shop\"\nalternative=true\n",
+    b"kind=\"stereotype\"\nname=\"Action\"\nstereotypes=[\"Shop\",\"Ghost\"]\nnamed=true\n",
+    b"kind=\"stereotype\"\nname=\"Sun\"\nstereotypes=[\"Moon\"]\n",
+    b"kind=\"stereotype\"\nname=\"Moon\"\nstereotypes=[\"Moon\",\"Sun\"]\n",
 ];
 
 /// A type, its types in byte order, and one that it has not.
@@ -28,14 +33,6 @@ static TYPES: [Types; 5] = [
     Types(b"Zoo", &[b"Object", b"Zoo"], b"Corner"),
     Types(b"Object", &[b"Object"], b"Corner"),
 ];
-
-fn are_names(found: &[Name], wanted: &[&[u8]]) -> bool {
-    found.len() == wanted.len()
-        && found
-            .iter()
-            .zip(wanted.iter())
-            .all(|(name, text)| name.as_bytes() == *text)
-}
 
 fn assert_types(rt: &impl Abort, alloc: Global, decls: &Decls, types: &Types) -> Result<(), Fail> {
     let Types(text, wanted, other) = types;
@@ -56,6 +53,66 @@ fn types_of_types(rt: HostRuntime) -> Result<(), Fail> {
     let decls = declared(rt.alloc(), &TEXTS)?;
     for types in &TYPES {
         assert_types(&rt, rt.alloc(), &decls, types)?;
+    }
+    Ok(())
+}
+
+/// Stereotypes, and those of what declares them, in byte order.
+#[derive(Clone, Copy)]
+struct Stereotypes(&'static [&'static [u8]], &'static [&'static [u8]]);
+
+static STEREOTYPES: [Stereotypes; 6] = [
+    Stereotypes(&[], &[]),
+    Stereotypes(&[b"Shop"], &[b"Shop"]),
+    Stereotypes(&[b"Action"], &[b"Action", b"Ghost", b"Shop"]),
+    Stereotypes(&[b"Sun"], &[b"Moon", b"Sun"]),
+    // A type, and what is not declared.
+    Stereotypes(&[b"Zoo", b"Corner"], &[b"Corner", b"Zoo"]),
+    Stereotypes(
+        &[b"Sun", b"Shop", b"Action"],
+        &[b"Action", b"Ghost", b"Moon", b"Shop", b"Sun"],
+    ),
+];
+
+/// A name, and whether the stereotype that it names gives a default name and makes an alternative, if it names one.
+#[derive(Clone, Copy)]
+struct Found(&'static [u8], Option<(bool, bool)>);
+
+static FOUND: [Found; 4] = [
+    Found(b"Action", Some((true, false))),
+    Found(b"Shop", Some((false, true))),
+    Found(b"Corner", None),
+    Found(b"Ghost", None),
+];
+
+fn assert_stereotypes(
+    rt: &impl Abort,
+    alloc: Global,
+    decls: &Decls,
+    these: &Stereotypes,
+) -> Result<(), Fail> {
+    let Stereotypes(texts, wanted) = these;
+    let declared = names(alloc, texts)?;
+    let found = stereotypes(alloc, decls, declared.as_slice())?;
+    assert!(rt; are_names(found.as_slice(), wanted), "{texts:?}");
+    Ok(())
+}
+
+/// Whether the stereotype of a name gives a default name and makes an alternative.
+fn gives(decls: &Decls, name: Name) -> Option<(bool, bool)> {
+    let decl = find_stereotype(decls, name)?;
+    Some((decl.is_named, decl.is_alternative))
+}
+
+#[test]
+fn stereotypes_of_stereotypes(rt: HostRuntime) -> Result<(), Fail> {
+    let decls = declared(rt.alloc(), &TEXTS)?;
+    for these in &STEREOTYPES {
+        assert_stereotypes(&rt, rt.alloc(), &decls, these)?;
+    }
+    for Found(text, wanted) in &FOUND {
+        let found = gives(&decls, name(text)?);
+        assert!(rt; found == *wanted, "{text:?}");
     }
     Ok(())
 }

@@ -1,10 +1,10 @@
 //! Names, lines, what is kept of them, and counts.
-use crate::fixtures::assert_text;
+use crate::fixtures::{assert_text, push_names, push_uses};
 use cdi_container::Counted;
 use cdi_lines::{Block, Command, Line, ends_block, find_feed, read_line};
-use cdi_model::{Error, Ident, Kind, Name, Quals, Refusal, Seq, is_ident, is_name};
-use std::alloc::{AllocError, Global};
-use std::io::{ErrorKind, Read, Write};
+use cdi_model::{Error, Ident, Kind, Name, Refusal, Seq, is_ident, is_name};
+use std::alloc::Global;
+use std::io::{Read, Write};
 use std::test::Fail;
 
 /// 64 bytes.
@@ -63,7 +63,7 @@ fn names_and_identifiers(rt: HostRuntime) {
 #[derive(Clone, Copy)]
 struct Saying(&'static [u8], &'static [u8]);
 
-static SAYINGS: [Saying; 27] = [
+static SAYINGS: [Saying; 34] = [
     Saying(b"", b"skip"),
     Saying(b"   ", b"skip"),
     Saying(b"\r", b"skip"),
@@ -78,7 +78,10 @@ static SAYINGS: [Saying; 27] = [
     Saying(b"drop qualifier Any", b"drop Qualifier Any"),
     Saying(b"choose A", b"choose A"),
     Saying(b"  choose  Object  ", b"choose Object"),
-    Saying(b"choose A Q(n=1) Any", b"choose A Any Q"),
+    Saying(b"choose A Q(n=1) Any", b"choose A Any Q(n=1)"),
+    Saying(b"drop stereotype Any", b"drop Stereotype Any"),
+    Saying(b"name shop.A", b"name shop.A"),
+    Saying(b"  name   a  \r", b"name a"),
     Saying(b"frob", b"refused"),
     Saying(b"puts", b"refused"),
     Saying(b"put x", b"refused"),
@@ -91,9 +94,13 @@ static SAYINGS: [Saying; 27] = [
     Saying(b"choose", b"refused"),
     Saying(b"choose A.", b"refused"),
     Saying(b"choose\xff A", b"refused"),
+    Saying(b"name", b"refused"),
+    Saying(b"name a b", b"refused"),
+    Saying(b"name a(n=1)", b"refused"),
+    Saying(b"names a", b"refused"),
 ];
 
-/// What a line says: its verb, its kind, its name, and the names of its qualifiers; or that it is no command.
+/// What a line says: its verb, its kind, its name, and the uses of qualifiers; or that it is no command.
 fn said(alloc: Global, line: &[u8]) -> Result<Vec<u8>, Fail> {
     let mut text = Vec::new(alloc);
     match read_line(alloc, line) {
@@ -109,22 +116,18 @@ fn push_command(text: &mut Vec<u8>, command: &Command) -> Result<(), Fail> {
         Command::Skip => text.extend_from_slice(b"skip")?,
         Command::Put => text.extend_from_slice(b"put")?,
         Command::Drop { kind, name } => {
-            write!(text, "drop {kind:?} ")?;
-            text.extend_from_slice(name.as_bytes())?;
+            write!(text, "drop {kind:?}")?;
+            push_names(text, &[*name])?;
         }
         Command::Choose { bean_type, quals } => {
-            text.extend_from_slice(b"choose ")?;
-            text.extend_from_slice(bean_type.as_bytes())?;
-            push_names(text, quals)?;
+            text.extend_from_slice(b"choose")?;
+            push_names(text, &[*bean_type])?;
+            push_uses(text, quals.as_slice())?;
         }
-    }
-    Ok(())
-}
-
-fn push_names(text: &mut Vec<u8>, quals: &Quals) -> Result<(), AllocError> {
-    for qual in quals.as_slice() {
-        text.push(b' ')?;
-        text.extend_from_slice(qual.name.as_bytes())?;
+        Command::Named { name } => {
+            text.extend_from_slice(b"name")?;
+            push_names(text, &[*name])?;
+        }
     }
     Ok(())
 }

@@ -1,6 +1,8 @@
 //! Uses of qualifiers, and lists of them.
-use crate::fixtures::quals;
-use cdi_model::{Arguments, Error, Ident, Qual, Refusal};
+use crate::fixtures::{assert_text, push_uses};
+use cdi_effective::{any_use, default_use, named_use};
+use cdi_fixtures::{name, quals};
+use cdi_model::{Arguments, Error, Ident, Qual, Refusal, put_use};
 use cdi_text::read_qualifier;
 use cdi_uses::{is_own_use, is_use, use_name};
 use std::test::Fail;
@@ -84,5 +86,25 @@ fn lists_of_uses_are_in_order(rt: HostRuntime) -> Result<(), Fail> {
     assert!(rt; first.name.as_bytes() == b"Any".as_slice());
     assert!(rt; second.name.as_bytes() == b"Rank".as_slice() && value_of(second, b"n") == Some(2));
     assert!(rt; list.len() == 2 && !list.is_empty() && !list.is_full());
+    Ok(())
+}
+
+#[test]
+fn built_in_uses_are_put_among_others(rt: HostRuntime) -> Result<(), Fail> {
+    let mut uses = Vec::new(rt.alloc());
+    put_use(&mut uses, read_qualifier(rt.alloc(), b"Rank(n=1)")?)?;
+    put_use(&mut uses, named_use(name(b"corner")?))?;
+    put_use(&mut uses, any_use(rt.alloc()))?;
+    put_use(&mut uses, default_use(rt.alloc()))?;
+    let mut copies = Vec::new(rt.alloc());
+    for qual in &uses {
+        copies.push(qual.clone()?)?;
+    }
+    put_use(&mut uses, read_qualifier(rt.alloc(), b"Rank(n=2)")?)?;
+    let mut text = Vec::new(rt.alloc());
+    push_uses(&mut text, uses.as_slice())?;
+    push_uses(&mut text, copies.as_slice())?;
+    let wanted = b" Any Default Named(corner) Rank(n=2) Any Default Named(corner) Rank(n=1)";
+    assert_text(&rt, text.as_slice(), wanted.as_slice(), &"uses");
     Ok(())
 }

@@ -1,36 +1,23 @@
 //! Calls of a container, of which any one allocation may be refused.
 use crate::Difference;
-use cdi_container::{BeanId, Choice, Container};
-use cdi_model::{Error, Kind, Name, Quals, Refusal};
-use cdi_text::read_qualifier;
-use std::alloc::Global;
-
-/// A call of a container. A type is chosen with uses of qualifiers.
-#[derive(Clone, Copy)]
-enum Call {
-    Put(&'static [u8]),
-    Remove(Kind, &'static [u8]),
-    Choose(&'static [u8], &'static [&'static [u8]]),
-}
-
-/// What a call is to answer. Beans are given by their names.
-#[derive(Clone, Copy)]
-enum Answer {
-    Done,
-    Refused(Refusal),
-    One(&'static [u8]),
-    Unsatisfied,
-    Ambiguous(&'static [&'static [u8]]),
-}
-
 use Answer::{Ambiguous, Done, One, Refused, Unsatisfied};
-use Call::{Choose, Put, Remove};
+use Call::{Choose, Named, Put, Remove};
+use cdi_container::Container;
+use cdi_fixtures::{Answer, Call, agrees, make};
+use cdi_model::{Error, Kind, Refusal};
+use std::alloc::Global;
 
 const CORNER: &[u8] = b"Corner";
 
+const MALL: &[u8] = b"Mall";
+
+const STAND: &[u8] = b"Stand";
+
+const SHOP: &[u8] = b"Shop";
+
 const OBJECT: &[u8] = b"Object";
 
-const BOTH: &[&[u8]] = &[CORNER, b"Mall"];
+const BOTH: &[&[u8]] = &[CORNER, MALL];
 
 const PLAIN: &[&[u8]] = &[];
 
@@ -44,7 +31,7 @@ const TYPE: &[u8] =
 const QUALIFIER: &[u8] =
     b"kind=\"qualifier\"\nname=\"Rank\"\nmembers=[{name=\"n\",default=2},{name=\"m\",binding=false}]\n";
 
-const BEAN: &[u8] = b"kind=\"bean\"\nname=\"Corner\"\n";
+const BEAN: &[u8] = b"kind=\"bean\"\nname=\"Corner\"\nnamed=\"mall\"\n";
 
 const OTHER_BEAN: &[u8] =
     b"kind=\"bean\"\nname=\"Mall\"\nqualifiers=[\"Rank(n=2,m=3)\",\"Default\"]\nnamed=\"mall\"\n";
@@ -55,8 +42,16 @@ const TWICE: &[u8] = b"kind=\"bean\"\nname=\"Inn\"\nqualifiers=[\"Rank(n=1)\",\"
 
 const MEMBER_TWICE: &[u8] = b"kind=\"bean\"\nname=\"Inn\"\nqualifiers=[\"Rank(n=1,n=1)\"]\n";
 
+const STEREOTYPE: &[u8] =
+    b"kind=\"stereotype\"\nname=\"Mock\"\nscope=\"request\"\nalternative=true\nstereotypes=[\"Action\"]\n";
+
+const OTHER_STEREOTYPE: &[u8] = b"kind=\"stereotype\"\nname=\"Action\"\nnamed=true\n";
+
+const ALTERNATIVE: &[u8] =
+    b"kind=\"bean\"\nname=\"Stand\"\ntypes=[\"Stand\",\"Booth\"]\nstereotypes=[\"Mock\",\"Ghost\"]\npriority=-1\n";
+
 /// Calls, each with its answer.
-const CALLS: [(Call, Answer); 16] = [
+static CALLS: [(Call, Answer); 25] = [
     (Put(TYPE), Done),
     (Put(INTERFACE), Done),
     (Put(QUALIFIER), Done),
@@ -65,9 +60,18 @@ const CALLS: [(Call, Answer); 16] = [
     (Put(BAD_BEAN), Refused(Refusal::UnknownKey)),
     (Put(TWICE), Refused(Refusal::Twice)),
     (Put(MEMBER_TWICE), Refused(Refusal::Twice)),
-    (Choose(b"Shop", PLAIN), One(CORNER)),
+    (Choose(SHOP, PLAIN), One(CORNER)),
     (Choose(OBJECT, PLAIN), Ambiguous(BOTH)),
-    (Choose(OBJECT, RANKED), One(b"Mall")),
+    (Choose(OBJECT, RANKED), One(MALL)),
+    (Named(b"mall"), Ambiguous(BOTH)),
+    (Named(b"corner"), Unsatisfied),
+    (Put(STEREOTYPE), Done),
+    (Put(OTHER_STEREOTYPE), Done),
+    (Put(ALTERNATIVE), Done),
+    (Named(b"stand"), One(STAND)),
+    (Choose(OBJECT, PLAIN), One(STAND)),
+    (Remove(Kind::Stereotype, b"Mock"), Done),
+    (Named(b"stand"), Unsatisfied),
     (Remove(Kind::Bean, CORNER), Done),
     (Remove(Kind::Bean, CORNER), Refused(Refusal::Absent)),
     (Choose(CORNER, PLAIN), Unsatisfied),
@@ -77,23 +81,35 @@ const CALLS: [(Call, Answer); 16] = [
 ];
 
 /// For each call, a look at the state before it, which changes nothing, with its answer.
-const LOOKS: [(Call, Answer); 16] = [
+static LOOKS: [(Call, Answer); 25] = [
     (Remove(Kind::Type, CORNER), Refused(Refusal::Absent)),
-    (Remove(Kind::Type, b"Shop"), Refused(Refusal::Absent)),
+    (Remove(Kind::Type, SHOP), Refused(Refusal::Absent)),
     (Remove(Kind::Qualifier, b"Rank"), Refused(Refusal::Absent)),
-    (Choose(b"Shop", PLAIN), Unsatisfied),
+    (Choose(SHOP, PLAIN), Unsatisfied),
     (Choose(OBJECT, PLAIN), One(CORNER)),
     (Choose(b"Inn", PLAIN), Unsatisfied),
     (Choose(b"Inn", PLAIN), Unsatisfied),
     (Choose(b"Inn", PLAIN), Unsatisfied),
     (Choose(CORNER, PLAIN), One(CORNER)),
     (Choose(OBJECT, PLAIN), Ambiguous(BOTH)),
-    (Choose(b"Mall", RANKED), One(b"Mall")),
+    (Choose(MALL, RANKED), One(MALL)),
+    (Choose(SHOP, PLAIN), One(CORNER)),
+    (Named(b"mall"), Ambiguous(BOTH)),
+    (Remove(Kind::Stereotype, b"Mock"), Refused(Refusal::Absent)),
+    (
+        Remove(Kind::Stereotype, b"Action"),
+        Refused(Refusal::Absent),
+    ),
+    (Choose(STAND, PLAIN), Unsatisfied),
+    (Choose(STAND, PLAIN), One(STAND)),
+    (Named(b"mall"), Ambiguous(BOTH)),
+    (Choose(OBJECT, PLAIN), One(STAND)),
+    (Choose(STAND, PLAIN), One(STAND)),
     (Choose(CORNER, PLAIN), One(CORNER)),
-    (Choose(OBJECT, PLAIN), One(b"Mall")),
-    (Choose(OBJECT, PLAIN), One(b"Mall")),
-    (Choose(OBJECT, RANKED), One(b"Mall")),
-    (Choose(OBJECT, PLAIN), One(b"Mall")),
+    (Choose(MALL, PLAIN), One(MALL)),
+    (Choose(MALL, PLAIN), One(MALL)),
+    (Choose(OBJECT, RANKED), One(MALL)),
+    (Choose(MALL, PLAIN), One(MALL)),
 ];
 
 /// Makes the calls, and tells whether one got no memory. Where one gets none, the state is as before it, and the call is
@@ -118,58 +134,4 @@ pub fn make_calls(alloc: Global) -> Result<bool, Difference> {
         }
     }
     Ok(refused)
-}
-
-/// Makes a call, which gives a choice where it asks for one.
-fn make(alloc: Global, container: &mut Container, call: Call) -> Result<Option<Choice>, Error> {
-    match call {
-        Put(text) => container.put(text)?,
-        Remove(kind, text) => container.remove(kind, name(text)?)?,
-        Choose(text, uses) => {
-            let quals = quals(alloc, uses)?;
-            return Ok(Some(container.choose(name(text)?, &quals)?));
-        }
-    }
-    Ok(None)
-}
-
-/// The name that a text is.
-pub fn name(text: &[u8]) -> Result<Name, Error> {
-    Name::parse(text).ok_or(Error::Refused(Refusal::BadName))
-}
-
-/// The uses of qualifiers that texts are.
-fn quals(alloc: Global, texts: &[&[u8]]) -> Result<Quals, Error> {
-    let mut quals = Quals::new(alloc);
-    for text in texts {
-        if quals.is_full() {
-            return Err(Error::Refused(Refusal::ListTooLong));
-        }
-        quals.insert(read_qualifier(alloc, text)?)?;
-    }
-    Ok(quals)
-}
-
-/// Whether a call answered what it is to answer.
-fn agrees(answered: &Result<Option<Choice>, Error>, answer: Answer) -> bool {
-    match (answered, answer) {
-        (Ok(None), Done) => true,
-        (Ok(Some(Choice::Unsatisfied)), Unsatisfied) => true,
-        (Ok(Some(Choice::One(bean))), One(class)) => bean.class.as_bytes() == class,
-        (Ok(Some(Choice::Ambiguous(beans))), Ambiguous(classes)) => are_of(
-            beans.as_slice(),
-            classes,
-        ),
-        (Err(error), Refused(refusal)) => *error == Error::Refused(refusal),
-        _ => false,
-    }
-}
-
-/// Whether beans are of these classes, in this order.
-fn are_of(beans: &[BeanId], classes: &[&[u8]]) -> bool {
-    beans.len() == classes.len()
-        && beans
-            .iter()
-            .zip(classes.iter())
-            .all(|(bean, class)| bean.class.as_bytes() == *class)
 }

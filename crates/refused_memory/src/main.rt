@@ -4,6 +4,7 @@
 //! The number on the standard input is how many allocations come before the first of the calls.
 #![tactic(auto)]
 
+mod bean_questions;
 mod calls;
 mod questions;
 mod scripts;

@@ -1,9 +1,11 @@
-//! Questions about types and qualifiers, of which any one allocation may be refused. They change nothing.
+//! Questions about types, qualifiers, stereotypes and beans, of which any one allocation may be refused. They change
+//! nothing.
 use crate::Difference;
-use crate::calls::name;
-use cdi_match::{closure, fill_members, is_type};
-use cdi_model::{Arguments, Decls, Error, Ident, Members, Name, Qual, Refusal};
-use cdi_text::{read_decl, read_qualifier};
+use crate::bean_questions::{BeanQuestion, Deployed};
+use cdi_fixtures::{Answer, are_names, name, names};
+use cdi_match::{closure, fill_members, is_type, stereotypes};
+use cdi_model::{Arguments, Error, Ident, Members, Qual, Refusal, Scope};
+use cdi_text::read_qualifier;
 use std::alloc::Global;
 
 /// A question, with its answer.
@@ -19,19 +21,30 @@ enum Question {
     BadUse(&'static [u8], Refusal),
     /// The members of a use, with their defaults.
     Fill(&'static [u8], &'static [(&'static [u8], i64)]),
+    /// The stereotypes of what declares some.
+    Stereotypes(&'static [&'static [u8]], &'static [&'static [u8]]),
+    /// What is asked of the beans.
+    OfBeans(BeanQuestion),
 }
 
-use Question::{BadUse, Closure, Fill, IsType, Read};
+use BeanQuestion::{Beans, Choose, ChooseName, Record};
+use Question::{BadUse, Closure, Fill, IsType, OfBeans, Read, Stereotypes};
 
-/// What is declared: types of which two extend each other, and a qualifier.
-const TEXTS: [&[u8]; 4] = [
+/// What is declared: types of which two extend each other, a qualifier, stereotypes of which two declare each other, and
+/// beans of which two are alternatives of one priority and one name.
+static TEXTS: [&[u8]; 9] = [
     b"kind=\"type\"\nname=\"Corner\"\nextends=\"Place\"\nimplements=[\"Shop\",\"Stop\"]\n",
     b"kind=\"type\"\nname=\"Place\"\nextends=\"Corner\"\n",
     b"kind=\"type\"\nname=\"Shop\"\nform=\"interface\"\nimplements=[\"Stand\"]\n",
     b"kind=\"qualifier\"\nname=\"Rank\"\nmembers=[{name=\"n\",default=2},{name=\"m\"},{name=\"k\",default=7}]\n",
+    b"kind=\"stereotype\"\nname=\"Sun\"\nstereotypes=[\"Moon\",\"Star\"]\nscope=\"request\"\n",
+    b"kind=\"stereotype\"\nname=\"Moon\"\nstereotypes=[\"Sun\"]\nalternative=true\n",
+    b"kind=\"bean\"\nname=\"Corner\"\nqualifiers=[\"Rank(m=1)\"]\nnamed=\"clerk\"\nstereotypes=[\"Sun\"]\npriority=2\n",
+    b"kind=\"bean\"\nname=\"Place\"\ntypes=[\"Shop\",\"Stand\"]\nnamed=\"clerk\"\nalternative=true\npriority=2\n",
+    b"kind=\"bean\"\nname=\"Inn\"\nstereotypes=[\"Moon\"]\n",
 ];
 
-const QUESTIONS: [Question; 12] = [
+static QUESTIONS: [Question; 23] = [
     Closure(
         b"Corner",
         &[b"Corner", b"Object", b"Place", b"Shop", b"Stand", b"Stop"],
@@ -47,24 +60,57 @@ const QUESTIONS: [Question; 12] = [
     Fill(b"Rank(m=1)", &[(b"n", 2), (b"m", 1), (b"k", 7)]),
     Fill(b"Rank(n=5,k=6)", &[(b"n", 5), (b"k", 6)]),
     Fill(b"Plain(n=3)", &[(b"n", 3)]),
+    Stereotypes(&[b"Sun"], &[b"Moon", b"Star", b"Sun"]),
+    Stereotypes(&[b"Mall", b"Moon"], &[b"Mall", b"Moon", b"Star", b"Sun"]),
+    OfBeans(Beans(&[b"Corner", b"Place", b"Inn"])),
+    OfBeans(Record(
+        b"Corner",
+        &[b"Corner", b"Object", b"Place", b"Shop", b"Stand", b"Stop"],
+        &[b"Any", b"Named", b"Rank"],
+        Scope::Request,
+        true,
+    )),
+    OfBeans(Record(
+        b"Place",
+        &[b"Object", b"Shop", b"Stand"],
+        &[b"Any", b"Default", b"Named"],
+        Scope::Dependent,
+        true,
+    )),
+    OfBeans(Record(
+        b"Inn",
+        &[b"Inn", b"Object"],
+        &[b"Any", b"Default"],
+        Scope::Request,
+        false,
+    )),
+    OfBeans(Choose(b"Shop", &[], Answer::One(b"Place"))),
+    OfBeans(Choose(
+        b"Stand",
+        &[b"Any"],
+        Answer::Ambiguous(&[b"Corner", b"Place"]),
+    )),
+    OfBeans(Choose(b"Corner", &[b"Rank(m=1,n=2)"], Answer::One(b"Corner"))),
+    OfBeans(ChooseName(b"clerk", Answer::Ambiguous(&[b"Corner", b"Place"]))),
+    OfBeans(ChooseName(b"inn", Answer::Unsatisfied)),
 ];
 
 /// Asks the questions, and tells whether one got no memory. Where one gets none, it is asked again.
 pub fn ask_questions(alloc: Global) -> Result<bool, Difference> {
-    let mut declared = read_all(alloc);
-    let mut refused = matches!(declared, Err(Error::OutOfMemory));
+    let mut made = Deployed::new(alloc, &TEXTS);
+    let mut refused = matches!(made, Err(Error::OutOfMemory));
     if refused {
-        declared = read_all(alloc);
+        made = Deployed::new(alloc, &TEXTS);
     }
-    let decls = declared.map_err(|_| Difference::Declarations)?;
+    let deployed = made.map_err(|_| Difference::Declarations)?;
     for (place, question) in QUESTIONS.iter().enumerate() {
-        let mut answered = ask(alloc, &decls, *question);
+        let mut answered = ask(alloc, &deployed, *question);
         if matches!(answered, Err(Error::OutOfMemory)) {
             if refused {
                 return Err(Difference::RefusedAgain);
             }
             refused = true;
-            answered = ask(alloc, &decls, *question);
+            answered = ask(alloc, &deployed, *question);
         }
         if answered != Ok(true) {
             return Err(Difference::Question(place));
@@ -73,16 +119,9 @@ pub fn ask_questions(alloc: Global) -> Result<bool, Difference> {
     Ok(refused)
 }
 
-fn read_all(alloc: Global) -> Result<Decls, Error> {
-    let mut decls = Decls::new(alloc);
-    for text in TEXTS {
-        decls.put(read_decl(alloc, text)?)?;
-    }
-    Ok(decls)
-}
-
 /// Whether a question has its answer.
-fn ask(alloc: Global, decls: &Decls, question: Question) -> Result<bool, Error> {
+fn ask(alloc: Global, deployed: &Deployed, question: Question) -> Result<bool, Error> {
+    let decls = &deployed.decls;
     match question {
         Closure(text, wanted) => {
             let types = closure(alloc, decls, name(text)?)?;
@@ -105,16 +144,13 @@ fn ask(alloc: Global, decls: &Decls, question: Question) -> Result<bool, Error> 
             let members = fill_members(alloc, decls, &qual)?;
             Ok(are_members(&members, wanted))
         }
+        Stereotypes(texts, wanted) => {
+            let declared = names(alloc, texts)?;
+            let found = stereotypes(alloc, decls, declared.as_slice())?;
+            Ok(are_names(found.as_slice(), wanted))
+        }
+        OfBeans(question) => deployed.answers(alloc, question),
     }
-}
-
-/// Whether these are the names, in this order.
-fn are_names(found: &[Name], wanted: &[&[u8]]) -> bool {
-    found.len() == wanted.len()
-        && found
-            .iter()
-            .zip(wanted.iter())
-            .all(|(name, text)| name.as_bytes() == *text)
 }
 
 fn writes(qual: &Qual, wanted: &[(&[u8], i64)]) -> bool {

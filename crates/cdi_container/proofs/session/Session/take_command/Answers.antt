@@ -1,6 +1,6 @@
 use Rattle.std.proofs.Common.{refl}
 use Rattle.std.proofs.lemmas.Result.{on_ok_weaker}
-use Rattle.cdi_container.specs.Commands.{Drop, Choose}
+use Rattle.cdi_container.specs.Commands.{Drop, Choose, Named}
 use Rattle.cdi_container.proofs.Taking.{takes_one}
 use Rattle.cdi_container.proofs.session.Session.take_command.Goals as goal
 
@@ -11,3 +11,7 @@ returns-in-Drop-clause-ok c = on_ok_weaker c.remove.result
 pub returns-in-Choose-clause-ok : goal.returns-in-Choose-clause-ok
 returns-in-Choose-clause-ok c = on_ok_weaker c.choose.result
     (takes_one c.args.self.now (record c.args.self.now { runner = c.choose.new.self }) (Choose c.in-Choose.bean_type c.in-Choose.quals) c.args.command _ c.in-Choose.is c.requires refl refl refl refl) c.choose.ensures.ok
+
+pub returns-in-Named-clause-ok : goal.returns-in-Named-clause-ok
+returns-in-Named-clause-ok c = on_ok_weaker c.named.result
+    (takes_one c.args.self.now (record c.args.self.now { runner = c.named.new.self }) (Named c.in-Named.name) c.args.command _ c.in-Named.is c.requires refl refl refl refl) c.named.ensures.ok

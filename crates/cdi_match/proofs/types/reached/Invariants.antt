@@ -1,9 +1,0 @@
-use Rattle.cdi_match.specs.Search.{IsClosing, work_of}
-use Rattle.cdi_match.specs.Types.{supers}
-use Rattle.cdi_match.proofs.types.reached.Given as goal
-
-abbrev pub invariant-taken : goal.invariant-taken
-invariant-taken l = IsClosing (supers l.decls) l.fn.start l.search
-
-abbrev pub decreases-taken : goal.decreases-taken
-decreases-taken l = work_of l.decls l.search

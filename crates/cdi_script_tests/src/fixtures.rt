@@ -1,0 +1,59 @@
+//! What several tests share.
+use cdi_container::{Counted, Options, RunFault, Summary, run};
+use std::alloc::{AllocError, Global};
+use std::fmt::Display;
+use std::process::Abort;
+use std::test::Fail;
+
+/// A script in which a type and a bean are put, the bean is chosen, and a type that is absent is dropped.
+pub(crate) const STORED_SCRIPT: &[u8] =
+    b"put\nkind=\"type\"\nname=\"Corner\"\n.\nput\nkind=\"bean\"\nname=\"Corner\"\n.\nchoose Corner\ndrop type Mall\n";
+
+/// What it prints.
+pub(crate) const STORED_TEXT: &[u8] = b"ok\nok\none Corner\nrefused E11 Absent\n";
+
+/// A script and what it prints.
+#[derive(Clone, Copy)]
+pub(crate) struct Row {
+    pub(crate) name: &'static str,
+    pub(crate) script: &'static [u8],
+    pub(crate) text: &'static [u8],
+    pub(crate) refused: bool,
+}
+
+/// An output with room for each text that a test prints.
+pub(crate) fn empty_page(alloc: Global) -> Result<Vec<u8>, AllocError> {
+    Vec::with_capacity(alloc, 2048)
+}
+
+/// Why a run for which there is memory ended before its script's end.
+pub(crate) fn fault_of(outcome: Result<Summary, RunFault>) -> Result<Option<RunFault>, Fail> {
+    match outcome {
+        Ok(_) => Ok(None),
+        Err(RunFault::Memory) => Err(Fail::new("out of memory")),
+        Err(fault) => Ok(Some(fault)),
+    }
+}
+
+/// What the run of a script wrote, and whether a command was refused.
+pub(crate) fn outcome(alloc: Global, script: &[u8]) -> Result<(Vec<u8>, bool), Fail> {
+    let mut reader = Counted::new(script);
+    let mut writer = Counted::new(empty_page(alloc)?);
+    let summary = run(alloc, &mut reader, &mut writer, Options { quiet: false })?;
+    Ok((writer.into_inner(), summary.refused))
+}
+
+/// Asserts that a text is the one that is wanted.
+pub(crate) fn assert_text(rt: &impl Abort, found: &[u8], wanted: &[u8], place: &impl Display) {
+    assert!(rt; found == wanted, "{place}: {found:?}");
+}
+
+/// Asserts that the script of each row prints its text.
+pub(crate) fn assert_rows(rt: &impl Abort, alloc: Global, rows: &[Row]) -> Result<(), Fail> {
+    for row in rows {
+        let (written, refused) = outcome(alloc, row.script)?;
+        assert_text(rt, written.as_slice(), row.text, &row.name);
+        assert!(rt; refused == row.refused, "{}", row.name);
+    }
+    Ok(())
+}

@@ -1,0 +1,102 @@
+//! Choices among the beans of a list.
+use cdi_effective::{Effective, beans};
+use cdi_fixtures::{Answer, declared, is_choice, name, quals};
+use cdi_model::{Decls, Work};
+use cdi_resolve::{choose, choose_name};
+use std::alloc::Global;
+use std::process::Abort;
+use std::test::Fail;
+
+/// Beans of one interface: a plain one, two alternatives of one priority and one name, and an alternative without a
+/// priority.
+static TEXTS: [&[u8]; 9] = [
+    b"kind=\"type\"\nname=\"Shop\"\nform=\"interface\"\n",
+    b"kind=\"type\"\nname=\"A\"\nimplements=[\"Shop\"]\n",
+    b"kind=\"type\"\nname=\"B\"\nimplements=[\"Shop\"]\n",
+    b"kind=\"type\"\nname=\"C\"\nimplements=[\"Shop\"]\n",
+    b"kind=\"stereotype\"\nname=\"Mock\"\nalternative=true\n",
+    b"kind=\"bean\"\nname=\"A\"\npriority=9\n",
+    b"kind=\"bean\"\nname=\"B\"\nqualifiers=[\"Q(n=1)\"]\nnamed=\"b\"\nstereotypes=[\"Mock\"]\npriority=1\n",
+    b"kind=\"bean\"\nname=\"C\"\nnamed=\"b\"\nalternative=true\npriority=1\n",
+    b"kind=\"bean\"\nname=\"D\"\nnamed=\"d\"\nalternative=true\n",
+];
+
+/// A type, uses of qualifiers, and the answer.
+#[derive(Clone, Copy)]
+struct Asked(&'static [u8], &'static [&'static [u8]], Answer);
+
+static ASKED: [Asked; 10] = [
+    Asked(b"A", &[], Answer::One(b"A")),
+    Asked(b"Shop", &[], Answer::One(b"C")),
+    Asked(b"Shop", &[b"Default"], Answer::One(b"C")),
+    Asked(b"Shop", &[b"Any"], Answer::Ambiguous(&[b"B", b"C"])),
+    Asked(b"Shop", &[b"Q(n=1)"], Answer::One(b"B")),
+    Asked(b"Shop", &[b"Q(n=2)"], Answer::Unsatisfied),
+    Asked(b"Object", &[b"Named(b)"], Answer::Ambiguous(&[b"B", b"C"])),
+    Asked(b"Object", &[b"Named(b)", b"Default"], Answer::One(b"C")),
+    Asked(b"D", &[b"Any"], Answer::Unsatisfied),
+    Asked(b"Mall", &[b"Any"], Answer::Unsatisfied),
+];
+
+/// What is asked of no beans.
+static NOBODY: Asked = Asked(b"A", &[], Answer::Unsatisfied);
+
+/// A name, and the answer.
+#[derive(Clone, Copy)]
+struct AskedName(&'static [u8], Answer);
+
+static ASKED_NAMES: [AskedName; 3] = [
+    AskedName(b"b", Answer::Ambiguous(&[b"B", b"C"])),
+    AskedName(b"d", Answer::Unsatisfied),
+    AskedName(b"a", Answer::Unsatisfied),
+];
+
+/// Asserts that a question among some beans has its answer, and counts as one answer that was computed.
+fn assert_choice(
+    rt: &impl Abort,
+    alloc: Global,
+    decls: &Decls,
+    list: &[Effective],
+    asked: &Asked,
+    work: &mut Work,
+) -> Result<(), Fail> {
+    let Asked(text, uses, answer) = asked;
+    let quals = quals(alloc, uses)?;
+    let before = work.count();
+    let choice = choose(alloc, decls, list, name(text)?, &quals, work)?;
+    assert!(rt; is_choice(&choice, *answer), "{text:?} {uses:?}");
+    assert!(rt; work.count().checked_sub(before) == Some(1));
+    Ok(())
+}
+
+/// Asserts that a question for a name among some beans has its answer, and among no beans none.
+fn assert_name(
+    rt: &impl Abort,
+    alloc: Global,
+    list: &[Effective],
+    asked: &AskedName,
+) -> Result<(), Fail> {
+    let AskedName(text, answer) = asked;
+    let choice = choose_name(alloc, list, name(text)?)?;
+    assert!(rt; is_choice(&choice, *answer), "{text:?}");
+    let nobody = choose_name(alloc, &[], name(text)?)?;
+    assert!(rt; is_choice(&nobody, Answer::Unsatisfied));
+    Ok(())
+}
+
+#[test]
+fn beans_are_chosen(rt: HostRuntime) -> Result<(), Fail> {
+    let decls = declared(rt.alloc(), &TEXTS)?;
+    let list = beans(rt.alloc(), &decls)?;
+    let mut work = Work::new();
+    for asked in &ASKED {
+        assert_choice(&rt, rt.alloc(), &decls, list.as_slice(), asked, &mut work)?;
+    }
+    assert_choice(&rt, rt.alloc(), &decls, &[], &NOBODY, &mut work)?;
+    for asked in &ASKED_NAMES {
+        assert_name(&rt, rt.alloc(), list.as_slice(), asked)?;
+    }
+    // The questions for names do not count.
+    assert!(rt; work.count() == 11);
+    Ok(())
+}
