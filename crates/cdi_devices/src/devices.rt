@@ -67,8 +67,8 @@ pub fn read_some<R: Read>(reader: &mut Counted<R>, buffer: &mut [u8]) -> Result<
     }
 }
 
-/// Writes all the bytes, unless the writer fails or takes none; then what it has taken is a front part of them. It takes
-/// no memory and does not flush.
+/// Writes all the bytes, unless the writer fails or takes none; then what it has taken is a front part of them. It
+/// takes no memory and does not flush.
 pub fn write_out<W: Write>(writer: &mut Counted<W>, bytes: &[u8]) -> Result<(), RunFault>
     ensures ok { OnOk result (Appends (W.contents (inner_of writer.old)) (W.contents (inner_of writer.new)) bytes.now) }
     ensures part { OnErr result (WritesPart W.contents writer.old writer.new bytes.now) }

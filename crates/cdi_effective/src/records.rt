@@ -35,8 +35,8 @@ pub struct Effective {
     pub is_alternative: bool,
     /// Its priority; that of a product is the one of the bean that declares it.
     pub priority: Option<i64>,
-    /// Whether it can be chosen: an alternative only with a priority, and a product only where the bean that declares it
-    /// is enabled (CDI 4.0, Enabled and disabled beans).
+    /// Whether it can be chosen: an alternative only with a priority, and a product only where the bean that declares
+    /// it is enabled (CDI 4.0, Enabled and disabled beans).
     pub is_enabled: bool,
     /// Whether it is the product of an alternative.
     pub is_of_alternative: bool,
@@ -71,10 +71,10 @@ pub fn beans(alloc: Global, decls: &Decls) -> Result<Vec<Effective>, AllocError>
     Ok(beans)
 }
 
-/// The records of a bean declaration: its managed bean, and the products of its producer methods in order. Each has what
-/// is declared of it, with what the declarations of its type, of the types above it and of its stereotypes add. Where two
-/// of the stereotypes give different default scopes, a bean is dependent (CDI 4.0, Default scope). It takes memory for
-/// the types and the qualifiers, and while it looks for the stereotypes.
+/// The records of a bean declaration: its managed bean, and the products of its producer methods in order. Each has
+/// what is declared of it, with what the declarations of its type, of the types above it and of its stereotypes add.
+/// Where two of the stereotypes give different default scopes, a bean is dependent (CDI 4.0, Default scope). It takes
+/// memory for the types and the qualifiers, and while it looks for the stereotypes.
 pub fn records_of(
     alloc: Global,
     decls: &Decls,

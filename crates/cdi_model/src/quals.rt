@@ -206,8 +206,8 @@ fn count_below(uses: &[Qual], name: &Name) -> usize
     uses.iter().take_while(|u| u.name < *name).count()
 }
 
-/// Puts a use among others in the order of their names, in the place of the one of its name where there is one. It takes
-/// memory for one more.
+/// Puts a use among others in the order of their names, in the place of the one of its name where there is one. It
+/// takes memory for one more.
 pub fn put_use(uses: &mut Vec<Qual>, qual: Qual) -> Result<(), AllocError>
     ensures ok { OnOk result (uses.new.items ≡ put_use uses.old.items qual) }
     ensures err { OnErr result (uses.new.items ≡ uses.old.items) }

@@ -45,7 +45,8 @@ pub(crate) fn outcome(alloc: Global, script: &[u8]) -> Result<(Vec<u8>, bool), F
 
 /// Asserts that a text is the one that is wanted.
 pub(crate) fn assert_text(rt: &impl Abort, found: &[u8], wanted: &[u8], place: &impl Display) {
-    assert!(rt; found == wanted, "{place}: {found:?}");
+    let same = found == wanted;
+    assert!(rt; same, "{place}: {:?}", str::from_utf8(found));
 }
 
 /// Asserts that the script of each row prints its text.

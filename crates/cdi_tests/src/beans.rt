@@ -37,7 +37,8 @@ static RECORDS: [&str; 9] = [
     // The scope that the bean declares goes before that of a stereotype, and one stereotype is not declared.
     "Zoo of Zoo: Object; Any Default a.Q; Application, alternative true, None, enabled false",
     "Depot of Depot: Depot Object; Any Default; Dependent, alternative true, Some(7), enabled true",
-    // A product has the types of its declared type, the priority of the bean that declares it, and is no alternative itself.
+    // A product has the types of its declared type, the priority of the bean that declares it, and is no alternative
+    // itself.
     "Depot/hall of Depot: Object Shop; Any Rank(n=1); Dependent, alternative false, Some(7), enabled true, of alternative, disposed by drop",
     "Depot/yard of Depot: Object Shop; Any Default Named(yard); Application, yard, alternative false, Some(7), enabled true, of alternative, disposed by shut",
     // The stereotype of a product gives it a name and makes it an alternative.

@@ -2,6 +2,7 @@
 use cdi_effective::{Effective, beans};
 use cdi_fixtures::{Answer, declared, is_choice, name, quals};
 use cdi_model::{Decls, Work};
+use cdi_observe::{PlainView, View, evaluate};
 use cdi_resolve::{choose, choose_name};
 use std::alloc::Global;
 use std::process::Abort;
@@ -18,7 +19,7 @@ static TEXTS: [&[u8]; 9] = [
     b"kind=\"bean\"\nname=\"A\"\npriority=9\n",
     b"kind=\"bean\"\nname=\"B\"\nqualifiers=[\"Q(n=1)\"]\nnamed=\"b\"\nstereotypes=[\"Mock\"]\npriority=1\n",
     b"kind=\"bean\"\nname=\"C\"\nnamed=\"b\"\nalternative=true\npriority=1\n",
-    b"kind=\"bean\"\nname=\"D\"\nnamed=\"d\"\nalternative=true\n",
+    b"kind=\"bean\"\nname=\"D\"\nnamed=\"d\"\nalternative=true\npoints=[{name=\"p\",type=\"Shop\"},{name=\"q\",type=\"Shop\",qualifiers=[\"Default\"]},{name=\"r\",type=\"A\",qualifiers=[\"Q(n=1)\",\"Named(x)\"]}]\n",
 ];
 
 /// A type, uses of qualifiers, and the answer.
@@ -98,5 +99,32 @@ fn beans_are_chosen(rt: HostRuntime) -> Result<(), Fail> {
     }
     // The questions for names do not count.
     assert!(rt; work.count() == 11);
+    Ok(())
+}
+
+/// Asserts that a view gives the answer of a question.
+fn assert_view<V: View>(
+    rt: &impl Abort,
+    alloc: Global,
+    view: &mut V,
+    asked: &Asked,
+) -> Result<(), Fail> {
+    let Asked(text, uses, answer) = asked;
+    let quals = quals(alloc, uses)?;
+    let choice = view.choose(alloc, name(text)?, &quals)?;
+    assert!(rt; is_choice(&choice, *answer), "{text:?} {uses:?}");
+    Ok(())
+}
+
+#[test]
+fn a_plain_view_answers(rt: HostRuntime) -> Result<(), Fail> {
+    let decls = declared(rt.alloc(), &TEXTS)?;
+    let list = beans(rt.alloc(), &decls)?;
+    let mut view = PlainView::new(&decls, list.as_slice());
+    for asked in &ASKED {
+        assert_view(&rt, rt.alloc(), &mut view, asked)?;
+    }
+    evaluate(rt.alloc(), &mut view)?;
+    assert!(rt; view.decls().len() == TEXTS.len() && view.beans().len() == 4);
     Ok(())
 }

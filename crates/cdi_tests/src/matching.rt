@@ -7,8 +7,8 @@ use std::alloc::Global;
 use std::process::Abort;
 use std::test::Fail;
 
-/// A class with an interface, two classes that extend each other, a qualifier, and stereotypes of which two declare each
-/// other.
+/// A class with an interface, two classes that extend each other, a qualifier, and stereotypes of which two declare
+/// each other.
 static TEXTS: [&[u8]; 9] = [
     b"kind=\"type\"\nname=\"Shop\"\nform=\"interface\"\n",
     b"kind=\"type\"\nname=\"Corner\"\nimplements=[\"Shop\"]\n",

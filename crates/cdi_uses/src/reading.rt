@@ -13,8 +13,8 @@ use std::alloc::Global;
 ///
 /// # Errors
 ///
-/// `OutOfMemory`, or the first of these refusals that applies: `BadName` of what is no use, and so of bare `Named` and of
-/// members of `Any` and `Default`; `Twice` of one that writes a member twice.
+/// `OutOfMemory`, or the first of these refusals that applies: `BadName` of what is no use, and so of bare `Named` and
+/// of members of `Any` and `Default`; `Twice` of one that writes a member twice.
 pub fn read_qualifier(alloc: Global, text: &[u8]) -> Result<Qual, Error>
     ensures { Answers result (qual_of text.now) }
 {

@@ -112,8 +112,8 @@ static LOOKS: [(Call, Answer); 25] = [
     (Choose(MALL, PLAIN), One(MALL)),
 ];
 
-/// Makes the calls, and tells whether one got no memory. Where one gets none, the state is as before it, and the call is
-/// made again.
+/// Makes the calls, and tells whether one got no memory. Where one gets none, the state is as before it, and the call
+/// is made again.
 pub fn make_calls(alloc: Global) -> Result<bool, Difference> {
     let mut container = Container::new(alloc);
     let mut refused = false;

@@ -66,8 +66,8 @@ fn drop_boxes(alloc: Global, count: u16) {
     }
 }
 
-/// Makes the calls, asks the questions and runs the script, and tells whether an allocation of theirs is refused. At most
-/// one may be.
+/// Makes the calls, asks the questions and runs the script, and tells whether an allocation of theirs is refused. At
+/// most one may be.
 fn compare(alloc: Global) -> Result<bool, Difference> {
     let parts = [
         make_calls(alloc)?,

@@ -30,8 +30,8 @@ enum Question {
 use BeanQuestion::{Beans, Choose, ChooseName, Record};
 use Question::{BadUse, Closure, Fill, IsType, OfBeans, Read, Stereotypes};
 
-/// What is declared: types of which two extend each other, a qualifier, stereotypes of which two declare each other, and
-/// beans of which two are alternatives of one priority and one name.
+/// What is declared: types of which two extend each other, a qualifier, stereotypes of which two declare each other,
+/// and beans of which two are alternatives of one priority and one name.
 static TEXTS: [&[u8]; 9] = [
     b"kind=\"type\"\nname=\"Corner\"\nextends=\"Place\"\nimplements=[\"Shop\",\"Stop\"]\n",
     b"kind=\"type\"\nname=\"Place\"\nextends=\"Corner\"\n",

@@ -1,0 +1,4 @@
+pub mod KeyLemmas
+pub mod WantedLemmas
+pub mod KeptLemmas
+pub mod AskedLemmas

@@ -1,0 +1,4 @@
+pub mod Keys
+pub mod Wanted
+pub mod Kept
+pub mod Asked

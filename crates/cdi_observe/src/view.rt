@@ -1,0 +1,104 @@
+//! Views over present declarations.
+ghost use Rattle.std.specs.Prelude.{◌≡◌, List, [], true, false, Option, None, IfOk, OnOk, OnErr};
+ghost use Rattle.cdi_model.specs.declared.decl.Decl.{Decl};
+ghost use Rattle.cdi_effective.specs.Beans.{beans as beans_of};
+ghost use Rattle.cdi_resolve.specs.Choices.{chosen};
+ghost use Rattle.cdi_observe.specs.Keys.{choice_key, has_key};
+ghost use Rattle.cdi_observe.specs.Kept.{Kept, after_key};
+
+use cdi_effective::Effective;
+use cdi_model::{Decls, Name, Quals, Work};
+use cdi_resolve::{Choice, choose};
+use std::alloc::{AllocError, Global};
+use std::marker::Model;
+
+/// What answers questions about present declarations. It may keep answers, and counts those that it computes.
+pub trait View {
+    /// The declarations.
+    ghost list: { Self → List Decl };
+
+    /// The keys whose answers are kept, and how many answers were computed.
+    ghost kept: { Self → Kept };
+
+    /// The declarations after an edit that is staged, if one is.
+    ghost staged: { Self → Option (List Decl) };
+
+    /// The declarations.
+    fn decls(&self) -> &Decls
+        ensures { result.now ≡ list self.now };
+
+    /// Their beans, in order.
+    fn beans(&self) -> &[Effective]
+        ensures { result.now ≡ beans_of (list self.now) };
+
+    /// The bean for a type and qualifiers (CDI 4.0, Performing typesafe resolution). Where the answer was not kept, a view
+    /// that keeps answers counts one more, and keeps it if an injection point asks for it; an edit that is staged may be
+    /// given up then. Where the call fails for want of memory, the view has kept and counted nothing.
+    fn choose(
+        &mut self,
+        alloc: Global,
+        bean_type: Name,
+        quals: &Quals,
+    ) -> Result<Choice, AllocError>
+        ensures choice { IfOk result (λ choice. choice ≡ chosen (list self.old) (beans_of (list self.old)) bean_type quals.now) }
+        ensures list { list self.new ≡ list self.old }
+        ensures ok { OnOk result (kept self.new ≡ after_key (list self.old) (choice_key bean_type quals.now) (kept self.old)) }
+        ensures err { OnErr result (kept self.new ≡ kept self.old) }
+        ensures staged { has_key (kept self.old).known (choice_key bean_type quals.now) ≡ true → staged self.new ≡ staged self.old };
+}
+
+/// A view that keeps no answer, and computes each anew.
+#[derive(Drop)]
+pub struct PlainView<'a> {
+    decls: &'a Decls,
+    beans: &'a [Effective],
+}
+
+impl<'a> Model for PlainView<'a> {
+    ghost use Rattle.std.specs.Prelude.{◌≡◌, List};
+    ghost use Rattle.cdi_model.specs.declared.decl.Decl.{Decl};
+    ghost use Rattle.cdi_effective.specs.Beans.{beans as beans_of};
+
+    ghost Value = { List Decl };
+
+    ghost view = { λ v. v.decls.now };
+
+    ghost invariant = { λ v. v.beans.now ≡ beans_of v.decls.now };
+}
+
+impl<'a> PlainView<'a> {
+    /// The view over some declarations whose beans these are.
+    pub fn new(decls: &'a Decls, beans: &'a [Effective]) -> PlainView<'a>
+        requires { beans.now ≡ beans_of decls.now }
+        ensures { result ≡ decls.now }
+    {
+        PlainView { decls, beans }
+    }
+}
+
+impl<'a> View for PlainView<'a> {
+    ghost list = { λ v. v };
+
+    ghost kept = { λ v. record { keeps = false; known = []; work = 0 } };
+
+    ghost staged = { λ v. None };
+
+    fn decls(&self) -> &Decls {
+        self.decls
+    }
+
+    fn beans(&self) -> &[Effective] {
+        self.beans
+    }
+
+    #[tactic(auto, unfolding(crate::specs::Kept::after_key))]
+    fn choose(
+        &mut self,
+        alloc: Global,
+        bean_type: Name,
+        quals: &Quals,
+    ) -> Result<Choice, AllocError> {
+        let mut work = Work::new();
+        choose(alloc, self.decls, self.beans, bean_type, quals, &mut work)
+    }
+}
