@@ -2,6 +2,7 @@
 use cdi_effective::{Effective, beans, records_of};
 use cdi_fixtures::{Answer, are_names, declared, is_choice, name, quals};
 use cdi_model::{BeanDecl, Decl, Decls, Error, Kind, Qual, Scope, Work};
+use cdi_observe::{PlainView, evaluate};
 use cdi_resolve::{choose, choose_name};
 use std::alloc::Global;
 
@@ -16,9 +17,11 @@ pub enum BeanQuestion {
     Choose(&'static [u8], &'static [&'static [u8]], Answer),
     /// The bean of a name.
     ChooseName(&'static [u8], Answer),
+    /// All that the injection points ask for.
+    Evaluate,
 }
 
-use BeanQuestion::{Beans, Choose, ChooseName, Record};
+use BeanQuestion::{Beans, Choose, ChooseName, Evaluate, Record};
 
 /// Declarations with their beans.
 #[derive(Drop)]
@@ -59,6 +62,12 @@ impl Deployed {
             ChooseName(text, answer) => {
                 let choice = choose_name(alloc, self.beans.as_slice(), name(text)?)?;
                 Ok(is_choice(&choice, answer))
+            }
+            Evaluate => {
+                let list = beans(alloc, &self.decls)?;
+                let mut view = PlainView::new(&self.decls, list.as_slice());
+                evaluate(alloc, &mut view)?;
+                Ok(true)
             }
         }
     }

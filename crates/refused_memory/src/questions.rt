@@ -27,12 +27,12 @@ enum Question {
     OfBeans(BeanQuestion),
 }
 
-use BeanQuestion::{Beans, Choose, ChooseName, Record};
+use BeanQuestion::{Beans, Choose, ChooseName, Evaluate, Record};
 use Question::{BadUse, Closure, Fill, IsType, OfBeans, Read, Stereotypes};
 
 /// What is declared: types of which two extend each other, a qualifier, stereotypes of which two declare each other,
-/// and beans of which two are alternatives of one priority and one name.
-static TEXTS: [&[u8]; 9] = [
+/// and beans of which two are alternatives of one priority and one name, and one has injection points and a product.
+static TEXTS: [&[u8]; 10] = [
     b"kind=\"type\"\nname=\"Corner\"\nextends=\"Place\"\nimplements=[\"Shop\",\"Stop\"]\n",
     b"kind=\"type\"\nname=\"Place\"\nextends=\"Corner\"\n",
     b"kind=\"type\"\nname=\"Shop\"\nform=\"interface\"\nimplements=[\"Stand\"]\n",
@@ -42,9 +42,10 @@ static TEXTS: [&[u8]; 9] = [
     b"kind=\"bean\"\nname=\"Corner\"\nqualifiers=[\"Rank(m=1)\"]\nnamed=\"clerk\"\nstereotypes=[\"Sun\"]\npriority=2\n",
     b"kind=\"bean\"\nname=\"Place\"\ntypes=[\"Shop\",\"Stand\"]\nnamed=\"clerk\"\nalternative=true\npriority=2\n",
     b"kind=\"bean\"\nname=\"Inn\"\nstereotypes=[\"Moon\"]\n",
+    b"kind=\"bean\"\nname=\"Mill\"\ntypes=[]\npoints=[{name=\"p\",type=\"Shop\",qualifiers=[\"Rank(m=1)\"]},{name=\"q\",type=\"Inn\"}]\nproducers=[{name=\"flour\",type=\"Flour\",qualifiers=[\"Rank(n=1)\"],body=\"zero\",params=[{name=\"r\",type=\"Inn\"}]}]\ndisposers=[{name=\"sweep\",type=\"Flour\",qualifiers=[\"Any\"],body=\"unit\"}]\n",
 ];
 
-static QUESTIONS: [Question; 23] = [
+static QUESTIONS: [Question; 26] = [
     Closure(
         b"Corner",
         &[b"Corner", b"Object", b"Place", b"Shop", b"Stand", b"Stop"],
@@ -62,7 +63,15 @@ static QUESTIONS: [Question; 23] = [
     Fill(b"Plain(n=3)", &[(b"n", 3)]),
     Stereotypes(&[b"Sun"], &[b"Moon", b"Star", b"Sun"]),
     Stereotypes(&[b"Mall", b"Moon"], &[b"Mall", b"Moon", b"Star", b"Sun"]),
-    OfBeans(Beans(&[b"Corner", b"Place", b"Inn"])),
+    OfBeans(Beans(&[b"Corner", b"Place", b"Inn", b"Mill", b"Mill"])),
+    OfBeans(Record(
+        b"Mill",
+        &[b"Object"],
+        &[b"Any", b"Default"],
+        Scope::Dependent,
+        true,
+    )),
+    OfBeans(Choose(b"Flour", &[b"Rank(n=1)"], Answer::One(b"Mill"))),
     OfBeans(Record(
         b"Corner",
         &[b"Corner", b"Object", b"Place", b"Shop", b"Stand", b"Stop"],
@@ -93,6 +102,7 @@ static QUESTIONS: [Question; 23] = [
     OfBeans(Choose(b"Corner", &[b"Rank(m=1,n=2)"], Answer::One(b"Corner"))),
     OfBeans(ChooseName(b"clerk", Answer::Ambiguous(&[b"Corner", b"Place"]))),
     OfBeans(ChooseName(b"inn", Answer::Unsatisfied)),
+    OfBeans(Evaluate),
 ];
 
 /// Asks the questions, and tells whether one got no memory. Where one gets none, it is asked again.
