@@ -12,7 +12,7 @@ use Rattle.cdi_lines.specs.Command.{command_of_line}
 use Rattle.cdi_lines.specs.Kept.{ServesLine, ServesText, with_line}
 use Rattle.cdi_lines.proofs.LongLemmas.{length-without_return}
 use Rattle.cdi_container.specs.Commands.{Mode, Outside, InPut, Put, is_dot}
-use Rattle.cdi_container.specs.History.{State, Answer, Done, Chosen, Refused, OutOfMemory, Entry, LegalAnswer, refusal_of, refusal_of_put}
+use Rattle.cdi_container.specs.History.{State, Answer, Done, Chosen, Reported, Refused, OutOfMemory, Entry, LegalAnswer, refusal_of, refusal_of_put}
 use Rattle.cdi_container.specs.Text.{is_out_of_memory}
 use Rattle.cdi_container.specs.Seen.{state_of}
 use Rattle.cdi_container.specs.Runner.{RunsStep}
@@ -56,6 +56,7 @@ put_alike : (old new : State) (kept text : List ℕ) (answer : Answer) (trace : 
     → LegalAnswer old (Put kept) answer trace new → LegalAnswer old (Put text) answer trace new
 put_alike old new kept text Done trace k t memory h = absurd (let e : Some TooLong ≡ None = sym (too_long old kept k) ∙ h.0 in cc)
 put_alike old new kept text (Chosen choice) trace k t memory h = absurd (let e : Some TooLong ≡ None = sym (too_long old kept k) ∙ h.0 in cc)
+put_alike old new kept text (Reported list) trace k t memory h = absurd (let e : Some TooLong ≡ None = sym (too_long old kept k) ∙ h.0 in cc)
 put_alike old new kept text (Refused refusal) trace k t memory h = (too_long old text t ∙ sym (too_long old kept k) ∙ h.0, h.1, h.2)
 put_alike old new kept text OutOfMemory trace k t memory h = cc
 

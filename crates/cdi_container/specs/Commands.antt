@@ -16,6 +16,7 @@ pub data Command : Type 0 where
   Drop : Kind → List ℕ → Command
   Choose : List ℕ → List Qual → Command
   Named : List ℕ → Command
+  Report : Command
   -- what is no command
   Unreadable : Command
 
@@ -31,6 +32,7 @@ commands_said (Ok said.Put) = []
 commands_said (Ok (said.Drop kind name)) = Drop kind name ∷ []
 commands_said (Ok (said.Choose t quals)) = Choose t quals ∷ []
 commands_said (Ok (said.Named name)) = Named name ∷ []
+commands_said (Ok said.Report) = Report ∷ []
 commands_said (Err refusal) = Unreadable ∷ []
 
 -- and where the next line stands
@@ -40,6 +42,7 @@ mode_said (Ok said.Put) = InPut []
 mode_said (Ok (said.Drop kind name)) = Outside
 mode_said (Ok (said.Choose t quals)) = Outside
 mode_said (Ok (said.Named name)) = Outside
+mode_said (Ok said.Report) = Outside
 mode_said (Err refusal) = Outside
 
 abbrev pub is_dot : List ℕ → Bool

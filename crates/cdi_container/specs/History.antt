@@ -8,7 +8,9 @@ use Rattle.cdi_text.specs.Reading.{decl_of}
 use Rattle.cdi_effective.specs.Beans.{beans}
 use Rattle.cdi_resolve.specs.declared.choice.Choice.{Choice}
 use Rattle.cdi_resolve.specs.Choices.{chosen, chosen_by_name}
-use Rattle.cdi_container.specs.Commands.{Command, Put, Drop, Choose, Named, Unreadable}
+use Rattle.cdi_validate.specs.declared.fault.Fault.{Fault}
+use Rattle.cdi_validate.specs.Faults.{faults}
+use Rattle.cdi_container.specs.Commands.{Command, Put, Drop, Choose, Named, Report, Unreadable}
 
 -- what a container holds
 pub record State : Type 0 where
@@ -21,6 +23,7 @@ empty = record { decls = [] }
 pub data Answer : Type 0 where
   Done : Answer
   Chosen : Choice → Answer
+  Reported : List Fault → Answer
   Refused : Refusal → Answer
   OutOfMemory : Answer
 
@@ -49,6 +52,7 @@ refusal_of state (Put text) = refusal_of_put state.decls (decl_of text)
 refusal_of state (Drop kind name) = refusal_of_edit state.decls (Remove kind name)
 refusal_of state (Choose t quals) = None
 refusal_of state (Named name) = None
+refusal_of state Report = None
 refusal_of state Unreadable = Some BadCommand
 
 -- what a command that isn't refused answers, and the state and the trace that it leaves
@@ -57,6 +61,7 @@ Acts old (Put text) Done trace new = (d : Decl) × (decl_of text ≡ Ok d) × (t
 Acts old (Drop kind name) Done trace new = (trace ≡ []) × (new ≡ with_edit old (Remove kind name))
 Acts old (Choose t quals) (Chosen choice) trace new = (choice ≡ chosen old.decls (beans old.decls) t quals) × (trace ≡ []) × (new ≡ old)
 Acts old (Named name) (Chosen choice) trace new = (choice ≡ chosen_by_name (beans old.decls) name) × (trace ≡ []) × (new ≡ old)
+Acts old Report (Reported list) trace new = (list ≡ faults old.decls) × (trace ≡ []) × (new ≡ old)
 Acts old command answer trace new = ⊥
 
 -- A refusal is the first whose condition holds. It changes nothing, and neither does want of memory.

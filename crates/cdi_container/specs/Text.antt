@@ -1,11 +1,13 @@
 -- The text that steps print.
-use Rattle.std.specs.Prelude.{ℕ, Bool, true, false, List, [], ◌∷◌, ◌++◌, codes, flat_map, Option, Some, None, if◌then◌else◌}
+use Rattle.std.specs.Prelude.{ℕ, Bool, true, false, List, [], ◌∷◌, ◌++◌, length, codes, decimal, flat_map, Option, Some, None, if◌then◌else◌}
 use Rattle.cdi_model.specs.declared.refusal.Refusal.{Refusal}
 use Rattle.cdi_model.specs.declared.refusal.Refusal.TheVariants.{TooLong, NotToml, UnknownKind, UnknownKey, MissingKey, WrongKind, BadName, Twice, ListTooLong, TooMany, Absent, BadCommand}
 use Rattle.cdi_effective.specs.declared.records.BeanId.{BeanId}
 use Rattle.cdi_resolve.specs.declared.choice.Choice.{Choice}
 use Rattle.cdi_resolve.specs.declared.choice.Choice.TheVariants.{One, Unsatisfied, Ambiguous}
-use Rattle.cdi_container.specs.History.{Answer, Done, Chosen, Refused, OutOfMemory, Entry, Step, History}
+use Rattle.cdi_validate.specs.declared.fault.Fault.{Fault}
+use Rattle.cdi_validate.specs.FaultText.{text_of_fault}
+use Rattle.cdi_container.specs.History.{Answer, Done, Chosen, Reported, Refused, OutOfMemory, Entry, Step, History}
 
 -- the code and the word of a refusal
 abbrev pub word_of : Refusal → List ℕ
@@ -39,10 +41,19 @@ text_of_choice (One id) = codes "one " ++ text_of_id id
 text_of_choice Unsatisfied = codes "unsatisfied"
 text_of_choice (Ambiguous ids) = codes "ambiguous" ++ text_of_ids ids
 
+-- each fault on a line of its own
+abbrev pub text_of_faults : List Fault → List ℕ
+text_of_faults list = flat_map (λ fault. 10 ∷ text_of_fault fault) list
+
+-- how many faults there are, and then each
+abbrev pub text_of_report : List Fault → List ℕ
+text_of_report list = codes "faults " ++ decimal (length list) ++ text_of_faults list
+
 -- what an answer prints before the end of its line; want of memory ends a script and prints nothing
 abbrev pub words_of_answer : Answer → List ℕ
 words_of_answer Done = codes "ok"
 words_of_answer (Chosen choice) = text_of_choice choice
+words_of_answer (Reported list) = text_of_report list
 words_of_answer (Refused refusal) = codes "refused " ++ word_of refusal
 words_of_answer OutOfMemory = []
 

@@ -5,6 +5,7 @@ use crate::deployment::Deployment;
 use cdi_model::{Error, Kind, Name, Quals, Work};
 use cdi_resolve::Choice;
 use cdi_text::read_decl;
+use cdi_validate::Fault;
 use std::alloc::{AllocError, Global};
 
 /// The present declarations, which are edited while the container runs, and questions about them.
@@ -20,7 +21,7 @@ pub struct Container {
 
 impl Container {
     ghost use Rattle.cdi_container.specs.History.{empty};
-    ghost use Rattle.cdi_container.specs.Seen.{state_of, PutStep, DropStep, ChooseStep, NamedStep};
+    ghost use Rattle.cdi_container.specs.Seen.{state_of, PutStep, DropStep, ChooseStep, NamedStep, ReportStep};
 
     /// An empty container. It keeps the allocator, and takes no memory yet.
     pub fn new(alloc: Global) -> Container
@@ -41,7 +42,7 @@ impl Container {
         self.deployment.put(decl)
     }
 
-    /// Removes the declaration of a kind and name.
+    /// Removes the declaration of a kind and name. It takes no memory.
     pub fn remove(&mut self, kind: Kind, name: Name) -> Result<(), Error>
         ensures { DropStep self.old kind name result self.new }
     {
@@ -68,5 +69,14 @@ impl Container {
         ensures { NamedStep self.old name result self.new }
     {
         self.deployment.named(self.alloc, name)
+    }
+
+    /// All that is wrong with the present declarations (CDI 4.0, Problems detected automatically by the container), in
+    /// the order of the declarations. It takes memory for the faults and for the answers to all injection points, and
+    /// for the list of all beans as `choose` does.
+    pub fn report(&mut self) -> Result<Vec<Fault>, AllocError>
+        ensures { ReportStep self.old result self.new }
+    {
+        self.deployment.report(self.alloc)
     }
 }

@@ -5,10 +5,13 @@ ghost use Rattle.cdi_model.specs.Outcome.{Answers};
 ghost use Rattle.cdi_model.specs.Work.{with_one};
 ghost use Rattle.cdi_effective.specs.Beans.{beans};
 ghost use Rattle.cdi_resolve.specs.Choices.{chosen, chosen_by_name};
+ghost use Rattle.cdi_validate.specs.Faults.{faults};
 
 use cdi_effective::{Effective, beans};
 use cdi_model::{Decl, Decls, Error, Kind, Name, Quals, Refusal, Work};
+use cdi_observe::PlainView;
 use cdi_resolve::{Choice, choose, choose_name};
+use cdi_validate::{Fault, faults};
 use std::alloc::{AllocError, Global};
 use std::marker::Model;
 
@@ -96,6 +99,17 @@ impl Deployment {
         let choice = choose_name(alloc, list.as_slice(), name);
         self.beans = Some(list);
         choice
+    }
+
+    /// The faults.
+    pub(crate) fn report(&mut self, alloc: Global) -> Result<Vec<Fault>, AllocError>
+        ensures faults { IfOk result (λ list. list.items ≡ faults self.old) }
+        ensures stays { self.new ≡ self.old }
+    {
+        let list = self.take_beans(alloc)?;
+        let found = faults(alloc, &mut PlainView::new(&self.decls, list.as_slice()));
+        self.beans = Some(list);
+        found
     }
 
     /// The bean list, which is made where it is not there, and is not kept.

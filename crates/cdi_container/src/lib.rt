@@ -11,5 +11,6 @@ mod session;
 pub use cdi_devices::{Counted, RunFault};
 pub use cdi_effective::BeanId;
 pub use cdi_resolve::Choice;
+pub use cdi_validate::{Code, Fault, Member};
 pub use container::Container;
 pub use script::{Options, Summary, run};

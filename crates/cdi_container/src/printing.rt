@@ -1,12 +1,14 @@
 //! The text that steps print.
-ghost use Rattle.std.specs.Prelude.{◌≡◌, ◌++◌, ◌∷◌, [], OnOk, OnErr, IfOk, flat_map};
-ghost use Rattle.cdi_container.specs.Text.{word_of, text_of_id, text_of_ids, text_of_choice, words_of_answer, text_of_answer, text_of_trace};
+ghost use Rattle.std.specs.Prelude.{◌≡◌, ◌++◌, OnOk, OnErr, IfOk};
+ghost use Rattle.cdi_container.specs.Text.{word_of, text_of_id, text_of_ids, text_of_choice, text_of_faults, text_of_report, words_of_answer, text_of_answer};
 ghost use Rattle.cdi_container.specs.Printed.{answer_seen, Answered};
-ghost use Rattle.cdi_container.specs.Seen.{edit_answer, choice_answer};
+ghost use Rattle.cdi_container.specs.Seen.{edit_answer, choice_answer, report_answer};
 
 use cdi_effective::BeanId;
 use cdi_model::{Error, Refusal};
 use cdi_resolve::Choice;
+use cdi_validate::Fault;
+use itoa::Buffer;
 use std::alloc::AllocError;
 
 /// What a command answers that does not run out of memory.
@@ -14,6 +16,7 @@ use std::alloc::AllocError;
 pub(crate) enum Answer {
     Done,
     Chosen(Choice),
+    Reported(Vec<Fault>),
     Refused(Refusal),
 }
 
@@ -82,12 +85,32 @@ fn push_choice(text: &mut Vec<u8>, choice: &Choice) -> Result<(), AllocError>
     }
 }
 
+/// Each fault on a line of its own.
+fn push_faults(text: &mut Vec<u8>, faults: &[Fault]) -> Result<(), AllocError>
+    ensures { OnOk result (text.new.items ≡ text.old.items ++ text_of_faults faults.now) }
+{
+    for fault in faults {
+        text.push(b'\n')?;
+        fault.push_text(text)?;
+    }
+    Ok(())
+}
+
+fn push_report(text: &mut Vec<u8>, faults: &[Fault]) -> Result<(), AllocError>
+    ensures { OnOk result (text.new.items ≡ text.old.items ++ text_of_report faults.now) }
+{
+    text.extend_from_slice(b"faults ")?;
+    text.extend_from_slice(Buffer::new().format(faults.len()).as_bytes())?;
+    push_faults(text, faults)
+}
+
 fn push_words(text: &mut Vec<u8>, answer: &Answer) -> Result<(), AllocError>
     ensures { OnOk result (text.new.items ≡ text.old.items ++ words_of_answer (answer_seen answer.now)) }
 {
     match answer {
         Answer::Done => text.extend_from_slice(b"ok"),
         Answer::Chosen(choice) => push_choice(text, choice),
+        Answer::Reported(faults) => push_report(text, faults.as_slice()),
         Answer::Refused(refusal) => push_refusal(text, *refusal),
     }
 }
@@ -131,6 +154,18 @@ pub(crate) fn answer_of_choice(outcome: Result<Choice, AllocError>) -> Result<An
 {
     match outcome {
         Ok(choice) => Ok(Answer::Chosen(choice)),
+        Err(error) => Err(error),
+    }
+}
+
+/// The answer of a report, unless it runs out of memory.
+pub(crate) fn answer_of_report(
+    outcome: Result<Vec<Fault>, AllocError>,
+) -> Result<Answer, AllocError>
+    ensures { IfOk result (λ answer. Answered answer (report_answer outcome)) }
+{
+    match outcome {
+        Ok(faults) => Ok(Answer::Reported(faults)),
         Err(error) => Err(error),
     }
 }

@@ -1,13 +1,13 @@
 //! Running one command after another, and printing what each answered.
 ghost use Rattle.std.specs.Prelude.{◌≡◌, [], OnOk, OnErr, false};
-ghost use Rattle.cdi_container.specs.Commands.{Put, Drop, Choose, Named, Unreadable};
+ghost use Rattle.cdi_container.specs.Commands.{Put, Drop, Choose, Named, Report, Unreadable};
 ghost use Rattle.cdi_container.specs.History.{empty};
 ghost use Rattle.cdi_container.specs.Printed.{answer_seen};
 ghost use Rattle.cdi_container.specs.Runner.{RunsStep, PrintsNothing, Prints};
 ghost use Rattle.cdi_container.specs.Seen.{state_of};
 
 use crate::container::Container;
-use crate::printing::{Answer, answer_of_choice, answer_of_edit, print_step};
+use crate::printing::{Answer, answer_of_choice, answer_of_edit, answer_of_report, print_step};
 use cdi_model::{Kind, Name, Quals, Refusal};
 use std::alloc::{AllocError, Global};
 
@@ -68,6 +68,14 @@ impl Runner {
         ensures err { OnErr result (PrintsNothing self.old self.new) }
     {
         let answer = answer_of_choice(self.container.named(name))?;
+        self.print(&answer)
+    }
+
+    pub(crate) fn report(&mut self) -> Result<(), AllocError>
+        ensures ok { OnOk result (RunsStep self.old self.new Report) }
+        ensures err { OnErr result (PrintsNothing self.old self.new) }
+    {
+        let answer = answer_of_report(self.container.report())?;
         self.print(&answer)
     }
 

@@ -1,5 +1,5 @@
 //! Running a script.
-ghost use Rattle.std.specs.Prelude.{◌≡◌, ◌≢◌, ◌≤◌, ◌<◌, ◌+◌, ◌⊎◌, ◌++◌, length, OnOk, OnErr, IfOk, IfErr, IfSome, IsErrOf, false, true, take, []};
+ghost use Rattle.std.specs.Prelude.{◌≡◌, ◌≢◌, ◌≤◌, ◌<◌, ◌+◌, ◌⊎◌, length, OnOk, OnErr, IfOk, IfErr, IfSome, IsErrOf, false, true, take, []};
 ghost use Rattle.cdi_devices.specs.Counted.{inner_of, bytes_of, has_failed};
 ghost use Rattle.cdi_container.specs.Run.{Sends, SendsPart, SendsLast, Feeds, FeedsBeforeMemory, FeedsPart, Ends, EndsBeforeMemory, EndsPart, RunsScript, FailsToRead, RunsOutOfMemory, FailsToWrite};
 ghost use Rattle.cdi_container.specs.Session.{IsFresh};

@@ -152,6 +152,7 @@ impl Session {
             Command::Drop { kind, name } => self.runner.remove(kind, name),
             Command::Choose { bean_type, quals } => self.runner.choose(bean_type, &quals),
             Command::Named { name } => self.runner.named(name),
+            Command::Report => self.runner.report(),
         }
     }
 

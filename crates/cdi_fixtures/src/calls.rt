@@ -1,8 +1,8 @@
 //! Calls of a container, and their answers.
 use crate::texts::{name, quals};
-use cdi_container::{BeanId, Choice, Container};
+use cdi_container::{BeanId, Choice, Container, Fault};
 use cdi_model::{Error, Kind, Refusal};
-use std::alloc::Global;
+use std::alloc::{AllocError, Global};
 
 /// A call of a container. A type is chosen with uses of qualifiers.
 #[derive(Clone, Copy)]
@@ -11,9 +11,10 @@ pub enum Call {
     Remove(Kind, &'static [u8]),
     Choose(&'static [u8], &'static [&'static [u8]]),
     Named(&'static [u8]),
+    Report,
 }
 
-/// What a call is to answer. Beans are given by the names of their classes.
+/// What a call is to answer. Beans are given by the names of their classes, and faults by their texts, each on a line.
 #[derive(Clone, Copy)]
 pub enum Answer {
     Done,
@@ -21,29 +22,63 @@ pub enum Answer {
     One(&'static [u8]),
     Unsatisfied,
     Ambiguous(&'static [&'static [u8]]),
+    Faults(&'static [u8]),
 }
 
-/// Makes a call, which gives a choice where it asks for one.
-pub fn make(alloc: Global, container: &mut Container, call: Call) -> Result<Option<Choice>, Error> {
+/// What a call that was not refused answered.
+#[derive(Drop)]
+pub enum Answered {
+    Nothing,
+    Choice(Choice),
+    /// The texts of faults, each on a line.
+    Faults(Vec<u8>),
+}
+
+/// Makes a call.
+pub fn make(alloc: Global, container: &mut Container, call: Call) -> Result<Answered, Error> {
     match call {
         Call::Put(text) => container.put(text)?,
         Call::Remove(kind, text) => container.remove(kind, name(text)?)?,
         Call::Choose(text, uses) => {
             let quals = quals(alloc, uses)?;
-            return Ok(Some(container.choose(name(text)?, &quals)?));
+            return Ok(Answered::Choice(container.choose(name(text)?, &quals)?));
         }
-        Call::Named(text) => return Ok(Some(container.named(name(text)?)?)),
+        Call::Named(text) => return Ok(Answered::Choice(container.named(name(text)?)?)),
+        Call::Report => {
+            let faults = container.report()?;
+            return Ok(Answered::Faults(lines_of(alloc, faults.as_slice())?));
+        }
     }
-    Ok(None)
+    Ok(Answered::Nothing)
+}
+
+/// The texts of some faults, each on a line.
+pub fn lines_of(alloc: Global, faults: &[Fault]) -> Result<Vec<u8>, AllocError> {
+    let mut text = Vec::new(alloc);
+    for fault in faults {
+        fault.push_text(&mut text)?;
+        text.push(b'\n')?;
+    }
+    Ok(text)
 }
 
 /// Whether a call answered what it is to answer.
-pub fn agrees(answered: &Result<Option<Choice>, Error>, answer: Answer) -> bool {
+pub fn agrees(answered: &Result<Answered, Error>, answer: Answer) -> bool {
     match answered {
-        Ok(None) => matches!(answer, Answer::Done),
-        Ok(Some(choice)) => is_choice(choice, answer),
+        Ok(answered) => is_answer(answered, answer),
         Err(error) => match answer {
             Answer::Refused(refusal) => *error == Error::Refused(refusal),
+            _ => false,
+        },
+    }
+}
+
+fn is_answer(answered: &Answered, answer: Answer) -> bool {
+    match answered {
+        Answered::Nothing => matches!(answer, Answer::Done),
+        Answered::Choice(choice) => is_choice(choice, answer),
+        Answered::Faults(text) => match answer {
+            Answer::Faults(wanted) => text.as_slice() == wanted,
             _ => false,
         },
     }

@@ -5,5 +5,5 @@
 mod calls;
 mod texts;
 
-pub use calls::{Answer, Call, agrees, is_choice, make};
+pub use calls::{Answer, Answered, Call, agrees, is_choice, lines_of, make};
 pub use texts::{are_names, declared, name, names, quals};

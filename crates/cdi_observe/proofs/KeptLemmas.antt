@@ -1,5 +1,6 @@
 -- What evaluations of keys leave.
-use Rattle.std.proofs.Common.{◌≡◌, ◌<◌, ◌+◌, Bool, true, false, cond, not, ◌&&◌, ◌||◌, ℕ, List, [], ◌∷◌, ◌++◌, length, take, get_or, refl, sym, ap, ◌∙◌, append_assoc, append-nil}
+use Rattle.std.proofs.Common.{◌≡◌, ◌<◌, ◌+◌, Bool, true, false, cond, not, ◌&&◌, ◌||◌, ℕ, List, [], ◌∷◌, ◌++◌, length, take, get_or, refl, sym, ap, ◌∙◌, append_assoc, append-nil, Result, Ok, Err}
+use Rattle.std.specs.Result.{OnErr}
 use Rattle.std.specs.Fn.{iterate}
 use Rattle.std.specs.List.{AllByRecursion, IsDistinct}
 use Rattle.std.proofs.Math.Bool.{or-false}
@@ -14,6 +15,11 @@ use Rattle.cdi_observe.specs.Wanted.{wanted, is_wanted}
 use Rattle.cdi_observe.specs.Kept.{Kept, with_known, work_with, after_key, evaluated, unknown, with_all, KnowsWanted}
 use Rattle.cdi_observe.proofs.KeyLemmas.{same_key-decides, same_key-equiv}
 use Rattle.cdi_observe.proofs.WantedLemmas.{has-wanted, wanted-distinct}
+
+-- what holds at all holds where there is an error
+pub where_err : {T E P : Type 0} (r : Result T E) → P → OnErr r P
+where_err (Ok x) p = tt
+where_err (Err y) p = p
 
 -- ---- keys one after another
 

@@ -2,7 +2,7 @@
 use crate::fixtures::{Row, assert_rows};
 use std::test::Fail;
 
-static BEAN_ROWS: [Row; 12] = [
+static BEAN_ROWS: [Row; 11] = [
     Row {
         name: "an alternative with a priority stands before other beans",
         script: br#"put
@@ -331,34 +331,6 @@ one LoginAction
 ok
 one MockLoginAction
 one LoginAction
-"#,
-        refused: false,
-    },
-    Row {
-        name: "a list of types adds none",
-        script: br#"put
-kind="type"
-name="A"
-.
-put
-kind="type"
-name="B"
-.
-put
-kind="bean"
-name="A"
-types=["B"]
-.
-choose B
-choose A
-choose Object
-"#,
-        text: br#"ok
-ok
-ok
-unsatisfied
-unsatisfied
-one A
 "#,
         refused: false,
     },

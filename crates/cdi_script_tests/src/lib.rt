@@ -6,6 +6,10 @@ mod bean_rows;
 #[cfg(test)]
 mod devices;
 #[cfg(test)]
+mod fault_examples;
+#[cfg(test)]
+mod fault_rows;
+#[cfg(test)]
 mod fixtures;
 #[cfg(test)]
 mod long_rows;

@@ -2,7 +2,7 @@
 use crate::fixtures::{Row, assert_rows};
 use std::test::Fail;
 
-static PRODUCER_ROWS: [Row; 4] = [
+static PRODUCER_ROWS: [Row; 3] = [
     Row {
         name: "products of alternatives, by the priorities of the beans that declare them",
         script: br#"put
@@ -89,63 +89,6 @@ ambiguous Market Depot/hall
 ok
 one Depot/hall
 unsatisfied
-"#,
-        refused: false,
-    },
-    Row {
-        name: "a product with a qualifier, and one of an alternative",
-        script: br#"put
-kind = "type"
-name = "PaymentStrategy"
-form = "interface"
-.
-put
-kind = "type"
-name = "CreditCardStrategy"
-implements = ["PaymentStrategy"]
-.
-put
-kind = "type"
-name = "Preferences"
-.
-put
-kind = "qualifier"
-name = "Preferred"
-.
-put
-kind = "bean"
-name = "CreditCardStrategy"
-.
-put
-kind = "bean"
-name = "Preferences"
-producers = [{ name = "strategy", type = "PaymentStrategy", qualifiers = ["Preferred"], body = "unit", params = [{ name = "card", type = "CreditCardStrategy" }] }]
-disposers = [{ name = "close", type = "PaymentStrategy", qualifiers = ["Preferred"], body = "unit" }]
-.
-choose PaymentStrategy
-choose PaymentStrategy Preferred
-choose PaymentStrategy Any
-put
-kind = "bean"
-name = "Preferences"
-alternative = true
-priority = 1
-producers = [{ name = "strategy", type = "PaymentStrategy", body = "unit" }]
-disposers = [{ name = "close", type = "PaymentStrategy", qualifiers = ["Preferred"], body = "unit" }]
-.
-choose PaymentStrategy
-"#,
-        text: br#"ok
-ok
-ok
-ok
-ok
-ok
-one CreditCardStrategy
-one Preferences/strategy
-ambiguous CreditCardStrategy Preferences/strategy
-ok
-one Preferences/strategy
 "#,
         refused: false,
     },

@@ -1,8 +1,8 @@
 //! The records of beans.
 use crate::fixtures::{assert_text, push_names, push_uses};
-use cdi_effective::{Effective, beans, disposer_of, records_of};
-use cdi_fixtures::declared;
-use cdi_model::{Decl, Decls};
+use cdi_effective::{Effective, beans, disposer_of, disposes, records_of};
+use cdi_fixtures::{declared, name};
+use cdi_model::{BeanDecl, Decl, Decls, Kind};
 use std::alloc::Global;
 use std::io::Write;
 use std::process::Abort;
@@ -30,7 +30,7 @@ static RECORDS: [&str; 9] = [
     // Two stereotypes give one scope, and one of them makes an alternative by way of another.
     "shop.Kiosk of shop.Kiosk: Object shop.Kiosk; Any Default Named(kiosk); Request, kiosk, alternative true, None, enabled false",
     // A listed type that the class has not is not added, and the stereotypes give two scopes.
-    "Mall of Mall: Object Shop; Any Default Named(the.mall); Dependent, the.mall, alternative false, Some(-3), enabled true",
+    "Mall of Mall: Object Shop; Any Default Named(the.mall); Dependent, the.mall, alternative false, Some(-3), enabled true, two scopes",
     "Inn of Inn: Inn Object; Any Default; Dependent, alternative false, None, enabled true",
     // The name comes from the stereotype, and the other qualifier takes `Default` away.
     "Corner of Corner: Corner Object Place Shop; Any Named(corner) Rank(n=2); Request, corner, alternative true, Some(4), enabled true",
@@ -72,6 +72,9 @@ fn said(alloc: Global, decls: &Decls, bean: &Effective) -> Result<Vec<u8>, Fail>
     if bean.is_of_alternative {
         text.extend_from_slice(b", of alternative")?;
     }
+    if bean.has_scope_conflict {
+        text.extend_from_slice(b", two scopes")?;
+    }
     if let Some(disposer) = disposer_of(alloc, decls, bean) {
         text.extend_from_slice(b", disposed by ")?;
         text.extend_from_slice(disposer.as_bytes())?;
@@ -104,4 +107,32 @@ fn beans_have_records(rt: HostRuntime) -> Result<(), Fail> {
         assert_text(&rt, found.as_slice(), wanted.as_bytes(), &"the list");
     }
     assert_records(&rt, rt.alloc(), &decls)
+}
+
+/// Which disposers match which products, in the order of `Depot`.
+static MATCHES: [[bool; 3]; 3] = [
+    [false, true, true],
+    [true, false, true],
+    [false, false, true],
+];
+
+fn depot(decls: &Decls) -> Result<&BeanDecl, Fail> {
+    match decls.get(Kind::Bean, name(b"Depot")?) {
+        Some(Decl::Bean(bean)) => Ok(bean),
+        _ => Err(Fail::new("no depot")),
+    }
+}
+
+#[test]
+fn disposers_match(rt: HostRuntime) -> Result<(), Fail> {
+    let decls = declared(rt.alloc(), &TEXTS)?;
+    let bean = depot(&decls)?;
+    let records = records_of(rt.alloc(), &decls, bean)?;
+    for (product, wanted) in records.iter().skip(1).zip(MATCHES.iter()) {
+        for (disposer, is_match) in bean.disposers.as_slice().iter().zip(wanted.iter()) {
+            let found = disposes(rt.alloc(), &decls, product, disposer);
+            assert!(rt; found == *is_match, "{:?} {:?}", product.id, disposer.name);
+        }
+    }
+    Ok(())
 }

@@ -124,7 +124,57 @@ fn a_plain_view_answers(rt: HostRuntime) -> Result<(), Fail> {
     for asked in &ASKED {
         assert_view(&rt, rt.alloc(), &mut view, asked)?;
     }
-    evaluate(rt.alloc(), &mut view)?;
     assert!(rt; view.decls().len() == TEXTS.len() && view.beans().len() == 4);
+    Ok(())
+}
+
+/// What the points of the beans ask for, in order: two of them ask for one thing.
+static ANSWERS: [Answer; 3] = [Answer::One(b"C"), Answer::One(b"C"), Answer::Unsatisfied];
+
+#[test]
+fn points_are_answered(rt: HostRuntime) -> Result<(), Fail> {
+    let decls = declared(rt.alloc(), &TEXTS)?;
+    let list = beans(rt.alloc(), &decls)?;
+    let mut view = PlainView::new(&decls, list.as_slice());
+    let answers = evaluate(rt.alloc(), &mut view)?;
+    assert!(rt; answers.len() == ANSWERS.len());
+    for (found, wanted) in answers.iter().zip(ANSWERS.iter()) {
+        assert!(rt; is_choice(found, *wanted));
+    }
+    Ok(())
+}
+
+/// A worked row: a bean of an interface, then a second one, which at last is an alternative with a priority.
+static SHOPS: [&[u8]; 6] = [
+    b"kind=\"type\"\nname=\"Shop\"\nform=\"interface\"\n",
+    b"kind=\"type\"\nname=\"Corner\"\nimplements=[\"Shop\"]\n",
+    b"kind=\"bean\"\nname=\"Corner\"\n",
+    b"kind=\"type\"\nname=\"Market\"\nimplements=[\"Shop\"]\n",
+    b"kind=\"bean\"\nname=\"Market\"\n",
+    b"kind=\"bean\"\nname=\"Market\"\nalternative=true\npriority=4\n",
+];
+
+/// How many of these are put, what is asked then, and the answer.
+static OF_SHOPS: [(usize, Asked); 7] = [
+    (3, Asked(b"Corner", &[], Answer::One(b"Corner"))),
+    (3, Asked(b"Shop", &[], Answer::One(b"Corner"))),
+    (3, Asked(b"Object", &[], Answer::One(b"Corner"))),
+    (3, Asked(b"Mall", &[], Answer::Unsatisfied)),
+    (
+        5,
+        Asked(b"Shop", &[], Answer::Ambiguous(&[b"Corner", b"Market"])),
+    ),
+    (6, Asked(b"Shop", &[], Answer::One(b"Market"))),
+    (6, Asked(b"Corner", &[], Answer::One(b"Corner"))),
+];
+
+#[test]
+fn a_plain_view_answers_as_the_row_says(rt: HostRuntime) -> Result<(), Fail> {
+    for (count, asked) in &OF_SHOPS {
+        let decls = declared(rt.alloc(), SHOPS.get(..*count).unwrap_or(&[]))?;
+        let list = beans(rt.alloc(), &decls)?;
+        let mut view = PlainView::new(&decls, list.as_slice());
+        assert_view(&rt, rt.alloc(), &mut view, asked)?;
+    }
     Ok(())
 }

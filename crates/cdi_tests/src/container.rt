@@ -47,7 +47,7 @@ fn a_list_is_edited(rt: HostRuntime) -> Result<(), Fail> {
     Ok(())
 }
 
-static CALLS: [(Call, Answer); 24] = [
+static CALLS: [(Call, Answer); 26] = [
     (Call::Choose(b"Object", &[]), Answer::Unsatisfied),
     (Call::Put(b"kind=\"bean\"\nname=\"shop.B\"\n"), Answer::Done),
     (Call::Put(b"kind=\"type\"\nname=\"shop.A\"\n"), Answer::Done),
@@ -92,6 +92,17 @@ static CALLS: [(Call, Answer); 24] = [
     (Call::Named(b"b"), Answer::One(b"shop.B")),
     (Call::Choose(b"Object", &[]), Answer::One(b"shop.B")),
     (Call::Remove(Kind::Stereotype, b"Mock"), Answer::Done),
+    (
+        Call::Report,
+        Answer::Faults(
+            b"F01 bean C qualifier Q
+F01 bean C type C
+F01 bean shop.B stereotype Mock
+F01 bean shop.B type shop.B
+",
+        ),
+    ),
+    (Call::Choose(b"Object", &[b"Q"]), Answer::One(b"C")),
 ];
 
 #[test]

@@ -1,6 +1,9 @@
 //! The types of types, the stereotypes of stereotypes, and the members of uses with their defaults.
 use cdi_fixtures::{are_names, declared, name, names};
-use cdi_match::{closure, covers, fill_members, find_stereotype, is_type, stereotypes};
+use cdi_match::{
+    closure, covers, extends_itself, fill_members, find_stereotype, inherits_itself, is_misused,
+    is_type, stereotypes,
+};
 use cdi_model::{Decls, Ident, Members, Name};
 use cdi_text::read_qualifier;
 use std::alloc::Global;
@@ -173,5 +176,53 @@ fn defaults_are_filled_in(rt: HostRuntime) -> Result<(), Fail> {
     let other = read_qualifier(rt.alloc(), b"Q")?;
     let empty = fill_members(rt.alloc(), &decls, &other)?;
     assert!(rt; empty.is_empty());
+    Ok(())
+}
+
+/// A name, whether the type of that name reaches itself, and whether the stereotype does.
+#[derive(Clone, Copy)]
+struct Circle(&'static [u8], bool, bool);
+
+static CIRCLES: [Circle; 7] = [
+    Circle(b"Hen", true, false),
+    Circle(b"Egg", true, false),
+    Circle(b"Corner", false, false),
+    Circle(b"Shop", false, false),
+    Circle(b"Sun", false, true),
+    Circle(b"Moon", false, true),
+    Circle(b"Action", false, false),
+];
+
+#[test]
+fn types_and_stereotypes_reach_themselves(rt: HostRuntime) -> Result<(), Fail> {
+    let decls = declared(rt.alloc(), &TEXTS)?;
+    for Circle(text, of_types, of_stereotypes) in &CIRCLES {
+        let this = name(text)?;
+        let extends = extends_itself(rt.alloc(), &decls, this)?;
+        let inherits = inherits_itself(rt.alloc(), &decls, this)?;
+        assert!(rt;
+            extends == *of_types && inherits == *of_stereotypes,
+            "{this:?}"
+        );
+    }
+    Ok(())
+}
+
+/// A use, and whether it does not fit: `n` has no default, and `m` is not declared.
+static FITS: [(&[u8], bool); 5] = [
+    (b"Rank(n=1)", false),
+    (b"Rank", true),
+    (b"Rank(m=1,n=2)", true),
+    (b"Rank(note=1)", true),
+    (b"Ghost(m=1)", false),
+];
+
+#[test]
+fn uses_that_do_not_fit(rt: HostRuntime) -> Result<(), Fail> {
+    let decls = declared(rt.alloc(), &TEXTS)?;
+    for (text, wanted) in &FITS {
+        let qual = read_qualifier(rt.alloc(), text)?;
+        assert!(rt; is_misused(&decls, &qual) == *wanted, "{text:?}");
+    }
     Ok(())
 }

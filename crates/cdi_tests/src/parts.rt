@@ -63,7 +63,7 @@ fn names_and_identifiers(rt: HostRuntime) {
 #[derive(Clone, Copy)]
 struct Saying(&'static [u8], &'static [u8]);
 
-static SAYINGS: [Saying; 34] = [
+static SAYINGS: [Saying; 38] = [
     Saying(b"", b"skip"),
     Saying(b"   ", b"skip"),
     Saying(b"\r", b"skip"),
@@ -98,6 +98,10 @@ static SAYINGS: [Saying; 34] = [
     Saying(b"name a b", b"refused"),
     Saying(b"name a(n=1)", b"refused"),
     Saying(b"names a", b"refused"),
+    Saying(b"report", b"report"),
+    Saying(b"  report  ", b"report"),
+    Saying(b"report A", b"refused"),
+    Saying(b"reports", b"refused"),
 ];
 
 /// What a line says: its verb, its kind, its name, and the uses of qualifiers; or that it is no command.
@@ -128,6 +132,7 @@ fn push_command(text: &mut Vec<u8>, command: &Command) -> Result<(), Fail> {
             text.extend_from_slice(b"name")?;
             push_names(text, &[*name])?;
         }
+        Command::Report => text.extend_from_slice(b"report")?,
     }
     Ok(())
 }

@@ -1,7 +1,7 @@
 //! Calls of a container, of which any one allocation may be refused.
 use crate::Difference;
-use Answer::{Ambiguous, Done, One, Refused, Unsatisfied};
-use Call::{Choose, Named, Put, Remove};
+use Answer::{Ambiguous, Done, Faults, One, Refused, Unsatisfied};
+use Call::{Choose, Named, Put, Remove, Report};
 use cdi_container::Container;
 use cdi_fixtures::{Answer, Call, agrees, make};
 use cdi_model::{Error, Kind, Refusal};
@@ -50,8 +50,32 @@ const OTHER_STEREOTYPE: &[u8] = b"kind=\"stereotype\"\nname=\"Action\"\nnamed=tr
 const ALTERNATIVE: &[u8] =
     b"kind=\"bean\"\nname=\"Stand\"\ntypes=[\"Stand\",\"Booth\"]\nstereotypes=[\"Mock\",\"Ghost\"]\npriority=-1\n";
 
+const BAD_POINTS: &[u8] =
+    b"kind=\"bean\"\nname=\"Inn\"\nnamed=\"mall.x\"\npoints=[{name=\"p\",type=\"Shop\"},{name=\"q\",type=\"Object\"}]\nproducers=[{name=\"make\",type=\"Beer\",body=\"unit\",params=[{name=\"r\",type=\"Rum\"}]}]\ndisposers=[{name=\"drop\",type=\"Wine\",body=\"unit\"}]\n";
+
+/// The faults of what is declared at the end.
+const FAULTS: &[u8] = b"F01 type Corner type Place
+F01 type Corner type Stop
+F01 bean Mall qualifier Rank
+F01 bean Mall type Mall
+F01 bean Stand stereotype Ghost
+F01 bean Stand stereotype Mock
+F01 bean Stand type Booth
+F01 bean Stand type Stand
+F04 bean Stand typed Booth
+F01 bean Inn type Beer
+F01 bean Inn type Inn
+F01 bean Inn type Rum
+F01 bean Inn type Wine
+F08 bean Inn disposer drop
+F20 bean Inn point p
+F20 bean Inn producer make param r
+F21 bean Inn point q
+F25 name mall mall.x
+";
+
 /// Calls, each with its answer.
-static CALLS: [(Call, Answer); 25] = [
+static CALLS: [(Call, Answer); 27] = [
     (Put(TYPE), Done),
     (Put(INTERFACE), Done),
     (Put(QUALIFIER), Done),
@@ -78,10 +102,12 @@ static CALLS: [(Call, Answer); 25] = [
     (Remove(Kind::Qualifier, b"Rank"), Done),
     // No default stands for `n`, and `m` counts.
     (Choose(OBJECT, RANKED), Unsatisfied),
+    (Put(BAD_POINTS), Done),
+    (Report, Faults(FAULTS)),
 ];
 
 /// For each call, a look at the state before it, which changes nothing, with its answer.
-static LOOKS: [(Call, Answer); 25] = [
+static LOOKS: [(Call, Answer); 27] = [
     (Remove(Kind::Type, CORNER), Refused(Refusal::Absent)),
     (Remove(Kind::Type, SHOP), Refused(Refusal::Absent)),
     (Remove(Kind::Qualifier, b"Rank"), Refused(Refusal::Absent)),
@@ -109,6 +135,8 @@ static LOOKS: [(Call, Answer); 25] = [
     (Choose(MALL, PLAIN), One(MALL)),
     (Choose(MALL, PLAIN), One(MALL)),
     (Choose(OBJECT, RANKED), One(MALL)),
+    (Choose(MALL, PLAIN), One(MALL)),
+    (Named(b"mall.x"), Unsatisfied),
     (Choose(MALL, PLAIN), One(MALL)),
 ];
 

@@ -3,7 +3,7 @@
 use crate::Difference;
 use crate::bean_questions::{BeanQuestion, Deployed};
 use cdi_fixtures::{Answer, are_names, name, names};
-use cdi_match::{closure, fill_members, is_type, stereotypes};
+use cdi_match::{closure, extends_itself, fill_members, inherits_itself, is_type, stereotypes};
 use cdi_model::{Arguments, Error, Ident, Members, Qual, Refusal, Scope};
 use cdi_text::read_qualifier;
 use std::alloc::Global;
@@ -23,12 +23,18 @@ enum Question {
     Fill(&'static [u8], &'static [(&'static [u8], i64)]),
     /// The stereotypes of what declares some.
     Stereotypes(&'static [&'static [u8]], &'static [&'static [u8]]),
+    /// Whether a type reaches itself.
+    ExtendsItself(&'static [u8], bool),
+    /// Whether a stereotype does.
+    InheritsItself(&'static [u8], bool),
     /// What is asked of the beans.
     OfBeans(BeanQuestion),
 }
 
 use BeanQuestion::{Beans, Choose, ChooseName, Evaluate, Record};
-use Question::{BadUse, Closure, Fill, IsType, OfBeans, Read, Stereotypes};
+use Question::{
+    BadUse, Closure, ExtendsItself, Fill, InheritsItself, IsType, OfBeans, Read, Stereotypes,
+};
 
 /// What is declared: types of which two extend each other, a qualifier, stereotypes of which two declare each other,
 /// and beans of which two are alternatives of one priority and one name, and one has injection points and a product.
@@ -45,7 +51,7 @@ static TEXTS: [&[u8]; 10] = [
     b"kind=\"bean\"\nname=\"Mill\"\ntypes=[]\npoints=[{name=\"p\",type=\"Shop\",qualifiers=[\"Rank(m=1)\"]},{name=\"q\",type=\"Inn\"}]\nproducers=[{name=\"flour\",type=\"Flour\",qualifiers=[\"Rank(n=1)\"],body=\"zero\",params=[{name=\"r\",type=\"Inn\"}]}]\ndisposers=[{name=\"sweep\",type=\"Flour\",qualifiers=[\"Any\"],body=\"unit\"}]\n",
 ];
 
-static QUESTIONS: [Question; 26] = [
+static QUESTIONS: [Question; 30] = [
     Closure(
         b"Corner",
         &[b"Corner", b"Object", b"Place", b"Shop", b"Stand", b"Stop"],
@@ -54,6 +60,10 @@ static QUESTIONS: [Question; 26] = [
     IsType(b"Corner", b"Stand", true),
     IsType(b"Corner", b"Mall", false),
     IsType(b"Mall", b"Object", true),
+    ExtendsItself(b"Place", true),
+    ExtendsItself(b"Shop", false),
+    InheritsItself(b"Moon", true),
+    InheritsItself(b"Star", false),
     Read(b"Rank(n=2,m=-1)", b"Rank", &[(b"n", 2), (b"m", -1)]),
     Read(b"Rank", b"Rank", &[]),
     BadUse(b"Rank(n=1,m=2,n=1)", Refusal::Twice),
@@ -140,6 +150,8 @@ fn ask(alloc: Global, deployed: &Deployed, question: Question) -> Result<bool, E
         IsType(text, other, wanted) => {
             Ok(is_type(alloc, decls, name(text)?, name(other)?)? == wanted)
         }
+        ExtendsItself(text, wanted) => Ok(extends_itself(alloc, decls, name(text)?)? == wanted),
+        InheritsItself(text, wanted) => Ok(inherits_itself(alloc, decls, name(text)?)? == wanted),
         Read(text, wanted, members) => {
             let qual = read_qualifier(alloc, text)?;
             Ok(qual.name.as_bytes() == wanted && writes(&qual, members))

@@ -1,6 +1,6 @@
 use Rattle.std.proofs.Common.{refl}
 use Rattle.std.proofs.lemmas.Result.{on_ok_weaker}
-use Rattle.cdi_container.specs.Commands.{Drop, Choose, Named}
+use Rattle.cdi_container.specs.Commands.{Drop, Choose, Named, Report}
 use Rattle.cdi_container.proofs.Taking.{takes_one}
 use Rattle.cdi_container.proofs.session.Session.take_command.Goals as goal
 
@@ -15,3 +15,7 @@ returns-in-Choose-clause-ok c = on_ok_weaker c.choose.result
 pub returns-in-Named-clause-ok : goal.returns-in-Named-clause-ok
 returns-in-Named-clause-ok c = on_ok_weaker c.named.result
     (takes_one c.args.self.now (record c.args.self.now { runner = c.named.new.self }) (Named c.in-Named.name) c.args.command _ c.in-Named.is c.requires refl refl refl refl) c.named.ensures.ok
+
+pub returns-in-Report-clause-ok : goal.returns-in-Report-clause-ok
+returns-in-Report-clause-ok c = on_ok_weaker c.report.result
+    (takes_one c.args.self.now (record c.args.self.now { runner = c.report.new.self }) Report c.args.command _ c.in-Report.is c.requires refl refl refl refl) c.report.ensures.ok

@@ -1,0 +1,8 @@
+use Rattle.std.proofs.Common.{◌≡◌, fold}
+use Rattle.cdi_validate.specs.FaultText.{by_text}
+use Rattle.cdi_validate.specs.TextTree.{entries_in}
+use Rattle.cdi_validate.proofs.OrderLemmas.{put}
+use Rattle.cdi_validate.proofs.text.by_text.Given as goal
+
+abbrev pub invariant-loop-member : goal.invariant-loop-member
+invariant-loop-member l = fold put (entries_in l.tree) l.member-iterator.rest.items ≡ by_text l.fn.members.items

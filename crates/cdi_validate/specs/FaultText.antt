@@ -1,0 +1,107 @@
+-- The texts of faults, and their order.
+use Rattle.std.specs.Prelude.{◌≡◌, ℕ, ℤ, List, [], ◌∷◌, ◌++◌, map, fold, codes, Option, Some, None}
+use Rattle.std.specs.BTreeMap.{insert_entry}
+use Rattle.std.specs.Fmt.{signed_decimal}
+use Rattle.std.specs.List.Sorted.{IsStrictlySortedBy}
+use Rattle.std.specs.Ordering.{nat_cmp}
+use Rattle.std.specs.declared.cmp.Ordering.{Ordering}
+use Rattle.std.specs.Cmp.Lexicographic.{slice_cmp}
+use Rattle.cdi_model.specs.Decl.{word_of_kind}
+use Rattle.cdi_model.specs.declared.quals.Arguments.{Arguments}
+use Rattle.cdi_model.specs.declared.quals.Arguments.TheVariants as arguments
+use Rattle.cdi_model.specs.declared.quals.Qual.{Qual}
+use Rattle.cdi_match.specs.Chain.{has}
+use Rattle.cdi_validate.specs.declared.fault.Code.{Code}
+use Rattle.cdi_validate.specs.declared.fault.Code.TheVariants as fault_codes
+use Rattle.cdi_validate.specs.declared.fault.Fault.{Fault}
+use Rattle.cdi_validate.specs.declared.fault.Fault.TheVariants as faults_are
+use Rattle.cdi_validate.specs.declared.fault.Member.{Member}
+use Rattle.cdi_validate.specs.declared.fault.Member.TheVariants as members
+
+-- m=v,m=v
+abbrev pub text_of_pair : List ℕ × ℤ → List ℕ
+text_of_pair pair = pair.0 ++ 61 ∷ signed_decimal pair.1
+
+abbrev pub text_of_pairs : List (List ℕ × ℤ) → List ℕ
+text_of_pairs [] = []
+text_of_pairs (p ∷ []) = text_of_pair p
+text_of_pairs (p ∷ q ∷ ps) = text_of_pair p ++ 44 ∷ text_of_pairs (q ∷ ps)
+
+-- what stands behind the name of a use: its members in brackets, if it writes some
+abbrev pub text_of_arguments : Arguments → List ℕ
+text_of_arguments (arguments.Name name) = 40 ∷ name ++ 41 ∷ []
+text_of_arguments (arguments.Members []) = []
+text_of_arguments (arguments.Members (p ∷ ps)) = 40 ∷ text_of_pairs (p ∷ ps) ++ 41 ∷ []
+
+abbrev pub text_of_use : Qual → List ℕ
+text_of_use u = u.name ++ text_of_arguments u.arguments
+
+-- a word, a space, and what it is about
+abbrev pub about : List ℕ → List ℕ → List ℕ
+about word text = word ++ 32 ∷ text
+
+abbrev pub in_producer : Option (List ℕ) → List ℕ → List ℕ
+in_producer None text = text
+in_producer (Some producer) text = about (codes "producer") (producer ++ 32 ∷ text)
+
+-- a point of a bean is called so, one of a producer a param
+abbrev pub text_of_point : Option (List ℕ) → List ℕ → List ℕ
+text_of_point None point = about (codes "point") point
+text_of_point (Some producer) point = in_producer (Some producer) (about (codes "param") point)
+
+abbrev pub text_of_member : Member → List ℕ
+text_of_member members.Whole = []
+text_of_member (members.Type name) = about (codes "type") name
+text_of_member (members.Qualifier name) = about (codes "qualifier") name
+text_of_member (members.Stereotype name) = about (codes "stereotype") name
+text_of_member (members.Extends name) = about (codes "extends") name
+text_of_member (members.Implements name) = about (codes "implements") name
+text_of_member members.Class = codes "class"
+text_of_member (members.Typed producer name) = in_producer producer (about (codes "typed") name)
+text_of_member (members.Producer name) = about (codes "producer") name
+text_of_member (members.Disposer name) = about (codes "disposer") name
+text_of_member (members.Use u) = about (codes "qualifier") (text_of_use u)
+text_of_member (members.Point producer point) = text_of_point producer point
+
+-- ---- what a fault prints
+
+abbrev pub text_of_code : Code → List ℕ
+text_of_code fault_codes.UnknownName = codes "F01"
+text_of_code fault_codes.Cycle = codes "F02"
+text_of_code fault_codes.BadKind = codes "F03"
+text_of_code fault_codes.Typed = codes "F04"
+text_of_code fault_codes.ScopeConflict = codes "F05"
+text_of_code fault_codes.Member = codes "F07"
+text_of_code fault_codes.Disposer = codes "F08"
+text_of_code fault_codes.Unsatisfied = codes "F20"
+text_of_code fault_codes.Ambiguous = codes "F21"
+
+-- behind a space, where it is not empty
+abbrev pub behind_space : List ℕ → List ℕ
+behind_space [] = []
+behind_space (c ∷ cs) = 32 ∷ c ∷ cs
+
+-- the code, the kind and the name of the declaration, and the member
+abbrev pub text_of_fault : Fault → List ℕ
+text_of_fault (faults_are.Declared code kind name member) = text_of_code code ++ 32 ∷ word_of_kind kind ++ 32 ∷ name ++ behind_space (text_of_member member)
+text_of_fault (faults_are.NameClash name) = codes "F24 name " ++ name
+text_of_fault (faults_are.NamePrefix name longer) = codes "F25 name " ++ name ++ 32 ∷ longer
+
+-- ---- order
+
+abbrev pub byte_order : List ℕ → List ℕ → Ordering
+byte_order = slice_cmp nat_cmp
+
+-- members by their texts, in the byte order of these
+abbrev pub by_text : List Member → List (List ℕ × Member)
+by_text ms = fold (λ entries m. insert_entry byte_order entries (text_of_member m) m) [] ms
+
+-- members in the byte order of their texts, each once
+unfoldable pub in_text_order : List Member → List Member
+in_text_order ms = map (λ entry. entry.1) (by_text ms)
+
+-- The texts of the members that are put in order rise, and are those of these members.
+abbrev pub MembersInOrder : Type 0
+MembersInOrder = (ms : List Member)
+    → IsStrictlySortedBy byte_order (map text_of_member (in_text_order ms))
+    × ((text : List ℕ) → has (map text_of_member (in_text_order ms)) text ≡ has (map text_of_member ms) text)

@@ -1,0 +1,206 @@
+-- The faults of a deployment (CDI 4.0, Problems detected automatically by the container): for each code, what has it.
+use Rattle.std.specs.Prelude.{ℕ, nat_eq, nat_lt, Bool, true, false, not, ◌||◌, List, [], ◌∷◌, ◌++◌, map, filter, length, codes, Option, Some, None, is_some, if◌then◌else◌}
+use Rattle.std.specs.List.{list_any, flat_map, starts_with}
+use Rattle.std.specs.Option.{option_to_list}
+use Rattle.std.specs.Str.{bytes_eq}
+use Rattle.cdi_model.specs.Decl.{kind_of, name_of_decl}
+use Rattle.cdi_model.specs.DeclList.{find_decl}
+use Rattle.cdi_model.specs.declared.decl.Attributes.{Attributes}
+use Rattle.cdi_model.specs.declared.decl.BeanDecl.{BeanDecl}
+use Rattle.cdi_model.specs.declared.decl.Decl.{Decl}
+use Rattle.cdi_model.specs.declared.decl.Decl.TheVariants as decls
+use Rattle.cdi_model.specs.declared.decl.Form.{Form}
+use Rattle.cdi_model.specs.declared.decl.Form.TheVariants.{Class, Interface}
+use Rattle.cdi_model.specs.declared.decl.Kind.{Kind}
+use Rattle.cdi_model.specs.declared.decl.Kind.TheVariants as kinds
+use Rattle.cdi_model.specs.declared.decl.PointDecl.{PointDecl}
+use Rattle.cdi_match.specs.Chain.{has}
+use Rattle.cdi_match.specs.Misuse.{is_misused}
+use Rattle.cdi_match.specs.Order.{in_order}
+use Rattle.cdi_match.specs.Stereotypes.{inherits_itself}
+use Rattle.cdi_match.specs.Types.{extends_itself, object, types_of}
+use Rattle.cdi_effective.specs.Beans.{beans, managed, product}
+use Rattle.cdi_effective.specs.Disposers.{disposes}
+use Rattle.cdi_effective.specs.declared.records.Effective.{Effective}
+use Rattle.cdi_resolve.specs.Choices.{chosen_by_name}
+use Rattle.cdi_resolve.specs.declared.choice.Choice.{Choice}
+use Rattle.cdi_resolve.specs.declared.choice.Choice.TheVariants.{Unsatisfied, Ambiguous}
+use Rattle.cdi_observe.specs.Answers.{answer_to}
+use Rattle.cdi_validate.specs.declared.fault.Code.{Code}
+use Rattle.cdi_validate.specs.declared.fault.Code.TheVariants as codes_of
+use Rattle.cdi_validate.specs.declared.fault.Fault.{Fault}
+use Rattle.cdi_validate.specs.declared.fault.Fault.TheVariants as faults_are
+use Rattle.cdi_validate.specs.declared.fault.Member.{Member}
+use Rattle.cdi_validate.specs.declared.fault.Member.TheVariants as members
+use Rattle.cdi_validate.specs.declared.points.Verdict.{Verdict}
+use Rattle.cdi_validate.specs.declared.points.Verdict.TheVariants as verdicts
+use Rattle.cdi_validate.specs.FaultText.{in_text_order}
+use Rattle.cdi_validate.specs.Named.{named_types, written_uses, named_stereotypes, listed_types}
+
+-- ---- names that are neither declared nor built in
+
+abbrev pub is_declared : Kind → List Decl → List ℕ → Bool
+is_declared kind ds name = is_some (find_decl kind name ds)
+
+abbrev pub is_known_type : List Decl → List ℕ → Bool
+is_known_type ds t = bytes_eq t object || is_declared kinds.Type ds t
+
+abbrev pub is_known_qualifier : List Decl → List ℕ → Bool
+is_known_qualifier ds q = has (codes "Any" ∷ codes "Default" ∷ codes "Named" ∷ []) q || is_declared kinds.Qualifier ds q
+
+-- the class of a bean is to be declared
+abbrev pub class_named : Decl → List (List ℕ)
+class_named (decls.Bean d) = d.name ∷ []
+class_named d = []
+
+abbrev pub unknown_names : List Decl → Decl → List Member
+unknown_names ds d =
+    map members.Type (filter (λ t. not (is_declared kinds.Type ds t)) (class_named d))
+    ++ map members.Type (filter (λ t. not (is_known_type ds t)) (named_types d))
+    ++ map members.Qualifier (filter (λ q. not (is_known_qualifier ds q)) (map (λ u. u.name) (written_uses d)))
+    ++ map members.Stereotype (filter (λ s. not (is_declared kinds.Stereotype ds s)) (named_stereotypes d))
+
+-- where a condition holds of the whole declaration
+abbrev pub whole_if : Bool → List Member
+whole_if holds = if holds then members.Whole ∷ [] else []
+
+-- ---- a type or stereotype that reaches itself by one chain of an edge or more
+
+abbrev pub reaches_itself : List Decl → Decl → Bool
+reaches_itself ds (decls.Type d) = extends_itself ds d.name
+reaches_itself ds (decls.Stereotype d) = inherits_itself ds d.name
+reaches_itself ds d = false
+
+-- ---- types of the wrong form
+
+abbrev pub form_of : Option Decl → Option Form
+form_of (Some (decls.Type d)) = Some d.form
+form_of _ = None
+
+abbrev pub is_interface_form : Option Form → Bool
+is_interface_form (Some Interface) = true
+is_interface_form _ = false
+
+abbrev pub is_class_form : Option Form → Bool
+is_class_form (Some Class) = true
+is_class_form _ = false
+
+abbrev pub is_interface : List Decl → List ℕ → Bool
+is_interface ds t = is_interface_form (form_of (find_decl kinds.Type t ds))
+
+abbrev pub is_class : List Decl → List ℕ → Bool
+is_class ds t = bytes_eq t object || is_class_form (form_of (find_decl kinds.Type t ds))
+
+-- an interface extends nothing, and a class no declared interface
+abbrev pub extends_badly : List Decl → Form → List ℕ → Bool
+extends_badly ds Interface t = true
+extends_badly ds Class t = is_interface ds t
+
+abbrev pub bad_kinds : List Decl → Decl → List Member
+bad_kinds ds (decls.Type d) =
+    map members.Extends (filter (extends_badly ds d.form) (option_to_list d.extends))
+    ++ map members.Implements (filter (is_class ds) d.implements)
+bad_kinds ds (decls.Bean d) = if is_interface ds d.name then members.Class ∷ [] else []
+bad_kinds ds d = []
+
+-- ---- listed types that are not among the unrestricted ones
+
+abbrev pub wrongly_listed : List Decl → List ℕ → Attributes → List (List ℕ)
+wrongly_listed ds t attributes = filter (λ s. not (has (types_of ds t) s)) (listed_types attributes)
+
+abbrev pub typed : List Decl → Decl → List Member
+typed ds (decls.Bean d) =
+    map (λ s. members.Typed None s) (wrongly_listed ds d.name d.attributes)
+    ++ flat_map (λ p. map (λ s. members.Typed (Some p.name) s) (wrongly_listed ds p.product_type p.attributes)) d.producers
+typed ds d = []
+
+-- ---- stereotypes that give two different default scopes to what declares none
+
+abbrev pub scope_conflicts : List Decl → Decl → List Member
+scope_conflicts ds (decls.Bean d) =
+    whole_if (managed ds d).has_scope_conflict ++ map (λ p. members.Producer p.name) (filter (λ p. (product ds d p).has_scope_conflict) d.producers)
+scope_conflicts ds d = []
+
+-- ---- uses with a member that isn't declared, or without a value for one that has no default
+
+abbrev pub bad_uses : List Decl → Decl → List Member
+bad_uses ds d = map members.Use (filter (is_misused ds) (written_uses d))
+
+-- ---- disposers that match no product, and products that two match
+
+abbrev pub products : List Decl → BeanDecl → List Effective
+products ds bean = map (product ds bean) bean.producers
+
+abbrev pub disposers_at_fault : List Decl → Decl → List Member
+disposers_at_fault ds (decls.Bean d) =
+    map (λ s. members.Disposer s.name) (filter (λ s. not (list_any (λ p. disposes ds p s) (products ds d))) d.disposers)
+    ++ map (λ p. members.Producer p.name) (filter (λ p. nat_lt 1 (length (filter (disposes ds (product ds d p)) d.disposers))) d.producers)
+disposers_at_fault ds d = []
+
+-- ---- injection points of enabled beans
+
+abbrev pub is_ambiguous : Choice → Bool
+is_ambiguous (Ambiguous ids) = true
+is_ambiguous _ = false
+
+abbrev pub has_verdict : Verdict → Choice → Bool
+has_verdict verdicts.Unsatisfied Unsatisfied = true
+has_verdict verdicts.Unsatisfied _ = false
+has_verdict verdicts.Ambiguous choice = is_ambiguous choice
+
+-- the points of an enabled bean whose choice is such
+abbrev pub points_with : (Choice → Bool) → List Decl → Effective → Option (List ℕ) → List PointDecl → List Member
+points_with test ds bean producer points =
+    if bean.is_enabled
+    then map (λ p. members.Point producer p.name) (filter (λ p. test (answer_to ds p)) points)
+    else []
+
+abbrev pub points_at_fault : (Choice → Bool) → List Decl → Decl → List Member
+points_at_fault test ds (decls.Bean d) =
+    points_with test ds (managed ds d) None d.points
+    ++ flat_map (λ p. points_with test ds (product ds d p) (Some p.name) p.params) d.producers
+points_at_fault test ds d = []
+
+-- ---- all faults
+
+abbrev pub members_at_fault : Code → List Decl → Decl → List Member
+members_at_fault codes_of.UnknownName ds d = unknown_names ds d
+members_at_fault codes_of.Cycle ds d = whole_if (reaches_itself ds d)
+members_at_fault codes_of.BadKind ds d = bad_kinds ds d
+members_at_fault codes_of.Typed ds d = typed ds d
+members_at_fault codes_of.ScopeConflict ds d = scope_conflicts ds d
+members_at_fault codes_of.Member ds d = bad_uses ds d
+members_at_fault codes_of.Disposer ds d = disposers_at_fault ds d
+members_at_fault codes_of.Unsatisfied ds d = points_at_fault (has_verdict verdicts.Unsatisfied) ds d
+members_at_fault codes_of.Ambiguous ds d = points_at_fault (has_verdict verdicts.Ambiguous) ds d
+
+abbrev pub all_codes : List Code
+all_codes = codes_of.UnknownName ∷ codes_of.Cycle ∷ codes_of.BadKind ∷ codes_of.Typed ∷ codes_of.ScopeConflict ∷ codes_of.Member ∷ codes_of.Disposer
+    ∷ codes_of.Unsatisfied ∷ codes_of.Ambiguous ∷ []
+
+-- the faults of a declaration of one code, by the texts of its members
+abbrev pub faults_of_code : List Decl → Decl → Code → List Fault
+faults_of_code ds d code = map (λ m. faults_are.Declared code (kind_of d) (name_of_decl d) m) (in_text_order (members_at_fault code ds d))
+
+abbrev pub faults_of : List Decl → Decl → List Fault
+faults_of ds d = flat_map (faults_of_code ds d) all_codes
+
+-- the names of enabled beans, each once, in byte order
+abbrev pub enabled_names : List Effective → List (List ℕ)
+enabled_names bs = in_order (flat_map (λ b. if b.is_enabled then option_to_list b.name else []) bs)
+
+-- those of which no bean is chosen
+abbrev pub name_clashes : List Effective → List Fault
+name_clashes bs = map faults_are.NameClash (filter (λ n. is_ambiguous (chosen_by_name bs n)) (enabled_names bs))
+
+-- the second is the first, a dot and a name
+abbrev pub goes_on : List ℕ → List ℕ → Bool
+goes_on x y = starts_with nat_eq y (x ++ 46 ∷ [])
+
+-- pairs of them
+abbrev pub name_prefixes : List Effective → List Fault
+name_prefixes bs = flat_map (λ x. map (faults_are.NamePrefix x) (filter (goes_on x) (enabled_names bs))) (enabled_names bs)
+
+-- the declarations in order, each with its faults by code and then by text; then the names
+unfoldable pub faults : List Decl → List Fault
+faults ds = flat_map (faults_of ds) ds ++ name_clashes (beans ds) ++ name_prefixes (beans ds)

@@ -1,0 +1,6 @@
+pub mod Named
+pub mod FaultText
+pub mod Faults
+pub mod AtFault
+pub mod TextTree
+pub mod Names

@@ -1,0 +1,25 @@
+-- The faults of names, as they are found.
+use Rattle.std.specs.Prelude.{ℕ, Bool, false, List, [], ◌++◌, ◌∷◌, map, filter, nat_eq, Option, Some, None, if◌then◌else◌}
+use Rattle.std.specs.List.{slice_get}
+use Rattle.std.specs.Option.{option_to_list}
+use Rattle.cdi_effective.specs.declared.records.Effective.{Effective}
+use Rattle.cdi_validate.specs.declared.fault.Fault.{Fault}
+use Rattle.cdi_validate.specs.declared.fault.Fault.TheVariants as faults_are
+use Rattle.cdi_validate.specs.Faults.{goes_on}
+
+-- the name of an enabled bean, if it has one
+abbrev pub enabled_name : Effective → List (List ℕ)
+enabled_name b = if b.is_enabled then option_to_list b.name else []
+
+abbrev pub is_dot : Option ℕ → Bool
+is_dot None = false
+is_dot (Some byte) = nat_eq 46 byte
+
+-- a dot is the i-th byte
+abbrev pub has_dot_at : List ℕ → ℕ → Bool
+has_dot_at bytes i = is_dot (slice_get bytes i)
+
+-- each name with those after it that go on behind it
+abbrev pub prefix_pairs : List (List ℕ) → List Fault
+prefix_pairs [] = []
+prefix_pairs (x ∷ xs) = map (faults_are.NamePrefix x) (filter (goes_on x) xs) ++ prefix_pairs xs

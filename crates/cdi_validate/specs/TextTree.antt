@@ -1,0 +1,12 @@
+-- A tree of members by their texts.
+use Rattle.std.specs.Prelude.{ℕ, List, map, Vec}
+use Rattle.std.specs.Global.{Global}
+use Rattle.std.specs.BTreeMap.{BTreeMap}
+use Rattle.cdi_validate.specs.declared.fault.Member.{Member}
+
+abbrev pub TextTree : Type 0
+TextTree = BTreeMap (Vec ℕ Global) Member
+
+-- its members, each behind its text
+abbrev pub entries_in : TextTree → List (List ℕ × Member)
+entries_in tree = map (λ entry. (entry.0.items, entry.1)) tree.entries

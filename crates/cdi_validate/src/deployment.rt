@@ -1,0 +1,187 @@
+//! The faults of a deployment.
+ghost use Rattle.std.specs.Prelude.{◌≡◌, ◌<◌, ◌^◌, ◌++◌, ℕ, List, length, map, take, IfOk, OnOk, OnErr};
+ghost use Rattle.std.specs.List.{flat_map};
+ghost use Rattle.cdi_model.specs.Decl.{kind_of, name_of_decl};
+ghost use Rattle.cdi_model.specs.declared.decl.Decl.{Decl as AnyDecl};
+ghost use Rattle.cdi_effective.specs.Beans.{entries};
+ghost use Rattle.cdi_observe.specs.Answers.{answer_to};
+ghost use Rattle.cdi_observe.specs.Kept.{evaluated};
+ghost use Rattle.cdi_observe.specs.Wanted.{points_of, wanted};
+ghost use Rattle.cdi_validate.specs.FaultText.{MembersInOrder};
+ghost use Rattle.cdi_validate.specs.Faults.{faults, faults_of, members_at_fault};
+ghost use Rattle.cdi_validate.specs.declared.fault.Fault.TheVariants as the_faults;
+
+use crate::disposing::disposers_at_fault;
+use crate::fault::{Code, Fault, Member};
+use crate::forms::{bad_kinds, cycles};
+use crate::names::push_of_names;
+use crate::points::{Verdict, points_at_fault};
+use crate::stereotyped::scope_conflicts;
+use crate::text::in_text_order;
+use crate::typing::typed;
+use crate::unknown::unknown_names;
+use crate::used::bad_uses;
+use cdi_effective::Effective;
+use cdi_model::{Decl, Decls};
+use cdi_observe::{View, evaluate};
+use cdi_resolve::Choice;
+use std::alloc::{AllocError, Global};
+use std::rc::Rc;
+
+/// The codes, in the order in which faults of a declaration stand.
+const CODES: [Code; 9] = [
+    Code::UnknownName,
+    Code::Cycle,
+    Code::BadKind,
+    Code::Typed,
+    Code::ScopeConflict,
+    Code::Member,
+    Code::Disposer,
+    Code::Unsatisfied,
+    Code::Ambiguous,
+];
+
+/// All that is wrong with the declarations of a view (CDI 4.0, Problems detected automatically by the container): the
+/// declarations in order, each with its faults by code and then by the texts of their members, and then the faults of
+/// names. Each fault stands once.
+///
+/// Each injection point is asked for once for each type and qualifiers. It takes memory for the faults, for the answers
+/// and where the view does. Where none is left, some of the keys from the front on were asked.
+pub fn faults<V: View>(alloc: Global, view: &mut V) -> Result<Vec<Fault>, AllocError>
+    ensures faults { IfOk result (λ list. list.items ≡ faults (V.list view.old)) }
+    ensures list { V.list view.new ≡ V.list view.old }
+    ensures ok { OnOk result (V.kept view.new ≡ evaluated (V.list view.old) (wanted (V.list view.old)) (V.kept view.old)) }
+    ensures err { OnErr result ((i : ℕ) × (V.kept view.new ≡ evaluated (V.list view.old) (take i (wanted (V.list view.old))) (V.kept view.old))) }
+    ensures order { MembersInOrder }
+{
+    let answers = evaluate(alloc, view)?;
+    let mut faults = Vec::new(alloc);
+    push_of_decls(
+        alloc,
+        view.decls(),
+        view.beans(),
+        answers.as_slice(),
+        &mut faults,
+    )?;
+    push_of_names(alloc, view.beans(), &mut faults)?;
+    Ok(faults)
+}
+
+/// Appends the faults of the declarations, by their beans and the answers to their injection points.
+fn push_of_decls(
+    alloc: Global,
+    decls: &Decls,
+    beans: &[Effective],
+    answers: &[Rc<Choice>],
+    faults: &mut Vec<Fault>,
+) -> Result<(), AllocError>
+    requires beans { beans.now ≡ flat_map (entries decls.now) decls.now }
+    requires answers { map (λ answer. answer.value) answers.now ≡ map (answer_to decls.now) (flat_map points_of decls.now) }
+    ensures { OnOk result (faults.new.items ≡ faults.old.items ++ flat_map (faults_of decls.now) decls.now) }
+{
+    let mut rest_of_beans = beans;
+    let mut rest_of_answers = answers;
+    for decl in decls.iter() {
+        let (own_beans, other_beans) = rest_of_beans.split_at(bean_count(decl));
+        let (own_answers, other_answers) = rest_of_answers.split_at(point_count(decl));
+        push_of_decl(alloc, decls, decl, own_beans, own_answers, faults)?;
+        rest_of_beans = other_beans;
+        rest_of_answers = other_answers;
+    }
+    Ok(())
+}
+
+/// How many beans a declaration gives.
+fn bean_count(decl: &Decl) -> usize
+    ensures { (ds : List AnyDecl) → result ≡ length (entries ds decl.now) }
+{
+    match decl {
+        Decl::Bean(bean) => 1 + bean.producers.as_slice().len(),
+        _ => 0,
+    }
+}
+
+/// How many injection points a declaration has.
+fn point_count(decl: &Decl) -> usize
+    requires { length (points_of decl.now) < 2 ^ 64 }
+    ensures { result ≡ length (points_of decl.now) }
+{
+    let Decl::Bean(bean) = decl else {
+        return 0;
+    };
+    let mut count = bean.points.len();
+    for producer in bean.producers.as_slice() {
+        count += producer.params.len();
+    }
+    count
+}
+
+/// Appends the faults of a declaration, which has these beans, and these answers to its injection points.
+fn push_of_decl(
+    alloc: Global,
+    decls: &Decls,
+    decl: &Decl,
+    beans: &[Effective],
+    answers: &[Rc<Choice>],
+    faults: &mut Vec<Fault>,
+) -> Result<(), AllocError>
+    requires beans { beans.now ≡ entries decls.now decl.now }
+    requires answers { map (λ answer. answer.value) answers.now ≡ map (answer_to decls.now) (points_of decl.now) }
+    ensures { OnOk result (faults.new.items ≡ faults.old.items ++ faults_of decls.now decl.now) }
+{
+    for code in CODES {
+        let members = members_at_fault(alloc, code, decls, decl, beans, answers)?;
+        push_declared(code, decl, in_text_order(alloc, members)?, faults)?;
+    }
+    Ok(())
+}
+
+/// Appends a fault of a declaration for each of some members.
+fn push_declared(
+    code: Code,
+    decl: &Decl,
+    members: Vec<Member>,
+    faults: &mut Vec<Fault>,
+) -> Result<(), AllocError>
+    ensures { OnOk result (faults.new.items ≡ faults.old.items ++ map (the_faults.Declared code (kind_of decl.now) (name_of_decl decl.now)) members.items) }
+{
+    for member in members {
+        faults.push(Fault::Declared {
+            code,
+            kind: decl.kind(),
+            name: decl.name(),
+            member,
+        })?;
+    }
+    Ok(())
+}
+
+/// The members of a declaration that have a fault of a code.
+fn members_at_fault(
+    alloc: Global,
+    code: Code,
+    decls: &Decls,
+    decl: &Decl,
+    beans: &[Effective],
+    answers: &[Rc<Choice>],
+) -> Result<Vec<Member>, AllocError>
+    requires beans { beans.now ≡ entries decls.now decl.now }
+    requires answers { map (λ answer. answer.value) answers.now ≡ map (answer_to decls.now) (points_of decl.now) }
+    ensures { IfOk result (λ list. list.items ≡ members_at_fault code decls.now decl.now) }
+{
+    match code {
+        Code::UnknownName => unknown_names(alloc, decls, decl),
+        Code::Cycle => cycles(alloc, decls, decl),
+        Code::BadKind => bad_kinds(alloc, decls, decl),
+        Code::Typed => typed(alloc, decls, decl, beans),
+        Code::ScopeConflict => scope_conflicts(alloc, decls, decl, beans),
+        Code::Member => bad_uses(alloc, decls, decl),
+        Code::Disposer => disposers_at_fault(alloc, decls, decl, beans),
+        Code::Unsatisfied => {
+            points_at_fault(alloc, decls, decl, beans, answers, Verdict::Unsatisfied)
+        }
+        Code::Ambiguous => {
+            points_at_fault(alloc, decls, decl, beans, answers, Verdict::Ambiguous)
+        }
+    }
+}

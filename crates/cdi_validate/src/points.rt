@@ -1,0 +1,98 @@
+//! Injection points without a bean (CDI 4.0, Unsatisfied and ambiguous dependencies).
+ghost use Rattle.std.specs.Prelude.{◌≡◌, ◌++◌, [], map, filter, if◌then◌else◌, IfOk, OnOk};
+ghost use Rattle.std.specs.List.{zip};
+ghost use Rattle.cdi_effective.specs.Beans.{entries};
+ghost use Rattle.cdi_observe.specs.Answers.{answer_to};
+ghost use Rattle.cdi_observe.specs.Wanted.{points_of};
+ghost use Rattle.cdi_validate.specs.Faults.{points_at_fault, has_verdict};
+ghost use Rattle.cdi_validate.specs.declared.fault.Member.TheVariants as parts;
+
+use crate::fault::Member;
+use cdi_effective::Effective;
+use cdi_model::{Decl, Decls, PointDecl};
+use cdi_resolve::Choice;
+use std::alloc::{AllocError, Global};
+use std::rc::Rc;
+
+/// What is wrong with the answer to a point.
+#[derive(Clone, Copy)]
+pub(crate) enum Verdict {
+    Unsatisfied,
+    Ambiguous,
+}
+
+impl Verdict {
+    /// Whether an answer is such.
+    fn is_of(self, choice: &Choice) -> bool
+        ensures { result ≡ has_verdict self choice.now }
+    {
+        match self {
+            Verdict::Unsatisfied => matches!(choice, Choice::Unsatisfied),
+            Verdict::Ambiguous => matches!(choice, Choice::Ambiguous(_)),
+        }
+    }
+}
+
+/// The injection points of the enabled beans of a declaration whose answers are such.
+pub(crate) fn points_at_fault(
+    alloc: Global,
+    decls: &Decls,
+    decl: &Decl,
+    beans: &[Effective],
+    answers: &[Rc<Choice>],
+    verdict: Verdict,
+) -> Result<Vec<Member>, AllocError>
+    requires records { beans.now ≡ entries decls.now decl.now }
+    requires answers { map (λ answer. answer.value) answers.now ≡ map (answer_to decls.now) (points_of decl.now) }
+    ensures { IfOk result (λ list. list.items ≡ points_at_fault (has_verdict verdict) decls.now decl.now) }
+{
+    let _ = decls;
+    let mut members = Vec::new(alloc);
+    let Decl::Bean(bean) = decl else {
+        return Ok(members);
+    };
+    let Some((managed, products)) = beans.split_first() else {
+        return Ok(members);
+    };
+    let (own, mut rest) = answers.split_at(bean.points.len());
+    push_at_fault(managed, bean.points.as_slice(), own, verdict, &mut members)?;
+    for (product, producer) in products.iter().zip(bean.producers.as_slice()) {
+        let (own, others) = rest.split_at(producer.params.len());
+        push_at_fault(
+            product,
+            producer.params.as_slice(),
+            own,
+            verdict,
+            &mut members,
+        )?;
+        rest = others;
+    }
+    Ok(members)
+}
+
+/// Appends the injection points of a bean whose answers are such, if it is enabled.
+fn push_at_fault(
+    bean: &Effective,
+    points: &[PointDecl],
+    answers: &[Rc<Choice>],
+    verdict: Verdict,
+    members: &mut Vec<Member>,
+) -> Result<(), AllocError>
+    ensures { OnOk result (members.new.items ≡ members.old.items
+        ++ (if bean.now.is_enabled
+        then map (λ z. parts.Point bean.now.id.producer z.0.name) (filter (λ z. has_verdict verdict z.1.value) (zip points.now answers.now))
+        else [])) }
+{
+    if !bean.is_enabled {
+        return Ok(());
+    }
+    for (point, answer) in points.iter().zip(answers) {
+        if verdict.is_of(answer) {
+            members.push(Member::Point {
+                producer: bean.id.producer,
+                name: point.name,
+            })?;
+        }
+    }
+    Ok(())
+}
