@@ -6,3 +6,5 @@ pub mod RecordLemmas
 pub mod TextLemmas
 pub mod TreeLemmas
 pub mod NameLemmas
+pub mod ClashLemmas
+pub mod OnceLemmas

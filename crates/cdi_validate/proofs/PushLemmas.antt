@@ -38,8 +38,9 @@ zip-empty (x ∷ xs) [] ends = refl
 zip-empty (x ∷ xs) (y ∷ ys) (inl e) = cc
 zip-empty (x ∷ xs) (y ∷ ys) (inr e) = cc
 
--- the same where the one list is read off the other
-pub none_left : {A B : Type 0} (f : A → B) (xs : List B) (ys : List A) → xs ≡ map f ys → (xs ≡ []) ⊎ (ys ≡ []) → ys ≡ []
-none_left f xs [] same ends = refl
-none_left f xs (y ∷ ys) same (inl e) = cc
-none_left f xs (y ∷ ys) same (inr e) = e
+-- the same where the second is read off another list
+pub zip-map-empty : {A B C : Type 0} (f : B → C) (xs : List A) (ys : List B) → (xs ≡ []) ⊎ (ys ≡ []) → zip xs (map f ys) ≡ []
+zip-map-empty f [] ys ends = refl
+zip-map-empty f (x ∷ xs) [] ends = refl
+zip-map-empty f (x ∷ xs) (y ∷ ys) (inl e) = cc
+zip-map-empty f (x ∷ xs) (y ∷ ys) (inr e) = cc

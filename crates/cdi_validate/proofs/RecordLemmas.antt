@@ -1,11 +1,10 @@
 -- What the records of a bean declaration say of its parts.
-use Rattle.std.proofs.Common.{◌≡◌, ℕ, Bool, true, false, not, cond, List, [], ◌∷◌, ◌++◌, map, filter, length, nat_lt, Option, Some, None, option_map, unwrap_or, refl, ap, ◌∙◌}
-use Rattle.std.specs.List.{AllByRecursion, flat_map, list_any, zip}
+use Rattle.std.proofs.Common.{◌≡◌, ℕ, Bool, true, false, not, cond, List, [], ◌∷◌, ◌++◌, map, filter, length, nat_lt, Option, Some, None, unwrap_or, refl, ap, ◌∙◌}
+use Rattle.std.specs.List.{AllByRecursion, flat_map, list_any}
 use Rattle.std.specs.Option.{option_to_list}
 use Rattle.std.specs.Str.{bytes_eq}
 use Rattle.std.proofs.lemmas.Bool.{or_left, or_right}
 use Rattle.std.proofs.lemmas.Map.Views.{any-filter_same}
-use Rattle.cdi_model.specs.declared.decl.Attributes.{Attributes}
 use Rattle.cdi_model.specs.declared.decl.BeanDecl.{BeanDecl}
 use Rattle.cdi_model.specs.declared.decl.Decl.{Decl}
 use Rattle.cdi_model.specs.declared.decl.Decl.TheVariants as decls
@@ -16,10 +15,9 @@ use Rattle.cdi_match.specs.Types.{object, types_of}
 use Rattle.cdi_match.proofs.Names.{one_name, same_text}
 use Rattle.cdi_effective.specs.Beans.{is_kept, restricted, effective, entries, managed, product}
 use Rattle.cdi_effective.specs.Disposers.{disposes}
-use Rattle.cdi_effective.specs.declared.records.BeanId.{BeanId}
 use Rattle.cdi_effective.specs.declared.records.Effective.{Effective}
-use Rattle.cdi_validate.specs.Faults.{disposers_at_fault, scope_conflicts, typed, wrongly_listed, whole_if}
-use Rattle.cdi_validate.specs.Named.{listed_types}
+use Rattle.cdi_validate.specs.Faults.{disposers_at_fault, typed, wrongly_listed}
+use Rattle.cdi_validate.specs.Records.{not_had, not_had_by, typed_by}
 use Rattle.cdi_validate.specs.declared.fault.Member.{Member}
 use Rattle.cdi_validate.specs.declared.fault.Member.TheVariants as parts
 
@@ -39,37 +37,6 @@ pub records_of_bean : (ds : List Decl) (d : Decl) (bean : BeanDecl) (b : Effecti
 records_of_bean ds d bean b bs is same =
     let all : b ∷ bs ≡ managed ds bean ∷ map (product ds bean) bean.producers = same ∙ ap (entries ds) is in
     (cc, cc)
-
--- ---- scopes
-
-abbrev pub part_of : BeanId → Member
-part_of id = unwrap_or (option_map parts.Producer id.producer) parts.Whole
-
-abbrev pub in_conflict : List Effective → List Member
-in_conflict bs = map (λ b. part_of b.id) (filter (λ b. b.has_scope_conflict) bs)
-
-conflicts_of_products : (ds : List Decl) (bean : BeanDecl) (ps : List ProducerDecl)
-    → in_conflict (map (product ds bean) ps) ≡ map (λ p. parts.Producer p.name) (filter (λ p. (product ds bean p).has_scope_conflict) ps)
-conflicts_of_products ds bean [] = refl
-conflicts_of_products ds bean (p ∷ ps) = by (product ds bean p).has_scope_conflict (conflicts_of_products ds bean ps)
-  where
-    by : (b : Bool) → in_conflict (map (product ds bean) ps) ≡ map (λ p. parts.Producer p.name) (filter (λ p. (product ds bean p).has_scope_conflict) ps)
-        → map (λ b. part_of b.id) (cond b (product ds bean p ∷ filter (λ b. b.has_scope_conflict) (map (product ds bean) ps)) (filter (λ b. b.has_scope_conflict) (map (product ds bean) ps)))
-        ≡ map (λ p. parts.Producer p.name) (cond b (p ∷ filter (λ p. (product ds bean p).has_scope_conflict) ps) (filter (λ p. (product ds bean p).has_scope_conflict) ps))
-    by true rest = ap (λ o. unwrap_or (option_map parts.Producer o) parts.Whole ∷ in_conflict (map (product ds bean) ps)) (product-producer ds bean p) ∙ ap (λ ms. parts.Producer p.name ∷ ms) rest
-    by false rest = rest
-
-pub conflicts_of_entries : (ds : List Decl) (d : Decl) → in_conflict (entries ds d) ≡ scope_conflicts ds d
-conflicts_of_entries ds (decls.Type d) = refl
-conflicts_of_entries ds (decls.Qualifier d) = refl
-conflicts_of_entries ds (decls.Stereotype d) = refl
-conflicts_of_entries ds (decls.Bean bean) = by (managed ds bean).has_scope_conflict (conflicts_of_products ds bean bean.producers)
-  where
-    by : (b : Bool) → in_conflict (map (product ds bean) bean.producers) ≡ map (λ p. parts.Producer p.name) (filter (λ p. (product ds bean p).has_scope_conflict) bean.producers)
-        → map (λ b. part_of b.id) (cond b (managed ds bean ∷ filter (λ b. b.has_scope_conflict) (map (product ds bean) bean.producers)) (filter (λ b. b.has_scope_conflict) (map (product ds bean) bean.producers)))
-        ≡ whole_if b ++ map (λ p. parts.Producer p.name) (filter (λ p. (product ds bean p).has_scope_conflict) bean.producers)
-    by true rest = ap (λ o. unwrap_or (option_map parts.Producer o) parts.Whole ∷ in_conflict (map (product ds bean) bean.producers)) (managed-producer ds bean) ∙ ap (λ ms. parts.Whole ∷ ms) rest
-    by false rest = rest
 
 -- ---- products by the names of their producer methods
 
@@ -126,10 +93,6 @@ listed_and_restricted : (o : Option (List (List ℕ))) (types : List (List ℕ))
 listed_and_restricted None types = refl
 listed_and_restricted (Some listed) types = same_filter (λ s. not (has (filter (is_kept listed) types) s)) (λ s. not (has types s)) listed (listed_among types listed listed (λ s h. h))
 
--- the listed types that a record does not have
-abbrev pub not_had : Effective → Attributes → List Member
-not_had b attributes = map (parts.Typed b.id.producer) (filter (λ s. not (has b.types s)) (listed_types attributes))
-
 not_had_of_managed : (ds : List Decl) (bean : BeanDecl) → not_had (managed ds bean) bean.attributes ≡ map (λ s. parts.Typed None s) (wrongly_listed ds bean.name bean.attributes)
 unfolding effective
 not_had_of_managed ds bean = ap (map (parts.Typed None)) (listed_and_restricted bean.attributes.types (types_of ds bean.name))
@@ -139,9 +102,6 @@ not_had_of_product : (ds : List Decl) (bean : BeanDecl) (p : ProducerDecl)
 unfolding effective
 not_had_of_product ds bean p = ap (map (parts.Typed (Some p.name))) (listed_and_restricted p.attributes.types (types_of ds p.product_type))
 
-abbrev pub not_had_by : List Effective → List ProducerDecl → List Member
-not_had_by bs ps = flat_map (λ z. not_had z.0 z.1.attributes) (zip bs ps)
-
 not_had_by_products : (ds : List Decl) (bean : BeanDecl) (ps : List ProducerDecl)
     → not_had_by (map (product ds bean) ps) ps ≡ flat_map (λ p. map (λ s. parts.Typed (Some p.name) s) (wrongly_listed ds p.product_type p.attributes)) ps
 not_had_by_products ds bean [] = refl
@@ -149,11 +109,11 @@ not_had_by_products ds bean (p ∷ ps) =
     ap (λ ms. ms ++ not_had_by (map (product ds bean) ps) ps) (not_had_of_product ds bean p)
     ∙ ap (λ ms. map (λ s. parts.Typed (Some p.name) s) (wrongly_listed ds p.product_type p.attributes) ++ ms) (not_had_by_products ds bean ps)
 
-pub not_had_by_records : (ds : List Decl) (bean : BeanDecl) (b : Effective) (bs : List Effective) → b ∷ bs ≡ entries ds (decls.Bean bean)
-    → not_had b bean.attributes ++ not_had_by bs bean.producers ≡ typed ds (decls.Bean bean)
-not_had_by_records ds bean b bs same =
-    let all = records_of_bean ds (decls.Bean bean) bean b bs refl same in
-    ap (λ r. not_had r bean.attributes ++ not_had_by bs bean.producers) all.0
-    ∙ ap (λ rs. not_had (managed ds bean) bean.attributes ++ not_had_by rs bean.producers) all.1
-    ∙ ap (λ ms. ms ++ not_had_by (map (product ds bean) bean.producers) bean.producers) (not_had_of_managed ds bean)
+-- the listed types that the records of a declaration do not have are those that are not among the unrestricted ones
+pub typed_by_entries : (ds : List Decl) (d : Decl) → typed_by d (entries ds d) ≡ typed ds d
+typed_by_entries ds (decls.Type d) = refl
+typed_by_entries ds (decls.Qualifier d) = refl
+typed_by_entries ds (decls.Stereotype d) = refl
+typed_by_entries ds (decls.Bean bean) =
+    ap (λ ms. ms ++ not_had_by (map (product ds bean) bean.producers) bean.producers) (not_had_of_managed ds bean)
     ∙ ap (λ ms. map (λ s. parts.Typed None s) (wrongly_listed ds bean.name bean.attributes) ++ ms) (not_had_by_products ds bean bean.producers)

@@ -1,9 +1,9 @@
 -- The faults of a deployment (CDI 4.0, Problems detected automatically by the container): for each code, what has it.
-use Rattle.std.specs.Prelude.{ℕ, nat_eq, nat_lt, Bool, true, false, not, ◌||◌, List, [], ◌∷◌, ◌++◌, map, filter, length, codes, Option, Some, None, is_some, if◌then◌else◌}
+use Rattle.std.specs.Prelude.{◌≢◌, AllPairs, ℕ, nat_eq, nat_lt, Bool, true, false, not, ◌||◌, List, [], ◌∷◌, ◌++◌, map, filter, length, codes, Option, Some, None, is_some, option_map, unwrap_or, if◌then◌else◌}
 use Rattle.std.specs.List.{list_any, flat_map, starts_with}
 use Rattle.std.specs.Option.{option_to_list}
 use Rattle.std.specs.Str.{bytes_eq}
-use Rattle.cdi_model.specs.Decl.{kind_of, name_of_decl}
+use Rattle.cdi_model.specs.Decl.{key_of, kind_of, name_of_decl}
 use Rattle.cdi_model.specs.DeclList.{find_decl}
 use Rattle.cdi_model.specs.declared.decl.Attributes.{Attributes}
 use Rattle.cdi_model.specs.declared.decl.BeanDecl.{BeanDecl}
@@ -19,8 +19,9 @@ use Rattle.cdi_match.specs.Misuse.{is_misused}
 use Rattle.cdi_match.specs.Order.{in_order}
 use Rattle.cdi_match.specs.Stereotypes.{inherits_itself}
 use Rattle.cdi_match.specs.Types.{extends_itself, object, types_of}
-use Rattle.cdi_effective.specs.Beans.{beans, managed, product}
+use Rattle.cdi_effective.specs.Beans.{beans, entries, managed, product}
 use Rattle.cdi_effective.specs.Disposers.{disposes}
+use Rattle.cdi_effective.specs.declared.records.BeanId.{BeanId}
 use Rattle.cdi_effective.specs.declared.records.Effective.{Effective}
 use Rattle.cdi_resolve.specs.Choices.{chosen_by_name}
 use Rattle.cdi_resolve.specs.declared.choice.Choice.{Choice}
@@ -116,10 +117,13 @@ typed ds d = []
 
 -- ---- stereotypes that give two different default scopes to what declares none
 
-abbrev pub scope_conflicts : List Decl → Decl → List Member
-scope_conflicts ds (decls.Bean d) =
-    whole_if (managed ds d).has_scope_conflict ++ map (λ p. members.Producer p.name) (filter (λ p. (product ds d p).has_scope_conflict) d.producers)
-scope_conflicts ds d = []
+-- the part of a declaration that a bean is: the whole of it a managed bean, and a producer method its product
+abbrev pub part_of : BeanId → Member
+part_of id = unwrap_or (option_map members.Producer id.producer) members.Whole
+
+-- the parts that the beans of a declaration are that have such stereotypes
+abbrev pub scope_conflicts : List Effective → List Member
+scope_conflicts bs = map (λ b. part_of b.id) (filter (λ b. b.has_scope_conflict) bs)
 
 -- ---- uses with a member that isn't declared, or without a value for one that has no default
 
@@ -168,7 +172,7 @@ members_at_fault codes_of.UnknownName ds d = unknown_names ds d
 members_at_fault codes_of.Cycle ds d = whole_if (reaches_itself ds d)
 members_at_fault codes_of.BadKind ds d = bad_kinds ds d
 members_at_fault codes_of.Typed ds d = typed ds d
-members_at_fault codes_of.ScopeConflict ds d = scope_conflicts ds d
+members_at_fault codes_of.ScopeConflict ds d = scope_conflicts (entries ds d)
 members_at_fault codes_of.Member ds d = bad_uses ds d
 members_at_fault codes_of.Disposer ds d = disposers_at_fault ds d
 members_at_fault codes_of.Unsatisfied ds d = points_at_fault (has_verdict verdicts.Unsatisfied) ds d
@@ -204,3 +208,7 @@ name_prefixes bs = flat_map (λ x. map (faults_are.NamePrefix x) (filter (goes_o
 -- the declarations in order, each with its faults by code and then by text; then the names
 unfoldable pub faults : List Decl → List Fault
 faults ds = flat_map (faults_of ds) ds ++ name_clashes (beans ds) ++ name_prefixes (beans ds)
+
+-- Where no two declarations have one kind and name, no fault stands twice.
+abbrev pub FaultsStandOnce : Type 0
+FaultsStandOnce = (ds : List Decl) → AllPairs (λ d e. key_of d ≢ key_of e) ds → AllPairs (λ f g. f ≢ g) (faults ds)

@@ -4,3 +4,4 @@ pub mod Faults
 pub mod AtFault
 pub mod TextTree
 pub mod Names
+pub mod Records

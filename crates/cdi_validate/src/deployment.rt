@@ -8,7 +8,7 @@ ghost use Rattle.cdi_observe.specs.Answers.{answer_to};
 ghost use Rattle.cdi_observe.specs.Kept.{evaluated};
 ghost use Rattle.cdi_observe.specs.Wanted.{points_of, wanted};
 ghost use Rattle.cdi_validate.specs.FaultText.{MembersInOrder};
-ghost use Rattle.cdi_validate.specs.Faults.{faults, faults_of, members_at_fault};
+ghost use Rattle.cdi_validate.specs.Faults.{faults, FaultsStandOnce, faults_of, members_at_fault};
 ghost use Rattle.cdi_validate.specs.declared.fault.Fault.TheVariants as the_faults;
 
 use crate::disposing::disposers_at_fault;
@@ -53,6 +53,7 @@ pub fn faults<V: View>(alloc: Global, view: &mut V) -> Result<Vec<Fault>, AllocE
     ensures ok { OnOk result (V.kept view.new ≡ evaluated (V.list view.old) (wanted (V.list view.old)) (V.kept view.old)) }
     ensures err { OnErr result ((i : ℕ) × (V.kept view.new ≡ evaluated (V.list view.old) (take i (wanted (V.list view.old))) (V.kept view.old))) }
     ensures order { MembersInOrder }
+    ensures once { FaultsStandOnce }
 {
     let answers = evaluate(alloc, view)?;
     let mut faults = Vec::new(alloc);
@@ -157,6 +158,7 @@ fn push_declared(
 }
 
 /// The members of a declaration that have a fault of a code.
+#[tactic(auto, using(crate::proofs::RecordLemmas::typed_by_entries, crate::proofs::PointLemmas::points_by_entries))]
 fn members_at_fault(
     alloc: Global,
     code: Code,
@@ -173,15 +175,11 @@ fn members_at_fault(
         Code::UnknownName => unknown_names(alloc, decls, decl),
         Code::Cycle => cycles(alloc, decls, decl),
         Code::BadKind => bad_kinds(alloc, decls, decl),
-        Code::Typed => typed(alloc, decls, decl, beans),
-        Code::ScopeConflict => scope_conflicts(alloc, decls, decl, beans),
+        Code::Typed => typed(alloc, decl, beans),
+        Code::ScopeConflict => scope_conflicts(alloc, beans),
         Code::Member => bad_uses(alloc, decls, decl),
         Code::Disposer => disposers_at_fault(alloc, decls, decl, beans),
-        Code::Unsatisfied => {
-            points_at_fault(alloc, decls, decl, beans, answers, Verdict::Unsatisfied)
-        }
-        Code::Ambiguous => {
-            points_at_fault(alloc, decls, decl, beans, answers, Verdict::Ambiguous)
-        }
+        Code::Unsatisfied => points_at_fault(alloc, decl, beans, answers, Verdict::Unsatisfied),
+        Code::Ambiguous => points_at_fault(alloc, decl, beans, answers, Verdict::Ambiguous),
     }
 }

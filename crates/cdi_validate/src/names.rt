@@ -1,5 +1,5 @@
 //! Names of beans that cannot stand beside one another (CDI 4.0, Ambiguous names).
-ghost use Rattle.std.specs.Prelude.{◌≡◌, ◌||◌, ◌∷◌, ◌++◌, ℕ, List, length, map, filter, flat_map, IfOk, OnOk};
+ghost use Rattle.std.specs.Prelude.{◌≡◌, ◌&&◌, ◌||◌, ◌∷◌, ◌++◌, ℕ, List, length, map, filter, flat_map, IfOk, OnOk};
 ghost use Rattle.std.specs.BTreeSet.{contains};
 ghost use Rattle.std.specs.List.Sorted.{IsStrictlySortedBy};
 ghost use Rattle.std.specs.Cmp.Lexicographic.{slice_cmp};
@@ -7,8 +7,8 @@ ghost use Rattle.std.specs.Ordering.{nat_cmp};
 ghost use Rattle.cdi_match.specs.Chain.{has};
 ghost use Rattle.cdi_resolve.specs.Choices.{chosen_by_name};
 ghost use Rattle.cdi_validate.specs.declared.fault.Fault.TheVariants as faults_are;
-ghost use Rattle.cdi_validate.specs.Faults.{enabled_names, goes_on, is_ambiguous, name_clashes, name_prefixes};
-ghost use Rattle.cdi_validate.specs.Names.{enabled_name, has_dot_at, prefix_pairs};
+ghost use Rattle.cdi_validate.specs.Faults.{goes_on, is_ambiguous, name_clashes, name_prefixes};
+ghost use Rattle.cdi_validate.specs.Names.{enabled_name, has_dot_at, prefix_pairs, stands_twice};
 
 use crate::fault::Fault;
 use cdi_effective::Effective;
@@ -17,8 +17,34 @@ use cdi_resolve::{Choice, choose_name};
 use std::alloc::{AllocError, Global};
 use std::collections::BTreeSet;
 
+/// Names of beans, and those of them that two beans have.
+#[derive(Drop)]
+struct Names {
+    all: BTreeSet<Name>,
+    twice: BTreeSet<Name>,
+}
+
+impl Names {
+    /// Adds the name of a bean that is enabled, if it has one.
+    fn add_if_enabled(&mut self, bean: &Effective) -> Result<(), AllocError>
+        ensures all { OnOk result ((s : List ℕ) → contains (slice_cmp nat_cmp) self.new.all s ≡ (contains (slice_cmp nat_cmp) self.old.all s || has (enabled_name bean.now) s)) }
+        ensures twice { OnOk result ((s : List ℕ) → contains (slice_cmp nat_cmp) self.new.twice s ≡ (contains (slice_cmp nat_cmp) self.old.twice s || (contains (slice_cmp nat_cmp) self.old.all s && has (enabled_name bean.now) s))) }
+    {
+        if !bean.is_enabled {
+            return Ok(());
+        }
+        let Some(name) = bean.name else {
+            return Ok(());
+        };
+        if !self.all.insert(name)? {
+            self.twice.insert(name)?;
+        }
+        Ok(())
+    }
+}
+
 /// Appends the faults of names: each that several enabled beans have of which none is chosen, and each pair of which one
-/// goes on behind the other.
+/// goes on behind the other. It looks through the beans again for each name that stands twice, and for no other.
 pub(crate) fn push_of_names(
     alloc: Global,
     beans: &[Effective],
@@ -26,43 +52,24 @@ pub(crate) fn push_of_names(
 ) -> Result<(), AllocError>
     ensures { OnOk result (faults.new.items ≡ faults.old.items ++ name_clashes beans.now ++ name_prefixes beans.now) }
 {
-    let names = enabled_names(alloc, beans)?;
-    push_clashes(alloc, beans, names.as_slice(), faults)?;
-    push_prefixes(names.as_slice(), faults)
+    let Names { all, twice } = names_of_enabled(alloc, beans)?;
+    push_clashes(alloc, beans, in_order(alloc, twice)?.as_slice(), faults)?;
+    push_prefixes(in_order(alloc, all)?.as_slice(), faults)
 }
 
-/// The names of the enabled beans, each once, in byte order.
-fn enabled_names(alloc: Global, beans: &[Effective]) -> Result<Vec<Name>, AllocError>
-    ensures value { IfOk result (λ names. names.items ≡ enabled_names beans.now) }
-    ensures order { IfOk result (λ names. IsStrictlySortedBy (slice_cmp nat_cmp) names.items) }
+/// The names of the enabled beans.
+fn names_of_enabled(alloc: Global, beans: &[Effective]) -> Result<Names, AllocError>
+    ensures all { IfOk result (λ names. (s : List ℕ) → contains (slice_cmp nat_cmp) names.all s ≡ has (flat_map enabled_name beans.now) s) }
+    ensures twice { IfOk result (λ names. (s : List ℕ) → contains (slice_cmp nat_cmp) names.twice s ≡ stands_twice beans.now s) }
 {
-    let names = names_of_enabled(alloc, beans)?;
-    in_order(alloc, names)
-}
-
-/// The set of them.
-fn names_of_enabled(alloc: Global, beans: &[Effective]) -> Result<BTreeSet<Name>, AllocError>
-    ensures { IfOk result (λ names. (s : List ℕ) → contains (slice_cmp nat_cmp) names s ≡ has (flat_map enabled_name beans.now) s) }
-{
-    let mut names = BTreeSet::new(alloc);
+    let mut names = Names {
+        all: BTreeSet::new(alloc),
+        twice: BTreeSet::new(alloc),
+    };
     for bean in beans {
-        add_if_enabled(&mut names, bean)?;
+        names.add_if_enabled(bean)?;
     }
     Ok(names)
-}
-
-/// Adds the name of a bean that is enabled, if it has one.
-fn add_if_enabled(names: &mut BTreeSet<Name>, bean: &Effective) -> Result<(), AllocError>
-    ensures { OnOk result ((s : List ℕ) → contains (slice_cmp nat_cmp) names.new s ≡ (contains (slice_cmp nat_cmp) names.old s || has (enabled_name bean.now) s)) }
-{
-    if !bean.is_enabled {
-        return Ok(());
-    }
-    let Some(name) = bean.name else {
-        return Ok(());
-    };
-    names.insert(name)?;
-    Ok(())
 }
 
 /// The names of a set, in order.

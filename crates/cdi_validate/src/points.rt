@@ -1,15 +1,12 @@
 //! Injection points without a bean (CDI 4.0, Unsatisfied and ambiguous dependencies).
-ghost use Rattle.std.specs.Prelude.{◌≡◌, ◌++◌, [], map, filter, if◌then◌else◌, IfOk, OnOk};
-ghost use Rattle.std.specs.List.{zip};
-ghost use Rattle.cdi_effective.specs.Beans.{entries};
-ghost use Rattle.cdi_observe.specs.Answers.{answer_to};
+ghost use Rattle.std.specs.Prelude.{◌≡◌, ◌++◌, length, map, IfOk, OnOk};
 ghost use Rattle.cdi_observe.specs.Wanted.{points_of};
-ghost use Rattle.cdi_validate.specs.Faults.{points_at_fault, has_verdict};
-ghost use Rattle.cdi_validate.specs.declared.fault.Member.TheVariants as parts;
+ghost use Rattle.cdi_validate.specs.Faults.{has_verdict};
+ghost use Rattle.cdi_validate.specs.Records.{at_fault, points_by};
 
 use crate::fault::Member;
 use cdi_effective::Effective;
-use cdi_model::{Decl, Decls, PointDecl};
+use cdi_model::{Decl, PointDecl};
 use cdi_resolve::Choice;
 use std::alloc::{AllocError, Global};
 use std::rc::Rc;
@@ -33,20 +30,18 @@ impl Verdict {
     }
 }
 
-/// The injection points of the enabled beans of a declaration whose answers are such.
+/// The injection points of enabled beans whose answers are such, of a declaration that has these beans, and these answers
+/// to its injection points.
 pub(crate) fn points_at_fault(
     alloc: Global,
-    decls: &Decls,
     decl: &Decl,
     beans: &[Effective],
     answers: &[Rc<Choice>],
     verdict: Verdict,
 ) -> Result<Vec<Member>, AllocError>
-    requires records { beans.now ≡ entries decls.now decl.now }
-    requires answers { map (λ answer. answer.value) answers.now ≡ map (answer_to decls.now) (points_of decl.now) }
-    ensures { IfOk result (λ list. list.items ≡ points_at_fault (has_verdict verdict) decls.now decl.now) }
+    requires { length answers.now ≡ length (points_of decl.now) }
+    ensures { IfOk result (λ list. list.items ≡ points_by (has_verdict verdict) decl.now beans.now (map (λ answer. answer.value) answers.now)) }
 {
-    let _ = decls;
     let mut members = Vec::new(alloc);
     let Decl::Bean(bean) = decl else {
         return Ok(members);
@@ -79,9 +74,7 @@ fn push_at_fault(
     members: &mut Vec<Member>,
 ) -> Result<(), AllocError>
     ensures { OnOk result (members.new.items ≡ members.old.items
-        ++ (if bean.now.is_enabled
-        then map (λ z. parts.Point bean.now.id.producer z.0.name) (filter (λ z. has_verdict verdict z.1.value) (zip points.now answers.now))
-        else [])) }
+        ++ at_fault (has_verdict verdict) bean.now points.now (map (λ answer. answer.value) answers.now)) }
 {
     if !bean.is_enabled {
         return Ok(());

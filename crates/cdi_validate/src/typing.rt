@@ -1,27 +1,20 @@
 //! Types to which beans are restricted (CDI 4.0, Restricting the bean types of a bean).
-ghost use Rattle.std.specs.Prelude.{◌≡◌, ◌++◌, not, map, filter, IfOk, OnOk};
-ghost use Rattle.cdi_match.specs.Chain.{has};
-ghost use Rattle.cdi_effective.specs.Beans.{entries};
-ghost use Rattle.cdi_validate.specs.Faults.{typed};
-ghost use Rattle.cdi_validate.specs.Named.{listed_types};
-ghost use Rattle.cdi_validate.specs.declared.fault.Member.TheVariants as parts;
+ghost use Rattle.std.specs.Prelude.{◌≡◌, ◌++◌, IfOk, OnOk};
+ghost use Rattle.cdi_validate.specs.Records.{not_had, typed_by};
 
 use crate::fault::Member;
 use cdi_effective::Effective;
-use cdi_model::{Attributes, Decl, Decls};
+use cdi_model::{Attributes, Decl};
 use std::alloc::{AllocError, Global};
 
-/// The types that a bean or a producer method lists and does not have without restriction.
+/// The types that a bean or a producer method lists and does not have, of a declaration that has these beans.
 pub(crate) fn typed(
     alloc: Global,
-    decls: &Decls,
     decl: &Decl,
     beans: &[Effective],
 ) -> Result<Vec<Member>, AllocError>
-    requires { beans.now ≡ entries decls.now decl.now }
-    ensures { IfOk result (λ list. list.items ≡ typed decls.now decl.now) }
+    ensures { IfOk result (λ list. list.items ≡ typed_by decl.now beans.now) }
 {
-    let _ = decls;
     let mut members = Vec::new(alloc);
     let Decl::Bean(bean) = decl else {
         return Ok(members);
@@ -43,7 +36,7 @@ fn push_wrongly_listed(
     attributes: &Attributes,
     members: &mut Vec<Member>,
 ) -> Result<(), AllocError>
-    ensures { OnOk result (members.new.items ≡ members.old.items ++ map (parts.Typed bean.now.id.producer) (filter (λ s. not (has bean.now.types s)) (listed_types attributes.now))) }
+    ensures { OnOk result (members.new.items ≡ members.old.items ++ not_had bean.now attributes.now) }
 {
     let Some(listed) = &attributes.types else {
         return Ok(());

@@ -4,7 +4,8 @@ use cdi_container::{Counted, Options, RunFault, run};
 use std::alloc::Global;
 
 /// A script in which a qualifier, a type, a stereotype and two beans are put, a bean is chosen by its qualifier, by its
-/// name and as an alternative, and a type that is absent is dropped. Each command prints one line.
+/// name and as an alternative, the faults are reported, and a type that is absent is dropped. Each command but the report
+/// prints one line.
 const SCRIPT: &[u8] = br#"put
 kind="qualifier"
 name="Rank"
@@ -34,6 +35,7 @@ priority=1
 .
 name mall
 choose Object Any
+report
 drop type Mall
 "#;
 
@@ -46,8 +48,13 @@ ok
 ok
 one Mall
 one Mall
+faults 1
+F01 bean Mall type Mall
 refused E11 Absent
 "#;
+
+/// What a report that has a fault prints first.
+const REPORT_BEGINS: &[u8] = b"faults 1\n";
 
 /// Runs the script, and tells whether an allocation was refused; where one was, the script is run again.
 pub fn run_script(alloc: Global) -> Result<bool, Difference> {
@@ -78,5 +85,7 @@ fn run_once(alloc: Global) -> Result<bool, Difference> {
 
 /// Whether these are the answers of the first commands, or of none.
 fn is_whole_answers(written: &[u8]) -> bool {
-    TEXT.starts_with(written) && (written.is_empty() || written.ends_with(b"\n"))
+    let ends = written.is_empty()
+        || (written.ends_with(b"\n") && !written.ends_with(REPORT_BEGINS));
+    TEXT.starts_with(written) && ends
 }

@@ -10,6 +10,7 @@ use Rattle.cdi_observe.specs.Kept.{Kept, evaluated}
 use Rattle.cdi_observe.specs.Wanted.{wanted}
 use Rattle.cdi_validate.specs.declared.fault.Fault.{Fault}
 use Rattle.cdi_validate.specs.Faults.{faults, faults_of, name_clashes, name_prefixes}
+use Rattle.cdi_validate.proofs.OnceLemmas.{faults_stand_once}
 use Rattle.cdi_validate.proofs.OrderLemmas.{members_in_order}
 use Rattle.cdi_validate.proofs.deployment.faults.Goals as goal
 
@@ -59,3 +60,15 @@ returns-in_err-push_of_names-clause-order g c = members_in_order
 
 pub returns-clause-order : goal.returns-clause-order
 returns-clause-order g c = members_in_order
+
+pub returns-in_err-answers-clause-once : goal.returns-in_err-answers-clause-once
+returns-in_err-answers-clause-once g c = faults_stand_once
+
+pub returns-in_err-push_of_decls-clause-once : goal.returns-in_err-push_of_decls-clause-once
+returns-in_err-push_of_decls-clause-once g c = faults_stand_once
+
+pub returns-in_err-push_of_names-clause-once : goal.returns-in_err-push_of_names-clause-once
+returns-in_err-push_of_names-clause-once g c = faults_stand_once
+
+pub returns-clause-once : goal.returns-clause-once
+returns-clause-once g c = faults_stand_once

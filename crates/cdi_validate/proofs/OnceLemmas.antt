@@ -1,0 +1,317 @@
+-- No fault stands twice.
+use Rattle.std.proofs.Common.{◌≡◌, ◌≢◌, ◌<◌, ℕ, zero, suc, nat_eq, Bool, true, false, cond, List, [], ◌∷◌, ◌++◌, Option, Some, None, length, map, filter, Ordering, Less, Greater, refl, sym, ap, ◌∙◌, append_assoc, subst, arith}
+use Rattle.std.specs.List.{AllByRecursion, AllPairs, IsDistinct, flat_map, slice_index_or}
+use Rattle.std.proofs.lemmas.Bool.Decides.{Decides-eqb}
+use Rattle.std.proofs.lemmas.Map.Made.{AllPairs-from_IsDistinct}
+use Rattle.std.specs.List.Sorted.{IsStrictlySortedBy}
+use Rattle.std.specs.Cmp.Lexicographic.{slice_cmp, nat_list_cmp_total}
+use Rattle.std.specs.Ordering.{nat_cmp, ordering_reverse}
+use Rattle.std.specs.Option.{option_to_list}
+use Rattle.cdi_model.specs.Decl.{key_of, kind_of, name_of_decl}
+use Rattle.cdi_model.specs.declared.decl.Decl.{Decl}
+use Rattle.cdi_model.specs.declared.key.Key.{Key}
+use Rattle.cdi_match.proofs.OrderLemmas.{in_order-rises}
+use Rattle.cdi_effective.specs.Beans.{beans}
+use Rattle.cdi_effective.specs.declared.records.Effective.{Effective}
+use Rattle.cdi_validate.specs.declared.fault.Code.{Code}
+use Rattle.cdi_validate.specs.declared.fault.Code.TheVariants as codes_of
+use Rattle.cdi_validate.specs.declared.fault.Fault.{Fault}
+use Rattle.cdi_validate.specs.declared.fault.Fault.TheVariants as faults_are
+use Rattle.cdi_validate.specs.declared.fault.Member.{Member}
+use Rattle.cdi_validate.specs.FaultText.{text_of_member, byte_order, in_text_order}
+use Rattle.cdi_validate.specs.Faults.{all_codes, faults_of_code, faults_of, members_at_fault, enabled_names, name_clashes, name_prefixes, goes_on, faults, FaultsStandOnce}
+use Rattle.cdi_validate.proofs.OrderLemmas.{members_in_order}
+
+-- ---- each apart from the later ones
+
+abbrev Apart : {X : Type 0} → (X → X → Type 0) → List X → Type 0
+Apart R [] = Unit {0}
+Apart R (x ∷ xs) = AllByRecursion (R x) xs × Apart R xs
+
+all-at : {X : Type 0} (P : X → Type 0) (xs : List X) → AllByRecursion P xs → (j : ℕ) (d : X) → j < length xs → P (slice_index_or xs j d)
+all-at P [] all j d lt = absurd (omega (arith, lt))
+all-at P (x ∷ xs) all zero d lt = all.0
+all-at P (x ∷ xs) all (suc j) d lt = all-at P xs all.1 j d (omega (arith, lt))
+
+all-from : {X : Type 0} (P : X → Type 0) (xs : List X) → ((j : ℕ) (d : X) → j < length xs → P (slice_index_or xs j d)) → AllByRecursion P xs
+all-from P [] each = tt
+all-from P (x ∷ xs) each = (each zero x (omega arith), all-from P xs (λ j d lt. each (suc j) d (omega (arith, lt))))
+
+apart-pairs : {X : Type 0} (R : X → X → Type 0) (xs : List X) → Apart R xs → AllPairs R xs
+apart-pairs R [] apart i j d lt within = absurd (omega (arith, within))
+apart-pairs R (x ∷ xs) apart i zero d lt within = absurd (omega (arith, lt))
+apart-pairs R (x ∷ xs) apart zero (suc j) d lt within = all-at (R x) xs apart.0 j d (omega (arith, within))
+apart-pairs R (x ∷ xs) apart (suc i) (suc j) d lt within = apart-pairs R xs apart.1 i j d (omega (arith, lt)) (omega (arith, within))
+
+pairs-apart : {X : Type 0} (R : X → X → Type 0) (xs : List X) → AllPairs R xs → Apart R xs
+pairs-apart R [] all = tt
+pairs-apart R (x ∷ xs) all = (
+  all-from (R x) xs (λ j d lt. all zero (suc j) d (omega arith) (omega (arith, lt))),
+  pairs-apart R xs (λ i j d lt within. all (suc i) (suc j) d (omega (arith, lt)) (omega (arith, within))),
+)
+
+-- ---- lists put together
+
+all-more : {X : Type 0} (P Q : X → Type 0) → ((x : X) → P x → Q x) → (xs : List X) → AllByRecursion P xs → AllByRecursion Q xs
+all-more P Q more [] all = tt
+all-more P Q more (x ∷ xs) all = (more x all.0, all-more P Q more xs all.1)
+
+all-append : {X : Type 0} (P : X → Type 0) (xs ys : List X) → AllByRecursion P xs → AllByRecursion P ys → AllByRecursion P (xs ++ ys)
+all-append P [] ys all others = others
+all-append P (x ∷ xs) ys all others = (all.0, all-append P xs ys all.1 others)
+
+all-filter : {X : Type 0} (P : X → Type 0) (test : X → Bool) (xs : List X) → AllByRecursion P xs → AllByRecursion P (filter test xs)
+all-filter P test [] all = tt
+all-filter P test (x ∷ xs) all = by (test x) (all-filter P test xs all.1)
+  where
+    by : (b : Bool) → AllByRecursion P (filter test xs) → AllByRecursion P (cond b (x ∷ filter test xs) (filter test xs))
+    by true rest = (all.0, rest)
+    by false rest = rest
+
+apart-filter : {X : Type 0} (R : X → X → Type 0) (test : X → Bool) (xs : List X) → Apart R xs → Apart R (filter test xs)
+apart-filter R test [] apart = tt
+apart-filter R test (x ∷ xs) apart = by (test x) (apart-filter R test xs apart.1)
+  where
+    by : (b : Bool) → Apart R (filter test xs) → Apart R (cond b (x ∷ filter test xs) (filter test xs))
+    by true rest = (all-filter (R x) test xs apart.0, rest)
+    by false rest = rest
+
+all-map : {X Y : Type 0} (P : Y → Type 0) (f : X → Y) (xs : List X) → AllByRecursion (λ x. P (f x)) xs → AllByRecursion P (map f xs)
+all-map P f [] all = tt
+all-map P f (x ∷ xs) all = (all.0, all-map P f xs all.1)
+
+all-each : {X : Type 0} (P : X → Type 0) → ((x : X) → P x) → (xs : List X) → AllByRecursion P xs
+all-each P each [] = tt
+all-each P each (x ∷ xs) = (each x, all-each P each xs)
+
+abbrev Differ : {X : Type 0} → List X → Type 0
+Differ xs = Apart (λ x y. x ≢ y) xs
+
+differ-map : {X Y : Type 0} (f : X → Y) → ((x y : X) → f x ≡ f y → x ≡ y) → (xs : List X) → Differ xs → Differ (map f xs)
+differ-map f one [] differ = tt
+differ-map f one (x ∷ xs) differ = (
+  all-map (λ y. f x ≢ y) f xs (all-more (λ y. x ≢ y) (λ y. f x ≢ f y) (λ y other e. other (one x y e)) xs differ.0),
+  differ-map f one xs differ.1,
+)
+
+-- what has one tag differs from what has another
+module _ {X T : Type 0} (tag : X → T) where
+  abbrev Tagged : T → List X → Type 0
+  Tagged t xs = AllByRecursion (λ x. tag x ≡ t) xs
+
+  other-tag : (t u : T) (x y : X) → t ≢ u → tag x ≡ t → tag y ≡ u → x ≢ y
+  other-tag t u x y differ of_x of_y e = differ (sym of_x ∙ ap tag e ∙ of_y)
+
+  differ-append : (t : T) (xs ys : List X) → Tagged t xs → AllByRecursion (λ y. tag y ≢ t) ys → Differ xs → Differ ys → Differ (xs ++ ys)
+  differ-append t [] ys tagged others apart rest = rest
+  differ-append t (x ∷ xs) ys tagged others apart rest = (
+    all-append (λ y. x ≢ y) xs ys apart.0 (all-more (λ y. tag y ≢ t) (λ y. x ≢ y) (λ y other e. other (sym (ap tag e) ∙ tagged.0)) ys others),
+    differ-append t xs ys tagged.1 others apart.1 rest,
+  )
+
+  module _ {D : Type 0} (f : D → List X) (key : D → T) (tagged : (d : D) → Tagged (key d) (f d)) where
+    -- none of these has the tag
+    none-tagged : (t : T) (ds : List D) → AllByRecursion (λ d. t ≢ key d) ds → AllByRecursion (λ y. tag y ≢ t) (flat_map f ds)
+    none-tagged t [] others = tt
+    none-tagged t (d ∷ ds) others =
+        all-append (λ y. tag y ≢ t) (f d) (flat_map f ds) (all-more (λ y. tag y ≡ key d) (λ y. tag y ≢ t) (λ y of_y e. others.0 (sym e ∙ of_y)) (f d) (tagged d)) (none-tagged t ds others.1)
+
+    differ-flat_map : ((d : D) → Differ (f d)) → (ds : List D) → Apart (λ d e. key d ≢ key e) ds → Differ (flat_map f ds)
+    differ-flat_map each [] apart = tt
+    differ-flat_map each (d ∷ ds) apart =
+        differ-append (key d) (f d) (flat_map f ds) (tagged d) (none-tagged (key d) ds apart.0) (each d) (differ-flat_map each ds apart.1)
+
+-- ---- texts that rise
+
+never-before-itself : (t : List ℕ) → byte_order t t ≢ Less
+never-before-itself t less = let no : Less ≡ Greater = sym less ∙ nat_list_cmp_total.antisymm t t ∙ ap ordering_reverse less in absurd (cc)
+
+rising-differ : (ts : List (List ℕ)) → IsStrictlySortedBy byte_order ts → Differ ts
+unfolding IsStrictlySortedBy
+rising-differ [] rise = tt
+rising-differ (t ∷ ts) rise =
+    (all-more (λ u. byte_order t u ≡ Less) (λ u. t ≢ u) (λ u less e. never-before-itself t (ap (byte_order t) e ∙ less)) ts rise.0, rising-differ ts rise.1)
+
+-- what differs by its texts differs
+differ-by : {X Y : Type 0} (f : X → Y) (xs : List X) → Differ (map f xs) → Differ xs
+differ-by f [] differ = tt
+differ-by f (x ∷ xs) differ = (from_map xs differ.0, differ-by f xs differ.1)
+  where
+    from_map : (ys : List _) → AllByRecursion (λ y. f x ≢ y) (map f ys) → AllByRecursion (λ y. x ≢ y) ys
+    from_map [] all = tt
+    from_map (y ∷ ys) all = ((λ e. all.0 (ap f e)), from_map ys all.1)
+
+-- ---- faults of one declaration
+
+abbrev code-number : Code → ℕ
+code-number codes_of.UnknownName = 1
+code-number codes_of.Cycle = 2
+code-number codes_of.BadKind = 3
+code-number codes_of.Typed = 4
+code-number codes_of.ScopeConflict = 5
+code-number codes_of.Member = 7
+code-number codes_of.Disposer = 8
+code-number codes_of.Unsatisfied = 20
+code-number codes_of.Ambiguous = 21
+
+-- 0 for a fault of names
+abbrev code-of : Fault → ℕ
+code-of (faults_are.Declared code kind name member) = code-number code
+code-of (faults_are.NameClash name) = 0
+code-of (faults_are.NamePrefix name longer) = 0
+
+one-member : (code : Code) (d : Decl) (m n : Member) → faults_are.Declared code (kind_of d) (name_of_decl d) m ≡ faults_are.Declared code (kind_of d) (name_of_decl d) n → m ≡ n
+one-member code d m n e = cc
+
+of_code-differ : (ds : List Decl) (d : Decl) (code : Code) → Differ (faults_of_code ds d code)
+of_code-differ ds d code =
+    let ms = members_at_fault code ds d in
+    differ-map (faults_are.Declared code (kind_of d) (name_of_decl d)) (one-member code d) (in_text_order ms)
+    (differ-by text_of_member (in_text_order ms) (rising-differ (map text_of_member (in_text_order ms)) (members_in_order ms).0))
+
+of_code-tagged : (ds : List Decl) (d : Decl) (code : Code) → Tagged code-of (code-number code) (faults_of_code ds d code)
+of_code-tagged ds d code =
+    let ms = in_text_order (members_at_fault code ds d) in
+    all-map (λ f. code-of f ≡ code-number code) (faults_are.Declared code (kind_of d) (name_of_decl d)) ms (all-each _ (λ m. refl) ms)
+
+numbers-differ : (ns : List ℕ) → IsDistinct nat_eq ns → Differ ns
+numbers-differ ns apart = pairs-apart (λ m n. m ≢ n) ns (AllPairs-from_IsDistinct Decides-eqb ns apart)
+
+numbers-apart : IsDistinct nat_eq (map code-number all_codes)
+unfolding IsDistinct
+numbers-apart = ((refl, (refl, (refl, (refl, (refl, (refl, (refl, (refl, tt)))))))), ((refl, (refl, (refl, (refl, (refl, (refl, (refl, tt))))))), ((refl, (refl, (refl, (refl, (refl, (refl, tt)))))), ((refl, (refl, (refl, (refl, (refl, tt))))), ((refl, (refl, (refl, (refl, tt)))), ((refl, (refl, (refl, tt))), ((refl, (refl, tt)), ((refl, tt), (tt, tt)))))))))
+
+codes-differ : Apart (λ c e. code-number c ≢ code-number e) all_codes
+codes-differ = by all_codes (numbers-differ (map code-number all_codes) numbers-apart)
+  where
+    from_map : (c : Code) (es : List Code) → AllByRecursion (λ n. code-number c ≢ n) (map code-number es) → AllByRecursion (λ e. code-number c ≢ code-number e) es
+    from_map c [] all = tt
+    from_map c (e ∷ es) all = (all.0, from_map c es all.1)
+
+    by : (cs : List Code) → Differ (map code-number cs) → Apart (λ c e. code-number c ≢ code-number e) cs
+    by [] differ = tt
+    by (c ∷ cs) differ = (from_map c cs differ.0, by cs differ.1)
+
+of_decl-differ : (ds : List Decl) (d : Decl) → Differ (faults_of ds d)
+of_decl-differ ds d = differ-flat_map code-of (faults_of_code ds d) code-number (of_code-tagged ds d) (of_code-differ ds d) all_codes codes-differ
+
+-- ---- faults of all declarations
+
+abbrev key-of : Fault → Option Key
+key-of (faults_are.Declared code kind name member) = Some (record { kind = kind; name = name })
+key-of (faults_are.NameClash name) = None
+key-of (faults_are.NamePrefix name longer) = None
+
+some-key : (k l : Key) → Some k ≡ Some l → k ≡ l
+some-key k l e = cc
+
+of_decl-tagged : (ds : List Decl) (d : Decl) → Tagged key-of (Some (key_of d)) (faults_of ds d)
+of_decl-tagged ds d = go all_codes
+  where
+    go : (cs : List Code) → Tagged key-of (Some (key_of d)) (flat_map (faults_of_code ds d) cs)
+    go [] = tt
+    go (c ∷ cs) =
+        let ms = in_text_order (members_at_fault c ds d) in
+        all-append (λ f. key-of f ≡ Some (key_of d)) (faults_of_code ds d c) (flat_map (faults_of_code ds d) cs)
+        (all-map (λ f. key-of f ≡ Some (key_of d)) (faults_are.Declared c (kind_of d) (name_of_decl d)) ms (all-each _ (λ m. refl) ms)) (go cs)
+
+apart-more : {X : Type 0} (R S : X → X → Type 0) → ((x y : X) → R x y → S x y) → (xs : List X) → Apart R xs → Apart S xs
+apart-more R S more [] apart = tt
+apart-more R S more (x ∷ xs) apart = (all-more (R x) (S x) (more x) xs apart.0, apart-more R S more xs apart.1)
+
+declared-differ : (now ds : List Decl) → AllPairs (λ d e. key_of d ≢ key_of e) ds → Differ (flat_map (faults_of now) ds)
+declared-differ now ds keyed =
+    differ-flat_map key-of (faults_of now) (λ d. Some (key_of d)) (of_decl-tagged now) (of_decl-differ now) ds
+    (apart-more _ _ (λ d e other same. other (some-key (key_of d) (key_of e) same)) ds (pairs-apart (λ d e. key_of d ≢ key_of e) ds keyed))
+
+-- 0 for a fault of a declaration, and one for each kind of faults of names
+abbrev is-declared : Fault → ℕ
+is-declared (faults_are.Declared code kind name member) = 0
+is-declared (faults_are.NameClash name) = 1
+is-declared (faults_are.NamePrefix name longer) = 2
+
+one-apart : ◌≢◌ {A = ℕ} 1 0
+one-apart e = absurd (omega (arith, e))
+
+two-apart : ◌≢◌ {A = ℕ} 2 1
+two-apart e = absurd (omega (arith, e))
+
+two-from_zero : ◌≢◌ {A = ℕ} 2 0
+two-from_zero e = absurd (omega (arith, e))
+
+declared-tagged : (now ds : List Decl) → AllByRecursion (λ f. is-declared f ≡ 0) (flat_map (faults_of now) ds)
+declared-tagged now [] = tt
+declared-tagged now (d ∷ ds) = all-append (λ f. is-declared f ≡ 0) (faults_of now d) (flat_map (faults_of now) ds) (go all_codes) (declared-tagged now ds)
+  where
+    go : (cs : List Code) → AllByRecursion (λ f. is-declared f ≡ 0) (flat_map (faults_of_code now d) cs)
+    go [] = tt
+    go (c ∷ cs) =
+        let ms = in_text_order (members_at_fault c now d) in
+        all-append (λ f. is-declared f ≡ 0) (faults_of_code now d c) (flat_map (faults_of_code now d) cs)
+        (all-map (λ f. is-declared f ≡ 0) (faults_are.Declared c (kind_of d) (name_of_decl d)) ms (all-each _ (λ m. refl) ms)) (go cs)
+
+-- ---- faults of names
+
+one-name : (m n : List ℕ) → faults_are.NameClash m ≡ faults_are.NameClash n → m ≡ n
+one-name m n e = cc
+
+one-longer : (x m n : List ℕ) → faults_are.NamePrefix x m ≡ faults_are.NamePrefix x n → m ≡ n
+one-longer x m n e = cc
+
+names-differ : (bs : List Effective) → Differ (enabled_names bs)
+names-differ bs = rising-differ (enabled_names bs) (in_order-rises (flat_map (λ b. cond b.is_enabled (option_to_list b.name) []) bs))
+
+clashes-differ : (bs : List Effective) → Differ (name_clashes bs)
+clashes-differ bs = differ-map faults_are.NameClash one-name _ (apart-filter (λ x y. x ≢ y) _ (enabled_names bs) (names-differ bs))
+
+abbrev shorter-of : Fault → Option (List ℕ)
+shorter-of (faults_are.Declared code kind name member) = None
+shorter-of (faults_are.NameClash name) = None
+shorter-of (faults_are.NamePrefix name longer) = Some name
+
+some-name : (k l : List ℕ) → Some k ≡ Some l → k ≡ l
+some-name k l e = cc
+
+prefixes-differ : (bs : List Effective) → Differ (name_prefixes bs)
+prefixes-differ bs =
+    let names = enabled_names bs in
+    differ-flat_map shorter-of (λ x. map (faults_are.NamePrefix x) (filter (goes_on x) names)) (λ x. Some x)
+    (λ x. all-map (λ f. shorter-of f ≡ Some x) (faults_are.NamePrefix x) (filter (goes_on x) names) (all-each _ (λ y. refl) (filter (goes_on x) names)))
+    (λ x. differ-map (faults_are.NamePrefix x) (one-longer x) (filter (goes_on x) names) (apart-filter (λ y z. y ≢ z) (goes_on x) names (names-differ bs)))
+    names
+    (apart-more _ _ (λ x y other same. other (some-name x y same)) names (names-differ bs))
+
+prefixes-tagged : (names all : List (List ℕ)) → AllByRecursion (λ f. is-declared f ≢ 1) (flat_map (λ x. map (faults_are.NamePrefix x) (filter (goes_on x) all)) names)
+prefixes-tagged [] all = tt
+prefixes-tagged (x ∷ xs) all =
+    all-append (λ f. is-declared f ≢ 1) (map (faults_are.NamePrefix x) (filter (goes_on x) all)) _
+    (all-map (λ f. is-declared f ≢ 1) (faults_are.NamePrefix x) (filter (goes_on x) all) (all-each _ (λ y e. two-apart e) (filter (goes_on x) all))) (prefixes-tagged xs all)
+
+prefixes-not_zero : (names all : List (List ℕ)) → AllByRecursion (λ f. is-declared f ≢ 0) (flat_map (λ x. map (faults_are.NamePrefix x) (filter (goes_on x) all)) names)
+prefixes-not_zero [] all = tt
+prefixes-not_zero (x ∷ xs) all =
+    all-append (λ f. is-declared f ≢ 0) (map (faults_are.NamePrefix x) (filter (goes_on x) all)) _
+    (all-map (λ f. is-declared f ≢ 0) (faults_are.NamePrefix x) (filter (goes_on x) all) (all-each _ (λ y e. two-from_zero e) (filter (goes_on x) all))) (prefixes-not_zero xs all)
+
+clashes-tagged : (names : List (List ℕ)) → AllByRecursion (λ f. is-declared f ≡ 1) (map faults_are.NameClash names)
+clashes-tagged names = all-map (λ f. is-declared f ≡ 1) faults_are.NameClash names (all-each _ (λ n. refl) names)
+
+-- ---- all faults
+
+names-differ_too : (bs : List Effective) → Differ (name_clashes bs ++ name_prefixes bs)
+names-differ_too bs =
+    differ-append is-declared 1 (name_clashes bs) (name_prefixes bs) (clashes-tagged _) (prefixes-tagged (enabled_names bs) (enabled_names bs)) (clashes-differ bs) (prefixes-differ bs)
+
+names-not_declared : (bs : List Effective) → AllByRecursion (λ f. is-declared f ≢ 0) (name_clashes bs ++ name_prefixes bs)
+names-not_declared bs =
+    all-append (λ f. is-declared f ≢ 0) (name_clashes bs) (name_prefixes bs)
+    (all-more (λ f. is-declared f ≡ 1) (λ f. is-declared f ≢ 0) (λ f one none. one-apart (sym one ∙ none)) (name_clashes bs) (clashes-tagged _))
+    (prefixes-not_zero (enabled_names bs) (enabled_names bs))
+
+pub faults_stand_once : FaultsStandOnce
+unfolding faults
+faults_stand_once ds keyed =
+    let bs = beans ds in
+    let declared = flat_map (faults_of ds) ds in
+    apart-pairs (λ f g. f ≢ g) (faults ds) (subst Differ (sym (append_assoc declared (name_clashes bs) (name_prefixes bs)))
+    (differ-append is-declared 0 declared (name_clashes bs ++ name_prefixes bs) (declared-tagged ds ds) (names-not_declared bs) (declared-differ ds ds keyed) (names-differ_too bs)))
