@@ -5,3 +5,4 @@ mod Taking
 mod Feeding
 mod Going
 mod Putting
+mod HistoryLemmas

@@ -1,36 +1,39 @@
--- A put of what a text spells is a legal step.
-use Rattle.std.proofs.Common.{◌≡◌, ℕ, List, [], Option, None, Some, refl, ap, ◌∙◌}
+-- A put of the declaration that a text spells is a put of that text.
+use Rattle.std.proofs.Common.{◌≡◌, ℕ, List, [], Option, None, Some, refl, ap, sym, ◌∙◌}
 use Rattle.std.specs.Prelude.{Result, Ok, Err, OnOk, OnErr}
 use Rattle.cdi_model.specs.declared.decl.Decl.{Decl}
 use Rattle.cdi_model.specs.declared.refusal.Error.{Error}
 use Rattle.cdi_model.specs.declared.refusal.Error.TheVariants as errors
 use Rattle.cdi_model.specs.declared.refusal.Refusal.{Refusal}
-use Rattle.cdi_model.specs.Edits.{Put as PutEdit, edited, refusal_of_edit, answer_of_edit}
+use Rattle.cdi_model.specs.Edits.{Edit, Put as PutEdit, edited, refusal_of_edit, answer_of_edit}
 use Rattle.cdi_model.specs.Outcome.{Answers}
 use Rattle.cdi_text.specs.Reading.{decl_of}
-use Rattle.cdi_container.specs.Commands.{Put}
-use Rattle.cdi_container.specs.History.{LegalAnswer, State, refusal_of_put}
+use Rattle.cdi_lines.specs.declared.command.Command.TheVariants.{Put}
+use Rattle.cdi_container.specs.History.{LegalAnswer, State, refusal_of_put, with_put}
 use Rattle.cdi_container.specs.Seen.{edit_answer}
 
 abbrev holding : List Decl → State
 holding ds = record { decls = ds }
 
-accepted : (ds : List Decl) (d : Decl) (u : Unit {0}) → answer_of_edit ds (PutEdit d) ≡ Ok u → refusal_of_edit ds (PutEdit d) ≡ None
-accepted ds d u h = by (refusal_of_edit ds (PutEdit d)) refl
+-- an edit that is accepted has no refusal
+accepted : (ds : List Decl) (edit : Edit) (u : Unit {0}) → answer_of_edit ds edit ≡ Ok u → refusal_of_edit ds edit ≡ None
+accepted ds edit u h = by (refusal_of_edit ds edit) refl
   where
-    by : (o : Option Refusal) → refusal_of_edit ds (PutEdit d) ≡ o → refusal_of_edit ds (PutEdit d) ≡ None
+    by : (o : Option Refusal) → refusal_of_edit ds edit ≡ o → refusal_of_edit ds edit ≡ None
     by None e = e
     by (Some r) e = absurd (let no : Err r ≡ Ok u = rw e at h in cc)
 
-refused : (ds : List Decl) (d : Decl) (r : Refusal) → answer_of_edit ds (PutEdit d) ≡ Err r → refusal_of_edit ds (PutEdit d) ≡ Some r
-refused ds d r h = by (refusal_of_edit ds (PutEdit d)) refl
+-- the refusal of an edit that is refused
+refused : (ds : List Decl) (edit : Edit) (r : Refusal) → answer_of_edit ds edit ≡ Err r → refusal_of_edit ds edit ≡ Some r
+refused ds edit r h = by (refusal_of_edit ds edit) refl
   where
-    by : (o : Option Refusal) → refusal_of_edit ds (PutEdit d) ≡ o → refusal_of_edit ds (PutEdit d) ≡ Some r
+    by : (o : Option Refusal) → refusal_of_edit ds edit ≡ o → refusal_of_edit ds edit ≡ Some r
     by None e = absurd (let no : Ok tt ≡ Err r = rw e at h in cc)
     by (Some s) e = e ∙ (let same : Err s ≡ Err r = rw e at h in cc)
 
 pub put_step : (ds es : List Decl) (text : List ℕ) (d : Decl) (result : Result (Unit {0}) Error) → decl_of text ≡ Ok d → Answers result (answer_of_edit ds (PutEdit d))
     → OnOk result (es ≡ edited ds (PutEdit d)) → OnErr result (es ≡ ds) → LegalAnswer (holding ds) (Put text) (edit_answer result) [] (holding es)
-put_step ds es text d (Ok u) read answer ok err = (ap (refusal_of_put ds) read ∙ accepted ds d u answer, (d, read, refl, ap holding ok))
+put_step ds es text d (Ok u) read answer ok err =
+    (ap (refusal_of_put ds) read ∙ accepted ds (PutEdit d) u answer, (refl, ap holding ok ∙ sym (ap (with_put (holding ds)) read)))
 put_step ds es text d (Err errors.OutOfMemory) read answer ok err = (refl, ap holding err)
-put_step ds es text d (Err (errors.Refused r)) read answer ok err = (ap (refusal_of_put ds) read ∙ refused ds d r answer, refl, ap holding err)
+put_step ds es text d (Err (errors.Refused r)) read answer ok err = (ap (refusal_of_put ds) read ∙ refused ds (PutEdit d) r answer, refl, ap holding err)

@@ -6,7 +6,7 @@ use Rattle.std.proofs.lemmas.List.{append-nil, map-append}
 use Rattle.std.proofs.lemmas.List.Folds.{list_any-append}
 use Rattle.std.proofs.lemmas.Grind.{flat_map-append}
 use Rattle.std.proofs.Math.Bool.{or-false, or_assoc}
-use Rattle.cdi_container.specs.Commands.{Command}
+use Rattle.cdi_lines.specs.declared.command.Command.{Command}
 use Rattle.cdi_container.specs.History.{State, History, LegalHistory}
 use Rattle.cdi_container.specs.Seen.{state_of}
 use Rattle.cdi_container.specs.Text.{text_of, text_of_step, is_refused, is_out_of_memory}

@@ -1,22 +1,26 @@
 -- What is kept of a line or a put block does what all of it would do.
 use Rattle.std.proofs.Common.{◌≡◌, ℕ, ◌+◌, ◌<◌, ◌≤◌, List, [], ◌∷◌, ◌++◌, length, refl, ap, sym, ◌∙◌, subst, Some, None, false, inl, inr, append_assoc, arith}
 use Rattle.std.proofs.Math.Bool.{and-false}
-use Rattle.std.specs.Prelude.{◌==◌, codes, Err}
+use Rattle.std.specs.Prelude.{◌==◌, codes, Result, Ok, Err}
 use Rattle.std.specs.Str.{bytes_eq}
 use Rattle.std.proofs.lemmas.List.{append-nil, length-append}
 use Rattle.std.proofs.lemmas.Bool.{lt-ltb}
 use Rattle.cdi_model.specs.declared.refusal.Refusal.TheVariants.{TooLong}
 use Rattle.cdi_text.specs.Reading.{decl_of}
 use Rattle.cdi_lines.specs.Words.{without_return}
-use Rattle.cdi_lines.specs.Command.{command_of_line}
+use Rattle.cdi_lines.specs.Command.{said_of_line}
 use Rattle.cdi_lines.specs.Kept.{ServesLine, ServesText, with_line}
 use Rattle.cdi_lines.proofs.LongLemmas.{length-without_return}
-use Rattle.cdi_container.specs.Commands.{Mode, Outside, InPut, Put, is_dot}
-use Rattle.cdi_container.specs.History.{State, Answer, Done, Chosen, Reported, Refused, OutOfMemory, Entry, LegalAnswer, refusal_of, refusal_of_put}
+use Rattle.cdi_lines.specs.declared.command.Command.TheVariants.{Put}
+use Rattle.cdi_container.specs.Commands.{Mode, Outside, InPut, is_dot}
+use Rattle.std.specs.declared.alloc.AllocError.{AllocError}
+use Rattle.cdi_container.specs.declared.answer.Answer.{Answer}
+use Rattle.cdi_container.specs.declared.answer.Answer.TheVariants.{Done, Chosen, Reported, Refused}
+use Rattle.cdi_container.specs.History.{State, Entry, LegalAnswer, refusal_of, refusal_of_put}
 use Rattle.cdi_container.specs.Text.{is_out_of_memory}
 use Rattle.cdi_container.specs.Seen.{state_of}
 use Rattle.cdi_container.specs.Runner.{RunsStep}
-use Rattle.cdi_container.specs.Session.{ServesMode}
+use Rattle.cdi_container.specs.Intake.{ServesMode}
 use Rattle.cdi_container.specs.declared.runner.Runner.{Runner}
 
 pub serves_outside : (mode : Mode) → ServesMode Outside mode → mode ≡ Outside
@@ -31,9 +35,9 @@ pub serves_mode_itself : (mode : Mode) → ServesMode mode mode
 serves_mode_itself Outside = tt
 serves_mode_itself (InPut text) = inl refl
 
-pub serves_command : (kept line : List ℕ) → ServesLine kept line → command_of_line kept ≡ command_of_line line
-serves_command kept line (inl h) = ap command_of_line h
-serves_command kept line (inr h) = ap command_of_line (sym (append-nil kept)) ∙ h.alike [] ∙ ap command_of_line (append-nil line)
+pub serves_command : (kept line : List ℕ) → ServesLine kept line → said_of_line kept ≡ said_of_line line
+serves_command kept line (inl h) = ap said_of_line h
+serves_command kept line (inr h) = ap said_of_line (sym (append-nil kept)) ∙ h.alike [] ∙ ap said_of_line (append-nil line)
 
 long_no_dot : (t : List ℕ) → 1 < length t → bytes_eq t (codes ".") ≡ false
 long_no_dot [] h = absurd (omega arith)
@@ -52,13 +56,13 @@ too_long state text long =
     ap (refusal_of_put state.decls) refused
 
 -- two texts that are too long are refused alike
-put_alike : (old new : State) (kept text : List ℕ) (answer : Answer) (trace : List Entry) → 65536 < length kept → 65536 < length text → is_out_of_memory answer ≡ false
+put_alike : (old new : State) (kept text : List ℕ) (answer : Result Answer AllocError) (trace : List Entry) → 65536 < length kept → 65536 < length text → is_out_of_memory answer ≡ false
     → LegalAnswer old (Put kept) answer trace new → LegalAnswer old (Put text) answer trace new
-put_alike old new kept text Done trace k t memory h = absurd (let e : Some TooLong ≡ None = sym (too_long old kept k) ∙ h.0 in cc)
-put_alike old new kept text (Chosen choice) trace k t memory h = absurd (let e : Some TooLong ≡ None = sym (too_long old kept k) ∙ h.0 in cc)
-put_alike old new kept text (Reported list) trace k t memory h = absurd (let e : Some TooLong ≡ None = sym (too_long old kept k) ∙ h.0 in cc)
-put_alike old new kept text (Refused refusal) trace k t memory h = (too_long old text t ∙ sym (too_long old kept k) ∙ h.0, h.1, h.2)
-put_alike old new kept text OutOfMemory trace k t memory h = cc
+put_alike old new kept text (Ok Done) trace k t memory h = absurd (let e : Some TooLong ≡ None = sym (too_long old kept k) ∙ h.0 in cc)
+put_alike old new kept text (Ok (Chosen choice)) trace k t memory h = absurd h.1
+put_alike old new kept text (Ok (Reported list)) trace k t memory h = absurd h.1
+put_alike old new kept text (Ok (Refused refusal)) trace k t memory h = (too_long old text t ∙ sym (too_long old kept k) ∙ h.0, h.1, h.2)
+put_alike old new kept text (Err error) trace k t memory h = cc
 
 pub serves_put : (old new : Runner) (kept text : List ℕ) → ServesText kept text → RunsStep old new (Put kept) → RunsStep old new (Put text)
 serves_put old new kept text (inl h) r = subst (λ t. RunsStep old new (Put t)) h r
@@ -99,7 +103,7 @@ serves_more kept line piece (inl h) = inl (ap (λ l. l ++ piece) h)
 serves_more kept line piece (inr h) = inr (record {
   kept_long = let a = length-append kept piece in let b = h.kept_long in omega arith;
   line_long = let a = length-append line piece in let b = h.line_long in omega arith;
-  alike = λ more. ap command_of_line (append_assoc kept piece more) ∙ h.alike (piece ++ more) ∙ ap command_of_line (sym (append_assoc line piece more));
+  alike = λ more. ap said_of_line (append_assoc kept piece more) ∙ h.alike (piece ++ more) ∙ ap said_of_line (sym (append_assoc line piece more));
 })
 
 pub serves_serving : (a b c : List ℕ) → ServesLine a b → ServesLine b c → ServesLine a c

@@ -1,24 +1,15 @@
 -- The commands that the bytes of a script spell.
 use Rattle.std.specs.Prelude.{ℕ, Bool, List, [], ◌∷◌, ◌++◌, codes, Result, Ok, Err, if◌then◌else◌}
 use Rattle.std.specs.Str.{bytes_eq}
-use Rattle.cdi_model.specs.declared.decl.Kind.{Kind}
-use Rattle.cdi_model.specs.declared.quals.Qual.{Qual}
 use Rattle.cdi_model.specs.declared.refusal.Refusal.{Refusal}
-use Rattle.cdi_lines.specs.declared.command.Command.{Command as Said}
-use Rattle.cdi_lines.specs.declared.command.Command.TheVariants as said
+use Rattle.cdi_lines.specs.declared.command.Command.{Command}
+use Rattle.cdi_lines.specs.declared.command.Command.TheVariants.{Put, Unreadable}
+use Rattle.cdi_lines.specs.declared.command.Said.{Said}
+use Rattle.cdi_lines.specs.declared.command.Said.TheVariants as said
 use Rattle.cdi_lines.specs.Lines.{ended_lines, lines}
 use Rattle.cdi_lines.specs.Words.{without_return}
-use Rattle.cdi_lines.specs.Command.{command_of_line}
+use Rattle.cdi_lines.specs.Command.{said_of_line}
 use Rattle.cdi_lines.specs.Kept.{with_line}
-
-pub data Command : Type 0 where
-  Put : List ℕ → Command
-  Drop : Kind → List ℕ → Command
-  Choose : List ℕ → List Qual → Command
-  Named : List ℕ → Command
-  Report : Command
-  -- what is no command
-  Unreadable : Command
 
 -- where a line stands: outside a put block, or in one with this text so far
 pub data Mode : Type 0 where
@@ -27,22 +18,16 @@ pub data Mode : Type 0 where
 
 -- the command that a line outside a put block completes, if it does
 abbrev pub commands_said : Result Said Refusal → List Command
-commands_said (Ok said.Skip) = []
-commands_said (Ok said.Put) = []
-commands_said (Ok (said.Drop kind name)) = Drop kind name ∷ []
-commands_said (Ok (said.Choose t quals)) = Choose t quals ∷ []
-commands_said (Ok (said.Named name)) = Named name ∷ []
-commands_said (Ok said.Report) = Report ∷ []
+commands_said (Ok said.Nothing) = []
+commands_said (Ok said.PutBegins) = []
+commands_said (Ok (said.Command command)) = command ∷ []
 commands_said (Err refusal) = Unreadable ∷ []
 
 -- and where the next line stands
 abbrev pub mode_said : Result Said Refusal → Mode
-mode_said (Ok said.Skip) = Outside
-mode_said (Ok said.Put) = InPut []
-mode_said (Ok (said.Drop kind name)) = Outside
-mode_said (Ok (said.Choose t quals)) = Outside
-mode_said (Ok (said.Named name)) = Outside
-mode_said (Ok said.Report) = Outside
+mode_said (Ok said.Nothing) = Outside
+mode_said (Ok said.PutBegins) = InPut []
+mode_said (Ok (said.Command command)) = Outside
 mode_said (Err refusal) = Outside
 
 abbrev pub is_dot : List ℕ → Bool
@@ -50,12 +35,12 @@ is_dot line = bytes_eq (without_return line) (codes ".")
 
 -- the command that a line completes, if it does
 abbrev pub commands_of_line : Mode → List ℕ → List Command
-commands_of_line Outside line = commands_said (command_of_line line)
+commands_of_line Outside line = commands_said (said_of_line line)
 commands_of_line (InPut text) line = if is_dot line then Put text ∷ [] else []
 
 -- where the next line stands
 abbrev pub mode_after : Mode → List ℕ → Mode
-mode_after Outside line = mode_said (command_of_line line)
+mode_after Outside line = mode_said (said_of_line line)
 mode_after (InPut text) line = if is_dot line then Outside else InPut (with_line text line)
 
 abbrev pub commands_of_lines : Mode → List (List ℕ) → List Command

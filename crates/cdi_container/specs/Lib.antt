@@ -2,9 +2,8 @@ pub mod Commands
 pub mod History
 pub mod Seen
 pub mod Text
-pub mod Printed
 pub mod Runner
-pub mod Session
+pub mod Intake
 pub mod Run
 pub use Rattle.cdi_model.specs.Edits
 pub use Rattle.cdi_model.specs.DeclList

@@ -1,17 +1,18 @@
 -- What a run of a script wrote.
-use Rattle.std.specs.Prelude.{◌≡◌, ℕ, ◌<◌, ◌≤◌, Bool, true, false, List, [], ◌++◌, length, map, Option}
+use Rattle.std.specs.Prelude.{◌≡◌, ◌⊎◌, ℕ, ◌<◌, ◌≤◌, Bool, true, false, List, [], ◌++◌, length, map, Option}
 use Rattle.std.specs.List.{list_any}
 use Rattle.std.specs.Io.KnownBytes.{Appends, Consumes, IsAtEnd}
-use Rattle.cdi_container.specs.Commands.{Command, commands, complete_commands, mode_of}
+use Rattle.cdi_lines.specs.declared.command.Command.{Command}
+use Rattle.cdi_container.specs.Commands.{commands, complete_commands, mode_of}
 use Rattle.cdi_lines.specs.Lines.{begun_line}
 use Rattle.cdi_container.specs.History.{State, empty, History, LegalHistory}
 use Rattle.cdi_container.specs.Seen.{state_of}
 use Rattle.cdi_container.specs.Text.{text_of, is_refused, is_out_of_memory}
-use Rattle.cdi_devices.specs.Counted.{inner_of, bytes_of, has_failed}
+use Rattle.cdi_devices.specs.Counted.{inner_of, bytes_of, has_failed, is_flushed}
 use Rattle.cdi_devices.specs.declared.counted.Counted.{Counted}
 use Rattle.cdi_container.specs.declared.runner.Runner.{Runner}
-use Rattle.cdi_container.specs.Session.{Keeps}
-use Rattle.cdi_container.specs.declared.session.Session.{Session}
+use Rattle.cdi_container.specs.Intake.{Keeps}
+use Rattle.cdi_container.specs.declared.intake.Intake.{Intake}
 
 -- a legal history from an empty container, of these commands, none of which wanted memory
 pub record IsHistoryOf (commands : List Command) (history : History) (state : State) : Type 0 where
@@ -48,13 +49,18 @@ pub record RunsWhole (quiet : Bool) (start now : Option (List ℕ)) (commands : 
 abbrev pub AreFirst : List Command → List Command → Type 0
 AreFirst first all = (later : List Command) × (all ≡ first ++ later)
 
--- the commands of a script before the one that wants memory were run, and their text was written
-abbrev pub RunsOutOfMemory : Bool → Option (List ℕ) → Option (List ℕ) → List ℕ → Type 0
-RunsOutOfMemory quiet start now input = (first : List Command) × AreFirst first (commands input) × WroteAll quiet start now first
-
--- some commands of a script were run, and a front part of their text was written
-abbrev pub FailsToWrite : Bool → Option (List ℕ) → Option (List ℕ) → List ℕ → Type 0
-FailsToWrite quiet start now input = (first : List Command) × AreFirst first (commands input) × WrotePart quiet start now first
+-- what came of a script, and the commands that were answered: all that were complete before the last read, which gave at most so many bytes, and
+-- then maybe some of those that the last read or the end of input completed
+module _ {R : Type 0} (remaining : R → Option (List ℕ)) (limit piece : ℕ) where
+  pub record AnswersFirst (reader reader_after : Counted R) (first : List Command) : Type 0 where
+    pub given : List ℕ
+    pub last : List ℕ
+    pub came : Consumes (remaining (inner_of reader)) (remaining (inner_of reader_after)) (given ++ last)
+    pub count : bytes_of reader_after ≡ length (given ++ last)
+    pub within : length (given ++ last) ≤ limit
+    pub last_read : length last ≤ piece
+    pub all_before : AreFirst (complete_commands given) first
+    pub none_behind : AreFirst first (complete_commands (given ++ last)) ⊎ (IsAtEnd (remaining (inner_of reader_after)) × AreFirst first (commands (given ++ last)))
 
 module _ {R W : Type 0} (remaining : R → Option (List ℕ)) (contents : W → Option (List ℕ)) (limit : ℕ) (quiet : Bool) where
   -- some input came to its end, at most as many bytes as the limit, and the text of a legal history of its commands was written
@@ -75,6 +81,19 @@ module _ {R W : Type 0} (remaining : R → Option (List ℕ)) (contents : W → 
     pub behind : 0 < length extra → (length given ≡ limit) × (length extra ≡ 1)
     pub wrote : WroteAll quiet (contents (inner_of writer)) (contents (inner_of writer_after)) (complete_commands given)
 
+module _ {R W : Type 0} (remaining : R → Option (List ℕ)) (contents : W → Option (List ℕ)) (limit piece : ℕ) (quiet : Bool) where
+  -- a command wanted memory that was not given, and the text of those before it was written
+  pub record RunsOutOfMemory (reader reader_after : Counted R) (writer writer_after : Counted W) : Type 0 where
+    pub first : List Command
+    pub answers : AnswersFirst remaining limit piece reader reader_after first
+    pub wrote : WroteAll quiet (contents (inner_of writer)) (contents (inner_of writer_after)) first
+
+  -- the writer failed, and a front part of the text of the commands that were answered was written
+  pub record FailsToWrite (reader reader_after : Counted R) (writer writer_after : Counted W) : Type 0 where
+    pub first : List Command
+    pub answers : AnswersFirst remaining limit piece reader reader_after first
+    pub wrote : WrotePart quiet (contents (inner_of writer)) (contents (inner_of writer_after)) first
+
 -- ---- on the way
 
 -- the runner's history is of these commands, and its text was written but for what is printed last
@@ -87,8 +106,8 @@ pub record Printed (quiet : Bool) (start now : Option (List ℕ)) (r : Runner) (
   pub refused_is : r.refused ≡ list_any (λ step. is_refused step.answer) history
   pub quiet_is : r.quiet ≡ quiet
 
--- a session stands as these bytes leave it
-pub record Stands (quiet : Bool) (start now : Option (List ℕ)) (s : Session) (given : List ℕ) : Type 0 where
+-- an intake stands as these bytes leave it
+pub record Stands (quiet : Bool) (start now : Option (List ℕ)) (s : Intake) (given : List ℕ) : Type 0 where
   pub printed : Printed quiet start now s.runner (complete_commands given)
   pub keeps : Keeps s (mode_of given) (begun_line given)
 
@@ -96,7 +115,7 @@ module _ {W : Type 0} (contents : W → Option (List ℕ)) where
   abbrev pub contents_of : Counted W → Option (List ℕ)
   contents_of w = contents (inner_of w)
 
-  -- what is printed was written
+  -- what is printed was written and flushed
   pub record Sends (old new : Runner) (before after : Counted W) : Type 0 where
     pub written : Appends (contents_of before) (contents_of after) old.out.items
     pub out : new.out.items ≡ []
@@ -104,6 +123,7 @@ module _ {W : Type 0} (contents : W → Option (List ℕ)) where
     pub refused : new.refused ≡ old.refused
     pub quiet : new.quiet ≡ old.quiet
     pub still : has_failed after ≡ has_failed before
+    pub flushed : is_flushed after ≡ true
 
   -- a front part of what is printed was written, and the writer failed
   pub record SendsPart (old : Runner) (before after : Counted W) : Type 0 where
@@ -113,41 +133,43 @@ module _ {W : Type 0} (contents : W → Option (List ℕ)) where
     pub written : Appends (contents_of before) (contents_of after) part
     pub failed : has_failed after ≡ true
 
-  -- all that is printed was written
+  -- all that is printed was written and flushed
   pub record SendsLast (old : Runner) (before after : Counted W) : Type 0 where
     pub written : Appends (contents_of before) (contents_of after) old.out.items
     pub still : has_failed after ≡ has_failed before
+    pub flushed : is_flushed after ≡ true
 
-  -- wherever the session stood, it stands behind these bytes now
-  abbrev pub Feeds : Session → Session → Counted W → Counted W → List ℕ → Type 0
+  -- wherever the intake stood, it stands behind these bytes now
+  abbrev pub Feeds : Intake → Intake → Counted W → Counted W → List ℕ → Type 0
   Feeds old new before after bytes = (quiet : Bool) (start : Option (List ℕ)) (given : List ℕ) → Stands quiet start (contents_of before) old given
       → Stands quiet start (contents_of after) new (given ++ bytes)
 
-  -- wherever the session stood, a front part of these bytes was taken and the text of the commands so far was written
-  abbrev pub FeedsBeforeMemory : Session → Counted W → Counted W → List ℕ → Type 0
+  -- wherever the intake stood, a front part of these bytes was taken and the text of the commands so far was written
+  abbrev pub FeedsBeforeMemory : Intake → Counted W → Counted W → List ℕ → Type 0
   FeedsBeforeMemory old before after bytes = (done : List ℕ) × (rest : List ℕ) × (bytes ≡ done ++ rest)
       × ((quiet : Bool) (start : Option (List ℕ)) (given : List ℕ) → Stands quiet start (contents_of before) old given → WroteAll quiet start (contents_of after) (complete_commands (given ++ done)))
 
-  abbrev pub FeedsPart : Session → Counted W → Counted W → List ℕ → Type 0
+  abbrev pub FeedsPart : Intake → Counted W → Counted W → List ℕ → Type 0
   FeedsPart old before after bytes = (done : List ℕ) × (rest : List ℕ) × (bytes ≡ done ++ rest)
       × ((quiet : Bool) (start : Option (List ℕ)) (given : List ℕ) → Stands quiet start (contents_of before) old given → WrotePart quiet start (contents_of after) (complete_commands (given ++ done)))
 
   -- the end of input was taken, and the text of all commands was written
-  abbrev pub Ends : Session → Counted W → Counted W → Bool → Type 0
+  abbrev pub Ends : Intake → Counted W → Counted W → Bool → Type 0
   Ends old before after refused = (quiet : Bool) (start : Option (List ℕ)) (given : List ℕ) → Stands quiet start (contents_of before) old given
       → RunsWhole quiet start (contents_of after) (commands given) refused
 
-  abbrev pub EndsBeforeMemory : Session → Counted W → Counted W → Type 0
+  -- the end of input was taken, and the text of these commands was written, among them all that were complete before
+  abbrev pub EndsBeforeMemory : Intake → Counted W → Counted W → Type 0
   EndsBeforeMemory old before after = (quiet : Bool) (start : Option (List ℕ)) (given : List ℕ) → Stands quiet start (contents_of before) old given
-      → RunsOutOfMemory quiet start (contents_of after) given
+      → (first : List Command) × AreFirst (complete_commands given) first × AreFirst first (commands given) × WroteAll quiet start (contents_of after) first
 
-  abbrev pub EndsPart : Session → Counted W → Counted W → Type 0
+  abbrev pub EndsPart : Intake → Counted W → Counted W → Type 0
   EndsPart old before after = (quiet : Bool) (start : Option (List ℕ)) (given : List ℕ) → Stands quiet start (contents_of before) old given
-      → FailsToWrite quiet start (contents_of after) given
+      → (first : List Command) × AreFirst (complete_commands given) first × AreFirst first (commands given) × WrotePart quiet start (contents_of after) first
 
 module _ {R W : Type 0} (remaining : R → Option (List ℕ)) (contents : W → Option (List ℕ)) (limit : ℕ) where
   -- a run between two reads: what came so far was taken, and its text written
-  pub record Goes (quiet : Bool) (first_reader : Counted R) (first_writer : Counted W) (reader : Counted R) (writer : Counted W) (s : Session) : Type 0 where
+  pub record Goes (quiet : Bool) (first_reader : Counted R) (first_writer : Counted W) (reader : Counted R) (writer : Counted W) (s : Intake) : Type 0 where
     pub given : List ℕ
     pub came : Consumes (remaining (inner_of first_reader)) (remaining (inner_of reader)) given
     pub stands : Stands quiet (contents (inner_of first_writer)) (contents (inner_of writer)) s given
@@ -156,3 +178,4 @@ module _ {R W : Type 0} (remaining : R → Option (List ℕ)) (contents : W → 
     pub within : bytes_of reader ≤ limit
     pub reader_still : has_failed reader ≡ false
     pub writer_still : has_failed writer ≡ false
+    pub flushed : is_flushed writer ≡ true

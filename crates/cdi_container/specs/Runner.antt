@@ -1,8 +1,9 @@
 -- What running one command does to what runs it.
 use Rattle.std.specs.List.{list_any}
-use Rattle.std.specs.Prelude.{map, ◌≡◌, false, ◌||◌, List, ◌++◌}
-use Rattle.cdi_container.specs.Commands.{Command}
-use Rattle.cdi_container.specs.History.{Answer, Step, LegalStep, History, LegalHistory}
+use Rattle.std.specs.Prelude.{map, ◌≡◌, false, ◌||◌, List, ◌++◌, Ok}
+use Rattle.cdi_lines.specs.declared.command.Command.{Command}
+use Rattle.cdi_container.specs.declared.answer.Answer.{Answer}
+use Rattle.cdi_container.specs.History.{Step, LegalStep, History, LegalHistory}
 use Rattle.cdi_container.specs.Seen.{state_of}
 use Rattle.cdi_container.specs.Text.{text_of_step, text_of, text_of_answer, is_refused, is_out_of_memory}
 use Rattle.cdi_container.specs.declared.runner.Runner.{Runner}
@@ -25,8 +26,8 @@ pub record PrintsNothing (old new : Runner) : Type 0 where
 -- an answer was printed, and the container stays
 pub record Prints (old new : Runner) (answer : Answer) : Type 0 where
   pub container : new.container ≡ old.container
-  pub text : new.out.items ≡ old.out.items ++ text_of_answer answer
-  pub refused : new.refused ≡ (old.refused || is_refused answer)
+  pub text : new.out.items ≡ old.out.items ++ text_of_answer (Ok answer)
+  pub refused : new.refused ≡ (old.refused || is_refused (Ok answer))
   pub quiet : new.quiet ≡ old.quiet
 
 -- a legal history of these commands was made, and its text is printed behind the rest

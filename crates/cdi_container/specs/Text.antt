@@ -1,5 +1,5 @@
 -- The text that steps print.
-use Rattle.std.specs.Prelude.{ℕ, Bool, true, false, List, [], ◌∷◌, ◌++◌, length, codes, decimal, flat_map, Option, Some, None, if◌then◌else◌}
+use Rattle.std.specs.Prelude.{ℕ, Bool, true, false, List, [], ◌∷◌, ◌++◌, length, codes, decimal, flat_map, Option, Some, None, Result, Ok, Err, if◌then◌else◌}
 use Rattle.cdi_model.specs.declared.refusal.Refusal.{Refusal}
 use Rattle.cdi_model.specs.declared.refusal.Refusal.TheVariants.{TooLong, NotToml, UnknownKind, UnknownKey, MissingKey, WrongKind, BadName, Twice, ListTooLong, TooMany, Absent, BadCommand}
 use Rattle.cdi_effective.specs.declared.records.BeanId.{BeanId}
@@ -7,7 +7,10 @@ use Rattle.cdi_resolve.specs.declared.choice.Choice.{Choice}
 use Rattle.cdi_resolve.specs.declared.choice.Choice.TheVariants.{One, Unsatisfied, Ambiguous}
 use Rattle.cdi_validate.specs.declared.fault.Fault.{Fault}
 use Rattle.cdi_validate.specs.FaultText.{text_of_fault}
-use Rattle.cdi_container.specs.History.{Answer, Done, Chosen, Reported, Refused, OutOfMemory, Entry, Step, History}
+use Rattle.std.specs.declared.alloc.AllocError.{AllocError}
+use Rattle.cdi_container.specs.declared.answer.Answer.{Answer}
+use Rattle.cdi_container.specs.declared.answer.Answer.TheVariants.{Done, Chosen, Reported, Refused}
+use Rattle.cdi_container.specs.History.{Entry, Step, History}
 
 -- the code and the word of a refusal
 abbrev pub word_of : Refusal → List ℕ
@@ -49,16 +52,17 @@ text_of_faults list = flat_map (λ fault. 10 ∷ text_of_fault fault) list
 abbrev pub text_of_report : List Fault → List ℕ
 text_of_report list = codes "faults " ++ decimal (length list) ++ text_of_faults list
 
--- what an answer prints before the end of its line; want of memory ends a script and prints nothing
+-- what an answer prints before the end of its line
 abbrev pub words_of_answer : Answer → List ℕ
 words_of_answer Done = codes "ok"
 words_of_answer (Chosen choice) = text_of_choice choice
 words_of_answer (Reported list) = text_of_report list
 words_of_answer (Refused refusal) = codes "refused " ++ word_of refusal
-words_of_answer OutOfMemory = []
 
-abbrev pub text_of_answer : Answer → List ℕ
-text_of_answer answer = words_of_answer answer ++ 10 ∷ []
+-- want of memory ends a script and prints nothing
+abbrev pub text_of_answer : Result Answer AllocError → List ℕ
+text_of_answer (Ok answer) = words_of_answer answer ++ 10 ∷ []
+text_of_answer (Err error) = []
 
 abbrev pub text_of_entry : Entry → List ℕ
 text_of_entry entry = elim entry [ ]
@@ -73,10 +77,10 @@ text_of_step quiet step = text_of_trace quiet step.trace ++ text_of_answer step.
 abbrev pub text_of : Bool → History → List ℕ
 text_of quiet history = flat_map (text_of_step quiet) history
 
-abbrev pub is_refused : Answer → Bool
-is_refused (Refused refusal) = true
+abbrev pub is_refused : Result Answer AllocError → Bool
+is_refused (Ok (Refused refusal)) = true
 is_refused answer = false
 
-abbrev pub is_out_of_memory : Answer → Bool
-is_out_of_memory OutOfMemory = true
-is_out_of_memory answer = false
+abbrev pub is_out_of_memory : Result Answer AllocError → Bool
+is_out_of_memory (Ok answer) = false
+is_out_of_memory (Err error) = true

@@ -1,8 +1,17 @@
 //! The container.
-ghost use Rattle.std.specs.Prelude.{◌≡◌};
+ghost use Rattle.std.specs.Prelude.{◌≡◌, ◌≢◌, OnOk, OnErr, IfOk, IfErr};
+ghost use Rattle.cdi_model.specs.Edits.{Remove as RemoveEdit, answer_of_edit as answer_of_removal};
+ghost use Rattle.cdi_model.specs.Outcome.{Answers};
+ghost use Rattle.cdi_text.specs.Reading.{decl_of};
+ghost use Rattle.cdi_effective.specs.Beans.{beans};
+ghost use Rattle.cdi_resolve.specs.Choices.{chosen, chosen_by_name};
+ghost use Rattle.cdi_validate.specs.Faults.{faults};
+ghost use Rattle.cdi_container.specs.History.{History, with_edit, with_put, RestsOnAcceptedEdits};
 
+use crate::answer::{Answer, answer_of_choice, answer_of_edit, answer_of_report};
 use crate::deployment::Deployment;
-use cdi_model::{Error, Kind, Name, Quals, Work};
+use cdi_lines::Command;
+use cdi_model::{Error, Kind, Name, Quals, Refusal, Work};
 use cdi_resolve::Choice;
 use cdi_text::read_decl;
 use cdi_validate::Fault;
@@ -11,7 +20,7 @@ use std::alloc::{AllocError, Global};
 /// The present declarations, which are edited while the container runs, and questions about them.
 ///
 /// Each call is one step of a legal history: a refused call changes nothing, and neither does one that runs out of
-/// memory.
+/// memory. Beside that step each call says by itself what it answers and what it leaves.
 #[derive(Drop)]
 pub struct Container {
     alloc: Global,
@@ -21,11 +30,15 @@ pub struct Container {
 
 impl Container {
     ghost use Rattle.cdi_container.specs.History.{empty};
-    ghost use Rattle.cdi_container.specs.Seen.{state_of, PutStep, DropStep, ChooseStep, NamedStep, ReportStep};
+    ghost use Rattle.cdi_container.specs.Seen.{state_of, decls_of, answer_of_put, IsStep, PutStep, RemoveStep, ChooseStep, NamedStep, ReportStep};
 
     /// An empty container. It keeps the allocator, and takes no memory yet.
+    #[tactic(auto, using(crate::proofs::HistoryLemmas::rests_on_accepted_edits))]
     pub fn new(alloc: Global) -> Container
-        ensures { state_of result ≡ empty }
+        ensures empty { state_of result ≡ empty }
+
+        // From here on what stands is what the accepted edits make, whatever else was asked between them.
+        ensures edits { (history : History) → RestsOnAcceptedEdits history }
     {
         Container {
             alloc,
@@ -34,9 +47,29 @@ impl Container {
         }
     }
 
-    /// Puts the declaration that a TOML text spells in the place of the one of its kind and name, or at the end.
+    /// Carries a command out, as the typed calls do.
+    pub fn execute(&mut self, command: Command) -> Result<Answer, AllocError>
+        ensures { IsStep self.old command result self.new }
+    {
+        match command {
+            Command::Put { text } => answer_of_edit(self.put(text.as_slice())),
+            Command::Remove { kind, name } => answer_of_edit(self.remove(kind, name)),
+            Command::Choose { bean_type, quals } => {
+                answer_of_choice(self.choose(bean_type, &quals))
+            }
+            Command::Named { name } => answer_of_choice(self.named(name)),
+            Command::Report => answer_of_report(self.report()),
+            Command::Unreadable => Ok(Answer::Refused(Refusal::BadCommand)),
+        }
+    }
+
+    /// Puts the declaration that a TOML text spells in the place of the one of its kind and name, or at the end. It
+    /// takes memory for the declaration and its place.
     pub fn put(&mut self, text: &[u8]) -> Result<(), Error>
-        ensures { PutStep self.old text.now result self.new }
+        ensures answer { Answers result (answer_of_put (decls_of self.old) (decl_of text.now)) }
+        ensures ok { OnOk result (state_of self.new ≡ with_put (state_of self.old) (decl_of text.now)) }
+        ensures err { OnErr result (state_of self.new ≡ state_of self.old) }
+        ensures step { PutStep self.old text.now result self.new }
     {
         let decl = read_decl(self.alloc, text)?;
         self.deployment.put(decl)
@@ -44,7 +77,11 @@ impl Container {
 
     /// Removes the declaration of a kind and name. It takes no memory.
     pub fn remove(&mut self, kind: Kind, name: Name) -> Result<(), Error>
-        ensures { DropStep self.old kind name result self.new }
+        ensures answer { Answers result (answer_of_removal (decls_of self.old) (RemoveEdit kind name)) }
+        ensures no_memory { IfErr result (λ error. error ≢ Error.OutOfMemory) }
+        ensures ok { OnOk result (state_of self.new ≡ with_edit (state_of self.old) (RemoveEdit kind name)) }
+        ensures err { OnErr result (state_of self.new ≡ state_of self.old) }
+        ensures step { RemoveStep self.old kind name result self.new }
     {
         match self.deployment.remove(kind, name) {
             Ok(()) => Ok(()),
@@ -58,7 +95,9 @@ impl Container {
     /// It takes memory for the beans that are right, and at the first question after an edit for the list of all beans,
     /// which further questions use again.
     pub fn choose(&mut self, bean_type: Name, quals: &Quals) -> Result<Choice, AllocError>
-        ensures { ChooseStep self.old bean_type quals.now result self.new }
+        ensures choice { IfOk result (λ choice. choice ≡ chosen (decls_of self.old) (beans (decls_of self.old)) bean_type quals.now) }
+        ensures stays { state_of self.new ≡ state_of self.old }
+        ensures step { ChooseStep self.old bean_type quals.now result self.new }
     {
         self.deployment
             .choose(self.alloc, bean_type, quals, &mut self.work)
@@ -66,7 +105,9 @@ impl Container {
 
     /// Which bean has a name (CDI 4.0, Name resolution). It takes memory as `choose` does.
     pub fn named(&mut self, name: Name) -> Result<Choice, AllocError>
-        ensures { NamedStep self.old name result self.new }
+        ensures choice { IfOk result (λ choice. choice ≡ chosen_by_name (beans (decls_of self.old)) name) }
+        ensures stays { state_of self.new ≡ state_of self.old }
+        ensures step { NamedStep self.old name result self.new }
     {
         self.deployment.named(self.alloc, name)
     }
@@ -75,7 +116,9 @@ impl Container {
     /// the order of the declarations. It takes memory for the faults and for the answers to all injection points, and
     /// for the list of all beans as `choose` does.
     pub fn report(&mut self) -> Result<Vec<Fault>, AllocError>
-        ensures { ReportStep self.old result self.new }
+        ensures faults { IfOk result (λ list. list.items ≡ faults (decls_of self.old)) }
+        ensures stays { state_of self.new ≡ state_of self.old }
+        ensures step { ReportStep self.old result self.new }
     {
         self.deployment.report(self.alloc)
     }

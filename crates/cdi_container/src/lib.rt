@@ -1,16 +1,19 @@
 //! The container: present declarations that are edited while it runs, questions about them, and the run of a script.
 #![tactic(auto)]
 
+mod answer;
 mod container;
 mod deployment;
+mod intake;
 mod printing;
 mod runner;
 mod script;
-mod session;
 
-pub use cdi_devices::{Counted, RunFault};
+pub use answer::Answer;
+pub use cdi_devices::{Counted, RunFault, SCRIPT_LIMIT};
 pub use cdi_effective::BeanId;
+pub use cdi_lines::Command;
 pub use cdi_resolve::Choice;
 pub use cdi_validate::{Code, Fault, Member};
 pub use container::Container;
-pub use script::{Options, Summary, run};
+pub use script::{Options, READ_BYTES, Summary, run};

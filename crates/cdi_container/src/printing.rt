@@ -1,24 +1,14 @@
 //! The text that steps print.
-ghost use Rattle.std.specs.Prelude.{◌≡◌, ◌++◌, OnOk, OnErr, IfOk};
+ghost use Rattle.std.specs.Prelude.{◌≡◌, ◌++◌, OnOk, OnErr, Ok};
 ghost use Rattle.cdi_container.specs.Text.{word_of, text_of_id, text_of_ids, text_of_choice, text_of_faults, text_of_report, words_of_answer, text_of_answer};
-ghost use Rattle.cdi_container.specs.Printed.{answer_seen, Answered};
-ghost use Rattle.cdi_container.specs.Seen.{edit_answer, choice_answer, report_answer};
 
+use crate::answer::Answer;
 use cdi_effective::BeanId;
-use cdi_model::{Error, Refusal};
+use cdi_model::Refusal;
 use cdi_resolve::Choice;
 use cdi_validate::Fault;
 use itoa::Buffer;
 use std::alloc::AllocError;
-
-/// What a command answers that does not run out of memory.
-#[derive(Drop)]
-pub(crate) enum Answer {
-    Done,
-    Chosen(Choice),
-    Reported(Vec<Fault>),
-    Refused(Refusal),
-}
 
 fn refusal_word(refusal: Refusal) -> &'static [u8]
     ensures { result.now ≡ word_of refusal }
@@ -40,7 +30,7 @@ fn refusal_word(refusal: Refusal) -> &'static [u8]
 }
 
 fn push_refusal(text: &mut Vec<u8>, refusal: Refusal) -> Result<(), AllocError>
-    ensures { OnOk result (text.new.items ≡ text.old.items ++ words_of_answer (answer_seen (Answer.Refused refusal))) }
+    ensures { OnOk result (text.new.items ≡ text.old.items ++ words_of_answer (Answer.Refused refusal)) }
 {
     text.extend_from_slice(b"refused ")?;
     text.extend_from_slice(refusal_word(refusal))?;
@@ -105,7 +95,7 @@ fn push_report(text: &mut Vec<u8>, faults: &[Fault]) -> Result<(), AllocError>
 }
 
 fn push_words(text: &mut Vec<u8>, answer: &Answer) -> Result<(), AllocError>
-    ensures { OnOk result (text.new.items ≡ text.old.items ++ words_of_answer (answer_seen answer.now)) }
+    ensures { OnOk result (text.new.items ≡ text.old.items ++ words_of_answer answer.now) }
 {
     match answer {
         Answer::Done => text.extend_from_slice(b"ok"),
@@ -116,7 +106,7 @@ fn push_words(text: &mut Vec<u8>, answer: &Answer) -> Result<(), AllocError>
 }
 
 fn push_answer(text: &mut Vec<u8>, answer: &Answer) -> Result<(), AllocError>
-    ensures { OnOk result (text.new.items ≡ text.old.items ++ text_of_answer (answer_seen answer.now)) }
+    ensures { OnOk result (text.new.items ≡ text.old.items ++ text_of_answer (Ok answer.now)) }
 {
     push_words(text, answer)?;
     text.push(b'\n')?;
@@ -129,43 +119,10 @@ pub(crate) fn print_step(
     scratch: &mut Vec<u8>,
     answer: &Answer,
 ) -> Result<(), AllocError>
-    ensures ok { OnOk result (out.new.items ≡ out.old.items ++ text_of_answer (answer_seen answer.now)) }
+    ensures ok { OnOk result (out.new.items ≡ out.old.items ++ text_of_answer (Ok answer.now)) }
     ensures err { OnErr result (out.new.items ≡ out.old.items) }
 {
     scratch.clear();
     push_answer(scratch, answer)?;
     out.extend_from_slice(scratch.as_slice())
-}
-
-/// The answer of a call that gives no value, unless it runs out of memory.
-pub(crate) fn answer_of_edit(outcome: Result<(), Error>) -> Result<Answer, AllocError>
-    ensures { IfOk result (λ answer. Answered answer (edit_answer outcome)) }
-{
-    match outcome {
-        Ok(()) => Ok(Answer::Done),
-        Err(Error::OutOfMemory) => Err(AllocError),
-        Err(Error::Refused(refusal)) => Ok(Answer::Refused(refusal)),
-    }
-}
-
-/// The answer of a question for a bean, unless it runs out of memory.
-pub(crate) fn answer_of_choice(outcome: Result<Choice, AllocError>) -> Result<Answer, AllocError>
-    ensures { IfOk result (λ answer. Answered answer (choice_answer outcome)) }
-{
-    match outcome {
-        Ok(choice) => Ok(Answer::Chosen(choice)),
-        Err(error) => Err(error),
-    }
-}
-
-/// The answer of a report, unless it runs out of memory.
-pub(crate) fn answer_of_report(
-    outcome: Result<Vec<Fault>, AllocError>,
-) -> Result<Answer, AllocError>
-    ensures { IfOk result (λ answer. Answered answer (report_answer outcome)) }
-{
-    match outcome {
-        Ok(faults) => Ok(Answer::Reported(faults)),
-        Err(error) => Err(error),
-    }
 }

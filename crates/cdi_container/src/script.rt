@@ -1,17 +1,19 @@
 //! Running a script.
-ghost use Rattle.std.specs.Prelude.{◌≡◌, ◌≢◌, ◌≤◌, ◌<◌, ◌+◌, ◌⊎◌, length, OnOk, OnErr, IfOk, IfErr, IfSome, IsErrOf, false, true, take, []};
-ghost use Rattle.cdi_devices.specs.Counted.{inner_of, bytes_of, has_failed};
+ghost use Rattle.std.specs.Prelude.{◌≡◌, ◌≢◌, ◌≤◌, ◌<◌, ◌+◌, ◌⊎◌, length, OnOk, OnErr, IfOk, IfErr, IsErrOf, false, true, take, []};
+ghost use Rattle.std.specs.Io.KnownBytes.{Appends};
+ghost use Rattle.cdi_devices.specs.Devices.{WritesPart};
+ghost use Rattle.cdi_devices.specs.Counted.{inner_of, bytes_of, has_failed, is_flushed};
 ghost use Rattle.cdi_container.specs.Run.{Sends, SendsPart, SendsLast, Feeds, FeedsBeforeMemory, FeedsPart, Ends, EndsBeforeMemory, EndsPart, RunsScript, FailsToRead, RunsOutOfMemory, FailsToWrite};
-ghost use Rattle.cdi_container.specs.Session.{IsFresh};
+ghost use Rattle.cdi_container.specs.Intake.{IsFresh};
 
+use crate::intake::Intake;
 use crate::runner::Runner;
-use crate::session::Session;
 use cdi_devices::{Counted, RunFault, SCRIPT_LIMIT, read_some, write_out};
 use std::alloc::Global;
 use std::io::{Read, Write};
 
-/// How many bytes are read at a time.
-const BUFFER: usize = 65536;
+/// How many bytes a run reads at a time, at most.
+pub const READ_BYTES: usize = 65536;
 
 /// How many bytes may be printed before they are written.
 const MAX_OUT: usize = 65536;
@@ -36,8 +38,21 @@ fn send<W: Write>(runner: &mut Runner, writer: &mut Counted<W>) -> Result<(), Ru
     ensures part { OnErr result (SendsPart W.contents runner.old writer.old writer.new) }
     ensures error { IfErr result (λ fault. fault ≡ RunFault.Write) }
 {
-    write_out(writer, runner.out.as_slice())?;
+    write_and_flush(writer, runner.out.as_slice())?;
     runner.out.clear();
+    Ok(())
+}
+
+/// Writes all the bytes, and flushes.
+fn write_and_flush<W: Write>(writer: &mut Counted<W>, bytes: &[u8]) -> Result<(), RunFault>
+    ensures ok { OnOk result (Appends (W.contents (inner_of writer.old)) (W.contents (inner_of writer.new)) bytes.now) }
+    ensures part { OnErr result (WritesPart W.contents writer.old writer.new bytes.now) }
+    ensures error { IfErr result (λ fault. fault ≡ RunFault.Write) }
+    ensures still { OnOk result (has_failed writer.new ≡ has_failed writer.old) }
+    ensures failed { OnErr result (has_failed writer.new ≡ true) }
+    ensures flushed { OnOk result (is_flushed writer.new ≡ true) }
+{
+    write_out(writer, bytes)?;
     match writer.flush() {
         Ok(()) => Ok(()),
         Err(_) => Err(RunFault::Write),
@@ -50,48 +65,50 @@ fn give_up<W: Write>(runner: &Runner, writer: &mut Counted<W>) -> RunFault
     ensures write { result ≡ RunFault.Write → SendsPart W.contents runner.now writer.old writer.new }
     ensures not_read { result ≢ RunFault.Read }
 {
-    match write_out(writer, runner.out.as_slice()) {
+    match write_and_flush(writer, runner.out.as_slice()) {
         Ok(()) => RunFault::Memory,
         Err(_) => RunFault::Write,
     }
 }
 
 /// Writes what is printed, and goes on.
-fn settle<W: Write>(session: &mut Session, writer: &mut Counted<W>) -> Result<(), RunFault>
-    ensures ok { OnOk result (Feeds W.contents session.old session.new writer.old writer.new []) }
-    ensures part { OnErr result (FeedsPart W.contents session.old writer.old writer.new []) }
+fn settle<W: Write>(intake: &mut Intake, writer: &mut Counted<W>) -> Result<(), RunFault>
+    ensures ok { OnOk result (Feeds W.contents intake.old intake.new writer.old writer.new []) }
+    ensures part { OnErr result (FeedsPart W.contents intake.old writer.old writer.new []) }
     ensures still { OnOk result (has_failed writer.new ≡ has_failed writer.old) }
     ensures failed { OnErr result (has_failed writer.new ≡ true) }
+    ensures flushed { OnOk result (is_flushed writer.new ≡ true) }
     ensures error { IfErr result (λ fault. fault ≡ RunFault.Write) }
-    ensures empty { OnOk result (session.new.runner.out.items ≡ []) }
+    ensures empty { OnOk result (intake.new.runner.out.items ≡ []) }
 {
-    send(&mut session.runner, writer)
+    send(&mut intake.runner, writer)
 }
 
 /// Takes some bytes of the script, at most one line's, and tells how many.
 fn take_some<W: Write>(
-    session: &mut Session,
+    intake: &mut Intake,
     writer: &mut Counted<W>,
     chunk: &[u8],
 ) -> Result<usize, RunFault>
     requires { 0 < length chunk.now }
-    ensures ok { IfOk result (λ n. Feeds W.contents session.old session.new writer.old writer.new (take n chunk.now)) }
+    ensures ok { IfOk result (λ n. Feeds W.contents intake.old intake.new writer.old writer.new (take n chunk.now)) }
     ensures some { IfOk result (λ n. 0 < n) }
     ensures bound { IfOk result (λ n. n ≤ length chunk.now) }
     ensures still { OnOk result (has_failed writer.new ≡ has_failed writer.old) }
-    ensures memory { IsErrOf result RunFault.Memory → FeedsBeforeMemory W.contents session.old writer.old writer.new chunk.now }
+    ensures memory { IsErrOf result RunFault.Memory → FeedsBeforeMemory W.contents intake.old writer.old writer.new chunk.now }
     ensures memory_still { IsErrOf result RunFault.Memory → has_failed writer.new ≡ has_failed writer.old }
-    ensures write { IsErrOf result RunFault.Write → FeedsPart W.contents session.old writer.old writer.new chunk.now }
+    ensures memory_flushed { IsErrOf result RunFault.Memory → is_flushed writer.new ≡ true }
+    ensures write { IsErrOf result RunFault.Write → FeedsPart W.contents intake.old writer.old writer.new chunk.now }
     ensures write_cause { IsErrOf result RunFault.Write → has_failed writer.new ≡ true }
     ensures not_read { IfErr result (λ fault. fault ≢ RunFault.Read) }
 {
-    match session.advance(chunk) {
-        Err(_) => Err(give_up(&session.runner, writer)),
+    match intake.advance(chunk) {
+        Err(_) => Err(give_up(&intake.runner, writer)),
         Ok(n) => {
-            if session.runner.out.len() < MAX_OUT {
+            if intake.runner.out.len() < MAX_OUT {
                 return Ok(n);
             }
-            match settle(session, writer) {
+            match settle(intake, writer) {
                 Ok(()) => Ok(n),
                 Err(fault) => Err(fault),
             }
@@ -101,48 +118,52 @@ fn take_some<W: Write>(
 
 /// Takes bytes of the script, and writes what their commands print.
 fn feed<W: Write>(
-    session: &mut Session,
+    intake: &mut Intake,
     writer: &mut Counted<W>,
     chunk: &[u8],
 ) -> Result<(), RunFault>
-    ensures ok { OnOk result (Feeds W.contents session.old session.new writer.old writer.new chunk.now) }
+    ensures ok { OnOk result (Feeds W.contents intake.old intake.new writer.old writer.new chunk.now) }
     ensures still { OnOk result (has_failed writer.new ≡ has_failed writer.old) }
-    ensures memory { IsErrOf result RunFault.Memory → FeedsBeforeMemory W.contents session.old writer.old writer.new chunk.now }
+    ensures flushed { OnOk result (is_flushed writer.new ≡ true) }
+    ensures memory { IsErrOf result RunFault.Memory → FeedsBeforeMemory W.contents intake.old writer.old writer.new chunk.now }
     ensures memory_still { IsErrOf result RunFault.Memory → has_failed writer.new ≡ has_failed writer.old }
-    ensures write { IsErrOf result RunFault.Write → FeedsPart W.contents session.old writer.old writer.new chunk.now }
+    ensures memory_flushed { IsErrOf result RunFault.Memory → is_flushed writer.new ≡ true }
+    ensures write { IsErrOf result RunFault.Write → FeedsPart W.contents intake.old writer.old writer.new chunk.now }
     ensures write_cause { IsErrOf result RunFault.Write → has_failed writer.new ≡ true }
-    ensures empty { OnOk result (session.new.runner.out.items ≡ []) }
+    ensures empty { OnOk result (intake.new.runner.out.items ≡ []) }
     ensures not_read { IfErr result (λ fault. fault ≢ RunFault.Read) }
 {
     let mut rest = chunk;
     while !rest.is_empty() {
-        match take_some(session, writer, rest) {
+        match take_some(intake, writer, rest) {
             Ok(n) => rest = rest.split_at(n).1,
             Err(fault) => return Err(fault),
         }
     }
-    settle(session, writer)
+    settle(intake, writer)
 }
 
 /// Takes the end of the script, and writes what is printed.
-fn finish<W: Write>(session: &mut Session, writer: &mut Counted<W>) -> Result<Summary, RunFault>
-    ensures ok { IfOk result (λ summary. Ends W.contents session.old writer.old writer.new summary.refused) }
+fn finish<W: Write>(intake: &mut Intake, writer: &mut Counted<W>) -> Result<Summary, RunFault>
+    ensures ok { IfOk result (λ summary. Ends W.contents intake.old writer.old writer.new summary.refused) }
     ensures still { OnOk result (has_failed writer.new ≡ has_failed writer.old) }
-    ensures memory { IsErrOf result RunFault.Memory → EndsBeforeMemory W.contents session.old writer.old writer.new }
+    ensures flushed { OnOk result (is_flushed writer.new ≡ true) }
+    ensures memory { IsErrOf result RunFault.Memory → EndsBeforeMemory W.contents intake.old writer.old writer.new }
     ensures memory_still { IsErrOf result RunFault.Memory → has_failed writer.new ≡ has_failed writer.old }
-    ensures write { IsErrOf result RunFault.Write → EndsPart W.contents session.old writer.old writer.new }
+    ensures memory_flushed { IsErrOf result RunFault.Memory → is_flushed writer.new ≡ true }
+    ensures write { IsErrOf result RunFault.Write → EndsPart W.contents intake.old writer.old writer.new }
     ensures write_cause { IsErrOf result RunFault.Write → has_failed writer.new ≡ true }
     ensures not_read { IfErr result (λ fault. fault ≢ RunFault.Read) }
 {
-    let Ok(()) = session.end_last_line() else {
-        return Err(give_up(&session.runner, writer));
+    let Ok(()) = intake.end_last_line() else {
+        return Err(give_up(&intake.runner, writer));
     };
-    let Ok(()) = session.end_mode() else {
-        return Err(give_up(&session.runner, writer));
+    let Ok(()) = intake.end_mode() else {
+        return Err(give_up(&intake.runner, writer));
     };
-    match send(&mut session.runner, writer) {
+    match send(&mut intake.runner, writer) {
         Ok(()) => Ok(Summary {
-            refused: session.runner.refused,
+            refused: intake.runner.refused,
         }),
         Err(fault) => Err(fault),
     }
@@ -150,23 +171,24 @@ fn finish<W: Write>(session: &mut Session, writer: &mut Counted<W>) -> Result<Su
 
 /// Reads a script to its end.
 fn read_all<R: Read, W: Write>(
-    session: &mut Session,
+    intake: &mut Intake,
     buffer: &mut [u8],
     reader: &mut Counted<R>,
     writer: &mut Counted<W>,
 ) -> Result<Summary, RunFault>
-    requires room { 0 < length buffer.old }
-    requires fresh { IsFresh session.old }
+    requires room { (0 < length buffer.old) × (length buffer.old ≤ READ_BYTES) }
+    requires fresh { IsFresh intake.old }
     requires reader_fresh { (bytes_of reader.old ≡ 0) × (has_failed reader.old ≡ false) }
-    requires writer_fresh { has_failed writer.old ≡ false }
+    requires writer_fresh { (has_failed writer.old ≡ false) × (is_flushed writer.old ≡ true) }
     ensures ok { IfOk result (λ summary.
-        RunsScript R.remaining W.contents SCRIPT_LIMIT session.old.runner.quiet reader.old reader.new writer.old writer.new summary.refused) }
+        RunsScript R.remaining W.contents SCRIPT_LIMIT intake.old.runner.quiet reader.old reader.new writer.old writer.new summary.refused) }
     ensures read { IsErrOf result RunFault.Read →
-        FailsToRead R.remaining W.contents SCRIPT_LIMIT session.old.runner.quiet reader.old reader.new writer.old writer.new }
-    ensures memory { IsErrOf result RunFault.Memory → IfSome (R.remaining (inner_of reader.old)) (λ input.
-        RunsOutOfMemory session.old.runner.quiet (W.contents (inner_of writer.old)) (W.contents (inner_of writer.new)) input) }
-    ensures write { IsErrOf result RunFault.Write → IfSome (R.remaining (inner_of reader.old)) (λ input.
-        FailsToWrite session.old.runner.quiet (W.contents (inner_of writer.old)) (W.contents (inner_of writer.new)) input) }
+        FailsToRead R.remaining W.contents SCRIPT_LIMIT intake.old.runner.quiet reader.old reader.new writer.old writer.new }
+    ensures memory { IsErrOf result RunFault.Memory →
+        RunsOutOfMemory R.remaining W.contents SCRIPT_LIMIT READ_BYTES intake.old.runner.quiet reader.old reader.new writer.old writer.new }
+    ensures write { IsErrOf result RunFault.Write →
+        FailsToWrite R.remaining W.contents SCRIPT_LIMIT READ_BYTES intake.old.runner.quiet reader.old reader.new writer.old writer.new }
+    ensures flushed { IsErrOf result RunFault.Write ⊎ (is_flushed writer.new ≡ true) }
     ensures read_cause { IsErrOf result RunFault.Read → (has_failed reader.new ≡ true) ⊎ (SCRIPT_LIMIT < bytes_of reader.new) }
     ensures reader_sound { IsErrOf result RunFault.Read ⊎ ((has_failed reader.new ≡ false) × (bytes_of reader.new ≤ SCRIPT_LIMIT)) }
     ensures write_cause { IsErrOf result RunFault.Write → has_failed writer.new ≡ true }
@@ -176,8 +198,8 @@ fn read_all<R: Read, W: Write>(
     loop {
         match read_some(reader, buffer) {
             Err(fault) => return Err(fault),
-            Ok(0) => return finish(session, writer),
-            Ok(n) => match feed(session, writer, &buffer[..n]) {
+            Ok(0) => return finish(intake, writer),
+            Ok(n) => match feed(intake, writer, &buffer[..n]) {
                 Ok(()) => {}
                 Err(fault) => return Err(fault),
             },
@@ -185,9 +207,12 @@ fn read_all<R: Read, W: Write>(
     }
 }
 
-/// Reads a script, runs each command on a container that is empty at first, and writes each command's lines before more
-/// is read. It takes a buffer of 65,536 bytes, what the container takes, and a bounded number of bytes for the line and
-/// the put block that have begun.
+/// Reads a script, runs each command on a container that is empty at first, and writes and flushes each command's lines
+/// before more is read. It takes a buffer of 65,536 bytes, what the container takes, and a bounded number of bytes for
+/// the line and the put block that have begun.
+///
+/// The clauses speak of the bytes of readers and writers that tell their bytes to contracts. Those of `std`'s files and
+/// standard streams are not told; of these they say what was counted, failed and flushed.
 pub fn run<R: Read, W: Write>(
     alloc: Global,
     reader: &mut Counted<R>,
@@ -195,7 +220,7 @@ pub fn run<R: Read, W: Write>(
     options: Options,
 ) -> Result<Summary, RunFault>
     requires reader_fresh { (bytes_of reader.old ≡ 0) × (has_failed reader.old ≡ false) }
-    requires writer_fresh { has_failed writer.old ≡ false }
+    requires writer_fresh { (has_failed writer.old ≡ false) × (is_flushed writer.old ≡ true) }
 
     // The text of a legal history of exactly the script's commands was written, and the summary tells of it.
     ensures ok { IfOk result (λ summary.
@@ -204,10 +229,13 @@ pub fn run<R: Read, W: Write>(
     // What was written where the run ended early.
     ensures read { IsErrOf result RunFault.Read →
         FailsToRead R.remaining W.contents SCRIPT_LIMIT options.quiet reader.old reader.new writer.old writer.new }
-    ensures memory { IsErrOf result RunFault.Memory → IfSome (R.remaining (inner_of reader.old)) (λ input.
-        RunsOutOfMemory options.quiet (W.contents (inner_of writer.old)) (W.contents (inner_of writer.new)) input) }
-    ensures write { IsErrOf result RunFault.Write → IfSome (R.remaining (inner_of reader.old)) (λ input.
-        FailsToWrite options.quiet (W.contents (inner_of writer.old)) (W.contents (inner_of writer.new)) input) }
+    ensures memory { IsErrOf result RunFault.Memory →
+        RunsOutOfMemory R.remaining W.contents SCRIPT_LIMIT READ_BYTES options.quiet reader.old reader.new writer.old writer.new }
+    ensures write { IsErrOf result RunFault.Write →
+        FailsToWrite R.remaining W.contents SCRIPT_LIMIT READ_BYTES options.quiet reader.old reader.new writer.old writer.new }
+
+    // All that was written was flushed, at the end and before the read that failed, as any read may.
+    ensures flushed { IsErrOf result RunFault.Write ⊎ (is_flushed writer.new ≡ true) }
 
     // `Read` and `Write` come exactly where a device failed, or the reader gave a byte behind the limit.
     ensures read_cause { IsErrOf result RunFault.Read → (has_failed reader.new ≡ true) ⊎ (SCRIPT_LIMIT < bytes_of reader.new) }
@@ -215,8 +243,9 @@ pub fn run<R: Read, W: Write>(
     ensures write_cause { IsErrOf result RunFault.Write → has_failed writer.new ≡ true }
     ensures writer_sound { IsErrOf result RunFault.Write ⊎ (has_failed writer.new ≡ false) }
     ensures most { bytes_of reader.new ≤ SCRIPT_LIMIT + 1 }
+    ensures limits { (SCRIPT_LIMIT ≡ 16777216) × (READ_BYTES ≡ 65536) }
 {
-    let mut buffer = vec![in alloc; 0u8; BUFFER]?;
-    let mut session = Session::new(alloc, options.quiet);
-    read_all(&mut session, buffer.as_mut_slice(), reader, writer)
+    let mut buffer = vec![in alloc; 0u8; READ_BYTES]?;
+    let mut intake = Intake::new(alloc, options.quiet);
+    read_all(&mut intake, buffer.as_mut_slice(), reader, writer)
 }

@@ -6,28 +6,31 @@ ghost use Rattle.std.specs.Io.KnownBytes.{Keeps, ReadConsumes, WriteAppends};
 use std::io;
 use std::io::{Read, Write};
 
-/// A reader or a writer, with a count of the bytes that went through and a note of whether a call answered an error or
-/// a write of some bytes took none. It takes no memory.
+/// A reader or a writer, with a count of the bytes that went through and two notes: whether a call answered an error or
+/// a write of some bytes took none, and whether all that was written has been flushed. It takes no memory.
 #[derive(Drop)]
 pub struct Counted<T> {
     inner: T,
     bytes: u64,
     failed: bool,
+    flushed: bool,
 }
 
 impl<T> Counted<T> {
-    ghost use Rattle.cdi_devices.specs.Counted.{inner_of, bytes_of, has_failed};
+    ghost use Rattle.cdi_devices.specs.Counted.{inner_of, bytes_of, has_failed, is_flushed};
 
     /// Nothing went through yet, and no call failed.
     pub fn new(inner: T) -> Counted<T>
         ensures inner { inner_of result ≡ inner }
         ensures bytes { bytes_of result ≡ 0 }
         ensures failed { has_failed result ≡ false }
+        ensures flushed { is_flushed result ≡ true }
     {
         Counted {
             inner,
             bytes: 0,
             failed: false,
+            flushed: true,
         }
     }
 
@@ -43,6 +46,13 @@ impl<T> Counted<T> {
         ensures { result ≡ has_failed self.now }
     {
         self.failed
+    }
+
+    /// Whether no byte was written since a flush last answered `Ok`, or ever.
+    pub fn is_flushed(&self) -> bool
+        ensures { result ≡ is_flushed self.now }
+    {
+        self.flushed
     }
 
     /// The reader or the writer itself.
@@ -91,6 +101,8 @@ impl<W: Write> Write for Counted<W> {
                 self.bytes = self.bytes.saturating_add(n as u64);
                 if n == 0 {
                     self.failed = true;
+                } else {
+                    self.flushed = false;
                 }
                 Ok(n)
             }
@@ -106,7 +118,10 @@ impl<W: Write> Write for Counted<W> {
         ensures noted { NotesFlush self.old self.new result }
     {
         match self.inner.flush() {
-            Ok(()) => Ok(()),
+            Ok(()) => {
+                self.flushed = true;
+                Ok(())
+            }
             Err(e) => {
                 self.failed = true;
                 Err(e)

@@ -1,7 +1,7 @@
 //! Names, lines, what is kept of them, and counts.
 use crate::fixtures::{assert_text, push_names, push_uses};
 use cdi_container::Counted;
-use cdi_lines::{Block, Command, Line, ends_block, find_feed, read_line};
+use cdi_lines::{Block, Command, Line, Said, ends_block, find_feed, read_line};
 use cdi_model::{Error, Ident, Kind, Name, Refusal, Seq, is_ident, is_name};
 use std::alloc::Global;
 use std::io::{Read, Write};
@@ -108,7 +108,9 @@ static SAYINGS: [Saying; 38] = [
 fn said(alloc: Global, line: &[u8]) -> Result<Vec<u8>, Fail> {
     let mut text = Vec::new(alloc);
     match read_line(alloc, line) {
-        Ok(command) => push_command(&mut text, &command)?,
+        Ok(Said::Nothing) => text.extend_from_slice(b"skip")?,
+        Ok(Said::PutBegins) => text.extend_from_slice(b"put")?,
+        Ok(Said::Command(command)) => push_command(&mut text, &command)?,
         Err(Error::Refused(Refusal::BadCommand)) => text.extend_from_slice(b"refused")?,
         Err(_) => text.extend_from_slice(b"another error")?,
     }
@@ -117,9 +119,8 @@ fn said(alloc: Global, line: &[u8]) -> Result<Vec<u8>, Fail> {
 
 fn push_command(text: &mut Vec<u8>, command: &Command) -> Result<(), Fail> {
     match command {
-        Command::Skip => text.extend_from_slice(b"skip")?,
-        Command::Put => text.extend_from_slice(b"put")?,
-        Command::Drop { kind, name } => {
+        Command::Put { .. } | Command::Unreadable => text.extend_from_slice(b"no command")?,
+        Command::Remove { kind, name } => {
             write!(text, "drop {kind:?}")?;
             push_names(text, &[*name])?;
         }

@@ -1,8 +1,0 @@
-use Rattle.std.proofs.lemmas.Result.{on_ok_weaker}
-use Rattle.cdi_container.specs.Commands.{Named}
-use Rattle.cdi_container.proofs.Ran.{ran}
-use Rattle.cdi_container.proofs.runner.Runner.named.Goals as goal
-
-pub returns-clause-ok : goal.returns-clause-ok
-returns-clause-ok c = on_ok_weaker c.print.result
-    (ran c.args.self.now c.print.new.self c.named.new.self (Named c.args.name) c.in_ok-answer.answer _ c.in_ok-answer.ensures c.named.ensures) c.print.ensures.ok
