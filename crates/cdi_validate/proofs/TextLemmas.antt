@@ -1,7 +1,7 @@
 -- The members of a use, by those that are left to print.
 use Rattle.std.proofs.Common.{◌≡◌, ℕ, ℤ, Bool, true, false, List, [], ◌∷◌, ◌++◌, refl, sym, ◌∙◌, ap}
 use Rattle.std.proofs.lemmas.List.{append-nil}
-use Rattle.cdi_validate.specs.FaultText.{text_of_pair, text_of_pairs}
+use Rattle.cdi_model.specs.UseText.{text_of_pair, text_of_pairs}
 
 -- each but the first has a comma before it
 abbrev pub pairs_left : Bool → List (List ℕ × ℤ) → List ℕ

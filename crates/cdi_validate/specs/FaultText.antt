@@ -1,15 +1,12 @@
 -- The texts of faults, and their order.
-use Rattle.std.specs.Prelude.{◌≡◌, ℕ, ℤ, List, [], ◌∷◌, ◌++◌, map, fold, codes, Option, Some, None}
+use Rattle.std.specs.Prelude.{◌≡◌, ℕ, List, [], ◌∷◌, ◌++◌, map, fold, codes, Option, Some, None}
 use Rattle.std.specs.BTreeMap.{insert_entry}
-use Rattle.std.specs.Fmt.{signed_decimal}
 use Rattle.std.specs.List.Sorted.{IsStrictlySortedBy}
 use Rattle.std.specs.Ordering.{nat_cmp}
 use Rattle.std.specs.declared.cmp.Ordering.{Ordering}
 use Rattle.std.specs.Cmp.Lexicographic.{slice_cmp}
 use Rattle.cdi_model.specs.Decl.{word_of_kind}
-use Rattle.cdi_model.specs.declared.quals.Arguments.{Arguments}
-use Rattle.cdi_model.specs.declared.quals.Arguments.TheVariants as arguments
-use Rattle.cdi_model.specs.declared.quals.Qual.{Qual}
+use Rattle.cdi_model.specs.UseText.{text_of_use}
 use Rattle.cdi_match.specs.Chain.{has}
 use Rattle.cdi_validate.specs.declared.fault.Code.{Code}
 use Rattle.cdi_validate.specs.declared.fault.Code.TheVariants as fault_codes
@@ -17,24 +14,6 @@ use Rattle.cdi_validate.specs.declared.fault.Fault.{Fault}
 use Rattle.cdi_validate.specs.declared.fault.Fault.TheVariants as faults_are
 use Rattle.cdi_validate.specs.declared.fault.Member.{Member}
 use Rattle.cdi_validate.specs.declared.fault.Member.TheVariants as members
-
--- m=v,m=v
-abbrev pub text_of_pair : List ℕ × ℤ → List ℕ
-text_of_pair pair = pair.0 ++ 61 ∷ signed_decimal pair.1
-
-abbrev pub text_of_pairs : List (List ℕ × ℤ) → List ℕ
-text_of_pairs [] = []
-text_of_pairs (p ∷ []) = text_of_pair p
-text_of_pairs (p ∷ q ∷ ps) = text_of_pair p ++ 44 ∷ text_of_pairs (q ∷ ps)
-
--- what stands behind the name of a use: its members in brackets, if it writes some
-abbrev pub text_of_arguments : Arguments → List ℕ
-text_of_arguments (arguments.Name name) = 40 ∷ name ++ 41 ∷ []
-text_of_arguments (arguments.Members []) = []
-text_of_arguments (arguments.Members (p ∷ ps)) = 40 ∷ text_of_pairs (p ∷ ps) ++ 41 ∷ []
-
-abbrev pub text_of_use : Qual → List ℕ
-text_of_use u = u.name ++ text_of_arguments u.arguments
 
 -- a word, a space, and what it is about
 abbrev pub about : List ℕ → List ℕ → List ℕ

@@ -1,9 +1,10 @@
 //! The texts of faults.
 ghost use Rattle.std.specs.Prelude.{◌≡◌, [], ◌++◌, Some, IfOk, OnOk};
 ghost use Rattle.std.specs.BTreeMap.{insert_entry, values};
+ghost use Rattle.cdi_model.specs.UseText.{text_of_pair, text_of_pairs, text_of_arguments};
 ghost use Rattle.cdi_validate.specs.declared.fault.Member.TheVariants as members_are;
 ghost use Rattle.cdi_validate.specs.TextTree.{entries_in};
-ghost use Rattle.cdi_validate.specs.FaultText.{text_of_pair, text_of_pairs, text_of_arguments, about, in_producer, text_of_point, text_of_code, text_of_member, behind_space, text_of_fault, byte_order, by_text, in_text_order, MembersInOrder};
+ghost use Rattle.cdi_validate.specs.FaultText.{about, in_producer, text_of_point, text_of_code, text_of_member, behind_space, text_of_fault, byte_order, by_text, in_text_order, MembersInOrder};
 
 use crate::fault::{Code, Fault, Member};
 use cdi_model::{Arguments, Ident, Members, Name, Qual};

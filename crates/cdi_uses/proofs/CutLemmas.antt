@@ -1,0 +1,93 @@
+-- A text cut at a byte, and put together again.
+use Rattle.std.proofs.Common.{◌≡◌, ◌≢◌, ℕ, ◌+◌, ◌-◌, ◌<◌, Bool, true, false, cond, List, [], ◌∷◌, ◌++◌, length, take, get_or, Option, Some, None, refl, ap, sym, ◌∙◌, inl, inr, arith}
+use Rattle.std.specs.Prelude.{◌==◌, slice_index}
+use Rattle.std.specs.List.{AllByRecursion, join_with_byte}
+use Rattle.std.proofs.lemmas.Bool.{cases_Bool, eqb-true, eq-eqb, false≢true}
+use Rattle.std.proofs.lemmas.List.{length-append, take_all, take_at, get_or-append-add, take_more}
+use Rattle.std.proofs.lemmas.Option.{none-some, same_Some}
+use Rattle.cdi_uses.specs.Pieces.{cut, split, pieces}
+use Rattle.cdi_uses.specs.Uses.{before_close}
+use Rattle.cdi_uses.proofs.PieceLemmas.{split-cut}
+
+-- the byte doesn't stand in the text
+abbrev pub Lacks : ℕ → List ℕ → Type 0
+Lacks byte text = AllByRecursion (λ c. (c == byte) ≡ false) text
+
+pub cut-none : (byte : ℕ) (text : List ℕ) → Lacks byte text → cut byte text ≡ (text, None)
+cut-none byte [] h = refl
+cut-none byte (x ∷ xs) h = rw (h.0, cut-none byte xs h.1) refl
+
+same_byte : (byte : ℕ) → (byte == byte) ≡ true
+same_byte byte = eq-eqb byte byte refl
+
+pub cut-at : (byte : ℕ) (front rest : List ℕ) → Lacks byte front → cut byte (front ++ byte ∷ rest) ≡ (front, Some rest)
+cut-at byte [] rest h = rw (same_byte byte) refl
+cut-at byte (x ∷ xs) rest h = rw (h.0, cut-at byte xs rest h.1) refl
+
+-- the parts of a cut text, put together
+abbrev pub rejoined : ℕ → List ℕ → Option (List ℕ) → List ℕ
+rejoined byte front None = front
+rejoined byte front (Some rest) = front ++ byte ∷ rest
+
+rejoined-cons : (byte x : ℕ) (front : List ℕ) (rest : Option (List ℕ)) → rejoined byte (x ∷ front) rest ≡ x ∷ rejoined byte front rest
+rejoined-cons byte x front None = refl
+rejoined-cons byte x front (Some rest) = refl
+
+pub cut-joined : (byte : ℕ) (text : List ℕ) → rejoined byte (cut byte text).0 (cut byte text).1 ≡ text
+cut-joined byte [] = refl
+cut-joined byte (x ∷ xs) = elim (cases_Bool (x == byte)) [
+  | inl same ↦ rw same (ap (λ c. c ∷ xs) (sym (eqb-true x byte same)))
+  | inr other ↦ rw other (rejoined-cons byte x (cut byte xs).0 (cut byte xs).1 ∙ ap (λ l. x ∷ l) (cut-joined byte xs))
+]
+
+-- ---- what stands before a bracket at the end
+
+pub before_close-at : (inner : List ℕ) → before_close (inner ++ 41 ∷ []) ≡ Some inner
+before_close-at inner =
+    let all : List ℕ = inner ++ 41 ∷ [] in
+    let count : length inner ≡ length all - 1 = omega (arith, length-append inner (41 ∷ [])) in
+    let last : get_or all (length inner + 0) 0 ≡ 41 = get_or-append-add inner (41 ∷ []) 0 0 in
+    let place : length all - 1 ≡ length inner + 0 = omega (arith, count) in
+    let at : get_or all (length all - 1) 0 ≡ 41 = ap (λ n. get_or all n 0) place ∙ last in
+    rw (eq-eqb _ 41 at) (ap Some (take_at inner (41 ∷ []) (length all - 1) count))
+
+closed : (text inner : List ℕ) (b : Bool) → (slice_index text (length text - 1) == 41) ≡ b → cond b (Some (take (length text - 1) text)) None ≡ Some inner → text ≡ inner ++ 41 ∷ []
+closed text inner false e h = absurd (none-some inner h)
+closed [] inner true e h = absurd (false≢true e)
+closed (x ∷ xs) inner true e h =
+    let within : length xs < length (x ∷ xs) = omega arith in
+    let place : length (x ∷ xs) - 1 ≡ length xs = omega arith in
+    let last : get_or (x ∷ xs) (length xs) 0 ≡ 41 = sym (ap (λ n. get_or (x ∷ xs) n 0) place) ∙ eqb-true _ 41 e in
+    let front : take (length xs) (x ∷ xs) ≡ inner = sym (ap (λ n. take n (x ∷ xs)) place) ∙ same_Some _ inner h in
+    sym (take_all (length xs + 1) (x ∷ xs) (omega arith)) ∙ take_more (x ∷ xs) (length xs) 0 within ∙ ap (λ l. l ++ get_or (x ∷ xs) (length xs) 0 ∷ []) front ∙ ap (λ b. inner ++ b ∷ []) last
+
+pub before_close-joined : (text inner : List ℕ) → before_close text ≡ Some inner → text ≡ inner ++ 41 ∷ []
+before_close-joined text inner h = closed text inner _ refl h
+
+-- ---- parts between commas
+
+behind_comma : (l : List (List ℕ)) (p : List ℕ) (ps : List (List ℕ)) → l ≡ p ∷ ps → join_with_byte 44 ([] ∷ l) ≡ 44 ∷ join_with_byte 44 l
+behind_comma l p ps e = rw e refl
+
+onto_first : (x : ℕ) (p : List ℕ) (ps : List (List ℕ)) → join_with_byte 44 ((x ∷ p) ∷ ps) ≡ x ∷ join_with_byte 44 (p ∷ ps)
+onto_first x p [] = refl
+onto_first x p (q ∷ qs) = refl
+
+pub split-joined : (text : List ℕ) → join_with_byte 44 (split 44 text) ≡ text
+split-joined [] = refl
+split-joined (x ∷ xs) = elim (cases_Bool (x == 44)) [
+  | inl same ↦ rw same (behind_comma (split 44 xs) _ _ (split-cut xs) ∙ ap (λ l. 44 ∷ l) (split-joined xs) ∙ ap (λ c. c ∷ xs) (sym (eqb-true x 44 same)))
+  | inr other ↦
+      let rest : join_with_byte 44 ((cut 44 xs).0 ∷ pieces (cut 44 xs).1) ≡ xs = ap (join_with_byte 44) (sym (split-cut xs)) ∙ split-joined xs in
+      rw (other, split-cut xs) (onto_first x (cut 44 xs).0 (pieces (cut 44 xs).1) ∙ ap (λ l. x ∷ l) rest)
+]
+
+pub split-some : (text : List ℕ) → split 44 text ≢ []
+split-some text e = let none : (cut 44 text).0 ∷ pieces (cut 44 text).1 ≡ [] = sym (split-cut text) ∙ e in cc
+
+pub joined-split : (parts : List (List ℕ)) → parts ≢ [] → AllByRecursion (Lacks 44) parts → split 44 (join_with_byte 44 parts) ≡ parts
+joined-split [] some lack = absurd (some refl)
+joined-split (p ∷ []) some lack = rw (split-cut p, cut-none 44 p lack.0) refl
+joined-split (p ∷ q ∷ ps) some lack =
+    let rest : List ℕ = join_with_byte 44 (q ∷ ps) in
+    rw (split-cut (p ++ 44 ∷ rest), cut-at 44 p rest lack.0) (ap (λ l. p ∷ l) (joined-split (q ∷ ps) (λ none. cc) lack.1))

@@ -1,0 +1,167 @@
+-- What it means to be a use of a qualifier.
+use Rattle.std.proofs.Common.{◌≡◌, ◌≢◌, ℕ, ℤ, Bool, true, false, List, [], ◌∷◌, ◌++◌, length, codes, Option, Some, None, refl, ap, sym, ◌∙◌, inl, inr, subst}
+use Rattle.std.specs.Prelude.{◌==◌, ◌↔◌, not, nat_le, is_some}
+use Rattle.std.specs.List.{AllByRecursion, join_with_byte}
+use Rattle.std.specs.Str.{bytes_eq}
+use Rattle.std.specs.Cmp.Lexicographic.{bytes_decides}
+use Rattle.std.proofs.lemmas.Bool.{cases_Bool, and_parts, and_from, or_parts, not-true, eqb-true, false≢true}
+use Rattle.cdi_model.specs.Grammar.{is_letter, is_word, are_words, is_ident_text, is_ident, begins, goes_on, is_name}
+use Rattle.cdi_uses.specs.Numbers.{number_of}
+use Rattle.cdi_uses.specs.Pieces.{cut, split}
+use Rattle.cdi_uses.specs.Uses.{pair_in, pair_of, are_pairs, before_close, is_named, is_plain, is_inside, is_use_of, is_use}
+use Rattle.cdi_uses.specs.Meaning.{WritesMember, SpellsUse}
+use Rattle.cdi_uses.proofs.CutLemmas.{Lacks, rejoined, cut-none, cut-at, cut-joined, before_close-at, before_close-joined, split-joined, split-some, joined-split}
+use Rattle.cdi_uses.proofs.NumberLemmas.{number_plain}
+
+-- ---- bytes that stand in no name
+
+-- neither a letter, `_`, a digit nor a dot
+abbrev IsApart : ℕ → Type 0
+IsApart byte = (is_word byte ≡ false) × ((46 == byte) ≡ false)
+
+apart_byte : (b byte : ℕ) → IsApart byte → is_word b ≡ true → (b == byte) ≡ false
+apart_byte b byte apart word = elim (cases_Bool (b == byte)) [
+  | inl same ↦ absurd (false≢true (sym apart.0 ∙ ap is_word (sym (eqb-true b byte same)) ∙ word))
+  | inr other ↦ other
+]
+
+letter_word : (b : ℕ) → is_letter b ≡ true → is_word b ≡ true
+letter_word b h = rw h refl
+
+words_lack : (byte : ℕ) → IsApart byte → (text : List ℕ) → are_words text ≡ true → Lacks byte text
+words_lack byte apart [] h = tt
+words_lack byte apart (b ∷ bs) h =
+    let (word, rest) = and_parts (is_word b) (are_words bs) h in
+    (apart_byte b byte apart word, words_lack byte apart bs rest)
+
+pub ident_lacks : (byte : ℕ) → IsApart byte → (text : List ℕ) → is_ident text ≡ true → Lacks byte text
+ident_lacks byte apart [] h = tt
+ident_lacks byte apart (b ∷ bs) h =
+    let (letter, rest) = and_parts (is_letter b) (are_words bs) (and_parts (is_ident_text (b ∷ bs)) (nat_le (length (b ∷ bs)) 64) h).0 in
+    (apart_byte b byte apart (letter_word b letter), words_lack byte apart bs rest)
+
+mutual
+  begins_lacks : (byte : ℕ) → IsApart byte → (text : List ℕ) → begins text ≡ true → Lacks byte text
+  begins_lacks byte apart [] h = tt
+  begins_lacks byte apart (b ∷ bs) h =
+      let (letter, rest) = and_parts (is_letter b) (goes_on bs) h in
+      (apart_byte b byte apart (letter_word b letter), goes_on_lacks byte apart bs rest)
+
+  goes_on_lacks : (byte : ℕ) → IsApart byte → (text : List ℕ) → goes_on text ≡ true → Lacks byte text
+  goes_on_lacks byte apart [] h = tt
+  goes_on_lacks byte apart (b ∷ bs) h = by (b == 46) refl (begins_lacks byte apart bs) (goes_on_lacks byte apart bs)
+    where
+      by : (dot : Bool) → (b == 46) ≡ dot → (begins bs ≡ true → Lacks byte bs) → (goes_on bs ≡ true → Lacks byte bs) → Lacks byte (b ∷ bs)
+      by true dot whole rest = (ap (λ c. c == byte) (eqb-true b 46 dot) ∙ apart.1, whole (rw dot at h))
+      by false dot whole rest =
+          let (word, more) = and_parts (is_word b) (goes_on bs) (rw dot at h) in
+          (apart_byte b byte apart word, rest more)
+
+pub name_lacks : (byte : ℕ) → IsApart byte → (text : List ℕ) → is_name text ≡ true → Lacks byte text
+name_lacks byte apart text h = begins_lacks byte apart text (and_parts (begins text) (nat_le (length text) 64) h).0
+
+-- ---- members
+
+member_from : (piece name : List ℕ) (rest : Option (List ℕ)) → rejoined 61 name rest ≡ piece → is_some (pair_in name rest) ≡ true → WritesMember piece
+member_from piece name None joined h = absurd (false≢true h)
+member_from piece name (Some value) joined h = by (is_ident name) (number_of value) refl refl
+  where
+    by : (ident : Bool) (number : Option ℤ) → is_ident name ≡ ident → number_of value ≡ number → WritesMember piece
+    by true (Some z) i n = record { name = name; number = value; value = z; ident = i; writes = n; joined = sym joined }
+    by true None i n = absurd (let no : false ≡ true = rw (i, n) at h in false≢true no)
+    by false number i n = absurd (let no : false ≡ true = rw i at h in false≢true no)
+
+pub pair_written : (piece : List ℕ) (m : WritesMember piece) → pair_of piece ≡ Some (m.name, m.value)
+pair_written piece m =
+    ap pair_of m.joined ∙ (rw (cut-at 61 m.name m.number (ident_lacks 61 (refl, refl) m.name m.ident), m.ident, m.writes) refl)
+
+members_from_pieces : (pieces : List (List ℕ)) → are_pairs pieces ≡ true → AllByRecursion WritesMember pieces
+members_from_pieces [] h = tt
+members_from_pieces (p ∷ ps) h =
+    let (this, rest) = and_parts (is_some (pair_of p)) (are_pairs ps) h in
+    (member_from p (cut 61 p).0 (cut 61 p).1 (cut-joined 61 p) this, members_from_pieces ps rest)
+
+pairs_from_members : (pieces : List (List ℕ)) → AllByRecursion WritesMember pieces → are_pairs pieces ≡ true
+pairs_from_members [] all = refl
+pairs_from_members (p ∷ ps) all = and_from (is_some (pair_of p)) (are_pairs ps) (ap is_some (pair_written p all.0)) (pairs_from_members ps all.1)
+
+appended_lacks : (byte : ℕ) (xs ys : List ℕ) → Lacks byte xs → Lacks byte ys → Lacks byte (xs ++ ys)
+appended_lacks byte [] ys h k = k
+appended_lacks byte (x ∷ xs) ys h k = (h.0, appended_lacks byte xs ys h.1 k)
+
+pub members_lack_commas : (pieces : List (List ℕ)) → AllByRecursion WritesMember pieces → AllByRecursion (Lacks 44) pieces
+members_lack_commas [] all = tt
+members_lack_commas (p ∷ ps) all =
+    let m = all.0 in (
+      subst (Lacks 44) (sym m.joined) (appended_lacks 44 m.name (61 ∷ m.number) (ident_lacks 44 (refl, refl) m.name m.ident) (refl, number_plain m.number m.value m.writes)),
+      members_lack_commas ps all.1,
+    )
+
+-- ---- uses
+
+pub same_text : (a b : List ℕ) → bytes_eq a b ≡ true → a ≡ b
+same_text a b = (bytes_decides a b).0
+
+pub other_text : (a b : List ℕ) → a ≢ b → bytes_eq a b ≡ false
+other_text a b other = elim (cases_Bool (bytes_eq a b)) [
+  | inl same ↦ absurd (other (same_text a b same))
+  | inr e ↦ e
+]
+
+not_text : (a b : List ℕ) → bytes_eq a b ≡ false → a ≢ b
+not_text a b h e = false≢true (sym h ∙ (bytes_decides a b).1 e)
+
+with_inner : (text name inner : List ℕ) → text ≡ name ++ (40 ∷ inner ++ 41 ∷ []) → is_name name ≡ true → is_inside name (Some inner) ≡ true → SpellsUse text
+with_inner text name inner joined grammar h = by (is_named name) refl
+  where
+    by : (named : Bool) → is_named name ≡ named → SpellsUse text
+    by true named = inr (inl (record {
+      inner = inner;
+      grammar = rw named at h;
+      joined = joined ∙ ap (λ n. n ++ (40 ∷ inner ++ 41 ∷ [])) (same_text name (codes "Named") named);
+    }))
+    by false named =
+        let (plain, pairs) = and_parts (not (is_plain name)) (are_pairs (split 44 inner)) (rw named at h) in
+        let (any, default) = or_parts (bytes_eq name (codes "Any")) (bytes_eq name (codes "Default")) (not-true (is_plain name) plain) in
+        inr (inr (record {
+          name = name;
+          members = split 44 inner;
+          grammar = grammar;
+          not_named = not_text name (codes "Named") named;
+          not_any = not_text name (codes "Any") any;
+          not_default = not_text name (codes "Default") default;
+          some = split-some inner;
+          each = members_from_pieces (split 44 inner) pairs;
+          joined = joined ∙ ap (λ l. name ++ (40 ∷ l ++ 41 ∷ [])) (sym (split-joined inner));
+        }))
+
+spelled_by : (text name : List ℕ) (rest : Option (List ℕ)) → rejoined 40 name rest ≡ text → is_use_of name rest ≡ true → SpellsUse text
+spelled_by text name None joined h =
+    let (grammar, other) = and_parts (is_name name) (not (is_named name)) h in
+    inl (record {
+      grammar = ap is_name (sym joined) ∙ grammar;
+      not_named = λ e. not_text name (codes "Named") (not-true (is_named name) other) (joined ∙ e);
+    })
+spelled_by text name (Some rest) joined h =
+    let (grammar, inside) = and_parts (is_name name) (is_inside name (before_close rest)) h in
+    by (before_close rest) refl grammar inside
+  where
+    by : (inner : Option (List ℕ)) → before_close rest ≡ inner → is_name name ≡ true → is_inside name inner ≡ true → SpellsUse text
+    by None e grammar inside = absurd (false≢true inside)
+    by (Some inner) e grammar inside = with_inner text name inner (sym joined ∙ ap (λ r. name ++ 40 ∷ r) (before_close-joined rest inner e)) grammar inside
+
+-- a name, a bracket, what it takes, and a bracket
+pub use_inside : (name inner : List ℕ) → is_name name ≡ true → is_inside name (Some inner) ≡ true → is_use (name ++ (40 ∷ inner ++ 41 ∷ [])) ≡ true
+use_inside name inner grammar h =
+    rw (cut-at 40 name (inner ++ 41 ∷ []) (name_lacks 40 (refl, refl) name grammar), before_close-at inner) (and_from (is_name name) (is_inside name (Some inner)) grammar h)
+
+is_spelled : (text : List ℕ) → SpellsUse text → is_use text ≡ true
+is_spelled text (inl bare) =
+    rw (cut-none 40 text (name_lacks 40 (refl, refl) text bare.grammar)) (and_from (is_name text) (not (is_named text)) bare.grammar (ap not (other_text text (codes "Named") bare.not_named)))
+is_spelled text (inr (inl named)) = ap is_use named.joined ∙ use_inside (codes "Named") named.inner refl named.grammar
+is_spelled text (inr (inr m)) =
+    ap is_use m.joined ∙ use_inside m.name (join_with_byte 44 m.members) m.grammar
+    (rw (other_text m.name (codes "Named") m.not_named, other_text m.name (codes "Any") m.not_any, other_text m.name (codes "Default") m.not_default, joined-split m.members m.some (members_lack_commas m.members m.each)) (pairs_from_members m.members m.each))
+
+pub use_meaning : (text : List ℕ) → (is_use text ≡ true) ↔ SpellsUse text
+use_meaning text = (spelled_by text (cut 40 text).0 (cut 40 text).1 (cut-joined 40 text), is_spelled text)
