@@ -1,6 +1,7 @@
 //! How names and kinds print.
 use crate::decl::Kind;
 use crate::name::{Ident, Name};
+use crate::quals::{Arguments, Members, Qual, Quals};
 use std::fmt;
 
 impl fmt::Display for Name {
@@ -48,5 +49,64 @@ impl fmt::Display for Kind {
             Kind::Stereotype => "stereotype",
             Kind::Bean => "bean",
         })
+    }
+}
+
+impl fmt::Display for Members {
+    ghost use Rattle.std.specs.Prelude.{Some};
+    ghost use Rattle.cdi_model.specs.UseText.{text_of_pairs};
+
+    ghost output = { λ members. Some (text_of_pairs members) };
+
+    fn fmt<W: fmt::Write>(&self, f: &mut fmt::Formatter<W>) -> fmt::Result {
+        let mut separator = "";
+        for (name, value) in self.iter() {
+            write!(f, "{separator}{name}={value}")?;
+            separator = ",";
+        }
+        Ok(())
+    }
+}
+
+impl fmt::Display for Arguments {
+    ghost use Rattle.std.specs.Prelude.{Some};
+    ghost use Rattle.cdi_model.specs.UseText.{text_of_arguments};
+
+    ghost output = { λ arguments. Some (text_of_arguments arguments) };
+
+    fn fmt<W: fmt::Write>(&self, f: &mut fmt::Formatter<W>) -> fmt::Result {
+        match self {
+            Arguments::Name(name) => write!(f, "({name})"),
+            Arguments::Members(members) => {
+                if members.is_empty() {
+                    Ok(())
+                } else {
+                    write!(f, "({members})")
+                }
+            }
+        }
+    }
+}
+
+impl fmt::Display for Qual {
+    ghost use Rattle.std.specs.Prelude.{Some};
+    ghost use Rattle.cdi_model.specs.UseText.{text_of_use};
+
+    ghost output = { λ use_of_qualifier. Some (text_of_use use_of_qualifier) };
+
+    fn fmt<W: fmt::Write>(&self, f: &mut fmt::Formatter<W>) -> fmt::Result {
+        write!(f, "{}{}", self.name, self.arguments)
+    }
+}
+
+impl fmt::Debug for Qual {
+    fn fmt<W: fmt::Write>(&self, f: &mut fmt::Formatter<W>) -> fmt::Result {
+        write!(f, "{self}")
+    }
+}
+
+impl fmt::Debug for Quals {
+    fn fmt<W: fmt::Write>(&self, f: &mut fmt::Formatter<W>) -> fmt::Result {
+        fmt::Debug::fmt(self.as_slice(), f)
     }
 }
