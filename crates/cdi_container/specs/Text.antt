@@ -1,10 +1,8 @@
 -- The text that steps print.
-use Rattle.std.specs.Prelude.{ℕ, Bool, true, false, List, [], ◌∷◌, ◌++◌, length, codes, decimal, flat_map, Option, Some, None, Result, Ok, Err, if◌then◌else◌}
+use Rattle.std.specs.Prelude.{ℕ, Bool, true, false, List, [], ◌∷◌, ◌++◌, length, codes, decimal, flat_map, Result, Ok, Err, if◌then◌else◌}
 use Rattle.cdi_model.specs.declared.refusal.Refusal.{Refusal}
 use Rattle.cdi_model.specs.declared.refusal.Refusal.TheVariants.{TooLong, NotToml, UnknownKind, UnknownKey, MissingKey, WrongKind, BadName, Twice, ListTooLong, TooMany, Absent, BadCommand}
-use Rattle.cdi_effective.specs.declared.records.BeanId.{BeanId}
-use Rattle.cdi_resolve.specs.declared.choice.Choice.{Choice}
-use Rattle.cdi_resolve.specs.declared.choice.Choice.TheVariants.{One, Unsatisfied, Ambiguous}
+use Rattle.cdi_resolve.specs.ChoiceText.{text_of_choice}
 use Rattle.cdi_validate.specs.declared.fault.Fault.{Fault}
 use Rattle.cdi_validate.specs.FaultText.{text_of_fault}
 use Rattle.std.specs.declared.alloc.AllocError.{AllocError}
@@ -26,23 +24,6 @@ word_of ListTooLong = codes "E09 ListTooLong"
 word_of TooMany = codes "E10 TooMany"
 word_of Absent = codes "E11 Absent"
 word_of BadCommand = codes "E20 BadCommand"
-
--- the class, and the producer method behind a slash
-abbrev pub text_of_producer : Option (List ℕ) → List ℕ
-text_of_producer None = []
-text_of_producer (Some name) = 47 ∷ name
-
-abbrev pub text_of_id : BeanId → List ℕ
-text_of_id id = id.class ++ text_of_producer id.producer
-
--- each bean after a space
-abbrev pub text_of_ids : List BeanId → List ℕ
-text_of_ids ids = flat_map (λ id. 32 ∷ text_of_id id) ids
-
-abbrev pub text_of_choice : Choice → List ℕ
-text_of_choice (One id) = codes "one " ++ text_of_id id
-text_of_choice Unsatisfied = codes "unsatisfied"
-text_of_choice (Ambiguous ids) = codes "ambiguous" ++ text_of_ids ids
 
 -- each fault on a line of its own
 abbrev pub text_of_faults : List Fault → List ℕ

@@ -25,7 +25,7 @@ pub enum Code {
 }
 
 /// The part of a declaration that has a fault.
-#[derive(Drop)]
+#[derive(Debug, Drop)]
 pub enum Member {
     /// The declaration as a whole.
     Whole,
@@ -58,7 +58,7 @@ pub enum Member {
 }
 
 /// What is wrong with a deployment.
-#[derive(Drop)]
+#[derive(Debug, Drop)]
 pub enum Fault {
     /// A part of a declaration is at fault.
     Declared {
