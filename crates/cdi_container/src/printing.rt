@@ -1,14 +1,12 @@
 //! The text that steps print.
 ghost use Rattle.std.specs.Prelude.{◌≡◌, ◌++◌, OnOk, OnErr, Ok};
-ghost use Rattle.cdi_container.specs.Text.{word_of, text_of_id, text_of_ids, text_of_choice, text_of_faults, text_of_report, words_of_answer, text_of_answer};
+ghost use Rattle.cdi_container.specs.Text.{word_of, text_of_faults, text_of_report, words_of_answer, text_of_answer};
 
 use crate::answer::Answer;
-use cdi_effective::BeanId;
 use cdi_model::Refusal;
-use cdi_resolve::Choice;
 use cdi_validate::Fault;
-use itoa::Buffer;
 use std::alloc::AllocError;
+use std::io::Write;
 
 fn refusal_word(refusal: Refusal) -> &'static [u8]
     ensures { result.now ≡ word_of refusal }
@@ -37,45 +35,14 @@ fn push_refusal(text: &mut Vec<u8>, refusal: Refusal) -> Result<(), AllocError>
     Ok(())
 }
 
-fn push_id(text: &mut Vec<u8>, id: &BeanId) -> Result<(), AllocError>
-    ensures { OnOk result (text.new.items ≡ text.old.items ++ text_of_id id.now) }
+/// How many faults there are, and then each on a line of its own.
+fn push_report(text: &mut Vec<u8>, faults: &[Fault]) -> Result<(), AllocError>
+    ensures { OnOk result (text.new.items ≡ text.old.items ++ text_of_report faults.now) }
 {
-    text.extend_from_slice(id.class.as_bytes())?;
-    if let Some(producer) = id.producer {
-        text.push(b'/')?;
-        text.extend_from_slice(producer.as_bytes())?;
-    }
-    Ok(())
+    write!(text, "faults {}", faults.len()).map_err(|_| AllocError)?;
+    push_faults(text, faults)
 }
 
-/// Each bean after a space.
-fn push_ids(text: &mut Vec<u8>, ids: &[BeanId]) -> Result<(), AllocError>
-    ensures { OnOk result (text.new.items ≡ text.old.items ++ text_of_ids ids.now) }
-{
-    for id in ids {
-        text.push(b' ')?;
-        push_id(text, id)?;
-    }
-    Ok(())
-}
-
-fn push_choice(text: &mut Vec<u8>, choice: &Choice) -> Result<(), AllocError>
-    ensures { OnOk result (text.new.items ≡ text.old.items ++ text_of_choice choice.now) }
-{
-    match choice {
-        Choice::One(id) => {
-            text.extend_from_slice(b"one ")?;
-            push_id(text, id)
-        }
-        Choice::Unsatisfied => text.extend_from_slice(b"unsatisfied"),
-        Choice::Ambiguous(ids) => {
-            text.extend_from_slice(b"ambiguous")?;
-            push_ids(text, ids.as_slice())
-        }
-    }
-}
-
-/// Each fault on a line of its own.
 fn push_faults(text: &mut Vec<u8>, faults: &[Fault]) -> Result<(), AllocError>
     ensures { OnOk result (text.new.items ≡ text.old.items ++ text_of_faults faults.now) }
 {
@@ -86,20 +53,12 @@ fn push_faults(text: &mut Vec<u8>, faults: &[Fault]) -> Result<(), AllocError>
     Ok(())
 }
 
-fn push_report(text: &mut Vec<u8>, faults: &[Fault]) -> Result<(), AllocError>
-    ensures { OnOk result (text.new.items ≡ text.old.items ++ text_of_report faults.now) }
-{
-    text.extend_from_slice(b"faults ")?;
-    text.extend_from_slice(Buffer::new().format(faults.len()).as_bytes())?;
-    push_faults(text, faults)
-}
-
 fn push_words(text: &mut Vec<u8>, answer: &Answer) -> Result<(), AllocError>
     ensures { OnOk result (text.new.items ≡ text.old.items ++ words_of_answer answer.now) }
 {
     match answer {
         Answer::Done => text.extend_from_slice(b"ok"),
-        Answer::Chosen(choice) => push_choice(text, choice),
+        Answer::Chosen(choice) => write!(text, "{choice}").map_err(|_| AllocError),
         Answer::Reported(faults) => push_report(text, faults.as_slice()),
         Answer::Refused(refusal) => push_refusal(text, *refusal),
     }
