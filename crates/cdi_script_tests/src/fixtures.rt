@@ -12,15 +12,6 @@ pub(crate) const STORED_SCRIPT: &[u8] =
 /// What it prints.
 pub(crate) const STORED_TEXT: &[u8] = b"ok\nok\none Corner\nrefused E11 Absent\n";
 
-/// A script and what it prints.
-#[derive(Clone, Copy)]
-pub(crate) struct Row {
-    pub(crate) name: &'static str,
-    pub(crate) script: &'static [u8],
-    pub(crate) text: &'static [u8],
-    pub(crate) refused: bool,
-}
-
 /// An output with room for each text that a test prints.
 pub(crate) fn empty_page(alloc: Global) -> Result<Vec<u8>, AllocError> {
     Vec::with_capacity(alloc, 2048)
@@ -47,14 +38,4 @@ pub(crate) fn outcome(alloc: Global, script: &[u8]) -> Result<(Vec<u8>, bool), F
 pub(crate) fn assert_text(rt: &impl Abort, found: &[u8], wanted: &[u8], place: &impl Display) {
     let same = found == wanted;
     assert!(rt; same, "{place}: {:?}", str::from_utf8(found));
-}
-
-/// Asserts that the script of each row prints its text.
-pub(crate) fn assert_rows(rt: &impl Abort, alloc: Global, rows: &[Row]) -> Result<(), Fail> {
-    for row in rows {
-        let (written, refused) = outcome(alloc, row.script)?;
-        assert_text(rt, written.as_slice(), row.text, &row.name);
-        assert!(rt; refused == row.refused, "{}", row.name);
-    }
-    Ok(())
 }

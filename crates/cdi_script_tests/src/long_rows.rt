@@ -1,4 +1,4 @@
-//! Scripts with lines, blocks or lists at a limit, and what they print.
+//! Scripts with lines, blocks or lists at a limit, or with bytes that no text has, and what they print.
 use crate::fixtures::{assert_text, outcome};
 use std::alloc::{AllocError, Global};
 use std::io;
@@ -18,7 +18,7 @@ struct LongRow {
     refused: bool,
 }
 
-static LONG_ROWS: [LongRow; 7] = [
+static LONG_ROWS: [LongRow; 10] = [
     LongRow {
         name: "a command line of more than 4,096 bytes",
         script: &[Piece(4097, b"a"), Piece(1, b"\n")],
@@ -65,6 +65,22 @@ static LONG_ROWS: [LongRow; 7] = [
         refused: true,
     },
     LongRow {
+        name: "a put block has 65,536 bytes; one more is too long, whatever it says",
+        script: &[
+            Piece(1, b"put\nkind = \"type\"\nname = \"A\"\n"),
+            Piece(65510, b"#"),
+            Piece(1, b"\n.\nput\nkind = \"type\"\nname = \"A\"\n"),
+            Piece(65511, b"#"),
+            Piece(1, b"\n.\nput\nkind = \"bear\"\n"),
+            Piece(65522, b"#"),
+            Piece(1, b"\n.\nput\nkind = = \"type\"\n"),
+            Piece(65520, b"#"),
+            Piece(1, b"\n.\n"),
+        ],
+        text: b"ok\nrefused E01 TooLong\nrefused E01 TooLong\nrefused E01 TooLong\n",
+        refused: true,
+    },
+    LongRow {
         name: "a put block of many lines",
         script: &[
             Piece(1, b"put\n"),
@@ -82,6 +98,18 @@ static LONG_ROWS: [LongRow; 7] = [
             Piece(1, b"\n.\ndrop type A\n"),
         ],
         text: b"refused E02 NotToml\nrefused E11 Absent\n",
+        refused: true,
+    },
+    LongRow {
+        name: "a put block that is not UTF-8",
+        script: &[Piece(1, b"put\nkind=\"\xff\"\n.\n")],
+        text: b"refused E02 NotToml\n",
+        refused: true,
+    },
+    LongRow {
+        name: "a put block without its end",
+        script: &[Piece(1, b"put\nkind=\"type\"")],
+        text: b"refused E20 BadCommand\n",
         refused: true,
     },
 ];

@@ -92,6 +92,120 @@ fn statuses(rt: HostRuntime) -> Result<(), Fail> {
     Ok(())
 }
 
+/// Words and a script on the standard input, and the status and the text that come of them.
+struct Outcome {
+    words: &'static [&'static str],
+    script: &'static [u8],
+    status: u8,
+    text: &'static [u8],
+}
+
+static OUTCOMES: [Outcome; 4] = [
+    // A refused command gives status 1, and the script runs to its end.
+    Outcome {
+        words: &["program", "--strict", "-"],
+        script: br#"put
+kind = "type"
+name = "A"
+.
+drop type B
+put
+kind = "bean"
+name = "A"
+.
+choose A
+"#,
+        status: 1,
+        text: b"ok\nrefused E11 Absent\nok\none A\n",
+    },
+    // Neither an answer unsatisfied or ambiguous nor a fault is a refusal.
+    Outcome {
+        words: &["program", "--strict", "-"],
+        script: br#"put
+kind = "type"
+name = "A"
+.
+put
+kind = "bean"
+name = "A"
+points = [{ name = "p", type = "B" }]
+.
+put
+kind = "bean"
+name = "C"
+.
+choose B
+choose Object
+report
+"#,
+        status: 0,
+        text: br#"ok
+ok
+ok
+unsatisfied
+ambiguous A C
+faults 3
+F01 bean A type B
+F20 bean A point p
+F01 bean C type C
+"#,
+    },
+    // Both hold: answers are printed, and a refusal gives status 1.
+    Outcome {
+        words: &["program", "--quiet", "--strict", "-"],
+        script: br#"put
+kind = "type"
+name = "A"
+.
+choose A
+frob
+put
+kind = "bean"
+name = "A"
+.
+choose A
+"#,
+        status: 1,
+        text: b"ok\nunsatisfied\nrefused E20 BadCommand\nok\none A\n",
+    },
+    // The order of the two does not matter.
+    Outcome {
+        words: &["program", "--strict", "--quiet", "-"],
+        script: br#"put
+kind = "type"
+name = "A"
+.
+put
+kind = "bean"
+name = "A"
+.
+choose A
+"#,
+        status: 0,
+        text: b"ok\nok\none A\n",
+    },
+];
+
+#[test]
+fn strict_statuses(rt: HostRuntime) -> Result<(), Fail> {
+    for outcome in &OUTCOMES {
+        let mut output = Vec::new(rt.alloc());
+        let mut errors = Vec::new(rt.alloc());
+        let status = session(
+            &OneFile(b""),
+            rt.alloc(),
+            outcome.words,
+            outcome.script,
+            &mut output,
+            &mut errors,
+        );
+        assert_eq!(rt; status, outcome.status);
+        assert_eq!(rt; output.as_slice(), outcome.text);
+        assert!(rt; errors.is_empty());
+    }
+    Ok(())
+}
+
 #[test]
 fn no_script_is_status_2_and_help_is_status_0(rt: HostRuntime) -> Result<(), Fail> {
     let cases = [(["program", "--strict"], 2), (["program", "--help"], 0)];

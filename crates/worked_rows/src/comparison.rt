@@ -1,0 +1,78 @@
+//! What the rows of a page print, beside what they want.
+ghost use Rattle.std.specs.Prelude.{◌≡◌, ◌≢◌, ◌<◌, ◌↔◌, IfOk, IfSome, IsNone, slice_get, take};
+
+use crate::difference::Difference;
+use crate::rows::{Row, rows_of};
+use cdi_container::{Counted, Options, run};
+use std::alloc::{AllocError, Global};
+
+/// How many rows a page has, where each of them prints what it wants.
+pub fn check_page(alloc: Global, text: &str) -> Result<usize, Difference<'_>>
+    ensures { IfOk result (λ count. 0 < count) }
+{
+    let rows = rows_of(alloc, text)?;
+    for row in &rows {
+        check_row(alloc, row)?;
+    }
+    Ok(rows.len())
+}
+
+/// Runs the script of a row from an empty container, and compares.
+fn check_row<'t>(alloc: Global, row: &Row<'t>) -> Result<(), Difference<'t>> {
+    let mut reader = Counted::new(row.script.as_bytes());
+    let mut writer = Counted::new(Vec::new(alloc));
+    let options = Options { quiet: row.quiet };
+    if let Err(fault) = run(alloc, &mut reader, &mut writer, options) {
+        return Err(Difference::Run {
+            row: row.name,
+            fault,
+        });
+    }
+    let came = writer.into_inner();
+    match first_difference(row.wanted.as_bytes(), came.as_slice()) {
+        None => Ok(()),
+        Some(place) => Err(answer_at(alloc, row, came.as_slice(), place)?),
+    }
+}
+
+/// The place of the first byte in which two texts differ, or the length of the shorter where it is the front of the other.
+fn first_difference(wanted: &[u8], came: &[u8]) -> Option<usize>
+    ensures none { IsNone result ↔ (wanted.now ≡ came.now) }
+    ensures before { IfSome result (λ place. take place wanted.now ≡ take place came.now) }
+    ensures there { IfSome result (λ place. slice_get wanted.now place ≢ slice_get came.now place) }
+{
+    let mut place = 0usize;
+    'places: while place < wanted.len() && place < came.len() {
+        if wanted[place] != came[place] {
+            return Some(place);
+        }
+        place += 1;
+    }
+    if wanted.len() == came.len() {
+        return None;
+    }
+    Some(place)
+}
+
+/// Tells of the line that has the place.
+fn answer_at<'t>(
+    alloc: Global,
+    row: &Row<'t>,
+    came: &[u8],
+    place: usize,
+) -> Result<Difference<'t>, AllocError> {
+    let before = came.get(..place).unwrap_or(came);
+    let line = before.iter().filter(|byte| **byte == b'\n').count();
+    Ok(Difference::Answer {
+        row: row.name,
+        command: row.commands.get(line).copied().unwrap_or(row.last),
+        wanted: line_at(alloc, row.wanted.as_bytes(), line)?,
+        came: line_at(alloc, came, line)?,
+    })
+}
+
+/// A line of a text, counted from 0, or words that tell that there is none.
+fn line_at(alloc: Global, text: &[u8], line: usize) -> Result<String, AllocError> {
+    let text = str::from_utf8(text).unwrap_or("bytes that are not UTF-8");
+    String::from_str(alloc, text.lines().nth(line).unwrap_or("nothing"))
+}
