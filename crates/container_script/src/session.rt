@@ -1,84 +1,121 @@
 //! A run of the program, over any files and streams.
-ghost use Rattle.std.specs.Prelude.{◌≡◌, ◌≢◌, ◌≤◌, map, codes, true};
-ghost use Rattle.container_script.specs.Options.{GivesFlag};
-ghost use Rattle.container_script.specs.Session.{status_of};
+ghost use Rattle.std.specs.Prelude.{◌≡◌, ◌≢◌, ◌≤◌, ◌⊎◌, [], map, codes, true, false};
+ghost use Rattle.cdi_devices.specs.Counted.{bytes_of, has_failed, is_flushed};
+ghost use Rattle.container_script.specs.Options.{faults_of};
+ghost use Rattle.container_script.specs.Session.{IsInput, ComesTo, FileComesTo, status_of, RunsWords, RefusesWords, LacksMemory};
 
+use crate::complaints::{fault_of_open, refuse_line, tell_fault};
 use crate::files::Files;
 use crate::options::{Arguments, options};
-use cdi_container::{Counted, Options, RunFault, Summary, run};
-use clap::Error;
-use clap::error::ErrorKind;
+use cdi_container::{Counted, Options, READ_BYTES, RunFault, SCRIPT_LIMIT, Summary, run};
 use std::alloc::Global;
 use std::convert::AsStr;
-use std::io;
 use std::io::{Read, Write};
 
-/// Runs the program on these words, and answers its status: 0; 1 where `--strict` is given and a command was refused;
-/// 2 for words that are no command line; 3 where a device failed; 4 for want of memory. A status of 2 to 4 comes with
-/// a text on `errors`.
-pub fn session<F: Files, S: AsStr, I: Read + Drop, O: Write + Drop, E: Write + Drop>(
+/// Runs the program on these words, the program's name first among them, and answers its status: 0; 1 where `--strict`
+/// is given and a command was refused; 2 for words that are no command line; 3 where a device failed; 4 for want of
+/// memory. A status of 2 to 4 comes with a text on `errors`. It takes what `clap` takes for the words and `run` for the
+/// script.
+///
+/// Only tested are the text of help on `output` and that of `clap` on `errors`, since `clap` promises no text and `std`
+/// nothing of a `write!` that fails; and that a read failed where the run of a file ends with a fault, since the file is
+/// closed by then.
+pub fn session<F: Files, S: AsStr, I: Read, O: Write, E: Write>(
     rt: &F,
     alloc: Global,
     words: &[S],
-    input: I,
-    mut output: O,
-    mut errors: E,
+    input: &mut Counted<I>,
+    output: &mut Counted<O>,
+    errors: &mut Counted<E>,
 ) -> u8
+    requires input_fresh { (bytes_of input.old ≡ 0) × (has_failed input.old ≡ false) }
+    requires output_fresh { (has_failed output.old ≡ false) × (is_flushed output.old ≡ true) }
+
+    // Where `clap` accepts the words, the script that they name was run, or there was no memory to read them.
+    ensures accepted { faults_of (map S.text words.now) ≡ [] →
+        RunsWords (F.contents_at rt.now) (F.refuses rt.now) I.remaining F.File.remaining O.contents E.contents SCRIPT_LIMIT READ_BYTES
+        (map S.text words.now) input.old input.new output.old output.new errors.old errors.new result
+        ⊎ (LacksMemory E.contents output.old output.new errors.old errors.new result × (input.new ≡ input.old)) }
+
+    // Where it does not, they ask for help, or are a mistake, or there was no memory to read them; and nothing was read.
+    ensures refused { faults_of (map S.text words.now) ≢ [] →
+        RefusesWords E.contents (faults_of (map S.text words.now)) output.old output.new errors.old errors.new result }
+    ensures unread { faults_of (map S.text words.now) ≢ [] → input.new ≡ input.old }
+
     ensures most { result ≤ 4 }
-    ensures strict { result ≡ 1 → GivesFlag (codes "strict") (map S.text words.now) }
 {
     match options(alloc, words) {
-        Ok(options) => run_script(rt, alloc, &options, input, output, errors),
-        Err(error) => refuse_line(&error, &mut output, &mut errors),
+        Ok(options) => {
+            let outcome = run_script(rt, alloc, &options, input, output);
+            if let Err(fault) = outcome {
+                tell_fault(fault, errors);
+            }
+            status_of(options.strict, outcome)
+        }
+        Err(error) => refuse_line(&error, output, errors),
     }
 }
 
 /// Runs the script that the arguments name.
-fn run_script<F: Files, I: Read + Drop, O: Write + Drop, E: Write + Drop>(
+fn run_script<F: Files, I: Read, O: Write>(
     rt: &F,
     alloc: Global,
     options: &Arguments<'_>,
-    input: I,
-    output: O,
-    mut errors: E,
-) -> u8
-    ensures most { result ≤ 4 }
-    ensures strict { result ≡ 1 → options.now.strict ≡ true }
+    input: &mut Counted<I>,
+    output: &mut Counted<O>,
+) -> Result<Summary, RunFault>
+    requires input_fresh { (bytes_of input.old ≡ 0) × (has_failed input.old ≡ false) }
+    requires output_fresh { (has_failed output.old ≡ false) × (is_flushed output.old ≡ true) }
+    ensures from_input { IsInput options.now.script.now →
+        ComesTo O.contents SCRIPT_LIMIT READ_BYTES options.now.quiet output.old output.new result I I.remaining input.old input.new }
+    ensures from_file { ¬ IsInput options.now.script.now →
+        FileComesTo F.File.remaining O.contents SCRIPT_LIMIT READ_BYTES options.now.quiet
+        (F.contents_at rt.now options.now.script.now) (F.refuses rt.now options.now.script.now) output.old output.new result }
+    ensures unread { ¬ IsInput options.now.script.now → input.new ≡ input.old }
 {
     let settings = Options {
         quiet: options.quiet,
     };
-    let outcome = if options.script == "-" {
-        run_input(alloc, input, output, settings)
+    if options.script == "-" {
+        run_from(alloc, input, output, settings)
     } else {
-        match rt.open(options.script) {
-            Ok(file) => run_input(alloc, file, output, settings),
-            Err(error) => Err(fault_of_open(&error)),
-        }
-    };
-    if let Err(fault) = outcome {
-        report_fault(fault, &mut errors);
+        run_file(rt, alloc, options.script, output, settings)
     }
-    status_of(options.strict, outcome)
 }
 
-fn run_input<I: Read + Drop, O: Write + Drop>(
+/// Runs the script at the path.
+fn run_file<F: Files, O: Write>(
+    rt: &F,
     alloc: Global,
-    input: I,
-    output: O,
+    path: &str,
+    output: &mut Counted<O>,
     settings: Options,
-) -> Result<Summary, RunFault> {
-    let mut reader = Counted::new(input);
-    let mut writer = Counted::new(output);
-    run(alloc, &mut reader, &mut writer, settings)
+) -> Result<Summary, RunFault>
+    requires { (has_failed output.old ≡ false) × (is_flushed output.old ≡ true) }
+    ensures { FileComesTo F.File.remaining O.contents SCRIPT_LIMIT READ_BYTES settings.quiet
+        (F.contents_at rt.now path.now) (F.refuses rt.now path.now) output.old output.new result }
+{
+    match rt.open(path) {
+        Ok(file) => {
+            let mut reader = Counted::new(file);
+            run_from(alloc, &mut reader, output, settings)
+        }
+        Err(error) => Err(fault_of_open(&error)),
+    }
 }
 
-fn fault_of_open(error: &io::Error) -> RunFault {
-    if error.kind() == io::ErrorKind::OutOfMemory {
-        RunFault::Memory
-    } else {
-        RunFault::Read
-    }
+/// Runs the script that the reader gives.
+fn run_from<R: Read, O: Write>(
+    alloc: Global,
+    reader: &mut Counted<R>,
+    output: &mut Counted<O>,
+    settings: Options,
+) -> Result<Summary, RunFault>
+    requires reader_fresh { (bytes_of reader.old ≡ 0) × (has_failed reader.old ≡ false) }
+    requires output_fresh { (has_failed output.old ≡ false) × (is_flushed output.old ≡ true) }
+    ensures { ComesTo O.contents SCRIPT_LIMIT READ_BYTES settings.quiet output.old output.new result R R.remaining reader.old reader.new }
+{
+    run(alloc, reader, output, settings)
 }
 
 fn status_of(strict: bool, outcome: Result<Summary, RunFault>) -> u8
@@ -89,42 +126,4 @@ fn status_of(strict: bool, outcome: Result<Summary, RunFault>) -> u8
         Err(RunFault::Read) | Err(RunFault::Write) => 3,
         Err(RunFault::Memory) => 4,
     }
-}
-
-/// Tells what `clap` says of the words: help on `output`, all else on `errors`.
-fn refuse_line<O: Write, E: Write>(error: &Error, output: &mut O, errors: &mut E) -> u8
-    ensures most { result ≤ 4 }
-    ensures not_strict { result ≢ 1 }
-{
-    if error.kind() == ErrorKind::OutOfMemory {
-        report_fault(RunFault::Memory, errors);
-        return 4;
-    }
-    if error.use_stderr() {
-        let _ = write!(errors, "{error}");
-        return 2;
-    }
-    let _ = write!(output, "{error}");
-    0
-}
-
-fn report_fault<E: Write>(fault: RunFault, errors: &mut E) {
-    let text = match fault {
-        RunFault::Read => "error: read failed",
-        RunFault::Write => "error: write failed",
-        RunFault::Memory => "error: out of memory",
-    };
-    let _ = writeln!(errors, "{text}");
-}
-
-/// Tells why the words of the command line could not be had, and answers the status.
-pub fn refuse_words<E: Write>(error: &io::Error, errors: &mut E) -> u8
-    ensures { result ≤ 4 }
-{
-    if error.kind() == io::ErrorKind::OutOfMemory {
-        report_fault(RunFault::Memory, errors);
-        return 4;
-    }
-    let _ = writeln!(errors, "error: an argument is not UTF-8");
-    2
 }

@@ -8,12 +8,15 @@ pub loop-name-init : goal.loop-name-init
 loop-name-init g c = (λ plain. ([], ap (pairs_behind []) (c.into_iter-name-iterator.ensures.into_iter_gives ∙ c.iter-name-items.ensures.value), search rules), search rules)
 
 pub loop-name-preserved : goal.loop-name-preserved
-loop-name-preserved g c = (λ plain.
-    let so_far = c.loop-name.invariant.0 plain in (
-      so_far.0 ++ (c.loop-name.separator.now ++ (c.in-Some.name.now ++ 61 ∷ signed_decimal c.in-Some.value.now)),
-      pairs_behind_more so_far.0 c.loop-name.separator.now c.in-Some.name.now _ c.in-Some.value.now _ _ c.in-Some.ensures.steps so_far.1,
-      has_written_append _ _ _ _ _ _ so_far.2 (c.in_ok-write.ensures.writes so_far.2.plain refl),
-    ), search rules)
+loop-name-preserved g c = (
+  λ plain.
+      let so_far = c.loop-name.invariant.0 plain in (
+        so_far.0 ++ (c.loop-name.separator.now ++ (c.in-Some.name.now ++ 61 ∷ signed_decimal c.in-Some.value.now)),
+        pairs_behind_more so_far.0 c.loop-name.separator.now c.in-Some.name.now _ c.in-Some.value.now _ _ c.in-Some.ensures.steps so_far.1,
+        has_written_append _ _ _ _ _ _ so_far.2 (c.in_ok-write.ensures.writes so_far.2.plain refl),
+      ),
+  search rules,
+)
 
 pub returns-clause-writes : goal.returns-clause-writes
 returns-clause-writes g c = λ plain _.

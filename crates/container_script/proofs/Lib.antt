@@ -1,0 +1,2 @@
+mod CommandFacts
+mod Refusals
