@@ -6,7 +6,7 @@ use Rattle.cdi_model.specs.declared.refusal.Error.{Error}
 use Rattle.cdi_model.specs.declared.refusal.Error.TheVariants as errors
 use Rattle.cdi_model.specs.declared.refusal.Refusal.{Refusal}
 use Rattle.cdi_model.specs.Edits.{Edit, Put as PutEdit, edited, refusal_of_edit, answer_of_edit}
-use Rattle.cdi_model.specs.Outcome.{Answers}
+use Rattle.cdi_model.specs.Answering.{Answers}
 use Rattle.cdi_text.specs.Reading.{decl_of}
 use Rattle.cdi_lines.specs.declared.command.Command.TheVariants.{Put}
 use Rattle.cdi_container.specs.History.{LegalAnswer, State, refusal_of_put, with_put}

@@ -14,6 +14,6 @@ pub use cdi_devices::{Counted, RunFault, SCRIPT_LIMIT};
 pub use cdi_effective::BeanId;
 pub use cdi_lines::Command;
 pub use cdi_resolve::Choice;
-pub use cdi_validate::{Code, Fault, Member};
+pub use cdi_validate::{Code, Fault, Subject};
 pub use container::Container;
 pub use script::{Options, READ_BYTES, Summary, run};

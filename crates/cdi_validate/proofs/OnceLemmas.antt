@@ -9,7 +9,7 @@ use Rattle.std.specs.Ordering.{nat_cmp, ordering_reverse}
 use Rattle.std.specs.Option.{option_to_list}
 use Rattle.cdi_model.specs.Decl.{key_of, kind_of, name_of_decl}
 use Rattle.cdi_model.specs.declared.decl.Decl.{Decl}
-use Rattle.cdi_model.specs.declared.key.Key.{Key}
+use Rattle.cdi_model.specs.declared.key.DeclKey.{DeclKey}
 use Rattle.cdi_match.proofs.OrderLemmas.{in_order-rises}
 use Rattle.cdi_effective.specs.Beans.{beans}
 use Rattle.cdi_effective.specs.declared.records.Effective.{Effective}
@@ -17,10 +17,10 @@ use Rattle.cdi_validate.specs.declared.fault.Code.{Code}
 use Rattle.cdi_validate.specs.declared.fault.Code.TheVariants as codes_of
 use Rattle.cdi_validate.specs.declared.fault.Fault.{Fault}
 use Rattle.cdi_validate.specs.declared.fault.Fault.TheVariants as faults_are
-use Rattle.cdi_validate.specs.declared.fault.Member.{Member}
-use Rattle.cdi_validate.specs.FaultText.{text_of_member, byte_order, in_text_order}
-use Rattle.cdi_validate.specs.Faults.{all_codes, faults_of_code, faults_of, members_at_fault, enabled_names, name_clashes, name_prefixes, goes_on, faults, FaultsStandOnce}
-use Rattle.cdi_validate.proofs.OrderLemmas.{members_in_order}
+use Rattle.cdi_validate.specs.declared.fault.Subject.{Subject}
+use Rattle.cdi_validate.specs.FaultText.{text_of_subject, byte_order, in_text_order}
+use Rattle.cdi_validate.specs.Faults.{all_codes, faults_of_code, faults_of, subjects_at_fault, enabled_names, name_clashes, name_prefixes, goes_on, faults, FaultsStandOnce}
+use Rattle.cdi_validate.proofs.OrderLemmas.{subjects_in_order}
 
 -- ---- each apart from the later ones
 
@@ -156,22 +156,22 @@ code-number codes_of.Ambiguous = 21
 
 -- 0 for a fault of names
 abbrev code-of : Fault → ℕ
-code-of (faults_are.Declared code kind name member) = code-number code
+code-of (faults_are.Declared code kind name subject) = code-number code
 code-of (faults_are.NameClash name) = 0
 code-of (faults_are.NamePrefix name longer) = 0
 
-one-member : (code : Code) (d : Decl) (m n : Member) → faults_are.Declared code (kind_of d) (name_of_decl d) m ≡ faults_are.Declared code (kind_of d) (name_of_decl d) n → m ≡ n
-one-member code d m n e = cc
+one-subject : (code : Code) (d : Decl) (m n : Subject) → faults_are.Declared code (kind_of d) (name_of_decl d) m ≡ faults_are.Declared code (kind_of d) (name_of_decl d) n → m ≡ n
+one-subject code d m n e = cc
 
 of_code-differ : (ds : List Decl) (d : Decl) (code : Code) → Differ (faults_of_code ds d code)
 of_code-differ ds d code =
-    let ms = members_at_fault code ds d in
-    differ-map (faults_are.Declared code (kind_of d) (name_of_decl d)) (one-member code d) (in_text_order ms)
-    (differ-by text_of_member (in_text_order ms) (rising-differ (map text_of_member (in_text_order ms)) (members_in_order ms).0))
+    let ms = subjects_at_fault code ds d in
+    differ-map (faults_are.Declared code (kind_of d) (name_of_decl d)) (one-subject code d) (in_text_order ms)
+    (differ-by text_of_subject (in_text_order ms) (rising-differ (map text_of_subject (in_text_order ms)) (subjects_in_order ms).0))
 
 of_code-tagged : (ds : List Decl) (d : Decl) (code : Code) → Tagged code-of (code-number code) (faults_of_code ds d code)
 of_code-tagged ds d code =
-    let ms = in_text_order (members_at_fault code ds d) in
+    let ms = in_text_order (subjects_at_fault code ds d) in
     all-map (λ f. code-of f ≡ code-number code) (faults_are.Declared code (kind_of d) (name_of_decl d)) ms (all-each _ (λ m. refl) ms)
 
 numbers-differ : (ns : List ℕ) → IsDistinct nat_eq ns → Differ ns
@@ -197,12 +197,12 @@ of_decl-differ ds d = differ-flat_map code-of (faults_of_code ds d) code-number 
 
 -- ---- faults of all declarations
 
-abbrev key-of : Fault → Option Key
-key-of (faults_are.Declared code kind name member) = Some (record { kind = kind; name = name })
+abbrev key-of : Fault → Option DeclKey
+key-of (faults_are.Declared code kind name subject) = Some (record { kind = kind; name = name })
 key-of (faults_are.NameClash name) = None
 key-of (faults_are.NamePrefix name longer) = None
 
-some-key : (k l : Key) → Some k ≡ Some l → k ≡ l
+some-key : (k l : DeclKey) → Some k ≡ Some l → k ≡ l
 some-key k l e = cc
 
 of_decl-tagged : (ds : List Decl) (d : Decl) → Tagged key-of (Some (key_of d)) (faults_of ds d)
@@ -211,7 +211,7 @@ of_decl-tagged ds d = go all_codes
     go : (cs : List Code) → Tagged key-of (Some (key_of d)) (flat_map (faults_of_code ds d) cs)
     go [] = tt
     go (c ∷ cs) =
-        let ms = in_text_order (members_at_fault c ds d) in
+        let ms = in_text_order (subjects_at_fault c ds d) in
         all-append (λ f. key-of f ≡ Some (key_of d)) (faults_of_code ds d c) (flat_map (faults_of_code ds d) cs)
         (all-map (λ f. key-of f ≡ Some (key_of d)) (faults_are.Declared c (kind_of d) (name_of_decl d)) ms (all-each _ (λ m. refl) ms)) (go cs)
 
@@ -226,7 +226,7 @@ declared-differ now ds keyed =
 
 -- 0 for a fault of a declaration, and one for each kind of faults of names
 abbrev is-declared : Fault → ℕ
-is-declared (faults_are.Declared code kind name member) = 0
+is-declared (faults_are.Declared code kind name subject) = 0
 is-declared (faults_are.NameClash name) = 1
 is-declared (faults_are.NamePrefix name longer) = 2
 
@@ -246,7 +246,7 @@ declared-tagged now (d ∷ ds) = all-append (λ f. is-declared f ≡ 0) (faults_
     go : (cs : List Code) → AllByRecursion (λ f. is-declared f ≡ 0) (flat_map (faults_of_code now d) cs)
     go [] = tt
     go (c ∷ cs) =
-        let ms = in_text_order (members_at_fault c now d) in
+        let ms = in_text_order (subjects_at_fault c now d) in
         all-append (λ f. is-declared f ≡ 0) (faults_of_code now d c) (flat_map (faults_of_code now d) cs)
         (all-map (λ f. is-declared f ≡ 0) (faults_are.Declared c (kind_of d) (name_of_decl d)) ms (all-each _ (λ m. refl) ms)) (go cs)
 
@@ -265,7 +265,7 @@ clashes-differ : (bs : List Effective) → Differ (name_clashes bs)
 clashes-differ bs = differ-map faults_are.NameClash one-name _ (apart-filter (λ x y. x ≢ y) _ (enabled_names bs) (names-differ bs))
 
 abbrev shorter-of : Fault → Option (List ℕ)
-shorter-of (faults_are.Declared code kind name member) = None
+shorter-of (faults_are.Declared code kind name subject) = None
 shorter-of (faults_are.NameClash name) = None
 shorter-of (faults_are.NamePrefix name longer) = Some name
 

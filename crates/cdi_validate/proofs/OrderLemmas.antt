@@ -1,4 +1,4 @@
--- Members in the byte order of their texts.
+-- Subjects in the byte order of their texts.
 use Rattle.std.proofs.Common.{◌≡◌, ℕ, Bool, true, false, ◌||◌, List, [], ◌∷◌, map, fold, Ordering, Less, Equal, Greater, refl, sym, ◌∙◌, ap, subst}
 use Rattle.std.specs.BTreeMap.{insert_entry}
 use Rattle.std.specs.BTreeSet.{insert_key}
@@ -11,55 +11,55 @@ use Rattle.cdi_model.proofs.QualLemmas.{same_name}
 use Rattle.cdi_match.specs.Chain.{has}
 use Rattle.cdi_match.specs.Order.{in_order}
 use Rattle.cdi_match.proofs.OrderLemmas.{in_order-rises}
-use Rattle.cdi_validate.specs.declared.fault.Member.{Member}
-use Rattle.cdi_validate.specs.FaultText.{text_of_member, byte_order, by_text, in_text_order, MembersInOrder}
+use Rattle.cdi_validate.specs.declared.fault.Subject.{Subject}
+use Rattle.cdi_validate.specs.FaultText.{text_of_subject, byte_order, by_text, in_text_order, SubjectsInOrder}
 
 abbrev pub Entries : Type 0
-Entries = List (List ℕ × Member)
+Entries = List (List ℕ × Subject)
 
-abbrev pub put : Entries → Member → Entries
-put es m = insert_entry byte_order es (text_of_member m) m
+abbrev pub put : Entries → Subject → Entries
+put es m = insert_entry byte_order es (text_of_subject m) m
 
--- ---- members stand at their texts
+-- ---- subjects stand at their texts
 
 abbrev StandAtTexts : Entries → Type 0
-StandAtTexts es = AllByRecursion (λ e. text_of_member e.1 ≡ e.0) es
+StandAtTexts es = AllByRecursion (λ e. text_of_subject e.1 ≡ e.0) es
 
-put-stands : (m : Member) (es : Entries) → StandAtTexts es → StandAtTexts (put es m)
+put-stands : (m : Subject) (es : Entries) → StandAtTexts es → StandAtTexts (put es m)
 put-stands m [] stand = (refl, tt)
-put-stands m (e ∷ es) stand = by (byte_order (text_of_member m) e.0) refl (put-stands m es stand.1)
+put-stands m (e ∷ es) stand = by (byte_order (text_of_subject m) e.0) refl (put-stands m es stand.1)
   where
-    by : (o : Ordering) → byte_order (text_of_member m) e.0 ≡ o → StandAtTexts (put es m) → StandAtTexts (put (e ∷ es) m)
+    by : (o : Ordering) → byte_order (text_of_subject m) e.0 ≡ o → StandAtTexts (put es m) → StandAtTexts (put (e ∷ es) m)
     by Less is rest = rw is (refl, stand)
-    by Equal is rest = rw is (same_name (text_of_member m) e.0 is, stand.1)
+    by Equal is rest = rw is (same_name (text_of_subject m) e.0 is, stand.1)
     by Greater is rest = rw is (stand.0, rest)
 
-all-stand : (ms : List Member) (es : Entries) → StandAtTexts es → StandAtTexts (fold put es ms)
+all-stand : (ms : List Subject) (es : Entries) → StandAtTexts es → StandAtTexts (fold put es ms)
 all-stand [] es stand = stand
 all-stand (m ∷ ms) es stand = all-stand ms (put es m) (put-stands m es stand)
 
-texts-keys : (es : Entries) → StandAtTexts es → map text_of_member (map (λ e. e.1) es) ≡ keys_of es
+texts-keys : (es : Entries) → StandAtTexts es → map text_of_subject (map (λ e. e.1) es) ≡ keys_of es
 texts-keys [] stand = refl
-texts-keys (e ∷ es) stand = ap (λ t. t ∷ map text_of_member (map (λ f. f.1) es)) stand.0 ∙ ap (λ ts. e.0 ∷ ts) (texts-keys es stand.1)
+texts-keys (e ∷ es) stand = ap (λ t. t ∷ map text_of_subject (map (λ f. f.1) es)) stand.0 ∙ ap (λ ts. e.0 ∷ ts) (texts-keys es stand.1)
 
 -- ---- the texts rise
 
-keys-put : (m : Member) (es : Entries) → keys_of (put es m) ≡ insert_key byte_order (keys_of es) (text_of_member m)
+keys-put : (m : Subject) (es : Entries) → keys_of (put es m) ≡ insert_key byte_order (keys_of es) (text_of_subject m)
 keys-put m [] = refl
-keys-put m (e ∷ es) = by (byte_order (text_of_member m) e.0) refl (keys-put m es)
+keys-put m (e ∷ es) = by (byte_order (text_of_subject m) e.0) refl (keys-put m es)
   where
-    by : (o : Ordering) → byte_order (text_of_member m) e.0 ≡ o → keys_of (put es m) ≡ insert_key byte_order (keys_of es) (text_of_member m)
-        → keys_of (put (e ∷ es) m) ≡ insert_key byte_order (keys_of (e ∷ es)) (text_of_member m)
+    by : (o : Ordering) → byte_order (text_of_subject m) e.0 ≡ o → keys_of (put es m) ≡ insert_key byte_order (keys_of es) (text_of_subject m)
+        → keys_of (put (e ∷ es) m) ≡ insert_key byte_order (keys_of (e ∷ es)) (text_of_subject m)
     by Less is rest = rw is refl
     by Equal is rest = rw is refl
     by Greater is rest = rw is (ap (λ ks. e.0 ∷ ks) rest)
 
 -- they are names in order
-all-rise : (ms : List Member) (es : Entries) (names : List (List ℕ)) → keys_of es ≡ in_order names → IsStrictlySortedBy byte_order (keys_of (fold put es ms))
+all-rise : (ms : List Subject) (es : Entries) (names : List (List ℕ)) → keys_of es ≡ in_order names → IsStrictlySortedBy byte_order (keys_of (fold put es ms))
 all-rise [] es names is = subst (IsStrictlySortedBy byte_order) (sym is) (in_order-rises names)
-all-rise (m ∷ ms) es names is = all-rise ms (put es m) (text_of_member m ∷ names) (keys-put m es ∙ ap (λ ks. insert_key byte_order ks (text_of_member m)) is)
+all-rise (m ∷ ms) es names is = all-rise ms (put es m) (text_of_subject m ∷ names) (keys-put m es ∙ ap (λ ks. insert_key byte_order ks (text_of_subject m)) is)
 
--- ---- they are those of the members
+-- ---- they are those of the subjects
 
 or-swap : (x y z : Bool) → (x || (y || z)) ≡ ((y || x) || z)
 or-swap true true z = refl
@@ -76,30 +76,30 @@ or-false : (x : Bool) → (x || false) ≡ x
 or-false true = refl
 or-false false = refl
 
-has-put : (m : Member) (es : Entries) (text : List ℕ) → has (keys_of (put es m)) text ≡ (bytes_eq (text_of_member m) text || has (keys_of es) text)
+has-put : (m : Subject) (es : Entries) (text : List ℕ) → has (keys_of (put es m)) text ≡ (bytes_eq (text_of_subject m) text || has (keys_of es) text)
 has-put m [] text = refl
-has-put m (e ∷ es) text = by (byte_order (text_of_member m) e.0) refl (has-put m es text)
+has-put m (e ∷ es) text = by (byte_order (text_of_subject m) e.0) refl (has-put m es text)
   where
     is_it : Bool
-    is_it = bytes_eq (text_of_member m) text
+    is_it = bytes_eq (text_of_subject m) text
 
-    by : (o : Ordering) → byte_order (text_of_member m) e.0 ≡ o → has (keys_of (put es m)) text ≡ (is_it || has (keys_of es) text)
+    by : (o : Ordering) → byte_order (text_of_subject m) e.0 ≡ o → has (keys_of (put es m)) text ≡ (is_it || has (keys_of es) text)
         → has (keys_of (put (e ∷ es) m)) text ≡ (is_it || has (keys_of (e ∷ es)) text)
     by Less is rest = rw is refl
-    by Equal is rest = rw is (sym (or_self_left (bytes_eq e.0 text) (has (keys_of es) text)) ∙ ap (λ t. bytes_eq t text || has (keys_of (e ∷ es)) text) (sym (same_name (text_of_member m) e.0 is)))
+    by Equal is rest = rw is (sym (or_self_left (bytes_eq e.0 text) (has (keys_of es) text)) ∙ ap (λ t. bytes_eq t text || has (keys_of (e ∷ es)) text) (sym (same_name (text_of_subject m) e.0 is)))
     by Greater is rest = rw is (ap (λ b. bytes_eq e.0 text || b) rest ∙ or-left_comm (bytes_eq e.0 text) is_it (has (keys_of es) text))
 
-all-has : (ms : List Member) (es : Entries) (text : List ℕ) → has (keys_of (fold put es ms)) text ≡ (has (map text_of_member ms) text || has (keys_of es) text)
+all-has : (ms : List Subject) (es : Entries) (text : List ℕ) → has (keys_of (fold put es ms)) text ≡ (has (map text_of_subject ms) text || has (keys_of es) text)
 all-has [] es text = refl
 all-has (m ∷ ms) es text =
     all-has ms (put es m) text
-    ∙ ap (λ b. has (map text_of_member ms) text || b) (has-put m es text)
-    ∙ or-swap (has (map text_of_member ms) text) (bytes_eq (text_of_member m) text) (has (keys_of es) text)
+    ∙ ap (λ b. has (map text_of_subject ms) text || b) (has-put m es text)
+    ∙ or-swap (has (map text_of_subject ms) text) (bytes_eq (text_of_subject m) text) (has (keys_of es) text)
 
-pub members_in_order : MembersInOrder
+pub subjects_in_order : SubjectsInOrder
 unfolding in_text_order
-members_in_order ms =
-    let keys : map text_of_member (in_text_order ms) ≡ keys_of (by_text ms) = texts-keys (by_text ms) (all-stand ms [] tt) in (
+subjects_in_order ms =
+    let keys : map text_of_subject (in_text_order ms) ≡ keys_of (by_text ms) = texts-keys (by_text ms) (all-stand ms [] tt) in (
       subst (IsStrictlySortedBy byte_order) (sym keys) (all-rise ms [] [] refl),
-      λ text. ap (λ texts. has texts text) keys ∙ all-has ms [] text ∙ or-false (has (map text_of_member ms) text),
+      λ text. ap (λ texts. has texts text) keys ∙ all-has ms [] text ∙ or-false (has (map text_of_subject ms) text),
     )

@@ -14,8 +14,8 @@ use Rattle.cdi_observe.specs.Answers.{answer_to}
 use Rattle.cdi_observe.specs.Wanted.{points_of}
 use Rattle.cdi_validate.specs.Faults.{points_at_fault, points_with}
 use Rattle.cdi_validate.specs.Records.{at_fault, at_fault_by, points_by}
-use Rattle.cdi_validate.specs.declared.fault.Member.{Member}
-use Rattle.cdi_validate.specs.declared.fault.Member.TheVariants as parts
+use Rattle.cdi_validate.specs.declared.fault.Subject.{Subject}
+use Rattle.cdi_validate.specs.declared.fault.Subject.TheVariants as parts
 use Rattle.cdi_validate.proofs.RecordLemmas.{managed-producer, product-producer}
 
 -- ---- lists that are split
@@ -38,7 +38,7 @@ split_read f g xs ys zs n counted same =
 
 -- ---- points beside their choices
 
-abbrev pub named_at_fault : (Choice → Bool) → List Decl → Option (List ℕ) → List PointDecl → List Member
+abbrev pub named_at_fault : (Choice → Bool) → List Decl → Option (List ℕ) → List PointDecl → List Subject
 named_at_fault test ds producer points = map (λ p. parts.Point producer p.name) (filter (λ p. test (answer_to ds p)) points)
 
 zipped_at_fault : (test : Choice → Bool) (ds : List Decl) (producer : Option (List ℕ)) (points : List PointDecl)
@@ -58,7 +58,7 @@ at_fault_by_choices test ds b producer points named =
     ap (λ ms. cond b.is_enabled ms []) (zipped_at_fault test ds b.id.producer points ∙ ap (λ o. named_at_fault test ds o points) named)
 
 -- the choices for the points of a record stand in front of others
-own_and_others : (test : Choice → Bool) (ds : List Decl) (b : Effective) (producer : Option (List ℕ)) (points others : List PointDecl) (rest : List Choice → List Member) → b.id.producer ≡ producer
+own_and_others : (test : Choice → Bool) (ds : List Decl) (b : Effective) (producer : Option (List ℕ)) (points others : List PointDecl) (rest : List Choice → List Subject) → b.id.producer ≡ producer
     → at_fault test b points (take (length points) (map (answer_to ds) (points ++ others))) ++ rest (drop (length points) (map (answer_to ds) (points ++ others)))
     ≡ points_with test ds b producer points ++ rest (map (answer_to ds) others)
 own_and_others test ds b producer points others rest named =

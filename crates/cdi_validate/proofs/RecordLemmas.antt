@@ -18,8 +18,8 @@ use Rattle.cdi_effective.specs.Disposers.{disposes}
 use Rattle.cdi_effective.specs.declared.records.Effective.{Effective}
 use Rattle.cdi_validate.specs.Faults.{disposers_at_fault, typed, wrongly_listed}
 use Rattle.cdi_validate.specs.Records.{not_had, not_had_by, typed_by}
-use Rattle.cdi_validate.specs.declared.fault.Member.{Member}
-use Rattle.cdi_validate.specs.declared.fault.Member.TheVariants as parts
+use Rattle.cdi_validate.specs.declared.fault.Subject.{Subject}
+use Rattle.cdi_validate.specs.declared.fault.Subject.TheVariants as parts
 
 -- ---- what a record is told by
 
@@ -53,10 +53,10 @@ named_products test ds bean (p ∷ ps) = by (test (product ds bean p)) (named_pr
         ∙ ap (λ ms. parts.Producer p.name ∷ ms) rest
     by false rest = rest
 
-abbrev pub without_product : List Decl → List Effective → List DisposerDecl → List Member
+abbrev pub without_product : List Decl → List Effective → List DisposerDecl → List Subject
 without_product ds bs disposers = map (λ s. parts.Disposer s.name) (filter (λ s. not (list_any (λ p. disposes ds p s) bs)) disposers)
 
-abbrev pub with_two : List Decl → List Effective → List DisposerDecl → List Member
+abbrev pub with_two : List Decl → List Effective → List DisposerDecl → List Subject
 with_two ds bs disposers = map parts.Producer (flat_map (λ b. option_to_list b.id.producer) (filter (λ b. nat_lt 1 (length (filter (disposes ds b) disposers))) bs))
 
 -- what is at fault of the disposers of a declaration, whose products are those behind its first record

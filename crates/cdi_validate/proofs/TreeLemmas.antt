@@ -1,7 +1,7 @@
--- A tree of members by their texts.
+-- A tree of subjects by their texts.
 use Rattle.std.proofs.Common.{◌≡◌, ℕ, List, [], ◌∷◌, map, Ordering, Less, Equal, Greater, Vec, Global, refl, sym, ◌∙◌, ap}
 use Rattle.std.specs.BTreeMap.{insert_entry, values}
-use Rattle.cdi_validate.specs.declared.fault.Member.{Member}
+use Rattle.cdi_validate.specs.declared.fault.Subject.{Subject}
 use Rattle.cdi_validate.specs.FaultText.{byte_order, by_text, in_text_order}
 use Rattle.cdi_validate.specs.TextTree.{TextTree, entries_in}
 
@@ -11,11 +11,11 @@ Text = Vec ℕ Global
 abbrev text_order : Text → Text → Ordering
 text_order k l = byte_order k.items l.items
 
-abbrev pub shown : List (Text × Member) → List (List ℕ × Member)
+abbrev pub shown : List (Text × Subject) → List (List ℕ × Subject)
 shown es = map (λ e. (e.0.items, e.1)) es
 
 -- what stands behind its text stands behind the bytes of this
-pub shown-insert : (k : Text) (m : Member) (es : List (Text × Member)) → shown (insert_entry text_order es k m) ≡ insert_entry byte_order (shown es) k.items m
+pub shown-insert : (k : Text) (m : Subject) (es : List (Text × Subject)) → shown (insert_entry text_order es k m) ≡ insert_entry byte_order (shown es) k.items m
 shown-insert k m [] = refl
 shown-insert k m (e ∷ es) = by (text_order k e.0) refl (shown-insert k m es)
   where
@@ -25,11 +25,11 @@ shown-insert k m (e ∷ es) = by (text_order k e.0) refl (shown-insert k m es)
     by Equal is rest = rw is refl
     by Greater is rest = rw is (ap (λ fs. (e.0.items, e.1) ∷ fs) rest)
 
-members-shown : (es : List (Text × Member)) → map (λ e. e.1) (shown es) ≡ map (λ e. e.1) es
-members-shown [] = refl
-members-shown (e ∷ es) = ap (λ ms. e.1 ∷ ms) (members-shown es)
+subjects-shown : (es : List (Text × Subject)) → map (λ e. e.1) (shown es) ≡ map (λ e. e.1) es
+subjects-shown [] = refl
+subjects-shown (e ∷ es) = ap (λ ms. e.1 ∷ ms) (subjects-shown es)
 
--- the values of the tree are the members in order
-pub values-in_order : (tree : TextTree) (ms : List Member) → entries_in tree ≡ by_text ms → values tree ≡ in_text_order ms
+-- the values of the tree are the subjects in order
+pub values-in_order : (tree : TextTree) (ms : List Subject) → entries_in tree ≡ by_text ms → values tree ≡ in_text_order ms
 unfolding in_text_order
-values-in_order tree ms is = sym (members-shown tree.entries) ∙ ap (λ es. map (λ e. e.1) es) is
+values-in_order tree ms is = sym (subjects-shown tree.entries) ∙ ap (λ es. map (λ e. e.1) es) is

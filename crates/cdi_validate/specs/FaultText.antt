@@ -12,8 +12,8 @@ use Rattle.cdi_validate.specs.declared.fault.Code.{Code}
 use Rattle.cdi_validate.specs.declared.fault.Code.TheVariants as fault_codes
 use Rattle.cdi_validate.specs.declared.fault.Fault.{Fault}
 use Rattle.cdi_validate.specs.declared.fault.Fault.TheVariants as faults_are
-use Rattle.cdi_validate.specs.declared.fault.Member.{Member}
-use Rattle.cdi_validate.specs.declared.fault.Member.TheVariants as members
+use Rattle.cdi_validate.specs.declared.fault.Subject.{Subject}
+use Rattle.cdi_validate.specs.declared.fault.Subject.TheVariants as subjects
 
 -- a word, a space, and what it is about
 abbrev pub about : List ℕ → List ℕ → List ℕ
@@ -28,19 +28,19 @@ abbrev pub text_of_point : Option (List ℕ) → List ℕ → List ℕ
 text_of_point None point = about (codes "point") point
 text_of_point (Some producer) point = in_producer (Some producer) (about (codes "param") point)
 
-abbrev pub text_of_member : Member → List ℕ
-text_of_member members.Whole = []
-text_of_member (members.Type name) = about (codes "type") name
-text_of_member (members.Qualifier name) = about (codes "qualifier") name
-text_of_member (members.Stereotype name) = about (codes "stereotype") name
-text_of_member (members.Extends name) = about (codes "extends") name
-text_of_member (members.Implements name) = about (codes "implements") name
-text_of_member members.Class = codes "class"
-text_of_member (members.Typed producer name) = in_producer producer (about (codes "typed") name)
-text_of_member (members.Producer name) = about (codes "producer") name
-text_of_member (members.Disposer name) = about (codes "disposer") name
-text_of_member (members.Use u) = about (codes "qualifier") (text_of_use u)
-text_of_member (members.Point producer point) = text_of_point producer point
+abbrev pub text_of_subject : Subject → List ℕ
+text_of_subject subjects.Whole = []
+text_of_subject (subjects.Type name) = about (codes "type") name
+text_of_subject (subjects.Qualifier name) = about (codes "qualifier") name
+text_of_subject (subjects.Stereotype name) = about (codes "stereotype") name
+text_of_subject (subjects.Extends name) = about (codes "extends") name
+text_of_subject (subjects.Implements name) = about (codes "implements") name
+text_of_subject subjects.Class = codes "class"
+text_of_subject (subjects.Typed producer name) = in_producer producer (about (codes "typed") name)
+text_of_subject (subjects.Producer name) = about (codes "producer") name
+text_of_subject (subjects.Disposer name) = about (codes "disposer") name
+text_of_subject (subjects.Use u) = about (codes "qualifier") (text_of_use u)
+text_of_subject (subjects.Point producer point) = text_of_point producer point
 
 -- ---- what a fault prints
 
@@ -60,9 +60,9 @@ abbrev pub behind_space : List ℕ → List ℕ
 behind_space [] = []
 behind_space (c ∷ cs) = 32 ∷ c ∷ cs
 
--- the code, the kind and the name of the declaration, and the member
+-- the code, the kind and the name of the declaration, and the subject
 abbrev pub text_of_fault : Fault → List ℕ
-text_of_fault (faults_are.Declared code kind name member) = text_of_code code ++ 32 ∷ word_of_kind kind ++ 32 ∷ name ++ behind_space (text_of_member member)
+text_of_fault (faults_are.Declared code kind name subject) = text_of_code code ++ 32 ∷ word_of_kind kind ++ 32 ∷ name ++ behind_space (text_of_subject subject)
 text_of_fault (faults_are.NameClash name) = codes "F24 name " ++ name
 text_of_fault (faults_are.NamePrefix name longer) = codes "F25 name " ++ name ++ 32 ∷ longer
 
@@ -71,16 +71,16 @@ text_of_fault (faults_are.NamePrefix name longer) = codes "F25 name " ++ name ++
 abbrev pub byte_order : List ℕ → List ℕ → Ordering
 byte_order = slice_cmp nat_cmp
 
--- members by their texts, in the byte order of these
-abbrev pub by_text : List Member → List (List ℕ × Member)
-by_text ms = fold (λ entries m. insert_entry byte_order entries (text_of_member m) m) [] ms
+-- subjects by their texts, in the byte order of these
+abbrev pub by_text : List Subject → List (List ℕ × Subject)
+by_text ms = fold (λ entries m. insert_entry byte_order entries (text_of_subject m) m) [] ms
 
--- members in the byte order of their texts, each once
-unfoldable pub in_text_order : List Member → List Member
+-- subjects in the byte order of their texts, each once
+unfoldable pub in_text_order : List Subject → List Subject
 in_text_order ms = map (λ entry. entry.1) (by_text ms)
 
--- The texts of the members that are put in order rise, and are those of these members.
-abbrev pub MembersInOrder : Type 0
-MembersInOrder = (ms : List Member)
-    → IsStrictlySortedBy byte_order (map text_of_member (in_text_order ms))
-    × ((text : List ℕ) → has (map text_of_member (in_text_order ms)) text ≡ has (map text_of_member ms) text)
+-- The texts of the subjects that are put in order rise, and are those of these subjects.
+abbrev pub SubjectsInOrder : Type 0
+SubjectsInOrder = (ms : List Subject)
+    → IsStrictlySortedBy byte_order (map text_of_subject (in_text_order ms))
+    × ((text : List ℕ) → has (map text_of_subject (in_text_order ms)) text ≡ has (map text_of_subject ms) text)

@@ -31,8 +31,8 @@ use Rattle.cdi_validate.specs.declared.fault.Code.{Code}
 use Rattle.cdi_validate.specs.declared.fault.Code.TheVariants as codes_of
 use Rattle.cdi_validate.specs.declared.fault.Fault.{Fault}
 use Rattle.cdi_validate.specs.declared.fault.Fault.TheVariants as faults_are
-use Rattle.cdi_validate.specs.declared.fault.Member.{Member}
-use Rattle.cdi_validate.specs.declared.fault.Member.TheVariants as members
+use Rattle.cdi_validate.specs.declared.fault.Subject.{Subject}
+use Rattle.cdi_validate.specs.declared.fault.Subject.TheVariants as subjects
 use Rattle.cdi_validate.specs.declared.points.Verdict.{Verdict}
 use Rattle.cdi_validate.specs.declared.points.Verdict.TheVariants as verdicts
 use Rattle.cdi_validate.specs.FaultText.{in_text_order}
@@ -54,16 +54,16 @@ abbrev pub class_named : Decl → List (List ℕ)
 class_named (decls.Bean d) = d.name ∷ []
 class_named d = []
 
-abbrev pub unknown_names : List Decl → Decl → List Member
+abbrev pub unknown_names : List Decl → Decl → List Subject
 unknown_names ds d =
-    map members.Type (filter (λ t. not (is_declared kinds.Type ds t)) (class_named d))
-    ++ map members.Type (filter (λ t. not (is_known_type ds t)) (named_types d))
-    ++ map members.Qualifier (filter (λ q. not (is_known_qualifier ds q)) (map (λ u. u.name) (written_uses d)))
-    ++ map members.Stereotype (filter (λ s. not (is_declared kinds.Stereotype ds s)) (named_stereotypes d))
+    map subjects.Type (filter (λ t. not (is_declared kinds.Type ds t)) (class_named d))
+    ++ map subjects.Type (filter (λ t. not (is_known_type ds t)) (named_types d))
+    ++ map subjects.Qualifier (filter (λ q. not (is_known_qualifier ds q)) (map (λ u. u.name) (written_uses d)))
+    ++ map subjects.Stereotype (filter (λ s. not (is_declared kinds.Stereotype ds s)) (named_stereotypes d))
 
 -- where a condition holds of the whole declaration
-abbrev pub whole_if : Bool → List Member
-whole_if holds = if holds then members.Whole ∷ [] else []
+abbrev pub whole_if : Bool → List Subject
+whole_if holds = if holds then subjects.Whole ∷ [] else []
 
 -- ---- a type or stereotype that reaches itself by one chain of an edge or more
 
@@ -97,11 +97,11 @@ abbrev pub extends_badly : List Decl → Form → List ℕ → Bool
 extends_badly ds Interface t = true
 extends_badly ds Class t = is_interface ds t
 
-abbrev pub bad_kinds : List Decl → Decl → List Member
+abbrev pub bad_kinds : List Decl → Decl → List Subject
 bad_kinds ds (decls.Type d) =
-    map members.Extends (filter (extends_badly ds d.form) (option_to_list d.extends))
-    ++ map members.Implements (filter (is_class ds) d.implements)
-bad_kinds ds (decls.Bean d) = if is_interface ds d.name then members.Class ∷ [] else []
+    map subjects.Extends (filter (extends_badly ds d.form) (option_to_list d.extends))
+    ++ map subjects.Implements (filter (is_class ds) d.implements)
+bad_kinds ds (decls.Bean d) = if is_interface ds d.name then subjects.Class ∷ [] else []
 bad_kinds ds d = []
 
 -- ---- listed types that are not among the unrestricted ones
@@ -109,36 +109,36 @@ bad_kinds ds d = []
 abbrev pub wrongly_listed : List Decl → List ℕ → Attributes → List (List ℕ)
 wrongly_listed ds t attributes = filter (λ s. not (has (types_of ds t) s)) (listed_types attributes)
 
-abbrev pub typed : List Decl → Decl → List Member
+abbrev pub typed : List Decl → Decl → List Subject
 typed ds (decls.Bean d) =
-    map (λ s. members.Typed None s) (wrongly_listed ds d.name d.attributes)
-    ++ flat_map (λ p. map (λ s. members.Typed (Some p.name) s) (wrongly_listed ds p.product_type p.attributes)) d.producers
+    map (λ s. subjects.Typed None s) (wrongly_listed ds d.name d.attributes)
+    ++ flat_map (λ p. map (λ s. subjects.Typed (Some p.name) s) (wrongly_listed ds p.product_type p.attributes)) d.producers
 typed ds d = []
 
 -- ---- stereotypes that give two different default scopes to what declares none
 
 -- the part of a declaration that a bean is: the whole of it a managed bean, and a producer method its product
-abbrev pub part_of : BeanId → Member
-part_of id = unwrap_or (option_map members.Producer id.producer) members.Whole
+abbrev pub part_of : BeanId → Subject
+part_of id = unwrap_or (option_map subjects.Producer id.producer) subjects.Whole
 
 -- the parts that the beans of a declaration are that have such stereotypes
-abbrev pub scope_conflicts : List Effective → List Member
+abbrev pub scope_conflicts : List Effective → List Subject
 scope_conflicts bs = map (λ b. part_of b.id) (filter (λ b. b.has_scope_conflict) bs)
 
--- ---- uses with a member that isn't declared, or without a value for one that has no default
+-- ---- uses with a subject that isn't declared, or without a value for one that has no default
 
-abbrev pub bad_uses : List Decl → Decl → List Member
-bad_uses ds d = map members.Use (filter (is_misused ds) (written_uses d))
+abbrev pub bad_uses : List Decl → Decl → List Subject
+bad_uses ds d = map subjects.Use (filter (is_misused ds) (written_uses d))
 
 -- ---- disposers that match no product, and products that two match
 
 abbrev pub products : List Decl → BeanDecl → List Effective
 products ds bean = map (product ds bean) bean.producers
 
-abbrev pub disposers_at_fault : List Decl → Decl → List Member
+abbrev pub disposers_at_fault : List Decl → Decl → List Subject
 disposers_at_fault ds (decls.Bean d) =
-    map (λ s. members.Disposer s.name) (filter (λ s. not (list_any (λ p. disposes ds p s) (products ds d))) d.disposers)
-    ++ map (λ p. members.Producer p.name) (filter (λ p. nat_lt 1 (length (filter (disposes ds (product ds d p)) d.disposers))) d.producers)
+    map (λ s. subjects.Disposer s.name) (filter (λ s. not (list_any (λ p. disposes ds p s) (products ds d))) d.disposers)
+    ++ map (λ p. subjects.Producer p.name) (filter (λ p. nat_lt 1 (length (filter (disposes ds (product ds d p)) d.disposers))) d.producers)
 disposers_at_fault ds d = []
 
 -- ---- injection points of enabled beans
@@ -153,13 +153,13 @@ has_verdict verdicts.Unsatisfied _ = false
 has_verdict verdicts.Ambiguous choice = is_ambiguous choice
 
 -- the points of an enabled bean whose choice is such
-abbrev pub points_with : (Choice → Bool) → List Decl → Effective → Option (List ℕ) → List PointDecl → List Member
+abbrev pub points_with : (Choice → Bool) → List Decl → Effective → Option (List ℕ) → List PointDecl → List Subject
 points_with test ds bean producer points =
     if bean.is_enabled
-    then map (λ p. members.Point producer p.name) (filter (λ p. test (answer_to ds p)) points)
+    then map (λ p. subjects.Point producer p.name) (filter (λ p. test (answer_to ds p)) points)
     else []
 
-abbrev pub points_at_fault : (Choice → Bool) → List Decl → Decl → List Member
+abbrev pub points_at_fault : (Choice → Bool) → List Decl → Decl → List Subject
 points_at_fault test ds (decls.Bean d) =
     points_with test ds (managed ds d) None d.points
     ++ flat_map (λ p. points_with test ds (product ds d p) (Some p.name) p.params) d.producers
@@ -167,24 +167,24 @@ points_at_fault test ds d = []
 
 -- ---- all faults
 
-abbrev pub members_at_fault : Code → List Decl → Decl → List Member
-members_at_fault codes_of.UnknownName ds d = unknown_names ds d
-members_at_fault codes_of.Cycle ds d = whole_if (reaches_itself ds d)
-members_at_fault codes_of.BadKind ds d = bad_kinds ds d
-members_at_fault codes_of.Typed ds d = typed ds d
-members_at_fault codes_of.ScopeConflict ds d = scope_conflicts (entries ds d)
-members_at_fault codes_of.Member ds d = bad_uses ds d
-members_at_fault codes_of.Disposer ds d = disposers_at_fault ds d
-members_at_fault codes_of.Unsatisfied ds d = points_at_fault (has_verdict verdicts.Unsatisfied) ds d
-members_at_fault codes_of.Ambiguous ds d = points_at_fault (has_verdict verdicts.Ambiguous) ds d
+abbrev pub subjects_at_fault : Code → List Decl → Decl → List Subject
+subjects_at_fault codes_of.UnknownName ds d = unknown_names ds d
+subjects_at_fault codes_of.Cycle ds d = whole_if (reaches_itself ds d)
+subjects_at_fault codes_of.BadKind ds d = bad_kinds ds d
+subjects_at_fault codes_of.Typed ds d = typed ds d
+subjects_at_fault codes_of.ScopeConflict ds d = scope_conflicts (entries ds d)
+subjects_at_fault codes_of.Member ds d = bad_uses ds d
+subjects_at_fault codes_of.Disposer ds d = disposers_at_fault ds d
+subjects_at_fault codes_of.Unsatisfied ds d = points_at_fault (has_verdict verdicts.Unsatisfied) ds d
+subjects_at_fault codes_of.Ambiguous ds d = points_at_fault (has_verdict verdicts.Ambiguous) ds d
 
 abbrev pub all_codes : List Code
 all_codes = codes_of.UnknownName ∷ codes_of.Cycle ∷ codes_of.BadKind ∷ codes_of.Typed ∷ codes_of.ScopeConflict ∷ codes_of.Member ∷ codes_of.Disposer
     ∷ codes_of.Unsatisfied ∷ codes_of.Ambiguous ∷ []
 
--- the faults of a declaration of one code, by the texts of its members
+-- the faults of a declaration of one code, by the texts of its subjects
 abbrev pub faults_of_code : List Decl → Decl → Code → List Fault
-faults_of_code ds d code = map (λ m. faults_are.Declared code (kind_of d) (name_of_decl d) m) (in_text_order (members_at_fault code ds d))
+faults_of_code ds d code = map (λ m. faults_are.Declared code (kind_of d) (name_of_decl d) m) (in_text_order (subjects_at_fault code ds d))
 
 abbrev pub faults_of : List Decl → Decl → List Fault
 faults_of ds d = flat_map (faults_of_code ds d) all_codes

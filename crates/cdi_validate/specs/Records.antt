@@ -9,39 +9,39 @@ use Rattle.cdi_model.specs.declared.decl.ProducerDecl.{ProducerDecl}
 use Rattle.cdi_match.specs.Chain.{has}
 use Rattle.cdi_effective.specs.declared.records.Effective.{Effective}
 use Rattle.cdi_resolve.specs.declared.choice.Choice.{Choice}
-use Rattle.cdi_validate.specs.declared.fault.Member.{Member}
-use Rattle.cdi_validate.specs.declared.fault.Member.TheVariants as members
+use Rattle.cdi_validate.specs.declared.fault.Subject.{Subject}
+use Rattle.cdi_validate.specs.declared.fault.Subject.TheVariants as subjects
 use Rattle.cdi_validate.specs.Named.{listed_types}
 
 -- ---- listed types
 
 -- the listed types that a record does not have
-abbrev pub not_had : Effective → Attributes → List Member
-not_had b attributes = map (members.Typed b.id.producer) (filter (λ s. not (has b.types s)) (listed_types attributes))
+abbrev pub not_had : Effective → Attributes → List Subject
+not_had b attributes = map (subjects.Typed b.id.producer) (filter (λ s. not (has b.types s)) (listed_types attributes))
 
 -- those of each record of a producer method
-abbrev pub not_had_by : List Effective → List ProducerDecl → List Member
+abbrev pub not_had_by : List Effective → List ProducerDecl → List Subject
 not_had_by bs ps = flat_map (λ z. not_had z.0 z.1.attributes) (zip bs ps)
 
 -- those of each record of a declaration
-abbrev pub typed_by : Decl → List Effective → List Member
+abbrev pub typed_by : Decl → List Effective → List Subject
 typed_by (decls.Bean d) (b ∷ bs) = not_had b d.attributes ++ not_had_by bs d.producers
 typed_by _ _ = []
 
 -- ---- injection points
 
 -- the points of an enabled bean whose choice, which stands at the same place, is such
-abbrev pub at_fault : (Choice → Bool) → Effective → List PointDecl → List Choice → List Member
-at_fault test b points choices = if b.is_enabled then map (λ z. members.Point b.id.producer z.0.name) (filter (λ z. test z.1) (zip points choices)) else []
+abbrev pub at_fault : (Choice → Bool) → Effective → List PointDecl → List Choice → List Subject
+at_fault test b points choices = if b.is_enabled then map (λ z. subjects.Point b.id.producer z.0.name) (filter (λ z. test z.1) (zip points choices)) else []
 
 -- those of each record of a producer method: its choices stand in front of those of the ones behind it
-abbrev pub at_fault_by : (Choice → Bool) → List Effective → List ProducerDecl → List Choice → List Member
+abbrev pub at_fault_by : (Choice → Bool) → List Effective → List ProducerDecl → List Choice → List Subject
 at_fault_by test (b ∷ bs) (p ∷ ps) choices =
     at_fault test b p.params (take (length p.params) choices) ++ at_fault_by test bs ps (drop (length p.params) choices)
 at_fault_by test _ _ choices = []
 
 -- those of each record of a declaration: the choices of the bean's own points stand in front
-abbrev pub points_by : (Choice → Bool) → Decl → List Effective → List Choice → List Member
+abbrev pub points_by : (Choice → Bool) → Decl → List Effective → List Choice → List Subject
 points_by test (decls.Bean d) (b ∷ bs) choices =
     at_fault test b d.points (take (length d.points) choices) ++ at_fault_by test bs d.producers (drop (length d.points) choices)
 points_by test _ _ choices = []

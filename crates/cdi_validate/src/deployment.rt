@@ -7,12 +7,12 @@ ghost use Rattle.cdi_effective.specs.Beans.{entries};
 ghost use Rattle.cdi_observe.specs.Answers.{answer_to};
 ghost use Rattle.cdi_observe.specs.Kept.{evaluated};
 ghost use Rattle.cdi_observe.specs.Wanted.{points_of, wanted};
-ghost use Rattle.cdi_validate.specs.FaultText.{MembersInOrder};
-ghost use Rattle.cdi_validate.specs.Faults.{faults, FaultsStandOnce, faults_of, members_at_fault};
+ghost use Rattle.cdi_validate.specs.FaultText.{SubjectsInOrder};
+ghost use Rattle.cdi_validate.specs.Faults.{faults, FaultsStandOnce, faults_of, subjects_at_fault};
 ghost use Rattle.cdi_validate.specs.declared.fault.Fault.TheVariants as the_faults;
 
 use crate::disposing::disposers_at_fault;
-use crate::fault::{Code, Fault, Member};
+use crate::fault::{Code, Fault, Subject};
 use crate::forms::{bad_kinds, cycles};
 use crate::names::push_of_names;
 use crate::points::{Verdict, points_at_fault};
@@ -42,7 +42,7 @@ const CODES: [Code; 9] = [
 ];
 
 /// All that is wrong with the declarations of a view (CDI 4.0, Problems detected automatically by the container): the
-/// declarations in order, each with its faults by code and then by the texts of their members, and then the faults of
+/// declarations in order, each with its faults by code and then by the texts of their subjects, and then the faults of
 /// names. Each fault stands once.
 ///
 /// Each injection point is asked for once for each type and qualifiers. It takes memory for the faults, for the answers
@@ -52,7 +52,7 @@ pub fn faults<V: View>(alloc: Global, view: &mut V) -> Result<Vec<Fault>, AllocE
     ensures list { V.list view.new ≡ V.list view.old }
     ensures ok { OnOk result (V.kept view.new ≡ evaluated (V.list view.old) (wanted (V.list view.old)) (V.kept view.old)) }
     ensures err { OnErr result ((i : ℕ) × (V.kept view.new ≡ evaluated (V.list view.old) (take i (wanted (V.list view.old))) (V.kept view.old))) }
-    ensures order { MembersInOrder }
+    ensures order { SubjectsInOrder }
     ensures once { FaultsStandOnce }
 {
     let answers = evaluate(alloc, view)?;
@@ -131,45 +131,45 @@ fn push_of_decl(
     ensures { OnOk result (faults.new.items ≡ faults.old.items ++ faults_of decls.now decl.now) }
 {
     for code in CODES {
-        let members = members_at_fault(alloc, code, decls, decl, beans, answers)?;
-        push_declared(code, decl, in_text_order(alloc, members)?, faults)?;
+        let subjects = subjects_at_fault(alloc, code, decls, decl, beans, answers)?;
+        push_declared(code, decl, in_text_order(alloc, subjects)?, faults)?;
     }
     Ok(())
 }
 
-/// Appends a fault of a declaration for each of some members.
+/// Appends a fault of a declaration for each of some subjects.
 fn push_declared(
     code: Code,
     decl: &Decl,
-    members: Vec<Member>,
+    subjects: Vec<Subject>,
     faults: &mut Vec<Fault>,
 ) -> Result<(), AllocError>
-    ensures { OnOk result (faults.new.items ≡ faults.old.items ++ map (the_faults.Declared code (kind_of decl.now) (name_of_decl decl.now)) members.items) }
+    ensures { OnOk result (faults.new.items ≡ faults.old.items ++ map (the_faults.Declared code (kind_of decl.now) (name_of_decl decl.now)) subjects.items) }
 {
-    for member in members {
+    for subject in subjects {
         faults.push(Fault::Declared {
             code,
             kind: decl.kind(),
             name: decl.name(),
-            member,
+            subject,
         })?;
     }
     Ok(())
 }
 
-/// The members of a declaration that have a fault of a code.
+/// The subjects of a declaration that have a fault of a code.
 #[tactic(auto, using(crate::proofs::RecordLemmas::typed_by_entries, crate::proofs::PointLemmas::points_by_entries))]
-fn members_at_fault(
+fn subjects_at_fault(
     alloc: Global,
     code: Code,
     decls: &Decls,
     decl: &Decl,
     beans: &[Effective],
     answers: &[Rc<Choice>],
-) -> Result<Vec<Member>, AllocError>
+) -> Result<Vec<Subject>, AllocError>
     requires beans { beans.now ≡ entries decls.now decl.now }
     requires answers { map (λ answer. answer.value) answers.now ≡ map (answer_to decls.now) (points_of decl.now) }
-    ensures { IfOk result (λ list. list.items ≡ members_at_fault code decls.now decl.now) }
+    ensures { IfOk result (λ list. list.items ≡ subjects_at_fault code decls.now decl.now) }
 {
     match code {
         Code::UnknownName => unknown_names(alloc, decls, decl),

@@ -5,9 +5,9 @@ ghost use Rattle.std.specs.Option.{option_to_list};
 ghost use Rattle.cdi_effective.specs.Beans.{entries};
 ghost use Rattle.cdi_effective.specs.Disposers.{disposes};
 ghost use Rattle.cdi_validate.specs.Faults.{disposers_at_fault};
-ghost use Rattle.cdi_validate.specs.declared.fault.Member.TheVariants as parts;
+ghost use Rattle.cdi_validate.specs.declared.fault.Subject.TheVariants as parts;
 
-use crate::fault::Member;
+use crate::fault::Subject;
 use cdi_effective::{Effective, disposes};
 use cdi_model::{Decl, Decls, DisposerDecl};
 use std::alloc::{AllocError, Global};
@@ -18,21 +18,21 @@ pub(crate) fn disposers_at_fault(
     decls: &Decls,
     decl: &Decl,
     beans: &[Effective],
-) -> Result<Vec<Member>, AllocError>
+) -> Result<Vec<Subject>, AllocError>
     requires { beans.now ≡ entries decls.now decl.now }
     ensures { IfOk result (λ list. list.items ≡ disposers_at_fault decls.now decl.now) }
 {
-    let mut members = Vec::new(alloc);
+    let mut subjects = Vec::new(alloc);
     let Decl::Bean(bean) = decl else {
-        return Ok(members);
+        return Ok(subjects);
     };
     let Some((_, products)) = beans.split_first() else {
-        return Ok(members);
+        return Ok(subjects);
     };
     let disposers = bean.disposers.as_slice();
-    push_without_product(alloc, decls, products, disposers, &mut members)?;
-    push_with_two(alloc, decls, products, disposers, &mut members)?;
-    Ok(members)
+    push_without_product(alloc, decls, products, disposers, &mut subjects)?;
+    push_with_two(alloc, decls, products, disposers, &mut subjects)?;
+    Ok(subjects)
 }
 
 /// Appends the disposer methods that match none of some products.
@@ -41,14 +41,14 @@ fn push_without_product(
     decls: &Decls,
     products: &[Effective],
     disposers: &[DisposerDecl],
-    members: &mut Vec<Member>,
+    subjects: &mut Vec<Subject>,
 ) -> Result<(), AllocError>
-    ensures { OnOk result (members.new.items ≡ members.old.items
+    ensures { OnOk result (subjects.new.items ≡ subjects.old.items
         ++ map (λ s. parts.Disposer s.name) (filter (λ s. not (list_any (λ p. disposes decls.now p s) products.now)) disposers.now)) }
 {
     for disposer in disposers {
         if !has_product(alloc, decls, products, disposer) {
-            members.push(Member::Disposer(disposer.name))?;
+            subjects.push(Subject::Disposer(disposer.name))?;
         }
     }
     Ok(())
@@ -74,15 +74,15 @@ fn push_with_two(
     decls: &Decls,
     products: &[Effective],
     disposers: &[DisposerDecl],
-    members: &mut Vec<Member>,
+    subjects: &mut Vec<Subject>,
 ) -> Result<(), AllocError>
-    ensures { OnOk result (members.new.items ≡ members.old.items
+    ensures { OnOk result (subjects.new.items ≡ subjects.old.items
         ++ map parts.Producer (flat_map (λ p. option_to_list p.id.producer) (filter (λ p. nat_lt 1 (length (filter (disposes decls.now p) disposers.now))) products.now))) }
 {
     for product in products {
         if has_two(alloc, decls, product, disposers) {
             if let Some(name) = product.id.producer {
-                members.push(Member::Producer(name))?;
+                subjects.push(Subject::Producer(name))?;
             }
         }
     }

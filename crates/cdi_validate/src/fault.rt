@@ -26,7 +26,7 @@ pub enum Code {
 
 /// The part of a declaration that has a fault.
 #[derive(Debug, Drop)]
-pub enum Member {
+pub enum Subject {
     /// The declaration as a whole.
     Whole,
     /// A type that it names.
@@ -65,7 +65,7 @@ pub enum Fault {
         code: Code,
         kind: Kind,
         name: Name,
-        member: Member,
+        subject: Subject,
     },
     /// Several enabled beans have a name, and none of them is chosen for it (CDI 4.0, Ambiguous names).
     NameClash(Name),

@@ -6,23 +6,23 @@ ghost use Rattle.cdi_model.specs.declared.decl.Decl.TheVariants as decls_are;
 ghost use Rattle.cdi_model.specs.declared.decl.Kind.TheVariants as kinds;
 ghost use Rattle.cdi_model.specs.DeclList.{find_decl};
 ghost use Rattle.cdi_match.specs.Types.{object};
-ghost use Rattle.cdi_validate.specs.declared.fault.Member.TheVariants as members_are;
+ghost use Rattle.cdi_validate.specs.declared.fault.Subject.TheVariants as subjects_are;
 ghost use Rattle.cdi_validate.specs.Faults.{bad_kinds, extends_badly, form_of, is_class, is_interface, reaches_itself, whole_if};
 
-use crate::fault::Member;
+use crate::fault::Subject;
 use cdi_match::{extends_itself, inherits_itself};
 use cdi_model::{BeanDecl, Decl, Decls, Form, Kind, Name, TypeDecl};
 use std::alloc::{AllocError, Global};
 
 /// The declaration as a whole, where it is of a type or a stereotype that reaches itself.
-pub(crate) fn cycles(alloc: Global, decls: &Decls, decl: &Decl) -> Result<Vec<Member>, AllocError>
+pub(crate) fn cycles(alloc: Global, decls: &Decls, decl: &Decl) -> Result<Vec<Subject>, AllocError>
     ensures { IfOk result (λ list. list.items ≡ whole_if (reaches_itself decls.now decl.now)) }
 {
-    let mut members = Vec::new(alloc);
+    let mut subjects = Vec::new(alloc);
     if reaches_itself(alloc, decls, decl)? {
-        members.push(Member::Whole)?;
+        subjects.push(Subject::Whole)?;
     }
-    Ok(members)
+    Ok(subjects)
 }
 
 fn reaches_itself(alloc: Global, decls: &Decls, decl: &Decl) -> Result<bool, AllocError>
@@ -41,54 +41,54 @@ pub(crate) fn bad_kinds(
     alloc: Global,
     decls: &Decls,
     decl: &Decl,
-) -> Result<Vec<Member>, AllocError>
+) -> Result<Vec<Subject>, AllocError>
     ensures { IfOk result (λ list. list.items ≡ bad_kinds decls.now decl.now) }
 {
-    let mut members = Vec::new(alloc);
+    let mut subjects = Vec::new(alloc);
     match decl {
-        Decl::Type(decl) => push_bad_supers(&mut members, decls, decl)?,
-        Decl::Bean(bean) => push_interface(&mut members, decls, bean)?,
+        Decl::Type(decl) => push_bad_supers(&mut subjects, decls, decl)?,
+        Decl::Bean(bean) => push_interface(&mut subjects, decls, bean)?,
         _ => {}
     }
-    Ok(members)
+    Ok(subjects)
 }
 
 /// Appends the class of a bean, where it is an interface.
 fn push_interface(
-    members: &mut Vec<Member>,
+    subjects: &mut Vec<Subject>,
     decls: &Decls,
     bean: &BeanDecl,
 ) -> Result<(), AllocError>
-    ensures { OnOk result (members.new.items ≡ members.old.items ++ bad_kinds decls.now (decls_are.Bean bean.now)) }
+    ensures { OnOk result (subjects.new.items ≡ subjects.old.items ++ bad_kinds decls.now (decls_are.Bean bean.now)) }
 {
     if is_interface(decls, bean.name) {
-        members.push(Member::Class)?;
+        subjects.push(Subject::Class)?;
     }
     Ok(())
 }
 
 fn push_bad_supers(
-    members: &mut Vec<Member>,
+    subjects: &mut Vec<Subject>,
     decls: &Decls,
     decl: &TypeDecl,
 ) -> Result<(), AllocError>
-    ensures { OnOk result (members.new.items ≡ members.old.items ++ bad_kinds decls.now (decls_are.Type decl.now)) }
+    ensures { OnOk result (subjects.new.items ≡ subjects.old.items ++ bad_kinds decls.now (decls_are.Type decl.now)) }
 {
-    push_bad_extended(members, decls, decl)?;
-    push_classes(members, decls, decl.implements.as_slice())
+    push_bad_extended(subjects, decls, decl)?;
+    push_classes(subjects, decls, decl.implements.as_slice())
 }
 
 fn push_bad_extended(
-    members: &mut Vec<Member>,
+    subjects: &mut Vec<Subject>,
     decls: &Decls,
     decl: &TypeDecl,
 ) -> Result<(), AllocError>
-    ensures { OnOk result (members.new.items ≡ members.old.items
-        ++ map members_are.Extends (filter (extends_badly decls.now decl.now.form) (option_to_list decl.now.extends))) }
+    ensures { OnOk result (subjects.new.items ≡ subjects.old.items
+        ++ map subjects_are.Extends (filter (extends_badly decls.now decl.now.form) (option_to_list decl.now.extends))) }
 {
     if let Some(extended) = decl.extends {
         if extends_badly(decls, decl.form, extended) {
-            members.push(Member::Extends(extended))?;
+            subjects.push(Subject::Extends(extended))?;
         }
     }
     Ok(())
@@ -96,15 +96,15 @@ fn push_bad_extended(
 
 /// Appends the classes among the types that one implements.
 fn push_classes(
-    members: &mut Vec<Member>,
+    subjects: &mut Vec<Subject>,
     decls: &Decls,
     implemented: &[Name],
 ) -> Result<(), AllocError>
-    ensures { OnOk result (members.new.items ≡ members.old.items ++ map members_are.Implements (filter (is_class decls.now) implemented.now)) }
+    ensures { OnOk result (subjects.new.items ≡ subjects.old.items ++ map subjects_are.Implements (filter (is_class decls.now) implemented.now)) }
 {
     for name in implemented {
         if is_class(decls, *name) {
-            members.push(Member::Implements(*name))?;
+            subjects.push(Subject::Implements(*name))?;
         }
     }
     Ok(())

@@ -14,4 +14,4 @@ mod unknown;
 mod used;
 
 pub use deployment::faults;
-pub use fault::{Code, Fault, Member};
+pub use fault::{Code, Fault, Subject};

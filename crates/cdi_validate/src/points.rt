@@ -4,7 +4,7 @@ ghost use Rattle.cdi_observe.specs.Wanted.{points_of};
 ghost use Rattle.cdi_validate.specs.Faults.{has_verdict};
 ghost use Rattle.cdi_validate.specs.Records.{at_fault, points_by};
 
-use crate::fault::Member;
+use crate::fault::Subject;
 use cdi_effective::Effective;
 use cdi_model::{Decl, PointDecl};
 use cdi_resolve::Choice;
@@ -38,19 +38,19 @@ pub(crate) fn points_at_fault(
     beans: &[Effective],
     answers: &[Rc<Choice>],
     verdict: Verdict,
-) -> Result<Vec<Member>, AllocError>
+) -> Result<Vec<Subject>, AllocError>
     requires { length answers.now ≡ length (points_of decl.now) }
     ensures { IfOk result (λ list. list.items ≡ points_by (has_verdict verdict) decl.now beans.now (map (λ answer. answer.value) answers.now)) }
 {
-    let mut members = Vec::new(alloc);
+    let mut subjects = Vec::new(alloc);
     let Decl::Bean(bean) = decl else {
-        return Ok(members);
+        return Ok(subjects);
     };
     let Some((managed, products)) = beans.split_first() else {
-        return Ok(members);
+        return Ok(subjects);
     };
     let (own, mut rest) = answers.split_at(bean.points.len());
-    push_at_fault(managed, bean.points.as_slice(), own, verdict, &mut members)?;
+    push_at_fault(managed, bean.points.as_slice(), own, verdict, &mut subjects)?;
     for (product, producer) in products.iter().zip(bean.producers.as_slice()) {
         let (own, others) = rest.split_at(producer.params.len());
         push_at_fault(
@@ -58,11 +58,11 @@ pub(crate) fn points_at_fault(
             producer.params.as_slice(),
             own,
             verdict,
-            &mut members,
+            &mut subjects,
         )?;
         rest = others;
     }
-    Ok(members)
+    Ok(subjects)
 }
 
 /// Appends the injection points of a bean whose answers are such, if it is enabled.
@@ -71,9 +71,9 @@ fn push_at_fault(
     points: &[PointDecl],
     answers: &[Rc<Choice>],
     verdict: Verdict,
-    members: &mut Vec<Member>,
+    subjects: &mut Vec<Subject>,
 ) -> Result<(), AllocError>
-    ensures { OnOk result (members.new.items ≡ members.old.items
+    ensures { OnOk result (subjects.new.items ≡ subjects.old.items
         ++ at_fault (has_verdict verdict) bean.now points.now (map (λ answer. answer.value) answers.now)) }
 {
     if !bean.is_enabled {
@@ -81,7 +81,7 @@ fn push_at_fault(
     }
     for (point, answer) in points.iter().zip(answers) {
         if verdict.is_of(answer) {
-            members.push(Member::Point {
+            subjects.push(Subject::Point {
                 producer: bean.id.producer,
                 name: point.name,
             })?;

@@ -2,29 +2,32 @@
 ghost use Rattle.std.specs.Prelude.{◌≡◌, IfOk};
 ghost use Rattle.cdi_validate.specs.Faults.{part_of, scope_conflicts};
 
-use crate::fault::Member;
+use crate::fault::Subject;
 use cdi_effective::{BeanId, Effective};
 use std::alloc::{AllocError, Global};
 
 /// Of the beans of a declaration, those that declare no scope and have stereotypes that give different ones.
-pub(crate) fn scope_conflicts(alloc: Global, beans: &[Effective]) -> Result<Vec<Member>, AllocError>
+pub(crate) fn scope_conflicts(
+    alloc: Global,
+    beans: &[Effective],
+) -> Result<Vec<Subject>, AllocError>
     ensures { IfOk result (λ list. list.items ≡ scope_conflicts beans.now) }
 {
-    let mut members = Vec::new(alloc);
+    let mut subjects = Vec::new(alloc);
     for bean in beans {
         if bean.has_scope_conflict {
-            members.push(part_of(bean.id))?;
+            subjects.push(part_of(bean.id))?;
         }
     }
-    Ok(members)
+    Ok(subjects)
 }
 
 /// The part of a bean declaration that is a bean: the declaration as a whole, or a producer method.
-fn part_of(id: BeanId) -> Member
+fn part_of(id: BeanId) -> Subject
     ensures { result ≡ part_of id }
 {
     match id.producer {
-        None => Member::Whole,
-        Some(name) => Member::Producer(name),
+        None => Subject::Whole,
+        Some(name) => Subject::Producer(name),
     }
 }

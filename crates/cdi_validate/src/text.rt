@@ -2,9 +2,9 @@
 ghost use Rattle.std.specs.Prelude.{◌≡◌, [], ◌++◌, Some, IfOk, OnOk};
 ghost use Rattle.std.specs.BTreeMap.{insert_entry, values};
 ghost use Rattle.cdi_validate.specs.TextTree.{entries_in};
-ghost use Rattle.cdi_validate.specs.FaultText.{text_of_code, text_of_member, text_of_fault, byte_order, by_text, in_text_order, MembersInOrder};
+ghost use Rattle.cdi_validate.specs.FaultText.{text_of_code, text_of_subject, text_of_fault, byte_order, by_text, in_text_order, SubjectsInOrder};
 
-use crate::fault::{Code, Fault, Member};
+use crate::fault::{Code, Fault, Subject};
 use std::alloc::{AllocError, Global};
 use std::collections::BTreeMap;
 use std::fmt;
@@ -28,26 +28,26 @@ impl fmt::Display for Code {
     }
 }
 
-impl fmt::Display for Member {
-    ghost output = { λ member. Some (text_of_member member) };
+impl fmt::Display for Subject {
+    ghost output = { λ subject. Some (text_of_subject subject) };
 
     fn fmt<W: fmt::Write>(&self, f: &mut fmt::Formatter<W>) -> fmt::Result {
         match self {
-            Member::Whole => Ok(()),
-            Member::Type(name) => write!(f, "type {name}"),
-            Member::Qualifier(name) => write!(f, "qualifier {name}"),
-            Member::Stereotype(name) => write!(f, "stereotype {name}"),
-            Member::Extends(name) => write!(f, "extends {name}"),
-            Member::Implements(name) => write!(f, "implements {name}"),
-            Member::Class => write!(f, "class"),
-            Member::Typed { producer, name } => match producer {
+            Subject::Whole => Ok(()),
+            Subject::Type(name) => write!(f, "type {name}"),
+            Subject::Qualifier(name) => write!(f, "qualifier {name}"),
+            Subject::Stereotype(name) => write!(f, "stereotype {name}"),
+            Subject::Extends(name) => write!(f, "extends {name}"),
+            Subject::Implements(name) => write!(f, "implements {name}"),
+            Subject::Class => write!(f, "class"),
+            Subject::Typed { producer, name } => match producer {
                 Some(producer) => write!(f, "producer {producer} typed {name}"),
                 None => write!(f, "typed {name}"),
             },
-            Member::Producer(name) => write!(f, "producer {name}"),
-            Member::Disposer(name) => write!(f, "disposer {name}"),
-            Member::Use(qual) => write!(f, "qualifier {qual}"),
-            Member::Point { producer, name } => match producer {
+            Subject::Producer(name) => write!(f, "producer {name}"),
+            Subject::Disposer(name) => write!(f, "disposer {name}"),
+            Subject::Use(qual) => write!(f, "qualifier {qual}"),
+            Subject::Point { producer, name } => match producer {
                 Some(producer) => write!(f, "producer {producer} param {name}"),
                 None => write!(f, "point {name}"),
             },
@@ -55,10 +55,10 @@ impl fmt::Display for Member {
     }
 }
 
-impl Member {
+impl Subject {
     /// Appends its text.
     fn push_text(&self, text: &mut Vec<u8>) -> Result<(), AllocError>
-        ensures { OnOk result (text.new.items ≡ text.old.items ++ text_of_member self.now) }
+        ensures { OnOk result (text.new.items ≡ text.old.items ++ text_of_subject self.now) }
     {
         write!(text, "{self}").map_err(|_| AllocError)
     }
@@ -74,12 +74,12 @@ impl fmt::Display for Fault {
                 code,
                 kind,
                 name,
-                member,
+                subject,
             } => {
-                if matches!(member, Member::Whole) {
+                if matches!(subject, Subject::Whole) {
                     write!(f, "{code} {kind} {name}")
                 } else {
-                    write!(f, "{code} {kind} {name} {member}")
+                    write!(f, "{code} {kind} {name} {subject}")
                 }
             }
             Fault::NameClash(name) => write!(f, "F24 name {name}"),
@@ -89,7 +89,7 @@ impl fmt::Display for Fault {
 }
 
 impl Fault {
-    /// Appends the text of the fault: its code, the kind and the name of the declaration, and its member where it is not
+    /// Appends the text of the fault: its code, the kind and the name of the declaration, and its subject where it is not
     /// the declaration as a whole, parted by single spaces. It takes memory for the text; at `Err` a front part of it may
     /// stand.
     pub fn push_text(&self, text: &mut Vec<u8>) -> Result<(), AllocError>
@@ -99,41 +99,44 @@ impl Fault {
     }
 }
 
-/// Members in the byte order of their texts, each once. It takes memory where there are some.
-pub(crate) fn in_text_order(alloc: Global, members: Vec<Member>) -> Result<Vec<Member>, AllocError>
-    ensures value { IfOk result (λ list. list.items ≡ in_text_order members.items) }
-    ensures order { MembersInOrder }
+/// Subjects in the byte order of their texts, each once. It takes memory where there are some.
+pub(crate) fn in_text_order(
+    alloc: Global,
+    subjects: Vec<Subject>,
+) -> Result<Vec<Subject>, AllocError>
+    ensures value { IfOk result (λ list. list.items ≡ in_text_order subjects.items) }
+    ensures order { SubjectsInOrder }
 {
-    let tree = by_text(alloc, members)?;
-    members_in(alloc, tree)
+    let tree = by_text(alloc, subjects)?;
+    subjects_in(alloc, tree)
 }
 
-fn by_text(alloc: Global, members: Vec<Member>) -> Result<BTreeMap<Vec<u8>, Member>, AllocError>
-    ensures { IfOk result (λ tree. entries_in tree ≡ by_text members.items) }
+fn by_text(alloc: Global, subjects: Vec<Subject>) -> Result<BTreeMap<Vec<u8>, Subject>, AllocError>
+    ensures { IfOk result (λ tree. entries_in tree ≡ by_text subjects.items) }
 {
     let mut tree = BTreeMap::new(alloc);
-    for member in members {
-        put(alloc, &mut tree, member)?;
+    for subject in subjects {
+        put(alloc, &mut tree, subject)?;
     }
     Ok(tree)
 }
 
-/// Puts a member at its text, in the place of one that is there.
+/// Puts a subject at its text, in the place of one that is there.
 fn put(
     alloc: Global,
-    tree: &mut BTreeMap<Vec<u8>, Member>,
-    member: Member,
+    tree: &mut BTreeMap<Vec<u8>, Subject>,
+    subject: Subject,
 ) -> Result<(), AllocError>
-    ensures { OnOk result (entries_in tree.new ≡ insert_entry byte_order (entries_in tree.old) (text_of_member member) member) }
+    ensures { OnOk result (entries_in tree.new ≡ insert_entry byte_order (entries_in tree.old) (text_of_subject subject) subject) }
 {
     let mut text = Vec::new(alloc);
-    member.push_text(&mut text)?;
-    tree.insert(text, member)?;
+    subject.push_text(&mut text)?;
+    tree.insert(text, subject)?;
     Ok(())
 }
 
-/// The members, in the order of their texts.
-fn members_in(alloc: Global, tree: BTreeMap<Vec<u8>, Member>) -> Result<Vec<Member>, AllocError>
+/// The subjects, in the order of their texts.
+fn subjects_in(alloc: Global, tree: BTreeMap<Vec<u8>, Subject>) -> Result<Vec<Subject>, AllocError>
     ensures { IfOk result (λ list. list.items ≡ values tree) }
 {
     tree.into_values().collect(alloc)

@@ -2,7 +2,7 @@
 ghost use Rattle.std.specs.Prelude.{◌≡◌, ◌++◌, IfOk, OnOk};
 ghost use Rattle.cdi_validate.specs.Records.{not_had, typed_by};
 
-use crate::fault::Member;
+use crate::fault::Subject;
 use cdi_effective::Effective;
 use cdi_model::{Attributes, Decl};
 use std::alloc::{AllocError, Global};
@@ -12,21 +12,21 @@ pub(crate) fn typed(
     alloc: Global,
     decl: &Decl,
     beans: &[Effective],
-) -> Result<Vec<Member>, AllocError>
+) -> Result<Vec<Subject>, AllocError>
     ensures { IfOk result (λ list. list.items ≡ typed_by decl.now beans.now) }
 {
-    let mut members = Vec::new(alloc);
+    let mut subjects = Vec::new(alloc);
     let Decl::Bean(bean) = decl else {
-        return Ok(members);
+        return Ok(subjects);
     };
     let Some((managed, products)) = beans.split_first() else {
-        return Ok(members);
+        return Ok(subjects);
     };
-    push_wrongly_listed(managed, &bean.attributes, &mut members)?;
+    push_wrongly_listed(managed, &bean.attributes, &mut subjects)?;
     for (product, producer) in products.iter().zip(bean.producers.as_slice()) {
-        push_wrongly_listed(product, &producer.attributes, &mut members)?;
+        push_wrongly_listed(product, &producer.attributes, &mut subjects)?;
     }
-    Ok(members)
+    Ok(subjects)
 }
 
 /// Appends the types that a bean lists and does not have: a type that it lists and has without restriction it also has
@@ -34,16 +34,16 @@ pub(crate) fn typed(
 fn push_wrongly_listed(
     bean: &Effective,
     attributes: &Attributes,
-    members: &mut Vec<Member>,
+    subjects: &mut Vec<Subject>,
 ) -> Result<(), AllocError>
-    ensures { OnOk result (members.new.items ≡ members.old.items ++ not_had bean.now attributes.now) }
+    ensures { OnOk result (subjects.new.items ≡ subjects.old.items ++ not_had bean.now attributes.now) }
 {
     let Some(listed) = &attributes.types else {
         return Ok(());
     };
     for name in listed.as_slice() {
         if !bean.has_type(*name) {
-            members.push(Member::Typed {
+            subjects.push(Subject::Typed {
                 producer: bean.id.producer,
                 name: *name,
             })?;

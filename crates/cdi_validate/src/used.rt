@@ -7,7 +7,7 @@ ghost use Rattle.cdi_validate.specs.AtFault.{use_at_fault, uses_at_fault};
 ghost use Rattle.cdi_validate.specs.Faults.{bad_uses, is_known_qualifier};
 ghost use Rattle.cdi_validate.specs.Named.{written_uses};
 
-use crate::fault::Member;
+use crate::fault::Subject;
 use cdi_match::is_misused;
 use cdi_model::{BeanDecl, Decl, Decls, DisposerDecl, Kind, Name, PointDecl, ProducerDecl, Qual};
 use std::alloc::{AllocError, Global};
@@ -23,84 +23,93 @@ pub(crate) enum UseFault {
 
 /// The uses of a declaration that do not fit the declarations of their qualifiers.
 #[tactic(auto, using(crate::proofs::AtFaultLemmas::misused_uses))]
-pub(crate) fn bad_uses(alloc: Global, decls: &Decls, decl: &Decl) -> Result<Vec<Member>, AllocError>
+pub(crate) fn bad_uses(
+    alloc: Global,
+    decls: &Decls,
+    decl: &Decl,
+) -> Result<Vec<Subject>, AllocError>
     ensures { IfOk result (λ list. list.items ≡ bad_uses decls.now decl.now) }
 {
-    let mut members = Vec::new(alloc);
-    push_uses_at_fault(&mut members, decls, decl, UseFault::Misused)?;
-    Ok(members)
+    let mut subjects = Vec::new(alloc);
+    push_uses_at_fault(&mut subjects, decls, decl, UseFault::Misused)?;
+    Ok(subjects)
 }
 
 /// Appends the uses of a declaration that are at fault. It takes memory where there are some.
 pub(crate) fn push_uses_at_fault(
-    members: &mut Vec<Member>,
+    subjects: &mut Vec<Subject>,
     decls: &Decls,
     decl: &Decl,
     fault: UseFault,
 ) -> Result<(), AllocError>
-    ensures { OnOk result (members.new.items ≡ members.old.items ++ uses_at_fault fault decls.now (written_uses decl.now)) }
+    ensures { OnOk result (subjects.new.items ≡ subjects.old.items ++ uses_at_fault fault decls.now (written_uses decl.now)) }
 {
     match decl {
-        Decl::Bean(bean) => push_of_bean(members, decls, bean, fault),
+        Decl::Bean(bean) => push_of_bean(subjects, decls, bean, fault),
         _ => Ok(()),
     }
 }
 
 fn push_of_bean(
-    members: &mut Vec<Member>,
+    subjects: &mut Vec<Subject>,
     decls: &Decls,
     bean: &BeanDecl,
     fault: UseFault,
 ) -> Result<(), AllocError>
-    ensures { OnOk result (members.new.items ≡ members.old.items ++ uses_at_fault fault decls.now (written_uses (decls_are.Bean bean.now))) }
+    ensures { OnOk result (subjects.new.items ≡ subjects.old.items ++ uses_at_fault fault decls.now (written_uses (decls_are.Bean bean.now))) }
 {
     let producers = bean.producers.as_slice();
-    push_all(members, decls, bean.attributes.qualifiers.as_slice(), fault)?;
-    push_of_points(members, decls, bean.points.as_slice(), fault)?;
-    push_of_params(members, decls, producers, fault)?;
-    push_of_producers(members, decls, producers, fault)?;
-    push_of_disposers(members, decls, bean.disposers.as_slice(), fault)
+    push_all(
+        subjects,
+        decls,
+        bean.attributes.qualifiers.as_slice(),
+        fault,
+    )?;
+    push_of_points(subjects, decls, bean.points.as_slice(), fault)?;
+    push_of_params(subjects, decls, producers, fault)?;
+    push_of_producers(subjects, decls, producers, fault)?;
+    push_of_disposers(subjects, decls, bean.disposers.as_slice(), fault)
 }
 
 fn push_of_points(
-    members: &mut Vec<Member>,
+    subjects: &mut Vec<Subject>,
     decls: &Decls,
     points: &[PointDecl],
     fault: UseFault,
 ) -> Result<(), AllocError>
-    ensures { OnOk result (members.new.items ≡ members.old.items ++ uses_at_fault fault decls.now (flat_map (λ p. p.qualifiers) points.now)) }
+    ensures { OnOk result (subjects.new.items ≡ subjects.old.items ++ uses_at_fault fault decls.now (flat_map (λ p. p.qualifiers) points.now)) }
 {
     for point in points {
-        push_all(members, decls, point.qualifiers.as_slice(), fault)?;
+        push_all(subjects, decls, point.qualifiers.as_slice(), fault)?;
     }
     Ok(())
 }
 
 fn push_of_params(
-    members: &mut Vec<Member>,
+    subjects: &mut Vec<Subject>,
     decls: &Decls,
     producers: &[ProducerDecl],
     fault: UseFault,
 ) -> Result<(), AllocError>
-    ensures { OnOk result (members.new.items ≡ members.old.items ++ uses_at_fault fault decls.now (flat_map (λ p. p.qualifiers) (flat_map (λ p. p.params) producers.now))) }
+    ensures { OnOk result (subjects.new.items ≡ subjects.old.items ++ uses_at_fault fault decls.now (flat_map (λ p. p.qualifiers) (flat_map (λ p. p.params) producers.now))) }
 {
     for producer in producers {
-        push_of_points(members, decls, producer.params.as_slice(), fault)?;
+        push_of_points(subjects, decls, producer.params.as_slice(), fault)?;
     }
     Ok(())
 }
 
 fn push_of_producers(
-    members: &mut Vec<Member>,
+    subjects: &mut Vec<Subject>,
     decls: &Decls,
     producers: &[ProducerDecl],
     fault: UseFault,
 ) -> Result<(), AllocError>
-    ensures { OnOk result (members.new.items ≡ members.old.items ++ uses_at_fault fault decls.now (flat_map (λ p. p.attributes.qualifiers) producers.now)) }
+    ensures { OnOk result (subjects.new.items ≡ subjects.old.items ++ uses_at_fault fault decls.now (flat_map (λ p. p.attributes.qualifiers) producers.now)) }
 {
     for producer in producers {
         push_all(
-            members,
+            subjects,
             decls,
             producer.attributes.qualifiers.as_slice(),
             fault,
@@ -110,48 +119,48 @@ fn push_of_producers(
 }
 
 fn push_of_disposers(
-    members: &mut Vec<Member>,
+    subjects: &mut Vec<Subject>,
     decls: &Decls,
     disposers: &[DisposerDecl],
     fault: UseFault,
 ) -> Result<(), AllocError>
-    ensures { OnOk result (members.new.items ≡ members.old.items ++ uses_at_fault fault decls.now (flat_map (λ s. s.qualifiers) disposers.now)) }
+    ensures { OnOk result (subjects.new.items ≡ subjects.old.items ++ uses_at_fault fault decls.now (flat_map (λ s. s.qualifiers) disposers.now)) }
 {
     for disposer in disposers {
-        push_all(members, decls, disposer.qualifiers.as_slice(), fault)?;
+        push_all(subjects, decls, disposer.qualifiers.as_slice(), fault)?;
     }
     Ok(())
 }
 
 fn push_all(
-    members: &mut Vec<Member>,
+    subjects: &mut Vec<Subject>,
     decls: &Decls,
     quals: &[Qual],
     fault: UseFault,
 ) -> Result<(), AllocError>
-    ensures { OnOk result (members.new.items ≡ members.old.items ++ uses_at_fault fault decls.now quals.now) }
+    ensures { OnOk result (subjects.new.items ≡ subjects.old.items ++ uses_at_fault fault decls.now quals.now) }
 {
     for qual in quals {
-        push_one(members, decls, qual, fault)?;
+        push_one(subjects, decls, qual, fault)?;
     }
     Ok(())
 }
 
 /// Appends a use, where it is at fault.
 fn push_one(
-    members: &mut Vec<Member>,
+    subjects: &mut Vec<Subject>,
     decls: &Decls,
     qual: &Qual,
     fault: UseFault,
 ) -> Result<(), AllocError>
-    ensures { OnOk result (members.new.items ≡ members.old.items ++ use_at_fault fault decls.now qual.now) }
+    ensures { OnOk result (subjects.new.items ≡ subjects.old.items ++ use_at_fault fault decls.now qual.now) }
 {
     match fault {
         UseFault::Unknown if !is_known_qualifier(decls, qual.name) => {
-            members.push(Member::Qualifier(qual.name))?;
+            subjects.push(Subject::Qualifier(qual.name))?;
         }
         UseFault::Misused if is_misused(decls, qual) => {
-            members.push(Member::Use(qual.clone()?))?;
+            subjects.push(Subject::Use(qual.clone()?))?;
         }
         _ => {}
     }

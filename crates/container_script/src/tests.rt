@@ -106,7 +106,8 @@ const ACCEPTED: &[u8] =
 const ACCEPTED_TEXT: &str = "ok\nok\none A\n";
 
 const FAULTY: &[u8] =
-    b"put\nkind = \"type\"\nname = \"A\"\n.\nput\nkind = \"bean\"\nname = \"A\"\npoints = [{ name = \"p\", type = \"B\" }]\n.\nput\nkind = \"bean\"\nname = \"C\"\n.\nchoose B\nchoose Object\nreport\n";
+    b"put\nkind = \"type\"\nname = \"A\"\n.\nput\nkind = \"bean\"\nname = \"A\"\npoints = [{ name = \"p\", type = \"B\" }]\n.\n\
+      put\nkind = \"bean\"\nname = \"C\"\n.\nchoose B\nchoose Object\nreport\n";
 
 const FAULTY_TEXT: &str =
     "ok\nok\nok\nunsatisfied\nambiguous A C\nfaults 3\nF01 bean A type B\nF20 bean A point p\nF01 bean C type C\n";

@@ -11,7 +11,7 @@ use Rattle.cdi_observe.specs.Wanted.{wanted}
 use Rattle.cdi_validate.specs.declared.fault.Fault.{Fault}
 use Rattle.cdi_validate.specs.Faults.{faults, faults_of, name_clashes, name_prefixes}
 use Rattle.cdi_validate.proofs.OnceLemmas.{faults_stand_once}
-use Rattle.cdi_validate.proofs.OrderLemmas.{members_in_order}
+use Rattle.cdi_validate.proofs.OrderLemmas.{subjects_in_order}
 use Rattle.cdi_validate.proofs.deployment.faults.Goals as goal
 
 -- where all keys were asked, those from the front on were, up to the last
@@ -50,16 +50,16 @@ returns-clause-faults g c =
     c.in_ok-push_of_decls.ensures c.new-faults.ensures.items (c.beans-2.ensures ∙ ap beans same) (c.decls.ensures ∙ same)
 
 pub returns-in_err-answers-clause-order : goal.returns-in_err-answers-clause-order
-returns-in_err-answers-clause-order g c = members_in_order
+returns-in_err-answers-clause-order g c = subjects_in_order
 
 pub returns-in_err-push_of_decls-clause-order : goal.returns-in_err-push_of_decls-clause-order
-returns-in_err-push_of_decls-clause-order g c = members_in_order
+returns-in_err-push_of_decls-clause-order g c = subjects_in_order
 
 pub returns-in_err-push_of_names-clause-order : goal.returns-in_err-push_of_names-clause-order
-returns-in_err-push_of_names-clause-order g c = members_in_order
+returns-in_err-push_of_names-clause-order g c = subjects_in_order
 
 pub returns-clause-order : goal.returns-clause-order
-returns-clause-order g c = members_in_order
+returns-clause-order g c = subjects_in_order
 
 pub returns-in_err-answers-clause-once : goal.returns-in_err-answers-clause-once
 returns-in_err-answers-clause-once g c = faults_stand_once

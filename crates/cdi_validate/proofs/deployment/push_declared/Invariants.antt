@@ -3,7 +3,7 @@ use Rattle.cdi_model.specs.Decl.{kind_of, name_of_decl}
 use Rattle.cdi_validate.specs.declared.fault.Fault.TheVariants as the_faults
 use Rattle.cdi_validate.proofs.deployment.push_declared.Given as goal
 
-abbrev pub invariant-loop-member : goal.invariant-loop-member
-invariant-loop-member l =
-    l.faults.items ++ map (the_faults.Declared l.code (kind_of l.decl) (name_of_decl l.decl)) l.member-iterator.rest.items
-    ≡ l.fn.faults.items ++ map (the_faults.Declared l.code (kind_of l.decl) (name_of_decl l.decl)) l.fn.members.items
+abbrev pub invariant-loop-subject : goal.invariant-loop-subject
+invariant-loop-subject l =
+    l.faults.items ++ map (the_faults.Declared l.code (kind_of l.decl) (name_of_decl l.decl)) l.subject-iterator.rest.items
+    ≡ l.fn.faults.items ++ map (the_faults.Declared l.code (kind_of l.decl) (name_of_decl l.decl)) l.fn.subjects.items

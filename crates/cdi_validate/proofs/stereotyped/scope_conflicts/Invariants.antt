@@ -3,4 +3,4 @@ use Rattle.cdi_validate.specs.Faults.{scope_conflicts}
 use Rattle.cdi_validate.proofs.stereotyped.scope_conflicts.Given as goal
 
 abbrev pub invariant-loop-bean : goal.invariant-loop-bean
-invariant-loop-bean l = l.members.items ++ scope_conflicts (drop l.bean-index l.beans) ≡ scope_conflicts l.beans
+invariant-loop-bean l = l.subjects.items ++ scope_conflicts (drop l.bean-index l.beans) ≡ scope_conflicts l.beans

@@ -4,5 +4,5 @@ use Rattle.cdi_validate.specs.TextTree.{entries_in}
 use Rattle.cdi_validate.proofs.OrderLemmas.{put}
 use Rattle.cdi_validate.proofs.text.by_text.Given as goal
 
-abbrev pub invariant-loop-member : goal.invariant-loop-member
-invariant-loop-member l = fold put (entries_in l.tree) l.member-iterator.rest.items ≡ by_text l.fn.members.items
+abbrev pub invariant-loop-subject : goal.invariant-loop-subject
+invariant-loop-subject l = fold put (entries_in l.tree) l.subject-iterator.rest.items ≡ by_text l.fn.subjects.items

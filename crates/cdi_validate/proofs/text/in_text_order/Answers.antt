@@ -1,14 +1,14 @@
 use Rattle.std.proofs.Common.{◌∙◌}
 use Rattle.std.proofs.lemmas.Result.{IfOk-weaker}
-use Rattle.cdi_validate.proofs.OrderLemmas.{members_in_order}
+use Rattle.cdi_validate.proofs.OrderLemmas.{subjects_in_order}
 use Rattle.cdi_validate.proofs.TreeLemmas.{values-in_order}
 use Rattle.cdi_validate.proofs.text.in_text_order.Goals as goal
 
 pub returns-clause-value : goal.returns-clause-value
-returns-clause-value c = IfOk-weaker c.members_in.result _ _ (λ list is. is ∙ values-in_order c.in_ok-tree.tree c.args.members.items c.in_ok-tree.ensures) c.members_in.ensures
+returns-clause-value c = IfOk-weaker c.subjects_in.result _ _ (λ list is. is ∙ values-in_order c.in_ok-tree.tree c.args.subjects.items c.in_ok-tree.ensures) c.subjects_in.ensures
 
 pub returns-clause-order : goal.returns-clause-order
-returns-clause-order c = members_in_order
+returns-clause-order c = subjects_in_order
 
 pub returns-in_err-tree-clause-order : goal.returns-in_err-tree-clause-order
-returns-in_err-tree-clause-order c = members_in_order
+returns-in_err-tree-clause-order c = subjects_in_order

@@ -1,13 +1,13 @@
 use Rattle.std.proofs.Common.{◌++◌, ◌∙◌, ap}
 use Rattle.std.specs.BTreeMap.{insert_entry}
-use Rattle.cdi_validate.specs.FaultText.{text_of_member, byte_order}
+use Rattle.cdi_validate.specs.FaultText.{text_of_subject, byte_order}
 use Rattle.cdi_validate.specs.TextTree.{entries_in}
 use Rattle.cdi_validate.proofs.TreeLemmas.{shown, shown-insert}
 use Rattle.cdi_validate.proofs.text.put.Goals as goal
 
 pub returns : goal.returns
 returns c =
-    let member = c.args.member in
+    let subject = c.args.subject in
     ap shown c.in_ok-insert.ensures.entries
-    ∙ shown-insert c.push_text.new.text member c.args.tree.now.entries
-    ∙ ap (λ text. insert_entry byte_order (entries_in c.args.tree.now) text member) (c.in_ok-push_text.ensures ∙ ap (λ text. text ++ text_of_member member) c.new-text.ensures.items)
+    ∙ shown-insert c.push_text.new.text subject c.args.tree.now.entries
+    ∙ ap (λ text. insert_entry byte_order (entries_in c.args.tree.now) text subject) (c.in_ok-push_text.ensures ∙ ap (λ text. text ++ text_of_subject subject) c.new-text.ensures.items)

@@ -6,5 +6,5 @@ use Rattle.cdi_validate.proofs.unknown.push_stereotypes_of_bean.Given as goal
 
 abbrev pub invariant-loop-producer : goal.invariant-loop-producer
 invariant-loop-producer l =
-    l.members.items ++ unknown_stereotypes l.decls (flat_map (λ p. p.attributes.stereotypes) (drop l.producer-index l.bean.producers))
-    ≡ l.fn.members.items ++ unknown_stereotypes l.decls (named_stereotypes (decls_are.Bean l.bean))
+    l.subjects.items ++ unknown_stereotypes l.decls (flat_map (λ p. p.attributes.stereotypes) (drop l.producer-index l.bean.producers))
+    ≡ l.fn.subjects.items ++ unknown_stereotypes l.decls (named_stereotypes (decls_are.Bean l.bean))

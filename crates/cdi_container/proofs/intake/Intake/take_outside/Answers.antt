@@ -1,7 +1,7 @@
 use Rattle.std.proofs.Common.{◌≡◌, refl, subst}
 use Rattle.std.specs.Prelude.{Ok, Err}
 use Rattle.std.proofs.lemmas.Result.{on_ok_weaker}
-use Rattle.cdi_model.specs.Outcome.{Answers}
+use Rattle.cdi_model.specs.Answering.{Answers}
 use Rattle.cdi_model.specs.declared.refusal.Error.{Error}
 use Rattle.cdi_lines.specs.Command.{said_of_line}
 use Rattle.cdi_lines.specs.declared.command.Said.{Said}
