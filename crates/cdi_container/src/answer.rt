@@ -8,7 +8,7 @@ use cdi_validate::Fault;
 use std::alloc::AllocError;
 
 /// What a command answers for which there was memory.
-#[derive(Drop)]
+#[derive(Debug, Drop)]
 pub enum Answer {
     /// An edit is done.
     Done,

@@ -10,6 +10,8 @@ mod container;
 #[cfg(test)]
 mod declarations;
 #[cfg(test)]
+mod executed;
+#[cfg(test)]
 mod faults;
 #[cfg(test)]
 mod fixtures;
