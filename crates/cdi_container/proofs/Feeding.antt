@@ -8,13 +8,15 @@ use Rattle.std.proofs.lemmas.List.Folds.{list_any-append}
 use Rattle.std.proofs.lemmas.Grind.{flat_map-append}
 use Rattle.cdi_lines.specs.Lines.{ended_from, begun_from, ended_lines, begun_line, last_line}
 use Rattle.cdi_lines.specs.declared.command.Command.{Command}
-use Rattle.cdi_container.specs.Commands.{Mode, Outside, commands_of_line, mode_after, commands_of_lines, mode_of_lines, complete_commands, mode_of, commands, unclosed}
+use Rattle.cdi_container.specs.Commands.{Mode, Outside, commands_of_line, mode_after, commands_of_lines, mode_of_lines, complete_commands}
+use Rattle.cdi_container.specs.Commands.{mode_of, commands, unclosed}
 use Rattle.cdi_container.specs.Seen.{state_of}
 use Rattle.cdi_container.specs.Text.{text_of, text_of_step, is_refused, is_out_of_memory}
 use Rattle.cdi_container.specs.Runner.{Runs}
 use Rattle.cdi_container.specs.Intake.{Keeps, Advances, EndsLastLine, EndsMode, ServesMode, mode_seen}
 use Rattle.cdi_lines.specs.Kept.{ServesLine}
-use Rattle.cdi_container.specs.Run.{IsHistoryOf, WroteAll, WrotePart, Printed, Stands, Sends, SendsPart, SendsLast, Feeds, FeedsBeforeMemory, FeedsPart, RunsWhole, Ends, EndsBeforeMemory, EndsPart, contents_of}
+use Rattle.cdi_container.specs.Run.{IsHistoryOf, WroteAll, WrotePart, Printed, Stands, Sends, SendsPart, SendsLast, Feeds}
+use Rattle.cdi_container.specs.Run.{FeedsBeforeMemory, FeedsPart, RunsWhole, Ends, EndsBeforeMemory, EndsPart, contents_of}
 use Rattle.cdi_devices.specs.declared.counted.Counted.{Counted}
 use Rattle.cdi_container.specs.declared.runner.Runner.{Runner}
 use Rattle.cdi_container.specs.declared.intake.Intake.{Intake}
@@ -36,21 +38,28 @@ ended_from-append b (x ∷ xs) ys = elim (cases_Bool (x == 10)) [
   | inr e ↦ rw e (ended_from-append (b ++ x ∷ []) xs ys)
 ]
 
-pub commands_of_lines-append : (mode : Mode) (ls ms : List (List ℕ)) → commands_of_lines mode (ls ++ ms) ≡ commands_of_lines mode ls ++ commands_of_lines (mode_of_lines mode ls) ms
+pub commands_of_lines-append : (mode : Mode) (ls ms : List (List ℕ))
+    → commands_of_lines mode (ls ++ ms) ≡ commands_of_lines mode ls ++ commands_of_lines (mode_of_lines mode ls) ms
 commands_of_lines-append mode [] ms = refl
-commands_of_lines-append mode (l ∷ ls) ms = ap (λ r. commands_of_line mode l ++ r) (commands_of_lines-append (mode_after mode l) ls ms) ∙ sym (append_assoc (commands_of_line mode l) _ _)
+commands_of_lines-append mode (l ∷ ls) ms = ap (λ r. commands_of_line mode l ++ r) (commands_of_lines-append (mode_after mode l) ls ms)
+    ∙ sym (append_assoc (commands_of_line mode l) _ _)
 
 pub mode_of_lines-append : (mode : Mode) (ls ms : List (List ℕ)) → mode_of_lines mode (ls ++ ms) ≡ mode_of_lines (mode_of_lines mode ls) ms
 mode_of_lines-append mode [] ms = refl
 mode_of_lines-append mode (l ∷ ls) ms = mode_of_lines-append (mode_after mode l) ls ms
 
-pub complete_commands-append : (given bytes : List ℕ) → complete_commands (given ++ bytes) ≡ complete_commands given ++ commands_of_lines (mode_of given) (ended_from (begun_line given) bytes)
-complete_commands-append given bytes = ap (commands_of_lines Outside) (ended_from-append [] given bytes) ∙ commands_of_lines-append Outside (ended_lines given) (ended_from (begun_line given) bytes)
+pub complete_commands-append : (given bytes : List ℕ)
+    → complete_commands (given ++ bytes) ≡ complete_commands given
+    ++ commands_of_lines (mode_of given) (ended_from (begun_line given) bytes)
+complete_commands-append given bytes = ap (commands_of_lines Outside) (ended_from-append [] given bytes)
+    ∙ commands_of_lines-append Outside (ended_lines given) (ended_from (begun_line given) bytes)
 
 pub mode_of-append : (given bytes : List ℕ) → mode_of (given ++ bytes) ≡ mode_of_lines (mode_of given) (ended_from (begun_line given) bytes)
-mode_of-append given bytes = ap (mode_of_lines Outside) (ended_from-append [] given bytes) ∙ mode_of_lines-append Outside (ended_lines given) (ended_from (begun_line given) bytes)
+mode_of-append given bytes = ap (mode_of_lines Outside) (ended_from-append [] given bytes)
+    ∙ mode_of_lines-append Outside (ended_lines given) (ended_from (begun_line given) bytes)
 
-pub printed_runs : (quiet : Bool) (start now : Option (List ℕ)) (r s : Runner) (cs ds : List Command) → Printed quiet start now r cs → Runs r s ds → Printed quiet start now s (cs ++ ds)
+pub printed_runs : (quiet : Bool) (start now : Option (List ℕ)) (r s : Runner) (cs ds : List Command) → Printed quiet start now r cs
+    → Runs r s ds → Printed quiet start now s (cs ++ ds)
 printed_runs quiet start now r s cs ds p q = record {
   history = p.history ++ q.history;
   is_history = record {
@@ -63,20 +72,24 @@ printed_runs quiet start now r s cs ds p q = record {
       ∙ cc_append _ _ _ _ p.text (ap (λ k. text_of k q.history) (sym p.quiet_is))
       ∙ append_assoc p.sent r.out.items (text_of r.quiet q.history) ∙ ap (λ l. p.sent ++ l) (sym q.text);
   written = p.written;
-  refused_is = q.refused ∙ ap (λ k. k || list_any (λ step. is_refused step.answer) q.history) p.refused_is ∙ sym (list_any-append (λ step. is_refused step.answer) p.history q.history);
+  refused_is = q.refused ∙ ap (λ k. k || list_any (λ step. is_refused step.answer) q.history) p.refused_is
+      ∙ sym (list_any-append (λ step. is_refused step.answer) p.history q.history);
   quiet_is = q.quiet ∙ p.quiet_is;
 }
 
-pub stands_advances : (quiet : Bool) (start now : Option (List ℕ)) (s t : Intake) (given bytes : List ℕ) → Stands quiet start now s given → Advances s t bytes → Stands quiet start now t (given ++ bytes)
+pub stands_advances : (quiet : Bool) (start now : Option (List ℕ)) (s t : Intake) (given bytes : List ℕ) → Stands quiet start now s given
+    → Advances s t bytes → Stands quiet start now t (given ++ bytes)
 stands_advances quiet start now s t given bytes h a = record {
   printed = subst (Printed quiet start now t.runner) (sym (complete_commands-append given bytes))
       (printed_runs quiet start now s.runner t.runner _ _ h.printed (a.runs _ _ h.keeps));
   keeps = let P : Mode → List ℕ → Type 0 = λ b l. Keeps t b l in
       subst (λ b. P b (begun_line (given ++ bytes))) (sym (mode_of-append given bytes))
-      (subst (λ l. P (mode_of_lines (mode_of given) (ended_from (begun_line given) bytes)) l) (sym (begun_from-append [] given bytes)) (a.keeps _ _ h.keeps));
+      (subst (λ l. P (mode_of_lines (mode_of given) (ended_from (begun_line given) bytes)) l) (sym (begun_from-append [] given bytes))
+      (a.keeps _ _ h.keeps));
 }
 
-pub printed_all : (quiet : Bool) (start now then : Option (List ℕ)) (r : Runner) (cs : List Command) (out : List ℕ) → Printed quiet start now r cs → out ≡ r.out.items → Appends now then out → WroteAll quiet start then cs
+pub printed_all : (quiet : Bool) (start now then : Option (List ℕ)) (r : Runner) (cs : List Command) (out : List ℕ)
+    → Printed quiet start now r cs → out ≡ r.out.items → Appends now then out → WroteAll quiet start then cs
 printed_all quiet start now then r cs out p is a = record {
   history = p.history;
   state = state_of r.container;
@@ -84,7 +97,8 @@ printed_all quiet start now then r cs out p is a = record {
   written = subst (λ t. Appends start then t) (ap (λ l. p.sent ++ l) is ∙ sym p.text) (Appends-more start now then p.sent out p.written a);
 }
 
-pub printed_part : (quiet : Bool) (start now then : Option (List ℕ)) (r : Runner) (cs : List Command) (part rest : List ℕ) → Printed quiet start now r cs → part ++ rest ≡ r.out.items → Appends now then part → WrotePart quiet start then cs
+pub printed_part : (quiet : Bool) (start now then : Option (List ℕ)) (r : Runner) (cs : List Command) (part rest : List ℕ)
+    → Printed quiet start now r cs → part ++ rest ≡ r.out.items → Appends now then part → WrotePart quiet start then cs
 printed_part quiet start now then r cs part rest p is a = record {
   history = p.history;
   state = state_of r.container;
@@ -102,7 +116,8 @@ keeps_same s t line mode b l k = record {
 }
 
 module _ {W : Type 0} (contents : W → Option (List ℕ)) where
-  pub printed_sent : (quiet : Bool) (start : Option (List ℕ)) (r s : Runner) (before after : Counted W) (cs : List Command) → Printed quiet start (contents_of contents before) r cs → Sends contents r s before after
+  pub printed_sent : (quiet : Bool) (start : Option (List ℕ)) (r s : Runner) (before after : Counted W) (cs : List Command)
+      → Printed quiet start (contents_of contents before) r cs → Sends contents r s before after
       → Printed quiet start (contents_of contents after) s cs
   printed_sent quiet start r s before after cs p q = record {
     history = p.history;
@@ -117,11 +132,14 @@ module _ {W : Type 0} (contents : W → Option (List ℕ)) where
   pub feeds_none : (s : Intake) (w : Counted W) → Feeds contents s s w w []
   feeds_none s w quiet start given h = subst (Stands quiet start (contents_of contents w) s) (sym (append-nil given)) h
 
-  pub feeds_advances : (old mid new : Intake) (before after : Counted W) (done bytes : List ℕ) → Feeds contents old mid before after done → Advances mid new bytes → Feeds contents old new before after (done ++ bytes)
-  feeds_advances old mid new before after done bytes f a quiet start given h = subst (Stands quiet start (contents_of contents after) new) (append_assoc given done bytes)
+  pub feeds_advances : (old mid new : Intake) (before after : Counted W) (done bytes : List ℕ) → Feeds contents old mid before after done
+      → Advances mid new bytes → Feeds contents old new before after (done ++ bytes)
+  feeds_advances old mid new before after done bytes f a quiet start given h = subst (Stands quiet start (contents_of contents after) new)
+      (append_assoc given done bytes)
       (stands_advances quiet start (contents_of contents after) mid new (given ++ done) bytes (f quiet start given h) a)
 
-  pub feeds_sends : (old mid new : Intake) (before between after : Counted W) (done : List ℕ) → Feeds contents old mid before between done → Sends contents mid.runner new.runner between after
+  pub feeds_sends : (old mid new : Intake) (before between after : Counted W) (done : List ℕ) → Feeds contents old mid before between done
+      → Sends contents mid.runner new.runner between after
       → new.line ≡ mid.line → new.mode ≡ mid.mode → Feeds contents old new before after done
   feeds_sends old mid new before between after done f s line mode quiet start given h =
       let was = f quiet start given h in
@@ -130,64 +148,85 @@ module _ {W : Type 0} (contents : W → Option (List ℕ)) where
         keeps = keeps_same mid new line mode _ _ was.keeps;
       }
 
-  pub feeds_last : (old mid : Intake) (r : Runner) (before between after : Counted W) (done : List ℕ) → Feeds contents old mid before between done → r.out.items ≡ mid.runner.out.items → SendsLast contents r between after
-      → (quiet : Bool) (start : Option (List ℕ)) (given : List ℕ) → Stands quiet start (contents_of contents before) old given → WroteAll quiet start (contents_of contents after) (complete_commands (given ++ done))
+  pub feeds_last : (old mid : Intake) (r : Runner) (before between after : Counted W) (done : List ℕ)
+      → Feeds contents old mid before between done → r.out.items ≡ mid.runner.out.items → SendsLast contents r between after
+      → (quiet : Bool) (start : Option (List ℕ)) (given : List ℕ) → Stands quiet start (contents_of contents before) old given
+      → WroteAll quiet start (contents_of contents after) (complete_commands (given ++ done))
   feeds_last old mid r before between after done f same s quiet start given h =
       printed_all quiet start _ _ mid.runner _ r.out.items ((f quiet start given h).printed) same s.written
 
-  pub feeds_part : (old mid : Intake) (r : Runner) (before between after : Counted W) (done : List ℕ) → Feeds contents old mid before between done → r.out.items ≡ mid.runner.out.items → SendsPart contents r between after
-      → (quiet : Bool) (start : Option (List ℕ)) (given : List ℕ) → Stands quiet start (contents_of contents before) old given → WrotePart quiet start (contents_of contents after) (complete_commands (given ++ done))
+  pub feeds_part : (old mid : Intake) (r : Runner) (before between after : Counted W) (done : List ℕ)
+      → Feeds contents old mid before between done → r.out.items ≡ mid.runner.out.items → SendsPart contents r between after
+      → (quiet : Bool) (start : Option (List ℕ)) (given : List ℕ) → Stands quiet start (contents_of contents before) old given
+      → WrotePart quiet start (contents_of contents after) (complete_commands (given ++ done))
   feeds_part old mid r before between after done f same s quiet start given h =
       printed_part quiet start _ _ mid.runner _ s.part s.rest ((f quiet start given h).printed) (sym s.out ∙ same) s.written
 
-  pub feeds_more : (a b c : Intake) (before between after : Counted W) (xs ys : List ℕ) → Feeds contents a b before between xs → Feeds contents b c between after ys → Feeds contents a c before after (xs ++ ys)
-  feeds_more a b c before between after xs ys f h quiet start given s = subst (Stands quiet start (contents_of contents after) c) (append_assoc given xs ys) (h quiet start (given ++ xs) (f quiet start given s))
+  pub feeds_more : (a b c : Intake) (before between after : Counted W) (xs ys : List ℕ) → Feeds contents a b before between xs
+      → Feeds contents b c between after ys → Feeds contents a c before after (xs ++ ys)
+  feeds_more a b c before between after xs ys f h quiet start given s = subst (Stands quiet start (contents_of contents after) c)
+      (append_assoc given xs ys) (h quiet start (given ++ xs) (f quiet start given s))
 
-  pub feeds_memory_more : (a b : Intake) (before between after : Counted W) (xs ys : List ℕ) → Feeds contents a b before between xs → FeedsBeforeMemory contents b between after ys → FeedsBeforeMemory contents a before after (xs ++ ys)
+  pub feeds_memory_more : (a b : Intake) (before between after : Counted W) (xs ys : List ℕ) → Feeds contents a b before between xs
+      → FeedsBeforeMemory contents b between after ys → FeedsBeforeMemory contents a before after (xs ++ ys)
   feeds_memory_more a b before between after xs ys f h = (
     xs ++ h.0,
     h.1,
     ap (λ l. xs ++ l) h.2 ∙ sym (append_assoc xs h.0 h.1),
-    λ quiet start given s. subst (λ l. WroteAll quiet start (contents_of contents after) (complete_commands l)) (append_assoc given xs h.0) (h.3 quiet start (given ++ xs) (f quiet start given s)),
+    λ quiet start given s. subst (λ l. WroteAll quiet start (contents_of contents after) (complete_commands l)) (append_assoc given xs h.0)
+        (h.3 quiet start (given ++ xs) (f quiet start given s)),
   )
 
-  pub feeds_part_more : (a b : Intake) (before between after : Counted W) (xs ys : List ℕ) → Feeds contents a b before between xs → FeedsPart contents b between after ys → FeedsPart contents a before after (xs ++ ys)
+  pub feeds_part_more : (a b : Intake) (before between after : Counted W) (xs ys : List ℕ) → Feeds contents a b before between xs
+      → FeedsPart contents b between after ys → FeedsPart contents a before after (xs ++ ys)
   feeds_part_more a b before between after xs ys f h = (
     xs ++ h.0,
     h.1,
     ap (λ l. xs ++ l) h.2 ∙ sym (append_assoc xs h.0 h.1),
-    λ quiet start given s. subst (λ l. WrotePart quiet start (contents_of contents after) (complete_commands l)) (append_assoc given xs h.0) (h.3 quiet start (given ++ xs) (f quiet start given s)),
+    λ quiet start given s. subst (λ l. WrotePart quiet start (contents_of contents after) (complete_commands l)) (append_assoc given xs h.0)
+        (h.3 quiet start (given ++ xs) (f quiet start given s)),
   )
 
   pub feeds_advance : (old new : Intake) (w : Counted W) (bytes : List ℕ) → Advances old new bytes → Feeds contents old new w w bytes
   feeds_advance old new w bytes a quiet start given h = stands_advances quiet start (contents_of contents w) old new given bytes h a
 
-  pub memory_here : (old : Intake) (r : Runner) (before after : Counted W) (bytes : List ℕ) → r.out.items ≡ old.runner.out.items → SendsLast contents r before after → FeedsBeforeMemory contents old before after bytes
-  memory_here old r before after bytes same s = ([], bytes, refl, feeds_last old old r before before after [] (feeds_none old before) same s)
+  pub memory_here : (old : Intake) (r : Runner) (before after : Counted W) (bytes : List ℕ) → r.out.items ≡ old.runner.out.items
+      → SendsLast contents r before after → FeedsBeforeMemory contents old before after bytes
+  memory_here old r before after bytes same s =
+      ([], bytes, refl, feeds_last old old r before before after [] (feeds_none old before) same s)
 
-  pub part_here : (old : Intake) (r : Runner) (before after : Counted W) (bytes : List ℕ) → r.out.items ≡ old.runner.out.items → SendsPart contents r before after → FeedsPart contents old before after bytes
+  pub part_here : (old : Intake) (r : Runner) (before after : Counted W) (bytes : List ℕ) → r.out.items ≡ old.runner.out.items
+      → SendsPart contents r before after → FeedsPart contents old before after bytes
   part_here old r before after bytes same s = ([], bytes, refl, feeds_part old old r before before after [] (feeds_none old before) same s)
 
-  pub settles : (old new : Intake) (before after : Counted W) → Sends contents old.runner new.runner before after → new.line ≡ old.line → new.mode ≡ old.mode → Feeds contents old new before after []
+  pub settles : (old new : Intake) (before after : Counted W) → Sends contents old.runner new.runner before after → new.line ≡ old.line
+      → new.mode ≡ old.mode → Feeds contents old new before after []
   settles old new before after s line mode = feeds_sends old old new before before after [] (feeds_none old before) s line mode
 
   -- a front part of the first n bytes is one of all
-  pub part_in_front : (old : Intake) (before after : Counted W) (n : ℕ) (bytes : List ℕ) → FeedsPart contents old before after (take n bytes ++ []) → FeedsPart contents old before after bytes
+  pub part_in_front : (old : Intake) (before after : Counted W) (n : ℕ) (bytes : List ℕ)
+      → FeedsPart contents old before after (take n bytes ++ []) → FeedsPart contents old before after bytes
   part_in_front old before after n bytes h = (
     h.0,
     h.1 ++ drop n bytes,
-    sym (take-append-drop n bytes) ∙ ap (λ l. l ++ drop n bytes) (sym (append-nil (take n bytes)) ∙ h.2) ∙ append_assoc h.0 h.1 (drop n bytes),
+    sym (take-append-drop n bytes) ∙ ap (λ l. l ++ drop n bytes) (sym (append-nil (take n bytes)) ∙ h.2)
+        ∙ append_assoc h.0 h.1 (drop n bytes),
     h.3,
   )
 
-pub feeds_rest : (done : List ℕ) (n : ℕ) (rest bytes behind : List ℕ) → bytes ≡ done ++ rest → behind ≡ drop n rest → bytes ≡ (done ++ take n rest) ++ behind
-feeds_rest done n rest bytes behind e f = e ∙ ap (λ l. done ++ l) (sym (take-append-drop n rest) ∙ ap (λ l. take n rest ++ l) (sym f)) ∙ sym (append_assoc done (take n rest) behind)
+pub feeds_rest : (done : List ℕ) (n : ℕ) (rest bytes behind : List ℕ) → bytes ≡ done ++ rest → behind ≡ drop n rest
+    → bytes ≡ (done ++ take n rest) ++ behind
+feeds_rest done n rest bytes behind e f = e ∙ ap (λ l. done ++ l) (sym (take-append-drop n rest) ∙ ap (λ l. take n rest ++ l) (sym f))
+    ∙ sym (append_assoc done (take n rest) behind)
 
 pub commands-parts : (given : List ℕ) → commands given
-    ≡ (complete_commands given ++ commands_of_lines (mode_of given) (last_line (begun_line given))) ++ unclosed (mode_of_lines (mode_of given) (last_line (begun_line given)))
-commands-parts given = cc_append _ _ _ _ (commands_of_lines-append Outside (ended_lines given) (last_line (begun_line given))) (ap unclosed (mode_of_lines-append Outside (ended_lines given) (last_line (begun_line given))))
+    ≡ (complete_commands given ++ commands_of_lines (mode_of given) (last_line (begun_line given)))
+    ++ unclosed (mode_of_lines (mode_of given) (last_line (begun_line given)))
+commands-parts given = cc_append _ _ _ _ (commands_of_lines-append Outside (ended_lines given) (last_line (begun_line given)))
+    (ap unclosed (mode_of_lines-append Outside (ended_lines given) (last_line (begun_line given))))
 
-pub printed_whole : (quiet : Bool) (start now then : Option (List ℕ)) (r : Runner) (cs : List Command) → Printed quiet start now r cs → Appends now then r.out.items → RunsWhole quiet start then cs r.refused
+pub printed_whole : (quiet : Bool) (start now then : Option (List ℕ)) (r : Runner) (cs : List Command) → Printed quiet start now r cs
+    → Appends now then r.out.items → RunsWhole quiet start then cs r.refused
 printed_whole quiet start now then r cs p a = record {
   history = p.history;
   state = state_of r.container;
@@ -196,30 +235,36 @@ printed_whole quiet start now then r cs p a = record {
   refused_is = p.refused_is;
 }
 
-pub printed_last_line : (quiet : Bool) (start now : Option (List ℕ)) (s t : Intake) (given : List ℕ) → Stands quiet start now s given → EndsLastLine s t
+pub printed_last_line : (quiet : Bool) (start now : Option (List ℕ)) (s t : Intake) (given : List ℕ) → Stands quiet start now s given
+    → EndsLastLine s t
     → Printed quiet start now t.runner (complete_commands given ++ commands_of_lines (mode_of given) (last_line (begun_line given)))
 printed_last_line quiet start now s t given h e = printed_runs quiet start now s.runner t.runner _ _ h.printed (e.runs _ _ h.keeps)
 
-pub printed_end : (quiet : Bool) (start now : Option (List ℕ)) (s t u : Intake) (given : List ℕ) → Stands quiet start now s given → EndsLastLine s t → EndsMode t u → Printed quiet start now u.runner (commands given)
+pub printed_end : (quiet : Bool) (start now : Option (List ℕ)) (s t u : Intake) (given : List ℕ) → Stands quiet start now s given
+    → EndsLastLine s t → EndsMode t u → Printed quiet start now u.runner (commands given)
 printed_end quiet start now s t u given h e f = subst (Printed quiet start now u.runner) (sym (commands-parts given))
     (printed_runs quiet start now t.runner u.runner _ _ (printed_last_line quiet start now s t given h e) (f _ (e.mode _ _ h.keeps)))
 
 module _ {W : Type 0} (contents : W → Option (List ℕ)) where
-  pub ends_whole : (s t u : Intake) (r : Runner) (before after : Counted W) → EndsLastLine s t → EndsMode t u → Sends contents u.runner r before after → Ends contents s before after r.refused
+  pub ends_whole : (s t u : Intake) (r : Runner) (before after : Counted W) → EndsLastLine s t → EndsMode t u
+      → Sends contents u.runner r before after → Ends contents s before after r.refused
   ends_whole s t u r before after e f g quiet start given h =
       subst (RunsWhole quiet start (contents_of contents after) (commands given)) (sym g.refused)
       (printed_whole quiet start _ _ u.runner (commands given) (printed_end quiet start _ s t u given h e f) g.written)
 
-  pub ends_part : (s t u : Intake) (before after : Counted W) → EndsLastLine s t → EndsMode t u → SendsPart contents u.runner before after → EndsPart contents s before after
+  pub ends_part : (s t u : Intake) (before after : Counted W) → EndsLastLine s t → EndsMode t u → SendsPart contents u.runner before after
+      → EndsPart contents s before after
   ends_part s t u before after e f g quiet start given h = (
     commands given,
     (_, commands-parts given ∙ append_assoc (complete_commands given) _ _),
     ([], sym (append-nil (commands given))),
-    printed_part quiet start _ _ u.runner (commands given) g.part g.rest (printed_end quiet start _ s t u given h e f) (sym g.out) g.written,
+    printed_part quiet start _ _ u.runner (commands given) g.part g.rest (printed_end quiet start _ s t u given h e f) (sym g.out)
+        g.written,
   )
 
   -- memory wanted for the last line
-  pub last_line_memory : (s : Intake) (r : Runner) (before after : Counted W) → r.out.items ≡ s.runner.out.items → SendsLast contents r before after → EndsBeforeMemory contents s before after
+  pub last_line_memory : (s : Intake) (r : Runner) (before after : Counted W) → r.out.items ≡ s.runner.out.items
+      → SendsLast contents r before after → EndsBeforeMemory contents s before after
   last_line_memory s r before after same g quiet start given h = (
     complete_commands given,
     ([], sym (append-nil (complete_commands given))),
@@ -227,7 +272,8 @@ module _ {W : Type 0} (contents : W → Option (List ℕ)) where
     printed_all quiet start _ _ s.runner (complete_commands given) r.out.items h.printed same g.written,
   )
 
-  pub last_line_part : (s : Intake) (r : Runner) (before after : Counted W) → r.out.items ≡ s.runner.out.items → SendsPart contents r before after → EndsPart contents s before after
+  pub last_line_part : (s : Intake) (r : Runner) (before after : Counted W) → r.out.items ≡ s.runner.out.items
+      → SendsPart contents r before after → EndsPart contents s before after
   last_line_part s r before after same g quiet start given h = (
     complete_commands given,
     ([], sym (append-nil (complete_commands given))),
@@ -236,7 +282,8 @@ module _ {W : Type 0} (contents : W → Option (List ℕ)) where
   )
 
   -- memory wanted for the refusal of a mode without its end
-  pub end_memory : (s t : Intake) (r : Runner) (before after : Counted W) → EndsLastLine s t → r.out.items ≡ t.runner.out.items → SendsLast contents r before after → EndsBeforeMemory contents s before after
+  pub end_memory : (s t : Intake) (r : Runner) (before after : Counted W) → EndsLastLine s t → r.out.items ≡ t.runner.out.items
+      → SendsLast contents r before after → EndsBeforeMemory contents s before after
   end_memory s t r before after e same g quiet start given h = (
     complete_commands given ++ commands_of_lines (mode_of given) (last_line (begun_line given)),
     (_, refl),
@@ -244,7 +291,8 @@ module _ {W : Type 0} (contents : W → Option (List ℕ)) where
     printed_all quiet start _ _ t.runner _ r.out.items (printed_last_line quiet start _ s t given h e) same g.written,
   )
 
-  pub end_part : (s t : Intake) (r : Runner) (before after : Counted W) → EndsLastLine s t → r.out.items ≡ t.runner.out.items → SendsPart contents r before after → EndsPart contents s before after
+  pub end_part : (s t : Intake) (r : Runner) (before after : Counted W) → EndsLastLine s t → r.out.items ≡ t.runner.out.items
+      → SendsPart contents r before after → EndsPart contents s before after
   end_part s t r before after e same g quiet start given h = (
     complete_commands given ++ commands_of_lines (mode_of given) (last_line (begun_line given)),
     (_, refl),

@@ -1,5 +1,6 @@
 -- A run from one read to the next, and how it ends.
-use Rattle.std.proofs.Common.{◌≡◌, ℕ, List, [], ◌++◌, take, refl, ap, sym, ◌∙◌, subst, Option, Some, None, length, true, false, inl, inr, append_assoc, arith}
+use Rattle.std.proofs.Common.{◌≡◌, ℕ, List, [], ◌++◌, take, refl, ap, sym, ◌∙◌, subst, Option, Some, None, length, true, false, inl, inr}
+use Rattle.std.proofs.Common.{append_assoc, arith}
 use Rattle.std.specs.Prelude.{Bool, ◌≤◌}
 use Rattle.std.specs.Io.KnownBytes.{Appends, Consumes, IsAtEnd}
 use Rattle.std.proofs.lemmas.List.{append-nil, length-append, length-take}
@@ -11,7 +12,8 @@ use Rattle.cdi_devices.specs.Devices.{Gives, ReadFails}
 use Rattle.cdi_lines.specs.Kept.{ServesLine}
 use Rattle.cdi_container.specs.History.{empty}
 use Rattle.cdi_container.specs.Intake.{IsFresh, ServesMode}
-use Rattle.cdi_container.specs.Run.{WroteAll, AreFirst, AnswersFirst, RunsOutOfMemory, FailsToWrite, FailsToRead, RunsScript, Goes, Feeds, FeedsBeforeMemory, FeedsPart, Ends, EndsBeforeMemory, EndsPart}
+use Rattle.cdi_container.specs.Run.{WroteAll, AreFirst, AnswersFirst, RunsOutOfMemory, FailsToWrite, FailsToRead, RunsScript, Goes, Feeds}
+use Rattle.cdi_container.specs.Run.{FeedsBeforeMemory, FeedsPart, Ends, EndsBeforeMemory, EndsPart}
 use Rattle.cdi_devices.specs.declared.counted.Counted.{Counted}
 use Rattle.cdi_container.specs.declared.intake.Intake.{Intake}
 use Rattle.cdi_devices.proofs.Known.{Consumes-more}
@@ -39,11 +41,13 @@ wrote_nothing quiet known = record {
   written = Appends-none known;
 }
 
-module _ {R W : Type 0} (remaining : R → Option (List ℕ)) (contents : W → Option (List ℕ)) (limit piece : ℕ) (quiet : Bool) (r0 : Counted R) (w0 : Counted W) where
+module _ {R W : Type 0} (remaining : R → Option (List ℕ)) (contents : W → Option (List ℕ)) (limit piece : ℕ) (quiet : Bool) (r0 : Counted R)
+    (w0 : Counted W) where
   abbrev Goes-here : Counted R → Counted W → Intake → Type 0
   Goes-here r w s = Goes remaining contents limit quiet r0 w0 r w s
 
-  pub goes_first : (s : Intake) → IsFresh s → s.runner.quiet ≡ quiet → bytes_of r0 ≡ 0 → has_failed r0 ≡ false → has_failed w0 ≡ false → is_flushed w0 ≡ true → Goes remaining contents limit quiet r0 w0 r0 w0 s
+  pub goes_first : (s : Intake) → IsFresh s → s.runner.quiet ≡ quiet → bytes_of r0 ≡ 0 → has_failed r0 ≡ false → has_failed w0 ≡ false
+      → is_flushed w0 ≡ true → Goes remaining contents limit quiet r0 w0 r0 w0 s
   goes_first s f quiet_is count r_ok w_ok flushed = record {
     given = [];
     came = Consumes-none _;
@@ -70,21 +74,25 @@ module _ {R W : Type 0} (remaining : R → Option (List ℕ)) (contents : W → 
     flushed = flushed;
   }
 
-  pub goes_on : (r r' : Counted R) (w w' : Counted W) (s s' : Intake) (n : ℕ) (buffer : List ℕ) → Goes remaining contents limit quiet r0 w0 r w s → Gives remaining limit r r' n buffer
-      → Feeds contents s s' w w' (take n buffer) → has_failed w' ≡ has_failed w → is_flushed w' ≡ true → s'.runner.out.items ≡ [] → Goes remaining contents limit quiet r0 w0 r' w' s'
+  pub goes_on : (r r' : Counted R) (w w' : Counted W) (s s' : Intake) (n : ℕ) (buffer : List ℕ)
+      → Goes remaining contents limit quiet r0 w0 r w s → Gives remaining limit r r' n buffer
+      → Feeds contents s s' w w' (take n buffer) → has_failed w' ≡ has_failed w → is_flushed w' ≡ true → s'.runner.out.items ≡ []
+      → Goes remaining contents limit quiet r0 w0 r' w' s'
   goes_on r r' w w' s s' n buffer h g f still flushed out = record {
     given = h.given ++ take n buffer;
     came = Consumes-more _ _ _ h.given (take n buffer) h.came g.bytes;
     stands = f quiet (contents (inner_of w0)) h.given h.stands;
     out = out;
-    count = let e = h.count in let f = g.count in let b = g.bound in omega (arith, length-append h.given (take n buffer), length-take n buffer);
+    count = let e = h.count in let f = g.count in let b = g.bound in omega
+        (arith, length-append h.given (take n buffer), length-take n buffer);
     within = g.within;
     reader_still = g.still ∙ h.reader_still;
     writer_still = still ∙ h.writer_still;
     flushed = flushed;
   }
 
-  pub fails_to_read : (r r' : Counted R) (w : Counted W) (s : Intake) → Goes remaining contents limit quiet r0 w0 r w s → ReadFails remaining limit r r'
+  pub fails_to_read : (r r' : Counted R) (w : Counted W) (s : Intake) → Goes remaining contents limit quiet r0 w0 r w s
+      → ReadFails remaining limit r r'
       → FailsToRead remaining contents limit quiet r0 r' w0 w
   fails_to_read r r' w s h f = record {
     given = h.given;
@@ -95,12 +103,14 @@ module _ {R W : Type 0} (remaining : R → Option (List ℕ)) (contents : W → 
     wrote = printed_all quiet _ _ _ s.runner (complete_commands h.given) [] h.stands.printed (sym h.out) (Appends-none _);
   }
 
-  module _ (r r' : Counted R) (w w' : Counted W) (s : Intake) (h : Goes remaining contents limit quiet r0 w0 r w s) (n : ℕ) (buffer : List ℕ) (g : Gives remaining limit r r' n buffer) where
+  module _ (r r' : Counted R) (w w' : Counted W) (s : Intake) (h : Goes remaining contents limit quiet r0 w0 r w s) (n : ℕ)
+      (buffer : List ℕ) (g : Gives remaining limit r r' n buffer) where
     came : Consumes (remaining (inner_of r0)) (remaining (inner_of r')) (h.given ++ take n buffer)
     came = Consumes-more _ _ _ h.given (take n buffer) h.came g.bytes
 
     count : bytes_of r' ≡ length (h.given ++ take n buffer)
-    count = let e = h.count in let f = g.count in let b = g.bound in omega (arith, length-append h.given (take n buffer), length-take n buffer)
+    count = let e = h.count in let f = g.count in let b = g.bound in omega
+        (arith, length-append h.given (take n buffer), length-take n buffer)
 
     none_came : n ≡ 0 → h.given ++ take n buffer ≡ h.given
     none_came none = ap (λ k. h.given ++ take k buffer) none ∙ append-nil h.given
@@ -116,7 +126,8 @@ module _ {R W : Type 0} (remaining : R → Option (List ℕ)) (contents : W → 
     }
 
     -- at the end these commands were answered, all that were complete before among them
-    at_end : n ≡ 0 → (first : List Command) → AreFirst (complete_commands h.given) first → AreFirst first (commands h.given) → AnswersFirst remaining limit piece r0 r' first
+    at_end : n ≡ 0 → (first : List Command) → AreFirst (complete_commands h.given) first → AreFirst first (commands h.given)
+        → AnswersFirst remaining limit piece r0 r' first
     at_end none first before within = record {
       given = h.given;
       last = [];
@@ -129,14 +140,17 @@ module _ {R W : Type 0} (remaining : R → Option (List ℕ)) (contents : W → 
     }
 
     pub ends_in_memory : n ≡ 0 → EndsBeforeMemory contents s w w' → RunsOutOfMemory remaining contents limit piece quiet r0 r' w0 w'
-    ends_in_memory none e = let end = e quiet (contents (inner_of w0)) h.given h.stands in record { first = end.0; answers = at_end none end.0 end.1 end.2; wrote = end.3 }
+    ends_in_memory none e = let end = e quiet (contents (inner_of w0)) h.given h.stands in
+        record { first = end.0; answers = at_end none end.0 end.1 end.2; wrote = end.3 }
 
     pub ends_in_write : n ≡ 0 → EndsPart contents s w w' → FailsToWrite remaining contents limit piece quiet r0 r' w0 w'
-    ends_in_write none e = let end = e quiet (contents (inner_of w0)) h.given h.stands in record { first = end.0; answers = at_end none end.0 end.1 end.2; wrote = end.3 }
+    ends_in_write none e = let end = e quiet (contents (inner_of w0)) h.given h.stands in
+        record { first = end.0; answers = at_end none end.0 end.1 end.2; wrote = end.3 }
 
     module _ (room : length buffer ≤ piece) where
       -- what a front part of the last bytes completed was answered
-      answered : (done rest : List ℕ) → take n buffer ≡ done ++ rest → AnswersFirst remaining limit piece r0 r' (complete_commands (h.given ++ done))
+      answered : (done rest : List ℕ) → take n buffer ≡ done ++ rest
+          → AnswersFirst remaining limit piece r0 r' (complete_commands (h.given ++ done))
       answered done rest cut = record {
         given = h.given;
         last = take n buffer;
@@ -145,14 +159,26 @@ module _ {R W : Type 0} (remaining : R → Option (List ℕ)) (contents : W → 
         within = let a = count in let b = g.within in omega arith;
         last_read = let b = g.bound in omega (arith, length-take n buffer);
         all_before = first_complete h.given done;
-        none_behind = inl (subst (λ l. AreFirst (complete_commands (h.given ++ done)) (complete_commands l)) (append_assoc h.given done rest ∙ ap (λ l. h.given ++ l) (sym cut)) (first_complete (h.given ++ done) rest));
+        none_behind = inl (subst (λ l. AreFirst (complete_commands (h.given ++ done)) (complete_commands l))
+            (append_assoc h.given done rest ∙ ap (λ l. h.given ++ l) (sym cut)) (first_complete (h.given ++ done) rest));
       }
 
-      pub feeds_to_memory : FeedsBeforeMemory contents s w w' (take n buffer) → RunsOutOfMemory remaining contents limit piece quiet r0 r' w0 w'
-      feeds_to_memory e = record { first = complete_commands (h.given ++ e.0); answers = answered e.0 e.1 e.2; wrote = e.3 quiet (contents (inner_of w0)) h.given h.stands }
+      pub feeds_to_memory : FeedsBeforeMemory contents s w w' (take n buffer)
+          → RunsOutOfMemory remaining contents limit piece quiet r0 r' w0 w'
+      feeds_to_memory e = record {
+        first = complete_commands (h.given ++ e.0);
+        answers = answered e.0 e.1 e.2;
+        wrote = e.3 quiet
+            (contents (inner_of w0)) h.given h.stands;
+      }
 
       pub feeds_to_write : FeedsPart contents s w w' (take n buffer) → FailsToWrite remaining contents limit piece quiet r0 r' w0 w'
-      feeds_to_write e = record { first = complete_commands (h.given ++ e.0); answers = answered e.0 e.1 e.2; wrote = e.3 quiet (contents (inner_of w0)) h.given h.stands }
+      feeds_to_write e = record {
+        first = complete_commands (h.given ++ e.0);
+        answers = answered e.0 e.1 e.2;
+        wrote = e.3 quiet
+            (contents (inner_of w0)) h.given h.stands;
+      }
 
   -- want of memory before anything was read
   pub out_of_memory_first : bytes_of r0 ≡ 0 → RunsOutOfMemory remaining contents limit piece quiet r0 r0 w0 w0

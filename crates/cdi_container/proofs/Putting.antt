@@ -31,9 +31,12 @@ refused ds edit r h = by (refusal_of_edit ds edit) refl
     by None e = absurd (let no : Ok tt ≡ Err r = rw e at h in cc)
     by (Some s) e = e ∙ (let same : Err s ≡ Err r = rw e at h in cc)
 
-pub put_step : (ds es : List Decl) (text : List ℕ) (d : Decl) (result : Result (Unit {0}) Error) → decl_of text ≡ Ok d → Answers result (answer_of_edit ds (PutEdit d))
-    → OnOk result (es ≡ edited ds (PutEdit d)) → OnErr result (es ≡ ds) → LegalAnswer (holding ds) (Put text) (edit_answer result) [] (holding es)
+pub put_step : (ds es : List Decl) (text : List ℕ) (d : Decl) (result : Result (Unit {0}) Error) → decl_of text ≡ Ok d
+    → Answers result (answer_of_edit ds (PutEdit d))
+    → OnOk result (es ≡ edited ds (PutEdit d)) → OnErr result (es ≡ ds)
+    → LegalAnswer (holding ds) (Put text) (edit_answer result) [] (holding es)
 put_step ds es text d (Ok u) read answer ok err =
     (ap (refusal_of_put ds) read ∙ accepted ds (PutEdit d) u answer, (refl, ap holding ok ∙ sym (ap (with_put (holding ds)) read)))
 put_step ds es text d (Err errors.OutOfMemory) read answer ok err = (refl, ap holding err)
-put_step ds es text d (Err (errors.Refused r)) read answer ok err = (ap (refusal_of_put ds) read ∙ refused ds (PutEdit d) r answer, refl, ap holding err)
+put_step ds es text d (Err (errors.Refused r)) read answer ok err =
+    (ap (refusal_of_put ds) read ∙ refused ds (PutEdit d) r answer, refl, ap holding err)

@@ -14,7 +14,8 @@ no_trace : (quiet : Bool) → text_of_trace quiet [] ≡ []
 no_trace true = refl
 no_trace false = refl
 
-pub ran : (old new : Runner) (container : Container) (command : Command) (answer : Answer) → IsStep old.container command (Ok answer) container → Prints (record old { container = container }) new answer
+pub ran : (old new : Runner) (container : Container) (command : Command) (answer : Answer)
+    → IsStep old.container command (Ok answer) container → Prints (record old { container = container }) new answer
     → RunsStep old new command
 ran old new container command answer step prints = record {
   step = record { command = command; answer = Ok answer; trace = [] };

@@ -51,7 +51,8 @@ runs_more a b c xs ys r s = record {
   commands_are = map-append (λ step. step.command) r.history s.history ∙ cc_append _ _ _ _ r.commands_are s.commands_are;
   memory = list_any-append (λ step. is_out_of_memory step.answer) r.history s.history ∙ cc_or _ _ _ _ r.memory s.memory;
   legal = LegalHistory-append _ _ _ r.history s.history r.legal s.legal;
-  text = s.text ∙ cc_append _ _ _ _ r.text (ap (λ q. text_of q s.history) r.quiet) ∙ append_assoc a.out.items (text_of a.quiet r.history) (text_of a.quiet s.history)
+  text = s.text ∙ cc_append _ _ _ _ r.text (ap (λ q. text_of q s.history) r.quiet)
+      ∙ append_assoc a.out.items (text_of a.quiet r.history) (text_of a.quiet s.history)
       ∙ ap (λ l. a.out.items ++ l) (sym (flat_map-append (text_of_step a.quiet) r.history s.history));
   refused = s.refused ∙ ap (λ q. q || list_any (λ step. is_refused step.answer) s.history) r.refused
       ∙ or_assoc a.refused (list_any (λ step. is_refused step.answer) r.history) (list_any (λ step. is_refused step.answer) s.history)

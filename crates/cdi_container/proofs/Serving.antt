@@ -1,5 +1,6 @@
 -- What is kept of a line or a put block does what all of it would do.
-use Rattle.std.proofs.Common.{◌≡◌, ℕ, ◌+◌, ◌<◌, ◌≤◌, List, [], ◌∷◌, ◌++◌, length, refl, ap, sym, ◌∙◌, subst, Some, None, false, inl, inr, append_assoc, arith}
+use Rattle.std.proofs.Common.{◌≡◌, ℕ, ◌+◌, ◌<◌, ◌≤◌, List, [], ◌∷◌, ◌++◌, length, refl, ap, sym, ◌∙◌, subst, Some, None, false, inl, inr}
+use Rattle.std.proofs.Common.{append_assoc, arith}
 use Rattle.std.proofs.Math.Bool.{and-false}
 use Rattle.std.specs.Prelude.{◌==◌, codes, Result, Ok, Err}
 use Rattle.std.specs.Str.{bytes_eq}
@@ -27,7 +28,8 @@ pub serves_outside : (mode : Mode) → ServesMode Outside mode → mode ≡ Outs
 serves_outside Outside h = refl
 serves_outside (InPut text) h = absurd h
 
-pub serves_in_put : (kept : List ℕ) (mode : Mode) → ServesMode (InPut kept) mode → (text : List ℕ) × (mode ≡ InPut text) × ServesText kept text
+pub serves_in_put : (kept : List ℕ) (mode : Mode) → ServesMode (InPut kept) mode
+    → (text : List ℕ) × (mode ≡ InPut text) × ServesText kept text
 serves_in_put kept Outside h = absurd h
 serves_in_put kept (InPut text) h = (text, refl, h)
 
@@ -56,7 +58,8 @@ too_long state text long =
     ap (refusal_of_put state.decls) refused
 
 -- two texts that are too long are refused alike
-put_alike : (old new : State) (kept text : List ℕ) (answer : Result Answer AllocError) (trace : List Entry) → 65536 < length kept → 65536 < length text → is_out_of_memory answer ≡ false
+put_alike : (old new : State) (kept text : List ℕ) (answer : Result Answer AllocError) (trace : List Entry) → 65536 < length kept
+    → 65536 < length text → is_out_of_memory answer ≡ false
     → LegalAnswer old (Put kept) answer trace new → LegalAnswer old (Put text) answer trace new
 put_alike old new kept text (Ok Done) trace k t memory h = absurd (let e : Some TooLong ≡ None = sym (too_long old kept k) ∙ h.0 in cc)
 put_alike old new kept text (Ok (Chosen choice)) trace k t memory h = absurd h.1
@@ -84,7 +87,8 @@ still_longer : (text line end : List ℕ) → 65536 < length text → 65536 < le
 still_longer text line end h = let a = length-append (text ++ line) end in let b = length-append text line in omega arith
 
 -- a line more on both sides
-pub serves_with_line : (kept_text text kept line : List ℕ) → ServesText kept_text text → ServesLine kept line → ServesText (with_line kept_text kept) (with_line text line)
+pub serves_with_line : (kept_text text kept line : List ℕ) → ServesText kept_text text → ServesLine kept line
+    → ServesText (with_line kept_text kept) (with_line text line)
 serves_with_line kept_text text kept line (inl h) (inl k) = inl (let e : with_line kept_text kept ≡ with_line text line = cc in e)
 serves_with_line kept_text text kept line (inl h) (inr k) = inr (
   longer kept_text (without_return kept) (let a = length-without_return kept in let b = k.kept_long in omega arith),
@@ -103,13 +107,15 @@ serves_more kept line piece (inl h) = inl (ap (λ l. l ++ piece) h)
 serves_more kept line piece (inr h) = inr (record {
   kept_long = let a = length-append kept piece in let b = h.kept_long in omega arith;
   line_long = let a = length-append line piece in let b = h.line_long in omega arith;
-  alike = λ more. ap said_of_line (append_assoc kept piece more) ∙ h.alike (piece ++ more) ∙ ap said_of_line (sym (append_assoc line piece more));
+  alike = λ more. ap said_of_line (append_assoc kept piece more) ∙ h.alike (piece ++ more)
+      ∙ ap said_of_line (sym (append_assoc line piece more));
 })
 
 pub serves_serving : (a b c : List ℕ) → ServesLine a b → ServesLine b c → ServesLine a c
 serves_serving a b c h (inl k) = subst (ServesLine a) k h
 serves_serving a b c (inl h) (inr k) = subst (λ l. ServesLine l c) (sym h) (inr k)
-serves_serving a b c (inr h) (inr k) = inr (record { kept_long = h.kept_long; line_long = k.line_long; alike = λ more. h.alike more ∙ k.alike more })
+serves_serving a b c (inr h) (inr k) = inr
+    (record { kept_long = h.kept_long; line_long = k.line_long; alike = λ more. h.alike more ∙ k.alike more })
 
 pub serves_itself : (line : List ℕ) → ServesLine line line
 serves_itself line = inl refl
@@ -120,4 +126,5 @@ serves_nothing line (inr h) = let b = h.kept_long in absurd (omega arith)
 
 pub serves_started : (kept line : List ℕ) → ServesLine kept line → (kept ≡ [] → ⊥) → line ≡ [] → ⊥
 serves_started kept line (inl h) some none = some (h ∙ none)
-serves_started kept line (inr h) some none = let b : 65540 ≤ length line = h.line_long in let z : length line ≡ 0 = ap length none in omega arith
+serves_started kept line (inr h) some none = let b : 65540 ≤ length line = h.line_long in let z : length line
+    ≡ 0 = ap length none in omega arith

@@ -14,13 +14,16 @@ use Rattle.cdi_container.specs.Runner.{Runs, RunsStep}
 use Rattle.cdi_container.specs.Intake.{ServesMode, TakesLine, TakesSaid, TakesInPut, Advances, EndsLastLine, EndsMode, mode_seen}
 use Rattle.cdi_container.specs.declared.intake.Intake.{Intake}
 use Rattle.cdi_container.proofs.Runs.{runs_none, runs_one}
-use Rattle.cdi_container.proofs.Serving.{serves_outside, serves_in_put, serves_mode_itself, serves_command, serves_dot, serves_put, serves_with_line, serves_serving_text, serves_serving, serves_more, serves_itself, serves_nothing, serves_started}
+use Rattle.cdi_container.proofs.Serving.{serves_outside, serves_in_put, serves_mode_itself, serves_command, serves_dot, serves_put}
+use Rattle.cdi_container.proofs.Serving.{serves_with_line, serves_serving_text, serves_serving, serves_more, serves_itself, serves_nothing}
+use Rattle.cdi_container.proofs.Serving.{serves_started}
 
 serves_as : (seen kept mode is : Mode) → seen ≡ kept → mode ≡ is → ServesMode kept is → ServesMode seen mode
 serves_as seen kept mode is e f h = subst (λ b. ServesMode b mode) (sym e) (subst (λ b. ServesMode kept b) (sym f) h)
 
 -- a line outside a put block that says this was taken
-pub takes_said : (old new : Intake) (kept : List ℕ) (said : Result Said Refusal) → mode_seen old.mode ≡ Outside → said_of_line kept ≡ said → TakesSaid old new said → TakesLine old new kept
+pub takes_said : (old new : Intake) (kept : List ℕ) (said : Result Said Refusal) → mode_seen old.mode ≡ Outside → said_of_line kept ≡ said
+    → TakesSaid old new said → TakesLine old new kept
 takes_said old new kept said outside is h = record {
   line = h.line;
   runs = λ was whole sm sl.
@@ -30,36 +33,43 @@ takes_said old new kept said outside is h = record {
   mode = λ was whole sm sl.
       let says : mode_after was whole ≡ mode_said said =
       ap (λ m. mode_after m whole) (stood was sm) ∙ ap mode_said (sym (serves_command kept whole sl) ∙ is) in
-      serves_as (mode_seen new.mode) (mode_said said) (mode_after was whole) (mode_said said) h.mode says (serves_mode_itself (mode_said said));
+      serves_as (mode_seen new.mode) (mode_said said) (mode_after was whole) (mode_said said) h.mode says
+      (serves_mode_itself (mode_said said));
 }
   where
     stood : (was : Mode) → ServesMode (mode_seen old.mode) was → was ≡ Outside
     stood was sm = serves_outside was (subst (λ m. ServesMode m was) outside sm)
 
 -- one command of a line outside a put block was run
-pub takes_one : (old new : Intake) (command : Command) (said is : Said) → said ≡ is → mode_seen old.mode ≡ Outside → new.line ≡ old.line → new.mode ≡ old.mode
-    → commands_said (Ok is) ≡ command ∷ [] → mode_said (Ok is) ≡ Outside → RunsStep old.runner new.runner command → TakesSaid old new (Ok said)
+pub takes_one : (old new : Intake) (command : Command) (said is : Said) → said ≡ is → mode_seen old.mode ≡ Outside → new.line ≡ old.line
+    → new.mode ≡ old.mode
+    → commands_said (Ok is) ≡ command ∷ [] → mode_said (Ok is) ≡ Outside → RunsStep old.runner new.runner command
+    → TakesSaid old new (Ok said)
 takes_one old new command said is e outside line mode commands stays step = record {
   line = line;
-  runs = subst (Runs old.runner new.runner) (sym (ap (λ s. commands_said (Ok s)) e ∙ commands)) (runs_one old.runner new.runner command step);
+  runs = subst (Runs old.runner new.runner) (sym (ap (λ s. commands_said (Ok s)) e ∙ commands))
+      (runs_one old.runner new.runner command step);
   mode = ap mode_seen mode ∙ outside ∙ sym (ap (λ s. mode_said (Ok s)) e ∙ stays);
 }
 
 -- ---- in a put block
 
 module _ (old new : Intake) (kept_text kept : List ℕ) (line : new.line ≡ old.line) where
-  pub takes_put : mode_seen new.mode ≡ Outside → is_dot kept ≡ true → RunsStep old.runner new.runner (Put kept_text) → TakesInPut old new kept_text kept
+  pub takes_put : mode_seen new.mode ≡ Outside → is_dot kept ≡ true → RunsStep old.runner new.runner (Put kept_text)
+      → TakesInPut old new kept_text kept
   takes_put closed dot step = record {
     line = line;
     runs = λ text whole st sl.
         let says : commands_of_line (InPut text) whole ≡ Put text ∷ [] = rw (← serves_dot kept whole sl, dot) refl in
-        subst (Runs old.runner new.runner) (sym says) (runs_one old.runner new.runner (Put text) (serves_put old.runner new.runner kept_text text st step));
+        subst (Runs old.runner new.runner) (sym says)
+        (runs_one old.runner new.runner (Put text) (serves_put old.runner new.runner kept_text text st step));
     mode = λ text whole st sl.
         let says : mode_after (InPut text) whole ≡ Outside = rw (← serves_dot kept whole sl, dot) refl in
         serves_as (mode_seen new.mode) Outside (mode_after (InPut text) whole) Outside closed says tt;
   }
 
-  pub takes_text : (longer : List ℕ) → ServesText longer (with_line kept_text kept) → mode_seen new.mode ≡ InPut longer → is_dot kept ≡ false → new.runner ≡ old.runner → TakesInPut old new kept_text kept
+  pub takes_text : (longer : List ℕ) → ServesText longer (with_line kept_text kept) → mode_seen new.mode ≡ InPut longer
+      → is_dot kept ≡ false → new.runner ≡ old.runner → TakesInPut old new kept_text kept
   takes_text longer adds is dot same = record {
     line = line;
     runs = λ text whole st sl.
@@ -68,27 +78,32 @@ module _ (old new : Intake) (kept_text kept : List ℕ) (line : new.line ≡ old
     mode = λ text whole st sl.
         let says : mode_after (InPut text) whole ≡ InPut (with_line text whole) = rw (← serves_dot kept whole sl, dot) refl in
         serves_as (mode_seen new.mode) (InPut longer) (mode_after (InPut text) whole) (InPut (with_line text whole)) is says
-        (serves_serving_text longer (with_line kept_text kept) (with_line text whole) adds (serves_with_line kept_text text kept whole st sl));
+        (serves_serving_text longer (with_line kept_text kept) (with_line text whole) adds
+        (serves_with_line kept_text text kept whole st sl));
   }
 
 -- a line of the put block that was open
-pub takes_in_put : (old mid new : Intake) (kept_text kept : List ℕ) → mode_seen old.mode ≡ InPut kept_text → mid.runner ≡ old.runner → mid.line ≡ old.line
+pub takes_in_put : (old mid new : Intake) (kept_text kept : List ℕ) → mode_seen old.mode ≡ InPut kept_text → mid.runner ≡ old.runner
+    → mid.line ≡ old.line
     → TakesInPut mid new kept_text kept → TakesLine old new kept
 takes_in_put old mid new kept_text kept open_ same line h = record {
   line = h.line ∙ line;
   runs = λ mode whole sm sl.
       let is = serves_in_put kept_text mode (subst (λ m. ServesMode m mode) open_ sm) in
-      subst (λ m. Runs old.runner new.runner (commands_of_line m whole)) (sym is.1) (subst (λ r. Runs r new.runner (commands_of_line (InPut is.0) whole)) same (h.runs is.0 whole is.2 sl));
+      subst (λ m. Runs old.runner new.runner (commands_of_line m whole)) (sym is.1)
+      (subst (λ r. Runs r new.runner (commands_of_line (InPut is.0) whole)) same (h.runs is.0 whole is.2 sl));
   mode = λ mode whole sm sl.
       let is = serves_in_put kept_text mode (subst (λ m. ServesMode m mode) open_ sm) in
       subst (λ m. ServesMode (mode_seen new.mode) (mode_after m whole)) (sym is.1) (h.mode is.0 whole is.2 sl);
 }
 
 -- a line outside a put block was taken, by an intake that differs from the old one in nothing
-pub takes_outside : (old mid new : Intake) (kept : List ℕ) → mode_seen mid.mode ≡ mode_seen old.mode → mid.runner ≡ old.runner → mid.line ≡ old.line → TakesLine mid new kept → TakesLine old new kept
+pub takes_outside : (old mid new : Intake) (kept : List ℕ) → mode_seen mid.mode ≡ mode_seen old.mode → mid.runner ≡ old.runner
+    → mid.line ≡ old.line → TakesLine mid new kept → TakesLine old new kept
 takes_outside old mid new kept mode same line h = record {
   line = h.line ∙ line;
-  runs = λ was whole sm sl. subst (λ r. Runs r new.runner (commands_of_line was whole)) same (h.runs was whole (subst (λ m. ServesMode m was) (sym mode) sm) sl);
+  runs = λ was whole sm sl. subst (λ r. Runs r new.runner (commands_of_line was whole)) same
+      (h.runs was whole (subst (λ m. ServesMode m was) (sym mode) sm) sl);
   mode = λ was whole sm sl. h.mode was whole (subst (λ m. ServesMode m was) (sym mode) sm) sl;
 }
 
@@ -110,7 +125,8 @@ pub begun_from-feed : (begun xs : List ℕ) → NoFeed xs → begun_from begun (
 begun_from-feed begun [] h = refl
 begun_from-feed begun (x ∷ xs) h = rw h.0 (begun_from-feed (begun ++ x ∷ []) xs h.1)
 
-pub begins : (old new : Intake) (piece : List ℕ) → NoFeed piece → ServesLine new.line (old.line ++ piece) → new.runner ≡ old.runner → mode_seen new.mode ≡ mode_seen old.mode → Advances old new piece
+pub begins : (old new : Intake) (piece : List ℕ) → NoFeed piece → ServesLine new.line (old.line ++ piece) → new.runner ≡ old.runner
+    → mode_seen new.mode ≡ mode_seen old.mode → Advances old new piece
 begins old new piece no_feed kept same stays = record {
   runs = λ mode line k. rw (ended_from-no_feed line piece no_feed) (subst (λ r. Runs old.runner r []) (sym same) (runs_none old.runner));
   keeps = λ mode line k. rw (ended_from-no_feed line piece no_feed, begun_from-no_feed line piece no_feed) (record {
@@ -119,17 +135,20 @@ begins old new piece no_feed kept same stays = record {
   });
 }
 
-pub ends : (old mid new : Intake) (piece kept : List ℕ) → NoFeed piece → ServesLine kept (old.line ++ piece) → mid.runner ≡ old.runner → mode_seen mid.mode ≡ mode_seen old.mode → mid.line ≡ []
+pub ends : (old mid new : Intake) (piece kept : List ℕ) → NoFeed piece → ServesLine kept (old.line ++ piece) → mid.runner ≡ old.runner
+    → mode_seen mid.mode ≡ mode_seen old.mode → mid.line ≡ []
     → TakesLine mid new kept → Advances old new (piece ++ 10 ∷ [])
 ends old mid new piece kept no_feed is same stays none h = record {
   runs = λ mode line k.
       let sm : ServesMode (mode_seen mid.mode) mode = subst (λ m. ServesMode m mode) (sym stays) k.mode_serves in
-      let sl : ServesLine kept (line ++ piece) = serves_serving kept (old.line ++ piece) (line ++ piece) is (serves_more old.line line piece k.line_serves) in
+      let sl : ServesLine kept (line ++ piece) = serves_serving kept (old.line ++ piece) (line ++ piece) is
+      (serves_more old.line line piece k.line_serves) in
       rw (ended_from-feed line piece no_feed, append-nil (commands_of_line mode (line ++ piece)))
       (subst (λ r. Runs r new.runner (commands_of_line mode (line ++ piece))) same (h.runs mode (line ++ piece) sm sl));
   keeps = λ mode line k.
       let sm : ServesMode (mode_seen mid.mode) mode = subst (λ m. ServesMode m mode) (sym stays) k.mode_serves in
-      let sl : ServesLine kept (line ++ piece) = serves_serving kept (old.line ++ piece) (line ++ piece) is (serves_more old.line line piece k.line_serves) in
+      let sl : ServesLine kept (line ++ piece) = serves_serving kept (old.line ++ piece) (line ++ piece) is
+      (serves_more old.line line piece k.line_serves) in
       rw (ended_from-feed line piece no_feed, begun_from-feed line piece no_feed) (record {
         line_serves = subst (λ l. ServesLine l []) (sym (h.line ∙ none)) (serves_itself []);
         mode_serves = h.mode mode (line ++ piece) sm sl;
@@ -156,7 +175,8 @@ ends_none s none = record {
       rw is k.mode_serves;
 }
 
-pub refuses_put : (old new : Intake) (kept : List ℕ) → mode_seen old.mode ≡ InPut kept → RunsStep old.runner new.runner Unreadable → EndsMode old new
+pub refuses_put : (old new : Intake) (kept : List ℕ) → mode_seen old.mode ≡ InPut kept → RunsStep old.runner new.runner Unreadable
+    → EndsMode old new
 refuses_put old new kept open_ step mode sm =
     let is = serves_in_put kept mode (subst (λ m. ServesMode m mode) open_ sm) in
     rw is.1 (runs_one old.runner new.runner Unreadable step)

@@ -4,7 +4,8 @@ use Rattle.cdi_model.specs.declared.refusal.Refusal.{Refusal}
 use Rattle.cdi_lines.specs.declared.command.Said.{Said}
 use Rattle.cdi_lines.specs.Lines.{ended_from, begun_from, last_line}
 use Rattle.cdi_lines.specs.Kept.{ServesLine, ServesText}
-use Rattle.cdi_container.specs.Commands.{Mode, Outside, InPut, commands_said, mode_said, commands_of_line, mode_after, commands_of_lines, mode_of_lines, unclosed}
+use Rattle.cdi_container.specs.Commands.{Mode, Outside, InPut, commands_said, mode_said, commands_of_line, mode_after, commands_of_lines}
+use Rattle.cdi_container.specs.Commands.{mode_of_lines, unclosed}
 use Rattle.cdi_container.specs.History.{empty}
 use Rattle.cdi_container.specs.Seen.{state_of}
 use Rattle.cdi_container.specs.Runner.{Runs}
@@ -31,8 +32,10 @@ pub record Keeps (s : Intake) (mode : Mode) (line : List ℕ) : Type 0 where
 -- a complete line was taken
 pub record TakesLine (old new : Intake) (kept : List ℕ) : Type 0 where
   pub line : new.line ≡ old.line
-  pub runs : (mode : Mode) (line : List ℕ) → ServesMode (mode_seen old.mode) mode → ServesLine kept line → Runs old.runner new.runner (commands_of_line mode line)
-  pub mode : (mode : Mode) (line : List ℕ) → ServesMode (mode_seen old.mode) mode → ServesLine kept line → ServesMode (mode_seen new.mode) (mode_after mode line)
+  pub runs : (mode : Mode) (line : List ℕ) → ServesMode (mode_seen old.mode) mode → ServesLine kept line
+      → Runs old.runner new.runner (commands_of_line mode line)
+  pub mode : (mode : Mode) (line : List ℕ) → ServesMode (mode_seen old.mode) mode → ServesLine kept line
+      → ServesMode (mode_seen new.mode) (mode_after mode line)
 
 -- what a line outside a put block says was taken
 pub record TakesSaid (old new : Intake) (said : Result Said Refusal) : Type 0 where
@@ -42,8 +45,10 @@ pub record TakesSaid (old new : Intake) (said : Result Said Refusal) : Type 0 wh
 
 -- these bytes were taken
 pub record Advances (old new : Intake) (bytes : List ℕ) : Type 0 where
-  pub runs : (mode : Mode) (line : List ℕ) → Keeps old mode line → Runs old.runner new.runner (commands_of_lines mode (ended_from line bytes))
-  pub keeps : (mode : Mode) (line : List ℕ) → Keeps old mode line → Keeps new (mode_of_lines mode (ended_from line bytes)) (begun_from line bytes)
+  pub runs : (mode : Mode) (line : List ℕ) → Keeps old mode line
+      → Runs old.runner new.runner (commands_of_lines mode (ended_from line bytes))
+  pub keeps : (mode : Mode) (line : List ℕ) → Keeps old mode line
+      → Keeps new (mode_of_lines mode (ended_from line bytes)) (begun_from line bytes)
 
 -- the end of input was taken for the end of a line
 pub record EndsLastLine (old new : Intake) : Type 0 where
@@ -57,8 +62,10 @@ EndsMode old new = (mode : Mode) → ServesMode (mode_seen old.mode) mode → Ru
 -- a complete line of a put block with this text was taken
 pub record TakesInPut (old new : Intake) (kept_text kept : List ℕ) : Type 0 where
   pub line : new.line ≡ old.line
-  pub runs : (text line : List ℕ) → ServesText kept_text text → ServesLine kept line → Runs old.runner new.runner (commands_of_line (InPut text) line)
-  pub mode : (text line : List ℕ) → ServesText kept_text text → ServesLine kept line → ServesMode (mode_seen new.mode) (mode_after (InPut text) line)
+  pub runs : (text line : List ℕ) → ServesText kept_text text → ServesLine kept line
+      → Runs old.runner new.runner (commands_of_line (InPut text) line)
+  pub mode : (text line : List ℕ) → ServesText kept_text text → ServesLine kept line
+      → ServesMode (mode_seen new.mode) (mode_after (InPut text) line)
 
 -- nothing was taken yet
 pub record IsFresh (s : Intake) : Type 0 where

@@ -5,6 +5,7 @@ pub mod Text
 pub mod Runner
 pub mod Intake
 pub mod Run
+pub use Rattle.cdi_model.specs.Bytes
 pub use Rattle.cdi_model.specs.Edits
 pub use Rattle.cdi_model.specs.DeclList
 pub use Rattle.cdi_lines.specs.Lines

@@ -49,7 +49,8 @@ pub record RunsWhole (quiet : Bool) (start now : Option (List ℕ)) (commands : 
 abbrev pub AreFirst : List Command → List Command → Type 0
 AreFirst first all = (later : List Command) × (all ≡ first ++ later)
 
--- what came of a script, and the commands that were answered: all that were complete before the last read, which gave at most so many bytes, and
+-- what came of a script, and the commands that were answered: all that were complete before the last read, which gave at most so many
+-- bytes, and
 -- then maybe some of those that the last read or the end of input completed
 module _ {R : Type 0} (remaining : R → Option (List ℕ)) (limit piece : ℕ) where
   pub record AnswersFirst (reader reader_after : Counted R) (first : List Command) : Type 0 where
@@ -60,7 +61,8 @@ module _ {R : Type 0} (remaining : R → Option (List ℕ)) (limit piece : ℕ) 
     pub within : length (given ++ last) ≤ limit
     pub last_read : length last ≤ piece
     pub all_before : AreFirst (complete_commands given) first
-    pub none_behind : AreFirst first (complete_commands (given ++ last)) ⊎ (IsAtEnd (remaining (inner_of reader_after)) × AreFirst first (commands (given ++ last)))
+    pub none_behind : AreFirst first (complete_commands (given ++ last))
+        ⊎ (IsAtEnd (remaining (inner_of reader_after)) × AreFirst first (commands (given ++ last)))
 
 module _ {R W : Type 0} (remaining : R → Option (List ℕ)) (contents : W → Option (List ℕ)) (limit : ℕ) (quiet : Bool) where
   -- some input came to its end, at most as many bytes as the limit, and the text of a legal history of its commands was written
@@ -72,7 +74,8 @@ module _ {R W : Type 0} (remaining : R → Option (List ℕ)) (contents : W → 
     pub within : length input ≤ limit
     pub runs : RunsWhole quiet (contents (inner_of writer)) (contents (inner_of writer_after)) (commands input) refused
 
-  -- some input came, at most as many bytes as the limit and then at most one behind it, and the text of the commands whose lines were complete was written
+  -- some input came, at most as many bytes as the limit and then at most one behind it, and the text of the commands whose lines were
+  -- complete was written
   pub record FailsToRead (reader reader_after : Counted R) (writer writer_after : Counted W) : Type 0 where
     pub given : List ℕ
     pub extra : List ℕ
@@ -141,35 +144,43 @@ module _ {W : Type 0} (contents : W → Option (List ℕ)) where
 
   -- wherever the intake stood, it stands behind these bytes now
   abbrev pub Feeds : Intake → Intake → Counted W → Counted W → List ℕ → Type 0
-  Feeds old new before after bytes = (quiet : Bool) (start : Option (List ℕ)) (given : List ℕ) → Stands quiet start (contents_of before) old given
+  Feeds old new before after bytes = (quiet : Bool) (start : Option (List ℕ)) (given : List ℕ)
+      → Stands quiet start (contents_of before) old given
       → Stands quiet start (contents_of after) new (given ++ bytes)
 
   -- wherever the intake stood, a front part of these bytes was taken and the text of the commands so far was written
   abbrev pub FeedsBeforeMemory : Intake → Counted W → Counted W → List ℕ → Type 0
   FeedsBeforeMemory old before after bytes = (done : List ℕ) × (rest : List ℕ) × (bytes ≡ done ++ rest)
-      × ((quiet : Bool) (start : Option (List ℕ)) (given : List ℕ) → Stands quiet start (contents_of before) old given → WroteAll quiet start (contents_of after) (complete_commands (given ++ done)))
+      × ((quiet : Bool) (start : Option (List ℕ)) (given : List ℕ) → Stands quiet start (contents_of before) old given
+      → WroteAll quiet start (contents_of after) (complete_commands (given ++ done)))
 
   abbrev pub FeedsPart : Intake → Counted W → Counted W → List ℕ → Type 0
   FeedsPart old before after bytes = (done : List ℕ) × (rest : List ℕ) × (bytes ≡ done ++ rest)
-      × ((quiet : Bool) (start : Option (List ℕ)) (given : List ℕ) → Stands quiet start (contents_of before) old given → WrotePart quiet start (contents_of after) (complete_commands (given ++ done)))
+      × ((quiet : Bool) (start : Option (List ℕ)) (given : List ℕ) → Stands quiet start (contents_of before) old given
+      → WrotePart quiet start (contents_of after) (complete_commands (given ++ done)))
 
   -- the end of input was taken, and the text of all commands was written
   abbrev pub Ends : Intake → Counted W → Counted W → Bool → Type 0
-  Ends old before after refused = (quiet : Bool) (start : Option (List ℕ)) (given : List ℕ) → Stands quiet start (contents_of before) old given
+  Ends old before after refused = (quiet : Bool) (start : Option (List ℕ)) (given : List ℕ)
+      → Stands quiet start (contents_of before) old given
       → RunsWhole quiet start (contents_of after) (commands given) refused
 
   -- the end of input was taken, and the text of these commands was written, among them all that were complete before
   abbrev pub EndsBeforeMemory : Intake → Counted W → Counted W → Type 0
-  EndsBeforeMemory old before after = (quiet : Bool) (start : Option (List ℕ)) (given : List ℕ) → Stands quiet start (contents_of before) old given
-      → (first : List Command) × AreFirst (complete_commands given) first × AreFirst first (commands given) × WroteAll quiet start (contents_of after) first
+  EndsBeforeMemory old before after = (quiet : Bool) (start : Option (List ℕ)) (given : List ℕ)
+      → Stands quiet start (contents_of before) old given
+      → (first : List Command) × AreFirst (complete_commands given) first × AreFirst first (commands given)
+      × WroteAll quiet start (contents_of after) first
 
   abbrev pub EndsPart : Intake → Counted W → Counted W → Type 0
   EndsPart old before after = (quiet : Bool) (start : Option (List ℕ)) (given : List ℕ) → Stands quiet start (contents_of before) old given
-      → (first : List Command) × AreFirst (complete_commands given) first × AreFirst first (commands given) × WrotePart quiet start (contents_of after) first
+      → (first : List Command) × AreFirst (complete_commands given) first × AreFirst first (commands given)
+      × WrotePart quiet start (contents_of after) first
 
 module _ {R W : Type 0} (remaining : R → Option (List ℕ)) (contents : W → Option (List ℕ)) (limit : ℕ) where
   -- a run between two reads: what came so far was taken, and its text written
-  pub record Goes (quiet : Bool) (first_reader : Counted R) (first_writer : Counted W) (reader : Counted R) (writer : Counted W) (s : Intake) : Type 0 where
+  pub record Goes (quiet : Bool) (first_reader : Counted R) (first_writer : Counted W) (reader : Counted R) (writer : Counted W)
+      (s : Intake) : Type 0 where
     pub given : List ℕ
     pub came : Consumes (remaining (inner_of first_reader)) (remaining (inner_of reader)) given
     pub stands : Stands quiet (contents (inner_of first_writer)) (contents (inner_of writer)) s given

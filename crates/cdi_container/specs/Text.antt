@@ -1,11 +1,13 @@
 -- The text that steps print.
 use Rattle.std.specs.Prelude.{ℕ, Bool, true, false, List, [], ◌∷◌, ◌++◌, length, codes, decimal, flat_map, Result, Ok, Err, if◌then◌else◌}
 use Rattle.cdi_model.specs.declared.refusal.Refusal.{Refusal}
-use Rattle.cdi_model.specs.declared.refusal.Refusal.TheVariants.{TooLong, NotToml, UnknownKind, UnknownKey, MissingKey, WrongKind, BadName, Twice, ListTooLong, TooMany, Absent, BadCommand}
+use Rattle.cdi_model.specs.declared.refusal.Refusal.TheVariants.{TooLong, NotToml, UnknownKind, UnknownKey, MissingKey, WrongKind, BadName}
+use Rattle.cdi_model.specs.declared.refusal.Refusal.TheVariants.{Twice, ListTooLong, TooMany, Absent, BadCommand}
 use Rattle.cdi_resolve.specs.ChoiceText.{text_of_choice}
 use Rattle.cdi_validate.specs.declared.fault.Fault.{Fault}
 use Rattle.cdi_validate.specs.FaultText.{text_of_fault}
 use Rattle.std.specs.declared.alloc.AllocError.{AllocError}
+use Rattle.cdi_model.specs.Bytes.{feed}
 use Rattle.cdi_container.specs.declared.answer.Answer.{Answer}
 use Rattle.cdi_container.specs.declared.answer.Answer.TheVariants.{Done, Chosen, Reported, Refused}
 use Rattle.cdi_container.specs.History.{Entry, Step, History}
@@ -27,7 +29,7 @@ word_of BadCommand = codes "E20 BadCommand"
 
 -- each fault on a line of its own
 abbrev pub text_of_faults : List Fault → List ℕ
-text_of_faults list = flat_map (λ fault. 10 ∷ text_of_fault fault) list
+text_of_faults list = flat_map (λ fault. feed ∷ text_of_fault fault) list
 
 -- how many faults there are, and then each
 abbrev pub text_of_report : List Fault → List ℕ
@@ -42,7 +44,7 @@ words_of_answer (Refused refusal) = codes "refused " ++ word_of refusal
 
 -- want of memory ends a script and prints nothing
 abbrev pub text_of_answer : Result Answer AllocError → List ℕ
-text_of_answer (Ok answer) = words_of_answer answer ++ 10 ∷ []
+text_of_answer (Ok answer) = words_of_answer answer ++ feed ∷ []
 text_of_answer (Err error) = []
 
 abbrev pub text_of_entry : Entry → List ℕ

@@ -30,7 +30,8 @@ pub struct Container {
 
 impl Container {
     ghost use Rattle.cdi_container.specs.History.{empty};
-    ghost use Rattle.cdi_container.specs.Seen.{state_of, decls_of, answer_of_put, IsStep, PutStep, RemoveStep, ChooseStep, NamedStep, ReportStep};
+    ghost use Rattle.cdi_container.specs.Seen.{state_of, decls_of, answer_of_put, IsStep, PutStep, RemoveStep, ChooseStep, NamedStep};
+    ghost use Rattle.cdi_container.specs.Seen.{ReportStep};
 
     /// An empty container. It keeps the allocator, and takes no memory yet.
     #[tactic(auto, using(crate::proofs::HistoryLemmas::rests_on_accepted_edits))]

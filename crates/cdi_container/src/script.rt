@@ -3,7 +3,8 @@ ghost use Rattle.std.specs.Prelude.{◌≡◌, ◌≢◌, ◌≤◌, ◌<◌, �
 ghost use Rattle.std.specs.Io.KnownBytes.{Appends};
 ghost use Rattle.cdi_devices.specs.Devices.{WritesPart};
 ghost use Rattle.cdi_devices.specs.Counted.{inner_of, bytes_of, has_failed, is_flushed};
-ghost use Rattle.cdi_container.specs.Run.{Sends, SendsPart, SendsLast, Feeds, FeedsBeforeMemory, FeedsPart, Ends, EndsBeforeMemory, EndsPart, RunsScript, FailsToRead, RunsOutOfMemory, FailsToWrite};
+ghost use Rattle.cdi_container.specs.Run.{Sends, SendsPart, SendsLast, Feeds, FeedsBeforeMemory, FeedsPart, Ends, EndsBeforeMemory};
+ghost use Rattle.cdi_container.specs.Run.{EndsPart, RunsScript, FailsToRead, RunsOutOfMemory, FailsToWrite};
 ghost use Rattle.cdi_container.specs.Intake.{IsFresh};
 
 use crate::intake::Intake;
@@ -181,7 +182,8 @@ fn read_all<R: Read, W: Write>(
     requires reader_fresh { (bytes_of reader.old ≡ 0) × (has_failed reader.old ≡ false) }
     requires writer_fresh { (has_failed writer.old ≡ false) × (is_flushed writer.old ≡ true) }
     ensures ok { IfOk result (λ summary.
-        RunsScript R.remaining W.contents SCRIPT_LIMIT intake.old.runner.quiet reader.old reader.new writer.old writer.new summary.refused) }
+        RunsScript R.remaining W.contents SCRIPT_LIMIT intake.old.runner.quiet
+        reader.old reader.new writer.old writer.new summary.refused) }
     ensures read { IsErrOf result RunFault.Read →
         FailsToRead R.remaining W.contents SCRIPT_LIMIT intake.old.runner.quiet reader.old reader.new writer.old writer.new }
     ensures memory { IsErrOf result RunFault.Memory →

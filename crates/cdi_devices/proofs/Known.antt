@@ -21,7 +21,8 @@ Consumes-more (Some a) (Some b) None xs ys h k = absurd k
 Consumes-more (Some a) (Some b) (Some c) xs ys h k = h ∙ ap (λ l. xs ++ l) k ∙ sym (append_assoc xs ys c)
 
 -- what was written, and n bytes more
-pub written_more : (a b c : Option (List ℕ)) (bytes rest written : List ℕ) (n : ℕ) → bytes ≡ written ++ rest → Appends a b written → Appends b c (take n rest)
+pub written_more : (a b c : Option (List ℕ)) (bytes rest written : List ℕ) (n : ℕ) → bytes ≡ written ++ rest → Appends a b written
+    → Appends b c (take n rest)
     → (more : List ℕ) × (bytes ≡ more ++ drop n rest) × Appends a c more
 written_more a b c bytes rest written n whole before now = (
   written ++ take n rest,

@@ -26,9 +26,11 @@ module _ {T : Type 0} where
   -- a write of n bytes adds them to the count and leaves them to be flushed; an error is noted, and that no byte was taken
   abbrev pub NotesWrite : {E : Type 0} → Counted T → Counted T → Result ℕ E → Type 0
   NotesWrite old new result = MatchResult result
-      (λ n. (bytes_of new ≡ min (bytes_of old + n) (2 ^ 64 - 1)) × (has_failed new ≡ (has_failed old || n == 0)) × (is_flushed new ≡ (is_flushed old && n == 0)))
+      (λ n. (bytes_of new ≡ min (bytes_of old + n) (2 ^ 64 - 1)) × (has_failed new ≡ (has_failed old || n == 0))
+      × (is_flushed new ≡ (is_flushed old && n == 0)))
       (λ _. (bytes_of new ≡ bytes_of old) × (has_failed new ≡ true) × (is_flushed new ≡ is_flushed old))
 
   -- a flush that answers Ok is noted, and so is an error
   abbrev pub NotesFlush : {E : Type 0} → Counted T → Counted T → Result (Unit {0}) E → Type 0
-  NotesFlush old new result = (bytes_of new ≡ bytes_of old) × (has_failed new ≡ (has_failed old || is_err result)) × (is_flushed new ≡ (is_flushed old || is_ok result))
+  NotesFlush old new result = (bytes_of new ≡ bytes_of old) × (has_failed new ≡ (has_failed old || is_err result))
+      × (is_flushed new ≡ (is_flushed old || is_ok result))

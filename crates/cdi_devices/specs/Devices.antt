@@ -19,9 +19,11 @@ module _ {R : Type 0} (remaining : R → Option (List ℕ)) (limit : ℕ) where
     pub most : bytes_of new ≤ limit + 1
     pub cause : (has_failed new ≡ true) ⊎ (limit < bytes_of new)
     -- what it gave lies behind the limit
-    pub bytes : (extra : List ℕ) × Consumes (remaining (inner_of old)) (remaining (inner_of new)) extra × (0 < length extra → bytes_of old ≡ limit) × (length extra ≤ 1)
+    pub bytes : (extra : List ℕ) × Consumes (remaining (inner_of old)) (remaining (inner_of new)) extra
+        × (0 < length extra → bytes_of old ≡ limit) × (length extra ≤ 1)
 
 module _ {W : Type 0} (contents : W → Option (List ℕ)) where
   -- some of the bytes from the front were written
   abbrev pub WritesPart : Counted W → Counted W → List ℕ → Type 0
-  WritesPart old new bytes = (written : List ℕ) × (rest : List ℕ) × (bytes ≡ written ++ rest) × Appends (contents (inner_of old)) (contents (inner_of new)) written
+  WritesPart old new bytes = (written : List ℕ) × (rest : List ℕ) × (bytes ≡ written ++ rest)
+      × Appends (contents (inner_of old)) (contents (inner_of new)) written

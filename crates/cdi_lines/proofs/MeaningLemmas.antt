@@ -1,5 +1,6 @@
 -- What the words of a line, a line without its carriage return and the text of a put block are.
-use Rattle.std.proofs.Common.{◌≡◌, ◌≢◌, ℕ, true, false, not, List, [], ◌∷◌, ◌++◌, refl, ap, sym, ◌∙◌, subst, inl, inr, append_assoc, append-nil}
+use Rattle.std.proofs.Common.{◌≡◌, ◌≢◌, ℕ, true, false, not, List, [], ◌∷◌, ◌++◌, refl, ap, sym, ◌∙◌, subst, inl, inr, append_assoc}
+use Rattle.std.proofs.Common.{append-nil}
 use Rattle.std.specs.Prelude.{◌==◌}
 use Rattle.std.specs.List.{AllByRecursion, fold, flat_map}
 use Rattle.std.proofs.lemmas.Bool.{cases_Bool, eqb-true, eq-eqb, false≢true}
@@ -21,11 +22,13 @@ one_byte : (b : ℕ) → b ≢ 32 → IsWord (b ∷ [])
 one_byte b other = record { some = λ none. cc; no_space = (other, tt) }
 
 -- a byte more in front of the first word, which begins the line
-grown : (b c : ℕ) (cs : List ℕ) → b ≢ 32 → c ≢ 32 → (words : List (List ℕ)) → AreWordsOf (c ∷ cs) words → AreWordsOf (b ∷ c ∷ cs) (onto_words b true words)
+grown : (b c : ℕ) (cs : List ℕ) → b ≢ 32 → c ≢ 32 → (words : List (List ℕ)) → AreWordsOf (c ∷ cs) words
+    → AreWordsOf (b ∷ c ∷ cs) (onto_words b true words)
 grown b c cs other begins [] are = absurd (begins are.0)
 grown b c cs other begins (word ∷ words) are = by are.0 are.2 are.4
   where
-    by : (spaces : List ℕ) → AllByRecursion (λ x. x ≡ 32) spaces → c ∷ cs ≡ spaces ++ (word ++ are.1) → AreWordsOf (b ∷ c ∷ cs) ((b ∷ word) ∷ words)
+    by : (spaces : List ℕ) → AllByRecursion (λ x. x ≡ 32) spaces → c ∷ cs ≡ spaces ++ (word ++ are.1)
+        → AreWordsOf (b ∷ c ∷ cs) ((b ∷ word) ∷ words)
     by [] all line = ([], are.1, tt, record { some = λ none. cc; no_space = (other, are.3.no_space) }, ap (λ l. b ∷ l) line, are.5, are.6)
     by (s ∷ ss) all line = absurd (begins (let same : c ≡ s = cc in same ∙ all.0))
 
@@ -33,7 +36,8 @@ grown b c cs other begins (word ∷ words) are = by are.0 are.2 are.4
 alone : (b : ℕ) (bs : List ℕ) → b ≢ 32 → IsBehindWord bs → AreWordsOf bs (words_of bs) → AreWordsOf (b ∷ bs) ((b ∷ []) ∷ words_of bs)
 alone b bs other behind are = ([], bs, tt, one_byte b other, refl, behind, are)
 
-joined : (b : ℕ) (bs : List ℕ) → b ≢ 32 → AreWordsOf bs (words_of bs) → AreWordsOf (b ∷ bs) (onto_words b (begins_with_word bs) (words_of bs))
+joined : (b : ℕ) (bs : List ℕ) → b ≢ 32 → AreWordsOf bs (words_of bs)
+    → AreWordsOf (b ∷ bs) (onto_words b (begins_with_word bs) (words_of bs))
 joined b [] other are = alone b [] other tt are
 joined b (c ∷ cs) other are = elim (cases_Bool (c == 32)) [
   | inl space ↦
@@ -42,7 +46,8 @@ joined b (c ∷ cs) other are = elim (cases_Bool (c == 32)) [
       subst (λ v. AreWordsOf (b ∷ c ∷ cs) (onto_words b v (words_of (c ∷ cs)))) (sym no) whole
   | inr e ↦
       let yes : not (c == 32) ≡ true = ap not e in
-      subst (λ v. AreWordsOf (b ∷ c ∷ cs) (onto_words b v (words_of (c ∷ cs)))) (sym yes) (grown b c cs other (is_apart c e) (words_of (c ∷ cs)) are)
+      subst (λ v. AreWordsOf (b ∷ c ∷ cs) (onto_words b v (words_of (c ∷ cs)))) (sym yes)
+      (grown b c cs other (is_apart c e) (words_of (c ∷ cs)) are)
 ]
 
 pub words_are : (line : List ℕ) → AreWordsOf line (words_of line)
@@ -80,7 +85,8 @@ is_without_return (b ∷ c ∷ bs) = elim (is_without_return (c ∷ bs)) [
 
 -- ---- put blocks
 
-appended : (text : List ℕ) (lines : List (List ℕ)) → fold with_line text lines ≡ text ++ flat_map (λ line. without_return line ++ 10 ∷ []) lines
+appended : (text : List ℕ) (lines : List (List ℕ))
+    → fold with_line text lines ≡ text ++ flat_map (λ line. without_return line ++ 10 ∷ []) lines
 appended text [] = sym (append-nil text)
 appended text (line ∷ lines) =
     let end : List ℕ = flat_map (λ line. without_return line ++ 10 ∷ []) lines in

@@ -15,7 +15,8 @@ pairs_behind_nothing (p ∷ []) = append-nil (text_of_pair p)
 pairs_behind_nothing (p ∷ q ∷ ps) = ap (λ text. text_of_pair p ++ 44 ∷ text) (pairs_behind_nothing (q ∷ ps))
 
 -- one more is printed
-pub pairs_behind_more : (written separator name whole : List ℕ) (value : ℤ) (left ps : List (List ℕ × ℤ)) → left ≡ (name, value) ∷ ps → written ++ pairs_behind separator left ≡ whole
+pub pairs_behind_more : (written separator name whole : List ℕ) (value : ℤ) (left ps : List (List ℕ × ℤ)) → left ≡ (name, value) ∷ ps
+    → written ++ pairs_behind separator left ≡ whole
     → (written ++ (separator ++ (name ++ 61 ∷ signed_decimal value))) ++ pairs_behind (44 ∷ []) ps ≡ whole
 pairs_behind_more written separator name whole value left ps next so_far =
     append_assoc written (separator ++ (name ++ 61 ∷ signed_decimal value)) (pairs_behind (44 ∷ []) ps)
@@ -23,6 +24,7 @@ pairs_behind_more written separator name whole value left ps next so_far =
     ∙ ap (λ l. written ++ pairs_behind separator l) (sym next) ∙ so_far
 
 -- all are printed
-pub pairs_behind_done : (written separator : List ℕ) (left ps : List (List ℕ × ℤ)) → left ≡ [] → written ++ pairs_behind separator left ≡ pairs_behind [] ps → written ≡ text_of_pairs ps
+pub pairs_behind_done : (written separator : List ℕ) (left ps : List (List ℕ × ℤ)) → left ≡ []
+    → written ++ pairs_behind separator left ≡ pairs_behind [] ps → written ≡ text_of_pairs ps
 pairs_behind_done written separator left ps none so_far =
     sym (append-nil written) ∙ ap (λ l. written ++ pairs_behind separator l) (sym none) ∙ so_far ∙ pairs_behind_nothing ps

@@ -1,5 +1,6 @@
 -- What evaluations of keys leave.
-use Rattle.std.proofs.Common.{◌≡◌, ◌<◌, ◌+◌, Bool, true, false, cond, not, ◌&&◌, ◌||◌, ℕ, List, [], ◌∷◌, ◌++◌, length, take, get_or, refl, sym, ap, ◌∙◌, append_assoc, append-nil, Result, Ok, Err}
+use Rattle.std.proofs.Common.{◌≡◌, ◌<◌, ◌+◌, Bool, true, false, cond, not, ◌&&◌, ◌||◌, ℕ, List, [], ◌∷◌, ◌++◌, length, take, get_or, refl}
+use Rattle.std.proofs.Common.{sym, ap, ◌∙◌, append_assoc, append-nil, Result, Ok, Err}
 use Rattle.std.specs.Result.{OnErr}
 use Rattle.std.specs.Fn.{iterate}
 use Rattle.std.specs.List.{AllByRecursion, IsDistinct}
@@ -23,15 +24,19 @@ where_err (Err y) p = p
 
 -- ---- keys one after another
 
-pub evaluated-append : (ds : List Decl) (xs ys : List Key) (kept : Kept) → evaluated ds (xs ++ ys) kept ≡ evaluated ds ys (evaluated ds xs kept)
+pub evaluated-append : (ds : List Decl) (xs ys : List Key) (kept : Kept)
+    → evaluated ds (xs ++ ys) kept ≡ evaluated ds ys (evaluated ds xs kept)
 evaluated-append ds xs ys kept = fold-append (λ before key. after_key ds key before) kept xs ys
 
 -- one more key of a list
-pub evaluated-more : (ds : List Decl) (keys : List Key) (i : ℕ) (d : Key) (kept : Kept) → i < length keys → evaluated ds (take (i + 1) keys) kept ≡ after_key ds (get_or keys i d) (evaluated ds (take i keys) kept)
-evaluated-more ds keys i d kept lt = ap (λ xs. evaluated ds xs kept) (take_more keys i d lt) ∙ evaluated-append ds (take i keys) (get_or keys i d ∷ []) kept
+pub evaluated-more : (ds : List Decl) (keys : List Key) (i : ℕ) (d : Key) (kept : Kept) → i < length keys
+    → evaluated ds (take (i + 1) keys) kept ≡ after_key ds (get_or keys i d) (evaluated ds (take i keys) kept)
+evaluated-more ds keys i d kept lt = ap (λ xs. evaluated ds xs kept) (take_more keys i d lt)
+    ∙ evaluated-append ds (take i keys) (get_or keys i d ∷ []) kept
 
 -- the evaluation of the next key
-pub evaluated-next : (ds es : List Decl) (keys : List Key) (i : ℕ) (key : Key) (kept before after : Kept) → i < length keys → key ≡ get_or keys i key → es ≡ ds
+pub evaluated-next : (ds es : List Decl) (keys : List Key) (i : ℕ) (key : Key) (kept before after : Kept) → i < length keys
+    → key ≡ get_or keys i key → es ≡ ds
     → before ≡ evaluated ds (take i keys) kept → after ≡ after_key es key before → after ≡ evaluated ds (take (i + 1) keys) kept
 evaluated-next ds es keys i key kept before after lt at same is next =
     next
@@ -56,7 +61,8 @@ pub after_known : (ds : List Decl) (key : Key) (kept : Kept) → has_key kept.kn
 unfolding after_key
 after_known ds key kept known = by kept.keeps refl
   where
-    by : (b : Bool) → kept.keeps ≡ b → cond b (record { keeps = true; known = with_known ds kept.known key; work = work_with kept.known key kept.work }) kept ≡ kept
+    by : (b : Bool) → kept.keeps ≡ b → cond b
+        (record { keeps = true; known = with_known ds kept.known key; work = work_with kept.known key kept.work }) kept ≡ kept
     by false e = refl
     by true e = λ j. record {
       keeps = sym e j;
@@ -65,7 +71,8 @@ after_known ds key kept known = by kept.keeps refl
     }
 
 -- a view that keeps answers knows a wanted key from then on, and counts it where it did not know it
-pub after_unknown : (ds : List Decl) (key : Key) (kept : Kept) → kept.keeps ≡ true → has_key kept.known key ≡ false → is_wanted ds key ≡ true
+pub after_unknown : (ds : List Decl) (key : Key) (kept : Kept) → kept.keeps ≡ true → has_key kept.known key ≡ false
+    → is_wanted ds key ≡ true
     → after_key ds key kept ≡ with_all (key ∷ []) kept
 unfolding after_key
 after_unknown ds key kept keeps unknown wants = rw (keeps, unknown, wants) refl
@@ -77,11 +84,13 @@ evaluated-plain ds (key ∷ keys) kept plain = ap (evaluated ds keys) (after_key
 -- ---- the wanted keys
 
 -- a key apart from all of some keys leaves which of these are unknown
-unknown-apart : (known : List Key) (k : Key) (keys : List Key) → AllByRecursion (λ l. same_key k l ≡ false) keys → unknown (known ++ k ∷ []) keys ≡ unknown known keys
+unknown-apart : (known : List Key) (k : Key) (keys : List Key) → AllByRecursion (λ l. same_key k l ≡ false) keys
+    → unknown (known ++ k ∷ []) keys ≡ unknown known keys
 unknown-apart known k [] apart = refl
 unknown-apart known k (l ∷ keys) apart =
     let same : has_key (known ++ k ∷ []) l ≡ has_key known l =
-    list_any-append (same_key l) known (k ∷ []) ∙ ap (λ b. has_key known l || (b || false)) (same_key-equiv.symm l k ∙ apart.0) ∙ or-false (has_key known l) in
+    list_any-append (same_key l) known (k ∷ []) ∙ ap (λ b. has_key known l || (b || false)) (same_key-equiv.symm l k ∙ apart.0)
+    ∙ or-false (has_key known l) in
     ap (λ b. cond (not b) (l ∷ unknown (known ++ k ∷ []) keys) (unknown (known ++ k ∷ []) keys)) same
     ∙ ap (λ rest. cond (not (has_key known l)) (l ∷ rest) rest) (unknown-apart known k keys apart.1)
 
@@ -93,13 +102,16 @@ with_all-more k keys kept j = record {
 }
 
 -- wanted keys of which none stands twice
-evaluated-distinct : (ds : List Decl) (keys : List Key) (kept : Kept) → kept.keeps ≡ true → AllByRecursion (λ key. is_wanted ds key ≡ true) keys → IsDistinct same_key keys
+evaluated-distinct : (ds : List Decl) (keys : List Key) (kept : Kept) → kept.keeps ≡ true
+    → AllByRecursion (λ key. is_wanted ds key ≡ true) keys → IsDistinct same_key keys
     → evaluated ds keys kept ≡ with_all (unknown kept.known keys) kept
 unfolding IsDistinct
 evaluated-distinct ds [] kept keeps all apart = λ j. record { keeps = kept.keeps; known = sym (append-nil kept.known) j; work = kept.work }
-evaluated-distinct ds (k ∷ keys) kept keeps all apart = by (has_key kept.known k) refl (λ before is. evaluated-distinct ds keys before is all.1 apart.1)
+evaluated-distinct ds (k ∷ keys) kept keeps all apart = by (has_key kept.known k) refl
+    (λ before is. evaluated-distinct ds keys before is all.1 apart.1)
   where
-    by : (b : Bool) → has_key kept.known k ≡ b → ((before : Kept) → before.keeps ≡ true → evaluated ds keys before ≡ with_all (unknown before.known keys) before)
+    by : (b : Bool) → has_key kept.known k ≡ b
+        → ((before : Kept) → before.keeps ≡ true → evaluated ds keys before ≡ with_all (unknown before.known keys) before)
         → evaluated ds (k ∷ keys) kept ≡ with_all (cond (not b) (k ∷ unknown kept.known keys) (unknown kept.known keys)) kept
     by true e rest = ap (evaluated ds keys) (after_known ds k kept e) ∙ rest kept keeps
     by false e rest =
@@ -116,7 +128,8 @@ each-among P (k ∷ keys) each = (
 )
 
 pub knows_wanted : KnowsWanted
-knows_wanted ds kept keeps = evaluated-distinct ds (wanted ds) kept keeps (each-among (λ key. is_wanted ds key ≡ true) (wanted ds) (λ key h. sym (has-wanted ds key) ∙ h)) (wanted-distinct ds)
+knows_wanted ds kept keeps = evaluated-distinct ds (wanted ds) kept keeps
+    (each-among (λ key. is_wanted ds key ≡ true) (wanted ds) (λ key h. sym (has-wanted ds key) ∙ h)) (wanted-distinct ds)
 
 -- each key is known or not
 known-or-unknown : (known keys : List Key) (key : Key) → has_key keys key ≡ true → has_key (known ++ unknown known keys) key ≡ true
@@ -126,7 +139,9 @@ known-or-unknown known keys key among = list_any-append (same_key key) known (un
     left [] h other = absurd (false≢true h)
     left (k ∷ ks) h other = first (has_key known k) refl (same_key key k) refl (λ more. left ks more other)
       where
-        first : (b : Bool) → has_key known k ≡ b → (c : Bool) → same_key key k ≡ c → (has_key ks key ≡ true → has_key (unknown known ks) key ≡ true) → has_key (cond (not b) (k ∷ unknown known ks) (unknown known ks)) key ≡ true
+        first : (b : Bool) → has_key known k ≡ b → (c : Bool) → same_key key k ≡ c
+            → (has_key ks key ≡ true → has_key (unknown known ks) key ≡ true)
+            → has_key (cond (not b) (k ∷ unknown known ks) (unknown known ks)) key ≡ true
         first true e true f rest = absurd (false≢true (sym other ∙ ap (has_key known) ((same_key-decides key k).0 f) ∙ e))
         first true e false f rest = rest (rw f at h)
         first false e true f rest = rw f refl
@@ -137,10 +152,13 @@ known-or-unknown known keys key among = list_any-append (same_key key) known (un
     by false e = left keys among e
 
 -- after all wanted keys were evaluated each of them is known to a view that keeps answers
-pub wanted_known : (ds : List Decl) (kept : Kept) → kept.keeps ≡ true → (key : Key) → is_wanted ds key ≡ true → has_key (evaluated ds (wanted ds) kept).known key ≡ true
+pub wanted_known : (ds : List Decl) (kept : Kept) → kept.keeps ≡ true → (key : Key) → is_wanted ds key ≡ true
+    → has_key (evaluated ds (wanted ds) kept).known key ≡ true
 wanted_known ds kept keeps key wants =
-    ap (λ after. has_key after.known key) (knows_wanted ds kept keeps) ∙ known-or-unknown kept.known (wanted ds) key (has-wanted ds key ∙ wants)
+    ap (λ after. has_key after.known key) (knows_wanted ds kept keeps)
+    ∙ known-or-unknown kept.known (wanted ds) key (has-wanted ds key ∙ wants)
 
 -- and its work has risen once for each of them that was not known
-pub wanted_work : (ds : List Decl) (kept : Kept) → kept.keeps ≡ true → (evaluated ds (wanted ds) kept).work ≡ iterate with_one (length (unknown kept.known (wanted ds))) kept.work
+pub wanted_work : (ds : List Decl) (kept : Kept) → kept.keeps ≡ true
+    → (evaluated ds (wanted ds) kept).work ≡ iterate with_one (length (unknown kept.known (wanted ds))) kept.work
 wanted_work ds kept keeps = ap (λ after. after.work) (knows_wanted ds kept keeps)

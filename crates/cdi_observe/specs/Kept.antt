@@ -44,4 +44,5 @@ with_all keys kept = record { keeps = kept.keeps; known = kept.known ++ keys; wo
 
 -- A view that keeps answers knows each wanted key after all were evaluated, and has counted each that it did not know once.
 abbrev pub KnowsWanted : Type 0
-KnowsWanted = (ds : List Decl) (kept : Kept) → kept.keeps ≡ true → evaluated ds (wanted ds) kept ≡ with_all (unknown kept.known (wanted ds)) kept
+KnowsWanted = (ds : List Decl) (kept : Kept) → kept.keeps ≡ true
+    → evaluated ds (wanted ds) kept ≡ with_all (unknown kept.known (wanted ds)) kept

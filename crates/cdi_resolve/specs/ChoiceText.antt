@@ -1,5 +1,6 @@
 -- The text of a choice.
 use Rattle.std.specs.Prelude.{ℕ, List, ◌∷◌, ◌++◌, codes, flat_map}
+use Rattle.cdi_model.specs.Bytes.{space}
 use Rattle.cdi_effective.specs.BeanText.{text_of_id}
 use Rattle.cdi_effective.specs.declared.records.BeanId.{BeanId}
 use Rattle.cdi_resolve.specs.declared.choice.Choice.{Choice}
@@ -7,7 +8,7 @@ use Rattle.cdi_resolve.specs.declared.choice.Choice.TheVariants.{One, Unsatisfie
 
 -- each bean after a space
 abbrev pub text_of_ids : List BeanId → List ℕ
-text_of_ids ids = flat_map (λ id. 32 ∷ text_of_id id) ids
+text_of_ids ids = flat_map (λ id. space ∷ text_of_id id) ids
 
 abbrev pub text_of_choice : Choice → List ℕ
 text_of_choice (One id) = codes "one " ++ text_of_id id

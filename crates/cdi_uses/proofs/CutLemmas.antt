@@ -1,5 +1,6 @@
 -- A text cut at a byte, and put together again.
-use Rattle.std.proofs.Common.{◌≡◌, ◌≢◌, ℕ, ◌+◌, ◌-◌, ◌<◌, Bool, true, false, cond, List, [], ◌∷◌, ◌++◌, length, take, get_or, Option, Some, None, refl, ap, sym, ◌∙◌, inl, inr, arith}
+use Rattle.std.proofs.Common.{◌≡◌, ◌≢◌, ℕ, ◌+◌, ◌-◌, ◌<◌, Bool, true, false, cond, List, [], ◌∷◌, ◌++◌, length, take, get_or, Option, Some}
+use Rattle.std.proofs.Common.{None, refl, ap, sym, ◌∙◌, inl, inr, arith}
 use Rattle.std.specs.Prelude.{◌==◌, slice_index}
 use Rattle.std.specs.List.{AllByRecursion, join_with_byte}
 use Rattle.std.proofs.lemmas.Bool.{cases_Bool, eqb-true, eq-eqb, false≢true}
@@ -51,7 +52,8 @@ before_close-at inner =
     let at : get_or all (length all - 1) 0 ≡ 41 = ap (λ n. get_or all n 0) place ∙ last in
     rw (eq-eqb _ 41 at) (ap Some (take_at inner (41 ∷ []) (length all - 1) count))
 
-closed : (text inner : List ℕ) (b : Bool) → (slice_index text (length text - 1) == 41) ≡ b → cond b (Some (take (length text - 1) text)) None ≡ Some inner → text ≡ inner ++ 41 ∷ []
+closed : (text inner : List ℕ) (b : Bool) → (slice_index text (length text - 1) == 41) ≡ b
+    → cond b (Some (take (length text - 1) text)) None ≡ Some inner → text ≡ inner ++ 41 ∷ []
 closed text inner false e h = absurd (none-some inner h)
 closed [] inner true e h = absurd (false≢true e)
 closed (x ∷ xs) inner true e h =
@@ -59,7 +61,8 @@ closed (x ∷ xs) inner true e h =
     let place : length (x ∷ xs) - 1 ≡ length xs = omega arith in
     let last : get_or (x ∷ xs) (length xs) 0 ≡ 41 = sym (ap (λ n. get_or (x ∷ xs) n 0) place) ∙ eqb-true _ 41 e in
     let front : take (length xs) (x ∷ xs) ≡ inner = sym (ap (λ n. take n (x ∷ xs)) place) ∙ same_Some _ inner h in
-    sym (take_all (length xs + 1) (x ∷ xs) (omega arith)) ∙ take_more (x ∷ xs) (length xs) 0 within ∙ ap (λ l. l ++ get_or (x ∷ xs) (length xs) 0 ∷ []) front ∙ ap (λ b. inner ++ b ∷ []) last
+    sym (take_all (length xs + 1) (x ∷ xs) (omega arith)) ∙ take_more (x ∷ xs) (length xs) 0 within
+    ∙ ap (λ l. l ++ get_or (x ∷ xs) (length xs) 0 ∷ []) front ∙ ap (λ b. inner ++ b ∷ []) last
 
 pub before_close-joined : (text inner : List ℕ) → before_close text ≡ Some inner → text ≡ inner ++ 41 ∷ []
 before_close-joined text inner h = closed text inner _ refl h
@@ -76,9 +79,11 @@ onto_first x p (q ∷ qs) = refl
 pub split-joined : (text : List ℕ) → join_with_byte 44 (split 44 text) ≡ text
 split-joined [] = refl
 split-joined (x ∷ xs) = elim (cases_Bool (x == 44)) [
-  | inl same ↦ rw same (behind_comma (split 44 xs) _ _ (split-cut xs) ∙ ap (λ l. 44 ∷ l) (split-joined xs) ∙ ap (λ c. c ∷ xs) (sym (eqb-true x 44 same)))
+  | inl same ↦ rw same (behind_comma (split 44 xs) _ _ (split-cut xs) ∙ ap (λ l. 44 ∷ l) (split-joined xs)
+      ∙ ap (λ c. c ∷ xs) (sym (eqb-true x 44 same)))
   | inr other ↦
-      let rest : join_with_byte 44 ((cut 44 xs).0 ∷ pieces (cut 44 xs).1) ≡ xs = ap (join_with_byte 44) (sym (split-cut xs)) ∙ split-joined xs in
+      let rest : join_with_byte 44 ((cut 44 xs).0 ∷ pieces (cut 44 xs).1) ≡ xs = ap (join_with_byte 44) (sym (split-cut xs))
+      ∙ split-joined xs in
       rw (other, split-cut xs) (onto_first x (cut 44 xs).0 (pieces (cut 44 xs).1) ∙ ap (λ l. x ∷ l) rest)
 ]
 

@@ -1,5 +1,6 @@
 -- What it means to be a use of a qualifier.
-use Rattle.std.proofs.Common.{◌≡◌, ◌≢◌, ℕ, ℤ, Bool, true, false, List, [], ◌∷◌, ◌++◌, length, codes, Option, Some, None, refl, ap, sym, ◌∙◌, inl, inr, subst}
+use Rattle.std.proofs.Common.{◌≡◌, ◌≢◌, ℕ, ℤ, Bool, true, false, List, [], ◌∷◌, ◌++◌, length, codes, Option, Some, None, refl, ap, sym, ◌∙◌}
+use Rattle.std.proofs.Common.{inl, inr, subst}
 use Rattle.std.specs.Prelude.{◌==◌, ◌↔◌, not, nat_le, is_some}
 use Rattle.std.specs.List.{AllByRecursion, join_with_byte}
 use Rattle.std.specs.Str.{bytes_eq}
@@ -10,7 +11,8 @@ use Rattle.cdi_uses.specs.Numbers.{number_of}
 use Rattle.cdi_uses.specs.Pieces.{cut, split}
 use Rattle.cdi_uses.specs.Uses.{pair_in, pair_of, are_pairs, before_close, is_named, is_plain, is_inside, is_use_of, is_use}
 use Rattle.cdi_uses.specs.Meaning.{WritesMember, SpellsUse}
-use Rattle.cdi_uses.proofs.CutLemmas.{Lacks, rejoined, cut-none, cut-at, cut-joined, before_close-at, before_close-joined, split-joined, split-some, joined-split}
+use Rattle.cdi_uses.proofs.CutLemmas.{Lacks, rejoined, cut-none, cut-at, cut-joined, before_close-at, before_close-joined, split-joined}
+use Rattle.cdi_uses.proofs.CutLemmas.{split-some, joined-split}
 use Rattle.cdi_uses.proofs.NumberLemmas.{number_plain}
 
 -- ---- bytes that stand in no name
@@ -62,7 +64,8 @@ name_lacks byte apart text h = begins_lacks byte apart text (and_parts (begins t
 
 -- ---- members
 
-member_from : (piece name : List ℕ) (rest : Option (List ℕ)) → rejoined 61 name rest ≡ piece → is_some (pair_in name rest) ≡ true → WritesMember piece
+member_from : (piece name : List ℕ) (rest : Option (List ℕ)) → rejoined 61 name rest ≡ piece → is_some (pair_in name rest) ≡ true
+    → WritesMember piece
 member_from piece name None joined h = absurd (false≢true h)
 member_from piece name (Some value) joined h = by (is_ident name) (number_of value) refl refl
   where
@@ -83,7 +86,8 @@ members_from_pieces (p ∷ ps) h =
 
 pairs_from_members : (pieces : List (List ℕ)) → AllByRecursion WritesMember pieces → are_pairs pieces ≡ true
 pairs_from_members [] all = refl
-pairs_from_members (p ∷ ps) all = and_from (is_some (pair_of p)) (are_pairs ps) (ap is_some (pair_written p all.0)) (pairs_from_members ps all.1)
+pairs_from_members (p ∷ ps) all = and_from (is_some (pair_of p)) (are_pairs ps) (ap is_some (pair_written p all.0))
+    (pairs_from_members ps all.1)
 
 appended_lacks : (byte : ℕ) (xs ys : List ℕ) → Lacks byte xs → Lacks byte ys → Lacks byte (xs ++ ys)
 appended_lacks byte [] ys h k = k
@@ -93,7 +97,8 @@ pub members_lack_commas : (pieces : List (List ℕ)) → AllByRecursion WritesMe
 members_lack_commas [] all = tt
 members_lack_commas (p ∷ ps) all =
     let m = all.0 in (
-      subst (Lacks 44) (sym m.joined) (appended_lacks 44 m.name (61 ∷ m.number) (ident_lacks 44 (refl, refl) m.name m.ident) (refl, number_plain m.number m.value m.writes)),
+      subst (Lacks 44) (sym m.joined) (appended_lacks 44 m.name (61 ∷ m.number) (ident_lacks 44 (refl, refl) m.name m.ident)
+          (refl, number_plain m.number m.value m.writes)),
       members_lack_commas ps all.1,
     )
 
@@ -111,7 +116,8 @@ other_text a b other = elim (cases_Bool (bytes_eq a b)) [
 not_text : (a b : List ℕ) → bytes_eq a b ≡ false → a ≢ b
 not_text a b h e = false≢true (sym h ∙ (bytes_decides a b).1 e)
 
-with_inner : (text name inner : List ℕ) → text ≡ name ++ (40 ∷ inner ++ 41 ∷ []) → is_name name ≡ true → is_inside name (Some inner) ≡ true → SpellsUse text
+with_inner : (text name inner : List ℕ) → text ≡ name ++ (40 ∷ inner ++ 41 ∷ []) → is_name name ≡ true → is_inside name (Some inner) ≡ true
+    → SpellsUse text
 with_inner text name inner joined grammar h = by (is_named name) refl
   where
     by : (named : Bool) → is_named name ≡ named → SpellsUse text
@@ -148,20 +154,30 @@ spelled_by text name (Some rest) joined h =
   where
     by : (inner : Option (List ℕ)) → before_close rest ≡ inner → is_name name ≡ true → is_inside name inner ≡ true → SpellsUse text
     by None e grammar inside = absurd (false≢true inside)
-    by (Some inner) e grammar inside = with_inner text name inner (sym joined ∙ ap (λ r. name ++ 40 ∷ r) (before_close-joined rest inner e)) grammar inside
+    by (Some inner) e grammar inside = with_inner text name inner (sym joined ∙ ap (λ r. name ++ 40 ∷ r) (before_close-joined rest inner e))
+        grammar inside
 
 -- a name, a bracket, what it takes, and a bracket
-pub use_inside : (name inner : List ℕ) → is_name name ≡ true → is_inside name (Some inner) ≡ true → is_use (name ++ (40 ∷ inner ++ 41 ∷ [])) ≡ true
+pub use_inside : (name inner : List ℕ) → is_name name ≡ true → is_inside name (Some inner) ≡ true
+    → is_use (name ++ (40 ∷ inner ++ 41 ∷ [])) ≡ true
 use_inside name inner grammar h =
-    rw (cut-at 40 name (inner ++ 41 ∷ []) (name_lacks 40 (refl, refl) name grammar), before_close-at inner) (and_from (is_name name) (is_inside name (Some inner)) grammar h)
+    rw (cut-at 40 name (inner ++ 41 ∷ []) (name_lacks 40 (refl, refl) name grammar), before_close-at inner)
+    (and_from (is_name name) (is_inside name (Some inner)) grammar h)
 
 is_spelled : (text : List ℕ) → SpellsUse text → is_use text ≡ true
 is_spelled text (inl bare) =
-    rw (cut-none 40 text (name_lacks 40 (refl, refl) text bare.grammar)) (and_from (is_name text) (not (is_named text)) bare.grammar (ap not (other_text text (codes "Named") bare.not_named)))
+    rw (cut-none 40 text (name_lacks 40 (refl, refl) text bare.grammar))
+    (and_from (is_name text) (not (is_named text)) bare.grammar (ap not (other_text text (codes "Named") bare.not_named)))
 is_spelled text (inr (inl named)) = ap is_use named.joined ∙ use_inside (codes "Named") named.inner refl named.grammar
 is_spelled text (inr (inr m)) =
     ap is_use m.joined ∙ use_inside m.name (join_with_byte 44 m.members) m.grammar
-    (rw (other_text m.name (codes "Named") m.not_named, other_text m.name (codes "Any") m.not_any, other_text m.name (codes "Default") m.not_default, joined-split m.members m.some (members_lack_commas m.members m.each)) (pairs_from_members m.members m.each))
+    (rw (
+      other_text m.name (codes "Named") m.not_named,
+      other_text m.name (codes "Any") m.not_any,
+      other_text m.name (codes "Default")
+          m.not_default,
+      joined-split m.members m.some (members_lack_commas m.members m.each),
+    ) (pairs_from_members m.members m.each))
 
 pub use_meaning : (text : List ℕ) → (is_use text ≡ true) ↔ SpellsUse text
 use_meaning text = (spelled_by text (cut 40 text).0 (cut 40 text).1 (cut-joined 40 text), is_spelled text)

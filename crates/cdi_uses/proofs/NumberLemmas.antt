@@ -1,5 +1,6 @@
 -- The text of a number is read back as it.
-use Rattle.std.proofs.Common.{◌≡◌, ℕ, ℤ, pos, negsuc, suc, ◌+◌, ◌-◌, ◌*◌, ◌/◌, ◌%◌, ◌^◌, ◌<◌, ◌≤◌, Bool, true, false, List, [], ◌∷◌, ◌++◌, length, decimal, Option, Some, None, refl, ap, sym, ◌∙◌, inl, inr, arith}
+use Rattle.std.proofs.Common.{◌≡◌, ℕ, ℤ, pos, negsuc, suc, ◌+◌, ◌-◌, ◌*◌, ◌/◌, ◌%◌, ◌^◌, ◌<◌, ◌≤◌, Bool, true, false, List, [], ◌∷◌, ◌++◌}
+use Rattle.std.proofs.Common.{length, decimal, Option, Some, None, refl, ap, sym, ◌∙◌, inl, inr, arith}
 use Rattle.std.specs.Prelude.{◌==◌, nat_le, option_map}
 use Rattle.std.specs.List.{AllByRecursion}
 use Rattle.std.specs.Prelude.{neg_ℤ}
@@ -13,11 +14,14 @@ digit : (d : ℕ) → d < 10 → is_digit (48 + d) ≡ true
 digit d h = and_from (nat_le 48 (48 + d)) (nat_le (48 + d) 57) (le-leb 48 (48 + d) (omega arith)) (le-leb (48 + d) 57 (omega arith))
 
 -- one more digit
-pushed : (n : ℕ) (ds : List ℕ) (v c : ℕ) → value_after n ds ≡ Some v → is_digit c ≡ true → value_after n (ds ++ c ∷ []) ≡ Some (10 * v + (c - 48))
+pushed : (n : ℕ) (ds : List ℕ) (v c : ℕ) → value_after n ds ≡ Some v → is_digit c ≡ true
+    → value_after n (ds ++ c ∷ []) ≡ Some (10 * v + (c - 48))
 pushed n [] v c e d = rw d (ap (λ m. Some (10 * m + (c - 48))) (same_Some n v e))
 pushed n (x ∷ xs) v c e d = by (is_digit x) refl (pushed (10 * n + (x - 48)) xs v c)
   where
-    by : (b : Bool) → is_digit x ≡ b → (value_after (10 * n + (x - 48)) xs ≡ Some v → is_digit c ≡ true → value_after (10 * n + (x - 48)) (xs ++ c ∷ []) ≡ Some (10 * v + (c - 48))) → value_after n ((x ∷ xs) ++ c ∷ []) ≡ Some (10 * v + (c - 48))
+    by : (b : Bool) → is_digit x ≡ b → (value_after (10 * n + (x - 48)) xs ≡ Some v → is_digit c ≡ true
+        → value_after (10 * n + (x - 48)) (xs ++ c ∷ []) ≡ Some (10 * v + (c - 48)))
+        → value_after n ((x ∷ xs) ++ c ∷ []) ≡ Some (10 * v + (c - 48))
     by true is rest = rw is (rest (rw is at e) d)
     by false is rest = absurd (none-some v (rw is at e))
 
@@ -38,7 +42,8 @@ of_digits (c ∷ cs) n some e small = by (is_digit c) refl
     by : (b : Bool) → is_digit c ≡ b → number_of (c ∷ cs) ≡ Some (pos n)
     by true is =
         let least : 48 ≤ c = leb-true 48 c (and_parts (nat_le 48 c) (nat_le c 57) is).0 in
-        rw (ne_eqb c 45 (λ same. omega arith)) (ap (λ o. option_map pos (within 9223372036854775807 o)) e ∙ (rw (le-leb n 9223372036854775807 small) refl))
+        rw (ne_eqb c 45 (λ same. omega arith)) (ap (λ o. option_map pos (within 9223372036854775807 o)) e
+        ∙ (rw (le-leb n 9223372036854775807 small) refl))
     by false is = absurd (none-some n (rw is at e))
 
 pub numbers_read_back : NumbersReadBack
@@ -52,7 +57,8 @@ numbers_read_back (negsuc n) fits =
     negative : (ds : List ℕ) → 0 < length ds → value_after 0 ds ≡ Some (suc n) → number_of (45 ∷ ds) ≡ Some (negsuc n)
     negative [] some e = absurd (omega arith)
     negative (c ∷ cs) some e =
-        ap (λ o. option_map (λ m. neg_ℤ (pos m)) (within 9223372036854775808 o)) e ∙ (let most : suc n ≤ 9223372036854775808 = omega (arith, fits.sfits) in rw (le-leb (suc n) 9223372036854775808 most) refl)
+        ap (λ o. option_map (λ m. neg_ℤ (pos m)) (within 9223372036854775808 o)) e
+        ∙ (let most : suc n ≤ 9223372036854775808 = omega (arith, fits.sfits) in rw (le-leb (suc n) 9223372036854775808 most) refl)
 
 -- ---- what stands in a number
 
@@ -60,13 +66,15 @@ digits_plain : (n : ℕ) (ds : List ℕ) (v : ℕ) → value_after n ds ≡ Some
 digits_plain n [] v e = tt
 digits_plain n (c ∷ cs) v e = by (is_digit c) refl (digits_plain (10 * n + (c - 48)) cs v)
   where
-    by : (b : Bool) → is_digit c ≡ b → (value_after (10 * n + (c - 48)) cs ≡ Some v → AllByRecursion (λ x. (x == 44) ≡ false) cs) → AllByRecursion (λ x. (x == 44) ≡ false) (c ∷ cs)
+    by : (b : Bool) → is_digit c ≡ b → (value_after (10 * n + (c - 48)) cs ≡ Some v → AllByRecursion (λ x. (x == 44) ≡ false) cs)
+        → AllByRecursion (λ x. (x == 44) ≡ false) (c ∷ cs)
     by true is rest =
         let least : 48 ≤ c = leb-true 48 c (and_parts (nat_le 48 c) (nat_le c 57) is).0 in
         (ne_eqb c 44 (λ same. omega arith), rest (rw is at e))
     by false is rest = absurd (none-some v (rw is at e))
 
-magnitude_plain : (ds : List ℕ) (most : ℕ) (f : ℕ → ℤ) (z : ℤ) → option_map f (within most (magnitude ds)) ≡ Some z → AllByRecursion (λ c. (c == 44) ≡ false) ds
+magnitude_plain : (ds : List ℕ) (most : ℕ) (f : ℕ → ℤ) (z : ℤ) → option_map f (within most (magnitude ds)) ≡ Some z
+    → AllByRecursion (λ c. (c == 44) ≡ false) ds
 magnitude_plain [] most f z e = tt
 magnitude_plain (c ∷ cs) most f z e = by (value_after 0 (c ∷ cs)) refl
   where
@@ -78,6 +86,10 @@ magnitude_plain (c ∷ cs) most f z e = by (value_after 0 (c ∷ cs)) refl
 pub number_plain : (text : List ℕ) (z : ℤ) → number_of text ≡ Some z → AllByRecursion (λ c. (c == 44) ≡ false) text
 number_plain [] z e = tt
 number_plain (c ∷ cs) z e = elim (cases_Bool (c == 45)) [
-  | inl minus ↦ (ne_eqb c 44 (λ same. let is : c ≡ 45 = eqb-true c 45 minus in omega arith), magnitude_plain cs 9223372036854775808 (λ n. neg_ℤ (pos n)) z (rw minus at e))
+  | inl minus ↦ (
+    ne_eqb c 44 (λ same. let is : c ≡ 45 = eqb-true c 45 minus in omega arith),
+    magnitude_plain cs 9223372036854775808
+        (λ n. neg_ℤ (pos n)) z (rw minus at e),
+  )
   | inr other ↦ magnitude_plain (c ∷ cs) 9223372036854775807 pos z (rw other at e)
 ]

@@ -1,5 +1,6 @@
 -- The text of a use of a qualifier is read back as it.
-use Rattle.std.proofs.Common.{◌≡◌, ℕ, ℤ, true, false, cond, List, [], ◌∷◌, ◌++◌, map, codes, Ordering, Less, Greater, Some, None, Ok, refl, inl, inr, ap, sym, ◌∙◌, append_assoc, append-nil}
+use Rattle.std.proofs.Common.{◌≡◌, ℕ, ℤ, true, false, cond, List, [], ◌∷◌, ◌++◌, map, codes, Ordering, Less, Greater, Some, None, Ok, refl}
+use Rattle.std.proofs.Common.{inl, inr, ap, sym, ◌∙◌, append_assoc, append-nil}
 use Rattle.std.specs.Prelude.{not, ◌&&◌, unwrap_or}
 use Rattle.std.specs.BTreeMap.{insert_entry}
 use Rattle.std.specs.Fmt.{signed_decimal}
@@ -16,7 +17,8 @@ use Rattle.cdi_model.specs.declared.quals.Arguments.TheVariants as arguments
 use Rattle.cdi_model.specs.declared.quals.Qual.{Qual}
 use Rattle.cdi_uses.specs.Pieces.{cut, split}
 use Rattle.cdi_uses.specs.Twice.{has_twice, is_text_among}
-use Rattle.cdi_uses.specs.Uses.{member_names, members_from, with_pair, is_named, is_use, repeats_inside, repeats_in, repeats_member, arguments_inside, arguments_in, use_of}
+use Rattle.cdi_uses.specs.Uses.{member_names, members_from, with_pair, is_named, is_use, repeats_inside, repeats_in, repeats_member}
+use Rattle.cdi_uses.specs.Uses.{arguments_inside, arguments_in, use_of}
 use Rattle.cdi_uses.specs.Reading.{qual_of}
 use Rattle.cdi_uses.specs.Meaning.{WritesMember, IsMember, CanBeSpelled, UsesReadBack}
 use Rattle.cdi_uses.proofs.CutLemmas.{cut-none, cut-at, before_close-at, joined-split}
@@ -29,7 +31,14 @@ order = slice_cmp nat_cmp
 -- ---- the text of members
 
 member_text : (m : List ℕ × ℤ) → IsMember m → WritesMember (text_of_pair m)
-member_text m is = record { name = m.0; number = signed_decimal m.1; value = m.1; ident = is.ident; writes = numbers_read_back m.1 is.fits; joined = refl }
+member_text m is = record {
+  name = m.0;
+  number = signed_decimal m.1;
+  value = m.1;
+  ident = is.ident;
+  writes = numbers_read_back m.1 is.fits;
+  joined = refl;
+}
 
 member_texts : (ms : List (List ℕ × ℤ)) → AllByRecursion IsMember ms → AllByRecursion WritesMember (map text_of_pair ms)
 member_texts [] all = tt
@@ -40,9 +49,11 @@ pairs_joined [] = refl
 pairs_joined (m ∷ []) = refl
 pairs_joined (m ∷ n ∷ ms) = ap (λ l. text_of_pair m ++ 44 ∷ l) (pairs_joined (n ∷ ms))
 
-pieces_of_pairs : (m : List ℕ × ℤ) (ms : List (List ℕ × ℤ)) → AllByRecursion IsMember (m ∷ ms) → split 44 (text_of_pairs (m ∷ ms)) ≡ map text_of_pair (m ∷ ms)
+pieces_of_pairs : (m : List ℕ × ℤ) (ms : List (List ℕ × ℤ)) → AllByRecursion IsMember (m ∷ ms)
+    → split 44 (text_of_pairs (m ∷ ms)) ≡ map text_of_pair (m ∷ ms)
 pieces_of_pairs m ms all =
-    ap (split 44) (pairs_joined (m ∷ ms)) ∙ joined-split (map text_of_pair (m ∷ ms)) (λ none. cc) (members_lack_commas (map text_of_pair (m ∷ ms)) (member_texts (m ∷ ms) all))
+    ap (split 44) (pairs_joined (m ∷ ms)) ∙ joined-split (map text_of_pair (m ∷ ms)) (λ none. cc)
+    (members_lack_commas (map text_of_pair (m ∷ ms)) (member_texts (m ∷ ms) all))
 
 -- ---- the members that are read
 
@@ -53,19 +64,24 @@ AreBefore before ms = AllByRecursion (λ m. AllByRecursion (λ e. order m.0 e.0 
 turned : (k l : List ℕ) → order k l ≡ Less → order l k ≡ Greater
 turned k l e = nat_list_cmp_total.antisymm l k ∙ ap ordering_reverse e
 
-one_more_before : (before : List (List ℕ × ℤ)) (m : List ℕ × ℤ) (k : List ℕ) → AllByRecursion (λ e. order k e.0 ≡ Greater) before → order k m.0 ≡ Greater → AllByRecursion (λ e. order k e.0 ≡ Greater) (before ++ m ∷ [])
+one_more_before : (before : List (List ℕ × ℤ)) (m : List ℕ × ℤ) (k : List ℕ) → AllByRecursion (λ e. order k e.0 ≡ Greater) before
+    → order k m.0 ≡ Greater → AllByRecursion (λ e. order k e.0 ≡ Greater) (before ++ m ∷ [])
 one_more_before [] m k all this = (this, tt)
 one_more_before (e ∷ es) m k all this = (all.0, one_more_before es m k all.1 this)
 
-still_before : (before : List (List ℕ × ℤ)) (m : List ℕ × ℤ) (ms : List (List ℕ × ℤ)) → AreBefore before ms → AllByRecursion (λ l. order m.0 l ≡ Less) (keys_of ms) → AreBefore (before ++ m ∷ []) ms
+still_before : (before : List (List ℕ × ℤ)) (m : List ℕ × ℤ) (ms : List (List ℕ × ℤ)) → AreBefore before ms
+    → AllByRecursion (λ l. order m.0 l ≡ Less) (keys_of ms) → AreBefore (before ++ m ∷ []) ms
 still_before before m [] all less = tt
-still_before before m (n ∷ ms) all less = (one_more_before before m n.0 all.0 (turned m.0 n.0 less.0), still_before before m ms all.1 less.1)
+still_before before m (n ∷ ms) all less =
+    (one_more_before before m n.0 all.0 (turned m.0 n.0 less.0), still_before before m ms all.1 less.1)
 
-inserted_last : (before : List (List ℕ × ℤ)) (m : List ℕ × ℤ) → AllByRecursion (λ e. order m.0 e.0 ≡ Greater) before → insert_entry order before m.0 m.1 ≡ before ++ m ∷ []
+inserted_last : (before : List (List ℕ × ℤ)) (m : List ℕ × ℤ) → AllByRecursion (λ e. order m.0 e.0 ≡ Greater) before
+    → insert_entry order before m.0 m.1 ≡ before ++ m ∷ []
 inserted_last [] m all = refl
 inserted_last (e ∷ es) m all = rw all.0 (ap (λ l. e ∷ l) (inserted_last es m all.1))
 
-members_again : (before ms : List (List ℕ × ℤ)) → AreBefore before ms → IsStrictlySortedBy order (keys_of ms) → AllByRecursion IsMember ms → members_from before (map text_of_pair ms) ≡ before ++ ms
+members_again : (before ms : List (List ℕ × ℤ)) → AreBefore before ms → IsStrictlySortedBy order (keys_of ms) → AllByRecursion IsMember ms
+    → members_from before (map text_of_pair ms) ≡ before ++ ms
 unfolding IsStrictlySortedBy member_text
 members_again before [] all rise are = sym (append-nil before)
 members_again before (m ∷ ms) all rise are =
@@ -100,7 +116,8 @@ none_twice (key ∷ keys) rise = rw (not_among key keys rise.0, none_twice keys 
 read_as : (text : List ℕ) (u : Qual) → is_use text ≡ true → repeats_member text ≡ false → use_of text ≡ u → qual_of text ≡ Ok u
 read_as text u is once says = rw (is, once) (ap Ok says)
 
-bare_again : (name : List ℕ) → CanBeSpelled (record { name = name; arguments = arguments.Members [] }) → qual_of (name ++ []) ≡ Ok (record { name = name; arguments = arguments.Members [] })
+bare_again : (name : List ℕ) → CanBeSpelled (record { name = name; arguments = arguments.Members [] })
+    → qual_of (name ++ []) ≡ Ok (record { name = name; arguments = arguments.Members [] })
 bare_again name can =
     let whole : cut 40 name ≡ (name, None) = cut-none 40 name (name_lacks 40 (refl, refl) name can.name) in
     ap qual_of (append-nil name)
@@ -109,18 +126,21 @@ bare_again name can =
     (ap (λ p. repeats_in p.0 p.1) whole)
     (ap (λ p. record { name = p.0; arguments = arguments_in p.0 p.1 }) whole)
 
-named_again : (name inner : List ℕ) → CanBeSpelled (record { name = name; arguments = arguments.Name inner }) → qual_of (name ++ (40 ∷ inner ++ 41 ∷ [])) ≡ Ok (record { name = name; arguments = arguments.Name inner })
+named_again : (name inner : List ℕ) → CanBeSpelled (record { name = name; arguments = arguments.Name inner })
+    → qual_of (name ++ (40 ∷ inner ++ 41 ∷ [])) ≡ Ok (record { name = name; arguments = arguments.Name inner })
 named_again name inner can =
     rw (can.arguments.0, before_close-at inner, can.arguments.1) refl
 
-members_read : (name : List ℕ) (m : List ℕ × ℤ) (ms : List (List ℕ × ℤ)) → CanBeSpelled (record { name = name; arguments = arguments.Members (m ∷ ms) })
+members_read : (name : List ℕ) (m : List ℕ × ℤ) (ms : List (List ℕ × ℤ))
+    → CanBeSpelled (record { name = name; arguments = arguments.Members (m ∷ ms) })
     → qual_of (name ++ (40 ∷ text_of_pairs (m ∷ ms) ++ 41 ∷ [])) ≡ Ok (record { name = name; arguments = arguments.Members (m ∷ ms) })
 members_read name m ms can =
     let pairs : List ℕ = text_of_pairs (m ∷ ms) in
     let text : List ℕ = name ++ (40 ∷ pairs ++ 41 ∷ []) in
     let all = can.arguments.3 in
     let named : is_named name ≡ false = other_text name (codes "Named") can.arguments.0 in
-    let whole : cut 40 text ≡ (name, Some (pairs ++ 41 ∷ [])) = cut-at 40 name (pairs ++ 41 ∷ []) (name_lacks 40 (refl, refl) name can.name) in
+    let whole : cut 40 text ≡ (name, Some (pairs ++ 41 ∷ [])) = cut-at 40 name (pairs ++ 41 ∷ []) (name_lacks 40 (refl, refl) name can.name)
+    in
     let pieces : split 44 pairs ≡ map text_of_pair (m ∷ ms) = pieces_of_pairs m ms all in
     read_as text (record { name = name; arguments = arguments.Members (m ∷ ms) })
     ((use_meaning text).1 (inr (inr (record {
@@ -134,17 +154,21 @@ members_read name m ms can =
       each = member_texts (m ∷ ms) all;
       joined = ap (λ l. name ++ (40 ∷ l ++ 41 ∷ [])) (pairs_joined (m ∷ ms));
     }))))
-    (ap (λ p. repeats_in p.0 p.1) whole ∙ ap (repeats_inside name) (before_close-at pairs) ∙ ap (λ b. not b && has_twice (member_names (split 44 pairs))) named
+    (ap (λ p. repeats_in p.0 p.1) whole ∙ ap (repeats_inside name) (before_close-at pairs)
+    ∙ ap (λ b. not b && has_twice (member_names (split 44 pairs))) named
     ∙ ap has_twice (ap member_names pieces ∙ names_again (m ∷ ms) all) ∙ none_twice (keys_of (m ∷ ms)) can.arguments.4)
     (ap (λ p. record { name = p.0; arguments = arguments_in p.0 p.1 }) whole
     ∙ ap (λ o. record { name = name; arguments = arguments_inside name (unwrap_or o []) }) (before_close-at pairs)
-    ∙ ap (λ b. record { name = name; arguments = cond b (arguments.Name pairs) (arguments.Members (members_from [] (split 44 pairs))) }) named
-    ∙ ap (λ l. record { name = name; arguments = arguments.Members l }) (ap (members_from []) pieces ∙ members_again [] (m ∷ ms) (nothing_before (m ∷ ms)) can.arguments.4 all))
+    ∙ ap (λ b. record { name = name; arguments = cond b (arguments.Name pairs) (arguments.Members (members_from [] (split 44 pairs))) })
+    named
+    ∙ ap (λ l. record { name = name; arguments = arguments.Members l })
+    (ap (members_from []) pieces ∙ members_again [] (m ∷ ms) (nothing_before (m ∷ ms)) can.arguments.4 all))
 
 pub uses_read_back : UsesReadBack
 uses_read_back u can = again u.name u.arguments can
   where
-    again : (name : List ℕ) (a : Arguments) → CanBeSpelled (record { name = name; arguments = a }) → qual_of (text_of_use (record { name = name; arguments = a })) ≡ Ok (record { name = name; arguments = a })
+    again : (name : List ℕ) (a : Arguments) → CanBeSpelled (record { name = name; arguments = a })
+        → qual_of (text_of_use (record { name = name; arguments = a })) ≡ Ok (record { name = name; arguments = a })
     again name (arguments.Name inner) h = named_again name inner h
     again name (arguments.Members []) h = bare_again name h
     again name (arguments.Members (m ∷ ms)) h = members_read name m ms h

@@ -1,5 +1,6 @@
 -- What a use says is such that a text can spell it.
-use Rattle.std.proofs.Common.{◌≡◌, ◌≢◌, ℕ, ℤ, pos, zero, suc, ◌≤◌, Bool, true, false, cond, List, [], ◌∷◌, ◌++◌, codes, Ordering, Less, Equal, Greater, Option, Some, None, refl, ap, sym, ◌∙◌, inl, inr, subst, arith}
+use Rattle.std.proofs.Common.{◌≡◌, ◌≢◌, ℕ, ℤ, pos, zero, suc, ◌≤◌, Bool, true, false, cond, List, [], ◌∷◌, ◌++◌, codes, Ordering, Less}
+use Rattle.std.proofs.Common.{Equal, Greater, Option, Some, None, refl, ap, sym, ◌∙◌, inl, inr, subst, arith}
 use Rattle.std.specs.Prelude.{◌==◌, neg_ℤ, nat_le, option_map, unwrap_or, FitsSigned}
 use Rattle.std.specs.Int.{w64}
 use Rattle.std.specs.BTreeMap.{insert_entry}
@@ -36,7 +37,8 @@ within_most most n (Some m) e = by (nat_le m most) refl
     by true le = let same : m ≡ n = same_Some m n (rw le at e) in omega (arith, leb-true m most le)
     by false le = absurd (none-some n (rw le at e))
 
-mapped_fits : (f : ℕ → ℤ) (most : ℕ) (o : Option ℕ) (z : ℤ) → ((n : ℕ) → n ≤ most → FitsSigned w64 (f n)) → option_map f (within most o) ≡ Some z → FitsSigned w64 z
+mapped_fits : (f : ℕ → ℤ) (most : ℕ) (o : Option ℕ) (z : ℤ) → ((n : ℕ) → n ≤ most → FitsSigned w64 (f n))
+    → option_map f (within most o) ≡ Some z → FitsSigned w64 z
 mapped_fits f most o z fits e = by (within most o) refl
   where
     by : (w : Option ℕ) → within most o ≡ w → FitsSigned w64 z
@@ -58,34 +60,41 @@ turned k l o e = nat_list_cmp_total.antisymm l k ∙ ap ordering_reverse e
 same_key : (k l : List ℕ) → order k l ≡ Equal → k ≡ l
 same_key k l e = (bytes_decides k l).0 (sym (is_eq-slice_cmp k l) ∙ ap is_eq e)
 
-before_all : (k l : List ℕ) (ks : List (List ℕ)) → order k l ≡ Less → AllByRecursion (λ m. order l m ≡ Less) ks → AllByRecursion (λ m. order k m ≡ Less) ks
+before_all : (k l : List ℕ) (ks : List (List ℕ)) → order k l ≡ Less → AllByRecursion (λ m. order l m ≡ Less) ks
+    → AllByRecursion (λ m. order k m ≡ Less) ks
 before_all k l [] before all = tt
 before_all k l (m ∷ ms) before all = (nat_list_cmp_total.trans k l m before all.0, before_all k l ms before all.1)
 
-keeps_before : (j : List ℕ) (es : List (List ℕ × ℤ)) (k : List ℕ) (v : ℤ) → order j k ≡ Less → AllByRecursion (λ l. order j l ≡ Less) (keys_of es) → AllByRecursion (λ l. order j l ≡ Less) (keys_of (insert_entry order es k v))
+keeps_before : (j : List ℕ) (es : List (List ℕ × ℤ)) (k : List ℕ) (v : ℤ) → order j k ≡ Less
+    → AllByRecursion (λ l. order j l ≡ Less) (keys_of es) → AllByRecursion (λ l. order j l ≡ Less) (keys_of (insert_entry order es k v))
 keeps_before j [] k v before all = (before, tt)
 keeps_before j (e ∷ es) k v before all = by (order k e.0) refl (keeps_before j es k v before all.1)
   where
-    by : (o : Ordering) → order k e.0 ≡ o → AllByRecursion (λ l. order j l ≡ Less) (keys_of (insert_entry order es k v)) → AllByRecursion (λ l. order j l ≡ Less) (keys_of (insert_entry order (e ∷ es) k v))
+    by : (o : Ordering) → order k e.0 ≡ o → AllByRecursion (λ l. order j l ≡ Less) (keys_of (insert_entry order es k v))
+        → AllByRecursion (λ l. order j l ≡ Less) (keys_of (insert_entry order (e ∷ es) k v))
     by Less is rest = rw is (before, all)
     by Equal is rest = rw is all
     by Greater is rest = rw is (all.0, rest)
 
-keeps_order : (es : List (List ℕ × ℤ)) (k : List ℕ) (v : ℤ) → IsStrictlySortedBy order (keys_of es) → IsStrictlySortedBy order (keys_of (insert_entry order es k v))
+keeps_order : (es : List (List ℕ × ℤ)) (k : List ℕ) (v : ℤ) → IsStrictlySortedBy order (keys_of es)
+    → IsStrictlySortedBy order (keys_of (insert_entry order es k v))
 unfolding IsStrictlySortedBy
 keeps_order [] k v rise = (tt, tt)
 keeps_order (e ∷ es) k v rise = by (order k e.0) refl (keeps_order es k v rise.1)
   where
-    by : (o : Ordering) → order k e.0 ≡ o → IsStrictlySortedBy order (keys_of (insert_entry order es k v)) → IsStrictlySortedBy order (keys_of (insert_entry order (e ∷ es) k v))
+    by : (o : Ordering) → order k e.0 ≡ o → IsStrictlySortedBy order (keys_of (insert_entry order es k v))
+        → IsStrictlySortedBy order (keys_of (insert_entry order (e ∷ es) k v))
     by Less is rest = rw is ((is, before_all k e.0 (keys_of es) is rise.0), rise)
     by Equal is rest = rw is rise
     by Greater is rest = rw is (keeps_before e.0 es k v (turned k e.0 Greater is) rise.0, rest)
 
-keeps_members : (es : List (List ℕ × ℤ)) (m : List ℕ × ℤ) → IsMember m → AllByRecursion IsMember es → AllByRecursion IsMember (insert_entry order es m.0 m.1)
+keeps_members : (es : List (List ℕ × ℤ)) (m : List ℕ × ℤ) → IsMember m → AllByRecursion IsMember es
+    → AllByRecursion IsMember (insert_entry order es m.0 m.1)
 keeps_members [] m is all = (is, tt)
 keeps_members (e ∷ es) m is all = by (order m.0 e.0) refl (keeps_members es m is all.1)
   where
-    by : (o : Ordering) → order m.0 e.0 ≡ o → AllByRecursion IsMember (insert_entry order es m.0 m.1) → AllByRecursion IsMember (insert_entry order (e ∷ es) m.0 m.1)
+    by : (o : Ordering) → order m.0 e.0 ≡ o → AllByRecursion IsMember (insert_entry order es m.0 m.1)
+        → AllByRecursion IsMember (insert_entry order (e ∷ es) m.0 m.1)
     by Less at rest = rw at (is, all)
     by Equal at rest = rw at (record { ident = all.0.ident; fits = is.fits }, all.1)
     by Greater at rest = rw at (all.0, rest)
@@ -95,16 +104,20 @@ record AreMembers (ms : List (List ℕ × ℤ)) : Type 0 where
   are : AllByRecursion IsMember ms
   rise : IsStrictlySortedBy order (keys_of ms)
 
-members_read : (ms : List (List ℕ × ℤ)) (pieces : List (List ℕ)) → AreMembers ms → AllByRecursion WritesMember pieces → AreMembers (members_from ms pieces)
+members_read : (ms : List (List ℕ × ℤ)) (pieces : List (List ℕ)) → AreMembers ms → AllByRecursion WritesMember pieces
+    → AreMembers (members_from ms pieces)
 members_read ms [] are all = are
 members_read ms (p ∷ ps) are all =
     let w = all.0 in
     let m : List ℕ × ℤ = (w.name, w.value) in
     let is : IsMember m = record { ident = w.ident; fits = number_fits w.number w.value w.writes } in
-    let more : AreMembers (insert_entry order ms w.name w.value) = record { are = keeps_members ms m is are.are; rise = keeps_order ms w.name w.value are.rise } in
-    subst (λ o. AreMembers (members_from (with_pair o ms) ps)) (sym (pair_written p w)) (members_read (insert_entry order ms w.name w.value) ps more all.1)
+    let more : AreMembers (insert_entry order ms w.name w.value) =
+    record { are = keeps_members ms m is are.are; rise = keeps_order ms w.name w.value are.rise } in
+    subst (λ o. AreMembers (members_from (with_pair o ms) ps)) (sym (pair_written p w))
+    (members_read (insert_entry order ms w.name w.value) ps more all.1)
 
-of_members : (name : List ℕ) (ms : List (List ℕ × ℤ)) → name ≢ codes "Named" → name ≢ codes "Any" → name ≢ codes "Default" → AreMembers ms → AreArgumentsOf name (arguments.Members ms)
+of_members : (name : List ℕ) (ms : List (List ℕ × ℤ)) → name ≢ codes "Named" → name ≢ codes "Any" → name ≢ codes "Default" → AreMembers ms
+    → AreArgumentsOf name (arguments.Members ms)
 of_members name [] named any default are = named
 of_members name (m ∷ ms) named any default are = (named, any, default, are.are, are.rise)
 
@@ -114,22 +127,31 @@ says : (text : List ℕ) → SpellsUse text → CanBeSpelled (use_of text)
 unfolding IsStrictlySortedBy
 says text (inl bare) =
     let whole : cut 40 text ≡ (text, None) = cut-none 40 text (name_lacks 40 (refl, refl) text bare.grammar) in
-    let u : use_of text ≡ record { name = text; arguments = arguments.Members [] } = ap (λ p. record { name = p.0; arguments = arguments_in p.0 p.1 }) whole in
+    let u : use_of text ≡ record { name = text; arguments = arguments.Members [] } = ap
+    (λ p. record { name = p.0; arguments = arguments_in p.0 p.1 }) whole in
     subst CanBeSpelled (sym u) (record { name = bare.grammar; arguments = bare.not_named })
 says text (inr (inl named)) =
-    let u : use_of text ≡ record { name = codes "Named"; arguments = arguments.Name named.inner } = ap use_of named.joined ∙ ap (λ o. record { name = codes "Named"; arguments = arguments_inside (codes "Named") (unwrap_or o []) }) (before_close-at named.inner) in
+    let u : use_of text ≡ record { name = codes "Named"; arguments = arguments.Name named.inner } = ap use_of named.joined
+    ∙ ap (λ o. record { name = codes "Named"; arguments = arguments_inside (codes "Named") (unwrap_or o []) })
+    (before_close-at named.inner) in
     subst CanBeSpelled (sym u) (record { name = refl; arguments = (refl, named.grammar) })
 says text (inr (inr m)) =
     let inner : List ℕ = join_with_byte 44 m.members in
-    let whole : cut 40 (m.name ++ (40 ∷ inner ++ 41 ∷ [])) ≡ (m.name, Some (inner ++ 41 ∷ [])) = cut-at 40 m.name (inner ++ 41 ∷ []) (name_lacks 40 (refl, refl) m.name m.grammar) in
+    let whole : cut 40 (m.name ++ (40 ∷ inner ++ 41 ∷ []))
+    ≡ (m.name, Some (inner ++ 41 ∷ [])) = cut-at 40 m.name (inner ++ 41 ∷ []) (name_lacks 40 (refl, refl) m.name m.grammar) in
     let pieces : split 44 inner ≡ m.members = joined-split m.members m.some (members_lack_commas m.members m.each) in
     let u : use_of text ≡ record { name = m.name; arguments = arguments.Members (members_from [] m.members) } =
     ap use_of m.joined
     ∙ ap (λ p. record { name = p.0; arguments = arguments_in p.0 p.1 }) whole
     ∙ ap (λ o. record { name = m.name; arguments = arguments_inside m.name (unwrap_or o []) }) (before_close-at inner)
-    ∙ ap (λ b. record { name = m.name; arguments = cond b (arguments.Name inner) (arguments.Members (members_from [] (split 44 inner))) }) (other_text m.name (codes "Named") m.not_named)
+    ∙ ap (λ b. record { name = m.name; arguments = cond b (arguments.Name inner) (arguments.Members (members_from [] (split 44 inner))) })
+    (other_text m.name (codes "Named") m.not_named)
     ∙ ap (λ l. record { name = m.name; arguments = arguments.Members (members_from [] l) }) pieces in
-    subst CanBeSpelled (sym u) (record { name = m.grammar; arguments = of_members m.name (members_from [] m.members) m.not_named m.not_any m.not_default (members_read [] m.members (record { are = tt; rise = tt }) m.each) })
+    subst CanBeSpelled (sym u) (record {
+      name = m.grammar;
+      arguments = of_members m.name (members_from [] m.members) m.not_named m.not_any
+          m.not_default (members_read [] m.members (record { are = tt; rise = tt }) m.each);
+    })
 
 pub says_what_spells : (text : List ℕ) → is_use text ≡ true → CanBeSpelled (use_of text)
 says_what_spells text is = says text ((use_meaning text).0 is)

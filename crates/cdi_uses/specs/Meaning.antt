@@ -7,6 +7,7 @@ use Rattle.std.specs.List.Sorted.{IsStrictlySortedBy}
 use Rattle.std.specs.Map.{keys_of}
 use Rattle.std.specs.Ordering.{nat_cmp}
 use Rattle.std.specs.Cmp.Lexicographic.{slice_cmp}
+use Rattle.cdi_model.specs.Bytes.{closing, comma, equals_sign, opening}
 use Rattle.cdi_model.specs.Grammar.{is_name, is_ident}
 use Rattle.cdi_model.specs.UseText.{text_of_use}
 use Rattle.cdi_model.specs.declared.quals.Arguments.{Arguments}
@@ -24,7 +25,7 @@ pub record WritesMember (text : List ℕ) : Type 0 where
   pub value : ℤ
   pub ident : is_ident name ≡ true
   pub writes : number_of number ≡ Some value
-  pub joined : text ≡ name ++ 61 ∷ number
+  pub joined : text ≡ name ++ equals_sign ∷ number
 
 -- NAME, other than `Named`
 pub record IsBareUse (text : List ℕ) : Type 0 where
@@ -35,7 +36,7 @@ pub record IsBareUse (text : List ℕ) : Type 0 where
 pub record IsUseOfNamed (text : List ℕ) : Type 0 where
   pub inner : List ℕ
   pub grammar : is_name inner ≡ true
-  pub joined : text ≡ codes "Named" ++ (40 ∷ inner ++ 41 ∷ [])
+  pub joined : text ≡ codes "Named" ++ (opening ∷ inner ++ closing ∷ [])
 
 -- NAME(m=v,m=v) with one member or more, where the name is none of `Named`, `Any` and `Default`
 pub record IsUseWithMembers (text : List ℕ) : Type 0 where
@@ -47,7 +48,7 @@ pub record IsUseWithMembers (text : List ℕ) : Type 0 where
   pub not_default : name ≢ codes "Default"
   pub some : members ≢ []
   pub each : AllByRecursion WritesMember members
-  pub joined : text ≡ name ++ (40 ∷ join_with_byte 44 members ++ 41 ∷ [])
+  pub joined : text ≡ name ++ (opening ∷ join_with_byte comma members ++ closing ∷ [])
 
 abbrev pub SpellsUse : List ℕ → Type 0
 SpellsUse text = IsBareUse text ⊎ (IsUseOfNamed text ⊎ IsUseWithMembers text)

@@ -1,5 +1,6 @@
 -- Names of which no bean is chosen: they stand twice among those of enabled beans.
-use Rattle.std.proofs.Common.{◌≡◌, ℕ, Bool, true, false, ◌&&◌, ◌||◌, List, [], ◌∷◌, filter, Option, Some, None, Ordering, refl, sym, ap, ◌∙◌}
+use Rattle.std.proofs.Common.{◌≡◌, ℕ, Bool, true, false, ◌&&◌, ◌||◌, List, [], ◌∷◌, filter, Option, Some, None, Ordering, refl, sym, ap}
+use Rattle.std.proofs.Common.{◌∙◌}
 use Rattle.std.specs.List.{flat_map, list_any}
 use Rattle.std.specs.BTreeMap.{is_at}
 use Rattle.std.specs.List.Sorted.{IsStrictlySortedBy}
@@ -39,7 +40,8 @@ or-none false = refl
 is_its_name : (b : Effective) (n : List ℕ) → (b.is_enabled && is_named n b.name) ≡ has (enabled_name b) n
 is_its_name b n = by b.is_enabled b.name refl refl
   where
-    by : (e : Bool) (name : Option (List ℕ)) → b.is_enabled ≡ e → b.name ≡ name → (b.is_enabled && is_named n b.name) ≡ has (enabled_name b) n
+    by : (e : Bool) (name : Option (List ℕ)) → b.is_enabled ≡ e → b.name ≡ name
+        → (b.is_enabled && is_named n b.name) ≡ has (enabled_name b) n
     by false name off is = rw off refl
     by true None on is = rw (on, is) refl
     by true (Some name) on is = rw (on, is) (or-none (bytes_eq name n))
@@ -48,7 +50,8 @@ none_named : (bs : List Effective) (n : List ℕ) → has (flat_map enabled_name
 unfolding named
 none_named [] n without = refl
 none_named (b ∷ bs) n without =
-    let both = or-both (has (enabled_name b) n) (has (flat_map enabled_name bs) n) (sym (list_any-append (λ m. bytes_eq m n) (enabled_name b) (flat_map enabled_name bs)) ∙ without) in
+    let both = or-both (has (enabled_name b) n) (has (flat_map enabled_name bs) n)
+    (sym (list_any-append (λ m. bytes_eq m n) (enabled_name b) (flat_map enabled_name bs)) ∙ without) in
     rw (is_its_name b n ∙ both.0) (none_named bs n both.1)
 
 one_or_none : (bs : List Effective) (n : List ℕ) → stands_twice bs n ≡ false → is_ambiguous (chosen_by_name bs n) ≡ false
@@ -59,15 +62,22 @@ one_or_none (b ∷ bs) n without = by (has (enabled_name b) n) refl (one_or_none
     rest : (h : Bool) → has (enabled_name b) n ≡ h → ((h && has (flat_map enabled_name bs) n) || stands_twice bs n) ≡ false
     rest h e = ap (λ here. (here && has (flat_map enabled_name bs) n) || stands_twice bs n) (sym e) ∙ without
 
-    by : (h : Bool) → has (enabled_name b) n ≡ h → (stands_twice bs n ≡ false → is_ambiguous (chosen_by_name bs n) ≡ false) → is_ambiguous (chosen_by_name (b ∷ bs) n) ≡ false
-    by true e more = rw (is_its_name b n ∙ e, none_named bs n (or-both (has (flat_map enabled_name bs) n) (stands_twice bs n) (rest true e)).0) refl
+    by : (h : Bool) → has (enabled_name b) n ≡ h → (stands_twice bs n ≡ false → is_ambiguous (chosen_by_name bs n) ≡ false)
+        → is_ambiguous (chosen_by_name (b ∷ bs) n) ≡ false
+    by true e more = rw (
+      is_its_name b n ∙ e,
+      none_named bs n
+          (or-both (has (flat_map enabled_name bs) n) (stands_twice bs n) (rest true e)).0,
+    ) refl
     by false e more = rw (is_its_name b n ∙ e) (more (rest false e))
 
 -- a name of which no bean is chosen is among those that stand twice, and among all
-is_twice : (bs : List Effective) (n : List ℕ) → (is_ambiguous (chosen_by_name bs n) && stands_twice bs n) ≡ is_ambiguous (chosen_by_name bs n)
+is_twice : (bs : List Effective) (n : List ℕ)
+    → (is_ambiguous (chosen_by_name bs n) && stands_twice bs n) ≡ is_ambiguous (chosen_by_name bs n)
 is_twice bs n = implied (is_ambiguous (chosen_by_name bs n)) (stands_twice bs n) (one_or_none bs n)
 
-is_among : (bs : List Effective) (n : List ℕ) → (is_ambiguous (chosen_by_name bs n) && has (flat_map enabled_name bs) n) ≡ is_ambiguous (chosen_by_name bs n)
+is_among : (bs : List Effective) (n : List ℕ)
+    → (is_ambiguous (chosen_by_name bs n) && has (flat_map enabled_name bs) n) ≡ is_ambiguous (chosen_by_name bs n)
 unfolding choice_of chosen_by_name
 is_among bs n = implied (is_ambiguous (chosen_by_name bs n)) (has (flat_map enabled_name bs) n) none
   where
@@ -78,7 +88,8 @@ has-filter : (p : List ℕ → Bool) (names : List (List ℕ)) (s : List ℕ) �
 has-filter p names s = any-filter_same (λ n. bytes_eq n s) p (p s) (λ n e. ap p (one_name n s e)) names
 
 -- so those that stand twice, in order, have all of them
-pub clashes-twice : (bs : List Effective) (keys : List (List ℕ)) → IsStrictlySortedBy order keys → ((s : List ℕ) → list_any (is_at (slice_cmp nat_cmp s)) keys ≡ stands_twice bs s)
+pub clashes-twice : (bs : List Effective) (keys : List (List ℕ)) → IsStrictlySortedBy order keys
+    → ((s : List ℕ) → list_any (is_at (slice_cmp nat_cmp s)) keys ≡ stands_twice bs s)
     → filter (λ n. is_ambiguous (chosen_by_name bs n)) keys ≡ filter (λ n. is_ambiguous (chosen_by_name bs n)) (enabled_names bs)
 clashes-twice bs keys rise same =
     let p : List ℕ → Bool = λ n. is_ambiguous (chosen_by_name bs n) in

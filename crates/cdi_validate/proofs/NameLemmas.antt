@@ -1,5 +1,6 @@
 -- Names that go on behind others, among names in byte order.
-use Rattle.std.proofs.Common.{◌≡◌, ℕ, zero, suc, Bool, true, false, nat_eq, ◌&&◌, cond, List, [], ◌∷◌, ◌++◌, ◌+◌, ◌<◌, length, get_or, drop, map, filter, Ordering, Less, Equal, Greater, refl, sym, subst, ap, ◌∙◌}
+use Rattle.std.proofs.Common.{◌≡◌, ℕ, zero, suc, Bool, true, false, nat_eq, ◌&&◌, cond, List, [], ◌∷◌, ◌++◌, ◌+◌, ◌<◌, length, get_or, drop}
+use Rattle.std.proofs.Common.{map, filter, Ordering, Less, Equal, Greater, refl, sym, subst, ap, ◌∙◌}
 use Rattle.std.proofs.lemmas.List.{at_drop_more, drop_more}
 use Rattle.std.specs.List.{AllByRecursion, flat_map, list_any, starts_with}
 use Rattle.std.specs.BTreeMap.{is_at}
@@ -31,7 +32,8 @@ goes_on-parts : (x y : List ℕ) → goes_on x y ≡ (starts_with nat_eq y x && 
 goes_on-parts [] [] = refl
 goes_on-parts [] (b ∷ ys) = and-true (nat_eq 46 b)
 goes_on-parts (a ∷ xs) [] = refl
-goes_on-parts (a ∷ xs) (b ∷ ys) = ap (λ rest. nat_eq a b && rest) (goes_on-parts xs ys) ∙ sym (and_assoc (nat_eq a b) (starts_with nat_eq ys xs) (has_dot_at ys (length xs)))
+goes_on-parts (a ∷ xs) (b ∷ ys) = ap (λ rest. nat_eq a b && rest) (goes_on-parts xs ys)
+    ∙ sym (and_assoc (nat_eq a b) (starts_with nat_eq ys xs) (has_dot_at ys (length xs)))
 
 goes_on-begins : (x y : List ℕ) → starts_with nat_eq y x ≡ false → goes_on x y ≡ false
 goes_on-begins x y e = goes_on-parts x y ∙ (rw e refl)
@@ -72,14 +74,16 @@ goes_on-before : (x y : List ℕ) → order x y ≡ Less → goes_on y x ≡ fal
 goes_on-before x y less = by (goes_on y x) refl
   where
     by : (b : Bool) → goes_on y x ≡ b → goes_on y x ≡ false
-    by true e = absurd (let no : Less ≡ Greater = sym less ∙ nat_list_cmp_total.antisymm x y ∙ ap ordering_reverse (less-if_goes_on y x e) in cc)
+    by true e = absurd (let no : Less ≡ Greater = sym less ∙ nat_list_cmp_total.antisymm x y
+        ∙ ap ordering_reverse (less-if_goes_on y x e) in cc)
     by false e = e
 
 goes_on-itself : (x : List ℕ) → goes_on x x ≡ false
 goes_on-itself x = by (goes_on x x) refl
   where
     by : (b : Bool) → goes_on x x ≡ b → goes_on x x ≡ false
-    by true e = let less = less-if_goes_on x x e in absurd (let no : Less ≡ Greater = sym less ∙ nat_list_cmp_total.antisymm x x ∙ ap ordering_reverse less in cc)
+    by true e = let less = less-if_goes_on x x e in absurd
+        (let no : Less ≡ Greater = sym less ∙ nat_list_cmp_total.antisymm x x ∙ ap ordering_reverse less in cc)
     by false e = e
 
 -- a name between another and one that begins with it begins with it too
@@ -87,12 +91,14 @@ begins-between : (x y z : List ℕ) → order x y ≡ Less → order y z ≡ Les
 begins-between [] y z less more begins = refl
 begins-between (a ∷ xs) y [] less more begins = absurd (false≢true begins)
 begins-between (a ∷ xs) [] (c ∷ zs) less more begins = absurd (let no : Greater ≡ Less = less in cc)
-begins-between (a ∷ xs) (b ∷ ys) (c ∷ zs) less more begins = by (nat_cmp a b) refl (λ l m. begins-between xs ys zs l m (and-second (nat_eq a c) (starts_with nat_eq zs xs) begins))
+begins-between (a ∷ xs) (b ∷ ys) (c ∷ zs) less more begins = by (nat_cmp a b) refl
+    (λ l m. begins-between xs ys zs l m (and-second (nat_eq a c) (starts_with nat_eq zs xs) begins))
   where
     one : a ≡ c
     one = eqb-true a c (and-first (nat_eq a c) (starts_with nat_eq zs xs) begins)
 
-    by : (o : Ordering) → nat_cmp a b ≡ o → (order xs ys ≡ Less → order ys zs ≡ Less → starts_with nat_eq ys xs ≡ true) → starts_with nat_eq (b ∷ ys) (a ∷ xs) ≡ true
+    by : (o : Ordering) → nat_cmp a b ≡ o → (order xs ys ≡ Less → order ys zs ≡ Less → starts_with nat_eq ys xs ≡ true)
+        → starts_with nat_eq (b ∷ ys) (a ∷ xs) ≡ true
     by Less e rest =
         let turned : nat_cmp b c ≡ Greater = ap (nat_cmp b) (sym one) ∙ nat_cmp_total.antisymm b a ∙ ap ordering_reverse e in
         absurd (let no : Greater ≡ Less = ap (λ o. ordering_then o (order ys zs)) (sym turned) ∙ more in cc)
@@ -104,7 +110,8 @@ begins-between (a ∷ xs) (b ∷ ys) (c ∷ zs) less more begins = by (nat_cmp a
     by Greater e rest = absurd (let no : Greater ≡ Less = ap (λ o. ordering_then o (order xs ys)) (sym e) ∙ less in cc)
 
 -- where a name does not begin with another before it, none after it does
-none-behind : (x y : List ℕ) (zs : List (List ℕ)) → order x y ≡ Less → starts_with nat_eq y x ≡ false → AllByRecursion (λ z. order y z ≡ Less) zs → filter (goes_on x) zs ≡ []
+none-behind : (x y : List ℕ) (zs : List (List ℕ)) → order x y ≡ Less → starts_with nat_eq y x ≡ false
+    → AllByRecursion (λ z. order y z ≡ Less) zs → filter (goes_on x) zs ≡ []
 none-behind x y [] less other rise = refl
 none-behind x y (z ∷ zs) less other rise = rw (goes_on-begins x z (by (starts_with nat_eq z x) refl)) (none-behind x y zs less other rise.1)
   where
@@ -112,7 +119,8 @@ none-behind x y (z ∷ zs) less other rise = rw (goes_on-begins x z (by (starts_
     by true e = absurd (false≢true (sym other ∙ begins-between x y z less rise.0 e))
     by false e = e
 
-none-from : (x y : List ℕ) (zs : List (List ℕ)) → order x y ≡ Less → starts_with nat_eq y x ≡ false → AllByRecursion (λ z. order y z ≡ Less) zs → filter (goes_on x) (y ∷ zs) ≡ []
+none-from : (x y : List ℕ) (zs : List (List ℕ)) → order x y ≡ Less → starts_with nat_eq y x ≡ false
+    → AllByRecursion (λ z. order y z ≡ Less) zs → filter (goes_on x) (y ∷ zs) ≡ []
 none-from x y zs less other rise = rw (goes_on-begins x y other) (none-behind x y zs less other rise)
 
 all-drop : (P : List ℕ → Type 0) (i : ℕ) (ys : List (List ℕ)) → AllByRecursion P ys → AllByRecursion P (drop i ys)
@@ -127,7 +135,8 @@ rises-drop (suc i) [] rise = rise
 rises-drop (suc i) (y ∷ ys) rise = rises-drop i ys rise.1
 
 -- the names from the i-th on, where that one does not begin with the name before all of them
-pub none-left : (x y : List ℕ) (ys : List (List ℕ)) (i : ℕ) → IsStrictlySortedBy order (x ∷ ys) → i < length ys → y ≡ get_or ys i y → starts_with nat_eq y x ≡ false → filter (goes_on x) (drop i ys) ≡ []
+pub none-left : (x y : List ℕ) (ys : List (List ℕ)) (i : ℕ) → IsStrictlySortedBy order (x ∷ ys) → i < length ys → y ≡ get_or ys i y
+    → starts_with nat_eq y x ≡ false → filter (goes_on x) (drop i ys) ≡ []
 unfolding IsStrictlySortedBy
 none-left x y ys i rise lt at other =
     let here : drop i ys ≡ y ∷ drop (i + 1) ys = drop_more ys i y lt ∙ ap (λ z. z ∷ drop (i + 1) ys) (sym at) in
@@ -136,7 +145,8 @@ none-left x y ys i rise lt at other =
     ap (filter (goes_on x)) here ∙ none-from x y (drop (i + 1) ys) above.0 other behind.0
 
 -- and where it does
-pub some-left : (x y : List ℕ) (ys : List (List ℕ)) (i : ℕ) (b : Bool) → i < length ys → y ≡ get_or ys i y → starts_with nat_eq y x ≡ true → has_dot_at y (length x) ≡ b
+pub some-left : (x y : List ℕ) (ys : List (List ℕ)) (i : ℕ) (b : Bool) → i < length ys → y ≡ get_or ys i y → starts_with nat_eq y x ≡ true
+    → has_dot_at y (length x) ≡ b
     → filter (goes_on x) (drop i ys) ≡ cond b (y ∷ filter (goes_on x) (drop (i + 1) ys)) (filter (goes_on x) (drop (i + 1) ys))
 some-left x y ys i b lt at begins dot =
     at_drop_more (filter (goes_on x)) ys i y lt
@@ -150,20 +160,24 @@ abbrev pairs_in : List (List ℕ) → List (List ℕ) → List Fault
 pairs_in all names = flat_map (λ x. map (faults_are.NamePrefix x) (filter (goes_on x) all)) names
 
 -- a name before all of them goes on behind none
-without-first : (x : List ℕ) (all names : List (List ℕ)) → AllByRecursion (λ y. order x y ≡ Less) names → pairs_in (x ∷ all) names ≡ pairs_in all names
+without-first : (x : List ℕ) (all names : List (List ℕ)) → AllByRecursion (λ y. order x y ≡ Less) names
+    → pairs_in (x ∷ all) names ≡ pairs_in all names
 without-first x all [] rise = refl
-without-first x all (y ∷ ys) rise = rw (goes_on-before x y rise.0) (ap (λ rest. map (faults_are.NamePrefix y) (filter (goes_on y) all) ++ rest) (without-first x all ys rise.1))
+without-first x all (y ∷ ys) rise = rw (goes_on-before x y rise.0)
+    (ap (λ rest. map (faults_are.NamePrefix y) (filter (goes_on y) all) ++ rest) (without-first x all ys rise.1))
 
 -- so it is enough to look behind each name
 pub pairs-behind : (names : List (List ℕ)) → IsStrictlySortedBy order names → pairs_in names names ≡ prefix_pairs names
 unfolding IsStrictlySortedBy
 pairs-behind [] rise = refl
-pairs-behind (x ∷ xs) rise = rw (goes_on-itself x) (ap (λ rest. map (faults_are.NamePrefix x) (filter (goes_on x) xs) ++ rest) (without-first x xs xs rise.0 ∙ pairs-behind xs rise.1))
+pairs-behind (x ∷ xs) rise = rw (goes_on-itself x)
+    (ap (λ rest. map (faults_are.NamePrefix x) (filter (goes_on x) xs) ++ rest) (without-first x xs xs rise.0 ∙ pairs-behind xs rise.1))
 
 -- ---- names of enabled beans
 
 -- the names of a set that has just those of enabled beans are these, in order
-pub enabled_names-are : (bs : List Effective) (keys : List (List ℕ)) → IsStrictlySortedBy order keys → ((s : List ℕ) → list_any (is_at (slice_cmp nat_cmp s)) keys ≡ has (flat_map enabled_name bs) s) → keys ≡ enabled_names bs
+pub enabled_names-are : (bs : List Effective) (keys : List (List ℕ)) → IsStrictlySortedBy order keys
+    → ((s : List ℕ) → list_any (is_at (slice_cmp nat_cmp s)) keys ≡ has (flat_map enabled_name bs) s) → keys ≡ enabled_names bs
 enabled_names-are bs keys rise same =
     let names = flat_map enabled_name bs in
     one_order keys (in_order names) rise (in_order-rises names) (λ s. sym (has-by_order keys s) ∙ same s ∙ sym (in_order-has names s))

@@ -1,5 +1,6 @@
 -- No fault stands twice.
-use Rattle.std.proofs.Common.{◌≡◌, ◌≢◌, ◌<◌, ℕ, zero, suc, nat_eq, Bool, true, false, cond, List, [], ◌∷◌, ◌++◌, Option, Some, None, length, map, filter, Ordering, Less, Greater, refl, sym, ap, ◌∙◌, append_assoc, subst, arith}
+use Rattle.std.proofs.Common.{◌≡◌, ◌≢◌, ◌<◌, ℕ, zero, suc, nat_eq, Bool, true, false, cond, List, [], ◌∷◌, ◌++◌, Option, Some, None, length}
+use Rattle.std.proofs.Common.{map, filter, Ordering, Less, Greater, refl, sym, ap, ◌∙◌, append_assoc, subst, arith}
 use Rattle.std.specs.List.{AllByRecursion, AllPairs, IsDistinct, flat_map, slice_index_or}
 use Rattle.std.proofs.lemmas.Bool.Decides.{Decides-eqb}
 use Rattle.std.proofs.lemmas.Map.Made.{AllPairs-from_IsDistinct}
@@ -19,7 +20,8 @@ use Rattle.cdi_validate.specs.declared.fault.Fault.{Fault}
 use Rattle.cdi_validate.specs.declared.fault.Fault.TheVariants as faults_are
 use Rattle.cdi_validate.specs.declared.fault.Subject.{Subject}
 use Rattle.cdi_validate.specs.FaultText.{text_of_subject, byte_order, in_text_order}
-use Rattle.cdi_validate.specs.Faults.{all_codes, faults_of_code, faults_of, subjects_at_fault, enabled_names, name_clashes, name_prefixes, goes_on, faults, FaultsStandOnce}
+use Rattle.cdi_validate.specs.Faults.{all_codes, faults_of_code, faults_of, subjects_at_fault, enabled_names, name_clashes, name_prefixes}
+use Rattle.cdi_validate.specs.Faults.{goes_on, faults, FaultsStandOnce}
 use Rattle.cdi_validate.proofs.OrderLemmas.{subjects_in_order}
 
 -- ---- each apart from the later ones
@@ -105,7 +107,8 @@ module _ {X T : Type 0} (tag : X → T) where
   differ-append : (t : T) (xs ys : List X) → Tagged t xs → AllByRecursion (λ y. tag y ≢ t) ys → Differ xs → Differ ys → Differ (xs ++ ys)
   differ-append t [] ys tagged others apart rest = rest
   differ-append t (x ∷ xs) ys tagged others apart rest = (
-    all-append (λ y. x ≢ y) xs ys apart.0 (all-more (λ y. tag y ≢ t) (λ y. x ≢ y) (λ y other e. other (sym (ap tag e) ∙ tagged.0)) ys others),
+    all-append (λ y. x ≢ y) xs ys apart.0 (all-more (λ y. tag y ≢ t) (λ y. x ≢ y) (λ y other e. other (sym (ap tag e) ∙ tagged.0)) ys
+        others),
     differ-append t xs ys tagged.1 others apart.1 rest,
   )
 
@@ -114,7 +117,9 @@ module _ {X T : Type 0} (tag : X → T) where
     none-tagged : (t : T) (ds : List D) → AllByRecursion (λ d. t ≢ key d) ds → AllByRecursion (λ y. tag y ≢ t) (flat_map f ds)
     none-tagged t [] others = tt
     none-tagged t (d ∷ ds) others =
-        all-append (λ y. tag y ≢ t) (f d) (flat_map f ds) (all-more (λ y. tag y ≡ key d) (λ y. tag y ≢ t) (λ y of_y e. others.0 (sym e ∙ of_y)) (f d) (tagged d)) (none-tagged t ds others.1)
+        all-append (λ y. tag y ≢ t) (f d) (flat_map f ds)
+        (all-more (λ y. tag y ≡ key d) (λ y. tag y ≢ t) (λ y of_y e. others.0 (sym e ∙ of_y)) (f d) (tagged d))
+        (none-tagged t ds others.1)
 
     differ-flat_map : ((d : D) → Differ (f d)) → (ds : List D) → Apart (λ d e. key d ≢ key e) ds → Differ (flat_map f ds)
     differ-flat_map each [] apart = tt
@@ -129,8 +134,10 @@ never-before-itself t less = let no : Less ≡ Greater = sym less ∙ nat_list_c
 rising-differ : (ts : List (List ℕ)) → IsStrictlySortedBy byte_order ts → Differ ts
 unfolding IsStrictlySortedBy
 rising-differ [] rise = tt
-rising-differ (t ∷ ts) rise =
-    (all-more (λ u. byte_order t u ≡ Less) (λ u. t ≢ u) (λ u less e. never-before-itself t (ap (byte_order t) e ∙ less)) ts rise.0, rising-differ ts rise.1)
+rising-differ (t ∷ ts) rise = (
+  all-more (λ u. byte_order t u ≡ Less) (λ u. t ≢ u) (λ u less e. never-before-itself t (ap (byte_order t) e ∙ less)) ts rise.0,
+  rising-differ ts rise.1,
+)
 
 -- what differs by its texts differs
 differ-by : {X Y : Type 0} (f : X → Y) (xs : List X) → Differ (map f xs) → Differ xs
@@ -160,7 +167,8 @@ code-of (faults_are.Declared code kind name subject) = code-number code
 code-of (faults_are.NameClash name) = 0
 code-of (faults_are.NamePrefix name longer) = 0
 
-one-subject : (code : Code) (d : Decl) (m n : Subject) → faults_are.Declared code (kind_of d) (name_of_decl d) m ≡ faults_are.Declared code (kind_of d) (name_of_decl d) n → m ≡ n
+one-subject : (code : Code) (d : Decl) (m n : Subject)
+    → faults_are.Declared code (kind_of d) (name_of_decl d) m ≡ faults_are.Declared code (kind_of d) (name_of_decl d) n → m ≡ n
 one-subject code d m n e = cc
 
 of_code-differ : (ds : List Decl) (d : Decl) (code : Code) → Differ (faults_of_code ds d code)
@@ -179,12 +187,25 @@ numbers-differ ns apart = pairs-apart (λ m n. m ≢ n) ns (AllPairs-from_IsDist
 
 numbers-apart : IsDistinct nat_eq (map code-number all_codes)
 unfolding IsDistinct
-numbers-apart = ((refl, (refl, (refl, (refl, (refl, (refl, (refl, (refl, tt)))))))), ((refl, (refl, (refl, (refl, (refl, (refl, (refl, tt))))))), ((refl, (refl, (refl, (refl, (refl, (refl, tt)))))), ((refl, (refl, (refl, (refl, (refl, tt))))), ((refl, (refl, (refl, (refl, tt)))), ((refl, (refl, (refl, tt))), ((refl, (refl, tt)), ((refl, tt), (tt, tt)))))))))
+numbers-apart = (
+  (refl, (refl, (refl, (refl, (refl, (refl, (refl, (refl, tt)))))))),
+  (
+    (refl, (refl, (refl, (refl, (refl, (refl, (refl, tt))))))),
+    (
+      (refl, (refl, (refl, (refl, (refl, (refl, tt)))))),
+      (
+        (refl, (refl, (refl, (refl, (refl, tt))))),
+        ((refl, (refl, (refl, (refl, tt)))), ((refl, (refl, (refl, tt))), ((refl, (refl, tt)), ((refl, tt), (tt, tt))))),
+      ),
+    ),
+  ),
+)
 
 codes-differ : Apart (λ c e. code-number c ≢ code-number e) all_codes
 codes-differ = by all_codes (numbers-differ (map code-number all_codes) numbers-apart)
   where
-    from_map : (c : Code) (es : List Code) → AllByRecursion (λ n. code-number c ≢ n) (map code-number es) → AllByRecursion (λ e. code-number c ≢ code-number e) es
+    from_map : (c : Code) (es : List Code) → AllByRecursion (λ n. code-number c ≢ n) (map code-number es)
+        → AllByRecursion (λ e. code-number c ≢ code-number e) es
     from_map c [] all = tt
     from_map c (e ∷ es) all = (all.0, from_map c es all.1)
 
@@ -193,7 +214,8 @@ codes-differ = by all_codes (numbers-differ (map code-number all_codes) numbers-
     by (c ∷ cs) differ = (from_map c cs differ.0, by cs differ.1)
 
 of_decl-differ : (ds : List Decl) (d : Decl) → Differ (faults_of ds d)
-of_decl-differ ds d = differ-flat_map code-of (faults_of_code ds d) code-number (of_code-tagged ds d) (of_code-differ ds d) all_codes codes-differ
+of_decl-differ ds d = differ-flat_map code-of (faults_of_code ds d) code-number (of_code-tagged ds d) (of_code-differ ds d) all_codes
+    codes-differ
 
 -- ---- faults of all declarations
 
@@ -213,7 +235,8 @@ of_decl-tagged ds d = go all_codes
     go (c ∷ cs) =
         let ms = in_text_order (subjects_at_fault c ds d) in
         all-append (λ f. key-of f ≡ Some (key_of d)) (faults_of_code ds d c) (flat_map (faults_of_code ds d) cs)
-        (all-map (λ f. key-of f ≡ Some (key_of d)) (faults_are.Declared c (kind_of d) (name_of_decl d)) ms (all-each _ (λ m. refl) ms)) (go cs)
+        (all-map (λ f. key-of f ≡ Some (key_of d)) (faults_are.Declared c (kind_of d) (name_of_decl d)) ms (all-each _ (λ m. refl) ms))
+        (go cs)
 
 apart-more : {X : Type 0} (R S : X → X → Type 0) → ((x y : X) → R x y → S x y) → (xs : List X) → Apart R xs → Apart S xs
 apart-more R S more [] apart = tt
@@ -241,7 +264,8 @@ two-from_zero e = absurd (omega (arith, e))
 
 declared-tagged : (now ds : List Decl) → AllByRecursion (λ f. is-declared f ≡ 0) (flat_map (faults_of now) ds)
 declared-tagged now [] = tt
-declared-tagged now (d ∷ ds) = all-append (λ f. is-declared f ≡ 0) (faults_of now d) (flat_map (faults_of now) ds) (go all_codes) (declared-tagged now ds)
+declared-tagged now (d ∷ ds) = all-append (λ f. is-declared f ≡ 0) (faults_of now d) (flat_map (faults_of now) ds) (go all_codes)
+    (declared-tagged now ds)
   where
     go : (cs : List Code) → AllByRecursion (λ f. is-declared f ≡ 0) (flat_map (faults_of_code now d) cs)
     go [] = tt
@@ -276,22 +300,28 @@ prefixes-differ : (bs : List Effective) → Differ (name_prefixes bs)
 prefixes-differ bs =
     let names = enabled_names bs in
     differ-flat_map shorter-of (λ x. map (faults_are.NamePrefix x) (filter (goes_on x) names)) (λ x. Some x)
-    (λ x. all-map (λ f. shorter-of f ≡ Some x) (faults_are.NamePrefix x) (filter (goes_on x) names) (all-each _ (λ y. refl) (filter (goes_on x) names)))
-    (λ x. differ-map (faults_are.NamePrefix x) (one-longer x) (filter (goes_on x) names) (apart-filter (λ y z. y ≢ z) (goes_on x) names (names-differ bs)))
+    (λ x. all-map (λ f. shorter-of f ≡ Some x) (faults_are.NamePrefix x) (filter (goes_on x) names)
+    (all-each _ (λ y. refl) (filter (goes_on x) names)))
+    (λ x. differ-map (faults_are.NamePrefix x) (one-longer x) (filter (goes_on x) names)
+    (apart-filter (λ y z. y ≢ z) (goes_on x) names (names-differ bs)))
     names
     (apart-more _ _ (λ x y other same. other (some-name x y same)) names (names-differ bs))
 
-prefixes-tagged : (names all : List (List ℕ)) → AllByRecursion (λ f. is-declared f ≢ 1) (flat_map (λ x. map (faults_are.NamePrefix x) (filter (goes_on x) all)) names)
+prefixes-tagged : (names all : List (List ℕ))
+    → AllByRecursion (λ f. is-declared f ≢ 1) (flat_map (λ x. map (faults_are.NamePrefix x) (filter (goes_on x) all)) names)
 prefixes-tagged [] all = tt
 prefixes-tagged (x ∷ xs) all =
     all-append (λ f. is-declared f ≢ 1) (map (faults_are.NamePrefix x) (filter (goes_on x) all)) _
-    (all-map (λ f. is-declared f ≢ 1) (faults_are.NamePrefix x) (filter (goes_on x) all) (all-each _ (λ y e. two-apart e) (filter (goes_on x) all))) (prefixes-tagged xs all)
+    (all-map (λ f. is-declared f ≢ 1) (faults_are.NamePrefix x) (filter (goes_on x) all)
+    (all-each _ (λ y e. two-apart e) (filter (goes_on x) all))) (prefixes-tagged xs all)
 
-prefixes-not_zero : (names all : List (List ℕ)) → AllByRecursion (λ f. is-declared f ≢ 0) (flat_map (λ x. map (faults_are.NamePrefix x) (filter (goes_on x) all)) names)
+prefixes-not_zero : (names all : List (List ℕ))
+    → AllByRecursion (λ f. is-declared f ≢ 0) (flat_map (λ x. map (faults_are.NamePrefix x) (filter (goes_on x) all)) names)
 prefixes-not_zero [] all = tt
 prefixes-not_zero (x ∷ xs) all =
     all-append (λ f. is-declared f ≢ 0) (map (faults_are.NamePrefix x) (filter (goes_on x) all)) _
-    (all-map (λ f. is-declared f ≢ 0) (faults_are.NamePrefix x) (filter (goes_on x) all) (all-each _ (λ y e. two-from_zero e) (filter (goes_on x) all))) (prefixes-not_zero xs all)
+    (all-map (λ f. is-declared f ≢ 0) (faults_are.NamePrefix x) (filter (goes_on x) all)
+    (all-each _ (λ y e. two-from_zero e) (filter (goes_on x) all))) (prefixes-not_zero xs all)
 
 clashes-tagged : (names : List (List ℕ)) → AllByRecursion (λ f. is-declared f ≡ 1) (map faults_are.NameClash names)
 clashes-tagged names = all-map (λ f. is-declared f ≡ 1) faults_are.NameClash names (all-each _ (λ n. refl) names)
@@ -300,12 +330,14 @@ clashes-tagged names = all-map (λ f. is-declared f ≡ 1) faults_are.NameClash 
 
 names-differ_too : (bs : List Effective) → Differ (name_clashes bs ++ name_prefixes bs)
 names-differ_too bs =
-    differ-append is-declared 1 (name_clashes bs) (name_prefixes bs) (clashes-tagged _) (prefixes-tagged (enabled_names bs) (enabled_names bs)) (clashes-differ bs) (prefixes-differ bs)
+    differ-append is-declared 1 (name_clashes bs) (name_prefixes bs) (clashes-tagged _)
+    (prefixes-tagged (enabled_names bs) (enabled_names bs)) (clashes-differ bs) (prefixes-differ bs)
 
 names-not_declared : (bs : List Effective) → AllByRecursion (λ f. is-declared f ≢ 0) (name_clashes bs ++ name_prefixes bs)
 names-not_declared bs =
     all-append (λ f. is-declared f ≢ 0) (name_clashes bs) (name_prefixes bs)
-    (all-more (λ f. is-declared f ≡ 1) (λ f. is-declared f ≢ 0) (λ f one none. one-apart (sym one ∙ none)) (name_clashes bs) (clashes-tagged _))
+    (all-more (λ f. is-declared f ≡ 1) (λ f. is-declared f ≢ 0) (λ f one none. one-apart (sym one ∙ none)) (name_clashes bs)
+    (clashes-tagged _))
     (prefixes-not_zero (enabled_names bs) (enabled_names bs))
 
 pub faults_stand_once : FaultsStandOnce
@@ -314,4 +346,5 @@ faults_stand_once ds keyed =
     let bs = beans ds in
     let declared = flat_map (faults_of ds) ds in
     apart-pairs (λ f g. f ≢ g) (faults ds) (subst Differ (sym (append_assoc declared (name_clashes bs) (name_prefixes bs)))
-    (differ-append is-declared 0 declared (name_clashes bs ++ name_prefixes bs) (declared-tagged ds ds) (names-not_declared bs) (declared-differ ds ds keyed) (names-differ_too bs)))
+    (differ-append is-declared 0 declared (name_clashes bs ++ name_prefixes bs) (declared-tagged ds ds) (names-not_declared bs)
+    (declared-differ ds ds keyed) (names-differ_too bs)))

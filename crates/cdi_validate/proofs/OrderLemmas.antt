@@ -1,5 +1,6 @@
 -- Subjects in the byte order of their texts.
-use Rattle.std.proofs.Common.{◌≡◌, ℕ, Bool, true, false, ◌||◌, List, [], ◌∷◌, map, fold, Ordering, Less, Equal, Greater, refl, sym, ◌∙◌, ap, subst}
+use Rattle.std.proofs.Common.{◌≡◌, ℕ, Bool, true, false, ◌||◌, List, [], ◌∷◌, map, fold, Ordering, Less, Equal, Greater, refl, sym, ◌∙◌, ap}
+use Rattle.std.proofs.Common.{subst}
 use Rattle.std.specs.BTreeMap.{insert_entry}
 use Rattle.std.specs.BTreeSet.{insert_key}
 use Rattle.std.specs.List.{AllByRecursion}
@@ -48,16 +49,19 @@ keys-put : (m : Subject) (es : Entries) → keys_of (put es m) ≡ insert_key by
 keys-put m [] = refl
 keys-put m (e ∷ es) = by (byte_order (text_of_subject m) e.0) refl (keys-put m es)
   where
-    by : (o : Ordering) → byte_order (text_of_subject m) e.0 ≡ o → keys_of (put es m) ≡ insert_key byte_order (keys_of es) (text_of_subject m)
+    by : (o : Ordering) → byte_order (text_of_subject m) e.0 ≡ o
+        → keys_of (put es m) ≡ insert_key byte_order (keys_of es) (text_of_subject m)
         → keys_of (put (e ∷ es) m) ≡ insert_key byte_order (keys_of (e ∷ es)) (text_of_subject m)
     by Less is rest = rw is refl
     by Equal is rest = rw is refl
     by Greater is rest = rw is (ap (λ ks. e.0 ∷ ks) rest)
 
 -- they are names in order
-all-rise : (ms : List Subject) (es : Entries) (names : List (List ℕ)) → keys_of es ≡ in_order names → IsStrictlySortedBy byte_order (keys_of (fold put es ms))
+all-rise : (ms : List Subject) (es : Entries) (names : List (List ℕ)) → keys_of es ≡ in_order names
+    → IsStrictlySortedBy byte_order (keys_of (fold put es ms))
 all-rise [] es names is = subst (IsStrictlySortedBy byte_order) (sym is) (in_order-rises names)
-all-rise (m ∷ ms) es names is = all-rise ms (put es m) (text_of_subject m ∷ names) (keys-put m es ∙ ap (λ ks. insert_key byte_order ks (text_of_subject m)) is)
+all-rise (m ∷ ms) es names is = all-rise ms (put es m) (text_of_subject m ∷ names)
+    (keys-put m es ∙ ap (λ ks. insert_key byte_order ks (text_of_subject m)) is)
 
 -- ---- they are those of the subjects
 
@@ -76,7 +80,8 @@ or-false : (x : Bool) → (x || false) ≡ x
 or-false true = refl
 or-false false = refl
 
-has-put : (m : Subject) (es : Entries) (text : List ℕ) → has (keys_of (put es m)) text ≡ (bytes_eq (text_of_subject m) text || has (keys_of es) text)
+has-put : (m : Subject) (es : Entries) (text : List ℕ)
+    → has (keys_of (put es m)) text ≡ (bytes_eq (text_of_subject m) text || has (keys_of es) text)
 has-put m [] text = refl
 has-put m (e ∷ es) text = by (byte_order (text_of_subject m) e.0) refl (has-put m es text)
   where
@@ -86,10 +91,12 @@ has-put m (e ∷ es) text = by (byte_order (text_of_subject m) e.0) refl (has-pu
     by : (o : Ordering) → byte_order (text_of_subject m) e.0 ≡ o → has (keys_of (put es m)) text ≡ (is_it || has (keys_of es) text)
         → has (keys_of (put (e ∷ es) m)) text ≡ (is_it || has (keys_of (e ∷ es)) text)
     by Less is rest = rw is refl
-    by Equal is rest = rw is (sym (or_self_left (bytes_eq e.0 text) (has (keys_of es) text)) ∙ ap (λ t. bytes_eq t text || has (keys_of (e ∷ es)) text) (sym (same_name (text_of_subject m) e.0 is)))
+    by Equal is rest = rw is (sym (or_self_left (bytes_eq e.0 text) (has (keys_of es) text))
+        ∙ ap (λ t. bytes_eq t text || has (keys_of (e ∷ es)) text) (sym (same_name (text_of_subject m) e.0 is)))
     by Greater is rest = rw is (ap (λ b. bytes_eq e.0 text || b) rest ∙ or-left_comm (bytes_eq e.0 text) is_it (has (keys_of es) text))
 
-all-has : (ms : List Subject) (es : Entries) (text : List ℕ) → has (keys_of (fold put es ms)) text ≡ (has (map text_of_subject ms) text || has (keys_of es) text)
+all-has : (ms : List Subject) (es : Entries) (text : List ℕ)
+    → has (keys_of (fold put es ms)) text ≡ (has (map text_of_subject ms) text || has (keys_of es) text)
 all-has [] es text = refl
 all-has (m ∷ ms) es text =
     all-has ms (put es m) text

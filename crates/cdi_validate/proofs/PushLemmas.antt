@@ -1,10 +1,12 @@
 -- Loops that push what passes a test.
-use Rattle.std.proofs.Common.{◌≡◌, ℕ, ◌+◌, ◌<◌, Bool, true, false, cond, List, [], ◌∷◌, ◌++◌, map, filter, length, get_or, drop, refl, sym, ap, ◌∙◌, append_assoc, inl, inr, ◌⊎◌}
+use Rattle.std.proofs.Common.{◌≡◌, ℕ, ◌+◌, ◌<◌, Bool, true, false, cond, List, [], ◌∷◌, ◌++◌, map, filter, length, get_or, drop, refl, sym}
+use Rattle.std.proofs.Common.{ap, ◌∙◌, append_assoc, inl, inr, ◌⊎◌}
 use Rattle.std.specs.List.{flat_map, zip}
 use Rattle.std.proofs.lemmas.List.{at_drop_more}
 
 -- one that passes is pushed
-pub pushed : {A B : Type 0} (f : A → B) (p : A → Bool) (xs : List A) (i : ℕ) (x : A) (old total : List B) → i < length xs → x ≡ get_or xs i x → p x ≡ true
+pub pushed : {A B : Type 0} (f : A → B) (p : A → Bool) (xs : List A) (i : ℕ) (x : A) (old total : List B) → i < length xs
+    → x ≡ get_or xs i x → p x ≡ true
     → old ++ map f (filter p (drop i xs)) ≡ total → (old ++ f x ∷ []) ++ map f (filter p (drop (i + 1) xs)) ≡ total
 pushed f p xs i x old total within at passes all =
     let rest = drop (i + 1) xs in
@@ -15,7 +17,8 @@ pushed f p xs i x old total within at passes all =
     ∙ all
 
 -- one that does not is passed over
-pub passed_over : {A B : Type 0} (f : A → B) (p : A → Bool) (xs : List A) (i : ℕ) (x : A) (old total : List B) → i < length xs → x ≡ get_or xs i x → p x ≡ false
+pub passed_over : {A B : Type 0} (f : A → B) (p : A → Bool) (xs : List A) (i : ℕ) (x : A) (old total : List B) → i < length xs
+    → x ≡ get_or xs i x → p x ≡ false
     → old ++ map f (filter p (drop i xs)) ≡ total → old ++ map f (filter p (drop (i + 1) xs)) ≡ total
 passed_over f p xs i x old total within at fails all =
     let rest = drop (i + 1) xs in
@@ -29,7 +32,8 @@ pub appended : {A B : Type 0} (f : A → List B) (xs : List A) (i : ℕ) (x : A)
     → old ++ flat_map f (drop i xs) ≡ total → (old ++ f x) ++ flat_map f (drop (i + 1) xs) ≡ total
 appended f xs i x old total within at all =
     let rest = drop (i + 1) xs in
-    append_assoc old (f x) (flat_map f rest) ∙ ap (λ y. old ++ flat_map f (y ∷ rest)) at ∙ sym (at_drop_more (λ ys. old ++ flat_map f ys) xs i x within) ∙ all
+    append_assoc old (f x) (flat_map f rest) ∙ ap (λ y. old ++ flat_map f (y ∷ rest)) at
+    ∙ sym (at_drop_more (λ ys. old ++ flat_map f ys) xs i x within) ∙ all
 
 -- where one of two lists ends their pairs do
 pub zip-empty : {A B : Type 0} (xs : List A) (ys : List B) → (xs ≡ []) ⊎ (ys ≡ []) → zip xs ys ≡ []

@@ -1,5 +1,6 @@
 -- What the records of a bean declaration say of its parts.
-use Rattle.std.proofs.Common.{◌≡◌, ℕ, Bool, true, false, not, cond, List, [], ◌∷◌, ◌++◌, map, filter, length, nat_lt, Option, Some, None, unwrap_or, refl, ap, ◌∙◌}
+use Rattle.std.proofs.Common.{◌≡◌, ℕ, Bool, true, false, not, cond, List, [], ◌∷◌, ◌++◌, map, filter, length, nat_lt, Option, Some, None}
+use Rattle.std.proofs.Common.{unwrap_or, refl, ap, ◌∙◌}
 use Rattle.std.specs.List.{AllByRecursion, flat_map, list_any}
 use Rattle.std.specs.Option.{option_to_list}
 use Rattle.std.specs.Str.{bytes_eq}
@@ -32,7 +33,8 @@ unfolding effective
 product-producer ds bean p = refl
 
 -- the records of a bean declaration are its managed bean and its products
-pub records_of_bean : (ds : List Decl) (d : Decl) (bean : BeanDecl) (b : Effective) (bs : List Effective) → d ≡ decls.Bean bean → b ∷ bs ≡ entries ds d
+pub records_of_bean : (ds : List Decl) (d : Decl) (bean : BeanDecl) (b : Effective) (bs : List Effective) → d ≡ decls.Bean bean
+    → b ∷ bs ≡ entries ds d
     → (b ≡ managed ds bean) × (bs ≡ map (product ds bean) bean.producers)
 records_of_bean ds d bean b bs is same =
     let all : b ∷ bs ≡ managed ds bean ∷ map (product ds bean) bean.producers = same ∙ ap (entries ds) is in
@@ -41,15 +43,20 @@ records_of_bean ds d bean b bs is same =
 -- ---- products by the names of their producer methods
 
 pub named_products : (test : Effective → Bool) (ds : List Decl) (bean : BeanDecl) (ps : List ProducerDecl)
-    → map parts.Producer (flat_map (λ b. option_to_list b.id.producer) (filter test (map (product ds bean) ps))) ≡ map (λ p. parts.Producer p.name) (filter (λ p. test (product ds bean p)) ps)
+    → map parts.Producer (flat_map (λ b. option_to_list b.id.producer) (filter test (map (product ds bean) ps)))
+    ≡ map (λ p. parts.Producer p.name) (filter (λ p. test (product ds bean p)) ps)
 named_products test ds bean [] = refl
 named_products test ds bean (p ∷ ps) = by (test (product ds bean p)) (named_products test ds bean ps)
   where
-    by : (b : Bool) → map parts.Producer (flat_map (λ b. option_to_list b.id.producer) (filter test (map (product ds bean) ps))) ≡ map (λ p. parts.Producer p.name) (filter (λ p. test (product ds bean p)) ps)
-        → map parts.Producer (flat_map (λ b. option_to_list b.id.producer) (cond b (product ds bean p ∷ filter test (map (product ds bean) ps)) (filter test (map (product ds bean) ps))))
-        ≡ map (λ p. parts.Producer p.name) (cond b (p ∷ filter (λ p. test (product ds bean p)) ps) (filter (λ p. test (product ds bean p)) ps))
+    by : (b : Bool) → map parts.Producer (flat_map (λ b. option_to_list b.id.producer) (filter test (map (product ds bean) ps)))
+        ≡ map (λ p. parts.Producer p.name) (filter (λ p. test (product ds bean p)) ps)
+        → map parts.Producer (flat_map (λ b. option_to_list b.id.producer)
+        (cond b (product ds bean p ∷ filter test (map (product ds bean) ps)) (filter test (map (product ds bean) ps))))
+        ≡ map (λ p. parts.Producer p.name) (cond b (p ∷ filter (λ p. test (product ds bean p)) ps)
+        (filter (λ p. test (product ds bean p)) ps))
     by true rest =
-        ap (λ o. map parts.Producer (option_to_list o ++ flat_map (λ b. option_to_list b.id.producer) (filter test (map (product ds bean) ps)))) (product-producer ds bean p)
+        ap (λ o. map parts.Producer (option_to_list o
+        ++ flat_map (λ b. option_to_list b.id.producer) (filter test (map (product ds bean) ps)))) (product-producer ds bean p)
         ∙ ap (λ ms. parts.Producer p.name ∷ ms) rest
     by false rest = rest
 
@@ -57,7 +64,8 @@ abbrev pub without_product : List Decl → List Effective → List DisposerDecl 
 without_product ds bs disposers = map (λ s. parts.Disposer s.name) (filter (λ s. not (list_any (λ p. disposes ds p s) bs)) disposers)
 
 abbrev pub with_two : List Decl → List Effective → List DisposerDecl → List Subject
-with_two ds bs disposers = map parts.Producer (flat_map (λ b. option_to_list b.id.producer) (filter (λ b. nat_lt 1 (length (filter (disposes ds b) disposers))) bs))
+with_two ds bs disposers = map parts.Producer
+    (flat_map (λ b. option_to_list b.id.producer) (filter (λ b. nat_lt 1 (length (filter (disposes ds b) disposers))) bs))
 
 -- what is at fault of the disposers of a declaration, whose products are those behind its first record
 pub disposers_of_records : (ds : List Decl) (bean : BeanDecl) (b : Effective) (bs : List Effective) → b ∷ bs ≡ entries ds (decls.Bean bean)
@@ -72,7 +80,8 @@ disposers_of_records ds bean b bs same =
 
 same_filter : {A : Type 0} (p q : A → Bool) (xs : List A) → AllByRecursion (λ x. p x ≡ q x) xs → filter p xs ≡ filter q xs
 same_filter p q [] same = refl
-same_filter p q (x ∷ xs) same = ap (λ b. cond b (x ∷ filter p xs) (filter p xs)) same.0 ∙ ap (λ ys. cond (q x) (x ∷ ys) ys) (same_filter p q xs same.1)
+same_filter p q (x ∷ xs) same = ap (λ b. cond b (x ∷ filter p xs) (filter p xs)) same.0
+    ∙ ap (λ ys. cond (q x) (x ∷ ys) ys) (same_filter p q xs same.1)
 
 -- a restriction to some types leaves each of these
 has-restricted : (listed types : List (List ℕ)) (s : List ℕ) → has listed s ≡ true → has (filter (is_kept listed) types) s ≡ has types s
@@ -89,11 +98,14 @@ listed_among types (s ∷ listed) all among = (
   listed_among types listed all (λ t h. among t (or_right (bytes_eq s t) (has listed t) h)),
 )
 
-listed_and_restricted : (o : Option (List (List ℕ))) (types : List (List ℕ)) → filter (λ s. not (has (restricted o types) s)) (unwrap_or o []) ≡ filter (λ s. not (has types s)) (unwrap_or o [])
+listed_and_restricted : (o : Option (List (List ℕ))) (types : List (List ℕ))
+    → filter (λ s. not (has (restricted o types) s)) (unwrap_or o []) ≡ filter (λ s. not (has types s)) (unwrap_or o [])
 listed_and_restricted None types = refl
-listed_and_restricted (Some listed) types = same_filter (λ s. not (has (filter (is_kept listed) types) s)) (λ s. not (has types s)) listed (listed_among types listed listed (λ s h. h))
+listed_and_restricted (Some listed) types = same_filter (λ s. not (has (filter (is_kept listed) types) s)) (λ s. not (has types s)) listed
+    (listed_among types listed listed (λ s h. h))
 
-not_had_of_managed : (ds : List Decl) (bean : BeanDecl) → not_had (managed ds bean) bean.attributes ≡ map (λ s. parts.Typed None s) (wrongly_listed ds bean.name bean.attributes)
+not_had_of_managed : (ds : List Decl) (bean : BeanDecl)
+    → not_had (managed ds bean) bean.attributes ≡ map (λ s. parts.Typed None s) (wrongly_listed ds bean.name bean.attributes)
 unfolding effective
 not_had_of_managed ds bean = ap (map (parts.Typed None)) (listed_and_restricted bean.attributes.types (types_of ds bean.name))
 
@@ -103,11 +115,13 @@ unfolding effective
 not_had_of_product ds bean p = ap (map (parts.Typed (Some p.name))) (listed_and_restricted p.attributes.types (types_of ds p.product_type))
 
 not_had_by_products : (ds : List Decl) (bean : BeanDecl) (ps : List ProducerDecl)
-    → not_had_by (map (product ds bean) ps) ps ≡ flat_map (λ p. map (λ s. parts.Typed (Some p.name) s) (wrongly_listed ds p.product_type p.attributes)) ps
+    → not_had_by (map (product ds bean) ps) ps
+    ≡ flat_map (λ p. map (λ s. parts.Typed (Some p.name) s) (wrongly_listed ds p.product_type p.attributes)) ps
 not_had_by_products ds bean [] = refl
 not_had_by_products ds bean (p ∷ ps) =
     ap (λ ms. ms ++ not_had_by (map (product ds bean) ps) ps) (not_had_of_product ds bean p)
-    ∙ ap (λ ms. map (λ s. parts.Typed (Some p.name) s) (wrongly_listed ds p.product_type p.attributes) ++ ms) (not_had_by_products ds bean ps)
+    ∙ ap (λ ms. map (λ s. parts.Typed (Some p.name) s) (wrongly_listed ds p.product_type p.attributes) ++ ms)
+    (not_had_by_products ds bean ps)
 
 -- the listed types that the records of a declaration do not have are those that are not among the unrestricted ones
 pub typed_by_entries : (ds : List Decl) (d : Decl) → typed_by d (entries ds d) ≡ typed ds d
@@ -116,4 +130,5 @@ typed_by_entries ds (decls.Qualifier d) = refl
 typed_by_entries ds (decls.Stereotype d) = refl
 typed_by_entries ds (decls.Bean bean) =
     ap (λ ms. ms ++ not_had_by (map (product ds bean) bean.producers) bean.producers) (not_had_of_managed ds bean)
-    ∙ ap (λ ms. map (λ s. parts.Typed None s) (wrongly_listed ds bean.name bean.attributes) ++ ms) (not_had_by_products ds bean bean.producers)
+    ∙ ap (λ ms. map (λ s. parts.Typed None s) (wrongly_listed ds bean.name bean.attributes) ++ ms)
+    (not_had_by_products ds bean bean.producers)

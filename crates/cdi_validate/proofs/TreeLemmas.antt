@@ -15,7 +15,8 @@ abbrev pub shown : List (Text × Subject) → List (List ℕ × Subject)
 shown es = map (λ e. (e.0.items, e.1)) es
 
 -- what stands behind its text stands behind the bytes of this
-pub shown-insert : (k : Text) (m : Subject) (es : List (Text × Subject)) → shown (insert_entry text_order es k m) ≡ insert_entry byte_order (shown es) k.items m
+pub shown-insert : (k : Text) (m : Subject) (es : List (Text × Subject))
+    → shown (insert_entry text_order es k m) ≡ insert_entry byte_order (shown es) k.items m
 shown-insert k m [] = refl
 shown-insert k m (e ∷ es) = by (text_order k e.0) refl (shown-insert k m es)
   where

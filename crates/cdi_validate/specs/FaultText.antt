@@ -5,6 +5,7 @@ use Rattle.std.specs.List.Sorted.{IsStrictlySortedBy}
 use Rattle.std.specs.Ordering.{nat_cmp}
 use Rattle.std.specs.declared.cmp.Ordering.{Ordering}
 use Rattle.std.specs.Cmp.Lexicographic.{slice_cmp}
+use Rattle.cdi_model.specs.Bytes.{space}
 use Rattle.cdi_model.specs.Decl.{word_of_kind}
 use Rattle.cdi_model.specs.UseText.{text_of_use}
 use Rattle.cdi_match.specs.Chain.{has}
@@ -17,11 +18,11 @@ use Rattle.cdi_validate.specs.declared.fault.Subject.TheVariants as subjects
 
 -- a word, a space, and what it is about
 abbrev pub about : List ℕ → List ℕ → List ℕ
-about word text = word ++ 32 ∷ text
+about word text = word ++ space ∷ text
 
 abbrev pub in_producer : Option (List ℕ) → List ℕ → List ℕ
 in_producer None text = text
-in_producer (Some producer) text = about (codes "producer") (producer ++ 32 ∷ text)
+in_producer (Some producer) text = about (codes "producer") (producer ++ space ∷ text)
 
 -- a point of a bean is called so, one of a producer a param
 abbrev pub text_of_point : Option (List ℕ) → List ℕ → List ℕ
@@ -58,13 +59,14 @@ text_of_code fault_codes.Ambiguous = codes "F21"
 -- behind a space, where it is not empty
 abbrev pub behind_space : List ℕ → List ℕ
 behind_space [] = []
-behind_space (c ∷ cs) = 32 ∷ c ∷ cs
+behind_space (c ∷ cs) = space ∷ c ∷ cs
 
 -- the code, the kind and the name of the declaration, and the subject
 abbrev pub text_of_fault : Fault → List ℕ
-text_of_fault (faults_are.Declared code kind name subject) = text_of_code code ++ 32 ∷ word_of_kind kind ++ 32 ∷ name ++ behind_space (text_of_subject subject)
+text_of_fault (faults_are.Declared code kind name subject) = text_of_code code ++ space ∷ word_of_kind kind ++ space ∷ name
+    ++ behind_space (text_of_subject subject)
 text_of_fault (faults_are.NameClash name) = codes "F24 name " ++ name
-text_of_fault (faults_are.NamePrefix name longer) = codes "F25 name " ++ name ++ 32 ∷ longer
+text_of_fault (faults_are.NamePrefix name longer) = codes "F25 name " ++ name ++ space ∷ longer
 
 -- ---- order
 

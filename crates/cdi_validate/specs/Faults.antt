@@ -1,8 +1,10 @@
 -- The faults of a deployment (CDI 4.0, Problems detected automatically by the container): for each code, what has it.
-use Rattle.std.specs.Prelude.{◌≢◌, AllPairs, ℕ, nat_eq, nat_lt, Bool, true, false, not, ◌||◌, List, [], ◌∷◌, ◌++◌, map, filter, length, codes, Option, Some, None, is_some, option_map, unwrap_or, if◌then◌else◌}
+use Rattle.std.specs.Prelude.{◌≢◌, AllPairs, ℕ, nat_eq, nat_lt, Bool, true, false, not, ◌||◌, List, [], ◌∷◌, ◌++◌, map, filter, length}
+use Rattle.std.specs.Prelude.{codes, Option, Some, None, is_some, option_map, unwrap_or, if◌then◌else◌}
 use Rattle.std.specs.List.{list_any, flat_map, starts_with}
 use Rattle.std.specs.Option.{option_to_list}
 use Rattle.std.specs.Str.{bytes_eq}
+use Rattle.cdi_model.specs.Bytes.{dot}
 use Rattle.cdi_model.specs.Decl.{key_of, kind_of, name_of_decl}
 use Rattle.cdi_model.specs.DeclList.{find_decl}
 use Rattle.cdi_model.specs.declared.decl.Attributes.{Attributes}
@@ -125,7 +127,7 @@ part_of id = unwrap_or (option_map subjects.Producer id.producer) subjects.Whole
 abbrev pub scope_conflicts : List Effective → List Subject
 scope_conflicts bs = map (λ b. part_of b.id) (filter (λ b. b.has_scope_conflict) bs)
 
--- ---- uses with a subject that isn't declared, or without a value for one that has no default
+-- ---- uses with a member that isn't declared, or without a value for one that has no default
 
 abbrev pub bad_uses : List Decl → Decl → List Subject
 bad_uses ds d = map subjects.Use (filter (is_misused ds) (written_uses d))
@@ -179,7 +181,8 @@ subjects_at_fault codes_of.Unsatisfied ds d = points_at_fault (has_verdict verdi
 subjects_at_fault codes_of.Ambiguous ds d = points_at_fault (has_verdict verdicts.Ambiguous) ds d
 
 abbrev pub all_codes : List Code
-all_codes = codes_of.UnknownName ∷ codes_of.Cycle ∷ codes_of.BadKind ∷ codes_of.Typed ∷ codes_of.ScopeConflict ∷ codes_of.Member ∷ codes_of.Disposer
+all_codes = codes_of.UnknownName ∷ codes_of.Cycle ∷ codes_of.BadKind ∷ codes_of.Typed ∷ codes_of.ScopeConflict ∷ codes_of.Member ∷
+    codes_of.Disposer
     ∷ codes_of.Unsatisfied ∷ codes_of.Ambiguous ∷ []
 
 -- the faults of a declaration of one code, by the texts of its subjects
@@ -199,13 +202,13 @@ name_clashes bs = map faults_are.NameClash (filter (λ n. is_ambiguous (chosen_b
 
 -- the second is the first, a dot and a name
 abbrev pub goes_on : List ℕ → List ℕ → Bool
-goes_on x y = starts_with nat_eq y (x ++ 46 ∷ [])
+goes_on x y = starts_with nat_eq y (x ++ dot ∷ [])
 
 -- pairs of them
 abbrev pub name_prefixes : List Effective → List Fault
 name_prefixes bs = flat_map (λ x. map (faults_are.NamePrefix x) (filter (goes_on x) (enabled_names bs))) (enabled_names bs)
 
--- the declarations in order, each with its faults by code and then by text; then the names
+-- the declarations in order, each with its faults by code and then by text; then the names (profile)
 unfoldable pub faults : List Decl → List Fault
 faults ds = flat_map (faults_of ds) ds ++ name_clashes (beans ds) ++ name_prefixes (beans ds)
 

@@ -32,7 +32,8 @@ typed_by _ _ = []
 
 -- the points of an enabled bean whose choice, which stands at the same place, is such
 abbrev pub at_fault : (Choice → Bool) → Effective → List PointDecl → List Choice → List Subject
-at_fault test b points choices = if b.is_enabled then map (λ z. subjects.Point b.id.producer z.0.name) (filter (λ z. test z.1) (zip points choices)) else []
+at_fault test b points choices = if b.is_enabled then map (λ z. subjects.Point b.id.producer z.0.name)
+    (filter (λ z. test z.1) (zip points choices)) else []
 
 -- those of each record of a producer method: its choices stand in front of those of the ones behind it
 abbrev pub at_fault_by : (Choice → Bool) → List Effective → List ProducerDecl → List Choice → List Subject

@@ -51,7 +51,8 @@ pub fn faults<V: View>(alloc: Global, view: &mut V) -> Result<Vec<Fault>, AllocE
     ensures faults { IfOk result (λ list. list.items ≡ faults (V.list view.old)) }
     ensures list { V.list view.new ≡ V.list view.old }
     ensures ok { OnOk result (V.kept view.new ≡ evaluated (V.list view.old) (wanted (V.list view.old)) (V.kept view.old)) }
-    ensures err { OnErr result ((i : ℕ) × (V.kept view.new ≡ evaluated (V.list view.old) (take i (wanted (V.list view.old))) (V.kept view.old))) }
+    ensures err { OnErr result ((i : ℕ) × (V.kept view.new
+        ≡ evaluated (V.list view.old) (take i (wanted (V.list view.old))) (V.kept view.old))) }
     ensures order { SubjectsInOrder }
     ensures once { FaultsStandOnce }
 {
@@ -144,7 +145,8 @@ fn push_declared(
     subjects: Vec<Subject>,
     faults: &mut Vec<Fault>,
 ) -> Result<(), AllocError>
-    ensures { OnOk result (faults.new.items ≡ faults.old.items ++ map (the_faults.Declared code (kind_of decl.now) (name_of_decl decl.now)) subjects.items) }
+    ensures { OnOk result (faults.new.items ≡ faults.old.items
+        ++ map (the_faults.Declared code (kind_of decl.now) (name_of_decl decl.now)) subjects.items) }
 {
     for subject in subjects {
         faults.push(Fault::Declared {

@@ -100,7 +100,8 @@ fn push_classes(
     decls: &Decls,
     implemented: &[Name],
 ) -> Result<(), AllocError>
-    ensures { OnOk result (subjects.new.items ≡ subjects.old.items ++ map subjects_are.Implements (filter (is_class decls.now) implemented.now)) }
+    ensures { OnOk result (subjects.new.items
+        ≡ subjects.old.items ++ map subjects_are.Implements (filter (is_class decls.now) implemented.now)) }
 {
     for name in implemented {
         if is_class(decls, *name) {

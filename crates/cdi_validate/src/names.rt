@@ -27,8 +27,12 @@ struct Names {
 impl Names {
     /// Adds the name of a bean that is enabled, if it has one.
     fn add_if_enabled(&mut self, bean: &Effective) -> Result<(), AllocError>
-        ensures all { OnOk result ((s : List ℕ) → contains (slice_cmp nat_cmp) self.new.all s ≡ (contains (slice_cmp nat_cmp) self.old.all s || has (enabled_name bean.now) s)) }
-        ensures twice { OnOk result ((s : List ℕ) → contains (slice_cmp nat_cmp) self.new.twice s ≡ (contains (slice_cmp nat_cmp) self.old.twice s || (contains (slice_cmp nat_cmp) self.old.all s && has (enabled_name bean.now) s))) }
+        ensures all { OnOk result ((s : List ℕ) → contains (slice_cmp nat_cmp) self.new.all s
+            ≡ (contains (slice_cmp nat_cmp) self.old.all s || has (enabled_name bean.now) s)) }
+        ensures twice { OnOk result ((s : List ℕ)
+            → contains (slice_cmp nat_cmp) self.new.twice s
+            ≡ (contains (slice_cmp nat_cmp) self.old.twice s
+            || (contains (slice_cmp nat_cmp) self.old.all s && has (enabled_name bean.now) s))) }
     {
         if !bean.is_enabled {
             return Ok(());
@@ -87,7 +91,8 @@ fn push_clashes(
     names: &[Name],
     faults: &mut Vec<Fault>,
 ) -> Result<(), AllocError>
-    ensures { OnOk result (faults.new.items ≡ faults.old.items ++ map faults_are.NameClash (filter (λ n. is_ambiguous (chosen_by_name beans.now n)) names.now)) }
+    ensures { OnOk result (faults.new.items ≡ faults.old.items
+        ++ map faults_are.NameClash (filter (λ n. is_ambiguous (chosen_by_name beans.now n)) names.now)) }
 {
     for name in names {
         if matches!(choose_name(alloc, beans, *name)?, Choice::Ambiguous(_)) {

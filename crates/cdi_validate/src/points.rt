@@ -40,7 +40,8 @@ pub(crate) fn points_at_fault(
     verdict: Verdict,
 ) -> Result<Vec<Subject>, AllocError>
     requires { length answers.now ≡ length (points_of decl.now) }
-    ensures { IfOk result (λ list. list.items ≡ points_by (has_verdict verdict) decl.now beans.now (map (λ answer. answer.value) answers.now)) }
+    ensures { IfOk result (λ list. list.items
+        ≡ points_by (has_verdict verdict) decl.now beans.now (map (λ answer. answer.value) answers.now)) }
 {
     let mut subjects = Vec::new(alloc);
     let Decl::Bean(bean) = decl else {

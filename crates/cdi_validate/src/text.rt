@@ -2,7 +2,8 @@
 ghost use Rattle.std.specs.Prelude.{◌≡◌, [], ◌++◌, Some, IfOk, OnOk};
 ghost use Rattle.std.specs.BTreeMap.{insert_entry, values};
 ghost use Rattle.cdi_validate.specs.TextTree.{entries_in};
-ghost use Rattle.cdi_validate.specs.FaultText.{text_of_code, text_of_subject, text_of_fault, byte_order, by_text, in_text_order, SubjectsInOrder};
+ghost use Rattle.cdi_validate.specs.FaultText.{text_of_code, text_of_subject, text_of_fault, byte_order, by_text, in_text_order};
+ghost use Rattle.cdi_validate.specs.FaultText.{SubjectsInOrder};
 
 use crate::fault::{Code, Fault, Subject};
 use std::alloc::{AllocError, Global};

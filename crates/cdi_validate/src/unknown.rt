@@ -36,7 +36,8 @@ pub(crate) fn unknown_names(
 
 /// Appends the class of a bean, where it is not declared.
 fn push_class(subjects: &mut Vec<Subject>, decls: &Decls, decl: &Decl) -> Result<(), AllocError>
-    ensures { OnOk result (subjects.new.items ≡ subjects.old.items ++ map subjects_are.Type (filter (λ t. not (is_declared kinds.Type decls.now t)) (class_named decl.now))) }
+    ensures { OnOk result (subjects.new.items
+        ≡ subjects.old.items ++ map subjects_are.Type (filter (λ t. not (is_declared kinds.Type decls.now t)) (class_named decl.now))) }
 {
     if let Decl::Bean(bean) = decl {
         if decls.get(Kind::Type, bean.name).is_none() {
@@ -120,7 +121,8 @@ fn push_types_of_params(
     decls: &Decls,
     producers: &[ProducerDecl],
 ) -> Result<(), AllocError>
-    ensures { OnOk result (subjects.new.items ≡ subjects.old.items ++ unknown_types decls.now (map (λ p. p.required_type) (flat_map (λ p. p.params) producers.now))) }
+    ensures { OnOk result (subjects.new.items
+        ≡ subjects.old.items ++ unknown_types decls.now (map (λ p. p.required_type) (flat_map (λ p. p.params) producers.now))) }
 {
     for producer in producers {
         push_types_of_points(subjects, decls, producer.params.as_slice())?;
@@ -133,7 +135,8 @@ fn push_types_of_producers(
     decls: &Decls,
     producers: &[ProducerDecl],
 ) -> Result<(), AllocError>
-    ensures { OnOk result (subjects.new.items ≡ subjects.old.items ++ unknown_types decls.now (flat_map (λ p. p.product_type ∷ listed_types p.attributes) producers.now)) }
+    ensures { OnOk result (subjects.new.items
+        ≡ subjects.old.items ++ unknown_types decls.now (flat_map (λ p. p.product_type ∷ listed_types p.attributes) producers.now)) }
 {
     for producer in producers {
         push_type(subjects, decls, producer.product_type)?;
@@ -200,7 +203,8 @@ fn push_stereotypes_of_bean(
     decls: &Decls,
     bean: &BeanDecl,
 ) -> Result<(), AllocError>
-    ensures { OnOk result (subjects.new.items ≡ subjects.old.items ++ unknown_stereotypes decls.now (named_stereotypes (decls_are.Bean bean.now))) }
+    ensures { OnOk result (subjects.new.items
+        ≡ subjects.old.items ++ unknown_stereotypes decls.now (named_stereotypes (decls_are.Bean bean.now))) }
 {
     push_stereotypes(subjects, decls, bean.attributes.stereotypes.as_slice())?;
     for producer in bean.producers.as_slice() {

@@ -56,7 +56,8 @@ fn push_of_bean(
     bean: &BeanDecl,
     fault: UseFault,
 ) -> Result<(), AllocError>
-    ensures { OnOk result (subjects.new.items ≡ subjects.old.items ++ uses_at_fault fault decls.now (written_uses (decls_are.Bean bean.now))) }
+    ensures { OnOk result (subjects.new.items
+        ≡ subjects.old.items ++ uses_at_fault fault decls.now (written_uses (decls_are.Bean bean.now))) }
 {
     let producers = bean.producers.as_slice();
     push_all(
@@ -77,7 +78,8 @@ fn push_of_points(
     points: &[PointDecl],
     fault: UseFault,
 ) -> Result<(), AllocError>
-    ensures { OnOk result (subjects.new.items ≡ subjects.old.items ++ uses_at_fault fault decls.now (flat_map (λ p. p.qualifiers) points.now)) }
+    ensures { OnOk result (subjects.new.items
+        ≡ subjects.old.items ++ uses_at_fault fault decls.now (flat_map (λ p. p.qualifiers) points.now)) }
 {
     for point in points {
         push_all(subjects, decls, point.qualifiers.as_slice(), fault)?;
@@ -91,7 +93,8 @@ fn push_of_params(
     producers: &[ProducerDecl],
     fault: UseFault,
 ) -> Result<(), AllocError>
-    ensures { OnOk result (subjects.new.items ≡ subjects.old.items ++ uses_at_fault fault decls.now (flat_map (λ p. p.qualifiers) (flat_map (λ p. p.params) producers.now))) }
+    ensures { OnOk result (subjects.new.items
+        ≡ subjects.old.items ++ uses_at_fault fault decls.now (flat_map (λ p. p.qualifiers) (flat_map (λ p. p.params) producers.now))) }
 {
     for producer in producers {
         push_of_points(subjects, decls, producer.params.as_slice(), fault)?;
@@ -105,7 +108,8 @@ fn push_of_producers(
     producers: &[ProducerDecl],
     fault: UseFault,
 ) -> Result<(), AllocError>
-    ensures { OnOk result (subjects.new.items ≡ subjects.old.items ++ uses_at_fault fault decls.now (flat_map (λ p. p.attributes.qualifiers) producers.now)) }
+    ensures { OnOk result (subjects.new.items
+        ≡ subjects.old.items ++ uses_at_fault fault decls.now (flat_map (λ p. p.attributes.qualifiers) producers.now)) }
 {
     for producer in producers {
         push_all(
@@ -124,7 +128,8 @@ fn push_of_disposers(
     disposers: &[DisposerDecl],
     fault: UseFault,
 ) -> Result<(), AllocError>
-    ensures { OnOk result (subjects.new.items ≡ subjects.old.items ++ uses_at_fault fault decls.now (flat_map (λ s. s.qualifiers) disposers.now)) }
+    ensures { OnOk result (subjects.new.items
+        ≡ subjects.old.items ++ uses_at_fault fault decls.now (flat_map (λ s. s.qualifiers) disposers.now)) }
 {
     for disposer in disposers {
         push_all(subjects, decls, disposer.qualifiers.as_slice(), fault)?;

@@ -1,5 +1,6 @@
 -- The arguments of the command: their rules, and that SCRIPT has a value where the words are taken.
-use Rattle.std.proofs.Common.{◌≡◌, ◌<◌, ◌∙◌, zero, suc, true, false, true≢false, [], ◌∷◌, codes, arith, ap, ap₂, sym, refl, inl, inr, slice_index}
+use Rattle.std.proofs.Common.{◌≡◌, ◌<◌, ◌∙◌, zero, suc, true, false, true≢false, [], ◌∷◌, codes, arith, ap, ap₂, sym, refl, inl, inr}
+use Rattle.std.proofs.Common.{slice_index}
 use Rattle.std.specs.Str.{bytes_eq}
 use Rattle.clap.specs.Built.{FitsChain, HasDistinctIds}
 use Rattle.clap.specs.Walk.{Rule, Text}
@@ -23,7 +24,8 @@ clash : (x y s t : Text) → x ≡ s → y ≡ t → bytes_eq s t ≡ false → 
 clash x y s t p q apart same = true≢false (sym same ∙ (ap₂ bytes_eq p q ∙ apart))
 
 -- the three ids are distinct
-pub distinct : (a b c : Arg) → a.id.now ≡ codes "quiet" → b.id.now ≡ codes "strict" → c.id.now ≡ codes "script" → HasDistinctIds (a ∷ b ∷ c ∷ [])
+pub distinct : (a b c : Arg) → a.id.now ≡ codes "quiet" → b.id.now ≡ codes "strict" → c.id.now ≡ codes "script"
+    → HasDistinctIds (a ∷ b ∷ c ∷ [])
 distinct a b c p q r zero zero d e lj lk same = refl
 distinct a b c p q r zero (suc zero) d e lj lk same = absurd (clash _ _ _ _ p q refl same)
 distinct a b c p q r zero (suc (suc zero)) d e lj lk same = absurd (clash _ _ _ _ p r refl same)

@@ -26,7 +26,8 @@ pub record IsArgument (rule : Rule) (argument : Arg) : Type 0 where
 
 -- [--quiet] [--strict] SCRIPT
 unfoldable pub script_app : App
-script_app = with_rule (with_rule (with_rule (new_app (codes "container_script")) (flag_rule (codes "quiet"))) (flag_rule (codes "strict"))) script_rule
+script_app = with_rule (with_rule (with_rule (new_app (codes "container_script")) (flag_rule (codes "quiet"))) (flag_rule (codes "strict")))
+    script_rule
 
 -- the kinds of error that `clap` has for the words, none where they are a command line of this program
 abbrev pub faults_of : List Text → Kinds
@@ -34,7 +35,8 @@ faults_of words = fault_of script_app words
 
 -- where the command takes words, they give SCRIPT
 abbrev pub GivesScript : Command → Type 0
-GivesScript command = (matches : ArgMatches) → IsParsedFrom command matches → is_some (first_value (found_of matches) (codes "script")) ≡ true
+GivesScript command = (matches : ArgMatches) → IsParsedFrom command matches
+    → is_some (first_value (found_of matches) (codes "script")) ≡ true
 
 -- what the text of a flag says
 pub record MeansFlag (text : Option Text) (flag : Bool) : Type 0 where

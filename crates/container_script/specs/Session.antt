@@ -1,8 +1,10 @@
 -- What a run of the program did.
-use Rattle.std.specs.Prelude.{◌≡◌, ◌≢◌, ◌⊎◌, ◌<◌, ◌&&◌, ℕ, Bool, true, false, List, [], ◌∷◌, ◌++◌, Option, Result, Ok, Err, MatchResult, codes, if◌then◌else◌}
+use Rattle.std.specs.Prelude.{◌≡◌, ◌≢◌, ◌⊎◌, ◌<◌, ◌&&◌, ℕ, Bool, true, false, List, [], ◌∷◌, ◌++◌, Option, Result, Ok, Err, MatchResult}
+use Rattle.std.specs.Prelude.{codes, if◌then◌else◌}
 use Rattle.std.specs.Io.KnownBytes.{Appends}
 use Rattle.std.specs.declared.io.ErrorKind as opening
 use Rattle.std.specs.declared.io.ErrorKind.TheVariants as kind
+use Rattle.cdi_container.specs.Bytes.{feed}
 use Rattle.clap.specs.Kinds.{Kinds, IsAmong}
 use Rattle.clap.specs.Simple.{matches_of}
 use Rattle.clap.specs.Walk.{Text}
@@ -38,7 +40,7 @@ status_of_words _ = 2
 -- ---- texts on the standard error
 
 abbrev pub line : Text → Text
-line text = text ++ 10 ∷ []
+line text = text ++ feed ∷ []
 
 abbrev pub text_of_fault : RunFault → Text
 text_of_fault Read = line (codes "error: read failed")
@@ -109,16 +111,20 @@ module _ {File O : Type 0} (left : File → Option (List ℕ)) (held : O → Opt
 abbrev pub IsInput : Text → Type 0
 IsInput script = script ≡ codes "-"
 
-module _ {I File O E : Type 0} (contents_at : Text → Option (List ℕ)) (refuses : Text → opening.ErrorKind → Type 0) (input_left : I → Option (List ℕ)) (file_left : File → Option (List ℕ))
+module _ {I File O E : Type 0} (contents_at : Text → Option (List ℕ)) (refuses : Text → opening.ErrorKind → Type 0)
+    (input_left : I → Option (List ℕ)) (file_left : File → Option (List ℕ))
     (held : O → Option (List ℕ)) (told : E → Option (List ℕ)) (limit piece : ℕ) where
   -- the words mean options, the script that they name came to an outcome, a fault was told, and the status says which
-  pub record RunsWords (words : List Text) (input input_after : Counted I) (output output_after : Counted O) (errors errors_after : Counted E) (status : ℕ) : Type 0 where
+  pub record RunsWords (words : List Text) (input input_after : Counted I) (output output_after : Counted O)
+      (errors errors_after : Counted E) (status : ℕ) : Type 0 where
     pub options : Arguments
     pub means : Means (matches_of script_app words) options
     pub outcome : Result Summary RunFault
-    pub from_input : IsInput options.script.now → ComesTo held limit piece options.quiet output output_after outcome I input_left input input_after
+    pub from_input : IsInput options.script.now
+        → ComesTo held limit piece options.quiet output output_after outcome I input_left input input_after
     pub from_file : ¬ IsInput options.script.now → (input_after ≡ input)
-        × FileComesTo file_left held limit piece options.quiet (contents_at options.script.now) (refuses options.script.now) output output_after outcome
+        × FileComesTo file_left held limit piece options.quiet (contents_at options.script.now) (refuses options.script.now) output
+        output_after outcome
     pub complaint : MatchResult outcome (λ _. errors_after ≡ errors) (λ fault. Tells told errors errors_after (text_of_fault fault))
     pub status_is : status ≡ status_of options.strict outcome
 

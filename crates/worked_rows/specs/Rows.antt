@@ -1,5 +1,6 @@
 -- The lines of a row's block.
 use Rattle.std.specs.Prelude.{◌≡◌, ◌≢◌, ℕ, List, [], ◌∷◌, ◌++◌, codes, string_bytes}
+use Rattle.cdi_container.specs.Bytes.{feed}
 use Rattle.worked_rows.specs.declared.rows.BlockLine.{BlockLine}
 use Rattle.worked_rows.specs.declared.rows.BlockLine.TheVariants.{Answer, Script}
 use Rattle.worked_rows.specs.declared.rows.Row.{Row}
@@ -11,14 +12,14 @@ IsBlockLine line (Script text) = (text.now ≡ line) × ((rest : List ℕ) → l
 
 -- a row wants the answer behind the last line of its script
 pub record WantsFurther (answer : List ℕ) (old new : Row) : Type 0 where
-  pub wanted : string_bytes new.wanted ≡ string_bytes old.wanted ++ answer ++ 10 ∷ []
+  pub wanted : string_bytes new.wanted ≡ string_bytes old.wanted ++ answer ++ feed ∷ []
   pub commands : new.commands.items ≡ old.commands.items ++ old.last ∷ []
   pub script : string_bytes new.script ≡ string_bytes old.script
   pub last : new.last.now ≡ old.last.now
 
 -- a row's script has the line at its end
 pub record RunsFurther (line : List ℕ) (old new : Row) : Type 0 where
-  pub script : string_bytes new.script ≡ string_bytes old.script ++ line ++ 10 ∷ []
+  pub script : string_bytes new.script ≡ string_bytes old.script ++ line ++ feed ∷ []
   pub last : new.last.now ≡ line
   pub wanted : string_bytes new.wanted ≡ string_bytes old.wanted
   pub commands : new.commands.items ≡ old.commands.items

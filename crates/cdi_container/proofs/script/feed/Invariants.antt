@@ -4,7 +4,8 @@ use Rattle.cdi_container.specs.Run.{Feeds}
 use Rattle.cdi_container.proofs.script.feed.Given as goal
 
 abbrev pub invariant-loop-rest : goal.invariant-loop-rest
-invariant-loop-rest g l = ((done : List ℕ) × (l.chunk ≡ done ++ l.rest) × Feeds g.W.Write.contents l.fn.intake l.intake l.fn.writer l.writer done)
+invariant-loop-rest g l = ((done : List ℕ) × (l.chunk ≡ done ++ l.rest)
+    × Feeds g.W.Write.contents l.fn.intake l.intake l.fn.writer l.writer done)
     × (has_failed l.writer ≡ has_failed l.fn.writer)
 
 abbrev pub decreases-loop-rest : goal.decreases-loop-rest

@@ -4,7 +4,8 @@ use Rattle.cdi_container.specs.Run.{Goes}
 use Rattle.cdi_container.proofs.script.read_all.Given as goal
 
 abbrev pub invariant-loop-fault : goal.invariant-loop-fault
-invariant-loop-fault g l = Goes g.R.Read.remaining g.W.Write.contents 16777216 l.fn.intake.runner.quiet l.fn.reader l.fn.writer l.reader l.writer l.intake
+invariant-loop-fault g l = Goes g.R.Read.remaining g.W.Write.contents 16777216 l.fn.intake.runner.quiet l.fn.reader l.fn.writer l.reader
+    l.writer l.intake
 
 abbrev pub decreases-loop-fault : goal.decreases-loop-fault
 decreases-loop-fault g l = 16777216 - bytes_of l.reader

@@ -4,7 +4,11 @@ use Rattle.cdi_container.proofs.Feeding.{settles, part_here}
 use Rattle.cdi_container.proofs.script.settle.Goals as goal
 
 pub returns-clause-ok : goal.returns-clause-ok
-returns-clause-ok g c = on_ok_weaker c.send.result (λ s. settles g.W.Write.contents c.args.intake.now (record c.args.intake.now { runner = c.send.new.runner }) c.args.writer.now c.send.new.writer s refl refl) c.send.ensures.ok
+returns-clause-ok g c = on_ok_weaker c.send.result
+    (λ s. settles g.W.Write.contents c.args.intake.now (record c.args.intake.now { runner = c.send.new.runner }) c.args.writer.now
+    c.send.new.writer s refl refl) c.send.ensures.ok
 
 pub returns-clause-part : goal.returns-clause-part
-returns-clause-part g c = on_err_weaker c.send.result (part_here g.W.Write.contents c.args.intake.now c.args.intake.now.runner c.args.writer.now c.send.new.writer [] refl) c.send.ensures.part
+returns-clause-part g c = on_err_weaker c.send.result
+    (part_here g.W.Write.contents c.args.intake.now c.args.intake.now.runner c.args.writer.now c.send.new.writer [] refl)
+    c.send.ensures.part

@@ -6,26 +6,33 @@ use Rattle.cdi_container.proofs.Feeding.{feeds_advance, feeds_more, feeds_part_m
 use Rattle.cdi_container.proofs.script.take_some.Goals as goal
 
 pub returns-then-len-lt-MAX_OUT-clause-ok : goal.returns-then-len-lt-MAX_OUT-clause-ok
-returns-then-len-lt-MAX_OUT-clause-ok g c = feeds_advance g.W.Write.contents c.args.intake.now c.advance.new.self c.args.writer.now _ c.in-Ok.ensures.ok
+returns-then-len-lt-MAX_OUT-clause-ok g c = feeds_advance g.W.Write.contents c.args.intake.now c.advance.new.self c.args.writer.now _
+    c.in-Ok.ensures.ok
 
 pub returns-in-Err-clause-memory : goal.returns-in-Err-clause-memory
-returns-in-Err-clause-memory g c = λ e. memory_here g.W.Write.contents c.args.intake.now c.advance.new.self.runner c.args.writer.now c.give_up.new.writer c.args.chunk.now c.in-Err.ensures.err.text
+returns-in-Err-clause-memory g c = λ e. memory_here g.W.Write.contents c.args.intake.now c.advance.new.self.runner c.args.writer.now
+    c.give_up.new.writer c.args.chunk.now c.in-Err.ensures.err.text
     (c.give_up.ensures.memory (let is : c.give_up.result ≡ Memory = cc in is))
 
 pub returns-in-Err-clause-write : goal.returns-in-Err-clause-write
-returns-in-Err-clause-write g c = λ e. part_here g.W.Write.contents c.args.intake.now c.advance.new.self.runner c.args.writer.now c.give_up.new.writer c.args.chunk.now c.in-Err.ensures.err.text
+returns-in-Err-clause-write g c = λ e. part_here g.W.Write.contents c.args.intake.now c.advance.new.self.runner c.args.writer.now
+    c.give_up.new.writer c.args.chunk.now c.in-Err.ensures.err.text
     (c.give_up.ensures.write (let is : c.give_up.result ≡ Write = cc in is))
 
 pub returns-in-Ok-settle-clause-ok : goal.returns-in-Ok-settle-clause-ok
 returns-in-Ok-settle-clause-ok g c =
     let taken = take c.in-Ok.n c.args.chunk.now in
     subst (Feeds g.W.Write.contents c.args.intake.now c.settle.new.intake c.args.writer.now c.settle.new.writer) (append-nil taken)
-    (feeds_more g.W.Write.contents c.args.intake.now c.advance.new.self c.settle.new.intake c.args.writer.now c.args.writer.now c.settle.new.writer taken []
-    (feeds_advance g.W.Write.contents c.args.intake.now c.advance.new.self c.args.writer.now taken c.in-Ok.ensures.ok) c.in-Ok-settle.ensures.ok)
+    (feeds_more g.W.Write.contents c.args.intake.now c.advance.new.self c.settle.new.intake c.args.writer.now c.args.writer.now
+    c.settle.new.writer taken []
+    (feeds_advance g.W.Write.contents c.args.intake.now c.advance.new.self c.args.writer.now taken c.in-Ok.ensures.ok)
+    c.in-Ok-settle.ensures.ok)
 
 pub returns-in-Err-settle-clause-write : goal.returns-in-Err-settle-clause-write
 returns-in-Err-settle-clause-write g c = λ e.
     let taken = take c.in-Ok.n c.args.chunk.now in
     part_in_front g.W.Write.contents c.args.intake.now c.args.writer.now c.settle.new.writer c.in-Ok.n c.args.chunk.now
-    (feeds_part_more g.W.Write.contents c.args.intake.now c.advance.new.self c.args.writer.now c.args.writer.now c.settle.new.writer taken []
-    (feeds_advance g.W.Write.contents c.args.intake.now c.advance.new.self c.args.writer.now taken c.in-Ok.ensures.ok) c.in-Err-settle.ensures.part)
+    (feeds_part_more g.W.Write.contents c.args.intake.now c.advance.new.self c.args.writer.now c.args.writer.now c.settle.new.writer
+    taken []
+    (feeds_advance g.W.Write.contents c.args.intake.now c.advance.new.self c.args.writer.now taken c.in-Ok.ensures.ok)
+    c.in-Err-settle.ensures.part)

@@ -15,18 +15,25 @@ use Rattle.cdi_validate.proofs.OrderLemmas.{subjects_in_order}
 use Rattle.cdi_validate.proofs.deployment.faults.Goals as goal
 
 -- where all keys were asked, those from the front on were, up to the last
-all_asked : {T E : Type 0} (r : Result T E) (ds : List Decl) (before after : Kept) → after ≡ evaluated ds (wanted ds) before → OnErr r ((i : ℕ) × (after ≡ evaluated ds (take i (wanted ds)) before))
+all_asked : {T E : Type 0} (r : Result T E) (ds : List Decl) (before after : Kept) → after ≡ evaluated ds (wanted ds) before
+    → OnErr r ((i : ℕ) × (after ≡ evaluated ds (take i (wanted ds)) before))
 all_asked (Ok x) ds before after all = tt
-all_asked (Err e) ds before after all = (length (wanted ds), all ∙ ap (λ keys. evaluated ds keys before) (sym (take_all (length (wanted ds)) (wanted ds) (omega arith))))
+all_asked (Err e) ds before after all = (
+  length (wanted ds),
+  all
+      ∙ ap (λ keys. evaluated ds keys before) (sym (take_all (length (wanted ds)) (wanted ds) (omega arith))),
+)
 
 -- the faults of the declarations and then those of the names
-all_faults : (ds now : List Decl) (bs : List Effective) (none of_decls all : List Fault) → all ≡ of_decls ++ name_clashes bs ++ name_prefixes bs → of_decls ≡ none ++ flat_map (faults_of now) now → none ≡ []
+all_faults : (ds now : List Decl) (bs : List Effective) (none of_decls all : List Fault)
+    → all ≡ of_decls ++ name_clashes bs ++ name_prefixes bs → of_decls ≡ none ++ flat_map (faults_of now) now → none ≡ []
     → bs ≡ beans ds → now ≡ ds → all ≡ faults ds
 unfolding faults
 all_faults ds now bs none of_decls all with_names pushed empty of_beans is =
     with_names
     ∙ ap (λ es. of_decls ++ name_clashes es ++ name_prefixes es) of_beans
-    ∙ ap (λ fs. fs ++ name_clashes (beans ds) ++ name_prefixes (beans ds)) (pushed ∙ ap (λ fs. fs ++ flat_map (faults_of now) now) empty ∙ ap (λ es. flat_map (faults_of es) es) is)
+    ∙ ap (λ fs. fs ++ name_clashes (beans ds) ++ name_prefixes (beans ds))
+    (pushed ∙ ap (λ fs. fs ++ flat_map (faults_of now) now) empty ∙ ap (λ es. flat_map (faults_of es) es) is)
 
 pub push_of_decls-requires-clause-beans : goal.push_of_decls-requires-clause-beans
 unfolding beans
@@ -35,18 +42,22 @@ push_of_decls-requires-clause-beans g c = c.beans.ensures ∙ ap beans (sym c.de
 pub push_of_decls-requires-clause-answers : goal.push_of_decls-requires-clause-answers
 unfolding answers
 push_of_decls-requires-clause-answers g c =
-    ap (map (λ a. a.value)) c.as_slice.ensures.value ∙ c.in_ok-answers.ensures.answers ∙ ap answers (sym (c.decls.ensures ∙ c.in_ok-answers.ensures.list))
+    ap (map (λ a. a.value)) c.as_slice.ensures.value ∙ c.in_ok-answers.ensures.answers
+    ∙ ap answers (sym (c.decls.ensures ∙ c.in_ok-answers.ensures.list))
 
 pub returns-in_err-push_of_decls-clause-err : goal.returns-in_err-push_of_decls-clause-err
-returns-in_err-push_of_decls-clause-err g c = all_asked _ (g.V.View.list c.args.view.now) (g.V.View.kept c.args.view.now) (g.V.View.kept c.evaluate.new.view) c.in_ok-answers.ensures.ok
+returns-in_err-push_of_decls-clause-err g c = all_asked _ (g.V.View.list c.args.view.now) (g.V.View.kept c.args.view.now)
+    (g.V.View.kept c.evaluate.new.view) c.in_ok-answers.ensures.ok
 
 pub returns-in_err-push_of_names-clause-err : goal.returns-in_err-push_of_names-clause-err
-returns-in_err-push_of_names-clause-err g c = all_asked _ (g.V.View.list c.args.view.now) (g.V.View.kept c.args.view.now) (g.V.View.kept c.evaluate.new.view) c.in_ok-answers.ensures.ok
+returns-in_err-push_of_names-clause-err g c = all_asked _ (g.V.View.list c.args.view.now) (g.V.View.kept c.args.view.now)
+    (g.V.View.kept c.evaluate.new.view) c.in_ok-answers.ensures.ok
 
 pub returns-clause-faults : goal.returns-clause-faults
 returns-clause-faults g c =
     let same = c.in_ok-answers.ensures.list in
-    all_faults (g.V.View.list c.args.view.now) c.decls.result.now c.beans-2.result.now c.new-faults.result.items c.push_of_decls.new.faults.items c.push_of_names.new.faults.items c.in_ok-push_of_names.ensures
+    all_faults (g.V.View.list c.args.view.now) c.decls.result.now c.beans-2.result.now c.new-faults.result.items
+    c.push_of_decls.new.faults.items c.push_of_names.new.faults.items c.in_ok-push_of_names.ensures
     c.in_ok-push_of_decls.ensures c.new-faults.ensures.items (c.beans-2.ensures ∙ ap beans same) (c.decls.ensures ∙ same)
 
 pub returns-in_err-answers-clause-order : goal.returns-in_err-answers-clause-order

@@ -18,5 +18,7 @@ loop-code-preserved c =
     let of_code = faults_of_code c.args.decls.now d in
     ap (λ fs. fs ++ flat_map of_code (drop (i + 1) all_codes))
     (c.in_ok-push_declared.ensures
-    ∙ ap (λ ms. old ++ map (the_faults.Declared code (kind_of d) (name_of_decl d)) ms) (c.in_ok-in_text_order.ensures.value ∙ ap in_text_order c.in_ok-subjects.ensures))
-    ∙ appended of_code all_codes i code old _ c.loop-code-test.true (get_or_default all_codes i codes_of.UnknownName code c.loop-code-test.true) c.loop-code.invariant
+    ∙ ap (λ ms. old ++ map (the_faults.Declared code (kind_of d) (name_of_decl d)) ms)
+    (c.in_ok-in_text_order.ensures.value ∙ ap in_text_order c.in_ok-subjects.ensures))
+    ∙ appended of_code all_codes i code old _ c.loop-code-test.true
+    (get_or_default all_codes i codes_of.UnknownName code c.loop-code-test.true) c.loop-code.invariant

@@ -12,25 +12,30 @@ use Rattle.cdi_validate.proofs.PointLemmas.{IsSplit, split_read}
 use Rattle.cdi_validate.proofs.deployment.push_of_decls.Goals as goal
 
 -- the answers that are left begin with those of the next declaration
-split_next : (ds left others : List Decl) (d : Decl) (answers : List (Rc Choice Global)) (n : ℕ) → n ≡ length (points_of d) → left ≡ d ∷ others → map (λ a. a.value) answers ≡ map (answer_to ds) (flat_map points_of left)
+split_next : (ds left others : List Decl) (d : Decl) (answers : List (Rc Choice Global)) (n : ℕ) → n ≡ length (points_of d)
+    → left ≡ d ∷ others → map (λ a. a.value) answers ≡ map (answer_to ds) (flat_map points_of left)
     → IsSplit (λ a. a.value) (answer_to ds) answers (points_of d) (flat_map points_of others) n
 split_next ds left others d answers n counted next all =
-    split_read (λ a. a.value) (answer_to ds) answers (points_of d) (flat_map points_of others) n counted (all ∙ ap (λ es. map (answer_to ds) (flat_map points_of es)) next)
+    split_read (λ a. a.value) (answer_to ds) answers (points_of d) (flat_map points_of others) n counted
+    (all ∙ ap (λ es. map (answer_to ds) (flat_map points_of es)) next)
 
 pub point_count-requires : goal.point_count-requires
 point_count-requires c =
     let d = c.in-Some.decl.now in
-    let split = split_next c.args.decls.now c.loop-decl.decl-iterator c.next.new.self d c.loop-decl.rest_of_answers.now (length (points_of d)) refl c.in-Some.ensures.steps c.loop-decl.invariant.answers in
+    let split = split_next c.args.decls.now c.loop-decl.decl-iterator c.next.new.self d c.loop-decl.rest_of_answers.now
+    (length (points_of d)) refl c.in-Some.ensures.steps c.loop-decl.invariant.answers in
     omega (arith, split.within, c.loop-decl.invariant.bound)
 
 pub split_at-requires-in-loop-decl : goal.split_at-requires-in-loop-decl
 split_at-requires-in-loop-decl c =
-    let split = split_next c.args.decls.now c.loop-decl.decl-iterator c.next.new.self c.in-Some.decl.now c.loop-decl.rest_of_answers.now c.point_count.result c.point_count.ensures c.in-Some.ensures.steps c.loop-decl.invariant.answers in
+    let split = split_next c.args.decls.now c.loop-decl.decl-iterator c.next.new.self c.in-Some.decl.now c.loop-decl.rest_of_answers.now
+    c.point_count.result c.point_count.ensures c.in-Some.ensures.steps c.loop-decl.invariant.answers in
     split.within
 
 pub push_of_decl-requires-clause-answers : goal.push_of_decl-requires-clause-answers
 push_of_decl-requires-clause-answers c =
-    let split = split_next c.args.decls.now c.loop-decl.decl-iterator c.next.new.self c.in-Some.decl.now c.loop-decl.rest_of_answers.now c.point_count.result c.point_count.ensures c.in-Some.ensures.steps c.loop-decl.invariant.answers in
+    let split = split_next c.args.decls.now c.loop-decl.decl-iterator c.next.new.self c.in-Some.decl.now c.loop-decl.rest_of_answers.now
+    c.point_count.result c.point_count.ensures c.in-Some.ensures.steps c.loop-decl.invariant.answers in
     ap (map (λ a. a.value)) c.split_at-in-loop-decl.ensures.front ∙ split.front
 
 pub loop-decl-preserved : goal.loop-decl-preserved
@@ -38,7 +43,8 @@ loop-decl-preserved c =
     let ds = c.args.decls.now in
     let d = c.in-Some.decl.now in
     let left = c.next.new.self in
-    let split = split_next ds c.loop-decl.decl-iterator left d c.loop-decl.rest_of_answers.now c.point_count.result c.point_count.ensures c.in-Some.ensures.steps c.loop-decl.invariant.answers in
+    let split = split_next ds c.loop-decl.decl-iterator left d c.loop-decl.rest_of_answers.now c.point_count.result c.point_count.ensures
+    c.in-Some.ensures.steps c.loop-decl.invariant.answers in
     record {
       beans = c.split_at.ensures.back
           ∙ ap (drop c.bean_count.result) (c.loop-decl.invariant.beans ∙ ap (flat_map (entries ds)) c.in-Some.ensures.steps)

@@ -7,4 +7,5 @@ use Rattle.cdi_validate.proofs.disposing.has_two.Goals as goal
 pub returns : goal.returns
 returns c =
     ap (nat_lt 1) (count_from_yields_List c.filter-matching.result _ c.count.ensures.ran
-    (YieldsList-from_filter _ (disposes c.args.decls.now c.args.product.now) (YieldsList-from_slice c.args.disposers.now (cc)) c.filter-matching.ensures.closure (λ x b q k. search (rules, tests))))
+    (YieldsList-from_filter _ (disposes c.args.decls.now c.args.product.now) (YieldsList-from_slice c.args.disposers.now (cc))
+    c.filter-matching.ensures.closure (λ x b q k. search (rules, tests))))

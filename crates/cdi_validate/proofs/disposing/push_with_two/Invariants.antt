@@ -7,5 +7,7 @@ use Rattle.cdi_validate.proofs.disposing.push_with_two.Given as goal
 
 abbrev pub invariant-loop-product : goal.invariant-loop-product
 invariant-loop-product l =
-    l.subjects.items ++ map parts.Producer (flat_map (λ p. option_to_list p.id.producer) (filter (λ p. nat_lt 1 (length (filter (disposes l.decls p) l.disposers))) (drop l.product-index l.products)))
-    ≡ l.fn.subjects.items ++ map parts.Producer (flat_map (λ p. option_to_list p.id.producer) (filter (λ p. nat_lt 1 (length (filter (disposes l.decls p) l.disposers))) l.products))
+    l.subjects.items ++ map parts.Producer (flat_map (λ p. option_to_list p.id.producer)
+    (filter (λ p. nat_lt 1 (length (filter (disposes l.decls p) l.disposers))) (drop l.product-index l.products)))
+    ≡ l.fn.subjects.items ++ map parts.Producer
+    (flat_map (λ p. option_to_list p.id.producer) (filter (λ p. nat_lt 1 (length (filter (disposes l.decls p) l.disposers))) l.products))

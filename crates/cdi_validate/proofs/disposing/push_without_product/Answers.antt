@@ -20,8 +20,10 @@ loop-disposer-preserved c =
     elim c.if-not-has_product.branch [
       | then-not-has_product+in_ok-push w ↦
           ap (λ v. v.items ++ rest) w.subjects-is ∙ ap (λ items. items ++ rest) w.in_ok-push.ensures.items
-          ∙ pushed name has_none disposers i s old _ c.loop-disposer-test.true c.disposer-item.is (ap not (sym c.has_product.ensures ∙ w.if-not-has_product.true)) c.loop-disposer.invariant
+          ∙ pushed name has_none disposers i s old _ c.loop-disposer-test.true c.disposer-item.is
+          (ap not (sym c.has_product.ensures ∙ w.if-not-has_product.true)) c.loop-disposer.invariant
       | else-not-has_product w ↦
           ap (λ v. v.items ++ rest) w.subjects-is
-          ∙ passed_over name has_none disposers i s old _ c.loop-disposer-test.true c.disposer-item.is (ap not (sym c.has_product.ensures ∙ w.if-not-has_product.false)) c.loop-disposer.invariant
+          ∙ passed_over name has_none disposers i s old _ c.loop-disposer-test.true c.disposer-item.is
+          (ap not (sym c.has_product.ensures ∙ w.if-not-has_product.false)) c.loop-disposer.invariant
     ]

@@ -9,6 +9,9 @@ use Rattle.cdi_validate.proofs.names.names_of_enabled.Given as goal
 
 abbrev pub invariant-loop-bean : goal.invariant-loop-bean
 invariant-loop-bean l = record {
-  all : (s : List ℕ) → (contains (slice_cmp nat_cmp) l.names.all s || has (flat_map enabled_name (drop l.bean-index l.beans)) s) ≡ has (flat_map enabled_name l.beans) s;
-  twice : (s : List ℕ) → (contains (slice_cmp nat_cmp) l.names.twice s || ((contains (slice_cmp nat_cmp) l.names.all s && has (flat_map enabled_name (drop l.bean-index l.beans)) s) || stands_twice (drop l.bean-index l.beans) s)) ≡ stands_twice l.beans s;
+  all : (s : List ℕ) → (contains (slice_cmp nat_cmp) l.names.all s || has (flat_map enabled_name (drop l.bean-index l.beans)) s)
+      ≡ has (flat_map enabled_name l.beans) s;
+  twice : (s : List ℕ) → (contains (slice_cmp nat_cmp) l.names.twice s
+      || ((contains (slice_cmp nat_cmp) l.names.all s && has (flat_map enabled_name (drop l.bean-index l.beans)) s)
+      || stands_twice (drop l.bean-index l.beans) s)) ≡ stands_twice l.beans s;
 }

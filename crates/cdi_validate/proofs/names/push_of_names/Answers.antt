@@ -19,9 +19,12 @@ returns c =
     let clashes : c.push_clashes.new.faults.items ≡ faults ++ name_clashes bs =
     c.in_ok-push_clashes.ensures
     ∙ ap (λ ns. faults ++ map faults_are.NameClash (filter clash ns)) (c.as_slice.ensures.value ∙ c.in_ok-in_order.ensures.value)
-    ∙ ap (λ ns. faults ++ map faults_are.NameClash ns) (clashes-twice bs names.twice.keys c.in_order.ensures.order c.in_ok-all.ensures.twice) in
+    ∙ ap (λ ns. faults ++ map faults_are.NameClash ns)
+    (clashes-twice bs names.twice.keys c.in_order.ensures.order c.in_ok-all.ensures.twice) in
     let all : c.as_slice-2.result.now ≡ enabled_names bs =
-    c.as_slice-2.ensures.value ∙ c.in_ok-in_order-2.ensures.value ∙ enabled_names-are bs names.all.keys c.in_order-2.ensures.order c.in_ok-all.ensures.all in
+    c.as_slice-2.ensures.value ∙ c.in_ok-in_order-2.ensures.value
+    ∙ enabled_names-are bs names.all.keys c.in_order-2.ensures.order c.in_ok-all.ensures.all in
     let pairs : prefix_pairs c.as_slice-2.result.now ≡ name_prefixes bs =
     ap prefix_pairs all ∙ sym (pairs-behind (enabled_names bs) (in_order-rises (flat_map enabled_name bs))) in
-    IfOk-weaker c.push_prefixes.result _ _ (λ done e. e ∙ ap (λ l. l ++ prefix_pairs c.as_slice-2.result.now) clashes ∙ ap (λ l. faults ++ name_clashes bs ++ l) pairs) c.push_prefixes.ensures
+    IfOk-weaker c.push_prefixes.result _ _ (λ done e. e ∙ ap (λ l. l ++ prefix_pairs c.as_slice-2.result.now) clashes
+    ∙ ap (λ l. faults ++ name_clashes bs ++ l) pairs) c.push_prefixes.ensures

@@ -8,6 +8,7 @@ use Rattle.cdi_validate.proofs.points.points_at_fault.Given as goal
 abbrev pub invariant-loop-product : goal.invariant-loop-product
 invariant-loop-product l = record {
   answered : length l.rest ≡ length (flat_map (λ p. p.params) (iter_rest l.product-iterator.b));
-  subjects : l.subjects.items ++ at_fault_by (has_verdict l.verdict) (iter_rest l.product-iterator.a) (iter_rest l.product-iterator.b) (map (λ a. a.value) l.rest)
+  subjects : l.subjects.items ++ at_fault_by (has_verdict l.verdict) (iter_rest l.product-iterator.a) (iter_rest l.product-iterator.b)
+      (map (λ a. a.value) l.rest)
       ≡ points_by (has_verdict l.verdict) l.decl l.beans (map (λ a. a.value) l.answers);
 }

@@ -7,5 +7,7 @@ use Rattle.cdi_validate.proofs.points.push_at_fault.Given as goal
 
 abbrev pub invariant-loop-point : goal.invariant-loop-point
 invariant-loop-point l =
-    l.subjects.items ++ map (λ z. parts.Point l.bean.id.producer z.0.name) (filter (λ z. has_verdict l.verdict z.1) (zip (iter_rest l.point-iterator.a) (map (λ a. a.value) (iter_rest l.point-iterator.b))))
-    ≡ l.fn.subjects.items ++ map (λ z. parts.Point l.bean.id.producer z.0.name) (filter (λ z. has_verdict l.verdict z.1) (zip l.points (map (λ a. a.value) l.answers)))
+    l.subjects.items ++ map (λ z. parts.Point l.bean.id.producer z.0.name)
+    (filter (λ z. has_verdict l.verdict z.1) (zip (iter_rest l.point-iterator.a) (map (λ a. a.value) (iter_rest l.point-iterator.b))))
+    ≡ l.fn.subjects.items ++ map (λ z. parts.Point l.bean.id.producer z.0.name)
+    (filter (λ z. has_verdict l.verdict z.1) (zip l.points (map (λ a. a.value) l.answers)))

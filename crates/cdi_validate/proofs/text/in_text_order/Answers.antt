@@ -5,7 +5,8 @@ use Rattle.cdi_validate.proofs.TreeLemmas.{values-in_order}
 use Rattle.cdi_validate.proofs.text.in_text_order.Goals as goal
 
 pub returns-clause-value : goal.returns-clause-value
-returns-clause-value c = IfOk-weaker c.subjects_in.result _ _ (λ list is. is ∙ values-in_order c.in_ok-tree.tree c.args.subjects.items c.in_ok-tree.ensures) c.subjects_in.ensures
+returns-clause-value c = IfOk-weaker c.subjects_in.result _ _
+    (λ list is. is ∙ values-in_order c.in_ok-tree.tree c.args.subjects.items c.in_ok-tree.ensures) c.subjects_in.ensures
 
 pub returns-clause-order : goal.returns-clause-order
 returns-clause-order c = subjects_in_order

@@ -10,4 +10,5 @@ returns c =
     let subject = c.args.subject in
     ap shown c.in_ok-insert.ensures.entries
     ∙ shown-insert c.push_text.new.text subject c.args.tree.now.entries
-    ∙ ap (λ text. insert_entry byte_order (entries_in c.args.tree.now) text subject) (c.in_ok-push_text.ensures ∙ ap (λ text. text ++ text_of_subject subject) c.new-text.ensures.items)
+    ∙ ap (λ text. insert_entry byte_order (entries_in c.args.tree.now) text subject)
+    (c.in_ok-push_text.ensures ∙ ap (λ text. text ++ text_of_subject subject) c.new-text.ensures.items)

@@ -53,4 +53,5 @@ returns-in_err-matches-clause-refused g c =
     let app_is : app_of c.in_ok-script_command.field-0 ≡ script_app = c.in_ok-script_command.ensures.app in
     let error = c.in_err-matches.field-0.0 in
     passed_up c.from_residual-in_err-matches.result error _ c.from_residual-in_err-matches.ensures.1
-    (subst (λ (app : App). HasKind (fault_of app words) error) app_is (c.in_err-matches.ensures.kinds (ap is_simple_and_free app_is ∙ script_is_free)))
+    (subst (λ (app : App). HasKind (fault_of app words) error) app_is
+    (c.in_err-matches.ensures.kinds (ap is_simple_and_free app_is ∙ script_is_free)))

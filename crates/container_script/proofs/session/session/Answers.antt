@@ -22,7 +22,8 @@ returns-after-outcome-clause-accepted g c = λ _. inl (record {
 })
 
 pub returns-in-Err-clause-accepted : goal.returns-in-Err-clause-accepted
-returns-in-Err-clause-accepted g c = λ none. inr (accepted_lacks _ _ _ _ _ _ _ c.in-Err.error none c.in-Err.ensures.refused c.refuse_line.ensures, refl)
+returns-in-Err-clause-accepted g c = λ none. inr
+    (accepted_lacks _ _ _ _ _ _ _ c.in-Err.error none c.in-Err.ensures.refused c.refuse_line.ensures, refl)
 
 pub returns-in-Err-clause-refused : goal.returns-in-Err-clause-refused
 returns-in-Err-clause-refused g c = λ _. refused_words _ _ _ _ _ _ _ c.in-Err.error c.in-Err.ensures.refused c.refuse_line.ensures

@@ -10,13 +10,16 @@ returns-then-is_empty-clause-ok c =
     let self = c.args.self.now in
     let piece = c.args.piece.now in
     let none : self.line ≡ [] = no_items _ _ refl (sym c.is_empty.ensures ∙ c.if-is_empty.true) in
-    on_ok_weaker c.take_line.result (ends self self c.take_line.new.self piece piece c.requires (inl (sym (ap (λ l. l ++ piece) none))) refl refl none) c.take_line.ensures.ok
+    on_ok_weaker c.take_line.result (ends self self c.take_line.new.self piece piece c.requires (inl (sym (ap (λ l. l ++ piece) none))) refl
+    refl none) c.take_line.ensures.ok
 
 pub returns-clause-ok : goal.returns-clause-ok
 returns-clause-ok c =
     let self = c.args.self.now in
     let piece = c.args.piece.now in
     let kept : ServesLine c.as_slice.result.now (self.line ++ piece) =
-    subst (λ l. ServesLine l (self.line ++ piece)) (sym (c.as_slice.ensures.value ∙ c.replace-line.ensures.value)) c.in_ok-push.ensures.ok in
-    on_ok_weaker c.take_line-2.result (ends self (record self { line = c.replace-line.new.dest }) c.take_line-2.new.self piece c.as_slice.result.now c.requires kept refl refl
+    subst (λ l. ServesLine l (self.line ++ piece)) (sym (c.as_slice.ensures.value ∙ c.replace-line.ensures.value))
+    c.in_ok-push.ensures.ok in
+    on_ok_weaker c.take_line-2.result (ends self (record self { line = c.replace-line.new.dest }) c.take_line-2.new.self piece
+    c.as_slice.result.now c.requires kept refl refl
     (c.replace-line.ensures.after ∙ c.new.ensures)) c.take_line-2.ensures.ok

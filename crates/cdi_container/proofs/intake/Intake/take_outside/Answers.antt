@@ -20,5 +20,7 @@ returns-in-Err-Refused-clause-ok c =
     let Is : Error → Type 0 = λ e. Answers {X = Said} (Err e) (said_of_line c.args.line.now) in
     let said : said_of_line c.args.line.now ≡ Err refusal = subst Is c.in-Err-Refused.field-0-is c.in-Err-Refused.ensures in
     on_ok_weaker c.execute.result
-    (λ step. takes_said c.args.self.now (record c.args.self.now { runner = c.execute.new.self }) c.args.line.now (Err refusal) c.requires said
-    (record { line = refl; runs = runs_one c.args.self.now.runner c.execute.new.self Unreadable step; mode = c.requires })) c.execute.ensures.ok
+    (λ step. takes_said c.args.self.now (record c.args.self.now { runner = c.execute.new.self }) c.args.line.now (Err refusal) c.requires
+    said
+    (record { line = refl; runs = runs_one c.args.self.now.runner c.execute.new.self Unreadable step; mode = c.requires }))
+    c.execute.ensures.ok

@@ -5,7 +5,15 @@ use Rattle.cdi_model.proofs.UseTextLemmas.{pairs_behind, pairs_behind_more, pair
 use Rattle.cdi_model.proofs.display.MembersDisplay.fmt.Goals as goal
 
 pub loop-name-init : goal.loop-name-init
-loop-name-init g c = (λ plain. ([], ap (pairs_behind []) (c.into_iter-name-iterator.ensures.into_iter_gives ∙ c.iter-name-items.ensures.value), search rules), search rules)
+loop-name-init g c = (
+  λ plain. (
+    [],
+    ap (pairs_behind [])
+        (c.into_iter-name-iterator.ensures.into_iter_gives ∙ c.iter-name-items.ensures.value),
+    search rules,
+  ),
+  search rules,
+)
 
 pub loop-name-preserved : goal.loop-name-preserved
 loop-name-preserved g c = (

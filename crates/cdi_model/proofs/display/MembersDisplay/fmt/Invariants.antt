@@ -7,5 +7,6 @@ use Rattle.cdi_model.proofs.display.MembersDisplay.fmt.Given as goal
 
 abbrev pub invariant-loop-name : goal.invariant-loop-name
 invariant-loop-name g l = (IsPlainFormatter l.initial.f
-    → (written : List ℕ) × (written ++ pairs_behind l.separator l.name-iterator ≡ pairs_behind [] l.self) × HasWritten g.W.Write.write_str_gives l.initial.f written l.f)
+    → (written : List ℕ) × (written ++ pairs_behind l.separator l.name-iterator ≡ pairs_behind [] l.self)
+    × HasWritten g.W.Write.write_str_gives l.initial.f written l.f)
     × shadow (Utf8 l.separator)

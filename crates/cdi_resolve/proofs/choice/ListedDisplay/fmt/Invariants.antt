@@ -4,4 +4,5 @@ use Rattle.cdi_resolve.specs.ChoiceText.{text_of_ids}
 use Rattle.cdi_resolve.proofs.choice.ListedDisplay.fmt.Given as goal
 
 abbrev pub invariant-loop-id : goal.invariant-loop-id
-invariant-loop-id g l = IsPlainFormatter l.initial.f → HasWritten g.W.Write.write_str_gives l.initial.f (text_of_ids (take l.id-index l.id-items)) l.f
+invariant-loop-id g l = IsPlainFormatter l.initial.f
+    → HasWritten g.W.Write.write_str_gives l.initial.f (text_of_ids (take l.id-index l.id-items)) l.f

@@ -17,7 +17,8 @@ one_more false true = refl
 one_more false false = refl
 
 -- with the name of the bean there is one name more
-named : (bean : Effective) (name s : List ℕ) (old : Bool) → bean.is_enabled ≡ true → bean.name ≡ Some name → cond (bytes_eq name s) true old ≡ (old || has (enabled_name bean) s)
+named : (bean : Effective) (name s : List ℕ) (old : Bool) → bean.is_enabled ≡ true → bean.name ≡ Some name
+    → cond (bytes_eq name s) true old ≡ (old || has (enabled_name bean) s)
 named bean name s old enabled is = rw (enabled, is) (one_more (bytes_eq name s) old)
 
 one_again : (b old all : Bool) → (b ≡ true → all ≡ true) → cond b true old ≡ (old || (all && (b || false)))
@@ -28,8 +29,10 @@ one_again false false true one = refl
 one_again false false false one = refl
 
 -- and one more that stands twice, where it is among them
-named_again : (all : List ℕ → Bool) (bean : Effective) (name s : List ℕ) (old : Bool) → bean.is_enabled ≡ true → bean.name ≡ Some name → all name ≡ true → cond (bytes_eq name s) true old ≡ (old || (all s && has (enabled_name bean) s))
-named_again all bean name s old enabled is among = rw (enabled, is) (one_again (bytes_eq name s) old (all s) (λ e. ap all (sym (one_name name s e)) ∙ among))
+named_again : (all : List ℕ → Bool) (bean : Effective) (name s : List ℕ) (old : Bool) → bean.is_enabled ≡ true → bean.name ≡ Some name
+    → all name ≡ true → cond (bytes_eq name s) true old ≡ (old || (all s && has (enabled_name bean) s))
+named_again all bean name s old enabled is among = rw (enabled, is)
+    (one_again (bytes_eq name s) old (all s) (λ e. ap all (sym (one_name name s e)) ∙ among))
 
 pub returns-in_ok-insert-2-clause-twice : goal.returns-in_ok-insert-2-clause-twice
 returns-in_ok-insert-2-clause-twice c = λ s.
@@ -38,9 +41,11 @@ returns-in_ok-insert-2-clause-twice c = λ s.
     let old = contains (slice_cmp nat_cmp) c.args.self.now.twice s in
     c.in_ok-insert-2.ensures.updates.0 s
     ∙ ap (λ b. cond b true old) (at_name name s)
-    ∙ named_again all c.args.bean.now name s old c.if-not-bean.false c.in-Some.is (not-false (all name) (sym c.in_ok-insert.ensures.added ∙ c.if-not-branch.true))
+    ∙ named_again all c.args.bean.now name s old c.if-not-bean.false c.in-Some.is
+    (not-false (all name) (sym c.in_ok-insert.ensures.added ∙ c.if-not-branch.true))
 
 pub returns-else-not-branch-clause-all : goal.returns-else-not-branch-clause-all
 returns-else-not-branch-clause-all c = λ s.
     let old = contains (slice_cmp nat_cmp) c.args.self.now.all s in
-    c.in_ok-insert.ensures.updates.0 s ∙ ap (λ b. cond b true old) (at_name c.in-Some.name s) ∙ named c.args.bean.now c.in-Some.name s old c.if-not-bean.false c.in-Some.is
+    c.in_ok-insert.ensures.updates.0 s ∙ ap (λ b. cond b true old) (at_name c.in-Some.name s)
+    ∙ named c.args.bean.now c.in-Some.name s old c.if-not-bean.false c.in-Some.is
