@@ -17,4 +17,4 @@ pub use Rattle.cdi_resolve.specs.Choices
 pub use Rattle.cdi_resolve.specs.ChoiceText
 pub use Rattle.cdi_devices.specs.Counted
 pub use Rattle.cdi_validate.specs.Faults
-pub use Rattle.cdi_validate.specs.FaultText
+pub use Rattle.cdi_faults.specs.FaultText

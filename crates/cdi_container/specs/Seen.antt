@@ -11,7 +11,7 @@ use Rattle.cdi_model.specs.declared.refusal.Error.TheVariants as errors
 use Rattle.cdi_model.specs.declared.refusal.Refusal.{Refusal}
 use Rattle.cdi_model.specs.Edits.{Put as PutEdit, answer_of_edit}
 use Rattle.cdi_resolve.specs.declared.choice.Choice.{Choice}
-use Rattle.cdi_validate.specs.declared.fault.Fault.{Fault}
+use Rattle.cdi_faults.specs.declared.fault.Fault.{Fault}
 use Rattle.cdi_lines.specs.declared.command.Command.{Command}
 use Rattle.cdi_lines.specs.declared.command.Command.TheVariants.{Put, Remove, Choose, Named, Report}
 use Rattle.cdi_container.specs.declared.answer.Answer.{Answer}

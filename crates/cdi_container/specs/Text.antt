@@ -4,8 +4,8 @@ use Rattle.cdi_model.specs.declared.refusal.Refusal.{Refusal}
 use Rattle.cdi_model.specs.declared.refusal.Refusal.TheVariants.{TooLong, NotToml, UnknownKind, UnknownKey, MissingKey, WrongKind, BadName}
 use Rattle.cdi_model.specs.declared.refusal.Refusal.TheVariants.{Twice, ListTooLong, TooMany, Absent, BadCommand}
 use Rattle.cdi_resolve.specs.ChoiceText.{text_of_choice}
-use Rattle.cdi_validate.specs.declared.fault.Fault.{Fault}
-use Rattle.cdi_validate.specs.FaultText.{text_of_fault}
+use Rattle.cdi_faults.specs.declared.fault.Fault.{Fault}
+use Rattle.cdi_faults.specs.FaultText.{text_of_fault}
 use Rattle.std.specs.declared.alloc.AllocError.{AllocError}
 use Rattle.cdi_model.specs.Bytes.{feed}
 use Rattle.cdi_container.specs.declared.answer.Answer.{Answer}

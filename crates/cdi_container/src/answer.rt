@@ -2,9 +2,9 @@
 ghost use Rattle.std.specs.Prelude.{◌≡◌};
 ghost use Rattle.cdi_container.specs.Seen.{edit_answer, choice_answer, report_answer};
 
+use cdi_faults::Fault;
 use cdi_model::{Error, Refusal, Seq};
 use cdi_resolve::Choice;
-use cdi_validate::Fault;
 use std::alloc::AllocError;
 
 /// What a command answers for which there was memory.

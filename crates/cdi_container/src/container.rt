@@ -10,11 +10,11 @@ ghost use Rattle.cdi_container.specs.History.{History, with_edit, with_put, Rest
 
 use crate::answer::{Answer, answer_of_choice, answer_of_edit, answer_of_report};
 use crate::deployment::Deployment;
+use cdi_faults::Fault;
 use cdi_lines::Command;
 use cdi_model::{Error, Kind, Name, Quals, Refusal, Work};
 use cdi_resolve::Choice;
 use cdi_text::read_decl;
-use cdi_validate::Fault;
 use std::alloc::{AllocError, Global};
 
 /// The present declarations, which are edited while the container runs, and questions about them.

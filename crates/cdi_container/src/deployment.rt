@@ -8,10 +8,11 @@ ghost use Rattle.cdi_resolve.specs.Choices.{chosen, chosen_by_name};
 ghost use Rattle.cdi_validate.specs.Faults.{faults};
 
 use cdi_effective::{Effective, beans};
+use cdi_faults::Fault;
 use cdi_model::{Decl, Decls, Error, Kind, Name, Quals, Refusal, Work};
 use cdi_observe::PlainView;
 use cdi_resolve::{Choice, choose, choose_name};
-use cdi_validate::{Fault, faults};
+use cdi_validate::faults;
 use std::alloc::{AllocError, Global};
 use std::marker::Model;
 

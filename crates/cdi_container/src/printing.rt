@@ -3,8 +3,8 @@ ghost use Rattle.std.specs.Prelude.{◌≡◌, ◌++◌, OnOk, OnErr, Ok};
 ghost use Rattle.cdi_container.specs.Text.{word_of, text_of_faults, text_of_report, words_of_answer, text_of_answer};
 
 use crate::answer::Answer;
+use cdi_faults::Fault;
 use cdi_model::Refusal;
-use cdi_validate::Fault;
 use std::alloc::AllocError;
 use std::io::Write;
 

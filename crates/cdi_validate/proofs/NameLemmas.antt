@@ -17,8 +17,8 @@ use Rattle.cdi_match.specs.Order.{in_order}
 use Rattle.cdi_match.proofs.Names.{has-by_order}
 use Rattle.cdi_match.proofs.OrderLemmas.{one_order, in_order-rises, in_order-has}
 use Rattle.cdi_effective.specs.declared.records.Effective.{Effective}
-use Rattle.cdi_validate.specs.declared.fault.Fault.{Fault}
-use Rattle.cdi_validate.specs.declared.fault.Fault.TheVariants as faults_are
+use Rattle.cdi_faults.specs.declared.fault.Fault.{Fault}
+use Rattle.cdi_faults.specs.declared.fault.Fault.TheVariants as faults_are
 use Rattle.cdi_validate.specs.Faults.{enabled_names, goes_on}
 use Rattle.cdi_validate.specs.Names.{enabled_name, has_dot_at, prefix_pairs}
 

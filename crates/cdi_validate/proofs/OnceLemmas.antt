@@ -14,15 +14,15 @@ use Rattle.cdi_model.specs.declared.key.DeclKey.{DeclKey}
 use Rattle.cdi_match.proofs.OrderLemmas.{in_order-rises}
 use Rattle.cdi_effective.specs.Beans.{beans}
 use Rattle.cdi_effective.specs.declared.records.Effective.{Effective}
-use Rattle.cdi_validate.specs.declared.fault.Code.{Code}
-use Rattle.cdi_validate.specs.declared.fault.Code.TheVariants as codes_of
-use Rattle.cdi_validate.specs.declared.fault.Fault.{Fault}
-use Rattle.cdi_validate.specs.declared.fault.Fault.TheVariants as faults_are
-use Rattle.cdi_validate.specs.declared.fault.Subject.{Subject}
-use Rattle.cdi_validate.specs.FaultText.{text_of_subject, byte_order, in_text_order}
+use Rattle.cdi_faults.specs.declared.fault.Code.{Code}
+use Rattle.cdi_faults.specs.declared.fault.Code.TheVariants as codes_of
+use Rattle.cdi_faults.specs.declared.fault.Fault.{Fault}
+use Rattle.cdi_faults.specs.declared.fault.Fault.TheVariants as faults_are
+use Rattle.cdi_faults.specs.declared.fault.Subject.{Subject}
+use Rattle.cdi_faults.specs.FaultText.{text_of_subject, byte_order, in_text_order}
 use Rattle.cdi_validate.specs.Faults.{all_codes, faults_of_code, faults_of, subjects_at_fault, enabled_names, name_clashes, name_prefixes}
 use Rattle.cdi_validate.specs.Faults.{goes_on, faults, FaultsStandOnce}
-use Rattle.cdi_validate.proofs.OrderLemmas.{subjects_in_order}
+use Rattle.cdi_faults.proofs.OrderLemmas.{subjects_in_order}
 
 -- ---- each apart from the later ones
 

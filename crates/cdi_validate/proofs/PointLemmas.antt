@@ -15,8 +15,8 @@ use Rattle.cdi_observe.specs.Answers.{answer_to}
 use Rattle.cdi_observe.specs.Wanted.{points_of}
 use Rattle.cdi_validate.specs.Faults.{points_at_fault, points_with}
 use Rattle.cdi_validate.specs.Records.{at_fault, at_fault_by, points_by}
-use Rattle.cdi_validate.specs.declared.fault.Subject.{Subject}
-use Rattle.cdi_validate.specs.declared.fault.Subject.TheVariants as parts
+use Rattle.cdi_faults.specs.declared.fault.Subject.{Subject}
+use Rattle.cdi_faults.specs.declared.fault.Subject.TheVariants as parts
 use Rattle.cdi_validate.proofs.RecordLemmas.{managed-producer, product-producer}
 
 -- ---- lists that are split

@@ -5,8 +5,8 @@ use Rattle.cdi_model.specs.declared.decl.Decl.{Decl}
 use Rattle.cdi_model.specs.declared.decl.Kind.TheVariants as kinds
 use Rattle.cdi_model.specs.declared.quals.Qual.{Qual}
 use Rattle.cdi_match.specs.Misuse.{is_misused}
-use Rattle.cdi_validate.specs.declared.fault.Subject.{Subject}
-use Rattle.cdi_validate.specs.declared.fault.Subject.TheVariants as subjects
+use Rattle.cdi_faults.specs.declared.fault.Subject.{Subject}
+use Rattle.cdi_faults.specs.declared.fault.Subject.TheVariants as subjects
 use Rattle.cdi_validate.specs.declared.used.UseFault.{UseFault}
 use Rattle.cdi_validate.specs.declared.used.UseFault.TheVariants as use_faults
 use Rattle.cdi_validate.specs.Faults.{is_declared, is_known_type, is_known_qualifier}

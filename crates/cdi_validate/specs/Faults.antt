@@ -29,15 +29,15 @@ use Rattle.cdi_resolve.specs.Choices.{chosen_by_name}
 use Rattle.cdi_resolve.specs.declared.choice.Choice.{Choice}
 use Rattle.cdi_resolve.specs.declared.choice.Choice.TheVariants.{Unsatisfied, Ambiguous}
 use Rattle.cdi_observe.specs.Answers.{answer_to}
-use Rattle.cdi_validate.specs.declared.fault.Code.{Code}
-use Rattle.cdi_validate.specs.declared.fault.Code.TheVariants as codes_of
-use Rattle.cdi_validate.specs.declared.fault.Fault.{Fault}
-use Rattle.cdi_validate.specs.declared.fault.Fault.TheVariants as faults_are
-use Rattle.cdi_validate.specs.declared.fault.Subject.{Subject}
-use Rattle.cdi_validate.specs.declared.fault.Subject.TheVariants as subjects
+use Rattle.cdi_faults.specs.declared.fault.Code.{Code}
+use Rattle.cdi_faults.specs.declared.fault.Code.TheVariants as codes_of
+use Rattle.cdi_faults.specs.declared.fault.Fault.{Fault}
+use Rattle.cdi_faults.specs.declared.fault.Fault.TheVariants as faults_are
+use Rattle.cdi_faults.specs.declared.fault.Subject.{Subject}
+use Rattle.cdi_faults.specs.declared.fault.Subject.TheVariants as subjects
 use Rattle.cdi_validate.specs.declared.points.Verdict.{Verdict}
 use Rattle.cdi_validate.specs.declared.points.Verdict.TheVariants as verdicts
-use Rattle.cdi_validate.specs.FaultText.{in_text_order}
+use Rattle.cdi_faults.specs.FaultText.{in_text_order}
 use Rattle.cdi_validate.specs.Named.{named_types, written_uses, named_stereotypes, listed_types}
 
 -- ---- names that are neither declared nor built in

@@ -4,8 +4,8 @@ use Rattle.std.specs.List.{flat_map, slice_get}
 use Rattle.std.specs.Option.{option_to_list}
 use Rattle.cdi_match.specs.Chain.{has}
 use Rattle.cdi_effective.specs.declared.records.Effective.{Effective}
-use Rattle.cdi_validate.specs.declared.fault.Fault.{Fault}
-use Rattle.cdi_validate.specs.declared.fault.Fault.TheVariants as faults_are
+use Rattle.cdi_faults.specs.declared.fault.Fault.{Fault}
+use Rattle.cdi_faults.specs.declared.fault.Fault.TheVariants as faults_are
 use Rattle.cdi_validate.specs.Faults.{goes_on}
 
 -- the name of an enabled bean, if it has one

@@ -5,10 +5,10 @@ ghost use Rattle.std.specs.Option.{option_to_list};
 ghost use Rattle.cdi_effective.specs.Beans.{entries};
 ghost use Rattle.cdi_effective.specs.Disposers.{disposes};
 ghost use Rattle.cdi_validate.specs.Faults.{disposers_at_fault};
-ghost use Rattle.cdi_validate.specs.declared.fault.Subject.TheVariants as parts;
+ghost use Rattle.cdi_faults.specs.declared.fault.Subject.TheVariants as parts;
 
-use crate::fault::Subject;
 use cdi_effective::{Effective, disposes};
+use cdi_faults::Subject;
 use cdi_model::{Decl, Decls, DisposerDecl};
 use std::alloc::{AllocError, Global};
 

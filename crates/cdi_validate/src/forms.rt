@@ -6,10 +6,10 @@ ghost use Rattle.cdi_model.specs.declared.decl.Decl.TheVariants as decls_are;
 ghost use Rattle.cdi_model.specs.declared.decl.Kind.TheVariants as kinds;
 ghost use Rattle.cdi_model.specs.DeclList.{find_decl};
 ghost use Rattle.cdi_match.specs.Types.{object};
-ghost use Rattle.cdi_validate.specs.declared.fault.Subject.TheVariants as subjects_are;
+ghost use Rattle.cdi_faults.specs.declared.fault.Subject.TheVariants as subjects_are;
 ghost use Rattle.cdi_validate.specs.Faults.{bad_kinds, extends_badly, form_of, is_class, is_interface, reaches_itself, whole_if};
 
-use crate::fault::Subject;
+use cdi_faults::Subject;
 use cdi_match::{extends_itself, inherits_itself};
 use cdi_model::{BeanDecl, Decl, Decls, Form, Kind, Name, TypeDecl};
 use std::alloc::{AllocError, Global};

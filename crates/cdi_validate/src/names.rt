@@ -6,12 +6,12 @@ ghost use Rattle.std.specs.Cmp.Lexicographic.{slice_cmp};
 ghost use Rattle.std.specs.Ordering.{nat_cmp};
 ghost use Rattle.cdi_match.specs.Chain.{has};
 ghost use Rattle.cdi_resolve.specs.Choices.{chosen_by_name};
-ghost use Rattle.cdi_validate.specs.declared.fault.Fault.TheVariants as faults_are;
+ghost use Rattle.cdi_faults.specs.declared.fault.Fault.TheVariants as faults_are;
 ghost use Rattle.cdi_validate.specs.Faults.{goes_on, is_ambiguous, name_clashes, name_prefixes};
 ghost use Rattle.cdi_validate.specs.Names.{enabled_name, has_dot_at, prefix_pairs, stands_twice};
 
-use crate::fault::Fault;
 use cdi_effective::Effective;
+use cdi_faults::Fault;
 use cdi_model::Name;
 use cdi_resolve::{Choice, choose_name};
 use std::alloc::{AllocError, Global};

@@ -4,8 +4,8 @@ ghost use Rattle.cdi_observe.specs.Wanted.{points_of};
 ghost use Rattle.cdi_validate.specs.Faults.{has_verdict};
 ghost use Rattle.cdi_validate.specs.Records.{at_fault, points_by};
 
-use crate::fault::Subject;
 use cdi_effective::Effective;
+use cdi_faults::Subject;
 use cdi_model::{Decl, PointDecl};
 use cdi_resolve::Choice;
 use std::alloc::{AllocError, Global};

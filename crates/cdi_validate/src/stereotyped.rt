@@ -2,8 +2,8 @@
 ghost use Rattle.std.specs.Prelude.{◌≡◌, IfOk};
 ghost use Rattle.cdi_validate.specs.Faults.{part_of, scope_conflicts};
 
-use crate::fault::Subject;
 use cdi_effective::{BeanId, Effective};
+use cdi_faults::Subject;
 use std::alloc::{AllocError, Global};
 
 /// Of the beans of a declaration, those that declare no scope and have stereotypes that give different ones.

@@ -2,8 +2,8 @@
 ghost use Rattle.std.specs.Prelude.{◌≡◌, ◌++◌, IfOk, OnOk};
 ghost use Rattle.cdi_validate.specs.Records.{not_had, typed_by};
 
-use crate::fault::Subject;
 use cdi_effective::Effective;
+use cdi_faults::Subject;
 use cdi_model::{Attributes, Decl};
 use std::alloc::{AllocError, Global};
 

@@ -3,14 +3,14 @@ ghost use Rattle.std.specs.Prelude.{◌≡◌, [], ◌∷◌, ◌++◌, not, map
 ghost use Rattle.std.specs.List.{flat_map};
 ghost use Rattle.cdi_model.specs.declared.decl.Decl.TheVariants as decls_are;
 ghost use Rattle.cdi_model.specs.declared.decl.Kind.TheVariants as kinds;
-ghost use Rattle.cdi_validate.specs.declared.fault.Subject.TheVariants as subjects_are;
+ghost use Rattle.cdi_faults.specs.declared.fault.Subject.TheVariants as subjects_are;
 ghost use Rattle.cdi_validate.specs.AtFault.{unknown_types, unknown_stereotypes};
 ghost use Rattle.cdi_validate.specs.Faults.{unknown_names, is_declared, is_known_type, class_named};
 ghost use Rattle.cdi_validate.specs.Named.{listed_types, named_types, named_stereotypes};
 
-use crate::fault::Subject;
 use crate::forms::is_object;
 use crate::used::{UseFault, push_uses_at_fault};
+use cdi_faults::Subject;
 use cdi_model::{
     Attributes, BeanDecl, Decl, Decls, DisposerDecl, Kind, Name, PointDecl, ProducerDecl, TypeDecl,
 };

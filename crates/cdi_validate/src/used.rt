@@ -7,7 +7,7 @@ ghost use Rattle.cdi_validate.specs.AtFault.{use_at_fault, uses_at_fault};
 ghost use Rattle.cdi_validate.specs.Faults.{bad_uses, is_known_qualifier};
 ghost use Rattle.cdi_validate.specs.Named.{written_uses};
 
-use crate::fault::Subject;
+use cdi_faults::Subject;
 use cdi_match::is_misused;
 use cdi_model::{BeanDecl, Decl, Decls, DisposerDecl, Kind, Name, PointDecl, ProducerDecl, Qual};
 use std::alloc::{AllocError, Global};

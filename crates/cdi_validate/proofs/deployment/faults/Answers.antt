@@ -8,10 +8,10 @@ use Rattle.cdi_effective.specs.declared.records.Effective.{Effective}
 use Rattle.cdi_observe.specs.Answers.{answers}
 use Rattle.cdi_observe.specs.Kept.{Kept, evaluated}
 use Rattle.cdi_observe.specs.Wanted.{wanted}
-use Rattle.cdi_validate.specs.declared.fault.Fault.{Fault}
+use Rattle.cdi_faults.specs.declared.fault.Fault.{Fault}
 use Rattle.cdi_validate.specs.Faults.{faults, faults_of, name_clashes, name_prefixes}
 use Rattle.cdi_validate.proofs.OnceLemmas.{faults_stand_once}
-use Rattle.cdi_validate.proofs.OrderLemmas.{subjects_in_order}
+use Rattle.cdi_faults.proofs.OrderLemmas.{subjects_in_order}
 use Rattle.cdi_validate.proofs.deployment.faults.Goals as goal
 
 -- where all keys were asked, those from the front on were, up to the last

@@ -1,6 +1,6 @@
 use Rattle.std.proofs.Common.{◌≡◌, ◌++◌, map}
 use Rattle.cdi_model.specs.Decl.{kind_of, name_of_decl}
-use Rattle.cdi_validate.specs.declared.fault.Fault.TheVariants as the_faults
+use Rattle.cdi_faults.specs.declared.fault.Fault.TheVariants as the_faults
 use Rattle.cdi_validate.proofs.deployment.push_declared.Given as goal
 
 abbrev pub invariant-loop-subject : goal.invariant-loop-subject

@@ -2,10 +2,10 @@ use Rattle.std.proofs.Common.{◌++◌, ◌+◌, drop, map, get_or, ap, ◌∙�
 use Rattle.std.specs.List.{flat_map}
 use Rattle.std.proofs.lemmas.List.{get_or_default}
 use Rattle.cdi_model.specs.Decl.{kind_of, name_of_decl}
-use Rattle.cdi_validate.specs.declared.fault.Code.TheVariants as codes_of
-use Rattle.cdi_validate.specs.declared.fault.Fault.TheVariants as the_faults
+use Rattle.cdi_faults.specs.declared.fault.Code.TheVariants as codes_of
+use Rattle.cdi_faults.specs.declared.fault.Fault.TheVariants as the_faults
 use Rattle.cdi_validate.specs.Faults.{all_codes, faults_of_code}
-use Rattle.cdi_validate.specs.FaultText.{in_text_order}
+use Rattle.cdi_faults.specs.FaultText.{in_text_order}
 use Rattle.cdi_validate.proofs.PushLemmas.{appended}
 use Rattle.cdi_validate.proofs.deployment.push_of_decl.Goals as goal
 

@@ -2,7 +2,7 @@ use Rattle.std.proofs.Common.{◌≡◌, ◌++◌, nat_lt, length, map, filter, 
 use Rattle.std.specs.List.{flat_map}
 use Rattle.std.specs.Option.{option_to_list}
 use Rattle.cdi_effective.specs.Disposers.{disposes}
-use Rattle.cdi_validate.specs.declared.fault.Subject.TheVariants as parts
+use Rattle.cdi_faults.specs.declared.fault.Subject.TheVariants as parts
 use Rattle.cdi_validate.proofs.disposing.push_with_two.Given as goal
 
 abbrev pub invariant-loop-product : goal.invariant-loop-product

@@ -2,8 +2,8 @@ use Rattle.std.proofs.Common.{◌+◌, Bool, not, List, ◌++◌, map, filter, d
 use Rattle.std.specs.List.{list_any}
 use Rattle.cdi_model.specs.declared.decl.DisposerDecl.{DisposerDecl}
 use Rattle.cdi_effective.specs.Disposers.{disposes}
-use Rattle.cdi_validate.specs.declared.fault.Subject.{Subject}
-use Rattle.cdi_validate.specs.declared.fault.Subject.TheVariants as parts
+use Rattle.cdi_faults.specs.declared.fault.Subject.{Subject}
+use Rattle.cdi_faults.specs.declared.fault.Subject.TheVariants as parts
 use Rattle.cdi_validate.proofs.PushLemmas.{pushed, passed_over}
 use Rattle.cdi_validate.proofs.disposing.push_without_product.Goals as goal
 use Rattle.cdi_validate.proofs.disposing.push_without_product.Goals.{then-not-has_product+in_ok-push, else-not-has_product}

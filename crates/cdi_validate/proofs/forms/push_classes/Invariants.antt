@@ -1,5 +1,5 @@
 use Rattle.std.proofs.Common.{◌≡◌, ◌++◌, drop, filter, map}
-use Rattle.cdi_validate.specs.declared.fault.Subject.TheVariants as subjects_are
+use Rattle.cdi_faults.specs.declared.fault.Subject.TheVariants as subjects_are
 use Rattle.cdi_validate.specs.Faults.{is_class}
 use Rattle.cdi_validate.proofs.forms.push_classes.Given as goal
 

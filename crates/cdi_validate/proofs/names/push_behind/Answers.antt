@@ -1,7 +1,7 @@
 use Rattle.std.proofs.Common.{◌≡◌, ◌+◌, ◌++◌, ◌∷◌, [], true, false, drop, filter, map, sym, ap, ◌∙◌, append_assoc, append-nil}
 use Rattle.std.specs.Prelude.{nat_eq}
 use Rattle.std.specs.List.{starts_with}
-use Rattle.cdi_validate.specs.declared.fault.Fault.TheVariants as faults_are
+use Rattle.cdi_faults.specs.declared.fault.Fault.TheVariants as faults_are
 use Rattle.cdi_validate.specs.Faults.{goes_on}
 use Rattle.cdi_validate.proofs.NameLemmas.{none-left, some-left}
 use Rattle.cdi_validate.proofs.names.push_behind.Goals as goal

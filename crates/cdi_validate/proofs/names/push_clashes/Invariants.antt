@@ -1,6 +1,6 @@
 use Rattle.std.proofs.Common.{◌≡◌, ◌++◌, drop, filter, map}
 use Rattle.cdi_resolve.specs.Choices.{chosen_by_name}
-use Rattle.cdi_validate.specs.declared.fault.Fault.TheVariants as faults_are
+use Rattle.cdi_faults.specs.declared.fault.Fault.TheVariants as faults_are
 use Rattle.cdi_validate.specs.Faults.{is_ambiguous}
 use Rattle.cdi_validate.proofs.names.push_clashes.Given as goal
 

@@ -3,7 +3,7 @@ use Rattle.std.specs.List.{flat_map}
 use Rattle.std.proofs.lemmas.Result.{IfOk-weaker}
 use Rattle.cdi_match.proofs.OrderLemmas.{in_order-rises}
 use Rattle.cdi_resolve.specs.Choices.{chosen_by_name}
-use Rattle.cdi_validate.specs.declared.fault.Fault.TheVariants as faults_are
+use Rattle.cdi_faults.specs.declared.fault.Fault.TheVariants as faults_are
 use Rattle.cdi_validate.specs.Faults.{enabled_names, is_ambiguous, name_clashes, name_prefixes}
 use Rattle.cdi_validate.specs.Names.{enabled_name, prefix_pairs}
 use Rattle.cdi_validate.proofs.ClashLemmas.{clashes-twice}

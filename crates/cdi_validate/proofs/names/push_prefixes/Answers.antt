@@ -2,7 +2,7 @@ use Rattle.std.proofs.Common.{◌++◌, map, filter, subst, sym, ap, ◌∙◌, 
 use Rattle.std.specs.List.Sorted.{IsStrictlySortedBy}
 use Rattle.std.specs.Cmp.Lexicographic.{slice_cmp}
 use Rattle.std.specs.Ordering.{nat_cmp}
-use Rattle.cdi_validate.specs.declared.fault.Fault.TheVariants as faults_are
+use Rattle.cdi_faults.specs.declared.fault.Fault.TheVariants as faults_are
 use Rattle.cdi_validate.specs.Faults.{goes_on}
 use Rattle.cdi_validate.specs.Names.{prefix_pairs}
 use Rattle.cdi_validate.proofs.names.push_prefixes.Goals as goal

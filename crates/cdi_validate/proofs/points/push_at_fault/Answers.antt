@@ -3,7 +3,7 @@ use Rattle.std.specs.List.{zip}
 use Rattle.std.specs.Slice.Iter.{iter_rest}
 use Rattle.std.proofs.lemmas.Slice.Zip.{either_empty_from_Zip}
 use Rattle.cdi_validate.specs.Faults.{has_verdict}
-use Rattle.cdi_validate.specs.declared.fault.Subject.TheVariants as parts
+use Rattle.cdi_faults.specs.declared.fault.Subject.TheVariants as parts
 use Rattle.cdi_validate.proofs.PushLemmas.{zip-map-empty}
 use Rattle.cdi_validate.proofs.points.push_at_fault.Goals as goal
 

@@ -1,6 +1,6 @@
 use Rattle.std.proofs.Common.{◌≡◌, ◌++◌, not, map, filter, drop}
 use Rattle.cdi_match.specs.Chain.{has}
-use Rattle.cdi_validate.specs.declared.fault.Subject.TheVariants as parts
+use Rattle.cdi_faults.specs.declared.fault.Subject.TheVariants as parts
 use Rattle.cdi_validate.proofs.typing.push_wrongly_listed.Given as goal
 
 abbrev pub invariant-loop-name : goal.invariant-loop-name

@@ -12,8 +12,8 @@ use Rattle.cdi_model.proofs.QualLemmas.{same_name}
 use Rattle.cdi_match.specs.Chain.{has}
 use Rattle.cdi_match.specs.Order.{in_order}
 use Rattle.cdi_match.proofs.OrderLemmas.{in_order-rises}
-use Rattle.cdi_validate.specs.declared.fault.Subject.{Subject}
-use Rattle.cdi_validate.specs.FaultText.{text_of_subject, byte_order, by_text, in_text_order, SubjectsInOrder}
+use Rattle.cdi_faults.specs.declared.fault.Subject.{Subject}
+use Rattle.cdi_faults.specs.FaultText.{text_of_subject, byte_order, by_text, in_text_order, SubjectsInOrder}
 
 abbrev pub Entries : Type 0
 Entries = List (List ℕ × Subject)

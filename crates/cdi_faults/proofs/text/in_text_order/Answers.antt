@@ -1,8 +1,8 @@
 use Rattle.std.proofs.Common.{◌∙◌}
 use Rattle.std.proofs.lemmas.Result.{IfOk-weaker}
-use Rattle.cdi_validate.proofs.OrderLemmas.{subjects_in_order}
-use Rattle.cdi_validate.proofs.TreeLemmas.{values-in_order}
-use Rattle.cdi_validate.proofs.text.in_text_order.Goals as goal
+use Rattle.cdi_faults.proofs.OrderLemmas.{subjects_in_order}
+use Rattle.cdi_faults.proofs.TreeLemmas.{values-in_order}
+use Rattle.cdi_faults.proofs.text.in_text_order.Goals as goal
 
 pub returns-clause-value : goal.returns-clause-value
 returns-clause-value c = IfOk-weaker c.subjects_in.result _ _

@@ -1,9 +1,9 @@
 -- The text of what has a fault.
 use Rattle.std.proofs.Common.{◌≡◌, ◌∷◌, refl}
 use Rattle.std.specs.Prelude.{Some, None, ◌≢◌}
-use Rattle.cdi_validate.specs.declared.fault.Subject.{Subject}
-use Rattle.cdi_validate.specs.declared.fault.Subject.TheVariants as subjects
-use Rattle.cdi_validate.specs.FaultText.{text_of_subject, behind_space}
+use Rattle.cdi_faults.specs.declared.fault.Subject.{Subject}
+use Rattle.cdi_faults.specs.declared.fault.Subject.TheVariants as subjects
+use Rattle.cdi_faults.specs.FaultText.{text_of_subject, behind_space}
 
 -- what is not the declaration as a whole has a text
 pub behind_space_of : (m : Subject) → m ≢ subjects.Whole → behind_space (text_of_subject m) ≡ 32 ∷ text_of_subject m

@@ -2,7 +2,7 @@
 use Rattle.std.specs.Prelude.{ℕ, List, map, Vec}
 use Rattle.std.specs.Global.{Global}
 use Rattle.std.specs.BTreeMap.{BTreeMap}
-use Rattle.cdi_validate.specs.declared.fault.Subject.{Subject}
+use Rattle.cdi_faults.specs.declared.fault.Subject.{Subject}
 
 abbrev pub TextTree : Type 0
 TextTree = BTreeMap (Vec ℕ Global) Subject

@@ -9,12 +9,12 @@ use Rattle.cdi_model.specs.Bytes.{space}
 use Rattle.cdi_model.specs.Decl.{word_of_kind}
 use Rattle.cdi_model.specs.UseText.{text_of_use}
 use Rattle.cdi_match.specs.Chain.{has}
-use Rattle.cdi_validate.specs.declared.fault.Code.{Code}
-use Rattle.cdi_validate.specs.declared.fault.Code.TheVariants as fault_codes
-use Rattle.cdi_validate.specs.declared.fault.Fault.{Fault}
-use Rattle.cdi_validate.specs.declared.fault.Fault.TheVariants as faults_are
-use Rattle.cdi_validate.specs.declared.fault.Subject.{Subject}
-use Rattle.cdi_validate.specs.declared.fault.Subject.TheVariants as subjects
+use Rattle.cdi_faults.specs.declared.fault.Code.{Code}
+use Rattle.cdi_faults.specs.declared.fault.Code.TheVariants as fault_codes
+use Rattle.cdi_faults.specs.declared.fault.Fault.{Fault}
+use Rattle.cdi_faults.specs.declared.fault.Fault.TheVariants as faults_are
+use Rattle.cdi_faults.specs.declared.fault.Subject.{Subject}
+use Rattle.cdi_faults.specs.declared.fault.Subject.TheVariants as subjects
 
 -- a word, a space, and what it is about
 abbrev pub about : List ℕ → List ℕ → List ℕ

@@ -1,9 +1,9 @@
 -- A tree of subjects by their texts.
 use Rattle.std.proofs.Common.{◌≡◌, ℕ, List, [], ◌∷◌, map, Ordering, Less, Equal, Greater, Vec, Global, refl, sym, ◌∙◌, ap}
 use Rattle.std.specs.BTreeMap.{insert_entry, values}
-use Rattle.cdi_validate.specs.declared.fault.Subject.{Subject}
-use Rattle.cdi_validate.specs.FaultText.{byte_order, by_text, in_text_order}
-use Rattle.cdi_validate.specs.TextTree.{TextTree, entries_in}
+use Rattle.cdi_faults.specs.declared.fault.Subject.{Subject}
+use Rattle.cdi_faults.specs.FaultText.{byte_order, by_text, in_text_order}
+use Rattle.cdi_faults.specs.TextTree.{TextTree, entries_in}
 
 abbrev Text : Type 0
 Text = Vec ℕ Global

@@ -1,9 +1,9 @@
 //! The texts of faults.
 ghost use Rattle.std.specs.Prelude.{◌≡◌, [], ◌++◌, Some, IfOk, OnOk};
 ghost use Rattle.std.specs.BTreeMap.{insert_entry, values};
-ghost use Rattle.cdi_validate.specs.TextTree.{entries_in};
-ghost use Rattle.cdi_validate.specs.FaultText.{text_of_code, text_of_subject, text_of_fault, byte_order, by_text, in_text_order};
-ghost use Rattle.cdi_validate.specs.FaultText.{SubjectsInOrder};
+ghost use Rattle.cdi_faults.specs.TextTree.{entries_in};
+ghost use Rattle.cdi_faults.specs.FaultText.{text_of_code, text_of_subject, text_of_fault, byte_order, by_text, in_text_order};
+ghost use Rattle.cdi_faults.specs.FaultText.{SubjectsInOrder};
 
 use crate::fault::{Code, Fault, Subject};
 use std::alloc::{AllocError, Global};
@@ -101,10 +101,7 @@ impl Fault {
 }
 
 /// Subjects in the byte order of their texts, each once. It takes memory where there are some.
-pub(crate) fn in_text_order(
-    alloc: Global,
-    subjects: Vec<Subject>,
-) -> Result<Vec<Subject>, AllocError>
+pub fn in_text_order(alloc: Global, subjects: Vec<Subject>) -> Result<Vec<Subject>, AllocError>
     ensures value { IfOk result (λ list. list.items ≡ in_text_order subjects.items) }
     ensures order { SubjectsInOrder }
 {

@@ -1,0 +1,3 @@
+mod TextLemmas
+mod TreeLemmas
+pub mod OrderLemmas
