@@ -1,0 +1,71 @@
+-- What a declaration names, and where.
+use Rattle.std.specs.Prelude.{ℕ, List, [], ◌∷◌, ◌++◌, map, flat_map, unwrap_or, Option, Some, None}
+use Rattle.std.specs.Option.{option_to_list}
+use Rattle.cdi_model.specs.declared.decl.Attributes.{Attributes}
+use Rattle.cdi_model.specs.declared.decl.Decl.{Decl}
+use Rattle.cdi_model.specs.declared.decl.Decl.TheVariants as decls
+use Rattle.cdi_model.specs.declared.decl.DisposerDecl.{DisposerDecl}
+use Rattle.cdi_model.specs.declared.decl.PointDecl.{PointDecl}
+use Rattle.cdi_model.specs.declared.decl.ProducerDecl.{ProducerDecl}
+use Rattle.cdi_model.specs.declared.mention.Mention.{Mention as AnyMention}
+use Rattle.cdi_model.specs.declared.mention.Mention.TheVariants as given
+use Rattle.cdi_model.specs.declared.mention.Names.{Names}
+use Rattle.cdi_model.specs.declared.mention.Rest.{Rest}
+use Rattle.cdi_model.specs.declared.mention.TypePlace.{TypePlace}
+use Rattle.cdi_model.specs.declared.mention.TypePlace.TheVariants as places
+use Rattle.cdi_model.specs.declared.quals.Qual.{Qual}
+
+-- what is named in one place: a type, a use of a qualifier, a stereotype, and an injection point of a bean or of the producer
+-- method of a name
+pub data Mention : Type 0 where
+  TypeIn : TypePlace → List ℕ → Mention
+  UseOf : Qual → Mention
+  StereotypeOf : List ℕ → Mention
+  PointOf : Option (List ℕ) → PointDecl → Mention
+
+-- the types to which a bean is restricted
+abbrev pub listed_types : Attributes → List (List ℕ)
+listed_types a = unwrap_or a.types []
+
+-- what is declared of a bean, or of the product of a producer method
+abbrev pub of_attributes : Option (List ℕ) → Attributes → List Mention
+of_attributes producer a = map (TypeIn (places.Listed producer)) (listed_types a) ++ map UseOf a.qualifiers ++ map StereotypeOf a.stereotypes
+
+abbrev pub of_point : Option (List ℕ) → PointDecl → List Mention
+of_point producer p = PointOf producer p ∷ TypeIn places.Required p.required_type ∷ map UseOf p.qualifiers
+
+abbrev pub of_producer : ProducerDecl → List Mention
+of_producer p = TypeIn places.Produced p.product_type ∷ of_attributes (Some p.name) p.attributes ++ flat_map (of_point (Some p.name)) p.params
+
+abbrev pub of_disposer : DisposerDecl → List Mention
+of_disposer s = TypeIn places.Disposed s.product_type ∷ map UseOf s.qualifiers
+
+-- what a declaration names, in order
+unfoldable pub mentions : Decl → List Mention
+mentions (decls.Type d) = map (TypeIn places.Extends) (option_to_list d.extends) ++ map (TypeIn places.Implements) d.implements
+mentions (decls.Stereotype d) = map StereotypeOf d.stereotypes
+mentions (decls.Bean d) = TypeIn places.Class d.name ∷ of_attributes None d.attributes ++ flat_map (of_point None) d.points
+    ++ flat_map of_producer d.producers ++ flat_map of_disposer d.disposers
+mentions d = []
+
+-- ---- what the code gives
+
+-- what it gives in one place
+abbrev pub shown : AnyMention → Mention
+shown (given.Type place t) = TypeIn place t
+shown (given.Use u) = UseOf u.now
+shown (given.Stereotype s) = StereotypeOf s
+shown (given.Point producer p) = PointOf producer p.now
+
+-- a type, if there is one, in its place, and some that are implemented
+abbrev pub supers : Option (TypePlace × List ℕ) → List (List ℕ) → List Mention
+supers first ts = map (λ t. TypeIn t.0 t.1) (option_to_list first) ++ map (TypeIn places.Implements) ts
+
+-- what it has left
+abbrev pub names_left : Names → List Mention
+names_left n = map (λ t. TypeIn t.0 t.1) (option_to_list n.first) ++ map (TypeIn n.place) n.types.now ++ map UseOf n.uses.now
+    ++ map StereotypeOf n.stereotypes.now
+
+abbrev pub left : Rest → List Mention
+left r = names_left r.names ++ flat_map (of_point r.producer) r.points.now ++ flat_map of_producer r.producers.now
+    ++ flat_map of_disposer r.disposers.now
