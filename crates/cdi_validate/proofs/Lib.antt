@@ -1,4 +1,3 @@
-pub mod AtFaultLemmas
 pub mod PointLemmas
 pub mod PushLemmas
 pub mod RecordLemmas

@@ -16,6 +16,9 @@ use Rattle.cdi_model.specs.declared.decl.Form.TheVariants.{Class, Interface}
 use Rattle.cdi_model.specs.declared.decl.Kind.{Kind}
 use Rattle.cdi_model.specs.declared.decl.Kind.TheVariants as kinds
 use Rattle.cdi_model.specs.declared.decl.PointDecl.{PointDecl}
+use Rattle.cdi_model.specs.declared.mention.TypePlace.{TypePlace}
+use Rattle.cdi_model.specs.declared.mention.TypePlace.TheVariants as places
+use Rattle.cdi_model.specs.Mentions.{Mention, TypeIn, UseOf, StereotypeOf, mentions, listed_types}
 use Rattle.cdi_match.specs.Chain.{has}
 use Rattle.cdi_match.specs.Misuse.{is_misused}
 use Rattle.cdi_match.specs.Order.{in_order}
@@ -38,7 +41,16 @@ use Rattle.cdi_faults.specs.declared.fault.Subject.TheVariants as subjects
 use Rattle.cdi_validate.specs.declared.points.Verdict.{Verdict}
 use Rattle.cdi_validate.specs.declared.points.Verdict.TheVariants as verdicts
 use Rattle.cdi_faults.specs.FaultText.{in_text_order}
-use Rattle.cdi_validate.specs.Named.{named_types, written_uses, named_stereotypes, listed_types}
+
+-- ---- subjects among what a declaration names
+
+-- the subject, where it is at fault
+abbrev pub some_if : Bool → Subject → Option Subject
+some_if at_fault subject = if at_fault then Some subject else None
+
+-- what is at fault of that which a declaration names
+abbrev pub subjects_in : (Mention → Option Subject) → Decl → List Subject
+subjects_in fault_in d = flat_map (λ mention. option_to_list (fault_in mention)) (mentions d)
 
 -- ---- names that are neither declared nor built in
 
@@ -51,17 +63,20 @@ is_known_type ds t = bytes_eq t object || is_declared kinds.Type ds t
 abbrev pub is_known_qualifier : List Decl → List ℕ → Bool
 is_known_qualifier ds q = has (codes "Any" ∷ codes "Default" ∷ codes "Named" ∷ []) q || is_declared kinds.Qualifier ds q
 
--- the class of a bean is to be declared
-abbrev pub class_named : Decl → List (List ℕ)
-class_named (decls.Bean d) = d.name ∷ []
-class_named d = []
+-- the class of a bean is to be declared, and any other type may also be built in
+abbrev pub is_known_in : List Decl → TypePlace → List ℕ → Bool
+is_known_in ds places.Class t = is_declared kinds.Type ds t
+is_known_in ds _ t = is_known_type ds t
+
+-- what is named in a place, where it is neither declared nor built in
+abbrev pub unknown_in : List Decl → Mention → Option Subject
+unknown_in ds (TypeIn place t) = some_if (not (is_known_in ds place t)) (subjects.Type t)
+unknown_in ds (UseOf u) = some_if (not (is_known_qualifier ds u.name)) (subjects.Qualifier u.name)
+unknown_in ds (StereotypeOf s) = some_if (not (is_declared kinds.Stereotype ds s)) (subjects.Stereotype s)
+unknown_in ds _ = None
 
 abbrev pub unknown_names : List Decl → Decl → List Subject
-unknown_names ds d =
-    map subjects.Type (filter (λ t. not (is_declared kinds.Type ds t)) (class_named d))
-    ++ map subjects.Type (filter (λ t. not (is_known_type ds t)) (named_types d))
-    ++ map subjects.Qualifier (filter (λ q. not (is_known_qualifier ds q)) (map (λ u. u.name) (written_uses d)))
-    ++ map subjects.Stereotype (filter (λ s. not (is_declared kinds.Stereotype ds s)) (named_stereotypes d))
+unknown_names ds d = subjects_in (unknown_in ds) d
 
 -- where a condition holds of the whole declaration
 abbrev pub whole_if : Bool → List Subject
@@ -94,17 +109,16 @@ is_interface ds t = is_interface_form (form_of (find_decl kinds.Type t ds))
 abbrev pub is_class : List Decl → List ℕ → Bool
 is_class ds t = bytes_eq t object || is_class_form (form_of (find_decl kinds.Type t ds))
 
--- an interface extends nothing, and a class no declared interface
-abbrev pub extends_badly : List Decl → Form → List ℕ → Bool
-extends_badly ds Interface t = true
-extends_badly ds Class t = is_interface ds t
+-- An interface extends nothing, and a class no declared interface; what is implemented is no class, and neither is the class
+-- of a bean an interface.
+abbrev pub bad_kind_in : List Decl → Decl → Mention → Option Subject
+bad_kind_in ds d (TypeIn places.Extends t) = some_if (is_interface_form (form_of (Some d)) || is_interface ds t) (subjects.Extends t)
+bad_kind_in ds d (TypeIn places.Implements t) = some_if (is_class ds t) (subjects.Implements t)
+bad_kind_in ds d (TypeIn places.Class t) = some_if (is_interface ds t) subjects.Class
+bad_kind_in ds d _ = None
 
 abbrev pub bad_kinds : List Decl → Decl → List Subject
-bad_kinds ds (decls.Type d) =
-    map subjects.Extends (filter (extends_badly ds d.form) (option_to_list d.extends))
-    ++ map subjects.Implements (filter (is_class ds) d.implements)
-bad_kinds ds (decls.Bean d) = if is_interface ds d.name then subjects.Class ∷ [] else []
-bad_kinds ds d = []
+bad_kinds ds d = subjects_in (bad_kind_in ds d) d
 
 -- ---- listed types that are not among the unrestricted ones
 
@@ -129,8 +143,12 @@ scope_conflicts bs = map (λ b. part_of b.id) (filter (λ b. b.has_scope_conflic
 
 -- ---- uses with a member that isn't declared, or without a value for one that has no default
 
+abbrev pub bad_use_in : List Decl → Mention → Option Subject
+bad_use_in ds (UseOf u) = some_if (is_misused ds u) (subjects.Use u)
+bad_use_in ds _ = None
+
 abbrev pub bad_uses : List Decl → Decl → List Subject
-bad_uses ds d = map subjects.Use (filter (is_misused ds) (written_uses d))
+bad_uses ds d = subjects_in (bad_use_in ds) d
 
 -- ---- disposers that match no product, and products that two match
 

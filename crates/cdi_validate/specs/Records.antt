@@ -11,7 +11,7 @@ use Rattle.cdi_effective.specs.declared.records.Effective.{Effective}
 use Rattle.cdi_resolve.specs.declared.choice.Choice.{Choice}
 use Rattle.cdi_faults.specs.declared.fault.Subject.{Subject}
 use Rattle.cdi_faults.specs.declared.fault.Subject.TheVariants as subjects
-use Rattle.cdi_validate.specs.Named.{listed_types}
+use Rattle.cdi_model.specs.Mentions.{listed_types}
 
 -- ---- listed types
 

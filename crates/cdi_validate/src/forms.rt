@@ -1,17 +1,16 @@
 //! Types that stand in the wrong places (CDI 4.0, Bean types).
-ghost use Rattle.std.specs.Prelude.{◌≡◌, ◌++◌, map, filter, OnOk, IfOk};
-ghost use Rattle.std.specs.Option.{option_to_list};
+ghost use Rattle.std.specs.Prelude.{◌≡◌, Some, IfOk};
 ghost use Rattle.std.specs.Str.{bytes_eq};
-ghost use Rattle.cdi_model.specs.declared.decl.Decl.TheVariants as decls_are;
 ghost use Rattle.cdi_model.specs.declared.decl.Kind.TheVariants as kinds;
 ghost use Rattle.cdi_model.specs.DeclList.{find_decl};
+ghost use Rattle.cdi_model.specs.Mentions.{TypeIn};
 ghost use Rattle.cdi_match.specs.Types.{object};
-ghost use Rattle.cdi_faults.specs.declared.fault.Subject.TheVariants as subjects_are;
-ghost use Rattle.cdi_validate.specs.Faults.{bad_kinds, extends_badly, form_of, is_class, is_interface, reaches_itself, whole_if};
+ghost use Rattle.cdi_validate.specs.Faults.{bad_kind_in, bad_kinds, form_of, is_class, is_interface, is_interface_form};
+ghost use Rattle.cdi_validate.specs.Faults.{reaches_itself, whole_if};
 
 use cdi_faults::Subject;
 use cdi_match::{extends_itself, inherits_itself};
-use cdi_model::{BeanDecl, Decl, Decls, Form, Kind, Name, TypeDecl};
+use cdi_model::{Decl, Decls, Form, Kind, Mention, Name, TypePlace};
 use std::alloc::{AllocError, Global};
 
 /// The declaration as a whole, where it is of a type or a stereotype that reaches itself.
@@ -45,79 +44,36 @@ pub(crate) fn bad_kinds(
     ensures { IfOk result (λ list. list.items ≡ bad_kinds decls.now decl.now) }
 {
     let mut subjects = Vec::new(alloc);
-    match decl {
-        Decl::Type(decl) => push_bad_supers(&mut subjects, decls, decl)?,
-        Decl::Bean(bean) => push_interface(&mut subjects, decls, bean)?,
-        _ => {}
+    for mention in decl.mentions() {
+        if let Mention::Type(place, name) = mention {
+            if let Some(subject) = bad_kind_at(decls, decl, place, name) {
+                subjects.push(subject)?;
+            }
+        }
     }
     Ok(subjects)
 }
 
-/// Appends the class of a bean, where it is an interface.
-fn push_interface(
-    subjects: &mut Vec<Subject>,
-    decls: &Decls,
-    bean: &BeanDecl,
-) -> Result<(), AllocError>
-    ensures { OnOk result (subjects.new.items ≡ subjects.old.items ++ bad_kinds decls.now (decls_are.Bean bean.now)) }
+/// A type that a declaration names in a place, where it is of the wrong form.
+fn bad_kind_at(decls: &Decls, decl: &Decl, place: TypePlace, name: Name) -> Option<Subject>
+    ensures { result ≡ bad_kind_in decls.now decl.now (TypeIn place name) }
 {
-    if is_interface(decls, bean.name) {
-        subjects.push(Subject::Class)?;
-    }
-    Ok(())
-}
-
-fn push_bad_supers(
-    subjects: &mut Vec<Subject>,
-    decls: &Decls,
-    decl: &TypeDecl,
-) -> Result<(), AllocError>
-    ensures { OnOk result (subjects.new.items ≡ subjects.old.items ++ bad_kinds decls.now (decls_are.Type decl.now)) }
-{
-    push_bad_extended(subjects, decls, decl)?;
-    push_classes(subjects, decls, decl.implements.as_slice())
-}
-
-fn push_bad_extended(
-    subjects: &mut Vec<Subject>,
-    decls: &Decls,
-    decl: &TypeDecl,
-) -> Result<(), AllocError>
-    ensures { OnOk result (subjects.new.items ≡ subjects.old.items
-        ++ map subjects_are.Extends (filter (extends_badly decls.now decl.now.form) (option_to_list decl.now.extends))) }
-{
-    if let Some(extended) = decl.extends {
-        if extends_badly(decls, decl.form, extended) {
-            subjects.push(Subject::Extends(extended))?;
+    match place {
+        TypePlace::Extends if is_interface_decl(decl) || is_interface(decls, name) => {
+            Some(Subject::Extends(name))
         }
+        TypePlace::Implements if is_class(decls, name) => Some(Subject::Implements(name)),
+        TypePlace::Class if is_interface(decls, name) => Some(Subject::Class),
+        _ => None,
     }
-    Ok(())
 }
 
-/// Appends the classes among the types that one implements.
-fn push_classes(
-    subjects: &mut Vec<Subject>,
-    decls: &Decls,
-    implemented: &[Name],
-) -> Result<(), AllocError>
-    ensures { OnOk result (subjects.new.items
-        ≡ subjects.old.items ++ map subjects_are.Implements (filter (is_class decls.now) implemented.now)) }
+fn is_interface_decl(decl: &Decl) -> bool
+    ensures { result ≡ is_interface_form (form_of (Some decl.now)) }
 {
-    for name in implemented {
-        if is_class(decls, *name) {
-            subjects.push(Subject::Implements(*name))?;
-        }
-    }
-    Ok(())
-}
-
-/// Whether a type of this form may not extend another.
-fn extends_badly(decls: &Decls, form: Form, extended: Name) -> bool
-    ensures { result ≡ extends_badly decls.now form extended }
-{
-    match form {
-        Form::Interface => true,
-        Form::Class => is_interface(decls, extended),
+    match decl {
+        Decl::Type(decl) => matches!(decl.form, Form::Interface),
+        _ => false,
     }
 }
 
