@@ -5,7 +5,9 @@ use Rattle.cdi_model.specs.declared.decl.Decl.{Decl}
 use Rattle.cdi_model.specs.declared.refusal.Error.{Error}
 use Rattle.cdi_model.specs.declared.refusal.Error.TheVariants as errors
 use Rattle.cdi_model.specs.declared.refusal.Refusal.{Refusal}
-use Rattle.cdi_model.specs.Edits.{Edit, Put as PutEdit, edited, refusal_of_edit, answer_of_edit}
+use Rattle.cdi_model.specs.declared.edit.Edit.{Edit}
+use Rattle.cdi_model.specs.declared.edit.Edit.TheVariants.{Put as PutEdit}
+use Rattle.cdi_model.specs.Edits.{edited, refusal_of_edit, answer_of_edit}
 use Rattle.cdi_model.specs.Answering.{Answers}
 use Rattle.cdi_text.specs.Reading.{decl_of}
 use Rattle.cdi_lines.specs.declared.command.Command.TheVariants.{Put}

@@ -4,7 +4,9 @@ use Rattle.std.specs.declared.alloc.AllocError.{AllocError}
 use Rattle.cdi_model.specs.declared.decl.Decl.{Decl}
 use Rattle.cdi_model.specs.declared.refusal.Refusal.{Refusal}
 use Rattle.cdi_model.specs.declared.refusal.Refusal.TheVariants.{BadCommand}
-use Rattle.cdi_model.specs.Edits.{Edit, Put as PutEdit, Remove as RemoveEdit, edited, edited_all, refusal_of_edit}
+use Rattle.cdi_model.specs.declared.edit.Edit.{Edit}
+use Rattle.cdi_model.specs.declared.edit.Edit.TheVariants.{Put as PutEdit, Remove as RemoveEdit}
+use Rattle.cdi_model.specs.Edits.{edited, edited_all, refusal_of_edit}
 use Rattle.cdi_text.specs.Reading.{decl_of}
 use Rattle.cdi_effective.specs.Beans.{beans}
 use Rattle.cdi_resolve.specs.Choices.{chosen, chosen_by_name}

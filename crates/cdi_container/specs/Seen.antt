@@ -9,7 +9,8 @@ use Rattle.cdi_model.specs.declared.quals.Qual.{Qual}
 use Rattle.cdi_model.specs.declared.refusal.Error.{Error}
 use Rattle.cdi_model.specs.declared.refusal.Error.TheVariants as errors
 use Rattle.cdi_model.specs.declared.refusal.Refusal.{Refusal}
-use Rattle.cdi_model.specs.Edits.{Put as PutEdit, answer_of_edit}
+use Rattle.cdi_model.specs.declared.edit.Edit.TheVariants.{Put as PutEdit}
+use Rattle.cdi_model.specs.Edits.{answer_of_edit}
 use Rattle.cdi_resolve.specs.declared.choice.Choice.{Choice}
 use Rattle.cdi_faults.specs.declared.fault.Fault.{Fault}
 use Rattle.cdi_lines.specs.declared.command.Command.{Command}

@@ -1,6 +1,7 @@
 //! The container.
 ghost use Rattle.std.specs.Prelude.{◌≡◌, ◌≢◌, OnOk, OnErr, IfOk, IfErr};
-ghost use Rattle.cdi_model.specs.Edits.{Remove as RemoveEdit, answer_of_edit as answer_of_removal};
+ghost use Rattle.cdi_model.specs.declared.edit.Edit.TheVariants.{Remove as RemoveEdit};
+ghost use Rattle.cdi_model.specs.Edits.{answer_of_edit as answer_of_removal};
 ghost use Rattle.cdi_model.specs.Answering.{Answers};
 ghost use Rattle.cdi_text.specs.Reading.{decl_of};
 ghost use Rattle.cdi_effective.specs.Beans.{beans};

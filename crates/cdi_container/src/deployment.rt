@@ -1,6 +1,7 @@
 //! The present declarations and their beans.
 ghost use Rattle.std.specs.Prelude.{◌≡◌, [], OnOk, OnErr, IfOk};
-ghost use Rattle.cdi_model.specs.Edits.{Put, Remove, edited, answer_of_edit};
+ghost use Rattle.cdi_model.specs.declared.edit.Edit.TheVariants.{Put, Remove};
+ghost use Rattle.cdi_model.specs.Edits.{edited, answer_of_edit};
 ghost use Rattle.cdi_model.specs.Answering.{Answers};
 ghost use Rattle.cdi_model.specs.Work.{with_one};
 ghost use Rattle.cdi_effective.specs.Beans.{beans};
