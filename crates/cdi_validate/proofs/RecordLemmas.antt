@@ -1,7 +1,7 @@
 -- What the records of a bean declaration say of its parts.
 use Rattle.std.proofs.Common.{◌≡◌, ℕ, Bool, true, false, not, cond, List, [], ◌∷◌, ◌++◌, map, filter, length, nat_lt, Option, Some, None}
 use Rattle.std.proofs.Common.{unwrap_or, refl, ap, ◌∙◌}
-use Rattle.std.specs.List.{AllByRecursion, flat_map, list_any}
+use Rattle.std.specs.List.{AllByRecursion, flat_map}
 use Rattle.std.specs.Option.{option_to_list}
 use Rattle.std.specs.Str.{bytes_eq}
 use Rattle.std.proofs.lemmas.Bool.{or_left, or_right}
@@ -9,7 +9,6 @@ use Rattle.std.proofs.lemmas.Map.Views.{any-filter_same}
 use Rattle.cdi_model.specs.declared.decl.BeanDecl.{BeanDecl}
 use Rattle.cdi_model.specs.declared.decl.Decl.{Decl}
 use Rattle.cdi_model.specs.declared.decl.Decl.TheVariants as decls
-use Rattle.cdi_model.specs.declared.decl.DisposerDecl.{DisposerDecl}
 use Rattle.cdi_model.specs.declared.decl.ProducerDecl.{ProducerDecl}
 use Rattle.cdi_match.specs.Chain.{has}
 use Rattle.cdi_match.specs.Types.{object, types_of}
@@ -18,7 +17,7 @@ use Rattle.cdi_effective.specs.Beans.{is_kept, restricted, effective, entries, m
 use Rattle.cdi_effective.specs.Disposers.{disposes}
 use Rattle.cdi_effective.specs.declared.records.Effective.{Effective}
 use Rattle.cdi_validate.specs.Faults.{disposers_at_fault, typed, wrongly_listed}
-use Rattle.cdi_validate.specs.Records.{not_had, not_had_by, typed_by}
+use Rattle.cdi_validate.specs.Records.{not_had, not_had_by, typed_by, with_two, without_product}
 use Rattle.cdi_faults.specs.declared.fault.Subject.{Subject}
 use Rattle.cdi_faults.specs.declared.fault.Subject.TheVariants as parts
 
@@ -59,13 +58,6 @@ named_products test ds bean (p ∷ ps) = by (test (product ds bean p)) (named_pr
         ++ flat_map (λ b. option_to_list b.id.producer) (filter test (map (product ds bean) ps)))) (product-producer ds bean p)
         ∙ ap (λ ms. parts.Producer p.name ∷ ms) rest
     by false rest = rest
-
-abbrev pub without_product : List Decl → List Effective → List DisposerDecl → List Subject
-without_product ds bs disposers = map (λ s. parts.Disposer s.name) (filter (λ s. not (list_any (λ p. disposes ds p s) bs)) disposers)
-
-abbrev pub with_two : List Decl → List Effective → List DisposerDecl → List Subject
-with_two ds bs disposers = map parts.Producer
-    (flat_map (λ b. option_to_list b.id.producer) (filter (λ b. nat_lt 1 (length (filter (disposes ds b) disposers))) bs))
 
 -- what is at fault of the disposers of a declaration, whose products are those behind its first record
 pub disposers_of_records : (ds : List Decl) (bean : BeanDecl) (b : Effective) (bs : List Effective) → b ∷ bs ≡ entries ds (decls.Bean bean)

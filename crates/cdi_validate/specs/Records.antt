@@ -1,12 +1,15 @@
 -- What is at fault of a declaration, by its records: that of a bean, and behind it those of its producer methods.
-use Rattle.std.specs.Prelude.{Bool, List, [], ◌∷◌, ◌++◌, map, filter, length, take, drop, not, if◌then◌else◌}
-use Rattle.std.specs.List.{flat_map, zip}
+use Rattle.std.specs.Prelude.{Bool, List, [], ◌∷◌, ◌++◌, map, filter, length, take, drop, nat_lt, not, if◌then◌else◌}
+use Rattle.std.specs.List.{flat_map, list_any, zip}
+use Rattle.std.specs.Option.{option_to_list}
 use Rattle.cdi_model.specs.declared.decl.Attributes.{Attributes}
 use Rattle.cdi_model.specs.declared.decl.Decl.{Decl}
 use Rattle.cdi_model.specs.declared.decl.Decl.TheVariants as decls
+use Rattle.cdi_model.specs.declared.decl.DisposerDecl.{DisposerDecl}
 use Rattle.cdi_model.specs.declared.decl.PointDecl.{PointDecl}
 use Rattle.cdi_model.specs.declared.decl.ProducerDecl.{ProducerDecl}
 use Rattle.cdi_match.specs.Chain.{has}
+use Rattle.cdi_effective.specs.Disposers.{disposes}
 use Rattle.cdi_effective.specs.declared.records.Effective.{Effective}
 use Rattle.cdi_resolve.specs.declared.choice.Choice.{Choice}
 use Rattle.cdi_faults.specs.declared.fault.Subject.{Subject}
@@ -27,6 +30,17 @@ not_had_by bs ps = flat_map (λ z. not_had z.0 z.1.attributes) (zip bs ps)
 abbrev pub typed_by : Decl → List Effective → List Subject
 typed_by (decls.Bean d) (b ∷ bs) = not_had b d.attributes ++ not_had_by bs d.producers
 typed_by _ _ = []
+
+-- ---- disposer methods and products
+
+-- the disposer methods that match none of some products
+abbrev pub without_product : List Decl → List Effective → List DisposerDecl → List Subject
+without_product ds bs disposers = map (λ s. subjects.Disposer s.name) (filter (λ s. not (list_any (λ p. disposes ds p s) bs)) disposers)
+
+-- the producer methods whose products two of some disposer methods match
+abbrev pub with_two : List Decl → List Effective → List DisposerDecl → List Subject
+with_two ds bs disposers = map subjects.Producer
+    (flat_map (λ b. option_to_list b.id.producer) (filter (λ b. nat_lt 1 (length (filter (disposes ds b) disposers))) bs))
 
 -- ---- injection points
 

@@ -1,11 +1,10 @@
 //! Disposer methods without a product, and products with two (CDI 4.0, Disposer method resolution).
-ghost use Rattle.std.specs.Prelude.{◌≡◌, ◌++◌, not, nat_lt, length, map, filter, IfOk, OnOk};
-ghost use Rattle.std.specs.List.{flat_map, list_any};
-ghost use Rattle.std.specs.Option.{option_to_list};
+ghost use Rattle.std.specs.Prelude.{◌≡◌, ◌++◌, nat_lt, length, filter, IfOk, OnOk};
+ghost use Rattle.std.specs.List.{list_any};
 ghost use Rattle.cdi_effective.specs.Beans.{entries};
 ghost use Rattle.cdi_effective.specs.Disposers.{disposes};
 ghost use Rattle.cdi_validate.specs.Faults.{disposers_at_fault};
-ghost use Rattle.cdi_faults.specs.declared.fault.Subject.TheVariants as parts;
+ghost use Rattle.cdi_validate.specs.Records.{with_two, without_product};
 
 use cdi_effective::{Effective, disposes};
 use cdi_faults::Subject;
@@ -43,8 +42,7 @@ fn push_without_product(
     disposers: &[DisposerDecl],
     subjects: &mut Vec<Subject>,
 ) -> Result<(), AllocError>
-    ensures { OnOk result (subjects.new.items ≡ subjects.old.items
-        ++ map (λ s. parts.Disposer s.name) (filter (λ s. not (list_any (λ p. disposes decls.now p s) products.now)) disposers.now)) }
+    ensures { OnOk result (subjects.new.items ≡ subjects.old.items ++ without_product decls.now products.now disposers.now) }
 {
     for disposer in disposers {
         if !has_product(alloc, decls, products, disposer) {
@@ -76,8 +74,7 @@ fn push_with_two(
     disposers: &[DisposerDecl],
     subjects: &mut Vec<Subject>,
 ) -> Result<(), AllocError>
-    ensures { OnOk result (subjects.new.items ≡ subjects.old.items
-        ++ map parts.Producer (flat_map (λ p. option_to_list p.id.producer) (filter (λ p. nat_lt 1 (length (filter (disposes decls.now p) disposers.now))) products.now))) }
+    ensures { OnOk result (subjects.new.items ≡ subjects.old.items ++ with_two decls.now products.now disposers.now) }
 {
     for product in products {
         if has_two(alloc, decls, product, disposers) {

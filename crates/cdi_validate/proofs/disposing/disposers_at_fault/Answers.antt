@@ -1,7 +1,8 @@
 use Rattle.std.proofs.Common.{◌++◌, ap, sym, ◌∙◌}
 use Rattle.cdi_effective.specs.Beans.{entries}
 use Rattle.cdi_validate.specs.Faults.{disposers_at_fault}
-use Rattle.cdi_validate.proofs.RecordLemmas.{without_product, with_two, disposers_of_records}
+use Rattle.cdi_validate.specs.Records.{without_product, with_two}
+use Rattle.cdi_validate.proofs.RecordLemmas.{disposers_of_records}
 use Rattle.cdi_validate.proofs.disposing.disposers_at_fault.Goals as goal
 
 pub returns : goal.returns
