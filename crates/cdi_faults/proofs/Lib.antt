@@ -1,3 +1,4 @@
+pub mod CodeLemmas
 mod TextLemmas
 mod TreeLemmas
 pub mod OrderLemmas

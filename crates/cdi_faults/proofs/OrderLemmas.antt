@@ -7,11 +7,11 @@ use Rattle.std.specs.List.{AllByRecursion}
 use Rattle.std.specs.List.Sorted.{IsStrictlySortedBy}
 use Rattle.std.specs.Map.{keys_of}
 use Rattle.std.specs.Str.{bytes_eq}
-use Rattle.std.proofs.Math.Bool.{or_self_left}
+use Rattle.std.proofs.Math.Bool.{or-false}
 use Rattle.cdi_model.proofs.QualLemmas.{same_name}
 use Rattle.cdi_match.specs.Chain.{has}
 use Rattle.cdi_match.specs.Order.{in_order}
-use Rattle.cdi_match.proofs.OrderLemmas.{in_order-rises}
+use Rattle.cdi_match.proofs.OrderLemmas.{has-insert, in_order-rises}
 use Rattle.cdi_faults.specs.declared.fault.Subject.{Subject}
 use Rattle.cdi_faults.specs.FaultText.{text_of_subject, byte_order, by_text, in_text_order, SubjectsInOrder}
 
@@ -71,29 +71,9 @@ or-swap true false z = refl
 or-swap false true z = refl
 or-swap false false z = refl
 
-or-left_comm : (x y z : Bool) → (x || (y || z)) ≡ (y || (x || z))
-or-left_comm true true z = refl
-or-left_comm true false z = refl
-or-left_comm false y z = refl
-
-or-false : (x : Bool) → (x || false) ≡ x
-or-false true = refl
-or-false false = refl
-
 has-put : (m : Subject) (es : Entries) (text : List ℕ)
     → has (keys_of (put es m)) text ≡ (bytes_eq (text_of_subject m) text || has (keys_of es) text)
-has-put m [] text = refl
-has-put m (e ∷ es) text = by (byte_order (text_of_subject m) e.0) refl (has-put m es text)
-  where
-    is_it : Bool
-    is_it = bytes_eq (text_of_subject m) text
-
-    by : (o : Ordering) → byte_order (text_of_subject m) e.0 ≡ o → has (keys_of (put es m)) text ≡ (is_it || has (keys_of es) text)
-        → has (keys_of (put (e ∷ es) m)) text ≡ (is_it || has (keys_of (e ∷ es)) text)
-    by Less is rest = rw is refl
-    by Equal is rest = rw is (sym (or_self_left (bytes_eq e.0 text) (has (keys_of es) text))
-        ∙ ap (λ t. bytes_eq t text || has (keys_of (e ∷ es)) text) (sym (same_name (text_of_subject m) e.0 is)))
-    by Greater is rest = rw is (ap (λ b. bytes_eq e.0 text || b) rest ∙ or-left_comm (bytes_eq e.0 text) is_it (has (keys_of es) text))
+has-put m es text = ap (λ ks. has ks text) (keys-put m es) ∙ has-insert (text_of_subject m) (keys_of es) text
 
 all-has : (ms : List Subject) (es : Entries) (text : List ℕ)
     → has (keys_of (fold put es ms)) text ≡ (has (map text_of_subject ms) text || has (keys_of es) text)

@@ -9,6 +9,7 @@ use Rattle.cdi_model.specs.Bytes.{space}
 use Rattle.cdi_model.specs.Decl.{word_of_kind}
 use Rattle.cdi_model.specs.UseText.{text_of_use}
 use Rattle.cdi_match.specs.Chain.{has}
+use Rattle.cdi_faults.specs.Codes.{code_of}
 use Rattle.cdi_faults.specs.declared.fault.Code.{Code}
 use Rattle.cdi_faults.specs.declared.fault.Code.TheVariants as fault_codes
 use Rattle.cdi_faults.specs.declared.fault.Fault.{Fault}
@@ -55,18 +56,23 @@ text_of_code fault_codes.Member = codes "F07"
 text_of_code fault_codes.Disposer = codes "F08"
 text_of_code fault_codes.Unsatisfied = codes "F20"
 text_of_code fault_codes.Ambiguous = codes "F21"
+text_of_code fault_codes.NameClash = codes "F24"
+text_of_code fault_codes.NamePrefix = codes "F25"
 
 -- behind a space, where it is not empty
 abbrev pub behind_space : List ℕ → List ℕ
 behind_space [] = []
 behind_space (c ∷ cs) = space ∷ c ∷ cs
 
--- the code, the kind and the name of the declaration, and the subject
+-- what a fault is about: the kind and the name of the declaration, and the subject; or the names
+abbrev pub text_behind_code : Fault → List ℕ
+text_behind_code (faults_are.Declared code kind name subject) = about (word_of_kind kind) (name ++ behind_space (text_of_subject subject))
+text_behind_code (faults_are.NameClash name) = about (codes "name") name
+text_behind_code (faults_are.NamePrefix name longer) = about (codes "name") (name ++ space ∷ longer)
+
+-- each prints its code first
 abbrev pub text_of_fault : Fault → List ℕ
-text_of_fault (faults_are.Declared code kind name subject) = text_of_code code ++ space ∷ word_of_kind kind ++ space ∷ name
-    ++ behind_space (text_of_subject subject)
-text_of_fault (faults_are.NameClash name) = codes "F24 name " ++ name
-text_of_fault (faults_are.NamePrefix name longer) = codes "F25 name " ++ name ++ space ∷ longer
+text_of_fault fault = about (text_of_code (code_of fault)) (text_behind_code fault)
 
 -- ---- order
 

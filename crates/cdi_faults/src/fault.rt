@@ -1,8 +1,12 @@
 //! Faults of a deployment (CDI 4.0, Problems detected automatically by the container).
+ghost use Rattle.std.specs.Prelude.{◌≡◌, Contains};
+ghost use Rattle.std.specs.List.Sorted.{IsStrictlySortedBy};
+ghost use Rattle.cdi_faults.specs.Codes.{all_codes, code_of, code_order};
+
 use cdi_model::{Ident, Kind, Name, Qual};
 
-/// What is wrong with a declaration.
-#[derive(Clone, Copy, Debug, PartialEq, Eq)]
+/// What is wrong. The order of the codes is that in which faults stand.
+#[derive(Clone, Copy, Debug, PartialEq, Eq, PartialOrd, Ord)]
 pub enum Code {
     /// A name that it names is neither declared nor built in.
     UnknownName,
@@ -22,10 +26,37 @@ pub enum Code {
     Unsatisfied,
     /// More than one bean is left for an injection point (CDI 4.0, Unsatisfied and ambiguous dependencies).
     Ambiguous,
+    /// Several enabled beans have a name, and none of them is chosen for it (CDI 4.0, Ambiguous names).
+    NameClash,
+    /// The name of an enabled bean is that of another, a dot and a name (CDI 4.0, Ambiguous names).
+    NamePrefix,
+}
+
+impl Code {
+    /// All codes, in their order.
+    pub fn all() -> [Code; 11]
+        ensures value { result ≡ all_codes }
+        ensures order { IsStrictlySortedBy code_order all_codes }
+        ensures each { (code : Code) → Contains all_codes code }
+    {
+        [
+            Code::UnknownName,
+            Code::Cycle,
+            Code::BadKind,
+            Code::Typed,
+            Code::ScopeConflict,
+            Code::Member,
+            Code::Disposer,
+            Code::Unsatisfied,
+            Code::Ambiguous,
+            Code::NameClash,
+            Code::NamePrefix,
+        ]
+    }
 }
 
 /// The part of a declaration that has a fault.
-#[derive(Debug, Drop)]
+#[derive(Debug, PartialEq, Eq, Drop)]
 pub enum Subject {
     /// The declaration as a whole.
     Whole,
@@ -58,7 +89,7 @@ pub enum Subject {
 }
 
 /// What is wrong with a deployment.
-#[derive(Debug, Drop)]
+#[derive(Debug, PartialEq, Eq, Drop)]
 pub enum Fault {
     /// A part of a declaration is at fault.
     Declared {
@@ -67,9 +98,21 @@ pub enum Fault {
         name: Name,
         subject: Subject,
     },
-    /// Several enabled beans have a name, and none of them is chosen for it (CDI 4.0, Ambiguous names).
+    /// A name clashes.
     NameClash(Name),
-    /// The first and the second are names of enabled beans, and the second is the first, a dot and a name (CDI 4.0,
-    /// Ambiguous names).
+    /// The first name and the second, which goes on behind it.
     NamePrefix(Name, Name),
+}
+
+impl Fault {
+    /// What is wrong.
+    pub fn code(&self) -> Code
+        ensures { result ≡ code_of self.now }
+    {
+        match self {
+            Fault::Declared { code, .. } => *code,
+            Fault::NameClash(_) => Code::NameClash,
+            Fault::NamePrefix(..) => Code::NamePrefix,
+        }
+    }
 }

@@ -1,5 +1,5 @@
 //! The texts of faults.
-ghost use Rattle.std.specs.Prelude.{◌≡◌, [], ◌++◌, Some, IfOk, OnOk};
+ghost use Rattle.std.specs.Prelude.{◌≡◌, [], ◌++◌, Some, IfOk, OnOk, OnErr};
 ghost use Rattle.std.specs.BTreeMap.{insert_entry, values};
 ghost use Rattle.cdi_faults.specs.TextTree.{entries_in};
 ghost use Rattle.cdi_faults.specs.FaultText.{text_of_code, text_of_subject, text_of_fault, byte_order, by_text, in_text_order};
@@ -25,6 +25,8 @@ impl fmt::Display for Code {
             Code::Disposer => "F08",
             Code::Unsatisfied => "F20",
             Code::Ambiguous => "F21",
+            Code::NameClash => "F24",
+            Code::NamePrefix => "F25",
         })
     }
 }
@@ -70,12 +72,13 @@ impl fmt::Display for Fault {
 
     #[tactic(auto, using(crate::proofs::TextLemmas::behind_space_of))]
     fn fmt<W: fmt::Write>(&self, f: &mut fmt::Formatter<W>) -> fmt::Result {
+        let code = self.code();
         match self {
             Fault::Declared {
-                code,
                 kind,
                 name,
                 subject,
+                ..
             } => {
                 if matches!(subject, Subject::Whole) {
                     write!(f, "{code} {kind} {name}")
@@ -83,20 +86,21 @@ impl fmt::Display for Fault {
                     write!(f, "{code} {kind} {name} {subject}")
                 }
             }
-            Fault::NameClash(name) => write!(f, "F24 name {name}"),
-            Fault::NamePrefix(name, longer) => write!(f, "F25 name {name} {longer}"),
+            Fault::NameClash(name) => write!(f, "{code} name {name}"),
+            Fault::NamePrefix(name, longer) => write!(f, "{code} name {name} {longer}"),
         }
     }
 }
 
 impl Fault {
     /// Appends the text of the fault: its code, the kind and the name of the declaration, and its subject where it is not
-    /// the declaration as a whole, parted by single spaces. It takes memory for the text; at `Err` a front part of it may
-    /// stand.
+    /// the declaration as a whole, parted by single spaces. It takes memory for the text; at `Err` nothing is appended.
     pub fn push_text(&self, text: &mut Vec<u8>) -> Result<(), AllocError>
-        ensures { OnOk result (text.new.items ≡ text.old.items ++ text_of_fault self.now) }
+        ensures ok { OnOk result (text.new.items ≡ text.old.items ++ text_of_fault self.now) }
+        ensures err { OnErr result (text.new.items ≡ text.old.items) }
     {
-        write!(text, "{self}").map_err(|_| AllocError)
+        let own = format!(in *text.allocator(); "{self}")?;
+        text.extend_from_slice(own.as_bytes())
     }
 }
 

@@ -17,8 +17,8 @@ use Rattle.cdi_match.proofs.Names.{one_name, has-by_order}
 use Rattle.cdi_match.proofs.OrderLemmas.{one_order, in_order-rises, in_order-has}
 use Rattle.cdi_effective.specs.declared.records.Effective.{Effective}
 use Rattle.cdi_resolve.specs.Choices.{choice_of, chosen_by_name, is_named, named}
-use Rattle.cdi_validate.specs.Faults.{enabled_names, is_ambiguous}
-use Rattle.cdi_validate.specs.Names.{enabled_name, stands_twice}
+use Rattle.cdi_validate.specs.Faults.{enabled_name, enabled_names, is_ambiguous}
+use Rattle.cdi_validate.specs.Names.{stands_twice}
 
 abbrev order : List ℕ → List ℕ → Ordering
 order = slice_cmp nat_cmp

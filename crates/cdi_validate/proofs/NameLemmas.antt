@@ -8,9 +8,9 @@ use Rattle.std.specs.List.Sorted.{IsStrictlySortedBy}
 use Rattle.std.specs.Cmp.Lexicographic.{slice_cmp, nat_list_cmp_total}
 use Rattle.std.specs.Ordering.{nat_cmp, ordering_then, ordering_reverse}
 use Rattle.std.proofs.Math.Bool.{and_assoc, and-true}
-use Rattle.std.proofs.lemmas.Bool.{false≢true, eqb-true}
+use Rattle.std.proofs.lemmas.Bool.{false≢true, and_parts, eqb-true}
 use Rattle.std.proofs.lemmas.Bool.Decides.{Decides-eqb}
-use Rattle.std.proofs.lemmas.Cmp.{nat_cmp_total}
+use Rattle.std.proofs.lemmas.Cmp.{nat_cmp_total, tied_itself}
 use Rattle.std.proofs.lemmas.Map.Lookups.{exact_unsigned}
 use Rattle.cdi_match.specs.Chain.{has}
 use Rattle.cdi_match.specs.Order.{in_order}
@@ -19,8 +19,8 @@ use Rattle.cdi_match.proofs.OrderLemmas.{one_order, in_order-rises, in_order-has
 use Rattle.cdi_effective.specs.declared.records.Effective.{Effective}
 use Rattle.cdi_faults.specs.declared.fault.Fault.{Fault}
 use Rattle.cdi_faults.specs.declared.fault.Fault.TheVariants as faults_are
-use Rattle.cdi_validate.specs.Faults.{enabled_names, goes_on}
-use Rattle.cdi_validate.specs.Names.{enabled_name, has_dot_at, prefix_pairs}
+use Rattle.cdi_validate.specs.Faults.{enabled_name, enabled_names, goes_on}
+use Rattle.cdi_validate.specs.Names.{has_dot_at, prefix_pairs}
 
 abbrev order : List ℕ → List ℕ → Ordering
 order = slice_cmp nat_cmp
@@ -43,31 +43,15 @@ goes_on-dot x y e = goes_on-parts x y ∙ (rw e refl)
 
 -- ---- the order
 
-equal_at : (a : ℕ) → nat_cmp a a ≡ Equal
-equal_at a = by (nat_cmp a a) refl
-  where
-    by : (o : Ordering) → nat_cmp a a ≡ o → nat_cmp a a ≡ Equal
-    by Less e = absurd (let no : Less ≡ Greater = sym e ∙ nat_cmp_total.antisymm a a ∙ ap ordering_reverse e in cc)
-    by Equal e = e
-    by Greater e = absurd (let no : Greater ≡ Less = sym e ∙ nat_cmp_total.antisymm a a ∙ ap ordering_reverse e in cc)
-
-and-first : (b c : Bool) → (b && c) ≡ true → b ≡ true
-and-first true c h = refl
-and-first false c h = h
-
-and-second : (b c : Bool) → (b && c) ≡ true → c ≡ true
-and-second true c h = h
-and-second false c h = absurd (false≢true h)
-
 -- what goes on behind a name is after it
 less-if_goes_on : (x y : List ℕ) → goes_on x y ≡ true → order x y ≡ Less
 less-if_goes_on [] [] h = absurd (false≢true h)
 less-if_goes_on [] (b ∷ ys) h = refl
 less-if_goes_on (a ∷ xs) [] h = absurd (false≢true h)
 less-if_goes_on (a ∷ xs) (b ∷ ys) h =
-    let same : a ≡ b = eqb-true a b (and-first (nat_eq a b) (goes_on xs ys) h) in
-    let equal : nat_cmp a b ≡ Equal = ap (nat_cmp a) (sym same) ∙ equal_at a in
-    ap (λ o. ordering_then o (order xs ys)) equal ∙ less-if_goes_on xs ys (and-second (nat_eq a b) (goes_on xs ys) h)
+    let same : a ≡ b = eqb-true a b (and_parts (nat_eq a b) (goes_on xs ys) h).0 in
+    let equal : nat_cmp a b ≡ Equal = ap (nat_cmp a) (sym same) ∙ tied_itself nat_cmp_total a in
+    ap (λ o. ordering_then o (order xs ys)) equal ∙ less-if_goes_on xs ys (and_parts (nat_eq a b) (goes_on xs ys) h).1
 
 -- so none goes on behind one after it, and none behind itself
 goes_on-before : (x y : List ℕ) → order x y ≡ Less → goes_on y x ≡ false
@@ -92,10 +76,10 @@ begins-between [] y z less more begins = refl
 begins-between (a ∷ xs) y [] less more begins = absurd (false≢true begins)
 begins-between (a ∷ xs) [] (c ∷ zs) less more begins = absurd (let no : Greater ≡ Less = less in cc)
 begins-between (a ∷ xs) (b ∷ ys) (c ∷ zs) less more begins = by (nat_cmp a b) refl
-    (λ l m. begins-between xs ys zs l m (and-second (nat_eq a c) (starts_with nat_eq zs xs) begins))
+    (λ l m. begins-between xs ys zs l m (and_parts (nat_eq a c) (starts_with nat_eq zs xs) begins).1)
   where
     one : a ≡ c
-    one = eqb-true a c (and-first (nat_eq a c) (starts_with nat_eq zs xs) begins)
+    one = eqb-true a c (and_parts (nat_eq a c) (starts_with nat_eq zs xs) begins).0
 
     by : (o : Ordering) → nat_cmp a b ≡ o → (order xs ys ≡ Less → order ys zs ≡ Less → starts_with nat_eq ys xs ≡ true)
         → starts_with nat_eq (b ∷ ys) (a ∷ xs) ≡ true
@@ -104,7 +88,7 @@ begins-between (a ∷ xs) (b ∷ ys) (c ∷ zs) less more begins = by (nat_cmp a
         absurd (let no : Greater ≡ Less = ap (λ o. ordering_then o (order ys zs)) (sym turned) ∙ more in cc)
     by Equal e rest =
         let same : a ≡ b = exact_unsigned a b e in
-        let equal : nat_cmp b c ≡ Equal = ap (λ n. nat_cmp n c) (sym same) ∙ ap (nat_cmp a) (sym one) ∙ equal_at a in
+        let equal : nat_cmp b c ≡ Equal = ap (λ n. nat_cmp n c) (sym same) ∙ ap (nat_cmp a) (sym one) ∙ tied_itself nat_cmp_total a in
         let here : nat_eq a b ≡ true = (Decides-eqb a b).1 same in
         rw here (rest (ap (λ o. ordering_then o (order xs ys)) (sym e) ∙ less) (ap (λ o. ordering_then o (order ys zs)) (sym equal) ∙ more))
     by Greater e rest = absurd (let no : Greater ≡ Less = ap (λ o. ordering_then o (order xs ys)) (sym e) ∙ less in cc)

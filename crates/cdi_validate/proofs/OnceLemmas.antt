@@ -1,26 +1,25 @@
 -- No fault stands twice.
-use Rattle.std.proofs.Common.{◌≡◌, ◌≢◌, ◌<◌, ℕ, zero, suc, nat_eq, Bool, true, false, cond, List, [], ◌∷◌, ◌++◌, Option, Some, None, length}
-use Rattle.std.proofs.Common.{map, filter, Ordering, Less, Greater, refl, sym, ap, ◌∙◌, append_assoc, subst, arith}
-use Rattle.std.specs.List.{AllByRecursion, AllPairs, IsDistinct, flat_map, slice_index_or}
-use Rattle.std.proofs.lemmas.Bool.Decides.{Decides-eqb}
-use Rattle.std.proofs.lemmas.Map.Made.{AllPairs-from_IsDistinct}
+use Rattle.std.proofs.Common.{◌≡◌, ◌≢◌, ◌<◌, ℕ, zero, suc, Bool, true, false, cond, List, [], ◌∷◌, ◌++◌, Option, Some, None, length}
+use Rattle.std.proofs.Common.{map, filter, Ordering, Less, Equal, refl, sym, ap, ◌∙◌, append_assoc, subst, arith}
+use Rattle.std.specs.List.{AllByRecursion, AllPairs, flat_map, slice_index_or}
 use Rattle.std.specs.List.Sorted.{IsStrictlySortedBy}
-use Rattle.std.specs.Cmp.Lexicographic.{slice_cmp, nat_list_cmp_total}
-use Rattle.std.specs.Ordering.{nat_cmp, ordering_reverse}
-use Rattle.std.specs.Option.{option_to_list}
+use Rattle.std.specs.Cmp.{IsTotalOrder}
+use Rattle.std.specs.Cmp.Lexicographic.{nat_list_cmp_total}
+use Rattle.std.proofs.lemmas.Cmp.{tied_itself}
 use Rattle.cdi_model.specs.Decl.{key_of, kind_of, name_of_decl}
 use Rattle.cdi_model.specs.declared.decl.Decl.{Decl}
 use Rattle.cdi_model.specs.declared.key.DeclKey.{DeclKey}
 use Rattle.cdi_match.proofs.OrderLemmas.{in_order-rises}
 use Rattle.cdi_effective.specs.Beans.{beans}
 use Rattle.cdi_effective.specs.declared.records.Effective.{Effective}
+use Rattle.cdi_faults.specs.Codes.{all_codes, code_of}
+use Rattle.cdi_faults.proofs.CodeLemmas.{codes_rise, code_order-total}
 use Rattle.cdi_faults.specs.declared.fault.Code.{Code}
-use Rattle.cdi_faults.specs.declared.fault.Code.TheVariants as codes_of
 use Rattle.cdi_faults.specs.declared.fault.Fault.{Fault}
 use Rattle.cdi_faults.specs.declared.fault.Fault.TheVariants as faults_are
 use Rattle.cdi_faults.specs.declared.fault.Subject.{Subject}
 use Rattle.cdi_faults.specs.FaultText.{text_of_subject, byte_order, in_text_order}
-use Rattle.cdi_validate.specs.Faults.{all_codes, faults_of_code, faults_of, subjects_at_fault, enabled_names, name_clashes, name_prefixes}
+use Rattle.cdi_validate.specs.Faults.{faults_of_code, faults_of, subjects_at_fault, enabled_name, enabled_names, name_clashes, name_prefixes}
 use Rattle.cdi_validate.specs.Faults.{goes_on, faults, FaultsStandOnce}
 use Rattle.cdi_faults.proofs.OrderLemmas.{subjects_in_order}
 
@@ -126,18 +125,19 @@ module _ {X T : Type 0} (tag : X → T) where
     differ-flat_map each (d ∷ ds) apart =
         differ-append (key d) (f d) (flat_map f ds) (tagged d) (none-tagged (key d) ds apart.0) (each d) (differ-flat_map each ds apart.1)
 
--- ---- texts that rise
+-- ---- what rises
 
-never-before-itself : (t : List ℕ) → byte_order t t ≢ Less
-never-before-itself t less = let no : Less ≡ Greater = sym less ∙ nat_list_cmp_total.antisymm t t ∙ ap ordering_reverse less in absurd (cc)
-
-rising-differ : (ts : List (List ℕ)) → IsStrictlySortedBy byte_order ts → Differ ts
+-- what rises in an order has nothing twice
+rising-differ : {X : Type 0} {order : X → X → Ordering} → IsTotalOrder order → (xs : List X) → IsStrictlySortedBy order xs → Differ xs
 unfolding IsStrictlySortedBy
-rising-differ [] rise = tt
-rising-differ (t ∷ ts) rise = (
-  all-more (λ u. byte_order t u ≡ Less) (λ u. t ≢ u) (λ u less e. never-before-itself t (ap (byte_order t) e ∙ less)) ts rise.0,
-  rising-differ ts rise.1,
+rising-differ total [] rise = tt
+rising-differ {order = order} total (x ∷ xs) rise = (
+  all-more (λ y. order x y ≡ Less) (λ y. x ≢ y) (λ y less e. not_before (ap (order x) e ∙ less)) xs rise.0,
+  rising-differ total xs rise.1,
 )
+  where
+    not_before : order x x ≡ Less → ⊥
+    not_before less = let no : Less ≡ Equal = sym less ∙ tied_itself total x in absurd (cc)
 
 -- what differs by its texts differs
 differ-by : {X Y : Type 0} (f : X → Y) (xs : List X) → Differ (map f xs) → Differ xs
@@ -150,23 +150,6 @@ differ-by f (x ∷ xs) differ = (from_map xs differ.0, differ-by f xs differ.1)
 
 -- ---- faults of one declaration
 
-abbrev code-number : Code → ℕ
-code-number codes_of.UnknownName = 1
-code-number codes_of.Cycle = 2
-code-number codes_of.BadKind = 3
-code-number codes_of.Typed = 4
-code-number codes_of.ScopeConflict = 5
-code-number codes_of.Member = 7
-code-number codes_of.Disposer = 8
-code-number codes_of.Unsatisfied = 20
-code-number codes_of.Ambiguous = 21
-
--- 0 for a fault of names
-abbrev code-of : Fault → ℕ
-code-of (faults_are.Declared code kind name subject) = code-number code
-code-of (faults_are.NameClash name) = 0
-code-of (faults_are.NamePrefix name longer) = 0
-
 one-subject : (code : Code) (d : Decl) (m n : Subject)
     → faults_are.Declared code (kind_of d) (name_of_decl d) m ≡ faults_are.Declared code (kind_of d) (name_of_decl d) n → m ≡ n
 one-subject code d m n e = cc
@@ -175,47 +158,16 @@ of_code-differ : (ds : List Decl) (d : Decl) (code : Code) → Differ (faults_of
 of_code-differ ds d code =
     let ms = subjects_at_fault code ds d in
     differ-map (faults_are.Declared code (kind_of d) (name_of_decl d)) (one-subject code d) (in_text_order ms)
-    (differ-by text_of_subject (in_text_order ms) (rising-differ (map text_of_subject (in_text_order ms)) (subjects_in_order ms).0))
+    (differ-by text_of_subject (in_text_order ms) (rising-differ nat_list_cmp_total (map text_of_subject (in_text_order ms)) (subjects_in_order ms).0))
 
-of_code-tagged : (ds : List Decl) (d : Decl) (code : Code) → Tagged code-of (code-number code) (faults_of_code ds d code)
+of_code-tagged : (ds : List Decl) (d : Decl) (code : Code) → Tagged code_of code (faults_of_code ds d code)
 of_code-tagged ds d code =
     let ms = in_text_order (subjects_at_fault code ds d) in
-    all-map (λ f. code-of f ≡ code-number code) (faults_are.Declared code (kind_of d) (name_of_decl d)) ms (all-each _ (λ m. refl) ms)
-
-numbers-differ : (ns : List ℕ) → IsDistinct nat_eq ns → Differ ns
-numbers-differ ns apart = pairs-apart (λ m n. m ≢ n) ns (AllPairs-from_IsDistinct Decides-eqb ns apart)
-
-numbers-apart : IsDistinct nat_eq (map code-number all_codes)
-unfolding IsDistinct
-numbers-apart = (
-  (refl, (refl, (refl, (refl, (refl, (refl, (refl, (refl, tt)))))))),
-  (
-    (refl, (refl, (refl, (refl, (refl, (refl, (refl, tt))))))),
-    (
-      (refl, (refl, (refl, (refl, (refl, (refl, tt)))))),
-      (
-        (refl, (refl, (refl, (refl, (refl, tt))))),
-        ((refl, (refl, (refl, (refl, tt)))), ((refl, (refl, (refl, tt))), ((refl, (refl, tt)), ((refl, tt), (tt, tt))))),
-      ),
-    ),
-  ),
-)
-
-codes-differ : Apart (λ c e. code-number c ≢ code-number e) all_codes
-codes-differ = by all_codes (numbers-differ (map code-number all_codes) numbers-apart)
-  where
-    from_map : (c : Code) (es : List Code) → AllByRecursion (λ n. code-number c ≢ n) (map code-number es)
-        → AllByRecursion (λ e. code-number c ≢ code-number e) es
-    from_map c [] all = tt
-    from_map c (e ∷ es) all = (all.0, from_map c es all.1)
-
-    by : (cs : List Code) → Differ (map code-number cs) → Apart (λ c e. code-number c ≢ code-number e) cs
-    by [] differ = tt
-    by (c ∷ cs) differ = (from_map c cs differ.0, by cs differ.1)
+    all-map (λ f. code_of f ≡ code) (faults_are.Declared code (kind_of d) (name_of_decl d)) ms (all-each _ (λ m. refl) ms)
 
 of_decl-differ : (ds : List Decl) (d : Decl) → Differ (faults_of ds d)
-of_decl-differ ds d = differ-flat_map code-of (faults_of_code ds d) code-number (of_code-tagged ds d) (of_code-differ ds d) all_codes
-    codes-differ
+of_decl-differ ds d = differ-flat_map code_of (faults_of_code ds d) (λ code. code) (of_code-tagged ds d) (of_code-differ ds d) all_codes
+    (rising-differ code_order-total all_codes codes_rise)
 
 -- ---- faults of all declarations
 
@@ -283,7 +235,7 @@ one-longer : (x m n : List ℕ) → faults_are.NamePrefix x m ≡ faults_are.Nam
 one-longer x m n e = cc
 
 names-differ : (bs : List Effective) → Differ (enabled_names bs)
-names-differ bs = rising-differ (enabled_names bs) (in_order-rises (flat_map (λ b. cond b.is_enabled (option_to_list b.name) []) bs))
+names-differ bs = rising-differ nat_list_cmp_total (enabled_names bs) (in_order-rises (flat_map enabled_name bs))
 
 clashes-differ : (bs : List Effective) → Differ (name_clashes bs)
 clashes-differ bs = differ-map faults_are.NameClash one-name _ (apart-filter (λ x y. x ≢ y) _ (enabled_names bs) (names-differ bs))

@@ -32,6 +32,7 @@ use Rattle.cdi_resolve.specs.Choices.{chosen_by_name}
 use Rattle.cdi_resolve.specs.declared.choice.Choice.{Choice}
 use Rattle.cdi_resolve.specs.declared.choice.Choice.TheVariants.{Unsatisfied, Ambiguous}
 use Rattle.cdi_observe.specs.Answers.{answer_to}
+use Rattle.cdi_faults.specs.Codes.{all_codes}
 use Rattle.cdi_faults.specs.declared.fault.Code.{Code}
 use Rattle.cdi_faults.specs.declared.fault.Code.TheVariants as codes_of
 use Rattle.cdi_faults.specs.declared.fault.Fault.{Fault}
@@ -187,6 +188,7 @@ points_at_fault test ds d = []
 
 -- ---- all faults
 
+-- the parts of a declaration that have a fault of a code; those of names are no declaration's
 abbrev pub subjects_at_fault : Code → List Decl → Decl → List Subject
 subjects_at_fault codes_of.UnknownName ds d = unknown_names ds d
 subjects_at_fault codes_of.Cycle ds d = whole_if (reaches_itself ds d)
@@ -197,11 +199,8 @@ subjects_at_fault codes_of.Member ds d = bad_uses ds d
 subjects_at_fault codes_of.Disposer ds d = disposers_at_fault ds d
 subjects_at_fault codes_of.Unsatisfied ds d = points_at_fault (has_verdict verdicts.Unsatisfied) ds d
 subjects_at_fault codes_of.Ambiguous ds d = points_at_fault (has_verdict verdicts.Ambiguous) ds d
-
-abbrev pub all_codes : List Code
-all_codes = codes_of.UnknownName ∷ codes_of.Cycle ∷ codes_of.BadKind ∷ codes_of.Typed ∷ codes_of.ScopeConflict ∷ codes_of.Member ∷
-    codes_of.Disposer
-    ∷ codes_of.Unsatisfied ∷ codes_of.Ambiguous ∷ []
+subjects_at_fault codes_of.NameClash ds d = []
+subjects_at_fault codes_of.NamePrefix ds d = []
 
 -- the faults of a declaration of one code, by the texts of its subjects
 abbrev pub faults_of_code : List Decl → Decl → Code → List Fault
@@ -210,9 +209,13 @@ faults_of_code ds d code = map (λ m. faults_are.Declared code (kind_of d) (name
 abbrev pub faults_of : List Decl → Decl → List Fault
 faults_of ds d = flat_map (faults_of_code ds d) all_codes
 
+-- the name of an enabled bean, if it has one
+abbrev pub enabled_name : Effective → List (List ℕ)
+enabled_name b = if b.is_enabled then option_to_list b.name else []
+
 -- the names of enabled beans, each once, in byte order
 abbrev pub enabled_names : List Effective → List (List ℕ)
-enabled_names bs = in_order (flat_map (λ b. if b.is_enabled then option_to_list b.name else []) bs)
+enabled_names bs = in_order (flat_map enabled_name bs)
 
 -- those of which no bean is chosen
 abbrev pub name_clashes : List Effective → List Fault

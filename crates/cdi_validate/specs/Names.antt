@@ -1,16 +1,11 @@
 -- The faults of names, as they are found.
-use Rattle.std.specs.Prelude.{ℕ, Bool, false, ◌&&◌, ◌||◌, List, [], ◌++◌, ◌∷◌, map, filter, nat_eq, Option, Some, None, if◌then◌else◌}
+use Rattle.std.specs.Prelude.{ℕ, Bool, false, ◌&&◌, ◌||◌, List, [], ◌++◌, ◌∷◌, map, filter, nat_eq, Option, Some, None}
 use Rattle.std.specs.List.{flat_map, slice_get}
-use Rattle.std.specs.Option.{option_to_list}
 use Rattle.cdi_match.specs.Chain.{has}
 use Rattle.cdi_effective.specs.declared.records.Effective.{Effective}
 use Rattle.cdi_faults.specs.declared.fault.Fault.{Fault}
 use Rattle.cdi_faults.specs.declared.fault.Fault.TheVariants as faults_are
-use Rattle.cdi_validate.specs.Faults.{goes_on}
-
--- the name of an enabled bean, if it has one
-abbrev pub enabled_name : Effective → List (List ℕ)
-enabled_name b = if b.is_enabled then option_to_list b.name else []
+use Rattle.cdi_validate.specs.Faults.{enabled_name, goes_on}
 
 -- an enabled bean has the name, and so has one after it
 abbrev pub stands_twice : List Effective → List ℕ → Bool

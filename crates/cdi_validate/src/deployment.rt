@@ -27,25 +27,13 @@ use cdi_resolve::Choice;
 use std::alloc::{AllocError, Global};
 use std::rc::Rc;
 
-/// The codes, in the order in which faults of a declaration stand.
-const CODES: [Code; 9] = [
-    Code::UnknownName,
-    Code::Cycle,
-    Code::BadKind,
-    Code::Typed,
-    Code::ScopeConflict,
-    Code::Member,
-    Code::Disposer,
-    Code::Unsatisfied,
-    Code::Ambiguous,
-];
-
 /// All that is wrong with the declarations of a view (CDI 4.0, Problems detected automatically by the container): the
 /// declarations in order, each with its faults by code and then by the texts of their subjects, and then the faults of
 /// names. Each fault stands once.
 ///
 /// Each injection point is asked for once for each type and qualifiers. It takes memory for the faults, for the answers
 /// and where the view does. Where none is left, some of the keys from the front on were asked.
+#[tactic(auto, using(crate::proofs::OnceLemmas::faults_stand_once))]
 pub fn faults<V: View>(alloc: Global, view: &mut V) -> Result<Vec<Fault>, AllocError>
     ensures faults { IfOk result (λ list. list.items ≡ faults (V.list view.old)) }
     ensures list { V.list view.new ≡ V.list view.old }
@@ -130,7 +118,7 @@ fn push_of_decl(
     requires answers { map (λ answer. answer.value) answers.now ≡ map (answer_to decls.now) (points_of decl.now) }
     ensures { OnOk result (faults.new.items ≡ faults.old.items ++ faults_of decls.now decl.now) }
 {
-    for code in CODES {
+    for code in Code::all() {
         let subjects = subjects_at_fault(alloc, code, decls, decl, beans, answers)?;
         push_declared(code, decl, in_text_order(alloc, subjects)?, faults)?;
     }
@@ -182,5 +170,6 @@ fn subjects_at_fault(
         Code::Disposer => disposers_at_fault(alloc, decls, decl, beans),
         Code::Unsatisfied => points_at_fault(alloc, decl, beans, answers, Verdict::Unsatisfied),
         Code::Ambiguous => points_at_fault(alloc, decl, beans, answers, Verdict::Ambiguous),
+        Code::NameClash | Code::NamePrefix => Ok(Vec::new(alloc)),
     }
 }

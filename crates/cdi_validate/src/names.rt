@@ -7,11 +7,12 @@ ghost use Rattle.std.specs.Ordering.{nat_cmp};
 ghost use Rattle.cdi_match.specs.Chain.{has};
 ghost use Rattle.cdi_resolve.specs.Choices.{chosen_by_name};
 ghost use Rattle.cdi_faults.specs.declared.fault.Fault.TheVariants as faults_are;
-ghost use Rattle.cdi_validate.specs.Faults.{goes_on, is_ambiguous, name_clashes, name_prefixes};
-ghost use Rattle.cdi_validate.specs.Names.{enabled_name, has_dot_at, prefix_pairs, stands_twice};
+ghost use Rattle.cdi_validate.specs.Faults.{enabled_name, goes_on, is_ambiguous, name_clashes, name_prefixes};
+ghost use Rattle.cdi_validate.specs.Names.{has_dot_at, prefix_pairs, stands_twice};
 
 use cdi_effective::Effective;
 use cdi_faults::Fault;
+use cdi_match::in_order;
 use cdi_model::Name;
 use cdi_resolve::{Choice, choose_name};
 use std::alloc::{AllocError, Global};
@@ -74,14 +75,6 @@ fn names_of_enabled(alloc: Global, beans: &[Effective]) -> Result<Names, AllocEr
         names.add_if_enabled(bean)?;
     }
     Ok(names)
-}
-
-/// The names of a set, in order.
-fn in_order(alloc: Global, names: BTreeSet<Name>) -> Result<Vec<Name>, AllocError>
-    ensures value { IfOk result (λ list. list.items ≡ names.keys) }
-    ensures order { IsStrictlySortedBy (slice_cmp nat_cmp) names.keys }
-{
-    names.into_iter().collect(alloc)
 }
 
 /// Appends those of some names of which no bean is chosen.

@@ -9,9 +9,8 @@ use Rattle.cdi_observe.specs.Answers.{answers}
 use Rattle.cdi_observe.specs.Kept.{Kept, evaluated}
 use Rattle.cdi_observe.specs.Wanted.{wanted}
 use Rattle.cdi_faults.specs.declared.fault.Fault.{Fault}
-use Rattle.cdi_validate.specs.Faults.{faults, faults_of, name_clashes, name_prefixes}
-use Rattle.cdi_validate.proofs.OnceLemmas.{faults_stand_once}
 use Rattle.cdi_faults.proofs.OrderLemmas.{subjects_in_order}
+use Rattle.cdi_validate.specs.Faults.{faults, faults_of, name_clashes, name_prefixes}
 use Rattle.cdi_validate.proofs.deployment.faults.Goals as goal
 
 -- where all keys were asked, those from the front on were, up to the last
@@ -71,15 +70,3 @@ returns-in_err-push_of_names-clause-order g c = subjects_in_order
 
 pub returns-clause-order : goal.returns-clause-order
 returns-clause-order g c = subjects_in_order
-
-pub returns-in_err-answers-clause-once : goal.returns-in_err-answers-clause-once
-returns-in_err-answers-clause-once g c = faults_stand_once
-
-pub returns-in_err-push_of_decls-clause-once : goal.returns-in_err-push_of_decls-clause-once
-returns-in_err-push_of_decls-clause-once g c = faults_stand_once
-
-pub returns-in_err-push_of_names-clause-once : goal.returns-in_err-push_of_names-clause-once
-returns-in_err-push_of_names-clause-once g c = faults_stand_once
-
-pub returns-clause-once : goal.returns-clause-once
-returns-clause-once g c = faults_stand_once

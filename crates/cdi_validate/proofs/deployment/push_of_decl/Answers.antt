@@ -1,10 +1,10 @@
-use Rattle.std.proofs.Common.{◌++◌, ◌+◌, drop, map, get_or, ap, ◌∙◌}
+use Rattle.std.proofs.Common.{◌++◌, ◌+◌, ◌<◌, drop, map, get_or, length, subst, sym, ap, ◌∙◌}
 use Rattle.std.specs.List.{flat_map}
 use Rattle.std.proofs.lemmas.List.{get_or_default}
 use Rattle.cdi_model.specs.Decl.{kind_of, name_of_decl}
 use Rattle.cdi_faults.specs.declared.fault.Code.TheVariants as codes_of
 use Rattle.cdi_faults.specs.declared.fault.Fault.TheVariants as the_faults
-use Rattle.cdi_validate.specs.Faults.{all_codes, faults_of_code}
+use Rattle.cdi_validate.specs.Faults.{faults_of_code}
 use Rattle.cdi_faults.specs.FaultText.{in_text_order}
 use Rattle.cdi_validate.proofs.PushLemmas.{appended}
 use Rattle.cdi_validate.proofs.deployment.push_of_decl.Goals as goal
@@ -13,12 +13,14 @@ pub loop-code-preserved : goal.loop-code-preserved
 loop-code-preserved c =
     let d = c.args.decl.now in
     let i = c.loop-code.code-index in
-    let code = get_or all_codes i codes_of.UnknownName in
+    let codes = c.all-code-items.result in
+    let code = get_or codes i codes_of.UnknownName in
     let old = c.loop-code.faults.items in
     let of_code = faults_of_code c.args.decls.now d in
-    ap (λ fs. fs ++ flat_map of_code (drop (i + 1) all_codes))
+    let within = subst (λ cs. i < length cs) (sym c.all-code-items.ensures.value) c.loop-code-test.true in
+    ap (λ fs. fs ++ flat_map of_code (drop (i + 1) codes))
     (c.in_ok-push_declared.ensures
     ∙ ap (λ ms. old ++ map (the_faults.Declared code (kind_of d) (name_of_decl d)) ms)
     (c.in_ok-in_text_order.ensures.value ∙ ap in_text_order c.in_ok-subjects.ensures))
-    ∙ appended of_code all_codes i code old _ c.loop-code-test.true
-    (get_or_default all_codes i codes_of.UnknownName code c.loop-code-test.true) c.loop-code.invariant
+    ∙ appended of_code codes i code old _ within
+    (get_or_default codes i codes_of.UnknownName code within) c.loop-code.invariant

@@ -4,7 +4,8 @@ use Rattle.std.specs.List.{flat_map}
 use Rattle.std.specs.Cmp.Lexicographic.{slice_cmp}
 use Rattle.std.specs.Ordering.{nat_cmp}
 use Rattle.cdi_match.specs.Chain.{has}
-use Rattle.cdi_validate.specs.Names.{enabled_name, stands_twice}
+use Rattle.cdi_validate.specs.Faults.{enabled_name}
+use Rattle.cdi_validate.specs.Names.{stands_twice}
 use Rattle.cdi_validate.proofs.names.names_of_enabled.Given as goal
 
 abbrev pub invariant-loop-bean : goal.invariant-loop-bean

@@ -4,8 +4,8 @@ use Rattle.std.proofs.lemmas.Result.{IfOk-weaker}
 use Rattle.cdi_match.proofs.OrderLemmas.{in_order-rises}
 use Rattle.cdi_resolve.specs.Choices.{chosen_by_name}
 use Rattle.cdi_faults.specs.declared.fault.Fault.TheVariants as faults_are
-use Rattle.cdi_validate.specs.Faults.{enabled_names, is_ambiguous, name_clashes, name_prefixes}
-use Rattle.cdi_validate.specs.Names.{enabled_name, prefix_pairs}
+use Rattle.cdi_validate.specs.Faults.{enabled_name, enabled_names, is_ambiguous, name_clashes, name_prefixes}
+use Rattle.cdi_validate.specs.Names.{prefix_pairs}
 use Rattle.cdi_validate.proofs.ClashLemmas.{clashes-twice}
 use Rattle.cdi_validate.proofs.NameLemmas.{enabled_names-are, pairs-behind}
 use Rattle.cdi_validate.proofs.names.push_of_names.Goals as goal

@@ -7,7 +7,7 @@ use Rattle.std.proofs.lemmas.Bool.{not-false}
 use Rattle.cdi_match.specs.Chain.{has}
 use Rattle.cdi_match.proofs.Names.{at_name, one_name}
 use Rattle.cdi_effective.specs.declared.records.Effective.{Effective}
-use Rattle.cdi_validate.specs.Names.{enabled_name}
+use Rattle.cdi_validate.specs.Faults.{enabled_name}
 use Rattle.cdi_validate.proofs.names.Names.add_if_enabled.Goals as goal
 
 one_more : (b old : Bool) → cond b true old ≡ (old || (b || false))
