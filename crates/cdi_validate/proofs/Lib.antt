@@ -4,3 +4,6 @@ pub mod RecordLemmas
 pub mod NameLemmas
 pub mod ClashLemmas
 pub mod OnceLemmas
+pub mod LineLemmas
+pub mod BehindLemmas
+pub mod FaultLaws

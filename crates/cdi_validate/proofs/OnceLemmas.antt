@@ -18,7 +18,7 @@ use Rattle.cdi_faults.specs.declared.fault.Code.{Code}
 use Rattle.cdi_faults.specs.declared.fault.Fault.{Fault}
 use Rattle.cdi_faults.specs.declared.fault.Fault.TheVariants as faults_are
 use Rattle.cdi_faults.specs.declared.fault.Subject.{Subject}
-use Rattle.cdi_faults.specs.FaultText.{text_of_subject, byte_order, in_text_order}
+use Rattle.cdi_faults.specs.FaultText.{text_of_subject, in_text_order}
 use Rattle.cdi_validate.specs.Faults.{faults_of_code, faults_of, subjects_at_fault, enabled_name, enabled_names, name_clashes, name_prefixes}
 use Rattle.cdi_validate.specs.Faults.{goes_on, faults, FaultsStandOnce}
 use Rattle.cdi_faults.proofs.OrderLemmas.{subjects_in_order}
@@ -53,11 +53,11 @@ pairs-apart R (x ∷ xs) all = (
 
 -- ---- lists put together
 
-all-more : {X : Type 0} (P Q : X → Type 0) → ((x : X) → P x → Q x) → (xs : List X) → AllByRecursion P xs → AllByRecursion Q xs
+pub all-more : {X : Type 0} (P Q : X → Type 0) → ((x : X) → P x → Q x) → (xs : List X) → AllByRecursion P xs → AllByRecursion Q xs
 all-more P Q more [] all = tt
 all-more P Q more (x ∷ xs) all = (more x all.0, all-more P Q more xs all.1)
 
-all-append : {X : Type 0} (P : X → Type 0) (xs ys : List X) → AllByRecursion P xs → AllByRecursion P ys → AllByRecursion P (xs ++ ys)
+pub all-append : {X : Type 0} (P : X → Type 0) (xs ys : List X) → AllByRecursion P xs → AllByRecursion P ys → AllByRecursion P (xs ++ ys)
 all-append P [] ys all others = others
 all-append P (x ∷ xs) ys all others = (all.0, all-append P xs ys all.1 others)
 
@@ -77,11 +77,11 @@ apart-filter R test (x ∷ xs) apart = by (test x) (apart-filter R test xs apart
     by true rest = (all-filter (R x) test xs apart.0, rest)
     by false rest = rest
 
-all-map : {X Y : Type 0} (P : Y → Type 0) (f : X → Y) (xs : List X) → AllByRecursion (λ x. P (f x)) xs → AllByRecursion P (map f xs)
+pub all-map : {X Y : Type 0} (P : Y → Type 0) (f : X → Y) (xs : List X) → AllByRecursion (λ x. P (f x)) xs → AllByRecursion P (map f xs)
 all-map P f [] all = tt
 all-map P f (x ∷ xs) all = (all.0, all-map P f xs all.1)
 
-all-each : {X : Type 0} (P : X → Type 0) → ((x : X) → P x) → (xs : List X) → AllByRecursion P xs
+pub all-each : {X : Type 0} (P : X → Type 0) → ((x : X) → P x) → (xs : List X) → AllByRecursion P xs
 all-each P each [] = tt
 all-each P each (x ∷ xs) = (each x, all-each P each xs)
 
@@ -200,7 +200,7 @@ declared-differ now ds keyed =
     (apart-more _ _ (λ d e other same. other (some-key (key_of d) (key_of e) same)) ds (pairs-apart (λ d e. key_of d ≢ key_of e) ds keyed))
 
 -- 0 for a fault of a declaration, and one for each kind of faults of names
-abbrev is-declared : Fault → ℕ
+abbrev pub is-declared : Fault → ℕ
 is-declared (faults_are.Declared code kind name subject) = 0
 is-declared (faults_are.NameClash name) = 1
 is-declared (faults_are.NamePrefix name longer) = 2
@@ -214,7 +214,7 @@ two-apart e = absurd (omega (arith, e))
 two-from_zero : ◌≢◌ {A = ℕ} 2 0
 two-from_zero e = absurd (omega (arith, e))
 
-declared-tagged : (now ds : List Decl) → AllByRecursion (λ f. is-declared f ≡ 0) (flat_map (faults_of now) ds)
+pub declared-tagged : (now ds : List Decl) → AllByRecursion (λ f. is-declared f ≡ 0) (flat_map (faults_of now) ds)
 declared-tagged now [] = tt
 declared-tagged now (d ∷ ds) = all-append (λ f. is-declared f ≡ 0) (faults_of now d) (flat_map (faults_of now) ds) (go all_codes)
     (declared-tagged now ds)
@@ -275,7 +275,7 @@ prefixes-not_zero (x ∷ xs) all =
     (all-map (λ f. is-declared f ≢ 0) (faults_are.NamePrefix x) (filter (goes_on x) all)
     (all-each _ (λ y e. two-from_zero e) (filter (goes_on x) all))) (prefixes-not_zero xs all)
 
-clashes-tagged : (names : List (List ℕ)) → AllByRecursion (λ f. is-declared f ≡ 1) (map faults_are.NameClash names)
+pub clashes-tagged : (names : List (List ℕ)) → AllByRecursion (λ f. is-declared f ≡ 1) (map faults_are.NameClash names)
 clashes-tagged names = all-map (λ f. is-declared f ≡ 1) faults_are.NameClash names (all-each _ (λ n. refl) names)
 
 -- ---- all faults

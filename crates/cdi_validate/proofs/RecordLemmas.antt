@@ -18,7 +18,6 @@ use Rattle.cdi_effective.specs.Disposers.{disposes}
 use Rattle.cdi_effective.specs.declared.records.Effective.{Effective}
 use Rattle.cdi_validate.specs.Faults.{disposers_at_fault, typed, wrongly_listed}
 use Rattle.cdi_validate.specs.Records.{not_had, not_had_by, typed_by, with_two, without_product}
-use Rattle.cdi_faults.specs.declared.fault.Subject.{Subject}
 use Rattle.cdi_faults.specs.declared.fault.Subject.TheVariants as parts
 
 -- ---- what a record is told by

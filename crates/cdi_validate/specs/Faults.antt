@@ -1,12 +1,14 @@
 -- The faults of a deployment (CDI 4.0, Problems detected automatically by the container): for each code, what has it.
-use Rattle.std.specs.Prelude.{◌≢◌, AllPairs, ℕ, nat_eq, nat_lt, Bool, true, false, not, ◌||◌, List, [], ◌∷◌, ◌++◌, map, filter, length}
+use Rattle.std.specs.Prelude.{◌≡◌, ◌≢◌, AllPairs, Contains, ℕ, nat_eq, nat_lt, Bool, true, false, not, ◌||◌, List, [], ◌∷◌, ◌++◌, map, filter, length}
 use Rattle.std.specs.Prelude.{codes, Option, Some, None, is_some, option_map, unwrap_or, if◌then◌else◌}
-use Rattle.std.specs.List.{list_any, flat_map, starts_with}
+use Rattle.std.specs.List.{AllPass, list_any, flat_map, starts_with}
+use Rattle.std.specs.List.Sorted.{IsStrictlySortedBy}
 use Rattle.std.specs.Option.{option_to_list}
 use Rattle.std.specs.Str.{bytes_eq}
 use Rattle.cdi_model.specs.Bytes.{dot}
 use Rattle.cdi_model.specs.Decl.{key_of, kind_of, name_of_decl}
 use Rattle.cdi_model.specs.DeclList.{find_decl}
+use Rattle.cdi_model.specs.Grammar.{is_name}
 use Rattle.cdi_model.specs.declared.decl.Attributes.{Attributes}
 use Rattle.cdi_model.specs.declared.decl.BeanDecl.{BeanDecl}
 use Rattle.cdi_model.specs.declared.decl.Decl.{Decl}
@@ -41,7 +43,7 @@ use Rattle.cdi_faults.specs.declared.fault.Subject.{Subject}
 use Rattle.cdi_faults.specs.declared.fault.Subject.TheVariants as subjects
 use Rattle.cdi_validate.specs.declared.points.Verdict.{Verdict}
 use Rattle.cdi_validate.specs.declared.points.Verdict.TheVariants as verdicts
-use Rattle.cdi_faults.specs.FaultText.{in_text_order}
+use Rattle.cdi_faults.specs.FaultText.{byte_order, in_text_order, text_of_fault}
 
 -- ---- subjects among what a declaration names
 
@@ -236,3 +238,24 @@ faults ds = flat_map (faults_of ds) ds ++ name_clashes (beans ds) ++ name_prefix
 -- Where no two declarations have one kind and name, no fault stands twice.
 abbrev pub FaultsStandOnce : Type 0
 FaultsStandOnce = (ds : List Decl) → AllPairs (λ d e. key_of d ≢ key_of e) ds → AllPairs (λ f g. f ≢ g) (faults ds)
+
+-- ---- the faults of names
+
+-- The lines that the name clashes print rise in byte order.
+abbrev pub ClashesRise : Type 0
+ClashesRise = (bs : List Effective) → IsStrictlySortedBy byte_order (map text_of_fault (name_clashes bs))
+
+-- So do those of the name prefixes, where each name is one by the grammar.
+abbrev pub PrefixesRise : Type 0
+PrefixesRise = (bs : List Effective) → AllPass is_name (enabled_names bs)
+    → IsStrictlySortedBy byte_order (map text_of_fault (name_prefixes bs))
+
+-- The second is the first, a dot and a text, which is a name where the second is one by the grammar.
+pub record IsNameBehind (x y : List ℕ) : Type 0 where
+  pub rest : List ℕ
+  pub joined : y ≡ x ++ dot ∷ rest
+  pub named : is_name y ≡ true → is_name rest ≡ true
+
+-- Of the two names of a prefix the longer is the shorter, a dot and a name.
+abbrev pub PrefixesGoOn : Type 0
+PrefixesGoOn = (ds : List Decl) (x y : List ℕ) → Contains (faults ds) (faults_are.NamePrefix x y) → IsNameBehind x y

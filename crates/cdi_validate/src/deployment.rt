@@ -8,7 +8,7 @@ ghost use Rattle.cdi_observe.specs.Answers.{answer_to};
 ghost use Rattle.cdi_observe.specs.Kept.{evaluated};
 ghost use Rattle.cdi_observe.specs.Wanted.{points_of, wanted};
 ghost use Rattle.cdi_faults.specs.FaultText.{SubjectsInOrder};
-ghost use Rattle.cdi_validate.specs.Faults.{faults, FaultsStandOnce, faults_of, subjects_at_fault};
+ghost use Rattle.cdi_validate.specs.Faults.{faults, faults_of, subjects_at_fault, FaultsStandOnce, ClashesRise, PrefixesRise, PrefixesGoOn};
 ghost use Rattle.cdi_faults.specs.declared.fault.Fault.TheVariants as the_faults;
 
 use crate::disposing::disposers_at_fault;
@@ -33,7 +33,7 @@ use std::rc::Rc;
 ///
 /// Each injection point is asked for once for each type and qualifiers. It takes memory for the faults, for the answers
 /// and where the view does. Where none is left, some of the keys from the front on were asked.
-#[tactic(auto, using(crate::proofs::OnceLemmas::faults_stand_once))]
+#[tactic(auto, using(crate::proofs::FaultLaws::laws))]
 pub fn faults<V: View>(alloc: Global, view: &mut V) -> Result<Vec<Fault>, AllocError>
     ensures faults { IfOk result (λ list. list.items ≡ faults (V.list view.old)) }
     ensures list { V.list view.new ≡ V.list view.old }
@@ -42,6 +42,9 @@ pub fn faults<V: View>(alloc: Global, view: &mut V) -> Result<Vec<Fault>, AllocE
         ≡ evaluated (V.list view.old) (take i (wanted (V.list view.old))) (V.kept view.old))) }
     ensures order { SubjectsInOrder }
     ensures once { FaultsStandOnce }
+    ensures clashes { ClashesRise }
+    ensures prefixes { PrefixesRise }
+    ensures longer { PrefixesGoOn }
 {
     let answers = evaluate(alloc, view)?;
     let mut faults = Vec::new(alloc);

@@ -11,6 +11,7 @@ use Rattle.cdi_observe.specs.Wanted.{wanted}
 use Rattle.cdi_faults.specs.declared.fault.Fault.{Fault}
 use Rattle.cdi_faults.proofs.OrderLemmas.{subjects_in_order}
 use Rattle.cdi_validate.specs.Faults.{faults, faults_of, name_clashes, name_prefixes}
+use Rattle.cdi_validate.proofs.BehindLemmas.{prefixes_go_on}
 use Rattle.cdi_validate.proofs.deployment.faults.Goals as goal
 
 -- where all keys were asked, those from the front on were, up to the last
@@ -70,3 +71,15 @@ returns-in_err-push_of_names-clause-order g c = subjects_in_order
 
 pub returns-clause-order : goal.returns-clause-order
 returns-clause-order g c = subjects_in_order
+
+pub returns-in_err-answers-clause-longer : goal.returns-in_err-answers-clause-longer
+returns-in_err-answers-clause-longer g c = prefixes_go_on
+
+pub returns-in_err-push_of_decls-clause-longer : goal.returns-in_err-push_of_decls-clause-longer
+returns-in_err-push_of_decls-clause-longer g c = prefixes_go_on
+
+pub returns-in_err-push_of_names-clause-longer : goal.returns-in_err-push_of_names-clause-longer
+returns-in_err-push_of_names-clause-longer g c = prefixes_go_on
+
+pub returns-clause-longer : goal.returns-clause-longer
+returns-clause-longer g c = prefixes_go_on

@@ -1,0 +1,89 @@
+-- Of a reported pair of names the second is the first, a dot and a name.
+use Rattle.std.proofs.Common.{◌≡◌, ◌≤◌, ℕ, Bool, true, false, nat_eq, List, [], ◌∷◌, ◌++◌, map, filter, length, refl, sym, ap, ◌∙◌, arith}
+use Rattle.std.specs.Prelude.{◌==◌, nat_le}
+use Rattle.std.specs.List.{AllByRecursion, flat_map}
+use Rattle.std.proofs.lemmas.Bool.{and_from, and_parts, eqb-true, false≢true, le-leb, leb-true}
+use Rattle.std.proofs.lemmas.List.Elements.{All-contains, All-from_recursion, filter_passes, recursion_from_All}
+use Rattle.cdi_model.specs.Bytes.{dot}
+use Rattle.cdi_model.specs.Grammar.{begins, continues, goes_on as continues_name, is_letter, is_name, is_word}
+use Rattle.cdi_effective.specs.Beans.{beans}
+use Rattle.cdi_faults.specs.declared.fault.Fault.{Fault}
+use Rattle.cdi_faults.specs.declared.fault.Fault.TheVariants as faults_are
+use Rattle.cdi_validate.specs.Faults.{enabled_names, faults, faults_of, goes_on, name_clashes, name_prefixes, IsNameBehind, PrefixesGoOn}
+use Rattle.cdi_validate.proofs.OnceLemmas.{all-append, all-map, all-more, clashes-tagged, declared-tagged, is-declared}
+
+-- ---- names
+
+-- where a text and a dot and more are identifiers joined by dots, what is behind the dot begins with one
+begins-behind : (starts : Bool) (x z : List ℕ) → continues starts (x ++ dot ∷ z) ≡ true → begins z ≡ true
+begins-behind true [] z is = absurd (false≢true is)
+begins-behind false [] z is = is
+begins-behind true (b ∷ x) z is = begins-behind false x z (and_parts (is_letter b) (continues_name (x ++ dot ∷ z)) is).1
+begins-behind false (b ∷ x) z is = by (b == dot) refl (begins-behind true x z) (begins-behind false x z)
+  where
+    by : (t : Bool) → (b == dot) ≡ t → (begins (x ++ dot ∷ z) ≡ true → begins z ≡ true)
+        → (continues_name (x ++ dot ∷ z) ≡ true → begins z ≡ true) → begins z ≡ true
+    by true e whole rest = whole (rw e at is)
+    by false e whole rest = rest (and_parts (is_word b) (continues_name (x ++ dot ∷ z)) (rw e at is)).1
+
+longer : (x z : List ℕ) → length z ≤ length (x ++ dot ∷ z)
+longer [] z = omega arith
+longer (b ∷ x) z = omega (arith, longer x z)
+
+name-behind : (x z : List ℕ) → is_name (x ++ dot ∷ z) ≡ true → is_name z ≡ true
+name-behind x z is =
+    let (whole, short) = and_parts (begins (x ++ dot ∷ z)) (nat_le (length (x ++ dot ∷ z)) 64) is in
+    let within : length z ≤ 64 = omega (arith, longer x z, leb-true (length (x ++ dot ∷ z)) 64 short) in
+    and_from (begins z) (nat_le (length z) 64) (begins-behind true x z whole) (le-leb (length z) 64 within)
+
+parted : (x y : List ℕ) → goes_on x y ≡ true → (z : List ℕ) × (y ≡ x ++ dot ∷ z)
+parted [] [] is = absurd (false≢true is)
+parted [] (b ∷ y) is = (y, ap (λ c. c ∷ y) (sym (eqb-true dot b (and_parts (nat_eq dot b) true is).0)))
+parted (a ∷ x) [] is = absurd (false≢true is)
+parted (a ∷ x) (b ∷ y) is =
+    let (same, more) = and_parts (nat_eq a b) (goes_on x y) is in
+    let behind = parted x y more in
+    (behind.0, ap (λ c. c ∷ y) (sym (eqb-true a b same)) ∙ ap (λ bs. a ∷ bs) behind.1)
+
+is_behind : (x y : List ℕ) → goes_on x y ≡ true → IsNameBehind x y
+is_behind x y is =
+    let behind = parted x y is in
+    record { rest = behind.0; joined = behind.1; named = λ named. name-behind x behind.0 (ap is_name (sym behind.1) ∙ named) }
+
+-- ---- faults
+
+abbrev GoesOn : Fault → Type 0
+GoesOn (faults_are.Declared code kind name subject) = Unit {0}
+GoesOn (faults_are.NameClash name) = Unit {0}
+GoesOn (faults_are.NamePrefix x y) = goes_on x y ≡ true
+
+of_declared : (f : Fault) → is-declared f ≡ 0 → GoesOn f
+of_declared (faults_are.Declared code kind name subject) is = tt
+of_declared (faults_are.NameClash name) is = tt
+of_declared (faults_are.NamePrefix x y) is = absurd (omega (arith, is))
+
+of_clash : (f : Fault) → is-declared f ≡ 1 → GoesOn f
+of_clash (faults_are.Declared code kind name subject) is = tt
+of_clash (faults_are.NameClash name) is = tt
+of_clash (faults_are.NamePrefix x y) is = absurd (omega (arith, is))
+
+pairs-go_on : (all xs : List (List ℕ)) → AllByRecursion GoesOn (flat_map (λ x. map (faults_are.NamePrefix x) (filter (goes_on x) all)) xs)
+pairs-go_on all [] = tt
+pairs-go_on all (x ∷ xs) =
+    all-append GoesOn (map (faults_are.NamePrefix x) (filter (goes_on x) all)) _
+    (all-map GoesOn (faults_are.NamePrefix x) (filter (goes_on x) all)
+    (recursion_from_All (λ y. goes_on x y ≡ true) (filter (goes_on x) all) (filter_passes (goes_on x) all)))
+    (pairs-go_on all xs)
+
+pub prefixes_go_on : PrefixesGoOn
+unfolding faults
+prefixes_go_on ds x y among =
+    let bs = beans ds in
+    let declared = flat_map (faults_of ds) ds in
+    let all : AllByRecursion GoesOn (faults ds) =
+    all-append GoesOn (declared ++ name_clashes bs) (name_prefixes bs)
+    (all-append GoesOn declared (name_clashes bs)
+    (all-more (λ f. is-declared f ≡ 0) GoesOn of_declared declared (declared-tagged ds ds))
+    (all-more (λ f. is-declared f ≡ 1) GoesOn of_clash (name_clashes bs) (clashes-tagged _)))
+    (pairs-go_on (enabled_names bs) (enabled_names bs)) in
+    is_behind x y (All-contains GoesOn (faults ds) (faults_are.NamePrefix x y) (All-from_recursion GoesOn (faults ds) all) among)
