@@ -1,19 +1,19 @@
 -- What evaluations of keys leave.
-use Rattle.std.proofs.Common.{◌≡◌, ◌<◌, ◌+◌, Bool, true, false, cond, not, ◌&&◌, ◌||◌, ℕ, List, [], ◌∷◌, ◌++◌, length, take, get_or, refl}
-use Rattle.std.proofs.Common.{sym, ap, ◌∙◌, append_assoc, append-nil, Result, Ok, Err}
+use Rattle.std.proofs.Common.{suc, ◌≡◌, ◌<◌, ◌+◌, Bool, true, false, cond, not, ◌&&◌, ◌||◌, ℕ, List, []}
+use Rattle.std.proofs.Common.{◌∷◌, ◌++◌, length, take, get_or, refl, sym, ap, ◌∙◌, Result, Ok}
+use Rattle.std.proofs.Common.{Err}
 use Rattle.std.specs.Result.{OnErr}
 use Rattle.std.specs.Fn.{iterate}
-use Rattle.std.specs.List.{AllByRecursion, IsDistinct}
-use Rattle.std.proofs.Math.Bool.{or-false}
+use Rattle.std.specs.List.{AllByRecursion, IsDistinct, filter}
+use Rattle.std.proofs.Math.Bool.{or_assoc, or-false}
 use Rattle.std.proofs.lemmas.Bool.{or_left, or_right, false≢true}
 use Rattle.std.proofs.lemmas.List.{take_more}
-use Rattle.std.proofs.lemmas.List.Folds.{list_any-append}
 use Rattle.std.proofs.lemmas.List.Sums.{fold-append}
 use Rattle.cdi_model.specs.declared.decl.Decl.{Decl}
 use Rattle.cdi_model.specs.Work.{with_one}
 use Rattle.cdi_observe.specs.Keys.{Key, same_key, has_key}
 use Rattle.cdi_observe.specs.Wanted.{wanted, is_wanted}
-use Rattle.cdi_observe.specs.Kept.{Kept, with_known, work_with, after_key, evaluated, unknown, with_all, KnowsWanted}
+use Rattle.cdi_observe.specs.Kept.{Kept, with_known, work_with, after_key, evaluated, unknown, KnowsWanted}
 use Rattle.cdi_observe.proofs.KeyLemmas.{same_key-decides, same_key-equiv}
 use Rattle.cdi_observe.proofs.WantedLemmas.{has-wanted, wanted-distinct}
 
@@ -52,73 +52,86 @@ pub after_key-plain : (ds : List Decl) (key : Key) (kept : Kept) → kept.keeps 
 unfolding after_key
 after_key-plain ds key kept plain = rw plain refl
 
-known_one : (b c : Bool) (known : List Key) (key : Key) → b ≡ true → cond (c && not b) (known ++ key ∷ []) known ≡ known
-known_one b true known key e = rw e refl
-known_one b false known key e = refl
+-- what is known to start with stays known
+or_same : (b c : Bool) → (c ≡ true → b ≡ true) → (b || c) ≡ b
+or_same true c within = refl
+or_same false true within = absurd (false≢true (within refl))
+or_same false false within = refl
 
 -- a known key changes nothing
-pub after_known : (ds : List Decl) (key : Key) (kept : Kept) → has_key kept.known key ≡ true → after_key ds key kept ≡ kept
+pub after_known : (ds : List Decl) (key : Key) (kept : Kept) → kept.knows key ≡ true → after_key ds key kept ≡ kept
 unfolding after_key
 after_known ds key kept known = by kept.keeps refl
   where
-    by : (b : Bool) → kept.keeps ≡ b → cond b
-        (record { keeps = true; known = with_known ds kept.known key; work = work_with kept.known key kept.work }) kept ≡ kept
+    within : (k : Key) (b : Bool) → (b && same_key key k) ≡ true → kept.knows k ≡ true
+    within k true e = ap kept.knows (sym ((same_key-decides key k).0 e)) ∙ known
+    within k false e = absurd (false≢true e)
+
+    by : (b : Bool) → kept.keeps ≡ b
+        → cond b (record { keeps = true; knows = with_known ds kept.knows key; work = work_with kept.knows key kept.work }) kept ≡ kept
     by false e = refl
     by true e = λ j. record {
       keeps = sym e j;
-      known = known_one (has_key kept.known key) (is_wanted ds key) kept.known key known j;
+      knows = λ k. or_same (kept.knows k) (is_wanted ds key && same_key key k) (within k (is_wanted ds key)) j;
       work = ap (λ b. cond b kept.work (with_one kept.work)) known j;
     }
 
--- a view that keeps answers knows a wanted key from then on, and counts it where it did not know it
-pub after_unknown : (ds : List Decl) (key : Key) (kept : Kept) → kept.keeps ≡ true → has_key kept.known key ≡ false
-    → is_wanted ds key ≡ true
-    → after_key ds key kept ≡ with_all (key ∷ []) kept
-unfolding after_key
-after_unknown ds key kept keeps unknown wants = rw (keeps, unknown, wants) refl
-
 pub evaluated-plain : (ds : List Decl) (keys : List Key) (kept : Kept) → kept.keeps ≡ false → evaluated ds keys kept ≡ kept
 evaluated-plain ds [] kept plain = refl
-evaluated-plain ds (key ∷ keys) kept plain = ap (evaluated ds keys) (after_key-plain ds key kept plain) ∙ evaluated-plain ds keys kept plain
+evaluated-plain ds (key ∷ keys) kept plain = ap (evaluated ds keys) (after_key-plain ds key kept plain)
+    ∙ evaluated-plain ds keys kept plain
 
 -- ---- the wanted keys
 
--- a key apart from all of some keys leaves which of these are unknown
-unknown-apart : (known : List Key) (k : Key) (keys : List Key) → AllByRecursion (λ l. same_key k l ≡ false) keys
-    → unknown (known ++ k ∷ []) keys ≡ unknown known keys
-unknown-apart known k [] apart = refl
-unknown-apart known k (l ∷ keys) apart =
-    let same : has_key (known ++ k ∷ []) l ≡ has_key known l =
-    list_any-append (same_key l) known (k ∷ []) ∙ ap (λ b. has_key known l || (b || false)) (same_key-equiv.symm l k ∙ apart.0)
-    ∙ or-false (has_key known l) in
-    ap (λ b. cond (not b) (l ∷ unknown (known ++ k ∷ []) keys) (unknown (known ++ k ∷ []) keys)) same
-    ∙ ap (λ rest. cond (not (has_key known l)) (l ∷ rest) rest) (unknown-apart known k keys apart.1)
+-- a view that keeps answers, with some more keys that it knows, each of which was counted once
+abbrev with_all : List Key → Kept → Kept
+with_all keys kept = record { keeps = true; knows = λ key. kept.knows key || has_key keys key; work = iterate with_one (unknown kept.knows keys) kept.work }
 
-with_all-more : (k : Key) (keys : List Key) (kept : Kept) → with_all keys (with_all (k ∷ []) kept) ≡ with_all (k ∷ keys) kept
-with_all-more k keys kept j = record {
-  keeps = kept.keeps;
-  known = append_assoc kept.known (k ∷ []) keys j;
-  work = iterate with_one (length keys) (with_one kept.work);
-}
+-- one more key, which is wanted
+abbrev with_one_key : Key → Kept → Kept
+with_one_key k kept = record { keeps = true; knows = λ key. kept.knows key || same_key k key; work = work_with kept.knows k kept.work }
+
+after_wanted : (ds : List Decl) (k : Key) (kept : Kept) → kept.keeps ≡ true → is_wanted ds k ≡ true
+    → after_key ds k kept ≡ with_one_key k kept
+unfolding after_key
+after_wanted ds k kept keeps wants =
+    rw keeps (ap (λ b. record { keeps = true; knows = λ key. kept.knows key || (b && same_key k key); work = work_with kept.knows k kept.work }) wants)
+
+-- a key apart from all of some keys leaves how many of these are unknown
+unknown-apart : (knows : Key → Bool) (k : Key) (keys : List Key) → AllByRecursion (λ l. same_key k l ≡ false) keys
+    → unknown (λ key. knows key || same_key k key) keys ≡ unknown knows keys
+unknown-apart knows k [] apart = refl
+unknown-apart knows k (l ∷ keys) apart =
+    let same : (knows l || same_key k l) ≡ knows l = ap (λ b. knows l || b) apart.0 ∙ or-false (knows l) in
+    ap (λ b. length (cond (not b) (l ∷ filter (λ key. not (knows key || same_key k key)) keys) (filter (λ key. not (knows key || same_key k key)) keys))) same
+    ∙ by (knows l) (unknown-apart knows k keys apart.1)
+  where
+    by : (b : Bool) → unknown (λ key. knows key || same_key k key) keys ≡ unknown knows keys
+        → length (cond (not b) (l ∷ filter (λ key. not (knows key || same_key k key)) keys) (filter (λ key. not (knows key || same_key k key)) keys)) ≡ length (cond (not b) (l ∷ filter (λ key. not (knows key)) keys) (filter (λ key. not (knows key)) keys))
+    by true rest = rest
+    by false rest = ap suc rest
+
+counts-one : (k : Key) (keys : List Key) (b : Bool) (w : ℕ)
+    → iterate with_one (length keys) (cond b w (with_one w)) ≡ iterate with_one (length (cond (not b) (k ∷ keys) keys)) w
+counts-one k keys true w = refl
+counts-one k keys false w = refl
 
 -- wanted keys of which none stands twice
 evaluated-distinct : (ds : List Decl) (keys : List Key) (kept : Kept) → kept.keeps ≡ true
     → AllByRecursion (λ key. is_wanted ds key ≡ true) keys → IsDistinct same_key keys
-    → evaluated ds keys kept ≡ with_all (unknown kept.known keys) kept
+    → evaluated ds keys kept ≡ with_all keys kept
 unfolding IsDistinct
-evaluated-distinct ds [] kept keeps all apart = λ j. record { keeps = kept.keeps; known = sym (append-nil kept.known) j; work = kept.work }
-evaluated-distinct ds (k ∷ keys) kept keeps all apart = by (has_key kept.known k) refl
-    (λ before is. evaluated-distinct ds keys before is all.1 apart.1)
-  where
-    by : (b : Bool) → has_key kept.known k ≡ b
-        → ((before : Kept) → before.keeps ≡ true → evaluated ds keys before ≡ with_all (unknown before.known keys) before)
-        → evaluated ds (k ∷ keys) kept ≡ with_all (cond (not b) (k ∷ unknown kept.known keys) (unknown kept.known keys)) kept
-    by true e rest = ap (evaluated ds keys) (after_known ds k kept e) ∙ rest kept keeps
-    by false e rest =
-        ap (evaluated ds keys) (after_unknown ds k kept keeps e all.0)
-        ∙ rest (with_all (k ∷ []) kept) keeps
-        ∙ ap (λ new. with_all new (with_all (k ∷ []) kept)) (unknown-apart kept.known k keys apart.0)
-        ∙ with_all-more k (unknown kept.known keys) kept
+evaluated-distinct ds [] kept keeps all apart = λ j. record { keeps = keeps j; knows = λ key. sym (or-false (kept.knows key)) j; work = kept.work }
+evaluated-distinct ds (k ∷ keys) kept keeps all apart =
+    ap (evaluated ds keys) (after_wanted ds k kept keeps all.0)
+    ∙ evaluated-distinct ds keys (with_one_key k kept) refl all.1 apart.1
+    ∙ (λ j. record {
+      keeps = true;
+      knows = λ key. (or_assoc (kept.knows key) (same_key k key) (has_key keys key)
+          ∙ ap (λ b. kept.knows key || (b || has_key keys key)) (same_key-equiv.symm k key)) j;
+      work = (ap (λ n. iterate with_one n (work_with kept.knows k kept.work)) (unknown-apart kept.knows k keys apart.0)
+          ∙ counts-one k (filter (λ key. not (kept.knows key)) keys) (kept.knows k) kept.work) j;
+    })
 
 each-among : (P : Key → Type 0) (keys : List Key) → ((key : Key) → has_key keys key ≡ true → P key) → AllByRecursion P keys
 each-among P [] each = tt
@@ -128,37 +141,18 @@ each-among P (k ∷ keys) each = (
 )
 
 pub knows_wanted : KnowsWanted
-knows_wanted ds kept keeps = evaluated-distinct ds (wanted ds) kept keeps
-    (each-among (λ key. is_wanted ds key ≡ true) (wanted ds) (λ key h. sym (has-wanted ds key) ∙ h)) (wanted-distinct ds)
-
--- each key is known or not
-known-or-unknown : (known keys : List Key) (key : Key) → has_key keys key ≡ true → has_key (known ++ unknown known keys) key ≡ true
-known-or-unknown known keys key among = list_any-append (same_key key) known (unknown known keys) ∙ by (has_key known key) refl
-  where
-    left : (ks : List Key) → has_key ks key ≡ true → has_key known key ≡ false → has_key (unknown known ks) key ≡ true
-    left [] h other = absurd (false≢true h)
-    left (k ∷ ks) h other = first (has_key known k) refl (same_key key k) refl (λ more. left ks more other)
-      where
-        first : (b : Bool) → has_key known k ≡ b → (c : Bool) → same_key key k ≡ c
-            → (has_key ks key ≡ true → has_key (unknown known ks) key ≡ true)
-            → has_key (cond (not b) (k ∷ unknown known ks) (unknown known ks)) key ≡ true
-        first true e true f rest = absurd (false≢true (sym other ∙ ap (has_key known) ((same_key-decides key k).0 f) ∙ e))
-        first true e false f rest = rest (rw f at h)
-        first false e true f rest = rw f refl
-        first false e false f rest = rw f (rest (rw f at h))
-
-    by : (b : Bool) → has_key known key ≡ b → (b || has_key (unknown known keys) key) ≡ true
-    by true e = refl
-    by false e = left keys among e
+knows_wanted ds kept keeps =
+    evaluated-distinct ds (wanted ds) kept keeps (each-among (λ key. is_wanted ds key
+        ≡ true) (wanted ds) (λ key h. sym (has-wanted ds key) ∙ h)) (wanted-distinct ds)
+    ∙ (λ j. record { keeps = true; knows = λ key. kept.knows key || has-wanted ds key j; work = iterate with_one (unknown kept.knows (wanted ds)) kept.work })
 
 -- after all wanted keys were evaluated each of them is known to a view that keeps answers
 pub wanted_known : (ds : List Decl) (kept : Kept) → kept.keeps ≡ true → (key : Key) → is_wanted ds key ≡ true
-    → has_key (evaluated ds (wanted ds) kept).known key ≡ true
+    → (evaluated ds (wanted ds) kept).knows key ≡ true
 wanted_known ds kept keeps key wants =
-    ap (λ after. has_key after.known key) (knows_wanted ds kept keeps)
-    ∙ known-or-unknown kept.known (wanted ds) key (has-wanted ds key ∙ wants)
+    ap (λ after. after.knows key) (knows_wanted ds kept keeps) ∙ or_right (kept.knows key) (is_wanted ds key) wants
 
 -- and its work has risen once for each of them that was not known
 pub wanted_work : (ds : List Decl) (kept : Kept) → kept.keeps ≡ true
-    → (evaluated ds (wanted ds) kept).work ≡ iterate with_one (length (unknown kept.known (wanted ds))) kept.work
+    → (evaluated ds (wanted ds) kept).work ≡ iterate with_one (unknown kept.knows (wanted ds)) kept.work
 wanted_work ds kept keeps = ap (λ after. after.work) (knows_wanted ds kept keeps)

@@ -1,9 +1,9 @@
 //! Views over present declarations.
-ghost use Rattle.std.specs.Prelude.{◌≡◌, List, [], true, false, Option, None, IfOk, OnOk, OnErr};
+ghost use Rattle.std.specs.Prelude.{◌≡◌, List, true, false, Option, None, IfOk, OnOk, OnErr};
 ghost use Rattle.cdi_model.specs.declared.decl.Decl.{Decl};
 ghost use Rattle.cdi_effective.specs.Beans.{beans as beans_of};
 ghost use Rattle.cdi_resolve.specs.Choices.{chosen};
-ghost use Rattle.cdi_observe.specs.Keys.{choice_key, has_key};
+ghost use Rattle.cdi_observe.specs.Keys.{choice_key};
 ghost use Rattle.cdi_observe.specs.Kept.{Kept, after_key};
 
 use cdi_effective::Effective;
@@ -44,7 +44,7 @@ pub trait View {
         ensures list { list self.new ≡ list self.old }
         ensures ok { OnOk result (kept self.new ≡ after_key (list self.old) (choice_key bean_type quals.now) (kept self.old)) }
         ensures err { OnErr result (kept self.new ≡ kept self.old) }
-        ensures staged { has_key (kept self.old).known (choice_key bean_type quals.now) ≡ true → staged self.new ≡ staged self.old };
+        ensures staged { (kept self.old).knows (choice_key bean_type quals.now) ≡ true → staged self.new ≡ staged self.old };
 }
 
 /// A view that keeps no answer, and computes each anew.
@@ -79,7 +79,7 @@ impl<'a> PlainView<'a> {
 impl<'a> View for PlainView<'a> {
     ghost list = { λ v. v };
 
-    ghost kept = { λ v. record { keeps = false; known = []; work = 0 } };
+    ghost kept = { λ v. record { keeps = false; knows = λ key. false; work = 0 } };
 
     ghost staged = { λ v. None };
 
