@@ -1,5 +1,12 @@
--- Bytes by name.
-use Rattle.std.specs.Prelude.{ℕ}
+-- Bytes by name, and their order.
+use Rattle.std.specs.Prelude.{ℕ, List}
+use Rattle.std.specs.Cmp.Lexicographic.{slice_cmp}
+use Rattle.std.specs.Ordering.{nat_cmp}
+use Rattle.std.specs.declared.cmp.Ordering.{Ordering}
+
+-- the byte order of texts
+abbrev pub byte_order : List ℕ → List ℕ → Ordering
+byte_order = slice_cmp nat_cmp
 
 -- a line feed
 abbrev pub feed : ℕ
