@@ -17,4 +17,5 @@ pub use Rattle.cdi_resolve.specs.Choices
 pub use Rattle.cdi_resolve.specs.ChoiceText
 pub use Rattle.cdi_devices.specs.Counted
 pub use Rattle.cdi_validate.specs.Faults
+pub use Rattle.cdi_faults.specs.Codes
 pub use Rattle.cdi_faults.specs.FaultText

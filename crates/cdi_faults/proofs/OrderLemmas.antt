@@ -1,5 +1,5 @@
 -- Subjects in the byte order of their texts.
-use Rattle.std.proofs.Common.{◌≡◌, ℕ, Bool, true, false, ◌||◌, List, [], ◌∷◌, map, fold, Ordering, Less, Equal, Greater, refl, sym, ◌∙◌, ap}
+use Rattle.std.proofs.Common.{◌≡◌, ℕ, ◌||◌, List, [], ◌∷◌, map, fold, Ordering, Less, Equal, Greater, refl, sym, ◌∙◌, ap}
 use Rattle.std.proofs.Common.{subst}
 use Rattle.std.specs.BTreeMap.{insert_entry}
 use Rattle.std.specs.BTreeSet.{insert_key}
@@ -7,7 +7,7 @@ use Rattle.std.specs.List.{AllByRecursion}
 use Rattle.std.specs.List.Sorted.{IsStrictlySortedBy}
 use Rattle.std.specs.Map.{keys_of}
 use Rattle.std.specs.Str.{bytes_eq}
-use Rattle.std.proofs.Math.Bool.{or-false}
+use Rattle.std.proofs.Math.Bool.{or-false, or_assoc, or_comm}
 use Rattle.cdi_model.proofs.QualLemmas.{same_name}
 use Rattle.cdi_match.specs.Chain.{has}
 use Rattle.cdi_match.specs.Order.{in_order}
@@ -65,12 +65,6 @@ all-rise (m ∷ ms) es names is = all-rise ms (put es m) (text_of_subject m ∷ 
 
 -- ---- they are those of the subjects
 
-or-swap : (x y z : Bool) → (x || (y || z)) ≡ ((y || x) || z)
-or-swap true true z = refl
-or-swap true false z = refl
-or-swap false true z = refl
-or-swap false false z = refl
-
 has-put : (m : Subject) (es : Entries) (text : List ℕ)
     → has (keys_of (put es m)) text ≡ (bytes_eq (text_of_subject m) text || has (keys_of es) text)
 has-put m es text = ap (λ ks. has ks text) (keys-put m es) ∙ has-insert (text_of_subject m) (keys_of es) text
@@ -81,7 +75,8 @@ all-has [] es text = refl
 all-has (m ∷ ms) es text =
     all-has ms (put es m) text
     ∙ ap (λ b. has (map text_of_subject ms) text || b) (has-put m es text)
-    ∙ or-swap (has (map text_of_subject ms) text) (bytes_eq (text_of_subject m) text) (has (keys_of es) text)
+    ∙ sym (or_assoc (has (map text_of_subject ms) text) (bytes_eq (text_of_subject m) text) (has (keys_of es) text))
+    ∙ ap (λ b. b || has (keys_of es) text) (or_comm (has (map text_of_subject ms) text) (bytes_eq (text_of_subject m) text))
 
 pub subjects_in_order : SubjectsInOrder
 unfolding in_text_order

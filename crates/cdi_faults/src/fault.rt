@@ -98,9 +98,9 @@ pub enum Fault {
         name: Name,
         subject: Subject,
     },
-    /// A name clashes.
+    /// The name that several enabled beans have.
     NameClash(Name),
-    /// The first name and the second, which goes on behind it.
+    /// The shorter name and the longer.
     NamePrefix(Name, Name),
 }
 

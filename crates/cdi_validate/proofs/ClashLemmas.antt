@@ -7,7 +7,8 @@ use Rattle.std.specs.List.Sorted.{IsStrictlySortedBy}
 use Rattle.std.specs.Cmp.Lexicographic.{slice_cmp}
 use Rattle.std.specs.Ordering.{nat_cmp}
 use Rattle.std.specs.Str.{bytes_eq}
-use Rattle.std.proofs.lemmas.Bool.{false≢true}
+use Rattle.std.proofs.Math.Bool.{or-false}
+use Rattle.std.proofs.lemmas.Bool.{or_parts}
 use Rattle.std.proofs.lemmas.List.Folds.{list_any-append}
 use Rattle.std.proofs.lemmas.List.Kept.{IsStrictlySortedBy-filter}
 use Rattle.std.proofs.lemmas.Map.Views.{any-filter_same}
@@ -28,14 +29,6 @@ implied true true without = refl
 implied true false without = sym (without refl)
 implied false c without = refl
 
-or-both : (a b : Bool) → (a || b) ≡ false → (a ≡ false) × (b ≡ false)
-or-both true b without = absurd (false≢true (sym without))
-or-both false b without = (refl, without)
-
-or-none : (x : Bool) → x ≡ (x || false)
-or-none true = refl
-or-none false = refl
-
 -- the bean is enabled and has the name
 is_its_name : (b : Effective) (n : List ℕ) → (b.is_enabled && is_named n b.name) ≡ has (enabled_name b) n
 is_its_name b n = by b.is_enabled b.name refl refl
@@ -44,13 +37,13 @@ is_its_name b n = by b.is_enabled b.name refl refl
         → (b.is_enabled && is_named n b.name) ≡ has (enabled_name b) n
     by false name off is = rw off refl
     by true None on is = rw (on, is) refl
-    by true (Some name) on is = rw (on, is) (or-none (bytes_eq name n))
+    by true (Some name) on is = rw (on, is) (sym (or-false (bytes_eq name n)))
 
 none_named : (bs : List Effective) (n : List ℕ) → has (flat_map enabled_name bs) n ≡ false → named bs n ≡ []
 unfolding named
 none_named [] n without = refl
 none_named (b ∷ bs) n without =
-    let both = or-both (has (enabled_name b) n) (has (flat_map enabled_name bs) n)
+    let both = or_parts (has (enabled_name b) n) (has (flat_map enabled_name bs) n)
     (sym (list_any-append (λ m. bytes_eq m n) (enabled_name b) (flat_map enabled_name bs)) ∙ without) in
     rw (is_its_name b n ∙ both.0) (none_named bs n both.1)
 
@@ -67,7 +60,7 @@ one_or_none (b ∷ bs) n without = by (has (enabled_name b) n) refl (one_or_none
     by true e more = rw (
       is_its_name b n ∙ e,
       none_named bs n
-          (or-both (has (flat_map enabled_name bs) n) (stands_twice bs n) (rest true e)).0,
+          (or_parts (has (flat_map enabled_name bs) n) (stands_twice bs n) (rest true e)).0,
     ) refl
     by false e more = rw (is_its_name b n ∙ e) (more (rest false e))
 

@@ -5,20 +5,24 @@ use Rattle.std.specs.Prelude.{codes, ◌==◌}
 use Rattle.std.specs.List.{AllByRecursion, flat_map}
 use Rattle.std.specs.List.Sorted.{IsStrictlySortedBy}
 use Rattle.std.specs.Ordering.{nat_cmp, ordering_then}
-use Rattle.std.proofs.lemmas.Bool.{and_parts, eqb-true, lt-ltb}
+use Rattle.std.specs.Str.{bytes_eq}
+use Rattle.std.proofs.lemmas.Bool.{and_parts, eqb-true, lt-ltb, or_left, or_right}
 use Rattle.std.proofs.lemmas.Bool.Decides.{nat_tests}
 use Rattle.std.proofs.lemmas.Cmp.{nat_cmp_total, tied_itself}
-use Rattle.std.proofs.lemmas.List.Elements.{recursion_from_All}
 use Rattle.std.proofs.lemmas.List.Kept.{IsStrictlySortedBy-filter}
 use Rattle.cdi_model.specs.Bytes.{dot, space}
 use Rattle.cdi_model.specs.Grammar.{begins, continues, goes_on as continues_name, is_letter, is_name, is_word}
-use Rattle.cdi_match.proofs.OrderLemmas.{in_order-rises}
+use Rattle.cdi_match.proofs.OrderLemmas.{in_order-has, in_order-rises}
+use Rattle.cdi_match.specs.Chain.{has}
+use Rattle.cdi_match.proofs.Names.{same_text}
+use Rattle.cdi_effective.specs.declared.records.Effective.{Effective}
 use Rattle.cdi_faults.specs.declared.fault.Fault.{Fault}
 use Rattle.cdi_faults.specs.declared.fault.Fault.TheVariants as faults_are
 use Rattle.cdi_faults.specs.FaultText.{byte_order, text_of_fault}
 use Rattle.cdi_validate.specs.Faults.{enabled_name, enabled_names, goes_on, is_ambiguous, name_clashes, name_prefixes}
-use Rattle.cdi_validate.specs.Faults.{ClashesRise, PrefixesRise}
+use Rattle.cdi_validate.specs.Faults.{LinesRise}
 use Rattle.cdi_resolve.specs.Choices.{chosen_by_name}
+use Rattle.cdi_validate.specs.Names.{AreNames}
 use Rattle.cdi_validate.proofs.OnceLemmas.{all-append, all-each, all-map, all-more}
 
 -- ---- lists that rise
@@ -63,7 +67,7 @@ clash-keeps : (m n : List ℕ) → byte_order m n ≡ Less → by_line (faults_a
 unfolding by_line
 clash-keeps m n less = order-behind (codes "F24 name ") m n ∙ less
 
-pub clashes_rise : ClashesRise
+pub clashes_rise : (bs : List Effective) → LinesRise (name_clashes bs)
 clashes_rise bs =
     let test : List ℕ → Bool = λ n. is_ambiguous (chosen_by_name bs n) in
     lines-rise (name_clashes bs) (rises-map byte_order by_line faults_are.NameClash clash-keeps (filter test (enabled_names bs))
@@ -149,9 +153,17 @@ module _ (all : List (List ℕ)) (rises : IsStrictlySortedBy byte_order all) whe
       (all-map (λ f. AllByRecursion (λ g. by_line f g ≡ Less) (flat_map of_name xs)) (faults_are.NamePrefix x) ys
       (all-each _ (λ y. below-later x y xs rise.0 above.1) ys))
 
-pub prefixes_rise : PrefixesRise
+each-named : (names : List (List ℕ)) → AreNames names → AllByRecursion (λ n. is_name n ≡ true) names
+each-named [] named = tt
+each-named (n ∷ ns) named = (
+  named n (or_left (bytes_eq n n) (has ns n) (same_text n n refl)),
+  each-named ns (λ s among. named s (or_right (bytes_eq n s) (has ns s) among)),
+)
+
+pub prefixes_rise : (bs : List Effective) → AreNames (flat_map enabled_name bs) → LinesRise (name_prefixes bs)
 prefixes_rise bs named =
     let names = enabled_names bs in
     let rises = in_order-rises (flat_map enabled_name bs) in
     lines-rise (name_prefixes bs) (pairs-rise names rises names rises
-    (all-more _ IsAboveSpace name-above names (recursion_from_All (λ n. is_name n ≡ true) names named)))
+    (all-more _ IsAboveSpace name-above names
+    (each-named names (λ s among. named s (sym (in_order-has (flat_map enabled_name bs) s) ∙ among)))))

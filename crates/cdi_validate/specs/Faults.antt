@@ -1,7 +1,7 @@
 -- The faults of a deployment (CDI 4.0, Problems detected automatically by the container): for each code, what has it.
 use Rattle.std.specs.Prelude.{◌≡◌, ◌≢◌, AllPairs, Contains, ℕ, nat_eq, nat_lt, Bool, true, false, not, ◌||◌, List, [], ◌∷◌, ◌++◌, map, filter, length}
 use Rattle.std.specs.Prelude.{codes, Option, Some, None, is_some, option_map, unwrap_or, if◌then◌else◌}
-use Rattle.std.specs.List.{AllPass, list_any, flat_map, starts_with}
+use Rattle.std.specs.List.{list_any, flat_map, starts_with}
 use Rattle.std.specs.List.Sorted.{IsStrictlySortedBy}
 use Rattle.std.specs.Option.{option_to_list}
 use Rattle.std.specs.Str.{bytes_eq}
@@ -241,14 +241,9 @@ FaultsStandOnce = (ds : List Decl) → AllPairs (λ d e. key_of d ≢ key_of e) 
 
 -- ---- the faults of names
 
--- The lines that the name clashes print rise in byte order.
-abbrev pub ClashesRise : Type 0
-ClashesRise = (bs : List Effective) → IsStrictlySortedBy byte_order (map text_of_fault (name_clashes bs))
-
--- So do those of the name prefixes, where each name is one by the grammar.
-abbrev pub PrefixesRise : Type 0
-PrefixesRise = (bs : List Effective) → AllPass is_name (enabled_names bs)
-    → IsStrictlySortedBy byte_order (map text_of_fault (name_prefixes bs))
+-- the lines that some faults print rise in byte order
+abbrev pub LinesRise : List Fault → Type 0
+LinesRise fs = IsStrictlySortedBy byte_order (map text_of_fault fs)
 
 -- The second is the first, a dot and a text, which is a name where the second is one by the grammar.
 pub record IsNameBehind (x y : List ℕ) : Type 0 where

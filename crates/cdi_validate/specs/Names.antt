@@ -1,11 +1,16 @@
 -- The faults of names, as they are found.
-use Rattle.std.specs.Prelude.{ℕ, Bool, false, ◌&&◌, ◌||◌, List, [], ◌++◌, ◌∷◌, map, filter, nat_eq, Option, Some, None}
+use Rattle.std.specs.Prelude.{◌≡◌, ℕ, Bool, true, false, ◌&&◌, ◌||◌, List, [], ◌++◌, ◌∷◌, map, filter, nat_eq, Option, Some, None}
 use Rattle.std.specs.List.{flat_map, slice_get}
+use Rattle.cdi_model.specs.Grammar.{is_name}
 use Rattle.cdi_match.specs.Chain.{has}
 use Rattle.cdi_effective.specs.declared.records.Effective.{Effective}
 use Rattle.cdi_faults.specs.declared.fault.Fault.{Fault}
 use Rattle.cdi_faults.specs.declared.fault.Fault.TheVariants as faults_are
 use Rattle.cdi_validate.specs.Faults.{enabled_name, goes_on}
+
+-- all are names by the grammar
+abbrev pub AreNames : List (List ℕ) → Type 0
+AreNames names = (s : List ℕ) → has names s ≡ true → is_name s ≡ true
 
 -- an enabled bean has the name, and so has one after it
 abbrev pub stands_twice : List Effective → List ℕ → Bool

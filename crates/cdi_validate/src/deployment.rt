@@ -3,12 +3,12 @@ ghost use Rattle.std.specs.Prelude.{◌≡◌, ◌<◌, ◌^◌, ◌++◌, ℕ, 
 ghost use Rattle.std.specs.List.{flat_map};
 ghost use Rattle.cdi_model.specs.Decl.{kind_of, name_of_decl};
 ghost use Rattle.cdi_model.specs.declared.decl.Decl.{Decl as AnyDecl};
-ghost use Rattle.cdi_effective.specs.Beans.{entries};
+ghost use Rattle.cdi_effective.specs.Beans.{beans, entries};
 ghost use Rattle.cdi_observe.specs.Answers.{answer_to};
 ghost use Rattle.cdi_observe.specs.Kept.{evaluated};
 ghost use Rattle.cdi_observe.specs.Wanted.{points_of, wanted};
 ghost use Rattle.cdi_faults.specs.FaultText.{SubjectsInOrder};
-ghost use Rattle.cdi_validate.specs.Faults.{faults, faults_of, subjects_at_fault, FaultsStandOnce, ClashesRise, PrefixesRise, PrefixesGoOn};
+ghost use Rattle.cdi_validate.specs.Faults.{faults, faults_of, subjects_at_fault, name_clashes, name_prefixes, FaultsStandOnce, LinesRise, PrefixesGoOn};
 ghost use Rattle.cdi_faults.specs.declared.fault.Fault.TheVariants as the_faults;
 
 use crate::disposing::disposers_at_fault;
@@ -42,8 +42,8 @@ pub fn faults<V: View>(alloc: Global, view: &mut V) -> Result<Vec<Fault>, AllocE
         ≡ evaluated (V.list view.old) (take i (wanted (V.list view.old))) (V.kept view.old))) }
     ensures order { SubjectsInOrder }
     ensures once { FaultsStandOnce }
-    ensures clashes { ClashesRise }
-    ensures prefixes { PrefixesRise }
+    ensures clashes { LinesRise (name_clashes (beans (V.list view.old))) }
+    ensures prefixes { OnOk result (LinesRise (name_prefixes (beans (V.list view.old)))) }
     ensures longer { PrefixesGoOn }
 {
     let answers = evaluate(alloc, view)?;

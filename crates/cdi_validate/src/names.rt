@@ -8,7 +8,7 @@ ghost use Rattle.cdi_match.specs.Chain.{has};
 ghost use Rattle.cdi_resolve.specs.Choices.{chosen_by_name};
 ghost use Rattle.cdi_faults.specs.declared.fault.Fault.TheVariants as faults_are;
 ghost use Rattle.cdi_validate.specs.Faults.{enabled_name, goes_on, is_ambiguous, name_clashes, name_prefixes};
-ghost use Rattle.cdi_validate.specs.Names.{has_dot_at, prefix_pairs, stands_twice};
+ghost use Rattle.cdi_validate.specs.Names.{has_dot_at, prefix_pairs, stands_twice, AreNames};
 
 use cdi_effective::Effective;
 use cdi_faults::Fault;
@@ -34,6 +34,7 @@ impl Names {
             → contains (slice_cmp nat_cmp) self.new.twice s
             ≡ (contains (slice_cmp nat_cmp) self.old.twice s
             || (contains (slice_cmp nat_cmp) self.old.all s && has (enabled_name bean.now) s))) }
+        ensures grammar { OnOk result (AreNames (enabled_name bean.now)) }
     {
         if !bean.is_enabled {
             return Ok(());
@@ -41,6 +42,8 @@ impl Names {
         let Some(name) = bean.name else {
             return Ok(());
         };
+        // No effect at run time. The proof reads here that the name is one by the grammar.
+        let _ = name.as_bytes();
         if !self.all.insert(name)? {
             self.twice.insert(name)?;
         }
@@ -55,7 +58,8 @@ pub(crate) fn push_of_names(
     beans: &[Effective],
     faults: &mut Vec<Fault>,
 ) -> Result<(), AllocError>
-    ensures { OnOk result (faults.new.items ≡ faults.old.items ++ name_clashes beans.now ++ name_prefixes beans.now) }
+    ensures faults { OnOk result (faults.new.items ≡ faults.old.items ++ name_clashes beans.now ++ name_prefixes beans.now) }
+    ensures grammar { OnOk result (AreNames (flat_map enabled_name beans.now)) }
 {
     let Names { all, twice } = names_of_enabled(alloc, beans)?;
     push_clashes(alloc, beans, in_order(alloc, twice)?.as_slice(), faults)?;
@@ -66,6 +70,7 @@ pub(crate) fn push_of_names(
 fn names_of_enabled(alloc: Global, beans: &[Effective]) -> Result<Names, AllocError>
     ensures all { IfOk result (λ names. (s : List ℕ) → contains (slice_cmp nat_cmp) names.all s ≡ has (flat_map enabled_name beans.now) s) }
     ensures twice { IfOk result (λ names. (s : List ℕ) → contains (slice_cmp nat_cmp) names.twice s ≡ stands_twice beans.now s) }
+    ensures grammar { OnOk result (AreNames (flat_map enabled_name beans.now)) }
 {
     let mut names = Names {
         all: BTreeSet::new(alloc),

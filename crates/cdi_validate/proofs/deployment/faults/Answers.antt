@@ -1,4 +1,4 @@
-use Rattle.std.proofs.Common.{◌≡◌, ◌++◌, ℕ, List, [], Result, Ok, Err, length, map, take, sym, ap, ◌∙◌, arith}
+use Rattle.std.proofs.Common.{◌≡◌, ◌++◌, ℕ, List, [], Result, Ok, Err, length, map, take, subst, sym, ap, ◌∙◌, arith}
 use Rattle.std.specs.List.{flat_map}
 use Rattle.std.specs.Result.{OnErr}
 use Rattle.std.proofs.lemmas.List.{take_all}
@@ -10,7 +10,8 @@ use Rattle.cdi_observe.specs.Kept.{Kept, evaluated}
 use Rattle.cdi_observe.specs.Wanted.{wanted}
 use Rattle.cdi_faults.specs.declared.fault.Fault.{Fault}
 use Rattle.cdi_faults.proofs.OrderLemmas.{subjects_in_order}
-use Rattle.cdi_validate.specs.Faults.{faults, faults_of, name_clashes, name_prefixes}
+use Rattle.cdi_validate.specs.Faults.{faults, faults_of, name_clashes, name_prefixes, LinesRise}
+use Rattle.cdi_validate.proofs.LineLemmas.{prefixes_rise}
 use Rattle.cdi_validate.proofs.BehindLemmas.{prefixes_go_on}
 use Rattle.cdi_validate.proofs.deployment.faults.Goals as goal
 
@@ -57,7 +58,7 @@ pub returns-clause-faults : goal.returns-clause-faults
 returns-clause-faults g c =
     let same = c.in_ok-answers.ensures.list in
     all_faults (g.V.View.list c.args.view.now) c.decls.result.now c.beans-2.result.now c.new-faults.result.items
-    c.push_of_decls.new.faults.items c.push_of_names.new.faults.items c.in_ok-push_of_names.ensures
+    c.push_of_decls.new.faults.items c.push_of_names.new.faults.items c.in_ok-push_of_names.ensures.faults
     c.in_ok-push_of_decls.ensures c.new-faults.ensures.items (c.beans-2.ensures ∙ ap beans same) (c.decls.ensures ∙ same)
 
 pub returns-in_err-answers-clause-order : goal.returns-in_err-answers-clause-order
@@ -83,3 +84,7 @@ returns-in_err-push_of_names-clause-longer g c = prefixes_go_on
 
 pub returns-clause-longer : goal.returns-clause-longer
 returns-clause-longer g c = prefixes_go_on
+
+pub returns-clause-prefixes : goal.returns-clause-prefixes
+returns-clause-prefixes g c = subst (λ bs. LinesRise (name_prefixes bs)) (c.beans-2.ensures ∙ ap beans c.in_ok-answers.ensures.list)
+    (prefixes_rise c.beans-2.result.now c.in_ok-push_of_names.ensures.grammar)

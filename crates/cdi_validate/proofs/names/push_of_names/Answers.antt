@@ -10,8 +10,8 @@ use Rattle.cdi_validate.proofs.ClashLemmas.{clashes-twice}
 use Rattle.cdi_validate.proofs.NameLemmas.{enabled_names-are, pairs-behind}
 use Rattle.cdi_validate.proofs.names.push_of_names.Goals as goal
 
-pub returns : goal.returns
-returns c =
+pub returns-clause-faults : goal.returns-clause-faults
+returns-clause-faults c =
     let bs = c.args.beans.now in
     let faults = c.args.faults.now.items in
     let names = c.in_ok-all.field-0 in

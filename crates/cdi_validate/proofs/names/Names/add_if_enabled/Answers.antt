@@ -7,7 +7,10 @@ use Rattle.std.proofs.lemmas.Bool.{not-false}
 use Rattle.cdi_match.specs.Chain.{has}
 use Rattle.cdi_match.proofs.Names.{at_name, one_name}
 use Rattle.cdi_effective.specs.declared.records.Effective.{Effective}
+use Rattle.std.proofs.Math.Bool.{or-false}
+use Rattle.cdi_model.specs.Grammar.{is_name}
 use Rattle.cdi_validate.specs.Faults.{enabled_name}
+use Rattle.cdi_validate.specs.Names.{AreNames}
 use Rattle.cdi_validate.proofs.names.Names.add_if_enabled.Goals as goal
 
 one_more : (b old : Bool) → cond b true old ≡ (old || (b || false))
@@ -49,3 +52,18 @@ returns-else-not-branch-clause-all c = λ s.
     let old = contains (slice_cmp nat_cmp) c.args.self.now.all s in
     c.in_ok-insert.ensures.updates.0 s ∙ ap (λ b. cond b true old) (at_name c.in-Some.name s)
     ∙ named c.args.bean.now c.in-Some.name s old c.if-not-bean.false c.in-Some.is
+
+-- the name of the bean is all that it has
+of_name : (bean : Effective) (name : List ℕ) → bean.is_enabled ≡ true → bean.name ≡ Some name → is_name name ≡ true
+    → AreNames (enabled_name bean)
+of_name bean name enabled is grammar = λ s among.
+    let here : (bytes_eq name s || false) ≡ true = rw (enabled, is) at among in
+    ap is_name (sym (one_name name s (sym (or-false (bytes_eq name s)) ∙ here))) ∙ grammar
+
+pub returns-in_ok-insert-2-clause-grammar : goal.returns-in_ok-insert-2-clause-grammar
+returns-in_ok-insert-2-clause-grammar c =
+    of_name c.args.bean.now c.in-Some.name c.if-not-bean.false c.in-Some.is c.as_bytes.ensures.grammar
+
+pub returns-else-not-branch-clause-grammar : goal.returns-else-not-branch-clause-grammar
+returns-else-not-branch-clause-grammar c =
+    of_name c.args.bean.now c.in-Some.name c.if-not-bean.false c.in-Some.is c.as_bytes.ensures.grammar
