@@ -1,5 +1,5 @@
 //! The container.
-ghost use Rattle.std.specs.Prelude.{◌≡◌, ◌≢◌, OnOk, OnErr, IfOk, IfErr};
+ghost use Rattle.std.specs.Prelude.{◌≡◌, ◌≢◌, AllPairs, OnOk, OnErr, IfOk, IfErr};
 ghost use Rattle.cdi_model.specs.declared.edit.Edit.TheVariants.{Remove as RemoveEdit};
 ghost use Rattle.cdi_model.specs.Edits.{answer_of_edit as answer_of_removal};
 ghost use Rattle.cdi_model.specs.Answering.{Answers};
@@ -119,6 +119,7 @@ impl Container {
     /// for the list of all beans as `choose` does.
     pub fn report(&mut self) -> Result<Vec<Fault>, AllocError>
         ensures faults { IfOk result (λ list. list.items ≡ faults (decls_of self.old)) }
+        ensures once { IfOk result (λ list. AllPairs (λ f g. f ≢ g) list.items) }
         ensures stays { state_of self.new ≡ state_of self.old }
         ensures step { ReportStep self.old result self.new }
     {

@@ -1,5 +1,5 @@
 //! The present declarations and their beans.
-ghost use Rattle.std.specs.Prelude.{◌≡◌, [], OnOk, OnErr, IfOk};
+ghost use Rattle.std.specs.Prelude.{◌≡◌, ◌≢◌, AllPairs, [], OnOk, OnErr, IfOk};
 ghost use Rattle.cdi_model.specs.declared.edit.Edit.TheVariants.{Put, Remove};
 ghost use Rattle.cdi_model.specs.Edits.{edited, answer_of_edit};
 ghost use Rattle.cdi_model.specs.Answering.{Answers};
@@ -106,6 +106,7 @@ impl Deployment {
     /// The faults.
     pub(crate) fn report(&mut self, alloc: Global) -> Result<Vec<Fault>, AllocError>
         ensures faults { IfOk result (λ list. list.items ≡ faults self.old) }
+        ensures once { IfOk result (λ list. AllPairs (λ f g. f ≢ g) list.items) }
         ensures stays { self.new ≡ self.old }
     {
         let list = self.take_beans(alloc)?;

@@ -1,5 +1,5 @@
 -- A tree of subjects by their texts.
-use Rattle.std.proofs.Common.{◌≡◌, ℕ, List, [], ◌∷◌, map, Ordering, Less, Equal, Greater, Vec, Global, refl, sym, ◌∙◌, ap}
+use Rattle.std.proofs.Common.{◌≡◌, ℕ, ◌<◌, List, [], ◌∷◌, map, length, arith, Ordering, Less, Equal, Greater, Vec, Global, refl, sym, ◌∙◌, ap}
 use Rattle.std.specs.BTreeMap.{insert_entry, values}
 use Rattle.cdi_faults.specs.declared.fault.Subject.{Subject}
 use Rattle.cdi_faults.specs.FaultText.{byte_order, by_text, in_text_order}
@@ -34,3 +34,10 @@ subjects-shown (e ∷ es) = ap (λ ms. e.1 ∷ ms) (subjects-shown es)
 pub values-in_order : (tree : TextTree) (ms : List Subject) → entries_in tree ≡ by_text ms → values tree ≡ in_text_order ms
 unfolding in_text_order
 values-in_order tree ms is = sym (subjects-shown tree.entries) ∙ ap (λ es. map (λ e. e.1) es) is
+
+-- fewer than two stand in order
+pub few-in_order : (ms : List Subject) → length ms < 2 → ms ≡ in_text_order ms
+unfolding in_text_order
+few-in_order [] few = refl
+few-in_order (m ∷ []) few = refl
+few-in_order (m ∷ n ∷ ms) few = absurd (omega (arith, few))

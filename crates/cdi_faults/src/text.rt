@@ -104,11 +104,14 @@ impl Fault {
     }
 }
 
-/// Subjects in the byte order of their texts, each once. It takes memory where there are some.
+/// Subjects in the byte order of their texts, each once. It takes memory where there are several.
 pub fn in_text_order(alloc: Global, subjects: Vec<Subject>) -> Result<Vec<Subject>, AllocError>
     ensures value { IfOk result (λ list. list.items ≡ in_text_order subjects.items) }
     ensures order { SubjectsInOrder }
 {
+    if subjects.len() < 2 {
+        return Ok(subjects);
+    }
     let tree = by_text(alloc, subjects)?;
     subjects_in(alloc, tree)
 }

@@ -6,4 +6,3 @@ pub mod ClashLemmas
 pub mod OnceLemmas
 pub mod LineLemmas
 pub mod BehindLemmas
-pub mod FaultLaws

@@ -7,7 +7,7 @@ use Rattle.std.specs.Option.{option_to_list}
 use Rattle.std.specs.Str.{bytes_eq}
 use Rattle.cdi_model.specs.Bytes.{dot}
 use Rattle.cdi_model.specs.Decl.{key_of, kind_of, name_of_decl}
-use Rattle.cdi_model.specs.DeclList.{find_decl}
+use Rattle.cdi_model.specs.DeclList.{find_decl, AreDistinct}
 use Rattle.cdi_model.specs.Grammar.{is_name}
 use Rattle.cdi_model.specs.declared.decl.Attributes.{Attributes}
 use Rattle.cdi_model.specs.declared.decl.BeanDecl.{BeanDecl}
@@ -237,7 +237,7 @@ faults ds = flat_map (faults_of ds) ds ++ name_clashes (beans ds) ++ name_prefix
 
 -- Where no two declarations have one kind and name, no fault stands twice.
 abbrev pub FaultsStandOnce : Type 0
-FaultsStandOnce = (ds : List Decl) → AllPairs (λ d e. key_of d ≢ key_of e) ds → AllPairs (λ f g. f ≢ g) (faults ds)
+FaultsStandOnce = (ds : List Decl) → AreDistinct ds → AllPairs (λ f g. f ≢ g) (faults ds)
 
 -- ---- the faults of names
 

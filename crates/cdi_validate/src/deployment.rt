@@ -1,14 +1,15 @@
 //! The faults of a deployment.
-ghost use Rattle.std.specs.Prelude.{◌≡◌, ◌<◌, ◌^◌, ◌++◌, ℕ, List, length, map, take, IfOk, OnOk, OnErr};
+ghost use Rattle.std.specs.Prelude.{◌≡◌, ◌≢◌, AllPairs, ◌<◌, ◌^◌, ◌++◌, ℕ, List, length, map, take, IfOk, OnOk, OnErr};
 ghost use Rattle.std.specs.List.{flat_map};
 ghost use Rattle.cdi_model.specs.Decl.{kind_of, name_of_decl};
+ghost use Rattle.cdi_model.specs.DeclList.{AreDistinct};
 ghost use Rattle.cdi_model.specs.declared.decl.Decl.{Decl as AnyDecl};
 ghost use Rattle.cdi_effective.specs.Beans.{beans, entries};
 ghost use Rattle.cdi_observe.specs.Answers.{answer_to};
 ghost use Rattle.cdi_observe.specs.Kept.{evaluated};
 ghost use Rattle.cdi_observe.specs.Wanted.{points_of, wanted};
 ghost use Rattle.cdi_faults.specs.FaultText.{SubjectsInOrder};
-ghost use Rattle.cdi_validate.specs.Faults.{faults, faults_of, subjects_at_fault, name_clashes, name_prefixes, FaultsStandOnce, LinesRise, PrefixesGoOn};
+ghost use Rattle.cdi_validate.specs.Faults.{faults, faults_of, subjects_at_fault, name_clashes, name_prefixes, LinesRise, PrefixesGoOn};
 ghost use Rattle.cdi_faults.specs.declared.fault.Fault.TheVariants as the_faults;
 
 use crate::disposing::disposers_at_fault;
@@ -33,7 +34,7 @@ use std::rc::Rc;
 ///
 /// Each injection point is asked for once for each type and qualifiers. It takes memory for the faults, for the answers
 /// and where the view does. Where none is left, some of the keys from the front on were asked.
-#[tactic(auto, using(crate::proofs::FaultLaws::laws))]
+#[tactic(auto, using(crate::proofs::LineLemmas::clashes_rise))]
 pub fn faults<V: View>(alloc: Global, view: &mut V) -> Result<Vec<Fault>, AllocError>
     ensures faults { IfOk result (λ list. list.items ≡ faults (V.list view.old)) }
     ensures list { V.list view.new ≡ V.list view.old }
@@ -41,7 +42,7 @@ pub fn faults<V: View>(alloc: Global, view: &mut V) -> Result<Vec<Fault>, AllocE
     ensures err { OnErr result ((i : ℕ) × (V.kept view.new
         ≡ evaluated (V.list view.old) (take i (wanted (V.list view.old))) (V.kept view.old))) }
     ensures order { SubjectsInOrder }
-    ensures once { FaultsStandOnce }
+    ensures once { IfOk result (λ list. AllPairs (λ f g. f ≢ g) list.items) }
     ensures clashes { LinesRise (name_clashes (beans (V.list view.old))) }
     ensures prefixes { OnOk result (LinesRise (name_prefixes (beans (V.list view.old)))) }
     ensures longer { PrefixesGoOn }
@@ -69,7 +70,8 @@ fn push_of_decls(
 ) -> Result<(), AllocError>
     requires beans { beans.now ≡ flat_map (entries decls.now) decls.now }
     requires answers { map (λ answer. answer.value) answers.now ≡ map (answer_to decls.now) (flat_map points_of decls.now) }
-    ensures { OnOk result (faults.new.items ≡ faults.old.items ++ flat_map (faults_of decls.now) decls.now) }
+    ensures faults { OnOk result (faults.new.items ≡ faults.old.items ++ flat_map (faults_of decls.now) decls.now) }
+    ensures distinct { AreDistinct decls.now }
 {
     let mut rest_of_beans = beans;
     let mut rest_of_answers = answers;

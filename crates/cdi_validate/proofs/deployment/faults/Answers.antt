@@ -1,8 +1,9 @@
-use Rattle.std.proofs.Common.{◌≡◌, ◌++◌, ℕ, List, [], Result, Ok, Err, length, map, take, subst, sym, ap, ◌∙◌, arith}
+use Rattle.std.proofs.Common.{◌≡◌, ◌≢◌, AllPairs, ◌++◌, ℕ, List, [], Result, Ok, Err, length, map, take, subst, sym, ap, ◌∙◌, arith}
 use Rattle.std.specs.List.{flat_map}
 use Rattle.std.specs.Result.{OnErr}
 use Rattle.std.proofs.lemmas.List.{take_all}
 use Rattle.cdi_model.specs.declared.decl.Decl.{Decl}
+use Rattle.cdi_model.specs.DeclList.{AreDistinct}
 use Rattle.cdi_effective.specs.Beans.{beans}
 use Rattle.cdi_effective.specs.declared.records.Effective.{Effective}
 use Rattle.cdi_observe.specs.Answers.{answers}
@@ -12,6 +13,7 @@ use Rattle.cdi_faults.specs.declared.fault.Fault.{Fault}
 use Rattle.cdi_faults.proofs.OrderLemmas.{subjects_in_order}
 use Rattle.cdi_validate.specs.Faults.{faults, faults_of, name_clashes, name_prefixes, LinesRise}
 use Rattle.cdi_validate.proofs.LineLemmas.{prefixes_rise}
+use Rattle.cdi_validate.proofs.OnceLemmas.{faults_stand_once}
 use Rattle.cdi_validate.proofs.BehindLemmas.{prefixes_go_on}
 use Rattle.cdi_validate.proofs.deployment.faults.Goals as goal
 
@@ -59,7 +61,7 @@ returns-clause-faults g c =
     let same = c.in_ok-answers.ensures.list in
     all_faults (g.V.View.list c.args.view.now) c.decls.result.now c.beans-2.result.now c.new-faults.result.items
     c.push_of_decls.new.faults.items c.push_of_names.new.faults.items c.in_ok-push_of_names.ensures.faults
-    c.in_ok-push_of_decls.ensures c.new-faults.ensures.items (c.beans-2.ensures ∙ ap beans same) (c.decls.ensures ∙ same)
+    c.in_ok-push_of_decls.ensures.faults c.new-faults.ensures.items (c.beans-2.ensures ∙ ap beans same) (c.decls.ensures ∙ same)
 
 pub returns-in_err-answers-clause-order : goal.returns-in_err-answers-clause-order
 returns-in_err-answers-clause-order g c = subjects_in_order
@@ -88,3 +90,9 @@ returns-clause-longer g c = prefixes_go_on
 pub returns-clause-prefixes : goal.returns-clause-prefixes
 returns-clause-prefixes g c = subst (λ bs. LinesRise (name_prefixes bs)) (c.beans-2.ensures ∙ ap beans c.in_ok-answers.ensures.list)
     (prefixes_rise c.beans-2.result.now c.in_ok-push_of_names.ensures.grammar)
+
+pub returns-clause-once : goal.returns-clause-once
+returns-clause-once g c =
+    let ds = g.V.View.list c.args.view.now in
+    let distinct = subst AreDistinct (c.decls.ensures ∙ c.in_ok-answers.ensures.list) c.in_ok-push_of_decls.ensures.distinct in
+    subst (AllPairs (λ f g. f ≢ g)) (sym (returns-clause-faults g c)) (faults_stand_once ds distinct)
