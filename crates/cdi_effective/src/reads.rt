@@ -1,0 +1,57 @@
+//! What the records of a bean declaration rest on.
+ghost use Rattle.std.specs.Prelude.{◌≡◌, ◌++◌, map, IfOk, OnOk};
+ghost use Rattle.cdi_model.specs.DeclKey.{key_at};
+ghost use Rattle.cdi_effective.specs.Reads.{bean_reads, record_reads};
+
+use cdi_match::{closure, stereotypes};
+use cdi_model::{BeanDecl, DeclKey, Decls, Kind, Name};
+use std::alloc::{AllocError, Global};
+
+/// What the records of a bean declaration rest on: the declaration itself, the types of its class and of the types that
+/// its producer methods declare, and the stereotypes of it and of its products. A key may stand twice. It takes memory
+/// for the keys, and while it looks for the types and the stereotypes.
+pub fn reads_of(alloc: Global, decls: &Decls, bean: &BeanDecl) -> Result<Vec<DeclKey>, AllocError>
+    ensures { IfOk result (λ keys. keys.items ≡ record_reads decls.now bean.now) }
+{
+    let mut keys = Vec::new(alloc);
+    push_keys(Kind::Bean, &[bean.name], &mut keys)?;
+    push_bean_reads(
+        alloc,
+        decls,
+        bean.name,
+        bean.attributes.stereotypes.as_slice(),
+        &mut keys,
+    )?;
+    for producer in bean.producers.as_slice() {
+        let declared = producer.attributes.stereotypes.as_slice();
+        push_bean_reads(alloc, decls, producer.product_type, declared, &mut keys)?;
+    }
+    Ok(keys)
+}
+
+/// Appends the types of a type, and the stereotypes of what declares some.
+fn push_bean_reads(
+    alloc: Global,
+    decls: &Decls,
+    bean_type: Name,
+    declared: &[Name],
+    keys: &mut Vec<DeclKey>,
+) -> Result<(), AllocError>
+    ensures { OnOk result (keys.new.items ≡ keys.old.items ++ bean_reads decls.now bean_type declared.now) }
+{
+    let types = closure(alloc, decls, bean_type)?;
+    push_keys(Kind::Type, types.as_slice(), keys)?;
+    let stereotypes = stereotypes(alloc, decls, declared)?;
+    push_keys(Kind::Stereotype, stereotypes.as_slice(), keys)?;
+    Ok(())
+}
+
+/// Appends the keys of a kind with some names.
+fn push_keys(kind: Kind, names: &[Name], keys: &mut Vec<DeclKey>) -> Result<(), AllocError>
+    ensures { OnOk result (keys.new.items ≡ keys.old.items ++ map (key_at kind) names.now) }
+{
+    for name in names {
+        keys.push(DeclKey { kind, name: *name })?;
+    }
+    Ok(())
+}
