@@ -1,6 +1,6 @@
 -- The lines that the faults of names print, in byte order.
-use Rattle.std.proofs.Common.{◌≡◌, ◌<◌, ℕ, Bool, true, false, List, [], ◌∷◌, ◌++◌, map, filter, Ordering, Less, Equal, Greater, refl, ap, ◌∙◌}
-use Rattle.std.proofs.Common.{sym, arith}
+use Rattle.std.proofs.Common.{◌≡◌, ◌<◌, ℕ, Bool, true, false, List, [], ◌∷◌, ◌++◌, map, filter, Ordering, Less, Equal, Greater}
+use Rattle.std.proofs.Common.{refl, sym, ap, ◌∙◌, arith}
 use Rattle.std.specs.Prelude.{codes, ◌==◌}
 use Rattle.std.specs.List.{AllByRecursion, flat_map}
 use Rattle.std.specs.List.Sorted.{IsStrictlySortedBy}
@@ -148,7 +148,8 @@ module _ (all : List (List ℕ)) (rises : IsStrictlySortedBy byte_order all) whe
   pairs-rise (x ∷ xs) rise above =
       let ys = filter (goes_on x) all in
       rises-append by_line (of_name x) (flat_map of_name xs)
-      (rises-map byte_order by_line (faults_are.NamePrefix x) (second-keeps x) ys (IsStrictlySortedBy-filter byte_order (goes_on x) all rises))
+      (rises-map byte_order by_line (faults_are.NamePrefix x) (second-keeps x) ys
+      (IsStrictlySortedBy-filter byte_order (goes_on x) all rises))
       (pairs-rise xs rise.1 above.1)
       (all-map (λ f. AllByRecursion (λ g. by_line f g ≡ Less) (flat_map of_name xs)) (faults_are.NamePrefix x) ys
       (all-each _ (λ y. below-later x y xs rise.0 above.1) ys))

@@ -19,8 +19,8 @@ use Rattle.cdi_faults.specs.declared.fault.Fault.{Fault}
 use Rattle.cdi_faults.specs.declared.fault.Fault.TheVariants as faults_are
 use Rattle.cdi_faults.specs.declared.fault.Subject.{Subject}
 use Rattle.cdi_faults.specs.FaultText.{text_of_subject, in_text_order}
-use Rattle.cdi_validate.specs.Faults.{faults_of_code, faults_of, subjects_at_fault, enabled_name, enabled_names, name_clashes, name_prefixes}
-use Rattle.cdi_validate.specs.Faults.{goes_on, faults, FaultsStandOnce}
+use Rattle.cdi_validate.specs.Faults.{faults_of_code, faults_of, subjects_at_fault, name_clashes, name_prefixes}
+use Rattle.cdi_validate.specs.Faults.{enabled_name, enabled_names, goes_on, faults, FaultsStandOnce}
 use Rattle.cdi_faults.proofs.OrderLemmas.{subjects_in_order}
 
 -- ---- each apart from the later ones
@@ -158,7 +158,8 @@ of_code-differ : (ds : List Decl) (d : Decl) (code : Code) → Differ (faults_of
 of_code-differ ds d code =
     let ms = subjects_at_fault code ds d in
     differ-map (faults_are.Declared code (kind_of d) (name_of_decl d)) (one-subject code d) (in_text_order ms)
-    (differ-by text_of_subject (in_text_order ms) (rising-differ nat_list_cmp_total (map text_of_subject (in_text_order ms)) (subjects_in_order ms).0))
+    (differ-by text_of_subject (in_text_order ms)
+    (rising-differ nat_list_cmp_total (map text_of_subject (in_text_order ms)) (subjects_in_order ms).0))
 
 of_code-tagged : (ds : List Decl) (d : Decl) (code : Code) → Tagged code_of code (faults_of_code ds d code)
 of_code-tagged ds d code =

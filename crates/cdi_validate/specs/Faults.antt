@@ -1,6 +1,6 @@
 -- The faults of a deployment (CDI 4.0, Problems detected automatically by the container): for each code, what has it.
-use Rattle.std.specs.Prelude.{◌≡◌, ◌≢◌, AllPairs, Contains, ℕ, nat_eq, nat_lt, Bool, true, false, not, ◌||◌, List, [], ◌∷◌, ◌++◌, map, filter, length}
-use Rattle.std.specs.Prelude.{codes, Option, Some, None, is_some, option_map, unwrap_or, if◌then◌else◌}
+use Rattle.std.specs.Prelude.{◌≡◌, ◌≢◌, AllPairs, Contains, ℕ, nat_eq, nat_lt, Bool, true, false, not, ◌||◌, List, [], ◌∷◌, ◌++◌}
+use Rattle.std.specs.Prelude.{map, filter, length, codes, Option, Some, None, is_some, option_map, unwrap_or, if◌then◌else◌}
 use Rattle.std.specs.List.{list_any, flat_map, starts_with}
 use Rattle.std.specs.List.Sorted.{IsStrictlySortedBy}
 use Rattle.std.specs.Option.{option_to_list}

@@ -9,7 +9,8 @@ ghost use Rattle.cdi_observe.specs.Answers.{answer_to};
 ghost use Rattle.cdi_observe.specs.Kept.{evaluated};
 ghost use Rattle.cdi_observe.specs.Wanted.{points_of, wanted};
 ghost use Rattle.cdi_faults.specs.FaultText.{SubjectsInOrder};
-ghost use Rattle.cdi_validate.specs.Faults.{faults, faults_of, subjects_at_fault, name_clashes, name_prefixes, LinesRise, PrefixesGoOn};
+ghost use Rattle.cdi_validate.specs.Faults.{faults, faults_of, subjects_at_fault, name_clashes, name_prefixes};
+ghost use Rattle.cdi_validate.specs.Faults.{LinesRise, PrefixesGoOn};
 ghost use Rattle.cdi_faults.specs.declared.fault.Fault.TheVariants as the_faults;
 
 use crate::disposing::disposers_at_fault;
