@@ -18,7 +18,7 @@ struct LongRow {
     refused: bool,
 }
 
-static LONG_ROWS: [LongRow; 10] = [
+static LONG_ROWS: [LongRow; 11] = [
     LongRow {
         name: "a command line of more than 4,096 bytes",
         script: &[Piece(4097, b"a"), Piece(1, b"\n")],
@@ -104,6 +104,12 @@ static LONG_ROWS: [LongRow; 10] = [
         name: "a put block that is not UTF-8",
         script: &[Piece(1, b"put\nkind=\"\xff\"\n.\n")],
         text: b"refused E02 NotToml\n",
+        refused: true,
+    },
+    LongRow {
+        name: "lines that are not UTF-8",
+        script: &[Piece(1, b"#\xff\nchoose\xff A\n")],
+        text: b"refused E20 BadCommand\n",
         refused: true,
     },
     LongRow {

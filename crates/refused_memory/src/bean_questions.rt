@@ -1,25 +1,47 @@
 //! Questions about the beans of some declarations.
-use cdi_effective::{Effective, beans, records_of};
-use cdi_fixtures::{Answer, are_names, declared, is_choice, name, quals};
-use cdi_model::{BeanDecl, Decl, Decls, Error, Kind, Qual, Scope, Work};
+use crate::answers::{Answer, is_choice};
+use crate::texts::are_names;
+use cdi_container::Choice;
+use cdi_effective::{Effective, beans, disposer_of, records_of};
+use cdi_fixtures::{declared, name, quals};
+use cdi_model::{BeanDecl, Decl, Decls, Error, Ident, Kind, Qual, Scope, Work};
 use cdi_observe::{PlainView, evaluate};
 use cdi_resolve::{choose, choose_name};
 use std::alloc::Global;
+use std::rc::Rc;
 
 /// A question about beans, with its answer.
 #[derive(Clone, Copy)]
 pub enum BeanQuestion {
-    /// The classes of the beans.
-    Beans(&'static [&'static [u8]]),
-    /// The record of a bean: its types, the names of its qualifiers, its scope, and whether it is enabled.
-    Record(&'static [u8], &'static [&'static [u8]], &'static [&'static [u8]], Scope, bool),
+    /// The beans.
+    Beans(&'static [Told]),
+    /// The record of a bean.
+    Record(&'static [u8], Recorded),
     /// The bean for a type and uses of qualifiers.
     Choose(&'static [u8], &'static [&'static [u8]], Answer),
     /// The bean of a name.
     ChooseName(&'static [u8], Answer),
-    /// All that the injection points ask for.
-    Evaluate,
+    /// What is right for each injection point.
+    Evaluate(&'static [Answer]),
 }
+
+/// What a record says: the types of a bean, the names of its qualifiers, its scope, and whether it is enabled.
+#[derive(Clone, Copy)]
+pub struct Recorded(
+    pub &'static [&'static [u8]],
+    pub &'static [&'static [u8]],
+    pub Scope,
+    pub bool,
+);
+
+/// The class of a bean and the producer of a product, its scope and its disposer. What it has not is empty.
+#[derive(Clone, Copy)]
+pub struct Told(
+    pub &'static [u8],
+    pub &'static [u8],
+    pub Scope,
+    pub &'static [u8],
+);
 
 use BeanQuestion::{Beans, Choose, ChooseName, Evaluate, Record};
 
@@ -41,34 +63,11 @@ impl Deployed {
     /// Whether a question has its answer.
     pub fn answers(&self, alloc: Global, question: BeanQuestion) -> Result<bool, Error> {
         match question {
-            Beans(wanted) => {
-                let found = beans(alloc, &self.decls)?;
-                Ok(are_of(found.as_slice(), wanted))
-            }
-            Record(class, types, qualifiers, scope, is_enabled) => {
-                let Some(bean) = find_bean(&self.decls, class)? else {
-                    return Ok(false);
-                };
-                let records = records_of(alloc, &self.decls, bean)?;
-                let Some(found) = records.first() else {
-                    return Ok(false);
-                };
-                let has_types = are_names(found.types.as_slice(), types);
-                let has_qualifiers = are_uses_of(found.qualifiers.as_slice(), qualifiers);
-                let is_right = found.scope == scope && found.is_enabled == is_enabled;
-                Ok(has_types && has_qualifiers && is_right)
-            }
+            Beans(wanted) => has_beans(alloc, &self.decls, wanted),
+            Record(class, wanted) => has_record(alloc, &self.decls, class, wanted),
             Choose(text, uses, answer) => self.chooses(alloc, text, uses, answer),
-            ChooseName(text, answer) => {
-                let choice = choose_name(alloc, self.beans.as_slice(), name(text)?)?;
-                Ok(is_choice(&choice, answer))
-            }
-            Evaluate => {
-                let list = beans(alloc, &self.decls)?;
-                let mut view = PlainView::new(&self.decls, list.as_slice());
-                evaluate(alloc, &mut view)?;
-                Ok(true)
-            }
+            ChooseName(text, answer) => chooses_name(alloc, self.beans.as_slice(), text, answer),
+            Evaluate(wanted) => evaluates(alloc, &self.decls, wanted),
         }
     }
 
@@ -93,21 +92,90 @@ impl Deployed {
     }
 }
 
+/// Whether the beans are these, in this order.
+fn has_beans(alloc: Global, decls: &Decls, wanted: &[Told]) -> Result<bool, Error> {
+    let found = beans(alloc, decls)?;
+    if found.len() != wanted.len() {
+        return Ok(false);
+    }
+    for (bean, told) in found.iter().zip(wanted.iter()) {
+        if !is_told(bean, disposer_of(alloc, decls, bean), told) {
+            return Ok(false);
+        }
+    }
+    Ok(true)
+}
+
+fn is_told(bean: &Effective, disposer: Option<Ident>, wanted: &Told) -> bool {
+    let Told(class, producer, scope, disposed_by) = wanted;
+    let has_names = bean.id.class.as_bytes() == *class && is_spelled(bean.id.producer, producer);
+    has_names && bean.scope == *scope && is_spelled(disposer, disposed_by)
+}
+
+/// Whether an identifier is a text, or there is none where the text is empty.
+fn is_spelled(ident: Option<Ident>, text: &[u8]) -> bool {
+    match ident {
+        Some(ident) => ident.as_bytes() == text,
+        None => text.is_empty(),
+    }
+}
+
+/// Whether the first record of a bean says what is wanted.
+fn has_record(alloc: Global, decls: &Decls, class: &[u8], wanted: Recorded) -> Result<bool, Error> {
+    let Some(bean) = find_bean(decls, class)? else {
+        return Ok(false);
+    };
+    let records = records_of(alloc, decls, bean)?;
+    Ok(begins_with(records.as_slice(), wanted))
+}
+
+fn begins_with(records: &[Effective], wanted: Recorded) -> bool {
+    match records.first() {
+        Some(found) => is_record(found, wanted),
+        None => false,
+    }
+}
+
+fn is_record(found: &Effective, wanted: Recorded) -> bool {
+    let Recorded(types, qualifiers, scope, is_enabled) = wanted;
+    let has_types = are_names(found.types.as_slice(), types);
+    let has_qualifiers = are_uses_of(found.qualifiers.as_slice(), qualifiers);
+    has_types && has_qualifiers && found.scope == scope && found.is_enabled == is_enabled
+}
+
+/// Whether the bean of a name is the one that is wanted.
+fn chooses_name(
+    alloc: Global,
+    beans: &[Effective],
+    text: &[u8],
+    answer: Answer,
+) -> Result<bool, Error> {
+    let choice = choose_name(alloc, beans, name(text)?)?;
+    Ok(is_choice(&choice, answer))
+}
+
+/// Whether what is right for each injection point is what is wanted.
+fn evaluates(alloc: Global, decls: &Decls, wanted: &[Answer]) -> Result<bool, Error> {
+    let list = beans(alloc, decls)?;
+    let mut view = PlainView::new(decls, list.as_slice());
+    let found = evaluate(alloc, &mut view)?;
+    Ok(are_choices(found.as_slice(), wanted))
+}
+
+fn are_choices(found: &[Rc<Choice>], wanted: &[Answer]) -> bool {
+    found.len() == wanted.len()
+        && found
+            .iter()
+            .zip(wanted.iter())
+            .all(|(choice, answer)| is_choice(choice, *answer))
+}
+
 /// The declaration of a bean.
 fn find_bean<'a>(decls: &'a Decls, class: &[u8]) -> Result<Option<&'a BeanDecl>, Error> {
     match decls.get(Kind::Bean, name(class)?) {
         Some(Decl::Bean(bean)) => Ok(Some(bean)),
         _ => Ok(None),
     }
-}
-
-/// Whether beans are of these classes, in this order.
-fn are_of(beans: &[Effective], classes: &[&[u8]]) -> bool {
-    beans.len() == classes.len()
-        && beans
-            .iter()
-            .zip(classes.iter())
-            .all(|(bean, class)| bean.id.class.as_bytes() == *class)
 }
 
 /// Whether these are uses of these qualifiers, in this order.

@@ -1,11 +1,22 @@
 //! Calls of a container, of which any one allocation may be refused.
 use crate::Difference;
+use crate::answers::{Answer, Answered, agrees};
 use Answer::{Ambiguous, Done, Faults, One, Refused, Unsatisfied};
 use Call::{Choose, Named, Put, Remove, Report};
-use cdi_container::Container;
-use cdi_fixtures::{Answer, Call, agrees, make};
+use cdi_container::{Choice, Container, Fault};
+use cdi_fixtures::{name, quals};
 use cdi_model::{Error, Kind, Refusal};
-use std::alloc::Global;
+use std::alloc::{AllocError, Global};
+
+/// A call of a container. A type is chosen with uses of qualifiers.
+#[derive(Clone, Copy)]
+enum Call {
+    Put(&'static [u8]),
+    Remove(Kind, &'static [u8]),
+    Choose(&'static [u8], &'static [&'static [u8]]),
+    Named(&'static [u8]),
+    Report,
+}
 
 const CORNER: &[u8] = b"Corner";
 
@@ -139,6 +150,56 @@ static LOOKS: [(Call, Answer); 27] = [
     (Named(b"mall.x"), Unsatisfied),
     (Choose(MALL, PLAIN), One(MALL)),
 ];
+
+/// Makes a call.
+fn make(alloc: Global, container: &mut Container, call: Call) -> Result<Answered, Error> {
+    match call {
+        Put(text) => nothing(container.put(text)),
+        Remove(kind, text) => nothing(container.remove(kind, name(text)?)),
+        Choose(text, uses) => choose(alloc, container, text, uses),
+        Named(text) => chosen(container.named(name(text)?)),
+        Report => report(alloc, container),
+    }
+}
+
+fn nothing(outcome: Result<(), Error>) -> Result<Answered, Error> {
+    match outcome {
+        Ok(()) => Ok(Answered::Nothing),
+        Err(error) => Err(error),
+    }
+}
+
+fn chosen(outcome: Result<Choice, AllocError>) -> Result<Answered, Error> {
+    match outcome {
+        Ok(choice) => Ok(Answered::Choice(choice)),
+        Err(_) => Err(Error::OutOfMemory),
+    }
+}
+
+fn choose(
+    alloc: Global,
+    container: &mut Container,
+    text: &[u8],
+    uses: &[&[u8]],
+) -> Result<Answered, Error> {
+    let quals = quals(alloc, uses)?;
+    chosen(container.choose(name(text)?, &quals))
+}
+
+fn report(alloc: Global, container: &mut Container) -> Result<Answered, Error> {
+    let faults = container.report()?;
+    Ok(Answered::Faults(lines_of(alloc, faults.as_slice())?))
+}
+
+/// The texts of some faults, each on a line.
+fn lines_of(alloc: Global, faults: &[Fault]) -> Result<Vec<u8>, AllocError> {
+    let mut text = Vec::new(alloc);
+    for fault in faults {
+        fault.push_text(&mut text)?;
+        text.push(b'\n')?;
+    }
+    Ok(text)
+}
 
 /// Makes the calls, and tells whether one got no memory. Where one gets none, the state is as before it, and the call
 /// is made again.

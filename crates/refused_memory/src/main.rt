@@ -4,10 +4,12 @@
 //! The number on the standard input is how many allocations come before the first of the calls.
 #![tactic(auto)]
 
+mod answers;
 mod bean_questions;
 mod calls;
 mod questions;
 mod scripts;
+mod texts;
 
 use calls::make_calls;
 use questions::ask_questions;

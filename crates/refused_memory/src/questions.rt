@@ -1,10 +1,12 @@
 //! Questions about types, qualifiers, stereotypes and beans, of which any one allocation may be refused. They change
 //! nothing.
 use crate::Difference;
-use crate::bean_questions::{BeanQuestion, Deployed};
-use cdi_fixtures::{Answer, are_names, name, names};
+use crate::answers::Answer;
+use crate::bean_questions::{BeanQuestion, Deployed, Recorded, Told};
+use crate::texts::{are_names, names};
+use cdi_fixtures::name;
 use cdi_match::{closure, extends_itself, fill_members, inherits_itself, is_type, stereotypes};
-use cdi_model::{Arguments, Error, Ident, Members, Qual, Refusal, Scope};
+use cdi_model::{Arguments, Decls, Error, Ident, Members, Qual, Refusal, Scope};
 use cdi_text::read_qualifier;
 use std::alloc::Global;
 
@@ -37,8 +39,9 @@ use Question::{
 };
 
 /// What is declared: types of which two extend each other, a qualifier, stereotypes of which two declare each other,
-/// and beans of which two are alternatives of one priority and one name, and one has injection points and a product.
-static TEXTS: [&[u8]; 10] = [
+/// and beans of which two are alternatives of one priority and one name, one has injection points and a product, and one
+/// has products with scopes.
+static TEXTS: [&[u8]; 12] = [
     b"kind=\"type\"\nname=\"Corner\"\nextends=\"Place\"\nimplements=[\"Shop\",\"Stop\"]\n",
     b"kind=\"type\"\nname=\"Place\"\nextends=\"Corner\"\n",
     b"kind=\"type\"\nname=\"Shop\"\nform=\"interface\"\nimplements=[\"Stand\"]\n",
@@ -49,6 +52,17 @@ static TEXTS: [&[u8]; 10] = [
     b"kind=\"bean\"\nname=\"Place\"\ntypes=[\"Shop\",\"Stand\"]\nnamed=\"clerk\"\nalternative=true\npriority=2\n",
     b"kind=\"bean\"\nname=\"Inn\"\nstereotypes=[\"Moon\"]\n",
     b"kind=\"bean\"\nname=\"Mill\"\ntypes=[]\npoints=[{name=\"p\",type=\"Shop\",qualifiers=[\"Rank(m=1)\"]},{name=\"q\",type=\"Inn\"}]\nproducers=[{name=\"flour\",type=\"Flour\",qualifiers=[\"Rank(n=1)\"],body=\"zero\",params=[{name=\"r\",type=\"Inn\"}]}]\ndisposers=[{name=\"sweep\",type=\"Flour\",qualifiers=[\"Any\"],body=\"unit\"}]\n",
+    b"kind=\"stereotype\"\nname=\"Calm\"\nscope=\"application\"\n",
+    br#"kind="bean"
+name="Zoo"
+types=[]
+scope="application"
+stereotypes=["Sun"]
+producers=[
+  {name="yard",type="Yard",scope="request",body="zero"},
+  {name="gate",type="Gate",stereotypes=["Sun","Calm"],body="zero"},
+]
+"#,
 ];
 
 static QUESTIONS: [Question; 30] = [
@@ -73,35 +87,49 @@ static QUESTIONS: [Question; 30] = [
     Fill(b"Plain(n=3)", &[(b"n", 3)]),
     Stereotypes(&[b"Sun"], &[b"Moon", b"Star", b"Sun"]),
     Stereotypes(&[b"Mall", b"Moon"], &[b"Mall", b"Moon", b"Star", b"Sun"]),
-    OfBeans(Beans(&[b"Corner", b"Place", b"Inn", b"Mill", b"Mill"])),
+    OfBeans(Beans(&[
+        Told(b"Corner", b"", Scope::Request, b""),
+        Told(b"Place", b"", Scope::Dependent, b""),
+        Told(b"Inn", b"", Scope::Request, b""),
+        Told(b"Mill", b"", Scope::Dependent, b""),
+        Told(b"Mill", b"flour", Scope::Dependent, b"sweep"),
+        // The scope that a bean declares goes before that of a stereotype.
+        Told(b"Zoo", b"", Scope::Application, b""),
+        Told(b"Zoo", b"yard", Scope::Request, b""),
+        // Two stereotypes give two scopes.
+        Told(b"Zoo", b"gate", Scope::Dependent, b""),
+    ])),
     OfBeans(Record(
         b"Mill",
-        &[b"Object"],
-        &[b"Any", b"Default"],
-        Scope::Dependent,
-        true,
+        Recorded(&[b"Object"], &[b"Any", b"Default"], Scope::Dependent, true),
     )),
     OfBeans(Choose(b"Flour", &[b"Rank(n=1)"], Answer::One(b"Mill"))),
     OfBeans(Record(
         b"Corner",
-        &[b"Corner", b"Object", b"Place", b"Shop", b"Stand", b"Stop"],
-        &[b"Any", b"Named", b"Rank"],
-        Scope::Request,
-        true,
+        Recorded(
+            &[b"Corner", b"Object", b"Place", b"Shop", b"Stand", b"Stop"],
+            &[b"Any", b"Named", b"Rank"],
+            Scope::Request,
+            true,
+        ),
     )),
     OfBeans(Record(
         b"Place",
-        &[b"Object", b"Shop", b"Stand"],
-        &[b"Any", b"Default", b"Named"],
-        Scope::Dependent,
-        true,
+        Recorded(
+            &[b"Object", b"Shop", b"Stand"],
+            &[b"Any", b"Default", b"Named"],
+            Scope::Dependent,
+            true,
+        ),
     )),
     OfBeans(Record(
         b"Inn",
-        &[b"Inn", b"Object"],
-        &[b"Any", b"Default"],
-        Scope::Request,
-        false,
+        Recorded(
+            &[b"Inn", b"Object"],
+            &[b"Any", b"Default"],
+            Scope::Request,
+            false,
+        ),
     )),
     OfBeans(Choose(b"Shop", &[], Answer::One(b"Place"))),
     OfBeans(Choose(
@@ -112,7 +140,11 @@ static QUESTIONS: [Question; 30] = [
     OfBeans(Choose(b"Corner", &[b"Rank(m=1,n=2)"], Answer::One(b"Corner"))),
     OfBeans(ChooseName(b"clerk", Answer::Ambiguous(&[b"Corner", b"Place"]))),
     OfBeans(ChooseName(b"inn", Answer::Unsatisfied)),
-    OfBeans(Evaluate),
+    OfBeans(Evaluate(&[
+        Answer::One(b"Corner"),
+        Answer::Unsatisfied,
+        Answer::Unsatisfied,
+    ])),
 ];
 
 /// Asks the questions, and tells whether one got no memory. Where one gets none, it is asked again.
@@ -143,36 +175,63 @@ pub fn ask_questions(alloc: Global) -> Result<bool, Difference> {
 fn ask(alloc: Global, deployed: &Deployed, question: Question) -> Result<bool, Error> {
     let decls = &deployed.decls;
     match question {
-        Closure(text, wanted) => {
-            let types = closure(alloc, decls, name(text)?)?;
-            Ok(are_names(types.as_slice(), wanted))
-        }
+        Closure(text, wanted) => has_types(alloc, decls, text, wanted),
         IsType(text, other, wanted) => {
             Ok(is_type(alloc, decls, name(text)?, name(other)?)? == wanted)
         }
         ExtendsItself(text, wanted) => Ok(extends_itself(alloc, decls, name(text)?)? == wanted),
         InheritsItself(text, wanted) => Ok(inherits_itself(alloc, decls, name(text)?)? == wanted),
-        Read(text, wanted, members) => {
-            let qual = read_qualifier(alloc, text)?;
-            Ok(qual.name.as_bytes() == wanted && writes(&qual, members))
-        }
-        BadUse(text, refusal) => match read_qualifier(alloc, text) {
-            Err(Error::OutOfMemory) => Err(Error::OutOfMemory),
-            Err(Error::Refused(found)) => Ok(found == refusal),
-            Ok(_) => Ok(false),
-        },
-        Fill(text, wanted) => {
-            let qual = read_qualifier(alloc, text)?;
-            let members = fill_members(alloc, decls, &qual)?;
-            Ok(are_members(&members, wanted))
-        }
-        Stereotypes(texts, wanted) => {
-            let declared = names(alloc, texts)?;
-            let found = stereotypes(alloc, decls, declared.as_slice())?;
-            Ok(are_names(found.as_slice(), wanted))
-        }
+        Read(text, wanted, members) => reads(alloc, text, wanted, members),
+        BadUse(text, refusal) => refuses(alloc, text, refusal),
+        Fill(text, wanted) => fills(alloc, decls, text, wanted),
+        Stereotypes(texts, wanted) => has_stereotypes(alloc, decls, texts, wanted),
         OfBeans(question) => deployed.answers(alloc, question),
     }
+}
+
+fn has_types(alloc: Global, decls: &Decls, text: &[u8], wanted: &[&[u8]]) -> Result<bool, Error> {
+    let types = closure(alloc, decls, name(text)?)?;
+    Ok(are_names(types.as_slice(), wanted))
+}
+
+fn reads(
+    alloc: Global,
+    text: &[u8],
+    wanted: &[u8],
+    members: &[(&[u8], i64)],
+) -> Result<bool, Error> {
+    let qual = read_qualifier(alloc, text)?;
+    Ok(qual.name.as_bytes() == wanted && writes(&qual, members))
+}
+
+fn refuses(alloc: Global, text: &[u8], refusal: Refusal) -> Result<bool, Error> {
+    match read_qualifier(alloc, text) {
+        Err(Error::OutOfMemory) => Err(Error::OutOfMemory),
+        Err(Error::Refused(found)) => Ok(found == refusal),
+        Ok(_) => Ok(false),
+    }
+}
+
+fn fills(
+    alloc: Global,
+    decls: &Decls,
+    text: &[u8],
+    wanted: &[(&[u8], i64)],
+) -> Result<bool, Error> {
+    let qual = read_qualifier(alloc, text)?;
+    let members = fill_members(alloc, decls, &qual)?;
+    Ok(are_members(&members, wanted))
+}
+
+fn has_stereotypes(
+    alloc: Global,
+    decls: &Decls,
+    texts: &[&[u8]],
+    wanted: &[&[u8]],
+) -> Result<bool, Error> {
+    let declared = names(alloc, texts)?;
+    let found = stereotypes(alloc, decls, declared.as_slice())?;
+    Ok(are_names(found.as_slice(), wanted))
 }
 
 fn writes(qual: &Qual, wanted: &[(&[u8], i64)]) -> bool {

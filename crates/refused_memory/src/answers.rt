@@ -1,18 +1,6 @@
-//! Calls of a container, and their answers.
-use crate::texts::{name, quals};
-use cdi_container::{BeanId, Choice, Container, Fault};
-use cdi_model::{Error, Kind, Refusal};
-use std::alloc::{AllocError, Global};
-
-/// A call of a container. A type is chosen with uses of qualifiers.
-#[derive(Clone, Copy)]
-pub enum Call {
-    Put(&'static [u8]),
-    Remove(Kind, &'static [u8]),
-    Choose(&'static [u8], &'static [&'static [u8]]),
-    Named(&'static [u8]),
-    Report,
-}
+//! Answers, and what they are to be.
+use cdi_container::{BeanId, Choice};
+use cdi_model::{Error, Refusal};
 
 /// What a call is to answer. Beans are given by the names of their classes, and faults by their texts, each on a line.
 #[derive(Clone, Copy)]
@@ -32,34 +20,6 @@ pub enum Answered {
     Choice(Choice),
     /// The texts of faults, each on a line.
     Faults(Vec<u8>),
-}
-
-/// Makes a call.
-pub fn make(alloc: Global, container: &mut Container, call: Call) -> Result<Answered, Error> {
-    match call {
-        Call::Put(text) => container.put(text)?,
-        Call::Remove(kind, text) => container.remove(kind, name(text)?)?,
-        Call::Choose(text, uses) => {
-            let quals = quals(alloc, uses)?;
-            return Ok(Answered::Choice(container.choose(name(text)?, &quals)?));
-        }
-        Call::Named(text) => return Ok(Answered::Choice(container.named(name(text)?)?)),
-        Call::Report => {
-            let faults = container.report()?;
-            return Ok(Answered::Faults(lines_of(alloc, faults.as_slice())?));
-        }
-    }
-    Ok(Answered::Nothing)
-}
-
-/// The texts of some faults, each on a line.
-pub fn lines_of(alloc: Global, faults: &[Fault]) -> Result<Vec<u8>, AllocError> {
-    let mut text = Vec::new(alloc);
-    for fault in faults {
-        fault.push_text(&mut text)?;
-        text.push(b'\n')?;
-    }
-    Ok(text)
 }
 
 /// Whether a call answered what it is to answer.
