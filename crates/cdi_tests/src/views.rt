@@ -1,36 +1,50 @@
 //! Plain views over the declarations of worked rows.
-use cdi_effective::beans;
+use cdi_effective::{BeanId, beans};
+use cdi_faults::{Code, Fault};
 use cdi_fixtures::{declared, name, quals};
 use cdi_model::Error;
 use cdi_observe::{PlainView, View};
 use cdi_resolve::Choice;
-use cdi_validate::{Fault, faults};
+use cdi_validate::faults;
 use std::alloc::{AllocError, Global};
 use std::test::Fail;
 
-/// A type, uses of qualifiers, and the class of the bean that is right, if one is.
+/// Which beans are right, by their classes.
 #[derive(Clone, Copy)]
-struct Asked(
-    &'static [u8],
-    &'static [&'static [u8]],
-    Option<&'static [u8]>,
-);
+enum Right {
+    One(&'static [u8]),
+    Nobody,
+    Several(&'static [&'static [u8]]),
+}
 
-/// Whether a choice is the one bean of a class, or there is none where no class is wanted.
-fn is_choice(choice: &Choice, wanted: Option<&[u8]>) -> bool {
-    match (choice, wanted) {
-        (Choice::One(bean), Some(class)) => bean.class.as_bytes() == class,
-        (Choice::Unsatisfied, None) => true,
+/// A type, uses of qualifiers, and which beans are right.
+#[derive(Clone, Copy)]
+struct Asked(&'static [u8], &'static [&'static [u8]], Right);
+
+fn is_choice(choice: &Choice, right: Right) -> bool {
+    match (choice, right) {
+        (Choice::One(bean), Right::One(class)) => bean.class.as_bytes() == class,
+        (Choice::Unsatisfied, Right::Nobody) => true,
+        (Choice::Ambiguous(beans), Right::Several(classes)) => are_of(beans.as_slice(), classes),
         _ => false,
     }
 }
 
+/// Whether beans are of these classes, in this order.
+fn are_of(beans: &[BeanId], classes: &[&[u8]]) -> bool {
+    beans.len() == classes.len()
+        && beans
+            .iter()
+            .zip(classes.iter())
+            .all(|(bean, class)| bean.class.as_bytes() == *class)
+}
+
 /// Whether a view gives the answer of a question.
 fn answers<V: View>(alloc: Global, view: &mut V, asked: &Asked) -> Result<bool, Error> {
-    let Asked(text, uses, wanted) = asked;
+    let Asked(text, uses, right) = asked;
     let quals = quals(alloc, uses)?;
     let choice = view.choose(alloc, name(text)?, &quals)?;
-    Ok(is_choice(&choice, *wanted))
+    Ok(is_choice(&choice, *right))
 }
 
 /// A bean of an interface.
@@ -41,10 +55,10 @@ static SHOP: [&[u8]; 3] = [
 ];
 
 static OF_SHOP: [Asked; 4] = [
-    Asked(b"Corner", &[], Some(b"Corner")),
-    Asked(b"Shop", &[], Some(b"Corner")),
-    Asked(b"Object", &[], Some(b"Corner")),
-    Asked(b"Mall", &[], None),
+    Asked(b"Corner", &[], Right::One(b"Corner")),
+    Asked(b"Shop", &[], Right::One(b"Corner")),
+    Asked(b"Object", &[], Right::One(b"Corner")),
+    Asked(b"Mall", &[], Right::Nobody),
 ];
 
 #[test]
@@ -59,27 +73,52 @@ fn a_plain_view_of_one_shop(rt: HostRuntime) -> Result<(), Fail> {
     Ok(())
 }
 
-/// The row goes on: a second bean, which at last is an alternative with a priority.
-static SHOPS: [&[u8]; 6] = [
+/// The row goes on: a second bean.
+static SHOPS: [&[u8]; 5] = [
     b"kind=\"type\"\nname=\"Shop\"\nform=\"interface\"\n",
     b"kind=\"type\"\nname=\"Corner\"\nimplements=[\"Shop\"]\n",
     b"kind=\"bean\"\nname=\"Corner\"\n",
     b"kind=\"type\"\nname=\"Market\"\nimplements=[\"Shop\"]\n",
     b"kind=\"bean\"\nname=\"Market\"\n",
-    b"kind=\"bean\"\nname=\"Market\"\nalternative=true\npriority=4\n",
 ];
 
 static OF_SHOPS: [Asked; 2] = [
-    Asked(b"Shop", &[], Some(b"Market")),
-    Asked(b"Corner", &[], Some(b"Corner")),
+    Asked(b"Shop", &[], Right::Several(&[b"Corner", b"Market"])),
+    Asked(b"Market", &[], Right::One(b"Market")),
 ];
 
 #[test]
-fn a_plain_view_of_an_alternative(rt: HostRuntime) -> Result<(), Fail> {
+fn a_plain_view_of_two_shops(rt: HostRuntime) -> Result<(), Fail> {
     let decls = declared(rt.alloc(), &SHOPS)?;
     let list = beans(rt.alloc(), &decls)?;
     let mut view = PlainView::new(&decls, list.as_slice());
     for asked in &OF_SHOPS {
+        let is_right = answers(rt.alloc(), &mut view, asked)?;
+        assert!(rt; is_right, "{:?}", asked.0);
+    }
+    Ok(())
+}
+
+/// At last the second bean is an alternative with a priority.
+static WITH_ALTERNATIVE: [&[u8]; 5] = [
+    b"kind=\"type\"\nname=\"Shop\"\nform=\"interface\"\n",
+    b"kind=\"type\"\nname=\"Corner\"\nimplements=[\"Shop\"]\n",
+    b"kind=\"bean\"\nname=\"Corner\"\n",
+    b"kind=\"type\"\nname=\"Market\"\nimplements=[\"Shop\"]\n",
+    b"kind=\"bean\"\nname=\"Market\"\nalternative=true\npriority=4\n",
+];
+
+static OF_ALTERNATIVE: [Asked; 2] = [
+    Asked(b"Shop", &[], Right::One(b"Market")),
+    Asked(b"Corner", &[], Right::One(b"Corner")),
+];
+
+#[test]
+fn a_plain_view_of_an_alternative(rt: HostRuntime) -> Result<(), Fail> {
+    let decls = declared(rt.alloc(), &WITH_ALTERNATIVE)?;
+    let list = beans(rt.alloc(), &decls)?;
+    let mut view = PlainView::new(&decls, list.as_slice());
+    for asked in &OF_ALTERNATIVE {
         let is_right = answers(rt.alloc(), &mut view, asked)?;
         assert!(rt; is_right, "{:?}", asked.0);
     }
@@ -146,4 +185,31 @@ fn a_plain_view_has_faults(rt: HostRuntime) -> Result<(), Fail> {
     let is_right = text.as_slice() == FAULTS;
     assert!(rt; is_right, "{:?}", str::from_utf8(text.as_slice()));
     Ok(())
+}
+
+/// The same declarations have the same faults, and one of each code that begins a line of their texts.
+#[test]
+fn faults_compare_and_tell_their_codes(rt: HostRuntime) -> Result<(), Fail> {
+    let decls = declared(rt.alloc(), &FAULTY)?;
+    let list = beans(rt.alloc(), &decls)?;
+    let found = faults(rt.alloc(), &mut PlainView::new(&decls, list.as_slice()))?;
+    let again = faults(rt.alloc(), &mut PlainView::new(&decls, list.as_slice()))?;
+    assert!(rt; found.as_slice() == again.as_slice());
+    for code in Code::all() {
+        let has_it = has_code(found.as_slice(), code);
+        let text = format!(in rt.alloc(); "{code}")?;
+        assert!(rt; has_it == has_line(text.as_bytes()), "{code}");
+    }
+    Ok(())
+}
+
+fn has_code(faults: &[Fault], code: Code) -> bool {
+    faults.iter().any(|fault| fault.code() == code)
+}
+
+/// Whether a line of the faults begins with a text.
+fn has_line(code: &[u8]) -> bool {
+    FAULTS
+        .split(|byte| *byte == b'\n')
+        .any(|line| line.starts_with(code))
 }
