@@ -1,6 +1,7 @@
 //! Lists of declarations and of uses, and what a declaration names.
+use cdi_effective::reads_of;
 use cdi_fixtures::{declared, name, quals};
-use cdi_model::{Edit, Error, Kind, Mention, Refusal};
+use cdi_model::{Decl, DeclKey, Edit, Error, Kind, Mention, Refusal};
 use cdi_text::read_decl;
 use std::io::Write;
 use std::test::Fail;
@@ -83,6 +84,48 @@ fn a_bean_names_what_it_rests_on(rt: HostRuntime) -> Result<(), Fail> {
         push_mention(&mut text, &mention)?;
     }
     let is_right = text.as_slice() == NAMED;
+    assert!(rt; is_right, "{:?}", str::from_utf8(text.as_slice()));
+    Ok(())
+}
+
+/// A bean whose class has a type above it, with a stereotype that inherits another.
+static STAND: [&[u8]; 5] = [
+    b"kind=\"type\"\nname=\"Shop\"\nform=\"interface\"\n",
+    b"kind=\"type\"\nname=\"Stand\"\nimplements=[\"Shop\"]\n",
+    b"kind=\"stereotype\"\nname=\"Mock\"\nstereotypes=[\"Base\"]\n",
+    b"kind=\"stereotype\"\nname=\"Base\"\n",
+    b"kind=\"bean\"\nname=\"Stand\"\nstereotypes=[\"Mock\"]\nproducers=[{name=\"make\",type=\"Beer\",body=\"unit\"}]\n",
+];
+
+/// What its records rest on, each on a line.
+const READ: &[u8] = b"bean Stand
+type Object
+type Shop
+type Stand
+stereotype Base
+stereotype Mock
+type Beer
+type Object
+";
+
+/// Writes keys, each on a line.
+fn push_keys(text: &mut Vec<u8>, keys: &[DeclKey]) -> Result<(), Fail> {
+    for key in keys {
+        writeln!(text, "{} {}", key.kind, key.name)?;
+    }
+    Ok(())
+}
+
+#[test]
+fn records_rest_on_what_they_read(rt: HostRuntime) -> Result<(), Fail> {
+    let decls = declared(rt.alloc(), &STAND)?;
+    let Some(Decl::Bean(bean)) = decls.get(Kind::Bean, name(b"Stand")?) else {
+        return Err(Fail::new("no bean"));
+    };
+    let keys = reads_of(rt.alloc(), &decls, bean)?;
+    let mut text = Vec::new(rt.alloc());
+    push_keys(&mut text, keys.as_slice())?;
+    let is_right = text.as_slice() == READ;
     assert!(rt; is_right, "{:?}", str::from_utf8(text.as_slice()));
     Ok(())
 }
