@@ -29,13 +29,15 @@ listed_types a = unwrap_or a.types []
 
 -- what is declared of a bean, or of the product of a producer method
 abbrev pub of_attributes : Option (List ℕ) → Attributes → List Mention
-of_attributes producer a = map (TypeIn (places.Listed producer)) (listed_types a) ++ map UseOf a.qualifiers ++ map StereotypeOf a.stereotypes
+of_attributes producer a = map (TypeIn (places.Listed producer)) (listed_types a) ++ map UseOf a.qualifiers
+    ++ map StereotypeOf a.stereotypes
 
 abbrev pub of_point : Option (List ℕ) → PointDecl → List Mention
 of_point producer p = PointOf producer p ∷ TypeIn places.Required p.required_type ∷ map UseOf p.qualifiers
 
 abbrev pub of_producer : ProducerDecl → List Mention
-of_producer p = TypeIn places.Produced p.product_type ∷ of_attributes (Some p.name) p.attributes ++ flat_map (of_point (Some p.name)) p.params
+of_producer p = TypeIn places.Produced p.product_type ∷ of_attributes (Some p.name) p.attributes
+    ++ flat_map (of_point (Some p.name)) p.params
 
 abbrev pub of_disposer : DisposerDecl → List Mention
 of_disposer s = TypeIn places.Disposed s.product_type ∷ map UseOf s.qualifiers

@@ -85,7 +85,11 @@ evaluated-plain ds (key ∷ keys) kept plain = ap (evaluated ds keys) (after_key
 
 -- a view that keeps answers, with some more keys that it knows, each of which was counted once
 abbrev with_all : List Key → Kept → Kept
-with_all keys kept = record { keeps = true; knows = λ key. kept.knows key || has_key keys key; work = iterate with_one (unknown kept.knows keys) kept.work }
+with_all keys kept = record {
+  keeps = true;
+  knows = λ key. kept.knows key || has_key keys key;
+  work = iterate with_one (unknown kept.knows keys) kept.work;
+}
 
 -- one more key, which is wanted
 abbrev with_one_key : Key → Kept → Kept
@@ -95,7 +99,11 @@ after_wanted : (ds : List Decl) (k : Key) (kept : Kept) → kept.keeps ≡ true 
     → after_key ds k kept ≡ with_one_key k kept
 unfolding after_key
 after_wanted ds k kept keeps wants =
-    rw keeps (ap (λ b. record { keeps = true; knows = λ key. kept.knows key || (b && same_key k key); work = work_with kept.knows k kept.work }) wants)
+    rw keeps (ap (λ b. record {
+      keeps = true;
+      knows = λ key. kept.knows key || (b && same_key k key);
+      work = work_with kept.knows k kept.work;
+    }) wants)
 
 -- a key apart from all of some keys leaves how many of these are unknown
 unknown-apart : (knows : Key → Bool) (k : Key) (keys : List Key) → AllByRecursion (λ l. same_key k l ≡ false) keys
@@ -103,11 +111,14 @@ unknown-apart : (knows : Key → Bool) (k : Key) (keys : List Key) → AllByRecu
 unknown-apart knows k [] apart = refl
 unknown-apart knows k (l ∷ keys) apart =
     let same : (knows l || same_key k l) ≡ knows l = ap (λ b. knows l || b) apart.0 ∙ or-false (knows l) in
-    ap (λ b. length (cond (not b) (l ∷ filter (λ key. not (knows key || same_key k key)) keys) (filter (λ key. not (knows key || same_key k key)) keys))) same
+    ap (λ b. length (cond (not b) (l ∷ filter (λ key. not (knows key || same_key k key)) keys)
+    (filter (λ key. not (knows key || same_key k key)) keys))) same
     ∙ by (knows l) (unknown-apart knows k keys apart.1)
   where
     by : (b : Bool) → unknown (λ key. knows key || same_key k key) keys ≡ unknown knows keys
-        → length (cond (not b) (l ∷ filter (λ key. not (knows key || same_key k key)) keys) (filter (λ key. not (knows key || same_key k key)) keys)) ≡ length (cond (not b) (l ∷ filter (λ key. not (knows key)) keys) (filter (λ key. not (knows key)) keys))
+        → length (cond (not b) (l ∷ filter (λ key. not (knows key || same_key k key)) keys)
+        (filter (λ key. not (knows key || same_key k key)) keys))
+        ≡ length (cond (not b) (l ∷ filter (λ key. not (knows key)) keys) (filter (λ key. not (knows key)) keys))
     by true rest = rest
     by false rest = ap suc rest
 
@@ -121,7 +132,11 @@ evaluated-distinct : (ds : List Decl) (keys : List Key) (kept : Kept) → kept.k
     → AllByRecursion (λ key. is_wanted ds key ≡ true) keys → IsDistinct same_key keys
     → evaluated ds keys kept ≡ with_all keys kept
 unfolding IsDistinct
-evaluated-distinct ds [] kept keeps all apart = λ j. record { keeps = keeps j; knows = λ key. sym (or-false (kept.knows key)) j; work = kept.work }
+evaluated-distinct ds [] kept keeps all apart = λ j. record {
+  keeps = keeps j;
+  knows = λ key. sym (or-false (kept.knows key)) j;
+  work = kept.work;
+}
 evaluated-distinct ds (k ∷ keys) kept keeps all apart =
     ap (evaluated ds keys) (after_wanted ds k kept keeps all.0)
     ∙ evaluated-distinct ds keys (with_one_key k kept) refl all.1 apart.1
@@ -144,7 +159,11 @@ pub knows_wanted : KnowsWanted
 knows_wanted ds kept keeps =
     evaluated-distinct ds (wanted ds) kept keeps (each-among (λ key. is_wanted ds key
         ≡ true) (wanted ds) (λ key h. sym (has-wanted ds key) ∙ h)) (wanted-distinct ds)
-    ∙ (λ j. record { keeps = true; knows = λ key. kept.knows key || has-wanted ds key j; work = iterate with_one (unknown kept.knows (wanted ds)) kept.work })
+    ∙ (λ j. record {
+      keeps = true;
+      knows = λ key. kept.knows key || has-wanted ds key j;
+      work = iterate with_one (unknown kept.knows (wanted ds)) kept.work;
+    })
 
 -- after all wanted keys were evaluated each of them is known to a view that keeps answers
 pub wanted_known : (ds : List Decl) (kept : Kept) → kept.keeps ≡ true → (key : Key) → is_wanted ds key ≡ true

@@ -61,8 +61,13 @@ const OTHER_STEREOTYPE: &[u8] = b"kind=\"stereotype\"\nname=\"Action\"\nnamed=tr
 const ALTERNATIVE: &[u8] =
     b"kind=\"bean\"\nname=\"Stand\"\ntypes=[\"Stand\",\"Booth\"]\nstereotypes=[\"Mock\",\"Ghost\"]\npriority=-1\n";
 
-const BAD_POINTS: &[u8] =
-    b"kind=\"bean\"\nname=\"Inn\"\nnamed=\"mall.x\"\npoints=[{name=\"p\",type=\"Shop\"},{name=\"q\",type=\"Object\"}]\nproducers=[{name=\"make\",type=\"Beer\",body=\"unit\",params=[{name=\"r\",type=\"Rum\"}]}]\ndisposers=[{name=\"drop\",type=\"Wine\",body=\"unit\"}]\n";
+const BAD_POINTS: &[u8] = br#"kind="bean"
+name="Inn"
+named="mall.x"
+points=[{name="p",type="Shop"},{name="q",type="Object"}]
+producers=[{name="make",type="Beer",body="unit",params=[{name="r",type="Rum"}]}]
+disposers=[{name="drop",type="Wine",body="unit"}]
+"#;
 
 /// The faults of what is declared at the end.
 const FAULTS: &[u8] = b"F01 type Corner type Place

@@ -51,7 +51,13 @@ static TEXTS: [&[u8]; 12] = [
     b"kind=\"bean\"\nname=\"Corner\"\nqualifiers=[\"Rank(m=1)\"]\nnamed=\"clerk\"\nstereotypes=[\"Sun\"]\npriority=2\n",
     b"kind=\"bean\"\nname=\"Place\"\ntypes=[\"Shop\",\"Stand\"]\nnamed=\"clerk\"\nalternative=true\npriority=2\n",
     b"kind=\"bean\"\nname=\"Inn\"\nstereotypes=[\"Moon\"]\n",
-    b"kind=\"bean\"\nname=\"Mill\"\ntypes=[]\npoints=[{name=\"p\",type=\"Shop\",qualifiers=[\"Rank(m=1)\"]},{name=\"q\",type=\"Inn\"}]\nproducers=[{name=\"flour\",type=\"Flour\",qualifiers=[\"Rank(n=1)\"],body=\"zero\",params=[{name=\"r\",type=\"Inn\"}]}]\ndisposers=[{name=\"sweep\",type=\"Flour\",qualifiers=[\"Any\"],body=\"unit\"}]\n",
+    br#"kind="bean"
+name="Mill"
+types=[]
+points=[{name="p",type="Shop",qualifiers=["Rank(m=1)"]},{name="q",type="Inn"}]
+producers=[{name="flour",type="Flour",qualifiers=["Rank(n=1)"],body="zero",params=[{name="r",type="Inn"}]}]
+disposers=[{name="sweep",type="Flour",qualifiers=["Any"],body="unit"}]
+"#,
     b"kind=\"stereotype\"\nname=\"Calm\"\nscope=\"application\"\n",
     br#"kind="bean"
 name="Zoo"
