@@ -1,6 +1,9 @@
-//! Tests of scripts that no page of `worked_rows` can hold, and of the devices that they come from and are answered to.
+//! Tests of scripts that no page of `worked_rows` can hold, of the devices that they come from and are answered to, and of a
+//! container's calls.
 #![tactic(auto)]
 
+#[cfg(test)]
+mod calls;
 #[cfg(test)]
 mod devices;
 #[cfg(test)]
