@@ -158,7 +158,7 @@ each-among P (k ∷ keys) each = (
 pub knows_wanted : KnowsWanted
 knows_wanted ds kept keeps =
     evaluated-distinct ds (wanted ds) kept keeps (each-among (λ key. is_wanted ds key
-        ≡ true) (wanted ds) (λ key h. sym (has-wanted ds key) ∙ h)) (wanted-distinct ds)
+    ≡ true) (wanted ds) (λ key h. sym (has-wanted ds key) ∙ h)) (wanted-distinct ds)
     ∙ (λ j. record {
       keeps = true;
       knows = λ key. kept.knows key || has-wanted ds key j;
