@@ -8,11 +8,10 @@ ghost use Rattle.cdi_effective.specs.Beans.{beans};
 ghost use Rattle.cdi_resolve.specs.Choices.{chosen, chosen_by_name};
 ghost use Rattle.cdi_validate.specs.Faults.{faults};
 
-use cdi_effective::{Effective, beans};
 use cdi_faults::Fault;
 use cdi_model::{Decl, Decls, Error, Kind, Name, Quals, Refusal, Work};
 use cdi_observe::PlainView;
-use cdi_resolve::{Choice, choose, choose_name};
+use cdi_resolve::{BeanList, Choice, choose_name};
 use cdi_validate::faults;
 use std::alloc::{AllocError, Global};
 use std::marker::Model;
@@ -21,7 +20,7 @@ use std::marker::Model;
 #[derive(Drop)]
 pub(crate) struct Deployment {
     decls: Decls,
-    beans: Option<Vec<Effective>>,
+    beans: Option<BeanList>,
 }
 
 impl Model for Deployment {
@@ -33,7 +32,7 @@ impl Model for Deployment {
 
     ghost view = { λ d. d.decls };
 
-    ghost invariant = { λ d. IfSome d.beans (λ list. list.items ≡ bean_list d.decls) };
+    ghost invariant = { λ d. IfSome d.beans (λ list. list ≡ bean_list d.decls) };
 }
 
 impl Deployment {
@@ -87,7 +86,7 @@ impl Deployment {
         ensures err { OnErr result (work.new ≡ work.old) }
     {
         let list = self.take_beans(alloc)?;
-        let choice = choose(alloc, &self.decls, list.as_slice(), bean_type, quals, work);
+        let choice = list.choose(alloc, &self.decls, bean_type, quals, work);
         self.beans = Some(list);
         choice
     }
@@ -110,19 +109,19 @@ impl Deployment {
         ensures stays { self.new ≡ self.old }
     {
         let list = self.take_beans(alloc)?;
-        let found = faults(alloc, &mut PlainView::new(&self.decls, list.as_slice()));
+        let found = faults(alloc, &mut PlainView::new(&self.decls, &list));
         self.beans = Some(list);
         found
     }
 
     /// The bean list, which is made where it is not there, and is not kept.
-    fn take_beans(&mut self, alloc: Global) -> Result<Vec<Effective>, AllocError>
-        ensures list { IfOk result (λ list. list.items ≡ beans self.old) }
+    fn take_beans(&mut self, alloc: Global) -> Result<BeanList, AllocError>
+        ensures list { IfOk result (λ list. list ≡ beans self.old) }
         ensures stays { self.new ≡ self.old }
     {
         match self.beans.take() {
             Some(list) => Ok(list),
-            None => beans(alloc, &self.decls),
+            None => BeanList::of(alloc, &self.decls),
         }
     }
 }

@@ -9,7 +9,7 @@ ghost use Rattle.cdi_container.specs.Intake.{IsFresh};
 
 use crate::intake::Intake;
 use crate::runner::Runner;
-use cdi_devices::{Counted, RunFault, SCRIPT_LIMIT, read_some, write_out};
+use cdi_devices::{Counted, RunFault, SCRIPT_LIMIT, read_some, write_and_flush};
 use std::alloc::Global;
 use std::io::{Read, Write};
 
@@ -42,22 +42,6 @@ fn send<W: Write>(runner: &mut Runner, writer: &mut Counted<W>) -> Result<(), Ru
     write_and_flush(writer, runner.out.as_slice())?;
     runner.out.clear();
     Ok(())
-}
-
-/// Writes all the bytes, and flushes.
-fn write_and_flush<W: Write>(writer: &mut Counted<W>, bytes: &[u8]) -> Result<(), RunFault>
-    ensures ok { OnOk result (Appends (W.contents (inner_of writer.old)) (W.contents (inner_of writer.new)) bytes.now) }
-    ensures part { OnErr result (WritesPart W.contents writer.old writer.new bytes.now) }
-    ensures error { IfErr result (λ fault. fault ≡ RunFault.Write) }
-    ensures still { OnOk result (has_failed writer.new ≡ has_failed writer.old) }
-    ensures failed { OnErr result (has_failed writer.new ≡ true) }
-    ensures flushed { OnOk result (is_flushed writer.new ≡ true) }
-{
-    write_out(writer, bytes)?;
-    match writer.flush() {
-        Ok(()) => Ok(()),
-        Err(_) => Err(RunFault::Write),
-    }
 }
 
 /// Writes what is printed before the run ends for want of memory.

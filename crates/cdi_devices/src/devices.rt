@@ -1,7 +1,7 @@
 //! Reading up to the limit of a script, and writing to the end.
 ghost use Rattle.std.specs.Prelude.{◌≡◌, ℕ, ◌+◌, ◌-◌, ◌<◌, ◌≤◌, take, length, OnOk, OnErr, IfOk, IsErrOf, IfErr, false, true};
 ghost use Rattle.std.specs.Io.KnownBytes.{Appends, Consumes, IsAtEnd};
-ghost use Rattle.cdi_devices.specs.Counted.{inner_of, bytes_of, has_failed};
+ghost use Rattle.cdi_devices.specs.Counted.{inner_of, bytes_of, has_failed, is_flushed};
 ghost use Rattle.cdi_devices.specs.Devices.{Gives, ReadFails, WritesPart};
 ghost use Rattle.cdi_devices.specs.declared.devices.RunFault.TheVariants.{Memory};
 
@@ -85,4 +85,20 @@ pub fn write_out<W: Write>(writer: &mut Counted<W>, bytes: &[u8]) -> Result<(), 
         }
     }
     Ok(())
+}
+
+/// Writes all the bytes as `write_out` does, and flushes. It takes no memory.
+pub fn write_and_flush<W: Write>(writer: &mut Counted<W>, bytes: &[u8]) -> Result<(), RunFault>
+    ensures ok { OnOk result (Appends (W.contents (inner_of writer.old)) (W.contents (inner_of writer.new)) bytes.now) }
+    ensures part { OnErr result (WritesPart W.contents writer.old writer.new bytes.now) }
+    ensures error { IfErr result (λ fault. fault ≡ RunFault.Write) }
+    ensures still { OnOk result (has_failed writer.new ≡ has_failed writer.old) }
+    ensures failed { OnErr result (has_failed writer.new ≡ true) }
+    ensures flushed { OnOk result (is_flushed writer.new ≡ true) }
+{
+    write_out(writer, bytes)?;
+    match writer.flush() {
+        Ok(()) => Ok(()),
+        Err(_) => Err(RunFault::Write),
+    }
 }

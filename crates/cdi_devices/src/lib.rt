@@ -5,4 +5,4 @@ mod counted;
 mod devices;
 
 pub use counted::Counted;
-pub use devices::{RunFault, SCRIPT_LIMIT, read_some, write_out};
+pub use devices::{RunFault, SCRIPT_LIMIT, read_some, write_and_flush, write_out};

@@ -13,7 +13,8 @@ use Rattle.cdi_match.specs.Chain.{has}
 use Rattle.cdi_match.specs.Order.{in_order}
 use Rattle.cdi_match.proofs.OrderLemmas.{has-insert, in_order-rises}
 use Rattle.cdi_faults.specs.declared.fault.Subject.{Subject}
-use Rattle.cdi_faults.specs.FaultText.{text_of_subject, byte_order, by_text, in_text_order, SubjectsInOrder}
+use Rattle.cdi_model.specs.Bytes.{byte_order}
+use Rattle.cdi_faults.specs.FaultText.{text_of_subject, by_text, in_text_order, SubjectsInOrder}
 
 abbrev pub Entries : Type 0
 Entries = List (List ℕ × Subject)

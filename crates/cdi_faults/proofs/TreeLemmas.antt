@@ -3,7 +3,8 @@ use Rattle.std.proofs.Common.{◌≡◌, ℕ, ◌<◌, List, [], ◌∷◌, map,
 use Rattle.std.proofs.Common.{Vec, Global, refl, sym, ◌∙◌, ap}
 use Rattle.std.specs.BTreeMap.{insert_entry, values}
 use Rattle.cdi_faults.specs.declared.fault.Subject.{Subject}
-use Rattle.cdi_faults.specs.FaultText.{byte_order, by_text, in_text_order}
+use Rattle.cdi_model.specs.Bytes.{byte_order}
+use Rattle.cdi_faults.specs.FaultText.{by_text, in_text_order}
 use Rattle.cdi_faults.specs.TextTree.{TextTree, entries_in}
 
 abbrev Text : Type 0

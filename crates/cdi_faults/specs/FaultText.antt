@@ -2,10 +2,7 @@
 use Rattle.std.specs.Prelude.{◌≡◌, ℕ, List, [], ◌∷◌, ◌++◌, map, fold, codes, Option, Some, None}
 use Rattle.std.specs.BTreeMap.{insert_entry}
 use Rattle.std.specs.List.Sorted.{IsStrictlySortedBy}
-use Rattle.std.specs.Ordering.{nat_cmp}
-use Rattle.std.specs.declared.cmp.Ordering.{Ordering}
-use Rattle.std.specs.Cmp.Lexicographic.{slice_cmp}
-use Rattle.cdi_model.specs.Bytes.{space}
+use Rattle.cdi_model.specs.Bytes.{byte_order, space}
 use Rattle.cdi_model.specs.Decl.{word_of_kind}
 use Rattle.cdi_model.specs.UseText.{text_of_use}
 use Rattle.cdi_match.specs.Chain.{has}
@@ -75,9 +72,6 @@ abbrev pub text_of_fault : Fault → List ℕ
 text_of_fault fault = about (text_of_code (code_of fault)) (text_behind_code fault)
 
 -- ---- order
-
-abbrev pub byte_order : List ℕ → List ℕ → Ordering
-byte_order = slice_cmp nat_cmp
 
 -- subjects by their texts, in the byte order of these
 abbrev pub by_text : List Subject → List (List ℕ × Subject)

@@ -34,6 +34,7 @@ pub enum Code {
 
 impl Code {
     /// All codes, in their order.
+    #[tactic(auto, using(crate::proofs::CodeLemmas::codes_rise, crate::proofs::CodeLemmas::has_code))]
     pub fn all() -> [Code; 11]
         ensures value { result ≡ all_codes }
         ensures order { IsStrictlySortedBy code_order all_codes }

@@ -2,7 +2,8 @@
 ghost use Rattle.std.specs.Prelude.{◌≡◌, [], ◌++◌, Some, IfOk, OnOk, OnErr};
 ghost use Rattle.std.specs.BTreeMap.{insert_entry, values};
 ghost use Rattle.cdi_faults.specs.TextTree.{entries_in};
-ghost use Rattle.cdi_faults.specs.FaultText.{text_of_code, text_of_subject, text_of_fault, byte_order, by_text, in_text_order};
+ghost use Rattle.cdi_model.specs.Bytes.{byte_order};
+ghost use Rattle.cdi_faults.specs.FaultText.{text_of_code, text_of_subject, text_of_fault, by_text, in_text_order};
 ghost use Rattle.cdi_faults.specs.FaultText.{SubjectsInOrder};
 
 use crate::fault::{Code, Fault, Subject};

@@ -1,6 +1,7 @@
-//! How names and kinds print.
-use crate::decl::Kind;
+//! How names, kinds, uses of qualifiers, values and failures print.
+use crate::decl::{CallDecl, Kind};
 use crate::name::{Ident, Name};
+use crate::outcome::{Failure, Val};
 use crate::quals::{Arguments, Members, Qual, Quals};
 use std::fmt;
 
@@ -108,5 +109,53 @@ impl fmt::Debug for Qual {
 impl fmt::Debug for Quals {
     fn fmt<W: fmt::Write>(&self, f: &mut fmt::Formatter<W>) -> fmt::Result {
         fmt::Debug::fmt(self.as_slice(), f)
+    }
+}
+
+impl fmt::Display for CallDecl {
+    ghost use Rattle.std.specs.Prelude.{Some};
+    ghost use Rattle.cdi_model.specs.CallText.{text_of_call};
+
+    ghost output = { λ call. Some (text_of_call call) };
+
+    fn fmt<W: fmt::Write>(&self, f: &mut fmt::Formatter<W>) -> fmt::Result {
+        write!(f, "{}.{}", self.point, self.method)
+    }
+}
+
+/// `null`, or the whole number.
+impl fmt::Display for Val {
+    ghost use Rattle.std.specs.Prelude.{Some};
+    ghost use Rattle.cdi_model.specs.OutcomeText.{text_of_val};
+
+    ghost output = { λ val. Some (text_of_val val) };
+
+    fn fmt<W: fmt::Write>(&self, f: &mut fmt::Formatter<W>) -> fmt::Result {
+        match self {
+            Val::Null => f.write_str("null"),
+            Val::Int(number) => write!(f, "{number}"),
+        }
+    }
+}
+
+/// The word of the failure; for what a body failed with, `User(1)`.
+impl fmt::Display for Failure {
+    ghost use Rattle.std.specs.Prelude.{Some};
+    ghost use Rattle.cdi_model.specs.OutcomeText.{text_of_failure};
+
+    ghost output = { λ failure. Some (text_of_failure failure) };
+
+    fn fmt<W: fmt::Write>(&self, f: &mut fmt::Formatter<W>) -> fmt::Result {
+        match self {
+            Failure::NotActive => f.write_str("NotActive"),
+            Failure::Creating => f.write_str("Creating"),
+            Failure::Depth => f.write_str("Depth"),
+            Failure::Steps => f.write_str("Steps"),
+            Failure::Budget => f.write_str("Budget"),
+            Failure::IllegalProduct => f.write_str("IllegalProduct"),
+            Failure::NotConstructed => f.write_str("NotConstructed"),
+            Failure::Limit => f.write_str("Limit"),
+            Failure::User(number) => write!(f, "User({number})"),
+        }
     }
 }

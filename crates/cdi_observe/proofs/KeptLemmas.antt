@@ -4,11 +4,12 @@ use Rattle.std.proofs.Common.{◌∷◌, ◌++◌, length, take, get_or, refl, s
 use Rattle.std.proofs.Common.{Err}
 use Rattle.std.specs.Result.{OnErr}
 use Rattle.std.specs.Fn.{iterate}
-use Rattle.std.specs.List.{AllByRecursion, IsDistinct, filter}
+use Rattle.std.specs.List.{AllByRecursion, IsDistinct, filter, list_all}
 use Rattle.std.proofs.Math.Bool.{or_assoc, or-false}
-use Rattle.std.proofs.lemmas.Bool.{or_left, or_right, false≢true}
+use Rattle.std.proofs.lemmas.Bool.{and_parts, or_left, or_right, false≢true}
 use Rattle.std.proofs.lemmas.List.{take_more}
-use Rattle.std.proofs.lemmas.List.Sums.{fold-append}
+use Rattle.std.proofs.lemmas.List.Elements.{All-take}
+use Rattle.std.proofs.lemmas.List.Sums.{AllPass-from_list_all, fold-append, list_all-from_AllPass}
 use Rattle.cdi_model.specs.declared.decl.Decl.{Decl}
 use Rattle.cdi_model.specs.Work.{with_one}
 use Rattle.cdi_observe.specs.Keys.{Key, same_key, has_key}
@@ -80,6 +81,23 @@ pub evaluated-plain : (ds : List Decl) (keys : List Key) (kept : Kept) → kept.
 evaluated-plain ds [] kept plain = refl
 evaluated-plain ds (key ∷ keys) kept plain = ap (evaluated ds keys) (after_key-plain ds key kept plain)
     ∙ evaluated-plain ds keys kept plain
+
+-- ---- keys that are known
+
+evaluated-known : (ds : List Decl) (keys : List Key) (kept : Kept) → list_all kept.knows keys ≡ true → evaluated ds keys kept ≡ kept
+evaluated-known ds [] kept all = refl
+evaluated-known ds (key ∷ keys) kept all =
+    let parts = and_parts (kept.knows key) (list_all kept.knows keys) all in
+    ap (evaluated ds keys) (after_known ds key kept parts.0) ∙ evaluated-known ds keys kept parts.1
+
+-- where all keys are known the next one still is after those before it
+pub known-next : (ds : List Decl) (keys : List Key) (i : ℕ) (key : Key) (kept before : Kept) → i < length keys → key ≡ get_or keys i key
+    → before ≡ evaluated ds (take i keys) kept → list_all kept.knows keys ≡ true → before.knows key ≡ true
+known-next ds keys i key kept before lt at is all =
+    let each = AllPass-from_list_all kept.knows keys all in
+    ap (λ now. now.knows key) (is ∙ evaluated-known ds (take i keys) kept
+    (list_all-from_AllPass kept.knows (take i keys) (All-take (λ k. kept.knows k ≡ true) i keys each)))
+    ∙ ap kept.knows at ∙ each i key lt
 
 -- ---- the wanted keys
 

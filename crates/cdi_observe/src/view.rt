@@ -2,13 +2,14 @@
 ghost use Rattle.std.specs.Prelude.{◌≡◌, List, true, false, Option, None, IfOk, OnOk, OnErr};
 ghost use Rattle.cdi_model.specs.declared.decl.Decl.{Decl};
 ghost use Rattle.cdi_effective.specs.Beans.{beans as beans_of};
+ghost use Rattle.cdi_effective.specs.Records.{records_in};
 ghost use Rattle.cdi_resolve.specs.Choices.{chosen};
 ghost use Rattle.cdi_observe.specs.Keys.{choice_key};
 ghost use Rattle.cdi_observe.specs.Kept.{Kept, after_key};
 
 use cdi_effective::Effective;
 use cdi_model::{Decls, Name, Quals, Work};
-use cdi_resolve::{Choice, choose};
+use cdi_resolve::{BeanList, Choice};
 use std::alloc::{AllocError, Global};
 use std::marker::Model;
 
@@ -27,9 +28,10 @@ pub trait View {
     fn decls(&self) -> &Decls
         ensures { result.now ≡ list self.now };
 
-    /// Their beans, in order.
-    fn beans(&self) -> &[Effective]
-        ensures { result.now ≡ beans_of (list self.now) };
+    /// The records of the bean declaration of a class: its managed bean, and behind it its products in order. None where
+    /// no such bean is declared.
+    fn records(&self, class: Name) -> &[Effective]
+        ensures { result.now ≡ records_in (list self.now) class };
 
     /// The bean for a type and qualifiers (CDI 4.0, Performing typesafe resolution). Where the answer was not kept, a view
     /// that keeps answers counts one more, and keeps it if an injection point asks for it; an edit that is staged may be
@@ -51,7 +53,7 @@ pub trait View {
 #[derive(Drop)]
 pub struct PlainView<'a> {
     decls: &'a Decls,
-    beans: &'a [Effective],
+    beans: &'a BeanList,
 }
 
 impl<'a> Model for PlainView<'a> {
@@ -67,8 +69,8 @@ impl<'a> Model for PlainView<'a> {
 }
 
 impl<'a> PlainView<'a> {
-    /// The view over some declarations whose beans these are.
-    pub fn new(decls: &'a Decls, beans: &'a [Effective]) -> PlainView<'a>
+    /// The view over some declarations whose bean list this is.
+    pub fn new(decls: &'a Decls, beans: &'a BeanList) -> PlainView<'a>
         requires { beans.now ≡ beans_of decls.now }
         ensures { result ≡ decls.now }
     {
@@ -87,8 +89,8 @@ impl<'a> View for PlainView<'a> {
         self.decls
     }
 
-    fn beans(&self) -> &[Effective] {
-        self.beans
+    fn records(&self, class: Name) -> &[Effective] {
+        self.beans.records(class)
     }
 
     #[tactic(auto, unfolding(crate::specs::Kept::after_key))]
@@ -99,6 +101,7 @@ impl<'a> View for PlainView<'a> {
         quals: &Quals,
     ) -> Result<Choice, AllocError> {
         let mut work = Work::new();
-        choose(alloc, self.decls, self.beans, bean_type, quals, &mut work)
+        self.beans
+            .choose(alloc, self.decls, bean_type, quals, &mut work)
     }
 }

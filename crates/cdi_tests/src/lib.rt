@@ -2,8 +2,12 @@
 #![tactic(auto)]
 
 #[cfg(test)]
+mod choices;
+#[cfg(test)]
 mod lists;
 #[cfg(test)]
 mod parts;
+#[cfg(test)]
+mod seen;
 #[cfg(test)]
 mod views;

@@ -13,7 +13,7 @@ disposers = [{ name = "shut", type = "Yard", body = "zero" }]
 "#;
 
 fn is_producer(decl: &ProducerDecl, name: &[u8], is_static: bool, body: &[u8]) -> bool {
-    decl.name.as_bytes() == name && decl.is_static == is_static && decl.body.as_bytes() == body
+    decl.name.as_bytes() == name && decl.is_static == is_static && decl.part.body.as_bytes() == body
 }
 
 fn is_disposer(decl: &DisposerDecl, name: &[u8], body: &[u8]) -> bool {

@@ -1,12 +1,11 @@
 //! Plain views over the declarations of worked rows.
-use cdi_effective::{BeanId, beans};
 use cdi_faults::{Code, Fault};
-use cdi_fixtures::{declared, name, quals};
+use cdi_fixtures::{are_of, declared, lines_of, name, quals};
 use cdi_model::Error;
 use cdi_observe::{PlainView, View};
-use cdi_resolve::Choice;
+use cdi_resolve::{BeanList, Choice};
 use cdi_validate::faults;
-use std::alloc::{AllocError, Global};
+use std::alloc::Global;
 use std::test::Fail;
 
 /// Which beans are right, by their classes.
@@ -28,15 +27,6 @@ fn is_choice(choice: &Choice, right: Right) -> bool {
         (Choice::Ambiguous(beans), Right::Several(classes)) => are_of(beans.as_slice(), classes),
         _ => false,
     }
-}
-
-/// Whether beans are of these classes, in this order.
-fn are_of(beans: &[BeanId], classes: &[&[u8]]) -> bool {
-    beans.len() == classes.len()
-        && beans
-            .iter()
-            .zip(classes.iter())
-            .all(|(bean, class)| bean.class.as_bytes() == *class)
 }
 
 /// Whether a view gives the answer of a question.
@@ -64,8 +54,8 @@ static OF_SHOP: [Asked; 4] = [
 #[test]
 fn a_plain_view_of_one_shop(rt: HostRuntime) -> Result<(), Fail> {
     let decls = declared(rt.alloc(), &SHOP)?;
-    let list = beans(rt.alloc(), &decls)?;
-    let mut view = PlainView::new(&decls, list.as_slice());
+    let list = BeanList::of(rt.alloc(), &decls)?;
+    let mut view = PlainView::new(&decls, &list);
     for asked in &OF_SHOP {
         let is_right = answers(rt.alloc(), &mut view, asked)?;
         assert!(rt; is_right, "{:?}", asked.0);
@@ -90,8 +80,8 @@ static OF_SHOPS: [Asked; 2] = [
 #[test]
 fn a_plain_view_of_two_shops(rt: HostRuntime) -> Result<(), Fail> {
     let decls = declared(rt.alloc(), &SHOPS)?;
-    let list = beans(rt.alloc(), &decls)?;
-    let mut view = PlainView::new(&decls, list.as_slice());
+    let list = BeanList::of(rt.alloc(), &decls)?;
+    let mut view = PlainView::new(&decls, &list);
     for asked in &OF_SHOPS {
         let is_right = answers(rt.alloc(), &mut view, asked)?;
         assert!(rt; is_right, "{:?}", asked.0);
@@ -116,8 +106,8 @@ static OF_ALTERNATIVE: [Asked; 2] = [
 #[test]
 fn a_plain_view_of_an_alternative(rt: HostRuntime) -> Result<(), Fail> {
     let decls = declared(rt.alloc(), &WITH_ALTERNATIVE)?;
-    let list = beans(rt.alloc(), &decls)?;
-    let mut view = PlainView::new(&decls, list.as_slice());
+    let list = BeanList::of(rt.alloc(), &decls)?;
+    let mut view = PlainView::new(&decls, &list);
     for asked in &OF_ALTERNATIVE {
         let is_right = answers(rt.alloc(), &mut view, asked)?;
         assert!(rt; is_right, "{:?}", asked.0);
@@ -166,21 +156,11 @@ F01 bean Shop stereotype None
 F03 bean Shop class
 ";
 
-/// The texts of some faults, each on a line.
-fn lines_of(alloc: Global, faults: &[Fault]) -> Result<Vec<u8>, AllocError> {
-    let mut text = Vec::new(alloc);
-    for fault in faults {
-        fault.push_text(&mut text)?;
-        text.push(b'\n')?;
-    }
-    Ok(text)
-}
-
 #[test]
 fn a_plain_view_has_faults(rt: HostRuntime) -> Result<(), Fail> {
     let decls = declared(rt.alloc(), &FAULTY)?;
-    let list = beans(rt.alloc(), &decls)?;
-    let found = faults(rt.alloc(), &mut PlainView::new(&decls, list.as_slice()))?;
+    let list = BeanList::of(rt.alloc(), &decls)?;
+    let found = faults(rt.alloc(), &mut PlainView::new(&decls, &list))?;
     let text = lines_of(rt.alloc(), found.as_slice())?;
     let is_right = text.as_slice() == FAULTS;
     assert!(rt; is_right, "{:?}", str::from_utf8(text.as_slice()));
@@ -191,9 +171,9 @@ fn a_plain_view_has_faults(rt: HostRuntime) -> Result<(), Fail> {
 #[test]
 fn faults_compare_and_tell_their_codes(rt: HostRuntime) -> Result<(), Fail> {
     let decls = declared(rt.alloc(), &FAULTY)?;
-    let list = beans(rt.alloc(), &decls)?;
-    let found = faults(rt.alloc(), &mut PlainView::new(&decls, list.as_slice()))?;
-    let again = faults(rt.alloc(), &mut PlainView::new(&decls, list.as_slice()))?;
+    let list = BeanList::of(rt.alloc(), &decls)?;
+    let found = faults(rt.alloc(), &mut PlainView::new(&decls, &list))?;
+    let again = faults(rt.alloc(), &mut PlainView::new(&decls, &list))?;
     assert!(rt; found.as_slice() == again.as_slice());
     for code in Code::all() {
         let has_it = has_code(found.as_slice(), code);

@@ -1,4 +1,4 @@
--- Of a reported pair of names the second is the first, a dot and a name.
+-- Of a reported pair of names the second is the first, a dot and a text, which is a name where the second is one by the grammar.
 use Rattle.std.proofs.Common.{◌≡◌, ◌≤◌, ℕ, Bool, true, false, nat_eq, List, [], ◌∷◌, ◌++◌, map, filter, length, refl, sym, ap, ◌∙◌, arith}
 use Rattle.std.specs.Prelude.{◌==◌, nat_le}
 use Rattle.std.specs.List.{AllByRecursion, flat_map}

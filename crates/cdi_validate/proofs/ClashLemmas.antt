@@ -1,33 +1,38 @@
--- Names of which no bean is chosen: they stand twice among those of enabled beans.
-use Rattle.std.proofs.Common.{◌≡◌, ℕ, Bool, true, false, ◌&&◌, ◌||◌, List, [], ◌∷◌, filter, Option, Some, None, Ordering, refl, sym, ap}
-use Rattle.std.proofs.Common.{◌∙◌}
-use Rattle.std.specs.List.{flat_map, list_any}
-use Rattle.std.specs.BTreeMap.{is_at}
+-- The names of enabled beans, each with the leaders of those that have it.
+use Rattle.std.proofs.Common.{◌≡◌, ◌+◌, ◌<◌, ℕ, Bool, true, false, cond, ◌&&◌, ◌||◌, List, [], ◌∷◌, ◌++◌, filter, fold, map, take, length}
+use Rattle.std.proofs.Common.{get_or, Option, None, Some, Ordering, Less, Equal, refl, sym, subst, ap, ◌∙◌, append-nil, append_assoc}
+use Rattle.std.proofs.Common.{⊎_elim}
+use Rattle.std.specs.List.{AllByRecursion, flat_map, list_any}
+use Rattle.std.specs.BTreeMap.{BTreeMap, get, is_at}
 use Rattle.std.specs.List.Sorted.{IsStrictlySortedBy}
+use Rattle.std.specs.Map.{keys_of, lookup}
+use Rattle.std.specs.Option.{is_some, unwrap_or}
 use Rattle.std.specs.Cmp.Lexicographic.{slice_cmp}
 use Rattle.std.specs.Ordering.{nat_cmp}
 use Rattle.std.specs.Str.{bytes_eq}
 use Rattle.std.proofs.Math.Bool.{or-false}
-use Rattle.std.proofs.lemmas.Bool.{or_parts}
+use Rattle.std.proofs.lemmas.Bool.{or_cases}
+use Rattle.std.proofs.lemmas.Grind.{flat_map-append}
+use Rattle.std.proofs.lemmas.List.{map-append, take_more}
 use Rattle.std.proofs.lemmas.List.Folds.{list_any-append}
-use Rattle.std.proofs.lemmas.List.Kept.{IsStrictlySortedBy-filter}
-use Rattle.std.proofs.lemmas.Map.Views.{any-filter_same}
+use Rattle.std.proofs.lemmas.Cmp.{tied_itself}
+use Rattle.std.specs.Cmp.Lexicographic.{nat_list_cmp_total}
+use Rattle.std.proofs.lemmas.List.Elements.{filter-append}
+use Rattle.std.proofs.lemmas.List.Sums.{fold-append}
 use Rattle.cdi_match.specs.Chain.{has}
-use Rattle.cdi_match.specs.Order.{in_order}
-use Rattle.cdi_match.proofs.Names.{one_name, has-by_order}
-use Rattle.cdi_match.proofs.OrderLemmas.{one_order, in_order-rises, in_order-has}
+use Rattle.cdi_match.proofs.Names.{at_name, one_name, other_name, same_text}
 use Rattle.cdi_effective.specs.declared.records.Effective.{Effective}
-use Rattle.cdi_resolve.specs.Choices.{choice_of, chosen_by_name, is_named, named}
-use Rattle.cdi_validate.specs.Faults.{enabled_name, enabled_names, is_ambiguous}
-use Rattle.cdi_validate.specs.Names.{stands_twice}
+use Rattle.cdi_resolve.specs.Choices.{candidate, choice_of, chosen_by_name, is_named, named}
+use Rattle.cdi_resolve.specs.Leaders.{leading, nobody, with_candidate}
+use Rattle.cdi_resolve.specs.declared.leaders.Leaders.{Leaders}
+use Rattle.cdi_resolve.proofs.LeaderLemmas.{leaders_choose}
+use Rattle.cdi_faults.specs.declared.fault.Fault.TheVariants as faults_are
+use Rattle.cdi_validate.specs.Faults.{enabled_name, enabled_names, is_ambiguous, name_clashes}
+use Rattle.cdi_validate.specs.Names.{leaders_in, with_bean, AreLed, AreNames}
+use Rattle.cdi_validate.proofs.NameLemmas.{enabled_names-are}
 
 abbrev order : List ℕ → List ℕ → Ordering
 order = slice_cmp nat_cmp
-
-implied : (b c : Bool) → (c ≡ false → b ≡ false) → (b && c) ≡ b
-implied true true without = refl
-implied true false without = sym (without refl)
-implied false c without = refl
 
 -- the bean is enabled and has the name
 is_its_name : (b : Effective) (n : List ℕ) → (b.is_enabled && is_named n b.name) ≡ has (enabled_name b) n
@@ -39,63 +44,156 @@ is_its_name b n = by b.is_enabled b.name refl refl
     by true None on is = rw (on, is) refl
     by true (Some name) on is = rw (on, is) (sym (or-false (bytes_eq name n)))
 
-none_named : (bs : List Effective) (n : List ℕ) → has (flat_map enabled_name bs) n ≡ false → named bs n ≡ []
+-- ---- the beans of a name, one after another
+
+-- a bean that is added to those of its name
+pub led-name : (at : List ℕ → Option Leaders) (bean : Effective) (name s : List ℕ) (led : Leaders) (between new : Option Leaders)
+    → bean.is_enabled ≡ true → bean.name ≡ Some name → led ≡ with_candidate (unwrap_or (at name) nobody) (candidate bean)
+    → between ≡ cond (bytes_eq name s) None (at s) → new ≡ cond (bytes_eq name s) (Some led) between
+    → new ≡ with_bean (at s) bean s
+led-name at bean name s led between new enabled is led-is gone put = put ∙ by (bytes_eq name s) refl
+  where
+    by : (b : Bool) → bytes_eq name s ≡ b → cond b (Some led) between ≡ with_bean (at s) bean s
+    by true e = rw (enabled, is, e)
+        (ap Some (led-is ∙ ap (λ n. with_candidate (unwrap_or (at n) nobody) (candidate bean)) (one_name name s e)))
+    by false e = rw (enabled, is, e) (gone ∙ ap (λ b. cond b None (at s)) e)
+
+leaders-push : (bs : List Effective) (b : Effective)
+    → leaders_in (bs ++ b ∷ []) ≡ Some (with_candidate (unwrap_or (leaders_in bs) nobody) (candidate b))
+leaders-push [] b = refl
+leaders-push (c ∷ bs) b = ap Some (
+    ap (fold with_candidate nobody) (map-append candidate (c ∷ bs) (b ∷ []))
+    ∙ fold-append with_candidate nobody (map candidate (c ∷ bs)) (candidate b ∷ []))
+
+led-next : (at at' : List ℕ → Option Leaders) (bs : List Effective) (b : Effective) → ((s : List ℕ) → at' s ≡ with_bean (at s) b s)
+    → ((s : List ℕ) → at s ≡ leaders_in (named bs s)) → (s : List ℕ) → at' s ≡ leaders_in (named (bs ++ b ∷ []) s)
 unfolding named
-none_named [] n without = refl
-none_named (b ∷ bs) n without =
-    let both = or_parts (has (enabled_name b) n) (has (flat_map enabled_name bs) n)
-    (sym (list_any-append (λ m. bytes_eq m n) (enabled_name b) (flat_map enabled_name bs)) ∙ without) in
-    rw (is_its_name b n ∙ both.0) (none_named bs n both.1)
-
-one_or_none : (bs : List Effective) (n : List ℕ) → stands_twice bs n ≡ false → is_ambiguous (chosen_by_name bs n) ≡ false
-unfolding named choice_of chosen_by_name
-one_or_none [] n without = refl
-one_or_none (b ∷ bs) n without = by (has (enabled_name b) n) refl (one_or_none bs n)
+led-next at at' bs b put led s =
+    put s ∙ ap (λ leaders. with_bean leaders b s) (led s) ∙ by (b.is_enabled && is_named s b.name)
+    ∙ ap leaders_in (sym (filter-append (λ bean. bean.is_enabled && is_named s bean.name) bs (b ∷ [])))
   where
-    rest : (h : Bool) → has (enabled_name b) n ≡ h → ((h && has (flat_map enabled_name bs) n) || stands_twice bs n) ≡ false
-    rest h e = ap (λ here. (here && has (flat_map enabled_name bs) n) || stands_twice bs n) (sym e) ∙ without
+    by : (t : Bool) → cond t (Some (with_candidate (unwrap_or (leaders_in (named bs s)) nobody) (candidate b))) (leaders_in (named bs s))
+        ≡ leaders_in (named bs s ++ cond t (b ∷ []) [])
+    by true = sym (leaders-push (named bs s) b)
+    by false = ap leaders_in (sym (append-nil (named bs s)))
 
-    by : (h : Bool) → has (enabled_name b) n ≡ h → (stands_twice bs n ≡ false → is_ambiguous (chosen_by_name bs n) ≡ false)
-        → is_ambiguous (chosen_by_name (b ∷ bs) n) ≡ false
-    by true e more = rw (
-      is_its_name b n ∙ e,
-      none_named bs n
-          (or_parts (has (flat_map enabled_name bs) n) (stands_twice bs n) (rest true e)).0,
-    ) refl
-    by false e more = rw (is_its_name b n ∙ e) (more (rest false e))
+-- one more of some beans
+pub led-more : (leaders leaders' : BTreeMap (List ℕ) Leaders) (before bs : List Effective) (i : ℕ) (b : Effective) → i < length bs
+    → b ≡ get_or bs i b → ((s : List ℕ) → get order leaders' s ≡ with_bean (get order leaders s) b s)
+    → AreLed leaders (before ++ take i bs) → AreLed leaders' (before ++ take (i + 1) bs)
+led-more leaders leaders' before bs i b within at put led =
+    let all : (before ++ take i bs) ++ b ∷ [] ≡ before ++ take (i + 1) bs = append_assoc before (take i bs) (b ∷ [])
+    ∙ ap (λ bean. before ++ (take i bs ++ bean ∷ [])) at ∙ ap (λ more. before ++ more) (sym (take_more bs i b within)) in
+    subst (AreLed leaders') all (led-next (get order leaders) (get order leaders') (before ++ take i bs) b put led)
 
--- a name of which no bean is chosen is among those that stand twice, and among all
-is_twice : (bs : List Effective) (n : List ℕ)
-    → (is_ambiguous (chosen_by_name bs n) && stands_twice bs n) ≡ is_ambiguous (chosen_by_name bs n)
-is_twice bs n = implied (is_ambiguous (chosen_by_name bs n)) (stands_twice bs n) (one_or_none bs n)
+-- ---- names by the grammar
 
-is_among : (bs : List Effective) (n : List ℕ)
-    → (is_ambiguous (chosen_by_name bs n) && has (flat_map enabled_name bs) n) ≡ is_ambiguous (chosen_by_name bs n)
-unfolding choice_of chosen_by_name
-is_among bs n = implied (is_ambiguous (chosen_by_name bs n)) (has (flat_map enabled_name bs) n) none
+pub names-both : (xs ys : List (List ℕ)) → AreNames xs → AreNames ys → AreNames (xs ++ ys)
+names-both xs ys first second = λ s among. ⊎_elim (first s) (second s) (or_cases (has xs s) (has ys s)
+    (sym (list_any-append (λ n. bytes_eq n s) xs ys) ∙ among))
+
+pub names-more : (bs : List Effective) (i : ℕ) (b : Effective) → i < length bs → b ≡ get_or bs i b → AreNames (enabled_name b)
+    → AreNames (flat_map enabled_name (take i bs)) → AreNames (flat_map enabled_name (take (i + 1) bs))
+names-more bs i b within at own before =
+    let all : flat_map enabled_name (take i bs) ++ enabled_name b ≡ flat_map enabled_name (take (i + 1) bs) =
+    ap (λ names. flat_map enabled_name (take i bs) ++ names) (ap enabled_name at ∙ sym (append-nil (enabled_name (get_or bs i b))))
+    ∙ sym (flat_map-append enabled_name (take i bs) (get_or bs i b ∷ [])) ∙ ap (flat_map enabled_name) (sym (take_more bs i b within)) in
+    subst AreNames all (names-both (flat_map enabled_name (take i bs)) (enabled_name b) before own)
+
+-- ---- the names that have leaders
+
+-- they are those of enabled beans
+some-led : (bs : List Effective) (s : List ℕ) → is_some (leaders_in (named bs s)) ≡ has (flat_map enabled_name bs) s
+unfolding named
+some-led [] s = refl
+some-led (b ∷ bs) s =
+    by (b.is_enabled && is_named s b.name) (some-led bs s)
+    ∙ ap (λ t. t || has (flat_map enabled_name bs) s) (is_its_name b s)
+    ∙ sym (list_any-append (λ m. bytes_eq m s) (enabled_name b) (flat_map enabled_name bs))
   where
-    none : has (flat_map enabled_name bs) n ≡ false → is_ambiguous (chosen_by_name bs n) ≡ false
-    none without = rw (none_named bs n without) refl
+    by : (t : Bool) → is_some (leaders_in (named bs s)) ≡ has (flat_map enabled_name bs) s
+        → is_some (leaders_in (cond t (b ∷ named bs s) (named bs s))) ≡ (t || has (flat_map enabled_name bs) s)
+    by true rest = refl
+    by false rest = rest
 
-has-filter : (p : List ℕ → Bool) (names : List (List ℕ)) (s : List ℕ) → has (filter p names) s ≡ (p s && has names s)
-has-filter p names s = any-filter_same (λ n. bytes_eq n s) p (p s) (λ n e. ap p (one_name n s e)) names
+any-some : (s : List ℕ) (es : List (List ℕ × Leaders)) → list_any (is_at (order s)) (keys_of es) ≡ is_some (lookup (is_at (order s)) es)
+any-some s [] = refl
+any-some s (e ∷ es) = by (is_at (order s) e.0) (any-some s es)
+  where
+    by : (t : Bool) → list_any (is_at (order s)) (keys_of es) ≡ is_some (lookup (is_at (order s)) es)
+        → (t || list_any (is_at (order s)) (keys_of es)) ≡ is_some (cond t (Some e.1) (lookup (is_at (order s)) es))
+    by true rest = refl
+    by false rest = rest
 
--- so those that stand twice, in order, have all of them
-pub clashes-twice : (bs : List Effective) (keys : List (List ℕ)) → IsStrictlySortedBy order keys
-    → ((s : List ℕ) → list_any (is_at (slice_cmp nat_cmp s)) keys ≡ stands_twice bs s)
-    → filter (λ n. is_ambiguous (chosen_by_name bs n)) keys ≡ filter (λ n. is_ambiguous (chosen_by_name bs n)) (enabled_names bs)
-clashes-twice bs keys rise same =
-    let p : List ℕ → Bool = λ n. is_ambiguous (chosen_by_name bs n) in
-    let names = flat_map enabled_name bs in
-    one_order
-    (filter p keys)
-    (filter p (in_order names))
-    (IsStrictlySortedBy-filter order p keys rise)
-    (IsStrictlySortedBy-filter order p (in_order names) (in_order-rises names))
-    (λ s.
-    has-filter p keys s
-    ∙ ap (λ h. p s && h) (sym (has-by_order keys s) ∙ same s)
-    ∙ is_twice bs s
-    ∙ sym (is_among bs s)
-    ∙ ap (λ h. p s && h) (sym (in_order-has names s))
-    ∙ sym (has-filter p (in_order names) s))
+pub keys-named : (bs : List Effective) (es : List (List ℕ × Leaders)) → IsStrictlySortedBy order (keys_of es)
+    → ((s : List ℕ) → lookup (is_at (order s)) es ≡ leaders_in (named bs s)) → keys_of es ≡ enabled_names bs
+keys-named bs es rise led =
+    enabled_names-are bs (keys_of es) rise (λ s. any-some s es ∙ ap is_some (led s) ∙ some-led bs s)
+
+-- ---- of which no bean is chosen
+
+-- leaders that stand at a name are those of its beans
+leads-named : (bs : List Effective) (n : List ℕ) (led : Leaders) → Some led ≡ leaders_in (named bs n) → leading led ≡ chosen_by_name bs n
+unfolding chosen_by_name
+leads-named bs n led at = by (named bs n) at
+  where
+    by : (own : List Effective) → Some led ≡ leaders_in own → leading led ≡ choice_of (map candidate own)
+    by [] none = absurd (let other : Some led ≡ None = none in cc)
+    by (b ∷ own) some = ap leading (let same : led ≡ fold with_candidate nobody (map candidate (b ∷ own)) = cc in same)
+        ∙ leaders_choose (map candidate (b ∷ own))
+
+less-apart : (x y : List ℕ) → y ≡ x → order x y ≡ Less → ⊥
+less-apart x y same less = let no : Less ≡ Equal = sym less ∙ ap (order x) same ∙ tied_itself nat_list_cmp_total x in cc
+
+-- each entry is found by its key
+found-later : (e : List ℕ × Leaders) (es more : List (List ℕ × Leaders)) → AllByRecursion (λ k. order e.0 k ≡ Less) (keys_of more)
+    → AllByRecursion (λ f. lookup (is_at (order f.0)) es ≡ Some f.1) more
+    → AllByRecursion (λ f. lookup (is_at (order f.0)) (e ∷ es) ≡ Some f.1) more
+found-later e es [] above all = tt
+found-later e es (f ∷ more) above all = (
+  ap (λ b. cond b (Some e.1) (lookup (is_at (order f.0)) es))
+      (at_name f.0 e.0 ∙ other_name f.0 e.0 (λ same. less-apart e.0 f.0 same above.0))
+      ∙ all.0,
+  found-later e es more above.1 all.1,
+)
+
+found-each : (es : List (List ℕ × Leaders)) → IsStrictlySortedBy order (keys_of es)
+    → AllByRecursion (λ e. lookup (is_at (order e.0)) es ≡ Some e.1) es
+unfolding IsStrictlySortedBy
+found-each [] rise = tt
+found-each (e ∷ es) rise = (
+  ap (λ b. cond b (Some e.1) (lookup (is_at (order e.0)) es)) (at_name e.0 e.0 ∙ same_text e.0 e.0 refl),
+  found-later e es es rise.0 (found-each es rise.1),
+)
+
+clashes-each : (bs : List Effective) (es : List (List ℕ × Leaders)) → AllByRecursion (λ e. leading e.1 ≡ chosen_by_name bs e.0) es
+    → map (λ e. faults_are.NameClash e.0) (filter (λ e. is_ambiguous (leading e.1)) es)
+    ≡ map faults_are.NameClash (filter (λ n. is_ambiguous (chosen_by_name bs n)) (keys_of es))
+clashes-each bs [] all = refl
+clashes-each bs (e ∷ es) all =
+    ap (λ choice. map (λ f. faults_are.NameClash f.0)
+    (cond (is_ambiguous choice) (e ∷ filter (λ f. is_ambiguous (leading f.1)) es) (filter (λ f. is_ambiguous (leading f.1)) es))) all.0
+    ∙ by (is_ambiguous (chosen_by_name bs e.0)) (clashes-each bs es all.1)
+  where
+    by : (t : Bool) → map (λ f. faults_are.NameClash f.0) (filter (λ f. is_ambiguous (leading f.1)) es)
+        ≡ map faults_are.NameClash (filter (λ n. is_ambiguous (chosen_by_name bs n)) (keys_of es))
+        → map (λ f. faults_are.NameClash f.0)
+        (cond t (e ∷ filter (λ f. is_ambiguous (leading f.1)) es) (filter (λ f. is_ambiguous (leading f.1)) es))
+        ≡ map faults_are.NameClash (cond t (e.0 ∷ filter (λ n. is_ambiguous (chosen_by_name bs n)) (keys_of es))
+        (filter (λ n. is_ambiguous (chosen_by_name bs n)) (keys_of es)))
+    by true rest = ap (λ fs. faults_are.NameClash e.0 ∷ fs) rest
+    by false rest = rest
+
+each-leads : (bs : List Effective) (es more : List (List ℕ × Leaders))
+    → ((s : List ℕ) → lookup (is_at (order s)) es ≡ leaders_in (named bs s))
+    → AllByRecursion (λ e. lookup (is_at (order e.0)) es ≡ Some e.1) more → AllByRecursion (λ e. leading e.1 ≡ chosen_by_name bs e.0) more
+each-leads bs es [] led all = tt
+each-leads bs es (e ∷ more) led all = (leads-named bs e.0 e.1 (sym all.0 ∙ led e.0), each-leads bs es more led all.1)
+
+-- so the names whose leaders leave no choice are those that clash
+pub clashes-led : (bs : List Effective) (es : List (List ℕ × Leaders)) → IsStrictlySortedBy order (keys_of es)
+    → ((s : List ℕ) → lookup (is_at (order s)) es ≡ leaders_in (named bs s))
+    → map (λ e. faults_are.NameClash e.0) (filter (λ e. is_ambiguous (leading e.1)) es) ≡ name_clashes bs
+clashes-led bs es rise led =
+    clashes-each bs es (each-leads bs es es led (found-each es rise))
+    ∙ ap (λ names. map faults_are.NameClash (filter (λ n. is_ambiguous (chosen_by_name bs n)) names)) (keys-named bs es rise led)

@@ -6,3 +6,4 @@ pub mod ClashLemmas
 pub mod OnceLemmas
 pub mod LineLemmas
 pub mod BehindLemmas
+pub mod FoundLemmas

@@ -10,7 +10,7 @@ use Rattle.std.proofs.lemmas.Bool.{and_parts, eqb-true, lt-ltb, or_left, or_righ
 use Rattle.std.proofs.lemmas.Bool.Decides.{nat_tests}
 use Rattle.std.proofs.lemmas.Cmp.{nat_cmp_total, tied_itself}
 use Rattle.std.proofs.lemmas.List.Kept.{IsStrictlySortedBy-filter}
-use Rattle.cdi_model.specs.Bytes.{dot, space}
+use Rattle.cdi_model.specs.Bytes.{byte_order, dot, space}
 use Rattle.cdi_model.specs.Grammar.{begins, continues, goes_on as continues_name, is_letter, is_name, is_word}
 use Rattle.cdi_match.proofs.OrderLemmas.{in_order-has, in_order-rises}
 use Rattle.cdi_match.specs.Chain.{has}
@@ -18,7 +18,7 @@ use Rattle.cdi_match.proofs.Names.{same_text}
 use Rattle.cdi_effective.specs.declared.records.Effective.{Effective}
 use Rattle.cdi_faults.specs.declared.fault.Fault.{Fault}
 use Rattle.cdi_faults.specs.declared.fault.Fault.TheVariants as faults_are
-use Rattle.cdi_faults.specs.FaultText.{byte_order, text_of_fault}
+use Rattle.cdi_faults.specs.FaultText.{text_of_fault}
 use Rattle.cdi_validate.specs.Faults.{enabled_name, enabled_names, goes_on, is_ambiguous, name_clashes, name_prefixes}
 use Rattle.cdi_validate.specs.Faults.{LinesRise}
 use Rattle.cdi_resolve.specs.Choices.{chosen_by_name}

@@ -25,7 +25,7 @@ use Rattle.cdi_faults.proofs.OrderLemmas.{subjects_in_order}
 
 -- ---- each apart from the later ones
 
-abbrev Apart : {X : Type 0} → (X → X → Type 0) → List X → Type 0
+abbrev pub Apart : {X : Type 0} → (X → X → Type 0) → List X → Type 0
 Apart R [] = Unit {0}
 Apart R (x ∷ xs) = AllByRecursion (R x) xs × Apart R xs
 
@@ -44,7 +44,7 @@ apart-pairs R (x ∷ xs) apart i zero d lt within = absurd (omega (arith, lt))
 apart-pairs R (x ∷ xs) apart zero (suc j) d lt within = all-at (R x) xs apart.0 j d (omega (arith, within))
 apart-pairs R (x ∷ xs) apart (suc i) (suc j) d lt within = apart-pairs R xs apart.1 i j d (omega (arith, lt)) (omega (arith, within))
 
-pairs-apart : {X : Type 0} (R : X → X → Type 0) (xs : List X) → AllPairs R xs → Apart R xs
+pub pairs-apart : {X : Type 0} (R : X → X → Type 0) (xs : List X) → AllPairs R xs → Apart R xs
 pairs-apart R [] all = tt
 pairs-apart R (x ∷ xs) all = (
   all-from (R x) xs (λ j d lt. all zero (suc j) d (omega arith) (omega (arith, lt))),

@@ -1,8 +1,8 @@
 -- What is at fault of injection points, by their answers.
-use Rattle.std.proofs.Common.{◌≡◌, ℕ, ◌≤◌, Bool, true, false, cond, List, [], ◌∷◌, ◌++◌, map, filter, length, take, drop, Option, Some}
-use Rattle.std.proofs.Common.{None, refl, sym, ap, ◌∙◌, inl, inr, ◌⊎◌, arith}
+use Rattle.std.proofs.Common.{◌≡◌, ℕ, Bool, true, false, cond, List, [], ◌∷◌, ◌++◌, map, filter, length, take, drop, Option, Some}
+use Rattle.std.proofs.Common.{None, refl, ap, ◌∙◌, inl, inr, ◌⊎◌}
 use Rattle.std.specs.List.{flat_map, zip}
-use Rattle.std.proofs.lemmas.List.{map-append, take-map, drop-map, take_at, drop_at, length-map, length-append}
+use Rattle.std.proofs.lemmas.List.{map-append, take_at, drop_at, length-map}
 use Rattle.cdi_model.specs.declared.decl.BeanDecl.{BeanDecl}
 use Rattle.cdi_model.specs.declared.decl.Decl.{Decl}
 use Rattle.cdi_model.specs.declared.decl.Decl.TheVariants as decls
@@ -18,25 +18,6 @@ use Rattle.cdi_validate.specs.Records.{at_fault, at_fault_by, points_by}
 use Rattle.cdi_faults.specs.declared.fault.Subject.{Subject}
 use Rattle.cdi_faults.specs.declared.fault.Subject.TheVariants as parts
 use Rattle.cdi_validate.proofs.RecordLemmas.{managed-producer, product-producer}
-
--- ---- lists that are split
-
--- what is read of the front of a list, where it is what is read of another list and one behind it
-pub record IsSplit {A B C : Type 0} (f : A → C) (g : B → C) (xs : List A) (ys zs : List B) (n : ℕ) : Type 0 where
-  pub within : n ≤ length xs
-  pub front : map f (take n xs) ≡ map g ys
-  pub rest : map f (drop n xs) ≡ map g zs
-
-pub split_read : {A B C : Type 0} (f : A → C) (g : B → C) (xs : List A) (ys zs : List B) (n : ℕ) → n ≡ length ys
-    → map f xs ≡ map g (ys ++ zs) → IsSplit f g xs ys zs n
-split_read f g xs ys zs n counted same =
-    let long : length (map g ys) ≡ n = length-map ys g ∙ sym counted in
-    let parts : map f xs ≡ map g ys ++ map g zs = same ∙ map-append g ys zs in
-    record {
-      within = omega (arith, sym (length-map xs f) ∙ ap length parts ∙ length-append (map g ys) (map g zs), long);
-      front = sym (take-map f n xs) ∙ ap (take n) parts ∙ take_at (map g ys) (map g zs) n long;
-      rest = sym (drop-map f n xs) ∙ ap (drop n) parts ∙ drop_at (map g ys) (map g zs) n long;
-    }
 
 -- ---- points beside their choices
 

@@ -5,8 +5,8 @@ use Rattle.std.specs.List.{list_any, flat_map, starts_with}
 use Rattle.std.specs.List.Sorted.{IsStrictlySortedBy}
 use Rattle.std.specs.Option.{option_to_list}
 use Rattle.std.specs.Str.{bytes_eq}
-use Rattle.cdi_model.specs.Bytes.{dot}
-use Rattle.cdi_model.specs.Decl.{key_of, kind_of, name_of_decl}
+use Rattle.cdi_model.specs.Bytes.{byte_order, dot}
+use Rattle.cdi_model.specs.Decl.{kind_of, name_of_decl}
 use Rattle.cdi_model.specs.DeclList.{find_decl, AreDistinct}
 use Rattle.cdi_model.specs.Grammar.{is_name}
 use Rattle.cdi_model.specs.declared.decl.Attributes.{Attributes}
@@ -43,7 +43,7 @@ use Rattle.cdi_faults.specs.declared.fault.Subject.{Subject}
 use Rattle.cdi_faults.specs.declared.fault.Subject.TheVariants as subjects
 use Rattle.cdi_validate.specs.declared.points.Verdict.{Verdict}
 use Rattle.cdi_validate.specs.declared.points.Verdict.TheVariants as verdicts
-use Rattle.cdi_faults.specs.FaultText.{byte_order, in_text_order, text_of_fault}
+use Rattle.cdi_faults.specs.FaultText.{in_text_order, text_of_fault}
 
 -- ---- subjects among what a declaration names
 
@@ -223,7 +223,7 @@ enabled_names bs = in_order (flat_map enabled_name bs)
 abbrev pub name_clashes : List Effective → List Fault
 name_clashes bs = map faults_are.NameClash (filter (λ n. is_ambiguous (chosen_by_name bs n)) (enabled_names bs))
 
--- the second is the first, a dot and a name
+-- the second begins with the first and a dot
 abbrev pub goes_on : List ℕ → List ℕ → Bool
 goes_on x y = starts_with nat_eq y (x ++ dot ∷ [])
 
@@ -251,6 +251,6 @@ pub record IsNameBehind (x y : List ℕ) : Type 0 where
   pub joined : y ≡ x ++ dot ∷ rest
   pub named : is_name y ≡ true → is_name rest ≡ true
 
--- Of the two names of a prefix the longer is the shorter, a dot and a name.
+-- Of the two names of a prefix the longer is the shorter, a dot and a text, which is a name where the longer is one by the grammar.
 abbrev pub PrefixesGoOn : Type 0
 PrefixesGoOn = (ds : List Decl) (x y : List ℕ) → Contains (faults ds) (faults_are.NamePrefix x y) → IsNameBehind x y

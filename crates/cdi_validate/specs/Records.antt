@@ -10,11 +10,19 @@ use Rattle.cdi_model.specs.declared.decl.PointDecl.{PointDecl}
 use Rattle.cdi_model.specs.declared.decl.ProducerDecl.{ProducerDecl}
 use Rattle.cdi_match.specs.Chain.{has}
 use Rattle.cdi_effective.specs.Disposers.{disposes}
+use Rattle.cdi_effective.specs.Records.{records_in}
 use Rattle.cdi_effective.specs.declared.records.Effective.{Effective}
 use Rattle.cdi_resolve.specs.declared.choice.Choice.{Choice}
 use Rattle.cdi_faults.specs.declared.fault.Subject.{Subject}
 use Rattle.cdi_faults.specs.declared.fault.Subject.TheVariants as subjects
 use Rattle.cdi_model.specs.Mentions.{listed_types}
+
+-- ---- the records of a declaration
+
+-- those of the bean that it declares, found by its name
+abbrev pub records_by : List Decl → Decl → List Effective
+records_by ds (decls.Bean bean) = records_in ds bean.name
+records_by ds d = []
 
 -- ---- listed types
 

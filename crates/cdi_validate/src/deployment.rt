@@ -1,11 +1,10 @@
 //! The faults of a deployment.
-ghost use Rattle.std.specs.Prelude.{◌≡◌, ◌≢◌, AllPairs, ◌<◌, ◌^◌, ◌++◌, ℕ, List, length, map, take, IfOk, OnOk, OnErr};
-ghost use Rattle.std.specs.List.{flat_map};
+ghost use Rattle.std.specs.Prelude.{◌≡◌, ◌≢◌, AllPairs, ◌++◌, ℕ, true, map, take, IfOk, OnOk, OnErr};
+ghost use Rattle.std.specs.List.{flat_map, list_all};
 ghost use Rattle.cdi_model.specs.Decl.{kind_of, name_of_decl};
 ghost use Rattle.cdi_model.specs.DeclList.{AreDistinct};
-ghost use Rattle.cdi_model.specs.declared.decl.Decl.{Decl as AnyDecl};
 ghost use Rattle.cdi_effective.specs.Beans.{beans, entries};
-ghost use Rattle.cdi_observe.specs.Answers.{answer_to};
+ghost use Rattle.cdi_observe.specs.Answers.{answer_to, answers as all_answers};
 ghost use Rattle.cdi_observe.specs.Kept.{evaluated};
 ghost use Rattle.cdi_observe.specs.Wanted.{points_of, wanted};
 ghost use Rattle.cdi_faults.specs.FaultText.{SubjectsInOrder};
@@ -17,6 +16,7 @@ use crate::disposing::disposers_at_fault;
 use crate::forms::{bad_kinds, cycles};
 use crate::names::push_of_names;
 use crate::points::{Verdict, points_at_fault};
+use crate::records::records_of;
 use crate::stereotyped::scope_conflicts;
 use crate::typing::typed;
 use crate::unknown::unknown_names;
@@ -34,7 +34,8 @@ use std::rc::Rc;
 /// names. Each fault stands once.
 ///
 /// Each injection point is asked for once for each type and qualifiers. It takes memory for the faults, for the answers
-/// and where the view does. Where none is left, some of the keys from the front on were asked.
+/// and where the view does. Where none is left, some of the keys from the front on were asked. An edit that is staged
+/// stays where each of the keys is known.
 #[tactic(auto, using(crate::proofs::LineLemmas::clashes_rise))]
 pub fn faults<V: View>(alloc: Global, view: &mut V) -> Result<Vec<Fault>, AllocError>
     ensures faults { IfOk result (λ list. list.items ≡ faults (V.list view.old)) }
@@ -42,6 +43,7 @@ pub fn faults<V: View>(alloc: Global, view: &mut V) -> Result<Vec<Fault>, AllocE
     ensures ok { OnOk result (V.kept view.new ≡ evaluated (V.list view.old) (wanted (V.list view.old)) (V.kept view.old)) }
     ensures err { OnErr result ((i : ℕ) × (V.kept view.new
         ≡ evaluated (V.list view.old) (take i (wanted (V.list view.old))) (V.kept view.old))) }
+    ensures staged { list_all (V.kept view.old).knows (wanted (V.list view.old)) ≡ true → V.staged view.new ≡ V.staged view.old }
     ensures order { SubjectsInOrder }
     ensures once { IfOk result (λ list. AllPairs (λ f g. f ≢ g) list.items) }
     ensures clashes { LinesRise (name_clashes (beans (V.list view.old))) }
@@ -50,65 +52,28 @@ pub fn faults<V: View>(alloc: Global, view: &mut V) -> Result<Vec<Fault>, AllocE
 {
     let answers = evaluate(alloc, view)?;
     let mut faults = Vec::new(alloc);
-    push_of_decls(
-        alloc,
-        view.decls(),
-        view.beans(),
-        answers.as_slice(),
-        &mut faults,
-    )?;
-    push_of_names(alloc, view.beans(), &mut faults)?;
+    push_of_decls(alloc, view, answers.as_slice(), &mut faults)?;
+    push_of_names(alloc, view, &mut faults)?;
     Ok(faults)
 }
 
-/// Appends the faults of the declarations, by their beans and the answers to their injection points.
-fn push_of_decls(
+/// Appends the faults of the declarations, by the answers to their injection points.
+fn push_of_decls<V: View>(
     alloc: Global,
-    decls: &Decls,
-    beans: &[Effective],
-    answers: &[Rc<Choice>],
+    view: &V,
+    answers: &[Vec<Rc<Choice>>],
     faults: &mut Vec<Fault>,
 ) -> Result<(), AllocError>
-    requires beans { beans.now ≡ flat_map (entries decls.now) decls.now }
-    requires answers { map (λ answer. answer.value) answers.now ≡ map (answer_to decls.now) (flat_map points_of decls.now) }
-    ensures faults { OnOk result (faults.new.items ≡ faults.old.items ++ flat_map (faults_of decls.now) decls.now) }
-    ensures distinct { AreDistinct decls.now }
+    requires { map (λ list. map (λ answer. answer.value) list.items) answers.now ≡ all_answers (V.list view.now) }
+    ensures faults { OnOk result (faults.new.items ≡ faults.old.items ++ flat_map (faults_of (V.list view.now)) (V.list view.now)) }
+    ensures distinct { AreDistinct (V.list view.now) }
 {
-    let mut rest_of_beans = beans;
-    let mut rest_of_answers = answers;
-    for decl in decls.iter() {
-        let (own_beans, other_beans) = rest_of_beans.split_at(bean_count(decl));
-        let (own_answers, other_answers) = rest_of_answers.split_at(point_count(decl));
-        push_of_decl(alloc, decls, decl, own_beans, own_answers, faults)?;
-        rest_of_beans = other_beans;
-        rest_of_answers = other_answers;
+    let decls = view.decls();
+    for (decl, own) in decls.iter().zip(answers) {
+        let beans = records_of(view, decl);
+        push_of_decl(alloc, decls, decl, beans, own.as_slice(), faults)?;
     }
     Ok(())
-}
-
-/// How many beans a declaration gives.
-fn bean_count(decl: &Decl) -> usize
-    ensures { (ds : List AnyDecl) → result ≡ length (entries ds decl.now) }
-{
-    match decl {
-        Decl::Bean(bean) => 1 + bean.producers.as_slice().len(),
-        _ => 0,
-    }
-}
-
-/// How many injection points a declaration has.
-fn point_count(decl: &Decl) -> usize
-    requires { length (points_of decl.now) < 2 ^ 64 }
-    ensures { result ≡ length (points_of decl.now) }
-{
-    let Decl::Bean(bean) = decl else {
-        return 0;
-    };
-    let mut count = bean.points.len();
-    for producer in bean.producers.as_slice() {
-        count += producer.params.len();
-    }
-    count
 }
 
 /// Appends the faults of a declaration, which has these beans, and these answers to its injection points.

@@ -6,6 +6,7 @@ mod disposing;
 mod forms;
 mod names;
 mod points;
+mod records;
 mod stereotyped;
 mod typing;
 mod unknown;

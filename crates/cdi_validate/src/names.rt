@@ -1,103 +1,117 @@
 //! Names of beans that cannot stand beside one another (CDI 4.0, Ambiguous names).
-ghost use Rattle.std.specs.Prelude.{◌≡◌, ◌&&◌, ◌||◌, ◌∷◌, ◌++◌, ℕ, List, length, map, filter, flat_map, IfOk, OnOk};
-ghost use Rattle.std.specs.BTreeSet.{contains};
+ghost use Rattle.std.specs.Prelude.{◌≡◌, ◌∷◌, ◌++◌, ℕ, List, length, map, filter, flat_map, IfOk, OnOk};
+ghost use Rattle.std.specs.BTreeMap.{get, keys};
 ghost use Rattle.std.specs.List.Sorted.{IsStrictlySortedBy};
 ghost use Rattle.std.specs.Cmp.Lexicographic.{slice_cmp};
 ghost use Rattle.std.specs.Ordering.{nat_cmp};
-ghost use Rattle.cdi_match.specs.Chain.{has};
-ghost use Rattle.cdi_resolve.specs.Choices.{chosen_by_name};
+ghost use Rattle.cdi_effective.specs.Beans.{beans};
+ghost use Rattle.cdi_effective.specs.declared.records.Effective.{Effective as AnyBean};
+ghost use Rattle.cdi_resolve.specs.Leaders.{leading};
 ghost use Rattle.cdi_faults.specs.declared.fault.Fault.TheVariants as faults_are;
 ghost use Rattle.cdi_validate.specs.Faults.{enabled_name, goes_on, is_ambiguous, name_clashes, name_prefixes};
-ghost use Rattle.cdi_validate.specs.Names.{has_dot_at, prefix_pairs, stands_twice, AreNames};
+ghost use Rattle.cdi_validate.specs.Names.{has_dot_at, prefix_pairs, with_bean, AreNames, AreLed};
 
+use crate::records::records_of;
 use cdi_effective::Effective;
 use cdi_faults::Fault;
-use cdi_match::in_order;
 use cdi_model::Name;
-use cdi_resolve::{Choice, choose_name};
+use cdi_observe::View;
+use cdi_resolve::{Choice, Leaders};
 use std::alloc::{AllocError, Global};
-use std::collections::BTreeSet;
-
-/// Names of beans, and those of them that two beans have.
-#[derive(Drop)]
-struct Names {
-    all: BTreeSet<Name>,
-    twice: BTreeSet<Name>,
-}
-
-impl Names {
-    /// Adds the name of a bean that is enabled, if it has one.
-    fn add_if_enabled(&mut self, bean: &Effective) -> Result<(), AllocError>
-        ensures all { OnOk result ((s : List ℕ) → contains (slice_cmp nat_cmp) self.new.all s
-            ≡ (contains (slice_cmp nat_cmp) self.old.all s || has (enabled_name bean.now) s)) }
-        ensures twice { OnOk result ((s : List ℕ)
-            → contains (slice_cmp nat_cmp) self.new.twice s
-            ≡ (contains (slice_cmp nat_cmp) self.old.twice s
-            || (contains (slice_cmp nat_cmp) self.old.all s && has (enabled_name bean.now) s))) }
-        ensures grammar { OnOk result (AreNames (enabled_name bean.now)) }
-    {
-        if !bean.is_enabled {
-            return Ok(());
-        }
-        let Some(name) = bean.name else {
-            return Ok(());
-        };
-        // No effect at run time. The proof reads here that the name is one by the grammar.
-        let _ = name.as_bytes();
-        if !self.all.insert(name)? {
-            self.twice.insert(name)?;
-        }
-        Ok(())
-    }
-}
+use std::collections::BTreeMap;
 
 /// Appends the faults of names: each that several enabled beans have of which none is chosen, and each pair of which one
-/// goes on behind the other. It looks through the beans again for each name that stands twice, and for no other.
-pub(crate) fn push_of_names(
+/// goes on behind the other. It goes through the beans once, and takes memory for the names of enabled beans.
+pub(crate) fn push_of_names<V: View>(
     alloc: Global,
-    beans: &[Effective],
+    view: &V,
     faults: &mut Vec<Fault>,
 ) -> Result<(), AllocError>
-    ensures faults { OnOk result (faults.new.items ≡ faults.old.items ++ name_clashes beans.now ++ name_prefixes beans.now) }
-    ensures grammar { OnOk result (AreNames (flat_map enabled_name beans.now)) }
+    ensures faults { OnOk result (faults.new.items ≡ faults.old.items
+        ++ name_clashes (beans (V.list view.now)) ++ name_prefixes (beans (V.list view.now))) }
+    ensures grammar { OnOk result (AreNames (flat_map enabled_name (beans (V.list view.now)))) }
 {
-    let Names { all, twice } = names_of_enabled(alloc, beans)?;
-    push_clashes(alloc, beans, in_order(alloc, twice)?.as_slice(), faults)?;
-    push_prefixes(in_order(alloc, all)?.as_slice(), faults)
+    let leaders = leaders_of_names(alloc, view)?;
+    push_clashes(&leaders, faults)?;
+    push_prefixes(names_of(alloc, &leaders)?.as_slice(), faults)
 }
 
-/// The names of the enabled beans.
-fn names_of_enabled(alloc: Global, beans: &[Effective]) -> Result<Names, AllocError>
-    ensures all { IfOk result (λ names. (s : List ℕ) → contains (slice_cmp nat_cmp) names.all s ≡ has (flat_map enabled_name beans.now) s) }
-    ensures twice { IfOk result (λ names. (s : List ℕ) → contains (slice_cmp nat_cmp) names.twice s ≡ stands_twice beans.now s) }
-    ensures grammar { OnOk result (AreNames (flat_map enabled_name beans.now)) }
+/// Of each name of an enabled bean, the choice among the enabled beans that have it.
+fn leaders_of_names<V: View>(alloc: Global, view: &V) -> Result<BTreeMap<Name, Leaders>, AllocError>
+    ensures led { IfOk result (λ leaders. AreLed leaders (beans (V.list view.now))) }
+    ensures grammar { OnOk result (AreNames (flat_map enabled_name (beans (V.list view.now)))) }
 {
-    let mut names = Names {
-        all: BTreeSet::new(alloc),
-        twice: BTreeSet::new(alloc),
-    };
-    for bean in beans {
-        names.add_if_enabled(bean)?;
+    let mut leaders = BTreeMap::new(alloc);
+    for decl in view.decls().iter() {
+        add_all(alloc, &mut leaders, records_of(view, decl))?;
     }
-    Ok(names)
+    Ok(leaders)
 }
 
-/// Appends those of some names of which no bean is chosen.
-fn push_clashes(
+/// Adds some beans, each to those that have its name, if it is enabled and has one.
+fn add_all(
     alloc: Global,
+    leaders: &mut BTreeMap<Name, Leaders>,
     beans: &[Effective],
-    names: &[Name],
+) -> Result<(), AllocError>
+    ensures led { OnOk result ((before : List AnyBean) → AreLed leaders.old before → AreLed leaders.new (before ++ beans.now)) }
+    ensures grammar { OnOk result (AreNames (flat_map enabled_name beans.now)) }
+{
+    for bean in beans {
+        add(alloc, leaders, bean)?;
+    }
+    Ok(())
+}
+
+/// Adds a bean to those that have its name, if it is enabled and has one.
+fn add(
+    alloc: Global,
+    leaders: &mut BTreeMap<Name, Leaders>,
+    bean: &Effective,
+) -> Result<(), AllocError>
+    ensures led { OnOk result ((s : List ℕ) → get (slice_cmp nat_cmp) leaders.new s
+        ≡ with_bean (get (slice_cmp nat_cmp) leaders.old s) bean.now s) }
+    ensures grammar { OnOk result (AreNames (enabled_name bean.now)) }
+{
+    if !bean.is_enabled {
+        return Ok(());
+    }
+    let Some(name) = bean.name else {
+        return Ok(());
+    };
+    // No effect at run time. The proof reads here that the name is one by the grammar.
+    let _ = name.as_bytes();
+    let others = leaders.remove(&name).unwrap_or(Leaders::new());
+    leaders.insert(name, others.with(alloc, bean)?)?;
+    Ok(())
+}
+
+/// Appends the names of which no bean is chosen.
+fn push_clashes(
+    leaders: &BTreeMap<Name, Leaders>,
     faults: &mut Vec<Fault>,
 ) -> Result<(), AllocError>
-    ensures { OnOk result (faults.new.items ≡ faults.old.items
-        ++ map faults_are.NameClash (filter (λ n. is_ambiguous (chosen_by_name beans.now n)) names.now)) }
+    ensures faults { OnOk result (faults.new.items ≡ faults.old.items
+        ++ map (λ e. faults_are.NameClash e.0) (filter (λ e. is_ambiguous (leading e.1)) leaders.now.entries)) }
+    ensures order { IsStrictlySortedBy (slice_cmp nat_cmp) (keys leaders.now) }
 {
-    for name in names {
-        if matches!(choose_name(alloc, beans, *name)?, Choice::Ambiguous(_)) {
+    for (name, beans) in leaders.iter() {
+        if matches!(beans.chosen(), Choice::Ambiguous(_)) {
             faults.push(Fault::NameClash(*name))?;
         }
     }
     Ok(())
+}
+
+/// The names, in byte order.
+fn names_of(alloc: Global, leaders: &BTreeMap<Name, Leaders>) -> Result<Vec<Name>, AllocError>
+    ensures { IfOk result (λ names. names.items ≡ keys leaders.now) }
+{
+    let mut names = Vec::with_capacity(alloc, leaders.len())?;
+    for name in leaders.keys() {
+        names.push(*name)?;
+    }
+    Ok(names)
 }
 
 /// Appends the pairs of which one goes on behind the other, among names in byte order.

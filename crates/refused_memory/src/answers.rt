@@ -1,5 +1,6 @@
 //! Answers, and what they are to be.
-use cdi_container::{BeanId, Choice};
+use cdi_container::Choice;
+use cdi_fixtures::are_of;
 use cdi_model::{Error, Refusal};
 
 /// What a call is to answer. Beans are given by the names of their classes, and faults by their texts, each on a line.
@@ -54,13 +55,4 @@ pub fn is_choice(choice: &Choice, answer: Answer) -> bool {
         }
         _ => false,
     }
-}
-
-/// Whether beans are of these classes, in this order.
-fn are_of(beans: &[BeanId], classes: &[&[u8]]) -> bool {
-    beans.len() == classes.len()
-        && beans
-            .iter()
-            .zip(classes.iter())
-            .all(|(bean, class)| bean.class.as_bytes() == *class)
 }

@@ -2,12 +2,14 @@
 use crate::answers::{Answer, is_choice};
 use crate::texts::are_names;
 use cdi_container::Choice;
-use cdi_effective::{Effective, beans, disposer_of, records_of};
+use cdi_effective::{Effective, disposer_of, records_of};
 use cdi_fixtures::{declared, name, quals};
-use cdi_model::{BeanDecl, Decl, Decls, Error, Ident, Kind, Qual, Scope, Work};
+use cdi_model::{BeanDecl, Decl, Decls, Error, Ident, Kind, Name, Qual, Scope, Work};
 use cdi_observe::{PlainView, evaluate};
-use cdi_resolve::{choose, choose_name};
-use std::alloc::Global;
+use cdi_resolve::{BeanList, choose_name};
+use cdi_seen::{offering, same_beans};
+use cdi_text::read_decl;
+use std::alloc::{AllocError, Global};
 use std::rc::Rc;
 
 /// A question about beans, with its answer.
@@ -23,6 +25,8 @@ pub enum BeanQuestion {
     ChooseName(&'static [u8], Answer),
     /// What is right for each injection point.
     Evaluate(&'static [Answer]),
+    /// Whether the questions for some types see the same beans where a text is put.
+    Put(&'static [u8], &'static [Compared]),
 }
 
 /// What a record says: the types of a bean, the names of its qualifiers, its scope, and whether it is enabled.
@@ -43,20 +47,24 @@ pub struct Told(
     pub &'static [u8],
 );
 
-use BeanQuestion::{Beans, Choose, ChooseName, Evaluate, Record};
+/// A type, and whether the questions for it see the same beans before and after.
+#[derive(Clone, Copy)]
+pub struct Compared(pub &'static [u8], pub bool);
+
+use BeanQuestion::{Beans, Choose, ChooseName, Evaluate, Put, Record};
 
 /// Declarations with their beans.
 #[derive(Drop)]
 pub struct Deployed {
     pub decls: Decls,
-    beans: Vec<Effective>,
+    beans: BeanList,
 }
 
 impl Deployed {
     /// The declarations that texts spell, with their beans.
     pub fn new(alloc: Global, texts: &[&[u8]]) -> Result<Deployed, Error> {
         let decls = declared(alloc, texts)?;
-        let beans = beans(alloc, &decls)?;
+        let beans = BeanList::of(alloc, &decls)?;
         Ok(Deployed { decls, beans })
     }
 
@@ -68,6 +76,7 @@ impl Deployed {
             Choose(text, uses, answer) => self.chooses(alloc, text, uses, answer),
             ChooseName(text, answer) => chooses_name(alloc, self.beans.as_slice(), text, answer),
             Evaluate(wanted) => evaluates(alloc, &self.decls, wanted),
+            Put(text, wanted) => self.sees_after(alloc, text, wanted),
         }
     }
 
@@ -80,25 +89,74 @@ impl Deployed {
         uses: &[&[u8]],
         answer: Answer,
     ) -> Result<bool, Error> {
-        let beans = self.beans.as_slice();
         let quals = quals(alloc, uses)?;
         let mut work = Work::new();
         work.add_one();
-        let outcome = choose(alloc, &self.decls, beans, name(text)?, &quals, &mut work);
+        let outcome = self
+            .beans
+            .choose(alloc, &self.decls, name(text)?, &quals, &mut work);
         if work.count() != 1 + u64::from(outcome.is_ok()) {
             return Ok(false);
         }
         Ok(is_choice(&outcome?, answer))
     }
+
+    /// Whether each type has its answer where a text is put.
+    fn sees_after(&self, alloc: Global, text: &[u8], wanted: &[Compared]) -> Result<bool, Error> {
+        let mut decls = self.decls.copy()?;
+        decls.put(read_decl(alloc, text)?)?;
+        let beans = BeanList::of(alloc, &decls)?;
+        let after = Deployed { decls, beans };
+        for Compared(text, is_same) in wanted {
+            if see_same(alloc, self, &after, name(text)?)? != *is_same {
+                return Ok(false);
+            }
+        }
+        Ok(true)
+    }
+}
+
+/// Whether the questions for a type see the same beans of two deployments.
+fn see_same(
+    alloc: Global,
+    before: &Deployed,
+    after: &Deployed,
+    bean_type: Name,
+) -> Result<bool, AllocError> {
+    let olds = offering(
+        alloc,
+        references(alloc, before.beans.as_slice())?.as_slice(),
+        bean_type,
+    )?;
+    let news = offering(
+        alloc,
+        references(alloc, after.beans.as_slice())?.as_slice(),
+        bean_type,
+    )?;
+    same_beans(
+        alloc,
+        &before.decls,
+        olds.as_slice(),
+        &after.decls,
+        news.as_slice(),
+    )
+}
+
+fn references(alloc: Global, beans: &[Effective]) -> Result<Vec<&Effective>, AllocError> {
+    let mut references = Vec::new(alloc);
+    for bean in beans {
+        references.push(bean)?;
+    }
+    Ok(references)
 }
 
 /// Whether the beans are these, in this order.
 fn has_beans(alloc: Global, decls: &Decls, wanted: &[Told]) -> Result<bool, Error> {
-    let found = beans(alloc, decls)?;
-    if found.len() != wanted.len() {
+    let found = BeanList::of(alloc, decls)?;
+    if found.as_slice().len() != wanted.len() {
         return Ok(false);
     }
-    for (bean, told) in found.iter().zip(wanted.iter()) {
+    for (bean, told) in found.as_slice().iter().zip(wanted.iter()) {
         if !is_told(bean, disposer_of(alloc, decls, bean), told) {
             return Ok(false);
         }
@@ -156,18 +214,33 @@ fn chooses_name(
 
 /// Whether what is right for each injection point is what is wanted.
 fn evaluates(alloc: Global, decls: &Decls, wanted: &[Answer]) -> Result<bool, Error> {
-    let list = beans(alloc, decls)?;
-    let mut view = PlainView::new(decls, list.as_slice());
+    let list = BeanList::of(alloc, decls)?;
+    let mut view = PlainView::new(decls, &list);
     let found = evaluate(alloc, &mut view)?;
     Ok(are_choices(found.as_slice(), wanted))
 }
 
-fn are_choices(found: &[Rc<Choice>], wanted: &[Answer]) -> bool {
-    found.len() == wanted.len()
-        && found
-            .iter()
-            .zip(wanted.iter())
-            .all(|(choice, answer)| is_choice(choice, *answer))
+/// Whether the choices of each list, one list after another, are what is wanted.
+fn are_choices(found: &[Vec<Rc<Choice>>], wanted: &[Answer]) -> bool {
+    let mut left = wanted;
+    for own in found {
+        if left.len() < own.len() {
+            return false;
+        }
+        let (next, others) = left.split_at(own.len());
+        if !are_those(own.as_slice(), next) {
+            return false;
+        }
+        left = others;
+    }
+    left.is_empty()
+}
+
+fn are_those(found: &[Rc<Choice>], wanted: &[Answer]) -> bool {
+    found
+        .iter()
+        .zip(wanted.iter())
+        .all(|(choice, answer)| is_choice(choice, *answer))
 }
 
 /// The declaration of a bean.

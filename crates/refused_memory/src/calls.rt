@@ -3,8 +3,8 @@ use crate::Difference;
 use crate::answers::{Answer, Answered, agrees};
 use Answer::{Ambiguous, Done, Faults, One, Refused, Unsatisfied};
 use Call::{Choose, Named, Put, Remove, Report};
-use cdi_container::{Choice, Container, Fault};
-use cdi_fixtures::{name, quals};
+use cdi_container::{Choice, Container};
+use cdi_fixtures::{lines_of, name, quals};
 use cdi_model::{Error, Kind, Refusal};
 use std::alloc::{AllocError, Global};
 
@@ -194,16 +194,6 @@ fn choose(
 fn report(alloc: Global, container: &mut Container) -> Result<Answered, Error> {
     let faults = container.report()?;
     Ok(Answered::Faults(lines_of(alloc, faults.as_slice())?))
-}
-
-/// The texts of some faults, each on a line.
-fn lines_of(alloc: Global, faults: &[Fault]) -> Result<Vec<u8>, AllocError> {
-    let mut text = Vec::new(alloc);
-    for fault in faults {
-        fault.push_text(&mut text)?;
-        text.push(b'\n')?;
-    }
-    Ok(text)
 }
 
 /// Makes the calls, and tells whether one got no memory. Where one gets none, the state is as before it, and the call

@@ -2,7 +2,7 @@
 //! nothing.
 use crate::Difference;
 use crate::answers::Answer;
-use crate::bean_questions::{BeanQuestion, Deployed, Recorded, Told};
+use crate::bean_questions::{BeanQuestion, Compared, Deployed, Recorded, Told};
 use crate::texts::{are_names, names};
 use cdi_fixtures::name;
 use cdi_match::{closure, extends_itself, fill_members, inherits_itself, is_type, stereotypes};
@@ -33,7 +33,7 @@ enum Question {
     OfBeans(BeanQuestion),
 }
 
-use BeanQuestion::{Beans, Choose, ChooseName, Evaluate, Record};
+use BeanQuestion::{Beans, Choose, ChooseName, Evaluate, Put, Record};
 use Question::{
     BadUse, Closure, ExtendsItself, Fill, InheritsItself, IsType, OfBeans, Read, Stereotypes,
 };
@@ -71,7 +71,7 @@ producers=[
 "#,
 ];
 
-static QUESTIONS: [Question; 30] = [
+static QUESTIONS: [Question; 31] = [
     Closure(
         b"Corner",
         &[b"Corner", b"Object", b"Place", b"Shop", b"Stand", b"Stop"],
@@ -151,6 +151,15 @@ static QUESTIONS: [Question; 30] = [
         Answer::Unsatisfied,
         Answer::Unsatisfied,
     ])),
+    // The product writes the member whose default is another.
+    OfBeans(Put(
+        b"kind=\"qualifier\"\nname=\"Rank\"\nmembers=[{name=\"n\",default=3},{name=\"m\"},{name=\"k\",default=7}]\n",
+        &[
+            Compared(b"Flour", true),
+            Compared(b"Corner", false),
+            Compared(b"Mill", true),
+        ],
+    )),
 ];
 
 /// Asks the questions, and tells whether one got no memory. Where one gets none, it is asked again.

@@ -5,7 +5,6 @@ use Rattle.std.proofs.lemmas.List.{take_all}
 use Rattle.cdi_model.specs.declared.decl.Decl.{Decl}
 use Rattle.cdi_model.specs.DeclList.{AreDistinct}
 use Rattle.cdi_effective.specs.Beans.{beans}
-use Rattle.cdi_effective.specs.declared.records.Effective.{Effective}
 use Rattle.cdi_observe.specs.Answers.{answers}
 use Rattle.cdi_observe.specs.Kept.{Kept, evaluated}
 use Rattle.cdi_observe.specs.Wanted.{wanted}
@@ -28,25 +27,20 @@ all_asked (Err e) ds before after all = (
 )
 
 -- the faults of the declarations and then those of the names
-all_faults : (ds now : List Decl) (bs : List Effective) (none of_decls all : List Fault)
-    → all ≡ of_decls ++ name_clashes bs ++ name_prefixes bs → of_decls ≡ none ++ flat_map (faults_of now) now → none ≡ []
-    → bs ≡ beans ds → now ≡ ds → all ≡ faults ds
+all_faults : (ds now : List Decl) (none of_decls all : List Fault)
+    → all ≡ of_decls ++ name_clashes (beans now) ++ name_prefixes (beans now) → of_decls ≡ none ++ flat_map (faults_of now) now → none ≡ []
+    → now ≡ ds → all ≡ faults ds
 unfolding faults
-all_faults ds now bs none of_decls all with_names pushed empty of_beans is =
+all_faults ds now none of_decls all with_names pushed empty is =
     with_names
-    ∙ ap (λ es. of_decls ++ name_clashes es ++ name_prefixes es) of_beans
-    ∙ ap (λ fs. fs ++ name_clashes (beans ds) ++ name_prefixes (beans ds))
-    (pushed ∙ ap (λ fs. fs ++ flat_map (faults_of now) now) empty ∙ ap (λ es. flat_map (faults_of es) es) is)
+    ∙ ap (λ fs. fs ++ name_clashes (beans now) ++ name_prefixes (beans now))
+    (pushed ∙ ap (λ fs. fs ++ flat_map (faults_of now) now) empty)
+    ∙ ap (λ es. flat_map (faults_of es) es ++ name_clashes (beans es) ++ name_prefixes (beans es)) is
 
-pub push_of_decls-requires-clause-beans : goal.push_of_decls-requires-clause-beans
-unfolding beans
-push_of_decls-requires-clause-beans g c = c.beans.ensures ∙ ap beans (sym c.decls.ensures)
-
-pub push_of_decls-requires-clause-answers : goal.push_of_decls-requires-clause-answers
-unfolding answers
-push_of_decls-requires-clause-answers g c =
-    ap (map (λ a. a.value)) c.as_slice.ensures.value ∙ c.in_ok-answers.ensures.answers
-    ∙ ap answers (sym (c.decls.ensures ∙ c.in_ok-answers.ensures.list))
+pub push_of_decls-requires : goal.push_of_decls-requires
+push_of_decls-requires g c =
+    ap (map (λ list. map (λ answer. answer.value) list.items)) c.as_slice.ensures.value ∙ c.in_ok-answers.ensures.answers
+    ∙ ap answers (sym c.in_ok-answers.ensures.list)
 
 pub returns-in_err-push_of_decls-clause-err : goal.returns-in_err-push_of_decls-clause-err
 returns-in_err-push_of_decls-clause-err g c = all_asked _ (g.V.View.list c.args.view.now) (g.V.View.kept c.args.view.now)
@@ -58,10 +52,9 @@ returns-in_err-push_of_names-clause-err g c = all_asked _ (g.V.View.list c.args.
 
 pub returns-clause-faults : goal.returns-clause-faults
 returns-clause-faults g c =
-    let same = c.in_ok-answers.ensures.list in
-    all_faults (g.V.View.list c.args.view.now) c.decls.result.now c.beans-2.result.now c.new-faults.result.items
+    all_faults (g.V.View.list c.args.view.now) (g.V.View.list c.evaluate.new.view) c.new-faults.result.items
     c.push_of_decls.new.faults.items c.push_of_names.new.faults.items c.in_ok-push_of_names.ensures.faults
-    c.in_ok-push_of_decls.ensures.faults c.new-faults.ensures.items (c.beans-2.ensures ∙ ap beans same) (c.decls.ensures ∙ same)
+    c.in_ok-push_of_decls.ensures.faults c.new-faults.ensures.items c.in_ok-answers.ensures.list
 
 pub returns-in_err-answers-clause-order : goal.returns-in_err-answers-clause-order
 returns-in_err-answers-clause-order g c = subjects_in_order
@@ -88,11 +81,11 @@ pub returns-clause-longer : goal.returns-clause-longer
 returns-clause-longer g c = prefixes_go_on
 
 pub returns-clause-prefixes : goal.returns-clause-prefixes
-returns-clause-prefixes g c = subst (λ bs. LinesRise (name_prefixes bs)) (c.beans-2.ensures ∙ ap beans c.in_ok-answers.ensures.list)
-    (prefixes_rise c.beans-2.result.now c.in_ok-push_of_names.ensures.grammar)
+returns-clause-prefixes g c = subst (λ ds. LinesRise (name_prefixes (beans ds))) c.in_ok-answers.ensures.list
+    (prefixes_rise (beans (g.V.View.list c.evaluate.new.view)) c.in_ok-push_of_names.ensures.grammar)
 
 pub returns-clause-once : goal.returns-clause-once
 returns-clause-once g c =
     let ds = g.V.View.list c.args.view.now in
-    let distinct = subst AreDistinct (c.decls.ensures ∙ c.in_ok-answers.ensures.list) c.in_ok-push_of_decls.ensures.distinct in
+    let distinct = subst AreDistinct c.in_ok-answers.ensures.list c.in_ok-push_of_decls.ensures.distinct in
     subst (AllPairs (λ f g. f ≢ g)) (sym (returns-clause-faults g c)) (faults_stand_once ds distinct)

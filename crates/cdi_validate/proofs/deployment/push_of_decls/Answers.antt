@@ -1,58 +1,85 @@
-use Rattle.std.proofs.Common.{◌≡◌, ℕ, List, ◌∷◌, ◌++◌, length, map, drop, Global, sym, refl, ap, ◌∙◌, append_assoc, arith}
+use Rattle.std.proofs.Common.{◌≡◌, ◌++◌, [], ◌∷◌, List, length, map, sym, ap, ◌∙◌, append_assoc, append-nil, ⊎_elim}
+use Rattle.std.proofs.lemmas.List.{length-map, nil_from_length}
 use Rattle.std.specs.List.{flat_map}
-use Rattle.std.specs.declared.rc.Rc.{Rc}
-use Rattle.std.proofs.lemmas.List.{drop_at}
+use Rattle.std.specs.Slice.Iter.{iter_rest}
 use Rattle.cdi_model.specs.declared.decl.Decl.{Decl}
-use Rattle.cdi_effective.specs.Beans.{entries}
 use Rattle.cdi_resolve.specs.declared.choice.Choice.{Choice}
-use Rattle.cdi_observe.specs.Answers.{answer_to}
-use Rattle.cdi_observe.specs.Wanted.{points_of}
+use Rattle.cdi_observe.specs.Answers.{answers, answers_of}
 use Rattle.cdi_validate.specs.Faults.{faults_of}
-use Rattle.cdi_validate.proofs.PointLemmas.{IsSplit, split_read}
+use Rattle.cdi_validate.specs.Records.{records_by}
+use Rattle.cdi_validate.proofs.FoundLemmas.{records_found}
 use Rattle.cdi_validate.proofs.deployment.push_of_decls.Goals as goal
 
--- the answers that are left begin with those of the next declaration
-split_next : (ds left others : List Decl) (d : Decl) (answers : List (Rc Choice Global)) (n : ℕ) → n ≡ length (points_of d)
-    → left ≡ d ∷ others → map (λ a. a.value) answers ≡ map (answer_to ds) (flat_map points_of left)
-    → IsSplit (λ a. a.value) (answer_to ds) answers (points_of d) (flat_map points_of others) n
-split_next ds left others d answers n counted next all =
-    split_read (λ a. a.value) (answer_to ds) answers (points_of d) (flat_map points_of others) n counted
-    (all ∙ ap (λ es. map (answer_to ds) (flat_map points_of es)) next)
+-- the answers to the next declaration stand first
+first-answers : {L : Type 0} (value : L → List Choice) (ds left others : List Decl) (d : Decl) (lists rest : List L) (own : L)
+    → lists ≡ own ∷ rest → left ≡ d ∷ others → map value lists ≡ map (answers_of ds) left
+    → (value own ≡ answers_of ds d) × (map value rest ≡ map (answers_of ds) others)
+first-answers value ds left others d lists rest own begins next all =
+    let both : value own ∷ map value rest ≡ answers_of ds d ∷ map (answers_of ds) others =
+    ap (map value) (sym begins) ∙ all ∙ ap (map (answers_of ds)) next in
+    (cc, cc)
 
-pub point_count-requires : goal.point_count-requires
-point_count-requires c =
+pub loop-decl-init : goal.loop-decl-init
+unfolding answers
+loop-decl-init g c =
+    let ds = c.decls-decls.result.now in
+    let same : c.into_iter-decl-iterator.result.a ≡ ds = ap (λ z. z.a) c.into_iter-decl-iterator.ensures.into_iter_gives
+    ∙ c.zip-decl-items.ensures.first ∙ c.iter.ensures.value in
+    let lists : iter_rest c.into_iter-decl-iterator.result.b ≡ c.args.answers.now =
+    ap (λ z. iter_rest z.b) c.into_iter-decl-iterator.ensures.into_iter_gives ∙ c.zip-decl-items.ensures.second.0 in
+    record {
+      gone = ([], same);
+      answers = ap (map (λ list. map (λ answer. answer.value) list.items)) lists ∙ c.requires
+          ∙ ap answers (sym c.decls-decls.ensures) ∙ ap (map (answers_of ds)) (sym same);
+      faults = ap (λ es. c.args.faults.now.items ++ flat_map (faults_of ds) es) same;
+    }
+
+pub push_of_decl-requires-clause-beans : goal.push_of_decl-requires-clause-beans
+push_of_decl-requires-clause-beans g c =
+    let gone = c.loop-decl.invariant.gone in
     let d = c.in-Some.decl.now in
-    let split = split_next c.args.decls.now c.loop-decl.decl-iterator c.next.new.self d c.loop-decl.rest_of_answers.now
-    (length (points_of d)) refl c.in-Some.ensures.steps c.loop-decl.invariant.answers in
-    omega (arith, split.within, c.loop-decl.invariant.bound)
-
-pub split_at-requires-in-loop-decl : goal.split_at-requires-in-loop-decl
-split_at-requires-in-loop-decl c =
-    let split = split_next c.args.decls.now c.loop-decl.decl-iterator c.next.new.self c.in-Some.decl.now c.loop-decl.rest_of_answers.now
-    c.point_count.result c.point_count.ensures c.in-Some.ensures.steps c.loop-decl.invariant.answers in
-    split.within
+    c.records_of-beans.ensures
+    ∙ ap (λ ds. records_by ds d) (sym c.decls-decls.ensures)
+    ∙ records_found c.decls-decls.result.now gone.0 c.next.new.self.a d c.iter.ensures.distinct
+    (ap (λ rest. gone.0 ++ rest) (sym c.in-Some.ensures.steps.0) ∙ gone.1)
 
 pub push_of_decl-requires-clause-answers : goal.push_of_decl-requires-clause-answers
-push_of_decl-requires-clause-answers c =
-    let split = split_next c.args.decls.now c.loop-decl.decl-iterator c.next.new.self c.in-Some.decl.now c.loop-decl.rest_of_answers.now
-    c.point_count.result c.point_count.ensures c.in-Some.ensures.steps c.loop-decl.invariant.answers in
-    ap (map (λ a. a.value)) c.split_at-in-loop-decl.ensures.front ∙ split.front
+push_of_decl-requires-clause-answers g c =
+    ap (map (λ answer. answer.value)) c.as_slice.ensures.value
+    ∙ (first-answers (λ list. map (λ answer. answer.value) list.items) c.decls-decls.result.now c.loop-decl.decl-iterator.a
+    c.next.new.self.a c.in-Some.decl.now (iter_rest c.loop-decl.decl-iterator.b) (iter_rest c.next.new.self.b) c.in-Some.own.now
+    c.in-Some.ensures.steps.1 c.in-Some.ensures.steps.0 c.loop-decl.invariant.answers).0
 
 pub loop-decl-preserved : goal.loop-decl-preserved
-loop-decl-preserved c =
-    let ds = c.args.decls.now in
+loop-decl-preserved g c =
+    let ds = c.decls-decls.result.now in
     let d = c.in-Some.decl.now in
-    let left = c.next.new.self in
-    let split = split_next ds c.loop-decl.decl-iterator left d c.loop-decl.rest_of_answers.now c.point_count.result c.point_count.ensures
-    c.in-Some.ensures.steps c.loop-decl.invariant.answers in
+    let gone = c.loop-decl.invariant.gone in
+    let left = c.next.new.self.a in
     record {
-      beans = c.split_at.ensures.back
-          ∙ ap (drop c.bean_count.result) (c.loop-decl.invariant.beans ∙ ap (flat_map (entries ds)) c.in-Some.ensures.steps)
-          ∙ drop_at (entries ds d) (flat_map (entries ds) left) c.bean_count.result (sym (c.bean_count.ensures ds));
-      answers = ap (map (λ a. a.value)) c.split_at-in-loop-decl.ensures.back ∙ split.rest;
-      bound = omega arith;
+      gone = (gone.0 ++ d ∷ [], append_assoc gone.0 (d ∷ []) left ∙ ap (λ rest. gone.0 ++ rest) (sym c.in-Some.ensures.steps.0) ∙ gone.1);
+      answers = (first-answers (λ list. map (λ answer. answer.value) list.items) ds c.loop-decl.decl-iterator.a left d
+          (iter_rest c.loop-decl.decl-iterator.b) (iter_rest c.next.new.self.b) c.in-Some.own.now
+          c.in-Some.ensures.steps.1 c.in-Some.ensures.steps.0 c.loop-decl.invariant.answers).1;
       faults = ap (λ fs. fs ++ flat_map (faults_of ds) left) c.in_ok-push_of_decl.ensures
           ∙ append_assoc c.loop-decl.faults.items (faults_of ds d) (flat_map (faults_of ds) left)
-          ∙ ap (λ es. c.loop-decl.faults.items ++ flat_map (faults_of ds) es) (sym c.in-Some.ensures.steps)
+          ∙ ap (λ es. c.loop-decl.faults.items ++ flat_map (faults_of ds) es) (sym c.in-Some.ensures.steps.0)
           ∙ c.loop-decl.invariant.faults;
     }
+
+-- where no answers are left no declaration is
+none-left : {L : Type 0} (value : L → List Choice) (ds left : List Decl) (lists : List L) → map value lists ≡ map (answers_of ds) left
+    → length lists ≡ 0 → left ≡ []
+none-left value ds left lists all none = nil_from_length left
+    (sym (length-map left (answers_of ds)) ∙ ap length (sym all) ∙ length-map lists value ∙ none)
+
+pub returns-clause-faults : goal.returns-clause-faults
+returns-clause-faults g c =
+    let ds = c.decls-decls.result.now in
+    let left = c.loop-decl.decl-iterator.a in
+    let none : left ≡ [] = ⊎_elim (λ first. first.1.0) (λ second. none-left (λ list. map (λ answer. answer.value) list.items) ds left
+    (iter_rest c.loop-decl.decl-iterator.b) c.loop-decl.invariant.answers second.1.0) c.in-None.ensures.steps in
+    sym (append-nil c.loop-decl.faults.items)
+    ∙ ap (λ es. c.loop-decl.faults.items ++ flat_map (faults_of ds) es) (sym none)
+    ∙ c.loop-decl.invariant.faults
+    ∙ ap (λ es. c.args.faults.now.items ++ flat_map (faults_of es) es) c.decls-decls.ensures

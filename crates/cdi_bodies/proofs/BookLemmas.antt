@@ -1,0 +1,139 @@
+-- Where a body stands whose name is looked for, and what the names of a book tell of its bodies.
+use Rattle.std.proofs.Common.{◌≡◌, ◌≢◌, ◌∙◌, ap, sym, refl, subst, arith, ℕ, ◌+◌, ◌<◌, ◌≤◌, nat_eq, nat_lt, Bool, true, false, not, cond}
+use Rattle.std.proofs.Common.{List, [], ◌∷◌, ◌++◌, map, length, drop, get_or, slice_get, position, find, Option, Some, None, option_map}
+use Rattle.std.specs.Cmp.Lexicographic.{bytes_decides, pointwise}
+use Rattle.std.specs.List.{AllPairs, IsDistinct, list_any, position_or_len}
+use Rattle.std.specs.Option.{IfSome}
+use Rattle.std.proofs.lemmas.Bool.{ltb-false}
+use Rattle.std.proofs.lemmas.List.{append-nil, append_assoc, drop_all, drop_more, get_or_append_left, length-append, length-map}
+use Rattle.std.proofs.Math.Seq.{get_or-append_seam}
+use Rattle.std.proofs.lemmas.List.Folds.{find_at}
+use Rattle.std.proofs.lemmas.Map.Made.{AllPairs-from_IsDistinct, is_member-Decides}
+use Rattle.std.proofs.lemmas.Option.{slice_get_past, slice_get-get_or, slice_get-map}
+use Rattle.indexmap.specs.IndexSet.{insert_key}
+use Rattle.cdi_bodies.specs.Book.{Promised, promise_of, position_of, is_named, AreDistinct}
+use Rattle.cdi_bodies.specs.declared.promise.Promise.{Promise}
+
+module _ {X Y : Type 0} (f : X → Y) (p : Y → Bool) where
+  first_passing-map : (xs : List X) → position_or_len p (map f xs) ≡ position_or_len (λ x. p (f x)) xs
+  first_passing-map [] = refl
+  first_passing-map (x ∷ xs) = ap (λ n. cond (not (p (f x))) (1 + n) 0) (first_passing-map xs)
+
+  -- the place of what passes, seen through a function
+  position-map : (xs : List X) → position p (map f xs) ≡ position (λ x. p (f x)) xs
+  position-map xs = λ i. cond (nat_lt (first_passing-map xs i) (length-map xs f i)) (Some (first_passing-map xs i)) None
+
+module _ {X : Type 0} (p : X → Bool) (xs : List X) where
+  -- what passes first is found at its place
+  find_there : (i : ℕ) → Some i ≡ position p xs → find p xs ≡ slice_get xs i
+  find_there i at = by (nat_lt (position_or_len p xs) (length xs)) at
+    where
+      by : (b : Bool) → Some i ≡ cond b (Some (position_or_len p xs)) None → find p xs ≡ slice_get xs i
+      by true e = let n : position_or_len p xs ≡ i = cc in find_at p xs ∙ ap (slice_get xs) n
+      by false e = cc
+
+  -- and what has no place is not found
+  find_nowhere : None ≡ position p xs → find p xs ≡ None
+  find_nowhere at = by (nat_lt (position_or_len p xs) (length xs)) refl at
+    where
+      by : (b : Bool) → nat_lt (position_or_len p xs) (length xs) ≡ b → None ≡ cond b (Some (position_or_len p xs)) None
+          → find p xs ≡ None
+      by true _ e = cc
+      by false past e = find_at p xs ∙ slice_get_past xs (position_or_len p xs) (ltb-false (position_or_len p xs) (length xs) past)
+
+-- no body of the name: no promise
+pub no_promise : (bodies : List Promised) (name : List ℕ) → None ≡ position_of bodies name → promise_of bodies name ≡ None
+no_promise bodies name at = ap (option_map (λ body. body.1)) (find_nowhere (is_named name) bodies at)
+
+module _ {B : Type 0} (name_of : B → List ℕ) (promise_in : B → Promise) where
+  abbrev seen : List B → List Promised
+  seen bodies = map (λ body. (name_of body, promise_in body)) bodies
+
+  -- the place of a name is that of its body
+  pub position_named : (bodies : List B) (names : List (List ℕ)) (name : List ℕ)
+      → names ≡ map name_of bodies → position (pointwise nat_eq name) names ≡ position_of (seen bodies) name
+  position_named bodies names name named =
+      ap (position (pointwise nat_eq name)) named ∙ position-map name_of (pointwise nat_eq name) bodies
+      ∙ sym (position-map (λ body. (name_of body, promise_in body)) (is_named name) bodies)
+
+  -- and the promise of the name is that of the body there
+  pub promise_there : (bodies : List B) (name : List ℕ) (i : ℕ) (body : B)
+      → Some i ≡ position_of (seen bodies) name → slice_get bodies i ≡ Some body
+      → promise_of (seen bodies) name ≡ Some (promise_in body)
+  promise_there bodies name i body at there =
+      ap (option_map (λ b. b.1)) (find_there (is_named name) (seen bodies) i at
+      ∙ slice_get-map (λ b. (name_of b, promise_in b)) bodies i
+      ∙ ap (option_map (λ b. (name_of b, promise_in b))) there)
+
+  -- the body at a place
+  pub body_there : (bodies : List B) (i : ℕ) (body : B) → i < length (seen bodies) → body ≡ get_or bodies i body
+      → slice_get bodies i ≡ Some body
+  body_there bodies i body within here =
+      let as_long = length-map {B = Promised} bodies (λ b. (name_of b, promise_in b)) in
+      slice_get-get_or bodies i body (omega (arith, within, as_long)) ∙ ap Some (sym here)
+
+  names-seen : (bodies : List B) → map (λ body. body.0) (seen bodies) ≡ map name_of bodies
+  names-seen [] = refl
+  names-seen (body ∷ bodies) = ap (λ names. name_of body ∷ names) (names-seen bodies)
+
+  -- all names, once no body is left
+  pub names_all : (bodies : List B) (i : ℕ) (names : List (List ℕ)) → length bodies ≤ i
+      → names ++ map name_of (drop i bodies) ≡ map name_of bodies → names ≡ map name_of bodies
+  names_all bodies i names past all =
+      sym (append-nil names) ∙ ap (λ bs. names ++ map name_of bs) (sym (drop_all i bodies past)) ∙ all
+
+  -- one name more of those that are gone through
+  pub names_more : (bodies : List B) (i : ℕ) (body : B) (names more : List (List ℕ)) → i < length bodies → body ≡ get_or bodies i body
+      → more ≡ names ++ name_of body ∷ [] → names ++ map name_of (drop i bodies) ≡ map name_of bodies
+      → more ++ map name_of (drop (i + 1) bodies) ≡ map name_of bodies
+  names_more bodies i body names more within here grown all =
+      ap (λ ns. ns ++ map name_of (drop (i + 1) bodies)) grown
+      ∙ append_assoc names (name_of body ∷ []) (map name_of (drop (i + 1) bodies))
+      ∙ ap (λ bs. names ++ map name_of bs) (ap (λ b. b ∷ drop (i + 1) bodies) here ∙ sym (drop_more bodies i body within))
+      ∙ all
+
+  -- distinct names are names of distinct bodies
+  pub distinct_bodies : (bodies : List B) (names : List (List ℕ)) → names ≡ map name_of bodies → IsDistinct (pointwise nat_eq) names
+      → AreDistinct (seen bodies)
+  distinct_bodies bodies names named distinct =
+      subst (AllPairs (λ name other. name ≢ other)) (named ∙ sym (names-seen bodies))
+      (AllPairs-from_IsDistinct bytes_decides names distinct)
+
+  -- a name among those before it is there twice
+  pub name_twice : (bodies : List B) (i : ℕ) (body : B) (names : List (List ℕ)) → i < length bodies → body ≡ get_or bodies i body
+      → names ++ map name_of (drop i bodies) ≡ map name_of bodies → list_any (pointwise nat_eq (name_of body)) names ≡ true
+      → AreDistinct (seen bodies) → ⊥
+  name_twice bodies i body names within here all known distinct =
+      let name = name_of body in
+      let rest = map name_of (drop (i + 1) bodies) in
+      let place = (is_member-Decides bytes_decides names name).0 known in
+      let whole : map (λ b. b.0) (seen bodies) ≡ names ++ name ∷ rest =
+      names-seen bodies ∙ sym all
+      ∙ ap (λ bs. names ++ map name_of bs) (drop_more bodies i body within ∙ ap (λ b. b ∷ drop (i + 1) bodies) (sym here)) in
+      let apart = subst (AllPairs (λ n other. n ≢ other)) whole distinct in
+      apart place.0 (length names) name place.1 (omega (arith, length-append names (name ∷ rest)))
+      (get_or_append_left names (name ∷ rest) name place.0 place.1 ∙ place.2 ∙ sym (get_or-append_seam names name rest name))
+
+-- what holds of a promise that is there
+pub if_there : (P : Promise → Type 0) (found : Option Promise) (promise : Promise) → found ≡ Some promise → P promise
+    → IfSome found P
+if_there P found promise there holds = subst (λ o. IfSome o P) (sym there) holds
+
+-- a name that is new goes last
+pub name_added : (name : List ℕ) (names more : List (List ℕ)) (is_new : Bool)
+    → is_new ≡ not (list_any (pointwise nat_eq name) names) → is_new ≡ true
+    → more ≡ insert_key (pointwise nat_eq) names name → more ≡ names ++ name ∷ []
+name_added name names more is_new added new grown = by (list_any (pointwise nat_eq name) names) added grown
+  where
+    by : (b : Bool) → is_new ≡ not b → more ≡ cond b names (names ++ name ∷ []) → more ≡ names ++ name ∷ []
+    by true e g = cc
+    by false e g = g
+
+-- and one that is not new was there
+pub name_known : (name : List ℕ) (names : List (List ℕ)) (is_new : Bool)
+    → is_new ≡ not (list_any (pointwise nat_eq name) names) → is_new ≡ false → list_any (pointwise nat_eq name) names ≡ true
+name_known name names is_new added old = by (list_any (pointwise nat_eq name) names) added
+  where
+    by : (b : Bool) → is_new ≡ not b → b ≡ true
+    by true e = refl
+    by false e = cc

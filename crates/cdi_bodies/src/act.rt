@@ -1,0 +1,35 @@
+//! What a body is shown, and what it answers.
+use arrayvec::ArrayVec;
+use cdi_model::{Failure, Outcome, Val};
+
+/// What a body is shown each time it is asked for its next act. A frame is one invocation of one body.
+#[derive(Drop)]
+pub struct Frame {
+    /// What the body is invoked with.
+    pub argument: Val,
+    /// How many call sites its declaration has.
+    pub calls: u8,
+    /// How many sites its declaration has at which it fires events.
+    pub fires: u8,
+    /// The answers to its acts in this frame so far, in order: at most 64 (profile).
+    pub answers: ArrayVec<Outcome, 64>,
+}
+
+/// What a body answers: its next act, or how its frame ends.
+#[derive(Clone, Copy, PartialEq, Eq, Debug)]
+pub enum Act {
+    /// Asks for what its instance holds.
+    Load,
+    /// Makes its instance hold this.
+    Store(Val),
+    /// Calls the method of a call site, counted from 0.
+    Call { site: u8, arg: Val },
+    /// Fires the event of a site, counted from 0.
+    Fire { site: u8, arg: Val },
+    /// Lets the next interceptor run, or behind the last the intercepted body (Jakarta Interceptors 2.1).
+    Proceed(Val),
+    /// Ends the frame with a value.
+    Return(Val),
+    /// Ends the frame with a failure.
+    Fail(Failure),
+}

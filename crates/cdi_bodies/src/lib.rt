@@ -1,0 +1,14 @@
+//! Stored bodies: what a body may be shown, what it may answer, and the book that keeps them.
+#![tactic(auto)]
+
+mod act;
+mod body;
+mod book;
+mod book_error;
+mod promise;
+
+pub use act::{Act, Frame};
+pub use body::{Asks, Body};
+pub use book::{Bodies, Book};
+pub use book_error::{BookCause, BookError};
+pub use promise::Promise;

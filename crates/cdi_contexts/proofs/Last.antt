@@ -1,0 +1,102 @@
+-- The youngest of some instances.
+use Rattle.std.proofs.Common.{◌≡◌, ℕ, ◌<◌, ◌≤◌, Bool, true, false, ◌==◌, cond, List, [], ◌∷◌, ◌++◌, reverse}
+use Rattle.std.proofs.Common.{Option, Some, None, IsSome, IfSome, refl, arith, subst, sym}
+use Rattle.std.specs.List.{find, AllByRecursion}
+use Rattle.std.specs.Option.{option_map}
+use Rattle.std.proofs.lemmas.List.{reverse-append}
+use Rattle.cdi_model.specs.declared.decl.Scope.{Scope}
+use Rattle.cdi_contexts.specs.Owned.{is_part_of, is_of}
+use Rattle.cdi_contexts.specs.Rising.{IsRising, RisesFrom, IsOwnerOf}
+use Rattle.cdi_contexts.specs.Standing.{last_where, last_of, last_in, numbered, IsLive}
+use Rattle.cdi_contexts.specs.declared.instance.Instance.{Instance}
+use Rattle.cdi_contexts.specs.declared.instance.InstanceId.{InstanceId}
+use Rattle.cdi_contexts.specs.declared.instance.Owner.{Owner}
+use Rattle.cdi_contexts.specs.declared.instance.Owner.TheVariants.{Request, Application, Point, Nobody}
+use Rattle.cdi_contexts.proofs.Rising.{rises_bound}
+
+-- ---- what stands of each live instance
+
+-- its number was given, its owner is older, and it is live
+abbrev pub Stands : ℕ → List Instance → Instance → Type 0
+Stands given live i = IsOwnerOf i.id.number i.owner × IsLive given live i.id.number
+
+here_first : (b : Bool) (i : Instance) (o : Option Instance) → b ≡ true → IsSome (cond b (Some i) o)
+here_first true i o h = refl
+here_first false i o h = cc
+
+here_later : (b : Bool) (i : Instance) (o : Option Instance) → IsSome o → IsSome (cond b (Some i) o)
+here_later true i o h = refl
+here_later false i o h = h
+
+all_later : (given : ℕ) (i : Instance) (live is : List Instance) → AllByRecursion (Stands given live) is
+    → AllByRecursion (Stands given (i ∷ live)) is
+all_later given i live [] a = tt
+all_later given i live (j ∷ js) a =
+    let still = here_later (i.id.number == j.id.number) i (numbered live j.id.number) a.0.1.1 in
+    ((a.0.0, (a.0.1.0, still)), all_later given i live js a.1)
+
+all_stand : (low given : ℕ) (live : List Instance) → RisesFrom low given live → AllByRecursion (Stands given live) live
+all_stand low given [] r = tt
+all_stand low given (i ∷ is) r =
+    let itself : (i.id.number == i.id.number) ≡ true = grind arith in
+    let first = here_first (i.id.number == i.id.number) i (numbered is i.id.number) itself in
+    ((r.1, (rises_bound i.id.number given is r.2, first)), all_later given i is is (all_stand i.id.number given is r.2))
+
+-- ---- what is found from the end
+
+all_end : (P : Instance → Type 0) (xs : List Instance) (x : Instance) → AllByRecursion P xs → P x → AllByRecursion P (xs ++ x ∷ [])
+all_end P [] x a p = (p, tt)
+all_end P (y ∷ ys) x a p = (a.0, all_end P ys x a.1 p)
+
+all_reversed : (P : Instance → Type 0) (xs : List Instance) → AllByRecursion P xs → AllByRecursion P (reverse xs)
+all_reversed P [] a = tt
+all_reversed P (x ∷ xs) a =
+    subst (AllByRecursion P) (sym (reverse-append (x ∷ []) xs)) (all_end P (reverse xs) x (all_reversed P xs a.1) a.0)
+
+-- it is one of which P holds, with such an owner
+abbrev IsSuch : (Instance → Type 0) → (Owner → Bool) → InstanceId → Type 0
+IsSuch P f d = (i : Instance) × P i × (f i.owner ≡ true) × (i.id ≡ d)
+
+such_first : (P : Instance → Type 0) (f : Owner → Bool) (d : InstanceId) (i : Instance) (b : Bool) (o : Option Instance)
+    → f i.owner ≡ b → P i → (option_map (λ i. i.id) o ≡ Some d → IsSuch P f d)
+    → option_map (λ i. i.id) (cond b (Some i) o) ≡ Some d → IsSuch P f d
+such_first P f d i true o h p rest e = (i, p, h, cc)
+such_first P f d i false o h p rest e = rest e
+
+such_found : (P : Instance → Type 0) (f : Owner → Bool) (d : InstanceId) (xs : List Instance) → AllByRecursion P xs
+    → option_map (λ i. i.id) (find (λ i. f i.owner) xs) ≡ Some d → IsSuch P f d
+such_found P f d [] a e = cc
+such_found P f d (x ∷ xs) a e =
+    such_first P f d x (f x.owner) (find (λ i. f i.owner) xs) refl a.0 (such_found P f d xs a.1) e
+
+last_such : (f : Owner → Bool) (given : ℕ) (live : List Instance) (d : InstanceId) → IsRising given live
+    → last_where f live ≡ Some d → IsSuch (Stands given live) f d
+last_such f given live d r e =
+    such_found (Stands given live) f d (reverse live) (all_reversed (Stands given live) live (all_stand 0 given live r)) e
+
+-- ---- the youngest dependent, and the youngest in a context
+
+pub part_above : (b n : ℕ) (o : Owner) → IsOwnerOf b o → is_part_of n o ≡ true → n < b
+part_above b n (Point m actor p) h e = let k : m ≡ n = grind arith in subst (λ (x : ℕ). x < b) k h
+part_above b n Request h e = cc
+part_above b n Application h e = cc
+part_above b n Nobody h e = cc
+
+live_along : (P : ℕ → Type 0) (a b : InstanceId) → a ≡ b → P a.number → P b.number
+live_along P a b e p = subst (λ (x : InstanceId). P x.number) e p
+
+pub young_if : (given n : ℕ) (live : List Instance) (o : Option InstanceId) → IsRising given live → o ≡ last_of live n
+    → IfSome o (λ d. (n < d.number) × (d.number ≤ given) × IsSome (numbered live d.number))
+young_if given n live (Some d) r e =
+    let y = last_such (is_part_of n) given live d r (sym e) in
+    let above = part_above y.0.id.number n y.0.owner y.1.0 y.2 in
+    let is_young = λ (x : ℕ). (n < x) × (x ≤ given) × IsSome (numbered live x) in
+    live_along is_young y.0.id d y.3 (above, y.1.1.0, y.1.1.1)
+young_if given n live None r e = tt
+
+pub lives_if : (given : ℕ) (scope : Scope) (live : List Instance) (o : Option InstanceId) → IsRising given live
+    → o ≡ last_in live scope → IfSome o (λ d. IsLive given live d.number)
+lives_if given scope live (Some d) r e =
+    let y = last_such (is_of scope) given live d r (sym e) in
+    live_along (IsLive given live) y.0.id d y.3 y.1.1
+lives_if given scope live None r e = tt

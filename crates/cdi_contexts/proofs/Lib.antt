@@ -1,0 +1,4 @@
+pub mod Last
+pub mod Rising
+pub mod Places
+pub mod Younger

@@ -1,0 +1,160 @@
+-- What was made for an instance is younger than it.
+use Rattle.std.proofs.Common.{◌≡◌, ℕ, zero, suc, ◌<◌, ◌≤◌, Bool, true, false, ◌==◌, ◌&&◌, cond, nat_lt, leb}
+use Rattle.std.proofs.Common.{List, [], ◌∷◌, take, drop, length, reverse, ◌-◌, Option, Some, None}
+use Rattle.std.proofs.Common.{refl, arith, ap, sym, subst, ◌∙◌}
+use Rattle.std.specs.List.{find, AllByRecursion}
+use Rattle.std.specs.List.Sorted.{IsPartitionPoint, IsPartitionedBy}
+use Rattle.std.specs.Option.{option_or, option_map}
+use Rattle.std.proofs.lemmas.Bool.Decides.{nat_tests}
+use Rattle.std.proofs.lemmas.List.{reverse-append, take_rest}
+use Rattle.std.proofs.lemmas.List.Folds.{find-append}
+use Rattle.std.proofs.lemmas.List.Sorted.{IsPartitionedBy-leb}
+use Rattle.cdi_contexts.specs.Owned.{is_part_of, is_at, same_actor}
+use Rattle.cdi_contexts.specs.Places.{younger_than}
+use Rattle.cdi_contexts.specs.Rising.{IsRising, RisesFrom}
+use Rattle.cdi_contexts.specs.Standing.{made_for, last_of}
+use Rattle.cdi_contexts.specs.declared.instance.Actor.{Actor}
+use Rattle.cdi_contexts.specs.declared.instance.Instance.{Instance}
+use Rattle.cdi_contexts.specs.declared.instance.Owner.{Owner}
+use Rattle.cdi_contexts.specs.declared.instance.Owner.TheVariants.{Request, Application, Point, Nobody}
+use Rattle.cdi_contexts.proofs.Last.{part_above}
+use Rattle.cdi_contexts.proofs.Places.{number_at, along}
+
+-- ---- the younger ones are the back of the list
+
+leaves : (b : Bool) (i : Instance) (is : List Instance) → b ≡ false → cond b (i ∷ is) is ≡ is
+leaves true i is h = cc
+leaves false i is h = refl
+
+takes : (b : Bool) (i : Instance) (is : List Instance) → b ≡ true → cond b (i ∷ is) is ≡ i ∷ is
+takes true i is h = refl
+takes false i is h = cc
+
+all_young : (n : ℕ) (live : List Instance) → ((k : ℕ) (d : Instance) → k < length live → n < number_at live k d)
+    → younger_than n live ≡ live
+all_young n [] young = refl
+all_young n (i ∷ is) young =
+    let first = young 0 i (omega arith) in
+    let rest = all_young n is (λ k d h. young (suc k) d (omega (arith, h))) in
+    takes (nat_lt n i.id.number) i (younger_than n is) (grind (arith, nat_tests, first)) ∙ ap (λ is. i ∷ is) rest
+
+back : (n : ℕ) (live : List Instance) (m : ℕ) → ((k : ℕ) (d : Instance) → k < m → number_at live k d ≤ n)
+    → ((k : ℕ) (d : Instance) → m ≤ k → k < length live → n < number_at live k d) → drop m live ≡ younger_than n live
+back n [] zero old young = refl
+back n [] (suc m) old young = refl
+back n (i ∷ is) zero old young = sym (all_young n (i ∷ is) (λ k d h. young k d (omega arith) h))
+back n (i ∷ is) (suc m) old young =
+    let first = old 0 i (omega arith) in
+    let rest = back n is m (λ k d h. old (suc k) d (omega (arith, h)))
+    (λ k d h b. young (suc k) d (omega (arith, h)) (omega (arith, b))) in
+    rest ∙ sym (leaves (nat_lt n i.id.number) i (younger_than n is) (grind (arith, nat_tests, first)))
+
+parted : (given n : ℕ) (live : List Instance) → IsRising given live → IsPartitionedBy (λ i. leb i.id.number n) live
+parted given n live r = IsPartitionedBy-leb (λ (i : Instance). i.id.number) live n (λ i j d h b. along 0 given live i j d r h b)
+
+low_leb : (x n : ℕ) → leb x n ≡ true → x ≤ n
+low_leb x n h = grind (arith, nat_tests)
+
+high_leb : (x n : ℕ) → leb x n ≡ false → n < x
+high_leb x n h = grind (arith, nat_tests)
+
+younger_back : (n : ℕ) (live : List Instance) (m : ℕ) → m ≤ length live
+    → IsPartitionPoint (λ (i : Instance). leb i.id.number n ≡ true) (λ i. leb i.id.number n ≡ false) live m
+    → drop m live ≡ younger_than n live
+younger_back n live m bound point =
+    back n live m (λ k d h. low_leb _ n (point.0 k d (omega arith) h)) (λ k d h b. high_leb _ n (point.1 k d h b))
+
+-- along what the code reads
+pub parted_along : (given n : ℕ) (live xs : List Instance) → xs ≡ live → IsRising given live
+    → IsPartitionedBy (λ (i : Instance). leb i.id.number n) xs
+parted_along given n live xs e r = subst (IsPartitionedBy (λ (i : Instance). leb i.id.number n)) (sym e) (parted given n live r)
+
+pub younger_along : (n : ℕ) (live xs ys : List Instance) (m : ℕ) → xs ≡ live → ys ≡ live → m ≤ length xs
+    → IsPartitionPoint (λ (i : Instance). leb i.id.number n ≡ true) (λ i. leb i.id.number n ≡ false) xs m
+    → take (length ys - m) (drop m ys) ≡ younger_than n live
+younger_along n live xs ys m e f bound point =
+    let at = λ (zs : List Instance). IsPartitionPoint (λ (i : Instance). leb i.id.number n ≡ true) (λ i. leb i.id.number n ≡ false) zs m in
+    take_rest ys m ∙ ap (drop m) f
+    ∙ younger_back n live m (subst (λ (zs : List Instance). m ≤ length zs) e bound) (subst at e point)
+
+-- ---- dependents are among the younger ones
+
+-- one of which p is true is younger
+abbrev IsYoung : ℕ → (Instance → Bool) → Instance → Type 0
+IsYoung n p i = p i ≡ true → nat_lt n i.id.number ≡ true
+
+skips : (b c : Bool) (i : Instance) (x y : Option Instance) (is : List Instance) (p : Instance → Bool) → p i ≡ c
+    → (c ≡ true → b ≡ true) → find p is ≡ y → x ≡ y → find p (cond b (i ∷ is) is) ≡ cond c (Some i) x
+skips true c i x y is p pc young e f = rw (pc, e, f) refl
+skips false true i x y is p pc young e f = let no : false ≡ true = young refl in cc
+skips false false i x y is p pc young e f = e ∙ sym f
+
+find_young : (n : ℕ) (p : Instance → Bool) (live : List Instance) → AllByRecursion (IsYoung n p) live
+    → find p (younger_than n live) ≡ find p live
+find_young n p [] a = refl
+find_young n p (i ∷ is) a =
+    let rest = find_young n p is a.1 in
+    skips (nat_lt n i.id.number) (p i) i (find p is) (find p is) (younger_than n is) p refl a.0 rest refl
+
+is_above : (n x : ℕ) → n < x → nat_lt n x ≡ true
+is_above n x h = grind (arith, nat_tests)
+
+and_first : (a b : Bool) → (a && b) ≡ true → a ≡ true
+and_first true b h = refl
+and_first false b h = cc
+
+all_part_young : (low given n : ℕ) (live : List Instance) → RisesFrom low given live
+    → AllByRecursion (IsYoung n (λ i. is_part_of n i.owner)) live
+all_part_young low given n [] r = tt
+all_part_young low given n (i ∷ is) r =
+    let young = λ (e : is_part_of n i.owner ≡ true). is_above n i.id.number (part_above i.id.number n i.owner r.1 e) in
+    (young, all_part_young i.id.number given n is r.2)
+
+at_part : (n : ℕ) (actor : Actor) (point : ℕ) (o : Owner) → is_at n actor point o ≡ true → is_part_of n o ≡ true
+at_part n actor point (Point m who p) h =
+    and_first (m == n) (same_actor who actor) (and_first ((m == n) && same_actor who actor) (p == point) h)
+at_part n actor point Request h = cc
+at_part n actor point Application h = cc
+at_part n actor point Nobody h = cc
+
+all_at_young : (low given n : ℕ) (actor : Actor) (point : ℕ) (live : List Instance) → RisesFrom low given live
+    → AllByRecursion (IsYoung n (λ i. is_at n actor point i.owner)) live
+all_at_young low given n actor point [] r = tt
+all_at_young low given n actor point (i ∷ is) r =
+    let young = λ (e : is_at n actor point i.owner ≡ true).
+    is_above n i.id.number (part_above i.id.number n i.owner r.1 (at_part n actor point i.owner e)) in
+    (young, all_at_young i.id.number given n actor point is r.2)
+
+pub made_young : (given n : ℕ) (actor : Actor) (point : ℕ) (live : List Instance) → IsRising given live
+    → made_for (younger_than n live) n actor point ≡ made_for live n actor point
+made_young given n actor point live r =
+    find_young n (λ i. is_at n actor point i.owner) live (all_at_young 0 given n actor point live r)
+
+-- ---- and so from the end
+
+or_none : (o : Option Instance) → option_or o None ≡ o
+or_none (Some i) = refl
+or_none None = refl
+
+find_end : (p : Instance → Bool) (i : Instance) (is : List Instance)
+    → find p (reverse (i ∷ is)) ≡ option_or (find p (reverse is)) (cond (p i) (Some i) None)
+find_end p i is = ap (find p) (reverse-append (i ∷ []) is) ∙ find-append p (reverse is) (i ∷ [])
+
+skips_back : (b c : Bool) (p : Instance → Bool) (i : Instance) (is js : List Instance) → p i ≡ c → (c ≡ true → b ≡ true)
+    → find p (reverse is) ≡ find p (reverse js) → find p (reverse (cond b (i ∷ is) is)) ≡ find p (reverse (i ∷ js))
+skips_back true c p i is js pc young e =
+    find_end p i is ∙ ap (λ o. option_or o (cond (p i) (Some i) None)) e ∙ sym (find_end p i js)
+skips_back false true p i is js pc young e = let no : false ≡ true = young refl in cc
+skips_back false false p i is js pc young e =
+    let last : cond (p i) (Some i) None ≡ None = ap (λ b. cond b (Some i) None) pc in
+    e ∙ sym (find_end p i js ∙ ap (option_or (find p (reverse js))) last ∙ or_none (find p (reverse js)))
+
+find_young_back : (n : ℕ) (p : Instance → Bool) (live : List Instance) → AllByRecursion (IsYoung n p) live
+    → find p (reverse (younger_than n live)) ≡ find p (reverse live)
+find_young_back n p [] a = refl
+find_young_back n p (i ∷ is) a =
+    skips_back (nat_lt n i.id.number) (p i) p i (younger_than n is) is refl a.0 (find_young_back n p is a.1)
+
+pub last_young : (given n : ℕ) (live : List Instance) → IsRising given live → last_of (younger_than n live) n ≡ last_of live n
+last_young given n live r =
+    ap (option_map (λ i. i.id)) (find_young_back n (λ i. is_part_of n i.owner) live (all_part_young 0 given n live r))

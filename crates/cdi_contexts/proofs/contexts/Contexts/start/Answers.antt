@@ -1,0 +1,10 @@
+use Rattle.std.proofs.Common.{refl, ap, sym, ◌+◌}
+use Rattle.cdi_contexts.specs.Storage.{Storage}
+use Rattle.cdi_contexts.proofs.Rising.{IsRising-more, IsOwnerOf_along}
+use Rattle.cdi_contexts.proofs.contexts.Contexts.start.Goals as goal
+
+pub invariant_of-self-2 : goal.invariant_of-self-2
+invariant_of-self-2 c =
+    let next = ap (λ (s : Storage). s.standing.given + 1) c.self.view_is in
+    let owned = IsOwnerOf_along _ _ _ (sym next) c.requires.owned in
+    rw c.in_ok-push.ensures.items (IsRising-more _ _ _ c.self.invariant refl owned)

@@ -1,0 +1,5 @@
+pub mod Owned
+pub mod Standing
+pub mod Rising
+pub mod Storage
+pub mod Places

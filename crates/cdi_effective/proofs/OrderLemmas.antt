@@ -1,0 +1,52 @@
+-- The types of each bean of the bean list stand in order.
+use Rattle.std.proofs.Common.{ℕ, List, [], ◌∷◌, ◌++◌, map, Option, Some, None}
+use Rattle.std.specs.List.{AllByRecursion, flat_map}
+use Rattle.std.specs.List.Sorted.{IsStrictlySortedBy}
+use Rattle.std.proofs.lemmas.List.Elements.{All-from_recursion}
+use Rattle.std.proofs.lemmas.List.Kept.{IsStrictlySortedBy-filter}
+use Rattle.cdi_model.specs.Bytes.{byte_order}
+use Rattle.cdi_model.specs.declared.decl.Attributes.{Attributes}
+use Rattle.cdi_model.specs.declared.decl.BeanDecl.{BeanDecl}
+use Rattle.cdi_model.specs.declared.decl.Decl.{Decl}
+use Rattle.cdi_model.specs.declared.decl.Decl.TheVariants as decls
+use Rattle.cdi_model.specs.declared.decl.ProducerDecl.{ProducerDecl}
+use Rattle.cdi_match.specs.Types.{types_of}
+use Rattle.cdi_match.proofs.TypeLemmas.{types_of-rises}
+use Rattle.cdi_effective.specs.Beans.{is_kept, restricted, effective, managed_origin, product_origin, product, managed}
+use Rattle.cdi_effective.specs.Beans.{entries, beans, TypesStandInOrder}
+use Rattle.cdi_effective.specs.declared.records.Effective.{Effective}
+use Rattle.cdi_effective.specs.declared.records.Origin.{Origin}
+
+abbrev IsInOrder : Effective → Type 0
+IsInOrder bean = IsStrictlySortedBy byte_order bean.types
+
+restricted-rises : (listed : Option (List (List ℕ))) (types : List (List ℕ)) → IsStrictlySortedBy byte_order types
+    → IsStrictlySortedBy byte_order (restricted listed types)
+restricted-rises None types rise = rise
+restricted-rises (Some listed) types rise = IsStrictlySortedBy-filter byte_order (is_kept listed) types rise
+
+one-in-order : (ds : List Decl) (origin : Origin) (attributes : Attributes) → IsInOrder (effective ds origin attributes)
+unfolding effective
+one-in-order ds origin attributes = restricted-rises attributes.types (types_of ds origin.bean_type) (types_of-rises ds origin.bean_type)
+
+products-in-order : (ds : List Decl) (bean : BeanDecl) (ps : List ProducerDecl) (rest : List Effective) → AllByRecursion IsInOrder rest
+    → AllByRecursion IsInOrder (map (product ds bean) ps ++ rest)
+products-in-order ds bean [] rest all = all
+products-in-order ds bean (p ∷ ps) rest all = (
+  one-in-order ds (product_origin bean (managed ds bean).is_enabled (managed ds bean).is_alternative p) p.attributes,
+  products-in-order ds bean ps rest all,
+)
+
+all-in-order : (ds es : List Decl) → AllByRecursion IsInOrder (flat_map (entries ds) es)
+all-in-order ds [] = tt
+all-in-order ds (decls.Type d ∷ es) = all-in-order ds es
+all-in-order ds (decls.Qualifier d ∷ es) = all-in-order ds es
+all-in-order ds (decls.Stereotype d ∷ es) = all-in-order ds es
+all-in-order ds (decls.Bean bean ∷ es) = (
+  one-in-order ds (managed_origin bean) bean.attributes,
+  products-in-order ds bean bean.producers (flat_map (entries ds) es) (all-in-order ds es),
+)
+
+pub types_stand_in_order : TypesStandInOrder
+unfolding beans
+types_stand_in_order ds = All-from_recursion IsInOrder (flat_map (entries ds) ds) (all-in-order ds ds)

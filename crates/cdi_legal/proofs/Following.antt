@@ -1,0 +1,56 @@
+-- What stands along a legal tree is the fold of its entries.
+use Rattle.std.proofs.Common.{◌≡◌, ℕ, List, [], ◌∷◌, ◌++◌, refl, sym, ap, ◌∙◌, append_assoc}
+use Rattle.cdi_model.specs.declared.outcome.Outcome.{Outcome}
+use Rattle.cdi_contexts.specs.Standing.{Standing}
+use Rattle.cdi_scene.specs.declared.scene.Scene.{Scene}
+use Rattle.cdi_legal.specs.Follows.{Follows, after}
+use Rattle.cdi_legal.specs.Legal.{Legal, Node, Answer}
+use Rattle.cdi_legal.specs.LegalRun.{Runs, Command}
+use Rattle.cdi_legal.specs.Moment.{Moment, step, put, ask_more}
+use Rattle.cdi_legal.specs.declared.entry.Entry.{Entry}
+use Rattle.cdi_legal.specs.declared.entry.Entry.TheVariants.{Create}
+use Rattle.cdi_legal.proofs.Along.{IsAlong, legal_along, runs_along}
+
+after-append : (s : Standing) (xs ys : List Entry) → after s (xs ++ ys) ≡ after (after s xs) ys
+after-append s [] ys = refl
+after-append s (x ∷ xs) ys = after-append (step s x) xs ys
+
+append_nil : (xs : List Entry) → xs ≡ xs ++ []
+append_nil [] = refl
+append_nil (x ∷ xs) = ap (λ (l : List Entry). x ∷ l) (append_nil xs)
+
+none : (m : Moment) → Follows m m
+none m = record { pushed = []; trace = append_nil m.trace; standing = refl }
+
+then : (a b c : Moment) → Follows a b → Follows b c → Follows a c
+then a b c p q = record {
+  pushed = p.pushed ++ q.pushed;
+  trace = q.trace ∙ ap (λ (l : List Entry). l ++ q.pushed) p.trace ∙ append_assoc a.trace p.pushed q.pushed;
+  standing = q.standing ∙ ap (λ (s : Standing). after s q.pushed) p.standing ∙ sym (after-append a.standing p.pushed q.pushed);
+}
+
+entry : (e : Entry) (m m' : Moment) → m' ≡ put e m → Follows m m'
+entry e m m' h = record {
+  pushed = e ∷ [];
+  trace = ap (λ (x : Moment). x.trace) h;
+  standing = ap (λ (x : Moment). x.standing) h;
+}
+
+asking : (m m' : Moment) → m' ≡ ask_more m → Follows m m'
+asking m m' h = record {
+  pushed = [];
+  trace = ap (λ (x : Moment). x.trace) h ∙ append_nil m.trace;
+  standing = ap (λ (x : Moment). x.standing) h;
+}
+
+follows_along : IsAlong Follows
+follows_along = record {
+  keeps = record { none = none; then = then; entry = λ e m m' other h. entry e m m' h; asking = asking };
+  create = λ i o m m' h. entry (Create i o) m m' h;
+}
+
+pub legal_follows : {s : Scene} {k : ℕ} {x : Node} {a : Answer} {m m' : Moment} → Legal s k x m a m' → Follows m m'
+legal_follows l = legal_along follows_along l
+
+pub runs_follow : {s : Scene} {c : Command} {m : Moment} {o : Outcome} {m' : Moment} → Runs s c m o m' → Follows m m'
+runs_follow r = runs_along follows_along r

@@ -1,0 +1,4 @@
+pub mod Along
+pub mod Following
+pub mod Growing
+pub mod Sharing

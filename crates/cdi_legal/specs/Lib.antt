@@ -1,0 +1,9 @@
+pub mod Moment
+pub mod Acts
+pub mod Ends
+pub mod Legal
+pub mod LegalRun
+pub mod Follows
+pub mod Grows
+pub mod Room
+pub mod Single

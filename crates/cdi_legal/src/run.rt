@@ -1,0 +1,186 @@
+//! A run under way. Each entry that is pushed does to the contexts what it says, so what stands follows from the trace.
+ghost use Rattle.std.specs.Prelude.{◌≡◌, ◌+◌, ◌<◌, ◌≤◌, ◌↔◌, false, IsTrue, None, IfSome, IsSome, IsOk, OnOk, IfOk};
+ghost use Rattle.cdi_contexts.specs.Standing.{IsFull, IsLive, numbered, found, made_for, last_of, last_in, state_of, cleared};
+ghost use Rattle.cdi_contexts.specs.Rising.{IsOwnerOf};
+ghost use Rattle.cdi_legal.specs.Moment.{Moment, Track, put, ask_more, beginning, is_create};
+ghost use Rattle.cdi_legal.specs.declared.entry.Entry.TheVariants.{Create};
+
+use crate::entry::Entry;
+use cdi_contexts::{Actor, Contexts, Instance, InstanceId, Owner};
+use cdi_model::{Scope, Val};
+use std::alloc::AllocError;
+use std::marker::Model;
+
+/// How often a command may ask bodies outside destruction (profile).
+pub const BUDGET: u32 = 20_000;
+
+/// A run under way: the contexts, the entries that it has pushed, and how often it has asked bodies.
+#[derive(Drop)]
+pub struct Run {
+    contexts: Contexts,
+    trace: Vec<Entry>,
+    asked: u32,
+}
+
+impl Model for Run {
+    ghost use Rattle.std.specs.Prelude.{◌-◌, min};
+    ghost use Rattle.std.specs.Vec.{vec_len, vec_capacity};
+    ghost use Rattle.cdi_legal.specs.Moment.{Track};
+
+    ghost Value = { Track };
+
+    ghost view = { λ run. record {
+      moment = record { standing = run.contexts.standing; trace = run.trace.items; asked = run.asked };
+      room = min (vec_capacity run.trace - vec_len run.trace) run.contexts.room;
+    } };
+}
+
+impl Run {
+    /// The beginning of a run over some contexts. The entries of the run before are cleared, and their memory is used again.
+    pub fn new(contexts: Contexts, trace: Vec<Entry>) -> Run
+        ensures { result.moment ≡ beginning contexts.standing }
+    {
+        let mut trace = trace;
+        trace.clear();
+        Run {
+            contexts,
+            trace,
+            asked: 0,
+        }
+    }
+
+    /// Pushes an entry that begins no instance, and does to the contexts what it says. It takes no memory where there is room.
+    pub fn note(&mut self, entry: Entry) -> Result<(), AllocError>
+        requires { is_create entry ≡ false }
+        ensures ok { OnOk result (self.new.moment ≡ put entry self.old.moment) }
+        ensures possible { 0 < self.old.room → IsOk result }
+        ensures room { self.old.room ≤ self.new.room + 1 }
+    {
+        self.trace.push(entry)?;
+        match entry {
+            Entry::Ready { id, product } => self.contexts.finish(id.number, product),
+            Entry::Broken { id, .. } | Entry::Gone { id } => self.contexts.abandon(id.number),
+            Entry::Stored {
+                number,
+                actor,
+                value,
+            } => self.contexts.store(number, actor, value)?,
+            _ => {}
+        }
+        Ok(())
+    }
+
+    /// Begins an instance, and pushes its entry; none where no further one may be made. It may take memory. What it leaves
+    /// where memory is wanted is not said.
+    pub fn begin(&mut self, bean: usize, owner: Owner) -> Result<Option<InstanceId>, AllocError>
+        requires owned { IsOwnerOf (self.old.moment.standing.given + 1) owner }
+        ensures possible { IfOk result (λ id. IsSome id → IsFull self.old.moment.standing → ⊥) }
+        ensures ok { let m = self.old.moment in
+            IfOk result (λ id. IfSome id (λ i.
+            (i.bean ≡ bean) × (i.number ≡ m.standing.given + 1) × (self.new.moment ≡ put (Create i owner) m))) }
+        ensures limit { IfOk result (λ id. id ≡ None → IsFull self.old.moment.standing × (self.new.moment ≡ self.old.moment)) }
+    {
+        match self.contexts.start(bean, owner)? {
+            None => Ok(None),
+            Some(number) => {
+                let id = InstanceId { bean, number };
+                self.trace.push(Entry::Create { id, owner })?;
+                Ok(Some(id))
+            }
+        }
+    }
+
+    /// Makes room for so many entries, and for as many states of interceptors.
+    pub fn reserve(&mut self, count: usize) -> Result<(), AllocError>
+        ensures moment { self.new.moment ≡ self.old.moment }
+        ensures room { OnOk result (count ≤ self.new.room) }
+    {
+        self.trace.reserve(count)?;
+        self.contexts.reserve(count)?;
+        Ok(())
+    }
+
+    /// Whether the command may ask once more.
+    pub fn may_ask(&self) -> bool
+        ensures { IsTrue result ↔ self.now.moment.asked < 20000 }
+    {
+        self.asked < BUDGET
+    }
+
+    /// Counts an asking.
+    pub fn count_asking(&mut self)
+        requires { self.old.moment.asked < 20000 }
+        ensures { self.new.moment ≡ ask_more self.old.moment }
+    {
+        self.asked += 1;
+    }
+
+    /// Whether a request is active.
+    pub fn is_active(&self) -> bool
+        ensures { result ≡ self.now.moment.standing.active }
+    {
+        self.contexts.is_active()
+    }
+
+    /// What an instance holds for an actor.
+    pub fn load(&self, number: u64, actor: Actor) -> Val
+        ensures { result ≡ state_of self.now.moment.standing number actor }
+    {
+        self.contexts.load(number, actor)
+    }
+
+    /// The instance of a bean in the context of its scope.
+    pub fn find(&self, scope: Scope, bean: usize) -> Option<Instance>
+        ensures { result ≡ found self.now.moment.standing.live scope bean }
+    {
+        self.contexts.find(scope, bean)
+    }
+
+    /// The instance that was made for this point of this actor of an instance.
+    pub fn made_for(&self, owner: u64, actor: Actor, point: usize) -> Option<Instance>
+        ensures { result ≡ made_for self.now.moment.standing.live owner actor point }
+    {
+        self.contexts.made_for(owner, actor, point)
+    }
+
+    /// The youngest dependent object of an instance, which is younger than the instance.
+    pub fn last_dependent(&self, owner: u64) -> Option<InstanceId>
+        ensures value { result ≡ last_of self.now.moment.standing.live owner }
+        ensures younger { let s = self.now.moment.standing in
+            IfSome result (λ id. (owner < id.number) × (id.number ≤ s.given) × IsSome (numbered s.live id.number)) }
+    {
+        self.contexts.last_dependent(owner)
+    }
+
+    /// The youngest instance in the context of a scope.
+    pub fn last(&self, scope: Scope) -> Option<InstanceId>
+        ensures value { result ≡ last_in self.now.moment.standing.live scope }
+        ensures lives { let s = self.now.moment.standing in IfSome result (λ id. IsLive s.given s.live id.number) }
+    {
+        self.contexts.last(scope)
+    }
+
+    /// How many numbers were given.
+    pub fn given(&self) -> u64
+        ensures { result ≡ self.now.moment.standing.given }
+    {
+        self.contexts.given()
+    }
+
+    /// No instance is live, no request active, and the trace is empty; numbers go on behind this one. It takes no memory.
+    pub fn clear(&mut self, given: u64)
+        ensures { self.new.moment ≡ beginning (cleared given) }
+    {
+        self.contexts.clear(given);
+        self.trace.clear();
+        self.asked = 0;
+    }
+
+    /// The contexts and the entries.
+    pub fn into_parts(self) -> (Contexts, Vec<Entry>)
+        ensures standing { result.0.standing ≡ self.moment.standing }
+        ensures trace { result.1.items ≡ self.moment.trace }
+    {
+        (self.contexts, self.trace)
+    }
+}

@@ -1,0 +1,130 @@
+-- What each declaration adds to what the keys of a type see rests on what it reads.
+use Rattle.std.proofs.Common.{◌≡◌, ℕ, Bool, true, false, cond, not, List, [], ◌∷◌, ◌++◌, map, filter, flat_map, refl, sym, ap, ◌∙◌}
+use Rattle.std.specs.List.{AllByRecursion}
+use Rattle.std.proofs.lemmas.List.{map-append}
+use Rattle.std.proofs.lemmas.List.Elements.{filter-append}
+use Rattle.cdi_model.specs.Decl.{key_of}
+use Rattle.cdi_model.specs.DeclKey.{key_at}
+use Rattle.cdi_model.specs.Edits.{edited_all, edited_keys, is_among, Avoid, others}
+use Rattle.cdi_model.specs.declared.decl.Decl.{Decl}
+use Rattle.cdi_model.specs.declared.decl.Kind.TheVariants as kinds
+use Rattle.cdi_model.specs.declared.edit.Edit.{Edit}
+use Rattle.cdi_model.specs.declared.key.DeclKey.{DeclKey}
+use Rattle.cdi_model.specs.declared.quals.Qual.{Qual}
+use Rattle.cdi_model.proofs.EditLemmas.{edits_keep_decl, edits_keep_others, avoid-first, avoid-second, avoid-head}
+use Rattle.cdi_match.specs.Filling.{as_qualifier, fill}
+use Rattle.cdi_match.specs.Covering.{given_name}
+use Rattle.cdi_effective.specs.Beans.{beans, entries, records}
+use Rattle.cdi_effective.specs.Reads.{record_reads, qualifier_reads}
+use Rattle.cdi_effective.specs.declared.records.Effective.{Effective}
+use Rattle.cdi_effective.proofs.RecordLemmas.{edits_keep_records}
+use Rattle.cdi_resolve.specs.Choices.{offers, candidate}
+use Rattle.cdi_resolve.specs.Sees.{filled, seen_bean}
+use Rattle.cdi_seen.specs.Contribution.{seen_of, contribution, SeenByDeclaration}
+use Rattle.cdi_seen.specs.Contribution.{EditsKeepContribution, EditsKeepSeenBeans, EditsKeepGiven}
+
+-- ---- what is seen, declaration by declaration
+
+seen-append : (ds : List Decl) (t : List ℕ) (rs ss : List Effective) → seen_of ds t (rs ++ ss) ≡ seen_of ds t rs ++ seen_of ds t ss
+seen-append ds t rs ss =
+    ap (map (seen_bean ds)) (filter-append (offers t) rs ss) ∙ map-append (seen_bean ds) (filter (offers t) rs) (filter (offers t) ss)
+
+seen-of_each : (ds : List Decl) (t : List ℕ) (es : List Decl) → seen_of ds t (flat_map (entries ds) es) ≡ flat_map (contribution ds t) es
+seen-of_each ds t [] = refl
+seen-of_each ds t (e ∷ es) =
+    seen-append ds t (entries ds e) (flat_map (entries ds) es) ∙ ap (λ rest. contribution ds t e ++ rest) (seen-of_each ds t es)
+
+pub seen_by_declaration : SeenByDeclaration
+unfolding beans
+seen_by_declaration ds t = seen-of_each ds t ds
+
+-- ---- uses whose qualifiers are not edited
+
+abbrev use_key : Qual → DeclKey
+use_key u = key_at kinds.Qualifier u.name
+
+filled-same : (edits : List Edit) (ds : List Decl) (u : Qual) → is_among (edited_keys edits) (use_key u) ≡ false
+    → filled (edited_all ds edits) u ≡ filled ds u
+filled-same edits ds u none =
+    let stays = edits_keep_decl edits ds kinds.Qualifier u.name none in
+    λ j. record { name = u.name; given = given_name u.arguments; values = fill (as_qualifier (stays j)) u }
+
+uses-same : (edits : List Edit) (ds : List Decl) (us : List Qual) → Avoid (map use_key us) edits
+    → map (filled (edited_all ds edits)) us ≡ map (filled ds) us
+uses-same edits ds [] avoid = refl
+uses-same edits ds (u ∷ us) avoid =
+    ap (λ f. f ∷ map (filled (edited_all ds edits)) us) (filled-same edits ds u (avoid-head edits (use_key u) (map use_key us) avoid))
+    ∙ ap (λ rest. filled ds u ∷ rest) (uses-same edits ds us (avoid-second edits (use_key u ∷ []) (map use_key us) avoid))
+
+bean-same : (edits : List Edit) (ds : List Decl) (r : Effective) → Avoid (map use_key r.qualifiers) edits
+    → seen_bean (edited_all ds edits) r ≡ seen_bean ds r
+bean-same edits ds r avoid =
+    let uses = uses-same edits ds r.qualifiers avoid in
+    λ j. record { candidate = candidate r; qualifiers = uses j }
+
+-- the beans that offer a type, with one more where that does
+abbrev with_bean : List ℕ → Bool → Effective → List Effective → List Effective
+with_bean t offered r rs = cond offered (r ∷ filter (offers t) rs) (filter (offers t) rs)
+
+seen-same : (edits : List Edit) (ds : List Decl) (t : List ℕ) (rs : List Effective) → Avoid (qualifier_reads rs) edits
+    → seen_of (edited_all ds edits) t rs ≡ seen_of ds t rs
+seen-same edits ds t [] avoid = refl
+seen-same edits ds t (r ∷ rs) avoid =
+    let own = map use_key r.qualifiers in
+    by (offers t r) (bean-same edits ds r (avoid-first edits own (qualifier_reads rs) avoid))
+    (seen-same edits ds t rs (avoid-second edits own (qualifier_reads rs) avoid))
+  where
+    by : (b : Bool) → seen_bean (edited_all ds edits) r ≡ seen_bean ds r → seen_of (edited_all ds edits) t rs ≡ seen_of ds t rs
+        → map (seen_bean (edited_all ds edits)) (with_bean t b r rs) ≡ map (seen_bean ds) (with_bean t b r rs)
+    by true same rest = ap (λ s. s ∷ seen_of (edited_all ds edits) t rs) same ∙ ap (λ more. seen_bean ds r ∷ more) rest
+    by false same rest = rest
+
+-- ---- the laws
+
+pub edits_keep_contribution : EditsKeepContribution
+edits_keep_contribution edits ds bean avoid t =
+    let apart = record_reads ds bean in
+    let quals = qualifier_reads (records ds bean) in
+    let stay : records (edited_all ds edits) bean ≡ records ds bean =
+    (edits_keep_records edits ds bean (avoid-first edits apart quals avoid)).1 in
+    ap (seen_of (edited_all ds edits) t) stay ∙ seen-same edits ds t (records ds bean) (avoid-second edits apart quals avoid)
+
+-- those apart from some keys, with one more where it has none of them
+abbrev with_other : List DeclKey → Bool → Decl → List Decl → List Decl
+with_other keys among d ds = cond (not among) (d ∷ others keys ds) (others keys ds)
+
+-- declarations that give nothing may be left out
+leave-out : {X : Type 0} (f : Decl → List X) (keys : List DeclKey) (ds : List Decl)
+    → AllByRecursion (λ d. is_among keys (key_of d) ≡ true → f d ≡ []) ds → flat_map f ds ≡ flat_map f (others keys ds)
+leave-out f keys [] none = refl
+leave-out f keys (d ∷ ds) none = by (is_among keys (key_of d)) refl (leave-out f keys ds none.1)
+  where
+    by : (b : Bool) → is_among keys (key_of d) ≡ b → flat_map f ds ≡ flat_map f (others keys ds)
+        → flat_map f (d ∷ ds) ≡ flat_map f (with_other keys b d ds)
+    by true e rest = ap (λ first. first ++ flat_map f ds) (none.0 e) ∙ rest
+    by false e rest = ap (λ more. f d ++ more) rest
+
+alike : {X : Type 0} (f g : Decl → List X) (keys : List DeclKey) (ds : List Decl)
+    → AllByRecursion (λ d. is_among keys (key_of d) ≡ false → f d ≡ g d) ds → flat_map f (others keys ds) ≡ flat_map g (others keys ds)
+alike f g keys [] same = refl
+alike f g keys (d ∷ ds) same = by (is_among keys (key_of d)) refl (alike f g keys ds same.1)
+  where
+    by : (b : Bool) → is_among keys (key_of d) ≡ b → flat_map f (others keys ds) ≡ flat_map g (others keys ds)
+        → flat_map f (with_other keys b d ds) ≡ flat_map g (with_other keys b d ds)
+    by true e rest = rest
+    by false e rest = ap (λ first. first ++ flat_map f (others keys ds)) (same.0 e) ∙ ap (λ more. g d ++ more) rest
+
+pub edits_keep_given : {X : Type 0} → EditsKeepGiven X
+edits_keep_given give edits ds leave =
+    let es : List Decl = edited_all ds edits in
+    let keys : List DeclKey = edited_keys edits in
+    leave-out (give es) keys es leave.after
+    ∙ sym (ap (flat_map (give es)) (edits_keep_others edits ds))
+    ∙ sym (alike (give ds) (give es) keys ds leave.others)
+    ∙ sym (leave-out (give ds) keys ds leave.before)
+
+pub edits_keep_seen_beans : EditsKeepSeenBeans
+edits_keep_seen_beans edits ds t leave =
+    seen_by_declaration (edited_all ds edits) t
+    ∙ edits_keep_given (λ list. contribution list t) edits ds leave
+    ∙ sym (seen_by_declaration ds t)

@@ -1,0 +1,113 @@
+-- The test of what keys see decides whether they see the same.
+use Rattle.std.proofs.Common.{◌≡◌, Bool, true, false, not, ◌&&◌, List, Option, Some, None, refl, ap, sym, ◌∙◌}
+use Rattle.std.specs.Bool.{Decides, beq}
+use Rattle.std.specs.Cmp.{booleans_Decides}
+use Rattle.std.specs.Cmp.Lexicographic.{bytes_decides, pointwise}
+use Rattle.std.specs.Option.{option_eq}
+use Rattle.std.specs.Ordering.{int_eq}
+use Rattle.std.specs.Str.{bytes_eq}
+use Rattle.std.proofs.lemmas.Bool.{false≢true}
+use Rattle.std.proofs.lemmas.Bool.Decides.{Decides-and, Decides-int_eq, Decides-like}
+use Rattle.std.proofs.lemmas.Slice.Eq.{slice_eq-Decides}
+use Rattle.cdi_model.specs.SameUse.{same_members, same_members-decides, same_qual, same_qual-decides}
+use Rattle.cdi_model.specs.declared.decl.Decl.{Decl}
+use Rattle.cdi_model.specs.declared.decl.MemberDecl.{MemberDecl}
+use Rattle.cdi_model.specs.declared.decl.QualifierDecl.{QualifierDecl}
+use Rattle.cdi_model.specs.declared.quals.Qual.{Qual}
+use Rattle.cdi_match.specs.Covering.{given_name}
+use Rattle.cdi_match.specs.Filling.{fill, find_qualifier}
+use Rattle.cdi_effective.specs.declared.records.BeanId.{BeanId}
+use Rattle.cdi_resolve.specs.Choices.{Candidate}
+use Rattle.cdi_resolve.specs.Sees.{FilledUse, SeenBean, Seen, filled}
+use Rattle.cdi_seen.specs.Touched.{key_sees, same_id, same_candidate, same_filled, same_seen_bean, same_member_decl, same_qualifier}
+use Rattle.cdi_seen.specs.Touched.{same_seen, is_touched, declare_alike, TouchedWhereSeenDiffers}
+
+pub option-decides : {X : Type 0} {f : X → X → Bool} → ((x y : X) → Decides (f x y) (x ≡ y)) → (a b : Option X)
+    → Decides (option_eq f a b) (a ≡ b)
+option-decides d None None = (λ h. refl, λ e. refl)
+option-decides d None (Some y) = (λ h. absurd (false≢true h), λ e. cc)
+option-decides d (Some x) None = (λ h. absurd (false≢true h), λ e. cc)
+option-decides {f = f} d (Some x) (Some y) = Decides-like (f x y) (ap Some) (λ e. cc) (d x y)
+
+same_id-decides : (a b : BeanId) → Decides (same_id a b) (a ≡ b)
+same_id-decides a b =
+    let class = bytes_eq a.class b.class in
+    let producer = option_eq bytes_eq a.producer b.producer in
+    Decides-like (same_id a b) (λ e j. record { class = e.0 j; producer = e.1 j }) (λ e. (ap (λ x. x.class) e, ap (λ x. x.producer) e))
+    (Decides-and class producer (bytes_decides a.class b.class) (option-decides bytes_decides a.producer b.producer))
+
+same_candidate-decides : (a b : Candidate) → Decides (same_candidate a b) (a ≡ b)
+same_candidate-decides a b =
+    let alternative = beq a.is_alternative b.is_alternative in
+    let priority = option_eq int_eq a.priority b.priority in
+    Decides-like (same_candidate a b) (λ e j. record { id = e.0 j; is_alternative = e.1.0 j; priority = e.1.1 j })
+    (λ e. (ap (λ x. x.id) e, (ap (λ x. x.is_alternative) e, ap (λ x. x.priority) e)))
+    (Decides-and (same_id a.id b.id) (alternative && priority) (same_id-decides a.id b.id)
+    (Decides-and alternative priority (booleans_Decides a.is_alternative b.is_alternative)
+    (option-decides Decides-int_eq a.priority b.priority)))
+
+same_filled-decides : (a b : FilledUse) → Decides (same_filled a b) (a ≡ b)
+same_filled-decides a b =
+    let given = option_eq bytes_eq a.given b.given in
+    let values = same_members a.values b.values in
+    Decides-like (same_filled a b) (λ e j. record { name = e.0 j; given = e.1.0 j; values = e.1.1 j })
+    (λ e. (ap (λ x. x.name) e, (ap (λ x. x.given) e, ap (λ x. x.values) e)))
+    (Decides-and (bytes_eq a.name b.name) (given && values) (bytes_decides a.name b.name)
+    (Decides-and given values (option-decides bytes_decides a.given b.given) (same_members-decides a.values b.values)))
+
+same_seen_bean-decides : (a b : SeenBean) → Decides (same_seen_bean a b) (a ≡ b)
+same_seen_bean-decides a b =
+    let quals = pointwise same_filled a.qualifiers b.qualifiers in
+    Decides-like (same_seen_bean a b) (λ e j. record { candidate = e.0 j; qualifiers = e.1 j })
+    (λ e. (ap (λ x. x.candidate) e, ap (λ x. x.qualifiers) e))
+    (Decides-and (same_candidate a.candidate b.candidate) quals (same_candidate-decides a.candidate b.candidate)
+    (slice_eq-Decides same_filled-decides a.qualifiers b.qualifiers quals refl))
+
+pub same_beans-decides : (olds news : List SeenBean) → Decides (pointwise same_seen_bean olds news) (olds ≡ news)
+same_beans-decides olds news = slice_eq-Decides same_seen_bean-decides olds news (pointwise same_seen_bean olds news) refl
+
+same_member_decl-decides : (a b : MemberDecl) → Decides (same_member_decl a b) (a ≡ b)
+same_member_decl-decides a b =
+    let default = option_eq int_eq a.default b.default in
+    let binding = beq a.is_binding b.is_binding in
+    Decides-like (same_member_decl a b) (λ e j. record { name = e.0 j; default = e.1.0 j; is_binding = e.1.1 j })
+    (λ e. (ap (λ x. x.name) e, (ap (λ x. x.default) e, ap (λ x. x.is_binding) e)))
+    (Decides-and (bytes_eq a.name b.name) (default && binding) (bytes_decides a.name b.name)
+    (Decides-and default binding (option-decides Decides-int_eq a.default b.default) (booleans_Decides a.is_binding b.is_binding)))
+
+pub same_qualifier-decides : (a b : QualifierDecl) → Decides (same_qualifier a b) (a ≡ b)
+same_qualifier-decides a b =
+    let members = pointwise same_member_decl a.members b.members in
+    Decides-like (same_qualifier a b) (λ e j. record { name = e.0 j; members = e.1 j })
+    (λ e. (ap (λ x. x.name) e, ap (λ x. x.members) e))
+    (Decides-and (bytes_eq a.name b.name) members (bytes_decides a.name b.name)
+    (slice_eq-Decides same_member_decl-decides a.members b.members members refl))
+
+same_seen-decides : (a b : Seen) → Decides (same_seen a b) (a ≡ b)
+same_seen-decides a b =
+    let beans = pointwise same_seen_bean a.beans b.beans in
+    let declared = pointwise (option_eq same_qualifier) a.declared b.declared in
+    Decides-like (same_seen a b) (λ e j. record { beans = e.0 j; declared = e.1 j })
+    (λ e. (ap (λ x. x.beans) e, ap (λ x. x.declared) e))
+    (Decides-and beans declared (same_beans-decides a.beans b.beans)
+    (slice_eq-Decides (option-decides same_qualifier-decides) a.declared b.declared declared refl))
+
+not_not : (b : Bool) → not (not b) ≡ b
+not_not true = refl
+not_not false = refl
+
+pub touched_where_seen_differs : TouchedWhereSeenDiffers
+unfolding is_touched
+touched_where_seen_differs ds es key =
+    let same : Bool = same_seen (key_sees ds key) (key_sees es key) in
+    let d : Decides same (key_sees ds key ≡ key_sees es key) = same_seen-decides (key_sees ds key) (key_sees es key) in
+    (λ h. d.0 (sym (not_not same) ∙ h), λ e. not_not same ∙ d.1 e)
+
+-- a use that is written alike is filled alike where its qualifier is declared alike
+pub alike_fill_the_same : (ds es : List Decl) (u v : Qual) → same_qual u v ≡ true → declare_alike ds es u.name ≡ true
+    → same_filled (filled ds u) (filled es v) ≡ true
+alike_fill_the_same ds es u v same alike =
+    let declared = (option-decides same_qualifier-decides (find_qualifier u.name ds) (find_qualifier u.name es)).0 alike in
+    let own : filled ds u ≡ filled es u =
+    λ j. record { name = u.name; given = given_name u.arguments; values = fill (declared j) u } in
+    (same_filled-decides (filled ds u) (filled es v)).1 (own ∙ ap (filled es) ((same_qual-decides u v).0 same))
