@@ -1,6 +1,7 @@
 //! Calls of a container, with ample memory.
 use cdi_container::{Answer, Choice, Command, Container};
 use cdi_model::{Error, Kind, Name, Quals, Refusal};
+use std::alloc::Global;
 use std::test::Fail;
 
 const TYPE: &[u8] = b"kind=\"type\"\nname=\"Corner\"\n";
@@ -29,24 +30,57 @@ fn chose(answer: &Answer, class: &[u8]) -> bool {
     }
 }
 
-#[test]
-fn answers_with_ample_memory(rt: HostRuntime) -> Result<(), Fail> {
-    let mut container = Container::new(rt.alloc());
+/// A container with a type and a bean of it.
+fn stored(alloc: Global) -> Result<Container, Error> {
+    let mut container = Container::new(alloc);
     container.put(TYPE)?;
     container.put(BEAN)?;
-    let chosen = container.choose(name(CORNER)?, &Quals::new(rt.alloc()))?;
-    assert!(rt; is_one(&chosen, CORNER));
-    let named = container.named(name(b"corner")?)?;
-    assert!(rt; is_one(&named, CORNER));
-    assert!(rt; container.report()?.is_empty());
-    let answer = container.execute(Command::Named {
+    Ok(container)
+}
+
+fn chooses(container: &mut Container, alloc: Global) -> Result<bool, Error> {
+    let choice = container.choose(name(CORNER)?, &Quals::new(alloc))?;
+    Ok(is_one(&choice, CORNER))
+}
+
+fn names(container: &mut Container) -> Result<bool, Error> {
+    let choice = container.named(name(b"corner")?)?;
+    Ok(is_one(&choice, CORNER))
+}
+
+fn executes(container: &mut Container) -> Result<bool, Error> {
+    let command = Command::Named {
         name: name(b"corner")?,
-    })?;
-    assert!(rt; chose(&answer, CORNER));
-    container.remove(Kind::Type, name(CORNER)?)?;
-    let again = container.remove(Kind::Type, name(CORNER)?);
-    assert!(rt; again == Err(Error::Refused(Refusal::Absent)));
+    };
+    let answer = container.execute(command)?;
+    Ok(chose(&answer, CORNER))
+}
+
+/// Whether a report has so many faults.
+fn reports(container: &mut Container, count: usize) -> Result<bool, Error> {
+    let faults = container.report()?;
+    Ok(faults.len() == count)
+}
+
+/// Whether the type is removed once, and absent then.
+fn removes(container: &mut Container) -> Result<bool, Error> {
+    let corner = name(CORNER)?;
+    container.remove(Kind::Type, corner)?;
+    let again = container.remove(Kind::Type, corner);
+    Ok(again == Err(Error::Refused(Refusal::Absent)))
+}
+
+fn answers(container: &mut Container, alloc: Global) -> Result<bool, Error> {
+    let asked = chooses(container, alloc)? && names(container)? && executes(container)?;
+    let edited = reports(container, 0)? && removes(container)?;
     // The class of the bean is not declared any more.
-    assert!(rt; container.report()?.len() == 1);
+    Ok(asked && edited && reports(container, 1)?)
+}
+
+#[test]
+fn answers_with_ample_memory(rt: HostRuntime) -> Result<(), Fail> {
+    let mut container = stored(rt.alloc())?;
+    let right = answers(&mut container, rt.alloc())?;
+    assert!(rt; right);
     Ok(())
 }
