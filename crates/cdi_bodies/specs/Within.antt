@@ -1,5 +1,5 @@
 -- Which acts a promise covers, on the frame that was shown.
-use Rattle.std.specs.Prelude.{◌≡◌, ℕ, ◌<◌}
+use Rattle.std.specs.Prelude.{◌≡◌, ◌==◌, ℕ, ◌<◌, Bool}
 use native.Mathlib.Nat.{ℕ_set}
 use Rattle.std.proofs.Math.Bridge.{le_prop}
 use Rattle.std.specs.Int.RustNames.{bit_and}
@@ -30,6 +30,10 @@ IsWithin promise frame act = Covers promise frame.calls frame.fires act
 -- each flag of the promise is one of those that are allowed
 abbrev pub IsAllowed : Promise → Promise → Type 0
 IsAllowed promise allowed = (flag : ℕ) → Has promise flag → Has allowed flag
+
+-- the same of the flags that are allowed, as a test
+abbrev pub keeps_to : Promise → ℕ → Bool
+keeps_to promise allowed = bit_and allowed promise.0 == promise.0
 
 -- each act that the promise covers, the other does
 abbrev pub CoversNoMore : Promise → Promise → Type 0

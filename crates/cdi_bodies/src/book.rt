@@ -1,5 +1,5 @@
 //! Books of stored bodies.
-ghost use Rattle.std.specs.Prelude.{◌≡◌, ◌<◌, ℕ, IfSome, IfOk, IfErr, is_some, map, List, length, slice_get};
+ghost use Rattle.std.specs.Prelude.{◌≡◌, ◌<◌, ℕ, IfSome, IfOk, IfErr, is_some, map, List, [], length, slice_get};
 ghost use Rattle.cdi_bodies.specs.Within.{IsWithin};
 ghost use Rattle.cdi_bodies.specs.Book.{promise_of, position_of, AreDistinct, IsCauseFor};
 ghost use Rattle.cdi_bodies.specs.declared.promise.Promise.{Promise};
@@ -64,6 +64,16 @@ fn names_of(alloc: Global, bodies: &[Body]) -> Result<IndexSet<Ident>, BookCause
 }
 
 impl Book {
+    /// A book without bodies. It takes no memory.
+    pub fn empty(alloc: Global) -> Book
+        ensures { ⟦<Book as Bodies>⟧.promises result ≡ [] }
+    {
+        Book {
+            bodies: Vec::new(alloc),
+            names: IndexSet::new(alloc),
+        }
+    }
+
     /// A book of these bodies, which are handed back where two of them have one name, and where there is no memory.
     /// It takes memory for an entry a body, and time near their number.
     pub fn new(bodies: Vec<Body>) -> Result<Book, BookError>

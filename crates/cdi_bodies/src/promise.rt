@@ -1,7 +1,7 @@
 //! What a body promises.
 ghost use Rattle.std.specs.Prelude.{⊤, [], ◌∷◌, ◌≡◌, ◌↔◌, IsTrue, codes};
 ghost use Rattle.cdi_bodies.specs.Flags as flags;
-ghost use Rattle.cdi_bodies.specs.Within.{IsAllowed, CoversNoMore};
+ghost use Rattle.cdi_bodies.specs.Within.{IsAllowed, CoversNoMore, keeps_to};
 
 use bitflags::{Flag, Flags, bitflag_items};
 
@@ -49,10 +49,11 @@ impl Promise {
     pub const AROUND_DESTRUCTION: Promise = Promise(Self::AT_DESTRUCTION.0 | Self::PROCEED.0);
 
     /// Whether a body of this promise may stand where these acts are allowed: each of its flags is one of theirs. The
-    /// clauses behind the first two say which flags the sets above have.
+    /// clauses behind the first three say which flags the sets above have.
     #[tactic(auto, using(crate::proofs::FlagLemmas::has_each, crate::proofs::FlagLemmas::has_all, crate::proofs::FlagLemmas::covers_each))]
     pub fn is_allowed(self, allowed: Promise) -> bool
-        ensures value { IsTrue result ↔ IsAllowed self allowed }
+        ensures value { result ≡ keeps_to self allowed.0 }
+        ensures meaning { IsTrue result ↔ IsAllowed self allowed }
         ensures acts { IsTrue result → CoversNoMore self allowed }
         ensures none { Promise.NONE.0 ≡ flags.set_of_flags [] }
         ensures at_instance { Promise.AT_INSTANCE.0 ≡ flags.at_instance }

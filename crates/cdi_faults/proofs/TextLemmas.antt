@@ -1,9 +1,28 @@
 -- The text of what has a fault.
-use Rattle.std.proofs.Common.{◌≡◌, ◌∷◌, refl}
+use Rattle.std.proofs.Common.{◌≡◌, ◌∷◌, ℕ, List, refl}
 use Rattle.std.specs.Prelude.{Some, None, ◌≢◌}
 use Rattle.cdi_faults.specs.declared.fault.Subject.{Subject}
 use Rattle.cdi_faults.specs.declared.fault.Subject.TheVariants as subjects
-use Rattle.cdi_faults.specs.FaultText.{text_of_subject, behind_space}
+use Rattle.cdi_faults.specs.declared.place.PartPlace.{PartPlace}
+use Rattle.cdi_faults.specs.declared.place.PartPlace.TheVariants as places
+use Rattle.cdi_faults.specs.FaultText.{text_of_place, text_of_subject, behind_space}
+
+behind_space_of_place : (place : PartPlace) → behind_space (text_of_place place) ≡ 32 ∷ text_of_place place
+behind_space_of_place places.Construct = refl
+behind_space_of_place places.Post = refl
+behind_space_of_place places.Pre = refl
+behind_space_of_place (places.Method name) = refl
+behind_space_of_place (places.Producer name) = refl
+behind_space_of_place (places.Disposer name) = refl
+
+behind_space_of_call : (place : PartPlace) (point method : List ℕ)
+    → behind_space (text_of_subject (subjects.Call place point method)) ≡ 32 ∷ text_of_subject (subjects.Call place point method)
+behind_space_of_call places.Construct point method = refl
+behind_space_of_call places.Post point method = refl
+behind_space_of_call places.Pre point method = refl
+behind_space_of_call (places.Method name) point method = refl
+behind_space_of_call (places.Producer name) point method = refl
+behind_space_of_call (places.Disposer name) point method = refl
 
 -- what is not the declaration as a whole has a text
 pub behind_space_of : (m : Subject) → m ≢ subjects.Whole → behind_space (text_of_subject m) ≡ 32 ∷ text_of_subject m
@@ -21,3 +40,5 @@ behind_space_of (subjects.Disposer name) h = refl
 behind_space_of (subjects.Use u) h = refl
 behind_space_of (subjects.Point None point) h = refl
 behind_space_of (subjects.Point (Some producer) point) h = refl
+behind_space_of (subjects.Part place) h = behind_space_of_place place
+behind_space_of (subjects.Call place point method) h = behind_space_of_call place point method

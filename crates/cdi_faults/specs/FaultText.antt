@@ -2,7 +2,7 @@
 use Rattle.std.specs.Prelude.{◌≡◌, ℕ, List, [], ◌∷◌, ◌++◌, map, fold, codes, Option, Some, None}
 use Rattle.std.specs.BTreeMap.{insert_entry}
 use Rattle.std.specs.List.Sorted.{IsStrictlySortedBy}
-use Rattle.cdi_model.specs.Bytes.{byte_order, space}
+use Rattle.cdi_model.specs.Bytes.{byte_order, dot, space}
 use Rattle.cdi_model.specs.Decl.{word_of_kind}
 use Rattle.cdi_model.specs.UseText.{text_of_use}
 use Rattle.cdi_match.specs.Chain.{has}
@@ -13,6 +13,8 @@ use Rattle.cdi_faults.specs.declared.fault.Fault.{Fault}
 use Rattle.cdi_faults.specs.declared.fault.Fault.TheVariants as faults_are
 use Rattle.cdi_faults.specs.declared.fault.Subject.{Subject}
 use Rattle.cdi_faults.specs.declared.fault.Subject.TheVariants as subjects
+use Rattle.cdi_faults.specs.declared.place.PartPlace.{PartPlace}
+use Rattle.cdi_faults.specs.declared.place.PartPlace.TheVariants as places
 
 -- a word, a space, and what it is about
 abbrev pub about : List ℕ → List ℕ → List ℕ
@@ -27,6 +29,15 @@ abbrev pub text_of_point : Option (List ℕ) → List ℕ → List ℕ
 text_of_point None point = about (codes "point") point
 text_of_point (Some producer) point = in_producer (Some producer) (about (codes "param") point)
 
+-- where a body runs
+abbrev pub text_of_place : PartPlace → List ℕ
+text_of_place places.Construct = codes "construct"
+text_of_place places.Post = codes "post"
+text_of_place places.Pre = codes "pre"
+text_of_place (places.Method name) = about (codes "method") name
+text_of_place (places.Producer name) = about (codes "producer") name
+text_of_place (places.Disposer name) = about (codes "disposer") name
+
 abbrev pub text_of_subject : Subject → List ℕ
 text_of_subject subjects.Whole = []
 text_of_subject (subjects.Type name) = about (codes "type") name
@@ -40,6 +51,8 @@ text_of_subject (subjects.Producer name) = about (codes "producer") name
 text_of_subject (subjects.Disposer name) = about (codes "disposer") name
 text_of_subject (subjects.Use u) = about (codes "qualifier") (text_of_use u)
 text_of_subject (subjects.Point producer point) = text_of_point producer point
+text_of_subject (subjects.Part place) = text_of_place place
+text_of_subject (subjects.Call place point method) = about (text_of_place place) (about (codes "call") (point ++ dot ∷ method))
 
 -- ---- what a fault prints
 
@@ -51,8 +64,10 @@ text_of_code fault_codes.Typed = codes "F04"
 text_of_code fault_codes.ScopeConflict = codes "F05"
 text_of_code fault_codes.Member = codes "F07"
 text_of_code fault_codes.Disposer = codes "F08"
+text_of_code fault_codes.Body = codes "F10"
 text_of_code fault_codes.Unsatisfied = codes "F20"
 text_of_code fault_codes.Ambiguous = codes "F21"
+text_of_code fault_codes.Site = codes "F23"
 text_of_code fault_codes.NameClash = codes "F24"
 text_of_code fault_codes.NamePrefix = codes "F25"
 

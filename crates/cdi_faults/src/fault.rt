@@ -3,6 +3,7 @@ ghost use Rattle.std.specs.Prelude.{◌≡◌, Contains};
 ghost use Rattle.std.specs.List.Sorted.{IsStrictlySortedBy};
 ghost use Rattle.cdi_faults.specs.Codes.{all_codes, code_of, code_order};
 
+use crate::place::PartPlace;
 use cdi_model::{Ident, Kind, Name, Qual};
 
 /// What is wrong. The order of the codes is that in which faults stand.
@@ -22,10 +23,14 @@ pub enum Code {
     Member,
     /// A disposer method matches no producer method, or two match one (CDI 4.0, Disposer method resolution).
     Disposer,
+    /// A body that it names is not in the book, or may do more than is allowed in its place (profile).
+    Body,
     /// No bean is right for an injection point (CDI 4.0, Unsatisfied and ambiguous dependencies).
     Unsatisfied,
     /// More than one bean is left for an injection point (CDI 4.0, Unsatisfied and ambiguous dependencies).
     Ambiguous,
+    /// A call site names no injection point that its body sees, or a method that the chosen bean does not have (profile).
+    Site,
     /// Several enabled beans have a name, and none of them is chosen for it (CDI 4.0, Ambiguous names).
     NameClash,
     /// The name of an enabled bean is that of another, a dot and a name (CDI 4.0, Ambiguous names).
@@ -35,7 +40,7 @@ pub enum Code {
 impl Code {
     /// All codes, in their order.
     #[tactic(auto, using(crate::proofs::CodeLemmas::codes_rise, crate::proofs::CodeLemmas::has_code))]
-    pub fn all() -> [Code; 11]
+    pub fn all() -> [Code; 13]
         ensures value { result ≡ all_codes }
         ensures order { IsStrictlySortedBy code_order all_codes }
         ensures each { (code : Code) → Contains all_codes code }
@@ -48,8 +53,10 @@ impl Code {
             Code::ScopeConflict,
             Code::Member,
             Code::Disposer,
+            Code::Body,
             Code::Unsatisfied,
             Code::Ambiguous,
+            Code::Site,
             Code::NameClash,
             Code::NamePrefix,
         ]
@@ -86,6 +93,14 @@ pub enum Subject {
     Point {
         producer: Option<Ident>,
         name: Ident,
+    },
+    /// A place at which a stored body runs.
+    Part(PartPlace),
+    /// A call site of what runs in a place.
+    Call {
+        place: PartPlace,
+        point: Ident,
+        method: Ident,
     },
 }
 

@@ -24,8 +24,10 @@ impl fmt::Display for Code {
             Code::ScopeConflict => "F05",
             Code::Member => "F07",
             Code::Disposer => "F08",
+            Code::Body => "F10",
             Code::Unsatisfied => "F20",
             Code::Ambiguous => "F21",
+            Code::Site => "F23",
             Code::NameClash => "F24",
             Code::NamePrefix => "F25",
         })
@@ -55,6 +57,12 @@ impl fmt::Display for Subject {
                 Some(producer) => write!(f, "producer {producer} param {name}"),
                 None => write!(f, "point {name}"),
             },
+            Subject::Part(place) => write!(f, "{place}"),
+            Subject::Call {
+                place,
+                point,
+                method,
+            } => write!(f, "{place} call {point}.{method}"),
         }
     }
 }

@@ -6,7 +6,8 @@ use Rattle.cdi_bodies.specs.declared.act.Frame.{Frame}
 use Rattle.cdi_bodies.specs.declared.promise.Promise.{Promise}
 use Rattle.cdi_stock.specs.Acts as acts
 use Rattle.cdi_stock.specs.declared.stock.Stock.{Stock}
-use Rattle.cdi_stock.specs.declared.stock.Stock.TheVariants.{Unit, Zero, Echo, Count, Relay, Notify, Pass, Double, Guard, Retry, Swallow, Short, Boom, Flaky, Spin}
+use Rattle.cdi_stock.specs.declared.stock.Stock.TheVariants.{Unit, Zero, Echo, Count, Relay, Notify, Pass, Double}
+use Rattle.cdi_stock.specs.declared.stock.Stock.TheVariants.{Guard, Retry, Swallow, Short, Boom, Flaky, Spin}
 
 -- the bodies, in the order of the table
 unfoldable pub table : List Stock

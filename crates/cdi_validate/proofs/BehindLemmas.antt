@@ -77,13 +77,13 @@ pairs-go_on all (x ∷ xs) =
 
 pub prefixes_go_on : PrefixesGoOn
 unfolding faults
-prefixes_go_on ds x y among =
+prefixes_go_on ds book x y among =
     let bs = beans ds in
-    let declared = flat_map (faults_of ds) ds in
-    let all : AllByRecursion GoesOn (faults ds) =
+    let declared = flat_map (faults_of ds book) ds in
+    let all : AllByRecursion GoesOn (faults ds book) =
     all-append GoesOn (declared ++ name_clashes bs) (name_prefixes bs)
     (all-append GoesOn declared (name_clashes bs)
-    (all-more (λ f. is-declared f ≡ 0) GoesOn of_declared declared (declared-tagged ds ds))
+    (all-more (λ f. is-declared f ≡ 0) GoesOn of_declared declared (declared-tagged ds book ds))
     (all-more (λ f. is-declared f ≡ 1) GoesOn of_clash (name_clashes bs) (clashes-tagged _)))
     (pairs-go_on (enabled_names bs) (enabled_names bs)) in
-    is_behind x y (All-contains GoesOn (faults ds) (faults_are.NamePrefix x y) (All-from_recursion GoesOn (faults ds) all) among)
+    is_behind x y (All-contains GoesOn (faults ds book) (faults_are.NamePrefix x y) (All-from_recursion GoesOn (faults ds book) all) among)

@@ -7,3 +7,4 @@ pub mod OnceLemmas
 pub mod LineLemmas
 pub mod BehindLemmas
 pub mod FoundLemmas
+pub mod SiteLemmas

@@ -6,6 +6,7 @@ use Rattle.std.specs.List.Sorted.{IsStrictlySortedBy}
 use Rattle.std.specs.Cmp.{IsTotalOrder}
 use Rattle.std.specs.Cmp.Lexicographic.{nat_list_cmp_total}
 use Rattle.std.proofs.lemmas.Cmp.{tied_itself}
+use Rattle.cdi_bodies.specs.Book.{Promised}
 use Rattle.cdi_model.specs.Decl.{key_of, kind_of, name_of_decl}
 use Rattle.cdi_model.specs.declared.decl.Decl.{Decl}
 use Rattle.cdi_model.specs.declared.key.DeclKey.{DeclKey}
@@ -154,20 +155,21 @@ one-subject : (code : Code) (d : Decl) (m n : Subject)
     → faults_are.Declared code (kind_of d) (name_of_decl d) m ≡ faults_are.Declared code (kind_of d) (name_of_decl d) n → m ≡ n
 one-subject code d m n e = cc
 
-of_code-differ : (ds : List Decl) (d : Decl) (code : Code) → Differ (faults_of_code ds d code)
-of_code-differ ds d code =
-    let ms = subjects_at_fault code ds d in
+of_code-differ : (ds : List Decl) (book : List Promised) (d : Decl) (code : Code) → Differ (faults_of_code ds book d code)
+of_code-differ ds book d code =
+    let ms = subjects_at_fault code ds book d in
     differ-map (faults_are.Declared code (kind_of d) (name_of_decl d)) (one-subject code d) (in_text_order ms)
     (differ-by text_of_subject (in_text_order ms)
     (rising-differ nat_list_cmp_total (map text_of_subject (in_text_order ms)) (subjects_in_order ms).0))
 
-of_code-tagged : (ds : List Decl) (d : Decl) (code : Code) → Tagged code_of code (faults_of_code ds d code)
-of_code-tagged ds d code =
-    let ms = in_text_order (subjects_at_fault code ds d) in
+of_code-tagged : (ds : List Decl) (book : List Promised) (d : Decl) (code : Code) → Tagged code_of code (faults_of_code ds book d code)
+of_code-tagged ds book d code =
+    let ms = in_text_order (subjects_at_fault code ds book d) in
     all-map (λ f. code_of f ≡ code) (faults_are.Declared code (kind_of d) (name_of_decl d)) ms (all-each _ (λ m. refl) ms)
 
-of_decl-differ : (ds : List Decl) (d : Decl) → Differ (faults_of ds d)
-of_decl-differ ds d = differ-flat_map code_of (faults_of_code ds d) (λ code. code) (of_code-tagged ds d) (of_code-differ ds d) all_codes
+of_decl-differ : (ds : List Decl) (book : List Promised) (d : Decl) → Differ (faults_of ds book d)
+of_decl-differ ds book d = differ-flat_map code_of (faults_of_code ds book d) (λ code. code) (of_code-tagged ds book d)
+    (of_code-differ ds book d) all_codes
     (rising-differ code_order-total all_codes codes_rise)
 
 -- ---- faults of all declarations
@@ -180,14 +182,14 @@ key-of (faults_are.NamePrefix name longer) = None
 some-key : (k l : DeclKey) → Some k ≡ Some l → k ≡ l
 some-key k l e = cc
 
-of_decl-tagged : (ds : List Decl) (d : Decl) → Tagged key-of (Some (key_of d)) (faults_of ds d)
-of_decl-tagged ds d = go all_codes
+of_decl-tagged : (ds : List Decl) (book : List Promised) (d : Decl) → Tagged key-of (Some (key_of d)) (faults_of ds book d)
+of_decl-tagged ds book d = go all_codes
   where
-    go : (cs : List Code) → Tagged key-of (Some (key_of d)) (flat_map (faults_of_code ds d) cs)
+    go : (cs : List Code) → Tagged key-of (Some (key_of d)) (flat_map (faults_of_code ds book d) cs)
     go [] = tt
     go (c ∷ cs) =
-        let ms = in_text_order (subjects_at_fault c ds d) in
-        all-append (λ f. key-of f ≡ Some (key_of d)) (faults_of_code ds d c) (flat_map (faults_of_code ds d) cs)
+        let ms = in_text_order (subjects_at_fault c ds book d) in
+        all-append (λ f. key-of f ≡ Some (key_of d)) (faults_of_code ds book d c) (flat_map (faults_of_code ds book d) cs)
         (all-map (λ f. key-of f ≡ Some (key_of d)) (faults_are.Declared c (kind_of d) (name_of_decl d)) ms (all-each _ (λ m. refl) ms))
         (go cs)
 
@@ -195,9 +197,10 @@ apart-more : {X : Type 0} (R S : X → X → Type 0) → ((x y : X) → R x y �
 apart-more R S more [] apart = tt
 apart-more R S more (x ∷ xs) apart = (all-more (R x) (S x) (more x) xs apart.0, apart-more R S more xs apart.1)
 
-declared-differ : (now ds : List Decl) → AllPairs (λ d e. key_of d ≢ key_of e) ds → Differ (flat_map (faults_of now) ds)
-declared-differ now ds keyed =
-    differ-flat_map key-of (faults_of now) (λ d. Some (key_of d)) (of_decl-tagged now) (of_decl-differ now) ds
+declared-differ : (now : List Decl) (book : List Promised) (ds : List Decl) → AllPairs (λ d e. key_of d ≢ key_of e) ds
+    → Differ (flat_map (faults_of now book) ds)
+declared-differ now book ds keyed =
+    differ-flat_map key-of (faults_of now book) (λ d. Some (key_of d)) (of_decl-tagged now book) (of_decl-differ now book) ds
     (apart-more _ _ (λ d e other same. other (some-key (key_of d) (key_of e) same)) ds (pairs-apart (λ d e. key_of d ≢ key_of e) ds keyed))
 
 -- 0 for a fault of a declaration, and one for each kind of faults of names
@@ -215,16 +218,18 @@ two-apart e = absurd (omega (arith, e))
 two-from_zero : ◌≢◌ {A = ℕ} 2 0
 two-from_zero e = absurd (omega (arith, e))
 
-pub declared-tagged : (now ds : List Decl) → AllByRecursion (λ f. is-declared f ≡ 0) (flat_map (faults_of now) ds)
-declared-tagged now [] = tt
-declared-tagged now (d ∷ ds) = all-append (λ f. is-declared f ≡ 0) (faults_of now d) (flat_map (faults_of now) ds) (go all_codes)
-    (declared-tagged now ds)
+pub declared-tagged : (now : List Decl) (book : List Promised) (ds : List Decl)
+    → AllByRecursion (λ f. is-declared f ≡ 0) (flat_map (faults_of now book) ds)
+declared-tagged now book [] = tt
+declared-tagged now book (d ∷ ds) =
+    all-append (λ f. is-declared f ≡ 0) (faults_of now book d) (flat_map (faults_of now book) ds) (go all_codes)
+    (declared-tagged now book ds)
   where
-    go : (cs : List Code) → AllByRecursion (λ f. is-declared f ≡ 0) (flat_map (faults_of_code now d) cs)
+    go : (cs : List Code) → AllByRecursion (λ f. is-declared f ≡ 0) (flat_map (faults_of_code now book d) cs)
     go [] = tt
     go (c ∷ cs) =
-        let ms = in_text_order (subjects_at_fault c now d) in
-        all-append (λ f. is-declared f ≡ 0) (faults_of_code now d c) (flat_map (faults_of_code now d) cs)
+        let ms = in_text_order (subjects_at_fault c now book d) in
+        all-append (λ f. is-declared f ≡ 0) (faults_of_code now book d c) (flat_map (faults_of_code now book d) cs)
         (all-map (λ f. is-declared f ≡ 0) (faults_are.Declared c (kind_of d) (name_of_decl d)) ms (all-each _ (λ m. refl) ms)) (go cs)
 
 -- ---- faults of names
@@ -295,9 +300,9 @@ names-not_declared bs =
 
 pub faults_stand_once : FaultsStandOnce
 unfolding faults
-faults_stand_once ds keyed =
+faults_stand_once ds book keyed =
     let bs = beans ds in
-    let declared = flat_map (faults_of ds) ds in
-    apart-pairs (λ f g. f ≢ g) (faults ds) (subst Differ (sym (append_assoc declared (name_clashes bs) (name_prefixes bs)))
-    (differ-append is-declared 0 declared (name_clashes bs ++ name_prefixes bs) (declared-tagged ds ds) (names-not_declared bs)
-    (declared-differ ds ds keyed) (names-differ_too bs)))
+    let declared = flat_map (faults_of ds book) ds in
+    apart-pairs (λ f g. f ≢ g) (faults ds book) (subst Differ (sym (append_assoc declared (name_clashes bs) (name_prefixes bs)))
+    (differ-append is-declared 0 declared (name_clashes bs ++ name_prefixes bs) (declared-tagged ds book ds) (names-not_declared bs)
+    (declared-differ ds book ds keyed) (names-differ_too bs)))

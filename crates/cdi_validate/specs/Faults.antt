@@ -5,6 +5,7 @@ use Rattle.std.specs.List.{list_any, flat_map, starts_with}
 use Rattle.std.specs.List.Sorted.{IsStrictlySortedBy}
 use Rattle.std.specs.Option.{option_to_list}
 use Rattle.std.specs.Str.{bytes_eq}
+use Rattle.cdi_bodies.specs.Book.{Promised}
 use Rattle.cdi_model.specs.Bytes.{byte_order, dot}
 use Rattle.cdi_model.specs.Decl.{kind_of, name_of_decl}
 use Rattle.cdi_model.specs.DeclList.{find_decl, AreDistinct}
@@ -44,6 +45,8 @@ use Rattle.cdi_faults.specs.declared.fault.Subject.TheVariants as subjects
 use Rattle.cdi_validate.specs.declared.points.Verdict.{Verdict}
 use Rattle.cdi_validate.specs.declared.points.Verdict.TheVariants as verdicts
 use Rattle.cdi_faults.specs.FaultText.{in_text_order, text_of_fault}
+use Rattle.cdi_validate.specs.Parts.{unfit_parts}
+use Rattle.cdi_validate.specs.Sites.{lost_sites}
 
 -- ---- subjects among what a declaration names
 
@@ -190,26 +193,29 @@ points_at_fault test ds d = []
 
 -- ---- all faults
 
--- the parts of a declaration that have a fault of a code; those of names are no declaration's
-abbrev pub subjects_at_fault : Code → List Decl → Decl → List Subject
-subjects_at_fault codes_of.UnknownName ds d = unknown_names ds d
-subjects_at_fault codes_of.Cycle ds d = whole_if (reaches_itself ds d)
-subjects_at_fault codes_of.BadKind ds d = bad_kinds ds d
-subjects_at_fault codes_of.Typed ds d = typed ds d
-subjects_at_fault codes_of.ScopeConflict ds d = scope_conflicts (entries ds d)
-subjects_at_fault codes_of.Member ds d = bad_uses ds d
-subjects_at_fault codes_of.Disposer ds d = disposers_at_fault ds d
-subjects_at_fault codes_of.Unsatisfied ds d = points_at_fault (has_verdict verdicts.Unsatisfied) ds d
-subjects_at_fault codes_of.Ambiguous ds d = points_at_fault (has_verdict verdicts.Ambiguous) ds d
-subjects_at_fault codes_of.NameClash ds d = []
-subjects_at_fault codes_of.NamePrefix ds d = []
+-- the parts of a declaration that have a fault of a code, where these bodies are stored; those of names are no declaration's
+abbrev pub subjects_at_fault : Code → List Decl → List Promised → Decl → List Subject
+subjects_at_fault codes_of.UnknownName ds book d = unknown_names ds d
+subjects_at_fault codes_of.Cycle ds book d = whole_if (reaches_itself ds d)
+subjects_at_fault codes_of.BadKind ds book d = bad_kinds ds d
+subjects_at_fault codes_of.Typed ds book d = typed ds d
+subjects_at_fault codes_of.ScopeConflict ds book d = scope_conflicts (entries ds d)
+subjects_at_fault codes_of.Member ds book d = bad_uses ds d
+subjects_at_fault codes_of.Disposer ds book d = disposers_at_fault ds d
+subjects_at_fault codes_of.Body ds book d = unfit_parts book d
+subjects_at_fault codes_of.Unsatisfied ds book d = points_at_fault (has_verdict verdicts.Unsatisfied) ds d
+subjects_at_fault codes_of.Ambiguous ds book d = points_at_fault (has_verdict verdicts.Ambiguous) ds d
+subjects_at_fault codes_of.Site ds book d = lost_sites ds d
+subjects_at_fault codes_of.NameClash ds book d = []
+subjects_at_fault codes_of.NamePrefix ds book d = []
 
 -- the faults of a declaration of one code, by the texts of its subjects
-abbrev pub faults_of_code : List Decl → Decl → Code → List Fault
-faults_of_code ds d code = map (λ m. faults_are.Declared code (kind_of d) (name_of_decl d) m) (in_text_order (subjects_at_fault code ds d))
+abbrev pub faults_of_code : List Decl → List Promised → Decl → Code → List Fault
+faults_of_code ds book d code =
+    map (λ m. faults_are.Declared code (kind_of d) (name_of_decl d) m) (in_text_order (subjects_at_fault code ds book d))
 
-abbrev pub faults_of : List Decl → Decl → List Fault
-faults_of ds d = flat_map (faults_of_code ds d) all_codes
+abbrev pub faults_of : List Decl → List Promised → Decl → List Fault
+faults_of ds book d = flat_map (faults_of_code ds book d) all_codes
 
 -- the name of an enabled bean, if it has one
 abbrev pub enabled_name : Effective → List (List ℕ)
@@ -231,13 +237,13 @@ goes_on x y = starts_with nat_eq y (x ++ dot ∷ [])
 abbrev pub name_prefixes : List Effective → List Fault
 name_prefixes bs = flat_map (λ x. map (faults_are.NamePrefix x) (filter (goes_on x) (enabled_names bs))) (enabled_names bs)
 
--- the declarations in order, each with its faults by code and then by text; then the names (profile)
-unfoldable pub faults : List Decl → List Fault
-faults ds = flat_map (faults_of ds) ds ++ name_clashes (beans ds) ++ name_prefixes (beans ds)
+-- where these bodies are stored: the declarations in order, each with its faults by code and then by text; then the names (profile)
+unfoldable pub faults : List Decl → List Promised → List Fault
+faults ds book = flat_map (faults_of ds book) ds ++ name_clashes (beans ds) ++ name_prefixes (beans ds)
 
 -- Where no two declarations have one kind and name, no fault stands twice.
 abbrev pub FaultsStandOnce : Type 0
-FaultsStandOnce = (ds : List Decl) → AreDistinct ds → AllPairs (λ f g. f ≢ g) (faults ds)
+FaultsStandOnce = (ds : List Decl) (book : List Promised) → AreDistinct ds → AllPairs (λ f g. f ≢ g) (faults ds book)
 
 -- ---- the faults of names
 
@@ -253,4 +259,5 @@ pub record IsNameBehind (x y : List ℕ) : Type 0 where
 
 -- Of the two names of a prefix the longer is the shorter, a dot and a text, which is a name where the longer is one by the grammar.
 abbrev pub PrefixesGoOn : Type 0
-PrefixesGoOn = (ds : List Decl) (x y : List ℕ) → Contains (faults ds) (faults_are.NamePrefix x y) → IsNameBehind x y
+PrefixesGoOn = (ds : List Decl) (book : List Promised) (x y : List ℕ) → Contains (faults ds book) (faults_are.NamePrefix x y)
+    → IsNameBehind x y

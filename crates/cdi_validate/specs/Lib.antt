@@ -1,3 +1,5 @@
 pub mod Faults
 pub mod Names
+pub mod Parts
 pub mod Records
+pub mod Sites

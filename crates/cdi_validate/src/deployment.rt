@@ -12,15 +12,18 @@ ghost use Rattle.cdi_validate.specs.Faults.{faults, faults_of, subjects_at_fault
 ghost use Rattle.cdi_validate.specs.Faults.{LinesRise, PrefixesGoOn};
 ghost use Rattle.cdi_faults.specs.declared.fault.Fault.TheVariants as the_faults;
 
+use crate::bodies::unfit_parts;
 use crate::disposing::disposers_at_fault;
 use crate::forms::{bad_kinds, cycles};
 use crate::names::push_of_names;
 use crate::points::{Verdict, points_at_fault};
 use crate::records::records_of;
+use crate::sites::lost_sites;
 use crate::stereotyped::scope_conflicts;
 use crate::typing::typed;
 use crate::unknown::unknown_names;
 use crate::used::bad_uses;
+use cdi_bodies::Bodies;
 use cdi_effective::Effective;
 use cdi_faults::{Code, Fault, Subject, in_text_order};
 use cdi_model::{Decl, Decls};
@@ -29,16 +32,20 @@ use cdi_resolve::Choice;
 use std::alloc::{AllocError, Global};
 use std::rc::Rc;
 
-/// All that is wrong with the declarations of a view (CDI 4.0, Problems detected automatically by the container): the
-/// declarations in order, each with its faults by code and then by the texts of their subjects, and then the faults of
-/// names. Each fault stands once.
+/// All that is wrong with the declarations of a view where the bodies of a book are stored (CDI 4.0, Problems detected
+/// automatically by the container): the declarations in order, each with its faults by code and then by the texts of
+/// their subjects, and then the faults of names. Each fault stands once.
 ///
 /// Each injection point is asked for once for each type and qualifiers. It takes memory for the faults, for the answers
 /// and where the view does. Where none is left, some of the keys from the front on were asked. An edit that is staged
 /// stays where each of the keys is known.
 #[tactic(auto, using(crate::proofs::LineLemmas::clashes_rise))]
-pub fn faults<V: View>(alloc: Global, view: &mut V) -> Result<Vec<Fault>, AllocError>
-    ensures faults { IfOk result (λ list. list.items ≡ faults (V.list view.old)) }
+pub fn faults<V: View, B: Bodies>(
+    alloc: Global,
+    view: &mut V,
+    book: &B,
+) -> Result<Vec<Fault>, AllocError>
+    ensures faults { IfOk result (λ list. list.items ≡ faults (V.list view.old) (B.promises book.now)) }
     ensures list { V.list view.new ≡ V.list view.old }
     ensures ok { OnOk result (V.kept view.new ≡ evaluated (V.list view.old) (wanted (V.list view.old)) (V.kept view.old)) }
     ensures err { OnErr result ((i : ℕ) × (V.kept view.new
@@ -52,34 +59,37 @@ pub fn faults<V: View>(alloc: Global, view: &mut V) -> Result<Vec<Fault>, AllocE
 {
     let answers = evaluate(alloc, view)?;
     let mut faults = Vec::new(alloc);
-    push_of_decls(alloc, view, answers.as_slice(), &mut faults)?;
+    push_of_decls(alloc, view, book, answers.as_slice(), &mut faults)?;
     push_of_names(alloc, view, &mut faults)?;
     Ok(faults)
 }
 
 /// Appends the faults of the declarations, by the answers to their injection points.
-fn push_of_decls<V: View>(
+fn push_of_decls<V: View, B: Bodies>(
     alloc: Global,
     view: &V,
+    book: &B,
     answers: &[Vec<Rc<Choice>>],
     faults: &mut Vec<Fault>,
 ) -> Result<(), AllocError>
     requires { map (λ list. map (λ answer. answer.value) list.items) answers.now ≡ all_answers (V.list view.now) }
-    ensures faults { OnOk result (faults.new.items ≡ faults.old.items ++ flat_map (faults_of (V.list view.now)) (V.list view.now)) }
+    ensures faults { OnOk result (faults.new.items ≡ faults.old.items
+        ++ flat_map (faults_of (V.list view.now) (B.promises book.now)) (V.list view.now)) }
     ensures distinct { AreDistinct (V.list view.now) }
 {
     let decls = view.decls();
     for (decl, own) in decls.iter().zip(answers) {
         let beans = records_of(view, decl);
-        push_of_decl(alloc, decls, decl, beans, own.as_slice(), faults)?;
+        push_of_decl(alloc, decls, book, decl, beans, own.as_slice(), faults)?;
     }
     Ok(())
 }
 
 /// Appends the faults of a declaration, which has these beans, and these answers to its injection points.
-fn push_of_decl(
+fn push_of_decl<B: Bodies>(
     alloc: Global,
     decls: &Decls,
+    book: &B,
     decl: &Decl,
     beans: &[Effective],
     answers: &[Rc<Choice>],
@@ -87,10 +97,10 @@ fn push_of_decl(
 ) -> Result<(), AllocError>
     requires beans { beans.now ≡ entries decls.now decl.now }
     requires answers { map (λ answer. answer.value) answers.now ≡ map (answer_to decls.now) (points_of decl.now) }
-    ensures { OnOk result (faults.new.items ≡ faults.old.items ++ faults_of decls.now decl.now) }
+    ensures { OnOk result (faults.new.items ≡ faults.old.items ++ faults_of decls.now (B.promises book.now) decl.now) }
 {
     for code in Code::all() {
-        let subjects = subjects_at_fault(alloc, code, decls, decl, beans, answers)?;
+        let subjects = subjects_at_fault(alloc, code, decls, book, decl, beans, answers)?;
         push_declared(code, decl, in_text_order(alloc, subjects)?, faults)?;
     }
     Ok(())
@@ -119,17 +129,18 @@ fn push_declared(
 
 /// The subjects of a declaration that have a fault of a code.
 #[tactic(auto, using(crate::proofs::RecordLemmas::typed_by_entries, crate::proofs::PointLemmas::points_by_entries))]
-fn subjects_at_fault(
+fn subjects_at_fault<B: Bodies>(
     alloc: Global,
     code: Code,
     decls: &Decls,
+    book: &B,
     decl: &Decl,
     beans: &[Effective],
     answers: &[Rc<Choice>],
 ) -> Result<Vec<Subject>, AllocError>
     requires beans { beans.now ≡ entries decls.now decl.now }
     requires answers { map (λ answer. answer.value) answers.now ≡ map (answer_to decls.now) (points_of decl.now) }
-    ensures { IfOk result (λ list. list.items ≡ subjects_at_fault code decls.now decl.now) }
+    ensures { IfOk result (λ list. list.items ≡ subjects_at_fault code decls.now (B.promises book.now) decl.now) }
 {
     match code {
         Code::UnknownName => unknown_names(alloc, decls, decl),
@@ -139,8 +150,10 @@ fn subjects_at_fault(
         Code::ScopeConflict => scope_conflicts(alloc, beans),
         Code::Member => bad_uses(alloc, decls, decl),
         Code::Disposer => disposers_at_fault(alloc, decls, decl, beans),
+        Code::Body => unfit_parts(alloc, book, decl),
         Code::Unsatisfied => points_at_fault(alloc, decl, beans, answers, Verdict::Unsatisfied),
         Code::Ambiguous => points_at_fault(alloc, decl, beans, answers, Verdict::Ambiguous),
+        Code::Site => lost_sites(alloc, decls, decl, beans, answers),
         Code::NameClash | Code::NamePrefix => Ok(Vec::new(alloc)),
     }
 }

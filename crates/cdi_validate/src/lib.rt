@@ -1,12 +1,14 @@
 //! What is wrong with a deployment.
 #![tactic(auto)]
 
+mod bodies;
 mod deployment;
 mod disposing;
 mod forms;
 mod names;
 mod points;
 mod records;
+mod sites;
 mod stereotyped;
 mod typing;
 mod unknown;

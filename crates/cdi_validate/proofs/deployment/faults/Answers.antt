@@ -2,6 +2,7 @@ use Rattle.std.proofs.Common.{◌≡◌, ◌≢◌, AllPairs, ◌++◌, ℕ, Lis
 use Rattle.std.specs.List.{flat_map}
 use Rattle.std.specs.Result.{OnErr}
 use Rattle.std.proofs.lemmas.List.{take_all}
+use Rattle.cdi_bodies.specs.Book.{Promised}
 use Rattle.cdi_model.specs.declared.decl.Decl.{Decl}
 use Rattle.cdi_model.specs.DeclList.{AreDistinct}
 use Rattle.cdi_effective.specs.Beans.{beans}
@@ -27,15 +28,15 @@ all_asked (Err e) ds before after all = (
 )
 
 -- the faults of the declarations and then those of the names
-all_faults : (ds now : List Decl) (none of_decls all : List Fault)
-    → all ≡ of_decls ++ name_clashes (beans now) ++ name_prefixes (beans now) → of_decls ≡ none ++ flat_map (faults_of now) now → none ≡ []
-    → now ≡ ds → all ≡ faults ds
+all_faults : (ds now : List Decl) (book : List Promised) (none of_decls all : List Fault)
+    → all ≡ of_decls ++ name_clashes (beans now) ++ name_prefixes (beans now)
+    → of_decls ≡ none ++ flat_map (faults_of now book) now → none ≡ [] → now ≡ ds → all ≡ faults ds book
 unfolding faults
-all_faults ds now none of_decls all with_names pushed empty is =
+all_faults ds now book none of_decls all with_names pushed empty is =
     with_names
     ∙ ap (λ fs. fs ++ name_clashes (beans now) ++ name_prefixes (beans now))
-    (pushed ∙ ap (λ fs. fs ++ flat_map (faults_of now) now) empty)
-    ∙ ap (λ es. flat_map (faults_of es) es ++ name_clashes (beans es) ++ name_prefixes (beans es)) is
+    (pushed ∙ ap (λ fs. fs ++ flat_map (faults_of now book) now) empty)
+    ∙ ap (λ es. flat_map (faults_of es book) es ++ name_clashes (beans es) ++ name_prefixes (beans es)) is
 
 pub push_of_decls-requires : goal.push_of_decls-requires
 push_of_decls-requires g c =
@@ -52,7 +53,8 @@ returns-in_err-push_of_names-clause-err g c = all_asked _ (g.V.View.list c.args.
 
 pub returns-clause-faults : goal.returns-clause-faults
 returns-clause-faults g c =
-    all_faults (g.V.View.list c.args.view.now) (g.V.View.list c.evaluate.new.view) c.new-faults.result.items
+    all_faults (g.V.View.list c.args.view.now) (g.V.View.list c.evaluate.new.view) (g.B.Bodies.promises c.args.book.now)
+    c.new-faults.result.items
     c.push_of_decls.new.faults.items c.push_of_names.new.faults.items c.in_ok-push_of_names.ensures.faults
     c.in_ok-push_of_decls.ensures.faults c.new-faults.ensures.items c.in_ok-answers.ensures.list
 
@@ -88,4 +90,4 @@ pub returns-clause-once : goal.returns-clause-once
 returns-clause-once g c =
     let ds = g.V.View.list c.args.view.now in
     let distinct = subst AreDistinct c.in_ok-answers.ensures.list c.in_ok-push_of_decls.ensures.distinct in
-    subst (AllPairs (λ f g. f ≢ g)) (sym (returns-clause-faults g c)) (faults_stand_once ds distinct)
+    subst (AllPairs (λ f g. f ≢ g)) (sym (returns-clause-faults g c)) (faults_stand_once ds (g.B.Bodies.promises c.args.book.now) distinct)

@@ -10,13 +10,13 @@ use Rattle.cdi_validate.proofs.PushLemmas.{appended}
 use Rattle.cdi_validate.proofs.deployment.push_of_decl.Goals as goal
 
 pub loop-code-preserved : goal.loop-code-preserved
-loop-code-preserved c =
+loop-code-preserved g c =
     let d = c.args.decl.now in
     let i = c.loop-code.code-index in
     let codes = c.all-code-items.result in
     let code = get_or codes i codes_of.UnknownName in
     let old = c.loop-code.faults.items in
-    let of_code = faults_of_code c.args.decls.now d in
+    let of_code = faults_of_code c.args.decls.now (g.B.Bodies.promises c.args.book.now) d in
     let within = subst (λ cs. i < length cs) (sym c.all-code-items.ensures.value) c.loop-code-test.true in
     ap (λ fs. fs ++ flat_map of_code (drop (i + 1) codes))
     (c.in_ok-push_declared.ensures

@@ -4,5 +4,6 @@ use Rattle.cdi_validate.specs.Faults.{faults_of, faults_of_code}
 use Rattle.cdi_validate.proofs.deployment.push_of_decl.Given as goal
 
 abbrev pub invariant-loop-code : goal.invariant-loop-code
-invariant-loop-code l = l.faults.items ++ flat_map (faults_of_code l.decls l.decl) (drop l.code-index l.code-items)
-    ≡ l.fn.faults.items ++ faults_of l.decls l.decl
+invariant-loop-code g l =
+    l.faults.items ++ flat_map (faults_of_code l.decls (g.B.Bodies.promises l.book) l.decl) (drop l.code-index l.code-items)
+    ≡ l.fn.faults.items ++ faults_of l.decls (g.B.Bodies.promises l.book) l.decl

@@ -31,7 +31,7 @@ loop-decl-init g c =
       gone = ([], same);
       answers = ap (map (λ list. map (λ answer. answer.value) list.items)) lists ∙ c.requires
           ∙ ap answers (sym c.decls-decls.ensures) ∙ ap (map (answers_of ds)) (sym same);
-      faults = ap (λ es. c.args.faults.now.items ++ flat_map (faults_of ds) es) same;
+      faults = ap (λ es. c.args.faults.now.items ++ flat_map (faults_of ds (g.B.Bodies.promises c.args.book.now)) es) same;
     }
 
 pub push_of_decl-requires-clause-beans : goal.push_of_decl-requires-clause-beans
@@ -54,6 +54,7 @@ pub loop-decl-preserved : goal.loop-decl-preserved
 loop-decl-preserved g c =
     let ds = c.decls-decls.result.now in
     let d = c.in-Some.decl.now in
+    let of_decl = faults_of ds (g.B.Bodies.promises c.args.book.now) in
     let gone = c.loop-decl.invariant.gone in
     let left = c.next.new.self.a in
     record {
@@ -61,9 +62,9 @@ loop-decl-preserved g c =
       answers = (first-answers (λ list. map (λ answer. answer.value) list.items) ds c.loop-decl.decl-iterator.a left d
           (iter_rest c.loop-decl.decl-iterator.b) (iter_rest c.next.new.self.b) c.in-Some.own.now
           c.in-Some.ensures.steps.1 c.in-Some.ensures.steps.0 c.loop-decl.invariant.answers).1;
-      faults = ap (λ fs. fs ++ flat_map (faults_of ds) left) c.in_ok-push_of_decl.ensures
-          ∙ append_assoc c.loop-decl.faults.items (faults_of ds d) (flat_map (faults_of ds) left)
-          ∙ ap (λ es. c.loop-decl.faults.items ++ flat_map (faults_of ds) es) (sym c.in-Some.ensures.steps.0)
+      faults = ap (λ fs. fs ++ flat_map of_decl left) c.in_ok-push_of_decl.ensures
+          ∙ append_assoc c.loop-decl.faults.items (of_decl d) (flat_map of_decl left)
+          ∙ ap (λ es. c.loop-decl.faults.items ++ flat_map of_decl es) (sym c.in-Some.ensures.steps.0)
           ∙ c.loop-decl.invariant.faults;
     }
 
@@ -80,6 +81,6 @@ returns-clause-faults g c =
     let none : left ≡ [] = ⊎_elim (λ first. first.1.0) (λ second. none-left (λ list. map (λ answer. answer.value) list.items) ds left
     (iter_rest c.loop-decl.decl-iterator.b) c.loop-decl.invariant.answers second.1.0) c.in-None.ensures.steps in
     sym (append-nil c.loop-decl.faults.items)
-    ∙ ap (λ es. c.loop-decl.faults.items ++ flat_map (faults_of ds) es) (sym none)
+    ∙ ap (λ es. c.loop-decl.faults.items ++ flat_map (faults_of ds (g.B.Bodies.promises c.args.book.now)) es) (sym none)
     ∙ c.loop-decl.invariant.faults
-    ∙ ap (λ es. c.args.faults.now.items ++ flat_map (faults_of es) es) c.decls-decls.ensures
+    ∙ ap (λ es. c.args.faults.now.items ++ flat_map (faults_of es (g.B.Bodies.promises c.args.book.now)) es) c.decls-decls.ensures

@@ -11,5 +11,6 @@ invariant-loop-decl g l = record {
   gone : (es : List Decl) × (es ++ l.decl-iterator.a ≡ l.decls);
   answers : map (λ list. map (λ answer. answer.value) list.items) (iter_rest l.decl-iterator.b)
       ≡ map (answers_of l.decls) l.decl-iterator.a;
-  faults : l.faults.items ++ flat_map (faults_of l.decls) l.decl-iterator.a ≡ l.fn.faults.items ++ flat_map (faults_of l.decls) l.decls;
+  faults : l.faults.items ++ flat_map (faults_of l.decls (g.B.Bodies.promises l.book)) l.decl-iterator.a
+      ≡ l.fn.faults.items ++ flat_map (faults_of l.decls (g.B.Bodies.promises l.book)) l.decls;
 }

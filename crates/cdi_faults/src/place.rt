@@ -1,0 +1,38 @@
+//! The places of a declaration at which stored bodies run.
+ghost use Rattle.std.specs.Prelude.{Some};
+ghost use Rattle.cdi_faults.specs.FaultText.{text_of_place};
+
+use cdi_model::Ident;
+use std::fmt;
+
+/// Where in a bean a stored body runs (profile).
+#[derive(Clone, Copy, Debug, PartialEq, Eq)]
+pub enum PartPlace {
+    /// Its constructor.
+    Construct,
+    /// Its post-construct callback.
+    Post,
+    /// Its pre-destroy callback.
+    Pre,
+    /// A business method.
+    Method(Ident),
+    /// A producer method.
+    Producer(Ident),
+    /// A disposer method.
+    Disposer(Ident),
+}
+
+impl fmt::Display for PartPlace {
+    ghost output = { λ place. Some (text_of_place place) };
+
+    fn fmt<W: fmt::Write>(&self, f: &mut fmt::Formatter<W>) -> fmt::Result {
+        match self {
+            PartPlace::Construct => write!(f, "construct"),
+            PartPlace::Post => write!(f, "post"),
+            PartPlace::Pre => write!(f, "pre"),
+            PartPlace::Method(name) => write!(f, "method {name}"),
+            PartPlace::Producer(name) => write!(f, "producer {name}"),
+            PartPlace::Disposer(name) => write!(f, "disposer {name}"),
+        }
+    }
+}
