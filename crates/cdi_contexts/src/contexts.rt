@@ -4,7 +4,7 @@ ghost use Rattle.std.specs.Prelude.{None, IfSome, IsSome, IsOk, OnOk, OnErr, IfO
 ghost use Rattle.cdi_contexts.specs.Standing.{IsFull, IsLive, numbered, found, made_for, last_of, last_in, state_of};
 ghost use Rattle.cdi_contexts.specs.Standing.{started, gone, finished, without, stored, begun, closed, cleared};
 ghost use Rattle.cdi_contexts.specs.Places.{IsPlace, younger_than, EachIsAmong};
-ghost use Rattle.cdi_contexts.specs.Rising.{IsOwnerOf};
+ghost use Rattle.cdi_contexts.specs.Rising.{IsOwnerOf, IsRising};
 ghost use Rattle.cdi_contexts.specs.declared.instance.Actor.TheVariants.{Target, Interceptor};
 
 use crate::error::RequestError;
@@ -104,9 +104,10 @@ impl Contexts {
         self.live.len()
     }
 
-    /// How many numbers were given.
+    /// How many numbers were given. Along the live instances they rise, and owners are older than what was made for them.
     pub fn given(&self) -> u64
-        ensures { result ≡ self.now.standing.given }
+        ensures value { result ≡ self.now.standing.given }
+        ensures rising { IsRising self.now.standing.given self.now.standing.live }
     {
         self.given
     }

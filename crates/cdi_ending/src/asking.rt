@@ -1,15 +1,12 @@
-//! Asking bodies, and the acts of theirs that touch what an instance holds. Runs ask so too, outside destruction.
-ghost use Rattle.std.specs.Prelude.{◌≡◌, ◌+◌, ◌<◌, ◌≤◌, IfOk, OnOk, IsOk, Some, length};
-ghost use Rattle.cdi_scene.specs.Sound.{IsSoundPart};
-ghost use Rattle.cdi_legal.specs.Acts.{ending, IsTouch, Touches, PermitsIn};
+//! Acts that end a frame, and acts that touch what an instance holds. Runs do these too, outside destruction.
+ghost use Rattle.std.specs.Prelude.{◌≡◌, ◌+◌, ◌<◌, ◌≤◌, IfOk, OnOk, IsOk};
+ghost use Rattle.cdi_legal.specs.Acts.{ending, IsTouch, Touches};
 ghost use Rattle.cdi_legal.specs.Room.{IsSteady};
 
-use arrayvec::ArrayVec;
-use cdi_bodies::{Act, Bodies, Frame};
+use cdi_bodies::Act;
 use cdi_contexts::Actor;
 use cdi_legal::{Entry, Run};
 use cdi_model::{Outcome, Val};
-use cdi_scene::{Part, Scene};
 use std::alloc::AllocError;
 
 /// The outcome of an act that ends a frame.
@@ -21,32 +18,6 @@ pub fn ending(act: Act) -> Option<Outcome>
         Act::Fail(failure) => Some(Outcome::Failed(failure)),
         _ => None,
     }
-}
-
-/// What a frame of a part shows before the first answer. It takes no memory.
-pub fn first_shown<B: Bodies>(book: &B, scene: &Scene, part: &Part, arg: Val) -> Frame
-    requires { IsSoundPart (B.promises book.now) scene.now part.now }
-    ensures calls { result.calls ≡ length part.now.calls }
-    ensures fires { result.fires ≡ length part.now.fires }
-    ensures answers { length result.answers.items ≡ 0 }
-{
-    Frame {
-        argument: arg,
-        calls: part.calls.len() as u8,
-        fires: part.fires.len() as u8,
-        answers: ArrayVec::new(),
-    }
-}
-
-/// What the part's body does next on this frame, which is one of the part: an act that it promises, with its site among
-/// those of the part. It takes no memory.
-pub fn ask<B: Bodies>(book: &B, scene: &Scene, part: &Part, shown: &Frame) -> Act
-    requires sound { IsSoundPart (B.promises book.now) scene.now part.now }
-    requires calls { shown.now.calls ≡ length part.now.calls }
-    requires fires { shown.now.fires ≡ length part.now.fires }
-    ensures { PermitsIn part.now result }
-{
-    book.ask_at(part.body, shown)
 }
 
 /// A load or a store of what an instance holds for an actor, with its entry. It takes no memory where there is room.

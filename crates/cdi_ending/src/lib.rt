@@ -5,6 +5,7 @@
 mod asking;
 mod callbacks;
 mod destroying;
+mod stage;
 
-pub use asking::{ask, ending, first_shown, touch};
-pub use destroying::{destroy, destroy_dependents, destroy_held, end_context, made_at};
+pub use asking::{ending, touch};
+pub use stage::Stage;

@@ -3,13 +3,14 @@ use Rattle.std.proofs.Common.{◌≡◌, ℕ, List, [], ◌∷◌, ◌++◌, ref
 use Rattle.cdi_model.specs.declared.outcome.Outcome.{Outcome}
 use Rattle.cdi_contexts.specs.Standing.{Standing}
 use Rattle.cdi_scene.specs.declared.scene.Scene.{Scene}
+use Rattle.cdi_legal.specs.Ends.{Ends, End}
 use Rattle.cdi_legal.specs.Follows.{Follows, after}
 use Rattle.cdi_legal.specs.Legal.{Legal, Node, Answer}
 use Rattle.cdi_legal.specs.LegalRun.{Runs, Command}
 use Rattle.cdi_legal.specs.Moment.{Moment, step, put, ask_more}
 use Rattle.cdi_legal.specs.declared.entry.Entry.{Entry}
 use Rattle.cdi_legal.specs.declared.entry.Entry.TheVariants.{Create}
-use Rattle.cdi_legal.proofs.Along.{IsAlong, legal_along, runs_along}
+use Rattle.cdi_legal.proofs.Along.{IsAlong, ends_along, legal_along, runs_along}
 
 after-append : (s : Standing) (xs ys : List Entry) → after s (xs ++ ys) ≡ after (after s xs) ys
 after-append s [] ys = refl
@@ -22,7 +23,7 @@ append_nil (x ∷ xs) = ap (λ (l : List Entry). x ∷ l) (append_nil xs)
 none : (m : Moment) → Follows m m
 none m = record { pushed = []; trace = append_nil m.trace; standing = refl }
 
-then : (a b c : Moment) → Follows a b → Follows b c → Follows a c
+pub then : (a b c : Moment) → Follows a b → Follows b c → Follows a c
 then a b c p q = record {
   pushed = p.pushed ++ q.pushed;
   trace = q.trace ∙ ap (λ (l : List Entry). l ++ q.pushed) p.trace ∙ append_assoc a.trace p.pushed q.pushed;
@@ -48,6 +49,9 @@ follows_along = record {
   keeps = record { none = none; then = then; entry = λ e m m' other h. entry e m m' h; asking = asking };
   create = λ i o m m' h. entry (Create i o) m m' h;
 }
+
+pub ends_follow : {s : Scene} {e : End} {m m' : Moment} → Ends s e m m' → Follows m m'
+ends_follow e = ends_along follows_along.keeps e
 
 pub legal_follows : {s : Scene} {k : ℕ} {x : Node} {a : Answer} {m m' : Moment} → Legal s k x m a m' → Follows m m'
 legal_follows l = legal_along follows_along l

@@ -2,3 +2,4 @@ pub mod Along
 pub mod Following
 pub mod Growing
 pub mod Sharing
+pub mod Keeping

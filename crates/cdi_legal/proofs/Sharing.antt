@@ -68,7 +68,7 @@ count-without f n [] = omega arith
 count-without f n (i ∷ is) = dropped f (not (i.id.number == n)) i is (without n is) (count-without f n is)
 
 -- it leaves whose an instance is
-abbrev IsSame : (Instance → Instance) → Type 0
+abbrev pub IsSame : (Instance → Instance) → Type 0
 IsSame change = (i : Instance) → ((change i).id ≡ i.id) × ((change i).owner ≡ i.owner)
 
 told : (f : Test) (i j : Instance) → j.id ≡ i.id → j.owner ≡ i.owner → f j.id j.owner ≡ f i.id i.owner
@@ -88,10 +88,10 @@ kept_if : (b : Bool) (i j : Instance) → j.id ≡ i.id → j.owner ≡ i.owner
 kept_if true i j d o = (d, o)
 kept_if false i j d o = (refl, refl)
 
-same-keep : (n : ℕ) (v : Val) → IsSame (keep n v)
+pub same-keep : (n : ℕ) (v : Val) → IsSame (keep n v)
 same-keep n v i = kept_if (i.id.number == n) i (record i { state = v }) refl refl
 
-same-finish : (n : ℕ) (product : Option Val) → IsSame (finish n product)
+pub same-finish : (n : ℕ) (product : Option Val) → IsSame (finish n product)
 same-finish n None i = kept_if (i.id.number == n) i (record i { is_ready = true }) refl refl
 same-finish n (Some v) i = kept_if (i.id.number == n) i (record i { is_ready = true; state = v }) refl refl
 

@@ -7,3 +7,4 @@ pub mod Follows
 pub mod Grows
 pub mod Room
 pub mod Single
+pub mod Keeps

@@ -1,7 +1,7 @@
 //! A run under way. Each entry that is pushed does to the contexts what it says, so what stands follows from the trace.
 ghost use Rattle.std.specs.Prelude.{◌≡◌, ◌+◌, ◌<◌, ◌≤◌, ◌↔◌, false, IsTrue, None, IfSome, IsSome, IsOk, OnOk, IfOk};
 ghost use Rattle.cdi_contexts.specs.Standing.{IsFull, IsLive, numbered, found, made_for, last_of, last_in, state_of, cleared};
-ghost use Rattle.cdi_contexts.specs.Rising.{IsOwnerOf};
+ghost use Rattle.cdi_contexts.specs.Rising.{IsOwnerOf, IsRising};
 ghost use Rattle.cdi_legal.specs.Moment.{Moment, Track, put, ask_more, beginning, is_create};
 ghost use Rattle.cdi_legal.specs.declared.entry.Entry.TheVariants.{Create};
 
@@ -160,9 +160,10 @@ impl Run {
         self.contexts.last(scope)
     }
 
-    /// How many numbers were given.
+    /// How many numbers were given. Along the live instances they rise, and owners are older than what was made for them.
     pub fn given(&self) -> u64
-        ensures { result ≡ self.now.moment.standing.given }
+        ensures value { result ≡ self.now.moment.standing.given }
+        ensures rising { let s = self.now.moment.standing in IsRising s.given s.live }
     {
         self.contexts.given()
     }

@@ -1,10 +1,14 @@
 //! Runs of a deployment: look-ups, calls and events, and the ends of contexts. Each pushes the entries of its trace while it
-//! goes on, and these are those of a legal tree. How an instance is made and used stands in `cycle`, whose functions call each
-//! other as the cases of a legal tree do.
+//! goes on, and these are those of a legal tree. How an instance is made and used stands in `making`, `invoking` and
+//! `notifying`, whose functions call each other as the cases of a legal tree do.
 #![tactic(auto)]
 
-mod cycle;
+mod invoking;
+mod making;
+mod notifying;
+mod player;
 mod roots;
 mod words;
 
-pub use roots::{Wanted, end_contexts, fire, use_one};
+pub use player::Player;
+pub use roots::Wanted;

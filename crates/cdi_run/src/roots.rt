@@ -1,24 +1,22 @@
 //! Where runs begin: look-ups, calls and events, and the ends of contexts.
-ghost use Rattle.std.specs.Prelude.{◌≡◌, [], IfOk, OnOk, OnErr, IsSome, Some};
-ghost use Rattle.cdi_scene.specs.Scene.{bean_at, invocable_at};
-ghost use Rattle.cdi_scene.specs.Sound.{IsSound, AreObservers};
-ghost use Rattle.cdi_scene.specs.declared.place.Place.TheVariants.{Method};
+ghost use Rattle.std.specs.Prelude.{◌≡◌, IfOk, OnOk, OnErr, IsSome};
+ghost use Rattle.cdi_scene.specs.Scene.{bean_at};
+ghost use Rattle.cdi_scene.specs.Sound.{AreObservers};
 ghost use Rattle.cdi_contexts.specs.Standing.{cleared};
-ghost use Rattle.cdi_legal.specs.Ends.{Ends, context};
 ghost use Rattle.cdi_legal.specs.Follows.{Follows};
+ghost use Rattle.cdi_legal.specs.Keeps.{Keeps};
 ghost use Rattle.cdi_legal.specs.LegalRun.{Runs, Uses, use_bean, notify_all};
 ghost use Rattle.cdi_legal.specs.Moment.{beginning};
-ghost use Rattle.cdi_legal.specs.Single.{IsSingle};
-ghost use Rattle.cdi_run.specs.Known.{IsUsable, use_of, EndsAll};
+ghost use Rattle.cdi_run.specs.Known.{IsUsable, use_of, EndsAll, StaysSingle};
 
-use crate::cycle::{create, fire as fire_all, invoke, obtain};
-use crate::words::{is_normal, scope_of};
+use crate::invoking::Passed;
+use crate::player::Player;
+use crate::words::is_normal;
 use cdi_bodies::Bodies;
 use cdi_contexts::{Actor, InstanceId, Owner};
-use cdi_ending::{destroy, end_context};
 use cdi_legal::{Made, Run};
 use cdi_model::{Outcome, Scope, Val};
-use cdi_scene::{Notified, Place, Scene};
+use cdi_scene::{Notified, Place};
 use std::alloc::AllocError;
 
 /// How many creations and frames may be open (profile).
@@ -33,128 +31,131 @@ pub enum Wanted {
     Answer { method: usize, arg: Val },
 }
 
-/// Looks up the state of an instance, or calls a method of it.
-fn use_instance<B: Bodies>(
-    run: &mut Run,
-    scene: &Scene,
-    book: &B,
-    id: InstanceId,
-    wanted: Wanted,
-) -> Result<Outcome, AllocError>
-    requires sound { IsSound (B.promises book.now) scene.now }
-    requires usable { IsUsable scene.now id.bean wanted }
-    ensures { IfOk result (λ outcome. Uses scene.now id (use_of wanted) run.old.moment outcome run.new.moment) }
-{
-    match wanted {
-        Wanted::State => Ok(Outcome::Value(run.load(id.number, Actor::Target))),
-        Wanted::Answer { method, arg } => {
-            if scene.product(id.bean).is_some() {
-                return Ok(Outcome::Value(run.load(id.number, Actor::Target)));
+/// The entries that a call here pushes are those of a legal tree, in order, and what stands follows from them. After want of
+/// memory no instance is live, no request active and the trace empty, and numbers go on from where they were.
+impl<'a, B: Bodies> Player<'a, B> {
+    /// A look-up or a call: the shared instance of a bean with a normal scope is used, and an instance of a dependent bean is
+    /// made for this use and destroyed before the answer (the latter: profile).
+    pub fn use_one(&self, run: &mut Run, bean: usize, wanted: Wanted) -> Result<Outcome, AllocError>
+        requires there { IsSome (bean_at self.now.stage.scene bean) }
+        requires usable { IsUsable self.now.stage.scene bean wanted }
+        ensures legal { IfOk result (λ outcome.
+            Runs self.now.stage.scene (use_bean bean (use_of wanted)) run.old.moment outcome run.new.moment) }
+        ensures follows { OnOk result (Follows run.old.moment run.new.moment) }
+        ensures single { OnOk result (StaysSingle self.now.stage.scene run.old.moment run.new.moment) }
+        ensures kept { OnOk result (Keeps run.old.moment run.new.moment) }
+        ensures out_of_memory { OnErr result (run.new.moment ≡ beginning (cleared run.old.moment.standing.given)) }
+    {
+        let given = run.given();
+        match self.use_either(run, bean, wanted) {
+            Ok(outcome) => Ok(outcome),
+            Err(error) => {
+                run.clear(given);
+                Err(error)
             }
-            let place = Place::Method(method);
-            let given = invoke(run, scene, book, DEPTH, id, place, &[], arg, 0)?;
-            Ok(given.outcome)
         }
     }
-}
 
-/// A look-up or a call: the bean's instance is obtained; a dependent one is made, and destroyed before the answer.
-fn use_either<B: Bodies>(
-    run: &mut Run,
-    scene: &Scene,
-    book: &B,
-    bean: usize,
-    wanted: Wanted,
-) -> Result<Outcome, AllocError>
-    requires sound { IsSound (B.promises book.now) scene.now }
-    requires there { IsSome (bean_at scene.now bean) }
-    requires usable { IsUsable scene.now bean wanted }
-    ensures { IfOk result (λ outcome. Runs scene.now (use_bean bean (use_of wanted)) run.old.moment outcome run.new.moment) }
-{
-    if is_normal(scope_of(scene, bean)) {
-        return match obtain(run, scene, book, DEPTH, bean)? {
+    /// An event for some observers, in order, up to the first failure (CDI 4.0, Observer notification).
+    pub fn fire(
+        &self,
+        run: &mut Run,
+        observers: &[Notified],
+        arg: Val,
+    ) -> Result<Outcome, AllocError>
+        requires observers { AreObservers self.now.stage.scene observers.now }
+        ensures legal { IfOk result (λ outcome.
+            Runs self.now.stage.scene (notify_all observers.now arg) run.old.moment outcome run.new.moment) }
+        ensures follows { OnOk result (Follows run.old.moment run.new.moment) }
+        ensures single { OnOk result (StaysSingle self.now.stage.scene run.old.moment run.new.moment) }
+        ensures kept { OnOk result (Keeps run.old.moment run.new.moment) }
+        ensures out_of_memory { OnErr result (run.new.moment ≡ beginning (cleared run.old.moment.standing.given)) }
+    {
+        let given = run.given();
+        match self.notify_each(run, DEPTH, observers, arg) {
+            Ok(outcome) => Ok(outcome),
+            Err(error) => {
+                run.clear(given);
+                Err(error)
+            }
+        }
+    }
+
+    /// Ends the request context and then the application context (CDI 4.0, Context management for built-in scopes). Whether a
+    /// request is active stays as it was: its end is the caller's.
+    pub fn end_contexts(&self, run: &mut Run) -> Result<(), AllocError>
+        ensures legal { OnOk result (EndsAll self.now.stage.scene run.old.moment run.new.moment) }
+        ensures follows { OnOk result (Follows run.old.moment run.new.moment) }
+        ensures single { OnOk result (StaysSingle self.now.stage.scene run.old.moment run.new.moment) }
+        ensures out_of_memory { OnErr result (run.new.moment ≡ beginning (cleared run.old.moment.standing.given)) }
+    {
+        let given = run.given();
+        match self.end_both(run) {
+            Ok(()) => Ok(()),
+            Err(error) => {
+                run.clear(given);
+                Err(error)
+            }
+        }
+    }
+
+    /// A look-up or a call: the bean's instance is obtained; a dependent one is made, and destroyed before the answer.
+    fn use_either(&self, run: &mut Run, bean: usize, wanted: Wanted) -> Result<Outcome, AllocError>
+        requires there { IsSome (bean_at self.now.stage.scene bean) }
+        requires usable { IsUsable self.now.stage.scene bean wanted }
+        ensures { IfOk result (λ outcome.
+            Runs self.now.stage.scene (use_bean bean (use_of wanted)) run.old.moment outcome run.new.moment) }
+    {
+        if is_normal(self.scope_of(bean)) {
+            return match self.obtain(run, DEPTH, bean)? {
+                Made::Refused(failure) => Ok(Outcome::Failed(failure)),
+                Made::Instance(number) => {
+                    let outcome = self.use_instance(run, InstanceId { bean, number }, wanted)?;
+                    Ok(outcome)
+                }
+            };
+        }
+        match self.create(run, DEPTH, bean, Owner::Nobody)? {
             Made::Refused(failure) => Ok(Outcome::Failed(failure)),
             Made::Instance(number) => {
-                let outcome = use_instance(run, scene, book, InstanceId { bean, number }, wanted)?;
+                let id = InstanceId { bean, number };
+                let outcome = self.use_instance(run, id, wanted)?;
+                self.stage.destroy(run, id)?;
                 Ok(outcome)
             }
-        };
-    }
-    match create(run, scene, book, DEPTH, bean, Owner::Nobody)? {
-        Made::Refused(failure) => Ok(Outcome::Failed(failure)),
-        Made::Instance(number) => {
-            let id = InstanceId { bean, number };
-            let outcome = use_instance(run, scene, book, id, wanted)?;
-            destroy(run, scene, book, id)?;
-            Ok(outcome)
         }
     }
-}
 
-/// A look-up or a call: the shared instance of a bean with a normal scope is used, and an instance of a dependent bean is made
-/// for this use and destroyed before the answer (the latter: profile). The entries that are pushed are those of a legal tree, in
-/// order, and what stands follows from them. After want of memory no instance is live, no request active and the trace empty,
-/// and numbers go on from where they were.
-pub fn use_one<B: Bodies>(
-    run: &mut Run,
-    scene: &Scene,
-    book: &B,
-    bean: usize,
-    wanted: Wanted,
-) -> Result<Outcome, AllocError>
-    requires sound { IsSound (B.promises book.now) scene.now }
-    requires there { IsSome (bean_at scene.now bean) }
-    requires usable { IsUsable scene.now bean wanted }
-    ensures legal { IfOk result (λ outcome. Runs scene.now (use_bean bean (use_of wanted)) run.old.moment outcome run.new.moment) }
-    ensures follows { OnOk result (Follows run.old.moment run.new.moment) }
-    ensures single { let live = run.old.moment.standing.live in
-        OnOk result (IsSingle scene.now live → IsSingle scene.now run.new.moment.standing.live) }
-    ensures out_of_memory { OnErr result (run.new.moment ≡ beginning (cleared run.old.moment.standing.given)) }
-{
-    let given = run.given();
-    match use_either(run, scene, book, bean, wanted) {
-        Ok(outcome) => Ok(outcome),
-        Err(error) => {
-            run.clear(given);
-            Err(error)
+    /// Looks up the state of an instance, or calls a method of it.
+    fn use_instance(
+        &self,
+        run: &mut Run,
+        id: InstanceId,
+        wanted: Wanted,
+    ) -> Result<Outcome, AllocError>
+        requires usable { IsUsable self.now.stage.scene id.bean wanted }
+        ensures { IfOk result (λ outcome.
+            Uses self.now.stage.scene id (use_of wanted) run.old.moment outcome run.new.moment) }
+    {
+        match wanted {
+            Wanted::State => Ok(Outcome::Value(run.load(id.number, Actor::Target))),
+            Wanted::Answer { method, arg } => {
+                if self.product(id.bean).is_some() {
+                    return Ok(Outcome::Value(run.load(id.number, Actor::Target)));
+                }
+                let place = Place::Method(method);
+                let given = self.invoke(run, DEPTH, id, place, &[], Passed { arg, link: 0 })?;
+                Ok(given.outcome)
+            }
         }
     }
-}
 
-/// An event for some observers, in order, up to the first failure (CDI 4.0, Observer notification). After want of memory all is
-/// as said above.
-pub fn fire<B: Bodies>(
-    run: &mut Run,
-    scene: &Scene,
-    book: &B,
-    observers: &[Notified],
-    arg: Val,
-) -> Result<Outcome, AllocError>
-    requires sound { IsSound (B.promises book.now) scene.now }
-    requires observers { AreObservers scene.now observers.now }
-    ensures legal { IfOk result (λ outcome. Runs scene.now (notify_all observers.now arg) run.old.moment outcome run.new.moment) }
-    ensures follows { OnOk result (Follows run.old.moment run.new.moment) }
-    ensures single { let live = run.old.moment.standing.live in
-        OnOk result (IsSingle scene.now live → IsSingle scene.now run.new.moment.standing.live) }
-    ensures out_of_memory { OnErr result (run.new.moment ≡ beginning (cleared run.old.moment.standing.given)) }
-{
-    let given = run.given();
-    match fire_all(run, scene, book, DEPTH, observers, arg) {
-        Ok(outcome) => Ok(outcome),
-        Err(error) => {
-            run.clear(given);
-            Err(error)
-        }
+    /// Ends both contexts.
+    fn end_both(&self, run: &mut Run) -> Result<(), AllocError>
+        ensures { OnOk result (EndsAll self.now.stage.scene run.old.moment run.new.moment) }
+    {
+        self.stage.end_context(run, Scope::Request)?;
+        self.stage.end_context(run, Scope::Application)?;
+        Ok(())
     }
-}
-
-/// Ends the request context and then the application context (CDI 4.0, Context management for built-in scopes). Whether a
-/// request is active stays as it was: its end is the caller's. After want of memory the caller clears the run.
-pub fn end_contexts<B: Bodies>(run: &mut Run, scene: &Scene, book: &B) -> Result<(), AllocError>
-    requires sound { IsSound (B.promises book.now) scene.now }
-    ensures legal { OnOk result (EndsAll scene.now run.old.moment run.new.moment) }
-{
-    end_context(run, scene, book, Scope::Request)?;
-    end_context(run, scene, book, Scope::Application)?;
-    Ok(())
 }

@@ -1,30 +1,15 @@
-//! The words of the definitions as tests and values: what the scene says of a bean, and what an outcome amounts to.
-ghost use Rattle.std.specs.Prelude.{◌≡◌, ◌<◌, ◌↔◌, length, slice_get, true, IsTrue, IsSome, IfSome, Some, option_map, ◌||◌, false};
+//! The words of the definitions as tests and values: what scopes, outcomes and sites amount to.
+ghost use Rattle.std.specs.Prelude.{◌≡◌, ◌<◌, ◌↔◌, ◌||◌, length, slice_get, false, IsTrue, Some};
 ghost use Rattle.cdi_model.specs.declared.outcome.Outcome.TheVariants.{Failed};
 ghost use Rattle.cdi_legal.specs.Ends.{seat_on};
 ghost use Rattle.cdi_contexts.specs.Owned.{context_of};
-ghost use Rattle.cdi_scene.specs.Scene.{bean_at, part_at};
-ghost use Rattle.cdi_scene.specs.Sound.{IsSoundAt};
 ghost use Rattle.cdi_legal.specs.Acts.{ignored, has_returned};
-ghost use Rattle.cdi_legal.specs.Legal.{is_normal, IsInactive, IsSkipped, produced, product_of, dependent_of, for_param, answered};
-ghost use Rattle.cdi_run.specs.Known.{HasScope, RunsAt};
+ghost use Rattle.cdi_legal.specs.Legal.{is_normal, IsInactive, IsSkipped, produced, dependent_of, for_param, answered};
 
-use cdi_bodies::Bodies;
 use cdi_contexts::{Actor, InstanceId, Owner};
 use cdi_legal::{Answered, Run};
 use cdi_model::{Failure, Outcome, Scope, Val};
-use cdi_scene::{CallSite, Form, Injection, Notified, Observer, Part, Place, Scene, Seat, Via};
-
-/// The scope of a bean.
-pub(crate) fn scope_of(scene: &Scene, bean: usize) -> Scope
-    requires { IsSome (bean_at scene.now bean) }
-    ensures { HasScope scene.now bean result }
-{
-    match scene.bean(bean) {
-        Some(found) => found.scope,
-        None => unreachable!(),
-    }
-}
+use cdi_scene::{CallSite, Injection, Notified, Observer, Part, Place, Seat, Via};
 
 /// Whether it is a normal scope (CDI 4.0, Normal scopes and pseudo-scopes).
 pub(crate) fn is_normal(scope: Scope) -> bool
@@ -54,19 +39,6 @@ pub(crate) fn is_inactive(run: &Run, scope: Scope) -> bool
     match scope {
         Scope::Request => !run.is_active(),
         Scope::Dependent | Scope::Application => false,
-    }
-}
-
-/// What a product holds once it is ready.
-pub(crate) fn product_of(scene: &Scene, bean: usize, value: Val) -> Option<Val>
-    ensures { IfSome (bean_at scene.now bean) (λ x. result ≡ product_of x.form value) }
-{
-    match scene.bean(bean) {
-        Some(found) => match &found.form {
-            Form::Managed(_) => None,
-            Form::Product(_) => Some(value),
-        },
-        None => None,
     }
 }
 
@@ -144,17 +116,6 @@ pub(crate) fn dependent_of(
             Some(Some(id)) => Some(id.number),
             _ => None,
         },
-    }
-}
-
-/// The body that runs at a seat.
-pub(crate) fn part_at<'a, B: Bodies>(scene: &'a Scene, book: &B, seat: Seat) -> &'a Part
-    requires { IsSoundAt (B.promises book.now) scene.now seat }
-    ensures { RunsAt (B.promises book.now) scene.now seat result.now }
-{
-    match scene.part(seat) {
-        Some(part) => part,
-        None => unreachable!(),
     }
 }
 

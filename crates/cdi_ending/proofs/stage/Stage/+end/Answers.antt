@@ -1,0 +1,58 @@
+use Rattle.std.proofs.Common.{rules, ◌≡◌, ◌<◌, ◌+◌, ◌*◌, ◌-◌, Some, None, arith, ap}
+use Rattle.cdi_contexts.specs.Standing.{last_of}
+use Rattle.cdi_legal.specs.Ends.{Ends}
+use Rattle.cdi_legal.specs.Moment.{Moment}
+use Rattle.cdi_legal.specs.Room.{Shrinks}
+use Rattle.cdi_ending.proofs.Shrinking.{Shrinks-trans, Shrinks-lower, Shrinks-gone, fewer}
+use Rattle.cdi_ending.proofs.stage.Stage.+end.Goals as goal
+
+pub destroy-destroy_dependents-requires : goal.destroy-destroy_dependents-requires
+destroy-destroy_dependents-requires g t c =
+    let n = c.args.id.number in
+    let same : c.note.new.self.moment.standing ≡ c.args.run.now.moment.standing = ap (λ (m : Moment). m.standing) c.in_ok-note.ensures.ok in
+    let given : c.call_back.new.run.moment.standing.given ≡ c.args.run.now.moment.standing.given =
+    rw same at (c.in_ok-call_back.ensures.steady n).given in
+    let smaller : 2 * (c.call_back.new.run.moment.standing.given + 1 - n) < 2 * (c.args.run.now.moment.standing.given + 1 - n) + 1 =
+    omega arith in
+    search rules
+
+pub destroy-returns-clause-legal : goal.destroy-returns-clause-legal
+destroy-returns-clause-legal g t c =
+    Ends.destroyed _ _ _ _ _ _ c.in_ok-note.ensures.ok c.in_ok-call_back.ensures.legal c.in_ok-destroy_dependents.ensures.legal
+    c.in_ok-note-2.ensures.ok
+
+pub destroy-returns-clause-shrinks : goal.destroy-returns-clause-shrinks
+destroy-returns-clause-shrinks g t c =
+    let n = c.args.id.number in
+    let same : c.note.new.self.moment.standing ≡ c.args.run.now.moment.standing = ap (λ (m : Moment). m.standing) c.in_ok-note.ensures.ok in
+    let first : Shrinks n c.args.run.now.moment.standing c.call_back.new.run.moment.standing =
+    rw same at (c.in_ok-call_back.ensures.steady n) in
+    let second : Shrinks n c.call_back.new.run.moment.standing c.destroy_dependents.new.run.moment.standing =
+    Shrinks-lower (n + 1) n _ _ (omega arith) c.in_ok-destroy_dependents.ensures.shrinks in
+    rw c.in_ok-note-2.ensures.ok (Shrinks-trans n _ _ _ first (Shrinks-trans n _ _ _ second (Shrinks-gone n _)))
+
+pub destroy-returns-clause-fewer : goal.destroy-returns-clause-fewer
+destroy-returns-clause-fewer g t c = λ live.
+    let n = c.args.id.number in
+    let same : c.note.new.self.moment.standing ≡ c.args.run.now.moment.standing = ap (λ (m : Moment). m.standing) c.in_ok-note.ensures.ok in
+    let first : Shrinks (n + 1) c.args.run.now.moment.standing c.call_back.new.run.moment.standing =
+    rw same at (c.in_ok-call_back.ensures.steady (n + 1)) in
+    let both : Shrinks (n + 1) c.args.run.now.moment.standing c.destroy_dependents.new.run.moment.standing =
+    Shrinks-trans (n + 1) _ _ _ first c.in_ok-destroy_dependents.ensures.shrinks in
+    let here = both.kept n (omega arith) live in
+    rw c.in_ok-note-2.ensures.ok (omega (arith, both.few, fewer n c.destroy_dependents.new.run.moment.standing.live here))
+
+pub destroy_dependents-loop-youngest-preserved : goal.destroy_dependents-loop-youngest-preserved
+destroy_dependents-loop-youngest-preserved g t c =
+    let last : last_of c.loop-youngest.run.moment.standing.live c.args.number ≡ Some c.in-Some.youngest = grind arith in
+    record {
+      shrinks =
+          Shrinks-trans _ _ _ _ c.loop-youngest.invariant.shrinks
+          (Shrinks-lower _ _ _ _ (omega (arith, c.in-Some.ensures.younger.0)) c.in_ok-destroy.ensures.shrinks);
+      rest = λ m e. c.loop-youngest.invariant.rest m (Ends.youngest _ _ _ _ _ last c.in_ok-destroy.ensures.legal e);
+    }
+
+pub destroy_dependents-returns-clause-legal : goal.destroy_dependents-returns-clause-legal
+destroy_dependents-returns-clause-legal g t c =
+    let last : last_of c.loop-youngest.run.moment.standing.live c.args.number ≡ None = grind arith in
+    c.loop-youngest.invariant.rest _ (Ends.no_dependent _ _ last)

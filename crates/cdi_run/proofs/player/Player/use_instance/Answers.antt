@@ -1,0 +1,26 @@
+use Rattle.std.proofs.Common.{rules, ◌≡◌, None, IsSome, arith, ap}
+use Rattle.std.proofs.lemmas.Grind.{common_steps}
+use Rattle.cdi_model.specs.declared.outcome.Outcome.TheVariants.{Value}
+use Rattle.cdi_model.specs.declared.outcome.Val.{Val}
+use Rattle.cdi_scene.specs.Scene.{product_at}
+use Rattle.cdi_legal.specs.LegalRun.{Uses}
+use Rattle.cdi_run.proofs.player.Player.use_instance.Goals as goal
+
+pub returns-in-State : goal.returns-in-State
+returns-in-State g c = rw c.in-State.is (Uses.looked _ _ (ap (λ (v : Val). Value v) c.load.ensures))
+
+pub returns-then-is_some : goal.returns-then-is_some
+returns-then-is_some g c =
+    let some : IsSome (product_at c.args.self.now.stage.scene c.args.id.bean) = grind (arith, common_steps) in
+    rw c.in-Answer.is (Uses.called_product _ _ _ _ some (ap (λ (v : Val). Value v) c.load-then-is_some.ensures))
+
+pub invoke-requires : goal.invoke-requires
+invoke-requires g c =
+    let none : product_at c.args.self.now.stage.scene c.args.id.bean ≡ None = grind (arith, common_steps) in
+    let there = (rw c.in-Answer.is at c.requires.usable) none in
+    search rules
+
+pub returns-in_ok-given-in-Answer : goal.returns-in_ok-given-in-Answer
+returns-in_ok-given-in-Answer g c =
+    let none : product_at c.args.self.now.stage.scene c.args.id.bean ≡ None = grind (arith, common_steps) in
+    rw c.in-Answer.is (Uses.called _ _ _ _ _ _ none c.in_ok-given-in-Answer.ensures)

@@ -1,9 +1,0 @@
-use Rattle.cdi_legal.proofs.Following.{runs_follow}
-use Rattle.cdi_legal.proofs.Sharing.{runs_single}
-use Rattle.cdi_run.proofs.roots.use_one.Goals as goal
-
-pub returns-in-Ok-clause-follows : goal.returns-in-Ok-clause-follows
-returns-in-Ok-clause-follows g c = runs_follow c.in-Ok.ensures
-
-pub returns-in-Ok-clause-single : goal.returns-in-Ok-clause-single
-returns-in-Ok-clause-single g c = runs_single c.in-Ok.ensures
