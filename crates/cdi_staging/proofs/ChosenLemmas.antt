@@ -1,0 +1,257 @@
+-- The bean that is chosen for an injection point stands in the scene.
+use Rattle.std.proofs.Common.{◌≡◌, ◌≢◌, ◌<◌, ℕ, zero, suc, Bool, true, false, ◌&&◌, cond, List, [], ◌∷◌, map, filter}
+use Rattle.std.proofs.Common.{length, Option, Some, None, unwrap_or}
+use Rattle.std.proofs.Common.{refl, sym, subst, ap, ◌∙◌, ◌⊎◌, inl, inr, arith}
+use Rattle.std.specs.List.{slice_get}
+use Rattle.std.specs.Option.{option_eq}
+use Rattle.std.specs.Str.{bytes_eq}
+use Rattle.std.proofs.lemmas.Bool.{and_parts, false≢true}
+use Rattle.std.proofs.lemmas.Option.{get_or_from_slice_get, same_Some, slice_get_within}
+use Rattle.cdi_model.specs.Decl.{key_of, kind_of, name_of_decl}
+use Rattle.cdi_model.specs.DeclKey.{same_key, same_key_equiv}
+use Rattle.cdi_model.specs.DeclList.{find_decl, AreDistinct}
+use Rattle.cdi_model.specs.declared.decl.BeanDecl.{BeanDecl}
+use Rattle.cdi_model.specs.declared.decl.Decl.{Decl}
+use Rattle.cdi_model.specs.declared.decl.Decl.TheVariants as decls
+use Rattle.cdi_model.specs.declared.decl.ProducerDecl.{ProducerDecl}
+use Rattle.cdi_model.specs.declared.quals.Qual.{Qual}
+use Rattle.cdi_model.proofs.EntryLemmas.{key_exact}
+use Rattle.cdi_match.specs.Chain.{has}
+use Rattle.cdi_match.proofs.Names.{one_name, same_text}
+use Rattle.cdi_bodies.specs.Book.{Promised}
+use Rattle.cdi_scene.specs.declared.scene.Bean.{Bean}
+use Rattle.cdi_scene.specs.declared.scene.Form.TheVariants as forms
+use Rattle.cdi_scene.specs.declared.scene.Product.{Product}
+use Rattle.cdi_scene.specs.Scene.{bean_at}
+use Rattle.cdi_effective.specs.Beans.{beans, entries, managed, product, effective}
+use Rattle.cdi_effective.specs.Disposers.{as_bean, find_bean}
+use Rattle.cdi_effective.specs.Qualifiers.{required, cover_all}
+use Rattle.cdi_effective.specs.declared.records.BeanId.{BeanId}
+use Rattle.cdi_effective.specs.declared.records.Effective.{Effective}
+use Rattle.cdi_resolve.specs.Choices.{Candidate, candidate, choice_of, chosen, eligible, is_eligible, only, among}
+use Rattle.cdi_resolve.specs.Choices.{greatest, is_greatest, alternatives, offers}
+use Rattle.cdi_resolve.specs.Position.{is_told_by}
+use Rattle.cdi_resolve.specs.declared.choice.Choice.TheVariants.{One}
+use Rattle.cdi_staging.specs.Sites.{position_of_bean}
+use Rattle.cdi_staging.specs.Staged.{scene_of, sight_of, staged_beans, staged_managed, staged_product, managed_form}
+use Rattle.cdi_staging.specs.Staged.{unused_managed}
+use Rattle.cdi_staging.proofs.BesideLemmas.{Beside, beside-map, beside-flat, second-at, found, from-filter, from-map}
+
+-- ---- the one that is chosen
+
+record HasId (id : BeanId) (cs : List Candidate) : Type 0 where
+  pub place : ℕ
+  pub value : Candidate
+  pub there : slice_get cs place ≡ Some value
+  pub is : value.id ≡ id
+
+has-in-filter : (p : Candidate → Bool) (id : BeanId) (cs : List Candidate) (h : HasId id (filter p cs)) → HasId id cs
+has-in-filter p id cs h =
+    let at = from-filter p cs h.place h.value h.there in
+    record { place = at.0; value = h.value; there = at.1; is = h.is }
+
+only-one : (id : BeanId) (cs : List Candidate) → only cs ≡ One id → HasId id cs
+only-one id [] e = absurd (cc)
+only-one id (c ∷ []) e = record { place = zero; value = c; there = refl; is = cc }
+only-one id (c ∷ d ∷ cs) e = absurd (cc)
+
+among-one : (id : BeanId) (cs alts : List Candidate) → among cs alts ≡ One id → HasId id alts
+among-one id cs [] e = absurd (cc)
+among-one id cs (a ∷ more) e = has-in-filter (is_greatest (a ∷ more)) id (a ∷ more) (only-one id (greatest (a ∷ more)) e)
+
+choice-one : (id : BeanId) (cs : List Candidate) → choice_of cs ≡ One id → HasId id cs
+unfolding choice_of
+choice-one id [] e = absurd (cc)
+choice-one id (c ∷ []) e = record { place = zero; value = c; there = refl; is = cc }
+choice-one id (c ∷ d ∷ cs) e =
+    has-in-filter (λ x. x.is_alternative) id (c ∷ d ∷ cs) (among-one id (c ∷ d ∷ cs) (alternatives (c ∷ d ∷ cs)) e)
+
+-- an enabled bean of a list that has the id
+pub record IsOffered (id : BeanId) (list : List Effective) : Type 0 where
+  pub place : ℕ
+  pub value : Effective
+  pub there : slice_get list place ≡ Some value
+  pub is : value.id ≡ id
+  pub enabled : value.is_enabled ≡ true
+
+pub chosen-offered : (ds : List Decl) (list : List Effective) (t : List ℕ) (quals : List Qual) (id : BeanId)
+    → chosen ds list t quals ≡ One id → IsOffered id list
+unfolding chosen eligible
+chosen-offered ds list t quals id e =
+    let h = choice-one id (map candidate (eligible ds list t quals)) e in
+    let bean = from-map candidate (eligible ds list t quals) h.place h.value h.there in
+    let at = from-filter (is_eligible ds t quals) list h.place bean.0 bean.1 in
+    let offered = and_parts (offers t bean.0) (cover_all ds bean.0.qualifiers (required quals)) at.2 in
+    record {
+      place = at.0;
+      value = bean.0;
+      there = at.1;
+      is = ap (λ c. c.id) bean.2 ∙ h.is;
+      enabled = (and_parts bean.0.is_enabled (has bean.0.types t) offered.0).0;
+    }
+
+-- ---- what an id tells
+
+option-self : (o : Option (List ℕ)) → option_eq bytes_eq o o ≡ true
+option-self None = refl
+option-self (Some x) = same_text x x refl
+
+pub told-self : (x : Effective) → is_told_by x.id x ≡ true
+told-self x = ap (λ b. b && option_eq bytes_eq x.id.producer x.id.producer) (same_text x.id.class x.id.class refl)
+    ∙ option-self x.id.producer
+
+option-same : (a b : Option (List ℕ)) → option_eq bytes_eq a b ≡ true → a ≡ b
+option-same None None e = refl
+option-same None (Some y) e = absurd (false≢true e)
+option-same (Some x) None e = absurd (false≢true e)
+option-same (Some x) (Some y) e = ap Some (one_name x y e)
+
+pub told-is : (id : BeanId) (x : Effective) → is_told_by id x ≡ true → (x.id.class ≡ id.class) × (x.id.producer ≡ id.producer)
+told-is id x e =
+    let both = and_parts (bytes_eq x.id.class id.class) (option_eq bytes_eq x.id.producer id.producer) e in
+    (one_name x.id.class id.class both.0, option-same x.id.producer id.producer both.1)
+
+-- ---- records beside beans
+
+pub record OfManaged (ds : List Decl) (book : List Promised) (x : Effective) (bean : Bean) : Type 0 where
+  pub decl : BeanDecl
+  pub place : ℕ
+  pub there : slice_get ds place ≡ Some (decls.Bean decl)
+  pub is : x ≡ managed ds decl
+  pub made : bean ≡ staged_managed ds book decl
+
+pub record OfProduct (ds : List Decl) (book : List Promised) (x : Effective) (bean : Bean) : Type 0 where
+  pub decl : BeanDecl
+  pub place : ℕ
+  pub there : slice_get ds place ≡ Some (decls.Bean decl)
+  pub producer : ProducerDecl
+  pub at : ℕ
+  pub declared : slice_get decl.producers at ≡ Some producer
+  pub is : x ≡ product ds decl producer
+  pub made : bean ≡ staged_product ds book decl producer
+
+abbrev pub Stands : List Decl → List Promised → Effective → Bean → Type 0
+Stands ds book x bean = OfManaged ds book x bean ⊎ OfProduct ds book x bean
+
+of-decl : (ds : List Decl) (book : List Promised) (k : ℕ) (d : Decl) → slice_get ds k ≡ Some d
+    → Beside (Stands ds book) (entries ds d) (staged_beans ds book d)
+unfolding staged_beans
+of-decl ds book k (decls.Type d) at = tt
+of-decl ds book k (decls.Qualifier d) at = tt
+of-decl ds book k (decls.Stereotype d) at = tt
+of-decl ds book k (decls.Bean d) at = (
+  inl (record { decl = d; place = k; there = at; is = refl; made = refl }),
+  beside-map (Stands ds book) (product ds d) (staged_product ds book d) d.producers
+      (λ j p e. inr (record { decl = d; place = k; there = at; producer = p; at = j; declared = e; is = refl; made = refl })),
+)
+
+-- the beans of the scene stand beside their records
+pub all-stand : (ds : List Decl) (book : List Promised) → Beside (Stands ds book) (beans ds) (scene_of ds book).beans
+unfolding beans scene_of
+all-stand ds book = beside-flat (Stands ds book) (entries ds) (staged_beans ds book) ds (of-decl ds book)
+
+-- ---- declarations by their names
+
+other-key : (d e : Decl) → key_of e ≢ key_of d → same_key (key_of d) (key_of e) ≡ false
+other-key d e other = by (same_key (key_of d) (key_of e)) refl
+  where
+    by : (b : Bool) → same_key (key_of d) (key_of e) ≡ b → b ≡ false
+    by false same = refl
+    by true same = absurd (other (sym (key_exact (key_of d) (key_of e) same)))
+
+found-own : (ds : List Decl) (k : ℕ) (d : Decl) → AreDistinct ds → slice_get ds k ≡ Some d
+    → find_decl (kind_of d) (name_of_decl d) ds ≡ Some d
+found-own [] k d distinct at = absurd (cc)
+found-own (e ∷ es) zero d distinct at =
+    let same : e ≡ d = cc in
+    ap (λ b. cond b (Some e) (find_decl (kind_of d) (name_of_decl d) es))
+    (subst (λ f. same_key (key_of d) (key_of f) ≡ true) (sym same) (same_key_equiv.refl (key_of d)))
+    ∙ ap Some same
+found-own (e ∷ es) (suc k) d distinct at =
+    let lt : k < length es = slice_get_within es k d at in
+    let apart = distinct zero (suc k) e (omega arith) (omega arith) in
+    let other : key_of e ≢ key_of d = subst (λ f. key_of e ≢ key_of f) (get_or_from_slice_get es k d e at) apart in
+    ap (λ b. cond b (Some e) (find_decl (kind_of d) (name_of_decl d) es)) (other-key d e other)
+    ∙ found-own es k d (λ i j f before within. distinct (suc i) (suc j) f (omega arith) (omega arith)) at
+
+pub bean-found : (ds : List Decl) (k : ℕ) (d : BeanDecl) → AreDistinct ds → slice_get ds k ≡ Some (decls.Bean d)
+    → find_bean d.name ds ≡ Some d
+bean-found ds k d distinct at = ap as_bean (found-own ds k (decls.Bean d) distinct at)
+
+-- ---- what is chosen stands in the scene
+
+managed-id : (ds : List Decl) (d : BeanDecl) → ((managed ds d).id.class ≡ d.name) × ((managed ds d).id.producer ≡ None)
+unfolding effective
+managed-id ds d = (refl, refl)
+
+product-id : (ds : List Decl) (d : BeanDecl) (p : ProducerDecl) → (product ds d p).id.producer ≡ Some p.name
+unfolding effective
+product-id ds d p = refl
+
+-- a record of no producer method is that of a managed bean
+pub of-none : (ds : List Decl) (book : List Promised) (x : Effective) (bean : Bean) → Stands ds book x bean → x.id.producer ≡ None
+    → OfManaged ds book x bean
+of-none ds book x bean (inl managed_one) none = managed_one
+of-none ds book x bean (inr produced) none =
+    let clash : None ≡ Some produced.producer.name = sym none ∙ ap (λ y. y.id.producer) produced.is
+    ∙ product-id ds produced.decl produced.producer in
+    absurd (cc)
+
+-- a record of a producer method is that of a product
+pub of-some : (ds : List Decl) (book : List Promised) (x : Effective) (bean : Bean) (p : List ℕ) → Stands ds book x bean
+    → x.id.producer ≡ Some p → OfProduct ds book x bean
+of-some ds book x bean p (inr produced) some = produced
+of-some ds book x bean p (inl managed_one) some =
+    let clash : None ≡ Some p = sym (managed-id ds managed_one.decl).1 ∙ sym (ap (λ y. y.id.producer) managed_one.is) ∙ some in
+    absurd (cc)
+
+-- the managed bean of a class and of an enabled bean of it
+pub record IsManagedOf (ds : List Decl) (book : List Promised) (class : List ℕ) (bean : Bean) : Type 0 where
+  pub decl : BeanDecl
+  pub is : find_bean class ds ≡ Some decl
+  pub form : bean.form ≡ forms.Managed (managed_form ds (beans ds) book (sight_of ds decl) decl)
+
+pub record Reached (ds : List Decl) (book : List Promised) (id : BeanId) : Type 0 where
+  pub bean : Bean
+  pub there : bean_at (scene_of ds book) (position_of_bean (beans ds) id) ≡ Some bean
+  pub of_managed : id.producer ≡ None → IsManagedOf ds book id.class bean
+  pub of_product : (p : List ℕ) → id.producer ≡ Some p → (made : Product) × (bean.form ≡ forms.Product made)
+
+named-decl : (ds : List Decl) (book : List Promised) (x : Effective) (bean : Bean) (class : List ℕ) → AreDistinct ds
+    → (m : OfManaged ds book x bean) → x.id.class ≡ class → find_bean class ds ≡ Some m.decl
+named-decl ds book x bean class distinct m is =
+    let name : m.decl.name ≡ class = sym (managed-id ds m.decl).0 ∙ sym (ap (λ y. y.id.class) m.is) ∙ is in
+    subst (λ n. find_bean n ds ≡ Some m.decl) name (bean-found ds m.place m.decl distinct m.there)
+
+pub reached : (ds : List Decl) (book : List Promised) (id : BeanId) → AreDistinct ds → IsOffered id (beans ds) → Reached ds book id
+reached ds book id distinct offered =
+    let list = beans ds in
+    let scene_beans = (scene_of ds book).beans in
+    let told : is_told_by id offered.value ≡ true = subst (λ i. is_told_by i offered.value ≡ true) offered.is (told-self offered.value) in
+    let first = found (is_told_by id) list offered.place offered.value offered.there told in
+    let staged = second-at (Stands ds book) list scene_beans first.place first.value (all-stand ds book) first.there in
+    let own = second-at (Stands ds book) list scene_beans offered.place offered.value (all-stand ds book) offered.there in
+    let is = told-is id first.value first.passes in
+    record {
+      bean = staged.value;
+      there = ap (λ o. slice_get scene_beans (unwrap_or o (length list))) first.position_is ∙ staged.there;
+      of_managed = λ none.
+          let m = of-none ds book first.value staged.value staged.fits (is.1 ∙ none) in
+          let n = of-none ds book offered.value own.value own.fits (ap (λ i. i.producer) offered.is ∙ none) in
+          let by_first : find_bean id.class ds ≡ Some m.decl = named-decl ds book first.value staged.value id.class distinct m is.0 in
+          let by_own : find_bean id.class ds ≡ Some n.decl = named-decl ds book offered.value own.value id.class distinct n
+          (ap (λ i. i.class) offered.is) in
+          let one : Some n.decl ≡ Some m.decl = sym by_own ∙ by_first in
+          let same : n.decl ≡ m.decl = same_Some n.decl m.decl one in
+          let enabled : (managed ds m.decl).is_enabled ≡ true = ap (λ d. (managed ds d).is_enabled) (sym same)
+          ∙ sym (ap (λ y. y.is_enabled) n.is) ∙ offered.enabled in
+          record {
+            decl = m.decl;
+            is = by_first;
+            form = ap (λ b. b.form) m.made
+                ∙ ap (λ b. forms.Managed (cond b (managed_form ds (beans ds) book (sight_of ds m.decl) m.decl) unused_managed)) enabled;
+          };
+      of_product = λ p some.
+          let m = of-some ds book first.value staged.value p staged.fits (is.1 ∙ some) in
+          (_, ap (λ b. b.form) m.made);
+    }

@@ -1,0 +1,6 @@
+mod SplitLemmas
+mod BesideLemmas
+mod ChosenLemmas
+mod PartLemmas
+mod SoundLemmas
+pub mod SceneLemmas

@@ -1,0 +1,210 @@
+-- The parts of a scene, and where their call sites lead.
+use Rattle.std.proofs.Common.{◌≡◌, ◌≤◌, ℕ, List, [], ◌++◌, map, length, Option, Some, None, unwrap_or, option_map}
+use Rattle.std.proofs.Common.{refl, sym, subst, ap, ◌∙◌, arith}
+use Rattle.std.specs.List.{find, position, slice_get}
+use Rattle.std.specs.Option.{option_or}
+use Rattle.std.proofs.lemmas.List.{length-map}
+use Rattle.std.proofs.lemmas.Option.{same_Some, slice_get-map}
+use Rattle.cdi_model.specs.DeclList.{AreDistinct}
+use Rattle.cdi_model.specs.declared.decl.CallDecl.{CallDecl}
+use Rattle.cdi_model.specs.declared.decl.Decl.{Decl}
+use Rattle.cdi_model.specs.declared.decl.PartDecl.{PartDecl}
+use Rattle.cdi_model.specs.declared.decl.PointDecl.{PointDecl}
+use Rattle.cdi_bodies.specs.Book.{Promised, is_named, promise_of}
+use Rattle.std.specs.Int.RustNames.{bit_and}
+use Rattle.cdi_bodies.specs.Within.{Has}
+use Rattle.cdi_bodies.specs.declared.promise.Promise.{Promise}
+use Rattle.cdi_scene.specs.Sound.{IsInBook, HasMethod, IsSoundSite, IsSoundPart}
+use Rattle.cdi_scene.specs.declared.scene.CallSite.{CallSite}
+use Rattle.cdi_scene.specs.declared.scene.Part.{Part}
+use Rattle.cdi_scene.specs.declared.scene.Via.{Via}
+use Rattle.cdi_scene.specs.declared.scene.Via.TheVariants.{Own, Param}
+use Rattle.cdi_effective.specs.Beans.{beans}
+use Rattle.cdi_effective.specs.Disposers.{find_bean}
+use Rattle.cdi_effective.specs.declared.records.BeanId.{BeanId}
+use Rattle.cdi_resolve.specs.declared.choice.Choice.TheVariants.{One}
+use Rattle.cdi_observe.specs.Answers.{answer_to}
+use Rattle.cdi_staging.specs.Faultless.{IsFit, IsSatisfied, AreSatisfied, Declares, IsLed, IsFinePart}
+use Rattle.cdi_staging.specs.Sites.{Sight, nowhere, target_of, class_with, method_declared, method_of, is_method}
+use Rattle.cdi_staging.specs.Sites.{is_point, position_of_bean, site_at, site_among, site_of, target_at}
+use Rattle.cdi_staging.specs.Staged.{part_of, part_with, staged_part, staged_method, managed_form, sight_of, scene_of}
+use Rattle.cdi_staging.specs.Staged.{targets}
+use Rattle.cdi_staging.proofs.BesideLemmas.{of-find, no-position, find-append, from-map}
+use Rattle.cdi_staging.proofs.ChosenLemmas.{Reached, chosen-offered, reached}
+
+-- ---- bodies
+
+pub from-option : {X Y : Type 0} (f : X → Y) (o : Option X) (y : Y) → option_map f o ≡ Some y → (x : X) × (o ≡ Some x) × (f x ≡ y)
+from-option f None y e = absurd (cc)
+from-option f (Some x) y e = (x, refl, cc)
+
+-- a part that was made of a body in the book
+pub record IsMade (book : List Promised) (calls : List CallSite) (promise : Promise) (part : Part) : Type 0 where
+  pub body : IsInBook book part
+  pub calls_are : part.calls ≡ calls
+  pub fires_are : part.fires ≡ []
+  pub promise_is : part.promise ≡ promise
+
+pub part-made : (book : List Promised) (calls : List CallSite) (allowed : ℕ) (name : List ℕ) (part : Part) (fit : IsFit book allowed name)
+    → part_of book calls name ≡ Some part → IsMade book calls fit.promise part
+unfolding part_of
+part-made book calls allowed name part fit e =
+    let kept = from-option (λ b. b.1) (find (is_named name) book) fit.promise fit.found in
+    let at = of-find (is_named name) book kept.0 kept.1 in
+    let value : at.value ≡ kept.0 = same_Some at.value kept.0 (sym at.find_is ∙ kept.1) in
+    let body : Part = record { body = at.place; promise = fit.promise; calls = calls; fires = [] } in
+    let made : Some body ≡ Some part = sym (ap (λ o. part_with calls o (promise_of book name)) at.position_is
+    ∙ ap (part_with calls (Some at.place)) fit.found) ∙ e in
+    let is : body ≡ part = same_Some body part made in
+    let there : slice_get book at.place ≡ Some (kept.0.0, fit.promise) = at.there ∙ ap Some value
+    ∙ ap (λ p. Some (kept.0.0, p)) kept.2 in
+    subst (IsMade book calls fit.promise) is (record {
+      body = record { name = kept.0.0; found = there };
+      calls_are = refl;
+      fires_are = refl;
+      promise_is = refl;
+    })
+
+-- ---- call sites
+
+-- the method is there that the call site names, if the bean is a managed one
+method-there : (ds : List Decl) (book : List Promised) (id : BeanId) (name : List ℕ) (r : Reached ds book id) (via : Via)
+    → (id.producer ≡ None → Declares ds id.class name) → (o : Option (List ℕ)) → id.producer ≡ o
+    → HasMethod (scene_of ds book)
+    (record { via = via; bean = position_of_bean (beans ds) id; method = method_of ds (class_with id.class o) name })
+    r.bean.form
+unfolding method_of managed_form
+method-there ds book id name r via declares None e =
+    let m = r.of_managed e in
+    let d = declares e in
+    let same : d.bean ≡ m.decl = same_Some d.bean m.decl (sym d.is ∙ m.is) in
+    let found : find (is_method name) m.decl.methods ≡ Some d.method = ap (λ b. find (is_method name) b.methods) (sym same) ∙ d.found in
+    let at = of-find (is_method name) m.decl.methods d.method found in
+    let place : method_declared (find_bean id.class ds) name ≡ at.place = ap (λ o. method_declared o name) m.is
+    ∙ ap (λ o. unwrap_or o (length m.decl.methods)) at.position_is in
+    let made = staged_method ds (beans ds) book (sight_of ds m.decl) in
+    subst (λ form. HasMethod (scene_of ds book)
+    (record { via = via; bean = position_of_bean (beans ds) id; method = method_declared (find_bean id.class ds) name }) form)
+    (sym m.form) (
+      made at.value,
+      ap (slice_get (map made m.decl.methods)) place ∙ slice_get-map made m.decl.methods at.place
+          ∙ ap (option_map made) at.there,
+    )
+method-there ds book id name r via declares (Some p) e =
+    let product = r.of_product p e in
+    subst (λ form. HasMethod (scene_of ds book)
+    (record { via = via; bean = position_of_bean (beans ds) id; method = 0 }) form) (sym product.1) tt
+
+-- what is chosen for a satisfied injection point stands in the scene
+pub point-reached : (ds : List Decl) (book : List Promised) (point : PointDecl) → AreDistinct ds → (sat : IsSatisfied ds point)
+    → Reached ds book sat.id
+point-reached ds book point distinct sat =
+    reached ds book sat.id distinct (chosen-offered ds (beans ds) point.required_type point.qualifiers sat.id sat.chosen)
+
+site-sound : (ds : List Decl) (book : List Promised) (point : PointDecl) (via : Via) (name : List ℕ) → AreDistinct ds → IsSatisfied ds point
+    → ((id : BeanId) → answer_to ds point ≡ One id → id.producer ≡ None → Declares ds id.class name)
+    → IsSoundSite (scene_of ds book) (site_at ds via (target_of (beans ds) (answer_to ds point)) name)
+unfolding site_at target_of
+site-sound ds book point via name distinct sat declares =
+    let r = point-reached ds book point distinct sat in
+    subst (λ choice. IsSoundSite (scene_of ds book) (site_at ds via (target_of (beans ds) choice) name)) (sym sat.chosen)
+    (record {
+      bean = r.bean;
+      there = r.there;
+      method = method-there ds book sat.id name r via (λ none. declares sat.id sat.chosen none) sat.id.producer refl;
+    })
+
+pub target-there : (ds : List Decl) (points : List PointDecl) (k : ℕ) (point : PointDecl) → slice_get points k ≡ Some point
+    → slice_get (targets ds points) k ≡ Some (target_of (beans ds) (answer_to ds point))
+target-there ds points k point at = slice_get-map (target_of (beans ds)) (map (answer_to ds) points) k
+    ∙ ap (option_map (target_of (beans ds))) (slice_get-map (answer_to ds) points k ∙ ap (option_map (answer_to ds)) at)
+
+-- what a body sees of some injection points and parameters
+abbrev pub seen : List Decl → List PointDecl → List PointDecl → Sight
+seen ds points params = record { points = points; targets = targets ds points; params = params; param_targets = targets ds params }
+
+led-site : (ds : List Decl) (book : List Promised) (list points : List PointDecl) (call : CallDecl) (point : PointDecl) (via : Via) (k : ℕ)
+    (value : PointDecl) → AreDistinct ds → AreSatisfied ds list → slice_get list k ≡ Some value → value ≡ point
+    → ((id : BeanId) → answer_to ds point ≡ One id → id.producer ≡ None → Declares ds id.class call.method)
+    → IsSoundSite (scene_of ds book) (site_at ds via (target_at (beans ds) (targets ds list) k) call.method)
+led-site ds book list points call point via k value distinct satisfied at same declares =
+    subst (λ t. IsSoundSite (scene_of ds book) (site_at ds via t call.method))
+    (sym (ap (λ o. unwrap_or o (nowhere (beans ds))) (target-there ds list k value at)))
+    (site-sound ds book value via call.method distinct (satisfied k value at)
+    (subst (λ p. (id : BeanId) → answer_to ds p ≡ One id → id.producer ≡ None → Declares ds id.class call.method) (sym same) declares))
+
+is-sound-site : (ds : List Decl) (book : List Promised) (points params : List PointDecl) (call : CallDecl) → AreDistinct ds
+    → AreSatisfied ds points → AreSatisfied ds params → IsLed ds (params ++ points) call
+    → IsSoundSite (scene_of ds book) (site_of ds (beans ds) (seen ds points params) call)
+unfolding site_of
+is-sound-site ds book points params call distinct own_points own_params led = by (find (is_point call.point) params) refl
+  where
+    by : (o : Option PointDecl) → find (is_point call.point) params ≡ o
+        → IsSoundSite (scene_of ds book)
+        (site_among ds (beans ds) (seen ds points params) call (position (is_point call.point) params))
+    by (Some q) e =
+        let at = of-find (is_point call.point) params q e in
+        let both : Some at.value ≡ Some led.point = sym (ap (λ o. option_or o (find (is_point call.point) points)) at.find_is)
+        ∙ sym (find-append (is_point call.point) params points) ∙ led.sees in
+        subst (λ o. IsSoundSite (scene_of ds book) (site_among ds (beans ds) (seen ds points params) call o)) (sym at.position_is)
+        (led-site ds book params points call led.point (Param at.place) at.place at.value distinct own_params at.there
+        (same_Some at.value led.point both) led.declares)
+    by None e =
+        let there : find (is_point call.point) points ≡ Some led.point = sym (ap (λ o. option_or o (find (is_point call.point) points)) e)
+        ∙ sym (find-append (is_point call.point) params points) ∙ led.sees in
+        let at = of-find (is_point call.point) points led.point there in
+        let value : at.value ≡ led.point = same_Some at.value led.point (sym at.find_is ∙ there) in
+        subst (λ o. IsSoundSite (scene_of ds book) (site_among ds (beans ds) (seen ds points params) call o))
+        (sym (no-position (is_point call.point) params e))
+        (subst (λ k. IsSoundSite (scene_of ds book) (site_at ds (Own k) (target_at (beans ds) (targets ds points) k) call.method))
+        (sym (ap (λ o. unwrap_or o (length points)) at.position_is))
+        (led-site ds book points params call led.point (Own at.place) at.place at.value distinct own_points at.there value led.declares))
+
+-- ---- parts
+
+pub record IsSoundFor (ds : List Decl) (book : List Promised) (allowed : ℕ) (part : Part) : Type 0 where
+  pub sound : IsSoundPart book (scene_of ds book) part
+  pub kept : (flag : ℕ) → Has part.promise flag → bit_and allowed flag ≡ flag
+
+pub part-sound : (ds : List Decl) (book : List Promised) (allowed : ℕ) (points params : List PointDecl) (part : PartDecl) (made : Part)
+    → AreDistinct ds → AreSatisfied ds points → AreSatisfied ds params → IsFinePart ds book allowed (params ++ points) part
+    → staged_part ds (beans ds) book (seen ds points params) part ≡ Some made → IsSoundFor ds book allowed made
+unfolding staged_part
+part-sound ds book allowed points params part made distinct own_points own_params fine e =
+    let lead = site_of ds (beans ds) (seen ds points params) in
+    let m = part-made book (map lead part.calls) allowed part.body made fine.body e in
+    record {
+      sound = record {
+        body = m.body;
+        few_calls = subst (λ n. n ≤ 32) (sym (ap length m.calls_are ∙ length-map part.calls lead)) fine.few;
+        few_fires = subst (λ fs. length fs ≤ 32) (sym m.fires_are) (omega arith);
+        calls = λ k site at.
+            let found = from-map lead part.calls k site (sym (ap (λ cs. slice_get cs k) m.calls_are) ∙ at) in
+            subst (IsSoundSite (scene_of ds book)) found.2
+            (is-sound-site ds book points params found.0 distinct own_points own_params (fine.calls k found.0 found.1));
+        fires = λ k os at.
+            let none : None ≡ Some os = sym (ap (λ fs. slice_get fs k) m.fires_are) ∙ at in
+            absurd (cc);
+      };
+      kept = λ flag has. fine.body.kept flag (subst (λ p. Has p flag) m.promise_is has);
+    }
+
+-- a disposer method's part has no call site
+pub disposer-sound : (ds : List Decl) (book : List Promised) (allowed : ℕ) (name : List ℕ) (made : Part) → IsFit book allowed name
+    → part_of book [] name ≡ Some made → IsSoundFor ds book allowed made
+disposer-sound ds book allowed name made fit e =
+    let m = part-made book [] allowed name made fit e in
+    record {
+      sound = record {
+        body = m.body;
+        few_calls = subst (λ cs. length cs ≤ 32) (sym m.calls_are) (omega arith);
+        few_fires = subst (λ fs. length fs ≤ 32) (sym m.fires_are) (omega arith);
+        calls = λ k site at.
+            let none : None ≡ Some site = sym (ap (λ cs. slice_get cs k) m.calls_are) ∙ at in
+            absurd (cc);
+        fires = λ k os at.
+            let none : None ≡ Some os = sym (ap (λ fs. slice_get fs k) m.fires_are) ∙ at in
+            absurd (cc);
+      };
+      kept = λ flag has. fit.kept flag (subst (λ p. Has p flag) m.promise_is has);
+    }

@@ -1,0 +1,265 @@
+-- A deployment without faults has a sound scene.
+use Rattle.std.proofs.Common.{◌≡◌, ◌≤◌, ◌+◌, ℕ, zero, suc, Bool, true, false, cond, List, [], ◌∷◌, map, length}
+use Rattle.std.proofs.Common.{Option, Some, None, unwrap_or}
+use Rattle.std.proofs.Common.{refl, sym, subst, ap, ◌∙◌, inl, inr, arith}
+use Rattle.std.specs.List.{slice_get}
+use Rattle.std.specs.Option.{option_and_then}
+use Rattle.std.specs.Str.{bytes_eq}
+use Rattle.std.proofs.lemmas.Bool.{false≢true}
+use Rattle.std.proofs.lemmas.List.{length-map}
+use Rattle.std.proofs.lemmas.Option.{none-some, option_and_then_some, same_Some}
+use Rattle.cdi_model.specs.DeclList.{AreDistinct}
+use Rattle.cdi_model.specs.declared.decl.BeanDecl.{BeanDecl}
+use Rattle.cdi_model.specs.declared.decl.Decl.{Decl}
+use Rattle.cdi_model.specs.declared.decl.Decl.TheVariants as decls
+use Rattle.cdi_model.specs.declared.decl.PointDecl.{PointDecl}
+use Rattle.cdi_model.specs.declared.decl.ProducerDecl.{ProducerDecl}
+use Rattle.cdi_bodies.specs.Book.{Promised}
+use Rattle.cdi_bodies.specs.Flags as flags
+use Rattle.cdi_contexts.specs.declared.instance.Actor.TheVariants.{Target as ByTarget}
+use Rattle.cdi_scene.specs.Scene.{as_managed, as_product, bean_at, managed_at, product_at, invocable_at, target_part}
+use Rattle.cdi_scene.specs.Sound.{IsSoundAt, IsSoundForm, IsSoundInvocable, IsSoundManaged, IsSoundProduct, IsStatic}
+use Rattle.cdi_scene.specs.declared.place.Place.{Place}
+use Rattle.cdi_scene.specs.declared.place.Place.TheVariants as places
+use Rattle.cdi_scene.specs.declared.scene.Bean.{Bean}
+use Rattle.cdi_scene.specs.declared.scene.Injection.{Injection}
+use Rattle.cdi_scene.specs.declared.scene.Invocable.{Invocable}
+use Rattle.cdi_scene.specs.declared.scene.Managed.{Managed}
+use Rattle.cdi_scene.specs.declared.scene.Observer.{Observer}
+use Rattle.cdi_scene.specs.declared.scene.Part.{Part}
+use Rattle.cdi_effective.specs.Beans.{beans, effective, entries, managed, product}
+use Rattle.cdi_effective.specs.Disposers.{disposer_of}
+use Rattle.cdi_effective.specs.declared.records.BeanId.{BeanId}
+use Rattle.cdi_resolve.specs.Position.{is_told_by}
+use Rattle.cdi_observe.specs.Answers.{answer_to}
+use Rattle.cdi_staging.specs.Faultless.{AreFine, AreSatisfied, FaultlessIsSound, IsFineManaged, IsFineProducer, IsFit}
+use Rattle.cdi_staging.specs.Sites.{position_of_bean, target_of}
+use Rattle.cdi_staging.specs.Staged.{disposer_for, disposer_named, disposer_part, injections_from, managed_form}
+use Rattle.cdi_staging.specs.Staged.{position_of_class, product_form, scene_of, sight_of, targets, unused_managed}
+use Rattle.cdi_staging.specs.Staged.{unused_product}
+use Rattle.cdi_staging.specs.declared.target.Target.{Target}
+use Rattle.cdi_staging.proofs.BesideLemmas.{second-at, found, of-find, from-map, in-flat}
+use Rattle.cdi_staging.proofs.ChosenLemmas.{Stands, all-stand, of-none, told-self, told-is}
+use Rattle.cdi_staging.proofs.PartLemmas.{IsSoundFor, disposer-sound, point-reached}
+use Rattle.cdi_staging.proofs.SplitLemmas.{length-targets}
+use Rattle.cdi_staging.proofs.SoundLemmas.{IsGood, disposer_in, fine-product, managed_in, no-call-disposal}
+use Rattle.cdi_staging.proofs.SoundLemmas.{no-fire-disposal, no-load-disposal, no-proceed-disposal, no-store-disposal}
+use Rattle.cdi_staging.proofs.SoundLemmas.{no-load-class, no-proceed-class, no-store-class, own-good, part_in}
+use Rattle.cdi_staging.proofs.SoundLemmas.{producer-good, producer_in, product_in, stands-at, static-part}
+
+-- ---- what is invoked at a place
+
+-- the bean's own body runs there
+runs-own : (ds : List Decl) (book : List Promised) (b : ℕ) (place : Place) (x : Invocable) (part : Part)
+    → invocable_at (scene_of ds book) b place ≡ Some x → x.part ≡ Some part → target_part (scene_of ds book) b place ≡ Some part
+runs-own ds book b places.Construct x part at is = ap part_in at ∙ is
+runs-own ds book b places.Post x part at is = ap part_in at ∙ is
+runs-own ds book b places.Pre x part at is = ap part_in at ∙ is
+runs-own ds book b (places.Method m) x part at is = ap part_in at ∙ is
+runs-own ds book b (places.Producer q) x part at is = ap part_in at ∙ is
+runs-own ds book b (places.Disposer q) x part at is = absurd (none-some x at)
+runs-own ds book b (places.Observer o) x part at is = ap part_in at ∙ is
+
+invocable-sound : (ds : List Decl) (book : List Promised) (b : ℕ) (place : Place) (x : Invocable)
+    → invocable_at (scene_of ds book) b place ≡ Some x → IsGood ds book place x → IsSoundInvocable book (scene_of ds book) b place x
+invocable-sound ds book b place x at good = record {
+  links = λ k q n e.
+      let none : None ≡ Some q = sym (ap (λ l. slice_get l k) good.chain_is) ∙ e in
+      absurd (none-some q none);
+  target = λ part n e.
+      let g = good.part part e in
+      record { body = part; runs = runs-own ds book b place x part at e; sound = g.sound; allowed = g.allowed; own = g.own; seated = tt };
+}
+
+-- the observer methods of a bean
+abbrev observer_in : ℕ → Option Managed → Option Observer
+observer_in o (Some one) = slice_get one.observers o
+observer_in o None = None
+
+abbrev observed_in : Option Observer → Option Invocable
+observed_in (Some observer) = Some observer.invocable
+observed_in None = None
+
+no-observers : (ds : List Decl) (book : List Promised) (d : BeanDecl) (e : Bool)
+    → (cond e (managed_form ds (beans ds) book (sight_of ds d) d) unused_managed).observers ≡ []
+unfolding managed_form
+no-observers ds book d true = refl
+no-observers ds book d false = refl
+
+no-observed : (ds : List Decl) (book : List Promised) (b o : ℕ) (x : Invocable) (bean : Option Bean) → bean_at (scene_of ds book) b ≡ bean
+    → observed_in (observer_in o (managed_in bean)) ≡ Some x → ⊥
+no-observed ds book b o x None at e = none-some x e
+no-observed ds book b o x (Some bean) at e =
+    elim (stands-at ds book b bean at).fits [
+      | inl m ↦ none-some x (sym (ap (λ bn. observed_in (observer_in o (as_managed bn.form))) m.made
+          ∙ ap (λ os. observed_in (slice_get os o)) (no-observers ds book m.decl (managed ds m.decl).is_enabled)) ∙ e)
+      | inr p ↦ none-some x (sym (ap (λ bn. observed_in (observer_in o (as_managed bn.form))) p.made) ∙ e)
+    ]
+
+all-invocables : (ds : List Decl) (book : List Promised) (b : ℕ) (place : Place) (x : Invocable) → AreDistinct ds → AreFine ds book
+    → invocable_at (scene_of ds book) b place ≡ Some x → IsGood ds book place x
+all-invocables ds book b places.Construct x distinct fine at =
+    own-good ds book b places.Construct x (bean_at (scene_of ds book) b) distinct fine refl at
+all-invocables ds book b places.Post x distinct fine at =
+    own-good ds book b places.Post x (bean_at (scene_of ds book) b) distinct fine refl at
+all-invocables ds book b places.Pre x distinct fine at =
+    own-good ds book b places.Pre x (bean_at (scene_of ds book) b) distinct fine refl at
+all-invocables ds book b (places.Method m) x distinct fine at =
+    own-good ds book b (places.Method m) x (bean_at (scene_of ds book) b) distinct fine refl at
+all-invocables ds book b (places.Producer q) x distinct fine at =
+    producer-good ds book q x (bean_at (scene_of ds book) q) distinct fine refl at
+all-invocables ds book b (places.Disposer q) x distinct fine at = absurd (none-some x at)
+all-invocables ds book b (places.Observer o) x distinct fine at =
+    absurd (no-observed ds book b o x (bean_at (scene_of ds book) b) refl at)
+
+-- ---- beans
+
+-- where one bean is chosen for each of some points, each position stands in the scene
+target-stands : (ds : List Decl) (book : List Promised) (points : List PointDecl) (k : ℕ) (t : Target) → AreDistinct ds
+    → AreSatisfied ds points → slice_get (targets ds points) k ≡ Some t → (bean : Bean) × (bean_at (scene_of ds book) t.bean ≡ Some bean)
+unfolding target_of
+target-stands ds book points k t distinct satisfied at =
+    let choice = from-map (target_of (beans ds)) (map (answer_to ds) points) k t at in
+    let point = from-map (answer_to ds) points k choice.0 choice.1 in
+    let sat = satisfied k point.0 point.1 in
+    let r = point-reached ds book point.0 distinct sat in
+    let place : position_of_bean (beans ds) sat.id ≡ t.bean =
+    sym (ap (λ ch. (target_of (beans ds) ch).bean) (sym point.2 ∙ sat.chosen)) ∙ ap (λ u. u.bean) choice.2 in
+    (r.bean, ap (bean_at (scene_of ds book)) (sym place) ∙ r.there)
+
+injection-of : (n : ℕ) (ts : List Target) (k : ℕ) (i : Injection) → slice_get (injections_from n ts) k ≡ Some i
+    → (t : Target) × (slice_get ts k ≡ Some t) × (i.bean ≡ t.bean)
+injection-of n [] k i e = absurd (none-some i e)
+injection-of n (t ∷ ts) zero i e = (t, refl, ap (λ j. j.bean) (sym (same_Some _ i e)))
+injection-of n (t ∷ ts) (suc k) i e = injection-of (n + 1) ts k i e
+
+managed-sound : (ds : List Decl) (book : List Promised) (d : BeanDecl) (e : Bool) → AreDistinct ds → (e ≡ true → IsFineManaged ds book d)
+    → IsSoundManaged (scene_of ds book) (cond e (managed_form ds (beans ds) book (sight_of ds d) d) unused_managed)
+unfolding managed_form
+managed-sound ds book d true distinct fine = record {
+  injections = λ k i at.
+      let t = injection-of 0 (targets ds d.points) k i at in
+      let bean = target-stands ds book d.points k t.0 distinct (fine refl).points t.1 in
+      (bean.0, ap (bean_at (scene_of ds book)) t.2 ∙ bean.1);
+  observers = λ k o at. absurd (none-some o at);
+}
+managed-sound ds book d false distinct fine = record {
+  injections = λ k i at. absurd (none-some i at);
+  observers = λ k o at. absurd (none-some o at);
+}
+
+-- the bean that declares a product is a managed one
+class-told : (ds : List Decl) (d : BeanDecl) → is_told_by (record { class = d.name; producer = None }) (managed ds d) ≡ true
+unfolding effective
+class-told ds d = told-self (managed ds d)
+
+declaring-there : (ds : List Decl) (book : List Promised) (k : ℕ) (d : BeanDecl) → slice_get ds k ≡ Some (decls.Bean d)
+    → (host : Managed) × (managed_at (scene_of ds book) (position_of_class (beans ds) d.name) ≡ Some host)
+unfolding beans
+declaring-there ds book k d at =
+    let id : BeanId = record { class = d.name; producer = None } in
+    let among = in-flat (entries ds) ds k (decls.Bean d) 0 (managed ds d) at refl in
+    let first = found (is_told_by id) (beans ds) among.0 (managed ds d) among.1 (class-told ds d) in
+    let staged = second-at (Stands ds book) (beans ds) (scene_of ds book).beans first.place first.value (all-stand ds book) first.there in
+    let m = of-none ds book first.value staged.value staged.fits (told-is id first.value first.passes).1 in
+    let place : position_of_class (beans ds) d.name ≡ first.place = ap (λ o. unwrap_or o (length (beans ds))) first.position_is in
+    (_, ap (λ p. managed_in (bean_at (scene_of ds book) p)) place ∙ ap managed_in staged.there ∙ ap (λ bn. as_managed bn.form) m.made)
+
+disposer-at : (ds : List Decl) (book : List Promised) (declaring b : ℕ) (part : Part)
+    → target_part (scene_of ds book) declaring (places.Disposer b) ≡ Some part → IsSoundFor ds book flags.at_disposal part
+    → IsSoundAt book (scene_of ds book) (record { bean = declaring; number = None; actor = ByTarget; place = places.Disposer b })
+disposer-at ds book declaring b part runs s =
+    let static : IsStatic part = record {
+      loads_nothing = λ has. no-load-disposal (s.kept flags.load has);
+      stores_nothing = λ has. no-store-disposal (s.kept flags.store has);
+    } in
+    record {
+      body = part;
+      runs = runs;
+      sound = s.sound;
+      allowed = (
+        record {
+          calls_nothing = λ has. no-call-disposal (s.kept flags.call has);
+          fires_nothing = λ has. no-fire-disposal (s.kept flags.fire has);
+        },
+        static,
+      );
+      own = λ has. no-proceed-disposal (s.kept flags.proceed has);
+      seated = (static, λ has. no-proceed-disposal (s.kept flags.proceed has));
+    }
+
+product-sound : (ds : List Decl) (book : List Promised) (k : ℕ) (d : BeanDecl) (p : ProducerDecl) (b : ℕ) (e : Bool) → AreDistinct ds
+    → slice_get ds k ≡ Some (decls.Bean d)
+    → (e ≡ true → AreSatisfied ds d.points × IsFineProducer ds book d p)
+    → product_at (scene_of ds book) b
+    ≡ Some (cond e (product_form ds (beans ds) book (sight_of ds d) d (product ds d p) p (targets ds p.params))
+    (unused_product (beans ds) d))
+    → IsSoundProduct book (scene_of ds book) b
+    (cond e (product_form ds (beans ds) book (sight_of ds d) d (product ds d p) p (targets ds p.params)) (unused_product (beans ds) d))
+unfolding product_form disposer_for
+product-sound ds book k d p b false distinct at fine there =
+    let host = declaring-there ds book k d at in
+    record {
+      host = host.0;
+      declared = host.1;
+      params = λ j c e. absurd (none-some c e);
+      few = omega arith;
+      producer = λ e. absurd (false≢true e);
+      disposer = λ part e. absurd (none-some part e);
+    }
+product-sound ds book k d p b true distinct at fine there =
+    let host = declaring-there ds book k d at in
+    let f = (fine refl).1 in
+    let points = (fine refl).0 in
+    record {
+      host = host.0;
+      declared = host.1;
+      params = λ j c e.
+          let t = from-map (λ target. target.bean) (targets ds p.params) j c e in
+          let bean = target-stands ds book p.params j t.0 distinct f.params t.1 in
+          (bean.0, ap (bean_at (scene_of ds book)) (sym t.2) ∙ bean.1);
+      few = subst (λ n. n ≤ 32) (sym (length-map (targets ds p.params) (λ target. target.bean) ∙ length-targets ds p.params)) f.few;
+      producer = λ is_static.
+          let made = static-part ds book d p distinct f is_static in
+          record {
+            body = made.0;
+            runs = ap (λ o. part_in (producer_in o)) there ∙ made.1;
+            sound = made.2.sound;
+            allowed = tt;
+            own = λ has. no-proceed-class (made.2.kept flags.proceed has);
+            seated = (
+              record {
+                loads_nothing = λ has. no-load-class (made.2.kept flags.load has);
+                stores_nothing = λ has. no-store-class (made.2.kept flags.store has);
+              },
+              λ has. no-proceed-class (made.2.kept flags.proceed has),
+            );
+          };
+      disposer = λ part e. option_and_then_some (disposer_part book)
+          (option_and_then (disposer_named d) (disposer_of ds (product ds d p))) part e
+          (λ disposer named made. option_and_then_some (disposer_named d) (disposer_of ds (product ds d p)) disposer named
+          (λ name of is.
+          let found_one = of-find (λ s. bytes_eq s.name name) d.disposers disposer is in
+          let same : found_one.value ≡ disposer = same_Some found_one.value disposer (sym found_one.find_is ∙ is) in
+          let fit = subst (λ s. IsFit book flags.at_disposal s.body) same (f.disposers found_one.place found_one.value found_one.there) in
+          disposer-at ds book (position_of_class (beans ds) d.name) b part (ap disposer_in there ∙ e)
+          (disposer-sound ds book flags.at_disposal disposer.body part fit made)));
+    }
+
+form-sound : (ds : List Decl) (book : List Promised) (b : ℕ) (bean : Bean) → AreDistinct ds → AreFine ds book
+    → bean_at (scene_of ds book) b ≡ Some bean → IsSoundForm book (scene_of ds book) b bean.form
+form-sound ds book b bean distinct fine at =
+    elim (stands-at ds book b bean at).fits [
+      | inl m ↦ subst (λ bn. IsSoundForm book (scene_of ds book) b bn.form) (sym m.made)
+          (managed-sound ds book m.decl (managed ds m.decl).is_enabled distinct (fine m.place m.decl m.there).managed_bean)
+      | inr p ↦ subst (λ bn. IsSoundForm book (scene_of ds book) b bn.form) (sym p.made)
+          (product-sound ds book p.place p.decl p.producer b (product ds p.decl p.producer).is_enabled distinct p.there
+          (fine-product ds book p.place p.decl p.at p.producer fine p.there p.declared)
+          (ap product_in at ∙ ap (λ bn. as_product bn.form) p.made))
+    ]
+
+pub faultless_is_sound : FaultlessIsSound
+faultless_is_sound ds book distinct fine = record {
+  beans = λ b bean at. form-sound ds book b bean distinct fine at;
+  invocables = λ b place x at. invocable-sound ds book b place x at (all-invocables ds book b place x distinct fine at);
+}

@@ -1,0 +1,175 @@
+-- The beans of a declaration, by its records and by what is chosen for all of its injection points.
+use Rattle.std.proofs.Common.{◌≡◌, ◌≤◌, ◌+◌, ℕ, List, [], ◌∷◌, ◌++◌, map, length, length-append, append_assoc, take, drop, refl}
+use Rattle.std.proofs.Common.{sym, ap, ◌∙◌, ◌⊎◌, inl, inr, arith}
+use Rattle.std.specs.List.{flat_map}
+use Rattle.std.proofs.lemmas.List.{map-append, take_at, drop_at, length-map, nil_from_length}
+use Rattle.std.proofs.lemmas.Simd.{map-map}
+use Rattle.cdi_model.specs.declared.decl.BeanDecl.{BeanDecl}
+use Rattle.cdi_model.specs.declared.decl.Decl.{Decl}
+use Rattle.cdi_model.specs.declared.decl.Decl.TheVariants as decls
+use Rattle.cdi_model.specs.declared.decl.PointDecl.{PointDecl}
+use Rattle.cdi_model.specs.declared.decl.ProducerDecl.{ProducerDecl}
+use Rattle.cdi_bodies.specs.Book.{Promised}
+use Rattle.cdi_effective.specs.Beans.{beans, entries, records, product, managed}
+use Rattle.cdi_effective.specs.declared.records.Effective.{Effective}
+use Rattle.cdi_resolve.specs.declared.choice.Choice.{Choice}
+use Rattle.cdi_observe.specs.Answers.{answer_to, answers_of}
+use Rattle.cdi_observe.specs.Wanted.{points_of}
+use Rattle.cdi_staging.specs.Sites.{Sight, target_of, own_sight}
+use Rattle.cdi_staging.specs.Staged.{targets, sight_of, managed_bean, product_bean, products_by, beans_by}
+use Rattle.cdi_staging.specs.Staged.{staged_beans, staged_product}
+use Rattle.cdi_staging.specs.declared.target.Target.{Target}
+
+-- ---- what is chosen for some injection points, in front of what is for others
+
+targets-append : (ds : List Decl) (ps qs : List PointDecl) → targets ds (ps ++ qs) ≡ targets ds ps ++ targets ds qs
+targets-append ds ps qs = ap (map (target_of (beans ds))) (map-append (answer_to ds) ps qs)
+    ∙ map-append (target_of (beans ds)) (map (answer_to ds) ps) (map (answer_to ds) qs)
+
+pub length-targets : (ds : List Decl) (ps : List PointDecl) → length (targets ds ps) ≡ length ps
+length-targets ds ps = length-map (map (answer_to ds) ps) (target_of (beans ds)) ∙ length-map ps (answer_to ds)
+
+in_front : (ds : List Decl) (ps qs : List PointDecl) → take (length ps) (targets ds (ps ++ qs)) ≡ targets ds ps
+in_front ds ps qs = ap (take (length ps)) (targets-append ds ps qs)
+    ∙ take_at (targets ds ps) (targets ds qs) (length ps) (length-targets ds ps)
+
+behind : (ds : List Decl) (ps qs : List PointDecl) → drop (length ps) (targets ds (ps ++ qs)) ≡ targets ds qs
+behind ds ps qs = ap (drop (length ps)) (targets-append ds ps qs)
+    ∙ drop_at (targets ds ps) (targets ds qs) (length ps) (length-targets ds ps)
+
+-- ---- beans
+
+products-staged : (ds : List Decl) (book : List Promised) (bean : BeanDecl) (ps : List ProducerDecl)
+    → products_by ds (beans ds) book (sight_of ds bean) bean (map (product ds bean) ps) ps (targets ds (flat_map (λ p. p.params) ps))
+    ≡ map (staged_product ds book bean) ps
+products-staged ds book bean [] = refl
+products-staged ds book bean (p ∷ ps) =
+    let others = flat_map (λ q. q.params) ps in
+    let all = targets ds (p.params ++ others) in
+    let made : List Target → Effective → List Target → _ = λ own x rest. product_bean ds (beans ds) book (sight_of ds bean) bean x p own
+    ∷ products_by ds (beans ds) book (sight_of ds bean) bean (map (product ds bean) ps) ps rest in
+    ap (λ own. made own (product ds bean p) (drop (length p.params) all)) (in_front ds p.params others)
+    ∙ ap (λ rest. made (targets ds p.params) (product ds bean p) rest) (behind ds p.params others)
+    ∙ ap (λ bs. staged_product ds book bean p ∷ bs) (products-staged ds book bean ps)
+
+-- the beans that records and choices give are those of the declaration
+pub beans-staged : (ds : List Decl) (book : List Promised) (bean : BeanDecl)
+    → beans_by ds (beans ds) book bean (records ds bean) (targets ds (points_of (decls.Bean bean))) ≡ staged_beans ds book (decls.Bean bean)
+unfolding staged_beans
+beans-staged ds book bean =
+    let others = flat_map (λ q. q.params) bean.producers in
+    let all = targets ds (bean.points ++ others) in
+    let made : List Target → List Target → _ = λ own rest.
+    managed_bean ds (beans ds) book (own_sight bean.points own) bean (managed ds bean)
+    ∷ products_by ds (beans ds) book (own_sight bean.points own) bean (map (product ds bean) bean.producers) bean.producers rest in
+    ap (λ own. made own (drop (length bean.points) all)) (in_front ds bean.points others)
+    ∙ ap (λ rest. made (targets ds bean.points) rest) (behind ds bean.points others)
+    ∙ ap (λ bs. managed_bean ds (beans ds) book (sight_of ds bean) bean (managed ds bean) ∷ bs)
+    (products-staged ds book bean bean.producers)
+
+-- where no record or no producer method is left no product is
+pub no-product : (ds : List Decl) (list : List Effective) (book : List Promised) (own : Sight) (bean : BeanDecl) (xs : List Effective)
+    (ps : List ProducerDecl) (targets : List Target) → (xs ≡ []) ⊎ (ps ≡ [])
+    → products_by ds list book own bean xs ps targets ≡ []
+no-product ds list book own bean [] ps targets ends = refl
+no-product ds list book own bean (x ∷ xs) [] targets ends = refl
+no-product ds list book own bean (x ∷ xs) (p ∷ ps) targets (inl e) = absurd (cc)
+no-product ds list book own bean (x ∷ xs) (p ∷ ps) targets (inr e) = absurd (cc)
+
+-- the beans of a declaration, where all that is looked at is that of the declarations
+pub by-records : {A : Type 0} (value : A → Choice) (ds : List Decl) (list : List Effective) (book : List Promised) (bean : BeanDecl)
+    (d : Decl) (xs : List Effective) (answers : List A) (chosen : List Target)
+    → list ≡ beans ds → d ≡ decls.Bean bean → xs ≡ entries ds d → map value answers ≡ map (answer_to ds) (points_of d)
+    → chosen ≡ map (λ answer. target_of list (value answer)) answers
+    → beans_by ds list book bean xs chosen ≡ staged_beans ds book d
+by-records value ds list book bean d xs answers chosen all is are answered made =
+    let of_points : chosen ≡ targets ds (points_of (decls.Bean bean)) = made
+    ∙ ap (λ l. map (λ answer. target_of l (value answer)) answers) all
+    ∙ sym (map-map (target_of (beans ds)) value answers)
+    ∙ ap (map (target_of (beans ds))) (answered ∙ ap (λ e. map (answer_to ds) (points_of e)) is) in
+    ap (λ l. beans_by ds l book bean xs chosen) all
+    ∙ ap (λ ys. beans_by ds (beans ds) book bean ys chosen) (are ∙ ap (entries ds) is)
+    ∙ ap (λ ts. beans_by ds (beans ds) book bean (records ds bean) ts) of_points
+    ∙ beans-staged ds book bean
+    ∙ ap (staged_beans ds book) (sym is)
+
+-- as many beans are chosen as the declaration has injection points
+pub as-many : {A : Type 0} (value : A → Choice) (ds : List Decl) (list : List Effective) (d : Decl) (answers : List A)
+    (chosen : List Target)
+    → map value answers ≡ map (answer_to ds) (points_of d) → chosen ≡ map (λ answer. target_of list (value answer)) answers
+    → length chosen ≡ length (points_of d)
+as-many value ds list d answers chosen answered made =
+    ap length made ∙ length-map answers (λ answer. target_of list (value answer)) ∙ sym (length-map answers value) ∙ ap length answered
+    ∙ length-map (points_of d) (answer_to ds)
+
+-- ---- what is left
+
+-- there is enough for the first producer method
+pub enough : (rest : List Target) (ps others : List ProducerDecl) (p : ProducerDecl) → ps ≡ p ∷ others
+    → length rest ≡ length (flat_map (λ q. q.params) ps) → length p.params ≤ length rest
+enough rest ps others p begins left =
+    let all : length rest ≡ length p.params + length (flat_map (λ q. q.params) others) = left
+    ∙ ap (λ qs. length (flat_map (λ q. q.params) qs)) begins
+    ∙ length-append p.params (flat_map (λ q. q.params) others) in
+    omega arith
+
+-- the records of the first declaration stand first
+pub first-records : (ds left others : List Decl) (d : Decl) (rest : List Effective) → left ≡ d ∷ others
+    → rest ≡ flat_map (entries ds) left → rest ≡ entries ds d ++ flat_map (entries ds) others
+first-records ds left others d rest begins are = are ∙ ap (flat_map (entries ds)) begins
+
+pub records-within : (ds left others : List Decl) (d : Decl) (rest : List Effective) (n : ℕ) → left ≡ d ∷ others
+    → rest ≡ flat_map (entries ds) left → n ≡ length (entries ds d) → n ≤ length rest
+records-within ds left others d rest n begins are count =
+    let all : length rest ≡ length (entries ds d) + length (flat_map (entries ds) others) =
+    ap length (first-records ds left others d rest begins are) ∙ length-append (entries ds d) (flat_map (entries ds) others) in
+    omega arith
+
+pub records-first : (ds left others : List Decl) (d : Decl) (rest : List Effective) (n : ℕ) → left ≡ d ∷ others
+    → rest ≡ flat_map (entries ds) left → n ≡ length (entries ds d) → take n rest ≡ entries ds d
+records-first ds left others d rest n begins are count =
+    ap (take n) (first-records ds left others d rest begins are)
+    ∙ take_at (entries ds d) (flat_map (entries ds) others) n (sym count)
+
+pub records-behind : (ds left others : List Decl) (d : Decl) (rest : List Effective) (n : ℕ) → left ≡ d ∷ others
+    → rest ≡ flat_map (entries ds) left → n ≡ length (entries ds d) → drop n rest ≡ flat_map (entries ds) others
+records-behind ds left others d rest n begins are count =
+    ap (drop n) (first-records ds left others d rest begins are)
+    ∙ drop_at (entries ds d) (flat_map (entries ds) others) n (sym count)
+
+-- the answers to the next declaration stand first
+pub first-answers : {L : Type 0} (value : L → List Choice) (ds left others : List Decl) (d : Decl) (lists rest : List L) (own : L)
+    → lists ≡ own ∷ rest → left ≡ d ∷ others → map value lists ≡ map (answers_of ds) left
+    → (value own ≡ answers_of ds d) × (map value rest ≡ map (answers_of ds) others)
+first-answers value ds left others d lists rest own begins next all =
+    let both : value own ∷ map value rest ≡ answers_of ds d ∷ map (answers_of ds) others =
+    ap (map value) (sym begins) ∙ all ∙ ap (map (answers_of ds)) next in
+    (cc, cc)
+
+-- where no answers are left no declaration is
+pub none-left : {L : Type 0} (value : L → List Choice) (ds left : List Decl) (lists : List L) → map value lists ≡ map (answers_of ds) left
+    → length lists ≡ 0 → left ≡ []
+none-left value ds left lists all none = nil_from_length left
+    (sym (length-map left (answers_of ds)) ∙ ap length (sym all) ∙ length-map lists value ∙ none)
+
+-- ---- records beside producer methods
+
+pub first-product : (ds : List Decl) (bean : BeanDecl) (xs xs' : List Effective) (ps ps' : List ProducerDecl) (x : Effective)
+    (p : ProducerDecl) → xs ≡ x ∷ xs' → ps ≡ p ∷ ps' → xs ≡ map (product ds bean) ps
+    → (x ≡ product ds bean p) × (xs' ≡ map (product ds bean) ps')
+first-product ds bean xs xs' ps ps' x p first second are =
+    let both : x ∷ xs' ≡ product ds bean p ∷ map (product ds bean) ps' = sym first ∙ are ∙ ap (map (product ds bean)) second in
+    (cc, cc)
+
+pub unmapped : {A B : Type 0} (f : A → B) (xs : List A) → map f xs ≡ [] → xs ≡ []
+unmapped f [] e = refl
+unmapped f (x ∷ xs) e = absurd (cc)
+
+-- one more is pushed
+pub pushed : {A B : Type 0} (f : A → B) (olds news : List B) (new : B) (p : A) (ps ps' : List A) (all : List B) → news ≡ olds ++ new ∷ []
+    → new ≡ f p → ps ≡ p ∷ ps' → olds ++ map f ps ≡ all → news ++ map f ps' ≡ all
+pushed f olds news new p ps ps' all push is next before =
+    ap (λ list. list ++ map f ps') (push ∙ ap (λ y. olds ++ y ∷ []) is)
+    ∙ append_assoc olds (f p ∷ []) (map f ps')
+    ∙ ap (λ qs. olds ++ map f qs) (sym next)
+    ∙ before

@@ -1,0 +1,8 @@
+use Rattle.std.proofs.Common.{◌≡◌, drop}
+use Rattle.std.specs.List.{find}
+use Rattle.std.specs.Str.{bytes_eq}
+use Rattle.cdi_staging.specs.Staged.{disposer_named}
+use Rattle.cdi_staging.proofs.bean.disposer_named.Given as goal
+
+abbrev pub invariant-loop-disposer : goal.invariant-loop-disposer
+invariant-loop-disposer l = find (λ d. bytes_eq d.name l.name) (drop l.disposer-index l.disposer-items) ≡ disposer_named l.bean l.name

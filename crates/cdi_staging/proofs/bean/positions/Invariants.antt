@@ -1,0 +1,5 @@
+use Rattle.std.proofs.Common.{◌≡◌, ◌++◌, drop, map}
+use Rattle.cdi_staging.proofs.bean.positions.Given as goal
+
+abbrev pub invariant-loop-target : goal.invariant-loop-target
+invariant-loop-target l = l.positions ++ map (λ target. target.bean) (drop l.target-index l.targets) ≡ map (λ target. target.bean) l.targets

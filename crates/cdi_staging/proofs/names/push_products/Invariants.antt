@@ -1,0 +1,12 @@
+use Rattle.std.proofs.Common.{◌≡◌, ◌++◌, map}
+use Rattle.std.specs.Slice.Iter.{iter_rest}
+use Rattle.cdi_effective.specs.Beans.{product}
+use Rattle.cdi_staging.specs.Naming.{product_names}
+use Rattle.cdi_staging.proofs.names.push_products.Given as goal
+
+abbrev pub invariant-loop-effective : goal.invariant-loop-effective
+invariant-loop-effective l = record {
+  records : iter_rest l.effective-iterator.a ≡ map (product l.decls l.bean) (iter_rest l.effective-iterator.b);
+  names : l.list.items ++ map (product_names l.decls l.bean) (iter_rest l.effective-iterator.b)
+      ≡ l.fn.list.items ++ map (product_names l.decls l.bean) l.bean.producers;
+}

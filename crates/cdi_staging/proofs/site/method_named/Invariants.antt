@@ -1,0 +1,7 @@
+use Rattle.std.proofs.Common.{◌≡◌, drop}
+use Rattle.std.specs.List.{position, position_from}
+use Rattle.cdi_staging.specs.Sites.{is_method}
+use Rattle.cdi_staging.proofs.site.method_named.Given as goal
+
+abbrev pub invariant-loop-place : goal.invariant-loop-place
+invariant-loop-place l = position_from (is_method l.name) l.place (drop l.place l.methods) ≡ position (is_method l.name) l.methods

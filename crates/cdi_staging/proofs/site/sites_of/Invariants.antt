@@ -1,0 +1,7 @@
+use Rattle.std.proofs.Common.{◌≡◌, ◌++◌, drop, map}
+use Rattle.cdi_staging.specs.Sites.{sight_in, site_of}
+use Rattle.cdi_staging.proofs.site.sites_of.Given as goal
+
+abbrev pub invariant-loop-call : goal.invariant-loop-call
+invariant-loop-call l = l.sites ++ map (site_of l.decls l.beans (sight_in l.sight)) (drop l.call-index l.calls)
+    ≡ map (site_of l.decls l.beans (sight_in l.sight)) l.calls

@@ -1,0 +1,16 @@
+use Rattle.std.proofs.Common.{◌≡◌, ◌++◌, map}
+use Rattle.std.specs.List.{flat_map}
+use Rattle.std.specs.Slice.Iter.{iter_rest}
+use Rattle.cdi_effective.specs.Beans.{entries}
+use Rattle.cdi_observe.specs.Answers.{answers_of}
+use Rattle.cdi_staging.specs.Staged.{staged_beans}
+use Rattle.cdi_staging.proofs.stage.Stage.staged_beans.Given as goal
+
+abbrev pub invariant-loop-decl : goal.invariant-loop-decl
+invariant-loop-decl g l = record {
+  records : l.rest ≡ flat_map (entries l.self.decls.now) l.decl-iterator.a;
+  answers : map (λ list. map (λ answer. answer.value) list.items) (iter_rest l.decl-iterator.b)
+      ≡ map (answers_of l.self.decls.now) l.decl-iterator.a;
+  beans : l.list.items ++ flat_map (staged_beans l.self.decls.now (g.B.Bodies.promises l.self.book.now)) l.decl-iterator.a
+      ≡ flat_map (staged_beans l.self.decls.now (g.B.Bodies.promises l.self.book.now)) l.self.decls.now;
+}

@@ -1,0 +1,4 @@
+pub mod Sites
+pub mod Staged
+pub mod Faultless
+pub mod Naming

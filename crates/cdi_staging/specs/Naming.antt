@@ -1,0 +1,54 @@
+-- What a trace prints of a scene, by position.
+use Rattle.std.specs.Prelude.{List, [], ◌∷◌, map, Option, Some, None}
+use Rattle.std.specs.List.{flat_map}
+use Rattle.cdi_model.specs.declared.decl.BeanDecl.{BeanDecl}
+use Rattle.cdi_model.specs.declared.decl.CallDecl.{CallDecl}
+use Rattle.cdi_model.specs.declared.decl.Decl.{Decl}
+use Rattle.cdi_model.specs.declared.decl.Decl.TheVariants as decls
+use Rattle.cdi_model.specs.declared.decl.MethodDecl.{MethodDecl}
+use Rattle.cdi_model.specs.declared.decl.PartDecl.{PartDecl}
+use Rattle.cdi_model.specs.declared.decl.ProducerDecl.{ProducerDecl}
+use Rattle.cdi_effective.specs.Beans.{product}
+use Rattle.cdi_effective.specs.Disposers.{disposer_of}
+use Rattle.cdi_staging.specs.declared.names.BeanNames.{BeanNames}
+use Rattle.cdi_staging.specs.declared.names.MethodNames.{MethodNames}
+use Rattle.cdi_staging.specs.declared.names.Names.{Names}
+
+-- the call sites of a part, as they are written
+abbrev pub calls_of : Option PartDecl → List CallDecl
+calls_of None = []
+calls_of (Some part) = part.calls
+
+abbrev pub method_names : MethodDecl → MethodNames
+method_names method = record { name = method.name; calls = method.part.calls }
+
+unfoldable pub managed_names : BeanDecl → BeanNames
+managed_names bean = record {
+  id = record { class = bean.name; producer = None };
+  construct = calls_of bean.construct;
+  post = calls_of bean.post;
+  pre = calls_of bean.pre;
+  methods = map method_names bean.methods;
+  produces = [];
+  disposer = None;
+}
+
+-- a product, with the disposer method that matches it
+unfoldable pub product_names : List Decl → BeanDecl → ProducerDecl → BeanNames
+product_names ds bean producer = record {
+  id = record { class = bean.name; producer = Some producer.name };
+  construct = [];
+  post = [];
+  pre = [];
+  methods = [];
+  produces = producer.part.calls;
+  disposer = disposer_of ds (product ds bean producer);
+}
+
+unfoldable pub names_in : List Decl → Decl → List BeanNames
+names_in ds (decls.Bean bean) = managed_names bean ∷ map (product_names ds bean) bean.producers
+names_in ds other = []
+
+-- the names of the beans, in the order of the bean list
+unfoldable pub names_of : List Decl → Names
+names_of ds = record { beans = flat_map (names_in ds) ds }

@@ -1,0 +1,205 @@
+//! Managed beans and products.
+ghost use Rattle.std.specs.Prelude.{◌≡◌, map, IfOk, option_copied};
+ghost use Rattle.cdi_staging.specs.Sites.{sight_in, producer_sight};
+ghost use Rattle.cdi_staging.specs.Staged.{injections_from, managed_form, disposer_named, disposer_for, product_form};
+ghost use Rattle.cdi_staging.specs.Staged.{unused_managed, unused_product, managed_bean, product_bean};
+
+use crate::part::empty_place;
+use crate::site::Visible;
+use crate::stage::Stage;
+use crate::target::{Target, position_of_class};
+use cdi_bodies::Bodies;
+use cdi_contexts::Actor;
+use cdi_effective::{Effective, disposer_of};
+use cdi_model::{BeanDecl, DisposerDecl, Ident, ProducerDecl, Seq};
+use cdi_resolve::BeanList;
+use cdi_scene::{Bean, Form, Injection, Managed, Part, Product};
+use std::alloc::{AllocError, Global};
+
+/// What is chosen for each injection point of a bean.
+fn injections(alloc: Global, targets: &[Target]) -> Result<Seq<Injection>, AllocError>
+    ensures { IfOk result (λ list. list ≡ injections_from 0 targets.now) }
+{
+    let mut injections = Seq::new(alloc);
+    for (point, target) in targets.iter().enumerate() {
+        injections.push(Injection {
+            actor: Actor::Target,
+            point,
+            bean: target.bean,
+        })?;
+    }
+    Ok(injections)
+}
+
+/// The positions of some beans.
+fn positions(alloc: Global, targets: &[Target]) -> Result<Seq<usize>, AllocError>
+    ensures { IfOk result (λ list. list ≡ map (λ target. target.bean) targets.now) }
+{
+    let mut positions = Seq::new(alloc);
+    for target in targets {
+        positions.push(target.bean)?;
+    }
+    Ok(positions)
+}
+
+fn disposer_named(bean: &BeanDecl, name: Ident) -> Option<&DisposerDecl>
+    ensures { option_copied result ≡ disposer_named bean.now name }
+{
+    for disposer in bean.disposers.as_slice() {
+        if disposer.name == name {
+            return Some(disposer);
+        }
+    }
+    None
+}
+
+/// What stands for a managed bean that is not enabled.
+fn unused_managed(alloc: Global) -> Managed
+    ensures { result ≡ unused_managed }
+{
+    Managed {
+        injections: Seq::new(alloc),
+        construct: empty_place(alloc),
+        post: empty_place(alloc),
+        pre: empty_place(alloc),
+        methods: Seq::new(alloc),
+        observers: Seq::new(alloc),
+    }
+}
+
+/// What stands for a product that is not enabled.
+fn unused_product(alloc: Global, beans: &BeanList, bean: &BeanDecl) -> Product
+    ensures { result ≡ unused_product beans.now bean.now }
+{
+    Product {
+        declaring: position_of_class(beans, bean.name),
+        is_static: false,
+        params: Seq::new(alloc),
+        invocable: empty_place(alloc),
+        disposer: None,
+    }
+}
+
+/// What a producer method sees, where its bean sees this.
+fn producer_sight<'a>(
+    is_static: bool,
+    own: Visible<'a>,
+    producer: &'a ProducerDecl,
+    targets: &'a [Target],
+) -> Visible<'a>
+    ensures { sight_in result ≡ producer_sight is_static (sight_in own.entry) producer.now.params targets.now }
+{
+    let params = producer.params.as_slice();
+    if is_static {
+        Visible {
+            points: &[],
+            targets: &[],
+            params,
+            param_targets: targets,
+        }
+    } else {
+        Visible {
+            points: own.points,
+            targets: own.targets,
+            params,
+            param_targets: targets,
+        }
+    }
+}
+
+impl<'a, B: Bodies> Stage<'a, B> {
+    #[tactic(auto, unfolding(crate::specs::Staged::managed_form))]
+    fn managed_form(&self, sight: Visible<'_>, bean: &BeanDecl) -> Result<Managed, AllocError>
+        ensures { IfOk result (λ made. made
+            ≡ managed_form self.now.decls.now self.now.beans.now (B.promises self.now.book.now)
+            (sight_in sight.entry) bean.now) }
+    {
+        Ok(Managed {
+            injections: injections(self.alloc, sight.targets)?,
+            construct: self.staged_place(sight, bean.construct.as_ref())?,
+            post: self.staged_place(sight, bean.post.as_ref())?,
+            pre: self.staged_place(sight, bean.pre.as_ref())?,
+            methods: self.staged_methods(sight, bean.methods.as_slice())?,
+            observers: Seq::new(self.alloc),
+        })
+    }
+
+    /// The disposer method that matches a product (CDI 4.0, Disposer method resolution).
+    #[tactic(auto, unfolding(crate::specs::Staged::disposer_for))]
+    fn disposer_for(&self, bean: &BeanDecl, effective: &Effective) -> Option<Part>
+        ensures { result ≡ disposer_for self.now.decls.now (B.promises self.now.book.now) bean.now effective.now }
+    {
+        let name = disposer_of(self.alloc, self.decls, effective)?;
+        let disposer = disposer_named(bean, name)?;
+        self.part_of(disposer.body, Seq::new(self.alloc))
+    }
+
+    #[tactic(auto, unfolding(crate::specs::Staged::product_form))]
+    fn product_form(
+        &self,
+        own: Visible<'_>,
+        bean: &BeanDecl,
+        effective: &Effective,
+        producer: &ProducerDecl,
+        targets: &[Target],
+    ) -> Result<Product, AllocError>
+        ensures { IfOk result (λ made. made
+            ≡ product_form self.now.decls.now self.now.beans.now (B.promises self.now.book.now) (sight_in own.entry)
+            bean.now effective.now producer.now targets.now) }
+    {
+        let sight = producer_sight(producer.is_static, own, producer, targets);
+        Ok(Product {
+            declaring: position_of_class(self.beans, bean.name),
+            is_static: producer.is_static,
+            params: positions(self.alloc, targets)?,
+            invocable: self.staged_place(sight, Some(&producer.part))?,
+            disposer: self.disposer_for(bean, effective),
+        })
+    }
+
+    /// A managed bean of this record.
+    pub(crate) fn managed_bean(
+        &self,
+        sight: Visible<'_>,
+        bean: &BeanDecl,
+        effective: &Effective,
+    ) -> Result<Bean, AllocError>
+        ensures { IfOk result (λ made. made
+            ≡ managed_bean self.now.decls.now self.now.beans.now (B.promises self.now.book.now)
+            (sight_in sight.entry) bean.now effective.now) }
+    {
+        let managed = if effective.is_enabled {
+            self.managed_form(sight, bean)?
+        } else {
+            unused_managed(self.alloc)
+        };
+        Ok(Bean {
+            scope: effective.scope,
+            form: Form::Managed(managed),
+        })
+    }
+
+    /// The product of a producer method, with this record.
+    pub(crate) fn product_bean(
+        &self,
+        own: Visible<'_>,
+        bean: &BeanDecl,
+        effective: &Effective,
+        producer: &ProducerDecl,
+        targets: &[Target],
+    ) -> Result<Bean, AllocError>
+        ensures { IfOk result (λ made. made
+            ≡ product_bean self.now.decls.now self.now.beans.now (B.promises self.now.book.now) (sight_in own.entry)
+            bean.now effective.now producer.now targets.now) }
+    {
+        let product = if effective.is_enabled {
+            self.product_form(own, bean, effective, producer, targets)?
+        } else {
+            unused_product(self.alloc, self.beans, bean)
+        };
+        Ok(Bean {
+            scope: effective.scope,
+            form: Form::Product(product),
+        })
+    }
+}

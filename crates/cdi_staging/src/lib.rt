@@ -1,0 +1,14 @@
+//! The scene of a deployment: what its runs see, made from its declarations, from what is chosen for its injection
+//! points and from the book of stored bodies. What the standard says of a deployment that runs is told here, once.
+#![tactic(auto)]
+
+mod bean;
+mod names;
+mod part;
+mod scene;
+mod site;
+mod stage;
+mod target;
+
+pub use names::{BeanNames, MethodNames, Names, names_of};
+pub use scene::scene_of;

@@ -1,0 +1,89 @@
+//! The bodies of a bean, and what is invoked at its places.
+ghost use Rattle.std.specs.Prelude.{◌≡◌, map, Some, IfOk, option_copied};
+ghost use Rattle.cdi_staging.specs.Sites.{sight_in};
+ghost use Rattle.cdi_staging.specs.Staged.{part_of, staged_part, staged_place, staged_method, empty_place};
+
+use crate::site::{Visible, sites_of};
+use crate::stage::Stage;
+use cdi_bodies::Bodies;
+use cdi_model::{Ident, MethodDecl, PartDecl, Seq};
+use cdi_scene::{CallSite, Invocable, Part};
+use std::alloc::{AllocError, Global};
+
+/// What is invoked where nothing is declared.
+pub(crate) fn empty_place(alloc: Global) -> Invocable
+    ensures { result ≡ empty_place }
+{
+    Invocable {
+        chain: Seq::new(alloc),
+        part: None,
+    }
+}
+
+impl<'a, B: Bodies> Stage<'a, B> {
+    /// The body of a name with some call sites; none where the book has no such body.
+    #[tactic(auto, unfolding(crate::specs::Staged::part_of))]
+    pub(crate) fn part_of(&self, name: Ident, calls: Seq<CallSite>) -> Option<Part>
+        ensures { result ≡ part_of (B.promises self.now.book.now) calls name }
+    {
+        Some(Part {
+            body: self.book.position(name)?,
+            promise: self.book.promise(name)?,
+            calls,
+            fires: Seq::new(self.alloc),
+        })
+    }
+
+    #[tactic(auto, unfolding(crate::specs::Staged::staged_part))]
+    fn staged_part(&self, sight: Visible<'_>, part: &PartDecl) -> Result<Option<Part>, AllocError>
+        ensures { IfOk result (λ made. made
+            ≡ staged_part self.now.decls.now self.now.beans.now (B.promises self.now.book.now)
+            (sight_in sight.entry) part.now) }
+    {
+        let calls = sites_of(
+            self.alloc,
+            self.decls,
+            self.beans,
+            sight,
+            part.calls.as_slice(),
+        )?;
+        Ok(self.part_of(part.body, calls))
+    }
+
+    /// What is invoked at a place, where this part is declared or none.
+    #[tactic(auto, unfolding(crate::specs::Staged::staged_place))]
+    pub(crate) fn staged_place(
+        &self,
+        sight: Visible<'_>,
+        part: Option<&PartDecl>,
+    ) -> Result<Invocable, AllocError>
+        ensures { IfOk result (λ made. made
+            ≡ staged_place self.now.decls.now self.now.beans.now (B.promises self.now.book.now)
+            (sight_in sight.entry) (option_copied part.entry)) }
+    {
+        match part {
+            Some(part) => Ok(Invocable {
+                chain: Seq::new(self.alloc),
+                part: self.staged_part(sight, part)?,
+            }),
+            None => Ok(empty_place(self.alloc)),
+        }
+    }
+
+    /// What is invoked at each of some methods.
+    pub(crate) fn staged_methods(
+        &self,
+        sight: Visible<'_>,
+        methods: &[MethodDecl],
+    ) -> Result<Seq<Invocable>, AllocError>
+        ensures { IfOk result (λ made. made
+            ≡ map (staged_method self.now.decls.now self.now.beans.now (B.promises self.now.book.now)
+            (sight_in sight.entry)) methods.now) }
+    {
+        let mut places = Seq::new(self.alloc);
+        for method in methods {
+            places.push(self.staged_place(sight, Some(&method.part))?)?;
+        }
+        Ok(places)
+    }
+}

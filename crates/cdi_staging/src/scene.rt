@@ -1,0 +1,158 @@
+//! The scene of a deployment.
+ghost use Rattle.std.specs.Prelude.{◌≡◌, ◌++◌, List, length, map, IfOk, OnOk};
+ghost use Rattle.std.specs.List.{flat_map};
+ghost use Rattle.cdi_model.specs.declared.decl.Decl.{Decl as AnyDecl};
+ghost use Rattle.cdi_effective.specs.Beans.{beans as beans_of, entries};
+ghost use Rattle.cdi_observe.specs.Answers.{answers as all_answers, answer_to};
+ghost use Rattle.cdi_observe.specs.Wanted.{points_of};
+ghost use Rattle.cdi_model.specs.declared.decl.Decl.TheVariants as decls;
+ghost use Rattle.cdi_staging.specs.Faultless.{FaultlessIsSound};
+ghost use Rattle.cdi_staging.specs.Sites.{sight_in};
+ghost use Rattle.cdi_staging.specs.Staged.{scene_of, staged_beans, beans_by, products_by};
+
+use crate::site::Visible;
+use crate::stage::Stage;
+use crate::target::{Target, targets_of};
+use cdi_bodies::Bodies;
+use cdi_effective::Effective;
+use cdi_model::{BeanDecl, Decl, Decls, Seq};
+use cdi_resolve::{BeanList, Choice};
+use cdi_scene::{Bean, Scene};
+use std::alloc::{AllocError, Global};
+use std::rc::Rc;
+
+/// The scene of some declarations whose bean list this is, with what is chosen for their injection points, as
+/// `evaluate` of `cdi_observe` answers, and a book of stored bodies. A part whose body the book has not is left out. It
+/// looks each name of a body, a bean and a method up once for each place that writes it, so its time is near the size
+/// of the declarations; it takes memory for the scene. The clause behind says that a deployment without faults has a
+/// sound scene.
+#[tactic(auto, using(crate::proofs::SceneLemmas::faultless_is_sound), unfolding(crate::specs::Staged::scene_of))]
+pub fn scene_of<B: Bodies>(
+    alloc: Global,
+    decls: &Decls,
+    beans: &BeanList,
+    answers: &[Vec<Rc<Choice>>],
+    book: &B,
+) -> Result<Scene, AllocError>
+    requires beans { beans.now ≡ beans_of decls.now }
+    requires answers { map (λ list. map (λ answer. answer.value) list.items) answers.now ≡ all_answers decls.now }
+    ensures value { IfOk result (λ scene. scene ≡ scene_of decls.now (B.promises book.now)) }
+    ensures sound { FaultlessIsSound }
+{
+    let stage = Stage {
+        alloc,
+        decls,
+        beans,
+        book,
+    };
+    Ok(Scene {
+        beans: Seq::from_vec(stage.staged_beans(answers)?),
+        interceptors: Seq::new(alloc),
+    })
+}
+
+/// How many beans a declaration gives.
+pub(crate) fn record_count(decl: &Decl) -> usize
+    ensures { (ds : List AnyDecl) → result ≡ length (entries ds decl.now) }
+{
+    match decl {
+        Decl::Bean(bean) => 1 + bean.producers.as_slice().len(),
+        _ => 0,
+    }
+}
+
+impl<'a, B: Bodies> Stage<'a, B> {
+    /// The beans of all declarations, in order.
+    fn staged_beans(&self, answers: &[Vec<Rc<Choice>>]) -> Result<Vec<Bean>, AllocError>
+        requires beans { self.now.beans.now ≡ beans_of self.now.decls.now }
+        requires answers { map (λ list. map (λ answer. answer.value) list.items) answers.now
+            ≡ all_answers self.now.decls.now }
+        ensures { IfOk result (λ list. list.items
+            ≡ flat_map (staged_beans self.now.decls.now (B.promises self.now.book.now)) self.now.decls.now) }
+    {
+        let mut rest = self.beans.as_slice();
+        let mut list = Vec::with_capacity(self.alloc, rest.len())?;
+        for (decl, own) in self.decls.iter().zip(answers) {
+            let (records, others) = rest.split_at(record_count(decl));
+            self.push_of_decl(decl, records, own.as_slice(), &mut list)?;
+            rest = others;
+        }
+        Ok(list)
+    }
+
+    /// Appends the beans of a declaration, which has these records, and these answers to its injection points.
+    #[tactic(auto, unfolding(crate::specs::Staged::staged_beans))]
+    fn push_of_decl(
+        &self,
+        decl: &Decl,
+        records: &[Effective],
+        answers: &[Rc<Choice>],
+        list: &mut Vec<Bean>,
+    ) -> Result<(), AllocError>
+        requires beans { self.now.beans.now ≡ beans_of self.now.decls.now }
+        requires records { records.now ≡ entries self.now.decls.now decl.now }
+        requires answers { map (λ answer. answer.value) answers.now
+            ≡ map (answer_to self.now.decls.now) (points_of decl.now) }
+        ensures { OnOk result (list.new.items
+            ≡ list.old.items ++ staged_beans self.now.decls.now (B.promises self.now.book.now) decl.now) }
+    {
+        let Decl::Bean(bean) = decl else {
+            return Ok(());
+        };
+        let targets = targets_of(self.alloc, self.beans, answers)?;
+        self.push_beans(bean, records, targets.as_slice(), list)
+    }
+
+    /// Appends the beans of a bean declaration, with these records, where these beans are chosen for its injection
+    /// points and then for the parameters of its producer methods.
+    fn push_beans(
+        &self,
+        bean: &BeanDecl,
+        records: &[Effective],
+        targets: &[Target],
+        list: &mut Vec<Bean>,
+    ) -> Result<(), AllocError>
+        requires { length targets.now ≡ length (points_of (decls.Bean bean.now)) }
+        ensures { OnOk result (list.new.items ≡ list.old.items
+            ++ beans_by self.now.decls.now self.now.beans.now (B.promises self.now.book.now)
+            bean.now records.now targets.now) }
+    {
+        let Some((managed, products)) = records.split_first() else {
+            return Ok(());
+        };
+        let points = bean.points.as_slice();
+        let (own, rest) = targets.split_at(points.len());
+        let sight = Visible {
+            points,
+            targets: own,
+            params: &[],
+            param_targets: &[],
+        };
+        list.push(self.managed_bean(sight, bean, managed)?)?;
+        self.push_products(sight, bean, products, rest, list)
+    }
+
+    /// Appends the products of a bean that sees this, with these records, where these beans are chosen for the
+    /// parameters of their producer methods.
+    fn push_products(
+        &self,
+        own: Visible<'_>,
+        bean: &BeanDecl,
+        records: &[Effective],
+        targets: &[Target],
+        list: &mut Vec<Bean>,
+    ) -> Result<(), AllocError>
+        requires { length targets.now ≡ length (flat_map (λ p. p.params) bean.now.producers) }
+        ensures { OnOk result (list.new.items ≡ list.old.items
+            ++ products_by self.now.decls.now self.now.beans.now (B.promises self.now.book.now) (sight_in own.entry)
+            bean.now records.now bean.now.producers targets.now) }
+    {
+        let mut rest = targets;
+        for (effective, producer) in records.iter().zip(bean.producers.as_slice()) {
+            let (chosen, others) = rest.split_at(producer.params.len());
+            list.push(self.product_bean(own, bean, effective, producer, chosen)?)?;
+            rest = others;
+        }
+        Ok(())
+    }
+}

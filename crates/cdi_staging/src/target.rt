@@ -1,0 +1,84 @@
+//! What is chosen for injection points.
+ghost use Rattle.std.specs.Prelude.{◌≡◌, ◌<◌, map, IfOk};
+ghost use Rattle.cdi_staging.specs.Staged.{position_of_class};
+ghost use Rattle.cdi_staging.specs.Sites.{managed_class, nowhere, position_of_bean, target_of};
+
+use cdi_effective::BeanId;
+use cdi_model::Name;
+use cdi_resolve::{BeanList, Choice};
+use std::alloc::{AllocError, Global};
+use std::rc::Rc;
+
+/// The bean that is chosen for an injection point (CDI 4.0, Performing typesafe resolution).
+#[derive(Clone, Copy)]
+pub(crate) struct Target {
+    /// Its position in the bean list; where not one bean is chosen, that behind the last.
+    pub(crate) bean: usize,
+    /// Its class, where it is a managed bean, so that its methods are those that are declared.
+    pub(crate) class: Option<Name>,
+}
+
+/// The position of a bean, or the one behind the last.
+fn position_of_bean(beans: &BeanList, id: BeanId) -> usize
+    ensures { result ≡ position_of_bean beans.now id }
+{
+    beans.position(id).unwrap_or(beans.as_slice().len())
+}
+
+/// The position of the managed bean of a class, or the one behind the last.
+pub(crate) fn position_of_class(beans: &BeanList, class: Name) -> usize
+    ensures { result ≡ position_of_class beans.now class }
+{
+    let id = BeanId {
+        class,
+        producer: None,
+    };
+    position_of_bean(beans, id)
+}
+
+/// No bean: the position behind the last.
+pub(crate) fn nowhere(beans: &BeanList) -> Target
+    ensures { result ≡ nowhere beans.now }
+{
+    Target {
+        bean: beans.as_slice().len(),
+        class: None,
+    }
+}
+
+/// The class of a managed bean, and none of a product.
+fn managed_class(id: &BeanId) -> Option<Name>
+    ensures { result ≡ managed_class id.now }
+{
+    match id.producer {
+        Some(_) => None,
+        None => Some(id.class),
+    }
+}
+
+#[tactic(auto, unfolding(crate::specs::Sites::target_of))]
+fn target_of(beans: &BeanList, choice: &Choice) -> Target
+    ensures { result ≡ target_of beans.now choice.now }
+{
+    match choice {
+        Choice::One(id) => Target {
+            bean: position_of_bean(beans, *id),
+            class: managed_class(id),
+        },
+        Choice::Unsatisfied | Choice::Ambiguous(_) => nowhere(beans),
+    }
+}
+
+/// The beans of some answers, in order.
+pub(crate) fn targets_of(
+    alloc: Global,
+    beans: &BeanList,
+    answers: &[Rc<Choice>],
+) -> Result<Vec<Target>, AllocError>
+    ensures { IfOk result (λ list. list.items ≡ map (λ answer. target_of beans.now answer.value) answers.now) }
+{
+    answers
+        .iter()
+        .map(|answer| target_of(beans, answer))
+        .collect(alloc)
+}
