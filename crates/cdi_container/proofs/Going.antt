@@ -12,7 +12,8 @@ use Rattle.cdi_devices.specs.Devices.{Gives, ReadFails}
 use Rattle.cdi_lines.specs.Kept.{ServesLine}
 use Rattle.cdi_container.specs.History.{empty}
 use Rattle.cdi_container.specs.Intake.{IsFresh, ServesMode}
-use Rattle.cdi_container.specs.Run.{WroteAll, AreFirst, AnswersFirst, RunsOutOfMemory, FailsToWrite, FailsToRead, RunsScript, Goes, Feeds}
+use Rattle.cdi_container.specs.Run.{Setting, WroteAll, AreFirst, AnswersFirst, RunsOutOfMemory}
+use Rattle.cdi_container.specs.Run.{FailsToWrite, FailsToRead, RunsScript, Goes, Feeds}
 use Rattle.cdi_container.specs.Run.{FeedsBeforeMemory, FeedsPart, Ends, EndsBeforeMemory, EndsPart}
 use Rattle.cdi_devices.specs.declared.counted.Counted.{Counted}
 use Rattle.cdi_container.specs.declared.intake.Intake.{Intake}
@@ -33,21 +34,22 @@ Consumes-none None = tt
 Consumes-none (Some xs) = refl
 
 -- nothing was run
-pub wrote_nothing : (quiet : Bool) (known : Option (List ℕ)) → WroteAll quiet known known []
-wrote_nothing quiet known = record {
+pub wrote_nothing : (setting : Setting) (known : Option (List ℕ)) → WroteAll setting known known []
+wrote_nothing setting known = record {
   history = [];
-  state = empty;
+  state = empty setting.book;
   is_history = record { legal = refl; commands_are = refl; memory = refl };
   written = Appends-none known;
 }
 
-module _ {R W : Type 0} (remaining : R → Option (List ℕ)) (contents : W → Option (List ℕ)) (limit piece : ℕ) (quiet : Bool) (r0 : Counted R)
-    (w0 : Counted W) where
-  abbrev Goes-here : Counted R → Counted W → Intake → Type 0
-  Goes-here r w s = Goes remaining contents limit quiet r0 w0 r w s
+module _ {R W : Type 0} (remaining : R → Option (List ℕ)) (contents : W → Option (List ℕ)) (limit piece : ℕ)
+    (setting : Setting) (r0 : Counted R) (w0 : Counted W) where
+  abbrev Goes-here : {B : Type 0} → Counted R → Counted W → Intake B → Type 0
+  Goes-here r w s = Goes remaining contents limit setting r0 w0 r w s
 
-  pub goes_first : (s : Intake) → IsFresh s → s.runner.quiet ≡ quiet → bytes_of r0 ≡ 0 → has_failed r0 ≡ false → has_failed w0 ≡ false
-      → is_flushed w0 ≡ true → Goes remaining contents limit quiet r0 w0 r0 w0 s
+  pub goes_first : {B : Type 0} (s : Intake B) → IsFresh setting.book s → s.runner.quiet ≡ setting.quiet → bytes_of r0 ≡ 0
+      → has_failed r0 ≡ false → has_failed w0 ≡ false
+      → is_flushed w0 ≡ true → Goes remaining contents limit setting r0 w0 r0 w0 s
   goes_first s f quiet_is count r_ok w_ok flushed = record {
     given = [];
     came = Consumes-none _;
@@ -74,14 +76,14 @@ module _ {R W : Type 0} (remaining : R → Option (List ℕ)) (contents : W → 
     flushed = flushed;
   }
 
-  pub goes_on : (r r' : Counted R) (w w' : Counted W) (s s' : Intake) (n : ℕ) (buffer : List ℕ)
-      → Goes remaining contents limit quiet r0 w0 r w s → Gives remaining limit r r' n buffer
+  pub goes_on : {B : Type 0} (r r' : Counted R) (w w' : Counted W) (s s' : Intake B) (n : ℕ) (buffer : List ℕ)
+      → Goes remaining contents limit setting r0 w0 r w s → Gives remaining limit r r' n buffer
       → Feeds contents s s' w w' (take n buffer) → has_failed w' ≡ has_failed w → is_flushed w' ≡ true → s'.runner.out.items ≡ []
-      → Goes remaining contents limit quiet r0 w0 r' w' s'
+      → Goes remaining contents limit setting r0 w0 r' w' s'
   goes_on r r' w w' s s' n buffer h g f still flushed out = record {
     given = h.given ++ take n buffer;
     came = Consumes-more _ _ _ h.given (take n buffer) h.came g.bytes;
-    stands = f quiet (contents (inner_of w0)) h.given h.stands;
+    stands = f setting (contents (inner_of w0)) h.given h.stands;
     out = out;
     count = let e = h.count in let f = g.count in let b = g.bound in omega
         (arith, length-append h.given (take n buffer), length-take n buffer);
@@ -91,19 +93,19 @@ module _ {R W : Type 0} (remaining : R → Option (List ℕ)) (contents : W → 
     flushed = flushed;
   }
 
-  pub fails_to_read : (r r' : Counted R) (w : Counted W) (s : Intake) → Goes remaining contents limit quiet r0 w0 r w s
+  pub fails_to_read : {B : Type 0} (r r' : Counted R) (w : Counted W) (s : Intake B) → Goes remaining contents limit setting r0 w0 r w s
       → ReadFails remaining limit r r'
-      → FailsToRead remaining contents limit quiet r0 r' w0 w
+      → FailsToRead remaining contents limit setting r0 r' w0 w
   fails_to_read r r' w s h f = record {
     given = h.given;
     extra = f.bytes.0;
     came = Consumes-more _ _ _ h.given f.bytes.0 h.came f.bytes.1;
     within = let e = h.count in let b = h.within in omega arith;
     behind = λ some. (sym h.count ∙ f.bytes.2 some, let one = f.bytes.3 in omega arith);
-    wrote = printed_all quiet _ _ _ s.runner (complete_commands h.given) [] h.stands.printed (sym h.out) (Appends-none _);
+    wrote = printed_all setting _ _ _ s.runner (complete_commands h.given) [] h.stands.printed (sym h.out) (Appends-none _);
   }
 
-  module _ (r r' : Counted R) (w w' : Counted W) (s : Intake) (h : Goes remaining contents limit quiet r0 w0 r w s) (n : ℕ)
+  module _ {B : Type 0} (r r' : Counted R) (w w' : Counted W) (s : Intake B) (h : Goes remaining contents limit setting r0 w0 r w s) (n : ℕ)
       (buffer : List ℕ) (g : Gives remaining limit r r' n buffer) where
     came : Consumes (remaining (inner_of r0)) (remaining (inner_of r')) (h.given ++ take n buffer)
     came = Consumes-more _ _ _ h.given (take n buffer) h.came g.bytes
@@ -115,14 +117,14 @@ module _ {R W : Type 0} (remaining : R → Option (List ℕ)) (contents : W → 
     none_came : n ≡ 0 → h.given ++ take n buffer ≡ h.given
     none_came none = ap (λ k. h.given ++ take k buffer) none ∙ append-nil h.given
 
-    pub ends_run : n ≡ 0 → (refused : Bool) → Ends contents s w w' refused → RunsScript remaining contents limit quiet r0 r' w0 w' refused
+    pub ends_run : n ≡ 0 → (refused : Bool) → Ends contents s w w' refused → RunsScript remaining contents limit setting r0 r' w0 w' refused
     ends_run none refused e = record {
       input = h.given;
       came = subst (λ l. Consumes (remaining (inner_of r0)) (remaining (inner_of r')) l) (none_came none) came;
       end = g.end none;
       count = let a = h.count in let b = g.count in omega arith;
       within = let a = h.count in let b = h.within in omega arith;
-      runs = e quiet (contents (inner_of w0)) h.given h.stands;
+      runs = e setting (contents (inner_of w0)) h.given h.stands;
     }
 
     -- at the end these commands were answered, all that were complete before among them
@@ -139,12 +141,12 @@ module _ {R W : Type 0} (remaining : R → Option (List ℕ)) (contents : W → 
       none_behind = inr (g.end none, subst (λ l. AreFirst first (commands l)) (sym (append-nil h.given)) within);
     }
 
-    pub ends_in_memory : n ≡ 0 → EndsBeforeMemory contents s w w' → RunsOutOfMemory remaining contents limit piece quiet r0 r' w0 w'
-    ends_in_memory none e = let end = e quiet (contents (inner_of w0)) h.given h.stands in
+    pub ends_in_memory : n ≡ 0 → EndsBeforeMemory contents s w w' → RunsOutOfMemory remaining contents limit piece setting r0 r' w0 w'
+    ends_in_memory none e = let end = e setting (contents (inner_of w0)) h.given h.stands in
         record { first = end.0; answers = at_end none end.0 end.1 end.2; wrote = end.3 }
 
-    pub ends_in_write : n ≡ 0 → EndsPart contents s w w' → FailsToWrite remaining contents limit piece quiet r0 r' w0 w'
-    ends_in_write none e = let end = e quiet (contents (inner_of w0)) h.given h.stands in
+    pub ends_in_write : n ≡ 0 → EndsPart contents s w w' → FailsToWrite remaining contents limit piece setting r0 r' w0 w'
+    ends_in_write none e = let end = e setting (contents (inner_of w0)) h.given h.stands in
         record { first = end.0; answers = at_end none end.0 end.1 end.2; wrote = end.3 }
 
     module _ (room : length buffer ≤ piece) where
@@ -164,24 +166,24 @@ module _ {R W : Type 0} (remaining : R → Option (List ℕ)) (contents : W → 
       }
 
       pub feeds_to_memory : FeedsBeforeMemory contents s w w' (take n buffer)
-          → RunsOutOfMemory remaining contents limit piece quiet r0 r' w0 w'
+          → RunsOutOfMemory remaining contents limit piece setting r0 r' w0 w'
       feeds_to_memory e = record {
         first = complete_commands (h.given ++ e.0);
         answers = answered e.0 e.1 e.2;
-        wrote = e.3 quiet
+        wrote = e.3 setting
             (contents (inner_of w0)) h.given h.stands;
       }
 
-      pub feeds_to_write : FeedsPart contents s w w' (take n buffer) → FailsToWrite remaining contents limit piece quiet r0 r' w0 w'
+      pub feeds_to_write : FeedsPart contents s w w' (take n buffer) → FailsToWrite remaining contents limit piece setting r0 r' w0 w'
       feeds_to_write e = record {
         first = complete_commands (h.given ++ e.0);
         answers = answered e.0 e.1 e.2;
-        wrote = e.3 quiet
+        wrote = e.3 setting
             (contents (inner_of w0)) h.given h.stands;
       }
 
   -- want of memory before anything was read
-  pub out_of_memory_first : bytes_of r0 ≡ 0 → RunsOutOfMemory remaining contents limit piece quiet r0 r0 w0 w0
+  pub out_of_memory_first : bytes_of r0 ≡ 0 → RunsOutOfMemory remaining contents limit piece setting r0 r0 w0 w0
   out_of_memory_first none = record {
     first = [];
     answers = record {
@@ -194,5 +196,5 @@ module _ {R W : Type 0} (remaining : R → Option (List ℕ)) (contents : W → 
       all_before = ([], refl);
       none_behind = inl ([], refl);
     };
-    wrote = wrote_nothing quiet _;
+    wrote = wrote_nothing setting _;
   }

@@ -66,4 +66,4 @@ history_edits old new (step ∷ steps) h =
     ∙ sym (edited_all-append old.decls (accepted_edit step.command step.answer) (accepted_edits steps))
 
 pub rests_on_accepted_edits : (history : History) → RestsOnAcceptedEdits history
-rests_on_accepted_edits history state h = history_edits empty state history h
+rests_on_accepted_edits history book state h = history_edits (empty book) state history h

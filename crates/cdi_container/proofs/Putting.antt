@@ -9,13 +9,14 @@ use Rattle.cdi_model.specs.declared.edit.Edit.{Edit}
 use Rattle.cdi_model.specs.declared.edit.Edit.TheVariants.{Put as PutEdit}
 use Rattle.cdi_model.specs.Edits.{edited, refusal_of_edit, answer_of_edit}
 use Rattle.cdi_model.specs.Answering.{Answers}
+use Rattle.cdi_bodies.specs.Book.{Promised}
 use Rattle.cdi_text.specs.Reading.{decl_of}
 use Rattle.cdi_lines.specs.declared.command.Command.TheVariants.{Put}
 use Rattle.cdi_container.specs.History.{LegalAnswer, State, refusal_of_put, with_put}
 use Rattle.cdi_container.specs.Seen.{edit_answer}
 
-abbrev holding : List Decl → State
-holding ds = record { decls = ds }
+abbrev pub holding : List Promised → List Decl → State
+holding book ds = record { decls = ds; book = book }
 
 -- an edit that is accepted has no refusal
 accepted : (ds : List Decl) (edit : Edit) (u : Unit {0}) → answer_of_edit ds edit ≡ Ok u → refusal_of_edit ds edit ≡ None
@@ -33,12 +34,14 @@ refused ds edit r h = by (refusal_of_edit ds edit) refl
     by None e = absurd (let no : Ok tt ≡ Err r = rw e at h in cc)
     by (Some s) e = e ∙ (let same : Err s ≡ Err r = rw e at h in cc)
 
-pub put_step : (ds es : List Decl) (text : List ℕ) (d : Decl) (result : Result (Unit {0}) Error) → decl_of text ≡ Ok d
+pub put_step : (book : List Promised) (ds es : List Decl) (text : List ℕ) (d : Decl) (result : Result (Unit {0}) Error)
+    → decl_of text ≡ Ok d
     → Answers result (answer_of_edit ds (PutEdit d))
     → OnOk result (es ≡ edited ds (PutEdit d)) → OnErr result (es ≡ ds)
-    → LegalAnswer (holding ds) (Put text) (edit_answer result) [] (holding es)
-put_step ds es text d (Ok u) read answer ok err =
-    (ap (refusal_of_put ds) read ∙ accepted ds (PutEdit d) u answer, (refl, ap holding ok ∙ sym (ap (with_put (holding ds)) read)))
-put_step ds es text d (Err errors.OutOfMemory) read answer ok err = (refl, ap holding err)
-put_step ds es text d (Err (errors.Refused r)) read answer ok err =
-    (ap (refusal_of_put ds) read ∙ refused ds (PutEdit d) r answer, refl, ap holding err)
+    → LegalAnswer (holding book ds) (Put text) (edit_answer result) [] (holding book es)
+put_step book ds es text d (Ok u) read answer ok err =
+    (ap (refusal_of_put ds) read ∙ accepted ds (PutEdit d) u answer,
+    (refl, ap (holding book) ok ∙ sym (ap (with_put (holding book ds)) read)))
+put_step book ds es text d (Err errors.OutOfMemory) read answer ok err = (refl, ap (holding book) err)
+put_step book ds es text d (Err (errors.Refused r)) read answer ok err =
+    (ap (refusal_of_put ds) read ∙ refused ds (PutEdit d) r answer, refl, ap (holding book) err)

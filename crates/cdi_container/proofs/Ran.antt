@@ -6,7 +6,7 @@ use Rattle.cdi_container.specs.declared.answer.Answer.{Answer}
 use Rattle.cdi_container.specs.Seen.{IsStep}
 use Rattle.cdi_container.specs.Text.{text_of_trace, text_of_answer}
 use Rattle.cdi_container.specs.Runner.{RunsStep, Prints}
-use Rattle.cdi_container.specs.declared.container.Container.{Container}
+use Rattle.cdi_container.specs.History.{State}
 use Rattle.cdi_container.specs.declared.runner.Runner.{Runner}
 
 -- an empty trace prints nothing
@@ -14,7 +14,7 @@ no_trace : (quiet : Bool) → text_of_trace quiet [] ≡ []
 no_trace true = refl
 no_trace false = refl
 
-pub ran : (old new : Runner) (container : Container) (command : Command) (answer : Answer)
+pub ran : {B : Type 0} (old new : Runner B) (container : State) (command : Command) (answer : Answer)
     → IsStep old.container command (Ok answer) container → Prints (record old { container = container }) new answer
     → RunsStep old new command
 ran old new container command answer step prints = record {

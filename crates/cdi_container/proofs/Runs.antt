@@ -8,7 +8,6 @@ use Rattle.std.proofs.lemmas.Grind.{flat_map-append}
 use Rattle.std.proofs.Math.Bool.{or-false, or_assoc}
 use Rattle.cdi_lines.specs.declared.command.Command.{Command}
 use Rattle.cdi_container.specs.History.{State, History, LegalHistory}
-use Rattle.cdi_container.specs.Seen.{state_of}
 use Rattle.cdi_container.specs.Text.{text_of, text_of_step, is_refused, is_out_of_memory}
 use Rattle.cdi_container.specs.Runner.{Runs, RunsStep}
 use Rattle.cdi_container.specs.declared.runner.Runner.{Runner}
@@ -23,7 +22,7 @@ pub LegalHistory-append : (a b c : State) (h k : History) → LegalHistory a h b
 LegalHistory-append a b c [] k first second = subst (λ n. LegalHistory n k c) first second
 LegalHistory-append a b c (step ∷ h) k first second = (first.0, first.1, LegalHistory-append first.0 b c h k first.2 second)
 
-pub runs_none : (r : Runner) → Runs r r []
+pub runs_none : {B : Type 0} (r : Runner B) → Runs r r []
 runs_none r = record {
   history = [];
   commands_are = refl;
@@ -34,18 +33,18 @@ runs_none r = record {
   quiet = refl;
 }
 
-pub runs_one : (old new : Runner) (command : Command) → RunsStep old new command → Runs old new (command ∷ [])
+pub runs_one : {B : Type 0} (old new : Runner B) (command : Command) → RunsStep old new command → Runs old new (command ∷ [])
 runs_one old new command r = record {
   history = r.step ∷ [];
   commands_are = ap (λ c. c ∷ []) r.command_is;
   memory = ap (λ b. b || false) r.memory;
-  legal = (state_of new.container, r.legal, refl);
+  legal = (new.container, r.legal, refl);
   text = r.text ∙ ap (λ l. old.out.items ++ l) (sym (append-nil (text_of_step old.quiet r.step)));
   refused = r.refused ∙ ap (λ b. old.refused || b) (sym (or-false (is_refused r.step.answer)));
   quiet = r.quiet;
 }
 
-pub runs_more : (a b c : Runner) (xs ys : List Command) → Runs a b xs → Runs b c ys → Runs a c (xs ++ ys)
+pub runs_more : {B : Type 0} (a b c : Runner B) (xs ys : List Command) → Runs a b xs → Runs b c ys → Runs a c (xs ++ ys)
 runs_more a b c xs ys r s = record {
   history = r.history ++ s.history;
   commands_are = map-append (λ step. step.command) r.history s.history ∙ cc_append _ _ _ _ r.commands_are s.commands_are;

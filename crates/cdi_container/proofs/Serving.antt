@@ -19,7 +19,6 @@ use Rattle.cdi_container.specs.declared.answer.Answer.{Answer}
 use Rattle.cdi_container.specs.declared.answer.Answer.TheVariants.{Done, Chosen, Reported, Refused}
 use Rattle.cdi_container.specs.History.{State, Entry, LegalAnswer, refusal_of, refusal_of_put}
 use Rattle.cdi_container.specs.Text.{is_out_of_memory}
-use Rattle.cdi_container.specs.Seen.{state_of}
 use Rattle.cdi_container.specs.Runner.{RunsStep}
 use Rattle.cdi_container.specs.Intake.{ServesMode}
 use Rattle.cdi_container.specs.declared.runner.Runner.{Runner}
@@ -67,14 +66,15 @@ put_alike old new kept text (Ok (Reported list)) trace k t memory h = absurd h.1
 put_alike old new kept text (Ok (Refused refusal)) trace k t memory h = (too_long old text t ∙ sym (too_long old kept k) ∙ h.0, h.1, h.2)
 put_alike old new kept text (Err error) trace k t memory h = cc
 
-pub serves_put : (old new : Runner) (kept text : List ℕ) → ServesText kept text → RunsStep old new (Put kept) → RunsStep old new (Put text)
+pub serves_put : {B : Type 0} (old new : Runner B) (kept text : List ℕ) → ServesText kept text → RunsStep old new (Put kept)
+    → RunsStep old new (Put text)
 serves_put old new kept text (inl h) r = subst (λ t. RunsStep old new (Put t)) h r
 serves_put old new kept text (inr h) r = record {
   step = record r.step { command = Put text };
   command_is = refl;
   memory = r.memory;
-  legal = put_alike (state_of old.container) (state_of new.container) kept text r.step.answer r.step.trace h.0 h.1 r.memory
-      (subst (λ c. LegalAnswer (state_of old.container) c r.step.answer r.step.trace (state_of new.container)) r.command_is r.legal);
+  legal = put_alike old.container new.container kept text r.step.answer r.step.trace h.0 h.1 r.memory
+      (subst (λ c. LegalAnswer old.container c r.step.answer r.step.trace new.container) r.command_is r.legal);
   text = r.text;
   refused = r.refused;
   quiet = r.quiet;

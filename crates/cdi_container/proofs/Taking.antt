@@ -22,7 +22,8 @@ serves_as : (seen kept mode is : Mode) → seen ≡ kept → mode ≡ is → Ser
 serves_as seen kept mode is e f h = subst (λ b. ServesMode b mode) (sym e) (subst (λ b. ServesMode kept b) (sym f) h)
 
 -- a line outside a put block that says this was taken
-pub takes_said : (old new : Intake) (kept : List ℕ) (said : Result Said Refusal) → mode_seen old.mode ≡ Outside → said_of_line kept ≡ said
+pub takes_said : {B : Type 0} (old new : Intake B) (kept : List ℕ) (said : Result Said Refusal) → mode_seen old.mode ≡ Outside
+    → said_of_line kept ≡ said
     → TakesSaid old new said → TakesLine old new kept
 takes_said old new kept said outside is h = record {
   line = h.line;
@@ -41,7 +42,8 @@ takes_said old new kept said outside is h = record {
     stood was sm = serves_outside was (subst (λ m. ServesMode m was) outside sm)
 
 -- one command of a line outside a put block was run
-pub takes_one : (old new : Intake) (command : Command) (said is : Said) → said ≡ is → mode_seen old.mode ≡ Outside → new.line ≡ old.line
+pub takes_one : {B : Type 0} (old new : Intake B) (command : Command) (said is : Said) → said ≡ is → mode_seen old.mode ≡ Outside
+    → new.line ≡ old.line
     → new.mode ≡ old.mode
     → commands_said (Ok is) ≡ command ∷ [] → mode_said (Ok is) ≡ Outside → RunsStep old.runner new.runner command
     → TakesSaid old new (Ok said)
@@ -54,7 +56,7 @@ takes_one old new command said is e outside line mode commands stays step = reco
 
 -- ---- in a put block
 
-module _ (old new : Intake) (kept_text kept : List ℕ) (line : new.line ≡ old.line) where
+module _ {B : Type 0} (old new : Intake B) (kept_text kept : List ℕ) (line : new.line ≡ old.line) where
   pub takes_put : mode_seen new.mode ≡ Outside → is_dot kept ≡ true → RunsStep old.runner new.runner (Put kept_text)
       → TakesInPut old new kept_text kept
   takes_put closed dot step = record {
@@ -83,7 +85,8 @@ module _ (old new : Intake) (kept_text kept : List ℕ) (line : new.line ≡ old
   }
 
 -- a line of the put block that was open
-pub takes_in_put : (old mid new : Intake) (kept_text kept : List ℕ) → mode_seen old.mode ≡ InPut kept_text → mid.runner ≡ old.runner
+pub takes_in_put : {B : Type 0} (old mid new : Intake B) (kept_text kept : List ℕ) → mode_seen old.mode ≡ InPut kept_text
+    → mid.runner ≡ old.runner
     → mid.line ≡ old.line
     → TakesInPut mid new kept_text kept → TakesLine old new kept
 takes_in_put old mid new kept_text kept open_ same line h = record {
@@ -98,7 +101,8 @@ takes_in_put old mid new kept_text kept open_ same line h = record {
 }
 
 -- a line outside a put block was taken, by an intake that differs from the old one in nothing
-pub takes_outside : (old mid new : Intake) (kept : List ℕ) → mode_seen mid.mode ≡ mode_seen old.mode → mid.runner ≡ old.runner
+pub takes_outside : {B : Type 0} (old mid new : Intake B) (kept : List ℕ) → mode_seen mid.mode ≡ mode_seen old.mode
+    → mid.runner ≡ old.runner
     → mid.line ≡ old.line → TakesLine mid new kept → TakesLine old new kept
 takes_outside old mid new kept mode same line h = record {
   line = h.line ∙ line;
@@ -125,7 +129,8 @@ pub begun_from-feed : (begun xs : List ℕ) → NoFeed xs → begun_from begun (
 begun_from-feed begun [] h = refl
 begun_from-feed begun (x ∷ xs) h = rw h.0 (begun_from-feed (begun ++ x ∷ []) xs h.1)
 
-pub begins : (old new : Intake) (piece : List ℕ) → NoFeed piece → ServesLine new.line (old.line ++ piece) → new.runner ≡ old.runner
+pub begins : {B : Type 0} (old new : Intake B) (piece : List ℕ) → NoFeed piece → ServesLine new.line (old.line ++ piece)
+    → new.runner ≡ old.runner
     → mode_seen new.mode ≡ mode_seen old.mode → Advances old new piece
 begins old new piece no_feed kept same stays = record {
   runs = λ mode line k. rw (ended_from-no_feed line piece no_feed) (subst (λ r. Runs old.runner r []) (sym same) (runs_none old.runner));
@@ -135,7 +140,8 @@ begins old new piece no_feed kept same stays = record {
   });
 }
 
-pub ends : (old mid new : Intake) (piece kept : List ℕ) → NoFeed piece → ServesLine kept (old.line ++ piece) → mid.runner ≡ old.runner
+pub ends : {B : Type 0} (old mid new : Intake B) (piece kept : List ℕ) → NoFeed piece → ServesLine kept (old.line ++ piece)
+    → mid.runner ≡ old.runner
     → mode_seen mid.mode ≡ mode_seen old.mode → mid.line ≡ []
     → TakesLine mid new kept → Advances old new (piece ++ 10 ∷ [])
 ends old mid new piece kept no_feed is same stays none h = record {
@@ -159,13 +165,13 @@ last_of : (line : List ℕ) → (line ≡ [] → ⊥) → last_line line ≡ end
 last_of [] h = absurd (h refl)
 last_of (b ∷ bs) h = refl
 
-pub ends_last : (old new : Intake) → (old.line ≡ [] → ⊥) → Advances old new (10 ∷ []) → EndsLastLine old new
+pub ends_last : {B : Type 0} (old new : Intake B) → (old.line ≡ [] → ⊥) → Advances old new (10 ∷ []) → EndsLastLine old new
 ends_last old new some h = record {
   runs = λ mode line k. rw (last_of line (serves_started old.line line k.line_serves some)) (h.runs mode line k);
   mode = λ mode line k. rw (last_of line (serves_started old.line line k.line_serves some)) ((h.keeps mode line k).mode_serves);
 }
 
-pub ends_none : (s : Intake) → s.line ≡ [] → EndsLastLine s s
+pub ends_none : {B : Type 0} (s : Intake B) → s.line ≡ [] → EndsLastLine s s
 ends_none s none = record {
   runs = λ mode line k.
       let is : line ≡ [] = serves_nothing line (subst (λ l. ServesLine l line) none k.line_serves) in
@@ -175,13 +181,14 @@ ends_none s none = record {
       rw is k.mode_serves;
 }
 
-pub refuses_put : (old new : Intake) (kept : List ℕ) → mode_seen old.mode ≡ InPut kept → RunsStep old.runner new.runner Unreadable
+pub refuses_put : {B : Type 0} (old new : Intake B) (kept : List ℕ) → mode_seen old.mode ≡ InPut kept
+    → RunsStep old.runner new.runner Unreadable
     → EndsMode old new
 refuses_put old new kept open_ step mode sm =
     let is = serves_in_put kept mode (subst (λ m. ServesMode m mode) open_ sm) in
     rw is.1 (runs_one old.runner new.runner Unreadable step)
 
-pub ends_outside : (old new : Intake) → mode_seen old.mode ≡ Outside → new.runner ≡ old.runner → EndsMode old new
+pub ends_outside : {B : Type 0} (old new : Intake B) → mode_seen old.mode ≡ Outside → new.runner ≡ old.runner → EndsMode old new
 ends_outside old new outside same mode sm =
     let is : mode ≡ Outside = serves_outside mode (subst (λ m. ServesMode m mode) outside sm) in
     rw is (subst (λ r. Runs old.runner r []) (sym same) (runs_none old.runner))

@@ -7,6 +7,7 @@ use Rattle.cdi_model.specs.declared.refusal.Refusal.TheVariants.{BadCommand}
 use Rattle.cdi_model.specs.declared.edit.Edit.{Edit}
 use Rattle.cdi_model.specs.declared.edit.Edit.TheVariants.{Put as PutEdit, Remove as RemoveEdit}
 use Rattle.cdi_model.specs.Edits.{edited, edited_all, refusal_of_edit}
+use Rattle.cdi_bodies.specs.Book.{Promised}
 use Rattle.cdi_text.specs.Reading.{decl_of}
 use Rattle.cdi_effective.specs.Beans.{beans}
 use Rattle.cdi_resolve.specs.Choices.{chosen, chosen_by_name}
@@ -20,9 +21,11 @@ use Rattle.cdi_container.specs.declared.answer.Answer.TheVariants.{Done, Chosen,
 pub record State : Type 0 where
   -- the present declarations
   pub decls : List Decl
+  -- the stored bodies, which never change
+  pub book : List Promised
 
-abbrev pub empty : State
-empty = record { decls = [] }
+abbrev pub empty : List Promised → State
+empty book = record { decls = []; book = book }
 
 -- what a trace tells; nothing yet makes an instance
 pub data Entry : Type 0 where
@@ -64,7 +67,7 @@ Acts old (Put text) Done trace new = (trace ≡ []) × (new ≡ with_put old (de
 Acts old (Remove kind name) Done trace new = (trace ≡ []) × (new ≡ with_edit old (RemoveEdit kind name))
 Acts old (Choose t quals) (Chosen choice) trace new = (choice ≡ chosen old.decls (beans old.decls) t quals) × (trace ≡ []) × (new ≡ old)
 Acts old (Named name) (Chosen choice) trace new = (choice ≡ chosen_by_name (beans old.decls) name) × (trace ≡ []) × (new ≡ old)
-Acts old Report (Reported list) trace new = (list ≡ faults old.decls) × (trace ≡ []) × (new ≡ old)
+Acts old Report (Reported list) trace new = (list ≡ faults old.decls old.book) × (trace ≡ []) × (new ≡ old)
 Acts old command answer trace new = ⊥
 
 -- A refusal is the first whose condition holds. It changes nothing, and neither does want of memory.
@@ -97,4 +100,5 @@ accepted_edits (step ∷ steps) = accepted_edit step.command step.answer ++ acce
 
 -- the declarations behind a legal history rest on its accepted edits alone: they are what these make of the empty list
 abbrev pub RestsOnAcceptedEdits : History → Type 0
-RestsOnAcceptedEdits history = (state : State) → LegalHistory empty history state → state.decls ≡ edited_all [] (accepted_edits history)
+RestsOnAcceptedEdits history = (book : List Promised) (state : State) → LegalHistory (empty book) history state
+    → state.decls ≡ edited_all [] (accepted_edits history)

@@ -4,38 +4,37 @@ use Rattle.std.specs.Prelude.{map, ◌≡◌, false, ◌||◌, List, ◌++◌, O
 use Rattle.cdi_lines.specs.declared.command.Command.{Command}
 use Rattle.cdi_container.specs.declared.answer.Answer.{Answer}
 use Rattle.cdi_container.specs.History.{Step, LegalStep, History, LegalHistory}
-use Rattle.cdi_container.specs.Seen.{state_of}
 use Rattle.cdi_container.specs.Text.{text_of_step, text_of, text_of_answer, is_refused, is_out_of_memory}
 use Rattle.cdi_container.specs.declared.runner.Runner.{Runner}
 
 -- one legal step of this command was made, and its text is printed behind the rest
-pub record RunsStep (old new : Runner) (command : Command) : Type 0 where
+pub record RunsStep {B : Type 0} (old new : Runner B) (command : Command) : Type 0 where
   pub step : Step
   pub command_is : step.command ≡ command
   pub memory : is_out_of_memory step.answer ≡ false
-  pub legal : LegalStep (state_of old.container) step (state_of new.container)
+  pub legal : LegalStep old.container step new.container
   pub text : new.out.items ≡ old.out.items ++ text_of_step old.quiet step
   pub refused : new.refused ≡ (old.refused || is_refused step.answer)
   pub quiet : new.quiet ≡ old.quiet
 
 -- nothing was printed
-pub record PrintsNothing (old new : Runner) : Type 0 where
+pub record PrintsNothing {B : Type 0} (old new : Runner B) : Type 0 where
   pub text : new.out.items ≡ old.out.items
   pub quiet : new.quiet ≡ old.quiet
 
 -- an answer was printed, and the container stays
-pub record Prints (old new : Runner) (answer : Answer) : Type 0 where
+pub record Prints {B : Type 0} (old new : Runner B) (answer : Answer) : Type 0 where
   pub container : new.container ≡ old.container
   pub text : new.out.items ≡ old.out.items ++ text_of_answer (Ok answer)
   pub refused : new.refused ≡ (old.refused || is_refused (Ok answer))
   pub quiet : new.quiet ≡ old.quiet
 
 -- a legal history of these commands was made, and its text is printed behind the rest
-pub record Runs (old new : Runner) (commands : List Command) : Type 0 where
+pub record Runs {B : Type 0} (old new : Runner B) (commands : List Command) : Type 0 where
   pub history : History
   pub commands_are : map (λ step. step.command) history ≡ commands
   pub memory : list_any (λ step. is_out_of_memory step.answer) history ≡ false
-  pub legal : LegalHistory (state_of old.container) history (state_of new.container)
+  pub legal : LegalHistory old.container history new.container
   pub text : new.out.items ≡ old.out.items ++ text_of old.quiet history
   pub refused : new.refused ≡ (old.refused || list_any (λ step. is_refused step.answer) history)
   pub quiet : new.quiet ≡ old.quiet

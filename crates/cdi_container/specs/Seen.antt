@@ -1,4 +1,4 @@
--- What is seen of a container, and the steps of its calls.
+-- The steps of the calls of a container.
 use Rattle.std.specs.Prelude.{ℕ, List, [], Result, Ok, Err, alloc_error}
 use Rattle.std.specs.declared.alloc.AllocError.{AllocError}
 use Rattle.std.specs.declared.alloc.Global.{Global}
@@ -17,16 +17,7 @@ use Rattle.cdi_lines.specs.declared.command.Command.{Command}
 use Rattle.cdi_lines.specs.declared.command.Command.TheVariants.{Put, Remove, Choose, Named, Report}
 use Rattle.cdi_container.specs.declared.answer.Answer.{Answer}
 use Rattle.cdi_container.specs.declared.answer.Answer.TheVariants.{Done, Chosen, Reported, Refused}
-use Rattle.cdi_container.specs.declared.container.Container.{Container}
 use Rattle.cdi_container.specs.History.{State, LegalStep}
-
--- the state that a container holds
-abbrev pub state_of : Container → State
-state_of c = record { decls = c.deployment }
-
--- the present declarations of a container
-abbrev pub decls_of : Container → List Decl
-decls_of c = (state_of c).decls
 
 -- what a put of what a text spells answers
 abbrev pub answer_of_put : List Decl → Result Decl Refusal → Result (Unit {0}) Refusal
@@ -50,20 +41,20 @@ report_answer (Ok list) = Ok (Reported list.items)
 report_answer (Err error) = Err error
 
 -- a call is a legal step, with an empty trace, from the state that the container held to the one that it holds
-abbrev pub IsStep : Container → Command → Result Answer AllocError → Container → Type 0
-IsStep old command answer new = LegalStep (state_of old) (record { command = command; answer = answer; trace = [] }) (state_of new)
+abbrev pub IsStep : State → Command → Result Answer AllocError → State → Type 0
+IsStep old command answer new = LegalStep old (record { command = command; answer = answer; trace = [] }) new
 
-abbrev pub PutStep : Container → List ℕ → Result (Unit {0}) Error → Container → Type 0
+abbrev pub PutStep : State → List ℕ → Result (Unit {0}) Error → State → Type 0
 PutStep old text result new = IsStep old (Put text) (edit_answer result) new
 
-abbrev pub RemoveStep : Container → Kind → List ℕ → Result (Unit {0}) Error → Container → Type 0
+abbrev pub RemoveStep : State → Kind → List ℕ → Result (Unit {0}) Error → State → Type 0
 RemoveStep old kind name result new = IsStep old (Remove kind name) (edit_answer result) new
 
-abbrev pub ChooseStep : Container → List ℕ → List Qual → Result Choice AllocError → Container → Type 0
+abbrev pub ChooseStep : State → List ℕ → List Qual → Result Choice AllocError → State → Type 0
 ChooseStep old t quals result new = IsStep old (Choose t quals) (choice_answer result) new
 
-abbrev pub NamedStep : Container → List ℕ → Result Choice AllocError → Container → Type 0
+abbrev pub NamedStep : State → List ℕ → Result Choice AllocError → State → Type 0
 NamedStep old name result new = IsStep old (Named name) (choice_answer result) new
 
-abbrev pub ReportStep : Container → Result (Vec Fault Global) AllocError → Container → Type 0
+abbrev pub ReportStep : State → Result (Vec Fault Global) AllocError → State → Type 0
 ReportStep old result new = IsStep old Report (report_answer result) new

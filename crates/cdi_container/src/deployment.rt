@@ -8,6 +8,7 @@ ghost use Rattle.cdi_effective.specs.Beans.{beans};
 ghost use Rattle.cdi_resolve.specs.Choices.{chosen, chosen_by_name};
 ghost use Rattle.cdi_validate.specs.Faults.{faults};
 
+use cdi_bodies::Bodies;
 use cdi_faults::Fault;
 use cdi_model::{Decl, Decls, Error, Kind, Name, Quals, Refusal, Work};
 use cdi_observe::PlainView;
@@ -102,14 +103,18 @@ impl Deployment {
         choice
     }
 
-    /// The faults.
-    pub(crate) fn report(&mut self, alloc: Global) -> Result<Vec<Fault>, AllocError>
-        ensures faults { IfOk result (λ list. list.items ≡ faults self.old) }
+    /// The faults, where the bodies of this book are stored.
+    pub(crate) fn report<B: Bodies>(
+        &mut self,
+        alloc: Global,
+        book: &B,
+    ) -> Result<Vec<Fault>, AllocError>
+        ensures faults { IfOk result (λ list. list.items ≡ faults self.old (B.promises book.now)) }
         ensures once { IfOk result (λ list. AllPairs (λ f g. f ≢ g) list.items) }
         ensures stays { self.new ≡ self.old }
     {
         let list = self.take_beans(alloc)?;
-        let found = faults(alloc, &mut PlainView::new(&self.decls, &list));
+        let found = faults(alloc, &mut PlainView::new(&self.decls, &list), book);
         self.beans = Some(list);
         found
     }

@@ -4,10 +4,11 @@ ghost use Rattle.cdi_lines.specs.Lines.{NoFeed};
 ghost use Rattle.cdi_container.specs.Commands.{Outside};
 ghost use Rattle.cdi_container.specs.History.{empty};
 ghost use Rattle.cdi_container.specs.Runner.{PrintsNothing};
-ghost use Rattle.cdi_container.specs.Seen.{state_of};
+ghost use Rattle.cdi_container.specs.Run.{setting_of, setting_with};
 ghost use Rattle.cdi_container.specs.Intake.{mode_seen, TakesLine, TakesSaid, TakesInPut, Advances, EndsLastLine, EndsMode};
 
 use crate::runner::Runner;
+use cdi_bodies::Bodies;
 use cdi_lines::{Block, Command, Line, Said, ends_block, find_feed, read_line};
 use cdi_model::Error;
 use std::alloc::{AllocError, Global};
@@ -22,17 +23,18 @@ pub(crate) enum Mode {
 }
 
 #[derive(Drop)]
-pub(crate) struct Intake {
+pub(crate) struct Intake<B: Bodies> {
     alloc: Global,
-    pub(crate) runner: Runner,
+    pub(crate) runner: Runner<B>,
     /// What is kept of a line that isn't complete.
     line: Line,
     mode: Mode,
 }
 
-impl Intake {
-    pub(crate) fn new(alloc: Global, quiet: bool) -> Intake
-        ensures state { state_of result.runner.container ≡ empty }
+impl<B: Bodies> Intake<B> {
+    pub(crate) fn new(alloc: Global, book: B, quiet: bool) -> Intake<B>
+        ensures state { result.runner.container ≡ empty (B.promises book) }
+        ensures setting { setting_of result ≡ setting_with quiet (B.promises book) }
         ensures out { result.runner.out.items ≡ [] }
         ensures refused { result.runner.refused ≡ false }
         ensures quiet { result.runner.quiet ≡ quiet }
@@ -41,7 +43,7 @@ impl Intake {
     {
         Intake {
             alloc,
-            runner: Runner::new(alloc, quiet),
+            runner: Runner::new(alloc, book, quiet),
             line: Line::new(alloc),
             mode: Mode::Outside,
         }

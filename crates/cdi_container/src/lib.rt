@@ -10,6 +10,7 @@ mod runner;
 mod script;
 
 pub use answer::Answer;
+pub use cdi_bodies::Book;
 pub use cdi_devices::{Counted, RunFault, SCRIPT_LIMIT};
 pub use cdi_effective::BeanId;
 pub use cdi_faults::{Code, Fault, Subject};

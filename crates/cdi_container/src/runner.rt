@@ -2,17 +2,17 @@
 ghost use Rattle.std.specs.Prelude.{◌≡◌, [], OnOk, OnErr, false};
 ghost use Rattle.cdi_container.specs.History.{empty};
 ghost use Rattle.cdi_container.specs.Runner.{RunsStep, PrintsNothing, Prints};
-ghost use Rattle.cdi_container.specs.Seen.{state_of};
 
 use crate::answer::Answer;
 use crate::container::Container;
 use crate::printing::print_step;
+use cdi_bodies::Bodies;
 use cdi_lines::Command;
 use std::alloc::{AllocError, Global};
 
 #[derive(Drop)]
-pub(crate) struct Runner {
-    pub(crate) container: Container,
+pub(crate) struct Runner<B: Bodies> {
+    pub(crate) container: Container<B>,
     /// Leaves trace lines out.
     pub(crate) quiet: bool,
     /// Whether a command was refused.
@@ -22,15 +22,15 @@ pub(crate) struct Runner {
     scratch: Vec<u8>,
 }
 
-impl Runner {
-    pub(crate) fn new(alloc: Global, quiet: bool) -> Runner
-        ensures state { state_of result.container ≡ empty }
+impl<B: Bodies> Runner<B> {
+    pub(crate) fn new(alloc: Global, book: B, quiet: bool) -> Runner<B>
+        ensures state { result.container ≡ empty (B.promises book) }
         ensures out { result.out.items ≡ [] }
         ensures refused { result.refused ≡ false }
         ensures quiet { result.quiet ≡ quiet }
     {
         Runner {
-            container: Container::new(alloc),
+            container: Container::new(alloc, book),
             quiet,
             refused: false,
             out: Vec::new(alloc),

@@ -5,10 +5,12 @@ ghost use Rattle.cdi_devices.specs.Devices.{WritesPart};
 ghost use Rattle.cdi_devices.specs.Counted.{inner_of, bytes_of, has_failed, is_flushed};
 ghost use Rattle.cdi_container.specs.Run.{Sends, SendsPart, SendsLast, Feeds, FeedsBeforeMemory, FeedsPart, Ends, EndsBeforeMemory};
 ghost use Rattle.cdi_container.specs.Run.{EndsPart, RunsScript, FailsToRead, RunsOutOfMemory, FailsToWrite};
+ghost use Rattle.cdi_container.specs.Run.{setting_of, setting_with};
 ghost use Rattle.cdi_container.specs.Intake.{IsFresh};
 
 use crate::intake::Intake;
 use crate::runner::Runner;
+use cdi_bodies::Bodies;
 use cdi_devices::{Counted, RunFault, SCRIPT_LIMIT, read_some, write_and_flush};
 use std::alloc::Global;
 use std::io::{Read, Write};
@@ -34,7 +36,10 @@ pub struct Summary {
 }
 
 /// Writes what is printed.
-fn send<W: Write>(runner: &mut Runner, writer: &mut Counted<W>) -> Result<(), RunFault>
+fn send<B: Bodies, W: Write>(
+    runner: &mut Runner<B>,
+    writer: &mut Counted<W>,
+) -> Result<(), RunFault>
     ensures ok { OnOk result (Sends W.contents runner.old runner.new writer.old writer.new) }
     ensures part { OnErr result (SendsPart W.contents runner.old writer.old writer.new) }
     ensures error { IfErr result (λ fault. fault ≡ RunFault.Write) }
@@ -45,7 +50,7 @@ fn send<W: Write>(runner: &mut Runner, writer: &mut Counted<W>) -> Result<(), Ru
 }
 
 /// Writes what is printed before the run ends for want of memory.
-fn give_up<W: Write>(runner: &Runner, writer: &mut Counted<W>) -> RunFault
+fn give_up<B: Bodies, W: Write>(runner: &Runner<B>, writer: &mut Counted<W>) -> RunFault
     ensures memory { result ≡ RunFault.Memory → SendsLast W.contents runner.now writer.old writer.new }
     ensures write { result ≡ RunFault.Write → SendsPart W.contents runner.now writer.old writer.new }
     ensures not_read { result ≢ RunFault.Read }
@@ -57,7 +62,10 @@ fn give_up<W: Write>(runner: &Runner, writer: &mut Counted<W>) -> RunFault
 }
 
 /// Writes what is printed, and goes on.
-fn settle<W: Write>(intake: &mut Intake, writer: &mut Counted<W>) -> Result<(), RunFault>
+fn settle<B: Bodies, W: Write>(
+    intake: &mut Intake<B>,
+    writer: &mut Counted<W>,
+) -> Result<(), RunFault>
     ensures ok { OnOk result (Feeds W.contents intake.old intake.new writer.old writer.new []) }
     ensures part { OnErr result (FeedsPart W.contents intake.old writer.old writer.new []) }
     ensures still { OnOk result (has_failed writer.new ≡ has_failed writer.old) }
@@ -70,8 +78,8 @@ fn settle<W: Write>(intake: &mut Intake, writer: &mut Counted<W>) -> Result<(), 
 }
 
 /// Takes some bytes of the script, at most one line's, and tells how many.
-fn take_some<W: Write>(
-    intake: &mut Intake,
+fn take_some<B: Bodies, W: Write>(
+    intake: &mut Intake<B>,
     writer: &mut Counted<W>,
     chunk: &[u8],
 ) -> Result<usize, RunFault>
@@ -102,8 +110,8 @@ fn take_some<W: Write>(
 }
 
 /// Takes bytes of the script, and writes what their commands print.
-fn feed<W: Write>(
-    intake: &mut Intake,
+fn feed<B: Bodies, W: Write>(
+    intake: &mut Intake<B>,
     writer: &mut Counted<W>,
     chunk: &[u8],
 ) -> Result<(), RunFault>
@@ -129,7 +137,10 @@ fn feed<W: Write>(
 }
 
 /// Takes the end of the script, and writes what is printed.
-fn finish<W: Write>(intake: &mut Intake, writer: &mut Counted<W>) -> Result<Summary, RunFault>
+fn finish<B: Bodies, W: Write>(
+    intake: &mut Intake<B>,
+    writer: &mut Counted<W>,
+) -> Result<Summary, RunFault>
     ensures ok { IfOk result (λ summary. Ends W.contents intake.old writer.old writer.new summary.refused) }
     ensures still { OnOk result (has_failed writer.new ≡ has_failed writer.old) }
     ensures flushed { OnOk result (is_flushed writer.new ≡ true) }
@@ -155,25 +166,25 @@ fn finish<W: Write>(intake: &mut Intake, writer: &mut Counted<W>) -> Result<Summ
 }
 
 /// Reads a script to its end.
-fn read_all<R: Read, W: Write>(
-    intake: &mut Intake,
+fn read_all<B: Bodies, R: Read, W: Write>(
+    intake: &mut Intake<B>,
     buffer: &mut [u8],
     reader: &mut Counted<R>,
     writer: &mut Counted<W>,
 ) -> Result<Summary, RunFault>
     requires room { (0 < length buffer.old) × (length buffer.old ≤ READ_BYTES) }
-    requires fresh { IsFresh intake.old }
+    requires fresh { IsFresh intake.old.runner.container.book intake.old }
     requires reader_fresh { (bytes_of reader.old ≡ 0) × (has_failed reader.old ≡ false) }
     requires writer_fresh { (has_failed writer.old ≡ false) × (is_flushed writer.old ≡ true) }
     ensures ok { IfOk result (λ summary.
-        RunsScript R.remaining W.contents SCRIPT_LIMIT intake.old.runner.quiet
+        RunsScript R.remaining W.contents SCRIPT_LIMIT (setting_of intake.old)
         reader.old reader.new writer.old writer.new summary.refused) }
     ensures read { IsErrOf result RunFault.Read →
-        FailsToRead R.remaining W.contents SCRIPT_LIMIT intake.old.runner.quiet reader.old reader.new writer.old writer.new }
+        FailsToRead R.remaining W.contents SCRIPT_LIMIT (setting_of intake.old) reader.old reader.new writer.old writer.new }
     ensures memory { IsErrOf result RunFault.Memory →
-        RunsOutOfMemory R.remaining W.contents SCRIPT_LIMIT READ_BYTES intake.old.runner.quiet reader.old reader.new writer.old writer.new }
+        RunsOutOfMemory R.remaining W.contents SCRIPT_LIMIT READ_BYTES (setting_of intake.old) reader.old reader.new writer.old writer.new }
     ensures write { IsErrOf result RunFault.Write →
-        FailsToWrite R.remaining W.contents SCRIPT_LIMIT READ_BYTES intake.old.runner.quiet reader.old reader.new writer.old writer.new }
+        FailsToWrite R.remaining W.contents SCRIPT_LIMIT READ_BYTES (setting_of intake.old) reader.old reader.new writer.old writer.new }
     ensures flushed { IsErrOf result RunFault.Write ⊎ (is_flushed writer.new ≡ true) }
     ensures read_cause { IsErrOf result RunFault.Read → (has_failed reader.new ≡ true) ⊎ (SCRIPT_LIMIT < bytes_of reader.new) }
     ensures reader_sound { IsErrOf result RunFault.Read ⊎ ((has_failed reader.new ≡ false) × (bytes_of reader.new ≤ SCRIPT_LIMIT)) }
@@ -193,32 +204,37 @@ fn read_all<R: Read, W: Write>(
     }
 }
 
-/// Reads a script, runs each command on a container that is empty at first, and writes and flushes each command's lines
-/// before more is read. It takes a buffer of 65,536 bytes, what the container takes, and a bounded number of bytes for
-/// the line and the put block that have begun.
+/// Reads a script, runs each command on a container that is empty at first and keeps this book of stored bodies, and
+/// writes and flushes each command's lines before more is read. It takes a buffer of 65,536 bytes, what the container
+/// takes, and a bounded number of bytes for the line and the put block that have begun.
 ///
 /// The clauses speak of the bytes of readers and writers that tell their bytes to contracts. Those of `std`'s files and
 /// standard streams are not told; of these they say what was counted, failed and flushed.
-pub fn run<R: Read, W: Write>(
+pub fn run<B: Bodies + Drop, R: Read, W: Write>(
     alloc: Global,
     reader: &mut Counted<R>,
     writer: &mut Counted<W>,
     options: Options,
+    book: B,
 ) -> Result<Summary, RunFault>
     requires reader_fresh { (bytes_of reader.old ≡ 0) × (has_failed reader.old ≡ false) }
     requires writer_fresh { (has_failed writer.old ≡ false) × (is_flushed writer.old ≡ true) }
 
     // The text of a legal history of exactly the script's commands was written, and the summary tells of it.
     ensures ok { IfOk result (λ summary.
-        RunsScript R.remaining W.contents SCRIPT_LIMIT options.quiet reader.old reader.new writer.old writer.new summary.refused) }
+        RunsScript R.remaining W.contents SCRIPT_LIMIT (setting_with options.quiet (B.promises book))
+        reader.old reader.new writer.old writer.new summary.refused) }
 
     // What was written where the run ended early.
     ensures read { IsErrOf result RunFault.Read →
-        FailsToRead R.remaining W.contents SCRIPT_LIMIT options.quiet reader.old reader.new writer.old writer.new }
+        FailsToRead R.remaining W.contents SCRIPT_LIMIT (setting_with options.quiet (B.promises book))
+        reader.old reader.new writer.old writer.new }
     ensures memory { IsErrOf result RunFault.Memory →
-        RunsOutOfMemory R.remaining W.contents SCRIPT_LIMIT READ_BYTES options.quiet reader.old reader.new writer.old writer.new }
+        RunsOutOfMemory R.remaining W.contents SCRIPT_LIMIT READ_BYTES (setting_with options.quiet (B.promises book))
+        reader.old reader.new writer.old writer.new }
     ensures write { IsErrOf result RunFault.Write →
-        FailsToWrite R.remaining W.contents SCRIPT_LIMIT READ_BYTES options.quiet reader.old reader.new writer.old writer.new }
+        FailsToWrite R.remaining W.contents SCRIPT_LIMIT READ_BYTES (setting_with options.quiet (B.promises book))
+        reader.old reader.new writer.old writer.new }
 
     // All that was written was flushed, at the end and before the read that failed, as any read may.
     ensures flushed { IsErrOf result RunFault.Write ⊎ (is_flushed writer.new ≡ true) }
@@ -232,6 +248,6 @@ pub fn run<R: Read, W: Write>(
     ensures limits { (SCRIPT_LIMIT ≡ 16777216) × (READ_BYTES ≡ 65536) }
 {
     let mut buffer = vec![in alloc; 0u8; READ_BYTES]?;
-    let mut intake = Intake::new(alloc, options.quiet);
+    let mut intake = Intake::new(alloc, book, options.quiet);
     read_all(&mut intake, buffer.as_mut_slice(), reader, writer)
 }

@@ -1,4 +1,5 @@
 //! What several tests share.
+use cdi_bodies::Book;
 use cdi_container::{Counted, Options, RunFault, Summary, run};
 use std::alloc::{AllocError, Global};
 use std::fmt::Display;
@@ -30,7 +31,8 @@ pub(crate) fn fault_of(outcome: Result<Summary, RunFault>) -> Result<Option<RunF
 pub(crate) fn outcome(alloc: Global, script: &[u8]) -> Result<(Vec<u8>, bool), Fail> {
     let mut reader = Counted::new(script);
     let mut writer = Counted::new(empty_page(alloc)?);
-    let summary = run(alloc, &mut reader, &mut writer, Options { quiet: false })?;
+    let options = Options { quiet: false };
+    let summary = run(alloc, &mut reader, &mut writer, options, Book::empty(alloc))?;
     Ok((writer.into_inner(), summary.refused))
 }
 

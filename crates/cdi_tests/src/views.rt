@@ -1,7 +1,8 @@
 //! Plain views over the declarations of worked rows.
+use cdi_bodies::Book;
 use cdi_faults::{Code, Fault};
 use cdi_fixtures::{are_of, declared, lines_of, name, quals};
-use cdi_model::Error;
+use cdi_model::{Decls, Error};
 use cdi_observe::{PlainView, View};
 use cdi_resolve::{BeanList, Choice};
 use cdi_validate::faults;
@@ -116,7 +117,7 @@ fn a_plain_view_of_an_alternative(rt: HostRuntime) -> Result<(), Fail> {
 }
 
 /// Types and stereotypes that reach themselves, uses that do not fit, points with no bean and with two, a type that is listed
-/// in vain, and a bean of an interface.
+/// in vain, a method whose body is nowhere and that calls what is not there, and a bean of an interface.
 static FAULTY: [&[u8]; 15] = [
     b"kind = \"type\"\nname = \"A\"\nextends = \"B\"\n",
     b"kind = \"type\"\nname = \"B\"\nextends = \"A\"\n",
@@ -138,7 +139,12 @@ points = [
 ]
 "#,
     b"kind = \"type\"\nname = \"F\"\n",
-    b"kind = \"bean\"\nname = \"F\"\nstereotypes = [\"X\"]\ntypes = [\"Shop\"]\n",
+    br#"kind = "bean"
+name = "F"
+stereotypes = ["X"]
+types = ["Shop"]
+methods = [{ name = "m", body = "nobody", calls = ["x.y"] }]
+"#,
     b"kind = \"bean\"\nname = \"Shop\"\nstereotypes = [\"None\"]\n",
 ];
 
@@ -152,15 +158,25 @@ F07 bean E qualifier Rank(m=1,n=2)
 F20 bean E point r
 F21 bean E point s
 F04 bean F typed Shop
+F10 bean F method m
+F23 bean F method m call x.y
 F01 bean Shop stereotype None
 F03 bean Shop class
 ";
 
+/// The faults of some declarations where no body is stored.
+fn found_in(alloc: Global, decls: &Decls) -> Result<Vec<Fault>, Fail> {
+    let list = BeanList::of(alloc, decls)?;
+    let Ok(book) = Book::new(Vec::new(alloc)) else {
+        return Err(Fail::new("no book"));
+    };
+    Ok(faults(alloc, &mut PlainView::new(decls, &list), &book)?)
+}
+
 #[test]
 fn a_plain_view_has_faults(rt: HostRuntime) -> Result<(), Fail> {
     let decls = declared(rt.alloc(), &FAULTY)?;
-    let list = BeanList::of(rt.alloc(), &decls)?;
-    let found = faults(rt.alloc(), &mut PlainView::new(&decls, &list))?;
+    let found = found_in(rt.alloc(), &decls)?;
     let text = lines_of(rt.alloc(), found.as_slice())?;
     let is_right = text.as_slice() == FAULTS;
     assert!(rt; is_right, "{:?}", str::from_utf8(text.as_slice()));
@@ -171,9 +187,8 @@ fn a_plain_view_has_faults(rt: HostRuntime) -> Result<(), Fail> {
 #[test]
 fn faults_compare_and_tell_their_codes(rt: HostRuntime) -> Result<(), Fail> {
     let decls = declared(rt.alloc(), &FAULTY)?;
-    let list = BeanList::of(rt.alloc(), &decls)?;
-    let found = faults(rt.alloc(), &mut PlainView::new(&decls, &list))?;
-    let again = faults(rt.alloc(), &mut PlainView::new(&decls, &list))?;
+    let found = found_in(rt.alloc(), &decls)?;
+    let again = found_in(rt.alloc(), &decls)?;
     assert!(rt; found.as_slice() == again.as_slice());
     for code in Code::all() {
         let has_it = has_code(found.as_slice(), code);

@@ -10,7 +10,8 @@ use Rattle.clap.specs.Simple.{matches_of}
 use Rattle.clap.specs.Walk.{Text}
 use Rattle.clap.specs.declared.error.kind.ErrorKind.{ErrorKind}
 use Rattle.clap.specs.declared.error.kind.ErrorKind.TheVariants.{DisplayHelp, OutOfMemory}
-use Rattle.cdi_container.specs.Run.{RunsScript, FailsToRead, FailsToWrite, RunsOutOfMemory}
+use Rattle.cdi_bodies.specs.Book.{Promised}
+use Rattle.cdi_container.specs.Run.{Setting, setting_with, RunsScript, FailsToRead, FailsToWrite, RunsOutOfMemory}
 use Rattle.cdi_container.specs.declared.script.Summary.{Summary}
 use Rattle.cdi_devices.specs.Counted.{inner_of, bytes_of, has_failed, is_flushed}
 use Rattle.cdi_devices.specs.Devices.{WritesPart}
@@ -63,25 +64,25 @@ module _ {E : Type 0} (contents : E → Option (List ℕ)) where
 abbrev pub ReaderFact : Type 1
 ReaderFact = (R : Type 0) → (R → Option (List ℕ)) → Counted R → Counted R → Type 0
 
-module _ {O : Type 0} (held : O → Option (List ℕ)) (limit piece : ℕ) (quiet : Bool) (output output_after : Counted O) where
+module _ {O : Type 0} (held : O → Option (List ℕ)) (limit piece : ℕ) (setting : Setting) (output output_after : Counted O) where
   -- the script ran to its end, and all of its text was written and flushed
   abbrev pub RunsToItsEnd : Bool → ReaderFact
-  RunsToItsEnd refused R left reader reader_after = RunsScript left held limit quiet reader reader_after output output_after refused
+  RunsToItsEnd refused R left reader reader_after = RunsScript left held limit setting reader reader_after output output_after refused
       × (has_failed output_after ≡ false) × (is_flushed output_after ≡ true)
 
   -- the reader failed, or gave a byte behind the limit, and the text of the lines before was written
   abbrev pub StopsReading : ReaderFact
-  StopsReading R left reader reader_after = FailsToRead left held limit quiet reader reader_after output output_after
+  StopsReading R left reader reader_after = FailsToRead left held limit setting reader reader_after output output_after
       × ((has_failed reader_after ≡ true) ⊎ (limit < bytes_of reader_after))
 
   -- the writer failed
   abbrev pub StopsWriting : ReaderFact
-  StopsWriting R left reader reader_after = FailsToWrite left held limit piece quiet reader reader_after output output_after
+  StopsWriting R left reader reader_after = FailsToWrite left held limit piece setting reader reader_after output output_after
       × (has_failed output_after ≡ true)
 
   -- a command wanted memory that was not given
   abbrev pub WantsMemory : ReaderFact
-  WantsMemory R left reader reader_after = RunsOutOfMemory left held limit piece quiet reader reader_after output output_after
+  WantsMemory R left reader reader_after = RunsOutOfMemory left held limit piece setting reader reader_after output output_after
 
   -- what a script came to
   abbrev pub ComesTo : Result Summary RunFault → ReaderFact
@@ -99,10 +100,10 @@ module _ {File : Type 0} (left : File → Option (List ℕ)) where
     pub start : bytes_of file ≡ 0
     pub fact : Fact File left file file_after
 
-module _ {File O : Type 0} (left : File → Option (List ℕ)) (held : O → Option (List ℕ)) (limit piece : ℕ) (quiet : Bool) where
+module _ {File O : Type 0} (left : File → Option (List ℕ)) (held : O → Option (List ℕ)) (limit piece : ℕ) (setting : Setting) where
   -- the path was opened and its script came to this, or it was refused for that fault and nothing was written
   abbrev pub FileComesTo : Option (List ℕ) → (opening.ErrorKind → Type 0) → Counted O → Counted O → Result Summary RunFault → Type 0
-  FileComesTo bytes refuses output output_after outcome = OfFile left bytes (ComesTo held limit piece quiet output output_after outcome)
+  FileComesTo bytes refuses output output_after outcome = OfFile left bytes (ComesTo held limit piece setting output output_after outcome)
       ⊎ ((kind : opening.ErrorKind) × refuses kind × (outcome ≡ Err (fault_of_open kind)) × (output_after ≡ output))
 
 -- ---- the program
@@ -113,7 +114,7 @@ IsInput script = script ≡ codes "-"
 
 module _ {I File O E : Type 0} (contents_at : Text → Option (List ℕ)) (refuses : Text → opening.ErrorKind → Type 0)
     (input_left : I → Option (List ℕ)) (file_left : File → Option (List ℕ))
-    (held : O → Option (List ℕ)) (told : E → Option (List ℕ)) (limit piece : ℕ) where
+    (held : O → Option (List ℕ)) (told : E → Option (List ℕ)) (limit piece : ℕ) (book : List Promised) where
   -- the words mean options, the script that they name came to an outcome, a fault was told, and the status says which
   pub record RunsWords (words : List Text) (input input_after : Counted I) (output output_after : Counted O)
       (errors errors_after : Counted E) (status : ℕ) : Type 0 where
@@ -121,10 +122,10 @@ module _ {I File O E : Type 0} (contents_at : Text → Option (List ℕ)) (refus
     pub means : Means (matches_of script_app words) options
     pub outcome : Result Summary RunFault
     pub from_input : IsInput options.script.now
-        → ComesTo held limit piece options.quiet output output_after outcome I input_left input input_after
+        → ComesTo held limit piece (setting_with options.quiet book) output output_after outcome I input_left input input_after
     pub from_file : ¬ IsInput options.script.now → (input_after ≡ input)
-        × FileComesTo file_left held limit piece options.quiet (contents_at options.script.now) (refuses options.script.now) output
-        output_after outcome
+        × FileComesTo file_left held limit piece (setting_with options.quiet book) (contents_at options.script.now)
+        (refuses options.script.now) output output_after outcome
     pub complaint : MatchResult outcome (λ _. errors_after ≡ errors) (λ fault. Tells told errors errors_after (text_of_fault fault))
     pub status_is : status ≡ status_of options.strict outcome
 

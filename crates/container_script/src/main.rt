@@ -1,16 +1,20 @@
 //! The program: runs a script of commands on a container.
 #![tactic(auto)]
 
-ghost use Rattle.std.specs.Prelude.{◌≤◌};
+ghost use Rattle.std.specs.Prelude.{◌≤◌, IfOk};
 
 mod complaints;
 mod files;
 mod options;
 mod session;
 
-use cdi_container::Counted;
-use complaints::refuse_words;
+use cdi_bodies::Book;
+use cdi_container::{Counted, RunFault};
+use cdi_stock::stock_bodies;
+use complaints::{refuse_words, tell_fault};
 use session::session;
+use std::alloc::AllocError;
+use std::io::Write;
 use std::process::ExitCode;
 use std::{env, io};
 
@@ -24,20 +28,31 @@ fn run_words(rt: &HostRuntime) -> u8
 {
     let mut errors = Counted::new(rt.stderr());
     match words(rt) {
-        Ok(words) => {
-            let mut input = Counted::new(rt.reader());
-            let mut output = Counted::new(io::writer(rt));
-            session(
-                rt,
-                rt.alloc(),
-                words.as_slice(),
-                &mut input,
-                &mut output,
-                &mut errors,
-            )
-        }
+        Ok(words) => match run_stock(rt, words.as_slice(), &mut errors) {
+            Ok(status) => status,
+            Err(_) => {
+                tell_fault(RunFault::Memory, &mut errors);
+                4
+            }
+        },
         Err(error) => refuse_words(&error, &mut errors),
     }
+}
+
+/// Runs the program on these words with a book of its bodies, and answers its status, where there is memory for the book.
+fn run_stock<E: Write>(
+    rt: &HostRuntime,
+    words: &[String],
+    errors: &mut Counted<E>,
+) -> Result<u8, AllocError>
+    ensures { IfOk result (λ status. status ≤ 4) }
+{
+    let Ok(book) = Book::new(stock_bodies!(rt.alloc())) else {
+        return Err(AllocError);
+    };
+    let mut input = Counted::new(rt.reader());
+    let mut output = Counted::new(io::writer(rt));
+    Ok(session(rt, rt.alloc(), words, book, &mut input, &mut output, errors))
 }
 
 /// The words that the system gives, the program's name first. An argument that is not UTF-8 is an error. No clause says

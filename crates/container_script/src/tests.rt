@@ -4,6 +4,7 @@ ghost use Rattle.std.specs.Prelude.{Some};
 use crate::complaints::refuse_words;
 use crate::files::Files;
 use crate::session::session;
+use cdi_bodies::Book;
 use cdi_container::Counted;
 use std::alloc::Global;
 use std::io;
@@ -82,7 +83,15 @@ fn run_program<I: Read + Drop>(files: &OneFile, alloc: Global, words: &[&str], i
     let mut input = Counted::new(input);
     let mut output = Counted::new(Vec::new(alloc));
     let mut errors = Counted::new(Vec::new(alloc));
-    let status = session(files, alloc, words, &mut input, &mut output, &mut errors);
+    let status = session(
+        files,
+        alloc,
+        words,
+        Book::empty(alloc),
+        &mut input,
+        &mut output,
+        &mut errors,
+    );
     Ran {
         status,
         output: output.into_inner(),
@@ -191,6 +200,7 @@ fn writer_that_fails_has_a_front_part(rt: HostRuntime) -> Result<(), Fail> {
             &OneFile(b"", ErrorKind::NotFound),
             rt.alloc(),
             words.as_slice(),
+            Book::empty(rt.alloc()),
             &mut input,
             &mut output,
             &mut errors,

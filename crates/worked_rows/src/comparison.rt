@@ -3,7 +3,9 @@ ghost use Rattle.std.specs.Prelude.{◌≡◌, ◌≢◌, ◌<◌, ◌↔◌, If
 
 use crate::difference::Difference;
 use crate::rows::{Row, rows_of};
+use cdi_bodies::Book;
 use cdi_container::{Counted, Options, run};
+use cdi_stock::stock_bodies;
 use std::alloc::{AllocError, Global};
 
 /// How many rows a page has, where each of them prints what it wants.
@@ -17,12 +19,15 @@ pub fn check_page(alloc: Global, text: &str) -> Result<usize, Difference<'_>>
     Ok(rows.len())
 }
 
-/// Runs the script of a row from an empty container, and compares.
+/// Runs the script of a row from an empty container with the program's bodies, and compares.
 fn check_row<'t>(alloc: Global, row: &Row<'t>) -> Result<(), Difference<'t>> {
     let mut reader = Counted::new(row.script.as_bytes());
     let mut writer = Counted::new(Vec::new(alloc));
     let options = Options { quiet: row.quiet };
-    if let Err(fault) = run(alloc, &mut reader, &mut writer, options) {
+    let Ok(book) = Book::new(stock_bodies!(alloc)) else {
+        return Err(Difference::OutOfMemory);
+    };
+    if let Err(fault) = run(alloc, &mut reader, &mut writer, options, book) {
         return Err(Difference::Run {
             row: row.name,
             fault,

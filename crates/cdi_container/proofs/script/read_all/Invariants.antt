@@ -1,10 +1,10 @@
 use Rattle.std.proofs.Common.{◌-◌}
 use Rattle.cdi_devices.specs.Counted.{bytes_of}
-use Rattle.cdi_container.specs.Run.{Goes}
+use Rattle.cdi_container.specs.Run.{Goes, setting_of}
 use Rattle.cdi_container.proofs.script.read_all.Given as goal
 
 abbrev pub invariant-loop-fault : goal.invariant-loop-fault
-invariant-loop-fault g l = Goes g.R.Read.remaining g.W.Write.contents 16777216 l.fn.intake.runner.quiet l.fn.reader l.fn.writer l.reader
+invariant-loop-fault g l = Goes g.R.Read.remaining g.W.Write.contents 16777216 (setting_of l.fn.intake) l.fn.reader l.fn.writer l.reader
     l.writer l.intake
 
 abbrev pub decreases-loop-fault : goal.decreases-loop-fault

@@ -6,7 +6,7 @@ use Rattle.cdi_container.proofs.Taking.{ends}
 use Rattle.cdi_container.proofs.intake.Intake.end_line.Goals as goal
 
 pub returns-then-is_empty-clause-ok : goal.returns-then-is_empty-clause-ok
-returns-then-is_empty-clause-ok c =
+returns-then-is_empty-clause-ok g c =
     let self = c.args.self.now in
     let piece = c.args.piece.now in
     let none : self.line ≡ [] = no_items _ _ refl (sym c.is_empty.ensures ∙ c.if-is_empty.true) in
@@ -14,7 +14,7 @@ returns-then-is_empty-clause-ok c =
     refl none) c.take_line.ensures.ok
 
 pub returns-clause-ok : goal.returns-clause-ok
-returns-clause-ok c =
+returns-clause-ok g c =
     let self = c.args.self.now in
     let piece = c.args.piece.now in
     let kept : ServesLine c.as_slice.result.now (self.line ++ piece) =

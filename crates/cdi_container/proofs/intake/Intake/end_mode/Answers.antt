@@ -5,6 +5,6 @@ use Rattle.cdi_container.proofs.Taking.{refuses_put}
 use Rattle.cdi_container.proofs.intake.Intake.end_mode.Goals as goal
 
 pub returns-in-InPut-clause-ok : goal.returns-in-InPut-clause-ok
-returns-in-InPut-clause-ok c = on_ok_weaker c.execute.result
+returns-in-InPut-clause-ok g c = on_ok_weaker c.execute.result
     (refuses_put c.args.self.now (record c.args.self.now { runner = c.execute.new.self }) c.in-InPut.field-0 (ap mode_seen c.in-InPut.is))
     c.execute.ensures.ok

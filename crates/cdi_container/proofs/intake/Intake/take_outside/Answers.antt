@@ -11,11 +11,11 @@ use Rattle.cdi_container.proofs.Taking.{takes_said}
 use Rattle.cdi_container.proofs.intake.Intake.take_outside.Goals as goal
 
 pub returns-in-Ok-clause-ok : goal.returns-in-Ok-clause-ok
-returns-in-Ok-clause-ok c = on_ok_weaker c.take_said.result
+returns-in-Ok-clause-ok g c = on_ok_weaker c.take_said.result
     (takes_said c.args.self.now c.take_said.new.self c.args.line.now (Ok c.in-Ok.said) c.requires c.in-Ok.ensures) c.take_said.ensures.ok
 
 pub returns-in-Err-Refused-clause-ok : goal.returns-in-Err-Refused-clause-ok
-returns-in-Err-Refused-clause-ok c =
+returns-in-Err-Refused-clause-ok g c =
     let refusal = c.in-Err-Refused.field-0-0 in
     let Is : Error → Type 0 = λ e. Answers {X = Said} (Err e) (said_of_line c.args.line.now) in
     let said : said_of_line c.args.line.now ≡ Err refusal = subst Is c.in-Err-Refused.field-0-is c.in-Err-Refused.ensures in
