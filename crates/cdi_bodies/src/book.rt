@@ -64,16 +64,6 @@ fn names_of(alloc: Global, bodies: &[Body]) -> Result<IndexSet<Ident>, BookCause
 }
 
 impl Book {
-    /// A book without bodies. It takes no memory.
-    pub fn empty(alloc: Global) -> Book
-        ensures { ⟦<Book as Bodies>⟧.promises result ≡ [] }
-    {
-        Book {
-            bodies: Vec::new(alloc),
-            names: IndexSet::new(alloc),
-        }
-    }
-
     /// A book of these bodies, which are handed back where two of them have one name, and where there is no memory.
     /// It takes memory for an entry a body, and time near their number.
     pub fn new(bodies: Vec<Body>) -> Result<Book, BookError>
@@ -108,5 +98,29 @@ impl Bodies for Book {
     fn ask(&self, name: Ident, frame: &Frame) -> Option<Act> {
         let position = self.position(name)?;
         Some(self.bodies[position].ask(frame))
+    }
+}
+
+/// A book without bodies, for whoever asks of declarations and runs nothing.
+#[derive(Clone, Copy, Debug)]
+pub struct NoBodies;
+
+impl Bodies for NoBodies {
+    ghost promises = { λ _. [] };
+
+    fn position(&self, _name: Ident) -> Option<usize> {
+        None
+    }
+
+    fn promise(&self, _name: Ident) -> Option<Promise> {
+        None
+    }
+
+    fn ask_at(&self, _position: usize, _frame: &Frame) -> Act {
+        unreachable!()
+    }
+
+    fn ask(&self, _name: Ident, _frame: &Frame) -> Option<Act> {
+        None
     }
 }

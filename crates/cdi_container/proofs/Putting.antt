@@ -39,9 +39,10 @@ pub put_step : (book : List Promised) (ds es : List Decl) (text : List ℕ) (d :
     → Answers result (answer_of_edit ds (PutEdit d))
     → OnOk result (es ≡ edited ds (PutEdit d)) → OnErr result (es ≡ ds)
     → LegalAnswer (holding book ds) (Put text) (edit_answer result) [] (holding book es)
-put_step book ds es text d (Ok u) read answer ok err =
-    (ap (refusal_of_put ds) read ∙ accepted ds (PutEdit d) u answer,
-    (refl, ap (holding book) ok ∙ sym (ap (with_put (holding book ds)) read)))
+put_step book ds es text d (Ok u) read answer ok err = (
+  ap (refusal_of_put ds) read ∙ accepted ds (PutEdit d) u answer,
+  (refl, ap (holding book) ok ∙ sym (ap (with_put (holding book ds)) read)),
+)
 put_step book ds es text d (Err errors.OutOfMemory) read answer ok err = (refl, ap (holding book) err)
 put_step book ds es text d (Err (errors.Refused r)) read answer ok err =
     (ap (refusal_of_put ds) read ∙ refused ds (PutEdit d) r answer, refl, ap (holding book) err)

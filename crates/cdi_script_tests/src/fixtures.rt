@@ -1,5 +1,5 @@
 //! What several tests share.
-use cdi_bodies::Book;
+use cdi_bodies::NoBodies;
 use cdi_container::{Counted, Options, RunFault, Summary, run};
 use std::alloc::{AllocError, Global};
 use std::fmt::Display;
@@ -32,7 +32,7 @@ pub(crate) fn outcome(alloc: Global, script: &[u8]) -> Result<(Vec<u8>, bool), F
     let mut reader = Counted::new(script);
     let mut writer = Counted::new(empty_page(alloc)?);
     let options = Options { quiet: false };
-    let summary = run(alloc, &mut reader, &mut writer, options, Book::empty(alloc))?;
+    let summary = run(alloc, &mut reader, &mut writer, options, NoBodies)?;
     Ok((writer.into_inner(), summary.refused))
 }
 

@@ -1,5 +1,5 @@
 //! Plain views over the declarations of worked rows.
-use cdi_bodies::Book;
+use cdi_bodies::NoBodies;
 use cdi_faults::{Code, Fault};
 use cdi_fixtures::{are_of, declared, lines_of, name, quals};
 use cdi_model::{Decls, Error};
@@ -167,10 +167,7 @@ F03 bean Shop class
 /// The faults of some declarations where no body is stored.
 fn found_in(alloc: Global, decls: &Decls) -> Result<Vec<Fault>, Fail> {
     let list = BeanList::of(alloc, decls)?;
-    let Ok(book) = Book::new(Vec::new(alloc)) else {
-        return Err(Fail::new("no book"));
-    };
-    Ok(faults(alloc, &mut PlainView::new(decls, &list), &book)?)
+    Ok(faults(alloc, &mut PlainView::new(decls, &list), &NoBodies)?)
 }
 
 #[test]

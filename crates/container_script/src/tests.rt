@@ -4,7 +4,7 @@ ghost use Rattle.std.specs.Prelude.{Some};
 use crate::complaints::refuse_words;
 use crate::files::Files;
 use crate::session::session;
-use cdi_bodies::Book;
+use cdi_bodies::NoBodies;
 use cdi_container::Counted;
 use std::alloc::Global;
 use std::io;
@@ -87,7 +87,7 @@ fn run_program<I: Read + Drop>(files: &OneFile, alloc: Global, words: &[&str], i
         files,
         alloc,
         words,
-        Book::empty(alloc),
+        NoBodies,
         &mut input,
         &mut output,
         &mut errors,
@@ -200,7 +200,7 @@ fn writer_that_fails_has_a_front_part(rt: HostRuntime) -> Result<(), Fail> {
             &OneFile(b"", ErrorKind::NotFound),
             rt.alloc(),
             words.as_slice(),
-            Book::empty(rt.alloc()),
+            NoBodies,
             &mut input,
             &mut output,
             &mut errors,

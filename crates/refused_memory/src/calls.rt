@@ -3,7 +3,7 @@ use crate::Difference;
 use crate::answers::{Answer, Answered, agrees};
 use Answer::{Ambiguous, Done, Faults, One, Refused, Unsatisfied};
 use Call::{Choose, Named, Put, Remove, Report};
-use cdi_bodies::Book;
+use cdi_bodies::NoBodies;
 use cdi_container::{Choice, Container};
 use cdi_fixtures::{lines_of, name, quals};
 use cdi_model::{Error, Kind, Refusal};
@@ -158,7 +158,7 @@ static LOOKS: [(Call, Answer); 27] = [
 ];
 
 /// Makes a call.
-fn make(alloc: Global, container: &mut Container<Book>, call: Call) -> Result<Answered, Error> {
+fn make(alloc: Global, container: &mut Container<NoBodies>, call: Call) -> Result<Answered, Error> {
     match call {
         Put(text) => nothing(container.put(text)),
         Remove(kind, text) => nothing(container.remove(kind, name(text)?)),
@@ -184,7 +184,7 @@ fn chosen(outcome: Result<Choice, AllocError>) -> Result<Answered, Error> {
 
 fn choose(
     alloc: Global,
-    container: &mut Container<Book>,
+    container: &mut Container<NoBodies>,
     text: &[u8],
     uses: &[&[u8]],
 ) -> Result<Answered, Error> {
@@ -192,7 +192,7 @@ fn choose(
     chosen(container.choose(name(text)?, &quals))
 }
 
-fn report(alloc: Global, container: &mut Container<Book>) -> Result<Answered, Error> {
+fn report(alloc: Global, container: &mut Container<NoBodies>) -> Result<Answered, Error> {
     let faults = container.report()?;
     Ok(Answered::Faults(lines_of(alloc, faults.as_slice())?))
 }
@@ -200,7 +200,7 @@ fn report(alloc: Global, container: &mut Container<Book>) -> Result<Answered, Er
 /// Makes the calls, and tells whether one got no memory. Where one gets none, the state is as before it, and the call
 /// is made again.
 pub fn make_calls(alloc: Global) -> Result<bool, Difference> {
-    let mut container = Container::new(alloc, Book::empty(alloc));
+    let mut container = Container::new(alloc, NoBodies);
     let mut refused = false;
     for (place, ((call, answer), (look, before))) in CALLS.iter().zip(LOOKS.iter()).enumerate() {
         let mut answered = make(alloc, &mut container, *call);

@@ -10,7 +10,7 @@ unfolding beans
 loop-decl-init c =
     let ds = c.args.decls.now in
     let same : c.into_iter-decl-iterator.result ≡ ds = c.into_iter-decl-iterator.ensures.into_iter_gives
-        ∙ c.iter-decl-items.ensures.value in
+    ∙ c.iter-decl-items.ensures.value in
     record {
       records = c.as_slice-rest.ensures ∙ c.requires ∙ ap (flat_map (entries ds)) (sym same);
       names = ap (λ list. list ++ flat_map (names_in ds) c.into_iter-decl-iterator.result) c.in_ok-list.ensures.items
