@@ -1,5 +1,5 @@
 //! Books of stored bodies.
-ghost use Rattle.std.specs.Prelude.{◌≡◌, ◌<◌, ℕ, IfSome, IfOk, IfErr, is_some, map, List, [], length, slice_get};
+ghost use Rattle.std.specs.Prelude.{◌≡◌, ◌<◌, ℕ, IfSome, IfOk, IfErr, is_some, map, List, length, slice_get};
 ghost use Rattle.cdi_bodies.specs.Within.{IsWithin};
 ghost use Rattle.cdi_bodies.specs.Book.{promise_of, position_of, AreDistinct, IsCauseFor};
 ghost use Rattle.cdi_bodies.specs.declared.promise.Promise.{Promise};
@@ -98,29 +98,5 @@ impl Bodies for Book {
     fn ask(&self, name: Ident, frame: &Frame) -> Option<Act> {
         let position = self.position(name)?;
         Some(self.bodies[position].ask(frame))
-    }
-}
-
-/// A book without bodies, for whoever asks of declarations and runs nothing.
-#[derive(Clone, Copy, Debug)]
-pub struct NoBodies;
-
-impl Bodies for NoBodies {
-    ghost promises = { λ _. [] };
-
-    fn position(&self, _name: Ident) -> Option<usize> {
-        None
-    }
-
-    fn promise(&self, _name: Ident) -> Option<Promise> {
-        None
-    }
-
-    fn ask_at(&self, _position: usize, _frame: &Frame) -> Act {
-        unreachable!()
-    }
-
-    fn ask(&self, _name: Ident, _frame: &Frame) -> Option<Act> {
-        None
     }
 }

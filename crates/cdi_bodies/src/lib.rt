@@ -9,6 +9,6 @@ mod promise;
 
 pub use act::{Act, Frame};
 pub use body::{Asks, Body};
-pub use book::{Bodies, Book, NoBodies};
+pub use book::{Bodies, Book};
 pub use book_error::{BookCause, BookError};
 pub use promise::Promise;

@@ -1,10 +1,13 @@
 //! The values that texts spell and the texts that values print, for tests and for the program `refused_memory`.
 #![tactic(auto)]
 
+mod echo;
+
 use cdi_effective::BeanId;
 use cdi_faults::Fault;
 use cdi_model::{Decls, Error, Name, Quals, Refusal};
 use cdi_text::{read_decl, read_qualifier};
+pub use echo::Echo;
 use std::alloc::{AllocError, Global};
 
 /// The name that a text is.

@@ -1,6 +1,6 @@
 //! Calls of a container, with ample memory.
-use cdi_bodies::NoBodies;
 use cdi_container::{Answer, Choice, Command, Container};
+use cdi_fixtures::Echo;
 use cdi_model::{Error, Kind, Name, Quals, Refusal};
 use std::alloc::Global;
 use std::test::Fail;
@@ -32,24 +32,24 @@ fn chose(answer: &Answer, class: &[u8]) -> bool {
 }
 
 /// A container with a type and a bean of it.
-fn stored(alloc: Global) -> Result<Container<NoBodies>, Error> {
-    let mut container = Container::new(alloc, NoBodies);
+fn stored(alloc: Global) -> Result<Container<Echo>, Error> {
+    let mut container = Container::new(alloc, Echo);
     container.put(TYPE)?;
     container.put(BEAN)?;
     Ok(container)
 }
 
-fn chooses(container: &mut Container<NoBodies>, alloc: Global) -> Result<bool, Error> {
+fn chooses(container: &mut Container<Echo>, alloc: Global) -> Result<bool, Error> {
     let choice = container.choose(name(CORNER)?, &Quals::new(alloc))?;
     Ok(is_one(&choice, CORNER))
 }
 
-fn names(container: &mut Container<NoBodies>) -> Result<bool, Error> {
+fn names(container: &mut Container<Echo>) -> Result<bool, Error> {
     let choice = container.named(name(b"corner")?)?;
     Ok(is_one(&choice, CORNER))
 }
 
-fn executes(container: &mut Container<NoBodies>) -> Result<bool, Error> {
+fn executes(container: &mut Container<Echo>) -> Result<bool, Error> {
     let command = Command::Named {
         name: name(b"corner")?,
     };
@@ -58,20 +58,20 @@ fn executes(container: &mut Container<NoBodies>) -> Result<bool, Error> {
 }
 
 /// Whether a report has so many faults.
-fn reports(container: &mut Container<NoBodies>, count: usize) -> Result<bool, Error> {
+fn reports(container: &mut Container<Echo>, count: usize) -> Result<bool, Error> {
     let faults = container.report()?;
     Ok(faults.len() == count)
 }
 
 /// Whether the type is removed once, and absent then.
-fn removes(container: &mut Container<NoBodies>) -> Result<bool, Error> {
+fn removes(container: &mut Container<Echo>) -> Result<bool, Error> {
     let corner = name(CORNER)?;
     container.remove(Kind::Type, corner)?;
     let again = container.remove(Kind::Type, corner);
     Ok(again == Err(Error::Refused(Refusal::Absent)))
 }
 
-fn answers(container: &mut Container<NoBodies>, alloc: Global) -> Result<bool, Error> {
+fn answers(container: &mut Container<Echo>, alloc: Global) -> Result<bool, Error> {
     let asked = chooses(container, alloc)? && names(container)? && executes(container)?;
     let edited = reports(container, 0)? && removes(container)?;
     // The class of the bean is not declared any more.

@@ -1,6 +1,6 @@
 //! What several tests share.
-use cdi_bodies::NoBodies;
 use cdi_container::{Counted, Options, RunFault, Summary, run};
+use cdi_fixtures::Echo;
 use std::alloc::{AllocError, Global};
 use std::fmt::Display;
 use std::process::Abort;
@@ -32,7 +32,7 @@ pub(crate) fn outcome(alloc: Global, script: &[u8]) -> Result<(Vec<u8>, bool), F
     let mut reader = Counted::new(script);
     let mut writer = Counted::new(empty_page(alloc)?);
     let options = Options { quiet: false };
-    let summary = run(alloc, &mut reader, &mut writer, options, NoBodies)?;
+    let summary = run(alloc, &mut reader, &mut writer, options, Echo)?;
     Ok((writer.into_inner(), summary.refused))
 }
 

@@ -1,7 +1,6 @@
 //! Plain views over the declarations of worked rows.
-use cdi_bodies::NoBodies;
 use cdi_faults::{Code, Fault};
-use cdi_fixtures::{are_of, declared, lines_of, name, quals};
+use cdi_fixtures::{Echo, are_of, declared, lines_of, name, quals};
 use cdi_model::{Decls, Error};
 use cdi_observe::{PlainView, View};
 use cdi_resolve::{BeanList, Choice};
@@ -167,7 +166,7 @@ F03 bean Shop class
 /// The faults of some declarations where no body is stored.
 fn found_in(alloc: Global, decls: &Decls) -> Result<Vec<Fault>, Fail> {
     let list = BeanList::of(alloc, decls)?;
-    Ok(faults(alloc, &mut PlainView::new(decls, &list), &NoBodies)?)
+    Ok(faults(alloc, &mut PlainView::new(decls, &list), &Echo)?)
 }
 
 #[test]

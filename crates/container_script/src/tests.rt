@@ -4,8 +4,8 @@ ghost use Rattle.std.specs.Prelude.{Some};
 use crate::complaints::refuse_words;
 use crate::files::Files;
 use crate::session::session;
-use cdi_bodies::NoBodies;
 use cdi_container::Counted;
+use cdi_fixtures::Echo;
 use std::alloc::Global;
 use std::io;
 use std::io::{ErrorKind, Read, Write};
@@ -87,7 +87,7 @@ fn run_program<I: Read + Drop>(files: &OneFile, alloc: Global, words: &[&str], i
         files,
         alloc,
         words,
-        NoBodies,
+        Echo,
         &mut input,
         &mut output,
         &mut errors,
@@ -200,7 +200,7 @@ fn writer_that_fails_has_a_front_part(rt: HostRuntime) -> Result<(), Fail> {
             &OneFile(b"", ErrorKind::NotFound),
             rt.alloc(),
             words.as_slice(),
-            NoBodies,
+            Echo,
             &mut input,
             &mut output,
             &mut errors,

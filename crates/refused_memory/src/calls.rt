@@ -3,9 +3,8 @@ use crate::Difference;
 use crate::answers::{Answer, Answered, agrees};
 use Answer::{Ambiguous, Done, Faults, One, Refused, Unsatisfied};
 use Call::{Choose, Named, Put, Remove, Report};
-use cdi_bodies::NoBodies;
 use cdi_container::{Choice, Container};
-use cdi_fixtures::{lines_of, name, quals};
+use cdi_fixtures::{Echo, lines_of, name, quals};
 use cdi_model::{Error, Kind, Refusal};
 use std::alloc::{AllocError, Global};
 
@@ -158,7 +157,7 @@ static LOOKS: [(Call, Answer); 27] = [
 ];
 
 /// Makes a call.
-fn make(alloc: Global, container: &mut Container<NoBodies>, call: Call) -> Result<Answered, Error> {
+fn make(alloc: Global, container: &mut Container<Echo>, call: Call) -> Result<Answered, Error> {
     match call {
         Put(text) => nothing(container.put(text)),
         Remove(kind, text) => nothing(container.remove(kind, name(text)?)),
@@ -184,7 +183,7 @@ fn chosen(outcome: Result<Choice, AllocError>) -> Result<Answered, Error> {
 
 fn choose(
     alloc: Global,
-    container: &mut Container<NoBodies>,
+    container: &mut Container<Echo>,
     text: &[u8],
     uses: &[&[u8]],
 ) -> Result<Answered, Error> {
@@ -192,7 +191,7 @@ fn choose(
     chosen(container.choose(name(text)?, &quals))
 }
 
-fn report(alloc: Global, container: &mut Container<NoBodies>) -> Result<Answered, Error> {
+fn report(alloc: Global, container: &mut Container<Echo>) -> Result<Answered, Error> {
     let faults = container.report()?;
     Ok(Answered::Faults(lines_of(alloc, faults.as_slice())?))
 }
@@ -200,7 +199,7 @@ fn report(alloc: Global, container: &mut Container<NoBodies>) -> Result<Answered
 /// Makes the calls, and tells whether one got no memory. Where one gets none, the state is as before it, and the call
 /// is made again.
 pub fn make_calls(alloc: Global) -> Result<bool, Difference> {
-    let mut container = Container::new(alloc, NoBodies);
+    let mut container = Container::new(alloc, Echo);
     let mut refused = false;
     for (place, ((call, answer), (look, before))) in CALLS.iter().zip(LOOKS.iter()).enumerate() {
         let mut answered = make(alloc, &mut container, *call);

@@ -1,7 +1,7 @@
 //! The run of a script, of which any one allocation may be refused.
 use crate::Difference;
-use cdi_bodies::NoBodies;
 use cdi_container::{Counted, Options, RunFault, run};
+use cdi_fixtures::Echo;
 use std::alloc::Global;
 
 /// A script in which a qualifier, a type, a stereotype and two beans are put, a bean is chosen by its qualifier, by its
@@ -75,7 +75,7 @@ fn run_once(alloc: Global) -> Result<bool, Difference> {
     let mut reader = Counted::new(SCRIPT);
     let mut writer = Counted::new(&mut page[..]);
     let options = Options { quiet: false };
-    let outcome = run(alloc, &mut reader, &mut writer, options, NoBodies);
+    let outcome = run(alloc, &mut reader, &mut writer, options, Echo);
     let count = writer.count() as usize;
     let written = page.get(..count).ok_or(Difference::Run)?;
     match outcome {
