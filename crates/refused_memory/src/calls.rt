@@ -65,8 +65,8 @@ const BAD_POINTS: &[u8] = br#"kind="bean"
 name="Inn"
 named="mall.x"
 points=[{name="p",type="Shop"},{name="q",type="Object"}]
-producers=[{name="make",type="Beer",body="unit",params=[{name="r",type="Rum"}]}]
-disposers=[{name="drop",type="Wine",body="unit"}]
+producers=[{name="make",type="Beer",body="echo",params=[{name="r",type="Rum"}]}]
+disposers=[{name="drop",type="Wine",body="echo"}]
 "#;
 
 /// The faults of what is declared at the end.
