@@ -1,5 +1,5 @@
 -- The declarations behind a legal history are what its accepted edits make.
-use Rattle.std.proofs.Common.{◌≡◌, ℕ, List, [], ◌∷◌, ◌++◌, refl, ap, sym, ◌∙◌, subst, None, Some, Option}
+use Rattle.std.proofs.Common.{◌≡◌, ℕ, List, [], ◌∷◌, ◌++◌, refl, ap, sym, ◌∙◌, subst, Bool, true, false, None, Some, Option}
 use Rattle.std.specs.Prelude.{Result, Ok, Err}
 use Rattle.std.specs.declared.alloc.AllocError.{AllocError}
 use Rattle.cdi_model.specs.declared.decl.Decl.{Decl}
@@ -8,11 +8,12 @@ use Rattle.cdi_model.specs.declared.edit.Edit.{Edit}
 use Rattle.cdi_model.specs.Edits.{edited, edited_all}
 use Rattle.cdi_text.specs.Reading.{decl_of}
 use Rattle.cdi_lines.specs.declared.command.Command.{Command}
-use Rattle.cdi_lines.specs.declared.command.Command.TheVariants.{Put, Remove, Choose, Named, Report, Unreadable}
+use Rattle.cdi_lines.specs.declared.command.Command.TheVariants.{Put, Remove, Choose, Named, Report, LookUp, Call, BeginRequest, EndRequest}
+use Rattle.cdi_lines.specs.declared.command.Command.TheVariants.{Stop, Unreadable}
 use Rattle.cdi_container.specs.declared.answer.Answer.{Answer}
-use Rattle.cdi_container.specs.declared.answer.Answer.TheVariants.{Done, Chosen, Reported, Refused}
-use Rattle.cdi_container.specs.History.{State, empty, Entry, History, LegalAnswer, LegalHistory, refusal_of_put, with_put, accepted_put}
-use Rattle.cdi_container.specs.History.{accepted_edit, accepted_edits, RestsOnAcceptedEdits}
+use Rattle.cdi_container.specs.declared.answer.Answer.TheVariants.{Done, Chosen, Reported, Given, Refused}
+use Rattle.cdi_container.specs.History.{State, empty, emptied, untold, History, Acts, LegalAnswer, LegalHistory, refusal_of, refusal_of_put}
+use Rattle.cdi_container.specs.History.{with_put, accepted_put, edits_of, accepted_edit, accepted_edits, RestsOnAcceptedEdits, left_unserved, runs}
 
 edited_all-append : (ds : List Decl) (es fs : List Edit) → edited_all ds (es ++ fs) ≡ edited_all (edited_all ds es) fs
 edited_all-append ds [] fs = refl
@@ -24,45 +25,58 @@ put_of_read : (old : State) (read : Result Decl Refusal) → refusal_of_put old.
 put_of_read old (Ok d) accepted = refl
 put_of_read old (Err refusal) accepted = cc
 
-step_edits : (old new : State) (command : Command) (answer : Result Answer AllocError) (trace : List Entry)
-    → LegalAnswer old command answer trace new → new.decls ≡ edited_all old.decls (accepted_edit command answer)
-step_edits old new (Put text) (Ok Done) trace h = ap (λ s. s.decls) h.1.1 ∙ put_of_read old (decl_of text) h.0
-step_edits old new (Put text) (Ok (Refused refusal)) trace h = ap (λ s. s.decls) h.2
-step_edits old new (Put text) (Ok (Chosen choice)) trace h = absurd h.1
-step_edits old new (Put text) (Ok (Reported list)) trace h = absurd h.1
-step_edits old new (Put text) (Err error) trace h = ap (λ s. s.decls) h.1
-step_edits old new (Remove kind name) (Ok Done) trace h = ap (λ s. s.decls) h.1.1
-step_edits old new (Remove kind name) (Ok (Refused refusal)) trace h = ap (λ s. s.decls) h.2
-step_edits old new (Remove kind name) (Ok (Chosen choice)) trace h = absurd h.1
-step_edits old new (Remove kind name) (Ok (Reported list)) trace h = absurd h.1
-step_edits old new (Remove kind name) (Err error) trace h = ap (λ s. s.decls) h.1
-step_edits old new (Choose t quals) (Ok Done) trace h = absurd h.1
-step_edits old new (Choose t quals) (Ok (Refused refusal)) trace h = ap (λ s. s.decls) h.2
-step_edits old new (Choose t quals) (Ok (Chosen choice)) trace h = ap (λ s. s.decls) h.1.2
-step_edits old new (Choose t quals) (Ok (Reported list)) trace h = absurd h.1
-step_edits old new (Choose t quals) (Err error) trace h = ap (λ s. s.decls) h.1
-step_edits old new (Named name) (Ok Done) trace h = absurd h.1
-step_edits old new (Named name) (Ok (Refused refusal)) trace h = ap (λ s. s.decls) h.2
-step_edits old new (Named name) (Ok (Chosen choice)) trace h = ap (λ s. s.decls) h.1.2
-step_edits old new (Named name) (Ok (Reported list)) trace h = absurd h.1
-step_edits old new (Named name) (Err error) trace h = ap (λ s. s.decls) h.1
-step_edits old new Report (Ok Done) trace h = absurd h.1
-step_edits old new Report (Ok (Refused refusal)) trace h = ap (λ s. s.decls) h.2
-step_edits old new Report (Ok (Chosen choice)) trace h = absurd h.1
-step_edits old new Report (Ok (Reported list)) trace h = ap (λ s. s.decls) h.1.2
-step_edits old new Report (Err error) trace h = ap (λ s. s.decls) h.1
-step_edits old new Unreadable (Ok Done) trace h = absurd h.1
-step_edits old new Unreadable (Ok (Refused refusal)) trace h = ap (λ s. s.decls) h.2
-step_edits old new Unreadable (Ok (Chosen choice)) trace h = absurd h.1
-step_edits old new Unreadable (Ok (Reported list)) trace h = absurd h.1
-step_edits old new Unreadable (Err error) trace h = ap (λ s. s.decls) h.1
+-- a command that was carried out leaves what its edits make, and one that does not answer `Done` makes none
+pub record LeavesEdited (old : State) (command : Command) (answer : Answer) (new : State) : Type 0 where
+  pub decls : new.decls ≡ edited_all old.decls (accepted_edit command (Ok answer))
+
+decls_alike : (old new other : State) → new ≡ other → other.decls ≡ old.decls → new.decls ≡ old.decls
+decls_alike old new other h k = ap (λ s. s.decls) h ∙ k
+
+acts_edits : (old new : State) (command : Command) (answer : Answer) → refusal_of old command ≡ None → Acts old command answer new
+    → new.decls ≡ edited_all old.decls (accepted_edit command (Ok answer))
+acts_edits old new (Put text) answer accepted h =
+    subst (λ a. new.decls ≡ edited_all old.decls (accepted_edit (Put text) (Ok a))) (sym h.0)
+    (ap (λ s. s.decls) h.1 ∙ put_of_read old (decl_of text) accepted)
+acts_edits old new (Remove kind name) answer accepted h =
+    subst (λ a. new.decls ≡ edited_all old.decls (accepted_edit (Remove kind name) (Ok a))) (sym h.0) (ap (λ s. s.decls) h.1)
+acts_edits old new (Choose t quals) answer accepted h =
+    subst (λ a. new.decls ≡ edited_all old.decls (accepted_edit (Choose t quals) (Ok a))) (sym h.0) (ap (λ s. s.decls) h.1)
+acts_edits old new (Named name) answer accepted h =
+    subst (λ a. new.decls ≡ edited_all old.decls (accepted_edit (Named name) (Ok a))) (sym h.0) (ap (λ s. s.decls) h.1)
+acts_edits old new Report answer accepted h =
+    subst (λ a. new.decls ≡ edited_all old.decls (accepted_edit Report (Ok a))) (sym h.0) (ap (λ s. s.decls) h.1)
+acts_edits old new (LookUp t quals) answer accepted h =
+    subst (λ a. new.decls ≡ edited_all old.decls (accepted_edit (LookUp t quals) (Ok a))) (sym h.given) (ap (λ s. s.decls) h.rest)
+acts_edits old new (Call method arg t quals) answer accepted h =
+    subst (λ a. new.decls ≡ edited_all old.decls (accepted_edit (Call method arg t quals) (Ok a))) (sym h.given)
+    (ap (λ s. s.decls) h.rest)
+acts_edits old new BeginRequest answer accepted h =
+    subst (λ a. new.decls ≡ edited_all old.decls (accepted_edit BeginRequest (Ok a))) (sym h.0) (ap (λ s. s.decls) h.1)
+acts_edits old new EndRequest answer accepted h =
+    subst (λ a. new.decls ≡ edited_all old.decls (accepted_edit EndRequest (Ok a))) (sym h.done) (ap (λ s. s.decls) h.rest)
+acts_edits old new Stop answer accepted h =
+    subst (λ a. new.decls ≡ edited_all old.decls (accepted_edit Stop (Ok a))) (sym h.done) (ap (λ s. s.decls) h.rest)
+acts_edits old new Unreadable answer accepted h = absurd h
+
+unserved_decls : (old : State) (b : Bool) → (if b then emptied old else old).decls ≡ old.decls
+unserved_decls old true = refl
+unserved_decls old false = refl
+
+step_edits : (old new : State) (command : Command) (answer : Result Answer AllocError)
+    → LegalAnswer old command answer new → new.decls ≡ edited_all old.decls (accepted_edit command answer)
+step_edits old new command (Ok Done) h = acts_edits old new command Done h.0 h.1
+step_edits old new command (Ok (Chosen choice)) h = acts_edits old new command (Chosen choice) h.0 h.1
+step_edits old new command (Ok (Reported list)) h = acts_edits old new command (Reported list) h.0 h.1
+step_edits old new command (Ok (Given outcome)) h = acts_edits old new command (Given outcome) h.0 h.1
+step_edits old new command (Ok (Refused refusal)) h = ap (λ s. s.decls) h.1
+step_edits old new command (Err error) h = ap (λ s. s.decls) h ∙ unserved_decls old (runs command)
 
 history_edits : (old new : State) (history : History) → LegalHistory old history new
     → new.decls ≡ edited_all old.decls (accepted_edits history)
 history_edits old new [] h = ap (λ s. s.decls) h
 history_edits old new (step ∷ steps) h =
     history_edits h.0 new steps h.2 ∙ ap (λ ds. edited_all ds (accepted_edits steps))
-    (step_edits old h.0 step.command step.answer step.trace h.1)
+    (step_edits old h.0 step.command step.answer h.1.answered)
     ∙ sym (edited_all-append old.decls (accepted_edit step.command step.answer) (accepted_edits steps))
 
 pub rests_on_accepted_edits : (history : History) → RestsOnAcceptedEdits history

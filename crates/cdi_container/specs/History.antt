@@ -1,21 +1,34 @@
 -- The state of a container, and its legal steps and histories.
-use Rattle.std.specs.Prelude.{◌≡◌, List, [], ◌∷◌, ◌++◌, Option, None, Some, Result, Ok, Err}
+use Rattle.std.specs.Prelude.{◌≡◌, Bool, true, false, List, [], ◌∷◌, ◌++◌, Option, None, Some, Result, Ok, Err, if◌then◌else◌}
 use Rattle.std.specs.declared.alloc.AllocError.{AllocError}
 use Rattle.cdi_model.specs.declared.decl.Decl.{Decl}
+use Rattle.cdi_model.specs.declared.outcome.Outcome.{Outcome}
+use Rattle.cdi_model.specs.declared.refusal.Error.{Error}
+use Rattle.cdi_model.specs.declared.refusal.Error.TheVariants as errors
 use Rattle.cdi_model.specs.declared.refusal.Refusal.{Refusal}
-use Rattle.cdi_model.specs.declared.refusal.Refusal.TheVariants.{BadCommand}
+use Rattle.cdi_model.specs.declared.refusal.Refusal.TheVariants.{BadCommand, RequestActive, NoRequest}
 use Rattle.cdi_model.specs.declared.edit.Edit.{Edit}
 use Rattle.cdi_model.specs.declared.edit.Edit.TheVariants.{Put as PutEdit, Remove as RemoveEdit}
 use Rattle.cdi_model.specs.Edits.{edited, edited_all, refusal_of_edit}
 use Rattle.cdi_bodies.specs.Book.{Promised}
+use Rattle.cdi_contexts.specs.Standing.{Standing, opened, cleared}
+use Rattle.cdi_scene.specs.declared.scene.Scene.{Scene}
+use Rattle.cdi_legal.specs.LegalRun.{LegalRun, LegalRequestEnd, LegalEnd}
+use Rattle.cdi_legal.specs.declared.entry.Entry.{Entry}
 use Rattle.cdi_text.specs.Reading.{decl_of}
 use Rattle.cdi_effective.specs.Beans.{beans}
 use Rattle.cdi_resolve.specs.Choices.{chosen, chosen_by_name}
+use Rattle.cdi_staging.specs.Naming.{names_of}
+use Rattle.cdi_staging.specs.Staged.{scene_of}
+use Rattle.cdi_staging.specs.declared.names.Names.{Names}
 use Rattle.cdi_validate.specs.Faults.{faults}
 use Rattle.cdi_lines.specs.declared.command.Command.{Command}
-use Rattle.cdi_lines.specs.declared.command.Command.TheVariants.{Put, Remove, Choose, Named, Report, Unreadable}
+use Rattle.cdi_lines.specs.declared.command.Command.TheVariants.{Put, Remove, Choose, Named, Report, LookUp, Call, BeginRequest, EndRequest}
+use Rattle.cdi_lines.specs.declared.command.Command.TheVariants.{Stop, Unreadable}
 use Rattle.cdi_container.specs.declared.answer.Answer.{Answer}
-use Rattle.cdi_container.specs.declared.answer.Answer.TheVariants.{Done, Chosen, Reported, Refused}
+use Rattle.cdi_container.specs.declared.answer.Answer.TheVariants.{Done, Chosen, Reported, Given, Refused}
+use Rattle.cdi_container.specs.Asked.{Asked, to_look, to_call, aim_of, run_at}
+use Rattle.cdi_container.specs.declared.asked.Aim.{Aim}
 
 -- what a container holds
 pub record State : Type 0 where
@@ -23,34 +36,57 @@ pub record State : Type 0 where
   pub decls : List Decl
   -- the stored bodies, which never change
   pub book : List Promised
-
-abbrev pub empty : List Promised → State
-empty book = record { decls = []; book = book }
-
--- what a trace tells; nothing yet makes an instance
-pub data Entry : Type 0 where
-
-pub record Step : Type 0 where
-  pub command : Command
-  -- none where memory ran out
-  pub answer : Result Answer AllocError
+  -- the live instances, what they hold, how many numbers were given, and whether a request is active
+  pub standing : Standing
+  -- the entries of the last command that was answered
   pub trace : List Entry
 
-abbrev pub History : Type 0
-History = List Step
+abbrev pub empty : List Promised → State
+empty book = record { decls = []; book = book; standing = cleared 0; trace = [] }
 
+abbrev pub scene : State → Scene
+scene state = scene_of state.decls state.book
+
+-- the same, behind a command that makes, calls and destroys nothing
+abbrev pub untold : State → State
+untold state = record state { trace = [] }
+
+-- no instance is live and no request active; numbers go on
+abbrev pub emptied : State → State
+emptied state = record state { standing = cleared state.standing.given; trace = [] }
+
+-- an accepted edit loses both contexts and the request (profile)
 abbrev pub with_edit : State → Edit → State
-with_edit state edit = record state { decls = edited state.decls edit }
+with_edit state edit = record state {
+  decls = edited state.decls edit;
+  standing = cleared state.standing.given;
+  trace = [];
+}
 
 -- the state behind a put of what a text spells
 abbrev pub with_put : State → Result Decl Refusal → State
 with_put state (Ok d) = with_edit state (PutEdit d)
-with_put state (Err refusal) = state
+with_put state (Err refusal) = untold state
+
+abbrev pub with_request : State → State
+with_request state = record state { standing = opened state.standing; trace = [] }
+
+-- ---- refusals
 
 -- the refusal of a put of what a text spells
 abbrev pub refusal_of_put : List Decl → Result Decl Refusal → Option Refusal
 refusal_of_put ds (Ok d) = refusal_of_edit ds (PutEdit d)
 refusal_of_put ds (Err refusal) = Some refusal
+
+abbrev pub refusal_of_begin : Standing → Option Refusal
+refusal_of_begin standing = if standing.active then Some RequestActive else None
+
+abbrev pub refusal_of_end : Standing → Option Refusal
+refusal_of_end standing = if standing.active then None else Some NoRequest
+
+abbrev pub refusal_in : {X : Type 0} → Result X Refusal → Option Refusal
+refusal_in (Ok x) = None
+refusal_in (Err refusal) = Some refusal
 
 -- the first refusal whose condition holds
 abbrev pub refusal_of : State → Command → Option Refusal
@@ -59,38 +95,120 @@ refusal_of state (Remove kind name) = refusal_of_edit state.decls (RemoveEdit ki
 refusal_of state (Choose t quals) = None
 refusal_of state (Named name) = None
 refusal_of state Report = None
+refusal_of state (LookUp t quals) = refusal_in (aim_of state.decls state.book (to_look t quals))
+refusal_of state (Call method arg t quals) = refusal_in (aim_of state.decls state.book (to_call method arg t quals))
+refusal_of state BeginRequest = refusal_of_begin state.standing
+refusal_of state EndRequest = refusal_of_end state.standing
+refusal_of state Stop = None
 refusal_of state Unreadable = Some BadCommand
 
--- what a command that isn't refused answers, and the state and the trace that it leaves
-abbrev pub Acts : State → Command → Answer → List Entry → State → Type 0
-Acts old (Put text) Done trace new = (trace ≡ []) × (new ≡ with_put old (decl_of text))
-Acts old (Remove kind name) Done trace new = (trace ≡ []) × (new ≡ with_edit old (RemoveEdit kind name))
-Acts old (Choose t quals) (Chosen choice) trace new = (choice ≡ chosen old.decls (beans old.decls) t quals) × (trace ≡ []) × (new ≡ old)
-Acts old (Named name) (Chosen choice) trace new = (choice ≡ chosen_by_name (beans old.decls) name) × (trace ≡ []) × (new ≡ old)
-Acts old Report (Reported list) trace new = (list ≡ faults old.decls old.book) × (trace ≡ []) × (new ≡ old)
-Acts old command answer trace new = ⊥
+-- ---- what commands do
 
--- A refusal is the first whose condition holds. It changes nothing, and neither does want of memory.
-abbrev pub LegalAnswer : State → Command → Result Answer AllocError → List Entry → State → Type 0
-LegalAnswer old command (Ok (Refused refusal)) trace new = (refusal_of old command ≡ Some refusal) × (trace ≡ []) × (new ≡ old)
-LegalAnswer old command (Ok answer) trace new = (refusal_of old command ≡ None) × Acts old command answer trace new
-LegalAnswer old command (Err error) trace new = (trace ≡ []) × (new ≡ old)
+-- nothing but what stands and the trace is changed
+abbrev pub IsRunFrom : State → State → Type 0
+IsRunFrom old new = new ≡ record old { standing = new.standing; trace = new.trace }
 
-abbrev pub LegalStep : State → Step → State → Type 0
-LegalStep old step new = LegalAnswer old step.command step.answer step.trace new
+-- the look-up or the call has a legal run with this outcome
+pub record RunsFrom (old : State) (asked : Asked) (answer : Answer) (new : State) : Type 0 where
+  pub aim : Aim
+  pub leads : aim_of old.decls old.book asked ≡ Ok aim
+  pub outcome : Outcome
+  pub given : answer ≡ Given outcome
+  pub legal : LegalRun (scene old) (run_at aim) old.standing new.trace outcome new.standing
+  pub rest : IsRunFrom old new
+
+-- the request context ends legally, and then no request is active
+pub record EndsRequest (old : State) (answer : Answer) (new : State) : Type 0 where
+  pub done : answer ≡ Done
+  pub legal : LegalRequestEnd (scene old) old.standing new.trace new.standing
+  pub rest : IsRunFrom old new
+
+-- both contexts end legally, and then no request is active
+pub record EndsContexts (old : State) (answer : Answer) (new : State) : Type 0 where
+  pub done : answer ≡ Done
+  pub legal : LegalEnd (scene old) old.standing new.trace new.standing
+  pub rest : IsRunFrom old new
+
+-- what a command that isn't refused answers, and the state that it leaves
+abbrev pub Acts : State → Command → Answer → State → Type 0
+Acts old (Put text) answer new = (answer ≡ Done) × (new ≡ with_put old (decl_of text))
+Acts old (Remove kind name) answer new = (answer ≡ Done) × (new ≡ with_edit old (RemoveEdit kind name))
+Acts old (Choose t quals) answer new = (answer ≡ Chosen (chosen old.decls (beans old.decls) t quals)) × (new ≡ untold old)
+Acts old (Named name) answer new = (answer ≡ Chosen (chosen_by_name (beans old.decls) name)) × (new ≡ untold old)
+Acts old Report answer new = (answer ≡ Reported (faults old.decls old.book)) × (new ≡ untold old)
+Acts old (LookUp t quals) answer new = RunsFrom old (to_look t quals) answer new
+Acts old (Call method arg t quals) answer new = RunsFrom old (to_call method arg t quals) answer new
+Acts old BeginRequest answer new = (answer ≡ Done) × (new ≡ with_request old)
+Acts old EndRequest answer new = EndsRequest old answer new
+Acts old Stop answer new = EndsContexts old answer new
+Acts old Unreadable answer new = ⊥
+
+-- what a look-up or a call answers, and leaves
+abbrev pub UsesFrom : State → Asked → Result Outcome Error → State → Type 0
+UsesFrom old asked (Ok outcome) new = RunsFrom old asked (Given outcome) new
+UsesFrom old asked (Err errors.OutOfMemory) new = new ≡ emptied old
+UsesFrom old asked (Err (errors.Refused refusal)) new = (aim_of old.decls old.book asked ≡ Err refusal) × (new ≡ untold old)
+
+-- the command makes, calls or destroys instances
+abbrev pub runs : Command → Bool
+runs (LookUp t quals) = true
+runs (Call method arg t quals) = true
+runs EndRequest = true
+runs Stop = true
+runs command = false
+
+-- what want of memory leaves: of a run no instance and no request, and otherwise all as it was
+abbrev pub left_unserved : State → Command → State
+left_unserved old command = if runs command then emptied old else old
+
+-- A refusal is the first whose condition holds, and changes nothing.
+abbrev pub LegalAnswer : State → Command → Result Answer AllocError → State → Type 0
+LegalAnswer old command (Ok (Refused refusal)) new = (refusal_of old command ≡ Some refusal) × (new ≡ untold old)
+LegalAnswer old command (Ok answer) new = (refusal_of old command ≡ None) × Acts old command answer new
+LegalAnswer old command (Err error) new = new ≡ left_unserved old command
+
+-- ---- steps
+
+pub record Step : Type 0 where
+  pub command : Command
+  -- none where memory ran out
+  pub answer : Result Answer AllocError
+  pub trace : List Entry
+  -- what the trace is told by
+  pub names : Names
+
+abbrev pub History : Type 0
+History = List Step
+
+-- the trace of a step is what is shown behind it, and nothing where memory ran out
+abbrev pub trace_behind : Result Answer AllocError → State → List Entry
+trace_behind (Ok answer) new = new.trace
+trace_behind (Err error) new = []
+
+pub record LegalStep (old : State) (step : Step) (new : State) : Type 0 where
+  pub answered : LegalAnswer old step.command step.answer new
+  pub trace : step.trace ≡ trace_behind step.answer new
+  pub names : step.names ≡ names_of old.decls
 
 abbrev pub LegalHistory : State → History → State → Type 0
 LegalHistory old [] new = new ≡ old
 LegalHistory old (step ∷ steps) new = (mid : State) × LegalStep old step mid × LegalHistory mid steps new
 
--- the edit that a step makes, if it is an accepted one
+-- ---- what declarations rest on
+
 abbrev pub accepted_put : Result Decl Refusal → List Edit
 accepted_put (Ok d) = PutEdit d ∷ []
 accepted_put (Err refusal) = []
 
+-- the edit that a command makes where it is accepted
+abbrev pub edits_of : Command → List Edit
+edits_of (Put text) = accepted_put (decl_of text)
+edits_of (Remove kind name) = RemoveEdit kind name ∷ []
+edits_of command = []
+
+-- the edit that a step makes, if it is an accepted one
 abbrev pub accepted_edit : Command → Result Answer AllocError → List Edit
-accepted_edit (Put text) (Ok Done) = accepted_put (decl_of text)
-accepted_edit (Remove kind name) (Ok Done) = RemoveEdit kind name ∷ []
+accepted_edit command (Ok Done) = edits_of command
 accepted_edit command answer = []
 
 -- the accepted edits of a history, in order

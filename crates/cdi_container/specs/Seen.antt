@@ -1,10 +1,12 @@
 -- The steps of the calls of a container.
-use Rattle.std.specs.Prelude.{ℕ, List, [], Result, Ok, Err, alloc_error}
+use Rattle.std.specs.Prelude.{ℕ, List, Option, None, Some, Result, Ok, Err, alloc_error}
 use Rattle.std.specs.declared.alloc.AllocError.{AllocError}
 use Rattle.std.specs.declared.alloc.Global.{Global}
 use Rattle.std.specs.declared.vec.Vec.{Vec}
 use Rattle.cdi_model.specs.declared.decl.Decl.{Decl}
 use Rattle.cdi_model.specs.declared.decl.Kind.{Kind}
+use Rattle.cdi_model.specs.declared.outcome.Outcome.{Outcome}
+use Rattle.cdi_model.specs.declared.outcome.Val.{Val}
 use Rattle.cdi_model.specs.declared.quals.Qual.{Qual}
 use Rattle.cdi_model.specs.declared.refusal.Error.{Error}
 use Rattle.cdi_model.specs.declared.refusal.Error.TheVariants as errors
@@ -14,21 +16,41 @@ use Rattle.cdi_model.specs.Edits.{answer_of_edit}
 use Rattle.cdi_resolve.specs.declared.choice.Choice.{Choice}
 use Rattle.cdi_faults.specs.declared.fault.Fault.{Fault}
 use Rattle.cdi_lines.specs.declared.command.Command.{Command}
-use Rattle.cdi_lines.specs.declared.command.Command.TheVariants.{Put, Remove, Choose, Named, Report}
+use Rattle.cdi_lines.specs.declared.command.Command.TheVariants.{Put, Remove, Choose, Named, Report, LookUp, Call, BeginRequest, EndRequest, Stop}
 use Rattle.cdi_container.specs.declared.answer.Answer.{Answer}
-use Rattle.cdi_container.specs.declared.answer.Answer.TheVariants.{Done, Chosen, Reported, Refused}
-use Rattle.cdi_container.specs.History.{State, LegalStep}
+use Rattle.cdi_container.specs.declared.answer.Answer.TheVariants.{Done, Chosen, Reported, Given, Refused}
+use Rattle.cdi_container.specs.Asked.{Asked, Message, to_look, to_call}
+use Rattle.cdi_container.specs.History.{State, LegalAnswer}
 
 -- what a put of what a text spells answers
 abbrev pub answer_of_put : List Decl → Result Decl Refusal → Result (Unit {0}) Refusal
 answer_of_put ds (Ok d) = answer_of_edit ds (PutEdit d)
 answer_of_put ds (Err refusal) = Err refusal
 
+-- what a call that is refused for this reason, if for one, answers, where it gives no value
+abbrev pub done_or : Option Refusal → Result (Unit {0}) Refusal
+done_or None = Ok tt
+done_or (Some refusal) = Err refusal
+
+-- the answer of a call that was refused or found no memory
+abbrev pub failed_answer : Error → Result Answer AllocError
+failed_answer errors.OutOfMemory = Err alloc_error
+failed_answer (errors.Refused refusal) = Ok (Refused refusal)
+
 -- the answer of a call that gives no value
 abbrev pub edit_answer : Result (Unit {0}) Error → Result Answer AllocError
 edit_answer (Ok u) = Ok Done
-edit_answer (Err errors.OutOfMemory) = Err alloc_error
-edit_answer (Err (errors.Refused refusal)) = Ok (Refused refusal)
+edit_answer (Err error) = failed_answer error
+
+-- the answer of a call that gives no value and takes no memory
+abbrev pub plain_answer : Result (Unit {0}) Refusal → Result Answer AllocError
+plain_answer (Ok u) = Ok Done
+plain_answer (Err refusal) = Ok (Refused refusal)
+
+-- the answer of a call that gives no value and is never refused
+abbrev pub end_answer : Result (Unit {0}) AllocError → Result Answer AllocError
+end_answer (Ok u) = Ok Done
+end_answer (Err error) = Err error
 
 -- the answer of a call that gives a choice and is never refused
 abbrev pub choice_answer : Result Choice AllocError → Result Answer AllocError
@@ -40,9 +62,14 @@ abbrev pub report_answer : Result (Vec Fault Global) AllocError → Result Answe
 report_answer (Ok list) = Ok (Reported list.items)
 report_answer (Err error) = Err error
 
--- a call is a legal step, with an empty trace, from the state that the container held to the one that it holds
+-- the answer of a look-up or a call
+abbrev pub outcome_answer : Result Outcome Error → Result Answer AllocError
+outcome_answer (Ok outcome) = Ok (Given outcome)
+outcome_answer (Err error) = failed_answer error
+
+-- a call is a legal step, whose trace the container shows afterwards, from the state that it held to the one that it holds
 abbrev pub IsStep : State → Command → Result Answer AllocError → State → Type 0
-IsStep old command answer new = LegalStep old (record { command = command; answer = answer; trace = [] }) new
+IsStep old command answer new = LegalAnswer old command answer new
 
 abbrev pub PutStep : State → List ℕ → Result (Unit {0}) Error → State → Type 0
 PutStep old text result new = IsStep old (Put text) (edit_answer result) new
@@ -58,3 +85,18 @@ NamedStep old name result new = IsStep old (Named name) (choice_answer result) n
 
 abbrev pub ReportStep : State → Result (Vec Fault Global) AllocError → State → Type 0
 ReportStep old result new = IsStep old Report (report_answer result) new
+
+abbrev pub LookUpStep : State → List ℕ → List Qual → Result Outcome Error → State → Type 0
+LookUpStep old t quals result new = IsStep old (LookUp t quals) (outcome_answer result) new
+
+abbrev pub CallStep : State → List ℕ → Val → List ℕ → List Qual → Result Outcome Error → State → Type 0
+CallStep old method arg t quals result new = IsStep old (Call method arg t quals) (outcome_answer result) new
+
+abbrev pub BeginStep : State → Result (Unit {0}) Refusal → State → Type 0
+BeginStep old result new = IsStep old BeginRequest (plain_answer result) new
+
+abbrev pub EndStep : State → Result (Unit {0}) Error → State → Type 0
+EndStep old result new = IsStep old EndRequest (edit_answer result) new
+
+abbrev pub StopStep : State → Result (Unit {0}) AllocError → State → Type 0
+StopStep old result new = IsStep old Stop (end_answer result) new

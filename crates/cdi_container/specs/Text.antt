@@ -3,14 +3,22 @@ use Rattle.std.specs.Prelude.{ℕ, Bool, true, false, List, [], ◌∷◌, ◌++
 use Rattle.cdi_model.specs.declared.refusal.Refusal.{Refusal}
 use Rattle.cdi_model.specs.declared.refusal.Refusal.TheVariants.{TooLong, NotToml, UnknownKind, UnknownKey, MissingKey, WrongKind, BadName}
 use Rattle.cdi_model.specs.declared.refusal.Refusal.TheVariants.{Twice, ListTooLong, TooMany, Absent, BadCommand}
+use Rattle.cdi_model.specs.declared.refusal.Refusal.TheVariants.{RequestActive, NoRequest, Faulty, UnknownName, NoMethod}
+use Rattle.cdi_model.specs.declared.refusal.Refusal.TheVariants.{Unsatisfied, Ambiguous}
 use Rattle.cdi_resolve.specs.ChoiceText.{text_of_choice}
 use Rattle.cdi_faults.specs.declared.fault.Fault.{Fault}
 use Rattle.cdi_faults.specs.FaultText.{text_of_fault}
 use Rattle.std.specs.declared.alloc.AllocError.{AllocError}
 use Rattle.cdi_model.specs.Bytes.{feed}
 use Rattle.cdi_container.specs.declared.answer.Answer.{Answer}
-use Rattle.cdi_container.specs.declared.answer.Answer.TheVariants.{Done, Chosen, Reported, Refused}
-use Rattle.cdi_container.specs.History.{Entry, Step, History}
+use Rattle.cdi_container.specs.declared.answer.Answer.TheVariants.{Done, Chosen, Reported, Given, Refused}
+use Rattle.cdi_legal.specs.declared.entry.Entry.{Entry}
+use Rattle.cdi_model.specs.OutcomeText.{text_of_val, text_of_failure}
+use Rattle.cdi_model.specs.declared.outcome.Outcome.{Outcome}
+use Rattle.cdi_model.specs.declared.outcome.Outcome.TheVariants.{Value, Failed}
+use Rattle.cdi_staging.specs.declared.names.Names.{Names}
+use Rattle.cdi_trace.specs.TraceText.{text_of_entries}
+use Rattle.cdi_container.specs.History.{Step, History}
 
 -- the code and the word of a refusal
 abbrev pub word_of : Refusal → List ℕ
@@ -26,6 +34,18 @@ word_of ListTooLong = codes "E09 ListTooLong"
 word_of TooMany = codes "E10 TooMany"
 word_of Absent = codes "E11 Absent"
 word_of BadCommand = codes "E20 BadCommand"
+word_of RequestActive = codes "E40 RequestActive"
+word_of NoRequest = codes "E41 NoRequest"
+word_of (Faulty count) = codes "E50 Faulty"
+word_of UnknownName = codes "E51 UnknownName"
+word_of Unsatisfied = codes "E52 Unsatisfied"
+word_of Ambiguous = codes "E53 Ambiguous"
+word_of NoMethod = codes "E54 NoMethod"
+
+-- how many faults there are, where these are the reason
+abbrev pub count_of : Refusal → List ℕ
+count_of (Faulty count) = codes " " ++ decimal count
+count_of refusal = []
 
 -- each fault on a line of its own
 abbrev pub text_of_faults : List Fault → List ℕ
@@ -35,27 +55,31 @@ text_of_faults list = flat_map (λ fault. feed ∷ text_of_fault fault) list
 abbrev pub text_of_report : List Fault → List ℕ
 text_of_report list = codes "faults " ++ decimal (length list) ++ text_of_faults list
 
+-- a value, or why there is none
+abbrev pub words_of_outcome : Outcome → List ℕ
+words_of_outcome (Value v) = codes "value " ++ text_of_val v
+words_of_outcome (Failed failure) = codes "failed " ++ text_of_failure failure
+
 -- what an answer prints before the end of its line
 abbrev pub words_of_answer : Answer → List ℕ
 words_of_answer Done = codes "ok"
 words_of_answer (Chosen choice) = text_of_choice choice
 words_of_answer (Reported list) = text_of_report list
-words_of_answer (Refused refusal) = codes "refused " ++ word_of refusal
+words_of_answer (Given outcome) = words_of_outcome outcome
+words_of_answer (Refused refusal) = codes "refused " ++ word_of refusal ++ count_of refusal
 
 -- want of memory ends a script and prints nothing
 abbrev pub text_of_answer : Result Answer AllocError → List ℕ
 text_of_answer (Ok answer) = words_of_answer answer ++ feed ∷ []
 text_of_answer (Err error) = []
 
-abbrev pub text_of_entry : Entry → List ℕ
-text_of_entry entry = elim entry [ ]
+-- the entries of a trace, told by these names, unless they are left out
+abbrev pub text_of_trace : Bool → Names → List Entry → List ℕ
+text_of_trace quiet names trace = if quiet then [] else text_of_entries names trace
 
-abbrev pub text_of_trace : Bool → List Entry → List ℕ
-text_of_trace quiet trace = if quiet then [] else flat_map text_of_entry trace
-
--- a command's trace, unless it is left out, and then its answer
+-- a command's trace, and then its answer
 abbrev pub text_of_step : Bool → Step → List ℕ
-text_of_step quiet step = text_of_trace quiet step.trace ++ text_of_answer step.answer
+text_of_step quiet step = text_of_trace quiet step.names step.trace ++ text_of_answer step.answer
 
 abbrev pub text_of : Bool → History → List ℕ
 text_of quiet history = flat_map (text_of_step quiet) history

@@ -1,23 +1,36 @@
 //! What a command answers.
 ghost use Rattle.std.specs.Prelude.{◌≡◌};
-ghost use Rattle.cdi_container.specs.Seen.{edit_answer, choice_answer, report_answer};
+ghost use Rattle.cdi_container.specs.Seen.{failed_answer, edit_answer, plain_answer, end_answer};
+ghost use Rattle.cdi_container.specs.Seen.{choice_answer, report_answer, outcome_answer};
 
 use cdi_faults::Fault;
-use cdi_model::{Error, Refusal, Seq};
+use cdi_model::{Error, Outcome, Refusal, Seq};
 use cdi_resolve::Choice;
 use std::alloc::AllocError;
 
 /// What a command answers for which there was memory.
 #[derive(Debug, Drop)]
 pub enum Answer {
-    /// An edit is done.
+    /// An edit, or a change of a context, is done.
     Done,
     /// The bean that was asked for, or why there is none.
     Chosen(Choice),
     /// The faults of the deployment, in their order.
     Reported(Seq<Fault>),
+    /// What a look-up or a call gave: a value or a failure.
+    Given(Outcome),
     /// The command is refused and has changed nothing.
     Refused(Refusal),
+}
+
+/// The answer of a call that was refused or found no memory.
+fn answer_of_failure(error: Error) -> Result<Answer, AllocError>
+    ensures { result ≡ failed_answer error }
+{
+    match error {
+        Error::OutOfMemory => Err(AllocError),
+        Error::Refused(refusal) => Ok(Answer::Refused(refusal)),
+    }
 }
 
 /// The answer of a call that gives no value.
@@ -26,8 +39,27 @@ pub(crate) fn answer_of_edit(outcome: Result<(), Error>) -> Result<Answer, Alloc
 {
     match outcome {
         Ok(()) => Ok(Answer::Done),
-        Err(Error::OutOfMemory) => Err(AllocError),
-        Err(Error::Refused(refusal)) => Ok(Answer::Refused(refusal)),
+        Err(error) => answer_of_failure(error),
+    }
+}
+
+/// The answer of a call that gives no value and takes no memory.
+pub(crate) fn answer_of_begin(outcome: Result<(), Refusal>) -> Result<Answer, AllocError>
+    ensures { result ≡ plain_answer outcome }
+{
+    match outcome {
+        Ok(()) => Ok(Answer::Done),
+        Err(refusal) => Ok(Answer::Refused(refusal)),
+    }
+}
+
+/// The answer of a call that gives no value and is never refused.
+pub(crate) fn answer_of_stop(outcome: Result<(), AllocError>) -> Result<Answer, AllocError>
+    ensures { result ≡ end_answer outcome }
+{
+    match outcome {
+        Ok(()) => Ok(Answer::Done),
+        Err(error) => Err(error),
     }
 }
 
@@ -50,5 +82,15 @@ pub(crate) fn answer_of_report(
     match outcome {
         Ok(faults) => Ok(Answer::Reported(Seq::from_vec(faults))),
         Err(error) => Err(error),
+    }
+}
+
+/// The answer of a look-up or a call.
+pub(crate) fn answer_of_run(outcome: Result<Outcome, Error>) -> Result<Answer, AllocError>
+    ensures { result ≡ outcome_answer outcome }
+{
+    match outcome {
+        Ok(outcome) => Ok(Answer::Given(outcome)),
+        Err(error) => answer_of_failure(error),
     }
 }

@@ -7,41 +7,61 @@ ghost use Rattle.cdi_text.specs.Reading.{decl_of};
 ghost use Rattle.cdi_effective.specs.Beans.{beans};
 ghost use Rattle.cdi_resolve.specs.Choices.{chosen, chosen_by_name};
 ghost use Rattle.cdi_validate.specs.Faults.{faults};
-ghost use Rattle.cdi_container.specs.History.{History, with_edit, with_put, RestsOnAcceptedEdits};
+ghost use Rattle.cdi_container.specs.Wired.{behind_edit};
+ghost use Rattle.cdi_container.specs.History.{History, untold, with_edit, with_put, RestsOnAcceptedEdits};
 
-use crate::answer::{Answer, answer_of_choice, answer_of_edit, answer_of_report};
+use crate::answer::{
+    Answer, answer_of_begin, answer_of_choice, answer_of_edit, answer_of_report, answer_of_run,
+    answer_of_stop,
+};
 use crate::deployment::Deployment;
 use cdi_bodies::Bodies;
+use cdi_contexts::Contexts;
 use cdi_faults::Fault;
+use cdi_legal::{Entry, Run};
 use cdi_lines::Command;
 use cdi_model::{Error, Kind, Name, Quals, Refusal, Work};
 use cdi_resolve::Choice;
 use cdi_text::read_decl;
+use cdi_trace::push_entries;
 use std::alloc::{AllocError, Global};
 use std::marker::Model;
 
-/// The present declarations, which are edited while the container runs, and questions about them. What contracts see of
-/// it is its state: the declarations, and the names and promises of the stored bodies.
+/// The present declarations, which are edited while the container runs, and questions about them; the instances that it
+/// makes, calls and destroys with the stored bodies. What contracts see of it is its state: the declarations, the names
+/// and promises of the bodies, what stands between runs, and the trace of the last command that was answered.
 ///
-/// Each call is one step of a legal history: a refused call changes nothing, and neither does one that runs out of
-/// memory. Beside that step each call says by itself what it answers and what it leaves.
+/// Each call is one step of a legal history: a refused call changes nothing. One that runs out of memory changes nothing
+/// either, but that a look-up, a call, the end of a request and a stop leave no instance and no request. Beside that step
+/// each call says by itself what it answers and what it leaves.
 #[derive(Drop)]
 pub struct Container<B: Bodies> {
-    alloc: Global,
-    deployment: Deployment,
-    book: B,
-    work: Work,
+    pub(crate) alloc: Global,
+    pub(crate) deployment: Deployment<B>,
+    pub(crate) run: Run,
+    pub(crate) work: Work,
 }
 
 impl<B: Bodies> Model for Container<B> {
     ghost use Rattle.cdi_container.specs.History.{State};
+    ghost use Rattle.cdi_container.specs.Wired.{RestsOnScene};
 
     ghost Value = { State };
 
-    ghost view = { λ c. record { decls = c.deployment; book = B.promises c.book } };
+    ghost view = { λ c. record {
+      decls = c.deployment.decls;
+      book = c.deployment.book;
+      standing = c.run.moment.standing;
+      trace = c.run.moment.trace;
+    } };
+
+    ghost invariant = { λ c. RestsOnScene c.deployment.is_wired c.run.moment.standing c.run.moment.trace };
 }
 
 impl<B: Bodies> Container<B> {
+    ghost use Rattle.std.specs.Prelude.{◌++◌};
+    ghost use Rattle.cdi_staging.specs.Naming.{names_of};
+    ghost use Rattle.cdi_trace.specs.TraceText.{text_of_entries};
     ghost use Rattle.cdi_container.specs.History.{empty};
     ghost use Rattle.cdi_container.specs.Seen.{answer_of_put, IsStep, PutStep, RemoveStep, ChooseStep, NamedStep};
     ghost use Rattle.cdi_container.specs.Seen.{ReportStep};
@@ -56,8 +76,8 @@ impl<B: Bodies> Container<B> {
     {
         Container {
             alloc,
-            deployment: Deployment::new(alloc),
-            book,
+            deployment: Deployment::new(alloc, book),
+            run: Run::new(Contexts::new(alloc), Vec::new(alloc)),
             work: Work::new(),
         }
     }
@@ -74,34 +94,53 @@ impl<B: Bodies> Container<B> {
             }
             Command::Named { name } => answer_of_choice(self.named(name)),
             Command::Report => answer_of_report(self.report()),
-            Command::Unreadable => Ok(Answer::Refused(Refusal::BadCommand)),
+            Command::LookUp { bean_type, quals } => answer_of_run(self.lookup(bean_type, &quals)),
+            Command::Call {
+                method,
+                arg,
+                bean_type,
+                quals,
+            } => answer_of_run(self.call(bean_type, &quals, method, arg)),
+            Command::BeginRequest => answer_of_begin(self.begin_request()),
+            Command::EndRequest => answer_of_edit(self.end_request()),
+            Command::Stop => answer_of_stop(self.stop()),
+            Command::Unreadable => {
+                self.run.restart();
+                Ok(Answer::Refused(Refusal::BadCommand))
+            }
         }
     }
 
-    /// Puts the declaration that a TOML text spells in the place of the one of its kind and name, or at the end. It
-    /// takes memory for the declaration and its place.
+    /// Puts the declaration that a TOML text spells in the place of the one of its kind and name, or at the end. No
+    /// instance is live afterwards, and no request active (profile). It takes memory for the declaration and its place.
     pub fn put(&mut self, text: &[u8]) -> Result<(), Error>
         ensures answer { Answers result (answer_of_put self.old.decls (decl_of text.now)) }
         ensures ok { OnOk result (self.new ≡ with_put self.old (decl_of text.now)) }
-        ensures err { OnErr result (self.new ≡ self.old) }
         ensures step { PutStep self.old text.now result self.new }
     {
-        let decl = read_decl(self.alloc, text)?;
-        self.deployment.put(decl)
+        let edited = match read_decl(self.alloc, text) {
+            Ok(decl) => self.deployment.put(decl),
+            Err(error) => Err(error),
+        };
+        leave_edit(&mut self.run, &edited);
+        edited
     }
 
-    /// Removes the declaration of a kind and name. It takes no memory.
+    /// Removes the declaration of a kind and name. No instance is live afterwards, and no request active (profile). It
+    /// takes no memory.
     pub fn remove(&mut self, kind: Kind, name: Name) -> Result<(), Error>
         ensures answer { Answers result (answer_of_removal self.old.decls (RemoveEdit kind name)) }
         ensures no_memory { IfErr result (λ error. error ≢ Error.OutOfMemory) }
         ensures ok { OnOk result (self.new ≡ with_edit self.old (RemoveEdit kind name)) }
-        ensures err { OnErr result (self.new ≡ self.old) }
+        ensures err { OnErr result (self.new ≡ untold self.old) }
         ensures step { RemoveStep self.old kind name result self.new }
     {
-        match self.deployment.remove(kind, name) {
+        let edited = match self.deployment.remove(kind, name) {
             Ok(()) => Ok(()),
             Err(refusal) => Err(Error::Refused(refusal)),
-        }
+        };
+        leave_edit(&mut self.run, &edited);
+        edited
     }
 
     /// Which bean is right for a type and qualifiers (CDI 4.0, Performing typesafe resolution). Where no qualifier is
@@ -111,20 +150,27 @@ impl<B: Bodies> Container<B> {
     /// which further questions use again.
     pub fn choose(&mut self, bean_type: Name, quals: &Quals) -> Result<Choice, AllocError>
         ensures choice { IfOk result (λ choice. choice ≡ chosen self.old.decls (beans self.old.decls) bean_type quals.now) }
-        ensures stays { self.new ≡ self.old }
+        ensures ok { OnOk result (self.new ≡ untold self.old) }
+        ensures err { OnErr result (self.new ≡ self.old) }
         ensures step { ChooseStep self.old bean_type quals.now result self.new }
     {
-        self.deployment
-            .choose(self.alloc, bean_type, quals, &mut self.work)
+        let choice = self
+            .deployment
+            .choose(self.alloc, bean_type, quals, &mut self.work)?;
+        self.run.restart();
+        Ok(choice)
     }
 
     /// Which bean has a name (CDI 4.0, Name resolution). It takes memory as `choose` does.
     pub fn named(&mut self, name: Name) -> Result<Choice, AllocError>
         ensures choice { IfOk result (λ choice. choice ≡ chosen_by_name (beans self.old.decls) name) }
-        ensures stays { self.new ≡ self.old }
+        ensures ok { OnOk result (self.new ≡ untold self.old) }
+        ensures err { OnErr result (self.new ≡ self.old) }
         ensures step { NamedStep self.old name result self.new }
     {
-        self.deployment.named(self.alloc, name)
+        let choice = self.deployment.named(self.alloc, name)?;
+        self.run.restart();
+        Ok(choice)
     }
 
     /// All that is wrong with the present declarations (CDI 4.0, Problems detected automatically by the container), in
@@ -133,9 +179,41 @@ impl<B: Bodies> Container<B> {
     pub fn report(&mut self) -> Result<Vec<Fault>, AllocError>
         ensures faults { IfOk result (λ list. list.items ≡ faults self.old.decls self.old.book) }
         ensures once { IfOk result (λ list. AllPairs (λ f g. f ≢ g) list.items) }
-        ensures stays { self.new ≡ self.old }
+        ensures ok { OnOk result (self.new ≡ untold self.old) }
+        ensures err { OnErr result (self.new ≡ self.old) }
         ensures step { ReportStep self.old result self.new }
     {
-        self.deployment.report(self.alloc, &self.book)
+        let faults = self.deployment.report(self.alloc)?;
+        self.run.restart();
+        Ok(faults)
+    }
+
+    /// The entries of the last command that was answered. It takes no memory.
+    pub fn trace(&self) -> &[Entry]
+        ensures { result.now ≡ self.now.trace }
+    {
+        self.run.trace()
+    }
+
+    /// Appends their text, each on a line of its own behind two spaces. It takes memory for it.
+    pub fn push_trace(&self, text: &mut Vec<u8>) -> Result<(), AllocError>
+        ensures { OnOk result (text.new.items
+            ≡ text.old.items ++ text_of_entries (names_of self.now.decls) self.now.trace) }
+    {
+        if !self.deployment.is_wired() {
+            return Ok(());
+        }
+        push_entries(text, self.deployment.names(), self.run.trace())
+    }
+}
+
+/// What an edit leaves of the contexts and the trace: nothing where it is accepted, and no trace where it is refused.
+fn leave_edit(run: &mut Run, edited: &Result<(), Error>)
+    ensures { run.new.moment ≡ behind_edit edited.now run.old.moment }
+{
+    match edited {
+        Ok(()) => run.clear(run.given()),
+        Err(Error::Refused(_)) => run.restart(),
+        Err(Error::OutOfMemory) => {}
     }
 }

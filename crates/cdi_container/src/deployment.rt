@@ -1,76 +1,96 @@
-//! The present declarations and their beans.
-ghost use Rattle.std.specs.Prelude.{◌≡◌, ◌≢◌, AllPairs, [], OnOk, OnErr, IfOk};
+//! The present declarations and the stored bodies, and what questions have made of them.
+ghost use Rattle.std.specs.Prelude.{◌≡◌, ◌≢◌, AllPairs, IsSome, None, [], length, true, false, Err, OnOk, OnErr, IfOk};
 ghost use Rattle.cdi_model.specs.declared.edit.Edit.TheVariants.{Put, Remove};
-ghost use Rattle.cdi_model.specs.Edits.{edited, answer_of_edit};
+ghost use Rattle.cdi_model.specs.Edits.{answer_of_edit};
 ghost use Rattle.cdi_model.specs.Answering.{Answers};
+ghost use Rattle.cdi_container.specs.Short.{HasShortLists};
 ghost use Rattle.cdi_model.specs.Work.{with_one};
 ghost use Rattle.cdi_effective.specs.Beans.{beans};
 ghost use Rattle.cdi_resolve.specs.Choices.{chosen, chosen_by_name};
+ghost use Rattle.cdi_staging.specs.Naming.{names_of};
+ghost use Rattle.cdi_staging.specs.Staged.{scene_of};
 ghost use Rattle.cdi_validate.specs.Faults.{faults};
+ghost use Rattle.cdi_container.specs.Asked.{aim_of, asked_for};
+ghost use Rattle.cdi_container.specs.Wired.{StandsIn, IsSameDeployment, IsWiredOf, without_wiring};
 
+use crate::asked::{Aim, Message, aim_for};
+use crate::wiring::{Wired, Wiring};
 use cdi_bodies::Bodies;
+use cdi_ending::Stage;
 use cdi_faults::Fault;
 use cdi_model::{Decl, Decls, Error, Kind, Name, Quals, Refusal, Work};
 use cdi_observe::PlainView;
 use cdi_resolve::{BeanList, Choice, choose_name};
-use cdi_validate::faults;
+use cdi_run::Player;
+use cdi_staging::Names;
+use cdi_validate::{are_known, faults};
 use std::alloc::{AllocError, Global};
 use std::marker::Model;
 
-/// The present declarations, with the bean list that the last question made of them where none was edited since.
+/// The present declarations and the book of stored bodies, with the bean list and the wiring that questions made of them
+/// where none was edited since.
 #[derive(Drop)]
-pub(crate) struct Deployment {
+pub(crate) struct Deployment<B: Bodies> {
     decls: Decls,
+    book: B,
     beans: Option<BeanList>,
+    wiring: Option<Wiring>,
 }
 
-impl Model for Deployment {
-    ghost use Rattle.std.specs.Prelude.{List, IfSome, ◌≡◌};
-    ghost use Rattle.cdi_model.specs.declared.decl.Decl.{Decl as AnyDecl};
+impl<B: Bodies> Model for Deployment<B> {
+    ghost use Rattle.std.specs.Prelude.{IfSome, ◌≡◌};
+    ghost use Rattle.cdi_container.specs.Short.{AreShort};
     ghost use Rattle.cdi_effective.specs.Beans.{beans as bean_list};
+    ghost use Rattle.cdi_container.specs.Asked.{aim_of, asked_for};
+ghost use Rattle.cdi_container.specs.Wired.{StandsIn, Deployed, IsWiringOf, is_sound};
 
-    ghost Value = { List AnyDecl };
+    ghost Value = { Deployed };
 
-    ghost view = { λ d. d.decls };
+    ghost view = { λ d. record { decls = d.decls; book = B.promises d.book; is_wired = is_sound d.wiring } };
 
-    ghost invariant = { λ d. IfSome d.beans (λ list. list ≡ bean_list d.decls) };
+    ghost invariant = { λ d. AreShort d.decls
+        × IfSome d.beans (λ list. list ≡ bean_list d.decls)
+        × IfSome d.wiring (λ wiring. IsWiringOf d.decls (B.promises d.book) wiring) };
 }
 
-impl Deployment {
+impl<B: Bodies> Deployment<B> {
     /// No declaration. It takes no memory yet.
-    pub(crate) fn new(alloc: Global) -> Deployment
-        ensures { result ≡ [] }
+    pub(crate) fn new(alloc: Global, book: B) -> Deployment<B>
+        ensures decls { result.decls ≡ [] }
+        ensures book { result.book ≡ B.promises book }
+        ensures wired { result.is_wired ≡ false }
     {
         Deployment {
             decls: Decls::new(alloc),
+            book,
             beans: None,
+            wiring: None,
         }
     }
 
     /// Puts a declaration in the place of the one of its kind and name, or at the end.
     pub(crate) fn put(&mut self, decl: Decl) -> Result<(), Error>
-        ensures answer { Answers result (answer_of_edit self.old (Put decl)) }
-        ensures ok { OnOk result (self.new ≡ edited self.old (Put decl)) }
+        requires { HasShortLists decl }
+        ensures answer { Answers result (answer_of_edit self.old.decls (Put decl)) }
+        ensures ok { OnOk result (self.new ≡ without_wiring self.old (Put decl)) }
         ensures err { OnErr result (self.new ≡ self.old) }
     {
-        let placed = self.decls.put(decl);
-        if placed.is_ok() {
-            self.beans = None;
-        }
-        placed
+        self.decls.put(decl)?;
+        self.beans = None;
+        self.wiring = None;
+        Ok(())
     }
 
     /// Removes the declaration of a kind and name. It takes no memory.
     pub(crate) fn remove(&mut self, kind: Kind, name: Name) -> Result<(), Refusal>
-        ensures answer { result ≡ answer_of_edit self.old (Remove kind name) }
-        ensures removed { self.new ≡ edited self.old (Remove kind name) }
+        ensures answer { result ≡ answer_of_edit self.old.decls (Remove kind name) }
+        ensures ok { OnOk result (self.new ≡ without_wiring self.old (Remove kind name)) }
         ensures err { OnErr result (self.new ≡ self.old) }
     {
-        let removed = self.decls.remove(kind, name);
-        if removed.is_ok() {
-            self.beans = None;
-        }
-        removed
+        self.decls.remove(kind, name)?;
+        self.beans = None;
+        self.wiring = None;
+        Ok(())
     }
 
     /// The bean for a type and qualifiers.
@@ -81,7 +101,8 @@ impl Deployment {
         quals: &Quals,
         work: &mut Work,
     ) -> Result<Choice, AllocError>
-        ensures choice { IfOk result (λ choice. choice ≡ chosen self.old (beans self.old) bean_type quals.now) }
+        ensures choice { IfOk result (λ choice. choice
+            ≡ chosen self.old.decls (beans self.old.decls) bean_type quals.now) }
         ensures stays { self.new ≡ self.old }
         ensures work { OnOk result (work.new ≡ with_one work.old) }
         ensures err { OnErr result (work.new ≡ work.old) }
@@ -94,7 +115,7 @@ impl Deployment {
 
     /// The bean of a name.
     pub(crate) fn named(&mut self, alloc: Global, name: Name) -> Result<Choice, AllocError>
-        ensures choice { IfOk result (λ choice. choice ≡ chosen_by_name (beans self.old) name) }
+        ensures choice { IfOk result (λ choice. choice ≡ chosen_by_name (beans self.old.decls) name) }
         ensures stays { self.new ≡ self.old }
     {
         let list = self.take_beans(alloc)?;
@@ -103,25 +124,105 @@ impl Deployment {
         choice
     }
 
-    /// The faults, where the bodies of this book are stored.
-    pub(crate) fn report<B: Bodies>(
-        &mut self,
-        alloc: Global,
-        book: &B,
-    ) -> Result<Vec<Fault>, AllocError>
-        ensures faults { IfOk result (λ list. list.items ≡ faults self.old (B.promises book.now)) }
+    /// The faults.
+    pub(crate) fn report(&mut self, alloc: Global) -> Result<Vec<Fault>, AllocError>
+        ensures faults { IfOk result (λ list. list.items ≡ faults self.old.decls self.old.book) }
         ensures once { IfOk result (λ list. AllPairs (λ f g. f ≢ g) list.items) }
         ensures stays { self.new ≡ self.old }
     {
         let list = self.take_beans(alloc)?;
-        let found = faults(alloc, &mut PlainView::new(&self.decls, &list), book);
+        let found = faults(alloc, &mut PlainView::new(&self.decls, &list), &self.book);
         self.beans = Some(list);
         found
     }
 
+    /// How many faults there are. Where there is none, the scene is there from now on.
+    pub(crate) fn wire(&mut self, alloc: Global) -> Result<usize, AllocError>
+        ensures count { IfOk result (λ count. count ≡ length (faults self.old.decls self.old.book)) }
+        ensures wired { IfOk result (λ count. count ≡ 0 → self.new.is_wired ≡ true) }
+        ensures same { IsSameDeployment self.old self.new }
+    {
+        if let Some(wiring) = &self.wiring {
+            return Ok(wiring.count());
+        }
+        let list = self.take_beans(alloc)?;
+        let wiring = Wiring::of(alloc, &self.decls, &list, &self.book);
+        self.beans = Some(list);
+        let wiring = wiring?;
+        let count = wiring.count();
+        self.wiring = Some(wiring);
+        Ok(count)
+    }
+
+    /// Where a look-up or a call leads. Where it leads somewhere, the scene is there from now on.
+    pub(crate) fn aim(
+        &mut self,
+        alloc: Global,
+        bean_type: Name,
+        quals: &Quals,
+        message: Option<Message>,
+        work: &mut Work,
+    ) -> Result<Aim, Error>
+        ensures answer { Answers result (aim_of self.old.decls self.old.book (asked_for bean_type quals.now message)) }
+        ensures wired { OnOk result (self.new.is_wired ≡ true) }
+        ensures there { IfOk result (λ aim. StandsIn (scene_of self.old.decls self.old.book) aim) }
+        ensures same { IsSameDeployment self.old self.new }
+    {
+        let count = self.wire(alloc)?;
+        if count != 0 {
+            return Err(Error::Refused(Refusal::Faulty(count)));
+        }
+        if !are_known(&self.decls, bean_type, quals) {
+            return Err(Error::Refused(Refusal::UnknownName));
+        }
+        let list = self.take_beans(alloc)?;
+        let aim = aim_for(alloc, &self.decls, &list, bean_type, quals, message, work);
+        self.beans = Some(list);
+        aim
+    }
+
+    /// The scene and its names, where they are there.
+    fn wired(&self) -> &Wired
+        requires { self.now.is_wired ≡ true }
+        ensures { IsWiredOf self.now.decls self.now.book result.now }
+    {
+        match &self.wiring {
+            Some(Wiring::Sound(wired)) => wired,
+            _ => unreachable!(),
+        }
+    }
+
+    /// Whether the scene is there.
+    pub(crate) fn is_wired(&self) -> bool
+        ensures { result ≡ self.now.is_wired }
+    {
+        match &self.wiring {
+            Some(Wiring::Sound(_)) => true,
+            _ => false,
+        }
+    }
+
+    /// Who plays runs of this deployment.
+    pub(crate) fn player(&self) -> Player<'_, B>
+        requires { self.now.is_wired ≡ true }
+        ensures scene { result.stage.scene ≡ scene_of self.now.decls self.now.book }
+    {
+        Player {
+            stage: Stage::new(&self.wired().scene, &self.book),
+        }
+    }
+
+    /// What traces of this deployment are told by.
+    pub(crate) fn names(&self) -> &Names
+        requires { self.now.is_wired ≡ true }
+        ensures { result.now ≡ names_of self.now.decls }
+    {
+        &self.wired().names
+    }
+
     /// The bean list, which is made where it is not there, and is not kept.
     fn take_beans(&mut self, alloc: Global) -> Result<BeanList, AllocError>
-        ensures list { IfOk result (λ list. list ≡ beans self.old) }
+        ensures list { IfOk result (λ list. list ≡ beans self.old.decls) }
         ensures stays { self.new ≡ self.old }
     {
         match self.beans.take() {

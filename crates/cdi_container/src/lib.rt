@@ -2,18 +2,22 @@
 #![tactic(auto)]
 
 mod answer;
+mod asked;
 mod container;
 mod deployment;
 mod intake;
 mod printing;
 mod runner;
+mod runs;
 mod script;
+mod wiring;
 
 pub use answer::Answer;
 pub use cdi_bodies::Book;
 pub use cdi_devices::{Counted, RunFault, SCRIPT_LIMIT};
 pub use cdi_effective::BeanId;
 pub use cdi_faults::{Code, Fault, Subject};
+pub use cdi_legal::Entry;
 pub use cdi_lines::Command;
 pub use cdi_resolve::Choice;
 pub use container::Container;

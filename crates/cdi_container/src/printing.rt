@@ -1,10 +1,10 @@
 //! The text that steps print.
-ghost use Rattle.std.specs.Prelude.{◌≡◌, ◌++◌, OnOk, OnErr, Ok};
-ghost use Rattle.cdi_container.specs.Text.{word_of, text_of_faults, text_of_report, words_of_answer, text_of_answer};
+ghost use Rattle.std.specs.Prelude.{◌≡◌, ◌++◌, OnOk, Ok};
+ghost use Rattle.cdi_container.specs.Text.{word_of, text_of_faults, text_of_report, words_of_outcome, words_of_answer, text_of_answer};
 
 use crate::answer::Answer;
 use cdi_faults::Fault;
-use cdi_model::Refusal;
+use cdi_model::{Outcome, Refusal};
 use std::alloc::AllocError;
 use std::io::Write;
 
@@ -24,6 +24,13 @@ fn refusal_word(refusal: Refusal) -> &'static [u8]
         Refusal::TooMany => b"E10 TooMany",
         Refusal::Absent => b"E11 Absent",
         Refusal::BadCommand => b"E20 BadCommand",
+        Refusal::RequestActive => b"E40 RequestActive",
+        Refusal::NoRequest => b"E41 NoRequest",
+        Refusal::Faulty(_) => b"E50 Faulty",
+        Refusal::UnknownName => b"E51 UnknownName",
+        Refusal::Unsatisfied => b"E52 Unsatisfied",
+        Refusal::Ambiguous => b"E53 Ambiguous",
+        Refusal::NoMethod => b"E54 NoMethod",
     }
 }
 
@@ -32,7 +39,10 @@ fn push_refusal(text: &mut Vec<u8>, refusal: Refusal) -> Result<(), AllocError>
 {
     text.extend_from_slice(b"refused ")?;
     text.extend_from_slice(refusal_word(refusal))?;
-    Ok(())
+    match refusal {
+        Refusal::Faulty(count) => write!(text, " {count}").map_err(|_| AllocError),
+        _ => Ok(()),
+    }
 }
 
 /// How many faults there are, and then each on a line of its own.
@@ -53,6 +63,16 @@ fn push_faults(text: &mut Vec<u8>, faults: &[Fault]) -> Result<(), AllocError>
     Ok(())
 }
 
+/// A value, or why there is none.
+fn push_outcome(text: &mut Vec<u8>, outcome: &Outcome) -> Result<(), AllocError>
+    ensures { OnOk result (text.new.items ≡ text.old.items ++ words_of_outcome outcome.now) }
+{
+    match outcome {
+        Outcome::Value(value) => write!(text, "value {value}").map_err(|_| AllocError),
+        Outcome::Failed(failure) => write!(text, "failed {failure}").map_err(|_| AllocError),
+    }
+}
+
 fn push_words(text: &mut Vec<u8>, answer: &Answer) -> Result<(), AllocError>
     ensures { OnOk result (text.new.items ≡ text.old.items ++ words_of_answer answer.now) }
 {
@@ -60,28 +80,16 @@ fn push_words(text: &mut Vec<u8>, answer: &Answer) -> Result<(), AllocError>
         Answer::Done => text.extend_from_slice(b"ok"),
         Answer::Chosen(choice) => write!(text, "{choice}").map_err(|_| AllocError),
         Answer::Reported(faults) => push_report(text, faults.as_slice()),
+        Answer::Given(outcome) => push_outcome(text, outcome),
         Answer::Refused(refusal) => push_refusal(text, *refusal),
     }
 }
 
-fn push_answer(text: &mut Vec<u8>, answer: &Answer) -> Result<(), AllocError>
+/// An answer and the end of its line.
+pub(crate) fn push_answer(text: &mut Vec<u8>, answer: &Answer) -> Result<(), AllocError>
     ensures { OnOk result (text.new.items ≡ text.old.items ++ text_of_answer (Ok answer.now)) }
 {
     push_words(text, answer)?;
     text.push(b'\n')?;
     Ok(())
-}
-
-/// Prints a step behind the rest, whose trace is empty; at `Err` nothing is printed. The step's text is built apart.
-pub(crate) fn print_step(
-    out: &mut Vec<u8>,
-    scratch: &mut Vec<u8>,
-    answer: &Answer,
-) -> Result<(), AllocError>
-    ensures ok { OnOk result (out.new.items ≡ out.old.items ++ text_of_answer (Ok answer.now)) }
-    ensures err { OnErr result (out.new.items ≡ out.old.items) }
-{
-    scratch.clear();
-    push_answer(scratch, answer)?;
-    out.extend_from_slice(scratch.as_slice())
 }

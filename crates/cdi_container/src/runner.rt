@@ -5,7 +5,7 @@ ghost use Rattle.cdi_container.specs.Runner.{RunsStep, PrintsNothing, Prints};
 
 use crate::answer::Answer;
 use crate::container::Container;
-use crate::printing::print_step;
+use crate::printing::push_answer;
 use cdi_bodies::Bodies;
 use cdi_lines::Command;
 use std::alloc::{AllocError, Global};
@@ -38,7 +38,7 @@ impl<B: Bodies> Runner<B> {
         }
     }
 
-    /// Carries a command out, and prints its answer.
+    /// Carries a command out, and prints its trace and its answer.
     pub(crate) fn execute(&mut self, command: Command) -> Result<(), AllocError>
         ensures ok { OnOk result (RunsStep self.old self.new command) }
         ensures err { OnErr result (PrintsNothing self.old self.new) }
@@ -47,12 +47,18 @@ impl<B: Bodies> Runner<B> {
         self.print(&answer)
     }
 
-    /// Prints this answer.
+    /// Prints the trace that the container shows, and this answer behind it. The text of both is built apart, so that at
+    /// `Err` nothing is printed.
     fn print(&mut self, answer: &Answer) -> Result<(), AllocError>
         ensures ok { OnOk result (Prints self.old self.new answer.now) }
         ensures err { OnErr result (PrintsNothing self.old self.new) }
     {
-        print_step(&mut self.out, &mut self.scratch, answer)?;
+        self.scratch.clear();
+        if !self.quiet {
+            self.container.push_trace(&mut self.scratch)?;
+        }
+        push_answer(&mut self.scratch, answer)?;
+        self.out.extend_from_slice(self.scratch.as_slice())?;
         if let Answer::Refused(_) = answer {
             self.refused = true;
         }

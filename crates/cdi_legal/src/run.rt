@@ -168,6 +168,13 @@ impl Run {
         self.contexts.given()
     }
 
+    /// The entries that it has pushed.
+    pub fn trace(&self) -> &[Entry]
+        ensures { result.now ≡ self.now.moment.trace }
+    {
+        self.trace.as_slice()
+    }
+
     /// No instance is live, no request active, and the trace is empty; numbers go on behind this one. It takes no memory.
     pub fn clear(&mut self, given: u64)
         ensures { self.new.moment ≡ beginning (cleared given) }

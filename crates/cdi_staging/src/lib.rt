@@ -12,3 +12,5 @@ mod target;
 
 pub use names::{BeanNames, MethodNames, Names, names_of};
 pub use scene::scene_of;
+pub use site::method_of;
+pub use target::{Target, target_of};

@@ -55,9 +55,10 @@ fn method_declared(decls: &Decls, class: Name, name: Ident) -> usize
     }
 }
 
-/// The position of a method of what is chosen.
+/// The position of a method: of a managed bean among those that it declares, or the one behind its last; 0 of a product,
+/// which has no class here (profile). It takes no memory.
 #[tactic(auto, unfolding(crate::specs::Sites::method_of))]
-fn method_of(decls: &Decls, class: Option<Name>, name: Ident) -> usize
+pub fn method_of(decls: &Decls, class: Option<Name>, name: Ident) -> usize
     ensures { result ≡ method_of decls.now class name }
 {
     match class {

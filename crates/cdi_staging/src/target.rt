@@ -11,11 +11,11 @@ use std::rc::Rc;
 
 /// The bean that is chosen for an injection point (CDI 4.0, Performing typesafe resolution).
 #[derive(Clone, Copy)]
-pub(crate) struct Target {
+pub struct Target {
     /// Its position in the bean list; where not one bean is chosen, that behind the last.
-    pub(crate) bean: usize,
+    pub bean: usize,
     /// Its class, where it is a managed bean, so that its methods are those that are declared.
-    pub(crate) class: Option<Name>,
+    pub class: Option<Name>,
 }
 
 /// The position of a bean, or the one behind the last.
@@ -56,8 +56,9 @@ fn managed_class(id: &BeanId) -> Option<Name>
     }
 }
 
+/// Where a choice leads. It takes no memory.
 #[tactic(auto, unfolding(crate::specs::Sites::target_of))]
-fn target_of(beans: &BeanList, choice: &Choice) -> Target
+pub fn target_of(beans: &BeanList, choice: &Choice) -> Target
     ensures { result ≡ target_of beans.now choice.now }
 {
     match choice {

@@ -15,3 +15,5 @@ mod unknown;
 mod used;
 
 pub use deployment::faults;
+pub use sites::has_method;
+pub use unknown::are_known;

@@ -274,8 +274,9 @@ fn lacks_method(decls: &Decls, method: Ident, choice: &Choice) -> bool
     }
 }
 
-/// Whether a managed bean declares a method, or whether it is the one that a product has.
-fn has_method(decls: &Decls, id: BeanId, method: Ident) -> bool
+/// Whether a bean has a method: a managed bean those that it declares, and a product one, named `value` (profile). It
+/// takes no memory.
+pub fn has_method(decls: &Decls, id: BeanId, method: Ident) -> bool
     ensures { result ≡ has_method decls.now id method }
 {
     if id.producer.is_some() {

@@ -1,12 +1,15 @@
 //! Names that are neither declared nor built in.
 ghost use Rattle.std.specs.Prelude.{◌≡◌, ◌∷◌, [], codes, IfOk};
+ghost use Rattle.std.specs.List.{list_all};
 ghost use Rattle.cdi_model.specs.Mentions.{shown};
 ghost use Rattle.cdi_match.specs.Chain.{has};
+ghost use Rattle.cdi_validate.specs.Asked.{are_known, is_known_use};
 ghost use Rattle.cdi_validate.specs.Faults.{is_known_in, is_known_qualifier, is_known_type, unknown_in, unknown_names};
 
 use crate::forms::is_object;
 use cdi_faults::Subject;
-use cdi_model::{Decl, Decls, Kind, Mention, Name, TypePlace};
+use cdi_match::is_misused;
+use cdi_model::{Decl, Decls, Kind, Mention, Name, Qual, Quals, TypePlace};
 use std::alloc::{AllocError, Global};
 
 /// The types, qualifiers and stereotypes that a declaration names and that are neither declared nor built in, and the
@@ -53,6 +56,26 @@ fn is_known_in(decls: &Decls, place: TypePlace, name: Name) -> bool
         TypePlace::Class => decls.get(Kind::Type, name).is_some(),
         _ => is_known_type(decls, name),
     }
+}
+
+/// Whether a type and qualifiers may be asked for: each is declared or built in, and the members of each use fit the
+/// declaration of its qualifier. It takes no memory.
+pub fn are_known(decls: &Decls, bean_type: Name, quals: &Quals) -> bool
+    ensures { result ≡ are_known decls.now bean_type quals.now }
+{
+    is_known_type(decls, bean_type) && are_known_uses(decls, quals.as_slice())
+}
+
+fn are_known_uses(decls: &Decls, uses: &[Qual]) -> bool
+    ensures { result ≡ list_all (is_known_use decls.now) uses.now }
+{
+    uses.iter().all(|qual| is_known_use(decls, qual))
+}
+
+fn is_known_use(decls: &Decls, qual: &Qual) -> bool
+    ensures { result ≡ is_known_use decls.now qual.now }
+{
+    is_known_qualifier(decls, qual.name) && !is_misused(decls, qual)
 }
 
 fn is_known_type(decls: &Decls, name: Name) -> bool

@@ -1,0 +1,74 @@
+-- Look-ups and calls: what is asked for, when that is refused, and which run it is.
+use Rattle.std.specs.Prelude.{ℕ, ◌==◌, not, List, length, Option, None, Some, Result, Ok, Err, if◌then◌else◌}
+use Rattle.cdi_model.specs.declared.decl.Decl.{Decl}
+use Rattle.cdi_model.specs.declared.outcome.Val.{Val}
+use Rattle.cdi_model.specs.declared.quals.Qual.{Qual}
+use Rattle.cdi_model.specs.declared.refusal.Refusal.{Refusal}
+use Rattle.cdi_model.specs.declared.refusal.Refusal.TheVariants as refusals
+use Rattle.cdi_bodies.specs.Book.{Promised}
+use Rattle.cdi_effective.specs.Beans.{beans}
+use Rattle.cdi_effective.specs.declared.records.BeanId.{BeanId}
+use Rattle.cdi_resolve.specs.Choices.{chosen}
+use Rattle.cdi_resolve.specs.declared.choice.Choice.{Choice}
+use Rattle.cdi_resolve.specs.declared.choice.Choice.TheVariants as choices
+use Rattle.cdi_staging.specs.Sites.{managed_class, position_of_bean, method_of}
+use Rattle.cdi_legal.specs.LegalRun.{Command, use_bean}
+use Rattle.cdi_run.specs.Known.{use_of}
+use Rattle.cdi_run.specs.declared.roots.Wanted.TheVariants as wanteds
+use Rattle.cdi_validate.specs.Asked.{are_known}
+use Rattle.cdi_validate.specs.Faults.{faults}
+use Rattle.cdi_validate.specs.Sites.{has_method}
+use Rattle.cdi_container.specs.declared.asked.Aim.{Aim}
+use Rattle.cdi_container.specs.declared.asked.Message.{Message}
+
+-- a bean by its type and qualifiers, and what is called, if anything is
+pub record Asked : Type 0 where
+  pub bean_type : List ℕ
+  pub quals : List Qual
+  pub message : Option Message
+
+abbrev pub asked_for : List ℕ → List Qual → Option Message → Asked
+asked_for t quals message = record { bean_type = t; quals = quals; message = message }
+
+abbrev pub to_look : List ℕ → List Qual → Asked
+to_look t quals = asked_for t quals None
+
+abbrev pub to_call : List ℕ → Val → List ℕ → List Qual → Asked
+to_call method arg t quals = asked_for t quals (Some (record { method = method; arg = arg }))
+
+-- ---- where it leads, or why it is refused
+
+-- a bean by its position, and its state
+abbrev pub aim_at : List Decl → BeanId → Option Message → Result Aim Refusal
+aim_at ds id None = Ok (record { bean = position_of_bean (beans ds) id; wanted = wanteds.State })
+aim_at ds id (Some message) =
+    if has_method ds id message.method
+    then Ok (record {
+      bean = position_of_bean (beans ds) id;
+      wanted = wanteds.Answer (method_of ds (managed_class id) message.method) message.arg;
+    })
+    else Err refusals.NoMethod
+
+abbrev pub aim_of_choice : List Decl → Option Message → Choice → Result Aim Refusal
+aim_of_choice ds message choices.Unsatisfied = Err refusals.Unsatisfied
+aim_of_choice ds message (choices.Ambiguous ids) = Err refusals.Ambiguous
+aim_of_choice ds message (choices.One id) = aim_at ds id message
+
+-- the bean that is right for it (CDI 4.0, Performing typesafe resolution)
+unfoldable pub aim_for : List Decl → Asked → Result Aim Refusal
+aim_for ds asked = aim_of_choice ds asked.message (chosen ds (beans ds) asked.bean_type asked.quals)
+
+abbrev pub aim_known : List Decl → Asked → Result Aim Refusal
+aim_known ds asked = if are_known ds asked.bean_type asked.quals then aim_for ds asked else Err refusals.UnknownName
+
+-- a deployment with faults runs nothing (CDI 4.0, Problems detected automatically by the container)
+abbrev pub aim_faultless : List Decl → ℕ → Asked → Result Aim Refusal
+aim_faultless ds count asked = if count == 0 then aim_known ds asked else Err (refusals.Faulty count)
+
+-- what a look-up or a call aims at, or the first refusal whose condition holds
+unfoldable pub aim_of : List Decl → List Promised → Asked → Result Aim Refusal
+aim_of ds book asked = aim_faultless ds (length (faults ds book)) asked
+
+-- the run that an aim begins
+abbrev pub run_at : Aim → Command
+run_at aim = use_bean aim.bean (use_of aim.wanted)

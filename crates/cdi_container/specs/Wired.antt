@@ -1,0 +1,75 @@
+-- What is kept of a deployment between questions.
+use Rattle.std.specs.Prelude.{◌≡◌, ℕ, ◌<◌, Bool, true, false, List, [], length, Option, Some, None, IsSome, Result, Ok, Err}
+use Rattle.cdi_model.specs.declared.decl.Decl.{Decl}
+use Rattle.cdi_container.specs.Short.{AreShort}
+use Rattle.cdi_model.specs.Edits.{edited}
+use Rattle.cdi_model.specs.declared.edit.Edit.{Edit}
+use Rattle.cdi_bodies.specs.Book.{Promised}
+use Rattle.cdi_contexts.specs.Standing.{Standing, cleared}
+use Rattle.cdi_model.specs.declared.refusal.Error.{Error}
+use Rattle.cdi_model.specs.declared.refusal.Error.TheVariants as errors
+use Rattle.cdi_legal.specs.Moment.{Moment, beginning}
+use Rattle.cdi_legal.specs.declared.entry.Entry.{Entry}
+use Rattle.cdi_scene.specs.Scene.{bean_at}
+use Rattle.cdi_scene.specs.Sound.{IsSound}
+use Rattle.cdi_scene.specs.declared.scene.Scene.{Scene}
+use Rattle.cdi_run.specs.Known.{IsUsable}
+use Rattle.cdi_staging.specs.Naming.{names_of}
+use Rattle.cdi_staging.specs.Staged.{scene_of}
+use Rattle.cdi_validate.specs.Faults.{faults}
+use Rattle.cdi_container.specs.declared.asked.Aim.{Aim}
+use Rattle.cdi_container.specs.declared.wiring.Wired.{Wired}
+use Rattle.cdi_container.specs.declared.wiring.Wiring.{Wiring}
+use Rattle.cdi_container.specs.declared.wiring.Wiring.TheVariants as wirings
+
+-- declarations and bodies, and whether a sound scene of them is there
+pub record Deployed : Type 0 where
+  pub decls : List Decl
+  pub book : List Promised
+  pub is_wired : Bool
+
+abbrev pub count_of : Wiring → ℕ
+count_of (wirings.Faulty count) = count
+count_of (wirings.Sound wired) = 0
+
+abbrev pub is_sound : Option Wiring → Bool
+is_sound None = false
+is_sound (Some (wirings.Faulty count)) = false
+is_sound (Some (wirings.Sound wired)) = true
+
+-- the scene of a deployment without faults, and what it is told by
+pub record IsWiredOf (ds : List Decl) (book : List Promised) (wired : Wired) : Type 0 where
+  pub faultless : faults ds book ≡ []
+  pub scene : wired.scene ≡ scene_of ds book
+  pub sound : IsSound book (scene_of ds book)
+  pub names : wired.names ≡ names_of ds
+
+-- what is kept is right
+abbrev pub IsWiringOf : List Decl → List Promised → Wiring → Type 0
+IsWiringOf ds book (wirings.Faulty count) = (count ≡ length (faults ds book)) × (0 < count)
+IsWiringOf ds book (wirings.Sound wired) = IsWiredOf ds book wired
+
+abbrev pub without_wiring : Deployed → Edit → Deployed
+without_wiring d edit = record { decls = edited d.decls edit; book = d.book; is_wired = false }
+
+-- it is the same deployment, whose scene is there if it was
+pub record IsSameDeployment (old new : Deployed) : Type 0 where
+  pub decls : new.decls ≡ old.decls
+  pub book : new.book ≡ old.book
+  pub wired : old.is_wired ≡ true → new.is_wired ≡ true
+
+-- without a scene nothing is live, and nothing is told
+pub record RestsOnScene (is_wired : Bool) (standing : Standing) (trace : List Entry) : Type 0 where
+  pub live : is_wired ≡ false → standing.live ≡ []
+  pub trace : is_wired ≡ false → trace ≡ []
+
+-- the bean that is aimed at is there, with the method that is called
+pub record StandsIn (scene : Scene) (aim : Aim) : Type 0 where
+  pub there : IsSome (bean_at scene aim.bean)
+  pub usable : IsUsable scene aim.bean aim.wanted
+
+-- where a run stands behind an edit that ended so
+abbrev pub behind_edit : Result (Unit {0}) Error → Moment → Moment
+behind_edit (Ok u) m = beginning (cleared m.standing.given)
+behind_edit (Err (errors.Refused refusal)) m = beginning m.standing
+behind_edit (Err errors.OutOfMemory) m = m

@@ -1,0 +1,137 @@
+//! Look-ups and calls, requests, and the ends of contexts.
+ghost use Rattle.std.specs.Prelude.{◌≡◌, Some, IfOk, IfErr, OnOk, OnErr};
+ghost use Rattle.cdi_model.specs.Answering.{Answers};
+ghost use Rattle.cdi_container.specs.Asked.{asked_for, to_look, to_call};
+ghost use Rattle.cdi_container.specs.History.{emptied, untold, with_request, refusal_of_begin, refusal_of_end, UsesFrom, RunsFrom};
+ghost use Rattle.cdi_container.specs.History.{EndsRequest, EndsContexts};
+ghost use Rattle.cdi_container.specs.Seen.{LookUpStep, CallStep, BeginStep, EndStep, StopStep, done_or};
+
+use crate::answer::Answer;
+use crate::asked::Message;
+use crate::container::Container;
+use cdi_bodies::Bodies;
+use cdi_model::{Error, Ident, Name, Outcome, Quals, Refusal, Val};
+use std::alloc::AllocError;
+
+impl<B: Bodies> Container<B> {
+    /// The state of the instance of the bean that is right for a type and qualifiers (CDI 4.0, Contextual instances; the
+    /// answer: profile). A dependent bean has its instance made for it, which is destroyed before the answer.
+    ///
+    /// It takes memory as `report` does at the first look-up or call after an edit, and else for a choice and for the
+    /// instances and the entries of its trace.
+    ///
+    /// # Errors
+    ///
+    /// `OutOfMemory`, or the first of these refusals that applies: `Faulty`, where the deployment has faults;
+    /// `UnknownName`; `Unsatisfied`; `Ambiguous`.
+    pub fn lookup(&mut self, bean_type: Name, quals: &Quals) -> Result<Outcome, Error>
+        ensures uses { UsesFrom self.old (to_look bean_type quals.now) result self.new }
+        ensures step { LookUpStep self.old bean_type quals.now result self.new }
+    {
+        self.use_bean(bean_type, quals, None)
+    }
+
+    /// What a method of that instance answers to an argument, which goes through the client proxy of a bean with a normal
+    /// scope (CDI 4.0, Client proxy invocation). It takes memory as `lookup` does.
+    ///
+    /// # Errors
+    ///
+    /// Those of `lookup`, and then `NoMethod`.
+    pub fn call(
+        &mut self,
+        bean_type: Name,
+        quals: &Quals,
+        method: Ident,
+        arg: Val,
+    ) -> Result<Outcome, Error>
+        ensures uses { UsesFrom self.old (to_call method arg bean_type quals.now) result self.new }
+        ensures step { CallStep self.old method arg bean_type quals.now result self.new }
+    {
+        self.use_bean(bean_type, quals, Some(Message { method, arg }))
+    }
+
+    /// A look-up, or a call.
+    fn use_bean(
+        &mut self,
+        bean_type: Name,
+        quals: &Quals,
+        message: Option<Message>,
+    ) -> Result<Outcome, Error>
+        ensures { UsesFrom self.old (asked_for bean_type quals.now message) result self.new }
+    {
+        match self
+            .deployment
+            .aim(self.alloc, bean_type, quals, message, &mut self.work)
+        {
+            Ok(aim) => {
+                let player = self.deployment.player();
+                let outcome = player.use_one(&mut self.run, aim.bean, aim.wanted)?;
+                Ok(outcome)
+            }
+            Err(Error::Refused(refusal)) => {
+                self.run.restart();
+                Err(Error::Refused(refusal))
+            }
+            Err(Error::OutOfMemory) => {
+                self.run.clear(self.run.given());
+                Err(Error::OutOfMemory)
+            }
+        }
+    }
+
+    /// A request is active from now on (CDI 4.0, Context management for built-in scopes). It takes no memory.
+    ///
+    /// # Errors
+    ///
+    /// `RequestActive`, where one is active already.
+    pub fn begin_request(&mut self) -> Result<(), Refusal>
+        ensures answer { result ≡ done_or (refusal_of_begin self.old.standing) }
+        ensures ok { OnOk result (self.new ≡ with_request self.old) }
+        ensures err { OnErr result (self.new ≡ untold self.old) }
+        ensures step { BeginStep self.old result self.new }
+    {
+        match self.run.begin_request() {
+            Ok(()) => Ok(()),
+            Err(_) => Err(Refusal::RequestActive),
+        }
+    }
+
+    /// The instances of the request are destroyed, and it is active no more (CDI 4.0, Context management for built-in
+    /// scopes). It takes memory for the entries of its trace.
+    ///
+    /// # Errors
+    ///
+    /// `OutOfMemory`, or `NoRequest`, where none is active.
+    pub fn end_request(&mut self) -> Result<(), Error>
+        ensures answer { Answers result (done_or (refusal_of_end self.old.standing)) }
+        ensures ok { OnOk result (EndsRequest self.old Answer.Done self.new) }
+        ensures step { EndStep self.old result self.new }
+    {
+        if !self.run.is_active() {
+            self.run.restart();
+            return Err(Error::Refused(Refusal::NoRequest));
+        }
+        if self.deployment.is_wired() {
+            self.deployment.player().end_request(&mut self.run)?;
+        } else {
+            self.run.restart();
+            self.run.close();
+        }
+        Ok(())
+    }
+
+    /// The instances of the request are destroyed, if one is active, and then those of the application, and no request is
+    /// active (CDI 4.0, Context management for built-in scopes). It takes memory for the entries of its trace.
+    pub fn stop(&mut self) -> Result<(), AllocError>
+        ensures ok { OnOk result (EndsContexts self.old Answer.Done self.new) }
+        ensures err { OnErr result (self.new ≡ emptied self.old) }
+        ensures step { StopStep self.old result self.new }
+    {
+        if self.deployment.is_wired() {
+            return self.deployment.player().end_contexts(&mut self.run);
+        }
+        self.run.restart();
+        self.run.close();
+        Ok(())
+    }
+}
