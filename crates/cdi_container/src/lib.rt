@@ -5,10 +5,11 @@ mod answer;
 mod asked;
 mod container;
 mod deployment;
+mod instances;
 mod intake;
 mod printing;
 mod runner;
-mod runs;
+
 mod script;
 mod wiring;
 
