@@ -132,8 +132,16 @@ abbrev pub begun : Standing → Result (Unit {0}) RequestError
 begun s = if s.active then Err Active else Ok tt
 
 -- whether a request can end: it can't where none is active (profile)
-abbrev pub closed : Standing → Result (Unit {0}) RequestError
-closed s = if s.active then Ok tt else Err Inactive
+abbrev pub closing : Standing → Result (Unit {0}) RequestError
+closing s = if s.active then Ok tt else Err Inactive
+
+-- a request is active from now on
+abbrev pub opened : Standing → Standing
+opened s = record s { active = true }
+
+-- no request is active any more
+abbrev pub closed : Standing → Standing
+closed s = record s { active = false }
 
 -- no instance is live and no request active; so many numbers were given
 abbrev pub cleared : ℕ → Standing

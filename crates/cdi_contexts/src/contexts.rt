@@ -2,7 +2,7 @@
 ghost use Rattle.std.specs.Prelude.{◌≡◌, ◌+◌, ◌<◌, ◌≤◌, ◌↔◌, length, map, true, false, IsTrue};
 ghost use Rattle.std.specs.Prelude.{None, IfSome, IsSome, IsOk, OnOk, OnErr, IfOk};
 ghost use Rattle.cdi_contexts.specs.Standing.{IsFull, IsLive, numbered, found, made_for, last_of, last_in, state_of};
-ghost use Rattle.cdi_contexts.specs.Standing.{started, gone, finished, without, stored, begun, closed, cleared};
+ghost use Rattle.cdi_contexts.specs.Standing.{started, gone, finished, without, stored, begun, closing, opened, closed, cleared};
 ghost use Rattle.cdi_contexts.specs.Places.{IsPlace, younger_than, EachIsAmong};
 ghost use Rattle.cdi_contexts.specs.Rising.{IsOwnerOf, IsRising};
 ghost use Rattle.cdi_contexts.specs.declared.instance.Actor.TheVariants.{Target, Interceptor};
@@ -320,7 +320,7 @@ impl Contexts {
     /// management for built-in scopes).
     pub fn begin_request(&mut self) -> Result<(), RequestError>
         ensures answer { result ≡ begun self.old.standing }
-        ensures ok { OnOk result (self.new.standing ≡ record self.old.standing { active = true }) }
+        ensures ok { OnOk result (self.new.standing ≡ opened self.old.standing) }
         ensures err { OnErr result (self.new.standing ≡ self.old.standing) }
         ensures room { self.new.room ≡ self.old.room }
     {
@@ -334,8 +334,8 @@ impl Contexts {
     /// No request is active any more; an error where none is. The instances of its context are the caller's to destroy
     /// first: all that is live stays. It takes no memory (CDI 4.0, Context management for built-in scopes).
     pub fn close_request(&mut self) -> Result<(), RequestError>
-        ensures answer { result ≡ closed self.old.standing }
-        ensures ok { OnOk result (self.new.standing ≡ record self.old.standing { active = false }) }
+        ensures answer { result ≡ closing self.old.standing }
+        ensures ok { OnOk result (self.new.standing ≡ closed self.old.standing) }
         ensures err { OnErr result (self.new.standing ≡ self.old.standing) }
         ensures room { self.new.room ≡ self.old.room }
     {

@@ -1,15 +1,17 @@
 -- Numbers only rise along a legal tree.
 use Rattle.std.proofs.Common.{◌≡◌, ℕ, ◌≤◌, arith, ap}
+use Rattle.cdi_model.specs.declared.outcome.Outcome.{Outcome}
 use Rattle.cdi_contexts.specs.declared.instance.Actor.TheVariants.{Target, Interceptor}
 use Rattle.cdi_contexts.specs.Standing.{Standing}
 use Rattle.cdi_scene.specs.declared.scene.Scene.{Scene}
 use Rattle.cdi_legal.specs.Ends.{Ends, End}
 use Rattle.cdi_legal.specs.Grows.{Grows}
 use Rattle.cdi_legal.specs.Legal.{Legal, Node, Answer}
+use Rattle.cdi_legal.specs.LegalRun.{Runs, Command}
 use Rattle.cdi_legal.specs.Moment.{Moment, step, put}
 use Rattle.cdi_legal.specs.declared.entry.Entry.{Entry}
 use Rattle.cdi_legal.specs.declared.entry.Entry.TheVariants as entries
-use Rattle.cdi_legal.proofs.Along.{IsAlong, ends_along, legal_along}
+use Rattle.cdi_legal.proofs.Along.{IsAlong, ends_along, legal_along, runs_along}
 
 step_grows : (s : Standing) (e : Entry) → s.given ≤ (step s e).given
 step_grows s (entries.Create id owner) = omega arith
@@ -50,3 +52,6 @@ ends_grow e = ends_along grows_along.keeps e
 
 pub legal_grows : {s : Scene} {k : ℕ} {x : Node} {a : Answer} {m m' : Moment} → Legal s k x m a m' → Grows m m'
 legal_grows l = legal_along grows_along l
+
+pub runs_grow : {s : Scene} {c : Command} {m : Moment} {o : Outcome} {m' : Moment} → Runs s c m o m' → Grows m m'
+runs_grow r = runs_along grows_along r

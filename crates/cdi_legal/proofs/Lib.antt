@@ -3,3 +3,4 @@ pub mod Following
 pub mod Growing
 pub mod Sharing
 pub mod Keeping
+pub mod Commands

@@ -5,7 +5,7 @@ use Rattle.cdi_model.specs.declared.outcome.Failure.{Failure}
 use Rattle.cdi_model.specs.declared.outcome.Outcome.{Outcome}
 use Rattle.cdi_model.specs.declared.outcome.Outcome.TheVariants.{Value, Failed}
 use Rattle.cdi_model.specs.declared.outcome.Val.{Val}
-use Rattle.cdi_contexts.specs.Standing.{Standing, own_state}
+use Rattle.cdi_contexts.specs.Standing.{Standing, own_state, closed}
 use Rattle.cdi_contexts.specs.declared.instance.InstanceId.{InstanceId}
 use Rattle.cdi_contexts.specs.declared.instance.Owner.TheVariants.{Nobody}
 use Rattle.cdi_scene.specs.Scene.{bean_at, product_at}
@@ -81,10 +81,6 @@ pub record LegalRun (s : Scene) (command : Command) (before : Standing) (trace :
   pub runs : Runs s command (beginning before) outcome end
   pub pushed : trace ≡ end.trace
   pub leaves : after ≡ end.standing
-
--- no request is active any more
-abbrev pub closed : Standing → Standing
-closed s = record s { active = false }
 
 -- The request context ends, and then no request is active.
 pub record LegalRequestEnd (s : Scene) (before : Standing) (trace : List Entry) (after : Standing) : Type 0 where

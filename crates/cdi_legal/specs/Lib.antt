@@ -8,3 +8,4 @@ pub mod Grows
 pub mod Room
 pub mod Single
 pub mod Keeps
+pub mod Laws

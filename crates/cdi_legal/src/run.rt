@@ -1,12 +1,14 @@
 //! A run under way. Each entry that is pushed does to the contexts what it says, so what stands follows from the trace.
-ghost use Rattle.std.specs.Prelude.{◌≡◌, ◌+◌, ◌<◌, ◌≤◌, ◌↔◌, false, IsTrue, None, IfSome, IsSome, IsOk, OnOk, IfOk};
-ghost use Rattle.cdi_contexts.specs.Standing.{IsFull, IsLive, numbered, found, made_for, last_of, last_in, state_of, cleared};
+ghost use Rattle.std.specs.Prelude.{◌≡◌, ◌+◌, ◌<◌, ◌≤◌, ◌↔◌, false, IsTrue, None, IfSome, IsSome, IsOk, OnOk, OnErr, IfOk};
+ghost use Rattle.cdi_contexts.specs.Standing.{IsFull, IsLive, numbered, found, made_for, last_of, last_in, state_of};
+ghost use Rattle.cdi_contexts.specs.Standing.{begun, opened, closed, cleared};
 ghost use Rattle.cdi_contexts.specs.Rising.{IsOwnerOf, IsRising};
+ghost use Rattle.cdi_legal.specs.Laws.{CommandsKeepSingle, CommandsRaiseGiven, EmptyEnds};
 ghost use Rattle.cdi_legal.specs.Moment.{Moment, Track, put, ask_more, beginning, is_create};
 ghost use Rattle.cdi_legal.specs.declared.entry.Entry.TheVariants.{Create};
 
 use crate::entry::Entry;
-use cdi_contexts::{Actor, Contexts, Instance, InstanceId, Owner};
+use cdi_contexts::{Actor, Contexts, Instance, InstanceId, Owner, RequestError};
 use cdi_model::{Scope, Val};
 use std::alloc::AllocError;
 use std::marker::Model;
@@ -47,6 +49,32 @@ impl Run {
             trace,
             asked: 0,
         }
+    }
+
+    /// A command begins: the entries of the command before and its askings are cleared. It takes no memory.
+    pub fn restart(&mut self)
+        ensures { self.new.moment ≡ beginning self.old.moment.standing }
+    {
+        self.trace.clear();
+        self.asked = 0;
+    }
+
+    /// A request is active from now on; an error where one is active already (profile). The entries of the command before
+    /// are cleared in both cases. It takes no memory (CDI 4.0, Context management for built-in scopes).
+    pub fn begin_request(&mut self) -> Result<(), RequestError>
+        ensures answer { result ≡ begun self.old.moment.standing }
+        ensures ok { OnOk result (self.new.moment ≡ beginning (opened self.old.moment.standing)) }
+        ensures err { OnErr result (self.new.moment ≡ beginning self.old.moment.standing) }
+    {
+        self.restart();
+        self.contexts.begin_request()
+    }
+
+    /// No request is active any more, whether one was or not. It takes no memory.
+    pub fn close(&mut self)
+        ensures { self.new.moment ≡ record self.old.moment { standing = closed self.old.moment.standing } }
+    {
+        let _ = self.contexts.close_request();
     }
 
     /// Pushes an entry that begins no instance, and does to the contexts what it says. It takes no memory where there is room.
@@ -184,10 +212,13 @@ impl Run {
         self.asked = 0;
     }
 
-    /// The contexts and the entries.
+    /// The contexts and the entries. What commands leave of what stands keeps the laws of whole commands.
     pub fn into_parts(self) -> (Contexts, Vec<Entry>)
         ensures standing { result.0.standing ≡ self.moment.standing }
         ensures trace { result.1.items ≡ self.moment.trace }
+        ensures single { CommandsKeepSingle }
+        ensures given { CommandsRaiseGiven }
+        ensures empty { EmptyEnds }
     {
         (self.contexts, self.trace)
     }

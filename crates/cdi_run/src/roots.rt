@@ -2,10 +2,10 @@
 ghost use Rattle.std.specs.Prelude.{◌≡◌, IfOk, OnOk, OnErr, IsSome};
 ghost use Rattle.cdi_scene.specs.Scene.{bean_at};
 ghost use Rattle.cdi_scene.specs.Sound.{AreObservers};
-ghost use Rattle.cdi_contexts.specs.Standing.{cleared};
-ghost use Rattle.cdi_legal.specs.Follows.{Follows};
+ghost use Rattle.cdi_contexts.specs.Standing.{closed, cleared};
+ghost use Rattle.cdi_legal.specs.Follows.{Follows, after};
 ghost use Rattle.cdi_legal.specs.Keeps.{Keeps};
-ghost use Rattle.cdi_legal.specs.LegalRun.{Runs, Uses, use_bean, notify_all};
+ghost use Rattle.cdi_legal.specs.LegalRun.{LegalRun, LegalRequestEnd, LegalEnd, Runs, Uses, use_bean, notify_all};
 ghost use Rattle.cdi_legal.specs.Moment.{beginning};
 ghost use Rattle.cdi_run.specs.Known.{IsUsable, use_of, EndsAll, StaysSingle};
 
@@ -31,22 +31,25 @@ pub enum Wanted {
     Answer { method: usize, arg: Val },
 }
 
-/// The entries that a call here pushes are those of a legal tree, in order, and what stands follows from them. After want of
-/// memory no instance is live, no request active and the trace empty, and numbers go on from where they were.
+/// Each public call is a whole command: the entries of the command before are cleared, those that it pushes are those of a
+/// legal run, in order, and what stands follows from them. After want of memory no instance is live, no request active and
+/// the trace empty, and numbers go on from where they were.
 impl<'a, B: Bodies> Player<'a, B> {
     /// A look-up or a call: the shared instance of a bean with a normal scope is used, and an instance of a dependent bean is
     /// made for this use and destroyed before the answer (the latter: profile).
     pub fn use_one(&self, run: &mut Run, bean: usize, wanted: Wanted) -> Result<Outcome, AllocError>
         requires there { IsSome (bean_at self.now.stage.scene bean) }
         requires usable { IsUsable self.now.stage.scene bean wanted }
-        ensures legal { IfOk result (λ outcome.
-            Runs self.now.stage.scene (use_bean bean (use_of wanted)) run.old.moment outcome run.new.moment) }
-        ensures follows { OnOk result (Follows run.old.moment run.new.moment) }
-        ensures single { OnOk result (StaysSingle self.now.stage.scene run.old.moment run.new.moment) }
-        ensures kept { OnOk result (Keeps run.old.moment run.new.moment) }
+        ensures legal { let before = run.old.moment.standing in let now = run.new.moment in
+            IfOk result (λ outcome. LegalRun self.now.stage.scene (use_bean bean (use_of wanted)) before
+            now.trace outcome now.standing) }
+        ensures follows { OnOk result (Follows (beginning run.old.moment.standing) run.new.moment) }
+        ensures single { OnOk result (StaysSingle self.now.stage.scene (beginning run.old.moment.standing) run.new.moment) }
+        ensures kept { OnOk result (Keeps (beginning run.old.moment.standing) run.new.moment) }
         ensures out_of_memory { OnErr result (run.new.moment ≡ beginning (cleared run.old.moment.standing.given)) }
     {
         let given = run.given();
+        run.restart();
         match self.use_either(run, bean, wanted) {
             Ok(outcome) => Ok(outcome),
             Err(error) => {
@@ -64,14 +67,16 @@ impl<'a, B: Bodies> Player<'a, B> {
         arg: Val,
     ) -> Result<Outcome, AllocError>
         requires observers { AreObservers self.now.stage.scene observers.now }
-        ensures legal { IfOk result (λ outcome.
-            Runs self.now.stage.scene (notify_all observers.now arg) run.old.moment outcome run.new.moment) }
-        ensures follows { OnOk result (Follows run.old.moment run.new.moment) }
-        ensures single { OnOk result (StaysSingle self.now.stage.scene run.old.moment run.new.moment) }
-        ensures kept { OnOk result (Keeps run.old.moment run.new.moment) }
+        ensures legal { let before = run.old.moment.standing in let now = run.new.moment in
+            IfOk result (λ outcome. LegalRun self.now.stage.scene (notify_all observers.now arg) before
+            now.trace outcome now.standing) }
+        ensures follows { OnOk result (Follows (beginning run.old.moment.standing) run.new.moment) }
+        ensures single { OnOk result (StaysSingle self.now.stage.scene (beginning run.old.moment.standing) run.new.moment) }
+        ensures kept { OnOk result (Keeps (beginning run.old.moment.standing) run.new.moment) }
         ensures out_of_memory { OnErr result (run.new.moment ≡ beginning (cleared run.old.moment.standing.given)) }
     {
         let given = run.given();
+        run.restart();
         match self.notify_each(run, DEPTH, observers, arg) {
             Ok(outcome) => Ok(outcome),
             Err(error) => {
@@ -81,17 +86,47 @@ impl<'a, B: Bodies> Player<'a, B> {
         }
     }
 
-    /// Ends the request context and then the application context (CDI 4.0, Context management for built-in scopes). Whether a
-    /// request is active stays as it was: its end is the caller's.
-    pub fn end_contexts(&self, run: &mut Run) -> Result<(), AllocError>
-        ensures legal { OnOk result (EndsAll self.now.stage.scene run.old.moment run.new.moment) }
-        ensures follows { OnOk result (Follows run.old.moment run.new.moment) }
-        ensures single { OnOk result (StaysSingle self.now.stage.scene run.old.moment run.new.moment) }
+    /// Ends the request context, and then no request is active (CDI 4.0, Context management for built-in scopes). Whether
+    /// one was active is the caller's to ask.
+    pub fn end_request(&self, run: &mut Run) -> Result<(), AllocError>
+        ensures legal { let before = run.old.moment.standing in let now = run.new.moment in
+            OnOk result (LegalRequestEnd self.now.stage.scene before now.trace now.standing) }
+        ensures follows { let before = run.old.moment.standing in let now = run.new.moment in
+            OnOk result (now.standing ≡ closed (after before now.trace)) }
+        ensures single { OnOk result (StaysSingle self.now.stage.scene (beginning run.old.moment.standing) run.new.moment) }
         ensures out_of_memory { OnErr result (run.new.moment ≡ beginning (cleared run.old.moment.standing.given)) }
     {
         let given = run.given();
+        run.restart();
+        match self.stage.end_context(run, Scope::Request) {
+            Ok(()) => {
+                run.close();
+                Ok(())
+            }
+            Err(error) => {
+                run.clear(given);
+                Err(error)
+            }
+        }
+    }
+
+    /// Ends the request context and then the application context, and then no request is active (CDI 4.0, Context
+    /// management for built-in scopes).
+    pub fn end_contexts(&self, run: &mut Run) -> Result<(), AllocError>
+        ensures legal { let before = run.old.moment.standing in let now = run.new.moment in
+            OnOk result (LegalEnd self.now.stage.scene before now.trace now.standing) }
+        ensures follows { let before = run.old.moment.standing in let now = run.new.moment in
+            OnOk result (now.standing ≡ closed (after before now.trace)) }
+        ensures single { OnOk result (StaysSingle self.now.stage.scene (beginning run.old.moment.standing) run.new.moment) }
+        ensures out_of_memory { OnErr result (run.new.moment ≡ beginning (cleared run.old.moment.standing.given)) }
+    {
+        let given = run.given();
+        run.restart();
         match self.end_both(run) {
-            Ok(()) => Ok(()),
+            Ok(()) => {
+                run.close();
+                Ok(())
+            }
             Err(error) => {
                 run.clear(given);
                 Err(error)

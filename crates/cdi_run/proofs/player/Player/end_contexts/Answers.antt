@@ -1,10 +1,26 @@
-use Rattle.cdi_legal.proofs.Following.{ends_follow, then}
-use Rattle.cdi_legal.proofs.Sharing.{by_ends}
+use Rattle.std.proofs.Common.{◌≡◌, ap}
+use Rattle.cdi_contexts.specs.Standing.{Standing, closed}
+use Rattle.cdi_scene.specs.declared.scene.Scene.{Scene}
+use Rattle.cdi_legal.specs.LegalRun.{LegalEnd}
+use Rattle.cdi_legal.specs.Moment.{Moment, beginning}
+use Rattle.cdi_legal.proofs.Commands.{end_follows, end_single}
+use Rattle.cdi_run.specs.Known.{EndsAll}
 use Rattle.cdi_run.proofs.player.Player.end_contexts.Goals as goal
 
+-- both contexts ended, and then the request was closed
+ended : (s : Scene) (before : Standing) (old end new : Moment) → old ≡ beginning before → EndsAll s old end
+    → new ≡ record end { standing = closed end.standing } → LegalEnd s before new.trace new.standing
+ended s before old end new began ends closes = record {
+  middle = ends.middle;
+  end = end;
+  first = rw began at ends.request;
+  then = ends.application;
+  pushed = ap (λ (m : Moment). m.trace) closes;
+  leaves = ap (λ (m : Moment). m.standing) closes;
+}
+
 pub returns-in-Ok-clause-follows : goal.returns-in-Ok-clause-follows
-returns-in-Ok-clause-follows g c =
-    then _ _ _ (ends_follow c.in-Ok.ensures.request) (ends_follow c.in-Ok.ensures.application)
+returns-in-Ok-clause-follows g c = end_follows (ended _ _ _ _ _ c.restart.ensures c.in-Ok.ensures c.close.ensures)
 
 pub returns-in-Ok-clause-single : goal.returns-in-Ok-clause-single
-returns-in-Ok-clause-single g c = λ single. by_ends c.in-Ok.ensures.application (by_ends c.in-Ok.ensures.request single)
+returns-in-Ok-clause-single g c = end_single (ended _ _ _ _ _ c.restart.ensures c.in-Ok.ensures c.close.ensures)

@@ -1,3 +1,4 @@
+use Rattle.std.proofs.Common.{refl}
 use Rattle.cdi_legal.specs.LegalRun.{Runs}
 use Rattle.cdi_legal.proofs.Following.{legal_follows}
 use Rattle.cdi_legal.proofs.Keeping.{runs_keep}
@@ -5,13 +6,19 @@ use Rattle.cdi_legal.proofs.Sharing.{legal_single}
 use Rattle.cdi_run.proofs.player.Player.fire.Goals as goal
 
 pub returns-in-Ok-clause-legal : goal.returns-in-Ok-clause-legal
-returns-in-Ok-clause-legal g c = Runs.fired _ _ _ _ _ c.in-Ok.ensures
+returns-in-Ok-clause-legal g c = record {
+  end = c.notify_each.new.run.moment;
+  runs = Runs.fired _ _ _ _ _ (rw c.restart.ensures at c.in-Ok.ensures);
+  pushed = refl;
+  leaves = refl;
+}
 
 pub returns-in-Ok-clause-follows : goal.returns-in-Ok-clause-follows
-returns-in-Ok-clause-follows g c = legal_follows c.in-Ok.ensures
+returns-in-Ok-clause-follows g c = legal_follows (rw c.restart.ensures at c.in-Ok.ensures)
 
 pub returns-in-Ok-clause-single : goal.returns-in-Ok-clause-single
-returns-in-Ok-clause-single g c = legal_single c.in-Ok.ensures tt
+returns-in-Ok-clause-single g c = legal_single (rw c.restart.ensures at c.in-Ok.ensures) tt
 
 pub returns-in-Ok-clause-kept : goal.returns-in-Ok-clause-kept
-returns-in-Ok-clause-kept g c = runs_keep (Runs.fired _ _ _ _ _ c.in-Ok.ensures) c.given-given.ensures.rising
+returns-in-Ok-clause-kept g c =
+    runs_keep (Runs.fired _ _ _ _ _ (rw c.restart.ensures at c.in-Ok.ensures)) c.given-given.ensures.rising

@@ -1,0 +1,105 @@
+-- The laws of whole commands.
+use Rattle.std.proofs.Common.{◌≡◌, ◌≤◌, List, [], refl, ap, ◌∙◌, arith, subst, sym}
+use Rattle.cdi_model.specs.declared.decl.Scope.{Scope}
+use Rattle.cdi_model.specs.declared.decl.Scope.TheVariants as scopes
+use Rattle.cdi_model.specs.declared.outcome.Outcome.{Outcome}
+use Rattle.cdi_contexts.specs.Standing.{Standing, last_in, closed}
+use Rattle.cdi_contexts.specs.declared.instance.Instance.{Instance}
+use Rattle.cdi_scene.specs.declared.scene.Scene.{Scene}
+use Rattle.cdi_legal.specs.Ends.{Ends, context}
+use Rattle.cdi_legal.specs.Follows.{Follows, after}
+use Rattle.cdi_legal.specs.Laws.{CommandsKeepSingle, CommandsRaiseGiven, EmptyEnds}
+use Rattle.cdi_legal.specs.LegalRun.{Command, LegalRun, LegalRequestEnd, LegalEnd}
+use Rattle.cdi_legal.specs.Moment.{Moment, beginning}
+use Rattle.cdi_legal.specs.Single.{IsSingle}
+use Rattle.cdi_legal.specs.declared.entry.Entry.{Entry}
+use Rattle.cdi_legal.proofs.Following.{ends_follow, runs_follow, then}
+use Rattle.cdi_legal.proofs.Growing.{ends_grow, runs_grow}
+use Rattle.cdi_legal.proofs.Sharing.{by_ends, runs_single}
+
+-- ---- at most one instance of each bean with a normal scope
+
+single_of : (s : Scene) (a b : Standing) → a ≡ b → IsSingle s b.live → IsSingle s a.live
+single_of s a b e q = subst (λ (x : Standing). IsSingle s x.live) (sym e) q
+
+pub run_single : {s : Scene} {c : Command} {a : Standing} {t : List Entry} {o : Outcome} {b : Standing} → LegalRun s c a t o b
+    → IsSingle s a.live → IsSingle s b.live
+run_single {s} {c} {a} {t} {o} {b} l q = single_of s b l.end.standing l.leaves (runs_single l.runs q)
+
+pub request_end_single : {s : Scene} {a : Standing} {t : List Entry} {b : Standing} → LegalRequestEnd s a t b
+    → IsSingle s a.live → IsSingle s b.live
+request_end_single {s} {a} {t} {b} l q = single_of s b (closed l.end.standing) l.leaves (by_ends l.ends q)
+
+pub end_single : {s : Scene} {a : Standing} {t : List Entry} {b : Standing} → LegalEnd s a t b
+    → IsSingle s a.live → IsSingle s b.live
+end_single {s} {a} {t} {b} l q = single_of s b (closed l.end.standing) l.leaves (by_ends l.then (by_ends l.first q))
+
+pub commands_keep_single : CommandsKeepSingle
+commands_keep_single = record {
+  run = λ s c a t o b l. run_single l;
+  request_end = λ s a t b l. request_end_single l;
+  end = λ s a t b l. end_single l;
+}
+
+-- ---- numbers
+
+pub run_grows : {s : Scene} {c : Command} {a : Standing} {t : List Entry} {o : Outcome} {b : Standing} → LegalRun s c a t o b
+    → a.given ≤ b.given
+run_grows l = omega (arith, runs_grow l.runs, ap (λ (x : Standing). x.given) l.leaves)
+
+pub request_end_grows : {s : Scene} {a : Standing} {t : List Entry} {b : Standing} → LegalRequestEnd s a t b → a.given ≤ b.given
+request_end_grows l = omega (arith, ends_grow l.ends, ap (λ (x : Standing). x.given) l.leaves)
+
+pub end_grows : {s : Scene} {a : Standing} {t : List Entry} {b : Standing} → LegalEnd s a t b → a.given ≤ b.given
+end_grows l = omega (arith, ends_grow l.first, ends_grow l.then, ap (λ (x : Standing). x.given) l.leaves)
+
+pub commands_raise_given : CommandsRaiseGiven
+commands_raise_given = record {
+  run = λ s c a t o b l. run_grows l;
+  request_end = λ s a t b l. request_end_grows l;
+  end = λ s a t b l. end_grows l;
+}
+
+-- ---- the fold of the entries
+
+folded : (s : Standing) (m : Moment) → Follows (beginning s) m → m.standing ≡ after s m.trace
+folded s m f = f.standing ∙ ap (λ (t : List Entry). after s t) (sym f.trace)
+
+pub run_follows : {s : Scene} {c : Command} {a : Standing} {t : List Entry} {o : Outcome} {b : Standing} → LegalRun s c a t o b
+    → b ≡ after a t
+run_follows {s} {c} {a} l =
+    l.leaves ∙ folded a l.end (runs_follow l.runs) ∙ ap (λ (t : List Entry). after a t) (sym l.pushed)
+
+pub request_end_follows : {s : Scene} {a : Standing} {t : List Entry} {b : Standing} → LegalRequestEnd s a t b → b ≡ closed (after a t)
+request_end_follows {s} {a} l =
+    l.leaves ∙ ap (λ (x : Standing). closed x) (folded a l.end (ends_follow l.ends))
+    ∙ ap (λ (t : List Entry). closed (after a t)) (sym l.pushed)
+
+pub end_follows : {s : Scene} {a : Standing} {t : List Entry} {b : Standing} → LegalEnd s a t b → b ≡ closed (after a t)
+end_follows {s} {a} l =
+    l.leaves ∙ ap (λ (x : Standing). closed x) (folded a l.end (then _ _ _ (ends_follow l.first) (ends_follow l.then)))
+    ∙ ap (λ (t : List Entry). closed (after a t)) (sym l.pushed)
+
+-- ---- where nothing is live
+
+ends_empty : (s : Scene) (scope : Scope) (before : Standing) → before.live ≡ []
+    → Ends s (context scope) (beginning before) (beginning before)
+ends_empty s scope before h = Ends.context_empty _ _ (ap (λ (live : List Instance). last_in live scope) h)
+
+pub empty_ends : EmptyEnds
+empty_ends = record {
+  request_end = λ s before h. record {
+    end = beginning before;
+    ends = ends_empty s scopes.Request before h;
+    pushed = refl;
+    leaves = refl;
+  };
+  end = λ s before h. record {
+    middle = beginning before;
+    end = beginning before;
+    first = ends_empty s scopes.Request before h;
+    then = ends_empty s scopes.Application before h;
+    pushed = refl;
+    leaves = refl;
+  };
+}

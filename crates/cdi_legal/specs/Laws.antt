@@ -1,0 +1,36 @@
+-- Laws of whole commands: of look-ups, calls and events, and of the ends of contexts.
+use Rattle.std.specs.Prelude.{◌≡◌, ◌≤◌, List, []}
+use Rattle.cdi_model.specs.declared.outcome.Outcome.{Outcome}
+use Rattle.cdi_contexts.specs.Standing.{Standing, closed}
+use Rattle.cdi_scene.specs.declared.scene.Scene.{Scene}
+use Rattle.cdi_legal.specs.LegalRun.{Command, LegalRun, LegalRequestEnd, LegalEnd}
+use Rattle.cdi_legal.specs.Single.{IsSingle}
+use Rattle.cdi_legal.specs.declared.entry.Entry.{Entry}
+
+-- it holds from what stands before each command to what stands after
+pub record IsKeptByCommands (R : Scene → Standing → Standing → Type 0) : Type 0 where
+  pub run : (s : Scene) (command : Command) (before : Standing) (trace : List Entry) (outcome : Outcome) (after : Standing)
+      → LegalRun s command before trace outcome after → R s before after
+  pub request_end : (s : Scene) (before : Standing) (trace : List Entry) (after : Standing)
+      → LegalRequestEnd s before trace after → R s before after
+  pub end : (s : Scene) (before : Standing) (trace : List Entry) (after : Standing)
+      → LegalEnd s before trace after → R s before after
+
+-- where at most one instance of each bean with a normal scope is live before, this is so after
+abbrev pub KeepsSingle : Scene → Standing → Standing → Type 0
+KeepsSingle s before after = IsSingle s before.live → IsSingle s after.live
+
+abbrev pub CommandsKeepSingle : Type 0
+CommandsKeepSingle = IsKeptByCommands KeepsSingle
+
+-- no number is taken back
+abbrev pub RaisesGiven : Scene → Standing → Standing → Type 0
+RaisesGiven s before after = before.given ≤ after.given
+
+abbrev pub CommandsRaiseGiven : Type 0
+CommandsRaiseGiven = IsKeptByCommands RaisesGiven
+
+-- where nothing is live, both ends are legal without an entry
+pub record EmptyEnds : Type 0 where
+  pub request_end : (s : Scene) (before : Standing) → before.live ≡ [] → LegalRequestEnd s before [] (closed before)
+  pub end : (s : Scene) (before : Standing) → before.live ≡ [] → LegalEnd s before [] (closed before)

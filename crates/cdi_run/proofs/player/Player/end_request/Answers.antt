@@ -1,0 +1,27 @@
+use Rattle.std.proofs.Common.{◌≡◌, ap}
+use Rattle.cdi_contexts.specs.Standing.{Standing, closed}
+use Rattle.cdi_model.specs.declared.decl.Scope.TheVariants.{Request}
+use Rattle.cdi_scene.specs.declared.scene.Scene.{Scene}
+use Rattle.cdi_legal.specs.Ends.{Ends, context}
+use Rattle.cdi_legal.specs.LegalRun.{LegalRequestEnd}
+use Rattle.cdi_legal.specs.Moment.{Moment, beginning}
+use Rattle.cdi_legal.proofs.Commands.{request_end_follows, request_end_single}
+use Rattle.cdi_run.proofs.player.Player.end_request.Goals as goal
+
+-- the context ended, and then the request was closed
+ended : (s : Scene) (before : Standing) (old end new : Moment) → old ≡ beginning before → Ends s (context Request) old end
+    → new ≡ record end { standing = closed end.standing } → LegalRequestEnd s before new.trace new.standing
+ended s before old end new began ends closes = record {
+  end = end;
+  ends = rw began at ends;
+  pushed = ap (λ (m : Moment). m.trace) closes;
+  leaves = ap (λ (m : Moment). m.standing) closes;
+}
+
+pub returns-in-Ok-clause-follows : goal.returns-in-Ok-clause-follows
+returns-in-Ok-clause-follows g c =
+    request_end_follows (ended _ _ _ _ _ c.restart.ensures c.in-Ok.ensures.legal c.close.ensures)
+
+pub returns-in-Ok-clause-single : goal.returns-in-Ok-clause-single
+returns-in-Ok-clause-single g c =
+    request_end_single (ended _ _ _ _ _ c.restart.ensures c.in-Ok.ensures.legal c.close.ensures)
