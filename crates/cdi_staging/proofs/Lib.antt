@@ -3,4 +3,5 @@ mod BesideLemmas
 mod ChosenLemmas
 mod PartLemmas
 mod SoundLemmas
+pub mod LookupLemmas
 pub mod SceneLemmas

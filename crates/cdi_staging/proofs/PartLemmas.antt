@@ -68,7 +68,7 @@ part-made book calls allowed name part fit e =
 -- ---- call sites
 
 -- the method is there that the call site names, if the bean is a managed one
-method-there : (ds : List Decl) (book : List Promised) (id : BeanId) (name : List ℕ) (r : Reached ds book id) (via : Via)
+pub method-there : (ds : List Decl) (book : List Promised) (id : BeanId) (name : List ℕ) (r : Reached ds book id) (via : Via)
     → (id.producer ≡ None → Declares ds id.class name) → (o : Option (List ℕ)) → id.producer ≡ o
     → HasMethod (scene_of ds book)
     (record { via = via; bean = position_of_bean (beans ds) id; method = method_of ds (class_with id.class o) name })

@@ -2,3 +2,4 @@ pub mod Sites
 pub mod Staged
 pub mod Faultless
 pub mod Naming
+pub mod Lookups
