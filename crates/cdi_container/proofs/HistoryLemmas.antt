@@ -1,6 +1,6 @@
 -- The declarations behind a legal history are what its accepted edits make.
 use Rattle.std.proofs.Common.{◌≡◌, ℕ, List, [], ◌∷◌, ◌++◌, refl, ap, sym, ◌∙◌, subst, Bool, true, false, None, Some, Option}
-use Rattle.std.specs.Prelude.{Result, Ok, Err}
+use Rattle.std.specs.Prelude.{Result, Ok, Err, if◌then◌else◌}
 use Rattle.std.specs.declared.alloc.AllocError.{AllocError}
 use Rattle.cdi_model.specs.declared.decl.Decl.{Decl}
 use Rattle.cdi_model.specs.declared.refusal.Refusal.{Refusal}
@@ -25,13 +25,7 @@ put_of_read : (old : State) (read : Result Decl Refusal) → refusal_of_put old.
 put_of_read old (Ok d) accepted = refl
 put_of_read old (Err refusal) accepted = cc
 
--- a command that was carried out leaves what its edits make, and one that does not answer `Done` makes none
-pub record LeavesEdited (old : State) (command : Command) (answer : Answer) (new : State) : Type 0 where
-  pub decls : new.decls ≡ edited_all old.decls (accepted_edit command (Ok answer))
-
-decls_alike : (old new other : State) → new ≡ other → other.decls ≡ old.decls → new.decls ≡ old.decls
-decls_alike old new other h k = ap (λ s. s.decls) h ∙ k
-
+-- what a command that was carried out leaves is what its edits make
 acts_edits : (old new : State) (command : Command) (answer : Answer) → refusal_of old command ≡ None → Acts old command answer new
     → new.decls ≡ edited_all old.decls (accepted_edit command (Ok answer))
 acts_edits old new (Put text) answer accepted h =

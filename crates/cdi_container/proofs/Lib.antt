@@ -1,3 +1,5 @@
+mod Aiming
+mod Ending
 mod Runs
 mod Ran
 mod Serving

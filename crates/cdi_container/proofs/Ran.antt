@@ -18,7 +18,7 @@ use Rattle.cdi_container.specs.History.{State, Acts, with_put}
 use Rattle.cdi_container.specs.declared.runner.Runner.{Runner}
 
 -- a command that leaves entries behind leaves the declarations
-TellsAlike : State → State → Type 0
+abbrev TellsAlike : State → State → Type 0
 TellsAlike old new = (new.decls ≡ old.decls) ⊎ (new.trace ≡ [])
 
 put_tells_nothing : (old : State) (read : Result Decl Refusal) → (with_put old read).trace ≡ []
@@ -69,7 +69,7 @@ ran old new container command answer step prints = record {
     trace = sym (ap (λ s. s.trace) prints.container);
     names = refl;
   };
-  text = prints.text ∙ ap (λ t. old.out.items ++ t ++ text_of_answer (Ok answer))
+  text = prints.text ∙ ap (λ t. old.out.items ++ (t ++ text_of_answer (Ok answer)))
       (told_alike old.quiet old.container container (step_alike old.container container command answer step));
   refused = prints.refused;
   quiet = prints.quiet;

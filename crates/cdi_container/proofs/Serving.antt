@@ -16,8 +16,8 @@ use Rattle.cdi_lines.specs.declared.command.Command.TheVariants.{Put}
 use Rattle.cdi_container.specs.Commands.{Mode, Outside, InPut, is_dot}
 use Rattle.std.specs.declared.alloc.AllocError.{AllocError}
 use Rattle.cdi_container.specs.declared.answer.Answer.{Answer}
-use Rattle.cdi_container.specs.declared.answer.Answer.TheVariants.{Done, Chosen, Reported, Refused}
-use Rattle.cdi_container.specs.History.{State, Entry, LegalAnswer, refusal_of, refusal_of_put}
+use Rattle.cdi_container.specs.declared.answer.Answer.TheVariants.{Done, Chosen, Reported, Given, Refused}
+use Rattle.cdi_container.specs.History.{State, LegalAnswer, refusal_of, refusal_of_put}
 use Rattle.cdi_container.specs.Text.{is_out_of_memory}
 use Rattle.cdi_container.specs.Runner.{RunsStep}
 use Rattle.cdi_container.specs.Intake.{ServesMode}
@@ -57,14 +57,15 @@ too_long state text long =
     ap (refusal_of_put state.decls) refused
 
 -- two texts that are too long are refused alike
-put_alike : (old new : State) (kept text : List ℕ) (answer : Result Answer AllocError) (trace : List Entry) → 65536 < length kept
+put_alike : (old new : State) (kept text : List ℕ) (answer : Result Answer AllocError) → 65536 < length kept
     → 65536 < length text → is_out_of_memory answer ≡ false
-    → LegalAnswer old (Put kept) answer trace new → LegalAnswer old (Put text) answer trace new
-put_alike old new kept text (Ok Done) trace k t memory h = absurd (let e : Some TooLong ≡ None = sym (too_long old kept k) ∙ h.0 in cc)
-put_alike old new kept text (Ok (Chosen choice)) trace k t memory h = absurd h.1
-put_alike old new kept text (Ok (Reported list)) trace k t memory h = absurd h.1
-put_alike old new kept text (Ok (Refused refusal)) trace k t memory h = (too_long old text t ∙ sym (too_long old kept k) ∙ h.0, h.1, h.2)
-put_alike old new kept text (Err error) trace k t memory h = cc
+    → LegalAnswer old (Put kept) answer new → LegalAnswer old (Put text) answer new
+put_alike old new kept text (Ok Done) k t memory h = absurd (let e : Some TooLong ≡ None = sym (too_long old kept k) ∙ h.0 in cc)
+put_alike old new kept text (Ok (Chosen choice)) k t memory h = absurd (let e : Some TooLong ≡ None = sym (too_long old kept k) ∙ h.0 in cc)
+put_alike old new kept text (Ok (Reported list)) k t memory h = absurd (let e : Some TooLong ≡ None = sym (too_long old kept k) ∙ h.0 in cc)
+put_alike old new kept text (Ok (Given outcome)) k t memory h = absurd (let e : Some TooLong ≡ None = sym (too_long old kept k) ∙ h.0 in cc)
+put_alike old new kept text (Ok (Refused refusal)) k t memory h = (too_long old text t ∙ sym (too_long old kept k) ∙ h.0, h.1)
+put_alike old new kept text (Err error) k t memory h = cc
 
 pub serves_put : {B : Type 0} (old new : Runner B) (kept text : List ℕ) → ServesText kept text → RunsStep old new (Put kept)
     → RunsStep old new (Put text)
@@ -73,8 +74,12 @@ serves_put old new kept text (inr h) r = record {
   step = record r.step { command = Put text };
   command_is = refl;
   memory = r.memory;
-  legal = put_alike old.container new.container kept text r.step.answer r.step.trace h.0 h.1 r.memory
-      (subst (λ c. LegalAnswer old.container c r.step.answer r.step.trace new.container) r.command_is r.legal);
+  legal = record {
+    answered = put_alike old.container new.container kept text r.step.answer h.0 h.1 r.memory
+        (subst (λ c. LegalAnswer old.container c r.step.answer new.container) r.command_is r.legal.answered);
+    trace = r.legal.trace;
+    names = r.legal.names;
+  };
   text = r.text;
   refused = r.refused;
   quiet = r.quiet;

@@ -14,6 +14,7 @@ use Rattle.cdi_resolve.specs.declared.choice.Choice.TheVariants as choices
 use Rattle.cdi_staging.specs.Sites.{managed_class, position_of_bean, method_of}
 use Rattle.cdi_legal.specs.LegalRun.{Command, use_bean}
 use Rattle.cdi_run.specs.Known.{use_of}
+use Rattle.cdi_run.specs.declared.roots.Wanted.{Wanted}
 use Rattle.cdi_run.specs.declared.roots.Wanted.TheVariants as wanteds
 use Rattle.cdi_validate.specs.Asked.{are_known}
 use Rattle.cdi_validate.specs.Faults.{faults}
@@ -38,21 +39,22 @@ to_call method arg t quals = asked_for t quals (Some (record { method = method; 
 
 -- ---- where it leads, or why it is refused
 
--- a bean by its position, and its state
-abbrev pub aim_at : List Decl → BeanId → Option Message → Result Aim Refusal
-aim_at ds id None = Ok (record { bean = position_of_bean (beans ds) id; wanted = wanteds.State })
-aim_at ds id (Some message) =
+-- what is done with the instance of a bean: its state is looked up, or a method is called that it has
+abbrev pub wanted_of : List Decl → BeanId → Option Message → Result Wanted Refusal
+wanted_of ds id None = Ok wanteds.State
+wanted_of ds id (Some message) =
     if has_method ds id message.method
-    then Ok (record {
-      bean = position_of_bean (beans ds) id;
-      wanted = wanteds.Answer (method_of ds (managed_class id) message.method) message.arg;
-    })
+    then Ok (wanteds.Answer (method_of ds (managed_class id) message.method) message.arg)
     else Err refusals.NoMethod
+
+abbrev pub aim_with : ℕ → Result Wanted Refusal → Result Aim Refusal
+aim_with b (Ok wanted) = Ok (record { bean = b; wanted = wanted })
+aim_with b (Err refusal) = Err refusal
 
 abbrev pub aim_of_choice : List Decl → Option Message → Choice → Result Aim Refusal
 aim_of_choice ds message choices.Unsatisfied = Err refusals.Unsatisfied
 aim_of_choice ds message (choices.Ambiguous ids) = Err refusals.Ambiguous
-aim_of_choice ds message (choices.One id) = aim_at ds id message
+aim_of_choice ds message (choices.One id) = aim_with (position_of_bean (beans ds) id) (wanted_of ds id message)
 
 -- the bean that is right for it (CDI 4.0, Performing typesafe resolution)
 unfoldable pub aim_for : List Decl → Asked → Result Aim Refusal

@@ -149,6 +149,11 @@ UsesFrom old asked (Ok outcome) new = RunsFrom old asked (Given outcome) new
 UsesFrom old asked (Err errors.OutOfMemory) new = new ≡ emptied old
 UsesFrom old asked (Err (errors.Refused refusal)) new = (aim_of old.decls old.book asked ≡ Err refusal) × (new ≡ untold old)
 
+-- what a call leaves that was refused, or that found no memory and is no run
+abbrev pub left_by : Error → State → State
+left_by errors.OutOfMemory old = old
+left_by (errors.Refused refusal) old = untold old
+
 -- the command makes, calls or destroys instances
 abbrev pub runs : Command → Bool
 runs (LookUp t quals) = true

@@ -1,7 +1,6 @@
 pub mod Commands
 pub mod Asked
 pub mod History
-pub mod Short
 pub mod Wired
 pub mod Seen
 pub mod Text

@@ -30,7 +30,7 @@ text_shown quiet state = text_of_trace quiet (names_of state.decls) state.trace
 -- the trace of the container and an answer were printed, and the container stays
 pub record Prints {B : Type 0} (old new : Runner B) (answer : Answer) : Type 0 where
   pub container : new.container ≡ old.container
-  pub text : new.out.items ≡ old.out.items ++ text_shown old.quiet old.container ++ text_of_answer (Ok answer)
+  pub text : new.out.items ≡ old.out.items ++ (text_shown old.quiet old.container ++ text_of_answer (Ok answer))
   pub refused : new.refused ≡ (old.refused || is_refused (Ok answer))
   pub quiet : new.quiet ≡ old.quiet
 

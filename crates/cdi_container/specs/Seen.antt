@@ -19,7 +19,6 @@ use Rattle.cdi_lines.specs.declared.command.Command.{Command}
 use Rattle.cdi_lines.specs.declared.command.Command.TheVariants.{Put, Remove, Choose, Named, Report, LookUp, Call, BeginRequest, EndRequest, Stop}
 use Rattle.cdi_container.specs.declared.answer.Answer.{Answer}
 use Rattle.cdi_container.specs.declared.answer.Answer.TheVariants.{Done, Chosen, Reported, Given, Refused}
-use Rattle.cdi_container.specs.Asked.{Asked, Message, to_look, to_call}
 use Rattle.cdi_container.specs.History.{State, LegalAnswer}
 
 -- what a put of what a text spells answers

@@ -1,15 +1,14 @@
 -- What is kept of a deployment between questions.
 use Rattle.std.specs.Prelude.{◌≡◌, ℕ, ◌<◌, Bool, true, false, List, [], length, Option, Some, None, IsSome, Result, Ok, Err}
 use Rattle.cdi_model.specs.declared.decl.Decl.{Decl}
-use Rattle.cdi_container.specs.Short.{AreShort}
+use Rattle.cdi_model.specs.Short.{AreShort}
 use Rattle.cdi_model.specs.Edits.{edited}
 use Rattle.cdi_model.specs.declared.edit.Edit.{Edit}
 use Rattle.cdi_bodies.specs.Book.{Promised}
-use Rattle.cdi_contexts.specs.Standing.{Standing, cleared}
+use Rattle.cdi_contexts.specs.Standing.{cleared}
 use Rattle.cdi_model.specs.declared.refusal.Error.{Error}
 use Rattle.cdi_model.specs.declared.refusal.Error.TheVariants as errors
 use Rattle.cdi_legal.specs.Moment.{Moment, beginning}
-use Rattle.cdi_legal.specs.declared.entry.Entry.{Entry}
 use Rattle.cdi_scene.specs.Scene.{bean_at}
 use Rattle.cdi_scene.specs.Sound.{IsSound}
 use Rattle.cdi_scene.specs.declared.scene.Scene.{Scene}
@@ -59,9 +58,9 @@ pub record IsSameDeployment (old new : Deployed) : Type 0 where
   pub wired : old.is_wired ≡ true → new.is_wired ≡ true
 
 -- without a scene nothing is live, and nothing is told
-pub record RestsOnScene (is_wired : Bool) (standing : Standing) (trace : List Entry) : Type 0 where
-  pub live : is_wired ≡ false → standing.live ≡ []
-  pub trace : is_wired ≡ false → trace ≡ []
+pub record RestsOnScene (is_wired : Bool) (m : Moment) : Type 0 where
+  pub nothing_lives : is_wired ≡ false → m.standing.live ≡ []
+  pub nothing_told : is_wired ≡ false → m.trace ≡ []
 
 -- the bean that is aimed at is there, with the method that is called
 pub record StandsIn (scene : Scene) (aim : Aim) : Type 0 where

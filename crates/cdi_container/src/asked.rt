@@ -2,8 +2,8 @@
 ghost use Rattle.std.specs.Prelude.{◌≡◌, IfOk, IfErr, OnOk, None, Some};
 ghost use Rattle.cdi_model.specs.Answering.{Answers};
 ghost use Rattle.cdi_effective.specs.Beans.{beans as beans_of};
-ghost use Rattle.cdi_resolve.specs.declared.choice.Choice.TheVariants.{One};
-ghost use Rattle.cdi_container.specs.Asked.{aim_at, aim_for, asked_for};
+ghost use Rattle.cdi_staging.specs.Sites.{managed_class};
+ghost use Rattle.cdi_container.specs.Asked.{wanted_of, aim_of_choice, aim_for, asked_for};
 
 use cdi_effective::BeanId;
 use cdi_model::{Decls, Error, Ident, Name, Quals, Refusal, Val, Work};
@@ -29,6 +29,7 @@ pub(crate) struct Aim {
 
 /// The aim of what is asked for, by the bean list of some declarations without faults, or why it is refused. It takes
 /// memory as a choice does.
+#[tactic(auto, unfolding(crate::specs::Asked::aim_for))]
 pub(crate) fn aim_for(
     alloc: Global,
     decls: &Decls,
@@ -41,38 +42,52 @@ pub(crate) fn aim_for(
     requires { beans.now ≡ beans_of decls.now }
     ensures { Answers result (aim_for decls.now (asked_for bean_type quals.now message)) }
 {
-    match beans.choose(alloc, decls, bean_type, quals, work)? {
-        Choice::Unsatisfied => Err(Error::Refused(Refusal::Unsatisfied)),
-        Choice::Ambiguous(_) => Err(Error::Refused(Refusal::Ambiguous)),
-        Choice::One(id) => Ok(aim_at(decls, beans, id, message)?),
-    }
+    let choice = beans.choose(alloc, decls, bean_type, quals, work)?;
+    Ok(aim_of_choice(decls, beans, &choice, message)?)
 }
 
-/// The aim at a bean.
-fn aim_at(
+/// The aim at what is chosen.
+#[tactic(auto, unfolding(cdi_staging::specs::Sites::target_of))]
+fn aim_of_choice(
     decls: &Decls,
     beans: &BeanList,
-    id: BeanId,
+    choice: &Choice,
     message: Option<Message>,
 ) -> Result<Aim, Refusal>
     requires { beans.now ≡ beans_of decls.now }
-    ensures { result ≡ aim_at decls.now id message }
+    ensures { result ≡ aim_of_choice decls.now message choice.now }
 {
-    let target = target_of(beans, &Choice::One(id));
-    let wanted = match message {
-        None => Wanted::State,
-        Some(message) => {
-            if !has_method(decls, id, message.method) {
-                return Err(Refusal::NoMethod);
-            }
-            Wanted::Answer {
-                method: method_of(decls, target.class, message.method),
-                arg: message.arg,
-            }
+    match choice {
+        Choice::Unsatisfied => Err(Refusal::Unsatisfied),
+        Choice::Ambiguous(_) => Err(Refusal::Ambiguous),
+        Choice::One(id) => {
+            let target = target_of(beans, choice);
+            Ok(Aim {
+                bean: target.bean,
+                wanted: wanted_of(decls, *id, target.class, message)?,
+            })
         }
+    }
+}
+
+/// What is done with the instance of a bean, which has this class unless it is a product.
+fn wanted_of(
+    decls: &Decls,
+    id: BeanId,
+    class: Option<Name>,
+    message: Option<Message>,
+) -> Result<Wanted, Refusal>
+    requires { class ≡ managed_class id }
+    ensures { result ≡ wanted_of decls.now id message }
+{
+    let Some(Message { method, arg }) = message else {
+        return Ok(Wanted::State);
     };
-    Ok(Aim {
-        bean: target.bean,
-        wanted,
+    if !has_method(decls, id, method) {
+        return Err(Refusal::NoMethod);
+    }
+    Ok(Wanted::Answer {
+        method: method_of(decls, class, method),
+        arg,
     })
 }

@@ -8,7 +8,7 @@ ghost use Rattle.cdi_effective.specs.Beans.{beans};
 ghost use Rattle.cdi_resolve.specs.Choices.{chosen, chosen_by_name};
 ghost use Rattle.cdi_validate.specs.Faults.{faults};
 ghost use Rattle.cdi_container.specs.Wired.{behind_edit};
-ghost use Rattle.cdi_container.specs.History.{History, untold, with_edit, with_put, RestsOnAcceptedEdits};
+ghost use Rattle.cdi_container.specs.History.{History, left_by, untold, with_edit, with_put, RestsOnAcceptedEdits};
 
 use crate::answer::{
     Answer, answer_of_begin, answer_of_choice, answer_of_edit, answer_of_report, answer_of_run,
@@ -55,7 +55,7 @@ impl<B: Bodies> Model for Container<B> {
       trace = c.run.moment.trace;
     } };
 
-    ghost invariant = { λ c. RestsOnScene c.deployment.is_wired c.run.moment.standing c.run.moment.trace };
+    ghost invariant = { λ c. RestsOnScene c.deployment.is_wired c.run.moment };
 }
 
 impl<B: Bodies> Container<B> {
@@ -116,6 +116,7 @@ impl<B: Bodies> Container<B> {
     pub fn put(&mut self, text: &[u8]) -> Result<(), Error>
         ensures answer { Answers result (answer_of_put self.old.decls (decl_of text.now)) }
         ensures ok { OnOk result (self.new ≡ with_put self.old (decl_of text.now)) }
+        ensures err { IfErr result (λ error. self.new ≡ left_by error self.old) }
         ensures step { PutStep self.old text.now result self.new }
     {
         let edited = match read_decl(self.alloc, text) {

@@ -3,7 +3,7 @@ ghost use Rattle.std.specs.Prelude.{◌≡◌, ◌≢◌, AllPairs, IsSome, None
 ghost use Rattle.cdi_model.specs.declared.edit.Edit.TheVariants.{Put, Remove};
 ghost use Rattle.cdi_model.specs.Edits.{answer_of_edit};
 ghost use Rattle.cdi_model.specs.Answering.{Answers};
-ghost use Rattle.cdi_container.specs.Short.{HasShortLists};
+ghost use Rattle.cdi_model.specs.Short.{HasShortLists};
 ghost use Rattle.cdi_model.specs.Work.{with_one};
 ghost use Rattle.cdi_effective.specs.Beans.{beans};
 ghost use Rattle.cdi_resolve.specs.Choices.{chosen, chosen_by_name};
@@ -39,7 +39,7 @@ pub(crate) struct Deployment<B: Bodies> {
 
 impl<B: Bodies> Model for Deployment<B> {
     ghost use Rattle.std.specs.Prelude.{IfSome, ◌≡◌};
-    ghost use Rattle.cdi_container.specs.Short.{AreShort};
+    ghost use Rattle.cdi_model.specs.Short.{AreShort};
     ghost use Rattle.cdi_effective.specs.Beans.{beans as bean_list};
     ghost use Rattle.cdi_container.specs.Asked.{aim_of, asked_for};
 ghost use Rattle.cdi_container.specs.Wired.{StandsIn, Deployed, IsWiringOf, is_sound};
@@ -155,6 +155,7 @@ impl<B: Bodies> Deployment<B> {
     }
 
     /// Where a look-up or a call leads. Where it leads somewhere, the scene is there from now on.
+    #[tactic(auto, unfolding(crate::specs::Asked::aim_of))]
     pub(crate) fn aim(
         &mut self,
         alloc: Global,
@@ -175,6 +176,8 @@ impl<B: Bodies> Deployment<B> {
         if !are_known(&self.decls, bean_type, quals) {
             return Err(Error::Refused(Refusal::UnknownName));
         }
+        // No effect at run time. The proof reads here that no two declarations have one kind and name.
+        let _ = self.decls.iter();
         let list = self.take_beans(alloc)?;
         let aim = aim_for(alloc, &self.decls, &list, bean_type, quals, message, work);
         self.beans = Some(list);

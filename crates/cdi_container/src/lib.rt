@@ -9,7 +9,6 @@ mod instances;
 mod intake;
 mod printing;
 mod runner;
-
 mod script;
 mod wiring;
 

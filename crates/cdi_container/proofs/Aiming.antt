@@ -1,0 +1,66 @@
+-- What a look-up or a call aims at stands in the scene.
+use Rattle.std.proofs.Common.{◌≡◌, ℕ, List, Bool, true, false, Option, None, Some, refl, subst}
+use Rattle.std.specs.Prelude.{Result, Ok, Err, IfOk, if◌then◌else◌}
+use Rattle.cdi_model.specs.Answering.{Answers}
+use Rattle.cdi_model.specs.DeclList.{AreDistinct}
+use Rattle.cdi_model.specs.declared.decl.Decl.{Decl}
+use Rattle.cdi_model.specs.declared.quals.Qual.{Qual}
+use Rattle.cdi_model.specs.declared.refusal.Error.{Error}
+use Rattle.cdi_model.specs.declared.refusal.Error.TheVariants as errors
+use Rattle.cdi_model.specs.declared.refusal.Refusal.{Refusal}
+use Rattle.cdi_model.specs.declared.refusal.Refusal.TheVariants.{NoMethod}
+use Rattle.cdi_bodies.specs.Book.{Promised}
+use Rattle.cdi_effective.specs.Beans.{beans}
+use Rattle.cdi_effective.specs.declared.records.BeanId.{BeanId}
+use Rattle.cdi_resolve.specs.Choices.{chosen}
+use Rattle.cdi_resolve.specs.declared.choice.Choice.{Choice}
+use Rattle.cdi_resolve.specs.declared.choice.Choice.TheVariants.{One, Unsatisfied, Ambiguous}
+use Rattle.cdi_run.specs.declared.roots.Wanted.{Wanted}
+use Rattle.cdi_run.specs.declared.roots.Wanted.TheVariants as wanteds
+use Rattle.cdi_staging.specs.Sites.{managed_class, method_of, position_of_bean}
+use Rattle.cdi_staging.specs.Staged.{scene_of}
+use Rattle.cdi_staging.proofs.LookupLemmas.{chosen-stands, chosen-has-methods}
+use Rattle.cdi_validate.specs.Sites.{has_method}
+use Rattle.cdi_container.specs.Asked.{Asked, aim_for, aim_of_choice, aim_with, wanted_of}
+use Rattle.cdi_container.specs.Wired.{StandsIn}
+use Rattle.cdi_container.specs.declared.asked.Aim.{Aim}
+use Rattle.cdi_container.specs.declared.asked.Message.{Message}
+
+ok_same : {A B : Type 0} (x y : A) → Ok {E = B} x ≡ Ok y → x ≡ y
+ok_same x y h = cc
+
+module _ (ds : List Decl) (book : List Promised) (t : List ℕ) (quals : List Qual) (distinct : AreDistinct ds) where
+  stands_at : (id : BeanId) (message : Option Message) (aim : Aim) → chosen ds (beans ds) t quals ≡ One id
+      → aim_with (position_of_bean (beans ds) id) (wanted_of ds id message) ≡ Ok aim → StandsIn (scene_of ds book) aim
+  stands_at id None aim one is =
+      subst (StandsIn (scene_of ds book)) (ok_same _ _ is)
+      (record { there = chosen-stands ds book t quals id distinct one; usable = tt })
+  stands_at id (Some message) aim one is = by (has_method ds id message.method) refl is
+    where
+      by : (b : Bool) → has_method ds id message.method ≡ b
+          → aim_with (position_of_bean (beans ds) id)
+          (if b then Ok (wanteds.Answer (method_of ds (managed_class id) message.method) message.arg) else Err NoMethod) ≡ Ok aim
+          → StandsIn (scene_of ds book) aim
+      by true has same = subst (StandsIn (scene_of ds book)) (ok_same _ _ same) (record {
+        there = chosen-stands ds book t quals id distinct one;
+        usable = λ none. chosen-has-methods ds book t quals id message.method distinct one has none;
+      })
+      by false has same = cc
+
+  chosen_stands : (choice : Choice) (message : Option Message) (aim : Aim) → chosen ds (beans ds) t quals ≡ choice
+      → aim_of_choice ds message choice ≡ Ok aim → StandsIn (scene_of ds book) aim
+  chosen_stands Unsatisfied message aim one is = cc
+  chosen_stands (Ambiguous ids) message aim one is = cc
+  chosen_stands (One id) message aim one is = stands_at id message aim one is
+
+aimed_stands : (ds : List Decl) (book : List Promised) (asked : Asked) (aim : Aim) → AreDistinct ds → aim_for ds asked ≡ Ok aim
+    → StandsIn (scene_of ds book) aim
+unfolding aim_for
+aimed_stands ds book asked aim distinct is =
+    chosen_stands ds book asked.bean_type asked.quals distinct (chosen ds (beans ds) asked.bean_type asked.quals) asked.message aim
+    refl is
+
+pub aim_stands : (ds : List Decl) (book : List Promised) (asked : Asked) (result : Result Aim Error) → AreDistinct ds
+    → Answers result (aim_for ds asked) → IfOk result (λ aim. StandsIn (scene_of ds book) aim)
+aim_stands ds book asked (Ok aim) distinct is = aimed_stands ds book asked aim distinct is
+aim_stands ds book asked (Err error) distinct is = tt

@@ -1,0 +1,49 @@
+-- Without a scene nothing is live, and the end of a request and a stop are legal with no entry.
+use Rattle.std.proofs.Common.{◌≡◌, List, [], Bool, true, false, not, Option, None, Some, refl, sym, subst}
+use Rattle.std.specs.Prelude.{if◌then◌else◌}
+use Rattle.cdi_model.specs.declared.refusal.Refusal.{Refusal}
+use Rattle.cdi_model.specs.declared.refusal.Refusal.TheVariants.{NoRequest}
+use Rattle.cdi_model.specs.declared.decl.Decl.{Decl}
+use Rattle.cdi_bodies.specs.Book.{Promised}
+use Rattle.cdi_contexts.specs.Standing.{closed}
+use Rattle.cdi_legal.specs.Moment.{Moment, beginning}
+use Rattle.cdi_legal.proofs.Commands.{empty_ends}
+use Rattle.cdi_container.specs.declared.answer.Answer.TheVariants.{Done}
+use Rattle.cdi_container.specs.History.{State, EndsRequest, EndsContexts, refusal_of_end, scene}
+
+-- the state where a run stands so
+abbrev pub standing_at : List Decl → List Promised → Moment → State
+standing_at ds book m = record { decls = ds; book = book; standing = m.standing; trace = m.trace }
+
+-- it has begun, and no request is active any more
+abbrev pub IsClosed : Moment → Moment → Type 0
+IsClosed m n = n ≡ record (beginning m.standing) { standing = closed m.standing }
+
+pub is_closed : (m r n : Moment) → r ≡ beginning m.standing → n ≡ record r { standing = closed r.standing } → IsClosed m n
+is_closed m r n begun shut = subst (λ x. n ≡ record x { standing = closed x.standing }) begun shut
+
+pub ends_nothing : (ds : List Decl) (book : List Promised) (old : State) (m n : Moment) → standing_at ds book m ≡ old
+    → m.standing.live ≡ [] → IsClosed m n → EndsContexts old Done (standing_at ds book n)
+ends_nothing ds book old m n is none shut =
+    subst (λ s. EndsContexts s Done (standing_at ds book n)) is
+    (subst (λ x. EndsContexts (standing_at ds book m) Done (standing_at ds book x)) (sym shut)
+    (record { done = refl; legal = empty_ends.end (scene (standing_at ds book m)) m.standing none; rest = refl }))
+
+pub ends_no_request : (ds : List Decl) (book : List Promised) (old : State) (m n : Moment) → standing_at ds book m ≡ old
+    → m.standing.live ≡ [] → IsClosed m n → EndsRequest old Done (standing_at ds book n)
+ends_no_request ds book old m n is none shut =
+    subst (λ s. EndsRequest s Done (standing_at ds book n)) is
+    (subst (λ x. EndsRequest (standing_at ds book m) Done (standing_at ds book x)) (sym shut)
+    (record { done = refl; legal = empty_ends.request_end (scene (standing_at ds book m)) m.standing none; rest = refl }))
+
+-- the end of a request that is active is not refused
+pub has_request : (ds : List Decl) (book : List Promised) (old : State) (m : Moment) → standing_at ds book m ≡ old
+    → not m.standing.active ≡ false → refusal_of_end old.standing ≡ None
+has_request ds book old m is active = subst (λ s. refusal_of_end s.standing ≡ None) is (by m.standing.active active)
+  where
+    none : Option Refusal
+    none = None
+
+    by : (b : Bool) → not b ≡ false → (if b then none else Some NoRequest) ≡ none
+    by true h = refl
+    by false h = cc

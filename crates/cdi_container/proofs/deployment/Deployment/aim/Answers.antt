@@ -1,0 +1,14 @@
+use Rattle.std.proofs.Common.{IfOk, subst, ap, ◌∙◌}
+use Rattle.cdi_staging.specs.Staged.{scene_of}
+use Rattle.cdi_container.specs.Asked.{asked_for}
+use Rattle.cdi_container.specs.Wired.{StandsIn}
+use Rattle.cdi_container.proofs.Aiming.{aim_stands}
+use Rattle.cdi_container.proofs.deployment.Deployment.aim.Goals as goal
+
+pub returns-clause-there : goal.returns-clause-there
+returns-clause-there g c =
+    let book = c.args.self.now.book in
+    subst (λ ds. IfOk c.aim_for-aim.result (λ aim. StandsIn (scene_of ds book) aim))
+    (ap (λ d. d.decls) c.self-2.view_is ∙ ap (λ d. d.decls) c.take_beans.ensures.stays ∙ c.wire.ensures.same.decls)
+    (aim_stands c.self-2.inside.decls book (asked_for c.args.bean_type c.args.quals.now c.args.message) c.aim_for-aim.result
+    c.iter.ensures.distinct c.aim_for-aim.ensures)
