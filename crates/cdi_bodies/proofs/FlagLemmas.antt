@@ -7,7 +7,8 @@ use Rattle.cdi_bodies.specs.declared.act.Act.TheVariants.{Load, Store, Call, Fir
 use Rattle.cdi_bodies.specs.declared.promise.Promise.{Promise}
 
 -- what has all bits has each flag
-pub keeps_each : (promise : Promise) (allowed : ℕ) → bit_and allowed promise.0 ≡ promise.0 → (flag : ℕ) → Has promise flag
+pub keeps_each : (promise : Promise) (allowed : ℕ) → bit_and allowed promise.0 ≡ promise.0 → (flag : ℕ)
+    → Has promise flag
     → bit_and allowed flag ≡ flag
 keeps_each promise allowed all flag has =
     ap (bit_and allowed) (sym has) ∙ sym (and_assoc flag allowed promise.0) ∙ ap (λ bits. bit_and bits flag) all ∙ has

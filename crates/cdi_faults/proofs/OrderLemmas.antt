@@ -94,7 +94,8 @@ pub none_in_order : (ms : List Subject) → in_text_order ms ≡ [] → ms ≡ [
 none_in_order [] none = refl
 none_in_order (m ∷ ms) none =
     let text = text_of_subject m in
-    let there : has (map text_of_subject (m ∷ ms)) text ≡ true = or_left (bytes_eq text text) (has (map text_of_subject ms) text)
-    (same_text text text refl) in
-    let here : has (map text_of_subject (in_text_order (m ∷ ms))) text ≡ false = ap (λ ns. has (map text_of_subject ns) text) none in
+    let there : has (map text_of_subject (m ∷ ms)) text ≡ true = or_left (bytes_eq text text)
+    (has (map text_of_subject ms) text) (same_text text text refl) in
+    let here : has (map text_of_subject (in_text_order (m ∷ ms))) text ≡ false = ap
+    (λ ns. has (map text_of_subject ns) text) none in
     absurd (false≢true (sym here ∙ (subjects_in_order (m ∷ ms)).1 text ∙ there))

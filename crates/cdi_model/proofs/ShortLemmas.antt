@@ -1,6 +1,5 @@
 -- Edits keep the lists of declarations short.
-use Rattle.std.proofs.Common.{◌≡◌, ℕ, zero, suc, Bool, true, false, cond, List, [], ◌∷◌, Some, refl, subst}
-use Rattle.std.specs.List.{slice_get}
+use Rattle.std.proofs.Common.{ℕ, zero, suc, Bool, true, false, cond, List, [], ◌∷◌, refl, subst}
 use Rattle.std.proofs.lemmas.Option.{same_Some}
 use Rattle.cdi_model.specs.declared.decl.Decl.{Decl}
 use Rattle.cdi_model.specs.declared.decl.Kind.{Kind}
@@ -39,5 +38,6 @@ pub put_short : (ds : List Decl) (d : Decl) → AreShort ds → HasShortLists d 
 put_short ds d all short = short-put ds d all short
 
 -- and a removal
-pub remove_short : (ds : List Decl) (kind : Kind) (name : List ℕ) → AreShort ds → AreShort (edited ds (Remove kind name))
+pub remove_short : (ds : List Decl) (kind : Kind) (name : List ℕ) → AreShort ds
+    → AreShort (edited ds (Remove kind name))
 remove_short ds kind name all = short-remove kind name ds all

@@ -23,7 +23,8 @@ pub record IsShortBean (bean : BeanDecl) : Type 0 where
   pub post : (part : PartDecl) → bean.post ≡ Some part → HasFewCalls part
   pub pre : (part : PartDecl) → bean.pre ≡ Some part → HasFewCalls part
   pub methods : (k : ℕ) (method : MethodDecl) → slice_get bean.methods k ≡ Some method → HasFewCalls method.part
-  pub producers : (k : ℕ) (producer : ProducerDecl) → slice_get bean.producers k ≡ Some producer → IsShortProducer producer
+  pub producers : (k : ℕ) (producer : ProducerDecl) → slice_get bean.producers k ≡ Some producer
+      → IsShortProducer producer
 
 abbrev pub HasShortLists : Decl → Type 0
 HasShortLists (decls.Bean bean) = IsShortBean bean

@@ -30,15 +30,19 @@ use Rattle.cdi_faults.specs.FaultText.{in_text_order}
 use Rattle.cdi_faults.specs.declared.fault.Code.{Code}
 use Rattle.cdi_faults.specs.declared.fault.Code.TheVariants as codes_of
 use Rattle.cdi_faults.specs.declared.fault.Fault.TheVariants as faults_are
+use Rattle.cdi_faults.specs.declared.fault.Subject.{Subject}
 use Rattle.cdi_faults.specs.declared.fault.Subject.TheVariants as subjects
 use Rattle.cdi_faults.specs.declared.place.PartPlace.{PartPlace}
 use Rattle.cdi_faults.specs.declared.place.PartPlace.TheVariants as places
 use Rattle.cdi_faults.proofs.CodeLemmas.{has_code}
 use Rattle.cdi_faults.proofs.OrderLemmas.{none_in_order}
-use Rattle.cdi_validate.specs.Faults.{faults, faults_of, faults_of_code, is_ambiguous, is_unsatisfied, points_with, subjects_at_fault}
-use Rattle.cdi_validate.specs.Parts.{allowed_to, is_fit, unfit, unfit_callbacks, unfit_methods, unfit_part, unfit_producers}
+use Rattle.cdi_validate.specs.Faults.{faults, faults_of, faults_of_code, is_ambiguous, is_unsatisfied, points_with}
+use Rattle.cdi_validate.specs.Faults.{subjects_at_fault}
+use Rattle.cdi_validate.specs.Parts.{allowed_to, is_fit, unfit, unfit_callbacks, unfit_methods, unfit_part}
+use Rattle.cdi_validate.specs.Parts.{unfit_producers}
 use Rattle.cdi_validate.specs.Parts.{unfit_disposers}
-use Rattle.cdi_validate.specs.Sites.{choice_at, has_method, is_lost, is_lost_among, lacks_method, lost_call, lost_calls}
+use Rattle.cdi_validate.specs.Sites.{choice_at, has_method, is_lost, is_lost_among, lacks_method, lost_call}
+use Rattle.cdi_validate.specs.Sites.{lost_calls}
 use Rattle.cdi_validate.specs.Sites.{lost_in_managed, lost_in_part, lost_in_producer, where_enabled}
 use Rattle.cdi_validate.specs.Sites.{sight_of as sight_at}
 use Rattle.cdi_staging.specs.Faultless.{AreFine, AreSatisfied, FaultlessIsSound, IsFineManaged, IsFinePart}
@@ -60,7 +64,8 @@ map-empty : {X Y : Type 0} (f : X → Y) (xs : List X) → map f xs ≡ [] → x
 map-empty f [] e = refl
 map-empty f (x ∷ xs) e = absurd (cc)
 
-flat-empty : {X Y : Type 0} (f : X → List Y) (xs : List X) (k : ℕ) (x : X) → flat_map f xs ≡ [] → slice_get xs k ≡ Some x → f x ≡ []
+flat-empty : {X Y : Type 0} (f : X → List Y) (xs : List X) (k : ℕ) (x : X) → flat_map f xs ≡ []
+    → slice_get xs k ≡ Some x → f x ≡ []
 flat-empty f [] k x e at = absurd (cc)
 flat-empty f (v ∷ xs) zero x e at =
     let same : v ≡ x = cc in
@@ -74,7 +79,8 @@ flat-empty-in f (v ∷ xs) x e (zero, within, at) = subst (λ w. f w ≡ []) at 
 flat-empty-in f (v ∷ xs) x e (suc k, within, at) =
     flat-empty-in f xs x (second-empty (f v) (flat_map f xs) e) (k, omega (arith, within), at)
 
-filter-empty : {X : Type 0} (p : X → Bool) (xs : List X) (k : ℕ) (x : X) → filter p xs ≡ [] → slice_get xs k ≡ Some x → p x ≡ false
+filter-empty : {X : Type 0} (p : X → Bool) (xs : List X) (k : ℕ) (x : X) → filter p xs ≡ [] → slice_get xs k ≡ Some x
+    → p x ≡ false
 filter-empty p [] k x e at = absurd (cc)
 filter-empty p (v ∷ xs) k x e at = by (p v) refl (λ i. filter-empty p xs i x) e k at
   where
@@ -118,17 +124,20 @@ none-declared ds book none =
     with.empty none
 
 -- nothing of a declaration has a code, where there is no fault
-none-at-fault : (ds : List Decl) (book : List Promised) (k : ℕ) (d : Decl) (code : Code) → faults ds book ≡ [] → slice_get ds k ≡ Some d
+none-at-fault : (ds : List Decl) (book : List Promised) (k : ℕ) (d : Decl) (code : Code) → faults ds book ≡ []
+    → slice_get ds k ≡ Some d
     → subjects_at_fault code ds book d ≡ []
 none-at-fault ds book k d code none at =
     let of_decl = flat-empty (faults_of ds book) ds k d (none-declared ds book none) at in
     let of_code = flat-empty-in (faults_of_code ds book d) all_codes code of_decl (has_code code) in
-    none_in_order (subjects_at_fault code ds book d)
-    (map-empty (λ m. faults_are.Declared code (kind_of d) (name_of_decl d) m) (in_text_order (subjects_at_fault code ds book d)) of_code)
+    let found = subjects_at_fault code ds book d in
+    none_in_order found
+    (map-empty (λ m. faults_are.Declared code (kind_of d) (name_of_decl d) m) (in_text_order found) of_code)
 
 -- ---- bodies
 
-fit : (book : List Promised) (allowed : ℕ) (place : PartPlace) (body : List ℕ) → unfit book allowed place body ≡ [] → IsFit book allowed body
+fit : (book : List Promised) (allowed : ℕ) (place : PartPlace) (body : List ℕ) → unfit book allowed place body ≡ []
+    → IsFit book allowed body
 fit book allowed place body e = by (promise_of book body) refl
     (when-empty (is_fit allowed (promise_of book body)) (subjects.Part place) e)
   where
@@ -159,15 +168,17 @@ one-chosen choices.Unsatisfied some single = absurd (true≢false some)
 one-chosen (choices.Ambiguous ids) some single = absurd (true≢false single)
 
 -- no point of an enabled bean has a choice that the test finds
-none-found : (test : Choice → Bool) (ds : List Decl) (bean : Effective) (producer : Option (List ℕ)) (points : List PointDecl) (k : ℕ)
-    (point : PointDecl) → bean.is_enabled ≡ true → points_with test ds bean producer points ≡ [] → slice_get points k ≡ Some point
+none-found : (test : Choice → Bool) (ds : List Decl) (bean : Effective) (producer : Option (List ℕ))
+    (points : List PointDecl) (k : ℕ) (point : PointDecl) → bean.is_enabled ≡ true
+    → points_with test ds bean producer points ≡ [] → slice_get points k ≡ Some point
     → test (answer_to ds point) ≡ false
 none-found test ds bean producer points k point enabled none at =
     let listed = where-true bean.is_enabled _ enabled none in
     filter-empty (λ p. test (answer_to ds p)) points k point
     (map-empty (λ p. subjects.Point producer p.name) (filter (λ p. test (answer_to ds p)) points) listed) at
 
-satisfied : (ds : List Decl) (bean : Effective) (producer : Option (List ℕ)) (points : List PointDecl) → bean.is_enabled ≡ true
+satisfied : (ds : List Decl) (bean : Effective) (producer : Option (List ℕ)) (points : List PointDecl)
+    → bean.is_enabled ≡ true
     → points_with is_unsatisfied ds bean producer points ≡ []
     → points_with is_ambiguous ds bean producer points ≡ [] → AreSatisfied ds points
 satisfied ds bean producer points enabled some single k point at =
@@ -185,12 +196,14 @@ chosen-at ds [] name = refl
 chosen-at ds (p ∷ points) name = by (bytes_eq p.name name) (chosen-at ds points name)
   where
     by : (b : Bool) → choice_at (sight_at ds points) name ≡ option_map (answer_to ds) (find (is_point name) points)
-        → option_map (λ z. z.1) (cond b (Some (p, answer_to ds p)) (find (λ z. bytes_eq z.0.name name) (sight_at ds points)))
+        → option_map (λ z. z.1)
+        (cond b (Some (p, answer_to ds p)) (find (λ z. bytes_eq z.0.name name) (sight_at ds points)))
         ≡ option_map (answer_to ds) (cond b (Some p) (find (is_point name) points))
     by true rest = refl
     by false rest = rest
 
-led : (ds : List Decl) (points : List PointDecl) (call : CallDecl) → is_lost ds (sight_at ds points) call ≡ false → IsLed ds points call
+led : (ds : List Decl) (points : List PointDecl) (call : CallDecl) → is_lost ds (sight_at ds points) call ≡ false
+    → IsLed ds points call
 led ds points call found = by (find (is_point call.point) points) refl
     (sym (ap (is_lost_among ds call.method) (chosen-at ds points call.point)) ∙ found)
   where
@@ -205,14 +218,17 @@ led ds points call found = by (find (is_point call.point) points) refl
 
 -- each call site of a body that sees some points, where none is lost
 all-led : (ds : List Decl) (points : List PointDecl) (place : PartPlace) (calls : List CallDecl)
-    → lost_calls ds (sight_at ds points) place calls ≡ [] → (k : ℕ) (call : CallDecl) → slice_get calls k ≡ Some call → IsLed ds points call
+    → lost_calls ds (sight_at ds points) place calls ≡ [] → (k : ℕ) (call : CallDecl) → slice_get calls k ≡ Some call
+    → IsLed ds points call
 all-led ds points place calls none k call at =
     let sight = sight_at ds points in
     led ds points call (unless-empty (is_lost ds sight call) (subjects.Call place call.point call.method)
     (flat-empty (lost_call ds sight place) calls k call none at))
 
-fine-part : (ds : List Decl) (book : List Promised) (allowed : ℕ) (place : PartPlace) (points : List PointDecl) (part : PartDecl)
-    → HasFewCalls part → unfit book allowed place part.body ≡ [] → lost_calls ds (sight_at ds points) place part.calls ≡ []
+fine-part : (ds : List Decl) (book : List Promised) (allowed : ℕ) (place : PartPlace) (points : List PointDecl)
+    (part : PartDecl)
+    → HasFewCalls part → unfit book allowed place part.body ≡ []
+    → lost_calls ds (sight_at ds points) place part.calls ≡ []
     → IsFinePart ds book allowed points part
 fine-part ds book allowed place points part few fits found = record {
   body = fit book allowed place part.body fits;
@@ -221,9 +237,11 @@ fine-part ds book allowed place points part few fits found = record {
 }
 
 -- a part that may be there
-fine-some : (ds : List Decl) (book : List Promised) (allowed : ℕ) (place : PartPlace) (points : List PointDecl) (o : Option PartDecl)
+fine-some : (ds : List Decl) (book : List Promised) (allowed : ℕ) (place : PartPlace) (points : List PointDecl)
+    (o : Option PartDecl)
     → ((part : PartDecl) → o ≡ Some part → HasFewCalls part) → unfit_part book allowed place o ≡ []
-    → lost_in_part ds (sight_at ds points) place o ≡ [] → (part : PartDecl) → o ≡ Some part → IsFinePart ds book allowed points part
+    → lost_in_part ds (sight_at ds points) place o ≡ [] → (part : PartDecl) → o ≡ Some part
+    → IsFinePart ds book allowed points part
 fine-some ds book allowed place points None few fits found part is = absurd (cc)
 fine-some ds book allowed place points (Some p) few fits found part is =
     let same : p ≡ part = cc in
@@ -242,14 +260,17 @@ fine-managed : (ds : List Decl) (book : List Promised) (bean : BeanDecl) → Has
     → (managed ds bean).is_enabled ≡ true → IsFineManaged ds book bean
 fine-managed ds book bean none short enabled =
     let sight = sight_at ds bean.points in
-    let of_callbacks = first-empty (unfit_callbacks book bean ++ unfit_methods book bean.methods) _ (first-empty _ _ none.body) in
+    let instance_parts = unfit_callbacks book bean ++ unfit_methods book bean.methods in
+    let of_callbacks = first-empty instance_parts _ (first-empty _ _ none.body) in
     let callbacks = first-empty (unfit_callbacks book bean) _ of_callbacks in
     let early = first-empty _ _ callbacks in
-    let own = where-true (managed ds bean).is_enabled (lost_in_managed ds sight bean) enabled (first-empty _ _ none.site) in
+    let own = where-true (managed ds bean).is_enabled (lost_in_managed ds sight bean) enabled
+    (first-empty _ _ none.site) in
     let of_parts = first-empty _ _ own in
     let of_early = first-empty _ _ of_parts in
     record {
-      points = satisfied ds (managed ds bean) None bean.points enabled (first-empty _ _ none.unsatisfied) (first-empty _ _ none.ambiguous);
+      points = satisfied ds (managed ds bean) None bean.points enabled (first-empty _ _ none.unsatisfied)
+          (first-empty _ _ none.ambiguous);
       construct = fine-some ds book flags.at_instance places.Construct bean.points bean.construct short.construct
           (first-empty _ _ early) (first-empty _ _ of_early);
       post = fine-some ds book flags.at_instance places.Post bean.points bean.post short.post
@@ -261,12 +282,14 @@ fine-managed ds book bean none short enabled =
           (short.methods k method at)
           (flat-empty (λ m. unfit book flags.at_instance (places.Method m.name) m.part.body) bean.methods k method
           (second-empty (unfit_callbacks book bean) _ of_callbacks) at)
-          (flat-empty (λ m. lost_calls ds sight (places.Method m.name) m.part.calls) bean.methods k method (second-empty _ _ own) at);
+          (flat-empty (λ m. lost_calls ds sight (places.Method m.name) m.part.calls) bean.methods k method
+          (second-empty _ _ own) at);
     }
 
 -- what a producer method sees, as points and as sight
 seen-sight : (ds : List Decl) (bean : BeanDecl) (producer : ProducerDecl)
-    → sight_at ds (seen_by bean producer) ≡ sight_at ds producer.params ++ cond producer.is_static [] (sight_at ds bean.points)
+    → sight_at ds (seen_by bean producer) ≡ sight_at ds producer.params ++ cond producer.is_static []
+    (sight_at ds bean.points)
 seen-sight ds bean producer = by producer.is_static
   where
     beside : PointDecl → PointDecl × Choice
@@ -277,27 +300,34 @@ seen-sight ds bean producer = by producer.is_static
     by true = map-append beside producer.params []
     by false = map-append beside producer.params bean.points
 
-fine-producer : (ds : List Decl) (book : List Promised) (bean : BeanDecl) (k : ℕ) (producer : ProducerDecl) → HasNone ds book bean
+fine-producer : (ds : List Decl) (book : List Promised) (bean : BeanDecl) (k : ℕ) (producer : ProducerDecl)
+    → HasNone ds book bean
     → IsShortBean bean → slice_get bean.producers k ≡ Some producer → (product ds bean producer).is_enabled ≡ true
     → IsFineProducer ds book bean producer
 fine-producer ds book bean k producer none short at enabled =
     let own = sight_at ds bean.points in
-    let of_methods = first-empty _ (unfit_disposers book bean.disposers) none.body in
+    let lost_in : ProducerDecl → List Subject = λ p. where_enabled (product ds bean p)
+    (lost_in_producer ds own (sight_at ds p.params) p) in
+    let own_lost = where_enabled (managed ds bean) (lost_in_managed ds own bean) in
     let lost = where-true (product ds bean producer).is_enabled
     (lost_in_producer ds own (sight_at ds producer.params) producer) enabled
-    (flat-empty (λ p. where_enabled (product ds bean p) (lost_in_producer ds own (sight_at ds p.params) p)) bean.producers k producer
-    (second-empty (where_enabled (managed ds bean) (lost_in_managed ds own bean)) _ none.site) at) in
+    (flat-empty lost_in bean.producers k producer (second-empty own_lost _ none.site) at) in
+    let params_with : (Choice → Bool) → ProducerDecl → List Subject = λ test p.
+    points_with test ds (product ds bean p) (Some p.name) p.params in
+    let points_of : (Choice → Bool) → List Subject = λ test. points_with test ds (managed ds bean) None bean.points in
+    let few = short.producers k producer at in
     record {
       params = satisfied ds (product ds bean producer) (Some producer.name) producer.params enabled
-          (flat-empty (λ p. points_with is_unsatisfied ds (product ds bean p) (Some p.name) p.params) bean.producers k
-          producer (second-empty (points_with is_unsatisfied ds (managed ds bean) None bean.points) _ none.unsatisfied) at)
-          (flat-empty (λ p. points_with is_ambiguous ds (product ds bean p) (Some p.name) p.params) bean.producers k
-          producer (second-empty (points_with is_ambiguous ds (managed ds bean) None bean.points) _ none.ambiguous) at);
-      few = (short.producers k producer at).params;
-      part = fine-part ds book (allowed_to producer) (places.Producer producer.name) (seen_by bean producer) producer.part
-          (short.producers k producer at).calls
+          (flat-empty (params_with is_unsatisfied) bean.producers k producer
+          (second-empty (points_of is_unsatisfied) _ none.unsatisfied) at)
+          (flat-empty (params_with is_ambiguous) bean.producers k producer
+          (second-empty (points_of is_ambiguous) _ none.ambiguous) at);
+      few = few.params;
+      part = fine-part ds book (allowed_to producer) (places.Producer producer.name) (seen_by bean producer)
+          producer.part few.calls
           (flat-empty (λ p. unfit book (allowed_to p) (places.Producer p.name) p.part.body) bean.producers k producer
-          (second-empty _ (unfit_producers book bean.producers) of_methods) at)
+          (second-empty _ (unfit_producers book bean.producers)
+          (first-empty _ (unfit_disposers book bean.disposers) none.body)) at)
           (subst (λ sight. lost_calls ds sight (places.Producer producer.name) producer.part.calls ≡ [])
           (sym (seen-sight ds bean producer)) lost);
       disposers = λ j disposer here. fit book flags.at_disposal (places.Disposer disposer.name) disposer.body

@@ -1,5 +1,6 @@
 -- The parts of a scene, and where their call sites lead.
-use Rattle.std.proofs.Common.{◌≡◌, ◌≤◌, ℕ, Bool, true, false, ◌||◌, cond, List, [], ◌∷◌, ◌++◌, codes, is_some, map, length, Option, Some, None, unwrap_or, option_map}
+use Rattle.std.proofs.Common.{◌≡◌, ◌≤◌, ℕ, Bool, true, false, ◌||◌, cond, List, [], ◌∷◌, ◌++◌, codes, is_some, map}
+use Rattle.std.proofs.Common.{length, Option, Some, None, unwrap_or, option_map}
 use Rattle.std.proofs.Common.{refl, sym, subst, ap, ◌∙◌, arith}
 use Rattle.std.specs.List.{find, list_any, position, slice_get}
 use Rattle.std.specs.Option.{option_or}
@@ -94,11 +95,14 @@ declares : (ds : List Decl) (id : BeanId) (name : List ℕ) → id.producer ≡ 
     → Declares ds id.class name
 declares ds id name none has = by (find_bean id.class ds) refl listed
   where
-    listed : list_any (is_method name) (methods_in (find_bean id.class ds)) ≡ true
-    listed = sym (ap (λ o. cond (is_some o) (bytes_eq name (codes "value")) (list_any (is_method name) (methods_in (find_bean id.class ds))))
-        none) ∙ has
+    methods : List MethodDecl
+    methods = methods_in (find_bean id.class ds)
 
-    by : (o : Option BeanDecl) → find_bean id.class ds ≡ o → list_any (is_method name) (methods_in o) ≡ true → Declares ds id.class name
+    listed : list_any (is_method name) methods ≡ true
+    listed = sym (ap (λ o. cond (is_some o) (bytes_eq name (codes "value")) (list_any (is_method name) methods)) none) ∙ has
+
+    by : (o : Option BeanDecl) → find_bean id.class ds ≡ o → list_any (is_method name) (methods_in o) ≡ true
+        → Declares ds id.class name
     by None is any = absurd (false≢true any)
     by (Some bean) is any =
         let method = any-found (is_method name) bean.methods any in

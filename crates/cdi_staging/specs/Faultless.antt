@@ -85,8 +85,8 @@ pub record IsFine (ds : List Decl) (book : List Promised) (bean : BeanDecl) : Ty
 abbrev pub AreFine : List Decl → List Promised → Type 0
 AreFine ds book = (k : ℕ) (bean : BeanDecl) → slice_get ds k ≡ Some (decls.Bean bean) → IsFine ds book bean
 
--- A deployment without faults has a sound scene, where no two of its declarations have one kind and name and each has short
--- lists, as what is read and put has.
+-- A deployment without faults has a sound scene, where no two of its declarations have one kind and name and each has
+-- short lists, as what is read and put has.
 abbrev pub FaultlessIsSound : Type 0
 FaultlessIsSound = (ds : List Decl) (book : List Promised) → AreDistinct ds → AreShort ds → faults ds book ≡ []
     → IsSound book (scene_of ds book)

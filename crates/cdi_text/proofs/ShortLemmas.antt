@@ -1,7 +1,7 @@
 -- The lists of a declaration that was read are short.
-use Rattle.std.proofs.Common.{◌≡◌, ◌≤◌, ◌+◌, ℕ, zero, suc, Bool, true, false, not, cond, List, [], ◌∷◌, codes, length}
+use Rattle.std.proofs.Common.{◌≡◌, ◌≤◌, ◌+◌, ℕ, zero, suc, Bool, true, false, not, cond, List, codes, length}
 use Rattle.std.proofs.Common.{Option, Some, None, unwrap_or, option_map, option_and_then, is_some, Result, Ok, Err}
-use Rattle.std.proofs.Common.{refl, sym, subst, ap, ◌∙◌, arith, nat_lt}
+use Rattle.std.proofs.Common.{refl, subst, ap, arith, nat_lt}
 use Rattle.std.specs.List.{slice_get}
 use Rattle.std.specs.Result.{IfOk, is_ok, result_ok}
 use Rattle.std.proofs.lemmas.Bool.{and_parts, false≢true}
@@ -25,9 +25,11 @@ use Rattle.cdi_text.specs.declared.schema.Schema.TheVariants as schemas
 use Rattle.cdi_text.specs.declared.schema.Shape.TheVariants.{One, Many}
 use Rattle.cdi_text.specs.Conditions.{first_condition, is_sound, is_sound_value, are_sound}
 use Rattle.cdi_text.specs.Lists.{count_of}
-use Rattle.cdi_text.specs.Reading.{decl_of, decl_of_kind, decl_of_members, decl_of_tree, kind_in, refused_or, schema_of, spelled, tree_of}
+use Rattle.cdi_text.specs.Reading.{decl_of, decl_of_kind, decl_of_members, decl_of_tree, kind_in, refused_or}
+use Rattle.cdi_text.specs.Reading.{schema_of, spelled, tree_of}
 use Rattle.cdi_text.specs.Schema.{shape_of}
-use Rattle.cdi_text.specs.Spelled.{with_front, items_at, calls_in, calls_at, one_at, each, each_at, part_decl, method_decl, point_decl}
+use Rattle.cdi_text.specs.Spelled.{with_front, items_at, calls_in, calls_at, one_at, each, each_at, part_decl}
+use Rattle.cdi_text.specs.Spelled.{method_decl, point_decl}
 use Rattle.cdi_text.specs.Spelled.{producer_decl, bean_decl}
 use Rattle.cdi_text.proofs.Soundness.{count_at, table_at, tables_at}
 
@@ -47,22 +49,26 @@ length-each f no_items = omega arith
 length-each f (item d ds) = length-front (option_map f (as_table d)) (each f ds) (count_of ds) (length-each f ds)
 
 -- the list at a key of a sound table has few entries
-few-items : (schema : Schema) (ms : Members) (k : List ℕ) → ((ds : Items) → option_and_then as_array (get_member k ms) ≡ Some ds
+few-items : (schema : Schema) (ms : Members) (k : List ℕ)
+    → ((ds : Items) → option_and_then as_array (get_member k ms) ≡ Some ds
     → count_of ds ≤ list_limit) → count_of (items_at k ms) ≤ list_limit
 few-items schema ms k few = by (option_and_then as_array (get_member k ms)) few
   where
-    by : (o : Option Items) → ((ds : Items) → o ≡ Some ds → count_of ds ≤ list_limit) → count_of (unwrap_or o no_items) ≤ list_limit
+    by : (o : Option Items) → ((ds : Items) → o ≡ Some ds → count_of ds ≤ list_limit)
+        → count_of (unwrap_or o no_items) ≤ list_limit
     by None each_few = omega arith
     by (Some ds) each_few = each_few ds refl
 
-few-calls : (schema : Schema) (ms : Members) → is_sound schema ms ≡ true → shape_of schema (codes "calls") ≡ Some (Many Call)
+few-calls : (schema : Schema) (ms : Members) → is_sound schema ms ≡ true
+    → shape_of schema (codes "calls") ≡ Some (Many Call)
     → length (calls_at (codes "calls") ms) ≤ list_limit
 few-calls schema ms sound shape =
     let few = few-items schema ms (codes "calls") (λ ds e. count_at schema Call (codes "calls") ds ms sound shape e) in
     let calls = length-calls (items_at (codes "calls") ms) in
     omega (arith, few, calls)
 
-few-params : (ms : Members) → is_sound schemas.Producer ms ≡ true → length (each_at point_decl (codes "params") ms) ≤ list_limit
+few-params : (ms : Members) → is_sound schemas.Producer ms ≡ true
+    → length (each_at point_decl (codes "params") ms) ≤ list_limit
 few-params ms sound =
     let few = few-items schemas.Producer ms (codes "params")
     (λ ds e. count_at schemas.Producer (Table schemas.Point) (codes "params") ds ms sound refl e) in
@@ -77,14 +83,21 @@ record IsOfSound {A : Type 0} (f : Members → A) (schema : Schema) (x : A) : Ty
   pub sound : is_sound schema ms ≡ true
   pub spells : f ms ≡ x
 
-from-one : {A : Type 0} (f : Members → A) (schema inner : Schema) (k : List ℕ) (ms : Members) (x : A) → is_sound schema ms ≡ true
+from-one : {A : Type 0} (f : Members → A) (schema inner : Schema) (k : List ℕ) (ms : Members) (x : A)
+    → is_sound schema ms ≡ true
     → shape_of schema k ≡ Some (One (Table inner)) → one_at f k ms ≡ Some x → IsOfSound f inner x
-from-one {A = A} f schema inner k ms x sound shape e = by (get_member k ms) (λ d at. table_at schema inner k d ms sound shape at) e
+from-one {A = A} f schema inner k ms x sound shape e =
+    by (get_member k ms) (λ d at. table_at schema inner k d ms sound shape at) e
   where
-    by : (o : Option Data) → ((d : Data) → o ≡ Some d → is_sound_value inner d ≡ true) → option_map f (option_and_then as_table o) ≡ Some x
+    by : (o : Option Data) → ((d : Data) → o ≡ Some d → is_sound_value inner d ≡ true)
+        → option_map f (option_and_then as_table o) ≡ Some x
         → IsOfSound f inner x
     by None each_sound e = absurd (none-some x e)
-    by (Some (table nested)) each_sound e = record { ms = nested; sound = each_sound (table nested) refl; spells = same_Some (f nested) x e }
+    by (Some (table nested)) each_sound e = record {
+      ms = nested;
+      sound = each_sound (table nested) refl;
+      spells = same_Some (f nested) x e;
+    }
     by (Some _) each_sound e = absurd (none-some x e)
 
 from-each : {A : Type 0} (f : Members → A) (schema : Schema) (ds : Items) (k : ℕ) (x : A) → are_sound schema ds ≡ true
@@ -98,7 +111,8 @@ from-each f schema (item (table ms) ds) (suc k) x sound e =
 from-each f schema (item _ ds) k x sound e = from-each f schema ds k x sound e
 
 from-each_at : {A : Type 0} (f : Members → A) (schema inner : Schema) (key : List ℕ) (ms : Members) (k : ℕ) (x : A)
-    → is_sound schema ms ≡ true → shape_of schema key ≡ Some (Many (Table inner)) → slice_get (each_at f key ms) k ≡ Some x
+    → is_sound schema ms ≡ true → shape_of schema key ≡ Some (Many (Table inner))
+    → slice_get (each_at f key ms) k ≡ Some x
     → IsOfSound f inner x
 from-each_at {A = A} f schema inner key ms k x sound shape e =
     by (option_and_then as_array (get_member key ms)) (λ ds at. tables_at schema inner key ds ms sound shape at) e
@@ -111,7 +125,8 @@ from-each_at {A = A} f schema inner key ms k x sound shape e =
 -- ---- a bean
 
 short-part : (key : List ℕ) (ms : Members) (part : PartDecl) → is_sound schemas.Bean ms ≡ true
-    → shape_of schemas.Bean key ≡ Some (One (Table schemas.Part)) → one_at part_decl key ms ≡ Some part → HasFewCalls part
+    → shape_of schemas.Bean key ≡ Some (One (Table schemas.Part)) → one_at part_decl key ms ≡ Some part
+    → HasFewCalls part
 short-part key ms part sound shape e =
     let of = from-one part_decl schemas.Bean schemas.Part key ms part sound shape e in
     subst HasFewCalls of.spells (few-calls schemas.Part of.ms of.sound refl)
@@ -125,7 +140,8 @@ short-bean ms sound = record {
       let of = from-each_at method_decl schemas.Bean schemas.Method (codes "methods") ms k method sound refl e in
       subst (λ m. HasFewCalls m.part) of.spells (few-calls schemas.Method of.ms of.sound refl);
   producers = λ k producer e.
-      let of = from-each_at producer_decl schemas.Bean schemas.Producer (codes "producers") ms k producer sound refl e in
+      let of = from-each_at producer_decl schemas.Bean schemas.Producer (codes "producers") ms k producer sound refl
+      e in
       subst IsShortProducer of.spells (record {
         params = few-params of.ms of.sound;
         calls = few-calls schemas.Producer of.ms of.sound refl;
@@ -147,7 +163,8 @@ short-of-kind : (kind : Kind) (ms : Members) (d : Decl) → decl_of_kind kind ms
 unfolding is_sound
 short-of-kind kind ms d e = by (first_condition (schema_of kind) ms) refl e
   where
-    by : (o : Option Condition) → first_condition (schema_of kind) ms ≡ o → refused_or o (spelled kind ms) ≡ Ok d → HasShortLists d
+    by : (o : Option Condition) → first_condition (schema_of kind) ms ≡ o → refused_or o (spelled kind ms) ≡ Ok d
+        → HasShortLists d
     by None none is = subst HasShortLists (same_Some (spelled kind ms) d (ap result_ok is))
         (short-spelled kind ms (ap (λ c. not (is_some c)) none))
     by (Some condition) first is = absurd (no-refusal _ d is)
@@ -171,6 +188,7 @@ short-of text d e = by (nat_lt 65536 (length text)) e
     by false is = short-of-tree (tree_of text) d is
 
 -- what a text was read as
-pub short_answer : (text : List ℕ) (result : Result Decl Error) → Answers result (decl_of text) → IfOk result HasShortLists
+pub short_answer : (text : List ℕ) (result : Result Decl Error) → Answers result (decl_of text)
+    → IfOk result HasShortLists
 short_answer text (Ok d) said = short-of text d said
 short_answer text (Err e) said = tt
