@@ -1,15 +1,21 @@
 -- A promise has no flag but those that are allowed exactly where these have all of its bits.
-use Rattle.std.proofs.Common.{◌≡◌, ◌∙◌, ap, sym, bit_and}
+use Rattle.std.proofs.Common.{◌≡◌, ◌∙◌, ℕ, ap, sym, bit_and}
 use Rattle.std.specs.Int.Bits.{and_self}
 use Rattle.std.proofs.lemmas.Nat.{and_assoc}
-use Rattle.cdi_bodies.specs.Within.{IsAllowed, CoversNoMore}
+use Rattle.cdi_bodies.specs.Within.{Has, IsAllowed, CoversNoMore}
 use Rattle.cdi_bodies.specs.declared.act.Act.TheVariants.{Load, Store, Call, Fire, Proceed, Return, Fail}
 use Rattle.cdi_bodies.specs.declared.promise.Promise.{Promise}
 
--- who has all bits has each flag
+-- what has all bits has each flag
+pub keeps_each : (promise : Promise) (allowed : ℕ) → bit_and allowed promise.0 ≡ promise.0 → (flag : ℕ)
+    → Has promise flag
+    → bit_and allowed flag ≡ flag
+keeps_each promise allowed all flag has =
+    ap (bit_and allowed) (sym has) ∙ sym (and_assoc flag allowed promise.0) ∙ ap (λ bits. bit_and bits flag) all ∙ has
+
+-- and so has a promise that has all bits
 pub has_each : (promise allowed : Promise) → bit_and allowed.0 promise.0 ≡ promise.0 → IsAllowed promise allowed
-has_each promise allowed all flag has =
-    ap (bit_and allowed.0) (sym has) ∙ sym (and_assoc flag allowed.0 promise.0) ∙ ap (λ bits. bit_and bits flag) all ∙ has
+has_each promise allowed all = keeps_each promise allowed.0 all
 
 -- and who has each flag has all bits
 pub has_all : (promise allowed : Promise) → IsAllowed promise allowed → bit_and allowed.0 promise.0 ≡ promise.0

@@ -1,2 +1,2 @@
-mod FlagLemmas
+pub mod FlagLemmas
 mod BookLemmas

@@ -1,6 +1,6 @@
 -- Subjects in the byte order of their texts.
 use Rattle.std.proofs.Common.{◌≡◌, ℕ, ◌||◌, List, [], ◌∷◌, map, fold, Ordering, Less, Equal, Greater, refl, sym, ◌∙◌, ap}
-use Rattle.std.proofs.Common.{subst}
+use Rattle.std.proofs.Common.{subst, true, false}
 use Rattle.std.specs.BTreeMap.{insert_entry}
 use Rattle.std.specs.BTreeSet.{insert_key}
 use Rattle.std.specs.List.{AllByRecursion}
@@ -8,9 +8,11 @@ use Rattle.std.specs.List.Sorted.{IsStrictlySortedBy}
 use Rattle.std.specs.Map.{keys_of}
 use Rattle.std.specs.Str.{bytes_eq}
 use Rattle.std.proofs.Math.Bool.{or-false, or_assoc, or_comm}
+use Rattle.std.proofs.lemmas.Bool.{false≢true, or_left}
 use Rattle.cdi_model.proofs.QualLemmas.{same_name}
 use Rattle.cdi_match.specs.Chain.{has}
 use Rattle.cdi_match.specs.Order.{in_order}
+use Rattle.cdi_match.proofs.Names.{same_text}
 use Rattle.cdi_match.proofs.OrderLemmas.{has-insert, in_order-rises}
 use Rattle.cdi_faults.specs.declared.fault.Subject.{Subject}
 use Rattle.cdi_model.specs.Bytes.{byte_order}
@@ -86,3 +88,14 @@ subjects_in_order ms =
       subst (IsStrictlySortedBy byte_order) (sym keys) (all-rise ms [] [] refl),
       λ text. ap (λ texts. has texts text) keys ∙ all-has ms [] text ∙ or-false (has (map text_of_subject ms) text),
     )
+
+-- where none stands in order there is none
+pub none_in_order : (ms : List Subject) → in_text_order ms ≡ [] → ms ≡ []
+none_in_order [] none = refl
+none_in_order (m ∷ ms) none =
+    let text = text_of_subject m in
+    let there : has (map text_of_subject (m ∷ ms)) text ≡ true = or_left (bytes_eq text text)
+    (has (map text_of_subject ms) text) (same_text text text refl) in
+    let here : has (map text_of_subject (in_text_order (m ∷ ms))) text ≡ false = ap
+    (λ ns. has (map text_of_subject ns) text) none in
+    absurd (false≢true (sym here ∙ (subjects_in_order (m ∷ ms)).1 text ∙ there))

@@ -5,3 +5,4 @@ mod PartLemmas
 mod SoundLemmas
 pub mod LookupLemmas
 pub mod SceneLemmas
+pub mod FaultLemmas

@@ -1,13 +1,18 @@
 -- The parts of a scene, and where their call sites lead.
-use Rattle.std.proofs.Common.{◌≡◌, ◌≤◌, ℕ, List, [], ◌++◌, map, length, Option, Some, None, unwrap_or, option_map}
+use Rattle.std.proofs.Common.{◌≡◌, ◌≤◌, ℕ, Bool, true, false, ◌||◌, cond, List, [], ◌∷◌, ◌++◌, codes, is_some, map}
+use Rattle.std.proofs.Common.{length, Option, Some, None, unwrap_or, option_map}
 use Rattle.std.proofs.Common.{refl, sym, subst, ap, ◌∙◌, arith}
-use Rattle.std.specs.List.{find, position, slice_get}
+use Rattle.std.specs.List.{find, list_any, position, slice_get}
 use Rattle.std.specs.Option.{option_or}
+use Rattle.std.specs.Str.{bytes_eq}
+use Rattle.std.proofs.lemmas.Bool.{false≢true}
 use Rattle.std.proofs.lemmas.List.{length-map}
 use Rattle.std.proofs.lemmas.Option.{same_Some, slice_get-map}
 use Rattle.cdi_model.specs.DeclList.{AreDistinct}
+use Rattle.cdi_model.specs.declared.decl.BeanDecl.{BeanDecl}
 use Rattle.cdi_model.specs.declared.decl.CallDecl.{CallDecl}
 use Rattle.cdi_model.specs.declared.decl.Decl.{Decl}
+use Rattle.cdi_model.specs.declared.decl.MethodDecl.{MethodDecl}
 use Rattle.cdi_model.specs.declared.decl.PartDecl.{PartDecl}
 use Rattle.cdi_model.specs.declared.decl.PointDecl.{PointDecl}
 use Rattle.cdi_bodies.specs.Book.{Promised, is_named, promise_of}
@@ -24,7 +29,8 @@ use Rattle.cdi_effective.specs.Disposers.{find_bean}
 use Rattle.cdi_effective.specs.declared.records.BeanId.{BeanId}
 use Rattle.cdi_resolve.specs.declared.choice.Choice.TheVariants.{One}
 use Rattle.cdi_observe.specs.Answers.{answer_to}
-use Rattle.cdi_staging.specs.Faultless.{IsFit, IsSatisfied, AreSatisfied, Declares, IsLed, IsFinePart}
+use Rattle.cdi_validate.specs.Sites.{has_method, methods_in}
+use Rattle.cdi_staging.specs.Faultless.{IsFit, IsSatisfied, AreSatisfied, IsLed, IsFinePart}
 use Rattle.cdi_staging.specs.Sites.{Sight, nowhere, target_of, class_with, method_declared, method_of, is_method}
 use Rattle.cdi_staging.specs.Sites.{is_point, position_of_bean, site_at, site_among, site_of, target_at}
 use Rattle.cdi_staging.specs.Staged.{part_of, part_with, staged_part, staged_method, managed_form, sight_of, scene_of}
@@ -67,16 +73,51 @@ part-made book calls allowed name part fit e =
 
 -- ---- call sites
 
+-- a managed bean of the class declares a method of the name
+record Declares (ds : List Decl) (class name : List ℕ) : Type 0 where
+  pub bean : BeanDecl
+  pub is : find_bean class ds ≡ Some bean
+  pub method : MethodDecl
+  pub found : find (is_method name) bean.methods ≡ Some method
+
+-- where one passes, one is found
+any-found : {X : Type 0} (p : X → Bool) (xs : List X) → list_any p xs ≡ true → (x : X) × (find p xs ≡ Some x)
+any-found p [] e = absurd (false≢true e)
+any-found {X = X} p (v ∷ xs) e = by (p v) (any-found p xs) e
+  where
+    by : (b : Bool) → (list_any p xs ≡ true → (x : X) × (find p xs ≡ Some x)) → (b || list_any p xs) ≡ true
+        → (x : X) × (cond b (Some v) (find p xs) ≡ Some x)
+    by true rest is = (v, refl)
+    by false rest is = rest is
+
+-- a managed bean declares each method that it has
+declares : (ds : List Decl) (id : BeanId) (name : List ℕ) → id.producer ≡ None → has_method ds id name ≡ true
+    → Declares ds id.class name
+declares ds id name none has = by (find_bean id.class ds) refl listed
+  where
+    methods : List MethodDecl
+    methods = methods_in (find_bean id.class ds)
+
+    listed : list_any (is_method name) methods ≡ true
+    listed = sym (ap (λ o. cond (is_some o) (bytes_eq name (codes "value")) (list_any (is_method name) methods)) none) ∙ has
+
+    by : (o : Option BeanDecl) → find_bean id.class ds ≡ o → list_any (is_method name) (methods_in o) ≡ true
+        → Declares ds id.class name
+    by None is any = absurd (false≢true any)
+    by (Some bean) is any =
+        let method = any-found (is_method name) bean.methods any in
+        record { bean = bean; is = is; method = method.0; found = method.1 }
+
 -- the method is there that the call site names, if the bean is a managed one
 pub method-there : (ds : List Decl) (book : List Promised) (id : BeanId) (name : List ℕ) (r : Reached ds book id) (via : Via)
-    → (id.producer ≡ None → Declares ds id.class name) → (o : Option (List ℕ)) → id.producer ≡ o
+    → has_method ds id name ≡ true → (o : Option (List ℕ)) → id.producer ≡ o
     → HasMethod (scene_of ds book)
     (record { via = via; bean = position_of_bean (beans ds) id; method = method_of ds (class_with id.class o) name })
     r.bean.form
 unfolding method_of managed_form
-method-there ds book id name r via declares None e =
+method-there ds book id name r via has None e =
     let m = r.of_managed e in
-    let d = declares e in
+    let d = declares ds id name e has in
     let same : d.bean ≡ m.decl = same_Some d.bean m.decl (sym d.is ∙ m.is) in
     let found : find (is_method name) m.decl.methods ≡ Some d.method = ap (λ b. find (is_method name) b.methods) (sym same) ∙ d.found in
     let at = of-find (is_method name) m.decl.methods d.method found in
@@ -90,7 +131,7 @@ method-there ds book id name r via declares None e =
       ap (slice_get (map made m.decl.methods)) place ∙ slice_get-map made m.decl.methods at.place
           ∙ ap (option_map made) at.there,
     )
-method-there ds book id name r via declares (Some p) e =
+method-there ds book id name r via has (Some p) e =
     let product = r.of_product p e in
     subst (λ form. HasMethod (scene_of ds book)
     (record { via = via; bean = position_of_bean (beans ds) id; method = 0 }) form) (sym product.1) tt
@@ -102,16 +143,16 @@ point-reached ds book point distinct sat =
     reached ds book sat.id distinct (chosen-offered ds (beans ds) point.required_type point.qualifiers sat.id sat.chosen)
 
 site-sound : (ds : List Decl) (book : List Promised) (point : PointDecl) (via : Via) (name : List ℕ) → AreDistinct ds → IsSatisfied ds point
-    → ((id : BeanId) → answer_to ds point ≡ One id → id.producer ≡ None → Declares ds id.class name)
+    → ((id : BeanId) → answer_to ds point ≡ One id → has_method ds id name ≡ true)
     → IsSoundSite (scene_of ds book) (site_at ds via (target_of (beans ds) (answer_to ds point)) name)
 unfolding site_at target_of
-site-sound ds book point via name distinct sat declares =
+site-sound ds book point via name distinct sat has =
     let r = point-reached ds book point distinct sat in
     subst (λ choice. IsSoundSite (scene_of ds book) (site_at ds via (target_of (beans ds) choice) name)) (sym sat.chosen)
     (record {
       bean = r.bean;
       there = r.there;
-      method = method-there ds book sat.id name r via (λ none. declares sat.id sat.chosen none) sat.id.producer refl;
+      method = method-there ds book sat.id name r via (has sat.id sat.chosen) sat.id.producer refl;
     })
 
 pub target-there : (ds : List Decl) (points : List PointDecl) (k : ℕ) (point : PointDecl) → slice_get points k ≡ Some point
@@ -125,13 +166,13 @@ seen ds points params = record { points = points; targets = targets ds points; p
 
 led-site : (ds : List Decl) (book : List Promised) (list points : List PointDecl) (call : CallDecl) (point : PointDecl) (via : Via) (k : ℕ)
     (value : PointDecl) → AreDistinct ds → AreSatisfied ds list → slice_get list k ≡ Some value → value ≡ point
-    → ((id : BeanId) → answer_to ds point ≡ One id → id.producer ≡ None → Declares ds id.class call.method)
+    → ((id : BeanId) → answer_to ds point ≡ One id → has_method ds id call.method ≡ true)
     → IsSoundSite (scene_of ds book) (site_at ds via (target_at (beans ds) (targets ds list) k) call.method)
-led-site ds book list points call point via k value distinct satisfied at same declares =
+led-site ds book list points call point via k value distinct satisfied at same has =
     subst (λ t. IsSoundSite (scene_of ds book) (site_at ds via t call.method))
     (sym (ap (λ o. unwrap_or o (nowhere (beans ds))) (target-there ds list k value at)))
     (site-sound ds book value via call.method distinct (satisfied k value at)
-    (subst (λ p. (id : BeanId) → answer_to ds p ≡ One id → id.producer ≡ None → Declares ds id.class call.method) (sym same) declares))
+    (subst (λ p. (id : BeanId) → answer_to ds p ≡ One id → has_method ds id call.method ≡ true) (sym same) has))
 
 is-sound-site : (ds : List Decl) (book : List Promised) (points params : List PointDecl) (call : CallDecl) → AreDistinct ds
     → AreSatisfied ds points → AreSatisfied ds params → IsLed ds (params ++ points) call
@@ -148,7 +189,7 @@ is-sound-site ds book points params call distinct own_points own_params led = by
         ∙ sym (find-append (is_point call.point) params points) ∙ led.sees in
         subst (λ o. IsSoundSite (scene_of ds book) (site_among ds (beans ds) (seen ds points params) call o)) (sym at.position_is)
         (led-site ds book params points call led.point (Param at.place) at.place at.value distinct own_params at.there
-        (same_Some at.value led.point both) led.declares)
+        (same_Some at.value led.point both) led.has)
     by None e =
         let there : find (is_point call.point) points ≡ Some led.point = sym (ap (λ o. option_or o (find (is_point call.point) points)) e)
         ∙ sym (find-append (is_point call.point) params points) ∙ led.sees in
@@ -158,7 +199,7 @@ is-sound-site ds book points params call distinct own_points own_params led = by
         (sym (no-position (is_point call.point) params e))
         (subst (λ k. IsSoundSite (scene_of ds book) (site_at ds (Own k) (target_at (beans ds) (targets ds points) k) call.method))
         (sym (ap (λ o. unwrap_or o (length points)) at.position_is))
-        (led-site ds book points params call led.point (Own at.place) at.place at.value distinct own_points at.there value led.declares))
+        (led-site ds book points params call led.point (Own at.place) at.place at.value distinct own_points at.there value led.has))
 
 -- ---- parts
 

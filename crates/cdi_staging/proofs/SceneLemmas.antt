@@ -1,4 +1,4 @@
--- A deployment without faults has a sound scene.
+-- Where each declaration is fine, the scene is sound.
 use Rattle.std.proofs.Common.{◌≡◌, ◌≤◌, ◌+◌, ℕ, zero, suc, Bool, true, false, cond, List, [], ◌∷◌, map, length}
 use Rattle.std.proofs.Common.{Option, Some, None, unwrap_or}
 use Rattle.std.proofs.Common.{refl, sym, subst, ap, ◌∙◌, inl, inr, arith}
@@ -18,7 +18,7 @@ use Rattle.cdi_bodies.specs.Book.{Promised}
 use Rattle.cdi_bodies.specs.Flags as flags
 use Rattle.cdi_contexts.specs.declared.instance.Actor.TheVariants.{Target as ByTarget}
 use Rattle.cdi_scene.specs.Scene.{as_managed, as_product, bean_at, managed_at, product_at, invocable_at, target_part}
-use Rattle.cdi_scene.specs.Sound.{IsSoundAt, IsSoundForm, IsSoundInvocable, IsSoundManaged, IsSoundProduct, IsStatic}
+use Rattle.cdi_scene.specs.Sound.{IsSound, IsSoundAt, IsSoundForm, IsSoundInvocable, IsSoundManaged, IsSoundProduct, IsStatic}
 use Rattle.cdi_scene.specs.declared.place.Place.{Place}
 use Rattle.cdi_scene.specs.declared.place.Place.TheVariants as places
 use Rattle.cdi_scene.specs.declared.scene.Bean.{Bean}
@@ -32,7 +32,7 @@ use Rattle.cdi_effective.specs.Disposers.{disposer_of}
 use Rattle.cdi_effective.specs.declared.records.BeanId.{BeanId}
 use Rattle.cdi_resolve.specs.Position.{is_told_by}
 use Rattle.cdi_observe.specs.Answers.{answer_to}
-use Rattle.cdi_staging.specs.Faultless.{AreFine, AreSatisfied, FaultlessIsSound, IsFineManaged, IsFineProducer, IsFit}
+use Rattle.cdi_staging.specs.Faultless.{AreFine, AreSatisfied, IsFineManaged, IsFineProducer, IsFit}
 use Rattle.cdi_staging.specs.Sites.{position_of_bean, target_of}
 use Rattle.cdi_staging.specs.Staged.{disposer_for, disposer_named, disposer_part, injections_from, managed_form}
 use Rattle.cdi_staging.specs.Staged.{position_of_class, product_form, scene_of, sight_of, targets, unused_managed}
@@ -258,8 +258,8 @@ form-sound ds book b bean distinct fine at =
           (ap product_in at ∙ ap (λ bn. as_product bn.form) p.made))
     ]
 
-pub faultless_is_sound : FaultlessIsSound
-faultless_is_sound ds book distinct fine = record {
+pub fine_is_sound : (ds : List Decl) (book : List Promised) → AreDistinct ds → AreFine ds book → IsSound book (scene_of ds book)
+fine_is_sound ds book distinct fine = record {
   beans = λ b bean at. form-sound ds book b bean distinct fine at;
   invocables = λ b place x at. invocable-sound ds book b place x at (all-invocables ds book b place x distinct fine at);
 }

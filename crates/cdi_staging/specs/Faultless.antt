@@ -1,9 +1,10 @@
 -- What is known of each declaration of a deployment without faults, and the law that runs rest on.
-use Rattle.std.specs.Prelude.{◌≡◌, ℕ, ◌≤◌, true, List, ◌++◌, length, Some, None, slice_get, if◌then◌else◌, []}
+use Rattle.std.specs.Prelude.{◌≡◌, ℕ, ◌≤◌, true, List, ◌++◌, length, Some, slice_get, if◌then◌else◌, []}
 use Rattle.std.specs.List.{find}
 use Rattle.std.specs.Int.RustNames.{bit_and}
 use Rattle.cdi_model.specs.DeclList.{AreDistinct}
 use Rattle.cdi_model.specs.Quals.{list_limit}
+use Rattle.cdi_model.specs.Short.{AreShort}
 use Rattle.cdi_model.specs.declared.decl.BeanDecl.{BeanDecl}
 use Rattle.cdi_model.specs.declared.decl.CallDecl.{CallDecl}
 use Rattle.cdi_model.specs.declared.decl.Decl.{Decl}
@@ -19,11 +20,13 @@ use Rattle.cdi_bodies.specs.Within.{Has}
 use Rattle.cdi_bodies.specs.declared.promise.Promise.{Promise}
 use Rattle.cdi_scene.specs.Sound.{IsSound}
 use Rattle.cdi_effective.specs.Beans.{managed, product}
-use Rattle.cdi_effective.specs.Disposers.{find_bean}
 use Rattle.cdi_effective.specs.declared.records.BeanId.{BeanId}
 use Rattle.cdi_resolve.specs.declared.choice.Choice.TheVariants.{One}
 use Rattle.cdi_observe.specs.Answers.{answer_to}
-use Rattle.cdi_staging.specs.Sites.{is_point, is_method}
+use Rattle.cdi_validate.specs.Faults.{faults}
+use Rattle.cdi_validate.specs.Parts.{allowed_to}
+use Rattle.cdi_validate.specs.Sites.{has_method}
+use Rattle.cdi_staging.specs.Sites.{is_point}
 use Rattle.cdi_staging.specs.Staged.{scene_of}
 
 -- the book has a body of the name, and each act that it promises is one of those that are allowed
@@ -40,18 +43,11 @@ pub record IsSatisfied (ds : List Decl) (point : PointDecl) : Type 0 where
 abbrev pub AreSatisfied : List Decl → List PointDecl → Type 0
 AreSatisfied ds points = (k : ℕ) (point : PointDecl) → slice_get points k ≡ Some point → IsSatisfied ds point
 
--- a managed bean of the class declares a method of the name
-pub record Declares (ds : List Decl) (class name : List ℕ) : Type 0 where
-  pub bean : BeanDecl
-  pub is : find_bean class ds ≡ Some bean
-  pub method : MethodDecl
-  pub found : find (is_method name) bean.methods ≡ Some method
-
--- the call site names an injection point that its body sees, and a method of the managed bean that is chosen for that
+-- the call site names an injection point that its body sees, and a method of the bean that is chosen for that
 pub record IsLed (ds : List Decl) (seen : List PointDecl) (call : CallDecl) : Type 0 where
   pub point : PointDecl
   pub sees : find (is_point call.point) seen ≡ Some point
-  pub declares : (id : BeanId) → answer_to ds point ≡ One id → id.producer ≡ None → Declares ds id.class call.method
+  pub has : (id : BeanId) → answer_to ds point ≡ One id → has_method ds id call.method ≡ true
 
 -- the part's body is allowed where it stands, and each of its call sites, of which there are few, leads somewhere
 pub record IsFinePart (ds : List Decl) (book : List Promised) (allowed : ℕ) (seen : List PointDecl) (part : PartDecl) : Type 0 where
@@ -72,10 +68,6 @@ pub record IsFineManaged (ds : List Decl) (book : List Promised) (bean : BeanDec
 abbrev pub seen_by : BeanDecl → ProducerDecl → List PointDecl
 seen_by bean producer = producer.params ++ (if producer.is_static then [] else bean.points)
 
--- what is allowed to a producer method: a static one has no instance (profile)
-abbrev pub allowed_to : ProducerDecl → ℕ
-allowed_to producer = if producer.is_static then flags.at_class else flags.at_instance
-
 -- the parameters, of which there are few, and the part of a producer method, and the disposer methods beside it
 pub record IsFineProducer (ds : List Decl) (book : List Promised) (bean : BeanDecl) (producer : ProducerDecl) : Type 0 where
   pub params : AreSatisfied ds producer.params
@@ -93,6 +85,8 @@ pub record IsFine (ds : List Decl) (book : List Promised) (bean : BeanDecl) : Ty
 abbrev pub AreFine : List Decl → List Promised → Type 0
 AreFine ds book = (k : ℕ) (bean : BeanDecl) → slice_get ds k ≡ Some (decls.Bean bean) → IsFine ds book bean
 
--- A deployment without faults has a sound scene.
+-- A deployment without faults has a sound scene, where no two of its declarations have one kind and name and each has
+-- short lists, as what is read and put has.
 abbrev pub FaultlessIsSound : Type 0
-FaultlessIsSound = (ds : List Decl) (book : List Promised) → AreDistinct ds → AreFine ds book → IsSound book (scene_of ds book)
+FaultlessIsSound = (ds : List Decl) (book : List Promised) → AreDistinct ds → AreShort ds → faults ds book ≡ []
+    → IsSound book (scene_of ds book)

@@ -21,7 +21,8 @@ ChosenStands = (ds : List Decl) (book : List Promised) (t : List ℕ) (quals : L
 
 -- A chosen bean that is no product has what is invoked for each of its methods, since a chosen bean is enabled.
 abbrev pub ChosenHasMethods : Type 0
-ChosenHasMethods = (ds : List Decl) (book : List Promised) (t : List ℕ) (quals : List Qual) (id : BeanId) (method : List ℕ)
-    → AreDistinct ds → chosen ds (beans ds) t quals ≡ One id → has_method ds id method ≡ true
+ChosenHasMethods = (ds : List Decl) (book : List Promised) (t : List ℕ) (quals : List Qual) (id : BeanId)
+    (method : List ℕ) → AreDistinct ds → chosen ds (beans ds) t quals ≡ One id → has_method ds id method ≡ true
     → product_at (scene_of ds book) (position_of_bean (beans ds) id) ≡ None
-    → IsSome (invocable_at (scene_of ds book) (position_of_bean (beans ds) id) (Method (method_of ds (managed_class id) method)))
+    → IsSome (invocable_at (scene_of ds book) (position_of_bean (beans ds) id)
+    (Method (method_of ds (managed_class id) method)))

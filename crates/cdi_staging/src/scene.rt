@@ -7,6 +7,7 @@ ghost use Rattle.cdi_observe.specs.Answers.{answers as all_answers, answer_to};
 ghost use Rattle.cdi_observe.specs.Wanted.{points_of};
 ghost use Rattle.cdi_model.specs.declared.decl.Decl.TheVariants as decls;
 ghost use Rattle.cdi_staging.specs.Faultless.{FaultlessIsSound};
+ghost use Rattle.cdi_staging.specs.Lookups.{ChosenHasMethods, ChosenStands};
 ghost use Rattle.cdi_staging.specs.Sites.{sight_in};
 ghost use Rattle.cdi_staging.specs.Staged.{scene_of, staged_beans, beans_by, products_by};
 
@@ -24,9 +25,9 @@ use std::rc::Rc;
 /// The scene of some declarations whose bean list this is, with what is chosen for their injection points, as
 /// `evaluate` of `cdi_observe` answers, and a book of stored bodies. A part whose body the book has not is left out. It
 /// looks each name of a body, a bean and a method up once for each place that writes it, so its time is near the size
-/// of the declarations; it takes memory for the scene. The clause behind says that a deployment without faults has a
-/// sound scene.
-#[tactic(auto, using(crate::proofs::SceneLemmas::faultless_is_sound), unfolding(crate::specs::Staged::scene_of))]
+/// of the declarations; it takes memory for the scene. The clauses behind say that a deployment without faults has a
+/// sound scene, and that a bean which is chosen for a look-up from outside stands there and has its methods.
+#[tactic(auto, using(crate::proofs::FaultLemmas::faultless_is_sound, crate::proofs::LookupLemmas::of_lookups), unfolding(crate::specs::Staged::scene_of))]
 pub fn scene_of<B: Bodies>(
     alloc: Global,
     decls: &Decls,
@@ -38,6 +39,8 @@ pub fn scene_of<B: Bodies>(
     requires answers { map (λ list. map (λ answer. answer.value) list.items) answers.now ≡ all_answers decls.now }
     ensures value { IfOk result (λ scene. scene ≡ scene_of decls.now (B.promises book.now)) }
     ensures sound { FaultlessIsSound }
+    ensures stands { ChosenStands }
+    ensures methods { ChosenHasMethods }
 {
     let stage = Stage {
         alloc,

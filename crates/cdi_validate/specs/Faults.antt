@@ -169,13 +169,16 @@ disposers_at_fault ds d = []
 
 -- ---- injection points of enabled beans
 
+abbrev pub is_unsatisfied : Choice → Bool
+is_unsatisfied Unsatisfied = true
+is_unsatisfied _ = false
+
 abbrev pub is_ambiguous : Choice → Bool
 is_ambiguous (Ambiguous ids) = true
 is_ambiguous _ = false
 
 abbrev pub has_verdict : Verdict → Choice → Bool
-has_verdict verdicts.Unsatisfied Unsatisfied = true
-has_verdict verdicts.Unsatisfied _ = false
+has_verdict verdicts.Unsatisfied choice = is_unsatisfied choice
 has_verdict verdicts.Ambiguous choice = is_ambiguous choice
 
 -- the points of an enabled bean whose choice is such

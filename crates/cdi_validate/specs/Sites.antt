@@ -86,9 +86,9 @@ lost_in_managed ds sight d =
     ++ lost_in_part ds sight places.Pre d.pre
     ++ lost_in_methods ds sight d.methods
 
--- a producer method sees the points of its bean, but not where it is static, and its own parameters (profile)
+-- a producer method sees its parameters, and where it is not static the points of its bean, which parameters go before (profile)
 abbrev pub seen_by : ProducerDecl → Sight → Sight → Sight
-seen_by p own params = (if p.is_static then [] else own) ++ params
+seen_by p own params = params ++ (if p.is_static then [] else own)
 
 abbrev pub lost_in_producer : List Decl → Sight → Sight → ProducerDecl → List Subject
 lost_in_producer ds own params p = lost_calls ds (seen_by p own params) (places.Producer p.name) p.part.calls

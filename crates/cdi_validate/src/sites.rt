@@ -182,6 +182,7 @@ fn push_of_body(
 }
 
 /// Appends those of a producer method that has these parameters and whose bean has these points, if its product is enabled.
+#[tactic(auto, using(crate::proofs::SiteLemmas::seen_alone))]
 fn push_of_product(
     decls: &Decls,
     product: &Effective,
@@ -201,23 +202,23 @@ fn push_of_product(
     if producer.is_static {
         push_of_body(decls, params, place, calls, subjects)
     } else {
-        push_lost(decls, own, params, &place, calls, subjects)
+        push_lost(decls, params, own, &place, calls, subjects)
     }
 }
 
 /// Appends those of a body that sees some points and then others.
 fn push_lost(
     decls: &Decls,
-    own: &Points<'_>,
-    params: &Points<'_>,
+    first: &Points<'_>,
+    others: &Points<'_>,
     place: &PartPlace,
     calls: &[CallDecl],
     subjects: &mut Vec<Subject>,
 ) -> Result<(), AllocError>
-    ensures { OnOk result (subjects.new.items ≡ subjects.old.items ++ lost_calls decls.now (own.now ++ params.now) place.now calls.now) }
+    ensures { OnOk result (subjects.new.items ≡ subjects.old.items ++ lost_calls decls.now (first.now ++ others.now) place.now calls.now) }
 {
     for call in calls {
-        push_if_lost(decls, own, params, place, call, subjects)?;
+        push_if_lost(decls, first, others, place, call, subjects)?;
     }
     Ok(())
 }
@@ -225,15 +226,15 @@ fn push_lost(
 /// Appends a call site in a place, where it is lost.
 fn push_if_lost(
     decls: &Decls,
-    own: &Points<'_>,
-    params: &Points<'_>,
+    first: &Points<'_>,
+    others: &Points<'_>,
     place: &PartPlace,
     call: &CallDecl,
     subjects: &mut Vec<Subject>,
 ) -> Result<(), AllocError>
-    ensures { OnOk result (subjects.new.items ≡ subjects.old.items ++ lost_call decls.now (own.now ++ params.now) place.now call.now) }
+    ensures { OnOk result (subjects.new.items ≡ subjects.old.items ++ lost_call decls.now (first.now ++ others.now) place.now call.now) }
 {
-    if is_lost(decls, own, params, call) {
+    if is_lost(decls, first, others, call) {
         subjects.push(Subject::Call {
             place: *place,
             point: call.point,
@@ -244,10 +245,10 @@ fn push_if_lost(
 }
 
 /// Whether a call site names a point that is not there, or a method that the chosen bean does not have.
-fn is_lost(decls: &Decls, own: &Points<'_>, params: &Points<'_>, call: &CallDecl) -> bool
-    ensures { result ≡ is_lost decls.now (own.now ++ params.now) call.now }
+fn is_lost(decls: &Decls, first: &Points<'_>, others: &Points<'_>, call: &CallDecl) -> bool
+    ensures { result ≡ is_lost decls.now (first.now ++ others.now) call.now }
 {
-    match choice_at(own, params, call.point) {
+    match choice_at(first, others, call.point) {
         Some(choice) => lacks_method(decls, call.method, choice),
         None => true,
     }
@@ -255,12 +256,12 @@ fn is_lost(decls: &Decls, own: &Points<'_>, params: &Points<'_>, call: &CallDecl
 
 /// What is chosen for the point of a name among some points and then others, if it is there.
 #[tactic(auto, using(crate::proofs::SiteLemmas::choice_at_append))]
-fn choice_at<'a>(own: &'a Points<'_>, params: &'a Points<'_>, name: Ident) -> Option<&'a Choice>
-    ensures { option_copied result ≡ choice_at (own.now ++ params.now) name }
+fn choice_at<'a>(first: &'a Points<'_>, others: &'a Points<'_>, name: Ident) -> Option<&'a Choice>
+    ensures { option_copied result ≡ choice_at (first.now ++ others.now) name }
 {
-    match own.choice(name) {
+    match first.choice(name) {
         Some(choice) => Some(choice),
-        None => params.choice(name),
+        None => others.choice(name),
     }
 }
 

@@ -1,0 +1,355 @@
+-- What is known of each declaration of a deployment without faults, and that such a deployment has a sound scene.
+use Rattle.std.proofs.Common.{◌≡◌, ◌==◌, ℕ, zero, suc, Bool, true, false, cond, List, [], ◌∷◌, ◌++◌, map, filter}
+use Rattle.std.proofs.Common.{Option, Some, None, option_map, Contains, refl, sym, subst, ap, ◌∙◌, arith, bit_and}
+use Rattle.std.specs.List.{find, flat_map, slice_get}
+use Rattle.std.specs.Str.{bytes_eq}
+use Rattle.std.proofs.lemmas.Bool.{false≢true, true≢false, not-false}
+use Rattle.std.proofs.lemmas.Bool.Decides.{nat_tests}
+use Rattle.std.proofs.lemmas.List.{map-append}
+use Rattle.cdi_model.specs.Decl.{kind_of, name_of_decl}
+use Rattle.cdi_model.specs.Short.{AreShort, HasFewCalls, IsShortBean}
+use Rattle.cdi_model.specs.declared.decl.BeanDecl.{BeanDecl}
+use Rattle.cdi_model.specs.declared.decl.CallDecl.{CallDecl}
+use Rattle.cdi_model.specs.declared.decl.Decl.{Decl}
+use Rattle.cdi_model.specs.declared.decl.Decl.TheVariants as decls
+use Rattle.cdi_model.specs.declared.decl.PartDecl.{PartDecl}
+use Rattle.cdi_model.specs.declared.decl.PointDecl.{PointDecl}
+use Rattle.cdi_model.specs.declared.decl.ProducerDecl.{ProducerDecl}
+use Rattle.cdi_bodies.specs.Book.{Promised, promise_of}
+use Rattle.cdi_bodies.specs.Flags as flags
+use Rattle.cdi_bodies.specs.declared.promise.Promise.{Promise}
+use Rattle.cdi_bodies.proofs.FlagLemmas.{keeps_each}
+use Rattle.cdi_effective.specs.Beans.{managed, product}
+use Rattle.cdi_effective.specs.declared.records.BeanId.{BeanId}
+use Rattle.cdi_effective.specs.declared.records.Effective.{Effective}
+use Rattle.cdi_resolve.specs.declared.choice.Choice.{Choice}
+use Rattle.cdi_resolve.specs.declared.choice.Choice.TheVariants as choices
+use Rattle.cdi_observe.specs.Answers.{answer_to}
+use Rattle.cdi_faults.specs.Codes.{all_codes}
+use Rattle.cdi_faults.specs.FaultText.{in_text_order}
+use Rattle.cdi_faults.specs.declared.fault.Code.{Code}
+use Rattle.cdi_faults.specs.declared.fault.Code.TheVariants as codes_of
+use Rattle.cdi_faults.specs.declared.fault.Fault.TheVariants as faults_are
+use Rattle.cdi_faults.specs.declared.fault.Subject.{Subject}
+use Rattle.cdi_faults.specs.declared.fault.Subject.TheVariants as subjects
+use Rattle.cdi_faults.specs.declared.place.PartPlace.{PartPlace}
+use Rattle.cdi_faults.specs.declared.place.PartPlace.TheVariants as places
+use Rattle.cdi_faults.proofs.CodeLemmas.{has_code}
+use Rattle.cdi_faults.proofs.OrderLemmas.{none_in_order}
+use Rattle.cdi_validate.specs.Faults.{faults, faults_of, faults_of_code, is_ambiguous, is_unsatisfied, points_with}
+use Rattle.cdi_validate.specs.Faults.{subjects_at_fault}
+use Rattle.cdi_validate.specs.Parts.{allowed_to, is_fit, unfit, unfit_callbacks, unfit_methods, unfit_part}
+use Rattle.cdi_validate.specs.Parts.{unfit_producers}
+use Rattle.cdi_validate.specs.Parts.{unfit_disposers}
+use Rattle.cdi_validate.specs.Sites.{choice_at, has_method, is_lost, is_lost_among, lacks_method, lost_call}
+use Rattle.cdi_validate.specs.Sites.{lost_calls}
+use Rattle.cdi_validate.specs.Sites.{lost_in_managed, lost_in_part, lost_in_producer, where_enabled}
+use Rattle.cdi_validate.specs.Sites.{sight_of as sight_at}
+use Rattle.cdi_staging.specs.Faultless.{AreFine, AreSatisfied, FaultlessIsSound, IsFineManaged, IsFinePart}
+use Rattle.cdi_staging.specs.Faultless.{IsFineProducer, IsFit, IsLed, seen_by}
+use Rattle.cdi_staging.specs.Sites.{is_point}
+use Rattle.cdi_staging.proofs.SceneLemmas.{fine_is_sound}
+
+-- ---- lists that are empty
+
+first-empty : {X : Type 0} (xs ys : List X) → xs ++ ys ≡ [] → xs ≡ []
+first-empty [] ys e = refl
+first-empty (x ∷ xs) ys e = absurd (cc)
+
+second-empty : {X : Type 0} (xs ys : List X) → xs ++ ys ≡ [] → ys ≡ []
+second-empty [] ys e = e
+second-empty (x ∷ xs) ys e = absurd (cc)
+
+map-empty : {X Y : Type 0} (f : X → Y) (xs : List X) → map f xs ≡ [] → xs ≡ []
+map-empty f [] e = refl
+map-empty f (x ∷ xs) e = absurd (cc)
+
+flat-empty : {X Y : Type 0} (f : X → List Y) (xs : List X) (k : ℕ) (x : X) → flat_map f xs ≡ []
+    → slice_get xs k ≡ Some x → f x ≡ []
+flat-empty f [] k x e at = absurd (cc)
+flat-empty f (v ∷ xs) zero x e at =
+    let same : v ≡ x = cc in
+    subst (λ w. f w ≡ []) same (first-empty (f v) (flat_map f xs) e)
+flat-empty f (v ∷ xs) (suc k) x e at = flat-empty f xs k x (second-empty (f v) (flat_map f xs) e) at
+
+-- the same of an element, wherever it stands
+flat-empty-in : {X Y : Type 0} (f : X → List Y) (xs : List X) (x : X) → flat_map f xs ≡ [] → Contains xs x → f x ≡ []
+flat-empty-in f [] x e (k, within, at) = absurd (omega (arith, within))
+flat-empty-in f (v ∷ xs) x e (zero, within, at) = subst (λ w. f w ≡ []) at (first-empty (f v) (flat_map f xs) e)
+flat-empty-in f (v ∷ xs) x e (suc k, within, at) =
+    flat-empty-in f xs x (second-empty (f v) (flat_map f xs) e) (k, omega (arith, within), at)
+
+filter-empty : {X : Type 0} (p : X → Bool) (xs : List X) (k : ℕ) (x : X) → filter p xs ≡ [] → slice_get xs k ≡ Some x
+    → p x ≡ false
+filter-empty p [] k x e at = absurd (cc)
+filter-empty p (v ∷ xs) k x e at = by (p v) refl (λ i. filter-empty p xs i x) e k at
+  where
+    by : (b : Bool) → p v ≡ b → ((i : ℕ) → filter p xs ≡ [] → slice_get xs i ≡ Some x → p x ≡ false)
+        → cond b (v ∷ filter p xs) (filter p xs) ≡ [] → (i : ℕ) → slice_get (v ∷ xs) i ≡ Some x → p x ≡ false
+    by true is rest none i here = absurd (cc)
+    by false is rest none zero here =
+        let same : v ≡ x = cc in
+        subst (λ w. p w ≡ false) same is
+    by false is rest none (suc i) here = rest i none here
+
+when-empty : {X : Type 0} (b : Bool) (x : X) → cond b [] (x ∷ []) ≡ [] → b ≡ true
+when-empty true x e = refl
+when-empty false x e = absurd (cc)
+
+unless-empty : {X : Type 0} (b : Bool) (x : X) → cond b (x ∷ []) [] ≡ [] → b ≡ false
+unless-empty true x e = absurd (cc)
+unless-empty false x e = refl
+
+where-true : {X : Type 0} (b : Bool) (xs : List X) → b ≡ true → cond b xs [] ≡ [] → xs ≡ []
+where-true true xs is e = e
+where-true false xs is e = absurd (false≢true is)
+
+-- ---- faults
+
+-- where a list is empty, so is the part with which it begins
+record IsEmptyWith {X : Type 0} (first all : List X) : Type 0 where
+  pub empty : all ≡ [] → first ≡ []
+
+with-itself : {X : Type 0} (xs : List X) → IsEmptyWith xs xs
+with-itself xs = record { empty = λ e. e }
+
+with-more : {X : Type 0} (first xs ys : List X) → IsEmptyWith first xs → IsEmptyWith first (xs ++ ys)
+with-more first xs ys with = record { empty = λ e. with.empty (first-empty xs ys e) }
+
+-- no declaration has a fault, where there is none
+none-declared : (ds : List Decl) (book : List Promised) → faults ds book ≡ [] → flat_map (faults_of ds book) ds ≡ []
+unfolding faults
+none-declared ds book none =
+    let with : IsEmptyWith (flat_map (faults_of ds book) ds) (faults ds book) = search (with-itself, with-more) in
+    with.empty none
+
+-- nothing of a declaration has a code, where there is no fault
+none-at-fault : (ds : List Decl) (book : List Promised) (k : ℕ) (d : Decl) (code : Code) → faults ds book ≡ []
+    → slice_get ds k ≡ Some d
+    → subjects_at_fault code ds book d ≡ []
+none-at-fault ds book k d code none at =
+    let of_decl = flat-empty (faults_of ds book) ds k d (none-declared ds book none) at in
+    let of_code = flat-empty-in (faults_of_code ds book d) all_codes code of_decl (has_code code) in
+    let found = subjects_at_fault code ds book d in
+    none_in_order found
+    (map-empty (λ m. faults_are.Declared code (kind_of d) (name_of_decl d) m) (in_text_order found) of_code)
+
+-- ---- bodies
+
+fit : (book : List Promised) (allowed : ℕ) (place : PartPlace) (body : List ℕ) → unfit book allowed place body ≡ []
+    → IsFit book allowed body
+fit book allowed place body e = by (promise_of book body) refl
+    (when-empty (is_fit allowed (promise_of book body)) (subjects.Part place) e)
+  where
+    all : (promise : Promise) → (bit_and allowed promise.0 == promise.0) ≡ true → bit_and allowed promise.0 ≡ promise.0
+    all promise is = grind (arith, nat_tests)
+
+    by : (o : Option Promise) → promise_of book body ≡ o → is_fit allowed o ≡ true → IsFit book allowed body
+    by None none is = absurd (false≢true is)
+    by (Some promise) found is = record {
+      promise = promise;
+      found = found;
+      kept = keeps_each promise allowed (all promise is);
+    }
+
+fit-part : (book : List Promised) (allowed : ℕ) (place : PartPlace) (o : Option PartDecl) (part : PartDecl)
+    → unfit_part book allowed place o ≡ [] → o ≡ Some part → IsFit book allowed part.body
+fit-part book allowed place None part e is = absurd (cc)
+fit-part book allowed place (Some p) part e is =
+    let same : p ≡ part = cc in
+    subst (λ q. IsFit book allowed q.body) same (fit book allowed place p.body e)
+
+-- ---- injection points
+
+one-chosen : (choice : Choice) → is_unsatisfied choice ≡ false → is_ambiguous choice ≡ false
+    → (id : BeanId) × (choice ≡ choices.One id)
+one-chosen (choices.One id) some single = (id, refl)
+one-chosen choices.Unsatisfied some single = absurd (true≢false some)
+one-chosen (choices.Ambiguous ids) some single = absurd (true≢false single)
+
+-- no point of an enabled bean has a choice that the test finds
+none-found : (test : Choice → Bool) (ds : List Decl) (bean : Effective) (producer : Option (List ℕ))
+    (points : List PointDecl) (k : ℕ) (point : PointDecl) → bean.is_enabled ≡ true
+    → points_with test ds bean producer points ≡ [] → slice_get points k ≡ Some point
+    → test (answer_to ds point) ≡ false
+none-found test ds bean producer points k point enabled none at =
+    let listed = where-true bean.is_enabled _ enabled none in
+    filter-empty (λ p. test (answer_to ds p)) points k point
+    (map-empty (λ p. subjects.Point producer p.name) (filter (λ p. test (answer_to ds p)) points) listed) at
+
+satisfied : (ds : List Decl) (bean : Effective) (producer : Option (List ℕ)) (points : List PointDecl)
+    → bean.is_enabled ≡ true
+    → points_with is_unsatisfied ds bean producer points ≡ []
+    → points_with is_ambiguous ds bean producer points ≡ [] → AreSatisfied ds points
+satisfied ds bean producer points enabled some single k point at =
+    let one = one-chosen (answer_to ds point)
+    (none-found is_unsatisfied ds bean producer points k point enabled some at)
+    (none-found is_ambiguous ds bean producer points k point enabled single at) in
+    record { id = one.0; chosen = one.1 }
+
+-- ---- call sites
+
+-- what is chosen for the point of a name
+chosen-at : (ds : List Decl) (points : List PointDecl) (name : List ℕ)
+    → choice_at (sight_at ds points) name ≡ option_map (answer_to ds) (find (is_point name) points)
+chosen-at ds [] name = refl
+chosen-at ds (p ∷ points) name = by (bytes_eq p.name name) (chosen-at ds points name)
+  where
+    by : (b : Bool) → choice_at (sight_at ds points) name ≡ option_map (answer_to ds) (find (is_point name) points)
+        → option_map (λ z. z.1)
+        (cond b (Some (p, answer_to ds p)) (find (λ z. bytes_eq z.0.name name) (sight_at ds points)))
+        ≡ option_map (answer_to ds) (cond b (Some p) (find (is_point name) points))
+    by true rest = refl
+    by false rest = rest
+
+led : (ds : List Decl) (points : List PointDecl) (call : CallDecl) → is_lost ds (sight_at ds points) call ≡ false
+    → IsLed ds points call
+led ds points call found = by (find (is_point call.point) points) refl
+    (sym (ap (is_lost_among ds call.method) (chosen-at ds points call.point)) ∙ found)
+  where
+    by : (o : Option PointDecl) → find (is_point call.point) points ≡ o
+        → is_lost_among ds call.method (option_map (answer_to ds) o) ≡ false → IsLed ds points call
+    by None none lost = absurd (true≢false lost)
+    by (Some point) sees kept = record {
+      point = point;
+      sees = sees;
+      has = λ id one. not-false (has_method ds id call.method) (sym (ap (lacks_method ds call.method) one) ∙ kept);
+    }
+
+-- each call site of a body that sees some points, where none is lost
+all-led : (ds : List Decl) (points : List PointDecl) (place : PartPlace) (calls : List CallDecl)
+    → lost_calls ds (sight_at ds points) place calls ≡ [] → (k : ℕ) (call : CallDecl) → slice_get calls k ≡ Some call
+    → IsLed ds points call
+all-led ds points place calls none k call at =
+    let sight = sight_at ds points in
+    led ds points call (unless-empty (is_lost ds sight call) (subjects.Call place call.point call.method)
+    (flat-empty (lost_call ds sight place) calls k call none at))
+
+fine-part : (ds : List Decl) (book : List Promised) (allowed : ℕ) (place : PartPlace) (points : List PointDecl)
+    (part : PartDecl)
+    → HasFewCalls part → unfit book allowed place part.body ≡ []
+    → lost_calls ds (sight_at ds points) place part.calls ≡ []
+    → IsFinePart ds book allowed points part
+fine-part ds book allowed place points part few fits found = record {
+  body = fit book allowed place part.body fits;
+  few = few;
+  calls = all-led ds points place part.calls found;
+}
+
+-- a part that may be there
+fine-some : (ds : List Decl) (book : List Promised) (allowed : ℕ) (place : PartPlace) (points : List PointDecl)
+    (o : Option PartDecl)
+    → ((part : PartDecl) → o ≡ Some part → HasFewCalls part) → unfit_part book allowed place o ≡ []
+    → lost_in_part ds (sight_at ds points) place o ≡ [] → (part : PartDecl) → o ≡ Some part
+    → IsFinePart ds book allowed points part
+fine-some ds book allowed place points None few fits found part is = absurd (cc)
+fine-some ds book allowed place points (Some p) few fits found part is =
+    let same : p ≡ part = cc in
+    subst (IsFinePart ds book allowed points) same (fine-part ds book allowed place points p (few p refl) fits found)
+
+-- ---- what is known of a bean
+
+-- nothing of the bean has one of these codes
+record HasNone (ds : List Decl) (book : List Promised) (bean : BeanDecl) : Type 0 where
+  pub body : subjects_at_fault codes_of.Body ds book (decls.Bean bean) ≡ []
+  pub unsatisfied : subjects_at_fault codes_of.Unsatisfied ds book (decls.Bean bean) ≡ []
+  pub ambiguous : subjects_at_fault codes_of.Ambiguous ds book (decls.Bean bean) ≡ []
+  pub site : subjects_at_fault codes_of.Site ds book (decls.Bean bean) ≡ []
+
+fine-managed : (ds : List Decl) (book : List Promised) (bean : BeanDecl) → HasNone ds book bean → IsShortBean bean
+    → (managed ds bean).is_enabled ≡ true → IsFineManaged ds book bean
+fine-managed ds book bean none short enabled =
+    let sight = sight_at ds bean.points in
+    let instance_parts = unfit_callbacks book bean ++ unfit_methods book bean.methods in
+    let of_callbacks = first-empty instance_parts _ (first-empty _ _ none.body) in
+    let callbacks = first-empty (unfit_callbacks book bean) _ of_callbacks in
+    let early = first-empty _ _ callbacks in
+    let own = where-true (managed ds bean).is_enabled (lost_in_managed ds sight bean) enabled
+    (first-empty _ _ none.site) in
+    let of_parts = first-empty _ _ own in
+    let of_early = first-empty _ _ of_parts in
+    record {
+      points = satisfied ds (managed ds bean) None bean.points enabled (first-empty _ _ none.unsatisfied)
+          (first-empty _ _ none.ambiguous);
+      construct = fine-some ds book flags.at_instance places.Construct bean.points bean.construct short.construct
+          (first-empty _ _ early) (first-empty _ _ of_early);
+      post = fine-some ds book flags.at_instance places.Post bean.points bean.post short.post
+          (second-empty (unfit_part book flags.at_instance places.Construct bean.construct) _ early)
+          (second-empty (lost_in_part ds sight places.Construct bean.construct) _ of_early);
+      pre = fine-some ds book flags.at_destruction places.Pre bean.points bean.pre short.pre
+          (second-empty _ _ callbacks) (second-empty _ _ of_parts);
+      methods = λ k method at. fine-part ds book flags.at_instance (places.Method method.name) bean.points method.part
+          (short.methods k method at)
+          (flat-empty (λ m. unfit book flags.at_instance (places.Method m.name) m.part.body) bean.methods k method
+          (second-empty (unfit_callbacks book bean) _ of_callbacks) at)
+          (flat-empty (λ m. lost_calls ds sight (places.Method m.name) m.part.calls) bean.methods k method
+          (second-empty _ _ own) at);
+    }
+
+-- what a producer method sees, as points and as sight
+seen-sight : (ds : List Decl) (bean : BeanDecl) (producer : ProducerDecl)
+    → sight_at ds (seen_by bean producer) ≡ sight_at ds producer.params ++ cond producer.is_static []
+    (sight_at ds bean.points)
+seen-sight ds bean producer = by producer.is_static
+  where
+    beside : PointDecl → PointDecl × Choice
+    beside point = (point, answer_to ds point)
+
+    by : (s : Bool) → sight_at ds (producer.params ++ cond s [] bean.points)
+        ≡ sight_at ds producer.params ++ cond s [] (sight_at ds bean.points)
+    by true = map-append beside producer.params []
+    by false = map-append beside producer.params bean.points
+
+fine-producer : (ds : List Decl) (book : List Promised) (bean : BeanDecl) (k : ℕ) (producer : ProducerDecl)
+    → HasNone ds book bean
+    → IsShortBean bean → slice_get bean.producers k ≡ Some producer → (product ds bean producer).is_enabled ≡ true
+    → IsFineProducer ds book bean producer
+fine-producer ds book bean k producer none short at enabled =
+    let own = sight_at ds bean.points in
+    let lost_in : ProducerDecl → List Subject = λ p. where_enabled (product ds bean p)
+    (lost_in_producer ds own (sight_at ds p.params) p) in
+    let own_lost = where_enabled (managed ds bean) (lost_in_managed ds own bean) in
+    let lost = where-true (product ds bean producer).is_enabled
+    (lost_in_producer ds own (sight_at ds producer.params) producer) enabled
+    (flat-empty lost_in bean.producers k producer (second-empty own_lost _ none.site) at) in
+    let params_with : (Choice → Bool) → ProducerDecl → List Subject = λ test p.
+    points_with test ds (product ds bean p) (Some p.name) p.params in
+    let points_of : (Choice → Bool) → List Subject = λ test. points_with test ds (managed ds bean) None bean.points in
+    let few = short.producers k producer at in
+    record {
+      params = satisfied ds (product ds bean producer) (Some producer.name) producer.params enabled
+          (flat-empty (params_with is_unsatisfied) bean.producers k producer
+          (second-empty (points_of is_unsatisfied) _ none.unsatisfied) at)
+          (flat-empty (params_with is_ambiguous) bean.producers k producer
+          (second-empty (points_of is_ambiguous) _ none.ambiguous) at);
+      few = few.params;
+      part = fine-part ds book (allowed_to producer) (places.Producer producer.name) (seen_by bean producer)
+          producer.part few.calls
+          (flat-empty (λ p. unfit book (allowed_to p) (places.Producer p.name) p.part.body) bean.producers k producer
+          (second-empty _ (unfit_producers book bean.producers)
+          (first-empty _ (unfit_disposers book bean.disposers) none.body)) at)
+          (subst (λ sight. lost_calls ds sight (places.Producer producer.name) producer.part.calls ≡ [])
+          (sym (seen-sight ds bean producer)) lost);
+      disposers = λ j disposer here. fit book flags.at_disposal (places.Disposer disposer.name) disposer.body
+          (flat-empty (λ d. unfit book flags.at_disposal (places.Disposer d.name) d.body) bean.disposers j disposer
+          (second-empty _ (unfit_disposers book bean.disposers) none.body) here);
+    }
+
+-- ---- the law
+
+pub are_fine : (ds : List Decl) (book : List Promised) → AreShort ds → faults ds book ≡ [] → AreFine ds book
+are_fine ds book short none k bean at =
+    let of : HasNone ds book bean = record {
+      body = none-at-fault ds book k (decls.Bean bean) codes_of.Body none at;
+      unsatisfied = none-at-fault ds book k (decls.Bean bean) codes_of.Unsatisfied none at;
+      ambiguous = none-at-fault ds book k (decls.Bean bean) codes_of.Ambiguous none at;
+      site = none-at-fault ds book k (decls.Bean bean) codes_of.Site none at;
+    } in
+    let few : IsShortBean bean = short k (decls.Bean bean) at in
+    record {
+      managed_bean = λ enabled. fine-managed ds book bean of few enabled;
+      products = λ j producer here enabled. fine-producer ds book bean j producer of few here enabled;
+    }
+
+pub faultless_is_sound : FaultlessIsSound
+faultless_is_sound ds book distinct short none = fine_is_sound ds book distinct (are_fine ds book short none)
