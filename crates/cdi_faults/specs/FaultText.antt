@@ -6,6 +6,7 @@ use Rattle.cdi_model.specs.Bytes.{byte_order, dot, space}
 use Rattle.cdi_model.specs.Decl.{word_of_kind}
 use Rattle.cdi_model.specs.UseText.{text_of_use}
 use Rattle.cdi_match.specs.Chain.{has}
+use Rattle.cdi_effective.specs.BeanText.{text_of_id}
 use Rattle.cdi_faults.specs.Codes.{code_of}
 use Rattle.cdi_faults.specs.declared.fault.Code.{Code}
 use Rattle.cdi_faults.specs.declared.fault.Code.TheVariants as fault_codes
@@ -70,17 +71,19 @@ text_of_code fault_codes.Ambiguous = codes "F21"
 text_of_code fault_codes.Site = codes "F23"
 text_of_code fault_codes.NameClash = codes "F24"
 text_of_code fault_codes.NamePrefix = codes "F25"
+text_of_code fault_codes.Circular = codes "F26"
 
 -- behind a space, where it is not empty
 abbrev pub behind_space : List ℕ → List ℕ
 behind_space [] = []
 behind_space (c ∷ cs) = space ∷ c ∷ cs
 
--- what a fault is about: the kind and the name of the declaration, and the subject; or the names
+-- what a fault is about: the kind and the name of the declaration, and the subject; or the names; or a bean by its id
 abbrev pub text_behind_code : Fault → List ℕ
 text_behind_code (faults_are.Declared code kind name subject) = about (word_of_kind kind) (name ++ behind_space (text_of_subject subject))
 text_behind_code (faults_are.NameClash name) = about (codes "name") name
 text_behind_code (faults_are.NamePrefix name longer) = about (codes "name") (name ++ space ∷ longer)
+text_behind_code (faults_are.Circular class producer) = about (codes "bean") (text_of_id (record { class = class; producer = producer }))
 
 -- each prints its code first
 abbrev pub text_of_fault : Fault → List ℕ

@@ -35,12 +35,14 @@ pub enum Code {
     NameClash,
     /// The name of an enabled bean is that of another, a dot and a name (CDI 4.0, Ambiguous names).
     NamePrefix,
+    /// A dependent bean needs itself before it can be made (profile).
+    Circular,
 }
 
 impl Code {
     /// All codes, in their order.
     #[tactic(auto, using(crate::proofs::CodeLemmas::codes_rise, crate::proofs::CodeLemmas::has_code))]
-    pub fn all() -> [Code; 13]
+    pub fn all() -> [Code; 14]
         ensures value { result ≡ all_codes }
         ensures order { IsStrictlySortedBy code_order all_codes }
         ensures each { (code : Code) → Contains all_codes code }
@@ -59,6 +61,7 @@ impl Code {
             Code::Site,
             Code::NameClash,
             Code::NamePrefix,
+            Code::Circular,
         ]
     }
 }
@@ -118,6 +121,11 @@ pub enum Fault {
     NameClash(Name),
     /// The shorter name and the longer.
     NamePrefix(Name, Name),
+    /// What a dependent bean is told by: its class, and its producer method if it is the product of one.
+    Circular {
+        class: Name,
+        producer: Option<Ident>,
+    },
 }
 
 impl Fault {
@@ -129,6 +137,7 @@ impl Fault {
             Fault::Declared { code, .. } => *code,
             Fault::NameClash(_) => Code::NameClash,
             Fault::NamePrefix(..) => Code::NamePrefix,
+            Fault::Circular { .. } => Code::Circular,
         }
     }
 }

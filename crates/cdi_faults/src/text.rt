@@ -7,6 +7,7 @@ ghost use Rattle.cdi_faults.specs.FaultText.{text_of_code, text_of_subject, text
 ghost use Rattle.cdi_faults.specs.FaultText.{SubjectsInOrder};
 
 use crate::fault::{Code, Fault, Subject};
+use cdi_effective::BeanId;
 use std::alloc::{AllocError, Global};
 use std::collections::BTreeMap;
 use std::fmt;
@@ -30,6 +31,7 @@ impl fmt::Display for Code {
             Code::Site => "F23",
             Code::NameClash => "F24",
             Code::NamePrefix => "F25",
+            Code::Circular => "F26",
         })
     }
 }
@@ -97,6 +99,13 @@ impl fmt::Display for Fault {
             }
             Fault::NameClash(name) => write!(f, "{code} name {name}"),
             Fault::NamePrefix(name, longer) => write!(f, "{code} name {name} {longer}"),
+            Fault::Circular { class, producer } => {
+                let id = BeanId {
+                    class: *class,
+                    producer: *producer,
+                };
+                write!(f, "{code} bean {id}")
+            }
         }
     }
 }

@@ -9,8 +9,9 @@ use Rattle.cdi_model.specs.Grammar.{begins, continues, goes_on as continues_name
 use Rattle.cdi_effective.specs.Beans.{beans}
 use Rattle.cdi_faults.specs.declared.fault.Fault.{Fault}
 use Rattle.cdi_faults.specs.declared.fault.Fault.TheVariants as faults_are
-use Rattle.cdi_validate.specs.Faults.{enabled_names, faults, faults_of, goes_on, name_clashes, name_prefixes, IsNameBehind, PrefixesGoOn}
-use Rattle.cdi_validate.proofs.OnceLemmas.{all-append, all-map, all-more, clashes-tagged, declared-tagged, is-declared}
+use Rattle.cdi_validate.specs.Faults.{circles, enabled_names, faults, faults_of, goes_on, name_clashes, name_prefixes}
+use Rattle.cdi_validate.specs.Faults.{IsNameBehind, PrefixesGoOn}
+use Rattle.cdi_validate.proofs.OnceLemmas.{all-append, all-map, all-more, circles-each, clashes-tagged, declared-tagged, is-declared}
 
 -- ---- names
 
@@ -56,16 +57,19 @@ abbrev GoesOn : Fault → Type 0
 GoesOn (faults_are.Declared code kind name subject) = Unit {0}
 GoesOn (faults_are.NameClash name) = Unit {0}
 GoesOn (faults_are.NamePrefix x y) = goes_on x y ≡ true
+GoesOn (faults_are.Circular class producer) = Unit {0}
 
 of_declared : (f : Fault) → is-declared f ≡ 0 → GoesOn f
 of_declared (faults_are.Declared code kind name subject) is = tt
 of_declared (faults_are.NameClash name) is = tt
 of_declared (faults_are.NamePrefix x y) is = absurd (omega (arith, is))
+of_declared (faults_are.Circular class producer) is = tt
 
 of_clash : (f : Fault) → is-declared f ≡ 1 → GoesOn f
 of_clash (faults_are.Declared code kind name subject) is = tt
 of_clash (faults_are.NameClash name) is = tt
 of_clash (faults_are.NamePrefix x y) is = absurd (omega (arith, is))
+of_clash (faults_are.Circular class producer) is = tt
 
 pairs-go_on : (all xs : List (List ℕ)) → AllByRecursion GoesOn (flat_map (λ x. map (faults_are.NamePrefix x) (filter (goes_on x) all)) xs)
 pairs-go_on all [] = tt
@@ -81,9 +85,11 @@ prefixes_go_on ds book x y among =
     let bs = beans ds in
     let declared = flat_map (faults_of ds book) ds in
     let all : AllByRecursion GoesOn (faults ds book) =
-    all-append GoesOn (declared ++ name_clashes bs) (name_prefixes bs)
+    all-append GoesOn (declared ++ name_clashes bs ++ name_prefixes bs) (circles ds)
+    (all-append GoesOn (declared ++ name_clashes bs) (name_prefixes bs)
     (all-append GoesOn declared (name_clashes bs)
     (all-more (λ f. is-declared f ≡ 0) GoesOn of_declared declared (declared-tagged ds book ds))
     (all-more (λ f. is-declared f ≡ 1) GoesOn of_clash (name_clashes bs) (clashes-tagged _)))
-    (pairs-go_on (enabled_names bs) (enabled_names bs)) in
+    (pairs-go_on (enabled_names bs) (enabled_names bs)))
+    (circles-each GoesOn (λ id. tt) ds) in
     is_behind x y (All-contains GoesOn (faults ds book) (faults_are.NamePrefix x y) (All-from_recursion GoesOn (faults ds book) all) among)

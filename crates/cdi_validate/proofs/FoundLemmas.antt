@@ -1,6 +1,8 @@
--- The records of a declaration, which are found by its name.
-use Rattle.std.proofs.Common.{◌≡◌, ◌≢◌, Bool, true, false, cond, List, [], ◌∷◌, ◌++◌, Some, refl, sym, subst, ap, ◌∙◌}
-use Rattle.std.specs.List.{AllByRecursion}
+-- The records of a declaration, which are found by its name, and the answers to its points.
+use Rattle.std.proofs.Common.{◌≡◌, ◌≢◌, Bool, true, false, cond, List, [], ◌∷◌, ◌++◌, Some, length, map, refl, sym, subst, ap, ◌∙◌, append-nil}
+use Rattle.std.specs.List.{AllByRecursion, flat_map}
+use Rattle.std.proofs.lemmas.Grind.{flat_map-append}
+use Rattle.std.proofs.lemmas.List.{length-map, nil_from_length}
 use Rattle.cdi_model.specs.Decl.{key_of, kind_of, name_of_decl}
 use Rattle.cdi_model.specs.DeclKey.{same_key, same_key_equiv}
 use Rattle.cdi_model.specs.DeclList.{find_decl, AreDistinct}
@@ -8,9 +10,12 @@ use Rattle.cdi_model.specs.declared.decl.Decl.{Decl}
 use Rattle.cdi_model.specs.declared.decl.Decl.TheVariants as decls
 use Rattle.cdi_model.specs.declared.decl.Kind.TheVariants as kinds
 use Rattle.cdi_model.proofs.EntryLemmas.{key_exact}
-use Rattle.cdi_effective.specs.Beans.{entries}
+use Rattle.cdi_effective.specs.Beans.{beans, entries}
+use Rattle.cdi_effective.specs.declared.records.Effective.{Effective}
 use Rattle.cdi_effective.specs.Disposers.{as_bean}
 use Rattle.cdi_effective.specs.Records.{records_declared, records_in}
+use Rattle.cdi_resolve.specs.declared.choice.Choice.{Choice}
+use Rattle.cdi_observe.specs.Answers.{answers_of}
 use Rattle.cdi_validate.specs.Records.{records_by}
 use Rattle.cdi_validate.proofs.OnceLemmas.{Apart, pairs-apart}
 
@@ -45,3 +50,34 @@ records_found ds es rest (decls.Bean bean) distinct split =
     ap (λ found. records_declared ds (as_bean found))
     (subst (λ all. find_decl kinds.Bean bean.name all ≡ Some (decls.Bean bean)) split
     (found-own es rest (decls.Bean bean) (pairs-apart keys-differ (es ++ decls.Bean bean ∷ rest) (subst AreDistinct (sym split) distinct))))
+
+-- the records of one more declaration
+pub records-next : (ds es rest : List Decl) (d : Decl) (records : List Effective) → AreDistinct ds → es ++ d ∷ rest ≡ ds
+    → records ≡ records_by ds d
+    → flat_map (entries ds) es ++ records ≡ flat_map (entries ds) (es ++ d ∷ [])
+records-next ds es rest d records distinct split are =
+    ap (λ own. flat_map (entries ds) es ++ own)
+    (are ∙ records_found ds es rest d distinct split ∙ sym (append-nil (entries ds d)))
+    ∙ sym (flat_map-append (entries ds) es (d ∷ []))
+
+-- all declarations are gone through
+pub all-gone : (ds es rest : List Decl) → rest ≡ [] → es ++ rest ≡ ds → flat_map (entries ds) es ≡ beans ds
+unfolding beans
+all-gone ds es rest none split = ap (flat_map (entries ds)) (sym (append-nil es) ∙ ap (λ left. es ++ left) (sym none) ∙ split)
+
+-- ---- the answers to the points of declarations
+
+-- the answers to the next declaration stand first
+pub first-answers : {L : Type 0} (value : L → List Choice) (ds left others : List Decl) (d : Decl) (lists rest : List L) (own : L)
+    → lists ≡ own ∷ rest → left ≡ d ∷ others → map value lists ≡ map (answers_of ds) left
+    → (value own ≡ answers_of ds d) × (map value rest ≡ map (answers_of ds) others)
+first-answers value ds left others d lists rest own begins next all =
+    let both : value own ∷ map value rest ≡ answers_of ds d ∷ map (answers_of ds) others =
+    ap (map value) (sym begins) ∙ all ∙ ap (map (answers_of ds)) next in
+    (cc, cc)
+
+-- where no answers are left no declaration is
+pub none-left : {L : Type 0} (value : L → List Choice) (ds left : List Decl) (lists : List L) → map value lists ≡ map (answers_of ds) left
+    → length lists ≡ 0 → left ≡ []
+none-left value ds left lists all none = nil_from_length left
+    (sym (length-map left (answers_of ds)) ∙ ap length (sym all) ∙ length-map lists value ∙ none)

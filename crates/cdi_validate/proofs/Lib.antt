@@ -8,3 +8,5 @@ pub mod LineLemmas
 pub mod BehindLemmas
 pub mod FoundLemmas
 pub mod SiteLemmas
+pub mod NeedLemmas
+pub mod CircleLemmas

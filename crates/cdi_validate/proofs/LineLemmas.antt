@@ -1,6 +1,6 @@
--- The lines that the faults of names print, in byte order.
+-- The lines that the faults of names and circles print, in byte order.
 use Rattle.std.proofs.Common.{◌≡◌, ◌<◌, ℕ, Bool, true, false, List, [], ◌∷◌, ◌++◌, map, filter, Ordering, Less, Equal, Greater}
-use Rattle.std.proofs.Common.{refl, sym, ap, ◌∙◌, arith}
+use Rattle.std.proofs.Common.{refl, sym, subst, ap, ◌∙◌, arith}
 use Rattle.std.specs.Prelude.{codes, ◌==◌}
 use Rattle.std.specs.List.{AllByRecursion, flat_map}
 use Rattle.std.specs.List.Sorted.{IsStrictlySortedBy}
@@ -15,14 +15,19 @@ use Rattle.cdi_model.specs.Grammar.{begins, continues, goes_on as continues_name
 use Rattle.cdi_match.proofs.OrderLemmas.{in_order-has, in_order-rises}
 use Rattle.cdi_match.specs.Chain.{has}
 use Rattle.cdi_match.proofs.Names.{same_text}
+use Rattle.cdi_model.specs.declared.decl.Decl.{Decl}
+use Rattle.cdi_effective.specs.BeanText.{text_of_id}
+use Rattle.cdi_effective.specs.declared.records.BeanId.{BeanId}
 use Rattle.cdi_effective.specs.declared.records.Effective.{Effective}
 use Rattle.cdi_faults.specs.declared.fault.Fault.{Fault}
 use Rattle.cdi_faults.specs.declared.fault.Fault.TheVariants as faults_are
 use Rattle.cdi_faults.specs.FaultText.{text_of_fault}
 use Rattle.cdi_validate.specs.Faults.{enabled_name, enabled_names, goes_on, is_ambiguous, name_clashes, name_prefixes}
-use Rattle.cdi_validate.specs.Faults.{LinesRise}
+use Rattle.cdi_validate.specs.Faults.{circle, circles, LinesRise}
+use Rattle.cdi_validate.specs.Circles.{circular}
 use Rattle.cdi_resolve.specs.Choices.{chosen_by_name}
 use Rattle.cdi_validate.specs.Names.{AreNames}
+use Rattle.cdi_validate.proofs.NeedLemmas.{circular-rise}
 use Rattle.cdi_validate.proofs.OnceLemmas.{all-append, all-each, all-map, all-more}
 
 -- ---- lists that rise
@@ -72,6 +77,18 @@ clashes_rise bs =
     let test : List ℕ → Bool = λ n. is_ambiguous (chosen_by_name bs n) in
     lines-rise (name_clashes bs) (rises-map byte_order by_line faults_are.NameClash clash-keeps (filter test (enabled_names bs))
     (IsStrictlySortedBy-filter byte_order test (enabled_names bs) (in_order-rises (flat_map enabled_name bs))))
+
+-- ---- circles
+
+circle-lines : (ids : List BeanId)
+    → map text_of_fault (map circle ids) ≡ map (λ text. codes "F26 bean " ++ text) (map text_of_id ids)
+circle-lines [] = refl
+circle-lines (id ∷ ids) = ap (λ lines. text_of_fault (circle id) ∷ lines) (circle-lines ids)
+
+pub circles_rise : (ds : List Decl) → LinesRise (circles ds)
+circles_rise ds = subst (IsStrictlySortedBy byte_order) (sym (circle-lines (circular ds)))
+    (rises-map byte_order byte_order (λ text. codes "F26 bean " ++ text) (λ x y less. order-behind (codes "F26 bean ") x y ∙ less)
+    (map text_of_id (circular ds)) (circular-rise ds))
 
 -- ---- bytes of names
 

@@ -5,13 +5,17 @@ use Rattle.std.specs.List.{AllByRecursion, AllPairs, flat_map, slice_index_or}
 use Rattle.std.specs.List.Sorted.{IsStrictlySortedBy}
 use Rattle.std.specs.Cmp.{IsTotalOrder}
 use Rattle.std.specs.Cmp.Lexicographic.{nat_list_cmp_total}
+use Rattle.std.proofs.lemmas.Bool.{false≢true}
 use Rattle.std.proofs.lemmas.Cmp.{tied_itself}
 use Rattle.cdi_bodies.specs.Book.{Promised}
 use Rattle.cdi_model.specs.Decl.{key_of, kind_of, name_of_decl}
+use Rattle.cdi_model.specs.DeclList.{AreDistinct}
 use Rattle.cdi_model.specs.declared.decl.Decl.{Decl}
 use Rattle.cdi_model.specs.declared.key.DeclKey.{DeclKey}
 use Rattle.cdi_match.proofs.OrderLemmas.{in_order-rises}
 use Rattle.cdi_effective.specs.Beans.{beans}
+use Rattle.cdi_effective.specs.BeanText.{text_of_id}
+use Rattle.cdi_effective.specs.declared.records.BeanId.{BeanId}
 use Rattle.cdi_effective.specs.declared.records.Effective.{Effective}
 use Rattle.cdi_faults.specs.Codes.{all_codes, code_of}
 use Rattle.cdi_faults.proofs.CodeLemmas.{codes_rise, code_order-total}
@@ -21,7 +25,9 @@ use Rattle.cdi_faults.specs.declared.fault.Fault.TheVariants as faults_are
 use Rattle.cdi_faults.specs.declared.fault.Subject.{Subject}
 use Rattle.cdi_faults.specs.FaultText.{text_of_subject, in_text_order}
 use Rattle.cdi_validate.specs.Faults.{faults_of_code, faults_of, subjects_at_fault, name_clashes, name_prefixes}
-use Rattle.cdi_validate.specs.Faults.{enabled_name, enabled_names, goes_on, faults, FaultsStandOnce}
+use Rattle.cdi_validate.specs.Circles.{circular}
+use Rattle.cdi_validate.specs.Faults.{circle, circles, enabled_name, enabled_names, goes_on, faults, FaultsStandOnce}
+use Rattle.cdi_validate.proofs.NeedLemmas.{circular-rise}
 use Rattle.cdi_faults.proofs.OrderLemmas.{subjects_in_order}
 
 -- ---- each apart from the later ones
@@ -178,6 +184,7 @@ abbrev key-of : Fault → Option DeclKey
 key-of (faults_are.Declared code kind name subject) = Some (record { kind = kind; name = name })
 key-of (faults_are.NameClash name) = None
 key-of (faults_are.NamePrefix name longer) = None
+key-of (faults_are.Circular class producer) = None
 
 some-key : (k l : DeclKey) → Some k ≡ Some l → k ≡ l
 some-key k l e = cc
@@ -203,11 +210,12 @@ declared-differ now book ds keyed =
     differ-flat_map key-of (faults_of now book) (λ d. Some (key_of d)) (of_decl-tagged now book) (of_decl-differ now book) ds
     (apart-more _ _ (λ d e other same. other (some-key (key_of d) (key_of e) same)) ds (pairs-apart (λ d e. key_of d ≢ key_of e) ds keyed))
 
--- 0 for a fault of a declaration, and one for each kind of faults of names
+-- 0 for a fault of a declaration, one for each kind of faults of names, and 3 for a circle
 abbrev pub is-declared : Fault → ℕ
 is-declared (faults_are.Declared code kind name subject) = 0
 is-declared (faults_are.NameClash name) = 1
 is-declared (faults_are.NamePrefix name longer) = 2
+is-declared (faults_are.Circular class producer) = 3
 
 one-apart : ◌≢◌ {A = ℕ} 1 0
 one-apart e = absurd (omega (arith, e))
@@ -250,6 +258,7 @@ abbrev shorter-of : Fault → Option (List ℕ)
 shorter-of (faults_are.Declared code kind name subject) = None
 shorter-of (faults_are.NameClash name) = None
 shorter-of (faults_are.NamePrefix name longer) = Some name
+shorter-of (faults_are.Circular class producer) = None
 
 some-name : (k l : List ℕ) → Some k ≡ Some l → k ≡ l
 some-name k l e = cc
@@ -265,21 +274,13 @@ prefixes-differ bs =
     names
     (apart-more _ _ (λ x y other same. other (some-name x y same)) names (names-differ bs))
 
-prefixes-tagged : (names all : List (List ℕ))
-    → AllByRecursion (λ f. is-declared f ≢ 1) (flat_map (λ x. map (faults_are.NamePrefix x) (filter (goes_on x) all)) names)
-prefixes-tagged [] all = tt
-prefixes-tagged (x ∷ xs) all =
-    all-append (λ f. is-declared f ≢ 1) (map (faults_are.NamePrefix x) (filter (goes_on x) all)) _
-    (all-map (λ f. is-declared f ≢ 1) (faults_are.NamePrefix x) (filter (goes_on x) all)
-    (all-each _ (λ y e. two-apart e) (filter (goes_on x) all))) (prefixes-tagged xs all)
-
-prefixes-not_zero : (names all : List (List ℕ))
-    → AllByRecursion (λ f. is-declared f ≢ 0) (flat_map (λ x. map (faults_are.NamePrefix x) (filter (goes_on x) all)) names)
-prefixes-not_zero [] all = tt
-prefixes-not_zero (x ∷ xs) all =
-    all-append (λ f. is-declared f ≢ 0) (map (faults_are.NamePrefix x) (filter (goes_on x) all)) _
-    (all-map (λ f. is-declared f ≢ 0) (faults_are.NamePrefix x) (filter (goes_on x) all)
-    (all-each _ (λ y e. two-from_zero e) (filter (goes_on x) all))) (prefixes-not_zero xs all)
+pub prefixes-each : (P : Fault → Type 0) → ((x y : List ℕ) → P (faults_are.NamePrefix x y)) → (names all : List (List ℕ))
+    → AllByRecursion P (flat_map (λ x. map (faults_are.NamePrefix x) (filter (goes_on x) all)) names)
+prefixes-each P each [] all = tt
+prefixes-each P each (x ∷ xs) all =
+    all-append P (map (faults_are.NamePrefix x) (filter (goes_on x) all)) _
+    (all-map P (faults_are.NamePrefix x) (filter (goes_on x) all) (all-each _ (each x) (filter (goes_on x) all)))
+    (prefixes-each P each xs all)
 
 pub clashes-tagged : (names : List (List ℕ)) → AllByRecursion (λ f. is-declared f ≡ 1) (map faults_are.NameClash names)
 clashes-tagged names = all-map (λ f. is-declared f ≡ 1) faults_are.NameClash names (all-each _ (λ n. refl) names)
@@ -289,20 +290,69 @@ clashes-tagged names = all-map (λ f. is-declared f ≡ 1) faults_are.NameClash 
 names-differ_too : (bs : List Effective) → Differ (name_clashes bs ++ name_prefixes bs)
 names-differ_too bs =
     differ-append is-declared 1 (name_clashes bs) (name_prefixes bs) (clashes-tagged _)
-    (prefixes-tagged (enabled_names bs) (enabled_names bs)) (clashes-differ bs) (prefixes-differ bs)
+    (prefixes-each (λ f. is-declared f ≢ 1) (λ x y. two-apart) (enabled_names bs) (enabled_names bs)) (clashes-differ bs) (prefixes-differ bs)
 
 names-not_declared : (bs : List Effective) → AllByRecursion (λ f. is-declared f ≢ 0) (name_clashes bs ++ name_prefixes bs)
 names-not_declared bs =
     all-append (λ f. is-declared f ≢ 0) (name_clashes bs) (name_prefixes bs)
     (all-more (λ f. is-declared f ≡ 1) (λ f. is-declared f ≢ 0) (λ f one none. one-apart (sym one ∙ none)) (name_clashes bs)
     (clashes-tagged _))
-    (prefixes-not_zero (enabled_names bs) (enabled_names bs))
+    (prefixes-each (λ f. is-declared f ≢ 0) (λ x y. two-from_zero) (enabled_names bs) (enabled_names bs))
+
+-- those of declarations and names
+others-differ : (ds : List Decl) (book : List Promised) → AreDistinct ds
+    → Differ (flat_map (faults_of ds book) ds ++ name_clashes (beans ds) ++ name_prefixes (beans ds))
+others-differ ds book keyed =
+    let bs = beans ds in
+    let declared = flat_map (faults_of ds book) ds in
+    subst Differ (sym (append_assoc declared (name_clashes bs) (name_prefixes bs)))
+    (differ-append is-declared 0 declared (name_clashes bs ++ name_prefixes bs) (declared-tagged ds book ds) (names-not_declared bs)
+    (declared-differ ds book ds keyed) (names-differ_too bs))
+
+-- ---- circles
+
+abbrev is-circle : Fault → Bool
+is-circle (faults_are.Circular class producer) = true
+is-circle other = false
+
+declared-no_circle : (f : Fault) → is-declared f ≡ 0 → is-circle f ≡ false
+declared-no_circle (faults_are.Declared code kind name subject) is = refl
+declared-no_circle (faults_are.NameClash name) is = refl
+declared-no_circle (faults_are.NamePrefix name longer) is = refl
+declared-no_circle (faults_are.Circular class producer) is = absurd (omega (arith, is))
+
+others-no_circle : (ds : List Decl) (book : List Promised)
+    → AllByRecursion (λ f. is-circle f ≡ false) (flat_map (faults_of ds book) ds ++ name_clashes (beans ds) ++ name_prefixes (beans ds))
+others-no_circle ds book =
+    let P : Fault → Type 0 = λ f. is-circle f ≡ false in
+    let bs = beans ds in
+    let declared = flat_map (faults_of ds book) ds in
+    all-append P (declared ++ name_clashes bs) (name_prefixes bs)
+    (all-append P declared (name_clashes bs)
+    (all-more (λ f. is-declared f ≡ 0) P declared-no_circle declared (declared-tagged ds book ds))
+    (all-map P faults_are.NameClash _ (all-each _ (λ n. refl) _)))
+    (prefixes-each P (λ x y. refl) (enabled_names bs) (enabled_names bs))
+
+one-circle : (a b : BeanId) → circle a ≡ circle b → a ≡ b
+one-circle a b e =
+    let classes : a.class ≡ b.class = cc in
+    let producers : a.producer ≡ b.producer = cc in
+    ap (λ c. record { class = c; producer = a.producer }) classes ∙ ap (λ p. record { class = b.class; producer = p }) producers
+
+circles-differ : (ds : List Decl) → Differ (circles ds)
+circles-differ ds = differ-map circle one-circle (circular ds) (differ-by text_of_id (circular ds)
+    (rising-differ nat_list_cmp_total (map text_of_id (circular ds)) (circular-rise ds)))
+
+pub circles-each : (P : Fault → Type 0) → ((id : BeanId) → P (circle id)) → (ds : List Decl) → AllByRecursion P (circles ds)
+circles-each P each ds = all-map P circle (circular ds) (all-each _ each (circular ds))
+
+true-false : ◌≢◌ {A = Bool} true false
+true-false e = false≢true (sym e)
 
 pub faults_stand_once : FaultsStandOnce
 unfolding faults
 faults_stand_once ds book keyed =
-    let bs = beans ds in
-    let declared = flat_map (faults_of ds book) ds in
-    apart-pairs (λ f g. f ≢ g) (faults ds book) (subst Differ (sym (append_assoc declared (name_clashes bs) (name_prefixes bs)))
-    (differ-append is-declared 0 declared (name_clashes bs ++ name_prefixes bs) (declared-tagged ds book ds) (names-not_declared bs)
-    (declared-differ ds book ds keyed) (names-differ_too bs)))
+    let others = flat_map (faults_of ds book) ds ++ name_clashes (beans ds) ++ name_prefixes (beans ds) in
+    apart-pairs (λ f g. f ≢ g) (faults ds book)
+    (differ-append is-circle false others (circles ds) (others-no_circle ds book)
+    (circles-each (λ f. is-circle f ≢ false) (λ id. true-false) ds) (others-differ ds book keyed) (circles-differ ds))

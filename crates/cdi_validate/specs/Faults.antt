@@ -45,6 +45,7 @@ use Rattle.cdi_faults.specs.declared.fault.Subject.TheVariants as subjects
 use Rattle.cdi_validate.specs.declared.points.Verdict.{Verdict}
 use Rattle.cdi_validate.specs.declared.points.Verdict.TheVariants as verdicts
 use Rattle.cdi_faults.specs.FaultText.{in_text_order, text_of_fault}
+use Rattle.cdi_validate.specs.Circles.{circular}
 use Rattle.cdi_validate.specs.Parts.{unfit_parts}
 use Rattle.cdi_validate.specs.Sites.{lost_sites}
 
@@ -196,7 +197,7 @@ points_at_fault test ds d = []
 
 -- ---- all faults
 
--- the parts of a declaration that have a fault of a code, where these bodies are stored; those of names are no declaration's
+-- the parts of a declaration that have a fault of a code, where these bodies are stored; those of names and circles are no declaration's
 abbrev pub subjects_at_fault : Code → List Decl → List Promised → Decl → List Subject
 subjects_at_fault codes_of.UnknownName ds book d = unknown_names ds d
 subjects_at_fault codes_of.Cycle ds book d = whole_if (reaches_itself ds d)
@@ -211,6 +212,7 @@ subjects_at_fault codes_of.Ambiguous ds book d = points_at_fault (has_verdict ve
 subjects_at_fault codes_of.Site ds book d = lost_sites ds d
 subjects_at_fault codes_of.NameClash ds book d = []
 subjects_at_fault codes_of.NamePrefix ds book d = []
+subjects_at_fault codes_of.Circular ds book d = []
 
 -- the faults of a declaration of one code, by the texts of its subjects
 abbrev pub faults_of_code : List Decl → List Promised → Decl → Code → List Fault
@@ -240,15 +242,23 @@ goes_on x y = starts_with nat_eq y (x ++ dot ∷ [])
 abbrev pub name_prefixes : List Effective → List Fault
 name_prefixes bs = flat_map (λ x. map (faults_are.NamePrefix x) (filter (goes_on x) (enabled_names bs))) (enabled_names bs)
 
--- where these bodies are stored: the declarations in order, each with its faults by code and then by text; then the names (profile)
+-- the fault of a dependent bean that needs itself
+abbrev pub circle : BeanId → Fault
+circle id = faults_are.Circular id.class id.producer
+
+abbrev pub circles : List Decl → List Fault
+circles ds = map circle (circular ds)
+
+-- where these bodies are stored: the declarations in order, each with its faults by code and then by text; then the names and
+-- then the circles (profile)
 unfoldable pub faults : List Decl → List Promised → List Fault
-faults ds book = flat_map (faults_of ds book) ds ++ name_clashes (beans ds) ++ name_prefixes (beans ds)
+faults ds book = flat_map (faults_of ds book) ds ++ name_clashes (beans ds) ++ name_prefixes (beans ds) ++ circles ds
 
 -- Where no two declarations have one kind and name, no fault stands twice.
 abbrev pub FaultsStandOnce : Type 0
 FaultsStandOnce = (ds : List Decl) (book : List Promised) → AreDistinct ds → AllPairs (λ f g. f ≢ g) (faults ds book)
 
--- ---- the faults of names
+-- ---- the faults of names and circles
 
 -- the lines that some faults print rise in byte order
 abbrev pub LinesRise : List Fault → Type 0

@@ -4,3 +4,5 @@ pub mod Names
 pub mod Parts
 pub mod Records
 pub mod Sites
+pub mod Circles
+pub mod Needed

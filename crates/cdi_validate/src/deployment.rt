@@ -8,11 +8,13 @@ ghost use Rattle.cdi_observe.specs.Answers.{answer_to, answers as all_answers};
 ghost use Rattle.cdi_observe.specs.Kept.{evaluated};
 ghost use Rattle.cdi_observe.specs.Wanted.{points_of, wanted};
 ghost use Rattle.cdi_faults.specs.FaultText.{SubjectsInOrder};
-ghost use Rattle.cdi_validate.specs.Faults.{faults, faults_of, subjects_at_fault, name_clashes, name_prefixes};
+ghost use Rattle.cdi_validate.specs.Circles.{NeedsItselfOnCircle};
+ghost use Rattle.cdi_validate.specs.Faults.{circles, faults, faults_of, subjects_at_fault, name_clashes, name_prefixes};
 ghost use Rattle.cdi_validate.specs.Faults.{LinesRise, PrefixesGoOn};
 ghost use Rattle.cdi_faults.specs.declared.fault.Fault.TheVariants as the_faults;
 
 use crate::bodies::unfit_parts;
+use crate::circles::push_of_circles;
 use crate::disposing::disposers_at_fault;
 use crate::forms::{bad_kinds, cycles};
 use crate::names::push_of_names;
@@ -34,12 +36,12 @@ use std::rc::Rc;
 
 /// All that is wrong with the declarations of a view where the bodies of a book are stored (CDI 4.0, Problems detected
 /// automatically by the container): the declarations in order, each with its faults by code and then by the texts of
-/// their subjects, and then the faults of names. Each fault stands once.
+/// their subjects, and then the faults of names and those of circles. Each fault stands once.
 ///
 /// Each injection point is asked for once for each type and qualifiers. It takes memory for the faults, for the answers
 /// and where the view does. Where none is left, some of the keys from the front on were asked. An edit that is staged
 /// stays where each of the keys is known.
-#[tactic(auto, using(crate::proofs::LineLemmas::clashes_rise))]
+#[tactic(auto, using(crate::proofs::LineLemmas::clashes_rise, crate::proofs::LineLemmas::circles_rise, crate::proofs::CircleLemmas::needs_itself_on_circle))]
 pub fn faults<V: View, B: Bodies>(
     alloc: Global,
     view: &mut V,
@@ -56,11 +58,14 @@ pub fn faults<V: View, B: Bodies>(
     ensures clashes { LinesRise (name_clashes (beans (V.list view.old))) }
     ensures prefixes { OnOk result (LinesRise (name_prefixes (beans (V.list view.old)))) }
     ensures longer { PrefixesGoOn }
+    ensures circles { NeedsItselfOnCircle }
+    ensures circle_lines { LinesRise (circles (V.list view.old)) }
 {
     let answers = evaluate(alloc, view)?;
     let mut faults = Vec::new(alloc);
     push_of_decls(alloc, view, book, answers.as_slice(), &mut faults)?;
     push_of_names(alloc, view, &mut faults)?;
+    push_of_circles(alloc, view, answers.as_slice(), &mut faults)?;
     Ok(faults)
 }
 
@@ -154,6 +159,6 @@ fn subjects_at_fault<B: Bodies>(
         Code::Unsatisfied => points_at_fault(alloc, decl, beans, answers, Verdict::Unsatisfied),
         Code::Ambiguous => points_at_fault(alloc, decl, beans, answers, Verdict::Ambiguous),
         Code::Site => lost_sites(alloc, decls, decl, beans, answers),
-        Code::NameClash | Code::NamePrefix => Ok(Vec::new(alloc)),
+        Code::NameClash | Code::NamePrefix | Code::Circular => Ok(Vec::new(alloc)),
     }
 }

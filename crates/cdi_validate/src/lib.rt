@@ -2,6 +2,7 @@
 #![tactic(auto)]
 
 mod bodies;
+mod circles;
 mod deployment;
 mod disposing;
 mod forms;

@@ -11,7 +11,7 @@ use Rattle.cdi_observe.specs.Kept.{Kept, evaluated}
 use Rattle.cdi_observe.specs.Wanted.{wanted}
 use Rattle.cdi_faults.specs.declared.fault.Fault.{Fault}
 use Rattle.cdi_faults.proofs.OrderLemmas.{subjects_in_order}
-use Rattle.cdi_validate.specs.Faults.{faults, faults_of, name_clashes, name_prefixes, LinesRise}
+use Rattle.cdi_validate.specs.Faults.{circles, faults, faults_of, name_clashes, name_prefixes, LinesRise}
 use Rattle.cdi_validate.proofs.LineLemmas.{prefixes_rise}
 use Rattle.cdi_validate.proofs.OnceLemmas.{faults_stand_once}
 use Rattle.cdi_validate.proofs.BehindLemmas.{prefixes_go_on}
@@ -27,16 +27,16 @@ all_asked (Err e) ds before after all = (
       ∙ ap (λ keys. evaluated ds keys before) (sym (take_all (length (wanted ds)) (wanted ds) (omega arith))),
 )
 
--- the faults of the declarations and then those of the names
-all_faults : (ds now : List Decl) (book : List Promised) (none of_decls all : List Fault)
-    → all ≡ of_decls ++ name_clashes (beans now) ++ name_prefixes (beans now)
+-- the faults of the declarations, then those of the names, and then those of circles
+all_faults : (ds now : List Decl) (book : List Promised) (none of_decls named all : List Fault)
+    → all ≡ named ++ circles now → named ≡ of_decls ++ name_clashes (beans now) ++ name_prefixes (beans now)
     → of_decls ≡ none ++ flat_map (faults_of now book) now → none ≡ [] → now ≡ ds → all ≡ faults ds book
 unfolding faults
-all_faults ds now book none of_decls all with_names pushed empty is =
-    with_names
-    ∙ ap (λ fs. fs ++ name_clashes (beans now) ++ name_prefixes (beans now))
-    (pushed ∙ ap (λ fs. fs ++ flat_map (faults_of now book) now) empty)
-    ∙ ap (λ es. flat_map (faults_of es book) es ++ name_clashes (beans es) ++ name_prefixes (beans es)) is
+all_faults ds now book none of_decls named all with_circles with_names pushed empty is =
+    with_circles
+    ∙ ap (λ fs. fs ++ circles now) (with_names ∙ ap (λ fs. fs ++ name_clashes (beans now) ++ name_prefixes (beans now))
+    (pushed ∙ ap (λ fs. fs ++ flat_map (faults_of now book) now) empty))
+    ∙ ap (λ es. flat_map (faults_of es book) es ++ name_clashes (beans es) ++ name_prefixes (beans es) ++ circles es) is
 
 pub push_of_decls-requires : goal.push_of_decls-requires
 push_of_decls-requires g c =
@@ -47,6 +47,15 @@ pub returns-in_err-push_of_decls-clause-err : goal.returns-in_err-push_of_decls-
 returns-in_err-push_of_decls-clause-err g c = all_asked _ (g.V.View.list c.args.view.now) (g.V.View.kept c.args.view.now)
     (g.V.View.kept c.evaluate.new.view) c.in_ok-answers.ensures.ok
 
+pub push_of_circles-requires : goal.push_of_circles-requires
+push_of_circles-requires g c =
+    ap (map (λ list. map (λ answer. answer.value) list.items)) c.as_slice-2.ensures.value ∙ c.in_ok-answers.ensures.answers
+    ∙ ap answers (sym c.in_ok-answers.ensures.list)
+
+pub returns-in_err-push_of_circles-clause-err : goal.returns-in_err-push_of_circles-clause-err
+returns-in_err-push_of_circles-clause-err g c = all_asked _ (g.V.View.list c.args.view.now) (g.V.View.kept c.args.view.now)
+    (g.V.View.kept c.evaluate.new.view) c.in_ok-answers.ensures.ok
+
 pub returns-in_err-push_of_names-clause-err : goal.returns-in_err-push_of_names-clause-err
 returns-in_err-push_of_names-clause-err g c = all_asked _ (g.V.View.list c.args.view.now) (g.V.View.kept c.args.view.now)
     (g.V.View.kept c.evaluate.new.view) c.in_ok-answers.ensures.ok
@@ -55,7 +64,8 @@ pub returns-clause-faults : goal.returns-clause-faults
 returns-clause-faults g c =
     all_faults (g.V.View.list c.args.view.now) (g.V.View.list c.evaluate.new.view) (g.B.Bodies.promises c.args.book.now)
     c.new-faults.result.items
-    c.push_of_decls.new.faults.items c.push_of_names.new.faults.items c.in_ok-push_of_names.ensures.faults
+    c.push_of_decls.new.faults.items c.push_of_names.new.faults.items c.push_of_circles.new.faults.items
+    c.in_ok-push_of_circles.ensures c.in_ok-push_of_names.ensures.faults
     c.in_ok-push_of_decls.ensures.faults c.new-faults.ensures.items c.in_ok-answers.ensures.list
 
 pub returns-in_err-answers-clause-order : goal.returns-in_err-answers-clause-order
@@ -66,6 +76,9 @@ returns-in_err-push_of_decls-clause-order g c = subjects_in_order
 
 pub returns-in_err-push_of_names-clause-order : goal.returns-in_err-push_of_names-clause-order
 returns-in_err-push_of_names-clause-order g c = subjects_in_order
+
+pub returns-in_err-push_of_circles-clause-order : goal.returns-in_err-push_of_circles-clause-order
+returns-in_err-push_of_circles-clause-order g c = subjects_in_order
 
 pub returns-clause-order : goal.returns-clause-order
 returns-clause-order g c = subjects_in_order
@@ -78,6 +91,9 @@ returns-in_err-push_of_decls-clause-longer g c = prefixes_go_on
 
 pub returns-in_err-push_of_names-clause-longer : goal.returns-in_err-push_of_names-clause-longer
 returns-in_err-push_of_names-clause-longer g c = prefixes_go_on
+
+pub returns-in_err-push_of_circles-clause-longer : goal.returns-in_err-push_of_circles-clause-longer
+returns-in_err-push_of_circles-clause-longer g c = prefixes_go_on
 
 pub returns-clause-longer : goal.returns-clause-longer
 returns-clause-longer g c = prefixes_go_on

@@ -1,23 +1,11 @@
-use Rattle.std.proofs.Common.{◌≡◌, ◌++◌, [], ◌∷◌, List, length, map, sym, ap, ◌∙◌, append_assoc, append-nil, ⊎_elim}
-use Rattle.std.proofs.lemmas.List.{length-map, nil_from_length}
+use Rattle.std.proofs.Common.{◌≡◌, ◌++◌, [], ◌∷◌, map, sym, ap, ◌∙◌, append_assoc, append-nil, ⊎_elim}
 use Rattle.std.specs.List.{flat_map}
 use Rattle.std.specs.Slice.Iter.{iter_rest}
-use Rattle.cdi_model.specs.declared.decl.Decl.{Decl}
-use Rattle.cdi_resolve.specs.declared.choice.Choice.{Choice}
 use Rattle.cdi_observe.specs.Answers.{answers, answers_of}
 use Rattle.cdi_validate.specs.Faults.{faults_of}
 use Rattle.cdi_validate.specs.Records.{records_by}
-use Rattle.cdi_validate.proofs.FoundLemmas.{records_found}
+use Rattle.cdi_validate.proofs.FoundLemmas.{first-answers, none-left, records_found}
 use Rattle.cdi_validate.proofs.deployment.push_of_decls.Goals as goal
-
--- the answers to the next declaration stand first
-first-answers : {L : Type 0} (value : L → List Choice) (ds left others : List Decl) (d : Decl) (lists rest : List L) (own : L)
-    → lists ≡ own ∷ rest → left ≡ d ∷ others → map value lists ≡ map (answers_of ds) left
-    → (value own ≡ answers_of ds d) × (map value rest ≡ map (answers_of ds) others)
-first-answers value ds left others d lists rest own begins next all =
-    let both : value own ∷ map value rest ≡ answers_of ds d ∷ map (answers_of ds) others =
-    ap (map value) (sym begins) ∙ all ∙ ap (map (answers_of ds)) next in
-    (cc, cc)
 
 pub loop-decl-init : goal.loop-decl-init
 unfolding answers
@@ -67,12 +55,6 @@ loop-decl-preserved g c =
           ∙ ap (λ es. c.loop-decl.faults.items ++ flat_map of_decl es) (sym c.in-Some.ensures.steps.0)
           ∙ c.loop-decl.invariant.faults;
     }
-
--- where no answers are left no declaration is
-none-left : {L : Type 0} (value : L → List Choice) (ds left : List Decl) (lists : List L) → map value lists ≡ map (answers_of ds) left
-    → length lists ≡ 0 → left ≡ []
-none-left value ds left lists all none = nil_from_length left
-    (sym (length-map left (answers_of ds)) ∙ ap length (sym all) ∙ length-map lists value ∙ none)
 
 pub returns-clause-faults : goal.returns-clause-faults
 returns-clause-faults g c =

@@ -1,4 +1,4 @@
-use Rattle.std.proofs.Common.{◌≡◌, ◌++◌, [], ◌∷◌, ℕ, List, sym, subst, ap, ◌∙◌, append_assoc, append-nil}
+use Rattle.std.proofs.Common.{◌≡◌, ◌++◌, [], ◌∷◌, ℕ, List, sym, subst, ap, ◌∙◌, append_assoc}
 use Rattle.std.specs.List.{flat_map}
 use Rattle.std.specs.BTreeMap.{is_at}
 use Rattle.std.specs.Cmp.Lexicographic.{slice_cmp}
@@ -6,17 +6,14 @@ use Rattle.std.specs.Map.{lookup}
 use Rattle.std.specs.Ordering.{nat_cmp}
 use Rattle.std.proofs.lemmas.Bool.{false≢true}
 use Rattle.std.proofs.lemmas.Grind.{flat_map-append}
-use Rattle.cdi_model.specs.declared.decl.Decl.{Decl}
 use Rattle.cdi_model.specs.DeclList.{AreDistinct}
-use Rattle.cdi_effective.specs.Beans.{beans, entries}
-use Rattle.cdi_effective.specs.declared.records.Effective.{Effective}
+use Rattle.cdi_effective.specs.Beans.{entries}
 use Rattle.cdi_resolve.specs.Choices.{named}
 use Rattle.cdi_resolve.specs.declared.leaders.Leaders.{Leaders}
 use Rattle.cdi_validate.specs.Faults.{enabled_name}
 use Rattle.cdi_validate.specs.Names.{leaders_in, AreLed, AreNames}
-use Rattle.cdi_validate.specs.Records.{records_by}
 use Rattle.cdi_validate.proofs.ClashLemmas.{names-both}
-use Rattle.cdi_validate.proofs.FoundLemmas.{records_found}
+use Rattle.cdi_validate.proofs.FoundLemmas.{all-gone, records-next}
 use Rattle.cdi_validate.proofs.names.leaders_of_names.Goals as goal
 
 none-led : (entries : List (List ℕ × Leaders)) → entries ≡ []
@@ -31,15 +28,6 @@ loop-decl-init g c = (
   none-led c.new-leaders.result.entries c.new-leaders.ensures.empty,
   λ s among. absurd (false≢true among),
 )
-
--- the records of one more declaration
-records-next : (ds es rest : List Decl) (d : Decl) (records : List Effective) → AreDistinct ds → es ++ d ∷ rest ≡ ds
-    → records ≡ records_by ds d
-    → flat_map (entries ds) es ++ records ≡ flat_map (entries ds) (es ++ d ∷ [])
-records-next ds es rest d records distinct split are =
-    ap (λ own. flat_map (entries ds) es ++ own)
-    (are ∙ records_found ds es rest d distinct split ∙ sym (append-nil (entries ds d)))
-    ∙ sym (flat_map-append (entries ds) es (d ∷ []))
 
 pub loop-decl-preserved : goal.loop-decl-preserved
 loop-decl-preserved g c =
@@ -59,11 +47,6 @@ loop-decl-preserved g c =
       subst (λ bs. AreNames (flat_map enabled_name bs)) more (subst AreNames (sym (flat_map-append enabled_name before own))
           (names-both (flat_map enabled_name before) (flat_map enabled_name own) gone.3 c.in_ok-add_all.ensures.grammar)),
     )
-
--- all declarations are gone through
-all-gone : (ds es rest : List Decl) → rest ≡ [] → es ++ rest ≡ ds → flat_map (entries ds) es ≡ beans ds
-unfolding beans
-all-gone ds es rest none split = ap (flat_map (entries ds)) (sym (append-nil es) ∙ ap (λ left. es ++ left) (sym none) ∙ split)
 
 pub returns-clause-led : goal.returns-clause-led
 returns-clause-led g c =

@@ -1,0 +1,65 @@
+-- A dependent bean needs itself exactly where it is on a circle.
+use Rattle.std.proofs.Common.{◌≡◌, ℕ, zero, suc, cond, List, [], length, map, filter, sym, ap, ◌∙◌, arith}
+use Rattle.std.specs.Bool.{Decides}
+use Rattle.std.specs.BTreeMap.{BTreeMap, keys}
+use Rattle.std.specs.Map.{keys_of}
+use Rattle.std.proofs.lemmas.Bool.Decides.{same_from_decides, Decides-like}
+use Rattle.std.proofs.lemmas.List.Elements.{filter_agree}
+use Rattle.cdi_model.specs.declared.decl.Decl.{Decl}
+use Rattle.cdi_match.specs.Chain.{ChainFromOne, Circle, has, leads, LeaveOnly, reaches_from_one, Steps}
+use Rattle.cdi_match.proofs.Chains.{reaches_from_one_decides}
+use Rattle.cdi_circles.specs.Edges.{Edges, is_on_circle, next_in}
+use Rattle.cdi_circles.proofs.EdgeLemmas.{circle_decides}
+use Rattle.cdi_effective.specs.Beans.{beans}
+use Rattle.cdi_effective.specs.declared.records.BeanId.{BeanId}
+use Rattle.cdi_validate.specs.Circles.{between, circular, dependents, dependents_by_text, needed_by, needs, needs_itself, next}
+use Rattle.cdi_validate.specs.Circles.{NeedsItselfOnCircle}
+use Rattle.cdi_validate.specs.Faults.{circle, circles}
+use Rattle.cdi_validate.proofs.NeedLemmas.{between-like, has-by_text}
+
+leave_only : (ds : List Decl) → LeaveOnly (dependents (beans ds)) (next ds)
+leave_only ds x none = ap (λ b. cond b (filter (has (dependents (beans ds))) (needed_by (needs ds) x)) []) none
+
+pub needs_itself_on_circle : NeedsItselfOnCircle
+unfolding needs_itself
+needs_itself_on_circle ds x =
+    let nodes = dependents (beans ds) in
+    let decides : Decides (reaches_from_one (length nodes) (next ds) (next ds x) x) (ChainFromOne (leads (next ds)) (next ds x) x) =
+    reaches_from_one_decides nodes (next ds) (leave_only ds) (length nodes) (omega arith) (next ds x) x in (
+      λ h. let chain = decides.0 h in ((chain.2).0, (chain.0, chain.1, (chain.2).1)),
+      λ circle. decides.1 ((circle.1).0, (circle.1).1, (circle.0, (circle.1).2)),
+    )
+
+-- ---- circles of the edges that are found
+
+-- chains rest on what follows each text
+steps-like : (next other : List ℕ → List (List ℕ)) → ((x : List ℕ) → next x ≡ other x) → (n : ℕ) (x y : List ℕ)
+    → Steps (leads next) n x y → Steps (leads other) n x y
+steps-like next other same zero x y steps = steps
+steps-like next other same (suc n) x y steps =
+    (steps.0, ap (λ xs. has xs steps.0) (sym (same x)) ∙ steps.1, steps-like next other same n steps.0 y steps.2)
+
+circle-like : (next other : List ℕ → List (List ℕ)) → ((x : List ℕ) → next x ≡ other x) → (x : List ℕ)
+    → Circle (leads next) x → Circle (leads other) x
+circle-like next other same x circle = (circle.0, steps-like next other same (suc circle.0) x x circle.1)
+
+on_circle : (ds : List Decl) (edges : Edges) → ((x : List ℕ) → next_in edges x ≡ next ds x) → (x : List ℕ)
+    → is_on_circle edges x ≡ needs_itself ds x
+on_circle ds edges same x = same_from_decides (is_on_circle edges x) (needs_itself ds x) (circle_decides edges x)
+    (Decides-like (needs_itself ds x) (circle-like (next ds) (next_in edges) (λ y. sym (same y)) x)
+    (circle-like (next_in edges) (next ds) same x) (needs_itself_on_circle ds x))
+
+-- where the edges are between the dependent beans, those that reach themselves need themselves
+pub circles_found : (ds : List Decl) (nodes : BTreeMap (List ℕ) BeanId) (edges : Edges) → nodes.entries ≡ dependents_by_text (beans ds)
+    → ((x : List ℕ) → next_in edges x ≡ between (keys nodes) (needs ds) x)
+    → map circle (map (λ e. e.1) (filter (λ e. is_on_circle edges e.0) nodes.entries)) ≡ circles ds
+unfolding circular
+circles_found ds nodes edges are same =
+    let bs = beans ds in
+    let next_found : (x : List ℕ) → next_in edges x ≡ next ds x = λ x. same x
+    ∙ ap (λ es. between (keys_of es) (needs ds) x) are
+    ∙ between-like (keys_of (dependents_by_text bs)) (dependents bs) (has-by_text bs) (needs ds) x in
+    ap (λ es. map circle (map (λ e. e.1) (filter (λ e. is_on_circle edges e.0) es))) are
+    ∙ ap (λ es. map circle (map (λ e. e.1) es))
+    (filter_agree (λ e. is_on_circle edges e.0) (λ e. needs_itself ds e.0) (λ e. on_circle ds edges next_found e.0)
+    (dependents_by_text bs))

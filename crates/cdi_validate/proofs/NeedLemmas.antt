@@ -1,0 +1,247 @@
+-- What beans need, as it is found: the dependent beans by their texts, and the edges between them.
+use Rattle.std.proofs.Common.{◌≡◌, ℕ, Bool, true, false, ◌||◌, cond, List, [], ◌∷◌, ◌++◌, map, filter, fold, length, take, drop, refl, sym}
+use Rattle.std.proofs.Common.{ap, ◌∙◌, subst, append_assoc, append-nil, Option, Ordering, Less, Equal, Greater}
+use Rattle.std.specs.BTreeMap.{insert_entry, is_at}
+use Rattle.std.specs.BTreeSet.{insert_key}
+use Rattle.std.specs.List.{AllByRecursion, flat_map}
+use Rattle.std.specs.List.Sorted.{IsStrictlySortedBy}
+use Rattle.std.specs.Map.{keys_of, lookup}
+use Rattle.std.specs.Option.{is_some, option_to_list}
+use Rattle.std.specs.Str.{bytes_eq}
+use Rattle.std.proofs.Math.Bool.{or-false, or_assoc, or_comm}
+use Rattle.std.proofs.lemmas.Grind.{flat_map-append}
+use Rattle.std.proofs.lemmas.List.{map-append, take_at, drop_at, length-map}
+use Rattle.std.proofs.lemmas.List.Elements.{filter-append, filter_agree}
+use Rattle.std.proofs.lemmas.List.Kept.{IsStrictlySortedBy-filter}
+use Rattle.std.proofs.lemmas.Map.Made.{is_some-lookup}
+use Rattle.cdi_model.proofs.QualLemmas.{same_name}
+use Rattle.cdi_model.specs.Bytes.{byte_order}
+use Rattle.cdi_model.specs.declared.decl.BeanDecl.{BeanDecl}
+use Rattle.cdi_model.specs.declared.decl.Decl.{Decl}
+use Rattle.cdi_model.specs.declared.decl.Decl.TheVariants as decls
+use Rattle.cdi_model.specs.declared.decl.PointDecl.{PointDecl}
+use Rattle.cdi_model.specs.declared.decl.ProducerDecl.{ProducerDecl}
+use Rattle.cdi_match.specs.Chain.{has}
+use Rattle.cdi_match.specs.Order.{in_order}
+use Rattle.cdi_match.proofs.Names.{has-by_order, one_name}
+use Rattle.cdi_match.proofs.OrderLemmas.{in_order-has, in_order-rises}
+use Rattle.cdi_circles.specs.Edges.{Edges, next_in}
+use Rattle.cdi_effective.specs.Beans.{beans}
+use Rattle.cdi_effective.specs.BeanText.{text_of_id}
+use Rattle.cdi_effective.specs.declared.records.BeanId.{BeanId}
+use Rattle.cdi_effective.specs.declared.records.Effective.{Effective}
+use Rattle.cdi_resolve.specs.declared.choice.Choice.{Choice}
+use Rattle.cdi_observe.specs.Answers.{answer_to}
+use Rattle.cdi_observe.specs.Wanted.{points_of}
+use Rattle.cdi_validate.specs.Circles.{Need, between, chosen_for, chosen_one, circular, declaring, dependents, dependents_by_text}
+use Rattle.cdi_validate.specs.Circles.{is_dependent, managed_id, need_of_managed, need_of_product, needed_by, needs_in, needs_itself}
+use Rattle.cdi_validate.specs.Circles.{with_dependent}
+use Rattle.cdi_validate.specs.Needed.{need_by, needs_by, needs_of_products, AddsNeeds}
+
+abbrev Entries : Type 0
+Entries = List (List ℕ × BeanId)
+
+-- ---- the dependent beans by their texts
+
+keys-insert : (text : List ℕ) (id : BeanId) (es : Entries)
+    → keys_of (insert_entry byte_order es text id) ≡ insert_key byte_order (keys_of es) text
+keys-insert text id [] = refl
+keys-insert text id (e ∷ es) = by (byte_order text e.0) refl (keys-insert text id es)
+  where
+    by : (o : Ordering) → byte_order text e.0 ≡ o
+        → keys_of (insert_entry byte_order es text id) ≡ insert_key byte_order (keys_of es) text
+        → keys_of (insert_entry byte_order (e ∷ es) text id) ≡ insert_key byte_order (keys_of (e ∷ es)) text
+    by Less is rest = rw is refl
+    by Equal is rest = rw is refl
+    by Greater is rest = rw is (ap (λ ks. e.0 ∷ ks) rest)
+
+-- their texts in front of others
+abbrev added : List (List ℕ) → List Effective → List (List ℕ)
+added texts [] = texts
+added texts (b ∷ bs) = added (cond (is_dependent b) (text_of_id b.id ∷ texts) texts) bs
+
+keys-added : (bs : List Effective) (es : Entries) (texts : List (List ℕ)) → keys_of es ≡ in_order texts
+    → keys_of (fold with_dependent es bs) ≡ in_order (added texts bs)
+keys-added [] es texts are = are
+keys-added (b ∷ bs) es texts are =
+    keys-added bs (with_dependent es b) (cond (is_dependent b) (text_of_id b.id ∷ texts) texts) (by (is_dependent b))
+  where
+    by : (t : Bool) → keys_of (cond t (insert_entry byte_order es (text_of_id b.id) b.id) es)
+        ≡ in_order (cond t (text_of_id b.id ∷ texts) texts)
+    by true = keys-insert (text_of_id b.id) b.id es ∙ ap (λ ks. insert_key byte_order ks (text_of_id b.id)) are
+    by false = are
+
+has-added : (bs : List Effective) (texts : List (List ℕ)) (x : List ℕ)
+    → has (added texts bs) x ≡ (has (dependents bs) x || has texts x)
+has-added [] texts x = refl
+has-added (b ∷ bs) texts x = by (is_dependent b) (λ others. has-added bs others x)
+  where
+    by : (t : Bool) → ((others : List (List ℕ)) → has (added others bs) x ≡ (has (dependents bs) x || has others x))
+        → has (added (cond t (text_of_id b.id ∷ texts) texts) bs) x
+        ≡ (has (map (λ b. text_of_id b.id) (cond t (b ∷ filter is_dependent bs) (filter is_dependent bs))) x || has texts x)
+    by true rest =
+        rest (text_of_id b.id ∷ texts)
+        ∙ sym (or_assoc (has (dependents bs) x) (bytes_eq (text_of_id b.id) x) (has texts x))
+        ∙ ap (λ t. t || has texts x) (or_comm (has (dependents bs) x) (bytes_eq (text_of_id b.id) x))
+    by false rest = rest texts
+
+pub has-by_text : (bs : List Effective) (x : List ℕ) → has (keys_of (dependents_by_text bs)) x ≡ has (dependents bs) x
+has-by_text bs x =
+    ap (λ ks. has ks x) (keys-added bs [] [] refl) ∙ in_order-has (added [] bs) x ∙ has-added bs [] x
+    ∙ or-false (has (dependents bs) x)
+
+-- a map has what its keys have
+pub has-key : (es : Entries) (x : List ℕ) → is_some (lookup (is_at (byte_order x)) es) ≡ has (keys_of es) x
+has-key es x = is_some-lookup (is_at (byte_order x)) es ∙ has-by_order (keys_of es) x
+
+-- ---- in order
+
+abbrev StandAtTexts : Entries → Type 0
+StandAtTexts es = AllByRecursion (λ e. text_of_id e.1 ≡ e.0) es
+
+insert-stands : (id : BeanId) (es : Entries) → StandAtTexts es → StandAtTexts (insert_entry byte_order es (text_of_id id) id)
+insert-stands id [] stand = (refl, tt)
+insert-stands id (e ∷ es) stand = by (byte_order (text_of_id id) e.0) refl (insert-stands id es stand.1)
+  where
+    by : (o : Ordering) → byte_order (text_of_id id) e.0 ≡ o → StandAtTexts (insert_entry byte_order es (text_of_id id) id)
+        → StandAtTexts (insert_entry byte_order (e ∷ es) (text_of_id id) id)
+    by Less is rest = rw is (refl, stand)
+    by Equal is rest = rw is (same_name (text_of_id id) e.0 is, stand.1)
+    by Greater is rest = rw is (stand.0, rest)
+
+all-stand : (bs : List Effective) (es : Entries) → StandAtTexts es → StandAtTexts (fold with_dependent es bs)
+all-stand [] es stand = stand
+all-stand (b ∷ bs) es stand = all-stand bs (with_dependent es b) (by (is_dependent b))
+  where
+    by : (t : Bool) → StandAtTexts (cond t (insert_entry byte_order es (text_of_id b.id) b.id) es)
+    by true = insert-stands b.id es stand
+    by false = stand
+
+texts-kept : (test : List ℕ → Bool) (es : Entries) → StandAtTexts es
+    → map text_of_id (map (λ e. e.1) (filter (λ e. test e.0) es)) ≡ filter test (keys_of es)
+texts-kept test [] stand = refl
+texts-kept test (e ∷ es) stand = by (test e.0) (texts-kept test es stand.1)
+  where
+    by : (t : Bool) → map text_of_id (map (λ e. e.1) (filter (λ e. test e.0) es)) ≡ filter test (keys_of es)
+        → map text_of_id (map (λ e. e.1) (cond t (e ∷ filter (λ e. test e.0) es) (filter (λ e. test e.0) es)))
+        ≡ cond t (e.0 ∷ filter test (keys_of es)) (filter test (keys_of es))
+    by true rest = ap (λ t. t ∷ map text_of_id (map (λ e. e.1) (filter (λ e. test e.0) es))) stand.0 ∙ ap (λ ts. e.0 ∷ ts) rest
+    by false rest = rest
+
+-- the texts of the beans that need themselves rise
+pub circular-rise : (ds : List Decl) → IsStrictlySortedBy byte_order (map text_of_id (circular ds))
+unfolding circular
+circular-rise ds =
+    let bs = beans ds in
+    let es = dependents_by_text bs in
+    subst (IsStrictlySortedBy byte_order) (sym (texts-kept (needs_itself ds) es (all-stand bs [] tt)))
+    (IsStrictlySortedBy-filter byte_order (needs_itself ds) (keys_of es)
+    (subst (IsStrictlySortedBy byte_order) (sym (keys-added bs [] [] refl)) (in_order-rises (added [] bs))))
+
+-- ---- edges
+
+pub between-append : (nodes : List (List ℕ)) (some more : List Need) (x : List ℕ)
+    → between nodes (some ++ more) x ≡ between nodes some x ++ between nodes more x
+between-append nodes some more x = by (has nodes x)
+  where
+    by : (t : Bool) → cond t (filter (has nodes) (needed_by (some ++ more) x)) []
+        ≡ cond t (filter (has nodes) (needed_by some x)) [] ++ cond t (filter (has nodes) (needed_by more x)) []
+    by true = ap (filter (has nodes)) (flat_map-append (λ need. cond (bytes_eq need.0 x) need.1 []) some more)
+        ∙ filter-append (has nodes) (needed_by some x) (needed_by more x)
+    by false = refl
+
+-- edges are between beans, in whatever order they stand
+pub between-like : (nodes others : List (List ℕ)) → ((x : List ℕ) → has nodes x ≡ has others x) → (all : List Need) (x : List ℕ)
+    → between nodes all x ≡ between others all x
+between-like nodes others same all x =
+    ap (λ t. cond t (filter (has nodes) (needed_by all x)) []) (same x)
+    ∙ ap (λ ys. cond (has others x) ys []) (filter_agree (has nodes) (has others) same (needed_by all x))
+
+pub between-none : (nodes : List (List ℕ)) (x : List ℕ) → between nodes [] x ≡ []
+between-none nodes x = by (has nodes x)
+  where
+    by : (t : Bool) → cond t (filter (has nodes) []) [] ≡ []
+    by true = refl
+    by false = refl
+
+-- those of some needs, and then those of more
+pub adds_more : (nodes : List (List ℕ)) (old new : Edges) (some more : List Need) → AddsNeeds nodes some old new
+    → (x : List ℕ) → next_in new x ++ between nodes more x ≡ next_in old x ++ between nodes (some ++ more) x
+adds_more nodes old new some more adds x =
+    ap (λ ys. ys ++ between nodes more x) (adds x)
+    ∙ append_assoc (next_in old x) (between nodes some x) (between nodes more x)
+    ∙ ap (λ ys. next_in old x ++ ys) (sym (between-append nodes some more x))
+
+-- those of one need, which is told by answers that stand in front of others
+pub adds_first : (nodes : List (List ℕ)) (old new : Edges) (id of_bean : BeanId) (first declares : Option BeanId)
+    (front own back behind : List Choice) (more : List Choice → List Need) → id ≡ of_bean → first ≡ declares → front ≡ own → back ≡ behind
+    → AddsNeeds nodes (need_by id first front ∷ []) old new
+    → (x : List ℕ) → next_in new x ++ between nodes (more back) x
+    ≡ next_in old x ++ between nodes (need_by of_bean declares own ∷ more behind) x
+adds_first nodes old new id of_bean first declares front own back behind more ids firsts fronts backs adds x =
+    adds_more nodes old new (need_by id first front ∷ []) (more back) adds x
+    ∙ ap (λ needs. next_in old x ++ between nodes needs x)
+    (ap (λ i. need_by i first front ∷ more back) ids ∙ ap (λ f. need_by of_bean f front ∷ more back) firsts
+    ∙ ap (λ cs. need_by of_bean declares cs ∷ more back) fronts ∙ ap (λ cs. need_by of_bean declares own ∷ more cs) backs)
+
+-- a bean whose entry has now these behind what it had
+pub need_added : (nodes : List (List ℕ)) (old new : List ℕ → List (List ℕ)) (node : List ℕ) (needed items : List (List ℕ))
+    → has nodes node ≡ true → items ≡ old node ++ filter (has nodes) needed
+    → ((x : List ℕ) → new x ≡ cond (bytes_eq node x) items (old x))
+    → (x : List ℕ) → new x ≡ old x ++ between nodes ((node, needed) ∷ []) x
+need_added nodes old new node needed items among are entries x = entries x ∙ by (bytes_eq node x) refl
+  where
+    by : (t : Bool) → bytes_eq node x ≡ t
+        → cond t items (old x) ≡ old x ++ cond (has nodes x) (filter (has nodes) (cond t needed [] ++ [])) []
+    by true same =
+        are
+        ∙ ap (λ y. old y ++ filter (has nodes) needed) (one_name node x same)
+        ∙ ap (λ ys. old x ++ filter (has nodes) ys) (sym (append-nil needed))
+        ∙ ap (λ t. old x ++ cond t (filter (has nodes) (needed ++ [])) []) (sym among ∙ ap (has nodes) (one_name node x same))
+    by false other = sym (append-nil (old x)) ∙ ap (λ ys. old x ++ ys) (sym (between-none nodes x))
+
+-- ---- needs by answers
+
+-- the answers to some points stand in front of those to others
+chosen_in_front : (ds : List Decl) (points others : List PointDecl)
+    → flat_map chosen_one (take (length points) (map (answer_to ds) (points ++ others))) ≡ chosen_for ds points
+chosen_in_front ds points others =
+    ap (λ cs. flat_map chosen_one (take (length points) cs)) (map-append (answer_to ds) points others)
+    ∙ ap (flat_map chosen_one) (take_at (map (answer_to ds) points) (map (answer_to ds) others) (length points)
+    (length-map points (answer_to ds)))
+    ∙ each points
+  where
+    each : (ps : List PointDecl) → flat_map chosen_one (map (answer_to ds) ps) ≡ chosen_for ds ps
+    each [] = refl
+    each (p ∷ ps) = ap (λ xs. chosen_one (answer_to ds p) ++ xs) (each ps)
+
+others_behind : (ds : List Decl) (points others : List PointDecl)
+    → drop (length points) (map (answer_to ds) (points ++ others)) ≡ map (answer_to ds) others
+others_behind ds points others =
+    ap (drop (length points)) (map-append (answer_to ds) points others)
+    ∙ drop_at (map (answer_to ds) points) (map (answer_to ds) others) (length points) (length-map points (answer_to ds))
+
+needs_of_each : (ds : List Decl) (d : BeanDecl) (ps : List ProducerDecl)
+    → needs_of_products d ps (map (answer_to ds) (flat_map (λ p. p.params) ps)) ≡ map (need_of_product ds d) ps
+needs_of_each ds d [] = refl
+needs_of_each ds d (p ∷ ps) =
+    let others = flat_map (λ p. p.params) ps in
+    let first = (need_of_product ds d p).0 in
+    let maker = map text_of_id (option_to_list (declaring d p)) in
+    ap (λ xs. (first, maker ++ xs) ∷ needs_of_products d ps (drop (length p.params) (map (answer_to ds) (p.params ++ others))))
+    (chosen_in_front ds p.params others)
+    ∙ ap (λ cs. need_of_product ds d p ∷ needs_of_products d ps cs) (others_behind ds p.params others)
+    ∙ ap (λ ns. need_of_product ds d p ∷ ns) (needs_of_each ds d ps)
+
+-- by the answers to its points the beans of a declaration need what they need
+pub needs_by_answers : (ds : List Decl) (d : Decl) → needs_by d (map (answer_to ds) (points_of d)) ≡ needs_in ds d
+needs_by_answers ds (decls.Type d) = refl
+needs_by_answers ds (decls.Qualifier d) = refl
+needs_by_answers ds (decls.Stereotype d) = refl
+needs_by_answers ds (decls.Bean d) =
+    let others = flat_map (λ p. p.params) d.producers in
+    ap (λ xs. (text_of_id (managed_id d), xs)
+    ∷ needs_of_products d d.producers (drop (length d.points) (map (answer_to ds) (d.points ++ others))))
+    (chosen_in_front ds d.points others)
+    ∙ ap (λ cs. need_of_managed ds d ∷ needs_of_products d d.producers cs) (others_behind ds d.points others)
+    ∙ ap (λ ns. need_of_managed ds d ∷ ns) (needs_of_each ds d d.producers)

@@ -1,0 +1,34 @@
+use Rattle.std.proofs.Common.{◌≡◌, ◌++◌, [], ◌∷◌, fold, sym, subst, ap, ◌∙◌, append_assoc}
+use Rattle.std.specs.List.{flat_map}
+use Rattle.std.proofs.lemmas.List.Sums.{fold-append}
+use Rattle.cdi_model.specs.DeclList.{AreDistinct}
+use Rattle.cdi_effective.specs.Beans.{entries}
+use Rattle.cdi_validate.specs.Circles.{dependents_by_text, with_dependent}
+use Rattle.cdi_validate.proofs.FoundLemmas.{all-gone, records-next}
+use Rattle.cdi_validate.proofs.circles.dependents_of.Goals as goal
+
+pub loop-decl-preserved : goal.loop-decl-preserved
+loop-decl-preserved g c =
+    let ds = g.V.View.list c.args.view.now in
+    let gone = c.loop-decl.invariant in
+    let es = gone.0 in
+    let d = c.in-Some.decl.now in
+    let rest = c.next.new.self in
+    let split : es ++ d ∷ rest ≡ ds = ap (λ left. es ++ left) (sym c.in-Some.ensures.steps) ∙ gone.1 in
+    let before = flat_map (entries ds) es in
+    let own = c.records_of.result.now in (
+      es ++ d ∷ [],
+      append_assoc es (d ∷ []) rest ∙ split,
+      c.in_ok-add_dependents.ensures
+          ∙ ap (λ dependents. fold with_dependent dependents own) gone.2
+          ∙ sym (fold-append with_dependent [] before own)
+          ∙ ap dependents_by_text (records-next ds es rest d own
+          (subst AreDistinct c.decls.ensures c.iter-decl-items.ensures.distinct) split c.records_of.ensures),
+    )
+
+pub returns : goal.returns
+returns g c =
+    let gone = c.loop-decl.invariant in
+    gone.2
+    ∙ ap dependents_by_text
+    (all-gone (g.V.View.list c.args.view.now) gone.0 c.loop-decl.decl-iterator c.in-None.ensures.steps.0 gone.1)

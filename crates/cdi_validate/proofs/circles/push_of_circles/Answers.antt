@@ -1,0 +1,16 @@
+use Rattle.std.proofs.Common.{◌++◌, ap, ◌∙◌}
+use Rattle.std.specs.BTreeMap.{keys}
+use Rattle.std.proofs.lemmas.Result.{IfOk-weaker}
+use Rattle.cdi_validate.specs.Circles.{between, needs}
+use Rattle.cdi_validate.proofs.CircleLemmas.{circles_found}
+use Rattle.cdi_validate.proofs.circles.push_of_circles.Goals as goal
+
+pub returns : goal.returns
+returns g c =
+    let ds = g.V.View.list c.args.view.now in
+    let dependents = c.in_ok-dependents.dependents in
+    let edges = c.in_ok-edges.edges in
+    IfOk-weaker c.push_circles.result _ _ (λ done e. e ∙ ap (λ fs. c.args.faults.now.items ++ fs)
+    (circles_found ds dependents edges c.in_ok-dependents.ensures
+    (λ x. c.in_ok-edges.ensures x ∙ ap (λ es. between (keys dependents) (needs es) x) c.decls.ensures)))
+    c.push_circles.ensures

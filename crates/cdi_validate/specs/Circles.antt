@@ -1,0 +1,111 @@
+-- Beans that need themselves before they can be made (profile).
+use Rattle.std.specs.Prelude.{ℕ, Bool, true, false, ◌&&◌, List, [], ◌∷◌, ◌++◌, map, filter, fold, length, Option, Some}
+use Rattle.std.specs.Prelude.{None, Decides, if◌then◌else◌}
+use Rattle.std.specs.BTreeMap.{insert_entry}
+use Rattle.std.specs.List.{flat_map}
+use Rattle.std.specs.Option.{option_to_list}
+use Rattle.std.specs.Str.{bytes_eq}
+use Rattle.cdi_model.specs.Bytes.{byte_order}
+use Rattle.cdi_model.specs.declared.decl.BeanDecl.{BeanDecl}
+use Rattle.cdi_model.specs.declared.decl.Decl.{Decl}
+use Rattle.cdi_model.specs.declared.decl.Decl.TheVariants as decls
+use Rattle.cdi_model.specs.declared.decl.PointDecl.{PointDecl}
+use Rattle.cdi_model.specs.declared.decl.ProducerDecl.{ProducerDecl}
+use Rattle.cdi_model.specs.declared.decl.Scope.{Scope}
+use Rattle.cdi_model.specs.declared.decl.Scope.TheVariants as scopes
+use Rattle.cdi_match.specs.Chain.{Circle, has, leads, reaches_from_one}
+use Rattle.cdi_effective.specs.Beans.{beans}
+use Rattle.cdi_effective.specs.BeanText.{text_of_id}
+use Rattle.cdi_effective.specs.declared.records.BeanId.{BeanId}
+use Rattle.cdi_effective.specs.declared.records.Effective.{Effective}
+use Rattle.cdi_resolve.specs.declared.choice.Choice.{Choice}
+use Rattle.cdi_resolve.specs.declared.choice.Choice.TheVariants.{One}
+use Rattle.cdi_observe.specs.Answers.{answer_to}
+
+-- ---- dependent beans, by the texts of their ids
+
+abbrev pub is_dependent_scope : Scope → Bool
+is_dependent_scope scopes.Dependent = true
+is_dependent_scope scope = false
+
+-- an enabled bean of which an instance is made for each that asks for one (CDI 4.0, Dependent pseudo-scope)
+abbrev pub is_dependent : Effective → Bool
+is_dependent b = b.is_enabled && is_dependent_scope b.scope
+
+abbrev pub dependents : List Effective → List (List ℕ)
+dependents bs = map (λ b. text_of_id b.id) (filter is_dependent bs)
+
+-- ---- what beans need before they can be made
+
+-- the bean that is chosen, if it is one
+abbrev pub chosen_one : Choice → List (List ℕ)
+chosen_one (One id) = text_of_id id ∷ []
+chosen_one choice = []
+
+abbrev pub chosen_for : List Decl → List PointDecl → List (List ℕ)
+chosen_for ds points = flat_map (λ point. chosen_one (answer_to ds point)) points
+
+-- a bean, and the beans that it needs
+abbrev pub Need : Type 0
+Need = List ℕ × List (List ℕ)
+
+abbrev pub managed_id : BeanDecl → BeanId
+managed_id d = record { class = d.name; producer = None }
+
+abbrev pub product_id : BeanDecl → ProducerDecl → BeanId
+product_id d p = record { class = d.name; producer = Some p.name }
+
+-- a managed bean needs those that are chosen for its points
+abbrev pub need_of_managed : List Decl → BeanDecl → Need
+need_of_managed ds d = (text_of_id (managed_id d), chosen_for ds d.points)
+
+-- the bean that is made before a product: the one that declares it, where the producer method is not static
+abbrev pub declaring : BeanDecl → ProducerDecl → Option BeanId
+declaring d p = if p.is_static then None else Some (managed_id d)
+
+-- a product needs that, and those that are chosen for its params
+abbrev pub need_of_product : List Decl → BeanDecl → ProducerDecl → Need
+need_of_product ds d p = (text_of_id (product_id d p), map text_of_id (option_to_list (declaring d p)) ++ chosen_for ds p.params)
+
+abbrev pub needs_in : List Decl → Decl → List Need
+needs_in ds (decls.Bean d) = need_of_managed ds d ∷ map (need_of_product ds d) d.producers
+needs_in ds d = []
+
+abbrev pub needs : List Decl → List Need
+needs ds = flat_map (needs_in ds) ds
+
+-- the beans that a bean needs
+abbrev pub needed_by : List Need → List ℕ → List (List ℕ)
+needed_by all x = flat_map (λ need. if bytes_eq need.0 x then need.1 else []) all
+
+-- ---- circles
+
+-- the edges between some beans
+abbrev pub between : List (List ℕ) → List Need → List ℕ → List (List ℕ)
+between nodes all x = if has nodes x then filter (has nodes) (needed_by all x) else []
+
+-- the dependent beans that a dependent bean needs
+abbrev pub next : List Decl → List ℕ → List (List ℕ)
+next ds x = between (dependents (beans ds)) (needs ds) x
+
+-- a dependent bean needs itself: from one of those that it needs a chain leads to it
+unfoldable pub needs_itself : List Decl → List ℕ → Bool
+needs_itself ds x = reaches_from_one (length (dependents (beans ds))) (next ds) (next ds x) x
+
+-- exactly where it is on a circle
+abbrev pub NeedsItselfOnCircle : Type 0
+NeedsItselfOnCircle = (ds : List Decl) (x : List ℕ) → Decides (needs_itself ds x) (Circle (leads (next ds)) x)
+
+-- ---- the beans that do, in order
+
+-- a bean beside others at the text of its id, where it is dependent
+abbrev pub with_dependent : List (List ℕ × BeanId) → Effective → List (List ℕ × BeanId)
+with_dependent entries b = if is_dependent b then insert_entry byte_order entries (text_of_id b.id) b.id else entries
+
+-- the dependent beans by the texts of their ids, in the byte order of these
+abbrev pub dependents_by_text : List Effective → List (List ℕ × BeanId)
+dependents_by_text bs = fold with_dependent [] bs
+
+-- those that need themselves
+unfoldable pub circular : List Decl → List BeanId
+circular ds = map (λ entry. entry.1) (filter (λ entry. needs_itself ds entry.0) (dependents_by_text (beans ds)))

@@ -1,0 +1,278 @@
+//! Dependent beans that need themselves before they can be made (profile).
+ghost use Rattle.std.specs.Prelude.{◌≡◌, ◌∷◌, [], ◌++◌, ℕ, List, filter, fold, length, map, IfOk, OnOk};
+ghost use Rattle.std.specs.BTreeMap.{keys};
+ghost use Rattle.std.specs.List.{flat_map};
+ghost use Rattle.cdi_circles.specs.Edges.{is_on_circle, next_in};
+ghost use Rattle.cdi_effective.specs.Beans.{beans};
+ghost use Rattle.cdi_effective.specs.BeanText.{text_of_id};
+ghost use Rattle.cdi_match.specs.Chain.{has};
+ghost use Rattle.cdi_observe.specs.Answers.{answers as all_answers};
+ghost use Rattle.cdi_observe.specs.Wanted.{points_of};
+ghost use Rattle.cdi_validate.specs.Circles.{between, chosen_one, declaring, dependents_by_text, is_dependent, managed_id, needs, product_id};
+ghost use Rattle.cdi_validate.specs.Circles.{with_dependent};
+ghost use Rattle.cdi_validate.specs.Faults.{circle, circles};
+ghost use Rattle.cdi_validate.specs.Needed.{need_by, needed_first, needs_by, AddsNeeds};
+
+use crate::records::records_of;
+use cdi_circles::{Node, reaches_itself};
+use cdi_effective::{BeanId, Effective};
+use cdi_faults::Fault;
+use cdi_model::{BeanDecl, Decl, Decls, ProducerDecl, Scope};
+use cdi_observe::View;
+use cdi_resolve::Choice;
+use std::alloc::{AllocError, Global};
+use std::collections::BTreeMap;
+use std::io::Write;
+use std::rc::Rc;
+
+/// Appends a fault for each dependent bean that needs itself, by the answers to the injection points of each declaration.
+/// It takes memory for the dependent beans, for what they need, and for the searches.
+pub(crate) fn push_of_circles<V: View>(
+    alloc: Global,
+    view: &V,
+    answers: &[Vec<Rc<Choice>>],
+    faults: &mut Vec<Fault>,
+) -> Result<(), AllocError>
+    requires { map (λ list. map (λ answer. answer.value) list.items) answers.now ≡ all_answers (V.list view.now) }
+    ensures { OnOk result (faults.new.items ≡ faults.old.items ++ circles (V.list view.now)) }
+{
+    let dependents = dependents_of(alloc, view)?;
+    let edges = edges_between(alloc, &dependents, view.decls(), answers)?;
+    push_circles(alloc, &dependents, &edges, faults)
+}
+
+/// Appends a fault for each bean that reaches itself.
+fn push_circles(
+    alloc: Global,
+    dependents: &BTreeMap<Node, BeanId>,
+    edges: &BTreeMap<Node, Vec<Node>>,
+    faults: &mut Vec<Fault>,
+) -> Result<(), AllocError>
+    ensures { OnOk result (faults.new.items ≡ faults.old.items
+        ++ map circle (map (λ e. e.1) (filter (λ e. is_on_circle edges.now e.0) dependents.now.entries))) }
+{
+    for (node, id) in dependents.iter() {
+        if reaches_itself(alloc, edges, node)? {
+            faults.push(circle(*id))?;
+        }
+    }
+    Ok(())
+}
+
+fn circle(id: BeanId) -> Fault
+    ensures { result ≡ circle id }
+{
+    Fault::Circular {
+        class: id.class,
+        producer: id.producer,
+    }
+}
+
+/// The dependent beans of a view, by the texts of their ids.
+fn dependents_of<V: View>(alloc: Global, view: &V) -> Result<BTreeMap<Node, BeanId>, AllocError>
+    ensures { IfOk result (λ dependents. dependents.entries ≡ dependents_by_text (beans (V.list view.now))) }
+{
+    let mut dependents = BTreeMap::new(alloc);
+    for decl in view.decls().iter() {
+        add_dependents(alloc, records_of(view, decl), &mut dependents)?;
+    }
+    Ok(dependents)
+}
+
+/// Adds those of some beans that are dependent.
+fn add_dependents(
+    alloc: Global,
+    beans: &[Effective],
+    dependents: &mut BTreeMap<Node, BeanId>,
+) -> Result<(), AllocError>
+    ensures { OnOk result (dependents.new.entries ≡ fold with_dependent dependents.old.entries beans.now) }
+{
+    for bean in beans {
+        if is_dependent(bean) {
+            dependents.insert(node_of(alloc, bean.id)?, bean.id)?;
+        }
+    }
+    Ok(())
+}
+
+/// Whether a bean is enabled, and an instance of it is made for each that asks for one (CDI 4.0, Dependent pseudo-scope).
+fn is_dependent(bean: &Effective) -> bool
+    ensures { result ≡ is_dependent bean.now }
+{
+    bean.is_enabled && matches!(bean.scope, Scope::Dependent)
+}
+
+/// The text of what a bean is told by.
+fn node_of(alloc: Global, id: BeanId) -> Result<Node, AllocError>
+    ensures { IfOk result (λ node. node ≡ text_of_id id) }
+{
+    let mut text = Vec::new(alloc);
+    write!(text, "{id}").map_err(|_| AllocError)?;
+    Ok(Node::new(text))
+}
+
+/// The dependent beans that each dependent bean needs, by the answers to the injection points of each declaration.
+fn edges_between(
+    alloc: Global,
+    dependents: &BTreeMap<Node, BeanId>,
+    decls: &Decls,
+    answers: &[Vec<Rc<Choice>>],
+) -> Result<BTreeMap<Node, Vec<Node>>, AllocError>
+    requires { map (λ list. map (λ answer. answer.value) list.items) answers.now ≡ all_answers decls.now }
+    ensures { IfOk result (λ edges. (x : List ℕ) → next_in edges x ≡ between (keys dependents.now) (needs decls.now) x) }
+{
+    let mut edges = BTreeMap::new(alloc);
+    for (decl, own) in decls.iter().zip(answers) {
+        add_needs(alloc, dependents, decl, own.as_slice(), &mut edges)?;
+    }
+    Ok(edges)
+}
+
+/// Adds what the beans of a declaration need, by the answers to its injection points.
+fn add_needs(
+    alloc: Global,
+    dependents: &BTreeMap<Node, BeanId>,
+    decl: &Decl,
+    answers: &[Rc<Choice>],
+    edges: &mut BTreeMap<Node, Vec<Node>>,
+) -> Result<(), AllocError>
+    requires { length answers.now ≡ length (points_of decl.now) }
+    ensures { OnOk result (AddsNeeds (keys dependents.now) (needs_by decl.now (map (λ answer. answer.value) answers.now))
+        edges.old edges.new) }
+{
+    let Decl::Bean(bean) = decl else {
+        return Ok(());
+    };
+    let (own, mut rest) = answers.split_at(bean.points.len());
+    add_need(alloc, dependents, managed_id(bean), None, own, edges)?;
+    for producer in bean.producers.as_slice() {
+        let (own, others) = rest.split_at(producer.params.len());
+        let id = product_id(bean, producer);
+        add_need(alloc, dependents, id, declaring(bean, producer), own, edges)?;
+        rest = others;
+    }
+    Ok(())
+}
+
+fn managed_id(bean: &BeanDecl) -> BeanId
+    ensures { result ≡ managed_id bean.now }
+{
+    BeanId {
+        class: bean.name,
+        producer: None,
+    }
+}
+
+fn product_id(bean: &BeanDecl, producer: &ProducerDecl) -> BeanId
+    ensures { result ≡ product_id bean.now producer.now }
+{
+    BeanId {
+        class: bean.name,
+        producer: Some(producer.name),
+    }
+}
+
+/// The bean that is made before a product: the one that declares it, where the producer method is not static.
+fn declaring(bean: &BeanDecl, producer: &ProducerDecl) -> Option<BeanId>
+    ensures { result ≡ declaring bean.now producer.now }
+{
+    if producer.is_static {
+        None
+    } else {
+        Some(managed_id(bean))
+    }
+}
+
+/// Adds what a bean needs, if it is dependent: the bean that is made first, and those that are chosen for its points.
+fn add_need(
+    alloc: Global,
+    dependents: &BTreeMap<Node, BeanId>,
+    id: BeanId,
+    first: Option<BeanId>,
+    answers: &[Rc<Choice>],
+    edges: &mut BTreeMap<Node, Vec<Node>>,
+) -> Result<(), AllocError>
+    ensures { OnOk result (AddsNeeds (keys dependents.now) (need_by id first (map (λ answer. answer.value) answers.now) ∷ [])
+        edges.old edges.new) }
+{
+    let node = node_of(alloc, id)?;
+    if !is_among(dependents, &node) {
+        return Ok(());
+    }
+    let mut next = edges.remove(&node).unwrap_or(Vec::new(alloc));
+    push_needed(alloc, dependents, first, answers, &mut next)?;
+    if !next.is_empty() {
+        edges.insert(node, next)?;
+    }
+    Ok(())
+}
+
+/// Appends those that are dependent of the bean that is made first and the chosen beans.
+fn push_needed(
+    alloc: Global,
+    dependents: &BTreeMap<Node, BeanId>,
+    first: Option<BeanId>,
+    answers: &[Rc<Choice>],
+    next: &mut Vec<Node>,
+) -> Result<(), AllocError>
+    ensures { OnOk result (next.new.items ≡ next.old.items ++ filter (has (keys dependents.now))
+        (needed_first first (map (λ answer. answer.value) answers.now))) }
+{
+    if let Some(id) = first {
+        push_dependent(alloc, dependents, id, next)?;
+    }
+    push_chosen(alloc, dependents, answers, next)
+}
+
+/// Appends the chosen beans that are dependent.
+fn push_chosen(
+    alloc: Global,
+    dependents: &BTreeMap<Node, BeanId>,
+    answers: &[Rc<Choice>],
+    next: &mut Vec<Node>,
+) -> Result<(), AllocError>
+    ensures { OnOk result (next.new.items ≡ next.old.items
+        ++ filter (has (keys dependents.now)) (flat_map chosen_one (map (λ answer. answer.value) answers.now))) }
+{
+    for answer in answers {
+        push_if_one(alloc, dependents, answer, next)?;
+    }
+    Ok(())
+}
+
+/// Appends the bean that is chosen, if it is one and dependent.
+fn push_if_one(
+    alloc: Global,
+    dependents: &BTreeMap<Node, BeanId>,
+    choice: &Choice,
+    next: &mut Vec<Node>,
+) -> Result<(), AllocError>
+    ensures { OnOk result (next.new.items ≡ next.old.items ++ filter (has (keys dependents.now)) (chosen_one choice.now)) }
+{
+    match choice {
+        Choice::One(id) => push_dependent(alloc, dependents, *id, next),
+        _ => Ok(()),
+    }
+}
+
+/// Appends a bean, if it is dependent.
+fn push_dependent(
+    alloc: Global,
+    dependents: &BTreeMap<Node, BeanId>,
+    id: BeanId,
+    next: &mut Vec<Node>,
+) -> Result<(), AllocError>
+    ensures { OnOk result (next.new.items ≡ next.old.items ++ filter (has (keys dependents.now)) (text_of_id id ∷ [])) }
+{
+    let node = node_of(alloc, id)?;
+    if is_among(dependents, &node) {
+        next.push(node)?;
+    }
+    Ok(())
+}
+
+fn is_among(dependents: &BTreeMap<Node, BeanId>, node: &Node) -> bool
+    ensures { result ≡ has (keys dependents.now) node.now }
+{
+    dependents.contains_key(node)
+}
