@@ -25,13 +25,17 @@ fn push_records(text: &mut Vec<u8>, list: &BeanList, class: Name) -> Result<(), 
 }
 
 /// The records of some classes, each on a line.
-fn records_of(alloc: Global, decls: &Decls, classes: &[&[u8]]) -> Result<Vec<u8>, Fail> {
-    let list = BeanList::of(alloc, decls)?;
+fn records_in(alloc: Global, list: &BeanList, classes: &[&[u8]]) -> Result<Vec<u8>, Fail> {
     let mut text = Vec::new(alloc);
     for class in classes {
-        push_records(&mut text, &list, name(class)?)?;
+        push_records(&mut text, list, name(class)?)?;
     }
     Ok(text)
+}
+
+fn records_of(alloc: Global, decls: &Decls, classes: &[&[u8]]) -> Result<Vec<u8>, Fail> {
+    let list = BeanList::of(alloc, decls)?;
+    records_in(alloc, &list, classes)
 }
 
 #[test]
@@ -50,12 +54,32 @@ fn candidates(alloc: Global, list: &BeanList) -> Result<Vec<&Effective>, Error> 
     Ok(corner.iter().chain(market.iter()).collect(alloc)?)
 }
 
-/// The choice of a shop from the beans of two classes, which counts as one evaluation.
+/// The choice of a shop from some beans.
+fn chosen_from(
+    alloc: Global,
+    decls: &Decls,
+    among: &[&Effective],
+    work: &mut Work,
+) -> Result<Choice, Error> {
+    let shop = name(b"Shop")?;
+    Ok(choose_from(alloc, decls, among, shop, &Quals::new(alloc), work)?)
+}
+
+/// The choice of a shop from the listed beans of two classes.
+fn chosen_in(
+    alloc: Global,
+    decls: &Decls,
+    list: &BeanList,
+    work: &mut Work,
+) -> Result<Choice, Error> {
+    let among = candidates(alloc, list)?;
+    chosen_from(alloc, decls, among.as_slice(), work)
+}
+
+/// The same from the beans of declarations.
 fn chosen(alloc: Global, decls: &Decls, work: &mut Work) -> Result<Choice, Error> {
     let list = BeanList::of(alloc, decls)?;
-    let among = candidates(alloc, &list)?;
-    let quals = Quals::new(alloc);
-    Ok(choose_from(alloc, decls, among.as_slice(), name(b"Shop")?, &quals, work)?)
+    chosen_in(alloc, decls, &list, work)
 }
 
 /// Whether a choice and its copy print this.
