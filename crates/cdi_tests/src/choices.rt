@@ -38,10 +38,15 @@ fn records_of(alloc: Global, decls: &Decls, classes: &[&[u8]]) -> Result<Vec<u8>
     records_in(alloc, &list, classes)
 }
 
+/// The same where the shops are declared.
+fn records_of_shops(alloc: Global, classes: &[&[u8]]) -> Result<Vec<u8>, Fail> {
+    let decls = declared(alloc, &SHOPS)?;
+    records_of(alloc, &decls, classes)
+}
+
 #[test]
 fn records_of_a_class(rt: HostRuntime) -> Result<(), Fail> {
-    let decls = declared(rt.alloc(), &SHOPS)?;
-    let text = records_of(rt.alloc(), &decls, &[b"Market", b"Corner", b"Box"])?;
+    let text = records_of_shops(rt.alloc(), &[b"Market", b"Corner", b"Box"])?;
     let is_right = text.as_slice() == b"Market\nCorner\nCorner/make\n".as_slice();
     assert!(rt; is_right, "{:?}", str::from_utf8(text.as_slice()));
     Ok(())
@@ -82,6 +87,12 @@ fn chosen(alloc: Global, decls: &Decls, work: &mut Work) -> Result<Choice, Error
     chosen_in(alloc, decls, &list, work)
 }
 
+/// The same where the shops are declared.
+fn chosen_of_shops(alloc: Global, work: &mut Work) -> Result<Choice, Error> {
+    let decls = declared(alloc, &SHOPS)?;
+    chosen(alloc, &decls, work)
+}
+
 /// Whether a choice and its copy print this.
 fn prints_twice(alloc: Global, choice: &Choice, wanted: &str) -> Result<bool, Fail> {
     let copy = choice.copy(alloc)?;
@@ -91,9 +102,8 @@ fn prints_twice(alloc: Global, choice: &Choice, wanted: &str) -> Result<bool, Fa
 
 #[test]
 fn a_choice_from_candidates_is_copied(rt: HostRuntime) -> Result<(), Fail> {
-    let decls = declared(rt.alloc(), &SHOPS)?;
     let mut work = Work::new();
-    let choice = chosen(rt.alloc(), &decls, &mut work)?;
+    let choice = chosen_of_shops(rt.alloc(), &mut work)?;
     let is_right = prints_twice(
         rt.alloc(),
         &choice,

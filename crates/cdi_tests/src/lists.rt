@@ -132,10 +132,15 @@ fn named_by(alloc: Global, decl: &Decl) -> Result<Vec<u8>, Fail> {
     Ok(text)
 }
 
+/// What the declaration of a text names, each on a line.
+fn named_in(alloc: Global, text: &[u8]) -> Result<Vec<u8>, Fail> {
+    let decl = read_decl(alloc, text)?;
+    named_by(alloc, &decl)
+}
+
 #[test]
 fn a_bean_names_what_it_rests_on(rt: HostRuntime) -> Result<(), Fail> {
-    let decl = read_decl(rt.alloc(), DEPOT)?;
-    let text = named_by(rt.alloc(), &decl)?;
+    let text = named_in(rt.alloc(), DEPOT)?;
     let is_right = text.as_slice() == NAMED;
     assert!(rt; is_right, "{:?}", str::from_utf8(text.as_slice()));
     Ok(())
@@ -180,10 +185,15 @@ fn read_by(alloc: Global, decls: &Decls, bean: Name) -> Result<Vec<u8>, Fail> {
     Ok(text)
 }
 
+/// The same of a bean of declared texts.
+fn read_in(alloc: Global, texts: &[&[u8]], bean: Name) -> Result<Vec<u8>, Fail> {
+    let decls = declared(alloc, texts)?;
+    read_by(alloc, &decls, bean)
+}
+
 #[test]
 fn records_rest_on_what_they_read(rt: HostRuntime) -> Result<(), Fail> {
-    let decls = declared(rt.alloc(), &STAND)?;
-    let text = read_by(rt.alloc(), &decls, name(b"Stand")?)?;
+    let text = read_in(rt.alloc(), &STAND, name(b"Stand")?)?;
     let is_right = text.as_slice() == READ;
     assert!(rt; is_right, "{:?}", str::from_utf8(text.as_slice()));
     Ok(())

@@ -88,11 +88,21 @@ fn edited(decls: &Decls, edit: Edit) -> Result<Decls, Error> {
     Ok(copy)
 }
 
-/// Whether each of the questions sees the same beans, or not, before and after an edit of the shops.
+/// Whether each of the questions sees the same beans, or not, before and after an edit.
+fn see_edited(
+    alloc: Global,
+    before: &Decls,
+    edit: Edit,
+    wanted: &[Compared],
+) -> Result<bool, Error> {
+    let after = edited(before, edit)?;
+    see_each(alloc, before, &after, wanted)
+}
+
+/// The same of an edit of the shops.
 fn see(alloc: Global, edit: Edit, wanted: &[Compared]) -> Result<bool, Error> {
     let before = declared(alloc, &SHOPS)?;
-    let after = edited(&before, edit)?;
-    see_each(alloc, &before, &after, wanted)
+    see_edited(alloc, &before, edit, wanted)
 }
 
 /// The same where a text is put.
@@ -100,11 +110,16 @@ fn see_put(alloc: Global, text: &[u8], wanted: &[Compared]) -> Result<bool, Erro
     see(alloc, Edit::Put(read_decl(alloc, text)?), wanted)
 }
 
-/// Whether an edit of the shops leaves a qualifier declared as it was.
+/// Whether an edit leaves a qualifier declared as it was.
+fn edit_keeps(before: &Decls, edit: Edit, qualifier: Name) -> Result<bool, Error> {
+    let after = edited(before, edit)?;
+    Ok(same_qualifier(before, &after, qualifier))
+}
+
+/// The same of an edit of the shops.
 fn keeps(alloc: Global, edit: Edit, qualifier: Name) -> Result<bool, Error> {
     let before = declared(alloc, &SHOPS)?;
-    let after = edited(&before, edit)?;
-    Ok(same_qualifier(&before, &after, qualifier))
+    edit_keeps(&before, edit, qualifier)
 }
 
 /// The same where a text is put.
