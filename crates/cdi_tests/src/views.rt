@@ -52,9 +52,15 @@ fn first_other<V: View>(
 }
 
 /// The first question that a plain view of declarations answers otherwise.
-fn first_wrong(alloc: Global, decls: &Decls, all: &[Asked]) -> Result<Option<usize>, Error> {
+fn first_unseen(alloc: Global, decls: &Decls, all: &[Asked]) -> Result<Option<usize>, Error> {
     let list = BeanList::of(alloc, decls)?;
     first_other(alloc, &mut PlainView::new(decls, &list), all)
+}
+
+/// The same of the declarations that texts spell.
+fn first_wrong(alloc: Global, texts: &[&[u8]], all: &[Asked]) -> Result<Option<usize>, Error> {
+    let decls = declared(alloc, texts)?;
+    first_unseen(alloc, &decls, all)
 }
 
 /// A bean of an interface.
@@ -73,8 +79,7 @@ static OF_SHOP: [Asked; 4] = [
 
 #[test]
 fn a_plain_view_of_one_shop(rt: HostRuntime) -> Result<(), Fail> {
-    let decls = declared(rt.alloc(), &SHOP)?;
-    let wrong = first_wrong(rt.alloc(), &decls, &OF_SHOP)?;
+    let wrong = first_wrong(rt.alloc(), &SHOP, &OF_SHOP)?;
     assert_eq!(rt; wrong, None);
     Ok(())
 }
@@ -95,8 +100,7 @@ static OF_SHOPS: [Asked; 2] = [
 
 #[test]
 fn a_plain_view_of_two_shops(rt: HostRuntime) -> Result<(), Fail> {
-    let decls = declared(rt.alloc(), &SHOPS)?;
-    let wrong = first_wrong(rt.alloc(), &decls, &OF_SHOPS)?;
+    let wrong = first_wrong(rt.alloc(), &SHOPS, &OF_SHOPS)?;
     assert_eq!(rt; wrong, None);
     Ok(())
 }
@@ -117,8 +121,7 @@ static OF_ALTERNATIVE: [Asked; 2] = [
 
 #[test]
 fn a_plain_view_of_an_alternative(rt: HostRuntime) -> Result<(), Fail> {
-    let decls = declared(rt.alloc(), &WITH_ALTERNATIVE)?;
-    let wrong = first_wrong(rt.alloc(), &decls, &OF_ALTERNATIVE)?;
+    let wrong = first_wrong(rt.alloc(), &WITH_ALTERNATIVE, &OF_ALTERNATIVE)?;
     assert_eq!(rt; wrong, None);
     Ok(())
 }
@@ -177,10 +180,15 @@ fn found_in(alloc: Global, decls: &Decls) -> Result<Vec<Fault>, Fail> {
     Ok(faults(alloc, &mut PlainView::new(decls, &list), &Echo)?)
 }
 
-/// The texts of the faults of the faulty declarations.
-fn faulty_lines(alloc: Global) -> Result<Vec<u8>, Fail> {
+/// The faults of the faulty declarations.
+fn faulty(alloc: Global) -> Result<Vec<Fault>, Fail> {
     let decls = declared(alloc, &FAULTY)?;
-    let found = found_in(alloc, &decls)?;
+    found_in(alloc, &decls)
+}
+
+/// Their texts.
+fn faulty_lines(alloc: Global) -> Result<Vec<u8>, Fail> {
+    let found = faulty(alloc)?;
     Ok(lines_of(alloc, found.as_slice())?)
 }
 
@@ -192,10 +200,10 @@ fn a_plain_view_has_faults(rt: HostRuntime) -> Result<(), Fail> {
     Ok(())
 }
 
-/// Whether these are the faults of the declarations.
-fn are_faults(alloc: Global, faults: &[Fault], decls: &Decls) -> Result<bool, Fail> {
-    let found = found_in(alloc, decls)?;
-    Ok(found.as_slice() == faults)
+/// Whether the same declarations have these faults.
+fn are_found_again(alloc: Global, found: &[Fault]) -> Result<bool, Fail> {
+    let again = faulty(alloc)?;
+    Ok(again.as_slice() == found)
 }
 
 /// Whether a fault has the code exactly where a line of their texts begins with it.
@@ -217,9 +225,8 @@ fn first_untold(alloc: Global, faults: &[Fault]) -> Result<Option<Code>, Fail> {
 /// The same declarations have the same faults, and one of each code that begins a line of their texts.
 #[test]
 fn faults_compare_and_tell_their_codes(rt: HostRuntime) -> Result<(), Fail> {
-    let decls = declared(rt.alloc(), &FAULTY)?;
-    let found = found_in(rt.alloc(), &decls)?;
-    let are_same = are_faults(rt.alloc(), found.as_slice(), &decls)?;
+    let found = faulty(rt.alloc())?;
+    let are_same = are_found_again(rt.alloc(), found.as_slice())?;
     let untold = first_untold(rt.alloc(), found.as_slice())?;
     assert!(rt; are_same);
     assert!(rt; untold.is_none());
