@@ -14,7 +14,7 @@ use cdi_model::{Error, Ident, Name, Outcome, Quals, Refusal, Val};
 use std::alloc::AllocError;
 
 impl<B: Bodies> Container<B> {
-    /// The state of the instance of the bean that is right for a type and qualifiers (CDI 4.0, Contextual instances; the
+    /// The state of the instance of the bean that is right for a type and qualifiers (CDI 4.0, Normal scopes and pseudo-scopes; the
     /// answer: profile). A dependent bean has its instance made for it, which is destroyed before the answer.
     ///
     /// It takes memory as `report` does at the first look-up or call after an edit, and else for a choice and for the

@@ -1,4 +1,5 @@
-//! The container: present declarations that are edited while it runs, questions about them, and the run of a script.
+//! The container: present declarations that are edited while it runs, questions about them, the instances that it makes,
+//! calls and destroys, and the run of a script.
 #![tactic(auto)]
 
 mod answer;
