@@ -26,14 +26,14 @@ use Rattle.cdi_container.specs.Wired.{StandsIn}
 use Rattle.cdi_container.specs.declared.asked.Aim.{Aim}
 use Rattle.cdi_container.specs.declared.asked.Message.{Message}
 
-ok_same : {A B : Type 0} (x y : A) → Ok {E = B} x ≡ Ok y → x ≡ y
-ok_same x y h = cc
+ok_same : {A B : Type 0} (x y : A) (r : Result A B) → r ≡ Ok x → r ≡ Ok y → x ≡ y
+ok_same x y r h k = cc
 
 module _ (ds : List Decl) (book : List Promised) (t : List ℕ) (quals : List Qual) (distinct : AreDistinct ds) where
   stands_at : (id : BeanId) (message : Option Message) (aim : Aim) → chosen ds (beans ds) t quals ≡ One id
       → aim_with (position_of_bean (beans ds) id) (wanted_of ds id message) ≡ Ok aim → StandsIn (scene_of ds book) aim
   stands_at id None aim one is =
-      subst (StandsIn (scene_of ds book)) (ok_same _ _ is)
+      subst (StandsIn (scene_of ds book)) (ok_same _ _ _ refl is)
       (record { there = chosen-stands ds book t quals id distinct one; usable = tt })
   stands_at id (Some message) aim one is = by (has_method ds id message.method) refl is
     where
@@ -41,7 +41,7 @@ module _ (ds : List Decl) (book : List Promised) (t : List ℕ) (quals : List Qu
           → aim_with (position_of_bean (beans ds) id)
           (if b then Ok (wanteds.Answer (method_of ds (managed_class id) message.method) message.arg) else Err NoMethod) ≡ Ok aim
           → StandsIn (scene_of ds book) aim
-      by true has same = subst (StandsIn (scene_of ds book)) (ok_same _ _ same) (record {
+      by true has same = subst (StandsIn (scene_of ds book)) (ok_same _ _ _ refl same) (record {
         there = chosen-stands ds book t quals id distinct one;
         usable = λ none. chosen-has-methods ds book t quals id message.method distinct one has none;
       })

@@ -1,8 +1,5 @@
 -- Without a scene nothing is live, and the end of a request and a stop are legal with no entry.
-use Rattle.std.proofs.Common.{◌≡◌, List, [], Bool, true, false, not, Option, None, Some, refl, sym, subst}
-use Rattle.std.specs.Prelude.{if◌then◌else◌}
-use Rattle.cdi_model.specs.declared.refusal.Refusal.{Refusal}
-use Rattle.cdi_model.specs.declared.refusal.Refusal.TheVariants.{NoRequest}
+use Rattle.std.proofs.Common.{◌≡◌, List, [], true, None, refl, sym, subst}
 use Rattle.cdi_model.specs.declared.decl.Decl.{Decl}
 use Rattle.cdi_bodies.specs.Book.{Promised}
 use Rattle.cdi_contexts.specs.Standing.{closed}
@@ -38,12 +35,7 @@ ends_no_request ds book old m n is none shut =
 
 -- the end of a request that is active is not refused
 pub has_request : (ds : List Decl) (book : List Promised) (old : State) (m : Moment) → standing_at ds book m ≡ old
-    → not m.standing.active ≡ false → refusal_of_end old.standing ≡ None
-has_request ds book old m is active = subst (λ s. refusal_of_end s.standing ≡ None) is (by m.standing.active active)
-  where
-    none : Option Refusal
-    none = None
-
-    by : (b : Bool) → not b ≡ false → (if b then none else Some NoRequest) ≡ none
-    by true h = refl
-    by false h = cc
+    → m.standing.active ≡ true → refusal_of_end old.standing ≡ None
+has_request ds book old m is active =
+    let here : refusal_of_end m.standing ≡ None = rw active refl in
+    subst (λ s. refusal_of_end s.standing ≡ None) is here

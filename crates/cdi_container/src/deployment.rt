@@ -42,7 +42,7 @@ impl<B: Bodies> Model for Deployment<B> {
     ghost use Rattle.cdi_model.specs.Short.{AreShort};
     ghost use Rattle.cdi_effective.specs.Beans.{beans as bean_list};
     ghost use Rattle.cdi_container.specs.Asked.{aim_of, asked_for};
-ghost use Rattle.cdi_container.specs.Wired.{StandsIn, Deployed, IsWiringOf, is_sound};
+    ghost use Rattle.cdi_container.specs.Wired.{StandsIn, Deployed, IsWiringOf, is_sound};
 
     ghost Value = { Deployed };
 
@@ -69,6 +69,7 @@ impl<B: Bodies> Deployment<B> {
     }
 
     /// Puts a declaration in the place of the one of its kind and name, or at the end.
+    #[tactic(auto, using(cdi_model::proofs::ShortLemmas::put_short))]
     pub(crate) fn put(&mut self, decl: Decl) -> Result<(), Error>
         requires { HasShortLists decl }
         ensures answer { Answers result (answer_of_edit self.old.decls (Put decl)) }
@@ -82,6 +83,7 @@ impl<B: Bodies> Deployment<B> {
     }
 
     /// Removes the declaration of a kind and name. It takes no memory.
+    #[tactic(auto, using(cdi_model::proofs::ShortLemmas::remove_short))]
     pub(crate) fn remove(&mut self, kind: Kind, name: Name) -> Result<(), Refusal>
         ensures answer { result ≡ answer_of_edit self.old.decls (Remove kind name) }
         ensures ok { OnOk result (self.new ≡ without_wiring self.old (Remove kind name)) }
@@ -176,9 +178,9 @@ impl<B: Bodies> Deployment<B> {
         if !are_known(&self.decls, bean_type, quals) {
             return Err(Error::Refused(Refusal::UnknownName));
         }
+        let list = self.take_beans(alloc)?;
         // No effect at run time. The proof reads here that no two declarations have one kind and name.
         let _ = self.decls.iter();
-        let list = self.take_beans(alloc)?;
         let aim = aim_for(alloc, &self.decls, &list, bean_type, quals, message, work);
         self.beans = Some(list);
         aim

@@ -43,8 +43,9 @@ impl Wiring {
         ensures { IfOk result (λ wiring. IsWiringOf decls.now (B.promises book.now) wiring) }
     {
         let found = faults(alloc, &mut PlainView::new(decls, beans), book)?;
-        if !found.is_empty() {
-            return Ok(Wiring::Faulty(found.len()));
+        let count = found.as_slice().len();
+        if count != 0 {
+            return Ok(Wiring::Faulty(count));
         }
         // No effect at run time. The proof reads here that no two declarations have one kind and name.
         let _ = decls.iter();

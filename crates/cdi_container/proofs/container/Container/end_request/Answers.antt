@@ -1,4 +1,4 @@
-use Rattle.std.proofs.Common.{not, sym, subst, ◌∙◌, ap}
+use Rattle.std.proofs.Common.{sym, ◌∙◌}
 use Rattle.cdi_container.proofs.Ending.{ends_no_request, has_request, is_closed}
 use Rattle.cdi_container.proofs.container.Container.end_request.Goals as goal
 
@@ -12,6 +12,8 @@ returns-else-is_wired-clause-ok g c =
 
 pub returns-else-is_wired-clause-step : goal.returns-else-is_wired-clause-step
 returns-else-is_wired-clause-step g c =
-    let d = c.self.inside.deployment in
-    (has_request d.decls d.book c.args.self.now c.self.inside.run.moment c.self.view_is
-    (ap not (sym c.is_active.ensures) ∙ c.if-not-is_active.false), returns-else-is_wired-clause-ok g c)
+    let d = c.self.inside.deployment in (
+      has_request d.decls d.book c.args.self.now c.self.inside.run.moment c.self.view_is
+          (sym c.is_active.ensures ∙ c.if-not-is_active.false),
+      returns-else-is_wired-clause-ok g c,
+    )

@@ -1,0 +1,17 @@
+use Rattle.std.proofs.Common.{◌≡◌, [], length, ap, sym, subst, ◌∙◌}
+use Rattle.std.proofs.lemmas.List.{nil_from_length}
+use Rattle.cdi_validate.specs.Faults.{faults}
+use Rattle.cdi_container.proofs.wiring.Wiring.of.Goals as goal
+
+pub returns : goal.returns
+returns g c =
+    let book = g.B.Bodies.promises c.args.book.now in
+    let found = c.in_ok-found.found.items in
+    let are : found ≡ faults c.args.decls.now book = subst (λ ds. found ≡ faults ds book) c.new.ensures c.in_ok-found.ensures.faults in
+    let none : faults c.args.decls.now book ≡ [] = sym are ∙ nil_from_length found (sym (ap length c.as_slice-count.ensures.value) ∙ c.if-count-ne0.false) in
+    record {
+      faultless = none;
+      scene = c.in_ok-scene_of.ensures.value;
+      sound = c.in_ok-scene_of.ensures.sound c.args.decls.now book c.iter.ensures.distinct c.requires.short none;
+      names = c.in_ok-names_of.ensures;
+    }
