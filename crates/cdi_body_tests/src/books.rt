@@ -83,14 +83,35 @@ fn book(bodies: Vec<Body>) -> Result<Book, Fail> {
     }
 }
 
+/// What the body of this name promises.
+fn promised(book: &Book, text: &[u8]) -> Result<Option<Promise>, Fail> {
+    Ok(book.promise(ident(text)?))
+}
+
+/// The position of the body of this name.
+fn place(book: &Book, text: &[u8]) -> Result<Option<usize>, Fail> {
+    Ok(book.position(ident(text)?))
+}
+
+fn tells_promises(book: &Book) -> Result<bool, Fail> {
+    Ok(
+        promised(book, b"seven")? == Some(Promise::NONE)
+            && promised(book, b"count")? == Some(Promise::AT_DESTRUCTION)
+            && promised(book, b"coun")?.is_none(),
+    )
+}
+
+fn tells_places(book: &Book) -> Result<bool, Fail> {
+    Ok(place(book, b"count")? == Some(1) && place(book, b"eight")?.is_none())
+}
+
 #[test]
 fn a_book_tells_promises(rt: HostRuntime) -> Result<(), Fail> {
     let book = book(seven_and_count(rt.alloc())?)?;
-    assert!(rt; book.promise(ident(b"seven")?) == Some(Promise::NONE));
-    assert!(rt; book.promise(ident(b"count")?) == Some(Promise::AT_DESTRUCTION));
-    assert!(rt; book.promise(ident(b"coun")?).is_none());
-    assert!(rt; book.position(ident(b"count")?) == Some(1));
-    assert!(rt; book.position(ident(b"eight")?).is_none());
+    let is_promised = tells_promises(&book)?;
+    let is_placed = tells_places(&book)?;
+    assert!(rt; is_promised);
+    assert!(rt; is_placed);
     Ok(())
 }
 

@@ -8,3 +8,4 @@ mod Feeding
 mod Going
 mod Putting
 mod HistoryLemmas
+mod SharingLemmas

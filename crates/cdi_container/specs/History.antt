@@ -14,6 +14,7 @@ use Rattle.cdi_bodies.specs.Book.{Promised}
 use Rattle.cdi_contexts.specs.Standing.{Standing, opened, cleared}
 use Rattle.cdi_scene.specs.declared.scene.Scene.{Scene}
 use Rattle.cdi_legal.specs.LegalRun.{LegalRun, LegalRequestEnd, LegalEnd}
+use Rattle.cdi_legal.specs.Single.{IsSingle}
 use Rattle.cdi_legal.specs.declared.entry.Entry.{Entry}
 use Rattle.cdi_text.specs.Reading.{decl_of}
 use Rattle.cdi_effective.specs.Beans.{beans}
@@ -225,3 +226,11 @@ accepted_edits (step ∷ steps) = accepted_edit step.command step.answer ++ acce
 abbrev pub RestsOnAcceptedEdits : History → Type 0
 RestsOnAcceptedEdits history = (book : List Promised) (state : State) → LegalHistory (empty book) history state
     → state.decls ≡ edited_all [] (accepted_edits history)
+
+-- ---- what stands
+
+-- at most one instance of each bean with a normal scope is live behind a legal history (CDI 4.0, Normal scopes and
+-- pseudo-scopes)
+abbrev pub SharesInstances : History → Type 0
+SharesInstances history = (book : List Promised) (state : State) → LegalHistory (empty book) history state
+    → IsSingle (scene state) state.standing.live

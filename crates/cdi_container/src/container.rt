@@ -8,7 +8,7 @@ ghost use Rattle.cdi_effective.specs.Beans.{beans};
 ghost use Rattle.cdi_resolve.specs.Choices.{chosen, chosen_by_name};
 ghost use Rattle.cdi_validate.specs.Faults.{faults};
 ghost use Rattle.cdi_container.specs.Wired.{behind_edit};
-ghost use Rattle.cdi_container.specs.History.{History, left_by, untold, with_edit, with_put, RestsOnAcceptedEdits};
+ghost use Rattle.cdi_container.specs.History.{History, left_by, untold, with_edit, with_put, RestsOnAcceptedEdits, SharesInstances};
 
 use crate::answer::{
     Answer, answer_of_begin, answer_of_choice, answer_of_edit, answer_of_report, answer_of_run,
@@ -67,12 +67,15 @@ impl<B: Bodies> Container<B> {
     ghost use Rattle.cdi_container.specs.Seen.{ReportStep};
 
     /// An empty container, which keeps this book of stored bodies. It keeps the allocator, and takes no memory yet.
-    #[tactic(auto, using(crate::proofs::HistoryLemmas::rests_on_accepted_edits))]
+    #[tactic(auto, using(crate::proofs::HistoryLemmas::rests_on_accepted_edits, crate::proofs::SharingLemmas::shares_instances))]
     pub fn new(alloc: Global, book: B) -> Container<B>
         ensures empty { result ≡ empty (B.promises book) }
 
         // From here on what stands is what the accepted edits make, whatever else was asked between them.
         ensures edits { (history : History) → RestsOnAcceptedEdits history }
+
+        // And at most one instance of each bean with a normal scope is live at a time.
+        ensures shared { (history : History) → SharesInstances history }
     {
         Container {
             alloc,

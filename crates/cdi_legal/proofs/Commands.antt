@@ -22,8 +22,8 @@ use Rattle.cdi_legal.proofs.Sharing.{by_ends, runs_single}
 single_of : (s : Scene) (a b : Standing) → a ≡ b → IsSingle s b.live → IsSingle s a.live
 single_of s a b e q = subst (λ (x : Standing). IsSingle s x.live) (sym e) q
 
-pub run_single : {s : Scene} {c : Command} {a : Standing} {t : List Entry} {o : Outcome} {b : Standing} → LegalRun s c a t o b
-    → IsSingle s a.live → IsSingle s b.live
+pub run_single : {s : Scene} {c : Command} {a : Standing} {t : List Entry} {o : Outcome} {b : Standing}
+    → LegalRun s c a t o b → IsSingle s a.live → IsSingle s b.live
 run_single {s} {c} {a} {t} {o} {b} l q = single_of s b l.end.standing l.leaves (runs_single l.runs q)
 
 pub request_end_single : {s : Scene} {a : Standing} {t : List Entry} {b : Standing} → LegalRequestEnd s a t b
@@ -43,11 +43,12 @@ commands_keep_single = record {
 
 -- ---- numbers
 
-pub run_grows : {s : Scene} {c : Command} {a : Standing} {t : List Entry} {o : Outcome} {b : Standing} → LegalRun s c a t o b
-    → a.given ≤ b.given
+pub run_grows : {s : Scene} {c : Command} {a : Standing} {t : List Entry} {o : Outcome} {b : Standing}
+    → LegalRun s c a t o b → a.given ≤ b.given
 run_grows l = omega (arith, runs_grow l.runs, ap (λ (x : Standing). x.given) l.leaves)
 
-pub request_end_grows : {s : Scene} {a : Standing} {t : List Entry} {b : Standing} → LegalRequestEnd s a t b → a.given ≤ b.given
+pub request_end_grows : {s : Scene} {a : Standing} {t : List Entry} {b : Standing} → LegalRequestEnd s a t b
+    → a.given ≤ b.given
 request_end_grows l = omega (arith, ends_grow l.ends, ap (λ (x : Standing). x.given) l.leaves)
 
 pub end_grows : {s : Scene} {a : Standing} {t : List Entry} {b : Standing} → LegalEnd s a t b → a.given ≤ b.given
@@ -65,12 +66,13 @@ commands_raise_given = record {
 folded : (s : Standing) (m : Moment) → Follows (beginning s) m → m.standing ≡ after s m.trace
 folded s m f = f.standing ∙ ap (λ (t : List Entry). after s t) (sym f.trace)
 
-pub run_follows : {s : Scene} {c : Command} {a : Standing} {t : List Entry} {o : Outcome} {b : Standing} → LegalRun s c a t o b
-    → b ≡ after a t
+pub run_follows : {s : Scene} {c : Command} {a : Standing} {t : List Entry} {o : Outcome} {b : Standing}
+    → LegalRun s c a t o b → b ≡ after a t
 run_follows {s} {c} {a} l =
     l.leaves ∙ folded a l.end (runs_follow l.runs) ∙ ap (λ (t : List Entry). after a t) (sym l.pushed)
 
-pub request_end_follows : {s : Scene} {a : Standing} {t : List Entry} {b : Standing} → LegalRequestEnd s a t b → b ≡ closed (after a t)
+pub request_end_follows : {s : Scene} {a : Standing} {t : List Entry} {b : Standing} → LegalRequestEnd s a t b
+    → b ≡ closed (after a t)
 request_end_follows {s} {a} l =
     l.leaves ∙ ap (λ (x : Standing). closed x) (folded a l.end (ends_follow l.ends))
     ∙ ap (λ (t : List Entry). closed (after a t)) (sym l.pushed)

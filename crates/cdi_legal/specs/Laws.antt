@@ -9,8 +9,8 @@ use Rattle.cdi_legal.specs.declared.entry.Entry.{Entry}
 
 -- it holds from what stands before each command to what stands after
 pub record IsKeptByCommands (R : Scene → Standing → Standing → Type 0) : Type 0 where
-  pub run : (s : Scene) (command : Command) (before : Standing) (trace : List Entry) (outcome : Outcome) (after : Standing)
-      → LegalRun s command before trace outcome after → R s before after
+  pub run : (s : Scene) (command : Command) (before : Standing) (trace : List Entry) (outcome : Outcome)
+      (after : Standing) → LegalRun s command before trace outcome after → R s before after
   pub request_end : (s : Scene) (before : Standing) (trace : List Entry) (after : Standing)
       → LegalRequestEnd s before trace after → R s before after
   pub end : (s : Scene) (before : Standing) (trace : List Entry) (after : Standing)

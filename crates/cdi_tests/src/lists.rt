@@ -1,8 +1,10 @@
 //! Lists of declarations and of uses, and what a declaration names.
 use cdi_effective::reads_of;
 use cdi_fixtures::{declared, name, quals};
-use cdi_model::{Decl, DeclKey, Edit, Error, Kind, Mention, Refusal};
+use cdi_model::{Decl, DeclKey, Decls, Edit, Error, Kind, Mention, Name, Quals, Refusal};
 use cdi_text::read_decl;
+use std::alloc::Global;
+use std::fmt::Display;
 use std::io::Write;
 use std::test::Fail;
 
@@ -13,28 +15,60 @@ static SHOP: [&[u8]; 2] = [
 
 const MARKET: &[u8] = b"kind=\"type\"\nname=\"Market\"\n";
 
-#[test]
-fn a_copy_is_edited_apart(rt: HostRuntime) -> Result<(), Fail> {
+/// Whether a type can't be removed, since it is absent.
+fn is_absent(decls: &mut Decls, name: Name) -> bool {
+    decls.apply(Edit::Remove(Kind::Type, name)) == Err(Error::Refused(Refusal::Absent))
+}
+
+fn puts(decls: &mut Decls, alloc: Global, text: &[u8]) -> Result<(), Error> {
+    decls.apply(Edit::Put(read_decl(alloc, text)?))
+}
+
+/// Whether a list has two declarations, and among them the type of one name and not that of another.
+fn has_type(decls: &Decls, there: Name, absent: Name) -> bool {
+    decls.len() == 2
+        && decls.get(Kind::Type, there).is_some()
+        && decls.get(Kind::Type, absent).is_none()
+}
+
+/// Whether edits of a copy change the copy and leave what was copied.
+fn copies_apart(decls: &Decls, alloc: Global) -> Result<bool, Error> {
     let corner = name(b"Corner")?;
-    let decls = declared(rt.alloc(), &SHOP)?;
+    let market = name(b"Market")?;
     let mut copy = decls.copy()?;
     copy.apply(Edit::Remove(Kind::Type, corner))?;
-    copy.apply(Edit::Put(read_decl(rt.alloc(), MARKET)?))?;
-    let again = copy.apply(Edit::Remove(Kind::Type, corner));
-    assert!(rt; again == Err(Error::Refused(Refusal::Absent)));
-    assert!(rt; decls.len() == 2 && decls.get(Kind::Type, corner).is_some());
-    assert!(rt; copy.len() == 2 && copy.get(Kind::Type, corner).is_none());
-    assert!(rt; copy.get(Kind::Type, name(b"Market")?).is_some());
+    puts(&mut copy, alloc, MARKET)?;
+    let is_removed = is_absent(&mut copy, corner);
+    Ok(is_removed && has_type(decls, corner, market) && has_type(&copy, market, corner))
+}
+
+#[test]
+fn a_copy_is_edited_apart(rt: HostRuntime) -> Result<(), Fail> {
+    let decls = declared(rt.alloc(), &SHOP)?;
+    let is_apart = copies_apart(&decls, rt.alloc())?;
+    assert!(rt; is_apart);
     Ok(())
+}
+
+/// Whether a copy of uses equals them.
+fn equals_copy(uses: &Quals) -> Result<bool, Error> {
+    let copy = uses.copy()?;
+    Ok(copy.as_slice() == uses.as_slice())
+}
+
+/// Whether uses equal those that texts are.
+fn equals_texts(uses: &Quals, alloc: Global, texts: &[&[u8]]) -> Result<bool, Error> {
+    let others = quals(alloc, texts)?;
+    Ok(others.as_slice() == uses.as_slice())
 }
 
 #[test]
 fn uses_are_copied_and_compared(rt: HostRuntime) -> Result<(), Fail> {
     let uses = quals(rt.alloc(), &[b"Rank(m=2,n=1)", b"Named(x)"])?;
-    let copy = uses.copy()?;
-    let others = quals(rt.alloc(), &[b"Rank(m=2,n=2)", b"Named(x)"])?;
-    assert!(rt; copy.as_slice() == uses.as_slice());
-    assert!(rt; others.as_slice() != uses.as_slice());
+    let is_copied = equals_copy(&uses)?;
+    let equals_others = equals_texts(&uses, rt.alloc(), &[b"Rank(m=2,n=2)", b"Named(x)"])?;
+    assert!(rt; is_copied);
+    assert!(rt; !equals_others);
     Ok(())
 }
 
@@ -64,25 +98,49 @@ type Crate
 use Cold
 ";
 
+fn push_line<T: Display>(text: &mut Vec<u8>, word: &str, what: &T) -> Result<(), Fail> {
+    writeln!(text, "{word} {what}")?;
+    Ok(())
+}
+
+fn push_param<T: Display, U: Display>(
+    text: &mut Vec<u8>,
+    producer: &T,
+    param: &U,
+) -> Result<(), Fail> {
+    writeln!(text, "param {producer} {param}")?;
+    Ok(())
+}
+
 /// Writes what is named in one place.
 fn push_mention(text: &mut Vec<u8>, mention: &Mention<'_>) -> Result<(), Fail> {
     match mention {
-        Mention::Type(_, name) => writeln!(text, "type {name}")?,
-        Mention::Use(qual) => writeln!(text, "use {qual}")?,
-        Mention::Stereotype(name) => writeln!(text, "stereotype {name}")?,
-        Mention::Point(None, point) => writeln!(text, "point {}", point.name)?,
-        Mention::Point(Some(producer), point) => writeln!(text, "param {producer} {}", point.name)?,
+        Mention::Type(_, name) => push_line(text, "type", name),
+        Mention::Use(qual) => push_line(text, "use", *qual),
+        Mention::Stereotype(name) => push_line(text, "stereotype", name),
+        Mention::Point(None, point) => push_line(text, "point", &point.name),
+        Mention::Point(Some(producer), point) => push_param(text, producer, &point.name),
     }
-    Ok(())
+}
+
+/// What a declaration names, each on a line.
+fn named_by(alloc: Global, decl: &Decl) -> Result<Vec<u8>, Fail> {
+    let mut text = Vec::new(alloc);
+    for mention in decl.mentions() {
+        push_mention(&mut text, &mention)?;
+    }
+    Ok(text)
+}
+
+/// What the declaration of a text names, each on a line.
+fn named_in(alloc: Global, text: &[u8]) -> Result<Vec<u8>, Fail> {
+    let decl = read_decl(alloc, text)?;
+    named_by(alloc, &decl)
 }
 
 #[test]
 fn a_bean_names_what_it_rests_on(rt: HostRuntime) -> Result<(), Fail> {
-    let decl = read_decl(rt.alloc(), DEPOT)?;
-    let mut text = Vec::new(rt.alloc());
-    for mention in decl.mentions() {
-        push_mention(&mut text, &mention)?;
-    }
+    let text = named_in(rt.alloc(), DEPOT)?;
     let is_right = text.as_slice() == NAMED;
     assert!(rt; is_right, "{:?}", str::from_utf8(text.as_slice()));
     Ok(())
@@ -116,15 +174,26 @@ fn push_keys(text: &mut Vec<u8>, keys: &[DeclKey]) -> Result<(), Fail> {
     Ok(())
 }
 
-#[test]
-fn records_rest_on_what_they_read(rt: HostRuntime) -> Result<(), Fail> {
-    let decls = declared(rt.alloc(), &STAND)?;
-    let Some(Decl::Bean(bean)) = decls.get(Kind::Bean, name(b"Stand")?) else {
+/// What the records of a bean rest on, each on a line.
+fn read_by(alloc: Global, decls: &Decls, bean: Name) -> Result<Vec<u8>, Fail> {
+    let Some(Decl::Bean(bean)) = decls.get(Kind::Bean, bean) else {
         return Err(Fail::new("no bean"));
     };
-    let keys = reads_of(rt.alloc(), &decls, bean)?;
-    let mut text = Vec::new(rt.alloc());
+    let keys = reads_of(alloc, decls, bean)?;
+    let mut text = Vec::new(alloc);
     push_keys(&mut text, keys.as_slice())?;
+    Ok(text)
+}
+
+/// The same of a bean of declared texts.
+fn read_in(alloc: Global, texts: &[&[u8]], bean: Name) -> Result<Vec<u8>, Fail> {
+    let decls = declared(alloc, texts)?;
+    read_by(alloc, &decls, bean)
+}
+
+#[test]
+fn records_rest_on_what_they_read(rt: HostRuntime) -> Result<(), Fail> {
+    let text = read_in(rt.alloc(), &STAND, name(b"Stand")?)?;
     let is_right = text.as_slice() == READ;
     assert!(rt; is_right, "{:?}", str::from_utf8(text.as_slice()));
     Ok(())

@@ -37,6 +37,32 @@ fn answers<V: View>(alloc: Global, view: &mut V, asked: &Asked) -> Result<bool, 
     Ok(is_choice(&choice, *right))
 }
 
+/// The first question that a view answers otherwise.
+fn first_other<V: View>(
+    alloc: Global,
+    view: &mut V,
+    all: &[Asked],
+) -> Result<Option<usize>, Error> {
+    for (place, asked) in all.iter().enumerate() {
+        if !answers(alloc, view, asked)? {
+            return Ok(Some(place));
+        }
+    }
+    Ok(None)
+}
+
+/// The first question that a plain view of declarations answers otherwise.
+fn first_unseen(alloc: Global, decls: &Decls, all: &[Asked]) -> Result<Option<usize>, Error> {
+    let list = BeanList::of(alloc, decls)?;
+    first_other(alloc, &mut PlainView::new(decls, &list), all)
+}
+
+/// The same of the declarations that texts spell.
+fn first_wrong(alloc: Global, texts: &[&[u8]], all: &[Asked]) -> Result<Option<usize>, Error> {
+    let decls = declared(alloc, texts)?;
+    first_unseen(alloc, &decls, all)
+}
+
 /// A bean of an interface.
 static SHOP: [&[u8]; 3] = [
     b"kind=\"type\"\nname=\"Shop\"\nform=\"interface\"\n",
@@ -53,13 +79,8 @@ static OF_SHOP: [Asked; 4] = [
 
 #[test]
 fn a_plain_view_of_one_shop(rt: HostRuntime) -> Result<(), Fail> {
-    let decls = declared(rt.alloc(), &SHOP)?;
-    let list = BeanList::of(rt.alloc(), &decls)?;
-    let mut view = PlainView::new(&decls, &list);
-    for asked in &OF_SHOP {
-        let is_right = answers(rt.alloc(), &mut view, asked)?;
-        assert!(rt; is_right, "{:?}", asked.0);
-    }
+    let wrong = first_wrong(rt.alloc(), &SHOP, &OF_SHOP)?;
+    assert_eq!(rt; wrong, None);
     Ok(())
 }
 
@@ -79,13 +100,8 @@ static OF_SHOPS: [Asked; 2] = [
 
 #[test]
 fn a_plain_view_of_two_shops(rt: HostRuntime) -> Result<(), Fail> {
-    let decls = declared(rt.alloc(), &SHOPS)?;
-    let list = BeanList::of(rt.alloc(), &decls)?;
-    let mut view = PlainView::new(&decls, &list);
-    for asked in &OF_SHOPS {
-        let is_right = answers(rt.alloc(), &mut view, asked)?;
-        assert!(rt; is_right, "{:?}", asked.0);
-    }
+    let wrong = first_wrong(rt.alloc(), &SHOPS, &OF_SHOPS)?;
+    assert_eq!(rt; wrong, None);
     Ok(())
 }
 
@@ -105,13 +121,8 @@ static OF_ALTERNATIVE: [Asked; 2] = [
 
 #[test]
 fn a_plain_view_of_an_alternative(rt: HostRuntime) -> Result<(), Fail> {
-    let decls = declared(rt.alloc(), &WITH_ALTERNATIVE)?;
-    let list = BeanList::of(rt.alloc(), &decls)?;
-    let mut view = PlainView::new(&decls, &list);
-    for asked in &OF_ALTERNATIVE {
-        let is_right = answers(rt.alloc(), &mut view, asked)?;
-        assert!(rt; is_right, "{:?}", asked.0);
-    }
+    let wrong = first_wrong(rt.alloc(), &WITH_ALTERNATIVE, &OF_ALTERNATIVE)?;
+    assert_eq!(rt; wrong, None);
     Ok(())
 }
 
@@ -169,28 +180,56 @@ fn found_in(alloc: Global, decls: &Decls) -> Result<Vec<Fault>, Fail> {
     Ok(faults(alloc, &mut PlainView::new(decls, &list), &Echo)?)
 }
 
+/// The faults of the faulty declarations.
+fn faulty(alloc: Global) -> Result<Vec<Fault>, Fail> {
+    let decls = declared(alloc, &FAULTY)?;
+    found_in(alloc, &decls)
+}
+
+/// Their texts.
+fn faulty_lines(alloc: Global) -> Result<Vec<u8>, Fail> {
+    let found = faulty(alloc)?;
+    Ok(lines_of(alloc, found.as_slice())?)
+}
+
 #[test]
 fn a_plain_view_has_faults(rt: HostRuntime) -> Result<(), Fail> {
-    let decls = declared(rt.alloc(), &FAULTY)?;
-    let found = found_in(rt.alloc(), &decls)?;
-    let text = lines_of(rt.alloc(), found.as_slice())?;
+    let text = faulty_lines(rt.alloc())?;
     let is_right = text.as_slice() == FAULTS;
     assert!(rt; is_right, "{:?}", str::from_utf8(text.as_slice()));
     Ok(())
 }
 
+/// Whether the same declarations have these faults.
+fn are_found_again(alloc: Global, found: &[Fault]) -> Result<bool, Fail> {
+    let again = faulty(alloc)?;
+    Ok(again.as_slice() == found)
+}
+
+/// Whether a fault has the code exactly where a line of their texts begins with it.
+fn is_told(alloc: Global, faults: &[Fault], code: Code) -> Result<bool, Fail> {
+    let text = format!(in alloc; "{code}")?;
+    Ok(has_code(faults, code) == has_line(text.as_bytes()))
+}
+
+/// The first code of which this is not so.
+fn first_untold(alloc: Global, faults: &[Fault]) -> Result<Option<Code>, Fail> {
+    for code in Code::all() {
+        if !is_told(alloc, faults, code)? {
+            return Ok(Some(code));
+        }
+    }
+    Ok(None)
+}
+
 /// The same declarations have the same faults, and one of each code that begins a line of their texts.
 #[test]
 fn faults_compare_and_tell_their_codes(rt: HostRuntime) -> Result<(), Fail> {
-    let decls = declared(rt.alloc(), &FAULTY)?;
-    let found = found_in(rt.alloc(), &decls)?;
-    let again = found_in(rt.alloc(), &decls)?;
-    assert!(rt; found.as_slice() == again.as_slice());
-    for code in Code::all() {
-        let has_it = has_code(found.as_slice(), code);
-        let text = format!(in rt.alloc(); "{code}")?;
-        assert!(rt; has_it == has_line(text.as_bytes()), "{code}");
-    }
+    let found = faulty(rt.alloc())?;
+    let are_same = are_found_again(rt.alloc(), found.as_slice())?;
+    let untold = first_untold(rt.alloc(), found.as_slice())?;
+    assert!(rt; are_same);
+    assert!(rt; untold.is_none());
     Ok(())
 }
 
