@@ -1,0 +1,161 @@
+"""Random deployments without faults, and commands that run in them; `bench/compare` writes scripts of them.
+
+Types have places in an order, and each has one bean, a managed one or a product. A dependent bean has points of
+dependent beans behind it in the order alone, and of beans of the other scopes anywhere, so none needs itself before it
+is made. A product stands before the bean that declares it.
+"""
+
+METHODS = ["run", "add", "go"]
+SCOPES = ["dependent", "dependent", "application", "request"]
+# The bodies that a place allows, those oftener that do something.
+PLAIN = ["unit", "zero", "echo", "count", "count", "relay", "relay", "flaky", "boom", "short", "notify"]
+BEFORE_DESTRUCTION = ["unit", "count", "flaky", "boom", "spin", "zero"]
+OF_CLASS = ["zero", "unit", "echo", "relay", "relay", "boom", "short"]
+DISPOSING = ["unit", "boom", "zero"]
+
+
+class Planner:
+    """Plans a deployment: the scope of each bean, and who declares which product."""
+
+    def __init__(self, chance):
+        self.chance = chance
+        self.names = [f"shop.T{number}" for number in range(chance.randint(2, 8))]
+        self.scopes = {name: chance.choice(SCOPES) for name in self.names}
+        # A product belongs to the next managed bean behind it.
+        self.products = {name for name in self.names[:-1] if self.maybe(0.3)}
+        self.never_ending = self.maybe(0.15)
+
+    def maybe(self, chance):
+        return self.chance.random() < chance
+
+    def owner(self, product):
+        behind = self.names[self.names.index(product) + 1 :]
+        return next(name for name in behind if name not in self.products)
+
+    def declarations(self):
+        """The types, and then the beans in any order."""
+        types = [{"kind": "type", "name": name} for name in self.names]
+        beans = [self.bean(name) for name in self.names if name not in self.products]
+        self.chance.shuffle(beans)
+        return types + beans
+
+    def bean(self, name):
+        points = self.points(name, "at", 3)
+        declaration = {"kind": "bean", "name": name, "scope": self.scopes[name], "points": points}
+        for place, chance, bodies in [
+            ("construct", 0.3, PLAIN),
+            ("post", 0.3, PLAIN),
+            ("pre", 0.4, BEFORE_DESTRUCTION),
+        ]:
+            if self.maybe(chance):
+                declaration[place] = self.part(points if place != "pre" else [], bodies)
+        declaration["methods"] = [{"name": method, **self.part(points, PLAIN)} for method in METHODS]
+        made = [product for product in sorted(self.products) if self.owner(product) == name]
+        declaration["producers"] = [self.producer(product, points) for product in made]
+        declaration["disposers"] = [
+            {"name": "drop_" + product[-2:], "type": product, "body": self.chance.choice(DISPOSING)}
+            for product in made
+            if self.maybe(0.5)
+        ]
+        return declaration
+
+    def producer(self, product, points):
+        params = self.points(product, "in", 2)
+        producer = {"name": "make_" + product[-2:], "type": product, "scope": self.scopes[product], "params": params}
+        if self.maybe(0.3):
+            return {**producer, "static": True, **self.part(params, OF_CLASS)}
+        return {**producer, **self.part(points + params, PLAIN)}
+
+    def points(self, name, word, most):
+        """Points that a bean may have: what is dependent stands behind it, and behind the bean that declares it."""
+        place = self.names.index(name)
+        first = self.names.index(self.owner(name)) if name in self.products else place
+        allowed = [
+            other
+            for other in self.names
+            if self.scopes[other] != "dependent" or self.names.index(other) > (place if word == "in" else first)
+        ]
+        chosen = [self.chance.choice(allowed) for _ in range(self.chance.randint(0, most))] if allowed else []
+        points = [{"name": f"{word}{number}", "type": other} for number, other in enumerate(chosen)]
+        for point in points:
+            if self.maybe(0.2):
+                point["qualifiers"] = [("Any", ())]
+        return points
+
+    def part(self, points, bodies):
+        body = "spin" if self.never_ending and bodies is PLAIN and self.maybe(0.1) else self.chance.choice(bodies)
+        sites = [
+            f"{point['name']}.{'value' if point['type'] in self.products else self.chance.choice(METHODS)}"
+            for point in points
+        ]
+        calls = [self.chance.choice(sites) for _ in range(self.chance.randint(0, 3))] if sites else []
+        return {"body": body, "calls": calls} if calls else {"body": body}
+
+    def faulty(self, declaration):
+        """The same declaration with something wrong."""
+        return {**declaration, "points": declaration["points"] + [{"name": "lost", "type": "shop.Nowhere"}]}
+
+
+class Commander:
+    """Random commands of a deployment, each with what the model answers."""
+
+    def __init__(self, chance, model, text_of_put):
+        self.chance = chance
+        self.model = model
+        self.planner = Planner(chance)
+        self.text_of_put = text_of_put
+
+    def put(self, declaration):
+        return self.text_of_put(declaration), self.model.put(declaration)
+
+    def script(self):
+        beans = self.planner.declarations()
+        steps = [self.put(declaration) for declaration in beans]
+        steps.append(("report\n", self.model.report()))
+        managed = [bean for bean in beans if bean["kind"] == "bean"]
+        for _ in range(self.chance.randint(10, 40)):
+            steps.append(self.command())
+            if self.chance.random() < 0.05:
+                steps.extend(self.edits(self.chance.choice(managed)))
+        return steps
+
+    def command(self):
+        runs, draw = self.model.runs, self.chance.random()
+        name, uses, words = self.asked()
+        if draw < 0.15:
+            return "request begin\n", runs.begin_request()
+        if draw < 0.22:
+            return "request end\n", runs.end_request()
+        if draw < 0.27:
+            return "stop\n", runs.stop()
+        if draw < 0.32:
+            return f"choose {name}{words}\n", self.model.choose(name, uses)
+        if draw < 0.55:
+            return f"lookup {name}{words}\n", runs.lookup(name, uses)
+        method = "value" if name in self.planner.products else self.chance.choice(METHODS)
+        if self.planner.maybe(0.05):
+            method = self.chance.choice(["value", "gone"])
+        argument = self.chance.choice([None, 0, 5, -7, 2**63 - 1])
+        word = "null" if argument is None else argument
+        return f"call {method} {word} {name}{words}\n", runs.call(method, argument, name, uses)
+
+    def asked(self):
+        """A type and qualifiers, most often those of one bean."""
+        name = self.chance.choice(self.planner.names)
+        draw = self.chance.random()
+        if draw < 0.04:
+            return "Object", [], ""
+        if draw < 0.06:
+            return "shop.Nowhere", [], ""
+        if draw < 0.08:
+            return name, [("Lost", ())], " Lost"
+        if draw < 0.1:
+            return name, [("Named", "nobody")], " Named(nobody)"
+        return (name, [("Any", ())], " Any") if draw < 0.2 else (name, [], "")
+
+    def edits(self, bean):
+        """A put of what is there, or of something wrong that is mended after a command or two."""
+        if self.planner.maybe(0.5):
+            return [self.put(bean)]
+        wrong = self.put(self.planner.faulty(bean))
+        return [wrong, *(self.command() for _ in range(self.chance.randint(0, 2))), self.put(bean)]
