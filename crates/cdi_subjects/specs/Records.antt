@@ -10,7 +10,6 @@ use Rattle.cdi_model.specs.declared.decl.PointDecl.{PointDecl}
 use Rattle.cdi_model.specs.declared.decl.ProducerDecl.{ProducerDecl}
 use Rattle.cdi_match.specs.Chain.{has}
 use Rattle.cdi_effective.specs.Disposers.{disposes}
-use Rattle.cdi_effective.specs.Records.{records_in}
 use Rattle.cdi_effective.specs.declared.records.Effective.{Effective}
 use Rattle.cdi_resolve.specs.declared.choice.Choice.{Choice}
 use Rattle.cdi_faults.specs.declared.fault.Subject.{Subject}

@@ -1,15 +1,11 @@
 -- The parts of a declaration that have a fault (CDI 4.0, Problems detected automatically by the container), for each code.
-use Rattle.std.specs.Prelude.{◌≡◌, ◌≢◌, AllPairs, Contains, ℕ, nat_eq, nat_lt, Bool, true, false, not, ◌||◌, List, [], ◌∷◌, ◌++◌}
+use Rattle.std.specs.Prelude.{ℕ, nat_lt, Bool, true, false, not, ◌||◌, List, [], ◌∷◌, ◌++◌}
 use Rattle.std.specs.Prelude.{map, filter, length, codes, Option, Some, None, is_some, option_map, unwrap_or, if◌then◌else◌}
-use Rattle.std.specs.List.{list_any, flat_map, starts_with}
-use Rattle.std.specs.List.Sorted.{IsStrictlySortedBy}
+use Rattle.std.specs.List.{list_any, flat_map}
 use Rattle.std.specs.Option.{option_to_list}
 use Rattle.std.specs.Str.{bytes_eq}
 use Rattle.cdi_bodies.specs.Book.{Promised}
-use Rattle.cdi_model.specs.Bytes.{byte_order, dot}
-use Rattle.cdi_model.specs.Decl.{kind_of, name_of_decl}
-use Rattle.cdi_model.specs.DeclList.{find_decl, AreDistinct}
-use Rattle.cdi_model.specs.Grammar.{is_name}
+use Rattle.cdi_model.specs.DeclList.{find_decl}
 use Rattle.cdi_model.specs.declared.decl.Attributes.{Attributes}
 use Rattle.cdi_model.specs.declared.decl.BeanDecl.{BeanDecl}
 use Rattle.cdi_model.specs.declared.decl.Decl.{Decl}
@@ -24,28 +20,21 @@ use Rattle.cdi_model.specs.declared.mention.TypePlace.TheVariants as places
 use Rattle.cdi_model.specs.Mentions.{Mention, TypeIn, UseOf, StereotypeOf, mentions, listed_types}
 use Rattle.cdi_match.specs.Chain.{has}
 use Rattle.cdi_match.specs.Misuse.{is_misused}
-use Rattle.cdi_match.specs.Order.{in_order}
 use Rattle.cdi_match.specs.Stereotypes.{inherits_itself}
 use Rattle.cdi_match.specs.Types.{extends_itself, object, types_of}
-use Rattle.cdi_effective.specs.Beans.{beans, entries, managed, product}
+use Rattle.cdi_effective.specs.Beans.{entries, managed, product}
 use Rattle.cdi_effective.specs.Disposers.{disposes}
 use Rattle.cdi_effective.specs.declared.records.BeanId.{BeanId}
 use Rattle.cdi_effective.specs.declared.records.Effective.{Effective}
-use Rattle.cdi_resolve.specs.Choices.{chosen_by_name}
 use Rattle.cdi_resolve.specs.declared.choice.Choice.{Choice}
 use Rattle.cdi_resolve.specs.declared.choice.Choice.TheVariants.{Unsatisfied, Ambiguous}
 use Rattle.cdi_observe.specs.Answers.{answer_to}
-use Rattle.cdi_faults.specs.Codes.{all_codes}
 use Rattle.cdi_faults.specs.declared.fault.Code.{Code}
 use Rattle.cdi_faults.specs.declared.fault.Code.TheVariants as codes_of
-use Rattle.cdi_faults.specs.declared.fault.Fault.{Fault}
-use Rattle.cdi_faults.specs.declared.fault.Fault.TheVariants as faults_are
 use Rattle.cdi_faults.specs.declared.fault.Subject.{Subject}
 use Rattle.cdi_faults.specs.declared.fault.Subject.TheVariants as subjects
 use Rattle.cdi_subjects.specs.declared.points.Verdict.{Verdict}
 use Rattle.cdi_subjects.specs.declared.points.Verdict.TheVariants as verdicts
-use Rattle.cdi_faults.specs.FaultText.{in_text_order, text_of_fault}
-use Rattle.cdi_subjects.specs.Circles.{circular}
 use Rattle.cdi_subjects.specs.Parts.{unfit_parts}
 use Rattle.cdi_subjects.specs.Sites.{lost_sites}
 
