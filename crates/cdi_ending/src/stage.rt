@@ -57,7 +57,12 @@ impl<'a, B: Bodies> Stage<'a, B> {
     }
 
     /// The same in the memory of a frame that has ended, where the run has one.
-    pub fn begin_frame(&self, run: &mut Run, part: &Part, arg: Val) -> Result<Box<Frame>, AllocError>
+    pub fn begin_frame(
+        &self,
+        run: &mut Run,
+        part: &Part,
+        arg: Val,
+    ) -> Result<Box<Frame>, AllocError>
         requires { IsSoundPart self.now.promises self.now.scene part.now }
         ensures shown { IfOk result (λ frame. frame.value ≡ first_shown arg (length part.now.calls) (length part.now.fires)) }
         ensures same { run.new ≡ run.old }

@@ -150,7 +150,12 @@ impl Run {
     }
 
     /// A frame that begins, before its first answer. It takes no memory where one is there that has ended.
-    pub fn begin_frame(&mut self, argument: Val, calls: u8, fires: u8) -> Result<Box<Frame>, AllocError>
+    pub fn begin_frame(
+        &mut self,
+        argument: Val,
+        calls: u8,
+        fires: u8,
+    ) -> Result<Box<Frame>, AllocError>
         ensures shown { IfOk result (λ frame. frame.value ≡ first_shown argument calls fires) }
         ensures same { self.new ≡ self.old }
     {
