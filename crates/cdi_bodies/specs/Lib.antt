@@ -1,3 +1,4 @@
 pub mod Flags
 pub mod Within
+pub mod Shown
 pub mod Book

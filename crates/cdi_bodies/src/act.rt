@@ -1,4 +1,6 @@
 //! What a body is shown, and what it answers.
+ghost use Rattle.std.specs.Prelude.{◌≡◌};
+
 use arrayvec::ArrayVec;
 use cdi_model::{Failure, Outcome, Val};
 
@@ -13,6 +15,32 @@ pub struct Frame {
     pub fires: u8,
     /// The answers to its acts in this frame so far, in order: at most 64 (profile).
     pub answers: ArrayVec<Outcome, 64>,
+}
+
+impl Frame {
+    ghost use Rattle.cdi_bodies.specs.Shown.{first_shown};
+
+    /// A frame that begins.
+    pub fn new(argument: Val, calls: u8, fires: u8) -> Frame
+        ensures { result ≡ first_shown argument calls fires }
+    {
+        Frame {
+            argument,
+            calls,
+            fires,
+            answers: ArrayVec::new(),
+        }
+    }
+
+    /// Begins again in the same place, as a new frame. It takes no memory, and time for the answers that were shown.
+    pub fn restart(&mut self, argument: Val, calls: u8, fires: u8)
+        ensures { self.new ≡ first_shown argument calls fires }
+    {
+        self.argument = argument;
+        self.calls = calls;
+        self.fires = fires;
+        self.answers.clear();
+    }
 }
 
 /// What a body answers: its next act, or how its frame ends.

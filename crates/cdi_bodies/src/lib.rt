@@ -6,9 +6,11 @@ mod body;
 mod book;
 mod book_error;
 mod promise;
+mod spare_frames;
 
 pub use act::{Act, Frame};
 pub use body::{Asks, Body};
 pub use book::{Bodies, Book};
 pub use book_error::{BookCause, BookError};
 pub use promise::Promise;
+pub use spare_frames::SpareFrames;

@@ -1,8 +1,10 @@
-//! Tests of stored bodies and of books, and of the texts of values and failures.
+//! Tests of stored bodies, of books and of frames, and of the texts of values and failures.
 #![tactic(auto)]
 
 #[cfg(test)]
 mod books;
+#[cfg(test)]
+mod frames;
 #[cfg(test)]
 mod stock;
 #[cfg(test)]

@@ -1,16 +1,18 @@
 //! What runs stand on: a scene, and the book that its bodies are in.
-ghost use Rattle.std.specs.Prelude.{◌≡◌, length};
+ghost use Rattle.std.specs.Prelude.{◌≡◌, IfOk, length};
+ghost use Rattle.cdi_bodies.specs.Shown.{first_shown};
 ghost use Rattle.cdi_scene.specs.Sound.{IsSound, IsSoundPart};
 ghost use Rattle.cdi_legal.specs.Acts.{PermitsIn};
 
-use arrayvec::ArrayVec;
 use cdi_bodies::{Act, Bodies, Frame};
+use cdi_legal::Run;
 use cdi_model::Val;
 use cdi_scene::{Part, Scene};
+use std::alloc::AllocError;
 use std::marker::Model;
 
 /// A scene with the book of its bodies, which is sound: what a deployment without faults gives its runs. It serves every run
-/// until the declarations change. No call of its own takes memory.
+/// until the declarations change. No call of its own takes memory, but where one begins a frame.
 #[derive(Drop)]
 pub struct Stage<'a, B: Bodies> {
     scene: &'a Scene,
@@ -46,20 +48,26 @@ impl<'a, B: Bodies> Stage<'a, B> {
         self.scene
     }
 
-    /// What a frame of a part shows before the first answer.
+    /// What a frame of a part shows before the first answer. It takes no memory.
     pub fn first_shown(&self, part: &Part, arg: Val) -> Frame
         requires { IsSoundPart self.now.promises self.now.scene part.now }
-        ensures argument { result.argument ≡ arg }
-        ensures calls { result.calls ≡ length part.now.calls }
-        ensures fires { result.fires ≡ length part.now.fires }
-        ensures answers { length result.answers.items ≡ 0 }
+        ensures { result ≡ first_shown arg (length part.now.calls) (length part.now.fires) }
     {
-        Frame {
-            argument: arg,
-            calls: part.calls.len() as u8,
-            fires: part.fires.len() as u8,
-            answers: ArrayVec::new(),
-        }
+        Frame::new(arg, part.calls.len() as u8, part.fires.len() as u8)
+    }
+
+    /// The same in the memory of a frame that has ended, where the run has one.
+    pub fn begin_frame(
+        &self,
+        run: &mut Run,
+        part: &Part,
+        arg: Val,
+    ) -> Result<Box<Frame>, AllocError>
+        requires { IsSoundPart self.now.promises self.now.scene part.now }
+        ensures shown { IfOk result (λ frame. frame.value ≡ first_shown arg (length part.now.calls) (length part.now.fires)) }
+        ensures same { run.new ≡ run.old }
+    {
+        run.begin_frame(arg, part.calls.len() as u8, part.fires.len() as u8)
     }
 
     /// What the part's body does next on this frame, which is one of the part: an act that it promises, with its site among

@@ -1,5 +1,6 @@
 //! A run under way. Each entry that is pushed does to the contexts what it says, so what stands follows from the trace.
 ghost use Rattle.std.specs.Prelude.{◌≡◌, ◌+◌, ◌<◌, ◌≤◌, ◌↔◌, false, IsTrue, None, IfSome, IsSome, IsOk, OnOk, OnErr, IfOk};
+ghost use Rattle.cdi_bodies.specs.Shown.{first_shown};
 ghost use Rattle.cdi_contexts.specs.Standing.{IsFull, IsLive, numbered, found, made_for, last_of, last_in, state_of};
 ghost use Rattle.cdi_contexts.specs.Standing.{begun, opened, closed, cleared};
 ghost use Rattle.cdi_contexts.specs.Rising.{IsOwnerOf, IsRising};
@@ -8,6 +9,7 @@ ghost use Rattle.cdi_legal.specs.Moment.{Moment, Track, put, ask_more, beginning
 ghost use Rattle.cdi_legal.specs.declared.entry.Entry.TheVariants.{Create};
 
 use crate::entry::Entry;
+use cdi_bodies::{Frame, SpareFrames};
 use cdi_contexts::{Actor, Contexts, Instance, InstanceId, Owner, RequestError};
 use cdi_model::{Scope, Val};
 use std::alloc::AllocError;
@@ -22,6 +24,8 @@ pub struct Run {
     contexts: Contexts,
     trace: Vec<Entry>,
     asked: u32,
+    /// Frames that have ended in this run and in runs before it.
+    spare: SpareFrames,
 }
 
 impl Model for Run {
@@ -44,10 +48,12 @@ impl Run {
     {
         let mut trace = trace;
         trace.clear();
+        let spare = SpareFrames::new(*trace.allocator());
         Run {
             contexts,
             trace,
             asked: 0,
+            spare,
         }
     }
 
@@ -141,6 +147,26 @@ impl Run {
         ensures { self.new.moment ≡ ask_more self.old.moment }
     {
         self.asked += 1;
+    }
+
+    /// A frame that begins, before its first answer. It takes no memory where one is there that has ended.
+    pub fn begin_frame(
+        &mut self,
+        argument: Val,
+        calls: u8,
+        fires: u8,
+    ) -> Result<Box<Frame>, AllocError>
+        ensures shown { IfOk result (λ frame. frame.value ≡ first_shown argument calls fires) }
+        ensures same { self.new ≡ self.old }
+    {
+        self.spare.begin(argument, calls, fires)
+    }
+
+    /// The frame has ended: one that begins later takes its memory.
+    pub fn end_frame(&mut self, frame: Box<Frame>)
+        ensures { self.new ≡ self.old }
+    {
+        self.spare.end(frame);
     }
 
     /// Whether a request is active.

@@ -115,27 +115,29 @@ impl<'a, B: Bodies> Player<'a, B> {
             Leads self.now.stage levels (asks seat held.now passed.link 0 false) run.old (answered_is answer) run.new) }
     {
         let part = self.part_at(seat);
-        let mut shown = self.stage.first_shown(part, passed.arg);
+        let mut shown = self.stage.begin_frame(run, part, passed.arg)?;
         let mut has_returned = false;
-        'asking: loop {
+        let given = 'asking: loop {
             if !run.may_ask() {
-                return Ok(failed(Failure::Budget, has_returned));
+                break failed(Failure::Budget, has_returned);
             }
             run.count_asking();
             let act = self.stage.ask(part, &shown);
             if let Some(outcome) = ending(act) {
-                return Ok(Answered {
+                break Answered {
                     outcome,
                     has_returned,
-                });
+                };
             }
             if shown.answers.len() == 64 {
-                return Ok(failed(Failure::Steps, has_returned));
+                break failed(Failure::Steps, has_returned);
             }
-            let given = self.act_on(run, levels, seat, held, passed.link, act)?;
-            shown.answers.push(given.outcome);
-            has_returned = or(has_returned, given.has_returned);
-        }
+            let done = self.act_on(run, levels, seat, held, passed.link, act)?;
+            shown.answers.push(done.outcome);
+            has_returned = or(has_returned, done.has_returned);
+        };
+        run.end_frame(shown);
+        Ok(given)
     }
 
     /// Does an act that does not end its frame.

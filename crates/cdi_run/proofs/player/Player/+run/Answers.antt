@@ -10,6 +10,7 @@ use Rattle.cdi_legal.proofs.Growing.{legal_grows}
 use Rattle.cdi_ending.proofs.Before.{some_of}
 use Rattle.cdi_run.specs.Known.{IsPlaced}
 use Rattle.cdi_run.proofs.Beans.{form_of, never, some_bean, begun_grows, with_outcome, with_both}
+use Rattle.cdi_run.proofs.player.Player.+run.Goals.{ask_on-then-not-may_ask, ask_on-else-not-may_ask+in-Some, ask_on-else-not-may_ask+in_default+then-len-eq64}
 use Rattle.cdi_run.proofs.player.Player.+run.Goals as goal
 
 pub act_on-returns-in_ok-note-in-Call-2 : goal.act_on-returns-in_ok-note-in-Call-2
@@ -28,28 +29,28 @@ pub act_on-returns-in_ok-outcome-in_default : goal.act_on-returns-in_ok-outcome-
 act_on-returns-in_ok-outcome-in_default g t c =
     rw c.unreturned-in_default.ensures (Legal.touched _ _ _ _ _ _ _ _ _ c.in-Some.is c.in_ok-outcome-in_default.ensures.legal)
 
-pub ask_on-returns-then-not-may_ask : goal.ask_on-returns-then-not-may_ask
-ask_on-returns-then-not-may_ask g t c =
-    let none : 20000 ≤ c.asking.run.moment.asked = grind (arith, c.may_ask.ensures) in
-    rw c.failed.ensures (c.asking.invariant.rest _ _ (Legal.out_of_budget _ _ _ _ _ _ _ none))
-
-pub ask_on-returns-in-Some : goal.ask_on-returns-in-Some
-ask_on-returns-in-Some g t c =
-    let some : c.asking.run.moment.asked < 20000 = grind (arith, c.may_ask.ensures) in
-    let permits : Permits c.args.self.now.stage.scene c.args.seat c.ask-act.result =
-    record { part = c.part_at-part.result.now; runs = c.part_at-part.ensures.runs; permitted = c.ask-act.ensures } in
-    let q : ending c.ask-act.result ≡ Some c.in-Some.outcome = grind arith in
-    c.asking.invariant.rest _ _ (Legal.ended _ _ _ _ _ _ _ _ _ _ some c.count_asking.ensures permits q)
-
-pub ask_on-returns-then-len-eq64 : goal.ask_on-returns-then-len-eq64
-ask_on-returns-then-len-eq64 g t c =
-    let some : c.asking.run.moment.asked < 20000 = grind (arith, c.may_ask.ensures) in
-    let permits : Permits c.args.self.now.stage.scene c.args.seat c.ask-act.result =
-    record { part = c.part_at-part.result.now; runs = c.part_at-part.ensures.runs; permitted = c.ask-act.ensures } in
-    let q : ending c.ask-act.result ≡ None = grind arith in
-    let full : length c.asking.shown.answers.items ≡ 64 = grind (arith, common_steps) in
-    rw c.failed-then-len-eq64.ensures
-    (c.asking.invariant.rest _ _ (rw full (Legal.stopped _ _ _ _ _ _ _ _ some c.count_asking.ensures permits q)))
+pub ask_on-returns : goal.ask_on-returns
+ask_on-returns g t c =
+    rw c.end_frame.ensures
+    (elim c.if-not-may_ask.branch [
+      | ask_on-then-not-may_ask w ↦
+          let none : 20000 ≤ c.asking.run.moment.asked = omega (arith, never _ _ c.may_ask.ensures w.if-not-may_ask.true) in
+          rw (w.run-is, w.given-is, w.failed-given.ensures) (c.asking.invariant.rest _ _ (Legal.out_of_budget _ _ _ _ _ _ _ none))
+      | ask_on-else-not-may_ask+in-Some w ↦
+          let some : c.asking.run.moment.asked < 20000 = c.may_ask.ensures.0 w.if-not-may_ask.false in
+          let permits : Permits c.args.self.now.stage.scene c.args.seat w.ask-act.result =
+          record { part = c.part_at-part.result.now; runs = c.part_at-part.ensures.runs; permitted = w.ask-act.ensures } in
+          let q : ending w.ask-act.result ≡ Some w.in-Some.outcome = grind arith in
+          rw (w.run-is, w.given-is) (c.asking.invariant.rest _ _ (Legal.ended _ _ _ _ _ _ _ _ _ _ some w.count_asking.ensures permits q))
+      | ask_on-else-not-may_ask+in_default+then-len-eq64 w ↦
+          let some : c.asking.run.moment.asked < 20000 = c.may_ask.ensures.0 w.if-not-may_ask.false in
+          let permits : Permits c.args.self.now.stage.scene c.args.seat w.ask-act.result =
+          record { part = c.part_at-part.result.now; runs = c.part_at-part.ensures.runs; permitted = w.ask-act.ensures } in
+          let q : ending w.ask-act.result ≡ None = grind arith in
+          let full : length c.asking.shown.value.answers.items ≡ 64 = grind (arith, common_steps) in
+          rw (w.run-is, w.given-is, w.failed-given-then-len-eq64.ensures)
+          (c.asking.invariant.rest _ _ (rw full (Legal.stopped _ _ _ _ _ _ _ _ some w.count_asking.ensures permits q)))
+    ])
 
 pub ask_on-asking-preserved : goal.ask_on-asking-preserved
 ask_on-asking-preserved g t c =
@@ -57,15 +58,16 @@ ask_on-asking-preserved g t c =
     let permits : Permits c.args.self.now.stage.scene c.args.seat c.ask-act.result =
     record { part = c.part_at-part.result.now; runs = c.part_at-part.ensures.runs; permitted = c.ask-act.ensures } in
     let i = c.asking.invariant in
-    let more : length c.push.new.self.items ≡ length c.asking.shown.answers.items + 1 = grind (arith, common_steps) in
-    let room : length c.asking.shown.answers.items < 64 = grind (arith, common_steps) in
+    let lent = c.deref_mut.ensures.value in
+    let more : length c.push.new.self.items ≡ length c.asking.shown.value.answers.items + 1 = grind (arith, common_steps) in
+    let room : length c.asking.shown.value.answers.items < 64 = grind (arith, common_steps) in
     record {
-      calls = i.calls;
-      fires = i.fires;
+      calls = rw lent i.calls;
+      fires = rw lent i.fires;
       few = omega arith;
       rest = λ a m e.
           i.rest a m
-          (Legal.went_on _ _ _ _ _ _ _ _ _ _ _ _ _ _ some c.count_asking.ensures permits room c.in_ok-given.ensures
+          (Legal.went_on _ _ _ _ _ _ _ _ _ _ _ _ _ _ some c.count_asking.ensures permits room c.in_ok-done.ensures
           (rw (more, c.or-has_returned.ensures) at e));
     }
 

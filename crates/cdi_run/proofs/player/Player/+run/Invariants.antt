@@ -93,14 +93,14 @@ invariant-notify_each-loop-position g l =
 
 abbrev pub invariant-ask_on-asking : goal.invariant-ask_on-asking
 invariant-ask_on-asking g l = record {
-  calls : l.shown.calls ≡ length l.part.calls;
-  fires : l.shown.fires ≡ length l.part.fires;
-  few : length l.shown.answers.items ≤ 64;
+  calls : l.shown.value.calls ≡ length l.part.calls;
+  fires : l.shown.value.fires ≡ length l.part.fires;
+  few : length l.shown.value.answers.items ≤ 64;
   rest : (a : Answer) (m : Moment)
-      → Legal l.self.stage.scene l.levels (asks l.seat l.held l.passed.link (length l.shown.answers.items) l.has_returned)
+      → Legal l.self.stage.scene l.levels (asks l.seat l.held l.passed.link (length l.shown.value.answers.items) l.has_returned)
       l.run.moment a m
       → Legal l.self.stage.scene l.levels (asks l.seat l.held l.passed.link 0 false) l.fn.run.moment a m;
 }
 
 abbrev pub decreases-ask_on-asking : goal.decreases-ask_on-asking
-decreases-ask_on-asking g l = 64 - length l.shown.answers.items
+decreases-ask_on-asking g l = 64 - length l.shown.value.answers.items
