@@ -54,7 +54,7 @@ all_reversed P (x ∷ xs) a =
     subst (AllByRecursion P) (sym (reverse-append (x ∷ []) xs)) (all_end P (reverse xs) x (all_reversed P xs a.1) a.0)
 
 -- it is one of which P holds, with such an owner
-abbrev IsSuch : (Instance → Type 0) → (Owner → Bool) → InstanceId → Type 0
+abbrev pub IsSuch : (Instance → Type 0) → (Owner → Bool) → InstanceId → Type 0
 IsSuch P f d = (i : Instance) × P i × (f i.owner ≡ true) × (i.id ≡ d)
 
 such_first : (P : Instance → Type 0) (f : Owner → Bool) (d : InstanceId) (i : Instance) (b : Bool) (o : Option Instance)
@@ -69,10 +69,15 @@ such_found P f d [] a e = cc
 such_found P f d (x ∷ xs) a e =
     such_first P f d x (f x.owner) (find (λ i. f i.owner) xs) refl a.0 (such_found P f d xs a.1) e
 
+-- what holds of each live instance holds of the youngest with such an owner
+pub last_of_all : (P : Instance → Type 0) (f : Owner → Bool) (live : List Instance) (d : InstanceId) → AllByRecursion P live
+    → last_where f live ≡ Some d → IsSuch P f d
+last_of_all P f live d a e = such_found P f d (reverse live) (all_reversed P live a) e
+
 last_such : (f : Owner → Bool) (given : ℕ) (live : List Instance) (d : InstanceId) → IsRising given live
     → last_where f live ≡ Some d → IsSuch (Stands given live) f d
 last_such f given live d r e =
-    such_found (Stands given live) f d (reverse live) (all_reversed (Stands given live) live (all_stand 0 given live r)) e
+    last_of_all (Stands given live) f live d (all_stand 0 given live r) e
 
 -- ---- the youngest dependent, and the youngest in a context
 

@@ -135,7 +135,6 @@ legal_along law (Legal.called_managed _ _ _ _ _ _ _ _ m m₁ m' p0 _ p2) =
 legal_along law (Legal.called_product _ _ _ _ _ _ _ _ _ p0 _ _) = legal_along law p0
 legal_along law (Legal.reached_shared _ _ _ _ _ _ _ _ _ _ p2) = legal_along law p2
 legal_along law (Legal.reached_own _ _ _ _ _ _ m _ _ _) = law.keeps.none m
-legal_along law (Legal.unmade _ _ _ _ _ m _ _ _) = law.keeps.none m
 legal_along law (Legal.all_notified _ _ _ _ m _) = law.keeps.none m
 legal_along law (Legal.notified _ _ _ _ _ _ _ m m₁ m' _ p1 p2) = law.keeps.then m m₁ m' (legal_along law p1) (legal_along law p2)
 legal_along law (Legal.notification_failed _ _ _ _ _ _ _ _ _ p1) = legal_along law p1

@@ -8,13 +8,16 @@ use Rattle.cdi_contexts.specs.declared.instance.Instance.{Instance}
 use Rattle.cdi_scene.specs.declared.scene.Scene.{Scene}
 use Rattle.cdi_legal.specs.Ends.{Ends, context}
 use Rattle.cdi_legal.specs.Follows.{Follows, after}
-use Rattle.cdi_legal.specs.Laws.{CommandsKeepSingle, CommandsRaiseGiven, EmptyEnds}
+use Rattle.cdi_contexts.specs.Rising.{IsRising}
+use Rattle.cdi_legal.specs.Furnished.{IsFurnished}
+use Rattle.cdi_legal.specs.Laws.{CommandsKeepFurnished, CommandsKeepSingle, CommandsRaiseGiven, EmptyEnds}
 use Rattle.cdi_legal.specs.LegalRun.{Command, LegalRun, LegalRequestEnd, LegalEnd}
 use Rattle.cdi_legal.specs.Moment.{Moment, beginning}
 use Rattle.cdi_legal.specs.Single.{IsSingle}
 use Rattle.cdi_legal.specs.declared.entry.Entry.{Entry}
 use Rattle.cdi_legal.proofs.Following.{ends_follow, runs_follow, then}
 use Rattle.cdi_legal.proofs.Growing.{ends_grow, runs_grow}
+use Rattle.cdi_legal.proofs.Settling.{Settled, context_settled, runs_settled, sound_apart}
 use Rattle.cdi_legal.proofs.Sharing.{by_ends, runs_single}
 
 -- ---- at most one instance of each bean with a normal scope
@@ -104,4 +107,25 @@ empty_ends = record {
     pushed = refl;
     leaves = refl;
   };
+}
+
+-- ---- dependent objects
+
+settled_of : (s : Scene) (b : Standing) (m : Moment) (x : Standing) → x ≡ b → b.given ≡ m.standing.given → b.live ≡ m.standing.live
+    → Settled s m → IsRising x.given x.live × IsFurnished s x.live
+settled_of s b m x e given live h =
+    subst (λ (y : Standing). IsRising y.given y.live × IsFurnished s y.live) (sym e)
+    (rw (given, live) (h.rises, h.furnished))
+
+pub commands_keep_furnished : CommandsKeepFurnished
+commands_keep_furnished = record {
+  run = λ s c a t o b l book sound r f.
+      settled_of s l.end.standing l.end b l.leaves refl refl
+      (runs_settled (sound_apart book s sound) l.runs (record { rises = r; furnished = f }));
+  request_end = λ s a t b l book sound r f.
+      settled_of s (closed l.end.standing) l.end b l.leaves refl refl
+      (context_settled l.ends (record { rises = r; furnished = f }));
+  end = λ s a t b l book sound r f.
+      settled_of s (closed l.end.standing) l.end b l.leaves refl refl
+      (context_settled l.then (context_settled l.first (record { rises = r; furnished = f })));
 }

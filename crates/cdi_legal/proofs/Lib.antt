@@ -3,4 +3,9 @@ pub mod Following
 pub mod Growing
 pub mod Sharing
 pub mod Keeping
+pub mod Furnishing
 pub mod Commands
+pub mod Injecting
+pub mod Settling
+pub mod Reaching
+pub mod Supplying

@@ -307,7 +307,6 @@ legal_single {s} (Legal.called_managed _ _ _ _ _ _ _ _ _ _ _ p0 _ p2) _ q = lega
 legal_single {s} (Legal.called_product _ _ _ _ _ _ _ _ _ p0 _ _) _ q = legal_single p0 tt q
 legal_single {s} (Legal.reached_shared _ _ _ _ _ _ _ _ _ _ p2) _ q = legal_single p2 tt q
 legal_single {s} (Legal.reached_own _ _ _ _ _ _ _ _ _ _) _ q = q
-legal_single {s} (Legal.unmade _ _ _ _ _ _ _ _ _) _ q = q
 legal_single {s} (Legal.all_notified _ _ _ _ _ _) _ q = q
 legal_single {s} (Legal.notified _ _ _ _ _ _ _ _ _ _ _ p1 p2) _ q = legal_single p2 tt (legal_single p1 tt q)
 legal_single {s} (Legal.notification_failed _ _ _ _ _ _ _ _ _ p1) _ q = legal_single p1 tt q

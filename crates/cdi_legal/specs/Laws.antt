@@ -2,7 +2,10 @@
 use Rattle.std.specs.Prelude.{◌≡◌, ◌≤◌, List, []}
 use Rattle.cdi_model.specs.declared.outcome.Outcome.{Outcome}
 use Rattle.cdi_contexts.specs.Standing.{Standing, closed}
+use Rattle.cdi_contexts.specs.Rising.{IsRising}
+use Rattle.cdi_scene.specs.Sound.{Bodies, IsSound}
 use Rattle.cdi_scene.specs.declared.scene.Scene.{Scene}
+use Rattle.cdi_legal.specs.Furnished.{IsFurnished}
 use Rattle.cdi_legal.specs.LegalRun.{Command, LegalRun, LegalRequestEnd, LegalEnd}
 use Rattle.cdi_legal.specs.Single.{IsSingle}
 use Rattle.cdi_legal.specs.declared.entry.Entry.{Entry}
@@ -34,3 +37,12 @@ CommandsRaiseGiven = IsKeptByCommands RaisesGiven
 pub record EmptyEnds : Type 0 where
   pub request_end : (s : Scene) (before : Standing) → before.live ≡ [] → LegalRequestEnd s before [] (closed before)
   pub end : (s : Scene) (before : Standing) → before.live ≡ [] → LegalEnd s before [] (closed before)
+
+-- where numbers rise and each ready instance has its dependent objects before, this is so after, in a sound scene
+abbrev pub KeepsFurnished : Scene → Standing → Standing → Type 0
+KeepsFurnished s before after =
+    (book : Bodies) → IsSound book s → IsRising before.given before.live → IsFurnished s before.live
+    → IsRising after.given after.live × IsFurnished s after.live
+
+abbrev pub CommandsKeepFurnished : Type 0
+CommandsKeepFurnished = IsKeptByCommands KeepsFurnished

@@ -376,11 +376,6 @@ pub data Legal (s : Scene) : ℕ → Node → Moment → Answer → Moment → T
       → bean_at s c.bean ≡ Some x → is_normal x.scope ≡ false
       → dependent_of m.standing.live seat h c.via ≡ Some n
       → Legal s k (reach seat h c) m (made_is (Obtained n)) m
-  -- no run of a deployment without faults comes here: what a call site names was made before its frame began
-  unmade : (k : ℕ) (seat : Seat) (h : Held) (c : CallSite) (x : Bean) (m : Moment)
-      → bean_at s c.bean ≡ Some x → is_normal x.scope ≡ false
-      → dependent_of m.standing.live seat h c.via ≡ None
-      → Legal s k (reach seat h c) m (made_is (Refused failures.Creating)) m
   -- ---- events (CDI 4.0, Observer notification; Observer ordering)
   all_notified : (k p : ℕ) (os : List Notified) (arg : Val) (m : Moment)
       → length os ≤ p

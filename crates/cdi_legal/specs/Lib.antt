@@ -9,3 +9,4 @@ pub mod Room
 pub mod Single
 pub mod Keeps
 pub mod Laws
+pub mod Furnished

@@ -4,7 +4,7 @@ ghost use Rattle.cdi_bodies.specs.Shown.{first_shown};
 ghost use Rattle.cdi_contexts.specs.Standing.{IsFull, IsLive, numbered, found, made_for, last_of, last_in, state_of};
 ghost use Rattle.cdi_contexts.specs.Standing.{begun, opened, closed, cleared};
 ghost use Rattle.cdi_contexts.specs.Rising.{IsOwnerOf, IsRising};
-ghost use Rattle.cdi_legal.specs.Laws.{CommandsKeepSingle, CommandsRaiseGiven, EmptyEnds};
+ghost use Rattle.cdi_legal.specs.Laws.{CommandsKeepFurnished, CommandsKeepSingle, CommandsRaiseGiven, EmptyEnds};
 ghost use Rattle.cdi_legal.specs.Moment.{Moment, Track, put, ask_more, beginning, is_create};
 ghost use Rattle.cdi_legal.specs.declared.entry.Entry.TheVariants.{Create};
 
@@ -244,6 +244,7 @@ impl Run {
         ensures trace { result.1.items ≡ self.moment.trace }
         ensures single { CommandsKeepSingle }
         ensures given { CommandsRaiseGiven }
+        ensures furnished { CommandsKeepFurnished }
         ensures empty { EmptyEnds }
     {
         (self.contexts, self.trace)

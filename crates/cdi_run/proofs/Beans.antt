@@ -104,7 +104,7 @@ pub sound_seat : (x : Staged) (seat : Seat) (part : Part) → IsSoundAt x.promis
     → RunsAt x seat part
 sound_seat x seat part a h =
     let e : a.body ≡ part = cc in
-    record { runs = h; sound = rw e at a.sound; own = rw e at a.own; seated = rw e at a.seated }
+    record { runs = h; sound = rw e at a.sound; own = rw e at a.own; seated = rw e at a.seated; leads = rw e at a.leads }
 
 pub making_seat : (x : Staged) (seat : Seat) (act : Act) (part : Part) → MayMake x seat act → part_at x.scene seat ≡ Some part
     → RunsAt x seat part × PermitsIn part act

@@ -2,11 +2,14 @@
 //! cycle that `making` tells of.
 ghost use Rattle.std.specs.Prelude.{◌≡◌, [], IfOk, IsSome, None, false};
 ghost use Rattle.cdi_bodies.specs.declared.act.Act.TheVariants.{Proceed};
+ghost use Rattle.cdi_contexts.specs.declared.instance.Actor.TheVariants.{Target};
 ghost use Rattle.cdi_scene.specs.Scene.{invocable_at};
-ghost use Rattle.cdi_scene.specs.Sound.{IsSoundAt, IsSoundSite};
+ghost use Rattle.cdi_scene.specs.Sound.{IsSoundAt, IsSoundSite, IsNamed};
 ghost use Rattle.cdi_legal.specs.Acts.{ending};
+ghost use Rattle.cdi_legal.specs.Ends.{seat_on};
+ghost use Rattle.cdi_legal.specs.Furnished.{IsServed};
 ghost use Rattle.cdi_legal.specs.Legal.{invoke, frame, asks, does, call, reach, made_is, outcome_is, answered_is};
-ghost use Rattle.cdi_run.specs.Known.{Leads, MayMake, IsPlaced};
+ghost use Rattle.cdi_run.specs.Known.{Leads, MayMake, IsPlaced, IsSettled};
 
 use crate::player::Player;
 use crate::words::{
@@ -40,6 +43,8 @@ impl<'a, B: Bodies> Player<'a, B> {
         passed: Passed,
     ) -> Result<Answered, AllocError>
         requires there { IsSome (invocable_at self.now.stage.scene id.bean place) }
+        requires settled { IsSettled self.now.stage run.old.moment }
+        requires served { IsServed self.now.stage.scene run.old.moment.standing.live (seat_on id Target place) held.now }
         ensures { IfOk result (λ answer.
             Leads self.now.stage levels (invoke id place held.now passed.arg passed.link) run.old (answered_is answer) run.new) }
     {
@@ -79,6 +84,8 @@ impl<'a, B: Bodies> Player<'a, B> {
     ) -> Result<Answered, AllocError>
         requires runs { IsSoundAt self.now.stage.promises self.now.stage.scene seat }
         requires placed { IsPlaced self.now.stage.scene seat }
+        requires settled { IsSettled self.now.stage run.old.moment }
+        requires served { IsServed self.now.stage.scene run.old.moment.standing.live seat held.now }
         ensures { IfOk result (λ answer.
             Leads self.now.stage levels (frame seat held.now passed.arg passed.link) run.old (answered_is answer) run.new) }
     {
@@ -111,6 +118,8 @@ impl<'a, B: Bodies> Player<'a, B> {
     ) -> Result<Answered, AllocError>
         requires runs { IsSoundAt self.now.stage.promises self.now.stage.scene seat }
         requires placed { IsPlaced self.now.stage.scene seat }
+        requires settled { IsSettled self.now.stage run.old.moment }
+        requires served { IsServed self.now.stage.scene run.old.moment.standing.live seat held.now }
         ensures { IfOk result (λ answer.
             Leads self.now.stage levels (asks seat held.now passed.link 0 false) run.old (answered_is answer) run.new) }
     {
@@ -154,6 +163,8 @@ impl<'a, B: Bodies> Player<'a, B> {
         requires may { MayMake self.now.stage seat act }
         requires placed { IsPlaced self.now.stage.scene seat }
         requires goes_on { ending act ≡ None }
+        requires settled { IsSettled self.now.stage run.old.moment }
+        requires served { IsServed self.now.stage.scene run.old.moment.standing.live seat held.now }
         ensures { IfOk result (λ answer.
             Leads self.now.stage levels (does seat held.now link act) run.old (answered_is answer) run.new) }
     {
@@ -194,6 +205,8 @@ impl<'a, B: Bodies> Player<'a, B> {
     ) -> Result<Answered, AllocError>
         requires may { MayMake self.now.stage seat (Proceed passed.arg) }
         requires placed { IsPlaced self.now.stage.scene seat }
+        requires settled { IsSettled self.now.stage run.old.moment }
+        requires served { IsServed self.now.stage.scene run.old.moment.standing.live seat held.now }
         ensures { IfOk result (λ answer.
             Leads self.now.stage levels (does seat held.now passed.link (Proceed passed.arg)) run.old
             (answered_is answer) run.new) }
@@ -225,6 +238,9 @@ impl<'a, B: Bodies> Player<'a, B> {
         arg: Val,
     ) -> Result<Outcome, AllocError>
         requires site { IsSoundSite self.now.stage.scene site }
+        requires settled { IsSettled self.now.stage run.old.moment }
+        requires served { IsServed self.now.stage.scene run.old.moment.standing.live seat held.now }
+        requires named { IsNamed self.now.stage.scene seat site.via site.bean }
         ensures { IfOk result (λ answer.
             Leads self.now.stage levels (call seat held.now site arg) run.old (outcome_is answer) run.new) }
     {
@@ -256,6 +272,9 @@ impl<'a, B: Bodies> Player<'a, B> {
         site: CallSite,
     ) -> Result<Made, AllocError>
         requires site { IsSoundSite self.now.stage.scene site }
+        requires settled { IsSettled self.now.stage run.old.moment }
+        requires served { IsServed self.now.stage.scene run.old.moment.standing.live seat held.now }
+        requires named { IsNamed self.now.stage.scene seat site.via site.bean }
         ensures { IfOk result (λ answer. Leads self.now.stage levels (reach seat held.now site) run.old (made_is answer) run.new) }
     {
         if is_normal(self.scope_of(site.bean)) {
@@ -264,7 +283,7 @@ impl<'a, B: Bodies> Player<'a, B> {
         }
         match dependent_of(run, seat, held, site.via) {
             Some(number) => Ok(Made::Instance(number)),
-            None => Ok(Made::Refused(Failure::Creating)),
+            None => unreachable!(),
         }
     }
 }

@@ -8,7 +8,7 @@ ghost use Rattle.cdi_scene.specs.Scene.{bean_at};
 ghost use Rattle.cdi_scene.specs.Sound.{AreBeans};
 ghost use Rattle.cdi_legal.specs.Legal.{obtain, create, setup, inject, supply, produce};
 ghost use Rattle.cdi_legal.specs.Legal.{made_is, outcome_is, failure_is, held_is};
-ghost use Rattle.cdi_run.specs.Known.{Leads, IsManaged, IsProduct, AreTargets, IsOfScope, IsHosted, IsBegun};
+ghost use Rattle.cdi_run.specs.Known.{Leads, IsManaged, IsProduct, AreTargets, IsOfScope, IsHosted, HostHas, IsBegun, IsSettled};
 
 use crate::invoking::Passed;
 use crate::player::Player;
@@ -35,6 +35,7 @@ impl<'a, B: Bodies> Player<'a, B> {
     #[cycle(run)]
     pub(crate) fn obtain(&self, run: &mut Run, levels: u32, bean: usize) -> Result<Made, AllocError>
         requires there { IsSome (bean_at self.now.stage.scene bean) }
+        requires settled { IsSettled self.now.stage run.old.moment }
         ensures { IfOk result (λ answer. Leads self.now.stage levels (obtain bean) run.old (made_is answer) run.new) }
     {
         let scope = self.scope_of(bean);
@@ -67,6 +68,7 @@ impl<'a, B: Bodies> Player<'a, B> {
     ) -> Result<Made, AllocError>
         requires there { IsSome (bean_at self.now.stage.scene bean) }
         requires owned { IsOwnerOf (run.old.moment.standing.given + 1) owner }
+        requires settled { IsSettled self.now.stage run.old.moment }
         ensures { IfOk result (λ answer. Leads self.now.stage levels (create bean owner) run.old (made_is answer) run.new) }
     {
         if levels == 0 {
@@ -93,7 +95,8 @@ impl<'a, B: Bodies> Player<'a, B> {
     #[cycle(run)]
     fn setup(&self, run: &mut Run, levels: u32, id: InstanceId) -> Result<Outcome, AllocError>
         requires there { IsSome (bean_at self.now.stage.scene id.bean) }
-        requires begun { id.number ≤ run.old.moment.standing.given }
+        requires newest { id.number ≡ run.old.moment.standing.given }
+        requires settled { IsSettled self.now.stage run.old.moment }
         ensures { IfOk result (λ answer. Leads self.now.stage levels (setup id) run.old (outcome_is answer) run.new) }
     {
         if let Some(managed) = self.managed(id.bean) {
@@ -117,7 +120,8 @@ impl<'a, B: Bodies> Player<'a, B> {
         managed: &Managed,
     ) -> Result<Outcome, AllocError>
         requires managed { IsManaged self.now.stage id.bean managed.now }
-        requires begun { id.number ≤ run.old.moment.standing.given }
+        requires newest { id.number ≡ run.old.moment.standing.given }
+        requires settled { IsSettled self.now.stage run.old.moment }
         ensures { IfOk result (λ answer. Leads self.now.stage levels (setup id) run.old (outcome_is answer) run.new) }
     {
         let injections = managed.injections.as_slice();
@@ -150,6 +154,7 @@ impl<'a, B: Bodies> Player<'a, B> {
     ) -> Result<Outcome, AllocError>
         requires product { IsProduct self.now.stage id.bean product.now }
         requires begun { id.number ≤ run.old.moment.standing.given }
+        requires settled { IsSettled self.now.stage run.old.moment }
         ensures { IfOk result (λ answer. Leads self.now.stage levels (setup id) run.old (outcome_is answer) run.new) }
     {
         if product.is_static {
@@ -177,6 +182,7 @@ impl<'a, B: Bodies> Player<'a, B> {
         requires begun { id.number ≤ run.old.moment.standing.given }
         requires own { product.now.is_static ≡ false }
         requires normal { IsOfScope self.now.stage.scene product.now.declaring true }
+        requires settled { IsSettled self.now.stage run.old.moment }
         ensures { IfOk result (λ answer. Leads self.now.stage levels (setup id) run.old (outcome_is answer) run.new) }
     {
         match self.obtain(run, levels, product.declaring)? {
@@ -205,6 +211,7 @@ impl<'a, B: Bodies> Player<'a, B> {
         requires begun { id.number ≤ run.old.moment.standing.given }
         requires own { product.now.is_static ≡ false }
         requires dependent { IsOfScope self.now.stage.scene product.now.declaring false }
+        requires settled { IsSettled self.now.stage run.old.moment }
         ensures { IfOk result (λ answer. Leads self.now.stage levels (setup id) run.old (outcome_is answer) run.new) }
     {
         match self.create(run, levels, product.declaring, Owner::Nobody)? {
@@ -234,6 +241,8 @@ impl<'a, B: Bodies> Player<'a, B> {
         requires product { IsProduct self.now.stage id.bean product.now }
         requires begun { id.number ≤ run.old.moment.standing.given }
         requires hosted { IsHosted product.now host }
+        requires settled { IsSettled self.now.stage run.old.moment }
+        requires has { HostHas self.now.stage.scene run.old.moment.standing.live product.now host }
         ensures { IfOk result (λ answer.
             Leads self.now.stage levels (produce id product.now host) run.old (outcome_is answer) run.new) }
     {
@@ -274,6 +283,7 @@ impl<'a, B: Bodies> Player<'a, B> {
     ) -> Result<Option<Failure>, AllocError>
         requires beans { AreTargets self.now.stage.scene injections.now }
         requires begun { id.number ≤ run.old.moment.standing.given }
+        requires settled { IsSettled self.now.stage run.old.moment }
         ensures { IfOk result (λ answer.
             Leads self.now.stage levels (inject id injections.now 0) run.old (failure_is answer) run.new) }
     {
@@ -307,6 +317,7 @@ impl<'a, B: Bodies> Player<'a, B> {
         requires beans { AreBeans self.now.stage.scene params.now }
         requires few { length params.now ≤ 32 }
         requires begun { IsBegun run.old.moment.standing.given product }
+        requires settled { IsSettled self.now.stage run.old.moment }
         ensures { IfOk result (λ answer.
             Leads self.now.stage levels (supply product params.now 0 []) run.old (held_is answer.held.items answer.failure) run.new) }
     {

@@ -1,8 +1,9 @@
 //! Events (CDI 4.0, Observer notification; Observer ordering), of the cycle that `making` tells of.
 ghost use Rattle.std.specs.Prelude.{IfOk, true, false};
 ghost use Rattle.cdi_scene.specs.Sound.{IsSoundNotified, AreObservers};
+ghost use Rattle.cdi_legal.specs.Furnished.{HasDependents};
 ghost use Rattle.cdi_legal.specs.Legal.{fire, notify, attend, outcome_is};
-ghost use Rattle.cdi_run.specs.Known.{Leads, IsObserver, IsNotifiedIn};
+ghost use Rattle.cdi_run.specs.Known.{Leads, IsObserver, IsNotifiedIn, IsSettled};
 
 use crate::invoking::Passed;
 use crate::player::Player;
@@ -25,6 +26,7 @@ impl<'a, B: Bodies> Player<'a, B> {
         arg: Val,
     ) -> Result<Outcome, AllocError>
         requires observers { AreObservers self.now.stage.scene observers.now }
+        requires settled { IsSettled self.now.stage run.old.moment }
         ensures { IfOk result (λ answer. Leads self.now.stage levels (fire observers.now 0 arg) run.old (outcome_is answer) run.new) }
     {
         for position in 0..observers.len() {
@@ -47,6 +49,7 @@ impl<'a, B: Bodies> Player<'a, B> {
         arg: Val,
     ) -> Result<Outcome, AllocError>
         requires notified { IsSoundNotified self.now.stage.scene notified }
+        requires settled { IsSettled self.now.stage run.old.moment }
         ensures { IfOk result (λ answer. Leads self.now.stage levels (notify notified arg) run.old (outcome_is answer) run.new) }
     {
         let Some(observer) = self.observer(notified.bean, notified.observer) else {
@@ -77,6 +80,7 @@ impl<'a, B: Bodies> Player<'a, B> {
     ) -> Result<Outcome, AllocError>
         requires observer { IsObserver self.now.stage notified.bean notified.observer observer.now }
         requires goes_on { IsNotifiedIn self.now.stage.scene notified observer.now true run.old.moment }
+        requires settled { IsSettled self.now.stage run.old.moment }
         ensures { IfOk result (λ answer. Leads self.now.stage levels (notify notified arg) run.old (outcome_is answer) run.new) }
     {
         match self.obtain(run, levels, notified.bean)? {
@@ -104,6 +108,7 @@ impl<'a, B: Bodies> Player<'a, B> {
     ) -> Result<Outcome, AllocError>
         requires observer { IsObserver self.now.stage notified.bean notified.observer observer.now }
         requires goes_on { IsNotifiedIn self.now.stage.scene notified observer.now false run.old.moment }
+        requires settled { IsSettled self.now.stage run.old.moment }
         ensures { IfOk result (λ answer. Leads self.now.stage levels (notify notified arg) run.old (outcome_is answer) run.new) }
     {
         match self.create(run, levels, notified.bean, Owner::Nobody)? {
@@ -132,6 +137,8 @@ impl<'a, B: Bodies> Player<'a, B> {
         arg: Val,
     ) -> Result<Outcome, AllocError>
         requires observer { IsObserver self.now.stage id.bean position observer.now }
+        requires settled { IsSettled self.now.stage run.old.moment }
+        requires has { HasDependents self.now.stage.scene run.old.moment.standing.live id }
         ensures { IfOk result (λ answer.
             Leads self.now.stage levels (attend id position observer.now arg) run.old (outcome_is answer) run.new) }
     {

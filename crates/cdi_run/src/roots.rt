@@ -4,10 +4,11 @@ ghost use Rattle.cdi_scene.specs.Scene.{bean_at};
 ghost use Rattle.cdi_scene.specs.Sound.{AreObservers};
 ghost use Rattle.cdi_contexts.specs.Standing.{closed, cleared};
 ghost use Rattle.cdi_legal.specs.Follows.{Follows, after};
+ghost use Rattle.cdi_legal.specs.Furnished.{HasDependents, IsFurnished};
 ghost use Rattle.cdi_legal.specs.Keeps.{Keeps};
 ghost use Rattle.cdi_legal.specs.LegalRun.{LegalRun, LegalRequestEnd, LegalEnd, Runs, Uses, use_bean, notify_all};
 ghost use Rattle.cdi_legal.specs.Moment.{beginning};
-ghost use Rattle.cdi_run.specs.Known.{IsUsable, use_of, EndsAll, StaysSingle};
+ghost use Rattle.cdi_run.specs.Known.{IsUsable, use_of, EndsAll, IsSettled, StaysFurnished, StaysSingle};
 
 use crate::invoking::Passed;
 use crate::player::Player;
@@ -40,15 +41,19 @@ impl<'a, B: Bodies> Player<'a, B> {
     pub fn use_one(&self, run: &mut Run, bean: usize, wanted: Wanted) -> Result<Outcome, AllocError>
         requires there { IsSome (bean_at self.now.stage.scene bean) }
         requires usable { IsUsable self.now.stage.scene bean wanted }
+        requires furnished { IsFurnished self.now.stage.scene run.old.moment.standing.live }
         ensures legal { let before = run.old.moment.standing in let now = run.new.moment in
             IfOk result (λ outcome. LegalRun self.now.stage.scene (use_bean bean (use_of wanted)) before
             now.trace outcome now.standing) }
         ensures follows { OnOk result (Follows (beginning run.old.moment.standing) run.new.moment) }
         ensures single { OnOk result (StaysSingle self.now.stage.scene (beginning run.old.moment.standing) run.new.moment) }
         ensures kept { OnOk result (Keeps (beginning run.old.moment.standing) run.new.moment) }
+        ensures furnished { IsFurnished self.now.stage.scene run.new.moment.standing.live }
         ensures out_of_memory { OnErr result (run.new.moment ≡ beginning (cleared run.old.moment.standing.given)) }
     {
         let given = run.given();
+        // No effect at run time. The proof reads here that the scene is sound.
+        let _ = self.stage.scene();
         run.restart();
         match self.use_either(run, bean, wanted) {
             Ok(outcome) => Ok(outcome),
@@ -67,15 +72,19 @@ impl<'a, B: Bodies> Player<'a, B> {
         arg: Val,
     ) -> Result<Outcome, AllocError>
         requires observers { AreObservers self.now.stage.scene observers.now }
+        requires furnished { IsFurnished self.now.stage.scene run.old.moment.standing.live }
         ensures legal { let before = run.old.moment.standing in let now = run.new.moment in
             IfOk result (λ outcome. LegalRun self.now.stage.scene (notify_all observers.now arg) before
             now.trace outcome now.standing) }
         ensures follows { OnOk result (Follows (beginning run.old.moment.standing) run.new.moment) }
         ensures single { OnOk result (StaysSingle self.now.stage.scene (beginning run.old.moment.standing) run.new.moment) }
         ensures kept { OnOk result (Keeps (beginning run.old.moment.standing) run.new.moment) }
+        ensures furnished { IsFurnished self.now.stage.scene run.new.moment.standing.live }
         ensures out_of_memory { OnErr result (run.new.moment ≡ beginning (cleared run.old.moment.standing.given)) }
     {
         let given = run.given();
+        // No effect at run time. The proof reads here that the scene is sound.
+        let _ = self.stage.scene();
         run.restart();
         match self.notify_each(run, DEPTH, observers, arg) {
             Ok(outcome) => Ok(outcome),
@@ -94,6 +103,7 @@ impl<'a, B: Bodies> Player<'a, B> {
         ensures follows { let before = run.old.moment.standing in let now = run.new.moment in
             OnOk result (now.standing ≡ closed (after before now.trace)) }
         ensures single { OnOk result (StaysSingle self.now.stage.scene (beginning run.old.moment.standing) run.new.moment) }
+        ensures furnished { StaysFurnished self.now.stage.scene (beginning run.old.moment.standing) run.new.moment }
         ensures out_of_memory { OnErr result (run.new.moment ≡ beginning (cleared run.old.moment.standing.given)) }
     {
         let given = run.given();
@@ -118,6 +128,7 @@ impl<'a, B: Bodies> Player<'a, B> {
         ensures follows { let before = run.old.moment.standing in let now = run.new.moment in
             OnOk result (now.standing ≡ closed (after before now.trace)) }
         ensures single { OnOk result (StaysSingle self.now.stage.scene (beginning run.old.moment.standing) run.new.moment) }
+        ensures furnished { StaysFurnished self.now.stage.scene (beginning run.old.moment.standing) run.new.moment }
         ensures out_of_memory { OnErr result (run.new.moment ≡ beginning (cleared run.old.moment.standing.given)) }
     {
         let given = run.given();
@@ -138,6 +149,7 @@ impl<'a, B: Bodies> Player<'a, B> {
     fn use_either(&self, run: &mut Run, bean: usize, wanted: Wanted) -> Result<Outcome, AllocError>
         requires there { IsSome (bean_at self.now.stage.scene bean) }
         requires usable { IsUsable self.now.stage.scene bean wanted }
+        requires settled { IsSettled self.now.stage run.old.moment }
         ensures { IfOk result (λ outcome.
             Runs self.now.stage.scene (use_bean bean (use_of wanted)) run.old.moment outcome run.new.moment) }
     {
@@ -169,6 +181,8 @@ impl<'a, B: Bodies> Player<'a, B> {
         wanted: Wanted,
     ) -> Result<Outcome, AllocError>
         requires usable { IsUsable self.now.stage.scene id.bean wanted }
+        requires settled { IsSettled self.now.stage run.old.moment }
+        requires has { HasDependents self.now.stage.scene run.old.moment.standing.live id }
         ensures { IfOk result (λ outcome.
             Uses self.now.stage.scene id (use_of wanted) run.old.moment outcome run.new.moment) }
     {

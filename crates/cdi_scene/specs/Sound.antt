@@ -1,6 +1,6 @@
 -- What a deployment without faults gives its runs: each body is in the book and keeps to what its place allows, each
 -- position that is named stands in the scene.
-use Rattle.std.specs.Prelude.{◌≡◌, ℕ, ◌≤◌, List, Option, Some, None, length, slice_get, true}
+use Rattle.std.specs.Prelude.{◌≡◌, ℕ, ◌≤◌, List, [], Option, Some, None, length, slice_get, true}
 use Rattle.cdi_bodies.specs.declared.promise.Promise.{Promise}
 use Rattle.cdi_bodies.specs.Flags as flags
 use Rattle.cdi_bodies.specs.Within.{Has}
@@ -21,7 +21,9 @@ use Rattle.cdi_scene.specs.declared.scene.Observer.{Observer}
 use Rattle.cdi_scene.specs.declared.scene.Part.{Part}
 use Rattle.cdi_scene.specs.declared.scene.Product.{Product}
 use Rattle.cdi_scene.specs.declared.scene.Scene.{Scene}
-use Rattle.cdi_scene.specs.Scene.{bean_at, managed_at, observer_at, invocable_at, part_at}
+use Rattle.cdi_scene.specs.declared.scene.Via.{Via}
+use Rattle.cdi_scene.specs.declared.scene.Via.TheVariants.{Own, Param}
+use Rattle.cdi_scene.specs.Scene.{bean_at, managed_at, product_at, observer_at, invocable_at, part_at}
 
 -- the bodies of a book, by their positions, with their names and promises
 abbrev pub Bodies : Type 0
@@ -98,7 +100,46 @@ abbrev pub IsSeated : Option ℕ → Part → Type 0
 IsSeated None part = IsStatic part × Lacks part flags.proceed
 IsSeated (Some n) part = Unit {0}
 
--- the body that runs at a seat: it is sound, and keeps to what the place allows
+-- ---- where call sites lead
+
+-- the beans that are chosen for the parameters of the method at a place of a bean
+abbrev pub params_at : Scene → ℕ → Place → List ℕ
+params_at s b places.Construct = []
+params_at s b places.Post = []
+params_at s b places.Pre = []
+params_at s b (places.Method m) = []
+params_at s b (places.Producer product) = elim (product_at s product) [ Some x ↦ x.params | None ↦ [] ]
+params_at s b (places.Disposer product) = []
+params_at s b (places.Observer o) = elim (observer_at s b o) [ Some x ↦ x.params | None ↦ [] ]
+
+-- the bean whose instance runs at a place of a bean: a producer method runs on an instance of the bean that declares it
+abbrev pub home_of : Scene → ℕ → Place → ℕ
+home_of s b places.Construct = b
+home_of s b places.Post = b
+home_of s b places.Pre = b
+home_of s b (places.Method m) = b
+home_of s b (places.Producer product) = elim (product_at s product) [ Some x ↦ x.declaring | None ↦ b ]
+home_of s b (places.Disposer product) = b
+home_of s b (places.Observer o) = b
+
+-- this bean is chosen for the injection point at a position of whoever runs at the seat, which has an instance
+pub record IsOwnPoint (s : Scene) (seat : Seat) (point b : ℕ) : Type 0 where
+  pub managed : Managed
+  pub there : managed_at s (home_of s seat.bean seat.place) ≡ Some managed
+  pub number : ℕ
+  pub seated : seat.number ≡ Some number
+  pub place : ℕ
+  pub injected : slice_get managed.injections place ≡ Some (record { actor = seat.actor; point = point; bean = b })
+
+-- this bean is chosen for what a call site of whoever runs at the seat names
+abbrev pub IsNamed : Scene → Seat → Via → ℕ → Type 0
+IsNamed s seat (Own point) b = IsOwnPoint s seat point b
+IsNamed s seat (Param param) b = slice_get (params_at s seat.bean seat.place) param ≡ Some b
+
+abbrev pub SitesLead : Scene → Seat → Part → Type 0
+SitesLead s seat part = (k : ℕ) (site : CallSite) → slice_get part.calls k ≡ Some site → IsNamed s seat site.via site.bean
+
+-- the body that runs at a seat: it is sound, keeps to what the place allows, and calls what was chosen for what it names
 pub record IsSoundAt (book : Bodies) (s : Scene) (seat : Seat) : Type 0 where
   pub body : Part
   pub runs : part_at s seat ≡ Some body
@@ -106,6 +147,7 @@ pub record IsSoundAt (book : Bodies) (s : Scene) (seat : Seat) : Type 0 where
   pub allowed : IsAllowedAt seat.place body
   pub own : KeepsToItself seat.actor body
   pub seated : IsSeated seat.number body
+  pub leads : SitesLead s seat body
 
 -- the interceptors of a chain have sound bodies for the place, and so has the bean where it has one, on any instance
 pub record IsSoundInvocable (book : Bodies) (s : Scene) (b : ℕ) (place : Place) (x : Invocable) : Type 0 where
@@ -119,6 +161,9 @@ pub record IsSoundInvocable (book : Bodies) (s : Scene) (b : ℕ) (place : Place
 pub record IsSoundManaged (s : Scene) (managed : Managed) : Type 0 where
   pub injections : (k : ℕ) (i : Injection) → slice_get managed.injections k ≡ Some i
       → (bean : Bean) × (bean_at s i.bean ≡ Some bean)
+  -- no two are of one actor and point
+  pub apart : (j k : ℕ) (x y : Injection) → slice_get managed.injections j ≡ Some x → slice_get managed.injections k ≡ Some y
+      → x.actor ≡ y.actor → x.point ≡ y.point → j ≡ k
   pub observers : (k : ℕ) (o : Observer) → slice_get managed.observers k ≡ Some o
       → AreBeans s o.params × (length o.params ≤ 32)
 

@@ -1,4 +1,4 @@
-use Rattle.cdi_legal.proofs.Commands.{commands_keep_single, commands_raise_given, empty_ends}
+use Rattle.cdi_legal.proofs.Commands.{commands_keep_furnished, commands_keep_single, commands_raise_given, empty_ends}
 use Rattle.cdi_legal.proofs.run.Run.into_parts.Goals as goal
 
 pub returns-clause-single : goal.returns-clause-single
@@ -6,6 +6,9 @@ returns-clause-single c = commands_keep_single
 
 pub returns-clause-given : goal.returns-clause-given
 returns-clause-given c = commands_raise_given
+
+pub returns-clause-furnished : goal.returns-clause-furnished
+returns-clause-furnished c = commands_keep_furnished
 
 pub returns-clause-empty : goal.returns-clause-empty
 returns-clause-empty c = empty_ends

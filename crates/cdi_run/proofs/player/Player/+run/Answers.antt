@@ -1,16 +1,24 @@
-use Rattle.std.proofs.Common.{rules, ◌≡◌, ◌<◌, ◌≤◌, ◌+◌, ◌-◌, length, Some, None, IsSome, arith, sym, refl, ap, true, false}
+use Rattle.std.proofs.Common.{rules, ◌≡◌, ◌<◌, ◌≤◌, ◌+◌, ◌-◌, length, [], Some, None, IsSome, arith, sym, ◌∙◌, refl, ap, true, false}
 use Rattle.std.proofs.lemmas.Grind.{common_steps}
 use Rattle.cdi_model.specs.declared.outcome.Outcome.TheVariants.{Value}
 use Rattle.cdi_model.specs.declared.outcome.Val.{Val}
+use Rattle.cdi_contexts.specs.declared.instance.Actor.TheVariants.{Target}
 use Rattle.cdi_scene.specs.Scene.{product_at}
 use Rattle.cdi_scene.specs.Sound.{IsSoundAt}
+use Rattle.cdi_scene.specs.declared.place.Place.TheVariants.{Construct, Post, Method, Producer, Observer as Observing}
 use Rattle.cdi_legal.specs.Acts.{ending, Permits}
-use Rattle.cdi_legal.specs.Legal.{Legal, IsInactive, is_normal}
+use Rattle.cdi_legal.specs.Ends.{seat_on, seat_of_class}
+use Rattle.cdi_legal.specs.Legal.{Legal, IsInactive, at, is_normal}
+use Rattle.cdi_legal.specs.Furnished.{HasDependents, IsDependent, IsServed}
+use Rattle.cdi_legal.specs.Moment.{Moment}
 use Rattle.cdi_legal.proofs.Growing.{legal_grows}
+use Rattle.cdi_legal.proofs.Settling.{has-after}
 use Rattle.cdi_ending.proofs.Before.{some_of}
-use Rattle.cdi_run.specs.Known.{IsPlaced}
+use Rattle.cdi_run.specs.Known.{IsPlaced, IsSettled}
 use Rattle.cdi_run.proofs.Beans.{form_of, never, some_bean, begun_grows, with_outcome, with_both}
 use Rattle.cdi_run.proofs.player.Player.+run.Goals.{ask_on-then-not-may_ask, ask_on-else-not-may_ask+in-Some, ask_on-else-not-may_ask+in_default+then-len-eq64}
+use Rattle.cdi_run.proofs.Staying.{created, injected, never_unmade, obtained, owned_by_param, reached, served_after, served_alone}
+use Rattle.cdi_run.proofs.Staying.{served_class, served_host, served_observer, served_same, settled_after, settled_begun, settled_same}
 use Rattle.cdi_run.proofs.player.Player.+run.Goals as goal
 
 pub act_on-returns-in_ok-note-in-Call-2 : goal.act_on-returns-in_ok-note-in-Call-2
@@ -61,15 +69,32 @@ ask_on-asking-preserved g t c =
     let lent = c.deref_mut.ensures.value in
     let more : length c.push.new.self.items ≡ length c.asking.shown.value.answers.items + 1 = grind (arith, common_steps) in
     let room : length c.asking.shown.value.answers.items < 64 = grind (arith, common_steps) in
+    let asked = settled_same c.args.self.now.stage c.asking.run.moment c.count_asking.new.self.moment
+    (ap (λ (m : Moment). m.standing) c.count_asking.ensures) i.settled in
     record {
       calls = rw lent i.calls;
       fires = rw lent i.fires;
       few = omega arith;
+      settled = settled_after c.args.self.now.stage c.in_ok-done.ensures tt asked;
+      served = served_after c.args.self.now.stage c.args.seat c.args.held.now c.in_ok-done.ensures tt asked
+          (served_same c.args.self.now.stage.scene c.args.seat c.args.held.now c.asking.run.moment c.count_asking.new.self.moment
+          (ap (λ (m : Moment). m.standing) c.count_asking.ensures) i.served);
       rest = λ a m e.
           i.rest a m
           (Legal.went_on _ _ _ _ _ _ _ _ _ _ _ _ _ _ some c.count_asking.ensures permits room c.in_ok-done.ensures
           (rw (more, c.or-has_returned.ensures) at e));
     }
+
+pub attend-invoke-requires : goal.attend-invoke-requires
+attend-invoke-requires g t c =
+    let p = rw (c.as_slice-params.ensures, c.in-None.is) at c.in_ok-supplied.ensures in
+    let o = c.requires.observer in
+    let settled : IsSettled c.args.self.now.stage c.supply.new.run.moment = settled_after c.args.self.now.stage p tt c.requires.settled in
+    let served : IsServed c.args.self.now.stage.scene c.supply.new.run.moment.standing.live (seat_on c.args.id Target (Observing c.args.position))
+    c.deref-in-None.result.now =
+    rw c.deref-in-None.ensures.0
+    (served_observer c.args.self.now.stage c.args.id c.args.position c.args.observer.now o.there p c.requires.settled c.requires.has) in
+    search rules
 
 pub attend-returns-in_ok-destroy_held-in-Some : goal.attend-returns-in_ok-destroy_held-in-Some
 attend-returns-in_ok-destroy_held-in-Some g t c =
@@ -81,6 +106,17 @@ attend-returns-in_ok-destroy_held-in-None g t c =
     Legal.attended _ _ _ _ _ _ _ _ _ _ _ _ (rw (c.as_slice-params.ensures, c.in-None.is) at c.in_ok-supplied.ensures)
     (rw c.deref-in-None.ensures.0 at c.in_ok-given-in-None.ensures)
     (rw c.deref-in-None-2.ensures.0 at c.in_ok-destroy_held-in-None.ensures.legal)
+
+pub call-invoke-requires : goal.call-invoke-requires
+call-invoke-requires g t c =
+    let p = rw c.in-Instance.is at c.in_ok-failure.ensures in
+    let settled : IsSettled c.args.self.now.stage c.reach.new.run.moment = settled_after c.args.self.now.stage p tt c.requires.settled in
+    let has = reached c.args.self.now.stage p c.requires.settled c.requires.served c.requires.named in
+    let served : IsServed c.args.self.now.stage.scene c.reach.new.run.moment.standing.live
+    (seat_on (at c.args.site.bean c.in-Instance.number) Target (Method c.args.site.method)) [] =
+    served_alone c.args.self.now.stage.scene c.reach.new.run.moment.standing.live (at c.args.site.bean c.in-Instance.number)
+    (Method c.args.site.method) has refl in
+    search rules
 
 pub call-returns-then-is_some : goal.call-returns-then-is_some
 call-returns-then-is_some g t c =
@@ -94,6 +130,16 @@ pub call-returns-in_ok-given-in-Instance : goal.call-returns-in_ok-given-in-Inst
 call-returns-in_ok-given-in-Instance g t c =
     let none : product_at c.args.self.now.stage.scene c.args.site.bean ≡ None = grind (arith, common_steps) in
     Legal.called_managed _ _ _ _ _ _ _ _ _ _ _ (rw c.in-Instance.is at c.in_ok-failure.ensures) none c.in_ok-given-in-Instance.ensures
+
+pub create-setup-requires : goal.create-setup-requires
+create-setup-requires g t c =
+    let begun = rw c.in-Some.is at c.in_ok-id.ensures.ok in
+    let settled : IsSettled c.args.self.now.stage c.begin.new.self.moment =
+    settled_begun c.args.self.now.stage c.in-Some.id c.args.owner c.args.run.now.moment c.begin.new.self.moment begun.2 c.requires.owned
+    c.requires.settled in
+    let newest : c.in-Some.id.number ≡ c.begin.new.self.moment.standing.given =
+    begun.1 ∙ sym (ap (λ (m : Moment). m.standing.given) begun.2) in
+    search rules
 
 pub create-returns-then-levels-eq0 : goal.create-returns-then-levels-eq0
 create-returns-then-levels-eq0 g t c = Legal.too_deep _ _ _ _ c.if-levels-eq0.true
@@ -124,16 +170,19 @@ create-returns-in_ok-destroy_dependents-in-Failed g t c =
 
 pub notify_each-returns-in-Failed : goal.notify_each-returns-in-Failed
 notify_each-returns-in-Failed g t c =
-    c.loop-position.invariant _ _
+    c.loop-position.invariant.rest _ _
     (Legal.notification_failed _ _ _ _ _ _ _ _ c.notified_in-notified.ensures (rw c.in-Failed.is at c.in_ok-notify.ensures))
 
 pub notify_each-loop-position-preserved : goal.notify_each-loop-position-preserved
-notify_each-loop-position-preserved g t c = λ a m e.
-    c.loop-position.invariant a m
-    (Legal.notified _ _ _ _ _ _ _ _ _ _ c.notified_in-notified.ensures (rw c.in-Value.is at c.in_ok-notify.ensures) e)
+notify_each-loop-position-preserved g t c = record {
+  settled = settled_after c.args.self.now.stage c.in_ok-notify.ensures tt c.loop-position.invariant.settled;
+  rest = λ a m e.
+      c.loop-position.invariant.rest a m
+      (Legal.notified _ _ _ _ _ _ _ _ _ _ c.notified_in-notified.ensures (rw c.in-Value.is at c.in_ok-notify.ensures) e);
+}
 
 pub notify_each-returns : goal.notify_each-returns
-notify_each-returns g t c = c.loop-position.invariant _ _ (Legal.all_notified _ _ _ _ _ (omega arith))
+notify_each-returns g t c = c.loop-position.invariant.rest _ _ (Legal.all_notified _ _ _ _ _ (omega arith))
 
 pub frame-returns-then-levels-eq0 : goal.frame-returns-then-levels-eq0
 frame-returns-then-levels-eq0 g t c = Legal.frame_too_deep _ _ _ _ _ _ c.if-levels-eq0.true
@@ -153,6 +202,7 @@ inject-loop-position-preserved-then-is_normal g t c =
     let i = c.loop-position.invariant in
     record {
       begun = i.begun;
+      settled = i.settled;
       rest = λ a m e. i.rest a m (Legal.proxy_injected _ _ _ _ _ _ _ _ _ c.injection_in-injection.ensures h.there normal e);
     }
 
@@ -172,6 +222,7 @@ inject-loop-position-preserved g t c =
     let made = rw c.in-Instance.is at c.in_ok-create.ensures in
     record {
       begun = omega (arith, i.begun, legal_grows made);
+      settled = settled_after c.args.self.now.stage made (omega (arith, i.begun)) i.settled;
       rest = λ a m e. i.rest a m (Legal.dependent_injected _ _ _ _ _ _ _ _ _ _ _ c.injection_in-injection.ensures h.there own made e);
     }
 
@@ -218,6 +269,14 @@ notify-returns-then-is_skipped g t c =
     Legal.skipped _ _ _ _ _ _ _ h.there c.in-Some.ensures.sound.there (rw h.scoped (c.is_skipped.ensures.0 c.if-is_skipped.true))
     c.in_ok-note.ensures.ok
 
+pub notify_own-attend-requires : goal.notify_own-attend-requires
+notify_own-attend-requires g t c =
+    let p = rw c.in-Instance.is at c.in_ok-failure.ensures in
+    let settled : IsSettled c.args.self.now.stage c.create.new.run.moment = settled_after c.args.self.now.stage p tt c.requires.settled in
+    let has : HasDependents c.args.self.now.stage.scene c.create.new.run.moment.standing.live (at c.args.notified.bean c.in-Instance.number) =
+    created c.args.self.now.stage p tt c.requires.settled in
+    search rules
+
 pub notify_own-returns-in-Refused : goal.notify_own-returns-in-Refused
 notify_own-returns-in-Refused g t c =
     let w = c.requires.goes_on in
@@ -230,6 +289,14 @@ notify_own-returns-in_ok-destroy-in-Instance g t c =
     Legal.attended_own _ _ _ _ _ _ _ _ _ _ _ w.there c.requires.observer.there w.goes_on w.scoped
     (rw c.in-Instance.is at c.in_ok-failure.ensures) c.in_ok-outcome-in-Instance.ensures
     c.in_ok-destroy-in-Instance.ensures.legal
+
+pub notify_shared-attend-requires : goal.notify_shared-attend-requires
+notify_shared-attend-requires g t c =
+    let p = rw c.in-Instance.is at c.in_ok-failure.ensures in
+    let settled : IsSettled c.args.self.now.stage c.obtain.new.run.moment = settled_after c.args.self.now.stage p tt c.requires.settled in
+    let has : HasDependents c.args.self.now.stage.scene c.obtain.new.run.moment.standing.live (at c.args.notified.bean c.in-Instance.number) =
+    obtained c.args.self.now.stage p c.requires.settled in
+    search rules
 
 pub notify_shared-returns-in-Refused : goal.notify_shared-returns-in-Refused
 notify_shared-returns-in-Refused g t c =
@@ -275,6 +342,30 @@ proceed-returns g t c =
     Legal.proceeded _ _ (record { bean = c.args.seat.bean; number = c.in-Some.number }) _ _ _ _ _ _ _ _ _ c.in-Some.is refl
     c.in_ok-note.ensures.ok c.in_ok-given.ensures c.in_ok-note-2.ensures.ok
 
+pub produce-frame-requires : goal.produce-frame-requires
+produce-frame-requires g t c =
+    let none : c.in_ok-supplied.supplied.failure ≡ None = grind arith in
+    let p = rw (c.as_slice-params.ensures, none) at c.in_ok-supplied.ensures in
+    let product = c.requires.product in
+    let settled : IsSettled c.args.self.now.stage c.supply.new.run.moment = settled_after c.args.self.now.stage p c.requires.begun c.requires.settled in
+    let served : IsServed c.args.self.now.stage.scene c.supply.new.run.moment.standing.live
+    (seat_of_class c.args.product.now.declaring (Producer c.args.id.bean)) c.deref.result.now =
+    rw c.deref.ensures.0 (served_class c.args.self.now.stage c.args.id c.args.product.now product.there p c.requires.begun c.requires.settled) in
+    search rules
+
+pub produce-invoke-requires : goal.produce-invoke-requires
+produce-invoke-requires g t c =
+    let none : c.in_ok-supplied.supplied.failure ≡ None = grind arith in
+    let p = rw (c.as_slice-params.ensures, none) at c.in_ok-supplied.ensures in
+    let product = c.requires.product in
+    let settled : IsSettled c.args.self.now.stage c.supply.new.run.moment = settled_after c.args.self.now.stage p c.requires.begun c.requires.settled in
+    let has = rw c.in-Some-host.is at c.requires.has in
+    let served : IsServed c.args.self.now.stage.scene c.supply.new.run.moment.standing.live
+    (seat_on c.in-Some-host.host Target (Producer c.args.id.bean)) c.deref-in-Some-host.result.now =
+    rw c.deref-in-Some-host.ensures.0
+    (served_host c.args.self.now.stage c.args.id c.in-Some-host.host c.args.product.now product.there p c.requires.begun c.requires.settled has) in
+    search rules
+
 pub produce-returns-in-Some : goal.produce-returns-in-Some
 produce-returns-in-Some g t c = Legal.unsupplied _ _ _ _ _ _ _ _ (rw (c.as_slice-params.ensures, c.in-Some.is) at c.in_ok-supplied.ensures)
 
@@ -296,6 +387,10 @@ pub produce_on_own-produce-requires : goal.produce_on_own-produce-requires
 produce_on_own-produce-requires g t c =
     let begun : c.args.id.number ≤ c.create.new.run.moment.standing.given =
     omega (arith, legal_grows c.in_ok-failure.ensures, c.requires.begun) in
+    let p = rw c.in-Instance.is at c.in_ok-failure.ensures in
+    let settled : IsSettled c.args.self.now.stage c.create.new.run.moment = settled_after c.args.self.now.stage p tt c.requires.settled in
+    let has : HasDependents c.args.self.now.stage.scene c.create.new.run.moment.standing.live (at c.args.product.now.declaring c.in-Instance.number) =
+    created c.args.self.now.stage p tt c.requires.settled in
     search rules
 
 pub produce_on_own-returns-in-Refused : goal.produce_on_own-returns-in-Refused
@@ -316,6 +411,10 @@ pub produce_on_shared-produce-requires : goal.produce_on_shared-produce-requires
 produce_on_shared-produce-requires g t c =
     let begun : c.args.id.number ≤ c.obtain.new.run.moment.standing.given =
     omega (arith, legal_grows c.in_ok-failure.ensures, c.requires.begun) in
+    let p = rw c.in-Instance.is at c.in_ok-failure.ensures in
+    let settled : IsSettled c.args.self.now.stage c.obtain.new.run.moment = settled_after c.args.self.now.stage p tt c.requires.settled in
+    let has : HasDependents c.args.self.now.stage.scene c.obtain.new.run.moment.standing.live (at c.args.product.now.declaring c.in-Instance.number) =
+    obtained c.args.self.now.stage p c.requires.settled in
     search rules
 
 pub produce_on_shared-returns-in-Refused : goal.produce_on_shared-returns-in-Refused
@@ -338,17 +437,45 @@ reach-returns-then-is_normal g t c =
     let normal : is_normal h.bean.scope ≡ true = rw h.scoped (grind arith) in
     Legal.reached_shared _ _ _ _ _ _ _ _ h.there normal c.in_ok-made.ensures
 
-pub reach-returns-in-Some : goal.reach-returns-in-Some
-reach-returns-in-Some g t c =
+pub reach-returns : goal.reach-returns
+reach-returns g t c =
     let h = c.scope_of.ensures in
     let own : is_normal h.bean.scope ≡ false = rw h.scoped (grind arith) in
     Legal.reached_own _ _ _ _ _ _ _ h.there own (sym c.in-Some.ensures)
 
-pub reach-returns-in-None : goal.reach-returns-in-None
-reach-returns-in-None g t c =
+pub reach-unreachable-requires : goal.reach-unreachable-requires
+reach-unreachable-requires g t c =
     let h = c.scope_of.ensures in
-    let own : is_normal h.bean.scope ≡ false = rw h.scoped (grind arith) in
-    Legal.unmade _ _ _ _ _ _ h.there own (sym c.in-None.ensures)
+    let own : IsDependent c.args.self.now.stage.scene c.args.site.bean =
+    record { bean = h.bean; there = h.there; scoped = rw h.scoped (grind arith) } in
+    absurd (never_unmade c.args.self.now.stage c.args.run.now.moment c.args.seat c.args.held.now c.args.site c.requires.settled
+    c.requires.served c.requires.named own (sym c.in-None.ensures))
+
+pub set_up_managed-invoke-requires : goal.set_up_managed-invoke-requires
+set_up_managed-invoke-requires g t c =
+    let none : c.in_ok-failure.field-0 ≡ None = grind arith in
+    let p = rw (c.as_slice-injections.ensures, none) at c.in_ok-failure.ensures in
+    let low : c.args.id.number ≤ c.args.run.now.moment.standing.given = omega (arith, c.requires.newest) in
+    let managed = c.requires.managed in
+    let first : IsSettled c.args.self.now.stage c.inject.new.run.moment = settled_after c.args.self.now.stage p low c.requires.settled in
+    let had = injected c.args.self.now.stage c.args.id c.args.managed.now managed.there p c.requires.newest c.requires.settled in
+    let served : IsServed c.args.self.now.stage.scene c.inject.new.run.moment.standing.live (seat_on c.args.id Target Construct) [] =
+    served_alone c.args.self.now.stage.scene c.inject.new.run.moment.standing.live c.args.id Construct had refl in
+    search rules
+
+pub set_up_managed-invoke-requires-in-Value : goal.set_up_managed-invoke-requires-in-Value
+set_up_managed-invoke-requires-in-Value g t c =
+    let none : c.in_ok-failure.field-0 ≡ None = grind arith in
+    let p = rw (c.as_slice-injections.ensures, none) at c.in_ok-failure.ensures in
+    let low : c.args.id.number ≤ c.args.run.now.moment.standing.given = omega (arith, c.requires.newest) in
+    let managed = c.requires.managed in
+    let first : IsSettled c.args.self.now.stage c.inject.new.run.moment = settled_after c.args.self.now.stage p low c.requires.settled in
+    let had = injected c.args.self.now.stage c.args.id c.args.managed.now managed.there p c.requires.newest c.requires.settled in
+    let settled : IsSettled c.args.self.now.stage c.invoke.new.run.moment = settled_after c.args.self.now.stage c.in_ok-built.ensures tt first in
+    let served : IsServed c.args.self.now.stage.scene c.invoke.new.run.moment.standing.live (seat_on c.args.id Target Post) [] =
+    served_alone c.args.self.now.stage.scene c.invoke.new.run.moment.standing.live c.args.id Post
+    (has-after c.args.id c.in_ok-built.ensures tt first.rises had) refl in
+    search rules
 
 pub set_up_managed-returns-in-Some : goal.set_up_managed-returns-in-Some
 set_up_managed-returns-in-Some g t c =
@@ -394,6 +521,7 @@ supply-loop-param-preserved-then-is_normal g t c =
     let more : length c.push.new.self.items ≡ length c.loop-param.held.items + 1 = grind (arith, common_steps) in
     record {
       begun = i.begun;
+      settled = i.settled;
       count = omega (arith, more, i.count);
       rest = λ a m e.
           i.rest a m
@@ -417,6 +545,7 @@ supply-loop-param-preserved g t c =
     let more : length c.push-in-Instance.new.self.items ≡ length c.loop-param.held.items + 1 = grind (arith, common_steps) in
     record {
       begun = begun_grows _ _ _ (legal_grows made) i.begun;
+      settled = settled_after c.args.self.now.stage made (owned_by_param _ _ _ i.begun) i.settled;
       count = omega (arith, more, i.count);
       rest = λ a m e.
           i.rest a m

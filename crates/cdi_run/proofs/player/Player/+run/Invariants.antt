@@ -1,7 +1,8 @@
 use Rattle.std.proofs.Common.{◌≡◌, ◌≤◌, ◌+◌, ◌-◌, ◌*◌, [], false, length}
 use Rattle.cdi_legal.specs.Legal.{Legal, Answer, inject, supply, asks, fire}
 use Rattle.cdi_legal.specs.Moment.{Moment}
-use Rattle.cdi_run.specs.Known.{IsBegun}
+use Rattle.cdi_legal.specs.Furnished.{IsServed}
+use Rattle.cdi_run.specs.Known.{IsBegun, IsSettled}
 use Rattle.cdi_run.proofs.player.Player.+run.Given as goal
 
 abbrev pub decreases-create : goal.decreases-create
@@ -73,6 +74,7 @@ decreases-ask_on g l = 32 * l.levels + 13
 abbrev pub invariant-inject-loop-position : goal.invariant-inject-loop-position
 invariant-inject-loop-position g l = record {
   begun : l.id.number ≤ l.run.moment.standing.given;
+  settled : IsSettled l.self.stage l.run.moment;
   rest : (a : Answer) (m : Moment) → Legal l.self.stage.scene l.levels (inject l.id l.injections l.position) l.run.moment a m
       → Legal l.self.stage.scene l.levels (inject l.id l.injections 0) l.fn.run.moment a m;
 }
@@ -80,6 +82,7 @@ invariant-inject-loop-position g l = record {
 abbrev pub invariant-supply-loop-param : goal.invariant-supply-loop-param
 invariant-supply-loop-param g l = record {
   begun : IsBegun l.run.moment.standing.given l.product;
+  settled : IsSettled l.self.stage l.run.moment;
   count : length l.held.items ≡ l.param;
   rest : (a : Answer) (m : Moment)
       → Legal l.self.stage.scene l.levels (supply l.product l.params l.param l.held.items) l.run.moment a m
@@ -87,15 +90,20 @@ invariant-supply-loop-param g l = record {
 }
 
 abbrev pub invariant-notify_each-loop-position : goal.invariant-notify_each-loop-position
-invariant-notify_each-loop-position g l =
-    (a : Answer) (m : Moment) → Legal l.self.stage.scene l.levels (fire l.observers l.position l.arg) l.run.moment a m
-    → Legal l.self.stage.scene l.levels (fire l.observers 0 l.arg) l.fn.run.moment a m
+invariant-notify_each-loop-position g l = record {
+  settled : IsSettled l.self.stage l.run.moment;
+  rest : (a : Answer) (m : Moment)
+      → Legal l.self.stage.scene l.levels (fire l.observers l.position l.arg) l.run.moment a m
+      → Legal l.self.stage.scene l.levels (fire l.observers 0 l.arg) l.fn.run.moment a m;
+}
 
 abbrev pub invariant-ask_on-asking : goal.invariant-ask_on-asking
 invariant-ask_on-asking g l = record {
   calls : l.shown.value.calls ≡ length l.part.calls;
   fires : l.shown.value.fires ≡ length l.part.fires;
   few : length l.shown.value.answers.items ≤ 64;
+  settled : IsSettled l.self.stage l.run.moment;
+  served : IsServed l.self.stage.scene l.run.moment.standing.live l.seat l.held;
   rest : (a : Answer) (m : Moment)
       → Legal l.self.stage.scene l.levels (asks l.seat l.held l.passed.link (length l.shown.value.answers.items) l.has_returned)
       l.run.moment a m

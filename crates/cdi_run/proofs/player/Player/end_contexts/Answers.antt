@@ -5,6 +5,7 @@ use Rattle.cdi_legal.specs.LegalRun.{LegalEnd}
 use Rattle.cdi_legal.specs.Moment.{Moment, beginning}
 use Rattle.cdi_legal.proofs.Commands.{end_follows, end_single}
 use Rattle.cdi_run.specs.Known.{EndsAll}
+use Rattle.cdi_run.proofs.Staying.{end_stays}
 use Rattle.cdi_run.proofs.player.Player.end_contexts.Goals as goal
 
 -- both contexts ended, and then the request was closed
@@ -24,3 +25,7 @@ returns-in-Ok-clause-follows g c = end_follows (ended _ _ _ _ _ c.restart.ensure
 
 pub returns-in-Ok-clause-single : goal.returns-in-Ok-clause-single
 returns-in-Ok-clause-single g c = end_single (ended _ _ _ _ _ c.restart.ensures c.in-Ok.ensures c.close.ensures)
+
+pub returns-in-Ok-clause-furnished : goal.returns-in-Ok-clause-furnished
+returns-in-Ok-clause-furnished g c = λ f.
+    end_stays (ended _ _ _ _ _ c.restart.ensures c.in-Ok.ensures c.close.ensures) c.given-given.ensures.rising f

@@ -6,6 +6,7 @@ use Rattle.cdi_legal.specs.Ends.{Ends, context}
 use Rattle.cdi_legal.specs.LegalRun.{LegalRequestEnd}
 use Rattle.cdi_legal.specs.Moment.{Moment, beginning}
 use Rattle.cdi_legal.proofs.Commands.{request_end_follows, request_end_single}
+use Rattle.cdi_run.proofs.Staying.{request_end_stays}
 use Rattle.cdi_run.proofs.player.Player.end_request.Goals as goal
 
 -- the context ended, and then the request was closed
@@ -25,3 +26,7 @@ returns-in-Ok-clause-follows g c =
 pub returns-in-Ok-clause-single : goal.returns-in-Ok-clause-single
 returns-in-Ok-clause-single g c =
     request_end_single (ended _ _ _ _ _ c.restart.ensures c.in-Ok.ensures.legal c.close.ensures)
+
+pub returns-in-Ok-clause-furnished : goal.returns-in-Ok-clause-furnished
+returns-in-Ok-clause-furnished g c = λ f.
+    request_end_stays (ended _ _ _ _ _ c.restart.ensures c.in-Ok.ensures.legal c.close.ensures) c.given-given.ensures.rising f

@@ -1,8 +1,11 @@
-use Rattle.std.proofs.Common.{refl}
+use Rattle.std.proofs.Common.{refl, ap}
 use Rattle.cdi_legal.specs.LegalRun.{Runs}
+use Rattle.cdi_legal.specs.Moment.{Moment}
 use Rattle.cdi_legal.proofs.Following.{legal_follows}
 use Rattle.cdi_legal.proofs.Keeping.{runs_keep}
 use Rattle.cdi_legal.proofs.Sharing.{legal_single}
+use Rattle.cdi_run.specs.Known.{IsSettled}
+use Rattle.cdi_run.proofs.Staying.{settled_after, settled_same}
 use Rattle.cdi_run.proofs.player.Player.fire.Goals as goal
 
 pub returns-in-Ok-clause-legal : goal.returns-in-Ok-clause-legal
@@ -22,3 +25,11 @@ returns-in-Ok-clause-single g c = legal_single (rw c.restart.ensures at c.in-Ok.
 pub returns-in-Ok-clause-kept : goal.returns-in-Ok-clause-kept
 returns-in-Ok-clause-kept g c =
     runs_keep (Runs.fired _ _ _ _ _ (rw c.restart.ensures at c.in-Ok.ensures)) c.given-given.ensures.rising
+
+pub returns-in-Ok-clause-furnished : goal.returns-in-Ok-clause-furnished
+returns-in-Ok-clause-furnished g c =
+    let settled : IsSettled c.args.self.now.stage c.restart.new.self.moment =
+    settled_same c.args.self.now.stage c.args.run.now.moment c.restart.new.self.moment
+    (ap (λ (m : Moment). m.standing) c.restart.ensures)
+    (record { sound = c.scene.ensures.sound; rises = c.given-given.ensures.rising; furnished = c.requires.furnished }) in
+    (settled_after c.args.self.now.stage c.in-Ok.ensures tt settled).furnished

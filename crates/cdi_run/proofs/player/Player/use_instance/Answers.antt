@@ -1,9 +1,14 @@
-use Rattle.std.proofs.Common.{rules, ◌≡◌, None, IsSome, arith, ap}
+use Rattle.std.proofs.Common.{rules, ◌≡◌, [], None, IsSome, arith, ap, refl}
 use Rattle.std.proofs.lemmas.Grind.{common_steps}
 use Rattle.cdi_model.specs.declared.outcome.Outcome.TheVariants.{Value}
 use Rattle.cdi_model.specs.declared.outcome.Val.{Val}
+use Rattle.cdi_contexts.specs.declared.instance.Actor.TheVariants.{Target}
 use Rattle.cdi_scene.specs.Scene.{product_at}
+use Rattle.cdi_scene.specs.declared.place.Place.TheVariants.{Method}
+use Rattle.cdi_legal.specs.Ends.{seat_on}
+use Rattle.cdi_legal.specs.Furnished.{IsServed}
 use Rattle.cdi_legal.specs.LegalRun.{Uses}
+use Rattle.cdi_run.proofs.Staying.{served_alone}
 use Rattle.cdi_run.proofs.player.Player.use_instance.Goals as goal
 
 pub returns-in-State : goal.returns-in-State
@@ -18,6 +23,9 @@ pub invoke-requires : goal.invoke-requires
 invoke-requires g c =
     let none : product_at c.args.self.now.stage.scene c.args.id.bean ≡ None = grind (arith, common_steps) in
     let there = (rw c.in-Answer.is at c.requires.usable) none in
+    let served : IsServed c.args.self.now.stage.scene c.args.run.now.moment.standing.live
+    (seat_on c.args.id Target (Method c.in-Answer.method)) [] =
+    served_alone c.args.self.now.stage.scene c.args.run.now.moment.standing.live c.args.id (Method c.in-Answer.method) c.requires.has refl in
     search rules
 
 pub returns-in_ok-given-in-Answer : goal.returns-in_ok-given-in-Answer

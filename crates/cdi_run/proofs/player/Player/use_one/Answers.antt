@@ -1,6 +1,10 @@
+use Rattle.std.proofs.Common.{ap}
+use Rattle.cdi_legal.specs.Moment.{Moment}
 use Rattle.cdi_legal.proofs.Following.{runs_follow}
 use Rattle.cdi_legal.proofs.Keeping.{runs_keep}
 use Rattle.cdi_legal.proofs.Sharing.{runs_single}
+use Rattle.cdi_run.specs.Known.{IsSettled}
+use Rattle.cdi_run.proofs.Staying.{runs_stay, settled_same}
 use Rattle.cdi_run.proofs.player.Player.use_one.Goals as goal
 
 pub returns-in-Ok-clause-follows : goal.returns-in-Ok-clause-follows
@@ -11,3 +15,11 @@ returns-in-Ok-clause-single g c = runs_single (rw c.restart.ensures at c.in-Ok.e
 
 pub returns-in-Ok-clause-kept : goal.returns-in-Ok-clause-kept
 returns-in-Ok-clause-kept g c = runs_keep (rw c.restart.ensures at c.in-Ok.ensures) c.given-given.ensures.rising
+
+pub returns-in-Ok-clause-furnished : goal.returns-in-Ok-clause-furnished
+returns-in-Ok-clause-furnished g c =
+    let settled : IsSettled c.args.self.now.stage c.restart.new.self.moment =
+    settled_same c.args.self.now.stage c.args.run.now.moment c.restart.new.self.moment
+    (ap (λ (m : Moment). m.standing) c.restart.ensures)
+    (record { sound = c.scene.ensures.sound; rises = c.given-given.ensures.rising; furnished = c.requires.furnished }) in
+    runs_stay c.args.self.now.stage c.in-Ok.ensures settled
