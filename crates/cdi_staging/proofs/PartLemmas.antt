@@ -35,6 +35,7 @@ use Rattle.cdi_staging.specs.Sites.{Sight, nowhere, target_of, class_with, metho
 use Rattle.cdi_staging.specs.Sites.{is_point, position_of_bean, site_at, site_among, site_of, target_at}
 use Rattle.cdi_staging.specs.Staged.{part_of, part_with, staged_part, staged_method, managed_form, sight_of, scene_of}
 use Rattle.cdi_staging.specs.Staged.{targets}
+use Rattle.cdi_staging.specs.declared.target.Target.{Target}
 use Rattle.cdi_staging.proofs.BesideLemmas.{of-find, no-position, find-append, from-map}
 use Rattle.cdi_staging.proofs.ChosenLemmas.{Reached, chosen-offered, reached}
 
@@ -72,6 +73,19 @@ part-made book calls allowed name part fit e =
     })
 
 -- ---- call sites
+
+-- the target of the injection point or of the parameter that a call site names
+abbrev pub NamesVia : List Target → List Target → Via → ℕ → Type 0
+NamesVia own params (Own p) b = (t : Target) × (slice_get own p ≡ Some t) × (t.bean ≡ b)
+NamesVia own params (Param p) b = (t : Target) × (slice_get params p ≡ Some t) × (t.bean ≡ b)
+
+-- the bean of a call site was chosen for what it names, of these injection points and parameters
+abbrev pub Names : List Decl → List PointDecl → List PointDecl → CallSite → Type 0
+Names ds points params site = NamesVia (targets ds points) (targets ds params) site.via site.bean
+
+-- the site is sound, and leads where it says
+abbrev IsGoodSite : List Decl → List Promised → List PointDecl → List PointDecl → CallSite → Type 0
+IsGoodSite ds book points params site = IsSoundSite (scene_of ds book) site × Names ds points params site
 
 -- a managed bean of the class declares a method of the name
 record Declares (ds : List Decl) (class name : List ℕ) : Type 0 where
@@ -164,75 +178,87 @@ target-there ds points k point at = slice_get-map (target_of (beans ds)) (map (a
 abbrev pub seen : List Decl → List PointDecl → List PointDecl → Sight
 seen ds points params = record { points = points; targets = targets ds points; params = params; param_targets = targets ds params }
 
-led-site : (ds : List Decl) (book : List Promised) (list points : List PointDecl) (call : CallDecl) (point : PointDecl) (via : Via) (k : ℕ)
-    (value : PointDecl) → AreDistinct ds → AreSatisfied ds list → slice_get list k ≡ Some value → value ≡ point
+led-site : (ds : List Decl) (book : List Promised) (points params list : List PointDecl) (call : CallDecl) (point : PointDecl) (via : Via)
+    (k : ℕ) (value : PointDecl) → AreDistinct ds → AreSatisfied ds list → slice_get list k ≡ Some value → value ≡ point
     → ((id : BeanId) → answer_to ds point ≡ One id → has_method ds id call.method ≡ true)
-    → IsSoundSite (scene_of ds book) (site_at ds via (target_at (beans ds) (targets ds list) k) call.method)
-led-site ds book list points call point via k value distinct satisfied at same has =
-    subst (λ t. IsSoundSite (scene_of ds book) (site_at ds via t call.method))
-    (sym (ap (λ o. unwrap_or o (nowhere (beans ds))) (target-there ds list k value at)))
-    (site-sound ds book value via call.method distinct (satisfied k value at)
-    (subst (λ p. (id : BeanId) → answer_to ds p ≡ One id → has_method ds id call.method ≡ true) (sym same) has))
+    → ((t : Target) → slice_get (targets ds list) k ≡ Some t → NamesVia (targets ds points) (targets ds params) via t.bean)
+    → IsGoodSite ds book points params (site_at ds via (target_at (beans ds) (targets ds list) k) call.method)
+unfolding site_at
+led-site ds book points params list call point via k value distinct satisfied at same has names =
+    let there = target-there ds list k value at in
+    subst (λ t. IsGoodSite ds book points params (site_at ds via t call.method))
+    (sym (ap (λ o. unwrap_or o (nowhere (beans ds))) there)) (
+      site-sound ds book value via call.method distinct (satisfied k value at)
+          (subst (λ p. (id : BeanId) → answer_to ds p ≡ One id → has_method ds id call.method ≡ true) (sym same) has),
+      names (target_of (beans ds) (answer_to ds value)) there,
+    )
 
-is-sound-site : (ds : List Decl) (book : List Promised) (points params : List PointDecl) (call : CallDecl) → AreDistinct ds
+is-good-site : (ds : List Decl) (book : List Promised) (points params : List PointDecl) (call : CallDecl) → AreDistinct ds
     → AreSatisfied ds points → AreSatisfied ds params → IsLed ds (params ++ points) call
-    → IsSoundSite (scene_of ds book) (site_of ds (beans ds) (seen ds points params) call)
+    → IsGoodSite ds book points params (site_of ds (beans ds) (seen ds points params) call)
 unfolding site_of
-is-sound-site ds book points params call distinct own_points own_params led = by (find (is_point call.point) params) refl
+is-good-site ds book points params call distinct own_points own_params led = by (find (is_point call.point) params) refl
   where
     by : (o : Option PointDecl) → find (is_point call.point) params ≡ o
-        → IsSoundSite (scene_of ds book)
+        → IsGoodSite ds book points params
         (site_among ds (beans ds) (seen ds points params) call (position (is_point call.point) params))
     by (Some q) e =
         let at = of-find (is_point call.point) params q e in
         let both : Some at.value ≡ Some led.point = sym (ap (λ o. option_or o (find (is_point call.point) points)) at.find_is)
         ∙ sym (find-append (is_point call.point) params points) ∙ led.sees in
-        subst (λ o. IsSoundSite (scene_of ds book) (site_among ds (beans ds) (seen ds points params) call o)) (sym at.position_is)
-        (led-site ds book params points call led.point (Param at.place) at.place at.value distinct own_params at.there
-        (same_Some at.value led.point both) led.has)
+        subst (λ o. IsGoodSite ds book points params (site_among ds (beans ds) (seen ds points params) call o)) (sym at.position_is)
+        (led-site ds book points params params call led.point (Param at.place) at.place at.value distinct own_params at.there
+        (same_Some at.value led.point both) led.has (λ t is. (t, is, refl)))
     by None e =
         let there : find (is_point call.point) points ≡ Some led.point = sym (ap (λ o. option_or o (find (is_point call.point) points)) e)
         ∙ sym (find-append (is_point call.point) params points) ∙ led.sees in
         let at = of-find (is_point call.point) points led.point there in
         let value : at.value ≡ led.point = same_Some at.value led.point (sym at.find_is ∙ there) in
-        subst (λ o. IsSoundSite (scene_of ds book) (site_among ds (beans ds) (seen ds points params) call o))
+        subst (λ o. IsGoodSite ds book points params (site_among ds (beans ds) (seen ds points params) call o))
         (sym (no-position (is_point call.point) params e))
-        (subst (λ k. IsSoundSite (scene_of ds book) (site_at ds (Own k) (target_at (beans ds) (targets ds points) k) call.method))
+        (subst (λ k. IsGoodSite ds book points params
+        (site_at ds (Own k) (target_at (beans ds) (targets ds points) k) call.method))
         (sym (ap (λ o. unwrap_or o (length points)) at.position_is))
-        (led-site ds book points params call led.point (Own at.place) at.place at.value distinct own_points at.there value led.has))
+        (led-site ds book points params points call led.point (Own at.place) at.place at.value distinct own_points at.there value
+        led.has (λ t is. (t, is, refl))))
 
 -- ---- parts
 
-pub record IsSoundFor (ds : List Decl) (book : List Promised) (allowed : ℕ) (part : Part) : Type 0 where
+-- a sound part with these acts, which sees these injection points and parameters
+pub record IsSoundFor (ds : List Decl) (book : List Promised) (allowed : ℕ) (points params : List PointDecl) (part : Part) : Type 0 where
   pub sound : IsSoundPart book (scene_of ds book) part
   pub kept : (flag : ℕ) → Has part.promise flag → bit_and allowed flag ≡ flag
+  pub names : (k : ℕ) (site : CallSite) → slice_get part.calls k ≡ Some site → Names ds points params site
 
 pub part-sound : (ds : List Decl) (book : List Promised) (allowed : ℕ) (points params : List PointDecl) (part : PartDecl) (made : Part)
     → AreDistinct ds → AreSatisfied ds points → AreSatisfied ds params → IsFinePart ds book allowed (params ++ points) part
-    → staged_part ds (beans ds) book (seen ds points params) part ≡ Some made → IsSoundFor ds book allowed made
+    → staged_part ds (beans ds) book (seen ds points params) part ≡ Some made → IsSoundFor ds book allowed points params made
 unfolding staged_part
 part-sound ds book allowed points params part made distinct own_points own_params fine e =
     let lead = site_of ds (beans ds) (seen ds points params) in
     let m = part-made book (map lead part.calls) allowed part.body made fine.body e in
+    let good : (k : ℕ) (site : CallSite) → slice_get made.calls k ≡ Some site → IsGoodSite ds book points params site =
+    λ k site at.
+    let found = from-map lead part.calls k site (sym (ap (λ cs. slice_get cs k) m.calls_are) ∙ at) in
+    subst (IsGoodSite ds book points params) found.2
+    (is-good-site ds book points params found.0 distinct own_points own_params (fine.calls k found.0 found.1)) in
     record {
       sound = record {
         body = m.body;
         few_calls = subst (λ n. n ≤ 32) (sym (ap length m.calls_are ∙ length-map part.calls lead)) fine.few;
         few_fires = subst (λ fs. length fs ≤ 32) (sym m.fires_are) (omega arith);
-        calls = λ k site at.
-            let found = from-map lead part.calls k site (sym (ap (λ cs. slice_get cs k) m.calls_are) ∙ at) in
-            subst (IsSoundSite (scene_of ds book)) found.2
-            (is-sound-site ds book points params found.0 distinct own_points own_params (fine.calls k found.0 found.1));
+        calls = λ k site at. (good k site at).0;
         fires = λ k os at.
             let none : None ≡ Some os = sym (ap (λ fs. slice_get fs k) m.fires_are) ∙ at in
             absurd (cc);
       };
       kept = λ flag has. fine.body.kept flag (subst (λ p. Has p flag) m.promise_is has);
+      names = λ k site at. (good k site at).1;
     }
 
 -- a disposer method's part has no call site
 pub disposer-sound : (ds : List Decl) (book : List Promised) (allowed : ℕ) (name : List ℕ) (made : Part) → IsFit book allowed name
-    → part_of book [] name ≡ Some made → IsSoundFor ds book allowed made
+    → part_of book [] name ≡ Some made → IsSoundFor ds book allowed [] [] made
 disposer-sound ds book allowed name made fit e =
     let m = part-made book [] allowed name made fit e in
     record {
@@ -248,4 +274,7 @@ disposer-sound ds book allowed name made fit e =
             absurd (cc);
       };
       kept = λ flag has. fit.kept flag (subst (λ p. Has p flag) m.promise_is has);
+      names = λ k site at.
+          let none : None ≡ Some site = sym (ap (λ cs. slice_get cs k) m.calls_are) ∙ at in
+          absurd (cc);
     }

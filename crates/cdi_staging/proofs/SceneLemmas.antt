@@ -1,13 +1,13 @@
 -- Where each declaration is fine, the scene is sound.
 use Rattle.std.proofs.Common.{◌≡◌, ◌≤◌, ◌+◌, ℕ, zero, suc, Bool, true, false, cond, List, [], ◌∷◌, map, length}
-use Rattle.std.proofs.Common.{Option, Some, None, unwrap_or}
+use Rattle.std.proofs.Common.{Option, Some, None, option_map, unwrap_or}
 use Rattle.std.proofs.Common.{refl, sym, subst, ap, ◌∙◌, inl, inr, arith}
 use Rattle.std.specs.List.{slice_get}
 use Rattle.std.specs.Option.{option_and_then}
 use Rattle.std.specs.Str.{bytes_eq}
 use Rattle.std.proofs.lemmas.Bool.{false≢true}
 use Rattle.std.proofs.lemmas.List.{length-map}
-use Rattle.std.proofs.lemmas.Option.{none-some, option_and_then_some, same_Some}
+use Rattle.std.proofs.lemmas.Option.{none-some, option_and_then_some, same_Some, slice_get-map}
 use Rattle.cdi_model.specs.DeclList.{AreDistinct}
 use Rattle.cdi_model.specs.declared.decl.BeanDecl.{BeanDecl}
 use Rattle.cdi_model.specs.declared.decl.Decl.{Decl}
@@ -18,15 +18,21 @@ use Rattle.cdi_bodies.specs.Book.{Promised}
 use Rattle.cdi_bodies.specs.Flags as flags
 use Rattle.cdi_contexts.specs.declared.instance.Actor.TheVariants.{Target as ByTarget}
 use Rattle.cdi_scene.specs.Scene.{as_managed, as_product, bean_at, managed_at, product_at, invocable_at, target_part}
+use Rattle.cdi_scene.specs.Sound.{params_at, home_of, IsOwnPoint, IsNamed}
 use Rattle.cdi_scene.specs.Sound.{IsSound, IsSoundAt, IsSoundForm, IsSoundInvocable, IsSoundManaged, IsSoundProduct, IsStatic}
 use Rattle.cdi_scene.specs.declared.place.Place.{Place}
 use Rattle.cdi_scene.specs.declared.place.Place.TheVariants as places
+use Rattle.cdi_scene.specs.declared.place.Seat.{Seat}
 use Rattle.cdi_scene.specs.declared.scene.Bean.{Bean}
+use Rattle.cdi_scene.specs.declared.scene.CallSite.{CallSite}
 use Rattle.cdi_scene.specs.declared.scene.Injection.{Injection}
 use Rattle.cdi_scene.specs.declared.scene.Invocable.{Invocable}
 use Rattle.cdi_scene.specs.declared.scene.Managed.{Managed}
 use Rattle.cdi_scene.specs.declared.scene.Observer.{Observer}
 use Rattle.cdi_scene.specs.declared.scene.Part.{Part}
+use Rattle.cdi_scene.specs.declared.scene.Scene.{Scene}
+use Rattle.cdi_scene.specs.declared.scene.Via.{Via}
+use Rattle.cdi_scene.specs.declared.scene.Via.TheVariants.{Own, Param}
 use Rattle.cdi_effective.specs.Beans.{beans, effective, entries, managed, product}
 use Rattle.cdi_effective.specs.Disposers.{disposer_of}
 use Rattle.cdi_effective.specs.declared.records.BeanId.{BeanId}
@@ -39,10 +45,11 @@ use Rattle.cdi_staging.specs.Staged.{position_of_class, product_form, scene_of, 
 use Rattle.cdi_staging.specs.Staged.{unused_product}
 use Rattle.cdi_staging.specs.declared.target.Target.{Target}
 use Rattle.cdi_staging.proofs.BesideLemmas.{second-at, found, of-find, from-map, in-flat}
-use Rattle.cdi_staging.proofs.ChosenLemmas.{Stands, all-stand, of-none, told-self, told-is}
-use Rattle.cdi_staging.proofs.PartLemmas.{IsSoundFor, disposer-sound, point-reached}
+use Rattle.cdi_staging.proofs.ChosenLemmas.{IsOffered, Stands, all-stand, bean-found, of-none, reached, told-self, told-is}
+use Rattle.cdi_staging.proofs.PartLemmas.{IsSoundFor, NamesVia, disposer-sound, point-reached}
 use Rattle.cdi_staging.proofs.SplitLemmas.{length-targets}
-use Rattle.cdi_staging.proofs.SoundLemmas.{IsGood, disposer_in, fine-product, managed_in, no-call-disposal}
+use Rattle.cdi_staging.proofs.SoundLemmas.{IsGood, IsProduced, IsUsed, LeadsBy, points_seen}
+use Rattle.cdi_staging.proofs.SoundLemmas.{disposer_in, fine-product, managed_in, no-call-disposal}
 use Rattle.cdi_staging.proofs.SoundLemmas.{no-fire-disposal, no-load-disposal, no-proceed-disposal, no-store-disposal}
 use Rattle.cdi_staging.proofs.SoundLemmas.{no-load-class, no-proceed-class, no-store-class, own-good, part_in}
 use Rattle.cdi_staging.proofs.SoundLemmas.{producer-good, producer_in, product_in, stands-at, static-part}
@@ -60,15 +67,32 @@ runs-own ds book b (places.Producer q) x part at is = ap part_in at ∙ is
 runs-own ds book b (places.Disposer q) x part at is = absurd (none-some x at)
 runs-own ds book b (places.Observer o) x part at is = ap part_in at ∙ is
 
+-- the seat of the bean's own body on an instance
+abbrev own_seat : ℕ → Place → ℕ → Seat
+own_seat b place n = record { bean = b; number = Some n; actor = ByTarget; place = place }
+
+-- the call site leads there on any instance
+abbrev LeadsAt : Scene → ℕ → Place → CallSite → Type 0
+LeadsAt s b place site = (n : ℕ) → IsNamed s (own_seat b place n) site.via site.bean
+
 invocable-sound : (ds : List Decl) (book : List Promised) (b : ℕ) (place : Place) (x : Invocable)
-    → invocable_at (scene_of ds book) b place ≡ Some x → IsGood ds book place x → IsSoundInvocable book (scene_of ds book) b place x
+    → invocable_at (scene_of ds book) b place ≡ Some x → IsGood ds book place (LeadsAt (scene_of ds book) b place) x
+    → IsSoundInvocable book (scene_of ds book) b place x
 invocable-sound ds book b place x at good = record {
   links = λ k q n e.
       let none : None ≡ Some q = sym (ap (λ l. slice_get l k) good.chain_is) ∙ e in
       absurd (none-some q none);
   target = λ part n e.
       let g = good.part part e in
-      record { body = part; runs = runs-own ds book b place x part at e; sound = g.sound; allowed = g.allowed; own = g.own; seated = tt };
+      record {
+        body = part;
+        runs = runs-own ds book b place x part at e;
+        sound = g.sound;
+        allowed = g.allowed;
+        own = g.own;
+        seated = tt;
+        leads = λ k site at. g.leads k site at n;
+      };
 }
 
 -- the observer methods of a bean
@@ -96,18 +120,104 @@ no-observed ds book b o x (Some bean) at e =
       | inr p ↦ none-some x (sym (ap (λ bn. observed_in (observer_in o (as_managed bn.form))) p.made) ∙ e)
     ]
 
+-- ---- where call sites lead
+
+injection-there : (n : ℕ) (ts : List Target) (k : ℕ) (t : Target) → slice_get ts k ≡ Some t
+    → slice_get (injections_from n ts) k ≡ Some (record { actor = ByTarget; point = n + k; bean = t.bean })
+injection-there n [] k t e = absurd (none-some t e)
+injection-there n (u ∷ ts) zero t e =
+    let first : n ≡ n + 0 = omega arith in
+    ap (λ o. option_map (λ v. record { actor = ByTarget; point = n; bean = v.bean }) o) e
+    ∙ ap (λ p. Some (record { actor = ByTarget; point = p; bean = t.bean })) first
+injection-there n (u ∷ ts) (suc k) t e =
+    let place : n + 1 + k ≡ n + suc k = omega arith in
+    injection-there (n + 1) ts k t e ∙ ap (λ p. Some (record { actor = ByTarget; point = p; bean = t.bean })) place
+
+-- an injection point of the bean at home
+own-point : (ds : List Decl) (book : List Promised) (home : ℕ) (d : BeanDecl) (seat : Seat) (n p b : ℕ) (t : Target)
+    → IsUsed ds book home d → home_of (scene_of ds book) seat.bean seat.place ≡ home → seat.number ≡ Some n
+    → seat.actor ≡ ByTarget → slice_get (targets ds d.points) p ≡ Some t → t.bean ≡ b → IsOwnPoint (scene_of ds book) seat p b
+unfolding managed_form
+own-point ds book home d seat n p b t used is seated own at same =
+    let first : 0 + p ≡ p = omega arith in
+    record {
+      managed = managed_form ds (beans ds) book (sight_of ds d) d;
+      there = ap (managed_at (scene_of ds book)) is ∙ used;
+      number = n;
+      seated = seated;
+      place = p;
+      injected = injection-there 0 (targets ds d.points) p t at
+          ∙ ap (λ q. Some (record { actor = ByTarget; point = q; bean = t.bean })) first
+          ∙ ap (λ c. Some (record { actor = ByTarget; point = p; bean = c })) same
+          ∙ ap (λ a. Some (record { actor = a; point = p; bean = b })) (sym own);
+    }
+
+own-leads : (ds : List Decl) (book : List Promised) (b : ℕ) (place : Place) (d : BeanDecl)
+    → home_of (scene_of ds book) b place ≡ b → IsUsed ds book b d → LeadsBy ds d.points [] (LeadsAt (scene_of ds book) b place)
+own-leads ds book b place d home used site names n = by site.via names
+  where
+    by : (via : Via) → NamesVia (targets ds d.points) [] via site.bean → IsNamed (scene_of ds book) (own_seat b place n) via site.bean
+    by (Own p) t = own-point ds book b d (own_seat b place n) n p site.bean t.0 used home refl refl t.1 t.2
+    by (Param p) t = absurd (none-some t.0 t.1)
+
+-- what is chosen for a parameter
+param-named : (ds : List Decl) (params : List PointDecl) (p b : ℕ) (t : Target) → slice_get (targets ds params) p ≡ Some t
+    → t.bean ≡ b → slice_get (map (λ target. target.bean) (targets ds params)) p ≡ Some b
+param-named ds params p b t at same =
+    slice_get-map (λ target. target.bean) (targets ds params) p ∙ ap (option_map (λ target. target.bean)) at ∙ ap Some same
+
+-- the bean of an enabled declaration stands at the position of its class
+host-used : (ds : List Decl) (book : List Promised) (k : ℕ) (d : BeanDecl) → AreDistinct ds → slice_get ds k ≡ Some (decls.Bean d)
+    → (managed ds d).is_enabled ≡ true → IsUsed ds book (position_of_class (beans ds) d.name) d
+unfolding beans effective
+host-used ds book k d distinct at enabled =
+    let id : BeanId = record { class = d.name; producer = None } in
+    let among = in-flat (entries ds) ds k (decls.Bean d) 0 (managed ds d) at refl in
+    let offered : IsOffered id (beans ds) =
+    record { place = among.0; value = managed ds d; there = among.1; is = refl; enabled = enabled } in
+    let r = reached ds book id distinct offered in
+    let m = r.of_managed refl in
+    let same : m.decl ≡ d = same_Some m.decl d (sym m.is ∙ bean-found ds k d distinct at) in
+    ap managed_in r.there ∙ ap as_managed m.form
+    ∙ ap (λ e. Some (managed_form ds (beans ds) book (sight_of ds e) e)) same
+
+product-leads : (ds : List Decl) (book : List Promised) (b q : ℕ) (d : BeanDecl) (p : ProducerDecl) → AreDistinct ds
+    → IsProduced ds book q d p
+    → LeadsBy ds (points_seen p.is_static d) p.params (LeadsAt (scene_of ds book) b (places.Producer q))
+unfolding product_form
+product-leads ds book b q d p distinct made site names n = by p.is_static site.via names
+  where
+    seat : Seat
+    seat = own_seat b (places.Producer q) n
+
+    by : (s : Bool) (via : Via) → NamesVia (targets ds (points_seen s d)) (targets ds p.params) via site.bean
+        → IsNamed (scene_of ds book) seat via site.bean
+    by true (Own k) t = absurd (none-some t.0 t.1)
+    by false (Own k) t =
+        own-point ds book (position_of_class (beans ds) d.name) d seat n k site.bean t.0
+        (host-used ds book made.place d distinct made.there made.enabled)
+        (ap (λ o. elim o [ Some x ↦ x.declaring | None ↦ b ]) made.product_is) refl refl t.1 t.2
+    by s (Param k) t =
+        ap (λ o. slice_get (elim o [ Some x ↦ x.params | None ↦ [] ]) k) made.product_is
+        ∙ param-named ds p.params k site.bean t.0 t.1 t.2
+
 all-invocables : (ds : List Decl) (book : List Promised) (b : ℕ) (place : Place) (x : Invocable) → AreDistinct ds → AreFine ds book
-    → invocable_at (scene_of ds book) b place ≡ Some x → IsGood ds book place x
+    → invocable_at (scene_of ds book) b place ≡ Some x → IsGood ds book place (LeadsAt (scene_of ds book) b place) x
 all-invocables ds book b places.Construct x distinct fine at =
-    own-good ds book b places.Construct x (bean_at (scene_of ds book) b) distinct fine refl at
+    own-good ds book b places.Construct (LeadsAt (scene_of ds book) b places.Construct) x (bean_at (scene_of ds book) b) distinct fine
+    (λ d used. own-leads ds book b places.Construct d refl used) refl at
 all-invocables ds book b places.Post x distinct fine at =
-    own-good ds book b places.Post x (bean_at (scene_of ds book) b) distinct fine refl at
+    own-good ds book b places.Post (LeadsAt (scene_of ds book) b places.Post) x (bean_at (scene_of ds book) b) distinct fine
+    (λ d used. own-leads ds book b places.Post d refl used) refl at
 all-invocables ds book b places.Pre x distinct fine at =
-    own-good ds book b places.Pre x (bean_at (scene_of ds book) b) distinct fine refl at
+    own-good ds book b places.Pre (LeadsAt (scene_of ds book) b places.Pre) x (bean_at (scene_of ds book) b) distinct fine
+    (λ d used. own-leads ds book b places.Pre d refl used) refl at
 all-invocables ds book b (places.Method m) x distinct fine at =
-    own-good ds book b (places.Method m) x (bean_at (scene_of ds book) b) distinct fine refl at
+    own-good ds book b (places.Method m) (LeadsAt (scene_of ds book) b (places.Method m)) x (bean_at (scene_of ds book) b) distinct fine
+    (λ d used. own-leads ds book b (places.Method m) d refl used) refl at
 all-invocables ds book b (places.Producer q) x distinct fine at =
-    producer-good ds book q x (bean_at (scene_of ds book) q) distinct fine refl at
+    producer-good ds book q (LeadsAt (scene_of ds book) b (places.Producer q)) x (bean_at (scene_of ds book) q) distinct fine
+    (λ d p made. product-leads ds book b q d p distinct made) refl at
 all-invocables ds book b (places.Disposer q) x distinct fine at = absurd (none-some x at)
 all-invocables ds book b (places.Observer o) x distinct fine at =
     absurd (no-observed ds book b o x (bean_at (scene_of ds book) b) refl at)
@@ -133,6 +243,16 @@ injection-of n [] k i e = absurd (none-some i e)
 injection-of n (t ∷ ts) zero i e = (t, refl, ap (λ j. j.bean) (sym (same_Some _ i e)))
 injection-of n (t ∷ ts) (suc k) i e = injection-of (n + 1) ts k i e
 
+-- the points of a bean stand in order
+point-of : (n : ℕ) (ts : List Target) (k : ℕ) (i : Injection) → slice_get (injections_from n ts) k ≡ Some i → i.point ≡ n + k
+point-of n [] k i e = absurd (none-some i e)
+point-of n (t ∷ ts) zero i e =
+    let first : i.point ≡ n = ap (λ j. j.point) (sym (same_Some _ i e)) in
+    omega (arith, first)
+point-of n (t ∷ ts) (suc k) i e =
+    let rest = point-of (n + 1) ts k i e in
+    omega (arith, rest)
+
 managed-sound : (ds : List Decl) (book : List Promised) (d : BeanDecl) (e : Bool) → AreDistinct ds → (e ≡ true → IsFineManaged ds book d)
     → IsSoundManaged (scene_of ds book) (cond e (managed_form ds (beans ds) book (sight_of ds d) d) unused_managed)
 unfolding managed_form
@@ -141,10 +261,15 @@ managed-sound ds book d true distinct fine = record {
       let t = injection-of 0 (targets ds d.points) k i at in
       let bean = target-stands ds book d.points k t.0 distinct (fine refl).points t.1 in
       (bean.0, ap (bean_at (scene_of ds book)) t.2 ∙ bean.1);
+  apart = λ j k x y e f actor point.
+      let one = point-of 0 (targets ds d.points) j x e in
+      let other = point-of 0 (targets ds d.points) k y f in
+      omega (arith, one, other, point);
   observers = λ k o at. absurd (none-some o at);
 }
 managed-sound ds book d false distinct fine = record {
   injections = λ k i at. absurd (none-some i at);
+  apart = λ j k x y e f actor point. absurd (none-some x e);
   observers = λ k o at. absurd (none-some o at);
 }
 
@@ -165,8 +290,25 @@ declaring-there ds book k d at =
     let place : position_of_class (beans ds) d.name ≡ first.place = ap (λ o. unwrap_or o (length (beans ds))) first.position_is in
     (_, ap (λ p. managed_in (bean_at (scene_of ds book) p)) place ∙ ap managed_in staged.there ∙ ap (λ bn. as_managed bn.form) m.made)
 
+names-none : (via : Via) (b : ℕ) → NamesVia [] [] via b → ⊥
+names-none (Own p) b t = none-some t.0 t.1
+names-none (Param p) b t = none-some t.0 t.1
+
+-- what a static producer method names is a parameter
+static-leads : (ds : List Decl) (book : List Promised) (d : BeanDecl) (p : ProducerDecl) (seat : Seat) (b : ℕ) (via : Via) (c : ℕ)
+    → seat.place ≡ places.Producer b
+    → product_at (scene_of ds book) b
+    ≡ Some (product_form ds (beans ds) book (sight_of ds d) d (product ds d p) p (targets ds p.params))
+    → NamesVia [] (targets ds p.params) via c → IsNamed (scene_of ds book) seat via c
+unfolding product_form
+static-leads ds book d p seat b (Own k) c is there t = absurd (none-some t.0 t.1)
+static-leads ds book d p seat b (Param k) c is there t =
+    ap (λ place. slice_get (params_at (scene_of ds book) seat.bean place) k) is
+    ∙ ap (λ o. slice_get (elim o [ Some x ↦ x.params | None ↦ [] ]) k) there
+    ∙ param-named ds p.params k c t.0 t.1 t.2
+
 disposer-at : (ds : List Decl) (book : List Promised) (declaring b : ℕ) (part : Part)
-    → target_part (scene_of ds book) declaring (places.Disposer b) ≡ Some part → IsSoundFor ds book flags.at_disposal part
+    → target_part (scene_of ds book) declaring (places.Disposer b) ≡ Some part → IsSoundFor ds book flags.at_disposal [] [] part
     → IsSoundAt book (scene_of ds book) (record { bean = declaring; number = None; actor = ByTarget; place = places.Disposer b })
 disposer-at ds book declaring b part runs s =
     let static : IsStatic part = record {
@@ -186,6 +328,7 @@ disposer-at ds book declaring b part runs s =
       );
       own = λ has. no-proceed-disposal (s.kept flags.proceed has);
       seated = (static, λ has. no-proceed-disposal (s.kept flags.proceed has));
+      leads = λ k site at. absurd (names-none site.via site.bean (s.names k site at));
     }
 
 product-sound : (ds : List Decl) (book : List Promised) (k : ℕ) (d : BeanDecl) (p : ProducerDecl) (b : ℕ) (e : Bool) → AreDistinct ds
@@ -234,6 +377,15 @@ product-sound ds book k d p b true distinct at fine there =
               },
               λ has. no-proceed-class (made.2.kept flags.proceed has),
             );
+            leads = λ k site at.
+                let seat : Seat =
+                record {
+                  bean = position_of_class (beans ds) d.name;
+                  number = None;
+                  actor = ByTarget;
+                  place = places.Producer b;
+                } in
+                static-leads ds book d p seat b site.via site.bean refl there (made.2.names k site at);
           };
       disposer = λ part e. option_and_then_some (disposer_part book)
           (option_and_then (disposer_named d) (disposer_of ds (product ds d p))) part e

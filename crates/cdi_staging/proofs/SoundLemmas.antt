@@ -32,7 +32,7 @@ use Rattle.cdi_staging.specs.Staged.{staged_method, staged_part, staged_place, t
 use Rattle.cdi_staging.specs.Staged.{unused_product}
 use Rattle.cdi_staging.proofs.BesideLemmas.{First, first-at, of-find, from-map}
 use Rattle.cdi_staging.proofs.ChosenLemmas.{Stands, all-stand}
-use Rattle.cdi_staging.proofs.PartLemmas.{IsSoundFor, from-option, part-sound, seen}
+use Rattle.cdi_staging.proofs.PartLemmas.{IsSoundFor, Names, from-option, part-sound, seen}
 
 -- ---- what the places allow
 
@@ -75,30 +75,39 @@ no-proceed-class e = absurd (omega (arith, e))
 -- ---- what is invoked at a place
 
 -- a part that is sound and keeps to the place
-pub record IsGoodPart (ds : List Decl) (book : List Promised) (place : Place) (part : Part) : Type 0 where
+-- and each of whose call sites is such
+pub record IsGoodPart (ds : List Decl) (book : List Promised) (place : Place) (Leads : CallSite → Type 0) (part : Part) : Type 0 where
   pub sound : IsSoundPart book (scene_of ds book) part
   pub allowed : IsAllowedAt place part
   pub own : Lacks part flags.proceed
+  pub leads : (k : ℕ) (site : CallSite) → slice_get part.calls k ≡ Some site → Leads site
 
 -- no interceptor, and a part, if any, that is such
-pub record IsGood (ds : List Decl) (book : List Promised) (place : Place) (x : Invocable) : Type 0 where
+pub record IsGood (ds : List Decl) (book : List Promised) (place : Place) (Leads : CallSite → Type 0) (x : Invocable) : Type 0 where
   pub chain_is : x.chain ≡ []
-  pub part : (part : Part) → x.part ≡ Some part → IsGoodPart ds book place part
+  pub part : (part : Part) → x.part ≡ Some part → IsGoodPart ds book place Leads part
 
-good-empty : (ds : List Decl) (book : List Promised) (place : Place) → IsGood ds book place empty_place
-good-empty ds book place = record { chain_is = refl; part = λ part e. absurd (cc) }
+-- what a site is that names one of some injection points and parameters
+abbrev pub LeadsBy : List Decl → List PointDecl → List PointDecl → (CallSite → Type 0) → Type 0
+LeadsBy ds points params Leads = (site : CallSite) → Names ds points params site → Leads site
+
+good-empty : (ds : List Decl) (book : List Promised) (place : Place) (Leads : CallSite → Type 0) → IsGood ds book place Leads empty_place
+good-empty ds book place Leads = record { chain_is = refl; part = λ part e. absurd (cc) }
 
 -- what a place takes of a part that is sound there
-abbrev Takes : List Decl → List Promised → ℕ → Place → Type 0
-Takes ds book allowed place = (part : Part) → IsSoundFor ds book allowed part → IsGoodPart ds book place part
+abbrev Takes : List Decl → List Promised → ℕ → Place → List PointDecl → List PointDecl → (CallSite → Type 0) → Type 0
+Takes ds book allowed place points params Leads =
+    (part : Part) → IsSoundFor ds book allowed points params part → IsGoodPart ds book place Leads part
 
-good-place : (ds : List Decl) (book : List Promised) (allowed : ℕ) (place : Place) (points params : List PointDecl) (o : Option PartDecl)
+good-place : (ds : List Decl) (book : List Promised) (allowed : ℕ) (place : Place) (points params : List PointDecl)
+    (Leads : CallSite → Type 0) (o : Option PartDecl)
     → AreDistinct ds → AreSatisfied ds points → AreSatisfied ds params
     → ((part : PartDecl) → o ≡ Some part → IsFinePart ds book allowed (params ++ points) part)
-    → Takes ds book allowed place → IsGood ds book place (staged_place ds (beans ds) book (seen ds points params) o)
+    → Takes ds book allowed place points params Leads
+    → IsGood ds book place Leads (staged_place ds (beans ds) book (seen ds points params) o)
 unfolding staged_place
-good-place ds book allowed place points params None distinct own_points own_params fine takes = good-empty ds book place
-good-place ds book allowed place points params (Some p) distinct own_points own_params fine takes = record {
+good-place ds book allowed place points params Leads None distinct own_points own_params fine takes = good-empty ds book place Leads
+good-place ds book allowed place points params Leads (Some p) distinct own_points own_params fine takes = record {
   chain_is = refl;
   part = λ part e. takes part (part-sound ds book allowed points params p part distinct own_points own_params (fine p refl) e);
 }
@@ -108,65 +117,73 @@ good-place ds book allowed place points params (Some p) distinct own_points own_
 none-satisfied : (ds : List Decl) → AreSatisfied ds []
 none-satisfied ds k point e = absurd (cc)
 
-at-instance : (ds : List Decl) (book : List Promised) (place : Place) → ((part : Part) → IsAllowedAt place part)
-    → Takes ds book flags.at_instance place
-at-instance ds book place allows part s = record {
+at-instance : (ds : List Decl) (book : List Promised) (place : Place) (points params : List PointDecl) (Leads : CallSite → Type 0)
+    → ((part : Part) → IsAllowedAt place part) → LeadsBy ds points params Leads
+    → Takes ds book flags.at_instance place points params Leads
+at-instance ds book place points params Leads allows lead part s = record {
   sound = s.sound;
   allowed = allows part;
   own = λ has. no-proceed-instance (s.kept flags.proceed has);
+  leads = λ k site at. lead site (s.names k site at);
 }
 
-at-destruction : (ds : List Decl) (book : List Promised) → Takes ds book flags.at_destruction places.Pre
-at-destruction ds book part s = record {
+at-destruction : (ds : List Decl) (book : List Promised) (points : List PointDecl) (Leads : CallSite → Type 0)
+    → LeadsBy ds points [] Leads → Takes ds book flags.at_destruction places.Pre points [] Leads
+at-destruction ds book points Leads lead part s = record {
   sound = s.sound;
   allowed = record {
     calls_nothing = λ has. no-call-destruction (s.kept flags.call has);
     fires_nothing = λ has. no-fire-destruction (s.kept flags.fire has);
   };
   own = λ has. no-proceed-destruction (s.kept flags.proceed has);
+  leads = λ k site at. lead site (s.names k site at);
 }
 
-good-form : (ds : List Decl) (book : List Promised) (d : BeanDecl) (place : Place) (x : Invocable) → AreDistinct ds
-    → IsFineManaged ds book d
-    → place_of (managed_form ds (beans ds) book (sight_of ds d) d) place ≡ Some x → IsGood ds book place x
+good-form : (ds : List Decl) (book : List Promised) (d : BeanDecl) (place : Place) (Leads : CallSite → Type 0) (x : Invocable)
+    → AreDistinct ds → IsFineManaged ds book d → LeadsBy ds d.points [] Leads
+    → place_of (managed_form ds (beans ds) book (sight_of ds d) d) place ≡ Some x → IsGood ds book place Leads x
 unfolding managed_form
-good-form ds book d places.Construct x distinct fine e =
-    subst (IsGood ds book places.Construct) (same_Some _ x e)
-    (good-place ds book flags.at_instance places.Construct d.points [] d.construct distinct fine.points (none-satisfied ds) fine.construct
-    (at-instance ds book places.Construct (λ part. tt)))
-good-form ds book d places.Post x distinct fine e =
-    subst (IsGood ds book places.Post) (same_Some _ x e)
-    (good-place ds book flags.at_instance places.Post d.points [] d.post distinct fine.points (none-satisfied ds) fine.post
-    (at-instance ds book places.Post (λ part. tt)))
-good-form ds book d places.Pre x distinct fine e =
-    subst (IsGood ds book places.Pre) (same_Some _ x e)
-    (good-place ds book flags.at_destruction places.Pre d.points [] d.pre distinct fine.points (none-satisfied ds) fine.pre
-    (at-destruction ds book))
-good-form ds book d (places.Method m) x distinct fine e =
+good-form ds book d places.Construct Leads x distinct fine lead e =
+    subst (IsGood ds book places.Construct Leads) (same_Some _ x e)
+    (good-place ds book flags.at_instance places.Construct d.points [] Leads d.construct distinct fine.points (none-satisfied ds)
+    fine.construct (at-instance ds book places.Construct d.points [] Leads (λ part. tt) lead))
+good-form ds book d places.Post Leads x distinct fine lead e =
+    subst (IsGood ds book places.Post Leads) (same_Some _ x e)
+    (good-place ds book flags.at_instance places.Post d.points [] Leads d.post distinct fine.points (none-satisfied ds) fine.post
+    (at-instance ds book places.Post d.points [] Leads (λ part. tt) lead))
+good-form ds book d places.Pre Leads x distinct fine lead e =
+    subst (IsGood ds book places.Pre Leads) (same_Some _ x e)
+    (good-place ds book flags.at_destruction places.Pre d.points [] Leads d.pre distinct fine.points (none-satisfied ds) fine.pre
+    (at-destruction ds book d.points Leads lead))
+good-form ds book d (places.Method m) Leads x distinct fine lead e =
     let at = from-map (staged_method ds (beans ds) book (sight_of ds d)) d.methods m x e in
-    subst (IsGood ds book (places.Method m)) at.2
-    (good-place ds book flags.at_instance (places.Method m) d.points [] (Some at.0.part) distinct fine.points (none-satisfied ds)
+    subst (IsGood ds book (places.Method m) Leads) at.2
+    (good-place ds book flags.at_instance (places.Method m) d.points [] Leads (Some at.0.part) distinct fine.points (none-satisfied ds)
     (λ part same. subst (IsFinePart ds book flags.at_instance d.points) (same_Some at.0.part part same) (fine.methods m at.0 at.1))
-    (at-instance ds book (places.Method m) (λ part. tt)))
-good-form ds book d (places.Producer b) x distinct fine e = absurd (cc)
-good-form ds book d (places.Disposer b) x distinct fine e = absurd (cc)
-good-form ds book d (places.Observer o) x distinct fine e = absurd (cc)
+    (at-instance ds book (places.Method m) d.points [] Leads (λ part. tt) lead))
+good-form ds book d (places.Producer b) Leads x distinct fine lead e = absurd (cc)
+good-form ds book d (places.Disposer b) Leads x distinct fine lead e = absurd (cc)
+good-form ds book d (places.Observer o) Leads x distinct fine lead e = absurd (cc)
 
-good-unused : (ds : List Decl) (book : List Promised) (place : Place) (x : Invocable) → place_of unused_managed place ≡ Some x
-    → IsGood ds book place x
-good-unused ds book places.Construct x e = subst (IsGood ds book places.Construct) (same_Some _ x e) (good-empty ds book places.Construct)
-good-unused ds book places.Post x e = subst (IsGood ds book places.Post) (same_Some _ x e) (good-empty ds book places.Post)
-good-unused ds book places.Pre x e = subst (IsGood ds book places.Pre) (same_Some _ x e) (good-empty ds book places.Pre)
-good-unused ds book (places.Method m) x e = absurd (cc)
-good-unused ds book (places.Producer b) x e = absurd (cc)
-good-unused ds book (places.Disposer b) x e = absurd (cc)
-good-unused ds book (places.Observer o) x e = absurd (cc)
+good-unused : (ds : List Decl) (book : List Promised) (place : Place) (Leads : CallSite → Type 0) (x : Invocable)
+    → place_of unused_managed place ≡ Some x → IsGood ds book place Leads x
+good-unused ds book places.Construct Leads x e =
+    subst (IsGood ds book places.Construct Leads) (same_Some _ x e) (good-empty ds book places.Construct Leads)
+good-unused ds book places.Post Leads x e =
+    subst (IsGood ds book places.Post Leads) (same_Some _ x e) (good-empty ds book places.Post Leads)
+good-unused ds book places.Pre Leads x e =
+    subst (IsGood ds book places.Pre Leads) (same_Some _ x e) (good-empty ds book places.Pre Leads)
+good-unused ds book (places.Method m) Leads x e = absurd (cc)
+good-unused ds book (places.Producer b) Leads x e = absurd (cc)
+good-unused ds book (places.Disposer b) Leads x e = absurd (cc)
+good-unused ds book (places.Observer o) Leads x e = absurd (cc)
 
-good-managed : (ds : List Decl) (book : List Promised) (d : BeanDecl) (place : Place) (x : Invocable) (e : Bool) → AreDistinct ds
-    → (e ≡ true → IsFineManaged ds book d)
-    → place_of (cond e (managed_form ds (beans ds) book (sight_of ds d) d) unused_managed) place ≡ Some x → IsGood ds book place x
-good-managed ds book d place x true distinct fine at = good-form ds book d place x distinct (fine refl) at
-good-managed ds book d place x false distinct fine at = good-unused ds book place x at
+good-managed : (ds : List Decl) (book : List Promised) (d : BeanDecl) (place : Place) (Leads : CallSite → Type 0) (x : Invocable) (e : Bool)
+    → AreDistinct ds → (e ≡ true → IsFineManaged ds book d) → (e ≡ true → LeadsBy ds d.points [] Leads)
+    → place_of (cond e (managed_form ds (beans ds) book (sight_of ds d) d) unused_managed) place ≡ Some x
+    → IsGood ds book place Leads x
+good-managed ds book d place Leads x true distinct fine lead at = good-form ds book d place Leads x distinct (fine refl) (lead refl) at
+good-managed ds book d place Leads x false distinct fine lead at = good-unused ds book place Leads x at
 
 -- ---- producer methods
 
@@ -174,19 +191,30 @@ offered : (ds : List Decl) (d : BeanDecl) (p : ProducerDecl) → (product ds d p
 unfolding effective
 offered ds d p e = (and_parts (managed ds d).is_enabled _ e).0
 
-good-by : (ds : List Decl) (book : List Promised) (d : BeanDecl) (p : ProducerDecl) (b : ℕ) (s : Bool) → AreDistinct ds
-    → AreSatisfied ds d.points → AreSatisfied ds p.params
+-- what a static producer method sees of its bean, or another one
+abbrev pub points_seen : Bool → BeanDecl → List PointDecl
+points_seen true d = []
+points_seen false d = d.points
+
+good-by : (ds : List Decl) (book : List Promised) (d : BeanDecl) (p : ProducerDecl) (b : ℕ) (Leads : CallSite → Type 0) (s : Bool)
+    → AreDistinct ds → AreSatisfied ds d.points → AreSatisfied ds p.params
     → IsFinePart ds book (cond s flags.at_class flags.at_instance) (p.params ++ cond s [] d.points) p.part
-    → IsGood ds book (places.Producer b)
+    → LeadsBy ds (points_seen s d) p.params Leads
+    → IsGood ds book (places.Producer b) Leads
     (staged_place ds (beans ds) book (producer_sight s (sight_of ds d) p.params (targets ds p.params)) (Some p.part))
-good-by ds book d p b true distinct own_points own_params fine =
-    good-place ds book flags.at_class (places.Producer b) [] p.params (Some p.part) distinct (none-satisfied ds) own_params
+good-by ds book d p b Leads true distinct own_points own_params fine lead =
+    good-place ds book flags.at_class (places.Producer b) [] p.params Leads (Some p.part) distinct (none-satisfied ds) own_params
     (λ part same. subst (IsFinePart ds book flags.at_class (p.params ++ [])) (same_Some p.part part same) fine)
-    (λ part s. record { sound = s.sound; allowed = tt; own = λ has. no-proceed-class (s.kept flags.proceed has) })
-good-by ds book d p b false distinct own_points own_params fine =
-    good-place ds book flags.at_instance (places.Producer b) d.points p.params (Some p.part) distinct own_points own_params
+    (λ part s. record {
+      sound = s.sound;
+      allowed = tt;
+      own = λ has. no-proceed-class (s.kept flags.proceed has);
+      leads = λ k site at. lead site (s.names k site at);
+    })
+good-by ds book d p b Leads false distinct own_points own_params fine lead =
+    good-place ds book flags.at_instance (places.Producer b) d.points p.params Leads (Some p.part) distinct own_points own_params
     (λ part same. subst (IsFinePart ds book flags.at_instance (p.params ++ d.points)) (same_Some p.part part same) fine)
-    (at-instance ds book (places.Producer b) (λ part. tt))
+    (at-instance ds book (places.Producer b) d.points p.params Leads (λ part. tt) lead)
 
 -- ---- what stands at a position
 
@@ -219,28 +247,44 @@ pub stands-at : (ds : List Decl) (book : List Promised) (b : ℕ) (bean : Bean) 
     → First (Stands ds book) (beans ds) b bean
 stands-at ds book b bean at = first-at (Stands ds book) (beans ds) (scene_of ds book).beans b bean (all-stand ds book) at
 
-pub own-good : (ds : List Decl) (book : List Promised) (b : ℕ) (place : Place) (x : Invocable) (o : Option Bean) → AreDistinct ds
-    → AreFine ds book → bean_at (scene_of ds book) b ≡ o → place_in place (managed_in o) ≡ Some x → IsGood ds book place x
-own-good ds book b place x None distinct fine at e = absurd (cc)
-own-good ds book b place x (Some bean) distinct fine at e =
+-- a managed bean that is enabled stands at the position
+abbrev pub IsUsed : List Decl → List Promised → ℕ → BeanDecl → Type 0
+IsUsed ds book b d = managed_in (bean_at (scene_of ds book) b) ≡ Some (managed_form ds (beans ds) book (sight_of ds d) d)
+
+used : (ds : List Decl) (book : List Promised) (b : ℕ) (d : BeanDecl) (e : Bool)
+    → managed_in (bean_at (scene_of ds book) b) ≡ Some (cond e (managed_form ds (beans ds) book (sight_of ds d) d) unused_managed)
+    → e ≡ true → IsUsed ds book b d
+used ds book b d true at is = at
+used ds book b d false at is = absurd (false≢true is)
+
+pub own-good : (ds : List Decl) (book : List Promised) (b : ℕ) (place : Place) (Leads : CallSite → Type 0) (x : Invocable)
+    (o : Option Bean) → AreDistinct ds → AreFine ds book
+    → ((d : BeanDecl) → IsUsed ds book b d → LeadsBy ds d.points [] Leads)
+    → bean_at (scene_of ds book) b ≡ o → place_in place (managed_in o) ≡ Some x → IsGood ds book place Leads x
+own-good ds book b place Leads x None distinct fine lead at e = absurd (cc)
+own-good ds book b place Leads x (Some bean) distinct fine lead at e =
     elim (stands-at ds book b bean at).fits [
-      | inl m ↦ good-managed ds book m.decl place x (managed ds m.decl).is_enabled distinct (fine m.place m.decl m.there).managed_bean
+      | inl m ↦ good-managed ds book m.decl place Leads x (managed ds m.decl).is_enabled distinct
+          (fine m.place m.decl m.there).managed_bean
+          (λ enabled. lead m.decl (used ds book b m.decl (managed ds m.decl).is_enabled
+          (ap managed_in at ∙ ap (λ bn. as_managed bn.form) m.made) enabled))
           (sym (ap (λ bn. place_in place (as_managed bn.form)) m.made) ∙ e)
       | inr p ↦
           let none : None ≡ Some x = sym (ap (λ bn. place_in place (as_managed bn.form)) p.made) ∙ e in
           absurd (none-some x none)
     ]
 
-good-product : (ds : List Decl) (book : List Promised) (d : BeanDecl) (p : ProducerDecl) (b : ℕ) (e : Bool) → AreDistinct ds
-    → (e ≡ true → AreSatisfied ds d.points × IsFineProducer ds book d p)
-    → IsGood ds book (places.Producer b)
+good-product : (ds : List Decl) (book : List Promised) (d : BeanDecl) (p : ProducerDecl) (b : ℕ) (Leads : CallSite → Type 0) (e : Bool)
+    → AreDistinct ds → (e ≡ true → AreSatisfied ds d.points × IsFineProducer ds book d p)
+    → (e ≡ true → LeadsBy ds (points_seen p.is_static d) p.params Leads)
+    → IsGood ds book (places.Producer b) Leads
     (cond e (product_form ds (beans ds) book (sight_of ds d) d (product ds d p) p (targets ds p.params))
     (unused_product (beans ds) d)).invocable
 unfolding product_form
-good-product ds book d p b true distinct fine =
+good-product ds book d p b Leads true distinct fine lead =
     let f = fine refl in
-    good-by ds book d p b p.is_static distinct f.0 f.1.params f.1.part
-good-product ds book d p b false distinct fine = good-empty ds book (places.Producer b)
+    good-by ds book d p b Leads p.is_static distinct f.0 f.1.params f.1.part (lead refl)
+good-product ds book d p b Leads false distinct fine lead = good-empty ds book (places.Producer b) Leads
 
 -- what is known of an enabled product
 pub fine-product : (ds : List Decl) (book : List Promised) (k : ℕ) (d : BeanDecl) (j : ℕ) (p : ProducerDecl) → AreFine ds book
@@ -250,18 +294,40 @@ fine-product ds book k d j p fine there declared enabled =
     let f = fine k d there in
     ((f.managed_bean (offered ds d p enabled)).points, f.products j p declared enabled)
 
-pub producer-good : (ds : List Decl) (book : List Promised) (q : ℕ) (x : Invocable) (o : Option Bean) → AreDistinct ds → AreFine ds book
-    → bean_at (scene_of ds book) q ≡ o → producer_in (product_in o) ≡ Some x → IsGood ds book (places.Producer q) x
-producer-good ds book q x None distinct fine at e = absurd (cc)
-producer-good ds book q x (Some bean) distinct fine at e =
+-- a product of an enabled producer method of a declaration stands at the position
+pub record IsProduced (ds : List Decl) (book : List Promised) (q : ℕ) (d : BeanDecl) (p : ProducerDecl) : Type 0 where
+  pub place : ℕ
+  pub there : slice_get ds place ≡ Some (decls.Bean d)
+  pub enabled : (managed ds d).is_enabled ≡ true
+  pub product_is : product_in (bean_at (scene_of ds book) q)
+      ≡ Some (product_form ds (beans ds) book (sight_of ds d) d (product ds d p) p (targets ds p.params))
+
+is-produced : (ds : List Decl) (book : List Promised) (q : ℕ) (d : BeanDecl) (p : ProducerDecl) (k : ℕ) (e : Bool)
+    → slice_get ds k ≡ Some (decls.Bean d) → (e ≡ true → (managed ds d).is_enabled ≡ true)
+    → product_in (bean_at (scene_of ds book) q)
+    ≡ Some (cond e (product_form ds (beans ds) book (sight_of ds d) d (product ds d p) p (targets ds p.params))
+    (unused_product (beans ds) d))
+    → e ≡ true → IsProduced ds book q d p
+is-produced ds book q d p k true there enabled at is = record { place = k; there = there; enabled = enabled refl; product_is = at }
+is-produced ds book q d p k false there enabled at is = absurd (false≢true is)
+
+pub producer-good : (ds : List Decl) (book : List Promised) (q : ℕ) (Leads : CallSite → Type 0) (x : Invocable) (o : Option Bean)
+    → AreDistinct ds → AreFine ds book
+    → ((d : BeanDecl) (p : ProducerDecl) → IsProduced ds book q d p → LeadsBy ds (points_seen p.is_static d) p.params Leads)
+    → bean_at (scene_of ds book) q ≡ o → producer_in (product_in o) ≡ Some x → IsGood ds book (places.Producer q) Leads x
+producer-good ds book q Leads x None distinct fine lead at e = absurd (cc)
+producer-good ds book q Leads x (Some bean) distinct fine lead at e =
     elim (stands-at ds book q bean at).fits [
       | inl m ↦
           let none : None ≡ Some x = sym (ap (λ bn. producer_in (as_product bn.form)) m.made) ∙ e in
           absurd (none-some x none)
-      | inr p ↦ subst (IsGood ds book (places.Producer q))
+      | inr p ↦ subst (IsGood ds book (places.Producer q) Leads)
           (same_Some _ x (sym (ap (λ bn. producer_in (as_product bn.form)) p.made) ∙ e))
-          (good-product ds book p.decl p.producer q (product ds p.decl p.producer).is_enabled distinct
-          (fine-product ds book p.place p.decl p.at p.producer fine p.there p.declared))
+          (good-product ds book p.decl p.producer q Leads (product ds p.decl p.producer).is_enabled distinct
+          (fine-product ds book p.place p.decl p.at p.producer fine p.there p.declared)
+          (λ enabled. lead p.decl p.producer (is-produced ds book q p.decl p.producer p.place
+          (product ds p.decl p.producer).is_enabled p.there (offered ds p.decl p.producer)
+          (ap product_in at ∙ ap (λ bn. as_product bn.form) p.made) enabled)))
     ]
 
 -- ---- static producer methods
@@ -280,7 +346,7 @@ static-by : (ds : List Decl) (book : List Promised) (d : BeanDecl) (p : Producer
     → IsFinePart ds book (cond s flags.at_class flags.at_instance) (p.params ++ cond s [] d.points) p.part → s ≡ true
     → (made : Part)
     × ((staged_place ds (beans ds) book (producer_sight s (sight_of ds d) p.params (targets ds p.params)) (Some p.part)).part ≡ Some made)
-    × IsSoundFor ds book flags.at_class made
+    × IsSoundFor ds book flags.at_class [] p.params made
 unfolding staged_place staged_part
 static-by ds book d p true distinct own_params fine is =
     let lead = site_of ds (beans ds) (seen ds [] p.params) in
@@ -293,6 +359,6 @@ pub static-part : (ds : List Decl) (book : List Promised) (d : BeanDecl) (p : Pr
     → p.is_static ≡ true
     → (made : Part)
     × ((product_form ds (beans ds) book (sight_of ds d) d (product ds d p) p (targets ds p.params)).invocable.part ≡ Some made)
-    × IsSoundFor ds book flags.at_class made
+    × IsSoundFor ds book flags.at_class [] p.params made
 unfolding product_form
 static-part ds book d p distinct fine is = static-by ds book d p p.is_static distinct fine.params fine.part is
