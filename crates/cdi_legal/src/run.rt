@@ -24,7 +24,7 @@ pub struct Run {
     contexts: Contexts,
     trace: Vec<Entry>,
     asked: u32,
-    /// Frames that have ended in this run and in runs before it.
+    /// Frames that have ended, in this run and in runs before it: at most as many as were open at once.
     spare: SpareFrames,
 }
 

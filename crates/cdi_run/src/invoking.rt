@@ -126,7 +126,7 @@ impl<'a, B: Bodies> Player<'a, B> {
         let part = self.part_at(seat);
         let mut shown = self.stage.begin_frame(run, part, passed.arg)?;
         let mut has_returned = false;
-        let given = 'asking: loop {
+        let answered = 'asking: loop {
             if !run.may_ask() {
                 break failed(Failure::Budget, has_returned);
             }
@@ -141,12 +141,12 @@ impl<'a, B: Bodies> Player<'a, B> {
             if shown.answers.len() == 64 {
                 break failed(Failure::Steps, has_returned);
             }
-            let done = self.act_on(run, levels, seat, held, passed.link, act)?;
-            shown.answers.push(done.outcome);
-            has_returned = or(has_returned, done.has_returned);
+            let given = self.act_on(run, levels, seat, held, passed.link, act)?;
+            shown.answers.push(given.outcome);
+            has_returned = or(has_returned, given.has_returned);
         };
         run.end_frame(shown);
-        Ok(given)
+        Ok(answered)
     }
 
     /// Does an act that does not end its frame.

@@ -43,20 +43,20 @@ ask_on-returns g t c =
     (elim c.if-not-may_ask.branch [
       | ask_on-then-not-may_ask w ↦
           let none : 20000 ≤ c.asking.run.moment.asked = omega (arith, never _ _ c.may_ask.ensures w.if-not-may_ask.true) in
-          rw (w.run-is, w.given-is, w.failed-given.ensures) (c.asking.invariant.rest _ _ (Legal.out_of_budget _ _ _ _ _ _ _ none))
+          rw (w.run-is, w.answered-is, w.failed-answered.ensures) (c.asking.invariant.rest _ _ (Legal.out_of_budget _ _ _ _ _ _ _ none))
       | ask_on-else-not-may_ask+in-Some w ↦
           let some : c.asking.run.moment.asked < 20000 = c.may_ask.ensures.0 w.if-not-may_ask.false in
           let permits : Permits c.args.self.now.stage.scene c.args.seat w.ask-act.result =
           record { part = c.part_at-part.result.now; runs = c.part_at-part.ensures.runs; permitted = w.ask-act.ensures } in
           let q : ending w.ask-act.result ≡ Some w.in-Some.outcome = grind arith in
-          rw (w.run-is, w.given-is) (c.asking.invariant.rest _ _ (Legal.ended _ _ _ _ _ _ _ _ _ _ some w.count_asking.ensures permits q))
+          rw (w.run-is, w.answered-is) (c.asking.invariant.rest _ _ (Legal.ended _ _ _ _ _ _ _ _ _ _ some w.count_asking.ensures permits q))
       | ask_on-else-not-may_ask+in_default+then-len-eq64 w ↦
           let some : c.asking.run.moment.asked < 20000 = c.may_ask.ensures.0 w.if-not-may_ask.false in
           let permits : Permits c.args.self.now.stage.scene c.args.seat w.ask-act.result =
           record { part = c.part_at-part.result.now; runs = c.part_at-part.ensures.runs; permitted = w.ask-act.ensures } in
           let q : ending w.ask-act.result ≡ None = grind arith in
           let full : length c.asking.shown.value.answers.items ≡ 64 = grind (arith, common_steps) in
-          rw (w.run-is, w.given-is, w.failed-given-then-len-eq64.ensures)
+          rw (w.run-is, w.answered-is, w.failed-answered-then-len-eq64.ensures)
           (c.asking.invariant.rest _ _ (rw full (Legal.stopped _ _ _ _ _ _ _ _ some w.count_asking.ensures permits q)))
     ])
 
@@ -81,7 +81,7 @@ ask_on-asking-preserved g t c =
           (ap (λ (m : Moment). m.standing) c.count_asking.ensures) i.served);
       rest = λ a m e.
           i.rest a m
-          (Legal.went_on _ _ _ _ _ _ _ _ _ _ _ _ _ _ some c.count_asking.ensures permits room c.in_ok-done.ensures
+          (Legal.went_on _ _ _ _ _ _ _ _ _ _ _ _ _ _ some c.count_asking.ensures permits room c.in_ok-given.ensures
           (rw (more, c.or-has_returned.ensures) at e));
     }
 
