@@ -75,8 +75,8 @@ ask_on-asking-preserved g t c =
       calls = rw lent i.calls;
       fires = rw lent i.fires;
       few = omega arith;
-      settled = settled_after c.args.self.now.stage c.in_ok-done.ensures tt asked;
-      served = served_after c.args.self.now.stage c.args.seat c.args.held.now c.in_ok-done.ensures tt asked
+      settled = settled_after c.args.self.now.stage c.in_ok-given.ensures tt asked;
+      served = served_after c.args.self.now.stage c.args.seat c.args.held.now c.in_ok-given.ensures tt asked
           (served_same c.args.self.now.stage.scene c.args.seat c.args.held.now c.asking.run.moment c.count_asking.new.self.moment
           (ap (λ (m : Moment). m.standing) c.count_asking.ensures) i.served);
       rest = λ a m e.
