@@ -1,17 +1,16 @@
 -- Along runs each ready instance has its dependent objects.
-use Rattle.std.proofs.Common.{◌≡◌, ℕ, ◌+◌, ◌<◌, ◌≤◌, ◌⊎◌, inl, inr, Bool, true, false, not, ◌==◌, ◌&&◌, List, [], ◌∷◌}
-use Rattle.std.proofs.Common.{◌++◌, map, slice_get}
-use Rattle.std.proofs.Common.{zero, suc, nat_le, Option, Some, None, refl, arith, ap, subst, sym, ◌∙◌, if◌then◌else◌}
-use Rattle.std.specs.List.{find, AllByRecursion}
+use Rattle.std.proofs.Common.{◌≡◌, ℕ, ◌<◌, ◌≤◌, Bool, true, false, not, ◌==◌, ◌&&◌, List, [], ◌∷◌}
+use Rattle.std.proofs.Common.{map, slice_get}
+use Rattle.std.proofs.Common.{zero, suc, Some, None, refl, arith, ap, subst, sym, ◌∙◌, if◌then◌else◌}
+use Rattle.std.specs.List.{AllByRecursion}
 use Rattle.std.proofs.lemmas.Bool.{and_parts}
 use Rattle.cdi_model.specs.declared.decl.Scope.{Scope}
-use Rattle.cdi_model.specs.declared.decl.Scope.TheVariants as scopes
 use Rattle.cdi_bodies.specs.declared.act.Act.{Act}
 use Rattle.cdi_bodies.specs.declared.act.Act.TheVariants.{Load, Store, Call, Fire, Proceed, Return, Fail}
 use Rattle.cdi_model.specs.declared.outcome.Outcome.{Outcome}
 use Rattle.cdi_model.specs.declared.outcome.Val.{Val}
 use Rattle.cdi_contexts.specs.Owned.{is_at, is_of, is_part_of, same_actor}
-use Rattle.cdi_contexts.specs.Rising.{IsRising, RisesFrom, IsOwnerOf}
+use Rattle.cdi_contexts.specs.Rising.{RisesFrom, IsOwnerOf}
 use Rattle.cdi_contexts.specs.Standing.{Standing, without, keep, finish, last_of, last_in, made_for}
 use Rattle.cdi_contexts.specs.declared.instance.Actor.{Actor}
 use Rattle.cdi_contexts.specs.declared.instance.Actor.TheVariants.{Target, Interceptor}
@@ -21,16 +20,12 @@ use Rattle.cdi_contexts.specs.declared.instance.Owner.{Owner}
 use Rattle.cdi_contexts.specs.declared.instance.Owner.TheVariants.{Request, Application, Point, Nobody}
 use Rattle.cdi_contexts.proofs.Last.{last_of_all}
 use Rattle.cdi_contexts.proofs.Rising.{IsRising-without, IsRising-finished, IsRising-stored, rises_bound}
-use Rattle.cdi_scene.specs.Scene.{managed_at}
-use Rattle.cdi_scene.specs.declared.scene.Injection.{Injection}
-use Rattle.cdi_scene.specs.declared.scene.Managed.{Managed}
 use Rattle.cdi_scene.specs.declared.scene.Scene.{Scene}
 use Rattle.cdi_legal.specs.Acts.{Touches}
 use Rattle.cdi_legal.specs.Ends.{Ends, End, Held}
 use Rattle.cdi_legal.specs.Ends as ends
-use Rattle.cdi_legal.specs.Furnished.{IsDependent, IsMade, HasDependents, IsFurnished}
+use Rattle.cdi_legal.specs.Furnished.{HasDependents}
 use Rattle.cdi_legal.specs.Keeps.{IsStill}
-use Rattle.cdi_legal.specs.Legal.{Legal, Node, Answer}
 use Rattle.cdi_legal.specs.Moment.{Moment, step, put, is_create}
 use Rattle.cdi_legal.specs.declared.entry.Entry.{Entry}
 use Rattle.cdi_legal.specs.declared.entry.Entry.TheVariants as entries

@@ -8,9 +8,9 @@ use Rattle.std.proofs.lemmas.Option.{slice_get_within}
 use Rattle.std.proofs.lemmas.Bool.Decides.{nat_tests}
 use Rattle.cdi_model.specs.declared.outcome.Val.{Val}
 use Rattle.cdi_model.specs.declared.outcome.Val.TheVariants.{Null}
-use Rattle.cdi_contexts.specs.Owned.{is_at, is_part_of, same_actor}
+use Rattle.cdi_contexts.specs.Owned.{is_at, same_actor}
 use Rattle.cdi_contexts.specs.Rising.{IsOwnerOf}
-use Rattle.cdi_contexts.specs.Standing.{finish, made_for}
+use Rattle.cdi_contexts.specs.Standing.{finish}
 use Rattle.cdi_contexts.proofs.Rising.{IsRising-more}
 use Rattle.cdi_contexts.specs.declared.instance.Actor.{Actor}
 use Rattle.cdi_contexts.specs.declared.instance.Actor.TheVariants.{Target, Interceptor}
@@ -23,14 +23,12 @@ use Rattle.cdi_scene.specs.declared.scene.Bean.{Bean}
 use Rattle.cdi_scene.specs.declared.scene.Injection.{Injection}
 use Rattle.cdi_scene.specs.declared.scene.Scene.{Scene}
 use Rattle.cdi_legal.specs.Furnished.{IsDependent, IsMade}
-use Rattle.cdi_legal.specs.Legal as nodes
 use Rattle.cdi_legal.specs.Legal.{Legal, create, inject, made_is, failure_is, is_normal, product_of}
-use Rattle.cdi_legal.specs.Moment.{Moment, put}
-use Rattle.cdi_legal.specs.declared.entry.Entry.TheVariants as entries
+use Rattle.cdi_legal.specs.Moment.{Moment}
 use Rattle.cdi_legal.specs.declared.entry.Made.TheVariants.{Instance as Obtained}
 use Rattle.cdi_legal.proofs.Growing.{legal_grows}
-use Rattle.cdi_legal.proofs.Keeping.{AllHold, Terms, Test, found_by, IsFree, Rises, Older, legal_older, older}
-use Rattle.cdi_legal.proofs.Keeping.{young-points, begun, created}
+use Rattle.cdi_legal.proofs.Keeping.{Terms, Test, found_by, IsFree, Rises, Older, legal_older, older}
+use Rattle.cdi_legal.proofs.Keeping.{begun}
 use Rattle.cdi_legal.proofs.Sharing.{same-finish}
 use Rattle.cdi_legal.proofs.Furnishing.{found-such, all-given, at}
 

@@ -1,5 +1,5 @@
 -- Along a legal tree each instance stays that was live before: what is destroyed was made within.
-use Rattle.std.proofs.Common.{◌≡◌, ◌≢◌, ℕ, ◌+◌, ◌<◌, ◌≤◌, Bool, true, false, not, ◌==◌, List, [], ◌∷◌, ◌++◌, map}
+use Rattle.std.proofs.Common.{◌≡◌, ℕ, ◌+◌, ◌<◌, ◌≤◌, Bool, true, false, not, ◌==◌, List, [], ◌∷◌, ◌++◌, map}
 use Rattle.std.proofs.Common.{slice_get}
 use Rattle.std.proofs.Common.{zero, suc, Option, Some, None, refl, arith, ap, subst, sym, ◌∙◌, if◌then◌else◌}
 use Rattle.std.specs.List.{find, AllByRecursion}

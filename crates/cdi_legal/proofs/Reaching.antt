@@ -1,8 +1,7 @@
 -- What a call site names is there: whoever runs has the dependent object that it leads to.
-use Rattle.std.proofs.Common.{◌≡◌, ℕ, true, List, Option, Some, None, option_map, refl, sym, ap, subst, ◌∙◌, slice_get}
+use Rattle.std.proofs.Common.{◌≡◌, ℕ, true, List, Some, None, option_map, sym, ap, subst, ◌∙◌}
 use Rattle.cdi_contexts.specs.Standing.{made_for}
 use Rattle.cdi_contexts.specs.declared.instance.Instance.{Instance}
-use Rattle.cdi_contexts.specs.declared.instance.InstanceId.{InstanceId}
 use Rattle.cdi_scene.specs.Sound.{IsNamed}
 use Rattle.cdi_scene.specs.declared.place.Seat.{Seat}
 use Rattle.cdi_scene.specs.declared.scene.CallSite.{CallSite}

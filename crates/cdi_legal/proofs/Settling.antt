@@ -1,7 +1,7 @@
 -- Along a legal tree each ready instance has its dependent objects.
 use Rattle.std.proofs.Common.{◌≡◌, ℕ, ◌+◌, ◌<◌, ◌≤◌, ◌⊎◌, inl, inr, Bool, true, false, ◌==◌, ◌&&◌, List, [], ◌∷◌}
 use Rattle.std.proofs.Common.{◌++◌, length, map, slice_get}
-use Rattle.std.proofs.Common.{nat_lt, Option, Some, None, refl, arith, ap, subst, sym, ◌∙◌, if◌then◌else◌}
+use Rattle.std.proofs.Common.{nat_lt, Option, Some, None, refl, arith, ap, subst, sym, ◌∙◌}
 use Rattle.std.specs.List.{AllByRecursion}
 use Rattle.std.proofs.lemmas.Bool.{and_parts}
 use Rattle.std.proofs.lemmas.Bool.Decides.{nat_tests}
@@ -9,7 +9,7 @@ use Rattle.std.proofs.lemmas.Option.{slice_get_within}
 use Rattle.cdi_model.specs.declared.decl.Scope.{Scope}
 use Rattle.cdi_model.specs.declared.outcome.Failure.{Failure}
 use Rattle.cdi_model.specs.declared.outcome.Outcome.{Outcome}
-use Rattle.cdi_model.specs.declared.outcome.Outcome.TheVariants.{Value, Failed}
+use Rattle.cdi_model.specs.declared.outcome.Outcome.TheVariants.{Value}
 use Rattle.cdi_model.specs.declared.outcome.Val.{Val}
 use Rattle.cdi_model.specs.declared.outcome.Val.TheVariants.{Null}
 use Rattle.cdi_bodies.specs.declared.act.Act.{Act}
@@ -27,13 +27,12 @@ use Rattle.cdi_scene.specs.Sound.{Bodies, IsSound, IsSoundForm}
 use Rattle.cdi_scene.specs.declared.scene.Bean.{Bean}
 use Rattle.cdi_scene.specs.declared.scene.Form.{Form}
 use Rattle.cdi_scene.specs.declared.scene.Form.TheVariants as forms
-use Rattle.cdi_scene.specs.declared.scene.Injection.{Injection}
 use Rattle.cdi_scene.specs.declared.scene.Managed.{Managed}
 use Rattle.cdi_scene.specs.declared.scene.Product.{Product}
 use Rattle.cdi_scene.specs.declared.scene.Scene.{Scene}
 use Rattle.cdi_legal.specs.Acts.{Touches}
 use Rattle.cdi_legal.specs.Ends.{Ends, Held, destroy, dependents, held, context}
-use Rattle.cdi_legal.specs.Furnished.{IsDependent, HasDependents, IsFurnished}
+use Rattle.cdi_legal.specs.Furnished.{HasDependents, IsFurnished}
 use Rattle.cdi_legal.specs.Legal as nodes
 use Rattle.cdi_legal.specs.Legal.{Legal, Node, Answer, create, outcome_is, made_is, held_is}
 use Rattle.cdi_legal.specs.LegalRun.{Uses, Use, Runs, Command}
@@ -43,10 +42,10 @@ use Rattle.cdi_legal.specs.declared.entry.Entry.TheVariants as entries
 use Rattle.cdi_legal.specs.declared.entry.Made.TheVariants.{Instance as Obtained}
 use Rattle.cdi_legal.proofs.Along.{touch_along}
 use Rattle.cdi_legal.proofs.Growing.{legal_grows}
-use Rattle.cdi_legal.proofs.Keeping.{Admits, AdmitsFor, AllHold, IsFree, Older, Owns, Rises, Terms, WasGiven}
+use Rattle.cdi_legal.proofs.Keeping.{Admits, AdmitsFor, IsFree, Older, Owns, Rises, Terms, WasGiven}
 use Rattle.cdi_legal.proofs.Keeping.{all-more, all-map, begun, created, given-more}
 use Rattle.cdi_legal.proofs.Keeping.{legal_older, older, owned-context, owned-param, still-finish, still-more}
-use Rattle.cdi_legal.proofs.Keeping.{found_by, Test, uses_older}
+use Rattle.cdi_legal.proofs.Keeping.{Test, uses_older}
 use Rattle.cdi_legal.proofs.Sharing.{same-finish}
 use Rattle.cdi_legal.proofs.Furnishing.{AllSpare, AreFurnished, IsPlain, IsSpare, Others, Outside, all-both}
 use Rattle.cdi_legal.proofs.Furnishing.{all-given, all-imply, all-owned}

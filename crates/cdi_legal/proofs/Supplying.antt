@@ -1,6 +1,6 @@
 -- What was made for parameters is there, with its dependent objects.
-use Rattle.std.proofs.Common.{◌≡◌, ℕ, ◌+◌, ◌<◌, ◌≤◌, ◌⊎◌, inl, inr, List, [], ◌∷◌, ◌++◌, length, slice_get}
-use Rattle.std.proofs.Common.{zero, suc, true, false, Option, Some, None, refl, arith, ap, subst, sym, ◌∙◌}
+use Rattle.std.proofs.Common.{◌≡◌, ℕ, ◌+◌, ◌<◌, ◌⊎◌, inl, inr, List, [], ◌∷◌, ◌++◌, length, slice_get}
+use Rattle.std.proofs.Common.{zero, suc, Option, Some, None, refl, arith, ap, subst, sym, ◌∙◌}
 use Rattle.std.proofs.lemmas.Option.{slice_get_within}
 use Rattle.cdi_contexts.specs.declared.instance.Instance.{Instance}
 use Rattle.cdi_contexts.specs.declared.instance.InstanceId.{InstanceId}

@@ -20,7 +20,7 @@ use Rattle.cdi_scene.specs.declared.scene.Product.{Product}
 use Rattle.cdi_scene.specs.declared.scene.Scene.{Scene}
 use Rattle.cdi_legal.specs.Ends.{Held, seat_on, seat_of_class}
 use Rattle.cdi_legal.specs.Furnished.{HasDependents, IsDependent, IsFurnished, IsServed}
-use Rattle.cdi_legal.specs.Legal.{Legal, Node, Answer, at, create, dependent_of, failure_is, for_param, held_is, inject, is_normal, made_is}
+use Rattle.cdi_legal.specs.Legal.{Legal, Node, Answer, at, create, dependent_of, failure_is, for_param, held_is, inject, made_is}
 use Rattle.cdi_legal.specs.Legal.{obtain, reach, supply}
 use Rattle.cdi_legal.specs.LegalRun.{LegalEnd, LegalRequestEnd, Runs, Command}
 use Rattle.cdi_legal.specs.Moment.{Moment, put}
