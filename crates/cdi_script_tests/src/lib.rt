@@ -5,8 +5,12 @@
 #[cfg(test)]
 mod calls;
 #[cfg(test)]
+mod closures;
+#[cfg(test)]
 mod devices;
 #[cfg(test)]
 mod fixtures;
 #[cfg(test)]
 mod long_rows;
+#[cfg(test)]
+mod runs;
