@@ -20,7 +20,7 @@ use Rattle.cdi_run.specs.declared.roots.Wanted.TheVariants as wanteds
 use Rattle.cdi_staging.specs.Sites.{managed_class, method_of, position_of_bean}
 use Rattle.cdi_staging.specs.Staged.{scene_of}
 use Rattle.cdi_staging.proofs.LookupLemmas.{chosen-stands, chosen-has-methods}
-use Rattle.cdi_validate.specs.Sites.{has_method}
+use Rattle.cdi_subjects.specs.Sites.{has_method}
 use Rattle.cdi_container.specs.Asked.{Asked, aim_for, aim_of_choice, aim_with, wanted_of}
 use Rattle.cdi_container.specs.Wired.{StandsIn}
 use Rattle.cdi_container.specs.declared.asked.Aim.{Aim}

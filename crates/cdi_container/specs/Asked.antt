@@ -16,9 +16,9 @@ use Rattle.cdi_legal.specs.LegalRun.{Command, use_bean}
 use Rattle.cdi_run.specs.Known.{use_of}
 use Rattle.cdi_run.specs.declared.roots.Wanted.{Wanted}
 use Rattle.cdi_run.specs.declared.roots.Wanted.TheVariants as wanteds
-use Rattle.cdi_validate.specs.Asked.{are_known}
+use Rattle.cdi_subjects.specs.Asked.{are_known}
 use Rattle.cdi_validate.specs.Faults.{faults}
-use Rattle.cdi_validate.specs.Sites.{has_method}
+use Rattle.cdi_subjects.specs.Sites.{has_method}
 use Rattle.cdi_container.specs.declared.asked.Aim.{Aim}
 use Rattle.cdi_container.specs.declared.asked.Message.{Message}
 

@@ -10,7 +10,7 @@ use cdi_model::{Decls, Error, Ident, Name, Quals, Refusal, Val, Work};
 use cdi_resolve::{BeanList, Choice};
 use cdi_run::Wanted;
 use cdi_staging::{method_of, target_of};
-use cdi_validate::has_method;
+use cdi_subjects::has_method;
 use std::alloc::Global;
 
 /// A method and its argument.

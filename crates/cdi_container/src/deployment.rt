@@ -23,7 +23,8 @@ use cdi_observe::PlainView;
 use cdi_resolve::{BeanList, Choice, choose_name};
 use cdi_run::Player;
 use cdi_staging::Names;
-use cdi_validate::{are_known, faults};
+use cdi_subjects::are_known;
+use cdi_validate::faults;
 use std::alloc::{AllocError, Global};
 use std::marker::Model;
 

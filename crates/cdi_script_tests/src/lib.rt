@@ -1,5 +1,5 @@
-//! Tests of scripts that no page of `worked_rows` can hold, of the devices that they come from and are answered to, and of a
-//! container's calls.
+//! Tests of scripts that no page of `worked_rows` can hold, of the devices that they come from and are answered to, of the
+//! program's statuses, and of a container's calls.
 #![tactic(auto)]
 
 #[cfg(test)]
@@ -14,3 +14,5 @@ mod fixtures;
 mod long_rows;
 #[cfg(test)]
 mod runs;
+#[cfg(test)]
+mod session;

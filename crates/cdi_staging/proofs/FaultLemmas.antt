@@ -36,15 +36,16 @@ use Rattle.cdi_faults.specs.declared.place.PartPlace.{PartPlace}
 use Rattle.cdi_faults.specs.declared.place.PartPlace.TheVariants as places
 use Rattle.cdi_faults.proofs.CodeLemmas.{has_code}
 use Rattle.cdi_faults.proofs.OrderLemmas.{none_in_order}
-use Rattle.cdi_validate.specs.Faults.{faults, faults_of, faults_of_code, is_ambiguous, is_unsatisfied, points_with}
-use Rattle.cdi_validate.specs.Faults.{subjects_at_fault}
-use Rattle.cdi_validate.specs.Parts.{allowed_to, is_fit, unfit, unfit_callbacks, unfit_methods, unfit_part}
-use Rattle.cdi_validate.specs.Parts.{unfit_producers}
-use Rattle.cdi_validate.specs.Parts.{unfit_disposers}
-use Rattle.cdi_validate.specs.Sites.{choice_at, has_method, is_lost, is_lost_among, lacks_method, lost_call}
-use Rattle.cdi_validate.specs.Sites.{lost_calls}
-use Rattle.cdi_validate.specs.Sites.{lost_in_managed, lost_in_part, lost_in_producer, where_enabled}
-use Rattle.cdi_validate.specs.Sites.{sight_of as sight_at}
+use Rattle.cdi_subjects.specs.Subjects.{is_ambiguous, is_unsatisfied, points_with}
+use Rattle.cdi_validate.specs.Faults.{faults, faults_of, faults_of_code}
+use Rattle.cdi_subjects.specs.Subjects.{subjects_at_fault}
+use Rattle.cdi_subjects.specs.Parts.{allowed_to, is_fit, unfit, unfit_callbacks, unfit_methods, unfit_part}
+use Rattle.cdi_subjects.specs.Parts.{unfit_producers}
+use Rattle.cdi_subjects.specs.Parts.{unfit_disposers}
+use Rattle.cdi_subjects.specs.Sites.{choice_at, has_method, is_lost, is_lost_among, lacks_method, lost_call}
+use Rattle.cdi_subjects.specs.Sites.{lost_calls}
+use Rattle.cdi_subjects.specs.Sites.{lost_in_managed, lost_in_part, lost_in_producer, where_enabled}
+use Rattle.cdi_subjects.specs.Sites.{sight_of as sight_at}
 use Rattle.cdi_staging.specs.Faultless.{AreFine, AreSatisfied, FaultlessIsSound, IsFineManaged, IsFinePart}
 use Rattle.cdi_staging.specs.Faultless.{IsFineProducer, IsFit, IsLed, seen_by}
 use Rattle.cdi_staging.specs.Sites.{is_point}

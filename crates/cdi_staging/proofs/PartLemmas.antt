@@ -29,7 +29,7 @@ use Rattle.cdi_effective.specs.Disposers.{find_bean}
 use Rattle.cdi_effective.specs.declared.records.BeanId.{BeanId}
 use Rattle.cdi_resolve.specs.declared.choice.Choice.TheVariants.{One}
 use Rattle.cdi_observe.specs.Answers.{answer_to}
-use Rattle.cdi_validate.specs.Sites.{has_method, methods_in}
+use Rattle.cdi_subjects.specs.Sites.{has_method, methods_in}
 use Rattle.cdi_staging.specs.Faultless.{IsFit, IsSatisfied, AreSatisfied, IsLed, IsFinePart}
 use Rattle.cdi_staging.specs.Sites.{Sight, nowhere, target_of, class_with, method_declared, method_of, is_method}
 use Rattle.cdi_staging.specs.Sites.{is_point, position_of_bean, site_at, site_among, site_of, target_at}

@@ -24,8 +24,8 @@ use Rattle.cdi_effective.specs.declared.records.BeanId.{BeanId}
 use Rattle.cdi_resolve.specs.declared.choice.Choice.TheVariants.{One}
 use Rattle.cdi_observe.specs.Answers.{answer_to}
 use Rattle.cdi_validate.specs.Faults.{faults}
-use Rattle.cdi_validate.specs.Parts.{allowed_to}
-use Rattle.cdi_validate.specs.Sites.{has_method}
+use Rattle.cdi_subjects.specs.Parts.{allowed_to}
+use Rattle.cdi_subjects.specs.Sites.{has_method}
 use Rattle.cdi_staging.specs.Sites.{is_point}
 use Rattle.cdi_staging.specs.Staged.{scene_of}
 

@@ -10,7 +10,7 @@ use Rattle.cdi_effective.specs.Beans.{beans}
 use Rattle.cdi_effective.specs.declared.records.BeanId.{BeanId}
 use Rattle.cdi_resolve.specs.Choices.{chosen}
 use Rattle.cdi_resolve.specs.declared.choice.Choice.TheVariants.{One}
-use Rattle.cdi_validate.specs.Sites.{has_method}
+use Rattle.cdi_subjects.specs.Sites.{has_method}
 use Rattle.cdi_staging.specs.Sites.{position_of_bean, managed_class, method_of}
 use Rattle.cdi_staging.specs.Staged.{scene_of}
 

@@ -27,7 +27,8 @@ use Rattle.cdi_resolve.specs.Leaders.{leading, nobody, with_candidate}
 use Rattle.cdi_resolve.specs.declared.leaders.Leaders.{Leaders}
 use Rattle.cdi_resolve.proofs.LeaderLemmas.{leaders_choose}
 use Rattle.cdi_faults.specs.declared.fault.Fault.TheVariants as faults_are
-use Rattle.cdi_validate.specs.Faults.{enabled_name, enabled_names, is_ambiguous, name_clashes}
+use Rattle.cdi_subjects.specs.Subjects.{is_ambiguous}
+use Rattle.cdi_validate.specs.Faults.{enabled_name, enabled_names, name_clashes}
 use Rattle.cdi_validate.specs.Names.{leaders_in, with_bean, AreLed, AreNames}
 use Rattle.cdi_validate.proofs.NameLemmas.{enabled_names-are}
 

@@ -1,12 +1,9 @@
-pub mod PointLemmas
 pub mod PushLemmas
-pub mod RecordLemmas
 pub mod NameLemmas
 pub mod ClashLemmas
 pub mod OnceLemmas
 pub mod LineLemmas
 pub mod BehindLemmas
 pub mod FoundLemmas
-pub mod SiteLemmas
 pub mod NeedLemmas
 pub mod CircleLemmas

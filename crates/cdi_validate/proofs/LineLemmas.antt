@@ -22,7 +22,8 @@ use Rattle.cdi_effective.specs.declared.records.Effective.{Effective}
 use Rattle.cdi_faults.specs.declared.fault.Fault.{Fault}
 use Rattle.cdi_faults.specs.declared.fault.Fault.TheVariants as faults_are
 use Rattle.cdi_faults.specs.FaultText.{text_of_fault}
-use Rattle.cdi_validate.specs.Faults.{enabled_name, enabled_names, goes_on, is_ambiguous, name_clashes, name_prefixes}
+use Rattle.cdi_subjects.specs.Subjects.{is_ambiguous}
+use Rattle.cdi_validate.specs.Faults.{enabled_name, enabled_names, goes_on, name_clashes, name_prefixes}
 use Rattle.cdi_validate.specs.Faults.{circle, circles, LinesRise}
 use Rattle.cdi_validate.specs.Circles.{circular}
 use Rattle.cdi_resolve.specs.Choices.{chosen_by_name}

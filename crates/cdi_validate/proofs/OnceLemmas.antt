@@ -24,7 +24,8 @@ use Rattle.cdi_faults.specs.declared.fault.Fault.{Fault}
 use Rattle.cdi_faults.specs.declared.fault.Fault.TheVariants as faults_are
 use Rattle.cdi_faults.specs.declared.fault.Subject.{Subject}
 use Rattle.cdi_faults.specs.FaultText.{text_of_subject, in_text_order}
-use Rattle.cdi_validate.specs.Faults.{faults_of_code, faults_of, subjects_at_fault, name_clashes, name_prefixes}
+use Rattle.cdi_subjects.specs.Subjects.{subjects_at_fault}
+use Rattle.cdi_validate.specs.Faults.{faults_of_code, faults_of, name_clashes, name_prefixes}
 use Rattle.cdi_validate.specs.Circles.{circular}
 use Rattle.cdi_validate.specs.Faults.{circle, circles, enabled_name, enabled_names, goes_on, faults, FaultsStandOnce}
 use Rattle.cdi_validate.proofs.NeedLemmas.{circular-rise}

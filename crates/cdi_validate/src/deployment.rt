@@ -9,28 +9,20 @@ ghost use Rattle.cdi_observe.specs.Kept.{evaluated};
 ghost use Rattle.cdi_observe.specs.Wanted.{points_of, wanted};
 ghost use Rattle.cdi_faults.specs.FaultText.{SubjectsInOrder};
 ghost use Rattle.cdi_validate.specs.Circles.{NeedsItselfOnCircle};
-ghost use Rattle.cdi_validate.specs.Faults.{circles, faults, faults_of, subjects_at_fault, name_clashes, name_prefixes};
+ghost use Rattle.cdi_validate.specs.Faults.{circles, faults, faults_of, name_clashes, name_prefixes};
 ghost use Rattle.cdi_validate.specs.Faults.{LinesRise, PrefixesGoOn};
 ghost use Rattle.cdi_faults.specs.declared.fault.Fault.TheVariants as the_faults;
 
-use crate::bodies::unfit_parts;
 use crate::circles::push_of_circles;
-use crate::disposing::disposers_at_fault;
-use crate::forms::{bad_kinds, cycles};
 use crate::names::push_of_names;
-use crate::points::{Verdict, points_at_fault};
 use crate::records::records_of;
-use crate::sites::lost_sites;
-use crate::stereotyped::scope_conflicts;
-use crate::typing::typed;
-use crate::unknown::unknown_names;
-use crate::used::bad_uses;
 use cdi_bodies::Bodies;
 use cdi_effective::Effective;
 use cdi_faults::{Code, Fault, Subject, in_text_order};
 use cdi_model::{Decl, Decls};
 use cdi_observe::{View, evaluate};
 use cdi_resolve::Choice;
+use cdi_subjects::subjects_at_fault;
 use std::alloc::{AllocError, Global};
 use std::rc::Rc;
 
@@ -130,35 +122,4 @@ fn push_declared(
         })?;
     }
     Ok(())
-}
-
-/// The subjects of a declaration that have a fault of a code.
-#[tactic(auto, using(crate::proofs::RecordLemmas::typed_by_entries, crate::proofs::PointLemmas::points_by_entries))]
-fn subjects_at_fault<B: Bodies>(
-    alloc: Global,
-    code: Code,
-    decls: &Decls,
-    book: &B,
-    decl: &Decl,
-    beans: &[Effective],
-    answers: &[Rc<Choice>],
-) -> Result<Vec<Subject>, AllocError>
-    requires beans { beans.now ≡ entries decls.now decl.now }
-    requires answers { map (λ answer. answer.value) answers.now ≡ map (answer_to decls.now) (points_of decl.now) }
-    ensures { IfOk result (λ list. list.items ≡ subjects_at_fault code decls.now (B.promises book.now) decl.now) }
-{
-    match code {
-        Code::UnknownName => unknown_names(alloc, decls, decl),
-        Code::Cycle => cycles(alloc, decls, decl),
-        Code::BadKind => bad_kinds(alloc, decls, decl),
-        Code::Typed => typed(alloc, decl, beans),
-        Code::ScopeConflict => scope_conflicts(alloc, beans),
-        Code::Member => bad_uses(alloc, decls, decl),
-        Code::Disposer => disposers_at_fault(alloc, decls, decl, beans),
-        Code::Body => unfit_parts(alloc, book, decl),
-        Code::Unsatisfied => points_at_fault(alloc, decl, beans, answers, Verdict::Unsatisfied),
-        Code::Ambiguous => points_at_fault(alloc, decl, beans, answers, Verdict::Ambiguous),
-        Code::Site => lost_sites(alloc, decls, decl, beans, answers),
-        Code::NameClash | Code::NamePrefix | Code::Circular => Ok(Vec::new(alloc)),
-    }
 }

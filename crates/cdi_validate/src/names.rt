@@ -8,7 +8,8 @@ ghost use Rattle.cdi_effective.specs.Beans.{beans};
 ghost use Rattle.cdi_effective.specs.declared.records.Effective.{Effective as AnyBean};
 ghost use Rattle.cdi_resolve.specs.Leaders.{leading};
 ghost use Rattle.cdi_faults.specs.declared.fault.Fault.TheVariants as faults_are;
-ghost use Rattle.cdi_validate.specs.Faults.{enabled_name, goes_on, is_ambiguous, name_clashes, name_prefixes};
+ghost use Rattle.cdi_subjects.specs.Subjects.{is_ambiguous};
+ghost use Rattle.cdi_validate.specs.Faults.{enabled_name, goes_on, name_clashes, name_prefixes};
 ghost use Rattle.cdi_validate.specs.Names.{has_dot_at, prefix_pairs, with_bean, AreNames, AreLed};
 
 use crate::records::records_of;

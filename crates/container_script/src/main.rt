@@ -3,16 +3,10 @@
 
 ghost use Rattle.std.specs.Prelude.{◌≤◌, IfOk};
 
-mod complaints;
-mod files;
-mod options;
-mod session;
-
 use cdi_bodies::Book;
 use cdi_container::{Counted, RunFault};
+use cdi_session::{refuse_words, session, tell_fault};
 use cdi_stock::stock_bodies;
-use complaints::{refuse_words, tell_fault};
-use session::session;
 use std::alloc::AllocError;
 use std::io::Write;
 use std::process::ExitCode;
@@ -61,6 +55,3 @@ fn words(rt: &HostRuntime) -> io::Result<Vec<String>> {
     let words = env::args(rt)?.collect(rt.alloc())?;
     Ok(words)
 }
-
-#[cfg(test)]
-mod tests;

@@ -1,0 +1,4 @@
+pub mod PointLemmas
+pub mod PushLemmas
+pub mod RecordLemmas
+pub mod SiteLemmas

@@ -1,0 +1,100 @@
+-- What is at fault of call sites, by the choices for the points that bodies see.
+use Rattle.std.proofs.Common.{◌≡◌, ℕ, Bool, List, [], ◌∷◌, ◌++◌, map, length, take, drop, Option, Some, None, option_map}
+use Rattle.std.proofs.Common.{refl, ap, ◌∙◌, append-nil, inl, inr, ◌⊎◌}
+use Rattle.std.specs.List.{find, flat_map, zip}
+use Rattle.std.specs.Option.{option_or}
+use Rattle.std.specs.Str.{bytes_eq}
+use Rattle.std.proofs.lemmas.List.{map-append, take_at, drop_at, length-map}
+use Rattle.std.proofs.lemmas.List.Folds.{find-append}
+use Rattle.cdi_model.specs.declared.decl.BeanDecl.{BeanDecl}
+use Rattle.cdi_model.specs.declared.decl.CallDecl.{CallDecl}
+use Rattle.cdi_model.specs.declared.decl.Decl.{Decl}
+use Rattle.cdi_model.specs.declared.decl.Decl.TheVariants as decls
+use Rattle.cdi_model.specs.declared.decl.PointDecl.{PointDecl}
+use Rattle.cdi_model.specs.declared.decl.ProducerDecl.{ProducerDecl}
+use Rattle.cdi_effective.specs.Beans.{entries, managed, product}
+use Rattle.cdi_effective.specs.declared.records.Effective.{Effective}
+use Rattle.cdi_resolve.specs.declared.choice.Choice.{Choice}
+use Rattle.cdi_observe.specs.Answers.{answer_to}
+use Rattle.cdi_observe.specs.Wanted.{points_of}
+use Rattle.cdi_faults.specs.declared.place.PartPlace.{PartPlace}
+use Rattle.cdi_subjects.specs.Sites.{Sight, choice_at, lost_by, lost_by_products, lost_calls, lost_in_managed, lost_in_producer, lost_sites}
+use Rattle.cdi_subjects.specs.Sites.{sight_of, where_enabled}
+
+-- ---- points
+
+or-map : {X Y : Type 0} (f : X → Y) (a b : Option X) → option_map f (option_or a b) ≡ option_or (option_map f a) (option_map f b)
+or-map f None b = refl
+or-map f (Some x) b = refl
+
+-- a point that is not among the first is sought among the others
+pub choice_at_append : (own params : Sight) (name : List ℕ)
+    → choice_at (own ++ params) name ≡ option_or (choice_at own name) (choice_at params name)
+choice_at_append own params name =
+    let is_it : PointDecl × Choice → Bool = λ z. bytes_eq z.0.name name in
+    ap (option_map (λ z. z.1)) (find-append is_it own params) ∙ or-map (λ z. z.1) (find is_it own) (find is_it params)
+
+-- a body that sees no other points
+pub seen_alone : (ds : List Decl) (own : Sight) (place : PartPlace) (calls : List CallDecl)
+    → lost_calls ds (own ++ []) place calls ≡ lost_calls ds own place calls
+seen_alone ds own place calls = ap (λ sight. lost_calls ds sight place calls) (append-nil own)
+
+-- points beside their choices are those that are seen
+zipped_sight : (ds : List Decl) (points : List PointDecl) → zip points (map (answer_to ds) points) ≡ sight_of ds points
+zipped_sight ds [] = refl
+zipped_sight ds (p ∷ points) = ap (λ zs. (p, answer_to ds p) ∷ zs) (zipped_sight ds points)
+
+-- the choices for some points stand in front of those for others
+own_sight : (ds : List Decl) (points others : List PointDecl)
+    → zip points (take (length points) (map (answer_to ds) (points ++ others))) ≡ sight_of ds points
+own_sight ds points others =
+    ap (λ cs. zip points (take (length points) cs)) (map-append (answer_to ds) points others)
+    ∙ ap (zip points) (take_at (map (answer_to ds) points) (map (answer_to ds) others) (length points) (length-map points (answer_to ds)))
+    ∙ zipped_sight ds points
+
+other_choices : (ds : List Decl) (points others : List PointDecl)
+    → drop (length points) (map (answer_to ds) (points ++ others)) ≡ map (answer_to ds) others
+other_choices ds points others =
+    ap (drop (length points)) (map-append (answer_to ds) points others)
+    ∙ drop_at (map (answer_to ds) points) (map (answer_to ds) others) (length points) (length-map points (answer_to ds))
+
+-- ---- records
+
+lost_by_each : (ds : List Decl) (bean : BeanDecl) (own : Sight) (ps : List ProducerDecl)
+    → lost_by_products ds own (map (product ds bean) ps) ps (map (answer_to ds) (flat_map (λ p. p.params) ps))
+    ≡ flat_map (λ p. where_enabled (product ds bean p) (lost_in_producer ds own (sight_of ds p.params) p)) ps
+lost_by_each ds bean own [] = refl
+lost_by_each ds bean own (p ∷ ps) =
+    let others = flat_map (λ p. p.params) ps in
+    let b = product ds bean p in
+    let bs = map (product ds bean) ps in
+    ap (λ params. where_enabled b (lost_in_producer ds own params p)
+    ++ lost_by_products ds own bs ps (drop (length p.params) (map (answer_to ds) (p.params ++ others)))) (own_sight ds p.params others)
+    ∙ ap (λ cs. where_enabled b (lost_in_producer ds own (sight_of ds p.params) p) ++ lost_by_products ds own bs ps cs)
+    (other_choices ds p.params others)
+    ∙ ap (λ ms. where_enabled b (lost_in_producer ds own (sight_of ds p.params) p) ++ ms) (lost_by_each ds bean own ps)
+
+-- the lost call sites by the records of a declaration and the answers to its points are the lost ones of it
+pub lost_by_entries : (ds : List Decl) (d : Decl) → lost_by ds d (entries ds d) (map (answer_to ds) (points_of d)) ≡ lost_sites ds d
+lost_by_entries ds (decls.Type d) = refl
+lost_by_entries ds (decls.Qualifier d) = refl
+lost_by_entries ds (decls.Stereotype d) = refl
+lost_by_entries ds (decls.Bean bean) =
+    let others = flat_map (λ p. p.params) bean.producers in
+    let b = managed ds bean in
+    let bs = map (product ds bean) bean.producers in
+    ap (λ own. where_enabled b (lost_in_managed ds own bean)
+    ++ lost_by_products ds own bs bean.producers (drop (length bean.points) (map (answer_to ds) (bean.points ++ others))))
+    (own_sight ds bean.points others)
+    ∙ ap (λ cs. where_enabled b (lost_in_managed ds (sight_of ds bean.points) bean)
+    ++ lost_by_products ds (sight_of ds bean.points) bs bean.producers cs) (other_choices ds bean.points others)
+    ∙ ap (λ ms. where_enabled b (lost_in_managed ds (sight_of ds bean.points) bean) ++ ms)
+    (lost_by_each ds bean (sight_of ds bean.points) bean.producers)
+
+-- where no record or no producer method is left nothing is lost
+pub none_lost : (ds : List Decl) (own : Sight) (bs : List Effective) (ps : List ProducerDecl) (choices : List Choice)
+    → (bs ≡ []) ⊎ (ps ≡ []) → lost_by_products ds own bs ps choices ≡ []
+none_lost ds own [] ps choices ends = refl
+none_lost ds own (b ∷ bs) [] choices ends = refl
+none_lost ds own (b ∷ bs) (p ∷ ps) choices (inl e) = cc
+none_lost ds own (b ∷ bs) (p ∷ ps) choices (inr e) = cc

@@ -1,0 +1,14 @@
+use Rattle.std.proofs.Common.{◌++◌, map, sym, ap, ◌∙◌, append-nil}
+use Rattle.std.specs.Slice.Iter.{iter_rest}
+use Rattle.std.proofs.lemmas.Slice.Zip.{either_empty_from_Zip}
+use Rattle.cdi_subjects.proofs.SiteLemmas.{none_lost}
+use Rattle.cdi_subjects.proofs.sites.lost_by.Goals as goal
+
+pub returns : goal.returns
+returns c =
+    let left = c.loop-product.product-iterator in
+    sym (append-nil c.loop-product.subjects.items)
+    ∙ ap (λ ms. c.loop-product.subjects.items ++ ms)
+    (sym (none_lost c.args.decls.now _ (iter_rest left.a) (iter_rest left.b) (map (λ a. a.value) c.loop-product.rest.now)
+    (either_empty_from_Zip left c.next.new.self c.next.result c.in-None.is c.next.ensures.steps)))
+    ∙ c.loop-product.invariant.subjects

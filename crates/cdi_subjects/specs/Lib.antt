@@ -1,0 +1,5 @@
+pub mod Asked
+pub mod Parts
+pub mod Records
+pub mod Sites
+pub mod Subjects

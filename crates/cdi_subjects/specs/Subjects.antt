@@ -1,0 +1,204 @@
+-- The parts of a declaration that have a fault (CDI 4.0, Problems detected automatically by the container), for each code.
+use Rattle.std.specs.Prelude.{ℕ, nat_lt, Bool, true, false, not, ◌||◌, List, [], ◌∷◌, ◌++◌}
+use Rattle.std.specs.Prelude.{map, filter, length, codes, Option, Some, None, is_some, option_map, unwrap_or, if◌then◌else◌}
+use Rattle.std.specs.List.{list_any, flat_map}
+use Rattle.std.specs.Option.{option_to_list}
+use Rattle.std.specs.Str.{bytes_eq}
+use Rattle.cdi_bodies.specs.Book.{Promised}
+use Rattle.cdi_model.specs.DeclList.{find_decl}
+use Rattle.cdi_model.specs.declared.decl.Attributes.{Attributes}
+use Rattle.cdi_model.specs.declared.decl.BeanDecl.{BeanDecl}
+use Rattle.cdi_model.specs.declared.decl.Decl.{Decl}
+use Rattle.cdi_model.specs.declared.decl.Decl.TheVariants as decls
+use Rattle.cdi_model.specs.declared.decl.Form.{Form}
+use Rattle.cdi_model.specs.declared.decl.Form.TheVariants.{Class, Interface}
+use Rattle.cdi_model.specs.declared.decl.Kind.{Kind}
+use Rattle.cdi_model.specs.declared.decl.Kind.TheVariants as kinds
+use Rattle.cdi_model.specs.declared.decl.PointDecl.{PointDecl}
+use Rattle.cdi_model.specs.declared.mention.TypePlace.{TypePlace}
+use Rattle.cdi_model.specs.declared.mention.TypePlace.TheVariants as places
+use Rattle.cdi_model.specs.Mentions.{Mention, TypeIn, UseOf, StereotypeOf, mentions, listed_types}
+use Rattle.cdi_match.specs.Chain.{has}
+use Rattle.cdi_match.specs.Misuse.{is_misused}
+use Rattle.cdi_match.specs.Stereotypes.{inherits_itself}
+use Rattle.cdi_match.specs.Types.{extends_itself, object, types_of}
+use Rattle.cdi_effective.specs.Beans.{entries, managed, product}
+use Rattle.cdi_effective.specs.Disposers.{disposes}
+use Rattle.cdi_effective.specs.declared.records.BeanId.{BeanId}
+use Rattle.cdi_effective.specs.declared.records.Effective.{Effective}
+use Rattle.cdi_resolve.specs.declared.choice.Choice.{Choice}
+use Rattle.cdi_resolve.specs.declared.choice.Choice.TheVariants.{Unsatisfied, Ambiguous}
+use Rattle.cdi_observe.specs.Answers.{answer_to}
+use Rattle.cdi_faults.specs.declared.fault.Code.{Code}
+use Rattle.cdi_faults.specs.declared.fault.Code.TheVariants as codes_of
+use Rattle.cdi_faults.specs.declared.fault.Subject.{Subject}
+use Rattle.cdi_faults.specs.declared.fault.Subject.TheVariants as subjects
+use Rattle.cdi_subjects.specs.declared.points.Verdict.{Verdict}
+use Rattle.cdi_subjects.specs.declared.points.Verdict.TheVariants as verdicts
+use Rattle.cdi_subjects.specs.Parts.{unfit_parts}
+use Rattle.cdi_subjects.specs.Sites.{lost_sites}
+
+-- ---- subjects among what a declaration names
+
+-- the subject, where it is at fault
+abbrev pub some_if : Bool → Subject → Option Subject
+some_if at_fault subject = if at_fault then Some subject else None
+
+-- what is at fault of that which a declaration names
+abbrev pub subjects_in : (Mention → Option Subject) → Decl → List Subject
+subjects_in fault_in d = flat_map (λ mention. option_to_list (fault_in mention)) (mentions d)
+
+-- ---- names that are neither declared nor built in
+
+abbrev pub is_declared : Kind → List Decl → List ℕ → Bool
+is_declared kind ds name = is_some (find_decl kind name ds)
+
+abbrev pub is_known_type : List Decl → List ℕ → Bool
+is_known_type ds t = bytes_eq t object || is_declared kinds.Type ds t
+
+abbrev pub is_known_qualifier : List Decl → List ℕ → Bool
+is_known_qualifier ds q = has (codes "Any" ∷ codes "Default" ∷ codes "Named" ∷ []) q || is_declared kinds.Qualifier ds q
+
+-- the class of a bean is to be declared, and any other type may also be built in
+abbrev pub is_known_in : List Decl → TypePlace → List ℕ → Bool
+is_known_in ds places.Class t = is_declared kinds.Type ds t
+is_known_in ds _ t = is_known_type ds t
+
+-- what is named in a place, where it is neither declared nor built in
+abbrev pub unknown_in : List Decl → Mention → Option Subject
+unknown_in ds (TypeIn place t) = some_if (not (is_known_in ds place t)) (subjects.Type t)
+unknown_in ds (UseOf u) = some_if (not (is_known_qualifier ds u.name)) (subjects.Qualifier u.name)
+unknown_in ds (StereotypeOf s) = some_if (not (is_declared kinds.Stereotype ds s)) (subjects.Stereotype s)
+unknown_in ds _ = None
+
+abbrev pub unknown_names : List Decl → Decl → List Subject
+unknown_names ds d = subjects_in (unknown_in ds) d
+
+-- where a condition holds of the whole declaration
+abbrev pub whole_if : Bool → List Subject
+whole_if holds = if holds then subjects.Whole ∷ [] else []
+
+-- ---- a type or stereotype that reaches itself by one chain of an edge or more
+
+abbrev pub reaches_itself : List Decl → Decl → Bool
+reaches_itself ds (decls.Type d) = extends_itself ds d.name
+reaches_itself ds (decls.Stereotype d) = inherits_itself ds d.name
+reaches_itself ds d = false
+
+-- ---- types of the wrong form
+
+abbrev pub form_of : Option Decl → Option Form
+form_of (Some (decls.Type d)) = Some d.form
+form_of _ = None
+
+abbrev pub is_interface_form : Option Form → Bool
+is_interface_form (Some Interface) = true
+is_interface_form _ = false
+
+abbrev pub is_class_form : Option Form → Bool
+is_class_form (Some Class) = true
+is_class_form _ = false
+
+abbrev pub is_interface : List Decl → List ℕ → Bool
+is_interface ds t = is_interface_form (form_of (find_decl kinds.Type t ds))
+
+abbrev pub is_class : List Decl → List ℕ → Bool
+is_class ds t = bytes_eq t object || is_class_form (form_of (find_decl kinds.Type t ds))
+
+-- An interface extends nothing, and a class no declared interface; what is implemented is no class, and neither is the class
+-- of a bean an interface.
+abbrev pub bad_kind_in : List Decl → Decl → Mention → Option Subject
+bad_kind_in ds d (TypeIn places.Extends t) = some_if (is_interface_form (form_of (Some d)) || is_interface ds t) (subjects.Extends t)
+bad_kind_in ds d (TypeIn places.Implements t) = some_if (is_class ds t) (subjects.Implements t)
+bad_kind_in ds d (TypeIn places.Class t) = some_if (is_interface ds t) subjects.Class
+bad_kind_in ds d _ = None
+
+abbrev pub bad_kinds : List Decl → Decl → List Subject
+bad_kinds ds d = subjects_in (bad_kind_in ds d) d
+
+-- ---- listed types that are not among the unrestricted ones
+
+abbrev pub wrongly_listed : List Decl → List ℕ → Attributes → List (List ℕ)
+wrongly_listed ds t attributes = filter (λ s. not (has (types_of ds t) s)) (listed_types attributes)
+
+abbrev pub typed : List Decl → Decl → List Subject
+typed ds (decls.Bean d) =
+    map (λ s. subjects.Typed None s) (wrongly_listed ds d.name d.attributes)
+    ++ flat_map (λ p. map (λ s. subjects.Typed (Some p.name) s) (wrongly_listed ds p.product_type p.attributes)) d.producers
+typed ds d = []
+
+-- ---- stereotypes that give two different default scopes to what declares none
+
+-- the part of a declaration that a bean is: the whole of it a managed bean, and a producer method its product
+abbrev pub part_of : BeanId → Subject
+part_of id = unwrap_or (option_map subjects.Producer id.producer) subjects.Whole
+
+-- the parts that the beans of a declaration are that have such stereotypes
+abbrev pub scope_conflicts : List Effective → List Subject
+scope_conflicts bs = map (λ b. part_of b.id) (filter (λ b. b.has_scope_conflict) bs)
+
+-- ---- uses with a member that isn't declared, or without a value for one that has no default
+
+abbrev pub bad_use_in : List Decl → Mention → Option Subject
+bad_use_in ds (UseOf u) = some_if (is_misused ds u) (subjects.Use u)
+bad_use_in ds _ = None
+
+abbrev pub bad_uses : List Decl → Decl → List Subject
+bad_uses ds d = subjects_in (bad_use_in ds) d
+
+-- ---- disposers that match no product, and products that two match
+
+abbrev pub products : List Decl → BeanDecl → List Effective
+products ds bean = map (product ds bean) bean.producers
+
+abbrev pub disposers_at_fault : List Decl → Decl → List Subject
+disposers_at_fault ds (decls.Bean d) =
+    map (λ s. subjects.Disposer s.name) (filter (λ s. not (list_any (λ p. disposes ds p s) (products ds d))) d.disposers)
+    ++ map (λ p. subjects.Producer p.name) (filter (λ p. nat_lt 1 (length (filter (disposes ds (product ds d p)) d.disposers))) d.producers)
+disposers_at_fault ds d = []
+
+-- ---- injection points of enabled beans
+
+abbrev pub is_unsatisfied : Choice → Bool
+is_unsatisfied Unsatisfied = true
+is_unsatisfied _ = false
+
+abbrev pub is_ambiguous : Choice → Bool
+is_ambiguous (Ambiguous ids) = true
+is_ambiguous _ = false
+
+abbrev pub has_verdict : Verdict → Choice → Bool
+has_verdict verdicts.Unsatisfied choice = is_unsatisfied choice
+has_verdict verdicts.Ambiguous choice = is_ambiguous choice
+
+-- the points of an enabled bean whose choice is such
+abbrev pub points_with : (Choice → Bool) → List Decl → Effective → Option (List ℕ) → List PointDecl → List Subject
+points_with test ds bean producer points =
+    if bean.is_enabled
+    then map (λ p. subjects.Point producer p.name) (filter (λ p. test (answer_to ds p)) points)
+    else []
+
+abbrev pub points_at_fault : (Choice → Bool) → List Decl → Decl → List Subject
+points_at_fault test ds (decls.Bean d) =
+    points_with test ds (managed ds d) None d.points
+    ++ flat_map (λ p. points_with test ds (product ds d p) (Some p.name) p.params) d.producers
+points_at_fault test ds d = []
+
+-- ---- by code
+
+-- the parts of a declaration that have a fault of a code, where these bodies are stored; those of names and circles are no declaration's
+abbrev pub subjects_at_fault : Code → List Decl → List Promised → Decl → List Subject
+subjects_at_fault codes_of.UnknownName ds book d = unknown_names ds d
+subjects_at_fault codes_of.Cycle ds book d = whole_if (reaches_itself ds d)
+subjects_at_fault codes_of.BadKind ds book d = bad_kinds ds d
+subjects_at_fault codes_of.Typed ds book d = typed ds d
+subjects_at_fault codes_of.ScopeConflict ds book d = scope_conflicts (entries ds d)
+subjects_at_fault codes_of.Member ds book d = bad_uses ds d
+subjects_at_fault codes_of.Disposer ds book d = disposers_at_fault ds d
+subjects_at_fault codes_of.Body ds book d = unfit_parts book d
+subjects_at_fault codes_of.Unsatisfied ds book d = points_at_fault (has_verdict verdicts.Unsatisfied) ds d
+subjects_at_fault codes_of.Ambiguous ds book d = points_at_fault (has_verdict verdicts.Ambiguous) ds d
+subjects_at_fault codes_of.Site ds book d = lost_sites ds d
+subjects_at_fault codes_of.NameClash ds book d = []
+subjects_at_fault codes_of.NamePrefix ds book d = []
+subjects_at_fault codes_of.Circular ds book d = []

@@ -1,0 +1,17 @@
+//! Which parts of a declaration have a fault, and what may be asked for.
+#![tactic(auto)]
+
+mod bodies;
+mod disposing;
+mod forms;
+mod points;
+mod sites;
+mod stereotyped;
+mod subjects;
+mod typing;
+mod unknown;
+mod used;
+
+pub use sites::has_method;
+pub use subjects::subjects_at_fault;
+pub use unknown::are_known;

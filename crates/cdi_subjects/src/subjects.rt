@@ -1,0 +1,57 @@
+//! What is at fault of a declaration, for each code.
+ghost use Rattle.std.specs.Prelude.{◌≡◌, map, IfOk};
+ghost use Rattle.cdi_effective.specs.Beans.{entries};
+ghost use Rattle.cdi_observe.specs.Answers.{answer_to};
+ghost use Rattle.cdi_observe.specs.Wanted.{points_of};
+ghost use Rattle.cdi_subjects.specs.Subjects.{subjects_at_fault};
+
+use crate::bodies::unfit_parts;
+use crate::disposing::disposers_at_fault;
+use crate::forms::{bad_kinds, cycles};
+use crate::points::{Verdict, points_at_fault};
+use crate::sites::lost_sites;
+use crate::stereotyped::scope_conflicts;
+use crate::typing::typed;
+use crate::unknown::unknown_names;
+use crate::used::bad_uses;
+use cdi_bodies::Bodies;
+use cdi_effective::Effective;
+use cdi_faults::{Code, Subject};
+use cdi_model::{Decl, Decls};
+use cdi_resolve::Choice;
+use std::alloc::{AllocError, Global};
+use std::rc::Rc;
+
+/// The parts of a declaration that have a fault of a code (CDI 4.0, Problems detected automatically by the container),
+/// in the order in which they are declared. Its records and the answers to its injection points are given in their
+/// order; no part has a fault of a name or a circle, which are no declaration's. It takes memory for the parts, and for
+/// searches among the declarations.
+#[tactic(auto, using(crate::proofs::RecordLemmas::typed_by_entries, crate::proofs::PointLemmas::points_by_entries))]
+pub fn subjects_at_fault<B: Bodies>(
+    alloc: Global,
+    code: Code,
+    decls: &Decls,
+    book: &B,
+    decl: &Decl,
+    beans: &[Effective],
+    answers: &[Rc<Choice>],
+) -> Result<Vec<Subject>, AllocError>
+    requires beans { beans.now ≡ entries decls.now decl.now }
+    requires answers { map (λ answer. answer.value) answers.now ≡ map (answer_to decls.now) (points_of decl.now) }
+    ensures { IfOk result (λ list. list.items ≡ subjects_at_fault code decls.now (B.promises book.now) decl.now) }
+{
+    match code {
+        Code::UnknownName => unknown_names(alloc, decls, decl),
+        Code::Cycle => cycles(alloc, decls, decl),
+        Code::BadKind => bad_kinds(alloc, decls, decl),
+        Code::Typed => typed(alloc, decl, beans),
+        Code::ScopeConflict => scope_conflicts(alloc, beans),
+        Code::Member => bad_uses(alloc, decls, decl),
+        Code::Disposer => disposers_at_fault(alloc, decls, decl, beans),
+        Code::Body => unfit_parts(alloc, book, decl),
+        Code::Unsatisfied => points_at_fault(alloc, decl, beans, answers, Verdict::Unsatisfied),
+        Code::Ambiguous => points_at_fault(alloc, decl, beans, answers, Verdict::Ambiguous),
+        Code::Site => lost_sites(alloc, decls, decl, beans, answers),
+        Code::NameClash | Code::NamePrefix | Code::Circular => Ok(Vec::new(alloc)),
+    }
+}

@@ -1,8 +1,0 @@
-use Rattle.std.proofs.Common.{◌≡◌, ◌++◌, flat_map}
-use Rattle.std.specs.Option.{option_to_list}
-use Rattle.cdi_validate.specs.Faults.{bad_use_in, bad_uses}
-use Rattle.cdi_validate.proofs.used.bad_uses.Given as goal
-
-abbrev pub invariant-loop-mention : goal.invariant-loop-mention
-invariant-loop-mention l = l.subjects.items ++ flat_map (λ m. option_to_list (bad_use_in l.decls m)) l.mention-iterator
-    ≡ bad_uses l.decls l.decl
