@@ -199,10 +199,11 @@ impl<B: Bodies> Container<B> {
         self.run.trace()
     }
 
-    /// Appends their text, each on a line of its own behind two spaces. It takes memory for it.
+    /// Appends their text, each on a line of its own behind two spaces. It takes memory for it; at `Err` nothing is appended.
     pub fn push_trace(&self, text: &mut Vec<u8>) -> Result<(), AllocError>
-        ensures { OnOk result (text.new.items
+        ensures ok { OnOk result (text.new.items
             ≡ text.old.items ++ text_of_entries (names_of self.now.decls) self.now.trace) }
+        ensures err { OnErr result (text.new.items ≡ text.old.items) }
     {
         if !self.deployment.is_wired() {
             return Ok(());

@@ -5,10 +5,14 @@
 #[cfg(test)]
 mod calls;
 #[cfg(test)]
+mod closures;
+#[cfg(test)]
 mod devices;
 #[cfg(test)]
 mod fixtures;
 #[cfg(test)]
 mod long_rows;
+#[cfg(test)]
+mod runs;
 #[cfg(test)]
 mod session;

@@ -1,5 +1,5 @@
 //! The text of entries.
-ghost use Rattle.std.specs.Prelude.{◌≡◌, ◌++◌, OnOk};
+ghost use Rattle.std.specs.Prelude.{◌≡◌, ◌++◌, IfOk, OnErr, OnOk};
 ghost use Rattle.cdi_model.specs.OutcomeText.{text_of_val};
 ghost use Rattle.cdi_legal.specs.declared.entry.Entry.TheVariants.{Broken, Called, Enter};
 ghost use Rattle.cdi_trace.specs.Names.{text_of_instance};
@@ -13,20 +13,30 @@ use cdi_legal::Entry;
 use cdi_model::{Failure, Outcome, Val};
 use cdi_scene::{Place, Seat};
 use cdi_staging::Names;
-use std::alloc::AllocError;
+use std::alloc::{AllocError, Global};
 use std::io::Write;
 
-/// Appends the text of entries, each on a line of its own behind two spaces. It takes memory for the text. Each
-/// name is found by its position.
+/// Appends the text of entries, each on a line of its own behind two spaces. It takes memory for the text; at `Err`
+/// nothing is appended. Each name is found by its position.
 pub fn push_entries(text: &mut Vec<u8>, names: &Names, entries: &[Entry]) -> Result<(), AllocError>
-    ensures { OnOk result (text.new.items ≡ text.old.items ++ text_of_entries names.now entries.now) }
+    ensures ok { OnOk result (text.new.items ≡ text.old.items ++ text_of_entries names.now entries.now) }
+    ensures err { OnErr result (text.new.items ≡ text.old.items) }
 {
+    let own = text_of_entries(*text.allocator(), names, entries)?;
+    text.extend_from_slice(own.as_slice())
+}
+
+/// The text of entries.
+fn text_of_entries(alloc: Global, names: &Names, entries: &[Entry]) -> Result<Vec<u8>, AllocError>
+    ensures { IfOk result (λ own. own.items ≡ text_of_entries names.now entries.now) }
+{
+    let mut own = Vec::new(alloc);
     for entry in entries {
-        text.extend_from_slice(b"  ")?;
-        push_entry(text, names, *entry)?;
-        text.push(b'\n')?;
+        own.extend_from_slice(b"  ")?;
+        push_entry(&mut own, names, *entry)?;
+        own.push(b'\n')?;
     }
-    Ok(())
+    Ok(own)
 }
 
 fn push_entry(text: &mut Vec<u8>, names: &Names, entry: Entry) -> Result<(), AllocError>

@@ -8,11 +8,13 @@ mod answers;
 mod bean_questions;
 mod calls;
 mod questions;
+mod runs;
 mod scripts;
 mod texts;
 
 use calls::make_calls;
 use questions::ask_questions;
+use runs::run_steps;
 use scripts::run_script;
 use std::alloc::Global;
 use std::io;
@@ -20,7 +22,7 @@ use std::io::{ErrorKind, Read};
 use std::process::ExitCode;
 use thiserror::Error;
 
-/// The status where every answer is right, and one allocation of the calls, questions and run was refused.
+/// The status where every answer is right, and one allocation of the calls, questions, run and steps was refused.
 const STATUS_REFUSED: u8 = 3;
 
 /// What is not as it is to be.
@@ -36,6 +38,8 @@ pub enum Difference {
     Declarations,
     #[error("the run of the script writes or answers something else")]
     Run,
+    #[error("step {0} answers, shows or leaves something else")]
+    Step(usize),
     #[error("a second allocation is refused")]
     RefusedAgain,
 }
@@ -68,13 +72,14 @@ fn drop_boxes(alloc: Global, count: u16) {
     }
 }
 
-/// Makes the calls, asks the questions and runs the script, and tells whether an allocation of theirs is refused. At
-/// most one may be.
+/// Makes the calls, asks the questions, runs the script and takes the steps, and tells whether an allocation of theirs is
+/// refused. At most one may be.
 fn compare(alloc: Global) -> Result<bool, Difference> {
     let parts = [
         make_calls(alloc)?,
         ask_questions(alloc)?,
         run_script(alloc)?,
+        run_steps(alloc)?,
     ];
     match parts.iter().filter(|refused| **refused).count() {
         0 => Ok(false),

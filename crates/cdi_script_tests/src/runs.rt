@@ -1,0 +1,354 @@
+//! Look-ups, calls, requests and stops of a container, with ample memory.
+use cdi_container::{Answer, Command, Container, Entry};
+use cdi_fixtures::{Echo, name};
+use cdi_model::{Error, Failure, Ident, Name, Outcome, Quals, Refusal, Val};
+use std::alloc::{AllocError, Global};
+use std::test::Fail;
+
+/// A call of a container. What is looked up and called is meant by its type alone.
+#[derive(Clone, Copy)]
+enum Asked {
+    LookUp(&'static [u8]),
+    Call(&'static [u8], Val, &'static [u8]),
+    Begin,
+    End,
+    Stop,
+}
+
+/// What a call answers: an outcome where it is a look-up or the call of a method.
+type Told = Result<Option<Outcome>, Error>;
+
+/// A call, what it answers, and the trace that is shown behind it.
+#[derive(Clone, Copy)]
+struct Step(Asked, Told, &'static [u8]);
+
+use Asked::{Begin, Call, End, LookUp, Stop};
+
+/// A dependent bean, whose point holds another one that has a callback, a bean of the request and one of the application.
+static DECLARED: [&[u8]; 8] = [
+    b"kind=\"type\"\nname=\"A\"\n",
+    b"kind=\"type\"\nname=\"D\"\n",
+    b"kind=\"type\"\nname=\"R\"\n",
+    b"kind=\"type\"\nname=\"S\"\n",
+    b"kind=\"bean\"\nname=\"A\"\npoints=[{name=\"d\",type=\"D\"}]\nmethods=[{name=\"run\",body=\"echo\"}]\n",
+    b"kind=\"bean\"\nname=\"D\"\npost={body=\"echo\"}\n",
+    b"kind=\"bean\"\nname=\"R\"\nscope=\"request\"\nmethods=[{name=\"run\",body=\"echo\"}]\n",
+    b"kind=\"bean\"\nname=\"S\"\nscope=\"application\"\nmethods=[{name=\"run\",body=\"echo\"}]\n",
+];
+
+/// A point whose type is not declared: two faults.
+const FAULTY: &[u8] = b"kind=\"bean\"\nname=\"A\"\npoints=[{name=\"z\",type=\"Z\"}]\n";
+
+const DONE: Told = Ok(None);
+
+const NULL: Told = Ok(Some(Outcome::Value(Val::Null)));
+
+const NOT_ACTIVE: Told = Ok(Some(Outcome::Failed(Failure::NotActive)));
+
+static STEPS: [Step; 16] = [
+    Step(
+        LookUp(b"A"),
+        NULL,
+        b"  create A#1
+  create D#2
+  enter D#2 post arg null
+  leave null
+  ready D#2
+  ready A#1
+  destroy A#1
+  destroy D#2
+  gone D#2
+  gone A#1
+",
+    ),
+    Step(
+        Call(b"run", Val::Int(1), b"A"),
+        Ok(Some(Outcome::Value(Val::Int(1)))),
+        b"  create A#3
+  create D#4
+  enter D#4 post arg null
+  leave null
+  ready D#4
+  ready A#3
+  enter A#3 method run arg 1
+  leave 1
+  destroy A#3
+  destroy D#4
+  gone D#4
+  gone A#3
+",
+    ),
+    Step(Call(b"run", Val::Int(1), b"R"), NOT_ACTIVE, b""),
+    Step(End, Err(Error::Refused(Refusal::NoRequest)), b""),
+    Step(Begin, DONE, b""),
+    Step(
+        Call(b"run", Val::Int(-5), b"R"),
+        Ok(Some(Outcome::Value(Val::Int(-5)))),
+        b"  create R#5
+  ready R#5
+  enter R#5 method run arg -5
+  leave -5
+",
+    ),
+    Step(Begin, Err(Error::Refused(Refusal::RequestActive)), b""),
+    Step(
+        Call(b"run", Val::Null, b"S"),
+        NULL,
+        b"  create S#6
+  ready S#6
+  enter S#6 method run arg null
+  leave null
+",
+    ),
+    Step(LookUp(b"S"), NULL, b""),
+    Step(
+        Call(b"go", Val::Null, b"S"),
+        Err(Error::Refused(Refusal::NoMethod)),
+        b"",
+    ),
+    Step(LookUp(b"Z"), Err(Error::Refused(Refusal::UnknownName)), b""),
+    Step(
+        LookUp(b"Object"),
+        Err(Error::Refused(Refusal::Ambiguous)),
+        b"",
+    ),
+    Step(End, DONE, b"  destroy R#5\n  gone R#5\n"),
+    Step(LookUp(b"R"), NOT_ACTIVE, b""),
+    Step(Stop, DONE, b"  destroy S#6\n  gone S#6\n"),
+    Step(Stop, DONE, b""),
+];
+
+/// The steps behind a bean that has faults.
+static FAULTY_STEPS: [Step; 5] = [
+    Step(Begin, DONE, b""),
+    Step(LookUp(b"A"), Err(Error::Refused(Refusal::Faulty(2))), b""),
+    Step(
+        Call(b"go", Val::Null, b"Z"),
+        Err(Error::Refused(Refusal::Faulty(2))),
+        b"",
+    ),
+    Step(End, DONE, b""),
+    Step(Stop, DONE, b""),
+];
+
+/// An empty container.
+fn empty(alloc: Global) -> Container<Echo> {
+    Container::new(alloc, Echo)
+}
+
+fn declare(container: &mut Container<Echo>, text: &[u8]) -> Result<(), Error> {
+    container.put(text)
+}
+
+/// A container with what is declared.
+fn stored(alloc: Global, texts: &[&[u8]]) -> Result<Container<Echo>, Error> {
+    let mut container = empty(alloc);
+    for text in texts {
+        declare(&mut container, text)?;
+    }
+    Ok(container)
+}
+
+fn method(text: &[u8]) -> Result<Ident, Error> {
+    Ident::parse(text).ok_or(Error::Refused(Refusal::BadName))
+}
+
+fn given(answered: Result<Outcome, Error>) -> Told {
+    Ok(Some(answered?))
+}
+
+fn done(answered: Result<(), Error>) -> Told {
+    answered?;
+    Ok(None)
+}
+
+fn state_of(container: &mut Container<Echo>, bean_type: Name, quals: &Quals) -> Told {
+    given(container.lookup(bean_type, quals))
+}
+
+fn answer_of(
+    container: &mut Container<Echo>,
+    bean_type: Name,
+    quals: &Quals,
+    method: Ident,
+    arg: Val,
+) -> Told {
+    given(container.call(bean_type, quals, method, arg))
+}
+
+fn begin_request(container: &mut Container<Echo>) -> Told {
+    done(container.begin_request().map_err(Error::Refused))
+}
+
+fn end_request(container: &mut Container<Echo>) -> Told {
+    done(container.end_request())
+}
+
+fn end_contexts(container: &mut Container<Echo>) -> Told {
+    done(container.stop().map_err(|_| Error::OutOfMemory))
+}
+
+/// Makes a call by its own function.
+fn make(alloc: Global, container: &mut Container<Echo>, asked: &Asked) -> Told {
+    let quals = Quals::new(alloc);
+    match asked {
+        LookUp(text) => state_of(container, name(text)?, &quals),
+        Call(text, arg, of) => answer_of(container, name(of)?, &quals, method(text)?, *arg),
+        Begin => begin_request(container),
+        End => end_request(container),
+        Stop => end_contexts(container),
+    }
+}
+
+/// The command that a call is.
+fn command_of(alloc: Global, asked: &Asked) -> Result<Command, Error> {
+    let quals = Quals::new(alloc);
+    match asked {
+        LookUp(text) => Ok(Command::LookUp {
+            bean_type: name(text)?,
+            quals,
+        }),
+        Call(text, arg, of) => Ok(Command::Call {
+            method: method(text)?,
+            arg: *arg,
+            bean_type: name(of)?,
+            quals,
+        }),
+        Begin => Ok(Command::BeginRequest),
+        End => Ok(Command::EndRequest),
+        Stop => Ok(Command::Stop),
+    }
+}
+
+fn execute(container: &mut Container<Echo>, command: Command) -> Result<Answer, AllocError> {
+    container.execute(command)
+}
+
+/// What a command tells that is a look-up, a call, or about a context.
+fn told_by(answer: &Answer) -> Told {
+    match answer {
+        Answer::Given(outcome) => Ok(Some(*outcome)),
+        Answer::Refused(refusal) => Err(Error::Refused(*refusal)),
+        _ => Ok(None),
+    }
+}
+
+/// Makes a call as a command.
+fn command(alloc: Global, container: &mut Container<Echo>, asked: &Asked) -> Told {
+    told_by(&execute(container, command_of(alloc, asked)?)?)
+}
+
+fn trace_text(alloc: Global, container: &Container<Echo>) -> Result<Vec<u8>, AllocError> {
+    let mut text = Vec::new(alloc);
+    container.push_trace(&mut text)?;
+    Ok(text)
+}
+
+/// How many entries a container shows.
+fn entries_of(container: &Container<Echo>) -> usize {
+    container.trace().len()
+}
+
+/// Whether a container shows this trace, with an entry for each line.
+fn shows(alloc: Global, container: &Container<Echo>, wanted: &[u8]) -> Result<bool, AllocError> {
+    let text = trace_text(alloc, container)?;
+    let lines = wanted.iter().filter(|byte| **byte == b'\n').count();
+    Ok(text.as_slice() == wanted && entries_of(container) == lines)
+}
+
+/// Whether a step's call has its answer and its trace.
+fn makes(alloc: Global, container: &mut Container<Echo>, step: &Step) -> Result<bool, AllocError> {
+    let told = make(alloc, container, &step.0);
+    Ok(told == step.1 && shows(alloc, container, step.2)?)
+}
+
+/// Whether its command has.
+fn executes(
+    alloc: Global,
+    container: &mut Container<Echo>,
+    step: &Step,
+) -> Result<bool, AllocError> {
+    let told = command(alloc, container, &step.0);
+    Ok(told == step.1 && shows(alloc, container, step.2)?)
+}
+
+/// The place of the first step whose call has not.
+fn first_other_call(
+    alloc: Global,
+    container: &mut Container<Echo>,
+    steps: &[Step],
+) -> Result<Option<usize>, AllocError> {
+    for (place, step) in steps.iter().enumerate() {
+        if !makes(alloc, container, step)? {
+            return Ok(Some(place));
+        }
+    }
+    Ok(None)
+}
+
+/// The place of the first step whose command has not.
+fn first_other_command(
+    alloc: Global,
+    container: &mut Container<Echo>,
+    steps: &[Step],
+) -> Result<Option<usize>, AllocError> {
+    for (place, step) in steps.iter().enumerate() {
+        if !executes(alloc, container, step)? {
+            return Ok(Some(place));
+        }
+    }
+    Ok(None)
+}
+
+/// Whether the last entry is the end of a method with this outcome.
+fn ends_with_leave(container: &Container<Echo>, outcome: Outcome) -> bool {
+    container.trace().last() == Some(&Entry::Leave { outcome })
+}
+
+/// Asks which bean is right for a type.
+fn ask(container: &mut Container<Echo>, bean_type: Name, quals: &Quals) -> Result<(), AllocError> {
+    let _ = container.choose(bean_type, quals)?;
+    Ok(())
+}
+
+/// Whether the trace of a call ends with the end of its method, and there is none behind a question.
+fn forgets_trace(alloc: Global, container: &mut Container<Echo>) -> Result<bool, Error> {
+    let quals = Quals::new(alloc);
+    let bean_type = name(b"S")?;
+    answer_of(container, bean_type, &quals, method(b"run")?, Val::Int(9))?;
+    let is_last = ends_with_leave(container, Outcome::Value(Val::Int(9)));
+    ask(container, bean_type, &quals)?;
+    Ok(is_last && entries_of(container) == 0)
+}
+
+#[test]
+fn calls_run_bodies(rt: HostRuntime) -> Result<(), Fail> {
+    let mut container = stored(rt.alloc(), &DECLARED)?;
+    let other = first_other_call(rt.alloc(), &mut container, &STEPS)?;
+    assert!(rt; other.is_none(), "{other:?}");
+    Ok(())
+}
+
+#[test]
+fn commands_run_bodies(rt: HostRuntime) -> Result<(), Fail> {
+    let mut container = stored(rt.alloc(), &DECLARED)?;
+    let other = first_other_command(rt.alloc(), &mut container, &STEPS)?;
+    assert!(rt; other.is_none(), "{other:?}");
+    Ok(())
+}
+
+#[test]
+fn faults_refuse_look_ups_and_calls(rt: HostRuntime) -> Result<(), Fail> {
+    let mut container = stored(rt.alloc(), &[DECLARED[0], FAULTY])?;
+    let other = first_other_call(rt.alloc(), &mut container, &FAULTY_STEPS)?;
+    assert!(rt; other.is_none(), "{other:?}");
+    Ok(())
+}
+
+#[test]
+fn a_trace_is_of_the_last_command(rt: HostRuntime) -> Result<(), Fail> {
+    let mut container = stored(rt.alloc(), &DECLARED)?;
+    let right = forgets_trace(rt.alloc(), &mut container)?;
+    assert!(rt; right);
+    Ok(())
+}

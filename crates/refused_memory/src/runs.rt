@@ -1,0 +1,325 @@
+//! Look-ups, calls, requests and a stop of a container, of which any one allocation may be refused.
+use crate::Difference;
+use Asked::{Begin, Call, End, LookUp, Stop};
+use cdi_container::{Container, Entry};
+use cdi_fixtures::{Echo, name};
+use cdi_model::{Error, Ident, Name, Outcome, Quals, Refusal, Val};
+use std::alloc::{AllocError, Global};
+
+/// A call of a container. What is looked up and called is meant by its type alone.
+#[derive(Clone, Copy)]
+enum Asked {
+    LookUp(&'static [u8]),
+    Call(i64, &'static [u8]),
+    Begin,
+    End,
+    Stop,
+}
+
+/// A call, the value that it gives if it gives one, and the trace behind it; and the number that the next instance would
+/// have before it.
+#[derive(Clone, Copy)]
+struct Step {
+    asked: Asked,
+    value: Option<Val>,
+    trace: &'static [u8],
+    next: u64,
+}
+
+/// How a step goes.
+enum Going {
+    Right,
+    /// It answers, shows or leaves something else.
+    Wrong,
+    /// It has no memory, and leaves what it is to leave.
+    Refused,
+}
+
+const NULL: Option<Val> = Some(Val::Null);
+
+/// A dependent bean with a point, the bean that its point holds, a bean of the request and one of the application.
+static DECLARED: [&[u8]; 8] = [
+    b"kind=\"type\"\nname=\"A\"\n",
+    b"kind=\"type\"\nname=\"D\"\n",
+    b"kind=\"type\"\nname=\"R\"\n",
+    b"kind=\"type\"\nname=\"S\"\n",
+    b"kind=\"bean\"\nname=\"A\"\npoints=[{name=\"d\",type=\"D\"}]\n",
+    b"kind=\"bean\"\nname=\"D\"\npost={body=\"echo\"}\n",
+    b"kind=\"bean\"\nname=\"R\"\nscope=\"request\"\nmethods=[{name=\"run\",body=\"echo\"}]\n",
+    b"kind=\"bean\"\nname=\"S\"\nscope=\"application\"\npoints=[{name=\"d\",type=\"D\"}]\nmethods=[{name=\"run\",body=\"echo\"}]\n",
+];
+
+/// How many entries the look-up of the dependent bean with a point has.
+const ENTRIES: usize = 10;
+
+static STEPS: [Step; 9] = [
+    Step {
+        asked: LookUp(b"A"),
+        value: NULL,
+        trace: b"  create A#1
+  create D#2
+  enter D#2 post arg null
+  leave null
+  ready D#2
+  ready A#1
+  destroy A#1
+  destroy D#2
+  gone D#2
+  gone A#1
+",
+        next: 1,
+    },
+    Step {
+        asked: Call(7, b"S"),
+        value: Some(Val::Int(7)),
+        trace: b"  create S#3
+  create D#4
+  enter D#4 post arg null
+  leave null
+  ready D#4
+  ready S#3
+  enter S#3 method run arg 7
+  leave 7
+",
+        next: 3,
+    },
+    Step {
+        asked: Begin,
+        value: None,
+        trace: b"",
+        next: 5,
+    },
+    Step {
+        asked: Call(8, b"R"),
+        value: Some(Val::Int(8)),
+        trace: b"  create R#5
+  ready R#5
+  enter R#5 method run arg 8
+  leave 8
+",
+        next: 5,
+    },
+    Step {
+        asked: End,
+        value: None,
+        trace: b"  destroy R#5\n  gone R#5\n",
+        next: 6,
+    },
+    Step {
+        asked: Begin,
+        value: None,
+        trace: b"",
+        next: 6,
+    },
+    Step {
+        asked: LookUp(b"R"),
+        value: NULL,
+        trace: b"  create R#6\n  ready R#6\n",
+        next: 6,
+    },
+    Step {
+        asked: Stop,
+        value: None,
+        trace: b"  destroy R#6
+  gone R#6
+  destroy S#3
+  destroy D#4
+  gone D#4
+  gone S#3
+",
+        next: 7,
+    },
+    Step {
+        asked: LookUp(b"R"),
+        value: None,
+        trace: b"",
+        next: 7,
+    },
+];
+
+/// The value that an outcome is, if it is one.
+fn value_of(outcome: Outcome) -> Option<Val> {
+    match outcome {
+        Outcome::Value(value) => Some(value),
+        Outcome::Failed(_) => None,
+    }
+}
+
+fn state_of(
+    container: &mut Container<Echo>,
+    bean_type: Name,
+    quals: &Quals,
+) -> Result<Option<Val>, Error> {
+    Ok(value_of(container.lookup(bean_type, quals)?))
+}
+
+/// Calls the method that the beans have.
+fn answer_of(
+    container: &mut Container<Echo>,
+    bean_type: Name,
+    quals: &Quals,
+    arg: Val,
+) -> Result<Option<Val>, Error> {
+    let outcome = container.call(bean_type, quals, Ident::new(b"run"), arg)?;
+    Ok(value_of(outcome))
+}
+
+fn begin_request(container: &mut Container<Echo>) -> Result<(), Error> {
+    container.begin_request().map_err(Error::Refused)
+}
+
+fn end_request(container: &mut Container<Echo>) -> Result<(), Error> {
+    container.end_request()
+}
+
+fn end_contexts(container: &mut Container<Echo>) -> Result<(), AllocError> {
+    container.stop()
+}
+
+/// Makes a call.
+fn make(
+    alloc: Global,
+    container: &mut Container<Echo>,
+    asked: &Asked,
+) -> Result<Option<Val>, Error> {
+    let quals = Quals::new(alloc);
+    match asked {
+        LookUp(text) => return state_of(container, name(text)?, &quals),
+        Call(arg, text) => return answer_of(container, name(text)?, &quals, Val::Int(*arg)),
+        Begin => begin_request(container)?,
+        End => end_request(container)?,
+        Stop => end_contexts(container)?,
+    }
+    Ok(None)
+}
+
+fn trace_text(alloc: Global, container: &Container<Echo>) -> Result<Vec<u8>, AllocError> {
+    let mut text = Vec::new(alloc);
+    container.push_trace(&mut text)?;
+    Ok(text)
+}
+
+/// Whether a container shows this trace.
+fn shows(alloc: Global, container: &Container<Echo>, wanted: &[u8]) -> Result<bool, AllocError> {
+    let text = trace_text(alloc, container)?;
+    Ok(text.as_slice() == wanted)
+}
+
+/// How many entries a container shows.
+fn entries_of(container: &Container<Echo>) -> usize {
+    container.trace().len()
+}
+
+/// Whether they begin with the creation of the instance of this number.
+fn begins_at(container: &Container<Echo>, number: u64) -> bool {
+    match container.trace().first() {
+        Some(Entry::Create { id, .. }) => id.number == number,
+        _ => false,
+    }
+}
+
+/// Whether no request is active.
+fn is_closed(container: &mut Container<Echo>) -> bool {
+    end_request(container) == Err(Error::Refused(Refusal::NoRequest))
+}
+
+/// Whether no request is active, no instance is live and nothing is shown.
+fn is_bare(container: &mut Container<Echo>) -> Result<bool, Error> {
+    let is_silent = entries_of(container) == 0;
+    let is_closed = is_closed(container);
+    end_contexts(container)?;
+    Ok(is_silent && is_closed && entries_of(container) == 0)
+}
+
+/// Whether that is so, and a look-up answers as the first one did, with this number.
+fn is_emptied(alloc: Global, container: &mut Container<Echo>, next: u64) -> Result<bool, Error> {
+    let is_bare = is_bare(container)?;
+    let found = make(alloc, container, &LookUp(b"A"))?;
+    Ok(is_bare && found == NULL && entries_of(container) == ENTRIES && begins_at(container, next))
+}
+
+/// How a step goes that has no memory for its call.
+fn refused(alloc: Global, container: &mut Container<Echo>, step: &Step) -> Going {
+    match is_emptied(alloc, container, step.next) {
+        Ok(true) => Going::Refused,
+        _ => Going::Wrong,
+    }
+}
+
+/// How a step goes whose call is right. Where there is no memory for the trace's text, the text is asked for again.
+fn shown(alloc: Global, container: &Container<Echo>, step: &Step) -> Going {
+    match shows(alloc, container, step.trace) {
+        Ok(true) => Going::Right,
+        Ok(false) => Going::Wrong,
+        Err(_) => shown_again(alloc, container, step),
+    }
+}
+
+fn shown_again(alloc: Global, container: &Container<Echo>, step: &Step) -> Going {
+    match shows(alloc, container, step.trace) {
+        Ok(true) => Going::Refused,
+        _ => Going::Wrong,
+    }
+}
+
+fn take(alloc: Global, container: &mut Container<Echo>, step: &Step) -> Going {
+    match make(alloc, container, &step.asked) {
+        Ok(value) if value == step.value => shown(alloc, container, step),
+        Err(Error::OutOfMemory) => refused(alloc, container, step),
+        _ => Going::Wrong,
+    }
+}
+
+fn declare_one(container: &mut Container<Echo>, text: &[u8]) -> Result<(), Error> {
+    container.put(text)
+}
+
+fn declare(container: &mut Container<Echo>) -> Result<(), Error> {
+    for text in &DECLARED {
+        declare_one(container, text)?;
+    }
+    Ok(())
+}
+
+/// Takes the steps, and tells whether one was refused, which ends them.
+fn take_steps(alloc: Global, container: &mut Container<Echo>) -> Result<bool, Difference> {
+    for (place, step) in STEPS.iter().enumerate() {
+        match take(alloc, container, step) {
+            Going::Right => {}
+            Going::Wrong => return Err(Difference::Step(place)),
+            Going::Refused => return Ok(true),
+        }
+    }
+    Ok(false)
+}
+
+/// Declares what the steps need, takes them, and tells whether there was no memory for one of these.
+fn go_through(alloc: Global, container: &mut Container<Echo>) -> Result<bool, Difference> {
+    match declare(container) {
+        Ok(()) => take_steps(alloc, container),
+        Err(Error::OutOfMemory) => Ok(true),
+        Err(_) => Err(Difference::Declarations),
+    }
+}
+
+fn empty(alloc: Global) -> Container<Echo> {
+    Container::new(alloc, Echo)
+}
+
+fn run_once(alloc: Global) -> Result<bool, Difference> {
+    let mut container = empty(alloc);
+    go_through(alloc, &mut container)
+}
+
+/// Takes the steps in a container, and tells whether one had no memory. Where one has none, it leaves no instance, no
+/// request and no trace, and the steps are taken in a new container.
+pub fn run_steps(alloc: Global) -> Result<bool, Difference> {
+    if !run_once(alloc)? {
+        return Ok(false);
+    }
+    if run_once(alloc)? {
+        Err(Difference::RefusedAgain)
+    } else {
+        Ok(true)
+    }
+}
