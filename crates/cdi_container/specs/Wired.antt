@@ -8,6 +8,7 @@ use Rattle.cdi_bodies.specs.Book.{Promised}
 use Rattle.cdi_contexts.specs.Standing.{cleared}
 use Rattle.cdi_model.specs.declared.refusal.Error.{Error}
 use Rattle.cdi_model.specs.declared.refusal.Error.TheVariants as errors
+use Rattle.cdi_legal.specs.Furnished.{IsFurnished}
 use Rattle.cdi_legal.specs.Moment.{Moment, beginning}
 use Rattle.cdi_scene.specs.Scene.{bean_at}
 use Rattle.cdi_scene.specs.Sound.{IsSound}
@@ -57,10 +58,11 @@ pub record IsSameDeployment (old new : Deployed) : Type 0 where
   pub book : new.book ≡ old.book
   pub wired : old.is_wired ≡ true → new.is_wired ≡ true
 
--- without a scene nothing is live, and nothing is told
-pub record RestsOnScene (is_wired : Bool) (m : Moment) : Type 0 where
-  pub nothing_lives : is_wired ≡ false → m.standing.live ≡ []
-  pub nothing_told : is_wired ≡ false → m.trace ≡ []
+-- without a scene nothing is live, and nothing is told; each ready instance has its dependent objects
+pub record RestsOnScene (d : Deployed) (m : Moment) : Type 0 where
+  pub nothing_lives : d.is_wired ≡ false → m.standing.live ≡ []
+  pub nothing_told : d.is_wired ≡ false → m.trace ≡ []
+  pub furnished : IsFurnished (scene_of d.decls d.book) m.standing.live
 
 -- the bean that is aimed at is there, with the method that is called
 pub record StandsIn (scene : Scene) (aim : Aim) : Type 0 where

@@ -55,7 +55,7 @@ impl<B: Bodies> Model for Container<B> {
       trace = c.run.moment.trace;
     } };
 
-    ghost invariant = { λ c. RestsOnScene c.deployment.is_wired c.run.moment };
+    ghost invariant = { λ c. RestsOnScene c.deployment c.run.moment };
 }
 
 impl<B: Bodies> Container<B> {
