@@ -1,5 +1,6 @@
 -- When a search ends, and what it has found then.
-use Rattle.std.proofs.Common.{◌≡◌, ◌↔◌, ℕ, Bool, true, false, cond, ◌||◌, List, [], ◌∷◌, length, refl, ◌∙◌, ap, subst, arith, Vec, Global, Some}
+use Rattle.std.proofs.Common.{◌≡◌, ◌↔◌, ℕ, Bool, true, false, cond, ◌||◌, List, [], ◌∷◌, length, refl}
+use Rattle.std.proofs.Common.{◌∙◌, ap, subst, arith, Vec, Global, Some}
 use Rattle.std.specs.Bool.{Decides}
 use Rattle.std.specs.List.{flat_map}
 use Rattle.std.specs.BTreeMap.{is_at}

@@ -1,4 +1,5 @@
-use Rattle.std.proofs.Common.{◌≡◌, ◌<◌, ◌+◌, get_or, subst, ℕ, List, ◌∷◌, ◌++◌, map, length, take, drop, refl, sym, ap, ◌∙◌, append-nil, arith, None}
+use Rattle.std.proofs.Common.{◌≡◌, ◌<◌, ◌+◌, get_or, subst, ℕ, List, ◌∷◌, ◌++◌, map, length, take, drop}
+use Rattle.std.proofs.Common.{refl, sym, ap, ◌∙◌, append-nil, arith, None}
 use Rattle.std.specs.BTreeMap.{keys}
 use Rattle.std.specs.List.{flat_map}
 use Rattle.std.proofs.lemmas.List.{at_drop_more, drop_all, drop-map, length-append, take-map}

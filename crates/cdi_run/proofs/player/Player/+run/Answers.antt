@@ -16,7 +16,8 @@ use Rattle.cdi_legal.proofs.Settling.{has-after}
 use Rattle.cdi_ending.proofs.Before.{some_of}
 use Rattle.cdi_run.specs.Known.{IsPlaced, IsSettled}
 use Rattle.cdi_run.proofs.Beans.{form_of, never, some_bean, begun_grows, with_outcome, with_both}
-use Rattle.cdi_run.proofs.player.Player.+run.Goals.{ask_on-then-not-may_ask, ask_on-else-not-may_ask+in-Some, ask_on-else-not-may_ask+in_default+then-len-eq64}
+use Rattle.cdi_run.proofs.player.Player.+run.Goals.{ask_on-then-not-may_ask}
+use Rattle.cdi_run.proofs.player.Player.+run.Goals.{ask_on-else-not-may_ask+in-Some, ask_on-else-not-may_ask+in_default+then-len-eq64}
 use Rattle.cdi_run.proofs.Staying.{created, injected, never_unmade, obtained, owned_by_param, reached, served_after, served_alone}
 use Rattle.cdi_run.proofs.Staying.{served_class, served_host, served_observer, served_same, settled_after, settled_begun, settled_same}
 use Rattle.cdi_run.proofs.player.Player.+run.Goals as goal
@@ -347,7 +348,8 @@ produce-frame-requires g t c =
     let none : c.in_ok-supplied.supplied.failure ≡ None = grind arith in
     let p = rw (c.as_slice-params.ensures, none) at c.in_ok-supplied.ensures in
     let product = c.requires.product in
-    let settled : IsSettled c.args.self.now.stage c.supply.new.run.moment = settled_after c.args.self.now.stage p c.requires.begun c.requires.settled in
+    let settled : IsSettled c.args.self.now.stage c.supply.new.run.moment =
+    settled_after c.args.self.now.stage p c.requires.begun c.requires.settled in
     let served : IsServed c.args.self.now.stage.scene c.supply.new.run.moment.standing.live
     (seat_of_class c.args.product.now.declaring (Producer c.args.id.bean)) c.deref.result.now =
     rw c.deref.ensures.0 (served_class c.args.self.now.stage c.args.id c.args.product.now product.there p c.requires.begun c.requires.settled) in
@@ -358,7 +360,8 @@ produce-invoke-requires g t c =
     let none : c.in_ok-supplied.supplied.failure ≡ None = grind arith in
     let p = rw (c.as_slice-params.ensures, none) at c.in_ok-supplied.ensures in
     let product = c.requires.product in
-    let settled : IsSettled c.args.self.now.stage c.supply.new.run.moment = settled_after c.args.self.now.stage p c.requires.begun c.requires.settled in
+    let settled : IsSettled c.args.self.now.stage c.supply.new.run.moment =
+    settled_after c.args.self.now.stage p c.requires.begun c.requires.settled in
     let has = rw c.in-Some-host.is at c.requires.has in
     let served : IsServed c.args.self.now.stage.scene c.supply.new.run.moment.standing.live
     (seat_on c.in-Some-host.host Target (Producer c.args.id.bean)) c.deref-in-Some-host.result.now =
@@ -471,7 +474,8 @@ set_up_managed-invoke-requires-in-Value g t c =
     let managed = c.requires.managed in
     let first : IsSettled c.args.self.now.stage c.inject.new.run.moment = settled_after c.args.self.now.stage p low c.requires.settled in
     let had = injected c.args.self.now.stage c.args.id c.args.managed.now managed.there p c.requires.newest c.requires.settled in
-    let settled : IsSettled c.args.self.now.stage c.invoke.new.run.moment = settled_after c.args.self.now.stage c.in_ok-built.ensures tt first in
+    let settled : IsSettled c.args.self.now.stage c.invoke.new.run.moment =
+    settled_after c.args.self.now.stage c.in_ok-built.ensures tt first in
     let served : IsServed c.args.self.now.stage.scene c.invoke.new.run.moment.standing.live (seat_on c.args.id Target Post) [] =
     served_alone c.args.self.now.stage.scene c.invoke.new.run.moment.standing.live c.args.id Post
     (has-after c.args.id c.in_ok-built.ensures tt first.rises had) refl in
