@@ -1,5 +1,5 @@
 -- The text of a trace.
-use Rattle.std.specs.Prelude.{ℕ, List, [], ◌∷◌, ◌++◌, codes, decimal, flat_map, Option, Some, None, slice_get}
+use Rattle.std.specs.Prelude.{ℕ, List, [], ◌∷◌, ◌++◌, codes, flat_map, Option, Some, None, slice_get}
 use Rattle.cdi_model.specs.Bytes.{feed, space}
 use Rattle.cdi_model.specs.OutcomeText.{text_of_val, text_of_failure}
 use Rattle.cdi_model.specs.declared.outcome.Outcome.{Outcome}
