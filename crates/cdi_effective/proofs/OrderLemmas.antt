@@ -12,6 +12,8 @@ use Rattle.cdi_model.specs.declared.decl.Decl.TheVariants as decls
 use Rattle.cdi_model.specs.declared.decl.ProducerDecl.{ProducerDecl}
 use Rattle.cdi_match.specs.Types.{types_of}
 use Rattle.cdi_match.proofs.TypeLemmas.{types_of-rises}
+use Rattle.cdi_model.specs.declared.quals.Qual.{Qual}
+use Rattle.cdi_effective.specs.Bindings.{class_bindings}
 use Rattle.cdi_effective.specs.Beans.{is_kept, restricted, effective, managed_origin, product_origin, product, managed}
 use Rattle.cdi_effective.specs.Beans.{entries, beans, TypesStandInOrder}
 use Rattle.cdi_effective.specs.declared.records.Effective.{Effective}
@@ -25,15 +27,16 @@ restricted-rises : (listed : Option (List (List ℕ))) (types : List (List ℕ))
 restricted-rises None types rise = rise
 restricted-rises (Some listed) types rise = IsStrictlySortedBy-filter byte_order (is_kept listed) types rise
 
-one-in-order : (ds : List Decl) (origin : Origin) (attributes : Attributes) → IsInOrder (effective ds origin attributes)
+one-in-order : (ds : List Decl) (origin : Origin) (attributes : Attributes) (bindings : List Qual)
+    → IsInOrder (effective ds origin attributes bindings)
 unfolding effective
-one-in-order ds origin attributes = restricted-rises attributes.types (types_of ds origin.bean_type) (types_of-rises ds origin.bean_type)
+one-in-order ds origin attributes bindings = restricted-rises attributes.types (types_of ds origin.bean_type) (types_of-rises ds origin.bean_type)
 
 products-in-order : (ds : List Decl) (bean : BeanDecl) (ps : List ProducerDecl) (rest : List Effective) → AllByRecursion IsInOrder rest
     → AllByRecursion IsInOrder (map (product ds bean) ps ++ rest)
 products-in-order ds bean [] rest all = all
 products-in-order ds bean (p ∷ ps) rest all = (
-  one-in-order ds (product_origin bean (managed ds bean).is_enabled (managed ds bean).is_alternative p) p.attributes,
+  one-in-order ds (product_origin bean (managed ds bean).is_enabled (managed ds bean).is_alternative p) p.attributes [],
   products-in-order ds bean ps rest all,
 )
 
@@ -41,9 +44,11 @@ all-in-order : (ds es : List Decl) → AllByRecursion IsInOrder (flat_map (entri
 all-in-order ds [] = tt
 all-in-order ds (decls.Type d ∷ es) = all-in-order ds es
 all-in-order ds (decls.Qualifier d ∷ es) = all-in-order ds es
+all-in-order ds (decls.Binding d ∷ es) = all-in-order ds es
 all-in-order ds (decls.Stereotype d ∷ es) = all-in-order ds es
+all-in-order ds (decls.Interceptor d ∷ es) = all-in-order ds es
 all-in-order ds (decls.Bean bean ∷ es) = (
-  one-in-order ds (managed_origin bean) bean.attributes,
+  one-in-order ds (managed_origin bean) bean.attributes (class_bindings ds bean),
   products-in-order ds bean bean.producers (flat_map (entries ds) es) (all-in-order ds es),
 )
 

@@ -44,7 +44,9 @@ unfolding effective
 none-first ds [] = refl
 none-first ds (decls.Type d ∷ es) = none-first ds es
 none-first ds (decls.Qualifier d ∷ es) = none-first ds es
+none-first ds (decls.Binding d ∷ es) = none-first ds es
 none-first ds (decls.Stereotype d ∷ es) = none-first ds es
+none-first ds (decls.Interceptor d ∷ es) = none-first ds es
 none-first ds (decls.Bean bean ∷ es) = refl
 
 product-class : (ds : List Decl) (class : List ℕ) (bean : BeanDecl) (p : ProducerDecl)
@@ -83,7 +85,9 @@ unfolding from_class
 among ds class [] = refl
 among ds class (decls.Type d ∷ es) = among ds class es
 among ds class (decls.Qualifier d ∷ es) = among ds class es
+among ds class (decls.Binding d ∷ es) = among ds class es
 among ds class (decls.Stereotype d ∷ es) = among ds class es
+among ds class (decls.Interceptor d ∷ es) = among ds class es
 among ds class (decls.Bean bean ∷ es) = by (bytes_eq bean.name class) refl (among ds class es)
   where
     by : (b : Bool) → bytes_eq bean.name class ≡ b

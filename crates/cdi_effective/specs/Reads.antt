@@ -6,19 +6,27 @@ use Rattle.cdi_model.specs.declared.decl.Decl.{Decl}
 use Rattle.cdi_model.specs.declared.decl.Kind.TheVariants as kinds
 use Rattle.cdi_model.specs.declared.key.DeclKey.{DeclKey}
 use Rattle.cdi_model.specs.DeclKey.{key_at}
-use Rattle.cdi_match.specs.Locality.{type_reads, stereotype_reads}
+use Rattle.cdi_match.specs.Locality.{binding_reads, type_reads, stereotype_reads}
+use Rattle.cdi_match.specs.Stereotypes.{stereotype_decls}
 use Rattle.cdi_effective.specs.Beans.{records}
+use Rattle.cdi_effective.specs.Bindings.{stereotype_bindings}
 use Rattle.cdi_effective.specs.declared.records.Effective.{Effective}
 
 -- a bean of this type that declares these stereotypes rests on the types that it has, and on its stereotypes
 abbrev pub bean_reads : List Decl → List ℕ → List (List ℕ) → List DeclKey
 bean_reads ds t stereotypes = type_reads ds t ++ stereotype_reads ds stereotypes
 
+-- the bindings of its class rest on the binding types that its own bring, and on those that the bindings of its stereotypes bring
+abbrev pub class_reads : List Decl → BeanDecl → List DeclKey
+class_reads ds bean = binding_reads ds bean.bindings
+    ++ binding_reads ds (stereotype_bindings (stereotype_decls ds bean.attributes.stereotypes))
+
 -- the records of a bean declaration: itself, and what its managed bean and its products rest on
 abbrev pub record_reads : List Decl → BeanDecl → List DeclKey
 record_reads ds bean =
     key_at kinds.Bean bean.name
     ∷ bean_reads ds bean.name bean.attributes.stereotypes
+    ++ class_reads ds bean
     ++ flat_map (λ p. bean_reads ds p.product_type p.attributes.stereotypes) bean.producers
 
 -- Apart from these, the qualifiers that some beans have: by their declarations the members of a use are filled.

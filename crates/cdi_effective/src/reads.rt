@@ -1,15 +1,16 @@
 //! What the records of a bean declaration rest on.
 ghost use Rattle.std.specs.Prelude.{◌≡◌, ◌++◌, map, IfOk, OnOk};
 ghost use Rattle.cdi_model.specs.DeclKey.{key_at};
-ghost use Rattle.cdi_effective.specs.Reads.{bean_reads, record_reads};
+ghost use Rattle.cdi_effective.specs.Reads.{bean_reads, class_reads, record_reads};
 
-use cdi_match::{closure, stereotypes};
+use crate::bindings::given_bindings;
+use cdi_match::{closure, push_uses, stereotypes, types_brought};
 use cdi_model::{BeanDecl, DeclKey, Decls, Kind, Name};
 use std::alloc::{AllocError, Global};
 
 /// What the records of a bean declaration rest on: the declaration itself, the types of its class and of the types that
-/// its producer methods declare, and the stereotypes of it and of its products. A key may stand twice. It takes memory
-/// for the keys, and while it looks for the types and the stereotypes.
+/// its producer methods declare, the stereotypes of it and of its products, and the binding types that the bindings of it
+/// and of its stereotypes bring. A key may stand twice. It takes memory for the keys, and for the searches.
 pub fn reads_of(alloc: Global, decls: &Decls, bean: &BeanDecl) -> Result<Vec<DeclKey>, AllocError>
     ensures { IfOk result (λ keys. keys.items ≡ record_reads decls.now bean.now) }
 {
@@ -22,6 +23,7 @@ pub fn reads_of(alloc: Global, decls: &Decls, bean: &BeanDecl) -> Result<Vec<Dec
         bean.attributes.stereotypes.as_slice(),
         &mut keys,
     )?;
+    push_class_reads(alloc, decls, bean, &mut keys)?;
     for producer in bean.producers.as_slice() {
         let declared = producer.attributes.stereotypes.as_slice();
         push_bean_reads(alloc, decls, producer.product_type, declared, &mut keys)?;
@@ -44,6 +46,30 @@ fn push_bean_reads(
     let stereotypes = stereotypes(alloc, decls, declared)?;
     push_keys(Kind::Stereotype, stereotypes.as_slice(), keys)?;
     Ok(())
+}
+
+/// Appends what the bindings of the class of a bean rest on.
+fn push_class_reads(
+    alloc: Global,
+    decls: &Decls,
+    bean: &BeanDecl,
+    keys: &mut Vec<DeclKey>,
+) -> Result<(), AllocError>
+    ensures { OnOk result (keys.new.items ≡ keys.old.items ++ class_reads decls.now bean.now) }
+{
+    let mut own = Vec::new(alloc);
+    push_uses(&mut own, bean.bindings.as_slice())?;
+    push_keys(
+        Kind::Binding,
+        types_brought(alloc, decls, own.as_slice())?.as_slice(),
+        keys,
+    )?;
+    let given = given_bindings(alloc, decls, bean.attributes.stereotypes.as_slice())?;
+    push_keys(
+        Kind::Binding,
+        types_brought(alloc, decls, given.as_slice())?.as_slice(),
+        keys,
+    )
 }
 
 /// Appends the keys of a kind with some names.

@@ -1,6 +1,7 @@
 -- The text of what has a fault.
 use Rattle.std.proofs.Common.{◌≡◌, ◌∷◌, ℕ, List, refl}
 use Rattle.std.specs.Prelude.{Some, None, ◌≢◌}
+use Rattle.cdi_model.specs.declared.decl.UseKind.TheVariants as uses
 use Rattle.cdi_faults.specs.declared.fault.Subject.{Subject}
 use Rattle.cdi_faults.specs.declared.fault.Subject.TheVariants as subjects
 use Rattle.cdi_faults.specs.declared.place.PartPlace.{PartPlace}
@@ -28,7 +29,8 @@ behind_space_of_call (places.Disposer name) point method = refl
 pub behind_space_of : (m : Subject) → m ≢ subjects.Whole → behind_space (text_of_subject m) ≡ 32 ∷ text_of_subject m
 behind_space_of subjects.Whole h = absurd (h refl)
 behind_space_of (subjects.Type name) h = refl
-behind_space_of (subjects.Qualifier name) h = refl
+behind_space_of (subjects.Used uses.Qualifier name) h = refl
+behind_space_of (subjects.Used uses.Binding name) h = refl
 behind_space_of (subjects.Stereotype name) h = refl
 behind_space_of (subjects.Extends name) h = refl
 behind_space_of (subjects.Implements name) h = refl
@@ -37,7 +39,8 @@ behind_space_of (subjects.Typed None name) h = refl
 behind_space_of (subjects.Typed (Some producer) name) h = refl
 behind_space_of (subjects.Producer name) h = refl
 behind_space_of (subjects.Disposer name) h = refl
-behind_space_of (subjects.Use u) h = refl
+behind_space_of (subjects.Use uses.Qualifier u) h = refl
+behind_space_of (subjects.Use uses.Binding u) h = refl
 behind_space_of (subjects.Point None point) h = refl
 behind_space_of (subjects.Point (Some producer) point) h = refl
 behind_space_of (subjects.Part place) h = behind_space_of_place place

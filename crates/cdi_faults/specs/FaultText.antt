@@ -3,7 +3,7 @@ use Rattle.std.specs.Prelude.{◌≡◌, ℕ, List, [], ◌∷◌, ◌++◌, map
 use Rattle.std.specs.BTreeMap.{insert_entry}
 use Rattle.std.specs.List.Sorted.{IsStrictlySortedBy}
 use Rattle.cdi_model.specs.Bytes.{byte_order, dot, space}
-use Rattle.cdi_model.specs.Decl.{word_of_kind}
+use Rattle.cdi_model.specs.Decl.{declared_as, word_of_kind}
 use Rattle.cdi_model.specs.UseText.{text_of_use}
 use Rattle.cdi_match.specs.Chain.{has}
 use Rattle.cdi_effective.specs.BeanText.{text_of_id}
@@ -42,7 +42,7 @@ text_of_place (places.Disposer name) = about (codes "disposer") name
 abbrev pub text_of_subject : Subject → List ℕ
 text_of_subject subjects.Whole = []
 text_of_subject (subjects.Type name) = about (codes "type") name
-text_of_subject (subjects.Qualifier name) = about (codes "qualifier") name
+text_of_subject (subjects.Used kind name) = about (word_of_kind (declared_as kind)) name
 text_of_subject (subjects.Stereotype name) = about (codes "stereotype") name
 text_of_subject (subjects.Extends name) = about (codes "extends") name
 text_of_subject (subjects.Implements name) = about (codes "implements") name
@@ -50,7 +50,7 @@ text_of_subject subjects.Class = codes "class"
 text_of_subject (subjects.Typed producer name) = in_producer producer (about (codes "typed") name)
 text_of_subject (subjects.Producer name) = about (codes "producer") name
 text_of_subject (subjects.Disposer name) = about (codes "disposer") name
-text_of_subject (subjects.Use u) = about (codes "qualifier") (text_of_use u)
+text_of_subject (subjects.Use kind u) = about (word_of_kind (declared_as kind)) (text_of_use u)
 text_of_subject (subjects.Point producer point) = text_of_point producer point
 text_of_subject (subjects.Part place) = text_of_place place
 text_of_subject (subjects.Call place point method) = about (text_of_place place) (about (codes "call") (point ++ dot ∷ method))
@@ -63,9 +63,11 @@ text_of_code fault_codes.Cycle = codes "F02"
 text_of_code fault_codes.BadKind = codes "F03"
 text_of_code fault_codes.Typed = codes "F04"
 text_of_code fault_codes.ScopeConflict = codes "F05"
+text_of_code fault_codes.BindingConflict = codes "F06"
 text_of_code fault_codes.Member = codes "F07"
 text_of_code fault_codes.Disposer = codes "F08"
 text_of_code fault_codes.Body = codes "F10"
+text_of_code fault_codes.NoBinding = codes "F11"
 text_of_code fault_codes.Unsatisfied = codes "F20"
 text_of_code fault_codes.Ambiguous = codes "F21"
 text_of_code fault_codes.Site = codes "F23"

@@ -4,14 +4,14 @@ ghost use Rattle.std.specs.List.Sorted.{IsStrictlySortedBy};
 ghost use Rattle.cdi_faults.specs.Codes.{all_codes, code_of, code_order};
 
 use crate::place::PartPlace;
-use cdi_model::{Ident, Kind, Name, Qual};
+use cdi_model::{Ident, Kind, Name, Qual, UseKind};
 
 /// What is wrong. The order of the codes is that in which faults stand.
 #[derive(Clone, Copy, Debug, PartialEq, Eq, PartialOrd, Ord)]
 pub enum Code {
     /// A name that it names is neither declared nor built in.
     UnknownName,
-    /// A type or stereotype reaches itself.
+    /// A type, a binding type or a stereotype reaches itself.
     Cycle,
     /// A type stands where one of the other form is wanted.
     BadKind,
@@ -19,12 +19,18 @@ pub enum Code {
     Typed,
     /// Stereotypes give different default scopes (CDI 4.0, Default scope for a stereotype).
     ScopeConflict,
-    /// A use does not fit the declaration of its qualifier (CDI 4.0, Qualifier annotations with members).
+    /// The bindings at a place have two of one type with different members (Interceptors 2.1, Conflicting Interceptor
+    /// Bindings).
+    BindingConflict,
+    /// A use does not fit the declaration of what is used (CDI 4.0, Qualifier annotations with members; Interceptors 2.1,
+    /// Interceptor Bindings With Members).
     Member,
     /// A disposer method matches no producer method, or two match one (CDI 4.0, Disposer method resolution).
     Disposer,
     /// A body that it names is not in the book, or may do more than is allowed in its place (profile).
     Body,
+    /// An interceptor declares no binding (Interceptors 2.1, Declaring the Interceptor Bindings of an Interceptor).
+    NoBinding,
     /// No bean is right for an injection point (CDI 4.0, Unsatisfied and ambiguous dependencies).
     Unsatisfied,
     /// More than one bean is left for an injection point (CDI 4.0, Unsatisfied and ambiguous dependencies).
@@ -42,7 +48,7 @@ pub enum Code {
 impl Code {
     /// All codes, in their order.
     #[tactic(auto, using(crate::proofs::CodeLemmas::codes_rise, crate::proofs::CodeLemmas::has_code))]
-    pub fn all() -> [Code; 14]
+    pub fn all() -> [Code; 16]
         ensures value { result ≡ all_codes }
         ensures order { IsStrictlySortedBy code_order all_codes }
         ensures each { (code : Code) → Contains all_codes code }
@@ -53,9 +59,11 @@ impl Code {
             Code::BadKind,
             Code::Typed,
             Code::ScopeConflict,
+            Code::BindingConflict,
             Code::Member,
             Code::Disposer,
             Code::Body,
+            Code::NoBinding,
             Code::Unsatisfied,
             Code::Ambiguous,
             Code::Site,
@@ -73,8 +81,8 @@ pub enum Subject {
     Whole,
     /// A type that it names.
     Type(Name),
-    /// A qualifier that it names.
-    Qualifier(Name),
+    /// A qualifier or a binding type that it names.
+    Used(UseKind, Name),
     /// A stereotype that it names.
     Stereotype(Name),
     /// The type that it extends.
@@ -90,8 +98,8 @@ pub enum Subject {
     },
     Producer(Ident),
     Disposer(Ident),
-    /// A use of a qualifier.
-    Use(Qual),
+    /// A use of a qualifier or of a binding.
+    Use(UseKind, Qual),
     /// An injection point of a bean, or a parameter of a producer method.
     Point {
         producer: Option<Ident>,

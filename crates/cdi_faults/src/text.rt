@@ -23,9 +23,11 @@ impl fmt::Display for Code {
             Code::BadKind => "F03",
             Code::Typed => "F04",
             Code::ScopeConflict => "F05",
+            Code::BindingConflict => "F06",
             Code::Member => "F07",
             Code::Disposer => "F08",
             Code::Body => "F10",
+            Code::NoBinding => "F11",
             Code::Unsatisfied => "F20",
             Code::Ambiguous => "F21",
             Code::Site => "F23",
@@ -43,7 +45,10 @@ impl fmt::Display for Subject {
         match self {
             Subject::Whole => Ok(()),
             Subject::Type(name) => write!(f, "type {name}"),
-            Subject::Qualifier(name) => write!(f, "qualifier {name}"),
+            Subject::Used(kind, name) => {
+                let kind = kind.declared_as();
+                write!(f, "{kind} {name}")
+            }
             Subject::Stereotype(name) => write!(f, "stereotype {name}"),
             Subject::Extends(name) => write!(f, "extends {name}"),
             Subject::Implements(name) => write!(f, "implements {name}"),
@@ -54,7 +59,10 @@ impl fmt::Display for Subject {
             },
             Subject::Producer(name) => write!(f, "producer {name}"),
             Subject::Disposer(name) => write!(f, "disposer {name}"),
-            Subject::Use(qual) => write!(f, "qualifier {qual}"),
+            Subject::Use(kind, qual) => {
+                let kind = kind.declared_as();
+                write!(f, "{kind} {qual}")
+            }
             Subject::Point { producer, name } => match producer {
                 Some(producer) => write!(f, "producer {producer} param {name}"),
                 None => write!(f, "point {name}"),

@@ -5,8 +5,11 @@ use Rattle.cdi_model.specs.declared.decl.Attributes.{Attributes}
 use Rattle.cdi_model.specs.declared.decl.Decl.{Decl}
 use Rattle.cdi_model.specs.declared.decl.Decl.TheVariants as decls
 use Rattle.cdi_model.specs.declared.decl.DisposerDecl.{DisposerDecl}
+use Rattle.cdi_model.specs.declared.decl.MethodDecl.{MethodDecl}
 use Rattle.cdi_model.specs.declared.decl.PointDecl.{PointDecl}
 use Rattle.cdi_model.specs.declared.decl.ProducerDecl.{ProducerDecl}
+use Rattle.cdi_model.specs.declared.decl.UseKind.{UseKind}
+use Rattle.cdi_model.specs.declared.decl.UseKind.TheVariants as uses
 use Rattle.cdi_model.specs.declared.mention.Mention.{Mention as AnyMention}
 use Rattle.cdi_model.specs.declared.mention.Mention.TheVariants as given
 use Rattle.cdi_model.specs.declared.mention.Names.{Names}
@@ -15,13 +18,20 @@ use Rattle.cdi_model.specs.declared.mention.TypePlace.{TypePlace}
 use Rattle.cdi_model.specs.declared.mention.TypePlace.TheVariants as places
 use Rattle.cdi_model.specs.declared.quals.Qual.{Qual}
 
--- what is named in one place: a type, a use of a qualifier, a stereotype, and an injection point of a bean or of the producer
--- method of a name
+-- what is named in one place: a type, a use of a qualifier or of a binding, a stereotype, a business method, and an injection
+-- point of a bean, of an interceptor or of the producer method of a name
 pub data Mention : Type 0 where
   TypeIn : TypePlace → List ℕ → Mention
-  UseOf : Qual → Mention
+  UseOf : UseKind → Qual → Mention
   StereotypeOf : List ℕ → Mention
+  MethodOf : MethodDecl → Mention
   PointOf : Option (List ℕ) → PointDecl → Mention
+
+abbrev pub of_qualifiers : List Qual → List Mention
+of_qualifiers quals = map (UseOf uses.Qualifier) quals
+
+abbrev pub of_bindings : List Qual → List Mention
+of_bindings bindings = map (UseOf uses.Binding) bindings
 
 -- the types to which a bean is restricted
 abbrev pub listed_types : Attributes → List (List ℕ)
@@ -29,25 +39,31 @@ listed_types a = unwrap_or a.types []
 
 -- what is declared of a bean, or of the product of a producer method
 abbrev pub of_attributes : Option (List ℕ) → Attributes → List Mention
-of_attributes producer a = map (TypeIn (places.Listed producer)) (listed_types a) ++ map UseOf a.qualifiers
+of_attributes producer a = map (TypeIn (places.Listed producer)) (listed_types a) ++ of_qualifiers a.qualifiers
     ++ map StereotypeOf a.stereotypes
 
 abbrev pub of_point : Option (List ℕ) → PointDecl → List Mention
-of_point producer p = PointOf producer p ∷ TypeIn places.Required p.required_type ∷ map UseOf p.qualifiers
+of_point producer p = PointOf producer p ∷ TypeIn places.Required p.required_type ∷ of_qualifiers p.qualifiers
+
+abbrev pub of_method : MethodDecl → List Mention
+of_method m = MethodOf m ∷ of_bindings m.bindings
 
 abbrev pub of_producer : ProducerDecl → List Mention
-of_producer p = TypeIn places.Produced p.product_type ∷ of_attributes (Some p.name) p.attributes
+of_producer p = TypeIn places.Produced p.product_type ∷ of_attributes (Some p.name) p.attributes ++ of_bindings p.bindings
     ++ flat_map (of_point (Some p.name)) p.params
 
 abbrev pub of_disposer : DisposerDecl → List Mention
-of_disposer s = TypeIn places.Disposed s.product_type ∷ map UseOf s.qualifiers
+of_disposer s = TypeIn places.Disposed s.product_type ∷ of_qualifiers s.qualifiers
 
 -- what a declaration names, in order
 unfoldable pub mentions : Decl → List Mention
 mentions (decls.Type d) = map (TypeIn places.Extends) (option_to_list d.extends) ++ map (TypeIn places.Implements) d.implements
-mentions (decls.Stereotype d) = map StereotypeOf d.stereotypes
-mentions (decls.Bean d) = TypeIn places.Class d.name ∷ of_attributes None d.attributes ++ flat_map (of_point None) d.points
-    ++ flat_map of_producer d.producers ++ flat_map of_disposer d.disposers
+mentions (decls.Binding d) = of_bindings d.declares
+mentions (decls.Stereotype d) = map StereotypeOf d.stereotypes ++ of_bindings d.bindings
+mentions (decls.Bean d) = TypeIn places.Class d.name ∷ of_attributes None d.attributes ++ of_bindings d.bindings
+    ++ flat_map (of_point None) d.points ++ flat_map of_method d.methods ++ flat_map of_producer d.producers
+    ++ flat_map of_disposer d.disposers
+mentions (decls.Interceptor d) = of_bindings d.bindings ++ flat_map (of_point None) d.points
 mentions d = []
 
 -- ---- what the code gives
@@ -55,8 +71,9 @@ mentions d = []
 -- what it gives in one place
 abbrev pub shown : AnyMention → Mention
 shown (given.Type place t) = TypeIn place t
-shown (given.Use u) = UseOf u.now
+shown (given.Use kind u) = UseOf kind u.now
 shown (given.Stereotype s) = StereotypeOf s
+shown (given.Method m) = MethodOf m.now
 shown (given.Point producer p) = PointOf producer p.now
 
 -- a type, if there is one, in its place, and some that are implemented
@@ -65,9 +82,9 @@ supers first ts = map (λ t. TypeIn t.0 t.1) (option_to_list first) ++ map (Type
 
 -- what it has left
 abbrev pub names_left : Names → List Mention
-names_left n = map (λ t. TypeIn t.0 t.1) (option_to_list n.first) ++ map (TypeIn n.place) n.types.now ++ map UseOf n.uses.now
-    ++ map StereotypeOf n.stereotypes.now
+names_left n = map (λ t. TypeIn t.0 t.1) (option_to_list n.first) ++ map (TypeIn n.place) n.types.now ++ of_qualifiers n.qualifiers.now
+    ++ map StereotypeOf n.stereotypes.now ++ of_bindings n.bindings.now
 
 abbrev pub left : Rest → List Mention
-left r = names_left r.names ++ flat_map (of_point r.producer) r.points.now ++ flat_map of_producer r.producers.now
-    ++ flat_map of_disposer r.disposers.now
+left r = names_left r.names ++ flat_map (of_point r.producer) r.points.now ++ flat_map of_method r.methods.now
+    ++ flat_map of_producer r.producers.now ++ flat_map of_disposer r.disposers.now

@@ -3,6 +3,7 @@ use Rattle.std.specs.Prelude.{◌≡◌, ◌≤◌, ℕ, List, length, Some, sli
 use Rattle.cdi_model.specs.declared.decl.BeanDecl.{BeanDecl}
 use Rattle.cdi_model.specs.declared.decl.Decl.{Decl}
 use Rattle.cdi_model.specs.declared.decl.Decl.TheVariants as decls
+use Rattle.cdi_model.specs.declared.decl.InterceptorDecl.{InterceptorDecl}
 use Rattle.cdi_model.specs.declared.decl.MethodDecl.{MethodDecl}
 use Rattle.cdi_model.specs.declared.decl.PartDecl.{PartDecl}
 use Rattle.cdi_model.specs.declared.decl.ProducerDecl.{ProducerDecl}
@@ -26,8 +27,16 @@ pub record IsShortBean (bean : BeanDecl) : Type 0 where
   pub producers : (k : ℕ) (producer : ProducerDecl) → slice_get bean.producers k ≡ Some producer
       → IsShortProducer producer
 
+-- each part of the interceptor has few call sites
+pub record IsShortInterceptor (interceptor : InterceptorDecl) : Type 0 where
+  pub around_invoke : (part : PartDecl) → interceptor.around_invoke ≡ Some part → HasFewCalls part
+  pub around_construct : (part : PartDecl) → interceptor.around_construct ≡ Some part → HasFewCalls part
+  pub post : (part : PartDecl) → interceptor.post ≡ Some part → HasFewCalls part
+  pub pre : (part : PartDecl) → interceptor.pre ≡ Some part → HasFewCalls part
+
 abbrev pub HasShortLists : Decl → Type 0
 HasShortLists (decls.Bean bean) = IsShortBean bean
+HasShortLists (decls.Interceptor interceptor) = IsShortInterceptor interceptor
 HasShortLists other = Unit {0}
 
 -- each declaration has

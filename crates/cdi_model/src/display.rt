@@ -47,8 +47,10 @@ impl fmt::Display for Kind {
         f.pad(match self {
             Kind::Type => "type",
             Kind::Qualifier => "qualifier",
+            Kind::Binding => "binding",
             Kind::Stereotype => "stereotype",
             Kind::Bean => "bean",
+            Kind::Interceptor => "interceptor",
         })
     }
 }

@@ -1,11 +1,14 @@
 //! What a declaration names.
-ghost use Rattle.std.specs.Prelude.{◌≡◌, [], ◌∷◌, ◌++◌, map};
+ghost use Rattle.std.specs.Prelude.{◌≡◌, [], ◌∷◌, ◌++◌, map, flat_map, None};
 ghost use Rattle.std.specs.Iterator.{YieldsFirstBy, item_count};
 ghost use Rattle.cdi_model.specs.declared.decl.Decl.TheVariants as decls_are;
-ghost use Rattle.cdi_model.specs.Mentions.{Mention as AnyMention, TypeIn, UseOf, StereotypeOf};
-ghost use Rattle.cdi_model.specs.Mentions.{left, listed_types, mentions, names_left, of_attributes, shown, supers};
+ghost use Rattle.cdi_model.specs.Mentions.{Mention as AnyMention, TypeIn, StereotypeOf};
+ghost use Rattle.cdi_model.specs.Mentions.{left, listed_types, mentions, names_left, of_attributes, of_bindings, of_point, of_qualifiers};
+ghost use Rattle.cdi_model.specs.Mentions.{shown, supers};
 
-use crate::decl::{Attributes, BeanDecl, Decl, DisposerDecl, PointDecl, ProducerDecl};
+use crate::decl::{
+    Attributes, BeanDecl, Decl, DisposerDecl, MethodDecl, PointDecl, ProducerDecl, UseKind,
+};
 use crate::name::{Ident, Name};
 use crate::quals::Qual;
 use std::marker::Model;
@@ -33,9 +36,12 @@ pub enum TypePlace {
 #[derive(Clone, Copy)]
 pub enum Mention<'a> {
     Type(TypePlace, Name),
-    Use(&'a Qual),
+    Use(UseKind, &'a Qual),
     Stereotype(Name),
-    /// An injection point of a bean, or of the producer method of this name. Its type and its uses come behind it.
+    /// A business method. Its bindings come behind it.
+    Method(&'a MethodDecl),
+    /// An injection point of a bean, of an interceptor, or of the producer method of this name. Its type and its uses come
+    /// behind it.
     Point(Option<Ident>, &'a PointDecl),
 }
 
@@ -73,34 +79,51 @@ pub(crate) struct Names<'a> {
     /// The place of the others.
     place: TypePlace,
     types: &'a [Name],
-    uses: &'a [Qual],
+    qualifiers: &'a [Qual],
     stereotypes: &'a [Name],
+    bindings: &'a [Qual],
 }
 
 impl<'a> Names<'a> {
-    /// Some types that a type names, or some stereotypes that one inherits.
-    fn of(first: Option<(TypePlace, Name)>, types: &'a [Name], stereotypes: &'a [Name]) -> Names<'a>
-        ensures { names_left result ≡ supers first types.now ++ map StereotypeOf stereotypes.now }
+    /// Some types that a type names.
+    fn of_types(first: Option<(TypePlace, Name)>, types: &'a [Name]) -> Names<'a>
+        ensures { names_left result ≡ supers first types.now }
     {
         Names {
             first,
             place: TypePlace::Implements,
             types,
-            uses: none(),
-            stereotypes,
+            qualifiers: none(),
+            stereotypes: none(),
+            bindings: none(),
         }
     }
 
-    /// A type, and uses.
-    fn of_type(place: TypePlace, name: Name, uses: &'a [Qual]) -> Names<'a>
-        ensures { names_left result ≡ TypeIn place name ∷ map UseOf uses.now }
+    /// Some stereotypes, and some bindings.
+    fn of_stereotypes(stereotypes: &'a [Name], bindings: &'a [Qual]) -> Names<'a>
+        ensures { names_left result ≡ map StereotypeOf stereotypes.now ++ of_bindings bindings.now }
+    {
+        Names {
+            first: None,
+            place: TypePlace::Implements,
+            types: none(),
+            qualifiers: none(),
+            stereotypes,
+            bindings,
+        }
+    }
+
+    /// A type, and uses of qualifiers.
+    fn of_type(place: TypePlace, name: Name, qualifiers: &'a [Qual]) -> Names<'a>
+        ensures { names_left result ≡ TypeIn place name ∷ of_qualifiers qualifiers.now }
     {
         Names {
             first: Some((place, name)),
             place: TypePlace::Implements,
             types: none(),
-            uses,
+            qualifiers,
             stereotypes: none(),
+            bindings: none(),
         }
     }
 
@@ -110,15 +133,17 @@ impl<'a> Names<'a> {
         name: Name,
         producer: Option<Ident>,
         attributes: &'a Attributes,
+        bindings: &'a [Qual],
     ) -> Names<'a>
-        ensures { names_left result ≡ TypeIn place name ∷ of_attributes producer attributes.now }
+        ensures { names_left result ≡ TypeIn place name ∷ of_attributes producer attributes.now ++ of_bindings bindings.now }
     {
         Names {
             first: Some((place, name)),
             place: TypePlace::Listed(producer),
             types: listed_types(attributes),
-            uses: attributes.qualifiers.as_slice(),
+            qualifiers: attributes.qualifiers.as_slice(),
             stereotypes: attributes.stereotypes.as_slice(),
+            bindings,
         }
     }
 
@@ -133,13 +158,17 @@ impl<'a> Names<'a> {
             self.types = others;
             return Some(Mention::Type(self.place, *name));
         }
-        if let Some((qual, others)) = self.uses.split_first() {
-            self.uses = others;
-            return Some(Mention::Use(qual));
+        if let Some((qual, others)) = self.qualifiers.split_first() {
+            self.qualifiers = others;
+            return Some(Mention::Use(UseKind::Qualifier, qual));
         }
-        let (name, others) = self.stereotypes.split_first()?;
-        self.stereotypes = others;
-        Some(Mention::Stereotype(*name))
+        if let Some((name, others)) = self.stereotypes.split_first() {
+            self.stereotypes = others;
+            return Some(Mention::Stereotype(*name));
+        }
+        let (binding, others) = self.bindings.split_first()?;
+        self.bindings = others;
+        Some(Mention::Use(UseKind::Binding, binding))
     }
 }
 
@@ -166,23 +195,39 @@ pub(crate) struct Rest<'a> {
     /// The producer method whose points these are.
     producer: Option<Ident>,
     points: &'a [PointDecl],
+    methods: &'a [MethodDecl],
     producers: &'a [ProducerDecl],
     disposers: &'a [DisposerDecl],
 }
 
 impl<'a> Rest<'a> {
-    /// Some types that a type names, or some stereotypes that one inherits.
-    fn of_names(
-        first: Option<(TypePlace, Name)>,
-        types: &'a [Name],
-        stereotypes: &'a [Name],
-    ) -> Rest<'a>
-        ensures { left result ≡ supers first types.now ++ map StereotypeOf stereotypes.now }
+    /// Some types that a type names.
+    fn of_types(first: Option<(TypePlace, Name)>, types: &'a [Name]) -> Rest<'a>
+        ensures { left result ≡ supers first types.now }
     {
         Rest {
-            names: Names::of(first, types, stereotypes),
+            names: Names::of_types(first, types),
             producer: None,
             points: none(),
+            methods: none(),
+            producers: none(),
+            disposers: none(),
+        }
+    }
+
+    /// Some stereotypes, and some bindings, and behind them injection points.
+    fn of_bindings(
+        stereotypes: &'a [Name],
+        bindings: &'a [Qual],
+        points: &'a [PointDecl],
+    ) -> Rest<'a>
+        ensures { left result ≡ map StereotypeOf stereotypes.now ++ of_bindings bindings.now ++ flat_map (of_point None) points.now }
+    {
+        Rest {
+            names: Names::of_stereotypes(stereotypes, bindings),
+            producer: None,
+            points,
+            methods: none(),
             producers: none(),
             disposers: none(),
         }
@@ -193,9 +238,16 @@ impl<'a> Rest<'a> {
         ensures { left result ≡ mentions (decls_are.Bean bean.now) }
     {
         Rest {
-            names: Names::of_bean(TypePlace::Class, bean.name, None, &bean.attributes),
+            names: Names::of_bean(
+                TypePlace::Class,
+                bean.name,
+                None,
+                &bean.attributes,
+                bean.bindings.as_slice(),
+            ),
             producer: None,
             points: bean.points.as_slice(),
+            methods: bean.methods.as_slice(),
             producers: bean.producers.as_slice(),
             disposers: bean.disposers.as_slice(),
         }
@@ -208,11 +260,19 @@ impl<'a> Rest<'a> {
         match decl {
             Decl::Type(decl) => {
                 let first = decl.extends.map(|extended| (TypePlace::Extends, extended));
-                Rest::of_names(first, decl.implements.as_slice(), none())
+                Rest::of_types(first, decl.implements.as_slice())
             }
-            Decl::Stereotype(decl) => { Rest::of_names(None, none(), decl.stereotypes.as_slice()) }
+            Decl::Qualifier(_) => Rest::of_types(None, none()),
+            Decl::Binding(decl) => Rest::of_bindings(none(), decl.declares.as_slice(), none()),
+            Decl::Stereotype(decl) => Rest::of_bindings(
+                decl.stereotypes.as_slice(),
+                decl.bindings.as_slice(),
+                none(),
+            ),
             Decl::Bean(bean) => Rest::of_bean(bean),
-            Decl::Qualifier(_) => Rest::of_names(None, none(), none()),
+            Decl::Interceptor(decl) => {
+                Rest::of_bindings(none(), decl.bindings.as_slice(), decl.points.as_slice())
+            }
         }
     }
 
@@ -231,6 +291,11 @@ impl<'a> Rest<'a> {
             );
             return Some(Mention::Point(self.producer, point));
         }
+        if let Some((method, others)) = self.methods.split_first() {
+            self.methods = others;
+            self.names = Names::of_stereotypes(none(), method.bindings.as_slice());
+            return Some(Mention::Method(method));
+        }
         if let Some((producer, others)) = self.producers.split_first() {
             self.producers = others;
             self.producer = Some(producer.name);
@@ -240,6 +305,7 @@ impl<'a> Rest<'a> {
                 producer.product_type,
                 Some(producer.name),
                 &producer.attributes,
+                producer.bindings.as_slice(),
             );
             return self.names.next();
         }
@@ -255,8 +321,8 @@ impl<'a> Rest<'a> {
 }
 
 impl Decl {
-    /// What it names, in order: each type, use of a qualifier, stereotype and injection point, with where it stands. It
-    /// takes no memory.
+    /// What it names, in order: each type, use of a qualifier or of a binding, stereotype, business method and injection
+    /// point, with where it stands. It takes no memory.
     pub fn mentions(&self) -> Mentions<'_>
         ensures { result ≡ mentions self.now }
     {

@@ -8,11 +8,12 @@ use Rattle.cdi_model.specs.DeclKey.{key_at}
 use Rattle.cdi_model.specs.Edits.{edited_all, edited_keys, is_among, Avoid, others}
 use Rattle.cdi_model.specs.declared.decl.Decl.{Decl}
 use Rattle.cdi_model.specs.declared.decl.Kind.TheVariants as kinds
+use Rattle.cdi_model.specs.declared.decl.UseKind.TheVariants as uses
 use Rattle.cdi_model.specs.declared.edit.Edit.{Edit}
 use Rattle.cdi_model.specs.declared.key.DeclKey.{DeclKey}
 use Rattle.cdi_model.specs.declared.quals.Qual.{Qual}
 use Rattle.cdi_model.proofs.EditLemmas.{edits_keep_decl, edits_keep_others, avoid-first, avoid-second, avoid-head}
-use Rattle.cdi_match.specs.Filling.{as_qualifier, fill}
+use Rattle.cdi_match.specs.Filling.{as_qualifier, fill, members_of}
 use Rattle.cdi_match.specs.Covering.{given_name}
 use Rattle.cdi_effective.specs.Beans.{beans, entries, records}
 use Rattle.cdi_effective.specs.Reads.{record_reads, qualifier_reads}
@@ -44,17 +45,17 @@ abbrev use_key : Qual → DeclKey
 use_key u = key_at kinds.Qualifier u.name
 
 filled-same : (edits : List Edit) (ds : List Decl) (u : Qual) → is_among (edited_keys edits) (use_key u) ≡ false
-    → filled (edited_all ds edits) u ≡ filled ds u
+    → filled (edited_all ds edits) uses.Qualifier u ≡ filled ds uses.Qualifier u
 filled-same edits ds u none =
     let stays = edits_keep_decl edits ds kinds.Qualifier u.name none in
-    λ j. record { name = u.name; given = given_name u.arguments; values = fill (as_qualifier (stays j)) u }
+    λ j. record { name = u.name; given = given_name u.arguments; values = fill (members_of (as_qualifier (stays j))) u }
 
 uses-same : (edits : List Edit) (ds : List Decl) (us : List Qual) → Avoid (map use_key us) edits
-    → map (filled (edited_all ds edits)) us ≡ map (filled ds) us
+    → map (filled (edited_all ds edits) uses.Qualifier) us ≡ map (filled ds uses.Qualifier) us
 uses-same edits ds [] avoid = refl
 uses-same edits ds (u ∷ us) avoid =
-    ap (λ f. f ∷ map (filled (edited_all ds edits)) us) (filled-same edits ds u (avoid-head edits (use_key u) (map use_key us) avoid))
-    ∙ ap (λ rest. filled ds u ∷ rest) (uses-same edits ds us (avoid-second edits (use_key u ∷ []) (map use_key us) avoid))
+    ap (λ f. f ∷ map (filled (edited_all ds edits) uses.Qualifier) us) (filled-same edits ds u (avoid-head edits (use_key u) (map use_key us) avoid))
+    ∙ ap (λ rest. filled ds uses.Qualifier u ∷ rest) (uses-same edits ds us (avoid-second edits (use_key u ∷ []) (map use_key us) avoid))
 
 bean-same : (edits : List Edit) (ds : List Decl) (r : Effective) → Avoid (map use_key r.qualifiers) edits
     → seen_bean (edited_all ds edits) r ≡ seen_bean ds r

@@ -13,9 +13,10 @@ use Rattle.cdi_model.specs.SameUse.{same_members, same_members-decides, same_qua
 use Rattle.cdi_model.specs.declared.decl.Decl.{Decl}
 use Rattle.cdi_model.specs.declared.decl.MemberDecl.{MemberDecl}
 use Rattle.cdi_model.specs.declared.decl.QualifierDecl.{QualifierDecl}
+use Rattle.cdi_model.specs.declared.decl.UseKind.TheVariants as uses
 use Rattle.cdi_model.specs.declared.quals.Qual.{Qual}
 use Rattle.cdi_match.specs.Covering.{given_name}
-use Rattle.cdi_match.specs.Filling.{fill, find_qualifier}
+use Rattle.cdi_match.specs.Filling.{fill, find_qualifier, members_of}
 use Rattle.cdi_effective.specs.declared.records.BeanId.{BeanId}
 use Rattle.cdi_resolve.specs.Choices.{Candidate}
 use Rattle.cdi_resolve.specs.Sees.{FilledUse, SeenBean, Seen, filled}
@@ -105,9 +106,9 @@ touched_where_seen_differs ds es key =
 
 -- a use that is written alike is filled alike where its qualifier is declared alike
 pub alike_fill_the_same : (ds es : List Decl) (u v : Qual) → same_qual u v ≡ true → declare_alike ds es u.name ≡ true
-    → same_filled (filled ds u) (filled es v) ≡ true
+    → same_filled (filled ds uses.Qualifier u) (filled es uses.Qualifier v) ≡ true
 alike_fill_the_same ds es u v same alike =
     let declared = (option-decides same_qualifier-decides (find_qualifier u.name ds) (find_qualifier u.name es)).0 alike in
-    let own : filled ds u ≡ filled es u =
-    λ j. record { name = u.name; given = given_name u.arguments; values = fill (declared j) u } in
-    (same_filled-decides (filled ds u) (filled es v)).1 (own ∙ ap (filled es) ((same_qual-decides u v).0 same))
+    let own : filled ds uses.Qualifier u ≡ filled es uses.Qualifier u =
+    λ j. record { name = u.name; given = given_name u.arguments; values = fill (members_of (declared j)) u } in
+    (same_filled-decides (filled ds uses.Qualifier u) (filled es uses.Qualifier v)).1 (own ∙ ap (filled es uses.Qualifier) ((same_qual-decides u v).0 same))

@@ -10,6 +10,7 @@ use Rattle.cdi_model.specs.SameUse.{same_members}
 use Rattle.cdi_model.specs.DeclKey.{key_at}
 use Rattle.cdi_model.specs.declared.decl.Decl.{Decl}
 use Rattle.cdi_model.specs.declared.decl.Kind.TheVariants as kinds
+use Rattle.cdi_model.specs.declared.decl.UseKind.TheVariants as uses
 use Rattle.cdi_model.specs.declared.decl.MemberDecl.{MemberDecl}
 use Rattle.cdi_model.specs.declared.decl.QualifierDecl.{QualifierDecl}
 use Rattle.cdi_model.specs.declared.edit.Edit.{Edit}
@@ -63,7 +64,7 @@ same_seen s r = pointwise same_seen_bean s.beans r.beans && pointwise (option_eq
 
 -- some uses say over the one list of declarations what others say over the other
 abbrev pub uses_alike : List Decl → List Qual → List Decl → List Qual → Bool
-uses_alike ds us es vs = pointwise same_filled (map (filled ds) us) (map (filled es) vs)
+uses_alike ds us es vs = pointwise same_filled (map (filled ds uses.Qualifier) us) (map (filled es uses.Qualifier) vs)
 
 -- some beans are to a choice over the one list what others are over the other
 abbrev pub beans_alike : List Decl → List Effective → List Decl → List Effective → Bool

@@ -2,13 +2,14 @@
 ghost use Rattle.std.specs.Prelude.{◌≡◌, IfOk};
 ghost use Rattle.std.specs.Option.{option_eq};
 ghost use Rattle.std.specs.Str.{bytes_eq};
+ghost use Rattle.cdi_model.specs.declared.decl.UseKind.TheVariants as the_uses;
 ghost use Rattle.cdi_match.specs.Covering.{given_name};
 ghost use Rattle.cdi_resolve.specs.Sees.{filled};
 ghost use Rattle.cdi_seen.specs.Touched.{same_filled, uses_alike};
 
 use crate::qualifiers::same_qualifier;
 use cdi_match::fill_members;
-use cdi_model::{Arguments, Decls, Qual};
+use cdi_model::{Arguments, Decls, Qual, UseKind};
 use std::alloc::{AllocError, Global};
 
 /// Whether two lists of uses say the same before and after an edit, where the members that they do not write have their
@@ -42,7 +43,7 @@ fn same_filled(
     after: &Decls,
     new: &Qual,
 ) -> Result<bool, AllocError>
-    ensures { IfOk result (λ is. is ≡ same_filled (filled before.now old.now) (filled after.now new.now)) }
+    ensures { IfOk result (λ is. is ≡ same_filled (filled before.now the_uses.Qualifier old.now) (filled after.now the_uses.Qualifier new.now)) }
 {
     if old.name != new.name || !same_given(&old.arguments, &new.arguments) {
         return Ok(false);
@@ -50,8 +51,8 @@ fn same_filled(
     if old == new && same_qualifier(before, after, old.name) {
         return Ok(true);
     }
-    let olds = fill_members(alloc, before, old)?;
-    let news = fill_members(alloc, after, new)?;
+    let olds = fill_members(alloc, before, UseKind::Qualifier, old)?;
+    let news = fill_members(alloc, after, UseKind::Qualifier, new)?;
     Ok(olds == news)
 }
 

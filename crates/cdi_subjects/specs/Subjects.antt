@@ -1,5 +1,5 @@
 -- The parts of a declaration that have a fault (CDI 4.0, Problems detected automatically by the container), for each code.
-use Rattle.std.specs.Prelude.{ℕ, nat_lt, Bool, true, false, not, ◌||◌, List, [], ◌∷◌, ◌++◌}
+use Rattle.std.specs.Prelude.{ℕ, nat_eq, nat_lt, Bool, true, false, not, ◌||◌, List, [], ◌∷◌, ◌++◌}
 use Rattle.std.specs.Prelude.{map, filter, length, codes, Option, Some, None, is_some, option_map, unwrap_or, if◌then◌else◌}
 use Rattle.std.specs.List.{list_any, flat_map}
 use Rattle.std.specs.Option.{option_to_list}
@@ -15,9 +15,12 @@ use Rattle.cdi_model.specs.declared.decl.Form.TheVariants.{Class, Interface}
 use Rattle.cdi_model.specs.declared.decl.Kind.{Kind}
 use Rattle.cdi_model.specs.declared.decl.Kind.TheVariants as kinds
 use Rattle.cdi_model.specs.declared.decl.PointDecl.{PointDecl}
+use Rattle.cdi_model.specs.declared.decl.UseKind.{UseKind}
+use Rattle.cdi_model.specs.declared.decl.UseKind.TheVariants as uses
 use Rattle.cdi_model.specs.declared.mention.TypePlace.{TypePlace}
 use Rattle.cdi_model.specs.declared.mention.TypePlace.TheVariants as places
 use Rattle.cdi_model.specs.Mentions.{Mention, TypeIn, UseOf, StereotypeOf, mentions, listed_types}
+use Rattle.cdi_match.specs.Bindings.{brings_itself}
 use Rattle.cdi_match.specs.Chain.{has}
 use Rattle.cdi_match.specs.Misuse.{is_misused}
 use Rattle.cdi_match.specs.Stereotypes.{inherits_itself}
@@ -59,6 +62,11 @@ is_known_type ds t = bytes_eq t object || is_declared kinds.Type ds t
 abbrev pub is_known_qualifier : List Decl → List ℕ → Bool
 is_known_qualifier ds q = has (codes "Any" ∷ codes "Default" ∷ codes "Named" ∷ []) q || is_declared kinds.Qualifier ds q
 
+-- no binding type is built in
+abbrev pub is_known_use_of : List Decl → UseKind → List ℕ → Bool
+is_known_use_of ds uses.Qualifier name = is_known_qualifier ds name
+is_known_use_of ds uses.Binding name = is_declared kinds.Binding ds name
+
 -- the class of a bean is to be declared, and any other type may also be built in
 abbrev pub is_known_in : List Decl → TypePlace → List ℕ → Bool
 is_known_in ds places.Class t = is_declared kinds.Type ds t
@@ -67,7 +75,7 @@ is_known_in ds _ t = is_known_type ds t
 -- what is named in a place, where it is neither declared nor built in
 abbrev pub unknown_in : List Decl → Mention → Option Subject
 unknown_in ds (TypeIn place t) = some_if (not (is_known_in ds place t)) (subjects.Type t)
-unknown_in ds (UseOf u) = some_if (not (is_known_qualifier ds u.name)) (subjects.Qualifier u.name)
+unknown_in ds (UseOf kind u) = some_if (not (is_known_use_of ds kind u.name)) (subjects.Used kind u.name)
 unknown_in ds (StereotypeOf s) = some_if (not (is_declared kinds.Stereotype ds s)) (subjects.Stereotype s)
 unknown_in ds _ = None
 
@@ -78,10 +86,11 @@ unknown_names ds d = subjects_in (unknown_in ds) d
 abbrev pub whole_if : Bool → List Subject
 whole_if holds = if holds then subjects.Whole ∷ [] else []
 
--- ---- a type or stereotype that reaches itself by one chain of an edge or more
+-- ---- a type, a binding type or a stereotype that reaches itself by one chain of an edge or more
 
 abbrev pub reaches_itself : List Decl → Decl → Bool
 reaches_itself ds (decls.Type d) = extends_itself ds d.name
+reaches_itself ds (decls.Binding d) = brings_itself ds d.name
 reaches_itself ds (decls.Stereotype d) = inherits_itself ds d.name
 reaches_itself ds d = false
 
@@ -140,11 +149,17 @@ scope_conflicts bs = map (λ b. part_of b.id) (filter (λ b. b.has_scope_conflic
 -- ---- uses with a member that isn't declared, or without a value for one that has no default
 
 abbrev pub bad_use_in : List Decl → Mention → Option Subject
-bad_use_in ds (UseOf u) = some_if (is_misused ds u) (subjects.Use u)
+bad_use_in ds (UseOf kind u) = some_if (is_misused ds kind u) (subjects.Use kind u)
 bad_use_in ds _ = None
 
 abbrev pub bad_uses : List Decl → Decl → List Subject
 bad_uses ds d = subjects_in (bad_use_in ds) d
+
+-- ---- interceptors without a binding
+
+abbrev pub is_unbound : Decl → Bool
+is_unbound (decls.Interceptor d) = nat_eq (length d.bindings) 0
+is_unbound d = false
 
 -- ---- disposers that match no product, and products that two match
 
@@ -196,6 +211,7 @@ subjects_at_fault codes_of.ScopeConflict ds book d = scope_conflicts (entries ds
 subjects_at_fault codes_of.Member ds book d = bad_uses ds d
 subjects_at_fault codes_of.Disposer ds book d = disposers_at_fault ds d
 subjects_at_fault codes_of.Body ds book d = unfit_parts book d
+subjects_at_fault codes_of.NoBinding ds book d = whole_if (is_unbound d)
 subjects_at_fault codes_of.Unsatisfied ds book d = points_at_fault (has_verdict verdicts.Unsatisfied) ds d
 subjects_at_fault codes_of.Ambiguous ds book d = points_at_fault (has_verdict verdicts.Ambiguous) ds d
 subjects_at_fault codes_of.Site ds book d = lost_sites ds d

@@ -9,11 +9,11 @@ ghost use Rattle.cdi_subjects.specs.Subjects.{bad_kind_in, bad_kinds, form_of, i
 ghost use Rattle.cdi_subjects.specs.Subjects.{reaches_itself, whole_if};
 
 use cdi_faults::Subject;
-use cdi_match::{extends_itself, inherits_itself};
+use cdi_match::{brings_itself, extends_itself, inherits_itself};
 use cdi_model::{Decl, Decls, Form, Kind, Mention, Name, TypePlace};
 use std::alloc::{AllocError, Global};
 
-/// The declaration as a whole, where it is of a type or a stereotype that reaches itself.
+/// The declaration as a whole, where it is of a type, a binding type or a stereotype that reaches itself.
 pub(crate) fn cycles(alloc: Global, decls: &Decls, decl: &Decl) -> Result<Vec<Subject>, AllocError>
     ensures { IfOk result (λ list. list.items ≡ whole_if (reaches_itself decls.now decl.now)) }
 {
@@ -29,6 +29,7 @@ fn reaches_itself(alloc: Global, decls: &Decls, decl: &Decl) -> Result<bool, All
 {
     match decl {
         Decl::Type(decl) => extends_itself(alloc, decls, decl.name),
+        Decl::Binding(decl) => brings_itself(alloc, decls, decl.name),
         Decl::Stereotype(decl) => inherits_itself(alloc, decls, decl.name),
         _ => Ok(false),
     }

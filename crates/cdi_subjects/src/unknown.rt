@@ -4,15 +4,15 @@ ghost use Rattle.std.specs.List.{list_all};
 ghost use Rattle.cdi_model.specs.Mentions.{shown};
 ghost use Rattle.cdi_match.specs.Chain.{has};
 ghost use Rattle.cdi_subjects.specs.Asked.{are_known, is_known_use};
-ghost use Rattle.cdi_subjects.specs.Subjects.{is_known_in, is_known_qualifier, is_known_type, unknown_in, unknown_names};
+ghost use Rattle.cdi_subjects.specs.Subjects.{is_known_in, is_known_qualifier, is_known_type, is_known_use_of, unknown_in, unknown_names};
 
 use crate::forms::is_object;
 use cdi_faults::Subject;
 use cdi_match::is_misused;
-use cdi_model::{Decl, Decls, Kind, Mention, Name, Qual, Quals, TypePlace};
+use cdi_model::{Decl, Decls, Kind, Mention, Name, Qual, Quals, TypePlace, UseKind};
 use std::alloc::{AllocError, Global};
 
-/// The types, qualifiers and stereotypes that a declaration names and that are neither declared nor built in, and the
+/// The types, qualifiers, binding types and stereotypes that a declaration names and that are neither declared nor built in, and the
 /// class of a bean where it is not declared.
 pub(crate) fn unknown_names(
     alloc: Global,
@@ -38,8 +38,8 @@ fn unknown_in(decls: &Decls, mention: &Mention<'_>) -> Option<Subject>
         Mention::Type(place, name) if !is_known_in(decls, *place, *name) => {
             Some(Subject::Type(*name))
         }
-        Mention::Use(qual) if !is_known_qualifier(decls, qual.name) => {
-            Some(Subject::Qualifier(qual.name))
+        Mention::Use(kind, qual) if !is_known_use_of(decls, *kind, qual.name) => {
+            Some(Subject::Used(*kind, qual.name))
         }
         Mention::Stereotype(name) if decls.get(Kind::Stereotype, *name).is_none() => {
             Some(Subject::Stereotype(*name))
@@ -75,13 +75,23 @@ fn are_known_uses(decls: &Decls, uses: &[Qual]) -> bool
 fn is_known_use(decls: &Decls, qual: &Qual) -> bool
     ensures { result ≡ is_known_use decls.now qual.now }
 {
-    is_known_qualifier(decls, qual.name) && !is_misused(decls, qual)
+    is_known_qualifier(decls, qual.name) && !is_misused(decls, UseKind::Qualifier, qual)
 }
 
 fn is_known_type(decls: &Decls, name: Name) -> bool
     ensures { result ≡ is_known_type decls.now name }
 {
     is_object(name) || decls.get(Kind::Type, name).is_some()
+}
+
+/// Whether a qualifier or a binding type is known: no binding type is built in.
+fn is_known_use_of(decls: &Decls, kind: UseKind, name: Name) -> bool
+    ensures { result ≡ is_known_use_of decls.now kind name }
+{
+    match kind {
+        UseKind::Qualifier => is_known_qualifier(decls, name),
+        UseKind::Binding => decls.get(Kind::Binding, name).is_some(),
+    }
 }
 
 fn is_known_qualifier(decls: &Decls, name: Name) -> bool

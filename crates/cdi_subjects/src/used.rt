@@ -1,4 +1,5 @@
-//! Uses of qualifiers that do not fit their declarations (CDI 4.0, Qualifier annotations with members).
+//! Uses that do not fit the declarations of what is used (CDI 4.0, Qualifier annotations with members; Interceptors 2.1,
+//! Interceptor Bindings With Members).
 ghost use Rattle.std.specs.Prelude.{◌≡◌, IfOk};
 ghost use Rattle.cdi_subjects.specs.Subjects.{bad_uses};
 
@@ -7,7 +8,7 @@ use cdi_match::is_misused;
 use cdi_model::{Decl, Decls, Mention};
 use std::alloc::{AllocError, Global};
 
-/// The uses of a declaration that do not fit the declarations of their qualifiers.
+/// The uses of a declaration that do not fit the declarations of what is used.
 pub(crate) fn bad_uses(
     alloc: Global,
     decls: &Decls,
@@ -17,9 +18,9 @@ pub(crate) fn bad_uses(
 {
     let mut subjects = Vec::new(alloc);
     for mention in decl.mentions() {
-        if let Mention::Use(qual) = mention {
-            if is_misused(decls, qual) {
-                subjects.push(Subject::Use(qual.clone()?))?;
+        if let Mention::Use(kind, qual) = mention {
+            if is_misused(decls, kind, qual) {
+                subjects.push(Subject::Use(kind, qual.clone()?))?;
             }
         }
     }

@@ -10,7 +10,7 @@ use Rattle.toml.specs.Data.{Data, table, Items, no_items, item, Members, get_mem
 use Rattle.cdi_model.specs.Answering.{Answers}
 use Rattle.cdi_model.specs.CallText.{call_of}
 use Rattle.cdi_model.specs.Quals.{list_limit}
-use Rattle.cdi_model.specs.Short.{HasFewCalls, HasShortLists, IsShortBean, IsShortProducer}
+use Rattle.cdi_model.specs.Short.{HasFewCalls, HasShortLists, IsShortBean, IsShortInterceptor, IsShortProducer}
 use Rattle.cdi_model.specs.declared.decl.Decl.{Decl}
 use Rattle.cdi_model.specs.declared.decl.Kind.{Kind}
 use Rattle.cdi_model.specs.declared.decl.Kind.TheVariants as kinds
@@ -30,7 +30,7 @@ use Rattle.cdi_text.specs.Reading.{schema_of, spelled, tree_of}
 use Rattle.cdi_text.specs.Schema.{shape_of}
 use Rattle.cdi_text.specs.Spelled.{with_front, items_at, calls_in, calls_at, one_at, each, each_at, part_decl}
 use Rattle.cdi_text.specs.Spelled.{method_decl, point_decl}
-use Rattle.cdi_text.specs.Spelled.{producer_decl, bean_decl}
+use Rattle.cdi_text.specs.Spelled.{producer_decl, bean_decl, interceptor_decl}
 use Rattle.cdi_text.proofs.Soundness.{count_at, table_at, tables_at}
 
 -- ---- lists
@@ -122,20 +122,20 @@ from-each_at {A = A} f schema inner key ms k x sound shape e =
     by None each_sound e = absurd (cc)
     by (Some ds) each_sound e = from-each f inner ds k x (each_sound ds refl) e
 
--- ---- a bean
+-- ---- a bean, and an interceptor
 
-short-part : (key : List ℕ) (ms : Members) (part : PartDecl) → is_sound schemas.Bean ms ≡ true
-    → shape_of schemas.Bean key ≡ Some (One (Table schemas.Part)) → one_at part_decl key ms ≡ Some part
+short-part : (schema : Schema) (key : List ℕ) (ms : Members) (part : PartDecl) → is_sound schema ms ≡ true
+    → shape_of schema key ≡ Some (One (Table schemas.Part)) → one_at part_decl key ms ≡ Some part
     → HasFewCalls part
-short-part key ms part sound shape e =
-    let of = from-one part_decl schemas.Bean schemas.Part key ms part sound shape e in
+short-part schema key ms part sound shape e =
+    let of = from-one part_decl schema schemas.Part key ms part sound shape e in
     subst HasFewCalls of.spells (few-calls schemas.Part of.ms of.sound refl)
 
 short-bean : (ms : Members) → is_sound schemas.Bean ms ≡ true → IsShortBean (bean_decl ms)
 short-bean ms sound = record {
-  construct = λ part e. short-part (codes "construct") ms part sound refl e;
-  post = λ part e. short-part (codes "post") ms part sound refl e;
-  pre = λ part e. short-part (codes "pre") ms part sound refl e;
+  construct = λ part e. short-part schemas.Bean (codes "construct") ms part sound refl e;
+  post = λ part e. short-part schemas.Bean (codes "post") ms part sound refl e;
+  pre = λ part e. short-part schemas.Bean (codes "pre") ms part sound refl e;
   methods = λ k method e.
       let of = from-each_at method_decl schemas.Bean schemas.Method (codes "methods") ms k method sound refl e in
       subst (λ m. HasFewCalls m.part) of.spells (few-calls schemas.Method of.ms of.sound refl);
@@ -148,11 +148,21 @@ short-bean ms sound = record {
       });
 }
 
+short-interceptor : (ms : Members) → is_sound schemas.Interceptor ms ≡ true → IsShortInterceptor (interceptor_decl ms)
+short-interceptor ms sound = record {
+  around_invoke = λ part e. short-part schemas.Interceptor (codes "around_invoke") ms part sound refl e;
+  around_construct = λ part e. short-part schemas.Interceptor (codes "around_construct") ms part sound refl e;
+  post = λ part e. short-part schemas.Interceptor (codes "post") ms part sound refl e;
+  pre = λ part e. short-part schemas.Interceptor (codes "pre") ms part sound refl e;
+}
+
 short-spelled : (kind : Kind) (ms : Members) → is_sound (schema_of kind) ms ≡ true → HasShortLists (spelled kind ms)
 short-spelled kinds.Type ms sound = tt
 short-spelled kinds.Qualifier ms sound = tt
+short-spelled kinds.Binding ms sound = tt
 short-spelled kinds.Stereotype ms sound = tt
 short-spelled kinds.Bean ms sound = short-bean ms sound
+short-spelled kinds.Interceptor ms sound = short-interceptor ms sound
 
 -- ---- a text
 

@@ -1,0 +1,83 @@
+//! The bindings of the class of a bean (Interceptors 2.1, Binding an Interceptor to a Class).
+ghost use Rattle.std.specs.Prelude.{◌≡◌, ◌++◌, IfOk, OnOk};
+ghost use Rattle.cdi_match.specs.Bindings.{uses_in};
+ghost use Rattle.cdi_match.specs.Stereotypes.{stereotype_decls};
+ghost use Rattle.cdi_effective.specs.Bindings.{class_bindings, in_place_of, stereotype_bindings};
+ghost use Rattle.cdi_effective.specs.Qualifiers.{uses_one};
+
+use cdi_match::{find_stereotype, push_uses, stereotypes, with_brought};
+use cdi_model::{BeanDecl, Decls, Name, Qual, Seq};
+use std::alloc::{AllocError, Global};
+
+/// The bindings of the class of a bean: those that it declares, with what they bring, and those of its stereotypes, with
+/// what these bring, of whose types it has none. One may stand twice. It takes memory for the list and for the searches,
+/// and none where neither the bean nor a stereotype of it declares one.
+pub(crate) fn class_bindings(
+    alloc: Global,
+    decls: &Decls,
+    bean: &BeanDecl,
+) -> Result<Seq<Qual>, AllocError>
+    ensures { IfOk result (λ bindings. bindings ≡ class_bindings decls.now bean.now) }
+{
+    let mut own = Vec::new(alloc);
+    push_uses(&mut own, bean.bindings.as_slice())?;
+    let own = with_brought(alloc, decls, own)?;
+    let given = given_bindings(alloc, decls, bean.attributes.stereotypes.as_slice())?;
+    copies(alloc, in_place_of(with_brought(alloc, decls, given)?, own)?)
+}
+
+/// The bindings that the stereotypes of what declares some declare.
+pub(crate) fn given_bindings<'a>(
+    alloc: Global,
+    decls: &'a Decls,
+    declared: &[Name],
+) -> Result<Vec<&'a Qual>, AllocError>
+    ensures { IfOk result (λ list. uses_in list.items ≡ stereotype_bindings (stereotype_decls decls.now declared.now)) }
+{
+    let mut list = Vec::new(alloc);
+    for name in stereotypes(alloc, decls, declared)? {
+        if let Some(stereotype) = find_stereotype(decls, name) {
+            push_uses(&mut list, stereotype.bindings.as_slice())?;
+        }
+    }
+    Ok(list)
+}
+
+/// Some uses, and behind them those of others that are of none of their types.
+pub fn in_place_of<'a>(
+    others: Vec<&'a Qual>,
+    own: Vec<&'a Qual>,
+) -> Result<Vec<&'a Qual>, AllocError>
+    ensures { IfOk result (λ list. uses_in list.items ≡ in_place_of (uses_in others.entry.items) (uses_in own.entry.items)) }
+{
+    let mut list = own;
+    let count = list.len();
+    for binding in others {
+        if !uses_one(&list.as_slice()[..count], binding.name) {
+            list.push(binding)?;
+        }
+    }
+    Ok(list)
+}
+
+/// Whether one of some uses is of a type.
+fn uses_one(uses: &[&Qual], name: Name) -> bool
+    ensures { result ≡ uses_one (uses_in uses.now) name }
+{
+    for other in uses {
+        if name == other.name {
+            return true;
+        }
+    }
+    false
+}
+
+fn copies(alloc: Global, uses: Vec<&Qual>) -> Result<Seq<Qual>, AllocError>
+    ensures { IfOk result (λ list. list ≡ uses_in uses.entry.items) }
+{
+    let mut list = Seq::new(alloc);
+    for binding in uses {
+        list.push(binding.clone()?)?;
+    }
+    Ok(list)
+}

@@ -1,0 +1,43 @@
+-- The bindings at a place of a bean (Interceptors 2.1, Binding an Interceptor to a Class; Binding an Interceptor to a Method).
+use Rattle.std.specs.Prelude.{ℕ, Bool, not, ◌&&◌, List, [], Option, Some, None, option_map}
+use Rattle.std.specs.List.{find}
+use Rattle.std.specs.Str.{bytes_eq}
+use Rattle.cdi_model.specs.declared.decl.BeanDecl.{BeanDecl}
+use Rattle.cdi_model.specs.declared.decl.Decl.{Decl}
+use Rattle.cdi_model.specs.declared.place.BeanPlace.{BeanPlace}
+use Rattle.cdi_model.specs.declared.place.BeanPlace.TheVariants as places
+use Rattle.cdi_model.specs.declared.quals.Qual.{Qual}
+use Rattle.cdi_match.specs.Bindings.{with_brought}
+use Rattle.cdi_effective.specs.Bindings.{class_bindings, in_place_of}
+use Rattle.cdi_effective.specs.Disposers.{find_bean}
+
+-- the bindings that the business method of a name declares, if the bean has it
+abbrev pub of_method : BeanDecl → List ℕ → Option (List Qual)
+of_method bean name = option_map (λ m. m.bindings) (find (λ m. bytes_eq m.name name) bean.methods)
+
+-- those of the producer method of a name, if the bean has it and it is not static
+abbrev pub of_producer : BeanDecl → List ℕ → Option (List Qual)
+of_producer bean name = option_map (λ p. p.bindings) (find (λ p. bytes_eq p.name name && not p.is_static) bean.producers)
+
+-- those that a method declares, with what they bring, in the place of those of its class that are of their types; none where the
+-- bean has no such method
+abbrev pub around_method : List Decl → List Qual → Option (List Qual) → List Qual
+around_method ds class None = []
+around_method ds class (Some own) = in_place_of class (with_brought ds own)
+
+-- the bindings at a place of a bean whose class has these: those of the class alone at its constructor (profile) and its callbacks
+abbrev pub set_by : List Decl → List Qual → BeanDecl → BeanPlace → List Qual
+set_by ds class bean places.Construct = class
+set_by ds class bean places.Post = class
+set_by ds class bean places.Pre = class
+set_by ds class bean (places.Method name) = around_method ds class (of_method bean name)
+set_by ds class bean (places.Producer name) = around_method ds class (of_producer bean name)
+
+-- none of a bean that is not declared
+abbrev pub set_of : List Decl → Option BeanDecl → BeanPlace → List Qual
+set_of ds None place = []
+set_of ds (Some bean) place = set_by ds (class_bindings ds bean) bean place
+
+-- the bindings at a place of the bean of a class
+abbrev pub set_at : List Decl → List ℕ → BeanPlace → List Qual
+set_at ds class place = set_of ds (find_bean class ds) place

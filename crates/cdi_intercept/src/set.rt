@@ -1,0 +1,79 @@
+//! The bindings at a place of a bean (Interceptors 2.1, Binding an Interceptor to a Class; Binding an Interceptor to a
+//! Method).
+ghost use Rattle.std.specs.Prelude.{◌≡◌, IfOk};
+ghost use Rattle.std.specs.Option.{option_copied};
+ghost use Rattle.cdi_match.specs.Bindings.{uses_in};
+ghost use Rattle.cdi_intercept.specs.Sets.{around_method, of_method, of_producer, set_by};
+
+use cdi_effective::in_place_of;
+use cdi_match::{push_uses, with_brought};
+use cdi_model::{BeanDecl, BeanPlace, Decls, Ident, Qual};
+use std::alloc::{AllocError, Global};
+
+/// The bindings at a place of a bean whose class has these: those of the class at its constructor and its lifecycle
+/// callbacks; those that a method declares, with what they bring, and those of the class of whose types it has none. None
+/// where the bean has no such method, or a static producer method. One may stand twice. It takes memory for the list and
+/// for the search.
+pub fn set_by<'a>(
+    alloc: Global,
+    decls: &'a Decls,
+    class: &'a [Qual],
+    bean: &'a BeanDecl,
+    place: BeanPlace,
+) -> Result<Vec<&'a Qual>, AllocError>
+    ensures { IfOk result (λ set. uses_in set.items ≡ set_by decls.now class.now bean.now place) }
+{
+    match place {
+        BeanPlace::Construct | BeanPlace::Post | BeanPlace::Pre => lent(alloc, class),
+        BeanPlace::Method(name) => around_method(alloc, decls, class, of_method(bean, name)),
+        BeanPlace::Producer(name) => around_method(alloc, decls, class, of_producer(bean, name)),
+    }
+}
+
+/// Those that a method declares, with what they bring, in the place of those of its class that are of their types.
+fn around_method<'a>(
+    alloc: Global,
+    decls: &'a Decls,
+    class: &'a [Qual],
+    own: Option<&'a [Qual]>,
+) -> Result<Vec<&'a Qual>, AllocError>
+    ensures { IfOk result (λ set. uses_in set.items ≡ around_method decls.now class.now (option_copied own.entry)) }
+{
+    let Some(own) = own else {
+        return Ok(Vec::new(alloc));
+    };
+    let own = with_brought(alloc, decls, lent(alloc, own)?)?;
+    in_place_of(lent(alloc, class)?, own)
+}
+
+fn lent<'a>(alloc: Global, uses: &'a [Qual]) -> Result<Vec<&'a Qual>, AllocError>
+    ensures { IfOk result (λ list. uses_in list.items ≡ uses.now) }
+{
+    let mut list = Vec::with_capacity(alloc, uses.len())?;
+    push_uses(&mut list, uses)?;
+    Ok(list)
+}
+
+/// The bindings that the business method of a name declares, if the bean has it.
+fn of_method(bean: &BeanDecl, name: Ident) -> Option<&[Qual]>
+    ensures { option_copied result ≡ of_method bean.now name }
+{
+    for method in bean.methods.as_slice() {
+        if method.name == name {
+            return Some(method.bindings.as_slice());
+        }
+    }
+    None
+}
+
+/// Those of the producer method of a name, if the bean has it and it is not static.
+fn of_producer(bean: &BeanDecl, name: Ident) -> Option<&[Qual]>
+    ensures { option_copied result ≡ of_producer bean.now name }
+{
+    for producer in bean.producers.as_slice() {
+        if producer.name == name && !producer.is_static {
+            return Some(producer.bindings.as_slice());
+        }
+    }
+    None
+}

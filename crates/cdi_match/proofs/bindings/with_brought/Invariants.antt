@@ -1,0 +1,7 @@
+use Rattle.std.proofs.Common.{◌≡◌, ◌++◌, flat_map}
+use Rattle.cdi_match.specs.Bindings.{brought, uses_in, with_brought}
+use Rattle.cdi_match.proofs.bindings.with_brought.Given as goal
+
+abbrev pub invariant-loop-name : goal.invariant-loop-name
+invariant-loop-name l =
+    uses_in l.list.items ++ flat_map (brought l.decls) l.name-iterator.rest.items ≡ with_brought l.decls (uses_in l.fn.uses.items)

@@ -1,0 +1,76 @@
+//! The bindings that uses of binding types bring with them (Interceptors 2.1, Interceptor Binding Types).
+ghost use Rattle.std.specs.Prelude.{◌≡◌, ◌↔◌, ◌++◌, IsTrue, IfOk, OnOk, map};
+ghost use Rattle.cdi_model.specs.Quals.{name_of_use};
+ghost use Rattle.cdi_match.specs.Bindings.{brings, brings_itself, brought, types_brought, uses_in, with_brought, BroughtAreThese};
+ghost use Rattle.cdi_match.specs.Chain.{Circle};
+ghost use Rattle.cdi_match.specs.Locality.{EditsKeepBindings};
+
+use crate::search::{Links, in_order, reached, reaches_itself};
+use cdi_model::{Decl, Decls, Kind, Name, Qual};
+use std::alloc::{AllocError, Global};
+
+/// The uses, and behind them those that the declarations of the binding types declare to which a chain of `declares` leads
+/// from one of these: a binding that is declared there stands once for each type that declares it. A binding type that is
+/// not declared brings none. It takes memory for the list and for the search, and none where there is no use.
+#[tactic(auto, using(crate::proofs::BindingLemmas::brought_behind, crate::proofs::LocalityLemmas::edits_keep_bindings))]
+pub fn with_brought<'a>(
+    alloc: Global,
+    decls: &'a Decls,
+    uses: Vec<&'a Qual>,
+) -> Result<Vec<&'a Qual>, AllocError>
+    ensures value { IfOk result (λ list. uses_in list.items ≡ with_brought decls.now (uses_in uses.entry.items)) }
+    ensures meaning { BroughtAreThese }
+    ensures edits { EditsKeepBindings }
+{
+    let mut list = uses;
+    if list.is_empty() {
+        return Ok(list);
+    }
+    for name in types_brought(alloc, decls, list.as_slice())? {
+        push_uses(&mut list, brought(decls, name))?;
+    }
+    Ok(list)
+}
+
+/// Appends some uses.
+pub fn push_uses<'a>(list: &mut Vec<&'a Qual>, uses: &'a [Qual]) -> Result<(), AllocError>
+    ensures { OnOk result (uses_in list.new.items ≡ uses_in list.old.items ++ uses.now) }
+{
+    for binding in uses {
+        list.push(binding)?;
+    }
+    Ok(())
+}
+
+/// The binding types that some uses bring, their own included, each once, in byte order. It takes memory for the list and
+/// for the search.
+pub fn types_brought(alloc: Global, decls: &Decls, uses: &[&Qual]) -> Result<Vec<Name>, AllocError>
+    ensures { IfOk result (λ names. names.items ≡ types_brought decls.now (map name_of_use (uses_in uses.now))) }
+{
+    let mut names = Vec::with_capacity(alloc, uses.len())?;
+    for binding in uses {
+        names.push(binding.name)?;
+    }
+    let found = reached(alloc, decls, Links::Bindings, names.as_slice())?;
+    in_order(alloc, found)
+}
+
+/// Whether a binding type reaches itself by a chain of one `declares` or more. It takes memory for the search, and none
+/// where the binding type declares none.
+#[tactic(auto, unfolding(crate::specs::Bindings::brings_itself))]
+pub fn brings_itself(alloc: Global, decls: &Decls, name: Name) -> Result<bool, AllocError>
+    ensures value { IfOk result (λ is. is ≡ brings_itself decls.now name) }
+    ensures meaning { IfOk result (λ is. IsTrue is ↔ Circle (brings decls.now) name) }
+{
+    reaches_itself(alloc, decls, Links::Bindings, name)
+}
+
+/// The uses that the declaration of a binding type declares: none where it is not declared. It takes no memory.
+pub fn brought(decls: &Decls, name: Name) -> &[Qual]
+    ensures { result.now ≡ brought decls.now name }
+{
+    match decls.get(Kind::Binding, name) {
+        Some(Decl::Binding(decl)) => decl.declares.as_slice(),
+        _ => &[],
+    }
+}
