@@ -12,7 +12,7 @@ use std::alloc::{AllocError, Global};
 /// The bindings of the class of a bean: those that it declares, with what they bring, and those of its stereotypes, with
 /// what these bring, of whose types it has none. One may stand twice. It takes memory for the list and for the searches,
 /// and none where neither the bean nor a stereotype of it declares one.
-pub(crate) fn class_bindings(
+pub fn class_bindings(
     alloc: Global,
     decls: &Decls,
     bean: &BeanDecl,

@@ -1,3 +1,4 @@
 pub mod Sets
+pub mod Sorting
 pub mod Chains
-pub mod Ranked
+pub mod Lent

@@ -1,5 +1,5 @@
 -- The bindings at a place of a bean (Interceptors 2.1, Binding an Interceptor to a Class; Binding an Interceptor to a Method).
-use Rattle.std.specs.Prelude.{ℕ, Bool, not, ◌&&◌, List, [], Option, Some, None, option_map}
+use Rattle.std.specs.Prelude.{ℕ, Bool, true, not, ◌&&◌, List, [], Option, Some, None, is_some, option_map}
 use Rattle.std.specs.List.{find}
 use Rattle.std.specs.Str.{bytes_eq}
 use Rattle.cdi_model.specs.declared.decl.BeanDecl.{BeanDecl}
@@ -8,8 +8,7 @@ use Rattle.cdi_model.specs.declared.place.BeanPlace.{BeanPlace}
 use Rattle.cdi_model.specs.declared.place.BeanPlace.TheVariants as places
 use Rattle.cdi_model.specs.declared.quals.Qual.{Qual}
 use Rattle.cdi_match.specs.Bindings.{with_brought}
-use Rattle.cdi_effective.specs.Bindings.{class_bindings, in_place_of}
-use Rattle.cdi_effective.specs.Disposers.{find_bean}
+use Rattle.cdi_effective.specs.Bindings.{in_place_of}
 
 -- the bindings that the business method of a name declares, if the bean has it
 abbrev pub of_method : BeanDecl → List ℕ → Option (List Qual)
@@ -33,11 +32,10 @@ set_by ds class bean places.Pre = class
 set_by ds class bean (places.Method name) = around_method ds class (of_method bean name)
 set_by ds class bean (places.Producer name) = around_method ds class (of_producer bean name)
 
--- none of a bean that is not declared
-abbrev pub set_of : List Decl → Option BeanDecl → BeanPlace → List Qual
-set_of ds None place = []
-set_of ds (Some bean) place = set_by ds (class_bindings ds bean) bean place
-
--- the bindings at a place of the bean of a class
-abbrev pub set_at : List Decl → List ℕ → BeanPlace → List Qual
-set_at ds class place = set_of ds (find_bean class ds) place
+-- whether a bean has the place: each has a constructor and callbacks
+abbrev pub has_place : BeanDecl → BeanPlace → Bool
+has_place bean places.Construct = true
+has_place bean places.Post = true
+has_place bean places.Pre = true
+has_place bean (places.Method name) = is_some (of_method bean name)
+has_place bean (places.Producer name) = is_some (of_producer bean name)

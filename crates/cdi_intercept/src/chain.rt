@@ -1,78 +1,69 @@
 //! The interceptors around a place, in order (Interceptors 2.1, Interceptor Ordering; Enabling Interceptors).
-ghost use Rattle.std.specs.Prelude.{◌≡◌, ◌∷◌, ◌++◌, [], List, IfOk, OnOk};
-ghost use Rattle.cdi_model.specs.declared.decl.InterceptorDecl.{InterceptorDecl as AnyInterceptor};
+ghost use Rattle.std.specs.Prelude.{◌≡◌, filter, IfOk};
+ghost use Rattle.std.specs.List.{list_all};
 ghost use Rattle.cdi_match.specs.Bindings.{uses_in};
-ghost use Rattle.cdi_intercept.specs.Chains.{binds, by_priority, chain_by, covered_in, part_for, surrounds};
-ghost use Rattle.cdi_intercept.specs.Ranked.{lent_in, AreRanked};
+ghost use Rattle.cdi_intercept.specs.Chains.{binds, chain_by, covered_in, in_order, interceptors, is_enabled, part_for, surrounds};
+ghost use Rattle.cdi_intercept.specs.Lent.{lent_in};
 
 use cdi_match::covers;
 use cdi_model::{BeanPlace, Decl, Decls, InterceptorDecl, PartDecl, Qual, UseKind};
 use std::alloc::{AllocError, Global};
-use std::collections::BTreeMap;
 
-/// The interceptors around a place with these bindings: those that are enabled by their priorities, have a body for the
-/// place, and declare bindings of which each is covered by one of these; by their priorities, from the least on, and those
-/// of one priority in the order of their declarations. It takes memory for those that stand there, and none where there is
-/// no binding.
-pub fn chain_by<'a>(
+/// The interceptors that are enabled by their priorities, from the least on, and those of one priority in the order of
+/// their declarations. It takes memory for the list, and for sorting it where there are more than 20.
+pub fn in_order<'a>(
     alloc: Global,
     decls: &'a Decls,
-    set: &[&Qual],
-    place: &BeanPlace,
 ) -> Result<Vec<&'a InterceptorDecl>, AllocError>
-    ensures { IfOk result (λ list. lent_in list.items ≡ chain_by decls.now (uses_in set.now) place) }
+    ensures { IfOk result (λ list. lent_in list.items ≡ in_order decls.now) }
 {
-    let mut ranked = BTreeMap::new(alloc);
-    for decl in decls.iter() {
-        if let Decl::Interceptor(interceptor) = decl {
-            if surrounds(decls, set, place, interceptor) {
-                rank(alloc, &mut ranked, interceptor)?;
-            }
-        }
-    }
-    joined(alloc, ranked)
+    let mut list = enabled(alloc, decls)?;
+    list.sort_by_key(|interceptor| interceptor.priority)?;
+    Ok(list)
 }
 
-/// Puts an interceptor behind those of its priority, where it has one.
-fn rank<'a>(
-    alloc: Global,
-    ranked: &mut BTreeMap<i64, Vec<&'a InterceptorDecl>>,
-    interceptor: &'a InterceptorDecl,
-) -> Result<(), AllocError>
-    ensures { OnOk result ((before : List AnyInterceptor) → AreRanked ranked.old before → AreRanked ranked.new (before ++ interceptor.now ∷ [])) }
-{
-    let Some(priority) = interceptor.priority else {
-        return Ok(());
-    };
-    let mut others = ranked.remove(&priority).unwrap_or(Vec::new(alloc));
-    others.push(interceptor)?;
-    ranked.insert(priority, others)?;
-    Ok(())
-}
-
-/// All of them, in order.
-fn joined<'a>(
-    alloc: Global,
-    ranked: BTreeMap<i64, Vec<&'a InterceptorDecl>>,
-) -> Result<Vec<&'a InterceptorDecl>, AllocError>
-    ensures { IfOk result (λ list. (all : List AnyInterceptor) → AreRanked ranked.entry all → lent_in list.items ≡ by_priority all) }
+fn enabled<'a>(alloc: Global, decls: &'a Decls) -> Result<Vec<&'a InterceptorDecl>, AllocError>
+    ensures { IfOk result (λ list. lent_in list.items ≡ filter is_enabled (interceptors decls.now)) }
 {
     let mut list = Vec::new(alloc);
-    for (_, interceptors) in ranked {
-        for interceptor in interceptors {
-            list.push(interceptor)?;
+    for decl in decls.iter() {
+        if let Decl::Interceptor(interceptor) = decl {
+            if interceptor.priority.is_some() {
+                list.push(interceptor)?;
+            }
         }
     }
     Ok(list)
 }
 
-/// Whether an interceptor stands around a place with these bindings.
-fn surrounds(decls: &Decls, set: &[&Qual], place: &BeanPlace, interceptor: &InterceptorDecl) -> bool
+/// Of the interceptors that are enabled, in order, those around a place with these bindings. It takes memory for those that
+/// stand there.
+#[tactic(auto, unfolding(crate::specs::Chains::chain_by))]
+pub fn chain_among<'a>(
+    alloc: Global,
+    decls: &Decls,
+    order: &[&'a InterceptorDecl],
+    set: &[&Qual],
+    place: &BeanPlace,
+) -> Result<Vec<&'a InterceptorDecl>, AllocError>
+    requires { lent_in order.now ≡ in_order decls.now }
+    ensures { IfOk result (λ list. lent_in list.items ≡ chain_by decls.now (uses_in set.now) place.now) }
+{
+    let mut list = Vec::new(alloc);
+    for interceptor in order {
+        if surrounds(decls, set, place, interceptor) {
+            list.push(*interceptor)?;
+        }
+    }
+    Ok(list)
+}
+
+/// Whether an interceptor stands around a place with these bindings, where it is enabled: it has a body for the place, and
+/// declares bindings of which each is covered by one of these. It takes no memory.
+pub fn surrounds(decls: &Decls, set: &[&Qual], place: &BeanPlace, interceptor: &InterceptorDecl) -> bool
     ensures { result ≡ surrounds decls.now (uses_in set.now) place.now interceptor.now }
 {
-    interceptor.priority.is_some()
-        && part_for(place, interceptor).is_some()
-        && binds(decls, set, interceptor)
+    part_for(place, interceptor).is_some() && binds(decls, set, interceptor)
 }
 
 /// What an interceptor runs around a place. It takes no memory.
@@ -92,7 +83,13 @@ fn binds(decls: &Decls, set: &[&Qual], interceptor: &InterceptorDecl) -> bool
     ensures { result ≡ binds decls.now (uses_in set.now) interceptor.now }
 {
     let bindings = interceptor.bindings.as_slice();
-    !bindings.is_empty() && bindings.iter().all(|want| is_covered(decls, set, want))
+    !bindings.is_empty() && are_covered(decls, set, bindings)
+}
+
+fn are_covered(decls: &Decls, set: &[&Qual], bindings: &[Qual]) -> bool
+    ensures { result ≡ list_all (covered_in decls.now (uses_in set.now)) bindings.now }
+{
+    bindings.iter().all(|want| is_covered(decls, set, want))
 }
 
 /// Whether one of some bindings covers this one.

@@ -3,7 +3,7 @@
 ghost use Rattle.std.specs.Prelude.{◌≡◌, IfOk};
 ghost use Rattle.std.specs.Option.{option_copied};
 ghost use Rattle.cdi_match.specs.Bindings.{uses_in};
-ghost use Rattle.cdi_intercept.specs.Sets.{around_method, of_method, of_producer, set_by};
+ghost use Rattle.cdi_intercept.specs.Sets.{around_method, has_place, of_method, of_producer, set_by};
 
 use cdi_effective::in_place_of;
 use cdi_match::{push_uses, with_brought};
@@ -19,14 +19,25 @@ pub fn set_by<'a>(
     decls: &'a Decls,
     class: &'a [Qual],
     bean: &'a BeanDecl,
-    place: BeanPlace,
+    place: &BeanPlace,
 ) -> Result<Vec<&'a Qual>, AllocError>
-    ensures { IfOk result (λ set. uses_in set.items ≡ set_by decls.now class.now bean.now place) }
+    ensures { IfOk result (λ set. uses_in set.items ≡ set_by decls.now class.now bean.now place.now) }
 {
     match place {
         BeanPlace::Construct | BeanPlace::Post | BeanPlace::Pre => lent(alloc, class),
-        BeanPlace::Method(name) => around_method(alloc, decls, class, of_method(bean, name)),
-        BeanPlace::Producer(name) => around_method(alloc, decls, class, of_producer(bean, name)),
+        BeanPlace::Method(name) => around_method(alloc, decls, class, of_method(bean, *name)),
+        BeanPlace::Producer(name) => around_method(alloc, decls, class, of_producer(bean, *name)),
+    }
+}
+
+/// Whether a bean has a place: each has a constructor and callbacks. It takes no memory.
+pub fn has_place(bean: &BeanDecl, place: &BeanPlace) -> bool
+    ensures { result ≡ has_place bean.now place.now }
+{
+    match place {
+        BeanPlace::Construct | BeanPlace::Post | BeanPlace::Pre => true,
+        BeanPlace::Method(name) => of_method(bean, *name).is_some(),
+        BeanPlace::Producer(name) => of_producer(bean, *name).is_some(),
     }
 }
 
