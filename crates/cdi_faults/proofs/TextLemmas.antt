@@ -15,6 +15,8 @@ behind_space_of_place places.Pre = refl
 behind_space_of_place (places.Method name) = refl
 behind_space_of_place (places.Producer name) = refl
 behind_space_of_place (places.Disposer name) = refl
+behind_space_of_place places.AroundInvoke = refl
+behind_space_of_place places.AroundConstruct = refl
 
 behind_space_of_call : (place : PartPlace) (point method : List ℕ)
     → behind_space (text_of_subject (subjects.Call place point method)) ≡ 32 ∷ text_of_subject (subjects.Call place point method)
@@ -24,6 +26,8 @@ behind_space_of_call places.Pre point method = refl
 behind_space_of_call (places.Method name) point method = refl
 behind_space_of_call (places.Producer name) point method = refl
 behind_space_of_call (places.Disposer name) point method = refl
+behind_space_of_call places.AroundInvoke point method = refl
+behind_space_of_call places.AroundConstruct point method = refl
 
 -- what is not the declaration as a whole has a text
 pub behind_space_of : (m : Subject) → m ≢ subjects.Whole → behind_space (text_of_subject m) ≡ 32 ∷ text_of_subject m

@@ -38,6 +38,8 @@ text_of_place places.Pre = codes "pre"
 text_of_place (places.Method name) = about (codes "method") name
 text_of_place (places.Producer name) = about (codes "producer") name
 text_of_place (places.Disposer name) = about (codes "disposer") name
+text_of_place places.AroundInvoke = codes "around_invoke"
+text_of_place places.AroundConstruct = codes "around_construct"
 
 abbrev pub text_of_subject : Subject → List ℕ
 text_of_subject subjects.Whole = []
@@ -70,6 +72,7 @@ text_of_code fault_codes.Body = codes "F10"
 text_of_code fault_codes.NoBinding = codes "F11"
 text_of_code fault_codes.Unsatisfied = codes "F20"
 text_of_code fault_codes.Ambiguous = codes "F21"
+text_of_code fault_codes.Unproxyable = codes "F22"
 text_of_code fault_codes.Site = codes "F23"
 text_of_code fault_codes.NameClash = codes "F24"
 text_of_code fault_codes.NamePrefix = codes "F25"

@@ -35,6 +35,9 @@ pub enum Code {
     Unsatisfied,
     /// More than one bean is left for an injection point (CDI 4.0, Unsatisfied and ambiguous dependencies).
     Ambiguous,
+    /// What is chosen for an injection point needs a class between it and its callers, which the required type does not let be
+    /// extended (CDI 4.0, Unproxyable bean types).
+    Unproxyable,
     /// A call site names no injection point that its body sees, or a method that the chosen bean does not have (profile).
     Site,
     /// Several enabled beans have a name, and none of them is chosen for it (CDI 4.0, Ambiguous names).
@@ -48,7 +51,7 @@ pub enum Code {
 impl Code {
     /// All codes, in their order.
     #[tactic(auto, using(crate::proofs::CodeLemmas::codes_rise, crate::proofs::CodeLemmas::has_code))]
-    pub fn all() -> [Code; 16]
+    pub fn all() -> [Code; 17]
         ensures value { result ≡ all_codes }
         ensures order { IsStrictlySortedBy code_order all_codes }
         ensures each { (code : Code) → Contains all_codes code }
@@ -66,6 +69,7 @@ impl Code {
             Code::NoBinding,
             Code::Unsatisfied,
             Code::Ambiguous,
+            Code::Unproxyable,
             Code::Site,
             Code::NameClash,
             Code::NamePrefix,

@@ -5,7 +5,7 @@ ghost use Rattle.cdi_faults.specs.FaultText.{text_of_place};
 use cdi_model::Ident;
 use std::fmt;
 
-/// Where in a bean a stored body runs (profile).
+/// Where in a bean or an interceptor a stored body runs (profile).
 #[derive(Clone, Copy, Debug, PartialEq, Eq)]
 pub enum PartPlace {
     /// Its constructor.
@@ -20,6 +20,10 @@ pub enum PartPlace {
     Producer(Ident),
     /// A disposer method.
     Disposer(Ident),
+    /// Around a method (Interceptors 2.1, Method Interceptors).
+    AroundInvoke,
+    /// Around a constructor (Interceptors 2.1, AroundConstruct).
+    AroundConstruct,
 }
 
 impl fmt::Display for PartPlace {
@@ -33,6 +37,8 @@ impl fmt::Display for PartPlace {
             PartPlace::Method(name) => write!(f, "method {name}"),
             PartPlace::Producer(name) => write!(f, "producer {name}"),
             PartPlace::Disposer(name) => write!(f, "disposer {name}"),
+            PartPlace::AroundInvoke => write!(f, "around_invoke"),
+            PartPlace::AroundConstruct => write!(f, "around_construct"),
         }
     }
 }

@@ -30,6 +30,7 @@ impl fmt::Display for Code {
             Code::NoBinding => "F11",
             Code::Unsatisfied => "F20",
             Code::Ambiguous => "F21",
+            Code::Unproxyable => "F22",
             Code::Site => "F23",
             Code::NameClash => "F24",
             Code::NamePrefix => "F25",

@@ -17,7 +17,7 @@ use Rattle.cdi_model.specs.declared.refusal.Refusal.TheVariants as refusals
 use Rattle.cdi_match.specs.Covering.{covers}
 use Rattle.cdi_effective.specs.Bindings.{class_bindings}
 use Rattle.cdi_effective.specs.Disposers.{find_bean}
-use Rattle.cdi_intercept.specs.Sets.{has_place, set_by}
+use Rattle.cdi_intercept.specs.Sets.{has_place, set_by, sets_of}
 use Rattle.cdi_intercept.specs.Sorting.{sorted_by}
 
 abbrev pub as_interceptor : Decl → Option InterceptorDecl
@@ -63,6 +63,14 @@ surrounds ds set place i = is_some (part_for place i) && binds ds set i
 -- the interceptors around a place with these bindings
 unfoldable pub chain_by : List Decl → List Qual → BeanPlace → List InterceptorDecl
 chain_by ds set place = filter (surrounds ds set place) (in_order ds)
+
+-- it stands around one of some places, each with the bindings there
+abbrev pub surrounds_one : List Decl → List (BeanPlace × List Qual) → InterceptorDecl → Bool
+surrounds_one ds sets i = list_any (λ z. surrounds ds z.1 z.0 i) sets
+
+-- those around some place of a bean whose class has these bindings, each once
+unfoldable pub around_any : List Decl → List Qual → BeanDecl → List InterceptorDecl
+around_any ds class bean = filter (surrounds_one ds (sets_of ds class bean)) (in_order ds)
 
 -- what is told of a place of a bean: the names of those around it, where the bean is declared and has the place
 abbrev pub chain_told : List Decl → Option BeanDecl → BeanPlace → Result (List (List ℕ)) Refusal

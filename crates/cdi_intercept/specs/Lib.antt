@@ -1,4 +1,5 @@
 pub mod Sets
 pub mod Sorting
 pub mod Chains
+pub mod Conflicts
 pub mod Lent

@@ -1,5 +1,5 @@
 -- The bindings at a place of a bean (Interceptors 2.1, Binding an Interceptor to a Class; Binding an Interceptor to a Method).
-use Rattle.std.specs.Prelude.{ℕ, Bool, true, not, ◌&&◌, List, [], Option, Some, None, is_some, option_map}
+use Rattle.std.specs.Prelude.{ℕ, Bool, true, not, ◌&&◌, List, [], ◌∷◌, ◌++◌, map, filter, Option, Some, None, is_some, option_map}
 use Rattle.std.specs.List.{find}
 use Rattle.std.specs.Str.{bytes_eq}
 use Rattle.cdi_model.specs.declared.decl.BeanDecl.{BeanDecl}
@@ -39,3 +39,17 @@ has_place bean places.Post = true
 has_place bean places.Pre = true
 has_place bean (places.Method name) = is_some (of_method bean name)
 has_place bean (places.Producer name) = is_some (of_producer bean name)
+
+-- the places with bindings of their own: the methods, and the producer methods that are not static
+abbrev pub own_places : BeanDecl → List BeanPlace
+own_places bean =
+    map (λ m. places.Method m.name) bean.methods
+    ++ map (λ p. places.Producer p.name) (filter (λ p. not p.is_static) bean.producers)
+
+-- the places of a bean
+abbrev pub places_of : BeanDecl → List BeanPlace
+places_of bean = places.Construct ∷ places.Post ∷ places.Pre ∷ own_places bean
+
+-- each place, with the bindings there
+abbrev pub sets_of : List Decl → List Qual → BeanDecl → List (BeanPlace × List Qual)
+sets_of ds class bean = map (λ place. (place, set_by ds class bean place)) (places_of bean)

@@ -1,12 +1,14 @@
 //! The interceptors around a place, in order (Interceptors 2.1, Interceptor Ordering; Enabling Interceptors).
-ghost use Rattle.std.specs.Prelude.{◌≡◌, filter, IfOk};
+ghost use Rattle.std.specs.Prelude.{◌≡◌, filter, map, IfOk};
 ghost use Rattle.std.specs.List.{list_all};
 ghost use Rattle.cdi_match.specs.Bindings.{uses_in};
-ghost use Rattle.cdi_intercept.specs.Chains.{binds, chain_by, covered_in, in_order, interceptors, is_enabled, part_for, surrounds};
-ghost use Rattle.cdi_intercept.specs.Lent.{lent_in};
+ghost use Rattle.cdi_intercept.specs.Chains.{around_any, binds, chain_by, covered_in, in_order, interceptors, is_enabled};
+ghost use Rattle.cdi_intercept.specs.Chains.{part_for, surrounds, surrounds_one};
+ghost use Rattle.cdi_intercept.specs.Lent.{lent_in, uses_at};
 
+use crate::set::sets_of;
 use cdi_match::covers;
-use cdi_model::{BeanPlace, Decl, Decls, InterceptorDecl, PartDecl, Qual, UseKind};
+use cdi_model::{BeanDecl, BeanPlace, Decl, Decls, InterceptorDecl, PartDecl, Qual, UseKind};
 use std::alloc::{AllocError, Global};
 
 /// The interceptors that are enabled by their priorities, from the least on, and those of one priority in the order of
@@ -56,6 +58,41 @@ pub fn chain_among<'a>(
         }
     }
     Ok(list)
+}
+
+/// Of the interceptors that are enabled, in order, those around some place of a bean whose class has these bindings, each
+/// once. It takes memory for the bindings at each place, and for those that stand there.
+#[tactic(auto, unfolding(crate::specs::Chains::around_any))]
+pub fn around_any<'a>(
+    alloc: Global,
+    decls: &Decls,
+    order: &[&'a InterceptorDecl],
+    class: &[Qual],
+    bean: &BeanDecl,
+) -> Result<Vec<&'a InterceptorDecl>, AllocError>
+    requires { lent_in order.now ≡ in_order decls.now }
+    ensures { IfOk result (λ list. lent_in list.items ≡ around_any decls.now class.now bean.now) }
+{
+    let sets = sets_of(alloc, decls, class, bean)?;
+    let mut list = Vec::new(alloc);
+    for interceptor in order {
+        if surrounds_one(decls, &sets, interceptor) {
+            list.push(*interceptor)?;
+        }
+    }
+    Ok(list)
+}
+
+/// Whether an interceptor stands around one of some places, each with the bindings there.
+fn surrounds_one(decls: &Decls, sets: &[(BeanPlace, Vec<&Qual>)], interceptor: &InterceptorDecl) -> bool
+    ensures { result ≡ surrounds_one decls.now (map uses_at sets.now) interceptor.now }
+{
+    for (place, set) in sets {
+        if surrounds(decls, set, place, interceptor) {
+            return true;
+        }
+    }
+    false
 }
 
 /// Whether an interceptor stands around a place with these bindings, where it is enabled: it has a body for the place, and

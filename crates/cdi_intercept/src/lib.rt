@@ -3,8 +3,10 @@
 
 mod asked;
 mod chain;
+mod conflict;
 mod set;
 
 pub use asked::chain_of;
-pub use chain::{chain_among, in_order, part_for, surrounds};
-pub use set::{has_place, set_by};
+pub use chain::{around_any, chain_among, in_order, part_for, surrounds};
+pub use conflict::has_conflict;
+pub use set::{has_place, set_by, sets_of};

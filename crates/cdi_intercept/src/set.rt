@@ -1,9 +1,10 @@
 //! The bindings at a place of a bean (Interceptors 2.1, Binding an Interceptor to a Class; Binding an Interceptor to a
 //! Method).
-ghost use Rattle.std.specs.Prelude.{◌≡◌, IfOk};
+ghost use Rattle.std.specs.Prelude.{◌≡◌, ◌++◌, ◌∷◌, [], map, IfOk, OnOk};
 ghost use Rattle.std.specs.Option.{option_copied};
 ghost use Rattle.cdi_match.specs.Bindings.{uses_in};
-ghost use Rattle.cdi_intercept.specs.Sets.{around_method, has_place, of_method, of_producer, set_by};
+ghost use Rattle.cdi_intercept.specs.Sets.{around_method, has_place, of_method, of_producer, set_by, sets_of};
+ghost use Rattle.cdi_intercept.specs.Lent.{uses_at};
 
 use cdi_effective::in_place_of;
 use cdi_match::{push_uses, with_brought};
@@ -28,6 +29,49 @@ pub fn set_by<'a>(
         BeanPlace::Method(name) => around_method(alloc, decls, class, of_method(bean, *name)),
         BeanPlace::Producer(name) => around_method(alloc, decls, class, of_producer(bean, *name)),
     }
+}
+
+/// The places of a bean whose class has these bindings, each with the bindings there. It takes memory for them.
+pub fn sets_of<'a>(
+    alloc: Global,
+    decls: &'a Decls,
+    class: &'a [Qual],
+    bean: &'a BeanDecl,
+) -> Result<Vec<(BeanPlace, Vec<&'a Qual>)>, AllocError>
+    ensures { IfOk result (λ sets. map uses_at sets.items ≡ sets_of decls.now class.now bean.now) }
+{
+    let mut sets = Vec::new(alloc);
+    push_set(alloc, decls, class, bean, BeanPlace::Construct, &mut sets)?;
+    push_set(alloc, decls, class, bean, BeanPlace::Post, &mut sets)?;
+    push_set(alloc, decls, class, bean, BeanPlace::Pre, &mut sets)?;
+    for method in bean.methods.as_slice() {
+        let place = BeanPlace::Method(method.name);
+        push_set(alloc, decls, class, bean, place, &mut sets)?;
+    }
+    for producer in bean.producers.as_slice() {
+        if !producer.is_static {
+            let place = BeanPlace::Producer(producer.name);
+            push_set(alloc, decls, class, bean, place, &mut sets)?;
+        }
+    }
+    Ok(sets)
+}
+
+/// Appends a place with the bindings there.
+fn push_set<'a>(
+    alloc: Global,
+    decls: &'a Decls,
+    class: &'a [Qual],
+    bean: &'a BeanDecl,
+    place: BeanPlace,
+    sets: &mut Vec<(BeanPlace, Vec<&'a Qual>)>,
+) -> Result<(), AllocError>
+    ensures { OnOk result (map uses_at sets.new.items
+        ≡ map uses_at sets.old.items ++ (place, set_by decls.now class.now bean.now place) ∷ []) }
+{
+    let set = set_by(alloc, decls, class, bean, &place)?;
+    sets.push((place, set))?;
+    Ok(())
 }
 
 /// Whether a bean has a place: each has a constructor and callbacks. It takes no memory.

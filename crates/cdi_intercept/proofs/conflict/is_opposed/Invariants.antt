@@ -1,0 +1,9 @@
+use Rattle.std.proofs.Common.{◌≡◌, drop}
+use Rattle.std.specs.List.{list_any}
+use Rattle.cdi_match.specs.Bindings.{uses_in}
+use Rattle.cdi_intercept.specs.Conflicts.{are_opposed}
+use Rattle.cdi_intercept.proofs.conflict.is_opposed.Given as goal
+
+abbrev pub invariant-loop-other : goal.invariant-loop-other
+invariant-loop-other l =
+    list_any (are_opposed l.decls l.binding) (uses_in (drop l.other-index l.set)) ≡ list_any (are_opposed l.decls l.binding) (uses_in l.set)
