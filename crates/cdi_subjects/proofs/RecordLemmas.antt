@@ -14,10 +14,11 @@ use Rattle.cdi_match.specs.Chain.{has}
 use Rattle.cdi_match.specs.Types.{object, types_of}
 use Rattle.cdi_match.proofs.Names.{one_name, same_text}
 use Rattle.cdi_effective.specs.Beans.{is_kept, restricted, effective, entries, managed, product}
+use Rattle.cdi_effective.specs.Bindings.{class_bindings}
 use Rattle.cdi_effective.specs.Disposers.{disposes}
 use Rattle.cdi_effective.specs.declared.records.Effective.{Effective}
-use Rattle.cdi_subjects.specs.Subjects.{disposers_at_fault, typed, wrongly_listed}
-use Rattle.cdi_subjects.specs.Records.{not_had, not_had_by, typed_by, with_two, without_product}
+use Rattle.cdi_subjects.specs.Subjects.{binding_conflicts, disposers_at_fault, typed, wrongly_listed}
+use Rattle.cdi_subjects.specs.Records.{conflicts_by, conflicts_in, not_had, not_had_by, typed_by, with_two, without_product}
 use Rattle.cdi_faults.specs.declared.fault.Subject.TheVariants as parts
 
 -- ---- what a record is told by
@@ -119,7 +120,23 @@ pub typed_by_entries : (ds : List Decl) (d : Decl) → typed_by d (entries ds d)
 typed_by_entries ds (decls.Type d) = refl
 typed_by_entries ds (decls.Qualifier d) = refl
 typed_by_entries ds (decls.Stereotype d) = refl
+typed_by_entries ds (decls.Binding d) = refl
+typed_by_entries ds (decls.Interceptor d) = refl
 typed_by_entries ds (decls.Bean bean) =
     ap (λ ms. ms ++ not_had_by (map (product ds bean) bean.producers) bean.producers) (not_had_of_managed ds bean)
     ∙ ap (λ ms. map (λ s. parts.Typed None s) (wrongly_listed ds bean.name bean.attributes) ++ ms)
     (not_had_by_products ds bean bean.producers)
+
+-- ---- bindings
+
+managed-bindings : (ds : List Decl) (bean : BeanDecl) → (managed ds bean).bindings ≡ class_bindings ds bean
+unfolding effective
+managed-bindings ds bean = refl
+
+pub conflicts_by_entries : (ds : List Decl) (d : Decl) → conflicts_by ds d (entries ds d) ≡ binding_conflicts ds d
+conflicts_by_entries ds (decls.Type d) = refl
+conflicts_by_entries ds (decls.Qualifier d) = refl
+conflicts_by_entries ds (decls.Stereotype d) = refl
+conflicts_by_entries ds (decls.Binding d) = refl
+conflicts_by_entries ds (decls.Interceptor d) = refl
+conflicts_by_entries ds (decls.Bean bean) = ap (λ class. conflicts_in ds class bean) (managed-bindings ds bean)

@@ -19,7 +19,7 @@ use Rattle.cdi_observe.specs.Answers.{answer_to}
 use Rattle.cdi_observe.specs.Wanted.{points_of}
 use Rattle.cdi_faults.specs.declared.place.PartPlace.{PartPlace}
 use Rattle.cdi_subjects.specs.Sites.{Sight, choice_at, lost_by, lost_by_products, lost_calls, lost_in_managed, lost_in_producer, lost_sites}
-use Rattle.cdi_subjects.specs.Sites.{sight_of, where_enabled}
+use Rattle.cdi_subjects.specs.Sites.{lost_around, sight_of, where_enabled}
 
 -- ---- points
 
@@ -79,6 +79,8 @@ pub lost_by_entries : (ds : List Decl) (d : Decl) → lost_by ds d (entries ds d
 lost_by_entries ds (decls.Type d) = refl
 lost_by_entries ds (decls.Qualifier d) = refl
 lost_by_entries ds (decls.Stereotype d) = refl
+lost_by_entries ds (decls.Binding d) = refl
+lost_by_entries ds (decls.Interceptor d) = ap (λ sight. lost_around ds sight d) (zipped_sight ds d.points)
 lost_by_entries ds (decls.Bean bean) =
     let others = flat_map (λ p. p.params) bean.producers in
     let b = managed ds bean in

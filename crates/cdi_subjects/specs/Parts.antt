@@ -1,4 +1,4 @@
--- What is at fault of the parts of a bean declaration: their stored bodies.
+-- What is at fault of the parts of a bean or an interceptor: their stored bodies.
 use Rattle.std.specs.Prelude.{ℕ, Bool, false, List, [], ◌∷◌, ◌++◌, Option, Some, None, if◌then◌else◌}
 use Rattle.std.specs.List.{flat_map}
 use Rattle.cdi_bodies.specs.Book.{Promised, promise_of}
@@ -9,6 +9,7 @@ use Rattle.cdi_model.specs.declared.decl.BeanDecl.{BeanDecl}
 use Rattle.cdi_model.specs.declared.decl.Decl.{Decl}
 use Rattle.cdi_model.specs.declared.decl.Decl.TheVariants as decls
 use Rattle.cdi_model.specs.declared.decl.DisposerDecl.{DisposerDecl}
+use Rattle.cdi_model.specs.declared.decl.InterceptorDecl.{InterceptorDecl}
 use Rattle.cdi_model.specs.declared.decl.MethodDecl.{MethodDecl}
 use Rattle.cdi_model.specs.declared.decl.PartDecl.{PartDecl}
 use Rattle.cdi_model.specs.declared.decl.ProducerDecl.{ProducerDecl}
@@ -51,8 +52,16 @@ unfit_callbacks book d =
     ++ unfit_part book flags.at_instance places.Post d.post
     ++ unfit_part book flags.at_destruction places.Pre d.pre
 
+abbrev pub unfit_around : List Promised → InterceptorDecl → List Subject
+unfit_around book d =
+    unfit_part book flags.around places.AroundInvoke d.around_invoke
+    ++ unfit_part book flags.around places.AroundConstruct d.around_construct
+    ++ unfit_part book flags.around places.Post d.post
+    ++ unfit_part book flags.around_destruction places.Pre d.pre
+
 -- the parts of a declaration whose bodies are not in the book, or promise more than is allowed there (profile)
 abbrev pub unfit_parts : List Promised → Decl → List Subject
 unfit_parts book (decls.Bean d) =
     unfit_callbacks book d ++ unfit_methods book d.methods ++ unfit_producers book d.producers ++ unfit_disposers book d.disposers
+unfit_parts book (decls.Interceptor d) = unfit_around book d
 unfit_parts book d = []

@@ -1,17 +1,25 @@
 -- What is at fault of a declaration, by its records: that of a bean, and behind it those of its producer methods.
-use Rattle.std.specs.Prelude.{Bool, List, [], ◌∷◌, ◌++◌, map, filter, length, take, drop, nat_lt, not, if◌then◌else◌}
+use Rattle.std.specs.Prelude.{ℕ, Option, None, Bool, List, [], ◌∷◌, ◌++◌, map, filter, length, take, drop, nat_lt, not, if◌then◌else◌}
 use Rattle.std.specs.List.{flat_map, list_any, zip}
 use Rattle.std.specs.Option.{option_to_list}
 use Rattle.cdi_model.specs.declared.decl.Attributes.{Attributes}
+use Rattle.cdi_model.specs.declared.decl.BeanDecl.{BeanDecl}
 use Rattle.cdi_model.specs.declared.decl.Decl.{Decl}
 use Rattle.cdi_model.specs.declared.decl.Decl.TheVariants as decls
 use Rattle.cdi_model.specs.declared.decl.DisposerDecl.{DisposerDecl}
 use Rattle.cdi_model.specs.declared.decl.PointDecl.{PointDecl}
 use Rattle.cdi_model.specs.declared.decl.ProducerDecl.{ProducerDecl}
+use Rattle.cdi_model.specs.declared.place.BeanPlace.{BeanPlace}
+use Rattle.cdi_model.specs.declared.place.BeanPlace.TheVariants as spots
+use Rattle.cdi_model.specs.declared.quals.Qual.{Qual}
 use Rattle.cdi_match.specs.Chain.{has}
 use Rattle.cdi_effective.specs.Disposers.{disposes}
 use Rattle.cdi_effective.specs.declared.records.Effective.{Effective}
+use Rattle.cdi_intercept.specs.Chains.{is_enabled}
+use Rattle.cdi_intercept.specs.Conflicts.{has_conflict}
+use Rattle.cdi_intercept.specs.Sets.{set_by}
 use Rattle.cdi_resolve.specs.declared.choice.Choice.{Choice}
+use Rattle.cdi_faults.specs.declared.place.PartPlace.TheVariants as places
 use Rattle.cdi_faults.specs.declared.fault.Subject.{Subject}
 use Rattle.cdi_faults.specs.declared.fault.Subject.TheVariants as subjects
 use Rattle.cdi_model.specs.Mentions.{listed_types}
@@ -44,19 +52,43 @@ with_two ds bs disposers = map subjects.Producer
 
 -- ---- injection points
 
--- the points of an enabled bean whose choice, which stands at the same place, is such
-abbrev pub at_fault : (Choice → Bool) → Effective → List PointDecl → List Choice → List Subject
-at_fault test b points choices = if b.is_enabled then map (λ z. subjects.Point b.id.producer z.0.name)
-    (filter (λ z. test z.1) (zip points choices)) else []
+-- the points whose choice, which stands at the same place, is such
+abbrev pub at_fault_among : (PointDecl → Choice → Bool) → Option (List ℕ) → List PointDecl → List Choice → List Subject
+at_fault_among test producer points choices =
+    map (λ z. subjects.Point producer z.0.name) (filter (λ z. test z.0 z.1) (zip points choices))
+
+-- those of an enabled bean
+abbrev pub at_fault : (PointDecl → Choice → Bool) → Effective → List PointDecl → List Choice → List Subject
+at_fault test b points choices = if b.is_enabled then at_fault_among test b.id.producer points choices else []
 
 -- those of each record of a producer method: its choices stand in front of those of the ones behind it
-abbrev pub at_fault_by : (Choice → Bool) → List Effective → List ProducerDecl → List Choice → List Subject
+abbrev pub at_fault_by : (PointDecl → Choice → Bool) → List Effective → List ProducerDecl → List Choice → List Subject
 at_fault_by test (b ∷ bs) (p ∷ ps) choices =
     at_fault test b p.params (take (length p.params) choices) ++ at_fault_by test bs ps (drop (length p.params) choices)
 at_fault_by test _ _ choices = []
 
 -- those of each record of a declaration: the choices of the bean's own points stand in front
-abbrev pub points_by : (Choice → Bool) → Decl → List Effective → List Choice → List Subject
+abbrev pub points_by : (PointDecl → Choice → Bool) → Decl → List Effective → List Choice → List Subject
 points_by test (decls.Bean d) (b ∷ bs) choices =
     at_fault test b d.points (take (length d.points) choices) ++ at_fault_by test bs d.producers (drop (length d.points) choices)
+points_by test (decls.Interceptor d) bs choices = if is_enabled d then at_fault_among test None d.points choices else []
 points_by test _ _ choices = []
+
+-- ---- bindings
+
+-- where two bindings of one type at a place of a bean whose class has these differ
+abbrev pub conflict_at : List Decl → List Qual → BeanDecl → BeanPlace → Subject → List Subject
+conflict_at ds class d place subject = if has_conflict ds (set_by ds class d place) then subject ∷ [] else []
+
+-- the class, and the places with bindings of their own
+abbrev pub conflicts_in : List Decl → List Qual → BeanDecl → List Subject
+conflicts_in ds class d =
+    conflict_at ds class d spots.Construct subjects.Class
+    ++ flat_map (λ m. conflict_at ds class d (spots.Method m.name) (subjects.Part (places.Method m.name))) d.methods
+    ++ flat_map (λ p. conflict_at ds class d (spots.Producer p.name) (subjects.Part (places.Producer p.name)))
+    (filter (λ p. not p.is_static) d.producers)
+
+-- the same by the record of its managed bean
+abbrev pub conflicts_by : List Decl → Decl → List Effective → List Subject
+conflicts_by ds (decls.Bean d) (b ∷ bs) = conflicts_in ds b.bindings d
+conflicts_by ds _ _ = []

@@ -1,4 +1,4 @@
--- What is at fault of the call sites of a bean declaration.
+-- What is at fault of the call sites of a bean or an interceptor.
 use Rattle.std.specs.Prelude.{ℕ, Bool, true, false, not, List, [], ◌∷◌, ◌++◌, map, length, take, drop, codes, Option, Some, None}
 use Rattle.std.specs.Prelude.{is_some, option_map, if◌then◌else◌}
 use Rattle.std.specs.List.{find, flat_map, list_any, zip}
@@ -7,6 +7,7 @@ use Rattle.cdi_model.specs.declared.decl.BeanDecl.{BeanDecl}
 use Rattle.cdi_model.specs.declared.decl.CallDecl.{CallDecl}
 use Rattle.cdi_model.specs.declared.decl.Decl.{Decl}
 use Rattle.cdi_model.specs.declared.decl.Decl.TheVariants as decls
+use Rattle.cdi_model.specs.declared.decl.InterceptorDecl.{InterceptorDecl}
 use Rattle.cdi_model.specs.declared.decl.MethodDecl.{MethodDecl}
 use Rattle.cdi_model.specs.declared.decl.PartDecl.{PartDecl}
 use Rattle.cdi_model.specs.declared.decl.PointDecl.{PointDecl}
@@ -15,6 +16,7 @@ use Rattle.cdi_effective.specs.Beans.{managed, product}
 use Rattle.cdi_effective.specs.Disposers.{find_bean}
 use Rattle.cdi_effective.specs.declared.records.BeanId.{BeanId}
 use Rattle.cdi_effective.specs.declared.records.Effective.{Effective}
+use Rattle.cdi_intercept.specs.Chains.{is_enabled}
 use Rattle.cdi_resolve.specs.declared.choice.Choice.{Choice}
 use Rattle.cdi_resolve.specs.declared.choice.Choice.TheVariants.{One}
 use Rattle.cdi_observe.specs.Answers.{answer_to}
@@ -93,15 +95,26 @@ seen_by p own params = params ++ (if p.is_static then [] else own)
 abbrev pub lost_in_producer : List Decl → Sight → Sight → ProducerDecl → List Subject
 lost_in_producer ds own params p = lost_calls ds (seen_by p own params) (places.Producer p.name) p.part.calls
 
+-- those of an interceptor that sees these points, where it is enabled
+abbrev pub lost_around : List Decl → Sight → InterceptorDecl → List Subject
+lost_around ds sight d =
+    if is_enabled d then
+        lost_in_part ds sight places.AroundInvoke d.around_invoke
+        ++ lost_in_part ds sight places.AroundConstruct d.around_construct
+        ++ lost_in_part ds sight places.Post d.post
+        ++ lost_in_part ds sight places.Pre d.pre
+    else []
+
 -- where the bean is enabled
 abbrev pub where_enabled : Effective → List Subject → List Subject
 where_enabled b found = if b.is_enabled then found else []
 
--- the call sites of enabled beans that name a point that is not seen, or a method that the chosen bean does not have
+-- the call sites of enabled beans and interceptors that name a point that is not seen, or a method that the chosen bean does not have
 abbrev pub lost_sites : List Decl → Decl → List Subject
 lost_sites ds (decls.Bean d) =
     where_enabled (managed ds d) (lost_in_managed ds (sight_of ds d.points) d)
     ++ flat_map (λ p. where_enabled (product ds d p) (lost_in_producer ds (sight_of ds d.points) (sight_of ds p.params) p)) d.producers
+lost_sites ds (decls.Interceptor d) = lost_around ds (sight_of ds d.points) d
 lost_sites ds d = []
 
 -- ---- the same by the records of a declaration, and the choices for its points in order
@@ -118,4 +131,5 @@ abbrev pub lost_by : List Decl → Decl → List Effective → List Choice → L
 lost_by ds (decls.Bean d) (b ∷ bs) choices =
     where_enabled b (lost_in_managed ds (zip d.points (take (length d.points) choices)) d)
     ++ lost_by_products ds (zip d.points (take (length d.points) choices)) bs d.producers (drop (length d.points) choices)
+lost_by ds (decls.Interceptor d) bs choices = lost_around ds (zip d.points choices) d
 lost_by ds _ _ choices = []

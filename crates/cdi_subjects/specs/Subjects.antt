@@ -29,6 +29,8 @@ use Rattle.cdi_effective.specs.Beans.{entries, managed, product}
 use Rattle.cdi_effective.specs.Disposers.{disposes}
 use Rattle.cdi_effective.specs.declared.records.BeanId.{BeanId}
 use Rattle.cdi_effective.specs.declared.records.Effective.{Effective}
+use Rattle.cdi_effective.specs.Bindings.{class_bindings}
+use Rattle.cdi_intercept.specs.Chains.{is_enabled}
 use Rattle.cdi_resolve.specs.declared.choice.Choice.{Choice}
 use Rattle.cdi_resolve.specs.declared.choice.Choice.TheVariants.{Unsatisfied, Ambiguous}
 use Rattle.cdi_observe.specs.Answers.{answer_to}
@@ -39,6 +41,8 @@ use Rattle.cdi_faults.specs.declared.fault.Subject.TheVariants as subjects
 use Rattle.cdi_subjects.specs.declared.points.Verdict.{Verdict}
 use Rattle.cdi_subjects.specs.declared.points.Verdict.TheVariants as verdicts
 use Rattle.cdi_subjects.specs.Parts.{unfit_parts}
+use Rattle.cdi_subjects.specs.Proxies.{is_unproxyable}
+use Rattle.cdi_subjects.specs.Records.{conflicts_in}
 use Rattle.cdi_subjects.specs.Sites.{lost_sites}
 
 -- ---- subjects among what a declaration names
@@ -172,7 +176,13 @@ disposers_at_fault ds (decls.Bean d) =
     ++ map (λ p. subjects.Producer p.name) (filter (λ p. nat_lt 1 (length (filter (disposes ds (product ds d p)) d.disposers))) d.producers)
 disposers_at_fault ds d = []
 
--- ---- injection points of enabled beans
+-- ---- bindings of one type that differ
+
+abbrev pub binding_conflicts : List Decl → Decl → List Subject
+binding_conflicts ds (decls.Bean d) = conflicts_in ds (class_bindings ds d) d
+binding_conflicts ds d = []
+
+-- ---- injection points of enabled beans and interceptors
 
 abbrev pub is_unsatisfied : Choice → Bool
 is_unsatisfied Unsatisfied = true
@@ -182,21 +192,24 @@ abbrev pub is_ambiguous : Choice → Bool
 is_ambiguous (Ambiguous ids) = true
 is_ambiguous _ = false
 
-abbrev pub has_verdict : Verdict → Choice → Bool
-has_verdict verdicts.Unsatisfied choice = is_unsatisfied choice
-has_verdict verdicts.Ambiguous choice = is_ambiguous choice
+abbrev pub has_verdict : List Decl → Verdict → PointDecl → Choice → Bool
+has_verdict ds verdicts.Unsatisfied point choice = is_unsatisfied choice
+has_verdict ds verdicts.Ambiguous point choice = is_ambiguous choice
+has_verdict ds verdicts.Unproxyable point choice = is_unproxyable ds point choice
 
--- the points of an enabled bean whose choice is such
-abbrev pub points_with : (Choice → Bool) → List Decl → Effective → Option (List ℕ) → List PointDecl → List Subject
-points_with test ds bean producer points =
-    if bean.is_enabled
-    then map (λ p. subjects.Point producer p.name) (filter (λ p. test (answer_to ds p)) points)
-    else []
+-- the points whose choice is such
+abbrev pub points_such : (PointDecl → Choice → Bool) → List Decl → Option (List ℕ) → List PointDecl → List Subject
+points_such test ds producer points = map (λ p. subjects.Point producer p.name) (filter (λ p. test p (answer_to ds p)) points)
 
-abbrev pub points_at_fault : (Choice → Bool) → List Decl → Decl → List Subject
+-- those of an enabled bean
+abbrev pub points_with : (PointDecl → Choice → Bool) → List Decl → Effective → Option (List ℕ) → List PointDecl → List Subject
+points_with test ds bean producer points = if bean.is_enabled then points_such test ds producer points else []
+
+abbrev pub points_at_fault : (PointDecl → Choice → Bool) → List Decl → Decl → List Subject
 points_at_fault test ds (decls.Bean d) =
     points_with test ds (managed ds d) None d.points
     ++ flat_map (λ p. points_with test ds (product ds d p) (Some p.name) p.params) d.producers
+points_at_fault test ds (decls.Interceptor d) = if is_enabled d then points_such test ds None d.points else []
 points_at_fault test ds d = []
 
 -- ---- by code
@@ -208,12 +221,14 @@ subjects_at_fault codes_of.Cycle ds book d = whole_if (reaches_itself ds d)
 subjects_at_fault codes_of.BadKind ds book d = bad_kinds ds d
 subjects_at_fault codes_of.Typed ds book d = typed ds d
 subjects_at_fault codes_of.ScopeConflict ds book d = scope_conflicts (entries ds d)
+subjects_at_fault codes_of.BindingConflict ds book d = binding_conflicts ds d
 subjects_at_fault codes_of.Member ds book d = bad_uses ds d
 subjects_at_fault codes_of.Disposer ds book d = disposers_at_fault ds d
 subjects_at_fault codes_of.Body ds book d = unfit_parts book d
 subjects_at_fault codes_of.NoBinding ds book d = whole_if (is_unbound d)
-subjects_at_fault codes_of.Unsatisfied ds book d = points_at_fault (has_verdict verdicts.Unsatisfied) ds d
-subjects_at_fault codes_of.Ambiguous ds book d = points_at_fault (has_verdict verdicts.Ambiguous) ds d
+subjects_at_fault codes_of.Unsatisfied ds book d = points_at_fault (has_verdict ds verdicts.Unsatisfied) ds d
+subjects_at_fault codes_of.Ambiguous ds book d = points_at_fault (has_verdict ds verdicts.Ambiguous) ds d
+subjects_at_fault codes_of.Unproxyable ds book d = points_at_fault (has_verdict ds verdicts.Unproxyable) ds d
 subjects_at_fault codes_of.Site ds book d = lost_sites ds d
 subjects_at_fault codes_of.NameClash ds book d = []
 subjects_at_fault codes_of.NamePrefix ds book d = []

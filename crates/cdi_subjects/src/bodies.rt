@@ -1,12 +1,13 @@
 //! Stored bodies that are not there, or that may do more than is allowed where they run (profile).
 ghost use Rattle.std.specs.Prelude.{◌≡◌, ◌++◌, IfOk, OnOk};
 ghost use Rattle.cdi_bodies.specs.Book.{promise_of};
-ghost use Rattle.cdi_subjects.specs.Parts.{allowed_to, is_fit, unfit, unfit_callbacks, unfit_disposers, unfit_methods, unfit_part};
+ghost use Rattle.cdi_model.specs.declared.decl.Decl.TheVariants as decls;
+ghost use Rattle.cdi_subjects.specs.Parts.{allowed_to, is_fit, unfit, unfit_around, unfit_callbacks, unfit_disposers, unfit_methods, unfit_part};
 ghost use Rattle.cdi_subjects.specs.Parts.{unfit_parts, unfit_producers};
 
 use cdi_bodies::{Bodies, Promise};
 use cdi_faults::{PartPlace, Subject};
-use cdi_model::{BeanDecl, Decl, DisposerDecl, Ident, MethodDecl, PartDecl, ProducerDecl};
+use cdi_model::{BeanDecl, Decl, DisposerDecl, Ident, InterceptorDecl, MethodDecl, PartDecl, ProducerDecl};
 use std::alloc::{AllocError, Global};
 
 /// The parts of a declaration whose bodies are not in a book, or promise more than is allowed in their places.
@@ -18,14 +19,43 @@ pub(crate) fn unfit_parts<B: Bodies>(
     ensures { IfOk result (λ list. list.items ≡ unfit_parts (B.promises book.now) decl.now) }
 {
     let mut subjects = Vec::new(alloc);
-    let Decl::Bean(bean) = decl else {
-        return Ok(subjects);
-    };
-    push_of_callbacks(book, bean, &mut subjects)?;
-    push_of_methods(book, bean.methods.as_slice(), &mut subjects)?;
-    push_of_producers(book, bean.producers.as_slice(), &mut subjects)?;
-    push_of_disposers(book, bean.disposers.as_slice(), &mut subjects)?;
+    match decl {
+        Decl::Bean(bean) => push_of_bean(book, bean, &mut subjects)?,
+        Decl::Interceptor(interceptor) => push_around(book, interceptor, &mut subjects)?,
+        _ => (),
+    }
     Ok(subjects)
+}
+
+/// Appends those of a bean.
+fn push_of_bean<B: Bodies>(
+    book: &B,
+    bean: &BeanDecl,
+    subjects: &mut Vec<Subject>,
+) -> Result<(), AllocError>
+    ensures { OnOk result (subjects.new.items ≡ subjects.old.items ++ unfit_parts (B.promises book.now) (decls.Bean bean.now)) }
+{
+    push_of_callbacks(book, bean, subjects)?;
+    push_of_methods(book, bean.methods.as_slice(), subjects)?;
+    push_of_producers(book, bean.producers.as_slice(), subjects)?;
+    push_of_disposers(book, bean.disposers.as_slice(), subjects)
+}
+
+/// Appends those of an interceptor.
+fn push_around<B: Bodies>(
+    book: &B,
+    interceptor: &InterceptorDecl,
+    subjects: &mut Vec<Subject>,
+) -> Result<(), AllocError>
+    ensures { OnOk result (subjects.new.items ≡ subjects.old.items ++ unfit_around (B.promises book.now) interceptor.now) }
+{
+    let place = PartPlace::AroundInvoke;
+    push_of_part(book, Promise::AROUND, place, &interceptor.around_invoke, subjects)?;
+    let place = PartPlace::AroundConstruct;
+    push_of_part(book, Promise::AROUND, place, &interceptor.around_construct, subjects)?;
+    push_of_part(book, Promise::AROUND, PartPlace::Post, &interceptor.post, subjects)?;
+    let place = PartPlace::Pre;
+    push_of_part(book, Promise::AROUND_DESTRUCTION, place, &interceptor.pre, subjects)
 }
 
 /// Appends those of the constructor and the lifecycle callbacks.

@@ -6,7 +6,7 @@ ghost use Rattle.cdi_model.specs.DeclList.{find_decl};
 ghost use Rattle.cdi_model.specs.Mentions.{TypeIn};
 ghost use Rattle.cdi_match.specs.Types.{object};
 ghost use Rattle.cdi_subjects.specs.Subjects.{bad_kind_in, bad_kinds, form_of, is_class, is_interface, is_interface_form};
-ghost use Rattle.cdi_subjects.specs.Subjects.{reaches_itself, whole_if};
+ghost use Rattle.cdi_subjects.specs.Subjects.{is_unbound, reaches_itself, whole_if};
 
 use cdi_faults::Subject;
 use cdi_match::{brings_itself, extends_itself, inherits_itself};
@@ -33,6 +33,19 @@ fn reaches_itself(alloc: Global, decls: &Decls, decl: &Decl) -> Result<bool, All
         Decl::Stereotype(decl) => inherits_itself(alloc, decls, decl.name),
         _ => Ok(false),
     }
+}
+
+/// The declaration as a whole, where it is of an interceptor that declares no binding.
+pub(crate) fn unbound(alloc: Global, decl: &Decl) -> Result<Vec<Subject>, AllocError>
+    ensures { IfOk result (λ list. list.items ≡ whole_if (is_unbound decl.now)) }
+{
+    let mut subjects = Vec::new(alloc);
+    if let Decl::Interceptor(interceptor) = decl {
+        if interceptor.bindings.is_empty() {
+            subjects.push(Subject::Whole)?;
+        }
+    }
+    Ok(subjects)
 }
 
 /// What an interface extends, an interface that a class extends, a class that is implemented, and the class of a bean

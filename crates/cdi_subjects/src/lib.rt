@@ -2,9 +2,11 @@
 #![tactic(auto)]
 
 mod bodies;
+mod conflicts;
 mod disposing;
 mod forms;
 mod points;
+mod proxies;
 mod sites;
 mod stereotyped;
 mod subjects;

@@ -1,12 +1,15 @@
-//! Injection points without a bean (CDI 4.0, Unsatisfied and ambiguous dependencies).
+//! Injection points without a bean, or with one for which no class can stand (CDI 4.0, Unsatisfied and ambiguous
+//! dependencies; Unproxyable bean types).
 ghost use Rattle.std.specs.Prelude.{◌≡◌, ◌++◌, length, map, IfOk, OnOk};
+ghost use Rattle.cdi_model.specs.declared.decl.Decl.TheVariants as declared;
 ghost use Rattle.cdi_observe.specs.Wanted.{points_of};
 ghost use Rattle.cdi_subjects.specs.Subjects.{has_verdict};
-ghost use Rattle.cdi_subjects.specs.Records.{at_fault, points_by};
+ghost use Rattle.cdi_subjects.specs.Records.{at_fault, at_fault_among, points_by};
 
+use crate::proxies::is_unproxyable;
 use cdi_effective::Effective;
 use cdi_faults::Subject;
-use cdi_model::{Decl, PointDecl};
+use cdi_model::{BeanDecl, Decl, Decls, Ident, PointDecl};
 use cdi_resolve::Choice;
 use std::alloc::{AllocError, Global};
 use std::rc::Rc;
@@ -16,24 +19,33 @@ use std::rc::Rc;
 pub(crate) enum Verdict {
     Unsatisfied,
     Ambiguous,
+    Unproxyable,
 }
 
 impl Verdict {
-    /// Whether an answer is such.
-    fn is_of(self, choice: &Choice) -> bool
-        ensures { result ≡ has_verdict self choice.now }
+    /// Whether the answer to a point is such.
+    fn is_of(
+        self,
+        alloc: Global,
+        decls: &Decls,
+        point: &PointDecl,
+        choice: &Choice,
+    ) -> Result<bool, AllocError>
+        ensures { IfOk result (λ is. is ≡ has_verdict decls.now self point.now choice.now) }
     {
         match self {
-            Verdict::Unsatisfied => matches!(choice, Choice::Unsatisfied),
-            Verdict::Ambiguous => matches!(choice, Choice::Ambiguous(_)),
+            Verdict::Unsatisfied => Ok(matches!(choice, Choice::Unsatisfied)),
+            Verdict::Ambiguous => Ok(matches!(choice, Choice::Ambiguous(_))),
+            Verdict::Unproxyable => is_unproxyable(alloc, decls, point, choice),
         }
     }
 }
 
-/// The injection points of enabled beans whose answers are such, of a declaration that has these beans, and these answers
+/// The injection points of enabled beans and interceptors whose answers are such, of a declaration that has these beans, and these answers
 /// to its injection points.
 pub(crate) fn points_at_fault(
     alloc: Global,
+    decls: &Decls,
     decl: &Decl,
     beans: &[Effective],
     answers: &[Rc<Choice>],
@@ -41,33 +53,53 @@ pub(crate) fn points_at_fault(
 ) -> Result<Vec<Subject>, AllocError>
     requires { length answers.now ≡ length (points_of decl.now) }
     ensures { IfOk result (λ list. list.items
-        ≡ points_by (has_verdict verdict) decl.now beans.now (map (λ answer. answer.value) answers.now)) }
+        ≡ points_by (has_verdict decls.now verdict) decl.now beans.now (map (λ answer. answer.value) answers.now)) }
 {
     let mut subjects = Vec::new(alloc);
-    let Decl::Bean(bean) = decl else {
-        return Ok(subjects);
-    };
-    let Some((managed, products)) = beans.split_first() else {
-        return Ok(subjects);
-    };
-    let (own, mut rest) = answers.split_at(bean.points.len());
-    push_at_fault(managed, bean.points.as_slice(), own, verdict, &mut subjects)?;
-    for (product, producer) in products.iter().zip(bean.producers.as_slice()) {
-        let (own, others) = rest.split_at(producer.params.len());
-        push_at_fault(
-            product,
-            producer.params.as_slice(),
-            own,
-            verdict,
-            &mut subjects,
-        )?;
-        rest = others;
+    match decl {
+        Decl::Bean(bean) => push_of_bean(alloc, decls, bean, beans, answers, verdict, &mut subjects)?,
+        Decl::Interceptor(interceptor) if interceptor.priority.is_some() => {
+            let points = interceptor.points.as_slice();
+            push_among(alloc, decls, &None, points, answers, verdict, &mut subjects)?;
+        }
+        _ => (),
     }
     Ok(subjects)
 }
 
+/// Appends those of a bean and of its products.
+fn push_of_bean(
+    alloc: Global,
+    decls: &Decls,
+    bean: &BeanDecl,
+    beans: &[Effective],
+    answers: &[Rc<Choice>],
+    verdict: Verdict,
+    subjects: &mut Vec<Subject>,
+) -> Result<(), AllocError>
+    requires { length answers.now ≡ length (points_of (declared.Bean bean.now)) }
+    ensures { OnOk result (subjects.new.items ≡ subjects.old.items
+        ++ points_by (has_verdict decls.now verdict) (declared.Bean bean.now) beans.now (map (λ answer. answer.value) answers.now)) }
+{
+    let Some((managed, products)) = beans.split_first() else {
+        return Ok(());
+    };
+    let points = bean.points.as_slice();
+    let (own, mut rest) = answers.split_at(points.len());
+    push_at_fault(alloc, decls, managed, points, own, verdict, subjects)?;
+    for (product, producer) in products.iter().zip(bean.producers.as_slice()) {
+        let points = producer.params.as_slice();
+        let (own, others) = rest.split_at(points.len());
+        push_at_fault(alloc, decls, product, points, own, verdict, subjects)?;
+        rest = others;
+    }
+    Ok(())
+}
+
 /// Appends the injection points of a bean whose answers are such, if it is enabled.
 fn push_at_fault(
+    alloc: Global,
+    decls: &Decls,
     bean: &Effective,
     points: &[PointDecl],
     answers: &[Rc<Choice>],
@@ -75,15 +107,31 @@ fn push_at_fault(
     subjects: &mut Vec<Subject>,
 ) -> Result<(), AllocError>
     ensures { OnOk result (subjects.new.items ≡ subjects.old.items
-        ++ at_fault (has_verdict verdict) bean.now points.now (map (λ answer. answer.value) answers.now)) }
+        ++ at_fault (has_verdict decls.now verdict) bean.now points.now (map (λ answer. answer.value) answers.now)) }
 {
     if !bean.is_enabled {
         return Ok(());
     }
+    push_among(alloc, decls, &bean.id.producer, points, answers, verdict, subjects)
+}
+
+/// Appends the injection points, of a producer method where one is given, whose answers are such.
+fn push_among(
+    alloc: Global,
+    decls: &Decls,
+    producer: &Option<Ident>,
+    points: &[PointDecl],
+    answers: &[Rc<Choice>],
+    verdict: Verdict,
+    subjects: &mut Vec<Subject>,
+) -> Result<(), AllocError>
+    ensures { OnOk result (subjects.new.items ≡ subjects.old.items
+        ++ at_fault_among (has_verdict decls.now verdict) producer.now points.now (map (λ answer. answer.value) answers.now)) }
+{
     for (point, answer) in points.iter().zip(answers) {
-        if verdict.is_of(answer) {
+        if verdict.is_of(alloc, decls, point, answer)? {
             subjects.push(Subject::Point {
-                producer: bean.id.producer,
+                producer: *producer,
                 name: point.name,
             })?;
         }

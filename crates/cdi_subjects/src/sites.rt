@@ -3,16 +3,19 @@ ghost use Rattle.std.specs.Prelude.{◌≡◌, ◌++◌, length, map, IfOk, OnOk
 ghost use Rattle.std.specs.List.{list_any, zip};
 ghost use Rattle.std.specs.Str.{bytes_eq};
 ghost use Rattle.std.specs.Option.{option_copied};
+ghost use Rattle.cdi_model.specs.declared.decl.Decl.TheVariants as declared;
 ghost use Rattle.cdi_effective.specs.Beans.{entries};
 ghost use Rattle.cdi_observe.specs.Answers.{answer_to};
 ghost use Rattle.cdi_observe.specs.Wanted.{points_of};
-ghost use Rattle.cdi_subjects.specs.Sites.{choice_at, has_method, is_lost, lacks_method, lost_by, lost_call, lost_calls};
+ghost use Rattle.cdi_subjects.specs.Sites.{choice_at, has_method, is_lost, lacks_method, lost_around, lost_by, lost_call};
+ghost use Rattle.cdi_subjects.specs.Sites.{lost_calls};
 ghost use Rattle.cdi_subjects.specs.Sites.{lost_sites, lost_in_managed, lost_in_methods, lost_in_part, lost_in_producer, where_enabled};
 
 use cdi_effective::{BeanId, Effective};
 use cdi_faults::{PartPlace, Subject};
 use cdi_model::{
-    BeanDecl, CallDecl, Decl, Decls, Ident, Kind, MethodDecl, PartDecl, PointDecl, ProducerDecl,
+    BeanDecl, CallDecl, Decl, Decls, Ident, InterceptorDecl, Kind, MethodDecl, PartDecl, PointDecl,
+    ProducerDecl,
 };
 use cdi_resolve::Choice;
 use std::alloc::{AllocError, Global};
@@ -61,7 +64,7 @@ fn choice_among<'a>(
     None
 }
 
-/// The call sites of enabled beans that name a point that their body does not see, or a method that the chosen bean does
+/// The call sites of enabled beans and interceptors that name a point that their body does not see, or a method that the chosen bean does
 /// not have, of a declaration that has these beans, and these answers to its injection points.
 #[tactic(auto, using(crate::proofs::SiteLemmas::lost_by_entries))]
 pub(crate) fn lost_sites(
@@ -90,24 +93,65 @@ fn lost_by(
     ensures { IfOk result (λ list. list.items ≡ lost_by decls.now decl.now beans.now (map (λ answer. answer.value) answers.now)) }
 {
     let mut subjects = Vec::new(alloc);
-    let Decl::Bean(bean) = decl else {
-        return Ok(subjects);
-    };
+    match decl {
+        Decl::Bean(bean) => push_of_bean(decls, bean, beans, answers, &mut subjects)?,
+        Decl::Interceptor(interceptor) => {
+            let points = interceptor.points.as_slice();
+            let own = Points { points, answers };
+            push_around(decls, &own, interceptor, &mut subjects)?;
+        }
+        _ => (),
+    }
+    Ok(subjects)
+}
+
+/// Appends those of a bean.
+fn push_of_bean(
+    decls: &Decls,
+    bean: &BeanDecl,
+    beans: &[Effective],
+    answers: &[Rc<Choice>],
+    subjects: &mut Vec<Subject>,
+) -> Result<(), AllocError>
+    requires { length answers.now ≡ length (points_of (declared.Bean bean.now)) }
+    ensures { OnOk result (subjects.new.items ≡ subjects.old.items
+        ++ lost_by decls.now (declared.Bean bean.now) beans.now (map (λ answer. answer.value) answers.now)) }
+{
     let Some((managed, products)) = beans.split_first() else {
-        return Ok(subjects);
+        return Ok(());
     };
     let points = bean.points.as_slice();
     let (answers, mut rest) = answers.split_at(points.len());
     let own = Points { points, answers };
-    push_of_managed(decls, managed, &own, bean, &mut subjects)?;
+    push_of_managed(decls, managed, &own, bean, subjects)?;
     for (product, producer) in products.iter().zip(bean.producers.as_slice()) {
         let points = producer.params.as_slice();
         let (answers, others) = rest.split_at(points.len());
         let params = Points { points, answers };
-        push_of_product(decls, product, &own, &params, producer, &mut subjects)?;
+        push_of_product(decls, product, &own, &params, producer, subjects)?;
         rest = others;
     }
-    Ok(subjects)
+    Ok(())
+}
+
+/// Appends those of an interceptor that sees these points, if it is enabled.
+fn push_around(
+    decls: &Decls,
+    own: &Points<'_>,
+    interceptor: &InterceptorDecl,
+    subjects: &mut Vec<Subject>,
+) -> Result<(), AllocError>
+    ensures { OnOk result (subjects.new.items ≡ subjects.old.items ++ lost_around decls.now own.now interceptor.now) }
+{
+    if interceptor.priority.is_none() {
+        return Ok(());
+    }
+    let place = PartPlace::AroundInvoke;
+    push_of_part(decls, own, place, &interceptor.around_invoke, subjects)?;
+    let place = PartPlace::AroundConstruct;
+    push_of_part(decls, own, place, &interceptor.around_construct, subjects)?;
+    push_of_part(decls, own, PartPlace::Post, &interceptor.post, subjects)?;
+    push_of_part(decls, own, PartPlace::Pre, &interceptor.pre, subjects)
 }
 
 /// Appends those of the constructor, the lifecycle callbacks and the methods of a bean that sees these points, if it is

@@ -6,8 +6,9 @@ ghost use Rattle.cdi_observe.specs.Wanted.{points_of};
 ghost use Rattle.cdi_subjects.specs.Subjects.{subjects_at_fault};
 
 use crate::bodies::unfit_parts;
+use crate::conflicts::binding_conflicts;
 use crate::disposing::disposers_at_fault;
-use crate::forms::{bad_kinds, cycles};
+use crate::forms::{bad_kinds, cycles, unbound};
 use crate::points::{Verdict, points_at_fault};
 use crate::sites::lost_sites;
 use crate::stereotyped::scope_conflicts;
@@ -26,7 +27,7 @@ use std::rc::Rc;
 /// in the order in which they are declared. Its records and the answers to its injection points are given in their
 /// order; no part has a fault of a name or a circle, which are no declaration's. It takes memory for the parts, and for
 /// searches among the declarations.
-#[tactic(auto, using(crate::proofs::RecordLemmas::typed_by_entries, crate::proofs::PointLemmas::points_by_entries))]
+#[tactic(auto, using(crate::proofs::RecordLemmas::typed_by_entries, crate::proofs::RecordLemmas::conflicts_by_entries, crate::proofs::PointLemmas::points_by_entries))]
 pub fn subjects_at_fault<B: Bodies>(
     alloc: Global,
     code: Code,
@@ -46,11 +47,20 @@ pub fn subjects_at_fault<B: Bodies>(
         Code::BadKind => bad_kinds(alloc, decls, decl),
         Code::Typed => typed(alloc, decl, beans),
         Code::ScopeConflict => scope_conflicts(alloc, beans),
+        Code::BindingConflict => binding_conflicts(alloc, decls, decl, beans),
         Code::Member => bad_uses(alloc, decls, decl),
         Code::Disposer => disposers_at_fault(alloc, decls, decl, beans),
         Code::Body => unfit_parts(alloc, book, decl),
-        Code::Unsatisfied => points_at_fault(alloc, decl, beans, answers, Verdict::Unsatisfied),
-        Code::Ambiguous => points_at_fault(alloc, decl, beans, answers, Verdict::Ambiguous),
+        Code::NoBinding => unbound(alloc, decl),
+        Code::Unsatisfied => {
+            points_at_fault(alloc, decls, decl, beans, answers, Verdict::Unsatisfied)
+        }
+        Code::Ambiguous => {
+            points_at_fault(alloc, decls, decl, beans, answers, Verdict::Ambiguous)
+        }
+        Code::Unproxyable => {
+            points_at_fault(alloc, decls, decl, beans, answers, Verdict::Unproxyable)
+        }
         Code::Site => lost_sites(alloc, decls, decl, beans, answers),
         Code::NameClash | Code::NamePrefix | Code::Circular => Ok(Vec::new(alloc)),
     }

@@ -1,0 +1,72 @@
+//! Bindings of one type that differ (Interceptors 2.1, Associating an Interceptor using Interceptor Bindings).
+ghost use Rattle.std.specs.Prelude.{◌≡◌, ◌++◌, IfOk, OnOk};
+ghost use Rattle.cdi_subjects.specs.Records.{conflict_at, conflicts_by, conflicts_in};
+
+use cdi_effective::Effective;
+use cdi_faults::{PartPlace, Subject};
+use cdi_intercept::{has_conflict, set_by};
+use cdi_model::{BeanDecl, BeanPlace, Decl, Decls, Qual};
+use std::alloc::{AllocError, Global};
+
+/// The class of a bean whose bindings differ, and the methods and the producer methods that are not static at which they
+/// do, of a declaration that has these beans.
+pub(crate) fn binding_conflicts(
+    alloc: Global,
+    decls: &Decls,
+    decl: &Decl,
+    beans: &[Effective],
+) -> Result<Vec<Subject>, AllocError>
+    ensures { IfOk result (λ list. list.items ≡ conflicts_by decls.now decl.now beans.now) }
+{
+    let mut subjects = Vec::new(alloc);
+    if let (Decl::Bean(bean), Some(managed)) = (decl, beans.first()) {
+        let class = managed.bindings.as_slice();
+        push_conflicts(alloc, decls, class, bean, &mut subjects)?;
+    }
+    Ok(subjects)
+}
+
+/// Appends those of a bean whose class has these bindings.
+fn push_conflicts(
+    alloc: Global,
+    decls: &Decls,
+    class: &[Qual],
+    bean: &BeanDecl,
+    subjects: &mut Vec<Subject>,
+) -> Result<(), AllocError>
+    ensures { OnOk result (subjects.new.items ≡ subjects.old.items ++ conflicts_in decls.now class.now bean.now) }
+{
+    let place = BeanPlace::Construct;
+    push_if_opposed(alloc, decls, class, bean, place, Subject::Class, subjects)?;
+    for method in bean.methods.as_slice() {
+        let place = BeanPlace::Method(method.name);
+        let subject = Subject::Part(PartPlace::Method(method.name));
+        push_if_opposed(alloc, decls, class, bean, place, subject, subjects)?;
+    }
+    for producer in bean.producers.as_slice() {
+        if !producer.is_static {
+            let place = BeanPlace::Producer(producer.name);
+            let subject = Subject::Part(PartPlace::Producer(producer.name));
+            push_if_opposed(alloc, decls, class, bean, place, subject, subjects)?;
+        }
+    }
+    Ok(())
+}
+
+/// Appends a part, where two bindings at its place differ.
+fn push_if_opposed(
+    alloc: Global,
+    decls: &Decls,
+    class: &[Qual],
+    bean: &BeanDecl,
+    place: BeanPlace,
+    subject: Subject,
+    subjects: &mut Vec<Subject>,
+) -> Result<(), AllocError>
+    ensures { OnOk result (subjects.new.items ≡ subjects.old.items ++ conflict_at decls.now class.now bean.now place subject) }
+{
+    if has_conflict(alloc, decls, &set_by(alloc, decls, class, bean, &place)?)? {
+        subjects.push(subject)?;
+    }
+    Ok(())
+}

@@ -1,0 +1,112 @@
+//! Injection points for which no class can stand between the bean and its callers (CDI 4.0, Unproxyable bean types).
+ghost use Rattle.std.specs.Prelude.{◌≡◌, IfOk};
+ghost use Rattle.cdi_subjects.specs.Proxies.{is_final, is_intercepted, is_normal, is_unproxyable, needs_subclass, needs_subclass_as, needs_subclass_by};
+ghost use Rattle.std.specs.List.{find};
+ghost use Rattle.std.specs.Option.{option_eq};
+ghost use Rattle.std.specs.Str.{bytes_eq};
+ghost use Rattle.cdi_effective.specs.Beans.{records};
+
+use cdi_effective::{BeanId, Effective, records_of};
+use cdi_intercept::{around_any, in_order};
+use cdi_model::{BeanDecl, Decl, Decls, Ident, Kind, Name, PointDecl, Qual, Scope};
+use cdi_resolve::Choice;
+use std::alloc::{AllocError, Global};
+
+/// Whether one bean is chosen for a point, its instances need a subclass, and the class that the point requires may have
+/// none. It takes memory for the records of the bean, and where it is managed for the interceptors, only at such a class.
+pub(crate) fn is_unproxyable(
+    alloc: Global,
+    decls: &Decls,
+    point: &PointDecl,
+    choice: &Choice,
+) -> Result<bool, AllocError>
+    ensures { IfOk result (λ is. is ≡ is_unproxyable decls.now point.now choice.now) }
+{
+    match choice {
+        Choice::One(id) if is_final(decls, point.required_type) => {
+            needs_subclass(alloc, decls, *id)
+        }
+        _ => Ok(false),
+    }
+}
+
+/// Whether it is a declared class that may have no subclass.
+fn is_final(decls: &Decls, name: Name) -> bool
+    ensures { result ≡ is_final decls.now name }
+{
+    match decls.get(Kind::Type, name) {
+        Some(Decl::Type(decl)) => decl.is_final,
+        _ => false,
+    }
+}
+
+fn needs_subclass(alloc: Global, decls: &Decls, id: BeanId) -> Result<bool, AllocError>
+    ensures { IfOk result (λ needs. needs ≡ needs_subclass decls.now id) }
+{
+    match decls.get(Kind::Bean, id.class) {
+        Some(Decl::Bean(bean)) => {
+            let records = records_of(alloc, decls, bean)?;
+            needs_subclass_as(alloc, decls, bean, &records, id.producer)
+        }
+        _ => Ok(false),
+    }
+}
+
+/// The same by the records of the bean, and its producer method where it is the product of one.
+fn needs_subclass_as(
+    alloc: Global,
+    decls: &Decls,
+    bean: &BeanDecl,
+    records: &[Effective],
+    producer: Option<Ident>,
+) -> Result<bool, AllocError>
+    ensures { IfOk result (λ needs. needs
+        ≡ needs_subclass_as decls.now bean.now (find (λ b. option_eq bytes_eq b.id.producer producer) records.now)) }
+{
+    for record in records {
+        if record.id.producer == producer {
+            return needs_subclass_by(alloc, decls, bean, record);
+        }
+    }
+    Ok(false)
+}
+
+/// Whether a client proxy stands for the instances of a bean, or it is a managed bean with interceptors.
+fn needs_subclass_by(
+    alloc: Global,
+    decls: &Decls,
+    bean: &BeanDecl,
+    effective: &Effective,
+) -> Result<bool, AllocError>
+    ensures { IfOk result (λ needs. needs ≡ needs_subclass_by decls.now bean.now effective.now) }
+{
+    if is_normal(effective.scope) {
+        return Ok(true);
+    }
+    if effective.id.producer.is_some() {
+        return Ok(false);
+    }
+    is_intercepted(alloc, decls, effective.bindings.as_slice(), bean)
+}
+
+fn is_normal(scope: Scope) -> bool
+    ensures { result ≡ is_normal scope }
+{
+    match scope {
+        Scope::Dependent => false,
+        Scope::Request | Scope::Application => true,
+    }
+}
+
+/// Whether an interceptor stands around some place of a bean whose class has these bindings.
+fn is_intercepted(
+    alloc: Global,
+    decls: &Decls,
+    class: &[Qual],
+    bean: &BeanDecl,
+) -> Result<bool, AllocError>
+    ensures { IfOk result (λ is. is ≡ is_intercepted decls.now class.now bean.now) }
+{
+    let order = in_order(alloc, decls)?;
+    Ok(!around_any(alloc, decls, &order, class, bean)?.is_empty())
+}
