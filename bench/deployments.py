@@ -2,7 +2,8 @@
 
 Types have places in an order, and each has one bean, a managed one or a product. A dependent bean has points of
 dependent beans behind it in the order alone, and of beans of the other scopes anywhere, so none needs itself before it
-is made. A product stands before the bean that declares it.
+is made. A product stands before the bean that declares it. Half of the deployments have bindings and interceptors; an
+interceptor has points of beans of the other scopes alone.
 """
 
 METHODS = ["run", "add", "go"]
@@ -12,6 +13,17 @@ PLAIN = ["unit", "zero", "echo", "count", "count", "relay", "relay", "flaky", "b
 BEFORE_DESTRUCTION = ["unit", "count", "flaky", "boom", "spin", "zero"]
 OF_CLASS = ["zero", "unit", "echo", "relay", "relay", "boom", "short"]
 DISPOSING = ["unit", "boom", "zero"]
+AROUND_DESTRUCTION = ["pass", "pass", "double", "guard", "retry", "swallow", "short", "boom", "count", "flaky"]
+AROUND = [*AROUND_DESTRUCTION, "pass", "relay"]
+
+LOG, TX, AUDIT = "shop.Log", "shop.Tx", "shop.Audit"
+BINDINGS = [
+    {"kind": "binding", "name": LOG},
+    {"kind": "binding", "name": TX, "members": [{"name": "level", "default": 1}]},
+    {"kind": "binding", "name": AUDIT, "declares": [(TX, (("level", 2),))]},
+]
+# Of these a list has one at most, so that no two of one type differ.
+ONE_OF = [(TX, ()), (TX, (("level", 1),)), (TX, (("level", 2),)), (AUDIT, ())]
 
 
 class Planner:
@@ -24,6 +36,7 @@ class Planner:
         # A product belongs to the next managed bean behind it.
         self.products = {name for name in self.names[:-1] if self.maybe(0.3)}
         self.never_ending = self.maybe(0.15)
+        self.interceptors = [f"shop.I{number}" for number in range(self.chance.randint(1, 4))] if self.maybe(0.5) else []
 
     def maybe(self, chance):
         return self.chance.random() < chance
@@ -33,15 +46,40 @@ class Planner:
         return next(name for name in behind if name not in self.products)
 
     def declarations(self):
-        """The types, and then the beans in any order."""
+        """The types and bindings, and then the beans and interceptors in any order."""
         types = [{"kind": "type", "name": name} for name in self.names]
-        beans = [self.bean(name) for name in self.names if name not in self.products]
-        self.chance.shuffle(beans)
-        return types + beans
+        found = [self.bean(name) for name in self.names if name not in self.products]
+        found += [self.interceptor(name) for name in self.interceptors]
+        self.chance.shuffle(found)
+        return types + (BINDINGS if self.interceptors else []) + found
+
+    def bindings(self, chance, more=0.5):
+        """The key of a list of bindings, or none."""
+        if not self.interceptors or not self.maybe(chance):
+            return {}
+        logged, further = self.maybe(0.7), self.maybe(more)
+        uses = [(LOG, ())] * (logged or not further) + [self.chance.choice(ONE_OF)] * further
+        return {"bindings": uses}
+
+    def interceptor(self, name):
+        lasting = [other for other in self.names if self.scopes[other] != "dependent"]
+        points = [{"name": "by", "type": self.chance.choice(lasting)}] if lasting and self.maybe(0.3) else []
+        declaration = {"kind": "interceptor", "name": name, "points": points, **self.bindings(1, 0.3)}
+        if self.maybe(0.9):
+            declaration["priority"] = self.chance.choice([-1, 1, 1, 2])
+        for place, chance, bodies in [
+            ("around_invoke", 0.8, AROUND),
+            ("around_construct", 0.4, AROUND),
+            ("post", 0.4, AROUND),
+            ("pre", 0.4, AROUND_DESTRUCTION),
+        ]:
+            if self.maybe(chance):
+                declaration[place] = self.part(points if place != "pre" else [], bodies)
+        return declaration
 
     def bean(self, name):
         points = self.points(name, "at", 3)
-        declaration = {"kind": "bean", "name": name, "scope": self.scopes[name], "points": points}
+        declaration = {"kind": "bean", "name": name, "scope": self.scopes[name], "points": points, **self.bindings(0.8)}
         for place, chance, bodies in [
             ("construct", 0.3, PLAIN),
             ("post", 0.3, PLAIN),
@@ -49,7 +87,9 @@ class Planner:
         ]:
             if self.maybe(chance):
                 declaration[place] = self.part(points if place != "pre" else [], bodies)
-        declaration["methods"] = [{"name": method, **self.part(points, PLAIN)} for method in METHODS]
+        declaration["methods"] = [
+            {"name": method, **self.part(points, PLAIN), **self.bindings(0.3)} for method in METHODS
+        ]
         made = [product for product in sorted(self.products) if self.owner(product) == name]
         declaration["producers"] = [self.producer(product, points) for product in made]
         declaration["disposers"] = [
@@ -62,6 +102,7 @@ class Planner:
     def producer(self, product, points):
         params = self.points(product, "in", 2)
         producer = {"name": "make_" + product[-2:], "type": product, "scope": self.scopes[product], "params": params}
+        producer.update(self.bindings(0.3))
         if self.maybe(0.3):
             return {**producer, "static": True, **self.part(params, OF_CLASS)}
         return {**producer, **self.part(points + params, PLAIN)}
@@ -112,11 +153,13 @@ class Commander:
         beans = self.planner.declarations()
         steps = [self.put(declaration) for declaration in beans]
         steps.append(("report\n", self.model.report()))
-        managed = [bean for bean in beans if bean["kind"] == "bean"]
+        if self.planner.interceptors:
+            steps.extend(self.chain(name) for name in self.planner.names)
+        changing = [found for found in beans if found["kind"] in ("bean", "interceptor")]
         for _ in range(self.chance.randint(10, 40)):
             steps.append(self.command())
             if self.chance.random() < 0.05:
-                steps.extend(self.edits(self.chance.choice(managed)))
+                steps.extend(self.edits(self.chance.choice(changing)))
         return steps
 
     def command(self):
@@ -130,6 +173,8 @@ class Commander:
             return "stop\n", runs.stop()
         if draw < 0.32:
             return f"choose {name}{words}\n", self.model.choose(name, uses)
+        if draw < 0.36:
+            return self.chain(name)
         if draw < 0.55:
             return f"lookup {name}{words}\n", runs.lookup(name, uses)
         method = "value" if name in self.planner.products else self.chance.choice(METHODS)
@@ -138,6 +183,11 @@ class Commander:
         argument = self.chance.choice([None, 0, 5, -7, 2**63 - 1])
         word = "null" if argument is None else argument
         return f"call {method} {word} {name}{words}\n", runs.call(method, argument, name, uses)
+
+    def chain(self, name):
+        """A question for a chain; a product has none."""
+        place = self.chance.choice(["construct", "post", "pre", *("method " + method for method in METHODS)])
+        return f"chain {name} {place}\n", self.model.chains.chain(name, place)
 
     def asked(self):
         """A type and qualifiers, most often those of one bean."""

@@ -258,7 +258,7 @@ class Runs:
         self.make_points(instance, declaration.get("points", []))
         for place in ["construct", "post"]:
             if place in declaration:
-                self.frame(place, declaration[place], None, instance, self.sites(instance, declaration))
+                self.pass_through(place, declaration[place], None, instance, self.sites(instance, declaration))
 
     def make_points(self, instance, points):
         """What is dependent of the points of an instance is made for it; of the others nothing is."""
@@ -279,7 +279,10 @@ class Runs:
             if declaring:
                 sites.update(self.sites(declaring, declaration))
             place = f"producer {producer['name']}"
-            state = self.frame(place, producer, None, declaring, sites, declaration["name"])
+            if declaring:
+                state = self.pass_through(place, producer, None, declaring, sites)
+            else:
+                state = self.frame(place, producer, None, None, sites, declaration["name"])
         finally:
             if declaring and managed.scope == "dependent":
                 self.destroy(declaring)
@@ -299,7 +302,7 @@ class Runs:
             return instance.state
         declaration = self.declaration(instance.bean)
         part = next(found for found in declaration["methods"] if found["name"] == method)
-        return self.frame(f"method {method}", part, argument, instance, self.sites(instance, declaration))
+        return self.pass_through(f"method {method}", part, argument, instance, self.sites(instance, declaration))
 
     def call_site(self, site, argument, sites):
         name, method = site.split(".")
@@ -310,6 +313,10 @@ class Runs:
         else:
             target = self.obtain(bean)
         return self.invoke(target, method, argument)
+
+    def pass_through(self, place, part, argument, instance, sites):
+        """A body at a place of an instance around which interceptors may stand. Runs do not pass through these yet."""
+        return self.frame(place, part, argument, instance, sites)
 
     def frame(self, place, part, argument, instance, sites, class_name=None):
         """A frame of a body: on an instance, or of a class where there is none."""
@@ -399,7 +406,7 @@ class Runs:
     def call_back(self, instance):
         declaration, producer = self.declaration(instance.bean), self.producer(instance.bean)
         if producer is None and "pre" in declaration:
-            self.frame("pre", declaration["pre"], None, instance, {})
+            self.pass_through("pre", declaration["pre"], None, instance, {})
         disposers = declaration.get("disposers", []) if producer else []
         for disposer in disposers:
             if self.model.matches(disposer, instance.bean):
