@@ -46,6 +46,8 @@ unfolding records_in
 records_found ds es rest (decls.Type d) distinct split = refl
 records_found ds es rest (decls.Qualifier d) distinct split = refl
 records_found ds es rest (decls.Stereotype d) distinct split = refl
+records_found ds es rest (decls.Binding d) distinct split = refl
+records_found ds es rest (decls.Interceptor d) distinct split = refl
 records_found ds es rest (decls.Bean bean) distinct split =
     let keys-differ : Decl → Decl → Type 0 = λ d e. key_of d ≢ key_of e in
     ap (λ found. records_declared ds (as_bean found))

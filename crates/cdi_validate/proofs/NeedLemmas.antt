@@ -238,6 +238,8 @@ pub needs_by_answers : (ds : List Decl) (d : Decl) → needs_by d (map (answer_t
 needs_by_answers ds (decls.Type d) = refl
 needs_by_answers ds (decls.Qualifier d) = refl
 needs_by_answers ds (decls.Stereotype d) = refl
+needs_by_answers ds (decls.Binding d) = refl
+needs_by_answers ds (decls.Interceptor d) = refl
 needs_by_answers ds (decls.Bean d) =
     let others = flat_map (λ p. p.params) d.producers in
     ap (λ xs. (text_of_id (managed_id d), xs)
