@@ -139,6 +139,8 @@ unfolding staged_beans
 of-decl ds book k (decls.Type d) at = tt
 of-decl ds book k (decls.Qualifier d) at = tt
 of-decl ds book k (decls.Stereotype d) at = tt
+of-decl ds book k (decls.Binding d) at = tt
+of-decl ds book k (decls.Interceptor d) at = tt
 of-decl ds book k (decls.Bean d) at = (
   inl (record { decl = d; place = k; there = at; is = refl; made = refl }),
   beside-map (Stands ds book) (product ds d) (staged_product ds book d) d.producers

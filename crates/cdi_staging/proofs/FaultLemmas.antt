@@ -168,24 +168,30 @@ one-chosen (choices.One id) some single = (id, refl)
 one-chosen choices.Unsatisfied some single = absurd (true≢false some)
 one-chosen (choices.Ambiguous ids) some single = absurd (true≢false single)
 
+abbrev unsatisfied : PointDecl → Choice → Bool
+unsatisfied point choice = is_unsatisfied choice
+
+abbrev ambiguous : PointDecl → Choice → Bool
+ambiguous point choice = is_ambiguous choice
+
 -- no point of an enabled bean has a choice that the test finds
-none-found : (test : Choice → Bool) (ds : List Decl) (bean : Effective) (producer : Option (List ℕ))
+none-found : (test : PointDecl → Choice → Bool) (ds : List Decl) (bean : Effective) (producer : Option (List ℕ))
     (points : List PointDecl) (k : ℕ) (point : PointDecl) → bean.is_enabled ≡ true
     → points_with test ds bean producer points ≡ [] → slice_get points k ≡ Some point
-    → test (answer_to ds point) ≡ false
+    → test point (answer_to ds point) ≡ false
 none-found test ds bean producer points k point enabled none at =
     let listed = where-true bean.is_enabled _ enabled none in
-    filter-empty (λ p. test (answer_to ds p)) points k point
-    (map-empty (λ p. subjects.Point producer p.name) (filter (λ p. test (answer_to ds p)) points) listed) at
+    filter-empty (λ p. test p (answer_to ds p)) points k point
+    (map-empty (λ p. subjects.Point producer p.name) (filter (λ p. test p (answer_to ds p)) points) listed) at
 
 satisfied : (ds : List Decl) (bean : Effective) (producer : Option (List ℕ)) (points : List PointDecl)
     → bean.is_enabled ≡ true
-    → points_with is_unsatisfied ds bean producer points ≡ []
-    → points_with is_ambiguous ds bean producer points ≡ [] → AreSatisfied ds points
+    → points_with unsatisfied ds bean producer points ≡ []
+    → points_with ambiguous ds bean producer points ≡ [] → AreSatisfied ds points
 satisfied ds bean producer points enabled some single k point at =
     let one = one-chosen (answer_to ds point)
-    (none-found is_unsatisfied ds bean producer points k point enabled some at)
-    (none-found is_ambiguous ds bean producer points k point enabled single at) in
+    (none-found unsatisfied ds bean producer points k point enabled some at)
+    (none-found ambiguous ds bean producer points k point enabled single at) in
     record { id = one.0; chosen = one.1 }
 
 -- ---- call sites
@@ -313,16 +319,16 @@ fine-producer ds book bean k producer none short at enabled =
     let lost = where-true (product ds bean producer).is_enabled
     (lost_in_producer ds own (sight_at ds producer.params) producer) enabled
     (flat-empty lost_in bean.producers k producer (second-empty own_lost _ none.site) at) in
-    let params_with : (Choice → Bool) → ProducerDecl → List Subject = λ test p.
+    let params_with : (PointDecl → Choice → Bool) → ProducerDecl → List Subject = λ test p.
     points_with test ds (product ds bean p) (Some p.name) p.params in
-    let points_of : (Choice → Bool) → List Subject = λ test. points_with test ds (managed ds bean) None bean.points in
+    let points_of : (PointDecl → Choice → Bool) → List Subject = λ test. points_with test ds (managed ds bean) None bean.points in
     let few = short.producers k producer at in
     record {
       params = satisfied ds (product ds bean producer) (Some producer.name) producer.params enabled
-          (flat-empty (params_with is_unsatisfied) bean.producers k producer
-          (second-empty (points_of is_unsatisfied) _ none.unsatisfied) at)
-          (flat-empty (params_with is_ambiguous) bean.producers k producer
-          (second-empty (points_of is_ambiguous) _ none.ambiguous) at);
+          (flat-empty (params_with unsatisfied) bean.producers k producer
+          (second-empty (points_of unsatisfied) _ none.unsatisfied) at)
+          (flat-empty (params_with ambiguous) bean.producers k producer
+          (second-empty (points_of ambiguous) _ none.ambiguous) at);
       few = few.params;
       part = fine-part ds book (allowed_to producer) (places.Producer producer.name) (seen_by bean producer)
           producer.part few.calls
