@@ -7,10 +7,10 @@ use Rattle.cdi_text.specs.Reading.{decl_of}
 use Rattle.cdi_legal.specs.declared.entry.Entry.{Entry}
 use Rattle.cdi_staging.specs.Naming.{names_of}
 use Rattle.cdi_lines.specs.declared.command.Command.{Command}
-use Rattle.cdi_lines.specs.declared.command.Command.TheVariants.{Put, Remove, Choose, Named, Report, LookUp, Call, BeginRequest, EndRequest}
+use Rattle.cdi_lines.specs.declared.command.Command.TheVariants.{Put, Remove, Choose, Named, Chain, Report, LookUp, Call, BeginRequest, EndRequest}
 use Rattle.cdi_lines.specs.declared.command.Command.TheVariants.{Stop, Unreadable}
 use Rattle.cdi_container.specs.declared.answer.Answer.{Answer}
-use Rattle.cdi_container.specs.declared.answer.Answer.TheVariants.{Done, Chosen, Reported, Given, Refused}
+use Rattle.cdi_container.specs.declared.answer.Answer.TheVariants.{Done, Chosen, Intercepted, Reported, Given, Refused}
 use Rattle.cdi_container.specs.Seen.{IsStep}
 use Rattle.cdi_container.specs.Text.{text_of_trace, text_of_answer}
 use Rattle.cdi_container.specs.Runner.{RunsStep, Prints}
@@ -30,6 +30,7 @@ acts_alike old new (Put text) answer h = inr (ap (λ s. s.trace) h.1 ∙ put_tel
 acts_alike old new (Remove kind name) answer h = inr (ap (λ s. s.trace) h.1)
 acts_alike old new (Choose t quals) answer h = inl (ap (λ s. s.decls) h.1)
 acts_alike old new (Named name) answer h = inl (ap (λ s. s.decls) h.1)
+acts_alike old new (Chain bean place) answer h = inl (ap (λ s. s.decls) h.rest)
 acts_alike old new Report answer h = inl (ap (λ s. s.decls) h.1)
 acts_alike old new (LookUp t quals) answer h = inl (ap (λ s. s.decls) h.rest)
 acts_alike old new (Call method arg t quals) answer h = inl (ap (λ s. s.decls) h.rest)
@@ -41,6 +42,7 @@ acts_alike old new Unreadable answer h = absurd h
 step_alike : (old new : State) (command : Command) (answer : Answer) → IsStep old command (Ok answer) new → TellsAlike old new
 step_alike old new command Done h = acts_alike old new command Done h.1
 step_alike old new command (Chosen choice) h = acts_alike old new command (Chosen choice) h.1
+step_alike old new command (Intercepted names) h = acts_alike old new command (Intercepted names) h.1
 step_alike old new command (Reported list) h = acts_alike old new command (Reported list) h.1
 step_alike old new command (Given outcome) h = acts_alike old new command (Given outcome) h.1
 step_alike old new command (Refused refusal) h = inl (ap (λ s. s.decls) h.1)

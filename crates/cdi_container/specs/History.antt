@@ -1,8 +1,9 @@
 -- The state of a container, and its legal steps and histories.
-use Rattle.std.specs.Prelude.{◌≡◌, Bool, true, false, List, [], ◌∷◌, ◌++◌, Option, None, Some, Result, Ok, Err, if◌then◌else◌}
+use Rattle.std.specs.Prelude.{◌≡◌, ℕ, Bool, true, false, List, [], ◌∷◌, ◌++◌, Option, None, Some, Result, Ok, Err, if◌then◌else◌}
 use Rattle.std.specs.declared.alloc.AllocError.{AllocError}
 use Rattle.cdi_model.specs.declared.decl.Decl.{Decl}
 use Rattle.cdi_model.specs.declared.outcome.Outcome.{Outcome}
+use Rattle.cdi_model.specs.declared.place.BeanPlace.{BeanPlace}
 use Rattle.cdi_model.specs.declared.refusal.Error.{Error}
 use Rattle.cdi_model.specs.declared.refusal.Error.TheVariants as errors
 use Rattle.cdi_model.specs.declared.refusal.Refusal.{Refusal}
@@ -19,15 +20,16 @@ use Rattle.cdi_legal.specs.declared.entry.Entry.{Entry}
 use Rattle.cdi_text.specs.Reading.{decl_of}
 use Rattle.cdi_effective.specs.Beans.{beans}
 use Rattle.cdi_resolve.specs.Choices.{chosen, chosen_by_name}
+use Rattle.cdi_intercept.specs.Chains.{chain_of}
 use Rattle.cdi_staging.specs.Naming.{names_of}
 use Rattle.cdi_staging.specs.Staged.{scene_of}
 use Rattle.cdi_staging.specs.declared.names.Names.{Names}
 use Rattle.cdi_validate.specs.Faults.{faults}
 use Rattle.cdi_lines.specs.declared.command.Command.{Command}
-use Rattle.cdi_lines.specs.declared.command.Command.TheVariants.{Put, Remove, Choose, Named, Report, LookUp, Call, BeginRequest, EndRequest}
+use Rattle.cdi_lines.specs.declared.command.Command.TheVariants.{Put, Remove, Choose, Named, Chain, Report, LookUp, Call, BeginRequest, EndRequest}
 use Rattle.cdi_lines.specs.declared.command.Command.TheVariants.{Stop, Unreadable}
 use Rattle.cdi_container.specs.declared.answer.Answer.{Answer}
-use Rattle.cdi_container.specs.declared.answer.Answer.TheVariants.{Done, Chosen, Reported, Given, Refused}
+use Rattle.cdi_container.specs.declared.answer.Answer.TheVariants.{Done, Chosen, Intercepted, Reported, Given, Refused}
 use Rattle.cdi_container.specs.Asked.{Asked, to_look, to_call, aim_of, run_at}
 use Rattle.cdi_container.specs.declared.asked.Aim.{Aim}
 
@@ -95,6 +97,7 @@ refusal_of state (Put text) = refusal_of_put state.decls (decl_of text)
 refusal_of state (Remove kind name) = refusal_of_edit state.decls (RemoveEdit kind name)
 refusal_of state (Choose t quals) = None
 refusal_of state (Named name) = None
+refusal_of state (Chain bean place) = refusal_in (chain_of state.decls bean place)
 refusal_of state Report = None
 refusal_of state (LookUp t quals) = refusal_in (aim_of state.decls state.book (to_look t quals))
 refusal_of state (Call method arg t quals) = refusal_in (aim_of state.decls state.book (to_call method arg t quals))
@@ -130,12 +133,20 @@ pub record EndsContexts (old : State) (answer : Answer) (new : State) : Type 0 w
   pub legal : LegalEnd (scene old) old.standing new.trace new.standing
   pub rest : IsRunFrom old new
 
+-- the interceptors around a place of a bean are told
+pub record TellsChain (old : State) (bean : List ℕ) (place : BeanPlace) (answer : Answer) (new : State) : Type 0 where
+  pub names : List (List ℕ)
+  pub around : chain_of old.decls bean place ≡ Ok names
+  pub given : answer ≡ Intercepted names
+  pub rest : new ≡ untold old
+
 -- what a command that isn't refused answers, and the state that it leaves
 abbrev pub Acts : State → Command → Answer → State → Type 0
 Acts old (Put text) answer new = (answer ≡ Done) × (new ≡ with_put old (decl_of text))
 Acts old (Remove kind name) answer new = (answer ≡ Done) × (new ≡ with_edit old (RemoveEdit kind name))
 Acts old (Choose t quals) answer new = (answer ≡ Chosen (chosen old.decls (beans old.decls) t quals)) × (new ≡ untold old)
 Acts old (Named name) answer new = (answer ≡ Chosen (chosen_by_name (beans old.decls) name)) × (new ≡ untold old)
+Acts old (Chain bean place) answer new = TellsChain old bean place answer new
 Acts old Report answer new = (answer ≡ Reported (faults old.decls old.book)) × (new ≡ untold old)
 Acts old (LookUp t quals) answer new = RunsFrom old (to_look t quals) answer new
 Acts old (Call method arg t quals) answer new = RunsFrom old (to_call method arg t quals) answer new

@@ -7,6 +7,7 @@ use Rattle.cdi_model.specs.declared.decl.Decl.{Decl}
 use Rattle.cdi_model.specs.declared.decl.Kind.{Kind}
 use Rattle.cdi_model.specs.declared.outcome.Outcome.{Outcome}
 use Rattle.cdi_model.specs.declared.outcome.Val.{Val}
+use Rattle.cdi_model.specs.declared.place.BeanPlace.{BeanPlace}
 use Rattle.cdi_model.specs.declared.quals.Qual.{Qual}
 use Rattle.cdi_model.specs.declared.refusal.Error.{Error}
 use Rattle.cdi_model.specs.declared.refusal.Error.TheVariants as errors
@@ -16,9 +17,10 @@ use Rattle.cdi_model.specs.Edits.{answer_of_edit}
 use Rattle.cdi_resolve.specs.declared.choice.Choice.{Choice}
 use Rattle.cdi_faults.specs.declared.fault.Fault.{Fault}
 use Rattle.cdi_lines.specs.declared.command.Command.{Command}
-use Rattle.cdi_lines.specs.declared.command.Command.TheVariants.{Put, Remove, Choose, Named, Report, LookUp, Call, BeginRequest, EndRequest, Stop}
+use Rattle.cdi_lines.specs.declared.command.Command.TheVariants.{Put, Remove, Choose, Named, Chain, Report, LookUp, Call, BeginRequest, EndRequest}
+use Rattle.cdi_lines.specs.declared.command.Command.TheVariants.{Stop}
 use Rattle.cdi_container.specs.declared.answer.Answer.{Answer}
-use Rattle.cdi_container.specs.declared.answer.Answer.TheVariants.{Done, Chosen, Reported, Given, Refused}
+use Rattle.cdi_container.specs.declared.answer.Answer.TheVariants.{Done, Chosen, Intercepted, Reported, Given, Refused}
 use Rattle.cdi_container.specs.History.{State, LegalAnswer}
 
 -- what a put of what a text spells answers
@@ -56,6 +58,11 @@ abbrev pub choice_answer : Result Choice AllocError → Result Answer AllocError
 choice_answer (Ok choice) = Ok (Chosen choice)
 choice_answer (Err error) = Err error
 
+-- the answer of a question for interceptors
+abbrev pub chain_answer : Result (List (List ℕ)) Error → Result Answer AllocError
+chain_answer (Ok names) = Ok (Intercepted names)
+chain_answer (Err error) = failed_answer error
+
 -- the answer of a report
 abbrev pub report_answer : Result (Vec Fault Global) AllocError → Result Answer AllocError
 report_answer (Ok list) = Ok (Reported list.items)
@@ -81,6 +88,9 @@ ChooseStep old t quals result new = IsStep old (Choose t quals) (choice_answer r
 
 abbrev pub NamedStep : State → List ℕ → Result Choice AllocError → State → Type 0
 NamedStep old name result new = IsStep old (Named name) (choice_answer result) new
+
+abbrev pub ChainStep : State → List ℕ → BeanPlace → Result (List (List ℕ)) Error → State → Type 0
+ChainStep old bean place result new = IsStep old (Chain bean place) (chain_answer result) new
 
 abbrev pub ReportStep : State → Result (Vec Fault Global) AllocError → State → Type 0
 ReportStep old result new = IsStep old Report (report_answer result) new

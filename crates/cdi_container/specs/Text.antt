@@ -9,9 +9,9 @@ use Rattle.cdi_resolve.specs.ChoiceText.{text_of_choice}
 use Rattle.cdi_faults.specs.declared.fault.Fault.{Fault}
 use Rattle.cdi_faults.specs.FaultText.{text_of_fault}
 use Rattle.std.specs.declared.alloc.AllocError.{AllocError}
-use Rattle.cdi_model.specs.Bytes.{feed}
+use Rattle.cdi_model.specs.Bytes.{feed, space}
 use Rattle.cdi_container.specs.declared.answer.Answer.{Answer}
-use Rattle.cdi_container.specs.declared.answer.Answer.TheVariants.{Done, Chosen, Reported, Given, Refused}
+use Rattle.cdi_container.specs.declared.answer.Answer.TheVariants.{Done, Chosen, Intercepted, Reported, Given, Refused}
 use Rattle.cdi_legal.specs.declared.entry.Entry.{Entry}
 use Rattle.cdi_model.specs.OutcomeText.{text_of_val, text_of_failure}
 use Rattle.cdi_model.specs.declared.outcome.Outcome.{Outcome}
@@ -60,10 +60,19 @@ abbrev pub words_of_outcome : Outcome → List ℕ
 words_of_outcome (Value v) = codes "value " ++ text_of_val v
 words_of_outcome (Failed failure) = codes "failed " ++ text_of_failure failure
 
+-- names, each behind a space
+abbrev pub text_of_names : List (List ℕ) → List ℕ
+text_of_names names = flat_map (λ name. space ∷ name) names
+
+-- the interceptors around a place
+abbrev pub text_of_chain : List (List ℕ) → List ℕ
+text_of_chain names = codes "chain" ++ text_of_names names
+
 -- what an answer prints before the end of its line
 abbrev pub words_of_answer : Answer → List ℕ
 words_of_answer Done = codes "ok"
 words_of_answer (Chosen choice) = text_of_choice choice
+words_of_answer (Intercepted names) = text_of_chain names
 words_of_answer (Reported list) = text_of_report list
 words_of_answer (Given outcome) = words_of_outcome outcome
 words_of_answer (Refused refusal) = codes "refused " ++ word_of refusal ++ count_of refusal

@@ -1,10 +1,10 @@
 //! What a command answers.
 ghost use Rattle.std.specs.Prelude.{◌≡◌};
 ghost use Rattle.cdi_container.specs.Seen.{failed_answer, edit_answer, plain_answer, end_answer};
-ghost use Rattle.cdi_container.specs.Seen.{choice_answer, report_answer, outcome_answer};
+ghost use Rattle.cdi_container.specs.Seen.{chain_answer, choice_answer, report_answer, outcome_answer};
 
 use cdi_faults::Fault;
-use cdi_model::{Error, Outcome, Refusal, Seq};
+use cdi_model::{Error, Name, Outcome, Refusal, Seq};
 use cdi_resolve::Choice;
 use std::alloc::AllocError;
 
@@ -15,6 +15,8 @@ pub enum Answer {
     Done,
     /// The bean that was asked for, or why there is none.
     Chosen(Choice),
+    /// The names of the interceptors around a place, in order.
+    Intercepted(Seq<Name>),
     /// The faults of the deployment, in their order.
     Reported(Seq<Fault>),
     /// What a look-up or a call gave: a value or a failure.
@@ -70,6 +72,16 @@ pub(crate) fn answer_of_choice(outcome: Result<Choice, AllocError>) -> Result<An
     match outcome {
         Ok(choice) => Ok(Answer::Chosen(choice)),
         Err(error) => Err(error),
+    }
+}
+
+/// The answer of a question for interceptors.
+pub(crate) fn answer_of_chain(outcome: Result<Seq<Name>, Error>) -> Result<Answer, AllocError>
+    ensures { result ≡ chain_answer outcome }
+{
+    match outcome {
+        Ok(names) => Ok(Answer::Intercepted(names)),
+        Err(error) => answer_of_failure(error),
     }
 }
 

@@ -6,12 +6,13 @@ ghost use Rattle.cdi_model.specs.Answering.{Answers};
 ghost use Rattle.cdi_text.specs.Reading.{decl_of};
 ghost use Rattle.cdi_effective.specs.Beans.{beans};
 ghost use Rattle.cdi_resolve.specs.Choices.{chosen, chosen_by_name};
+ghost use Rattle.cdi_intercept.specs.Chains.{chain_of};
 ghost use Rattle.cdi_validate.specs.Faults.{faults};
 ghost use Rattle.cdi_container.specs.Wired.{behind_edit};
 ghost use Rattle.cdi_container.specs.History.{History, left_by, untold, with_edit, with_put, RestsOnAcceptedEdits, SharesInstances};
 
 use crate::answer::{
-    Answer, answer_of_begin, answer_of_choice, answer_of_edit, answer_of_report, answer_of_run,
+    Answer, answer_of_begin, answer_of_chain, answer_of_choice, answer_of_edit, answer_of_report, answer_of_run,
     answer_of_stop,
 };
 use crate::deployment::Deployment;
@@ -20,7 +21,7 @@ use cdi_contexts::Contexts;
 use cdi_faults::Fault;
 use cdi_legal::{Entry, Run};
 use cdi_lines::Command;
-use cdi_model::{Error, Kind, Name, Quals, Refusal, Work};
+use cdi_model::{BeanPlace, Error, Kind, Name, Quals, Refusal, Seq, Work};
 use cdi_resolve::Choice;
 use cdi_text::read_decl;
 use cdi_trace::push_entries;
@@ -64,6 +65,7 @@ impl<B: Bodies> Container<B> {
     ghost use Rattle.cdi_trace.specs.TraceText.{text_of_entries};
     ghost use Rattle.cdi_container.specs.History.{empty};
     ghost use Rattle.cdi_container.specs.Seen.{answer_of_put, IsStep, PutStep, RemoveStep, ChooseStep, NamedStep};
+    ghost use Rattle.cdi_container.specs.Seen.{ChainStep};
     ghost use Rattle.cdi_container.specs.Seen.{ReportStep};
 
     /// An empty container, which keeps this book of stored bodies. It keeps the allocator, and takes no memory yet.
@@ -96,6 +98,7 @@ impl<B: Bodies> Container<B> {
                 answer_of_choice(self.choose(bean_type, &quals))
             }
             Command::Named { name } => answer_of_choice(self.named(name)),
+            Command::Chain { bean, place } => answer_of_chain(self.chain(bean, &place)),
             Command::Report => answer_of_report(self.report()),
             Command::LookUp { bean_type, quals } => answer_of_run(self.lookup(bean_type, &quals)),
             Command::Call {
@@ -116,6 +119,7 @@ impl<B: Bodies> Container<B> {
 
     /// Puts the declaration that a TOML text spells in the place of the one of its kind and name, or at the end. No
     /// instance is live afterwards, and no request active (profile). It takes memory for the declaration and its place.
+    #[tactic(auto, using(crate::proofs::Putting::put_step))]
     pub fn put(&mut self, text: &[u8]) -> Result<(), Error>
         ensures answer { Answers result (answer_of_put self.old.decls (decl_of text.now)) }
         ensures ok { OnOk result (self.new ≡ with_put self.old (decl_of text.now)) }
@@ -175,6 +179,23 @@ impl<B: Bodies> Container<B> {
         let choice = self.deployment.named(self.alloc, name)?;
         self.run.restart();
         Ok(choice)
+    }
+
+    /// The names of the interceptors around a place of the bean of a class, in the order in which they are called
+    /// (Interceptors 2.1, Interceptor Ordering), whether the bean is enabled or not. It is refused with `UnknownName` where
+    /// no such bean is declared, and with `NoMethod` where it has no such place, as of a static producer method. It takes
+    /// memory for the bindings there, for the interceptors that are enabled and for the names.
+    pub fn chain(&mut self, bean: Name, place: &BeanPlace) -> Result<Seq<Name>, Error>
+        ensures answer { Answers result (chain_of self.old.decls bean place.now) }
+        ensures ok { OnOk result (self.new ≡ untold self.old) }
+        ensures err { IfErr result (λ error. self.new ≡ left_by error self.old) }
+        ensures step { ChainStep self.old bean place.now result self.new }
+    {
+        let told = self.deployment.chain(self.alloc, bean, place);
+        if !matches!(told, Err(Error::OutOfMemory)) {
+            self.run.restart();
+        }
+        told
     }
 
     /// All that is wrong with the present declarations (CDI 4.0, Problems detected automatically by the container), in

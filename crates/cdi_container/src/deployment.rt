@@ -7,6 +7,7 @@ ghost use Rattle.cdi_model.specs.Short.{HasShortLists};
 ghost use Rattle.cdi_model.specs.Work.{with_one};
 ghost use Rattle.cdi_effective.specs.Beans.{beans};
 ghost use Rattle.cdi_resolve.specs.Choices.{chosen, chosen_by_name};
+ghost use Rattle.cdi_intercept.specs.Chains.{chain_of};
 ghost use Rattle.cdi_staging.specs.Naming.{names_of};
 ghost use Rattle.cdi_staging.specs.Staged.{scene_of};
 ghost use Rattle.cdi_validate.specs.Faults.{faults};
@@ -18,7 +19,8 @@ use crate::wiring::{Wired, Wiring};
 use cdi_bodies::Bodies;
 use cdi_ending::Stage;
 use cdi_faults::Fault;
-use cdi_model::{Decl, Decls, Error, Kind, Name, Quals, Refusal, Work};
+use cdi_intercept::chain_of;
+use cdi_model::{BeanPlace, Decl, Decls, Error, Kind, Name, Quals, Refusal, Seq, Work};
 use cdi_observe::PlainView;
 use cdi_resolve::{BeanList, Choice, choose_name};
 use cdi_run::Player;
@@ -125,6 +127,18 @@ impl<B: Bodies> Deployment<B> {
         let choice = choose_name(alloc, list.as_slice(), name);
         self.beans = Some(list);
         choice
+    }
+
+    /// The names of the interceptors around a place.
+    pub(crate) fn chain(
+        &self,
+        alloc: Global,
+        bean: Name,
+        place: &BeanPlace,
+    ) -> Result<Seq<Name>, Error>
+        ensures { Answers result (chain_of self.now.decls bean place.now) }
+    {
+        chain_of(alloc, &self.decls, bean, place)
     }
 
     /// The faults.

@@ -1,10 +1,10 @@
 //! The text that steps print.
 ghost use Rattle.std.specs.Prelude.{◌≡◌, ◌++◌, OnOk, Ok};
-ghost use Rattle.cdi_container.specs.Text.{word_of, text_of_faults, text_of_report, words_of_outcome, words_of_answer, text_of_answer};
+ghost use Rattle.cdi_container.specs.Text.{word_of, text_of_chain, text_of_faults, text_of_names, text_of_report, words_of_outcome, words_of_answer, text_of_answer};
 
 use crate::answer::Answer;
 use cdi_faults::Fault;
-use cdi_model::{Outcome, Refusal};
+use cdi_model::{Name, Outcome, Refusal};
 use std::alloc::AllocError;
 use std::io::Write;
 
@@ -63,6 +63,25 @@ fn push_faults(text: &mut Vec<u8>, faults: &[Fault]) -> Result<(), AllocError>
     Ok(())
 }
 
+/// The interceptors around a place.
+fn push_chain(text: &mut Vec<u8>, names: &[Name]) -> Result<(), AllocError>
+    ensures { OnOk result (text.new.items ≡ text.old.items ++ text_of_chain names.now) }
+{
+    text.extend_from_slice(b"chain")?;
+    push_names(text, names)
+}
+
+/// Names, each behind a space.
+fn push_names(text: &mut Vec<u8>, names: &[Name]) -> Result<(), AllocError>
+    ensures { OnOk result (text.new.items ≡ text.old.items ++ text_of_names names.now) }
+{
+    for name in names {
+        text.push(b' ')?;
+        text.extend_from_slice(name.as_bytes())?;
+    }
+    Ok(())
+}
+
 /// A value, or why there is none.
 fn push_outcome(text: &mut Vec<u8>, outcome: &Outcome) -> Result<(), AllocError>
     ensures { OnOk result (text.new.items ≡ text.old.items ++ words_of_outcome outcome.now) }
@@ -79,6 +98,7 @@ fn push_words(text: &mut Vec<u8>, answer: &Answer) -> Result<(), AllocError>
     match answer {
         Answer::Done => text.extend_from_slice(b"ok"),
         Answer::Chosen(choice) => write!(text, "{choice}").map_err(|_| AllocError),
+        Answer::Intercepted(names) => push_chain(text, names.as_slice()),
         Answer::Reported(faults) => push_report(text, faults.as_slice()),
         Answer::Given(outcome) => push_outcome(text, outcome),
         Answer::Refused(refusal) => push_refusal(text, *refusal),

@@ -1,7 +1,7 @@
 //! Lists of declarations and of uses, and what a declaration names.
 use cdi_effective::reads_of;
 use cdi_fixtures::{declared, name, quals};
-use cdi_model::{Decl, DeclKey, Decls, Edit, Error, Kind, Mention, Name, Quals, Refusal};
+use cdi_model::{Decl, DeclKey, Decls, Edit, Error, Kind, Mention, Name, Quals, Refusal, UseKind};
 use cdi_text::read_decl;
 use std::alloc::Global;
 use std::fmt::Display;
@@ -116,7 +116,9 @@ fn push_param<T: Display, U: Display>(
 fn push_mention(text: &mut Vec<u8>, mention: &Mention<'_>) -> Result<(), Fail> {
     match mention {
         Mention::Type(_, name) => push_line(text, "type", name),
-        Mention::Use(qual) => push_line(text, "use", *qual),
+        Mention::Use(UseKind::Qualifier, qual) => push_line(text, "use", *qual),
+        Mention::Use(UseKind::Binding, qual) => push_line(text, "binding", *qual),
+        Mention::Method(method) => push_line(text, "method", &method.name),
         Mention::Stereotype(name) => push_line(text, "stereotype", name),
         Mention::Point(None, point) => push_line(text, "point", &point.name),
         Mention::Point(Some(producer), point) => push_param(text, producer, &point.name),

@@ -1,7 +1,8 @@
 //! Answers, and what they are to be.
+use crate::texts::are_names;
 use cdi_container::Choice;
 use cdi_fixtures::are_of;
-use cdi_model::{Error, Refusal};
+use cdi_model::{Error, Name, Refusal, Seq};
 
 /// What a call is to answer. Beans are given by the names of their classes, and faults by their texts, each on a line.
 #[derive(Clone, Copy)]
@@ -12,6 +13,8 @@ pub enum Answer {
     Unsatisfied,
     Ambiguous(&'static [&'static [u8]]),
     Faults(&'static [u8]),
+    /// The names of interceptors.
+    Around(&'static [&'static [u8]]),
 }
 
 /// What a call that was not refused answered.
@@ -21,6 +24,7 @@ pub enum Answered {
     Choice(Choice),
     /// The texts of faults, each on a line.
     Faults(Vec<u8>),
+    Names(Seq<Name>),
 }
 
 /// Whether a call answered what it is to answer.
@@ -38,6 +42,10 @@ fn is_answer(answered: &Answered, answer: Answer) -> bool {
     match answered {
         Answered::Nothing => matches!(answer, Answer::Done),
         Answered::Choice(choice) => is_choice(choice, answer),
+        Answered::Names(names) => match answer {
+            Answer::Around(wanted) => are_names(names.as_slice(), wanted),
+            _ => false,
+        },
         Answered::Faults(text) => match answer {
             Answer::Faults(wanted) => text.as_slice() == wanted,
             _ => false,

@@ -1,11 +1,11 @@
 //! Calls of a container, of which any one allocation may be refused.
 use crate::Difference;
 use crate::answers::{Answer, Answered, agrees};
-use Answer::{Ambiguous, Done, Faults, One, Refused, Unsatisfied};
-use Call::{Choose, Named, Put, Remove, Report};
+use Answer::{Ambiguous, Around, Done, Faults, One, Refused, Unsatisfied};
+use Call::{Chain, Choose, Named, Put, Remove, Report};
 use cdi_container::{Choice, Container};
 use cdi_fixtures::{Echo, lines_of, name, quals};
-use cdi_model::{Error, Kind, Refusal};
+use cdi_model::{BeanPlace, Error, Ident, Kind, Refusal};
 use std::alloc::{AllocError, Global};
 
 /// A call of a container. A type is chosen with uses of qualifiers.
@@ -15,6 +15,8 @@ enum Call {
     Remove(Kind, &'static [u8]),
     Choose(&'static [u8], &'static [&'static [u8]]),
     Named(&'static [u8]),
+    /// The interceptors around the constructor of a bean, or around the method of a name.
+    Chain(&'static [u8], Option<&'static [u8]>),
     Report,
 }
 
@@ -61,6 +63,33 @@ const OTHER_STEREOTYPE: &[u8] = b"kind=\"stereotype\"\nname=\"Action\"\nnamed=tr
 const ALTERNATIVE: &[u8] =
     b"kind=\"bean\"\nname=\"Stand\"\ntypes=[\"Stand\",\"Booth\"]\nstereotypes=[\"Mock\",\"Ghost\"]\npriority=-1\n";
 
+const BINDING: &[u8] =
+    b"kind=\"binding\"\nname=\"Log\"\nmembers=[{name=\"level\",default=0}]\n";
+
+const OTHER_BINDING: &[u8] =
+    b"kind=\"binding\"\nname=\"Trail\"\ndeclares=[\"Log(level=1)\"]\n";
+
+const FINAL_TYPE: &[u8] = b"kind=\"type\"\nname=\"Till\"\nfinal=true\n";
+
+const BOUND_BEAN: &[u8] = br#"kind="bean"
+name="Till"
+bindings=["Log","Trail"]
+methods=[{name="run",body="echo",bindings=["Log(level=1)"]}]
+"#;
+
+const INTERCEPTOR: &[u8] = br#"kind="interceptor"
+name="Scribe"
+priority=1
+bindings=["Log(level=1)"]
+around_invoke={body="echo"}
+"#;
+
+const BAD_INTERCEPTOR: &[u8] =
+    b"kind=\"interceptor\"\nname=\"Clerk\"\npre={body=\"nobody\"}\n";
+
+const CALLER: &[u8] =
+    b"kind=\"bean\"\nname=\"Desk\"\npoints=[{name=\"t\",type=\"Till\"}]\n";
+
 const BAD_POINTS: &[u8] = br#"kind="bean"
 name="Inn"
 named="mall.x"
@@ -79,6 +108,11 @@ F01 bean Stand stereotype Mock
 F01 bean Stand type Booth
 F01 bean Stand type Stand
 F04 bean Stand typed Booth
+F06 bean Till class
+F10 interceptor Clerk pre
+F11 interceptor Clerk
+F01 bean Desk type Desk
+F22 bean Desk point t
 F01 bean Inn type Beer
 F01 bean Inn type Inn
 F01 bean Inn type Rum
@@ -91,7 +125,7 @@ F25 name mall mall.x
 ";
 
 /// Calls, each with its answer.
-static CALLS: [(Call, Answer); 27] = [
+static CALLS: [(Call, Answer); 38] = [
     (Put(TYPE), Done),
     (Put(INTERFACE), Done),
     (Put(QUALIFIER), Done),
@@ -118,12 +152,23 @@ static CALLS: [(Call, Answer); 27] = [
     (Remove(Kind::Qualifier, b"Rank"), Done),
     // No default stands for `n`, and `m` counts.
     (Choose(OBJECT, RANKED), Unsatisfied),
+    (Put(BINDING), Done),
+    (Put(OTHER_BINDING), Done),
+    (Put(FINAL_TYPE), Done),
+    (Put(BOUND_BEAN), Done),
+    (Put(INTERCEPTOR), Done),
+    (Put(BAD_INTERCEPTOR), Done),
+    (Put(CALLER), Done),
+    (Chain(b"Till", Some(b"run")), Around(&[b"Scribe"])),
+    (Chain(b"Till", None), Around(&[])),
+    (Chain(b"Till", Some(b"stop")), Refused(Refusal::NoMethod)),
+    (Chain(b"Inn", None), Refused(Refusal::UnknownName)),
     (Put(BAD_POINTS), Done),
     (Report, Faults(FAULTS)),
 ];
 
 /// For each call, a look at the state before it, which changes nothing, with its answer.
-static LOOKS: [(Call, Answer); 27] = [
+static LOOKS: [(Call, Answer); 38] = [
     (Remove(Kind::Type, CORNER), Refused(Refusal::Absent)),
     (Remove(Kind::Type, SHOP), Refused(Refusal::Absent)),
     (Remove(Kind::Qualifier, b"Rank"), Refused(Refusal::Absent)),
@@ -152,6 +197,20 @@ static LOOKS: [(Call, Answer); 27] = [
     (Choose(MALL, PLAIN), One(MALL)),
     (Choose(OBJECT, RANKED), One(MALL)),
     (Choose(MALL, PLAIN), One(MALL)),
+    (Remove(Kind::Binding, b"Log"), Refused(Refusal::Absent)),
+    (Remove(Kind::Binding, b"Trail"), Refused(Refusal::Absent)),
+    (Remove(Kind::Type, b"Till"), Refused(Refusal::Absent)),
+    (Chain(b"Till", None), Refused(Refusal::UnknownName)),
+    (Chain(b"Till", Some(b"run")), Around(&[])),
+    (
+        Remove(Kind::Interceptor, b"Clerk"),
+        Refused(Refusal::Absent),
+    ),
+    (Choose(b"Desk", PLAIN), Unsatisfied),
+    (Choose(MALL, PLAIN), One(MALL)),
+    (Choose(MALL, PLAIN), One(MALL)),
+    (Choose(MALL, PLAIN), One(MALL)),
+    (Choose(MALL, PLAIN), One(MALL)),
     (Named(b"mall.x"), Unsatisfied),
     (Choose(MALL, PLAIN), One(MALL)),
 ];
@@ -163,8 +222,23 @@ fn make(alloc: Global, container: &mut Container<Echo>, call: Call) -> Result<An
         Remove(kind, text) => nothing(container.remove(kind, name(text)?)),
         Choose(text, uses) => choose(alloc, container, text, uses),
         Named(text) => chosen(container.named(name(text)?)),
+        Chain(text, method) => chain(container, text, method),
         Report => report(alloc, container),
     }
+}
+
+fn chain(
+    container: &mut Container<Echo>,
+    text: &[u8],
+    method: Option<&[u8]>,
+) -> Result<Answered, Error> {
+    let place = match method {
+        Some(method) => {
+            BeanPlace::Method(Ident::parse(method).ok_or(Error::Refused(Refusal::BadName))?)
+        }
+        None => BeanPlace::Construct,
+    };
+    Ok(Answered::Names(container.chain(name(text)?, &place)?))
 }
 
 fn nothing(outcome: Result<(), Error>) -> Result<Answered, Error> {

@@ -6,7 +6,7 @@ use crate::bean_questions::{BeanQuestion, Compared, Deployed, Recorded, Told};
 use crate::texts::{are_names, names};
 use cdi_fixtures::name;
 use cdi_match::{closure, extends_itself, fill_members, inherits_itself, is_type, stereotypes};
-use cdi_model::{Arguments, Decls, Error, Ident, Members, Qual, Refusal, Scope};
+use cdi_model::{Arguments, Decls, Error, Ident, Members, Qual, Refusal, Scope, UseKind};
 use cdi_text::read_qualifier;
 use std::alloc::Global;
 
@@ -234,7 +234,7 @@ fn fills(
     wanted: &[(&[u8], i64)],
 ) -> Result<bool, Error> {
     let qual = read_qualifier(alloc, text)?;
-    let members = fill_members(alloc, decls, &qual)?;
+    let members = fill_members(alloc, decls, UseKind::Qualifier, &qual)?;
     Ok(are_members(&members, wanted))
 }
 
