@@ -47,6 +47,7 @@ part_for places.Post i = i.post
 part_for places.Pre i = i.pre
 part_for (places.Method name) i = i.around_invoke
 part_for (places.Producer name) i = i.around_invoke
+part_for (places.Observer name) i = i.around_invoke
 
 -- one of some bindings covers this one
 abbrev pub covered_in : List Decl → List Qual → Qual → Bool

@@ -1,5 +1,5 @@
 -- The bindings at a place of a bean (Interceptors 2.1, Binding an Interceptor to a Class; Binding an Interceptor to a Method).
-use Rattle.std.specs.Prelude.{ℕ, Bool, true, not, ◌&&◌, List, [], ◌∷◌, ◌++◌, map, filter, Option, Some, None, is_some, option_map}
+use Rattle.std.specs.Prelude.{ℕ, Bool, true, false, not, ◌&&◌, List, [], ◌∷◌, ◌++◌, map, filter, Option, Some, None, is_some, option_map}
 use Rattle.std.specs.List.{find}
 use Rattle.std.specs.Str.{bytes_eq}
 use Rattle.cdi_model.specs.declared.decl.BeanDecl.{BeanDecl}
@@ -31,14 +31,16 @@ set_by ds class bean places.Post = class
 set_by ds class bean places.Pre = class
 set_by ds class bean (places.Method name) = around_method ds class (of_method bean name)
 set_by ds class bean (places.Producer name) = around_method ds class (of_producer bean name)
+set_by ds class bean (places.Observer name) = []
 
--- whether a bean has the place: each has a constructor and callbacks
+-- whether a bean has the place: each has a constructor and callbacks, and none has an observer method yet
 abbrev pub has_place : BeanDecl → BeanPlace → Bool
 has_place bean places.Construct = true
 has_place bean places.Post = true
 has_place bean places.Pre = true
 has_place bean (places.Method name) = is_some (of_method bean name)
 has_place bean (places.Producer name) = is_some (of_producer bean name)
+has_place bean (places.Observer name) = false
 
 -- the places with bindings of their own: the methods, and the producer methods that are not static
 abbrev pub own_places : BeanDecl → List BeanPlace

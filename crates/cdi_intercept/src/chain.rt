@@ -111,7 +111,9 @@ pub fn part_for<'a>(place: &BeanPlace, interceptor: &'a InterceptorDecl) -> &'a 
         BeanPlace::Construct => &interceptor.around_construct,
         BeanPlace::Post => &interceptor.post,
         BeanPlace::Pre => &interceptor.pre,
-        BeanPlace::Method(_) | BeanPlace::Producer(_) => &interceptor.around_invoke,
+        BeanPlace::Method(_) | BeanPlace::Producer(_) | BeanPlace::Observer(_) => {
+            &interceptor.around_invoke
+        }
     }
 }
 

@@ -28,6 +28,7 @@ pub fn set_by<'a>(
         BeanPlace::Construct | BeanPlace::Post | BeanPlace::Pre => lent(alloc, class),
         BeanPlace::Method(name) => around_method(alloc, decls, class, of_method(bean, *name)),
         BeanPlace::Producer(name) => around_method(alloc, decls, class, of_producer(bean, *name)),
+        BeanPlace::Observer(_) => Ok(Vec::new(alloc)),
     }
 }
 
@@ -74,7 +75,8 @@ fn push_set<'a>(
     Ok(())
 }
 
-/// Whether a bean has a place: each has a constructor and callbacks. It takes no memory.
+/// Whether a bean has a place: each has a constructor and callbacks, and none has an observer method yet. It takes no
+/// memory.
 pub fn has_place(bean: &BeanDecl, place: &BeanPlace) -> bool
     ensures { result ≡ has_place bean.now place.now }
 {
@@ -82,6 +84,7 @@ pub fn has_place(bean: &BeanDecl, place: &BeanPlace) -> bool
         BeanPlace::Construct | BeanPlace::Post | BeanPlace::Pre => true,
         BeanPlace::Method(name) => of_method(bean, *name).is_some(),
         BeanPlace::Producer(name) => of_producer(bean, *name).is_some(),
+        BeanPlace::Observer(_) => false,
     }
 }
 

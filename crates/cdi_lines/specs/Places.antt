@@ -13,11 +13,12 @@ place_alone word =
     else if bytes_eq word (codes "pre") then Some places.Pre
     else None
 
--- method NAME, producer NAME
+-- method NAME, producer NAME, observer NAME
 abbrev pub place_named : List ℕ → List ℕ → Option BeanPlace
 place_named word name =
     if bytes_eq word (codes "method") then option_map places.Method (ident_of name)
     else if bytes_eq word (codes "producer") then option_map places.Producer (ident_of name)
+    else if bytes_eq word (codes "observer") then option_map places.Observer (ident_of name)
     else None
 
 abbrev pub place_of : List (List ℕ) → Option BeanPlace

@@ -41,6 +41,8 @@ fn read_named(word: &[u8], name: &[u8]) -> Option<BeanPlace>
         Some(BeanPlace::Method(Ident::parse(name)?))
     } else if word == b"producer".as_slice() {
         Some(BeanPlace::Producer(Ident::parse(name)?))
+    } else if word == b"observer".as_slice() {
+        Some(BeanPlace::Observer(Ident::parse(name)?))
     } else {
         None
     }

@@ -10,3 +10,4 @@ text_of_place places.Post = codes "post"
 text_of_place places.Pre = codes "pre"
 text_of_place (places.Method name) = codes "method" ++ space ∷ name
 text_of_place (places.Producer name) = codes "producer" ++ space ∷ name
+text_of_place (places.Observer name) = codes "observer" ++ space ∷ name

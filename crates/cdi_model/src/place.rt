@@ -18,6 +18,8 @@ pub enum BeanPlace {
     Method(Ident),
     /// A producer method that is not static.
     Producer(Ident),
+    /// An observer method. No bean has one yet.
+    Observer(Ident),
 }
 
 impl fmt::Display for BeanPlace {
@@ -30,6 +32,7 @@ impl fmt::Display for BeanPlace {
             BeanPlace::Pre => write!(f, "pre"),
             BeanPlace::Method(name) => write!(f, "method {name}"),
             BeanPlace::Producer(name) => write!(f, "producer {name}"),
+            BeanPlace::Observer(name) => write!(f, "observer {name}"),
         }
     }
 }
