@@ -7,6 +7,8 @@ use Rattle.cdi_model.specs.DeclList.{find_decl}
 use Rattle.cdi_model.specs.declared.decl.BeanDecl.{BeanDecl}
 use Rattle.cdi_model.specs.declared.decl.Decl.{Decl}
 use Rattle.cdi_model.specs.declared.decl.Decl.TheVariants as decls
+use Rattle.cdi_model.specs.declared.decl.Form.{Form}
+use Rattle.cdi_model.specs.declared.decl.Form.TheVariants.{Class, Interface}
 use Rattle.cdi_model.specs.declared.decl.Kind.TheVariants as kinds
 use Rattle.cdi_model.specs.declared.decl.PointDecl.{PointDecl}
 use Rattle.cdi_model.specs.declared.decl.Scope.{Scope}
@@ -20,9 +22,13 @@ use Rattle.cdi_intercept.specs.Chains.{around_any}
 use Rattle.cdi_resolve.specs.declared.choice.Choice.{Choice}
 use Rattle.cdi_resolve.specs.declared.choice.Choice.TheVariants.{One}
 
+abbrev pub is_class : Form → Bool
+is_class Class = true
+is_class Interface = false
+
 -- a declared class that may have no subclass
 abbrev pub is_final_decl : Option Decl → Bool
-is_final_decl (Some (decls.Type d)) = d.is_final
+is_final_decl (Some (decls.Type d)) = is_class d.form && d.is_final
 is_final_decl other = false
 
 abbrev pub is_final : List Decl → List ℕ → Bool

@@ -8,7 +8,7 @@ ghost use Rattle.cdi_effective.specs.Beans.{records};
 
 use cdi_effective::{BeanId, Effective, records_of};
 use cdi_intercept::{around_any, in_order};
-use cdi_model::{BeanDecl, Decl, Decls, Ident, Kind, Name, PointDecl, Qual, Scope};
+use cdi_model::{BeanDecl, Decl, Decls, Form, Ident, Kind, Name, PointDecl, Qual, Scope};
 use cdi_resolve::Choice;
 use std::alloc::{AllocError, Global};
 
@@ -35,7 +35,7 @@ fn is_final(decls: &Decls, name: Name) -> bool
     ensures { result ≡ is_final decls.now name }
 {
     match decls.get(Kind::Type, name) {
-        Some(Decl::Type(decl)) => decl.is_final,
+        Some(Decl::Type(decl)) => matches!(decl.form, Form::Class) && decl.is_final,
         _ => false,
     }
 }
