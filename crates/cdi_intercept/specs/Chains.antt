@@ -73,6 +73,10 @@ surrounds_one ds sets i = list_any (λ z. surrounds ds z.1 z.0 i) sets
 unfoldable pub around_any : List Decl → List Qual → BeanDecl → List InterceptorDecl
 around_any ds class bean = filter (surrounds_one ds (sets_of ds class bean)) (in_order ds)
 
+-- one that is enabled stands around some place of a bean
+unfoldable pub stands_around : List Decl → InterceptorDecl → BeanDecl → Bool
+stands_around ds i bean = is_enabled i && surrounds_one ds (sets_of ds (class_bindings ds bean) bean) i
+
 -- what is told of a place of a bean: the names of those around it, where the bean is declared and has the place
 abbrev pub chain_told : List Decl → Option BeanDecl → BeanPlace → Result (List (List ℕ)) Refusal
 chain_told ds None place = Err refusals.UnknownName

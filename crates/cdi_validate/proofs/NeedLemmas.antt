@@ -1,6 +1,6 @@
 -- What beans need, as it is found: the dependent beans by their texts, and the edges between them.
 use Rattle.std.proofs.Common.{◌≡◌, ℕ, Bool, true, false, ◌||◌, cond, List, [], ◌∷◌, ◌++◌, map, filter, fold, length, take, drop, refl, sym}
-use Rattle.std.proofs.Common.{ap, ◌∙◌, subst, append_assoc, append-nil, Option, Ordering, Less, Equal, Greater}
+use Rattle.std.proofs.Common.{◌⊎◌, ⊎_elim, ap, ◌∙◌, subst, append_assoc, append-nil, Option, Ordering, Less, Equal, Greater}
 use Rattle.std.specs.BTreeMap.{insert_entry, is_at}
 use Rattle.std.specs.BTreeSet.{insert_key}
 use Rattle.std.specs.List.{AllByRecursion, flat_map}
@@ -19,6 +19,7 @@ use Rattle.cdi_model.specs.Bytes.{byte_order}
 use Rattle.cdi_model.specs.declared.decl.BeanDecl.{BeanDecl}
 use Rattle.cdi_model.specs.declared.decl.Decl.{Decl}
 use Rattle.cdi_model.specs.declared.decl.Decl.TheVariants as decls
+use Rattle.cdi_model.specs.declared.decl.InterceptorDecl.{InterceptorDecl}
 use Rattle.cdi_model.specs.declared.decl.PointDecl.{PointDecl}
 use Rattle.cdi_model.specs.declared.decl.ProducerDecl.{ProducerDecl}
 use Rattle.cdi_match.specs.Chain.{has}
@@ -30,12 +31,13 @@ use Rattle.cdi_effective.specs.Beans.{beans}
 use Rattle.cdi_effective.specs.BeanText.{text_of_id}
 use Rattle.cdi_effective.specs.declared.records.BeanId.{BeanId}
 use Rattle.cdi_effective.specs.declared.records.Effective.{Effective}
+use Rattle.cdi_intercept.specs.Chains.{is_enabled, stands_around}
 use Rattle.cdi_resolve.specs.declared.choice.Choice.{Choice}
 use Rattle.cdi_observe.specs.Answers.{answer_to}
 use Rattle.cdi_observe.specs.Wanted.{points_of}
 use Rattle.cdi_validate.specs.Circles.{Need, between, chosen_for, chosen_one, circular, declaring, dependents, dependents_by_text}
-use Rattle.cdi_validate.specs.Circles.{is_dependent, managed_id, need_of_managed, need_of_product, needed_by, needs_in, needs_itself}
-use Rattle.cdi_validate.specs.Circles.{with_dependent}
+use Rattle.cdi_validate.specs.Circles.{is_dependent, managed_id, need_around, need_of_managed, need_of_product, needed_by, needs_in}
+use Rattle.cdi_validate.specs.Circles.{needs_itself, with_dependent}
 use Rattle.cdi_validate.specs.Needed.{need_by, needs_by, needs_of_products, AddsNeeds}
 
 abbrev Entries : Type 0
@@ -164,6 +166,40 @@ between-none nodes x = by (has nodes x)
     by true = refl
     by false = refl
 
+-- an interceptor that is not enabled, or that needs none of some beans, adds no edge between them
+none-around : (ds : List Decl) (nodes : List (List ℕ)) (i : InterceptorDecl) (chosen : List (List ℕ)) (x : List ℕ)
+    → (is_enabled i ≡ false) ⊎ (filter (has nodes) chosen ≡ [])
+    → (others : List Decl) → between nodes (flat_map (need_around ds i chosen) others) x ≡ []
+unfolding stands_around
+none-around ds nodes i chosen x out [] = between-none nodes x
+none-around ds nodes i chosen x out (other ∷ others) =
+    between-append nodes (need_around ds i chosen other) (flat_map (need_around ds i chosen) others) x
+    ∙ ap (λ ys. ys ++ between nodes (flat_map (need_around ds i chosen) others) x) (by other)
+    ∙ none-around ds nodes i chosen x out others
+  where
+    left : (a b : Bool) → filter (has nodes) chosen ≡ [] → cond a (filter (has nodes) (cond b chosen [] ++ [])) [] ≡ []
+    left true true none = ap (filter (has nodes)) (append-nil chosen) ∙ none
+    left true false none = refl
+    left false b none = refl
+
+    around : (t : Bool) (text : List ℕ) → filter (has nodes) chosen ≡ [] → between nodes (cond t ((text, chosen) ∷ []) []) x ≡ []
+    around true text none = left (has nodes x) (bytes_eq text x) none
+    around false text none = between-none nodes x
+
+    by : (d : Decl) → between nodes (need_around ds i chosen d) x ≡ []
+    by (decls.Type d) = between-none nodes x
+    by (decls.Qualifier d) = between-none nodes x
+    by (decls.Stereotype d) = between-none nodes x
+    by (decls.Binding d) = between-none nodes x
+    by (decls.Interceptor d) = between-none nodes x
+    by (decls.Bean d) = ⊎_elim (λ off. rw off (between-none nodes x)) (around (stands_around ds i d) (text_of_id (managed_id d))) out
+
+-- so the edges stay as they were
+pub adds-none-around : (ds : List Decl) (nodes : List (List ℕ)) (i : InterceptorDecl) (chosen : List (List ℕ)) (edges : Edges)
+    → (is_enabled i ≡ false) ⊎ (filter (has nodes) chosen ≡ []) → AddsNeeds nodes (flat_map (need_around ds i chosen) ds) edges edges
+adds-none-around ds nodes i chosen edges out x =
+    sym (append-nil (next_in edges x)) ∙ ap (λ ys. next_in edges x ++ ys) (sym (none-around ds nodes i chosen x out ds))
+
 -- those of some needs, and then those of more
 pub adds_more : (nodes : List (List ℕ)) (old new : Edges) (some more : List Need) → AddsNeeds nodes some old new
     → (x : List ℕ) → next_in new x ++ between nodes more x ≡ next_in old x ++ between nodes (some ++ more) x
@@ -202,18 +238,20 @@ need_added nodes old new node needed items among are entries x = entries x ∙ b
 
 -- ---- needs by answers
 
--- the answers to some points stand in front of those to others
+-- the answers to some points choose what is chosen for them
+chosen_by_answers : (ds : List Decl) (points : List PointDecl)
+    → flat_map chosen_one (map (answer_to ds) points) ≡ chosen_for ds points
+chosen_by_answers ds [] = refl
+chosen_by_answers ds (p ∷ ps) = ap (λ xs. chosen_one (answer_to ds p) ++ xs) (chosen_by_answers ds ps)
+
+-- they stand in front of those to others
 chosen_in_front : (ds : List Decl) (points others : List PointDecl)
     → flat_map chosen_one (take (length points) (map (answer_to ds) (points ++ others))) ≡ chosen_for ds points
 chosen_in_front ds points others =
     ap (λ cs. flat_map chosen_one (take (length points) cs)) (map-append (answer_to ds) points others)
     ∙ ap (flat_map chosen_one) (take_at (map (answer_to ds) points) (map (answer_to ds) others) (length points)
     (length-map points (answer_to ds)))
-    ∙ each points
-  where
-    each : (ps : List PointDecl) → flat_map chosen_one (map (answer_to ds) ps) ≡ chosen_for ds ps
-    each [] = refl
-    each (p ∷ ps) = ap (λ xs. chosen_one (answer_to ds p) ++ xs) (each ps)
+    ∙ chosen_by_answers ds points
 
 others_behind : (ds : List Decl) (points others : List PointDecl)
     → drop (length points) (map (answer_to ds) (points ++ others)) ≡ map (answer_to ds) others
@@ -234,12 +272,12 @@ needs_of_each ds d (p ∷ ps) =
     ∙ ap (λ ns. need_of_product ds d p ∷ ns) (needs_of_each ds d ps)
 
 -- by the answers to its points the beans of a declaration need what they need
-pub needs_by_answers : (ds : List Decl) (d : Decl) → needs_by d (map (answer_to ds) (points_of d)) ≡ needs_in ds d
+pub needs_by_answers : (ds : List Decl) (d : Decl) → needs_by ds d (map (answer_to ds) (points_of d)) ≡ needs_in ds d
 needs_by_answers ds (decls.Type d) = refl
 needs_by_answers ds (decls.Qualifier d) = refl
 needs_by_answers ds (decls.Stereotype d) = refl
 needs_by_answers ds (decls.Binding d) = refl
-needs_by_answers ds (decls.Interceptor d) = refl
+needs_by_answers ds (decls.Interceptor i) = ap (λ xs. flat_map (need_around ds i xs) ds) (chosen_by_answers ds i.points)
 needs_by_answers ds (decls.Bean d) =
     let others = flat_map (λ p. p.params) d.producers in
     ap (λ xs. (text_of_id (managed_id d), xs)

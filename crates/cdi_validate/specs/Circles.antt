@@ -9,6 +9,7 @@ use Rattle.cdi_model.specs.Bytes.{byte_order}
 use Rattle.cdi_model.specs.declared.decl.BeanDecl.{BeanDecl}
 use Rattle.cdi_model.specs.declared.decl.Decl.{Decl}
 use Rattle.cdi_model.specs.declared.decl.Decl.TheVariants as decls
+use Rattle.cdi_model.specs.declared.decl.InterceptorDecl.{InterceptorDecl}
 use Rattle.cdi_model.specs.declared.decl.PointDecl.{PointDecl}
 use Rattle.cdi_model.specs.declared.decl.ProducerDecl.{ProducerDecl}
 use Rattle.cdi_model.specs.declared.decl.Scope.{Scope}
@@ -18,6 +19,7 @@ use Rattle.cdi_effective.specs.Beans.{beans}
 use Rattle.cdi_effective.specs.BeanText.{text_of_id}
 use Rattle.cdi_effective.specs.declared.records.BeanId.{BeanId}
 use Rattle.cdi_effective.specs.declared.records.Effective.{Effective}
+use Rattle.cdi_intercept.specs.Chains.{stands_around}
 use Rattle.cdi_resolve.specs.declared.choice.Choice.{Choice}
 use Rattle.cdi_resolve.specs.declared.choice.Choice.TheVariants.{One}
 use Rattle.cdi_observe.specs.Answers.{answer_to}
@@ -67,8 +69,14 @@ declaring d p = if p.is_static then None else Some (managed_id d)
 abbrev pub need_of_product : List Decl → BeanDecl → ProducerDecl → Need
 need_of_product ds d p = (text_of_id (product_id d p), map text_of_id (option_to_list (declaring d p)) ++ chosen_for ds p.params)
 
+-- a managed bean needs these, which are chosen for the points of an interceptor, where that stands around a place of it
+abbrev pub need_around : List Decl → InterceptorDecl → List (List ℕ) → Decl → List Need
+need_around ds i chosen (decls.Bean d) = if stands_around ds i d then (text_of_id (managed_id d), chosen) ∷ [] else []
+need_around ds i chosen d = []
+
 abbrev pub needs_in : List Decl → Decl → List Need
 needs_in ds (decls.Bean d) = need_of_managed ds d ∷ map (need_of_product ds d) d.producers
+needs_in ds (decls.Interceptor i) = flat_map (need_around ds i (chosen_for ds i.points)) ds
 needs_in ds d = []
 
 abbrev pub needs : List Decl → List Need

@@ -10,7 +10,7 @@ use Rattle.cdi_effective.specs.BeanText.{text_of_id}
 use Rattle.cdi_effective.specs.declared.records.BeanId.{BeanId}
 use Rattle.cdi_resolve.specs.declared.choice.Choice.{Choice}
 use Rattle.cdi_circles.specs.Edges.{Edges, next_in}
-use Rattle.cdi_validate.specs.Circles.{Need, between, chosen_one, declaring, managed_id, product_id}
+use Rattle.cdi_validate.specs.Circles.{Need, between, chosen_one, declaring, managed_id, need_around, product_id}
 
 -- a bean that is made first, and those that are chosen
 abbrev pub needed_first : Option BeanId → List Choice → List (List ℕ)
@@ -27,10 +27,15 @@ needs_of_products d (p ∷ ps) choices =
     need_by (product_id d p) (declaring d p) (take (length p.params) choices) ∷ needs_of_products d ps (drop (length p.params) choices)
 
 -- those of each bean of a declaration: the choices of the bean's own points stand in front
-abbrev pub needs_by : Decl → List Choice → List Need
-needs_by (decls.Bean d) choices =
+abbrev pub needs_of_bean : BeanDecl → List Choice → List Need
+needs_of_bean d choices =
     need_by (managed_id d) None (take (length d.points) choices) ∷ needs_of_products d d.producers (drop (length d.points) choices)
-needs_by d choices = []
+
+-- those that a declaration gives to beans: an interceptor gives its own to each around which it stands
+abbrev pub needs_by : List Decl → Decl → List Choice → List Need
+needs_by ds (decls.Bean d) choices = needs_of_bean d choices
+needs_by ds (decls.Interceptor i) choices = flat_map (need_around ds i (flat_map chosen_one choices)) ds
+needs_by ds d choices = []
 
 -- the edges between some beans that these needs are come behind those that were there
 abbrev pub AddsNeeds : List (List ℕ) → List Need → Edges → Edges → Type 0

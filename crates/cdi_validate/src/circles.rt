@@ -6,18 +6,20 @@ ghost use Rattle.cdi_circles.specs.Edges.{is_on_circle, next_in};
 ghost use Rattle.cdi_effective.specs.Beans.{beans};
 ghost use Rattle.cdi_effective.specs.BeanText.{text_of_id};
 ghost use Rattle.cdi_match.specs.Chain.{has};
+ghost use Rattle.cdi_model.specs.declared.decl.Decl.TheVariants as declared;
 ghost use Rattle.cdi_observe.specs.Answers.{answers as all_answers};
 ghost use Rattle.cdi_observe.specs.Wanted.{points_of};
-ghost use Rattle.cdi_validate.specs.Circles.{between, chosen_one, declaring, dependents_by_text, is_dependent, managed_id, needs, product_id};
-ghost use Rattle.cdi_validate.specs.Circles.{with_dependent};
+ghost use Rattle.cdi_validate.specs.Circles.{between, chosen_one, declaring, dependents_by_text, is_dependent, managed_id};
+ghost use Rattle.cdi_validate.specs.Circles.{need_around, needs, product_id, with_dependent};
 ghost use Rattle.cdi_validate.specs.Faults.{circle, circles};
-ghost use Rattle.cdi_validate.specs.Needed.{need_by, needed_first, needs_by, AddsNeeds};
+ghost use Rattle.cdi_validate.specs.Needed.{need_by, needed_first, needs_by, needs_of_bean, AddsNeeds};
 
 use crate::records::records_of;
 use cdi_circles::{Node, reaches_itself};
 use cdi_effective::{BeanId, Effective};
 use cdi_faults::Fault;
-use cdi_model::{BeanDecl, Decl, Decls, ProducerDecl, Scope};
+use cdi_intercept::stands_around;
+use cdi_model::{BeanDecl, Decl, Decls, InterceptorDecl, ProducerDecl, Scope};
 use cdi_observe::View;
 use cdi_resolve::Choice;
 use std::alloc::{AllocError, Global};
@@ -123,26 +125,45 @@ fn edges_between(
 {
     let mut edges = BTreeMap::new(alloc);
     for (decl, own) in decls.iter().zip(answers) {
-        add_needs(alloc, dependents, decl, own.as_slice(), &mut edges)?;
+        add_needs(alloc, dependents, decls, decl, own.as_slice(), &mut edges)?;
     }
     Ok(edges)
 }
 
-/// Adds what the beans of a declaration need, by the answers to its injection points.
+/// Adds what beans need by a declaration, which has these answers to its injection points.
 fn add_needs(
     alloc: Global,
     dependents: &BTreeMap<Node, BeanId>,
+    decls: &Decls,
     decl: &Decl,
     answers: &[Rc<Choice>],
     edges: &mut BTreeMap<Node, Vec<Node>>,
 ) -> Result<(), AllocError>
     requires { length answers.now ≡ length (points_of decl.now) }
-    ensures { OnOk result (AddsNeeds (keys dependents.now) (needs_by decl.now (map (λ answer. answer.value) answers.now))
+    ensures { OnOk result (AddsNeeds (keys dependents.now)
+        (needs_by decls.now decl.now (map (λ answer. answer.value) answers.now)) edges.old edges.new) }
+{
+    match decl {
+        Decl::Bean(bean) => add_needs_of(alloc, dependents, bean, answers, edges),
+        Decl::Interceptor(interceptor) => {
+            add_needs_around(alloc, dependents, decls, interceptor, answers, edges)
+        }
+        _ => Ok(()),
+    }
+}
+
+/// Adds what a managed bean and its products need, by the answers to their injection points.
+fn add_needs_of(
+    alloc: Global,
+    dependents: &BTreeMap<Node, BeanId>,
+    bean: &BeanDecl,
+    answers: &[Rc<Choice>],
+    edges: &mut BTreeMap<Node, Vec<Node>>,
+) -> Result<(), AllocError>
+    requires { length answers.now ≡ length (points_of (declared.Bean bean.now)) }
+    ensures { OnOk result (AddsNeeds (keys dependents.now) (needs_of_bean bean.now (map (λ answer. answer.value) answers.now))
         edges.old edges.new) }
 {
-    let Decl::Bean(bean) = decl else {
-        return Ok(());
-    };
     let (own, mut rest) = answers.split_at(bean.points.len());
     add_need(alloc, dependents, managed_id(bean), None, own, edges)?;
     for producer in bean.producers.as_slice() {
@@ -152,6 +173,61 @@ fn add_needs(
         rest = others;
     }
     Ok(())
+}
+
+/// Adds what each managed bean needs for an interceptor that stands around a place of it, by the answers to the
+/// interceptor's injection points.
+fn add_needs_around(
+    alloc: Global,
+    dependents: &BTreeMap<Node, BeanId>,
+    decls: &Decls,
+    interceptor: &InterceptorDecl,
+    answers: &[Rc<Choice>],
+    edges: &mut BTreeMap<Node, Vec<Node>>,
+) -> Result<(), AllocError>
+    ensures { OnOk result (AddsNeeds (keys dependents.now) (flat_map (need_around decls.now interceptor.now
+        (flat_map chosen_one (map (λ answer. answer.value) answers.now))) decls.now) edges.old edges.new) }
+{
+    if interceptor.priority.is_none() {
+        return Ok(());
+    }
+    let mut chosen = Vec::new(alloc);
+    push_chosen(alloc, dependents, answers, &mut chosen)?;
+    if chosen.is_empty() {
+        return Ok(());
+    }
+    for decl in decls.iter() {
+        add_need_around(alloc, dependents, decls, interceptor, decl, answers, edges)?;
+    }
+    Ok(())
+}
+
+/// Adds what the managed bean of a declaration needs for an interceptor, if it has one that is dependent, and the
+/// interceptor stands around a place of it.
+fn add_need_around(
+    alloc: Global,
+    dependents: &BTreeMap<Node, BeanId>,
+    decls: &Decls,
+    interceptor: &InterceptorDecl,
+    decl: &Decl,
+    answers: &[Rc<Choice>],
+    edges: &mut BTreeMap<Node, Vec<Node>>,
+) -> Result<(), AllocError>
+    ensures { OnOk result (AddsNeeds (keys dependents.now) (need_around decls.now interceptor.now
+        (flat_map chosen_one (map (λ answer. answer.value) answers.now)) decl.now) edges.old edges.new) }
+{
+    let Decl::Bean(bean) = decl else {
+        return Ok(());
+    };
+    let id = managed_id(bean);
+    let node = node_of(alloc, id)?;
+    if !is_among(dependents, &node) {
+        return Ok(());
+    }
+    if !stands_around(alloc, decls, interceptor, bean)? {
+        return Ok(());
+    }
+    add_need(alloc, dependents, id, None, answers, edges)
 }
 
 fn managed_id(bean: &BeanDecl) -> BeanId

@@ -41,7 +41,7 @@ loop-decl-preserved c =
     let own : map (λ answer. answer.value) c.as_slice.result.now ≡ answers_of ds d =
     ap (map (λ answer. answer.value)) c.as_slice.ensures.value ∙ first.0 in
     let added : AddsNeeds nodes (needs_in ds d) before c.add_needs.new.edges = λ x.
-    c.in_ok-add_needs.ensures x ∙ ap (λ cs. next_in before x ++ between nodes (needs_by d cs) x) own
+    c.in_ok-add_needs.ensures x ∙ ap (λ cs. next_in before x ++ between nodes (needs_by ds d cs) x) own
     ∙ ap (λ needs. next_in before x ++ between nodes needs x) (needs_by_answers ds d) in
     record {
       answers = first.1;

@@ -4,12 +4,11 @@ use Rattle.std.specs.BTreeMap.{keys}
 use Rattle.std.specs.List.{flat_map}
 use Rattle.std.proofs.lemmas.List.{at_drop_more, drop_all, drop-map, length-append, take-map}
 use Rattle.cdi_circles.specs.Edges.{next_in}
-use Rattle.cdi_observe.specs.Wanted.{points_of}
 use Rattle.cdi_resolve.specs.declared.choice.Choice.{Choice}
 use Rattle.cdi_validate.specs.Circles.{between, managed_id, declaring, product_id}
-use Rattle.cdi_validate.specs.Needed.{needs_by, needs_of_products}
+use Rattle.cdi_validate.specs.Needed.{needs_of_products}
 use Rattle.cdi_validate.proofs.NeedLemmas.{adds_first, between-none}
-use Rattle.cdi_validate.proofs.circles.add_needs.Goals as goal
+use Rattle.cdi_validate.proofs.circles.add_needs_of.Goals as goal
 
 -- the choices in front and behind are those of the answers there
 front_choices : {A : Type 0} (value : A → Choice) (answers front : List A) (n m : ℕ) → front ≡ take n answers → n ≡ m
@@ -22,10 +21,10 @@ back_choices value answers back n m is same = ap (map value) is ∙ sym (drop-ma
 
 pub loop-producer-init : goal.loop-producer-init
 loop-producer-init c =
-    let bean = c.in-Bean.bean in
+    let bean = c.args.bean.now in
     let nodes = keys c.args.dependents.now in
     let params = flat_map (λ p. p.params) bean.producers in
-    let all : length c.args.answers.now ≡ length (bean.points ++ params) = c.requires ∙ ap (λ d. length (points_of d)) c.in-Bean.is in
+    let all : length c.args.answers.now ≡ length (bean.points ++ params) = c.requires in
     record {
       answered = omega (arith, all, length-append bean.points params, c.split_at.ensures.back_len, c.len.ensures);
       edges = λ x. adds_first nodes c.args.edges.now c.add_need.new.edges c.managed_id.result (managed_id bean) None None _ _ _ _
@@ -34,14 +33,12 @@ loop-producer-init c =
           c.split_at.ensures.front c.len.ensures)
           (back_choices (λ a. a.value) c.args.answers.now c.split_at.result.1.now c.len.result (length bean.points)
           c.split_at.ensures.back c.len.ensures)
-          c.in_ok-add_need.ensures x
-          ∙ ap (λ d. next_in c.args.edges.now x ++ between nodes (needs_by d (map (λ a. a.value) c.args.answers.now)) x)
-          (sym c.in-Bean.is);
+          c.in_ok-add_need.ensures x;
     }
 
 pub loop-producer-preserved : goal.loop-producer-preserved
 loop-producer-preserved c =
-    let bean = c.in-Bean.bean in
+    let bean = c.args.bean.now in
     let p = c.producer-item.result in
     let i = c.loop-producer.producer-index in
     let nodes = keys c.args.dependents.now in
@@ -76,7 +73,7 @@ loop-producer-preserved c =
 
 pub returns : goal.returns
 returns c = λ x.
-    let bean = c.in-Bean.bean in
+    let bean = c.args.bean.now in
     let nodes = keys c.args.dependents.now in
     let choices = map (λ a. a.value) c.loop-producer.rest.now in
     let now = next_in c.loop-producer.edges x in
