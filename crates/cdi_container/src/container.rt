@@ -12,8 +12,8 @@ ghost use Rattle.cdi_container.specs.Wired.{behind_edit};
 ghost use Rattle.cdi_container.specs.History.{History, left_by, untold, with_edit, with_put, RestsOnAcceptedEdits, SharesInstances};
 
 use crate::answer::{
-    Answer, answer_of_begin, answer_of_chain, answer_of_choice, answer_of_edit, answer_of_report, answer_of_run,
-    answer_of_stop,
+    Answer, answer_of_begin, answer_of_chain, answer_of_choice, answer_of_edit, answer_of_report,
+    answer_of_run, answer_of_stop,
 };
 use crate::deployment::Deployment;
 use cdi_bodies::Bodies;

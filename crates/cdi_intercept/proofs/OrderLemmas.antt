@@ -65,9 +65,10 @@ module _ {X : Type 0} (lt : X → X → Bool) (o : IsStrictWeakOrder lt) where
 
   rises : (xs : List X) → IsSortedBy lt xs → Rises xs
   rises [] s = tt
-  rises (x ∷ xs) s =
-      (from-index x xs (λ k d less. sorted_far lt o (x ∷ xs) s zero (suc k) d (omega arith) (omega (arith, less))),
-      rises xs (λ k d low less. simp unary_clauses (simp unary_clauses at s (suc k) d (omega arith) (omega (arith, less)))))
+  rises (x ∷ xs) s = (
+    from-index x xs (λ k d less. sorted_far lt o (x ∷ xs) s zero (suc k) d (omega arith) (omega (arith, less))),
+    rises xs (λ k d low less. simp unary_clauses (simp unary_clauses at s (suc k) d (omega arith) (omega (arith, less)))),
+  )
 
   -- ---- one by one
 
@@ -142,11 +143,11 @@ module _ {X : Type 0} (lt : X → X → Bool) (o : IsStrictWeakOrder lt) where
       let yz : lt y z ≡ false = head-of y z zs (filter (ties lt y) ys) rz.0 (sym (same y) ∙ own y ys) in
       let zy : lt z y ≡ false = head-of z y ys (filter (ties lt z) zs) ry.0 (same z ∙ own z zs) in
       let heads : y ∷ filter (ties lt y) ys ≡ z ∷ filter (ties lt y) zs =
-          sym (own y ys) ∙ same y ∙ ap (λ (b : Bool). cond b (z ∷ filter (ties lt y) zs) (filter (ties lt y) zs)) (not-both (lt y z) (lt z y) yz zy) in
+      sym (own y ys) ∙ same y ∙ ap (λ (b : Bool). cond b (z ∷ filter (ties lt y) zs) (filter (ties lt y) zs)) (not-both (lt y z) (lt z y) yz zy) in
       let eq : y ≡ z = ap (first-or y) heads in
       let tails : ys ≡ zs = unique ys zs ry.1 rz.1 (λ x.
-          peeled (ties lt x y) y (filter (ties lt x) ys) (filter (ties lt x) zs)
-          (same x ∙ ap (λ (w : X). cond (ties lt x w) (w ∷ filter (ties lt x) zs) (filter (ties lt x) zs)) (sym eq))) in
+      peeled (ties lt x y) y (filter (ties lt x) ys) (filter (ties lt x) zs)
+      (same x ∙ ap (λ (w : X). cond (ties lt x w) (w ∷ filter (ties lt x) zs) (filter (ties lt x) zs)) (sym eq))) in
       ap (λ (w : X). w ∷ ys) eq ∙ ap (λ (r : List X). z ∷ r) tails
 
 pub sorted_from_sort : {X : Type 0} (lt : X → X → Bool) → IsStrictWeakOrder lt → (xs ys : List X) → IsSortedBy lt ys → IsStableBy lt xs ys

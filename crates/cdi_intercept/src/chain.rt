@@ -14,10 +14,7 @@ use std::alloc::{AllocError, Global};
 
 /// The interceptors that are enabled by their priorities, from the least on, and those of one priority in the order of
 /// their declarations. It takes memory for the list, and for sorting it where there are more than 20.
-pub fn in_order<'a>(
-    alloc: Global,
-    decls: &'a Decls,
-) -> Result<Vec<&'a InterceptorDecl>, AllocError>
+pub fn in_order<'a>(alloc: Global, decls: &'a Decls) -> Result<Vec<&'a InterceptorDecl>, AllocError>
     ensures { IfOk result (λ list. lent_in list.items ≡ in_order decls.now) }
 {
     let mut list = enabled(alloc, decls)?;
@@ -104,7 +101,11 @@ pub fn stands_around(
 }
 
 /// Whether an interceptor stands around one of some places, each with the bindings there.
-fn surrounds_one(decls: &Decls, sets: &[(BeanPlace, Vec<&Qual>)], interceptor: &InterceptorDecl) -> bool
+fn surrounds_one(
+    decls: &Decls,
+    sets: &[(BeanPlace, Vec<&Qual>)],
+    interceptor: &InterceptorDecl,
+) -> bool
     ensures { result ≡ surrounds_one decls.now (map uses_at sets.now) interceptor.now }
 {
     for (place, set) in sets {
@@ -117,7 +118,12 @@ fn surrounds_one(decls: &Decls, sets: &[(BeanPlace, Vec<&Qual>)], interceptor: &
 
 /// Whether an interceptor stands around a place with these bindings, where it is enabled: it has a body for the place, and
 /// declares bindings of which each is covered by one of these. It takes no memory.
-pub fn surrounds(decls: &Decls, set: &[&Qual], place: &BeanPlace, interceptor: &InterceptorDecl) -> bool
+pub fn surrounds(
+    decls: &Decls,
+    set: &[&Qual],
+    place: &BeanPlace,
+    interceptor: &InterceptorDecl,
+) -> bool
     ensures { result ≡ surrounds decls.now (uses_in set.now) place.now interceptor.now }
 {
     part_for(place, interceptor).is_some() && binds(decls, set, interceptor)

@@ -24,7 +24,12 @@ pub fn has_conflict(alloc: Global, decls: &Decls, set: &[&Qual]) -> Result<bool,
 }
 
 /// Whether one of some bindings is of the type of this one, and not alike.
-fn is_opposed(alloc: Global, decls: &Decls, binding: &Qual, set: &[&Qual]) -> Result<bool, AllocError>
+fn is_opposed(
+    alloc: Global,
+    decls: &Decls,
+    binding: &Qual,
+    set: &[&Qual],
+) -> Result<bool, AllocError>
     ensures { IfOk result (λ is. is ≡ list_any (are_opposed decls.now binding.now) (uses_in set.now)) }
 {
     for other in set {

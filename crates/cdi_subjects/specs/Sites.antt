@@ -99,10 +99,10 @@ lost_in_producer ds own params p = lost_calls ds (seen_by p own params) (places.
 abbrev pub lost_around : List Decl → Sight → InterceptorDecl → List Subject
 lost_around ds sight d =
     if is_enabled d then
-        lost_in_part ds sight places.AroundInvoke d.around_invoke
-        ++ lost_in_part ds sight places.AroundConstruct d.around_construct
-        ++ lost_in_part ds sight places.Post d.post
-        ++ lost_in_part ds sight places.Pre d.pre
+    lost_in_part ds sight places.AroundInvoke d.around_invoke
+    ++ lost_in_part ds sight places.AroundConstruct d.around_construct
+    ++ lost_in_part ds sight places.Post d.post
+    ++ lost_in_part ds sight places.Pre d.pre
     else []
 
 -- where the bean is enabled

@@ -7,7 +7,9 @@ ghost use Rattle.cdi_subjects.specs.Parts.{unfit_parts, unfit_producers};
 
 use cdi_bodies::{Bodies, Promise};
 use cdi_faults::{PartPlace, Subject};
-use cdi_model::{BeanDecl, Decl, DisposerDecl, Ident, InterceptorDecl, MethodDecl, PartDecl, ProducerDecl};
+use cdi_model::{
+    BeanDecl, Decl, DisposerDecl, Ident, InterceptorDecl, MethodDecl, PartDecl, ProducerDecl,
+};
 use std::alloc::{AllocError, Global};
 
 /// The parts of a declaration whose bodies are not in a book, or promise more than is allowed in their places.
@@ -50,12 +52,36 @@ fn push_around<B: Bodies>(
     ensures { OnOk result (subjects.new.items ≡ subjects.old.items ++ unfit_around (B.promises book.now) interceptor.now) }
 {
     let place = PartPlace::AroundInvoke;
-    push_of_part(book, Promise::AROUND, place, &interceptor.around_invoke, subjects)?;
+    push_of_part(
+        book,
+        Promise::AROUND,
+        place,
+        &interceptor.around_invoke,
+        subjects,
+    )?;
     let place = PartPlace::AroundConstruct;
-    push_of_part(book, Promise::AROUND, place, &interceptor.around_construct, subjects)?;
-    push_of_part(book, Promise::AROUND, PartPlace::Post, &interceptor.post, subjects)?;
+    push_of_part(
+        book,
+        Promise::AROUND,
+        place,
+        &interceptor.around_construct,
+        subjects,
+    )?;
+    push_of_part(
+        book,
+        Promise::AROUND,
+        PartPlace::Post,
+        &interceptor.post,
+        subjects,
+    )?;
     let place = PartPlace::Pre;
-    push_of_part(book, Promise::AROUND_DESTRUCTION, place, &interceptor.pre, subjects)
+    push_of_part(
+        book,
+        Promise::AROUND_DESTRUCTION,
+        place,
+        &interceptor.pre,
+        subjects,
+    )
 }
 
 /// Appends those of the constructor and the lifecycle callbacks.

@@ -57,7 +57,15 @@ pub(crate) fn points_at_fault(
 {
     let mut subjects = Vec::new(alloc);
     match decl {
-        Decl::Bean(bean) => push_of_bean(alloc, decls, bean, beans, answers, verdict, &mut subjects)?,
+        Decl::Bean(bean) => push_of_bean(
+            alloc,
+            decls,
+            bean,
+            beans,
+            answers,
+            verdict,
+            &mut subjects,
+        )?,
         Decl::Interceptor(interceptor) if interceptor.priority.is_some() => {
             let points = interceptor.points.as_slice();
             push_among(alloc, decls, &None, points, answers, verdict, &mut subjects)?;
@@ -112,7 +120,15 @@ fn push_at_fault(
     if !bean.is_enabled {
         return Ok(());
     }
-    push_among(alloc, decls, &bean.id.producer, points, answers, verdict, subjects)
+    push_among(
+        alloc,
+        decls,
+        &bean.id.producer,
+        points,
+        answers,
+        verdict,
+        subjects,
+    )
 }
 
 /// Appends the injection points, of a producer method where one is given, whose answers are such.

@@ -63,11 +63,9 @@ const OTHER_STEREOTYPE: &[u8] = b"kind=\"stereotype\"\nname=\"Action\"\nnamed=tr
 const ALTERNATIVE: &[u8] =
     b"kind=\"bean\"\nname=\"Stand\"\ntypes=[\"Stand\",\"Booth\"]\nstereotypes=[\"Mock\",\"Ghost\"]\npriority=-1\n";
 
-const BINDING: &[u8] =
-    b"kind=\"binding\"\nname=\"Log\"\nmembers=[{name=\"level\",default=0}]\n";
+const BINDING: &[u8] = b"kind=\"binding\"\nname=\"Log\"\nmembers=[{name=\"level\",default=0}]\n";
 
-const OTHER_BINDING: &[u8] =
-    b"kind=\"binding\"\nname=\"Trail\"\ndeclares=[\"Log(level=1)\"]\n";
+const OTHER_BINDING: &[u8] = b"kind=\"binding\"\nname=\"Trail\"\ndeclares=[\"Log(level=1)\"]\n";
 
 const FINAL_TYPE: &[u8] = b"kind=\"type\"\nname=\"Till\"\nfinal=true\n";
 
@@ -84,11 +82,9 @@ bindings=["Log(level=1)"]
 around_invoke={body="echo"}
 "#;
 
-const BAD_INTERCEPTOR: &[u8] =
-    b"kind=\"interceptor\"\nname=\"Clerk\"\npre={body=\"nobody\"}\n";
+const BAD_INTERCEPTOR: &[u8] = b"kind=\"interceptor\"\nname=\"Clerk\"\npre={body=\"nobody\"}\n";
 
-const CALLER: &[u8] =
-    b"kind=\"bean\"\nname=\"Desk\"\npoints=[{name=\"t\",type=\"Till\"}]\n";
+const CALLER: &[u8] = b"kind=\"bean\"\nname=\"Desk\"\npoints=[{name=\"t\",type=\"Till\"}]\n";
 
 const BAD_POINTS: &[u8] = br#"kind="bean"
 name="Inn"
