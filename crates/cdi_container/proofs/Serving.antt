@@ -62,7 +62,8 @@ put_alike : (old new : State) (kept text : List ℕ) (answer : Result Answer All
     → LegalAnswer old (Put kept) answer new → LegalAnswer old (Put text) answer new
 put_alike old new kept text (Ok Done) k t memory h = absurd (let e : Some TooLong ≡ None = sym (too_long old kept k) ∙ h.0 in cc)
 put_alike old new kept text (Ok (Chosen choice)) k t memory h = absurd (let e : Some TooLong ≡ None = sym (too_long old kept k) ∙ h.0 in cc)
-put_alike old new kept text (Ok (Intercepted names)) k t memory h = absurd (let e : Some TooLong ≡ None = sym (too_long old kept k) ∙ h.0 in cc)
+put_alike old new kept text (Ok (Intercepted names)) k t memory h = absurd
+    (let e : Some TooLong ≡ None = sym (too_long old kept k) ∙ h.0 in cc)
 put_alike old new kept text (Ok (Reported list)) k t memory h = absurd (let e : Some TooLong ≡ None = sym (too_long old kept k) ∙ h.0 in cc)
 put_alike old new kept text (Ok (Given outcome)) k t memory h = absurd (let e : Some TooLong ≡ None = sym (too_long old kept k) ∙ h.0 in cc)
 put_alike old new kept text (Ok (Refused refusal)) k t memory h = (too_long old text t ∙ sym (too_long old kept k) ∙ h.0, h.1)

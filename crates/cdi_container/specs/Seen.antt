@@ -17,7 +17,8 @@ use Rattle.cdi_model.specs.Edits.{answer_of_edit}
 use Rattle.cdi_resolve.specs.declared.choice.Choice.{Choice}
 use Rattle.cdi_faults.specs.declared.fault.Fault.{Fault}
 use Rattle.cdi_lines.specs.declared.command.Command.{Command}
-use Rattle.cdi_lines.specs.declared.command.Command.TheVariants.{Put, Remove, Choose, Named, Chain, Report, LookUp, Call, BeginRequest, EndRequest}
+use Rattle.cdi_lines.specs.declared.command.Command.TheVariants.{Put, Remove, Choose, Named, Chain, Report, LookUp, Call, BeginRequest}
+use Rattle.cdi_lines.specs.declared.command.Command.TheVariants.{EndRequest}
 use Rattle.cdi_lines.specs.declared.command.Command.TheVariants.{Stop}
 use Rattle.cdi_container.specs.declared.answer.Answer.{Answer}
 use Rattle.cdi_container.specs.declared.answer.Answer.TheVariants.{Done, Chosen, Intercepted, Reported, Given, Refused}

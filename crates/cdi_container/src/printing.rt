@@ -1,6 +1,7 @@
 //! The text that steps print.
 ghost use Rattle.std.specs.Prelude.{◌≡◌, ◌++◌, OnOk, Ok};
-ghost use Rattle.cdi_container.specs.Text.{word_of, text_of_chain, text_of_faults, text_of_names, text_of_report, words_of_outcome, words_of_answer, text_of_answer};
+ghost use Rattle.cdi_container.specs.Text.{word_of, text_of_chain, text_of_faults, text_of_names, text_of_report, words_of_outcome};
+ghost use Rattle.cdi_container.specs.Text.{words_of_answer, text_of_answer};
 
 use crate::answer::Answer;
 use cdi_faults::Fault;

@@ -30,7 +30,8 @@ restricted-rises (Some listed) types rise = IsStrictlySortedBy-filter byte_order
 one-in-order : (ds : List Decl) (origin : Origin) (attributes : Attributes) (bindings : List Qual)
     → IsInOrder (effective ds origin attributes bindings)
 unfolding effective
-one-in-order ds origin attributes bindings = restricted-rises attributes.types (types_of ds origin.bean_type) (types_of-rises ds origin.bean_type)
+one-in-order ds origin attributes bindings = restricted-rises attributes.types (types_of ds origin.bean_type)
+    (types_of-rises ds origin.bean_type)
 
 products-in-order : (ds : List Decl) (bean : BeanDecl) (ps : List ProducerDecl) (rest : List Effective) → AllByRecursion IsInOrder rest
     → AllByRecursion IsInOrder (map (product ds bean) ps ++ rest)

@@ -16,7 +16,8 @@ abbrev pub all_codes : List Code
 all_codes =
     codes_are.UnknownName ∷ codes_are.Cycle ∷ codes_are.BadKind ∷ codes_are.Typed ∷ codes_are.ScopeConflict
     ∷ codes_are.BindingConflict ∷ codes_are.Member ∷ codes_are.Disposer ∷ codes_are.Body ∷ codes_are.NoBinding
-    ∷ codes_are.Unsatisfied ∷ codes_are.Ambiguous ∷ codes_are.Unproxyable ∷ codes_are.Site ∷ codes_are.NameClash ∷ codes_are.NamePrefix ∷ codes_are.Circular ∷ []
+    ∷ codes_are.Unsatisfied ∷ codes_are.Ambiguous ∷ codes_are.Unproxyable ∷ codes_are.Site
+    ∷ codes_are.NameClash ∷ codes_are.NamePrefix ∷ codes_are.Circular ∷ []
 
 abbrev pub code_of : Fault → Code
 code_of (faults_are.Declared code kind name subject) = code

@@ -86,7 +86,8 @@ module _ {X : Type 0} (lt : X → X → Bool) (o : IsStrictWeakOrder lt) where
   put-rises : (x : X) (ys : List X) → Rises ys → Rises (put lt x ys)
   put-rises x [] r = (tt, tt)
   put-rises x (y ∷ ys) r = elim (cases_Bool (lt y x)) [
-    | inl e ↦ subst (λ (b : Bool). Rises (cond b (y ∷ put lt x ys) (x ∷ y ∷ ys))) (sym e) (put-none y x ys (o.one_way y x e) r.0, put-rises x ys r.1)
+    | inl e ↦ subst (λ (b : Bool). Rises (cond b (y ∷ put lt x ys) (x ∷ y ∷ ys))) (sym e)
+        (put-none y x ys (o.one_way y x e) r.0, put-rises x ys r.1)
     | inr e ↦ subst (λ (b : Bool). Rises (cond b (y ∷ put lt x ys) (x ∷ y ∷ ys))) (sym e) ((e, lower x y ys e r.0), r)
   ]
 
@@ -124,14 +125,17 @@ module _ {X : Type 0} (lt : X → X → Bool) (o : IsStrictWeakOrder lt) where
 
   own : (x : X) (xs : List X) → filter (ties lt x) (x ∷ xs) ≡ x ∷ filter (ties lt x) xs
   own x xs =
-      ap (λ (b : Bool). cond b (x ∷ filter (ties lt x) xs) (filter (ties lt x) xs)) (not-both (lt x x) (lt x x) (not-before-itself x) (not-before-itself x))
+      ap (λ (b : Bool). cond b (x ∷ filter (ties lt x) xs) (filter (ties lt x) xs))
+          (not-both (lt x x) (lt x x) (not-before-itself x) (not-before-itself x))
 
   head-of : (y z : X) (zs ws : List X) → NoneBefore z zs → filter (ties lt y) (z ∷ zs) ≡ y ∷ ws → lt y z ≡ false
   head-of y z zs ws h e = elim (cases_Bool (ties lt y z)) [
     | inl t ↦ (both-not (lt y z) (lt z y) t).0
     | inr f ↦
-        let stays : filter (ties lt y) zs ≡ y ∷ ws = sym (ap (λ (b : Bool). cond b (z ∷ filter (ties lt y) zs) (filter (ties lt y) zs)) f) ∙ e in
-        let all : NoneBefore z (y ∷ ws) = subst (λ (l : List X). NoneBefore z l) stays (all-filter (λ w. lt w z ≡ false) (ties lt y) zs h) in
+        let stays : filter (ties lt y) zs ≡ y ∷ ws =
+            sym (ap (λ (b : Bool). cond b (z ∷ filter (ties lt y) zs) (filter (ties lt y) zs)) f) ∙ e in
+        let all : NoneBefore z (y ∷ ws) = subst (λ (l : List X). NoneBefore z l) stays
+            (all-filter (λ w. lt w z ≡ false) (ties lt y) zs h) in
         all.0
   ]
 
@@ -143,7 +147,8 @@ module _ {X : Type 0} (lt : X → X → Bool) (o : IsStrictWeakOrder lt) where
       let yz : lt y z ≡ false = head-of y z zs (filter (ties lt y) ys) rz.0 (sym (same y) ∙ own y ys) in
       let zy : lt z y ≡ false = head-of z y ys (filter (ties lt z) zs) ry.0 (same z ∙ own z zs) in
       let heads : y ∷ filter (ties lt y) ys ≡ z ∷ filter (ties lt y) zs =
-      sym (own y ys) ∙ same y ∙ ap (λ (b : Bool). cond b (z ∷ filter (ties lt y) zs) (filter (ties lt y) zs)) (not-both (lt y z) (lt z y) yz zy) in
+      sym (own y ys) ∙ same y ∙ ap (λ (b : Bool). cond b (z ∷ filter (ties lt y) zs) (filter (ties lt y) zs))
+          (not-both (lt y z) (lt z y) yz zy) in
       let eq : y ≡ z = ap (first-or y) heads in
       let tails : ys ≡ zs = unique ys zs ry.1 rz.1 (λ x.
       peeled (ties lt x y) y (filter (ties lt x) ys) (filter (ties lt x) zs)
@@ -170,7 +175,8 @@ put-lent i (j ∷ js) = elim (cases_Bool (is_before j.now i.now)) [
       ∙ sym (ap (λ (b : Bool). cond b (j.now ∷ put is_before i.now (lent_in js)) (i.now ∷ j.now ∷ lent_in js)) e)
 ]
 
-pub sorted_lent : (is : List (Bor InterceptorDecl)) → lent_in (sorted_by (λ x y. is_before x.now y.now) is) ≡ sorted_by is_before (lent_in is)
+pub sorted_lent : (is : List (Bor InterceptorDecl))
+    → lent_in (sorted_by (λ x y. is_before x.now y.now) is) ≡ sorted_by is_before (lent_in is)
 sorted_lent [] = refl
 sorted_lent (i ∷ is) =
     put-lent i (sorted_by (λ x y. is_before x.now y.now) is) ∙ ap (put is_before i.now) (sorted_lent is)

@@ -1,5 +1,6 @@
 -- The interceptors around a place of a bean, in order (Interceptors 2.1, Interceptor Ordering; Enabling Interceptors).
-use Rattle.std.specs.Prelude.{ℕ, Bool, not, ◌&&◌, List, map, filter, flat_map, length, nat_eq, Option, Some, None, is_some, if◌then◌else◌, Result, Ok, Err}
+use Rattle.std.specs.Prelude.{ℕ, Bool, not, ◌&&◌, List, map, filter, flat_map, length, nat_eq, Option, Some, None, is_some, if◌then◌else◌}
+use Rattle.std.specs.Prelude.{Result, Ok, Err}
 use Rattle.std.specs.List.{list_all, list_any}
 use Rattle.std.specs.Option.{option_cmp, option_to_list}
 use Rattle.std.specs.Ordering.{int_cmp, is_lt}

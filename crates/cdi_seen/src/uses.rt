@@ -43,7 +43,8 @@ fn same_filled(
     after: &Decls,
     new: &Qual,
 ) -> Result<bool, AllocError>
-    ensures { IfOk result (λ is. is ≡ same_filled (filled before.now the_uses.Qualifier old.now) (filled after.now the_uses.Qualifier new.now)) }
+    ensures { IfOk result (λ is. is ≡ same_filled (filled before.now the_uses.Qualifier old.now)
+        (filled after.now the_uses.Qualifier new.now)) }
 {
     if old.name != new.name || !same_given(&old.arguments, &new.arguments) {
         return Ok(false);

@@ -41,14 +41,16 @@ zipped_at_fault test ds producer (p ∷ points) = by (test p (answer_to ds p)) (
     by true rest = ap (λ ms. parts.Point producer p.name ∷ ms) rest
     by false rest = rest
 
-at_fault_by_choices : (test : PointDecl → Choice → Bool) (ds : List Decl) (b : Effective) (producer : Option (List ℕ)) (points : List PointDecl)
+at_fault_by_choices : (test : PointDecl → Choice → Bool) (ds : List Decl) (b : Effective) (producer : Option (List ℕ))
+    (points : List PointDecl)
     → b.id.producer ≡ producer
     → at_fault test b points (map (answer_to ds) points) ≡ points_with test ds b producer points
 at_fault_by_choices test ds b producer points named =
     ap (λ ms. cond b.is_enabled ms []) (zipped_at_fault test ds b.id.producer points ∙ ap (λ o. named_at_fault test ds o points) named)
 
 -- the choices for the points of a record stand in front of others
-own_and_others : (test : PointDecl → Choice → Bool) (ds : List Decl) (b : Effective) (producer : Option (List ℕ)) (points others : List PointDecl)
+own_and_others : (test : PointDecl → Choice → Bool) (ds : List Decl) (b : Effective) (producer : Option (List ℕ))
+    (points others : List PointDecl)
     (rest : List Choice → List Subject) → b.id.producer ≡ producer
     → at_fault test b points (take (length points) (map (answer_to ds) (points ++ others)))
     ++ rest (drop (length points) (map (answer_to ds) (points ++ others)))
@@ -85,7 +87,8 @@ points_by_entries test ds (decls.Bean bean) =
     ∙ ap (λ ms. points_with test ds (managed ds bean) None bean.points ++ ms) (at_fault_by_products test ds bean bean.producers)
 
 -- where no record or no producer method is left nothing is at fault
-pub none_at_fault : (test : PointDecl → Choice → Bool) (bs : List Effective) (ps : List ProducerDecl) (choices : List Choice) → (bs ≡ []) ⊎ (ps ≡ [])
+pub none_at_fault : (test : PointDecl → Choice → Bool) (bs : List Effective) (ps : List ProducerDecl) (choices : List Choice)
+    → (bs ≡ []) ⊎ (ps ≡ [])
     → at_fault_by test bs ps choices ≡ []
 none_at_fault test [] ps choices ends = refl
 none_at_fault test (b ∷ bs) [] choices ends = refl

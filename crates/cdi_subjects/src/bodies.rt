@@ -2,7 +2,8 @@
 ghost use Rattle.std.specs.Prelude.{◌≡◌, ◌++◌, IfOk, OnOk};
 ghost use Rattle.cdi_bodies.specs.Book.{promise_of};
 ghost use Rattle.cdi_model.specs.declared.decl.Decl.TheVariants as decls;
-ghost use Rattle.cdi_subjects.specs.Parts.{allowed_to, is_fit, unfit, unfit_around, unfit_callbacks, unfit_disposers, unfit_methods, unfit_part};
+ghost use Rattle.cdi_subjects.specs.Parts.{allowed_to, is_fit, unfit, unfit_around, unfit_callbacks, unfit_disposers, unfit_methods};
+ghost use Rattle.cdi_subjects.specs.Parts.{unfit_part};
 ghost use Rattle.cdi_subjects.specs.Parts.{unfit_parts, unfit_producers};
 
 use cdi_bodies::{Bodies, Promise};

@@ -1,6 +1,7 @@
 //! Injection points for which no class can stand between the bean and its callers (CDI 4.0, Unproxyable bean types).
 ghost use Rattle.std.specs.Prelude.{◌≡◌, IfOk};
-ghost use Rattle.cdi_subjects.specs.Proxies.{is_final, is_intercepted, is_normal, is_unproxyable, needs_subclass, needs_subclass_as, needs_subclass_by};
+ghost use Rattle.cdi_subjects.specs.Proxies.{is_final, is_intercepted, is_normal, is_unproxyable, needs_subclass, needs_subclass_as};
+ghost use Rattle.cdi_subjects.specs.Proxies.{needs_subclass_by};
 ghost use Rattle.std.specs.List.{find};
 ghost use Rattle.std.specs.Option.{option_eq};
 ghost use Rattle.std.specs.Str.{bytes_eq};

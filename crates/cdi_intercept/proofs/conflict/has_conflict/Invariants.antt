@@ -6,4 +6,5 @@ use Rattle.cdi_intercept.proofs.conflict.has_conflict.Given as goal
 
 abbrev pub invariant-loop-binding : goal.invariant-loop-binding
 invariant-loop-binding l =
-    list_any (λ u. list_any (are_opposed l.decls u) (uses_in l.set)) (uses_in (drop l.binding-index l.set)) ≡ has_conflict l.decls (uses_in l.set)
+    list_any (λ u. list_any (are_opposed l.decls u) (uses_in l.set)) (uses_in (drop l.binding-index l.set))
+    ≡ has_conflict l.decls (uses_in l.set)
