@@ -126,16 +126,16 @@ module _ {X : Type 0} (lt : X → X → Bool) (o : IsStrictWeakOrder lt) where
   own : (x : X) (xs : List X) → filter (ties lt x) (x ∷ xs) ≡ x ∷ filter (ties lt x) xs
   own x xs =
       ap (λ (b : Bool). cond b (x ∷ filter (ties lt x) xs) (filter (ties lt x) xs))
-          (not-both (lt x x) (lt x x) (not-before-itself x) (not-before-itself x))
+      (not-both (lt x x) (lt x x) (not-before-itself x) (not-before-itself x))
 
   head-of : (y z : X) (zs ws : List X) → NoneBefore z zs → filter (ties lt y) (z ∷ zs) ≡ y ∷ ws → lt y z ≡ false
   head-of y z zs ws h e = elim (cases_Bool (ties lt y z)) [
     | inl t ↦ (both-not (lt y z) (lt z y) t).0
     | inr f ↦
         let stays : filter (ties lt y) zs ≡ y ∷ ws =
-            sym (ap (λ (b : Bool). cond b (z ∷ filter (ties lt y) zs) (filter (ties lt y) zs)) f) ∙ e in
+        sym (ap (λ (b : Bool). cond b (z ∷ filter (ties lt y) zs) (filter (ties lt y) zs)) f) ∙ e in
         let all : NoneBefore z (y ∷ ws) = subst (λ (l : List X). NoneBefore z l) stays
-            (all-filter (λ w. lt w z ≡ false) (ties lt y) zs h) in
+        (all-filter (λ w. lt w z ≡ false) (ties lt y) zs h) in
         all.0
   ]
 
@@ -148,7 +148,7 @@ module _ {X : Type 0} (lt : X → X → Bool) (o : IsStrictWeakOrder lt) where
       let zy : lt z y ≡ false = head-of z y ys (filter (ties lt z) zs) ry.0 (same z ∙ own z zs) in
       let heads : y ∷ filter (ties lt y) ys ≡ z ∷ filter (ties lt y) zs =
       sym (own y ys) ∙ same y ∙ ap (λ (b : Bool). cond b (z ∷ filter (ties lt y) zs) (filter (ties lt y) zs))
-          (not-both (lt y z) (lt z y) yz zy) in
+      (not-both (lt y z) (lt z y) yz zy) in
       let eq : y ≡ z = ap (first-or y) heads in
       let tails : ys ≡ zs = unique ys zs ry.1 rz.1 (λ x.
       peeled (ties lt x y) y (filter (ties lt x) ys) (filter (ties lt x) zs)

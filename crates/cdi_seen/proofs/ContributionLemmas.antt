@@ -55,7 +55,7 @@ uses-same : (edits : List Edit) (ds : List Decl) (us : List Qual) → Avoid (map
 uses-same edits ds [] avoid = refl
 uses-same edits ds (u ∷ us) avoid =
     ap (λ f. f ∷ map (filled (edited_all ds edits) uses.Qualifier) us)
-        (filled-same edits ds u (avoid-head edits (use_key u) (map use_key us) avoid))
+    (filled-same edits ds u (avoid-head edits (use_key u) (map use_key us) avoid))
     ∙ ap (λ rest. filled ds uses.Qualifier u ∷ rest) (uses-same edits ds us (avoid-second edits (use_key u ∷ []) (map use_key us) avoid))
 
 bean-same : (edits : List Edit) (ds : List Decl) (r : Effective) → Avoid (map use_key r.qualifiers) edits

@@ -112,4 +112,4 @@ alike_fill_the_same ds es u v same alike =
     let own : filled ds uses.Qualifier u ≡ filled es uses.Qualifier u =
     λ j. record { name = u.name; given = given_name u.arguments; values = fill (members_of (declared j)) u } in
     (same_filled-decides (filled ds uses.Qualifier u) (filled es uses.Qualifier v)).1
-        (own ∙ ap (filled es uses.Qualifier) ((same_qual-decides u v).0 same))
+    (own ∙ ap (filled es uses.Qualifier) ((same_qual-decides u v).0 same))

@@ -14,5 +14,5 @@ returns c =
     (either_empty_from_Zip left c.next.new.self c.next.result c.in-None.is c.next.ensures.steps) in
     sym (append-nil c.loop-point.subjects.items)
     ∙ ap (λ zs. c.loop-point.subjects.items ++ map (λ z. parts.Point c.args.producer.now z.0.name) (filter (λ z. test z.0 z.1) zs))
-        (sym none)
+    (sym none)
     ∙ c.loop-point.invariant

@@ -7,4 +7,4 @@ pub returns-in-Some-split_first-2 : goal.returns-in-Some-split_first-2
 returns-in-Some-split_first-2 c =
     method-first _ _ c.args.self.now.producer c.args.self.now.points.now c.args.self.now.methods.now _
     c.in-Some-split_first-2.method.now _ _ (search rules) (nil_from_length _ c.in_default-split_first.ensures.cases) (search rules)
-        (search rules)
+    (search rules)
