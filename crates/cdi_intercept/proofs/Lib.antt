@@ -1,1 +1,2 @@
-mod OrderLemmas
+pub mod OrderLemmas
+pub mod ChainLemmas

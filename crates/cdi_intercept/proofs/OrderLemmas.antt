@@ -1,17 +1,13 @@
 -- A stable sort leaves what is put in order one by one.
 use Rattle.std.proofs.Common.{◌≡◌, true, false, Bool, not, ◌&&◌, cond, ◌<◌, ℕ, zero, suc, arith}
-use Rattle.std.proofs.Common.{List, [], ◌∷◌, length, refl, sym, ap, subst, ◌∙◌, inl, inr, true≢false}
+use Rattle.std.proofs.Common.{List, [], ◌∷◌, length, map, refl, sym, ap, subst, ◌∙◌, inl, inr, true≢false}
 use Rattle.std.specs.Prelude.{slice_index_or}
-use Rattle.std.specs.Borrow.{Bor}
 use Rattle.std.specs.Cmp.{IsStrictWeakOrder}
 use Rattle.std.specs.List.{AllByRecursion, filter}
 use Rattle.std.specs.List.Sorted.{IsSortedBy, IsStableBy, ties}
 use Rattle.std.proofs.lemmas.Bool.{cases_Bool}
 use Rattle.std.proofs.lemmas.List.Sorted.{sorted_far}
 use native.Mathlib.Numerals.{unary_clauses}
-use Rattle.cdi_model.specs.declared.decl.InterceptorDecl.{InterceptorDecl}
-use Rattle.cdi_intercept.specs.Chains.{is_before}
-use Rattle.cdi_intercept.specs.Lent.{lent_in}
 use Rattle.cdi_intercept.specs.Sorting.{put, sorted_by}
 
 both-not : (p q : Bool) → (not p && not q) ≡ true → (p ≡ false) × (q ≡ false)
@@ -160,23 +156,37 @@ pub sorted_from_sort : {X : Type 0} (lt : X → X → Bool) → IsStrictWeakOrde
 sorted_from_sort lt o xs ys sorted stable =
     unique lt o ys (sorted_by lt xs) (rises lt o ys sorted) (sorted-rises lt o xs) (λ x. stable x ∙ sym (sorted-ties lt o x xs))
 
--- ---- what is lent
+-- ---- by what is in them
 
-put-lent : (i : Bor InterceptorDecl) (is : List (Bor InterceptorDecl))
-    → lent_in (put (λ x y. is_before x.now y.now) i is) ≡ put is_before i.now (lent_in is)
-put-lent i [] = refl
-put-lent i (j ∷ js) = elim (cases_Bool (is_before j.now i.now)) [
-  | inl e ↦
-      ap (λ (b : Bool). lent_in (cond b (j ∷ put (λ x y. is_before x.now y.now) i js) (i ∷ j ∷ js))) e
-      ∙ ap (λ (r : List InterceptorDecl). j.now ∷ r) (put-lent i js)
-      ∙ sym (ap (λ (b : Bool). cond b (j.now ∷ put is_before i.now (lent_in js)) (i.now ∷ j.now ∷ lent_in js)) e)
-  | inr e ↦
-      ap (λ (b : Bool). lent_in (cond b (j ∷ put (λ x y. is_before x.now y.now) i js) (i ∷ j ∷ js))) e
-      ∙ sym (ap (λ (b : Bool). cond b (j.now ∷ put is_before i.now (lent_in js)) (i.now ∷ j.now ∷ lent_in js)) e)
+put-map : {X Y : Type 0} (f : X → Y) (lt : Y → Y → Bool) (x : X) (ys : List X)
+    → map f (put (λ a b. lt (f a) (f b)) x ys) ≡ put lt (f x) (map f ys)
+put-map f lt x [] = refl
+put-map {X = X} {Y = Y} f lt x (y ∷ ys) =
+    let placed : List X = put (λ a b. lt (f a) (f b)) x ys in
+    let behind : Bool → List Y = λ b. cond b (f y ∷ put lt (f x) (map f ys)) (f x ∷ f y ∷ map f ys) in
+    elim (cases_Bool (lt (f y) (f x))) [
+      | inl e ↦
+          ap (λ (b : Bool). map f (cond b (y ∷ placed) (x ∷ y ∷ ys))) e
+          ∙ ap (λ (r : List Y). f y ∷ r) (put-map f lt x ys) ∙ sym (ap behind e)
+      | inr e ↦ ap (λ (b : Bool). map f (cond b (y ∷ placed) (x ∷ y ∷ ys))) e ∙ sym (ap behind e)
+    ]
+
+pub sorted_map : {X Y : Type 0} (f : X → Y) (lt : Y → Y → Bool) (xs : List X)
+    → map f (sorted_by (λ a b. lt (f a) (f b)) xs) ≡ sorted_by lt (map f xs)
+sorted_map f lt [] = refl
+sorted_map f lt (x ∷ xs) = put-map f lt x (sorted_by (λ a b. lt (f a) (f b)) xs) ∙ ap (put lt (f x)) (sorted_map f lt xs)
+
+-- ---- what holds of each
+
+all-put : {X : Type 0} (P : X → Type 0) (lt : X → X → Bool) (x : X) (ys : List X) → P x → AllByRecursion P ys
+    → AllByRecursion P (put lt x ys)
+all-put P lt x [] here all = (here, tt)
+all-put P lt x (y ∷ ys) here all = elim (cases_Bool (lt y x)) [
+  | inl e ↦ subst (λ (b : Bool). AllByRecursion P (cond b (y ∷ put lt x ys) (x ∷ y ∷ ys))) (sym e)
+      (all.0, all-put P lt x ys here all.1)
+  | inr e ↦ subst (λ (b : Bool). AllByRecursion P (cond b (y ∷ put lt x ys) (x ∷ y ∷ ys))) (sym e) (here, all)
 ]
 
-pub sorted_lent : (is : List (Bor InterceptorDecl))
-    → lent_in (sorted_by (λ x y. is_before x.now y.now) is) ≡ sorted_by is_before (lent_in is)
-sorted_lent [] = refl
-sorted_lent (i ∷ is) =
-    put-lent i (sorted_by (λ x y. is_before x.now y.now) is) ∙ ap (put is_before i.now) (sorted_lent is)
+pub all_sorted : {X : Type 0} (P : X → Type 0) (lt : X → X → Bool) (xs : List X) → AllByRecursion P xs → AllByRecursion P (sorted_by lt xs)
+all_sorted P lt [] all = tt
+all_sorted P lt (x ∷ xs) all = all-put P lt x (sorted_by lt xs) all.0 (all_sorted P lt xs all.1)

@@ -100,8 +100,9 @@ pub fn stands_around(
     Ok(surrounds_one(decls, &sets, interceptor))
 }
 
-/// Whether an interceptor stands around one of some places, each with the bindings there.
-fn surrounds_one(
+/// Whether an interceptor stands around one of some places, each with the bindings there, where it is enabled. It takes no
+/// memory.
+pub fn surrounds_one(
     decls: &Decls,
     sets: &[(BeanPlace, Vec<&Qual>)],
     interceptor: &InterceptorDecl,

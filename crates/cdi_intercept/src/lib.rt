@@ -7,6 +7,8 @@ mod conflict;
 mod set;
 
 pub use asked::chain_of;
-pub use chain::{around_any, chain_among, in_order, part_for, stands_around, surrounds};
+pub use chain::{
+    around_any, chain_among, in_order, part_for, stands_around, surrounds, surrounds_one,
+};
 pub use conflict::has_conflict;
 pub use set::{has_place, set_by, sets_of};

@@ -185,12 +185,12 @@ from-map f [] k y e = absurd (cc)
 from-map f (v ∷ xs) zero y e = (v, refl, cc)
 from-map f (v ∷ xs) (suc k) y e = from-map f xs k y e
 
-in-append-left : {X : Type 0} (xs ys : List X) (k : ℕ) (x : X) → slice_get xs k ≡ Some x → (i : ℕ) × (slice_get (xs ++ ys) i ≡ Some x)
+pub in-append-left : {X : Type 0} (xs ys : List X) (k : ℕ) (x : X) → slice_get xs k ≡ Some x → (i : ℕ) × (slice_get (xs ++ ys) i ≡ Some x)
 in-append-left [] ys k x e = absurd (cc)
 in-append-left (v ∷ xs) ys zero x e = (zero, e)
 in-append-left (v ∷ xs) ys (suc k) x e = let rest = in-append-left xs ys k x e in (suc rest.0, rest.1)
 
-in-append-right : {X : Type 0} (xs ys : List X) (k : ℕ) (x : X) → slice_get ys k ≡ Some x → (i : ℕ) × (slice_get (xs ++ ys) i ≡ Some x)
+pub in-append-right : {X : Type 0} (xs ys : List X) (k : ℕ) (x : X) → slice_get ys k ≡ Some x → (i : ℕ) × (slice_get (xs ++ ys) i ≡ Some x)
 in-append-right [] ys k x e = (k, e)
 in-append-right (v ∷ xs) ys k x e = let rest = in-append-right xs ys k x e in (suc rest.0, rest.1)
 

@@ -33,7 +33,7 @@ use Rattle.cdi_resolve.specs.Choices.{greatest, is_greatest, alternatives, offer
 use Rattle.cdi_resolve.specs.Position.{is_told_by}
 use Rattle.cdi_resolve.specs.declared.choice.Choice.TheVariants.{One}
 use Rattle.cdi_staging.specs.Sites.{position_of_bean}
-use Rattle.cdi_staging.specs.Staged.{scene_of, sight_of, staged_beans, staged_managed, staged_product, managed_form}
+use Rattle.cdi_staging.specs.Staged.{class_of, scene_of, sight_of, staged_beans, staged_managed, staged_product, managed_form}
 use Rattle.cdi_staging.specs.Staged.{unused_managed}
 use Rattle.cdi_staging.proofs.BesideLemmas.{Beside, beside-map, beside-flat, second-at, found, from-filter, from-map}
 
@@ -211,7 +211,7 @@ of-some ds book x bean p (inl managed_one) some =
 pub record IsManagedOf (ds : List Decl) (book : List Promised) (class : List ℕ) (bean : Bean) : Type 0 where
   pub decl : BeanDecl
   pub is : find_bean class ds ≡ Some decl
-  pub form : bean.form ≡ forms.Managed (managed_form ds (beans ds) book (sight_of ds decl) decl)
+  pub form : bean.form ≡ forms.Managed (managed_form ds (beans ds) book (sight_of ds decl) (class_of ds decl))
 
 pub record Reached (ds : List Decl) (book : List Promised) (id : BeanId) : Type 0 where
   pub bean : Bean
@@ -251,7 +251,8 @@ reached ds book id distinct offered =
             decl = m.decl;
             is = by_first;
             form = ap (λ b. b.form) m.made
-                ∙ ap (λ b. forms.Managed (cond b (managed_form ds (beans ds) book (sight_of ds m.decl) m.decl) unused_managed)) enabled;
+                ∙ ap (λ b. forms.Managed (cond b (managed_form ds (beans ds) book (sight_of ds m.decl)
+                (class_of ds m.decl)) unused_managed)) enabled;
           };
       of_product = λ p some.
           let m = of-some ds book first.value staged.value p staged.fits (is.1 ∙ some) in

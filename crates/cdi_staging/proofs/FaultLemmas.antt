@@ -7,11 +7,12 @@ use Rattle.std.proofs.lemmas.Bool.{false≢true, true≢false, not-false}
 use Rattle.std.proofs.lemmas.Bool.Decides.{nat_tests}
 use Rattle.std.proofs.lemmas.List.{map-append}
 use Rattle.cdi_model.specs.Decl.{kind_of, name_of_decl}
-use Rattle.cdi_model.specs.Short.{AreShort, HasFewCalls, IsShortBean}
+use Rattle.cdi_model.specs.Short.{AreShort, HasFewCalls, IsShortBean, IsShortInterceptor}
 use Rattle.cdi_model.specs.declared.decl.BeanDecl.{BeanDecl}
 use Rattle.cdi_model.specs.declared.decl.CallDecl.{CallDecl}
 use Rattle.cdi_model.specs.declared.decl.Decl.{Decl}
 use Rattle.cdi_model.specs.declared.decl.Decl.TheVariants as decls
+use Rattle.cdi_model.specs.declared.decl.InterceptorDecl.{InterceptorDecl}
 use Rattle.cdi_model.specs.declared.decl.PartDecl.{PartDecl}
 use Rattle.cdi_model.specs.declared.decl.PointDecl.{PointDecl}
 use Rattle.cdi_model.specs.declared.decl.ProducerDecl.{ProducerDecl}
@@ -24,6 +25,7 @@ use Rattle.cdi_effective.specs.declared.records.BeanId.{BeanId}
 use Rattle.cdi_effective.specs.declared.records.Effective.{Effective}
 use Rattle.cdi_resolve.specs.declared.choice.Choice.{Choice}
 use Rattle.cdi_resolve.specs.declared.choice.Choice.TheVariants as choices
+use Rattle.cdi_intercept.specs.Chains.{is_enabled}
 use Rattle.cdi_observe.specs.Answers.{answer_to}
 use Rattle.cdi_faults.specs.Codes.{all_codes}
 use Rattle.cdi_faults.specs.FaultText.{in_text_order}
@@ -36,7 +38,7 @@ use Rattle.cdi_faults.specs.declared.place.PartPlace.{PartPlace}
 use Rattle.cdi_faults.specs.declared.place.PartPlace.TheVariants as places
 use Rattle.cdi_faults.proofs.CodeLemmas.{has_code}
 use Rattle.cdi_faults.proofs.OrderLemmas.{none_in_order}
-use Rattle.cdi_subjects.specs.Subjects.{is_ambiguous, is_unsatisfied, points_with}
+use Rattle.cdi_subjects.specs.Subjects.{is_ambiguous, is_unsatisfied, points_such, points_with}
 use Rattle.cdi_validate.specs.Faults.{faults, faults_of, faults_of_code}
 use Rattle.cdi_subjects.specs.Subjects.{subjects_at_fault}
 use Rattle.cdi_subjects.specs.Parts.{allowed_to, is_fit, unfit, unfit_callbacks, unfit_methods, unfit_part}
@@ -46,7 +48,8 @@ use Rattle.cdi_subjects.specs.Sites.{choice_at, has_method, is_lost, is_lost_amo
 use Rattle.cdi_subjects.specs.Sites.{lost_calls}
 use Rattle.cdi_subjects.specs.Sites.{lost_in_managed, lost_in_part, lost_in_producer, where_enabled}
 use Rattle.cdi_subjects.specs.Sites.{sight_of as sight_at}
-use Rattle.cdi_staging.specs.Faultless.{AreFine, AreSatisfied, FaultlessIsSound, IsFineManaged, IsFinePart}
+use Rattle.cdi_staging.specs.Faultless.{AreFine, AreFineAround, IsFineAround}
+use Rattle.cdi_staging.specs.Faultless.{AreSatisfied, FaultlessIsSound, IsFineManaged, IsFinePart}
 use Rattle.cdi_staging.specs.Faultless.{IsFineProducer, IsFit, IsLed, seen_by}
 use Rattle.cdi_staging.specs.Sites.{is_point}
 use Rattle.cdi_staging.proofs.SceneLemmas.{fine_is_sound}
@@ -174,25 +177,31 @@ unsatisfied point choice = is_unsatisfied choice
 abbrev ambiguous : PointDecl → Choice → Bool
 ambiguous point choice = is_ambiguous choice
 
--- no point of an enabled bean has a choice that the test finds
-none-found : (test : PointDecl → Choice → Bool) (ds : List Decl) (bean : Effective) (producer : Option (List ℕ))
-    (points : List PointDecl) (k : ℕ) (point : PointDecl) → bean.is_enabled ≡ true
-    → points_with test ds bean producer points ≡ [] → slice_get points k ≡ Some point
+-- no point has a choice that the test finds
+none-found : (test : PointDecl → Choice → Bool) (ds : List Decl) (producer : Option (List ℕ))
+    (points : List PointDecl) (k : ℕ) (point : PointDecl)
+    → points_such test ds producer points ≡ [] → slice_get points k ≡ Some point
     → test point (answer_to ds point) ≡ false
-none-found test ds bean producer points k point enabled none at =
-    let listed = where-true bean.is_enabled _ enabled none in
+none-found test ds producer points k point none at =
     filter-empty (λ p. test p (answer_to ds p)) points k point
-    (map-empty (λ p. subjects.Point producer p.name) (filter (λ p. test p (answer_to ds p)) points) listed) at
+    (map-empty (λ p. subjects.Point producer p.name) (filter (λ p. test p (answer_to ds p)) points) none) at
 
+satisfied-by : (ds : List Decl) (producer : Option (List ℕ)) (points : List PointDecl)
+    → points_such unsatisfied ds producer points ≡ []
+    → points_such ambiguous ds producer points ≡ [] → AreSatisfied ds points
+satisfied-by ds producer points some single k point at =
+    let one = one-chosen (answer_to ds point)
+    (none-found unsatisfied ds producer points k point some at)
+    (none-found ambiguous ds producer points k point single at) in
+    record { id = one.0; chosen = one.1 }
+
+-- the same of an enabled bean
 satisfied : (ds : List Decl) (bean : Effective) (producer : Option (List ℕ)) (points : List PointDecl)
     → bean.is_enabled ≡ true
     → points_with unsatisfied ds bean producer points ≡ []
     → points_with ambiguous ds bean producer points ≡ [] → AreSatisfied ds points
-satisfied ds bean producer points enabled some single k point at =
-    let one = one-chosen (answer_to ds point)
-    (none-found unsatisfied ds bean producer points k point enabled some at)
-    (none-found ambiguous ds bean producer points k point enabled single at) in
-    record { id = one.0; chosen = one.1 }
+satisfied ds bean producer points enabled some single =
+    satisfied-by ds producer points (where-true bean.is_enabled _ enabled some) (where-true bean.is_enabled _ enabled single)
 
 -- ---- call sites
 
@@ -342,6 +351,38 @@ fine-producer ds book bean k producer none short at enabled =
           (second-empty _ (unfit_disposers book bean.disposers) none.body) here);
     }
 
+-- ---- what is known of an interceptor
+
+-- nothing of it has one of these codes
+record HasNoneAround (ds : List Decl) (book : List Promised) (i : InterceptorDecl) : Type 0 where
+  pub body : subjects_at_fault codes_of.Body ds book (decls.Interceptor i) ≡ []
+  pub unsatisfied : subjects_at_fault codes_of.Unsatisfied ds book (decls.Interceptor i) ≡ []
+  pub ambiguous : subjects_at_fault codes_of.Ambiguous ds book (decls.Interceptor i) ≡ []
+  pub site : subjects_at_fault codes_of.Site ds book (decls.Interceptor i) ≡ []
+
+fine-around : (ds : List Decl) (book : List Promised) (i : InterceptorDecl) → HasNoneAround ds book i → IsShortInterceptor i
+    → is_enabled i ≡ true → IsFineAround ds book i
+fine-around ds book i none short enabled =
+    let sight = sight_at ds i.points in
+    let three = first-empty _ _ none.body in
+    let two = first-empty _ _ three in
+    let lost = where-true (is_enabled i) _ enabled none.site in
+    let lost_three = first-empty _ _ lost in
+    let lost_two = first-empty _ _ lost_three in
+    record {
+      points = satisfied-by ds None i.points (where-true (is_enabled i) _ enabled none.unsatisfied)
+          (where-true (is_enabled i) _ enabled none.ambiguous);
+      around_invoke = fine-some ds book flags.around places.AroundInvoke i.points i.around_invoke short.around_invoke
+          (first-empty _ _ two) (first-empty _ _ lost_two);
+      around_construct = fine-some ds book flags.around places.AroundConstruct i.points i.around_construct short.around_construct
+          (second-empty (unfit_part book flags.around places.AroundInvoke i.around_invoke) _ two)
+          (second-empty (lost_in_part ds sight places.AroundInvoke i.around_invoke) _ lost_two);
+      post = fine-some ds book flags.around places.Post i.points i.post short.post
+          (second-empty _ _ three) (second-empty _ _ lost_three);
+      pre = fine-some ds book flags.around_destruction places.Pre i.points i.pre short.pre
+          (second-empty _ _ none.body) (second-empty _ _ lost);
+    }
+
 -- ---- the law
 
 pub are_fine : (ds : List Decl) (book : List Promised) → AreShort ds → faults ds book ≡ [] → AreFine ds book
@@ -358,5 +399,16 @@ are_fine ds book short none k bean at =
       products = λ j producer here enabled. fine-producer ds book bean j producer of few here enabled;
     }
 
+pub are_fine_around : (ds : List Decl) (book : List Promised) → AreShort ds → faults ds book ≡ [] → AreFineAround ds book
+are_fine_around ds book short none k i at enabled =
+    let of : HasNoneAround ds book i = record {
+      body = none-at-fault ds book k (decls.Interceptor i) codes_of.Body none at;
+      unsatisfied = none-at-fault ds book k (decls.Interceptor i) codes_of.Unsatisfied none at;
+      ambiguous = none-at-fault ds book k (decls.Interceptor i) codes_of.Ambiguous none at;
+      site = none-at-fault ds book k (decls.Interceptor i) codes_of.Site none at;
+    } in
+    fine-around ds book i of (short k (decls.Interceptor i) at) enabled
+
 pub faultless_is_sound : FaultlessIsSound
-faultless_is_sound ds book distinct short none = fine_is_sound ds book distinct (are_fine ds book short none)
+faultless_is_sound ds book distinct short none =
+    fine_is_sound ds book distinct (are_fine ds book short none) (are_fine_around ds book short none)

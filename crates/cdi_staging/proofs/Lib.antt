@@ -3,6 +3,7 @@ mod BesideLemmas
 mod ChosenLemmas
 mod PartLemmas
 mod SoundLemmas
+mod LinkLemmas
 pub mod LookupLemmas
 pub mod SceneLemmas
 pub mod FaultLemmas

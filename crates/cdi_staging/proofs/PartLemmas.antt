@@ -34,7 +34,7 @@ use Rattle.cdi_staging.specs.Faultless.{IsFit, IsSatisfied, AreSatisfied, IsLed,
 use Rattle.cdi_staging.specs.Sites.{Sight, nowhere, target_of, class_with, method_declared, method_of, is_method}
 use Rattle.cdi_staging.specs.Sites.{is_point, position_of_bean, site_at, site_among, site_of, target_at}
 use Rattle.cdi_staging.specs.Staged.{part_of, part_with, staged_part, staged_method, managed_form, sight_of, scene_of}
-use Rattle.cdi_staging.specs.Staged.{targets}
+use Rattle.cdi_staging.specs.Staged.{class_of, targets}
 use Rattle.cdi_staging.specs.declared.target.Target.{Target}
 use Rattle.cdi_staging.proofs.BesideLemmas.{of-find, no-position, find-append, from-map}
 use Rattle.cdi_staging.proofs.ChosenLemmas.{Reached, chosen-offered, reached}
@@ -137,7 +137,7 @@ method-there ds book id name r via has None e =
     let at = of-find (is_method name) m.decl.methods d.method found in
     let place : method_declared (find_bean id.class ds) name ≡ at.place = ap (λ o. method_declared o name) m.is
     ∙ ap (λ o. unwrap_or o (length m.decl.methods)) at.position_is in
-    let made = staged_method ds (beans ds) book (sight_of ds m.decl) in
+    let made = staged_method ds (beans ds) book (sight_of ds m.decl) (class_of ds m.decl) in
     subst (λ form. HasMethod (scene_of ds book)
     (record { via = via; bean = position_of_bean (beans ds) id; method = method_declared (find_bean id.class ds) name }) form)
     (sym m.form) (

@@ -1,5 +1,5 @@
 -- Where each declaration is fine, the scene is sound.
-use Rattle.std.proofs.Common.{◌≡◌, ◌≤◌, ◌+◌, ℕ, zero, suc, Bool, true, false, cond, List, [], ◌∷◌, map, length}
+use Rattle.std.proofs.Common.{◌≡◌, ◌≤◌, ◌+◌, ℕ, Bool, true, false, cond, List, [], map, length}
 use Rattle.std.proofs.Common.{Option, Some, None, option_map, unwrap_or}
 use Rattle.std.proofs.Common.{refl, sym, subst, ap, ◌∙◌, inl, inr, arith}
 use Rattle.std.specs.List.{slice_get}
@@ -12,8 +12,12 @@ use Rattle.cdi_model.specs.DeclList.{AreDistinct}
 use Rattle.cdi_model.specs.declared.decl.BeanDecl.{BeanDecl}
 use Rattle.cdi_model.specs.declared.decl.Decl.{Decl}
 use Rattle.cdi_model.specs.declared.decl.Decl.TheVariants as decls
+use Rattle.cdi_model.specs.declared.decl.InterceptorDecl.{InterceptorDecl}
 use Rattle.cdi_model.specs.declared.decl.PointDecl.{PointDecl}
 use Rattle.cdi_model.specs.declared.decl.ProducerDecl.{ProducerDecl}
+use Rattle.cdi_model.specs.declared.place.BeanPlace.{BeanPlace}
+use Rattle.cdi_model.specs.declared.place.BeanPlace.TheVariants as spots
+use Rattle.cdi_model.specs.declared.quals.Qual.{Qual}
 use Rattle.cdi_bodies.specs.Book.{Promised}
 use Rattle.cdi_bodies.specs.Flags as flags
 use Rattle.cdi_contexts.specs.declared.instance.Actor.TheVariants.{Target as ByTarget}
@@ -37,18 +41,24 @@ use Rattle.cdi_effective.specs.Beans.{beans, effective, entries, managed, produc
 use Rattle.cdi_effective.specs.Disposers.{disposer_of}
 use Rattle.cdi_effective.specs.declared.records.BeanId.{BeanId}
 use Rattle.cdi_resolve.specs.Position.{is_told_by}
+use Rattle.cdi_intercept.specs.Chains.{in_order, part_for, surrounds_one}
+use Rattle.cdi_intercept.specs.Sets.{set_by, sets_of}
+use Rattle.cdi_intercept.proofs.ChainLemmas.{IsPlace, construct_place, in_order-declared, method_place, post_place, pre_place}
+use Rattle.cdi_intercept.proofs.ChainLemmas.{producer_place, surrounds_some}
 use Rattle.cdi_observe.specs.Answers.{answer_to}
-use Rattle.cdi_staging.specs.Faultless.{AreFine, AreSatisfied, IsFineManaged, IsFineProducer, IsFit}
+use Rattle.cdi_staging.specs.Faultless.{AreFine, AreFineAround, AreSatisfied, IsFineManaged, IsFineProducer, IsFit}
 use Rattle.cdi_staging.specs.Sites.{position_of_bean, target_of}
 use Rattle.cdi_staging.specs.Staged.{disposer_for, disposer_named, disposer_part, injections_from, managed_form}
 use Rattle.cdi_staging.specs.Staged.{position_of_class, product_form, scene_of, sight_of, targets, unused_managed}
-use Rattle.cdi_staging.specs.Staged.{unused_product}
+use Rattle.cdi_staging.specs.Staged.{Around, around_of, chain_at, class_of, injections_around, unused_product}
 use Rattle.cdi_staging.specs.declared.target.Target.{Target}
-use Rattle.cdi_staging.proofs.BesideLemmas.{second-at, found, of-find, from-map, in-flat}
+use Rattle.cdi_staging.proofs.BesideLemmas.{in-append-right, second-at, found, of-find, from-map, in-flat}
 use Rattle.cdi_staging.proofs.ChosenLemmas.{IsOffered, Stands, all-stand, bean-found, of-none, reached, told-self, told-is}
 use Rattle.cdi_staging.proofs.PartLemmas.{IsSoundFor, NamesVia, disposer-sound, point-reached}
 use Rattle.cdi_staging.proofs.SplitLemmas.{length-targets}
-use Rattle.cdi_staging.proofs.SoundLemmas.{IsGood, IsProduced, IsUsed, LeadsBy, points_seen}
+use Rattle.cdi_staging.proofs.LinkLemmas.{IsIntercepted, OfAround, apart-own, body_of, from-around, in-one, injected, injection-of}
+use Rattle.cdi_staging.proofs.LinkLemmas.{injection-there, link-of, link-sound, link_seat}
+use Rattle.cdi_staging.proofs.SoundLemmas.{AreLinks, IsGood, IsProduced, IsSpot, IsUsed, LeadsBy, LinksAt, LinksOf, points_seen}
 use Rattle.cdi_staging.proofs.SoundLemmas.{disposer_in, fine-product, managed_in, no-call-disposal}
 use Rattle.cdi_staging.proofs.SoundLemmas.{no-fire-disposal, no-load-disposal, no-proceed-disposal, no-store-disposal}
 use Rattle.cdi_staging.proofs.SoundLemmas.{no-load-class, no-proceed-class, no-store-class, own-good, part_in}
@@ -75,13 +85,19 @@ own_seat b place n = record { bean = b; number = Some n; actor = ByTarget; place
 abbrev LeadsAt : Scene → ℕ → Place → CallSite → Type 0
 LeadsAt s b place site = (n : ℕ) → IsNamed s (own_seat b place n) site.via site.bean
 
+-- the interceptor at a position runs soundly there on any instance
+abbrev LinkAt : List Decl → List Promised → ℕ → Place → ℕ → Type 0
+LinkAt ds book b place q = (n : ℕ) → IsSoundAt book (scene_of ds book) (link_seat b q place n)
+
+-- what is invoked there is good
+abbrev GoodAt : List Decl → List Promised → ℕ → Place → Invocable → Type 0
+GoodAt ds book b place x = IsGood ds book place (LeadsAt (scene_of ds book) b place) (LinkAt ds book b place) x
+
 invocable-sound : (ds : List Decl) (book : List Promised) (b : ℕ) (place : Place) (x : Invocable)
-    → invocable_at (scene_of ds book) b place ≡ Some x → IsGood ds book place (LeadsAt (scene_of ds book) b place) x
+    → invocable_at (scene_of ds book) b place ≡ Some x → GoodAt ds book b place x
     → IsSoundInvocable book (scene_of ds book) b place x
 invocable-sound ds book b place x at good = record {
-  links = λ k q n e.
-      let none : None ≡ Some q = sym (ap (λ l. slice_get l k) good.chain_is) ∙ e in
-      absurd (none-some q none);
+  links = λ k q n e. good.links k q e n;
   target = λ part n e.
       let g = good.part part e in
       record {
@@ -105,7 +121,7 @@ observed_in (Some observer) = Some observer.invocable
 observed_in None = None
 
 no-observers : (ds : List Decl) (book : List Promised) (d : BeanDecl) (e : Bool)
-    → (cond e (managed_form ds (beans ds) book (sight_of ds d) d) unused_managed).observers ≡ []
+    → (cond e (managed_form ds (beans ds) book (sight_of ds d) (class_of ds d)) unused_managed).observers ≡ []
 unfolding managed_form
 no-observers ds book d true = refl
 no-observers ds book d false = refl
@@ -122,17 +138,6 @@ no-observed ds book b o x (Some bean) at e =
 
 -- ---- where call sites lead
 
-injection-there : (n : ℕ) (ts : List Target) (k : ℕ) (t : Target) → slice_get ts k ≡ Some t
-    → slice_get (injections_from n ts) k ≡ Some (record { actor = ByTarget; point = n + k; bean = t.bean })
-injection-there n [] k t e = absurd (none-some t e)
-injection-there n (u ∷ ts) zero t e =
-    let first : n ≡ n + 0 = omega arith in
-    ap (λ o. option_map (λ v. record { actor = ByTarget; point = n; bean = v.bean }) o) e
-    ∙ ap (λ p. Some (record { actor = ByTarget; point = p; bean = t.bean })) first
-injection-there n (u ∷ ts) (suc k) t e =
-    let place : n + 1 + k ≡ n + suc k = omega arith in
-    injection-there (n + 1) ts k t e ∙ ap (λ p. Some (record { actor = ByTarget; point = p; bean = t.bean })) place
-
 -- an injection point of the bean at home
 own-point : (ds : List Decl) (book : List Promised) (home : ℕ) (d : BeanDecl) (seat : Seat) (n p b : ℕ) (t : Target)
     → IsUsed ds book home d → home_of (scene_of ds book) seat.bean seat.place ≡ home → seat.number ≡ Some n
@@ -140,13 +145,16 @@ own-point : (ds : List Decl) (book : List Promised) (home : ℕ) (d : BeanDecl) 
 unfolding managed_form
 own-point ds book home d seat n p b t used is seated own at same =
     let first : 0 + p ≡ p = omega arith in
+    let around = injections_around (surrounds_one ds (sets_of ds (class_of ds d).bindings d)) 0 (around_of ds) in
+    let found = in-append-right around (injections_from ByTarget 0 (targets ds d.points)) p (injected ByTarget (0 + p) t.bean)
+    (injection-there ByTarget 0 (targets ds d.points) p t at) in
     record {
-      managed = managed_form ds (beans ds) book (sight_of ds d) d;
+      managed = managed_form ds (beans ds) book (sight_of ds d) (class_of ds d);
       there = ap (managed_at (scene_of ds book)) is ∙ used;
       number = n;
       seated = seated;
-      place = p;
-      injected = injection-there 0 (targets ds d.points) p t at
+      place = found.0;
+      injected = found.1
           ∙ ap (λ q. Some (record { actor = ByTarget; point = q; bean = t.bean })) first
           ∙ ap (λ c. Some (record { actor = ByTarget; point = p; bean = c })) same
           ∙ ap (λ a. Some (record { actor = a; point = p; bean = b })) (sym own);
@@ -179,7 +187,7 @@ host-used ds book k d distinct at enabled =
     let m = r.of_managed refl in
     let same : m.decl ≡ d = same_Some m.decl d (sym m.is ∙ bean-found ds k d distinct at) in
     ap managed_in r.there ∙ ap as_managed m.form
-    ∙ ap (λ e. Some (managed_form ds (beans ds) book (sight_of ds e) e)) same
+    ∙ ap (λ e. Some (managed_form ds (beans ds) book (sight_of ds e) (class_of ds e))) same
 
 product-leads : (ds : List Decl) (book : List Promised) (b q : ℕ) (d : BeanDecl) (p : ProducerDecl) → AreDistinct ds
     → IsProduced ds book q d p
@@ -201,25 +209,90 @@ product-leads ds book b q d p distinct made site names n = by p.is_static site.v
         ap (λ o. slice_get (elim o [ Some x ↦ x.params | None ↦ [] ]) k) made.product_is
         ∙ param-named ds p.params k site.bean t.0 t.1 t.2
 
+-- ---- the interceptors of chains
+
+spot-place : (d : BeanDecl) (place : Place) (spot : BeanPlace) → IsSpot d place spot → IsPlace d spot
+spot-place d places.Construct spot e = subst (IsPlace d) (sym e) (construct_place d)
+spot-place d places.Post spot e = subst (IsPlace d) (sym e) (post_place d)
+spot-place d places.Pre spot e = subst (IsPlace d) (sym e) (pre_place d)
+spot-place d (places.Method m) spot e = subst (IsPlace d) (sym e.2) (method_place d m e.0 e.1)
+spot-place d (places.Producer b) spot e = absurd e
+spot-place d (places.Disposer b) spot e = absurd e
+spot-place d (places.Observer o) spot e = absurd e
+
+spot-body : (d : BeanDecl) (place : Place) (spot : BeanPlace) (i : InterceptorDecl) → IsSpot d place spot
+    → part_for spot i ≡ body_of place i
+spot-body d places.Construct spot i e = ap (λ s. part_for s i) e
+spot-body d places.Post spot i e = ap (λ s. part_for s i) e
+spot-body d places.Pre spot i e = ap (λ s. part_for s i) e
+spot-body d (places.Method m) spot i e = ap (λ s. part_for s i) e.2
+spot-body d (places.Producer b) spot i e = absurd e
+spot-body d (places.Disposer b) spot i e = absurd e
+spot-body d (places.Observer o) spot i e = absurd e
+
+own-links : (ds : List Decl) (book : List Promised) (b : ℕ) (place : Place) (d : BeanDecl) → AreDistinct ds → AreFineAround ds book
+    → home_of (scene_of ds book) b place ≡ b → IsIntercepted place → IsUsed ds book b d → LinksAt ds d place (LinkAt ds book b place)
+own-links ds book b place d distinct fine home intercepted used spot is k q e n =
+    let class = (class_of ds d).bindings in
+    let link = link-of ds (set_by ds class d spot) spot k q e in
+    link-sound ds book b place spot (set_by ds class d spot) q n distinct fine link (spot-body d place spot link.decl is) intercepted
+    (record {
+      home = b;
+      is = home;
+      bean = d;
+      used = used;
+      stands = surrounds_some ds class d spot link.decl (spot-place d place spot is) link.stands;
+    })
+
+product-links : (ds : List Decl) (book : List Promised) (b q : ℕ) (d : BeanDecl) (p : ProducerDecl) → AreDistinct ds
+    → AreFineAround ds book → IsProduced ds book q d p → LinksOf ds d p (LinkAt ds book b (places.Producer q))
+unfolding product_form
+product-links ds book b q d p distinct fine made = by p.is_static refl
+  where
+    spot : BeanPlace
+    spot = spots.Producer p.name
+
+    class : List Qual
+    class = (class_of ds d).bindings
+
+    by : (s : Bool) → p.is_static ≡ s
+        → AreLinks (LinkAt ds book b (places.Producer q)) (cond s [] (chain_at ds (around_of ds) (set_by ds class d spot) spot))
+    by true is k r e n = absurd (none-some r e)
+    by false is k r e n =
+        let link = link-of ds (set_by ds class d spot) spot k r e in
+        link-sound ds book b (places.Producer q) spot (set_by ds class d spot) r n distinct fine link refl tt
+        (record {
+          home = position_of_class (beans ds) d.name;
+          is = ap (λ o. elim o [ Some x ↦ x.declaring | None ↦ b ]) made.product_is;
+          bean = d;
+          used = host-used ds book made.place d distinct made.there made.enabled;
+          stands = surrounds_some ds class d spot link.decl (producer_place d made.at p made.declared is) link.stands;
+        })
+
 all-invocables : (ds : List Decl) (book : List Promised) (b : ℕ) (place : Place) (x : Invocable) → AreDistinct ds → AreFine ds book
-    → invocable_at (scene_of ds book) b place ≡ Some x → IsGood ds book place (LeadsAt (scene_of ds book) b place) x
-all-invocables ds book b places.Construct x distinct fine at =
-    own-good ds book b places.Construct (LeadsAt (scene_of ds book) b places.Construct) x (bean_at (scene_of ds book) b) distinct fine
-    (λ d used. own-leads ds book b places.Construct d refl used) refl at
-all-invocables ds book b places.Post x distinct fine at =
-    own-good ds book b places.Post (LeadsAt (scene_of ds book) b places.Post) x (bean_at (scene_of ds book) b) distinct fine
-    (λ d used. own-leads ds book b places.Post d refl used) refl at
-all-invocables ds book b places.Pre x distinct fine at =
-    own-good ds book b places.Pre (LeadsAt (scene_of ds book) b places.Pre) x (bean_at (scene_of ds book) b) distinct fine
-    (λ d used. own-leads ds book b places.Pre d refl used) refl at
-all-invocables ds book b (places.Method m) x distinct fine at =
-    own-good ds book b (places.Method m) (LeadsAt (scene_of ds book) b (places.Method m)) x (bean_at (scene_of ds book) b) distinct fine
-    (λ d used. own-leads ds book b (places.Method m) d refl used) refl at
-all-invocables ds book b (places.Producer q) x distinct fine at =
-    producer-good ds book q (LeadsAt (scene_of ds book) b (places.Producer q)) x (bean_at (scene_of ds book) q) distinct fine
-    (λ d p made. product-leads ds book b q d p distinct made) refl at
-all-invocables ds book b (places.Disposer q) x distinct fine at = absurd (none-some x at)
-all-invocables ds book b (places.Observer o) x distinct fine at =
+    → AreFineAround ds book → invocable_at (scene_of ds book) b place ≡ Some x → GoodAt ds book b place x
+all-invocables ds book b places.Construct x distinct fine around at =
+    own-good ds book b places.Construct _ (LinkAt ds book b places.Construct) x (bean_at (scene_of ds book) b) distinct fine
+    (λ d used. own-leads ds book b places.Construct d refl used)
+    (λ d used. own-links ds book b places.Construct d distinct around refl tt used) refl at
+all-invocables ds book b places.Post x distinct fine around at =
+    own-good ds book b places.Post _ (LinkAt ds book b places.Post) x (bean_at (scene_of ds book) b) distinct fine
+    (λ d used. own-leads ds book b places.Post d refl used)
+    (λ d used. own-links ds book b places.Post d distinct around refl tt used) refl at
+all-invocables ds book b places.Pre x distinct fine around at =
+    own-good ds book b places.Pre _ (LinkAt ds book b places.Pre) x (bean_at (scene_of ds book) b) distinct fine
+    (λ d used. own-leads ds book b places.Pre d refl used)
+    (λ d used. own-links ds book b places.Pre d distinct around refl tt used) refl at
+all-invocables ds book b (places.Method m) x distinct fine around at =
+    own-good ds book b (places.Method m) _ (LinkAt ds book b (places.Method m)) x (bean_at (scene_of ds book) b) distinct fine
+    (λ d used. own-leads ds book b (places.Method m) d refl used)
+    (λ d used. own-links ds book b (places.Method m) d distinct around refl tt used) refl at
+all-invocables ds book b (places.Producer q) x distinct fine around at =
+    producer-good ds book q _ (LinkAt ds book b (places.Producer q)) x (bean_at (scene_of ds book) q) distinct fine
+    (λ d p made. product-leads ds book b q d p distinct made)
+    (λ d p made. product-links ds book b q d p distinct around made) refl at
+all-invocables ds book b (places.Disposer q) x distinct fine around at = absurd (none-some x at)
+all-invocables ds book b (places.Observer o) x distinct fine around at =
     absurd (no-observed ds book b o x (bean_at (scene_of ds book) b) refl at)
 
 -- ---- beans
@@ -237,37 +310,38 @@ target-stands ds book points k t distinct satisfied at =
     sym (ap (λ ch. (target_of (beans ds) ch).bean) (sym point.2 ∙ sat.chosen)) ∙ ap (λ u. u.bean) choice.2 in
     (r.bean, ap (bean_at (scene_of ds book)) (sym place) ∙ r.there)
 
-injection-of : (n : ℕ) (ts : List Target) (k : ℕ) (i : Injection) → slice_get (injections_from n ts) k ≡ Some i
-    → (t : Target) × (slice_get ts k ≡ Some t) × (i.bean ≡ t.bean)
-injection-of n [] k i e = absurd (none-some i e)
-injection-of n (t ∷ ts) zero i e = (t, refl, ap (λ j. j.bean) (sym (same_Some _ i e)))
-injection-of n (t ∷ ts) (suc k) i e = injection-of (n + 1) ts k i e
+-- what is chosen for an injection point of an interceptor stands in the scene
+around-stands : (ds : List Decl) (book : List Promised) (x : Injection) → AreDistinct ds → AreFineAround ds book
+    → OfAround 0 (around_of ds) x → (bean : Bean) × (bean_at (scene_of ds book) x.bean ≡ Some bean)
+unfolding around_of
+around-stands ds book x distinct fine of =
+    let with_targets : InterceptorDecl → Around = λ i. (i, targets ds i.points) in
+    let i = from-map with_targets (in_order ds) of.place of.one of.there in
+    let declared = in_order-declared ds of.place i.0 i.1 in
+    let own = fine declared.0.0 i.0 declared.0.1 declared.1 in
+    let chosen = ap (λ a. slice_get a.1 of.point) i.2 ∙ of.chosen in
+    let bean = target-stands ds book i.0.points of.point of.target distinct own.points chosen in
+    (bean.0, ap (λ j. bean_at (scene_of ds book) j.bean) of.is ∙ bean.1)
 
--- the points of a bean stand in order
-point-of : (n : ℕ) (ts : List Target) (k : ℕ) (i : Injection) → slice_get (injections_from n ts) k ≡ Some i → i.point ≡ n + k
-point-of n [] k i e = absurd (none-some i e)
-point-of n (t ∷ ts) zero i e =
-    let first : i.point ≡ n = ap (λ j. j.point) (sym (same_Some _ i e)) in
-    omega (arith, first)
-point-of n (t ∷ ts) (suc k) i e =
-    let rest = point-of (n + 1) ts k i e in
-    omega (arith, rest)
-
-managed-sound : (ds : List Decl) (book : List Promised) (d : BeanDecl) (e : Bool) → AreDistinct ds → (e ≡ true → IsFineManaged ds book d)
-    → IsSoundManaged (scene_of ds book) (cond e (managed_form ds (beans ds) book (sight_of ds d) d) unused_managed)
+managed-sound : (ds : List Decl) (book : List Promised) (d : BeanDecl) (e : Bool) → AreDistinct ds → AreFineAround ds book
+    → (e ≡ true → IsFineManaged ds book d)
+    → IsSoundManaged (scene_of ds book) (cond e (managed_form ds (beans ds) book (sight_of ds d) (class_of ds d)) unused_managed)
 unfolding managed_form
-managed-sound ds book d true distinct fine = record {
-  injections = λ k i at.
-      let t = injection-of 0 (targets ds d.points) k i at in
-      let bean = target-stands ds book d.points k t.0 distinct (fine refl).points t.1 in
-      (bean.0, ap (bean_at (scene_of ds book)) t.2 ∙ bean.1);
-  apart = λ j k x y e f actor point.
-      let one = point-of 0 (targets ds d.points) j x e in
-      let other = point-of 0 (targets ds d.points) k y f in
-      omega (arith, one, other, point);
-  observers = λ k o at. absurd (none-some o at);
-}
-managed-sound ds book d false distinct fine = record {
+managed-sound ds book d true distinct around fine =
+    let test = surrounds_one ds (sets_of ds (class_of ds d).bindings d) in
+    record {
+      injections = λ k i at. elim (in-one (injections_around test 0 (around_of ds))
+          (injections_from ByTarget 0 (targets ds d.points)) k i at) [
+            | inl first ↦ around-stands ds book i distinct around (from-around test 0 (around_of ds) k i first)
+            | inr second ↦
+                let t = injection-of ByTarget 0 (targets ds d.points) second.0 i second.2 in
+                let bean = target-stands ds book d.points second.0 t.0 distinct (fine refl).points t.1 in
+                (bean.0, ap (λ j. bean_at (scene_of ds book) j.bean) t.2 ∙ bean.1)
+          ];
+      apart = apart-own test (around_of ds) (targets ds d.points);
+      observers = λ k o at. absurd (none-some o at);
+    }
+managed-sound ds book d false distinct around fine = record {
   injections = λ k i at. absurd (none-some i at);
   apart = λ j k x y e f actor point. absurd (none-some x e);
   observers = λ k o at. absurd (none-some o at);
@@ -298,7 +372,7 @@ names-none (Param p) b t = none-some t.0 t.1
 static-leads : (ds : List Decl) (book : List Promised) (d : BeanDecl) (p : ProducerDecl) (seat : Seat) (b : ℕ) (via : Via) (c : ℕ)
     → seat.place ≡ places.Producer b
     → product_at (scene_of ds book) b
-    ≡ Some (product_form ds (beans ds) book (sight_of ds d) d (product ds d p) p (targets ds p.params))
+    ≡ Some (product_form ds (beans ds) book (sight_of ds d) (class_of ds d) (product ds d p) p (targets ds p.params))
     → NamesVia [] (targets ds p.params) via c → IsNamed (scene_of ds book) seat via c
 unfolding product_form
 static-leads ds book d p seat b (Own k) c is there t = absurd (none-some t.0 t.1)
@@ -335,10 +409,11 @@ product-sound : (ds : List Decl) (book : List Promised) (k : ℕ) (d : BeanDecl)
     → slice_get ds k ≡ Some (decls.Bean d)
     → (e ≡ true → AreSatisfied ds d.points × IsFineProducer ds book d p)
     → product_at (scene_of ds book) b
-    ≡ Some (cond e (product_form ds (beans ds) book (sight_of ds d) d (product ds d p) p (targets ds p.params))
+    ≡ Some (cond e (product_form ds (beans ds) book (sight_of ds d) (class_of ds d) (product ds d p) p (targets ds p.params))
     (unused_product (beans ds) d))
     → IsSoundProduct book (scene_of ds book) b
-    (cond e (product_form ds (beans ds) book (sight_of ds d) d (product ds d p) p (targets ds p.params)) (unused_product (beans ds) d))
+    (cond e (product_form ds (beans ds) book (sight_of ds d) (class_of ds d) (product ds d p) p (targets ds p.params))
+    (unused_product (beans ds) d))
 unfolding product_form disposer_for
 product-sound ds book k d p b false distinct at fine there =
     let host = declaring-there ds book k d at in
@@ -398,20 +473,21 @@ product-sound ds book k d p b true distinct at fine there =
           (disposer-sound ds book flags.at_disposal disposer.body part fit made)));
     }
 
-form-sound : (ds : List Decl) (book : List Promised) (b : ℕ) (bean : Bean) → AreDistinct ds → AreFine ds book
+form-sound : (ds : List Decl) (book : List Promised) (b : ℕ) (bean : Bean) → AreDistinct ds → AreFine ds book → AreFineAround ds book
     → bean_at (scene_of ds book) b ≡ Some bean → IsSoundForm book (scene_of ds book) b bean.form
-form-sound ds book b bean distinct fine at =
+form-sound ds book b bean distinct fine around at =
     elim (stands-at ds book b bean at).fits [
       | inl m ↦ subst (λ bn. IsSoundForm book (scene_of ds book) b bn.form) (sym m.made)
-          (managed-sound ds book m.decl (managed ds m.decl).is_enabled distinct (fine m.place m.decl m.there).managed_bean)
+          (managed-sound ds book m.decl (managed ds m.decl).is_enabled distinct around (fine m.place m.decl m.there).managed_bean)
       | inr p ↦ subst (λ bn. IsSoundForm book (scene_of ds book) b bn.form) (sym p.made)
           (product-sound ds book p.place p.decl p.producer b (product ds p.decl p.producer).is_enabled distinct p.there
           (fine-product ds book p.place p.decl p.at p.producer fine p.there p.declared)
           (ap product_in at ∙ ap (λ bn. as_product bn.form) p.made))
     ]
 
-pub fine_is_sound : (ds : List Decl) (book : List Promised) → AreDistinct ds → AreFine ds book → IsSound book (scene_of ds book)
-fine_is_sound ds book distinct fine = record {
-  beans = λ b bean at. form-sound ds book b bean distinct fine at;
-  invocables = λ b place x at. invocable-sound ds book b place x at (all-invocables ds book b place x distinct fine at);
+pub fine_is_sound : (ds : List Decl) (book : List Promised) → AreDistinct ds → AreFine ds book → AreFineAround ds book
+    → IsSound book (scene_of ds book)
+fine_is_sound ds book distinct fine around = record {
+  beans = λ b bean at. form-sound ds book b bean distinct fine around at;
+  invocables = λ b place x at. invocable-sound ds book b place x at (all-invocables ds book b place x distinct fine around at);
 }

@@ -9,9 +9,12 @@ use Rattle.cdi_model.specs.DeclList.{AreDistinct}
 use Rattle.cdi_model.specs.declared.decl.BeanDecl.{BeanDecl}
 use Rattle.cdi_model.specs.declared.decl.Decl.{Decl}
 use Rattle.cdi_model.specs.declared.decl.Decl.TheVariants as decls
+use Rattle.cdi_model.specs.declared.decl.MethodDecl.{MethodDecl}
 use Rattle.cdi_model.specs.declared.decl.PartDecl.{PartDecl}
 use Rattle.cdi_model.specs.declared.decl.PointDecl.{PointDecl}
 use Rattle.cdi_model.specs.declared.decl.ProducerDecl.{ProducerDecl}
+use Rattle.cdi_model.specs.declared.place.BeanPlace.{BeanPlace}
+use Rattle.cdi_model.specs.declared.place.BeanPlace.TheVariants as spots
 use Rattle.cdi_bodies.specs.Book.{Promised, is_named, promise_of}
 use Rattle.cdi_scene.specs.declared.scene.CallSite.{CallSite}
 use Rattle.cdi_bodies.specs.Flags as flags
@@ -29,7 +32,7 @@ use Rattle.cdi_staging.specs.Faultless.{AreFine, AreSatisfied, IsFineManaged, Is
 use Rattle.cdi_staging.specs.Sites.{producer_sight, site_of}
 use Rattle.cdi_staging.specs.Staged.{empty_place, managed_form, part_of, part_with, product_form, scene_of, sight_of}
 use Rattle.cdi_staging.specs.Staged.{staged_method, staged_part, staged_place, targets, unused_managed}
-use Rattle.cdi_staging.specs.Staged.{unused_product}
+use Rattle.cdi_staging.specs.Staged.{class_chain, class_of, producer_chain, unused_product}
 use Rattle.cdi_staging.proofs.BesideLemmas.{First, first-at, of-find, from-map}
 use Rattle.cdi_staging.proofs.ChosenLemmas.{Stands, all-stand}
 use Rattle.cdi_staging.proofs.PartLemmas.{IsSoundFor, Names, from-option, part-sound, seen}
@@ -82,17 +85,26 @@ pub record IsGoodPart (ds : List Decl) (book : List Promised) (place : Place) (L
   pub own : Lacks part flags.proceed
   pub leads : (k : ℕ) (site : CallSite) → slice_get part.calls k ≡ Some site → Leads site
 
--- no interceptor, and a part, if any, that is such
-pub record IsGood (ds : List Decl) (book : List Promised) (place : Place) (Leads : CallSite → Type 0) (x : Invocable) : Type 0 where
-  pub chain_is : x.chain ≡ []
+-- each interceptor of a chain is such
+abbrev pub AreLinks : (ℕ → Type 0) → List ℕ → Type 0
+AreLinks Links chain = (k q : ℕ) → slice_get chain k ≡ Some q → Links q
+
+-- interceptors that are such, and a part, if any, that is
+pub record IsGood (ds : List Decl) (book : List Promised) (place : Place) (Leads : CallSite → Type 0) (Links : ℕ → Type 0)
+    (x : Invocable) : Type 0 where
+  pub links : AreLinks Links x.chain
   pub part : (part : Part) → x.part ≡ Some part → IsGoodPart ds book place Leads part
 
 -- what a site is that names one of some injection points and parameters
 abbrev pub LeadsBy : List Decl → List PointDecl → List PointDecl → (CallSite → Type 0) → Type 0
 LeadsBy ds points params Leads = (site : CallSite) → Names ds points params site → Leads site
 
-good-empty : (ds : List Decl) (book : List Promised) (place : Place) (Leads : CallSite → Type 0) → IsGood ds book place Leads empty_place
-good-empty ds book place Leads = record { chain_is = refl; part = λ part e. absurd (cc) }
+no-links : (Links : ℕ → Type 0) → AreLinks Links []
+no-links Links k q e = absurd (none-some q e)
+
+good-empty : (ds : List Decl) (book : List Promised) (place : Place) (Leads : CallSite → Type 0) (Links : ℕ → Type 0)
+    → IsGood ds book place Leads Links empty_place
+good-empty ds book place Leads Links = record { links = no-links Links; part = λ part e. absurd (cc) }
 
 -- what a place takes of a part that is sound there
 abbrev Takes : List Decl → List Promised → ℕ → Place → List PointDecl → List PointDecl → (CallSite → Type 0) → Type 0
@@ -100,21 +112,24 @@ Takes ds book allowed place points params Leads =
     (part : Part) → IsSoundFor ds book allowed points params part → IsGoodPart ds book place Leads part
 
 good-place : (ds : List Decl) (book : List Promised) (allowed : ℕ) (place : Place) (points params : List PointDecl)
-    (Leads : CallSite → Type 0) (o : Option PartDecl)
+    (Leads : CallSite → Type 0) (Links : ℕ → Type 0) (chain : List ℕ) (o : Option PartDecl)
     → AreDistinct ds → AreSatisfied ds points → AreSatisfied ds params
     → ((part : PartDecl) → o ≡ Some part → IsFinePart ds book allowed (params ++ points) part)
-    → Takes ds book allowed place points params Leads
-    → IsGood ds book place Leads (staged_place ds (beans ds) book (seen ds points params) o)
+    → Takes ds book allowed place points params Leads → AreLinks Links chain
+    → IsGood ds book place Leads Links (staged_place ds (beans ds) book (seen ds points params) chain o)
 unfolding staged_place
-good-place ds book allowed place points params Leads None distinct own_points own_params fine takes = good-empty ds book place Leads
-good-place ds book allowed place points params Leads (Some p) distinct own_points own_params fine takes = record {
-  chain_is = refl;
+good-place ds book allowed place points params Leads Links chain None distinct own_points own_params fine takes links = record {
+  links = links;
+  part = λ part e. absurd (none-some part e);
+}
+good-place ds book allowed place points params Leads Links chain (Some p) distinct own_points own_params fine takes links = record {
+  links = links;
   part = λ part e. takes part (part-sound ds book allowed points params p part distinct own_points own_params (fine p refl) e);
 }
 
 -- ---- managed beans
 
-none-satisfied : (ds : List Decl) → AreSatisfied ds []
+pub none-satisfied : (ds : List Decl) → AreSatisfied ds []
 none-satisfied ds k point e = absurd (cc)
 
 at-instance : (ds : List Decl) (book : List Promised) (place : Place) (points params : List PointDecl) (Leads : CallSite → Type 0)
@@ -139,51 +154,66 @@ at-destruction ds book points Leads lead part s = record {
   leads = λ k site at. lead site (s.names k site at);
 }
 
-good-form : (ds : List Decl) (book : List Promised) (d : BeanDecl) (place : Place) (Leads : CallSite → Type 0) (x : Invocable)
-    → AreDistinct ds → IsFineManaged ds book d → LeadsBy ds d.points [] Leads
-    → place_of (managed_form ds (beans ds) book (sight_of ds d) d) place ≡ Some x → IsGood ds book place Leads x
+-- the place of a bean that a place of its instances is
+abbrev pub IsSpot : BeanDecl → Place → BeanPlace → Type 0
+IsSpot d places.Construct spot = spot ≡ spots.Construct
+IsSpot d places.Post spot = spot ≡ spots.Post
+IsSpot d places.Pre spot = spot ≡ spots.Pre
+IsSpot d (places.Method m) spot = (method : MethodDecl) × (slice_get d.methods m ≡ Some method) × (spot ≡ spots.Method method.name)
+IsSpot d place spot = ⊥
+
+-- each interceptor around the place is such
+abbrev pub LinksAt : List Decl → BeanDecl → Place → (ℕ → Type 0) → Type 0
+LinksAt ds d place Links = (spot : BeanPlace) → IsSpot d place spot → AreLinks Links (class_chain ds (class_of ds d) spot)
+
+good-form : (ds : List Decl) (book : List Promised) (d : BeanDecl) (place : Place) (Leads : CallSite → Type 0) (Links : ℕ → Type 0)
+    (x : Invocable) → AreDistinct ds → IsFineManaged ds book d → LeadsBy ds d.points [] Leads → LinksAt ds d place Links
+    → place_of (managed_form ds (beans ds) book (sight_of ds d) (class_of ds d)) place ≡ Some x → IsGood ds book place Leads Links x
 unfolding managed_form
-good-form ds book d places.Construct Leads x distinct fine lead e =
-    subst (IsGood ds book places.Construct Leads) (same_Some _ x e)
-    (good-place ds book flags.at_instance places.Construct d.points [] Leads d.construct distinct fine.points (none-satisfied ds)
-    fine.construct (at-instance ds book places.Construct d.points [] Leads (λ part. tt) lead))
-good-form ds book d places.Post Leads x distinct fine lead e =
-    subst (IsGood ds book places.Post Leads) (same_Some _ x e)
-    (good-place ds book flags.at_instance places.Post d.points [] Leads d.post distinct fine.points (none-satisfied ds) fine.post
-    (at-instance ds book places.Post d.points [] Leads (λ part. tt) lead))
-good-form ds book d places.Pre Leads x distinct fine lead e =
-    subst (IsGood ds book places.Pre Leads) (same_Some _ x e)
-    (good-place ds book flags.at_destruction places.Pre d.points [] Leads d.pre distinct fine.points (none-satisfied ds) fine.pre
-    (at-destruction ds book d.points Leads lead))
-good-form ds book d (places.Method m) Leads x distinct fine lead e =
-    let at = from-map (staged_method ds (beans ds) book (sight_of ds d)) d.methods m x e in
-    subst (IsGood ds book (places.Method m) Leads) at.2
-    (good-place ds book flags.at_instance (places.Method m) d.points [] Leads (Some at.0.part) distinct fine.points (none-satisfied ds)
+good-form ds book d places.Construct Leads Links x distinct fine lead link e =
+    subst (IsGood ds book places.Construct Leads Links) (same_Some _ x e)
+    (good-place ds book flags.at_instance places.Construct d.points [] Leads Links _ d.construct distinct fine.points (none-satisfied ds)
+    fine.construct (at-instance ds book places.Construct d.points [] Leads (λ part. tt) lead) (link spots.Construct refl))
+good-form ds book d places.Post Leads Links x distinct fine lead link e =
+    subst (IsGood ds book places.Post Leads Links) (same_Some _ x e)
+    (good-place ds book flags.at_instance places.Post d.points [] Leads Links _ d.post distinct fine.points (none-satisfied ds) fine.post
+    (at-instance ds book places.Post d.points [] Leads (λ part. tt) lead) (link spots.Post refl))
+good-form ds book d places.Pre Leads Links x distinct fine lead link e =
+    subst (IsGood ds book places.Pre Leads Links) (same_Some _ x e)
+    (good-place ds book flags.at_destruction places.Pre d.points [] Leads Links _ d.pre distinct fine.points (none-satisfied ds) fine.pre
+    (at-destruction ds book d.points Leads lead) (link spots.Pre refl))
+good-form ds book d (places.Method m) Leads Links x distinct fine lead link e =
+    let at = from-map (staged_method ds (beans ds) book (sight_of ds d) (class_of ds d)) d.methods m x e in
+    subst (IsGood ds book (places.Method m) Leads Links) at.2
+    (good-place ds book flags.at_instance (places.Method m) d.points [] Leads Links _ (Some at.0.part) distinct fine.points
+    (none-satisfied ds)
     (λ part same. subst (IsFinePart ds book flags.at_instance d.points) (same_Some at.0.part part same) (fine.methods m at.0 at.1))
-    (at-instance ds book (places.Method m) d.points [] Leads (λ part. tt) lead))
-good-form ds book d (places.Producer b) Leads x distinct fine lead e = absurd (cc)
-good-form ds book d (places.Disposer b) Leads x distinct fine lead e = absurd (cc)
-good-form ds book d (places.Observer o) Leads x distinct fine lead e = absurd (cc)
+    (at-instance ds book (places.Method m) d.points [] Leads (λ part. tt) lead) (link (spots.Method at.0.name) (at.0, at.1, refl)))
+good-form ds book d (places.Producer b) Leads Links x distinct fine lead link e = absurd (cc)
+good-form ds book d (places.Disposer b) Leads Links x distinct fine lead link e = absurd (cc)
+good-form ds book d (places.Observer o) Leads Links x distinct fine lead link e = absurd (cc)
 
-good-unused : (ds : List Decl) (book : List Promised) (place : Place) (Leads : CallSite → Type 0) (x : Invocable)
-    → place_of unused_managed place ≡ Some x → IsGood ds book place Leads x
-good-unused ds book places.Construct Leads x e =
-    subst (IsGood ds book places.Construct Leads) (same_Some _ x e) (good-empty ds book places.Construct Leads)
-good-unused ds book places.Post Leads x e =
-    subst (IsGood ds book places.Post Leads) (same_Some _ x e) (good-empty ds book places.Post Leads)
-good-unused ds book places.Pre Leads x e =
-    subst (IsGood ds book places.Pre Leads) (same_Some _ x e) (good-empty ds book places.Pre Leads)
-good-unused ds book (places.Method m) Leads x e = absurd (cc)
-good-unused ds book (places.Producer b) Leads x e = absurd (cc)
-good-unused ds book (places.Disposer b) Leads x e = absurd (cc)
-good-unused ds book (places.Observer o) Leads x e = absurd (cc)
+good-unused : (ds : List Decl) (book : List Promised) (place : Place) (Leads : CallSite → Type 0) (Links : ℕ → Type 0) (x : Invocable)
+    → place_of unused_managed place ≡ Some x → IsGood ds book place Leads Links x
+good-unused ds book places.Construct Leads Links x e =
+    subst (IsGood ds book places.Construct Leads Links) (same_Some _ x e) (good-empty ds book places.Construct Leads Links)
+good-unused ds book places.Post Leads Links x e =
+    subst (IsGood ds book places.Post Leads Links) (same_Some _ x e) (good-empty ds book places.Post Leads Links)
+good-unused ds book places.Pre Leads Links x e =
+    subst (IsGood ds book places.Pre Leads Links) (same_Some _ x e) (good-empty ds book places.Pre Leads Links)
+good-unused ds book (places.Method m) Leads Links x e = absurd (cc)
+good-unused ds book (places.Producer b) Leads Links x e = absurd (cc)
+good-unused ds book (places.Disposer b) Leads Links x e = absurd (cc)
+good-unused ds book (places.Observer o) Leads Links x e = absurd (cc)
 
-good-managed : (ds : List Decl) (book : List Promised) (d : BeanDecl) (place : Place) (Leads : CallSite → Type 0) (x : Invocable) (e : Bool)
-    → AreDistinct ds → (e ≡ true → IsFineManaged ds book d) → (e ≡ true → LeadsBy ds d.points [] Leads)
-    → place_of (cond e (managed_form ds (beans ds) book (sight_of ds d) d) unused_managed) place ≡ Some x
-    → IsGood ds book place Leads x
-good-managed ds book d place Leads x true distinct fine lead at = good-form ds book d place Leads x distinct (fine refl) (lead refl) at
-good-managed ds book d place Leads x false distinct fine lead at = good-unused ds book place Leads x at
+good-managed : (ds : List Decl) (book : List Promised) (d : BeanDecl) (place : Place) (Leads : CallSite → Type 0) (Links : ℕ → Type 0)
+    (x : Invocable) (e : Bool) → AreDistinct ds → (e ≡ true → IsFineManaged ds book d) → (e ≡ true → LeadsBy ds d.points [] Leads)
+    → (e ≡ true → LinksAt ds d place Links)
+    → place_of (cond e (managed_form ds (beans ds) book (sight_of ds d) (class_of ds d)) unused_managed) place ≡ Some x
+    → IsGood ds book place Leads Links x
+good-managed ds book d place Leads Links x true distinct fine lead link at =
+    good-form ds book d place Leads Links x distinct (fine refl) (lead refl) (link refl) at
+good-managed ds book d place Leads Links x false distinct fine lead link at = good-unused ds book place Leads Links x at
 
 -- ---- producer methods
 
@@ -196,25 +226,28 @@ abbrev pub points_seen : Bool → BeanDecl → List PointDecl
 points_seen true d = []
 points_seen false d = d.points
 
-good-by : (ds : List Decl) (book : List Promised) (d : BeanDecl) (p : ProducerDecl) (b : ℕ) (Leads : CallSite → Type 0) (s : Bool)
+good-by : (ds : List Decl) (book : List Promised) (d : BeanDecl) (p : ProducerDecl) (b : ℕ) (Leads : CallSite → Type 0)
+    (Links : ℕ → Type 0) (chain : List ℕ) (s : Bool)
     → AreDistinct ds → AreSatisfied ds d.points → AreSatisfied ds p.params
     → IsFinePart ds book (cond s flags.at_class flags.at_instance) (p.params ++ cond s [] d.points) p.part
-    → LeadsBy ds (points_seen s d) p.params Leads
-    → IsGood ds book (places.Producer b) Leads
-    (staged_place ds (beans ds) book (producer_sight s (sight_of ds d) p.params (targets ds p.params)) (Some p.part))
-good-by ds book d p b Leads true distinct own_points own_params fine lead =
-    good-place ds book flags.at_class (places.Producer b) [] p.params Leads (Some p.part) distinct (none-satisfied ds) own_params
+    → LeadsBy ds (points_seen s d) p.params Leads → AreLinks Links chain
+    → IsGood ds book (places.Producer b) Leads Links
+    (staged_place ds (beans ds) book (producer_sight s (sight_of ds d) p.params (targets ds p.params)) chain (Some p.part))
+good-by ds book d p b Leads Links chain true distinct own_points own_params fine lead links =
+    good-place ds book flags.at_class (places.Producer b) [] p.params Leads Links chain (Some p.part) distinct
+    (none-satisfied ds) own_params
     (λ part same. subst (IsFinePart ds book flags.at_class (p.params ++ [])) (same_Some p.part part same) fine)
     (λ part s. record {
       sound = s.sound;
       allowed = tt;
       own = λ has. no-proceed-class (s.kept flags.proceed has);
       leads = λ k site at. lead site (s.names k site at);
-    })
-good-by ds book d p b Leads false distinct own_points own_params fine lead =
-    good-place ds book flags.at_instance (places.Producer b) d.points p.params Leads (Some p.part) distinct own_points own_params
+    }) links
+good-by ds book d p b Leads Links chain false distinct own_points own_params fine lead links =
+    good-place ds book flags.at_instance (places.Producer b) d.points p.params Leads Links chain
+    (Some p.part) distinct own_points own_params
     (λ part same. subst (IsFinePart ds book flags.at_instance (p.params ++ d.points)) (same_Some p.part part same) fine)
-    (at-instance ds book (places.Producer b) d.points p.params Leads (λ part. tt) lead)
+    (at-instance ds book (places.Producer b) d.points p.params Leads (λ part. tt) lead) links
 
 -- ---- what stands at a position
 
@@ -249,42 +282,52 @@ stands-at ds book b bean at = first-at (Stands ds book) (beans ds) (scene_of ds 
 
 -- a managed bean that is enabled stands at the position
 abbrev pub IsUsed : List Decl → List Promised → ℕ → BeanDecl → Type 0
-IsUsed ds book b d = managed_in (bean_at (scene_of ds book) b) ≡ Some (managed_form ds (beans ds) book (sight_of ds d) d)
+IsUsed ds book b d = managed_in (bean_at (scene_of ds book) b) ≡ Some (managed_form ds (beans ds) book (sight_of ds d) (class_of ds d))
 
 used : (ds : List Decl) (book : List Promised) (b : ℕ) (d : BeanDecl) (e : Bool)
-    → managed_in (bean_at (scene_of ds book) b) ≡ Some (cond e (managed_form ds (beans ds) book (sight_of ds d) d) unused_managed)
+    → managed_in (bean_at (scene_of ds book) b) ≡ Some (cond e
+    (managed_form ds (beans ds) book (sight_of ds d) (class_of ds d)) unused_managed)
     → e ≡ true → IsUsed ds book b d
 used ds book b d true at is = at
 used ds book b d false at is = absurd (false≢true is)
 
-pub own-good : (ds : List Decl) (book : List Promised) (b : ℕ) (place : Place) (Leads : CallSite → Type 0) (x : Invocable)
-    (o : Option Bean) → AreDistinct ds → AreFine ds book
+pub own-good : (ds : List Decl) (book : List Promised) (b : ℕ) (place : Place) (Leads : CallSite → Type 0) (Links : ℕ → Type 0)
+    (x : Invocable) (o : Option Bean) → AreDistinct ds → AreFine ds book
     → ((d : BeanDecl) → IsUsed ds book b d → LeadsBy ds d.points [] Leads)
-    → bean_at (scene_of ds book) b ≡ o → place_in place (managed_in o) ≡ Some x → IsGood ds book place Leads x
-own-good ds book b place Leads x None distinct fine lead at e = absurd (cc)
-own-good ds book b place Leads x (Some bean) distinct fine lead at e =
+    → ((d : BeanDecl) → IsUsed ds book b d → LinksAt ds d place Links)
+    → bean_at (scene_of ds book) b ≡ o → place_in place (managed_in o) ≡ Some x → IsGood ds book place Leads Links x
+own-good ds book b place Leads Links x None distinct fine lead link at e = absurd (cc)
+own-good ds book b place Leads Links x (Some bean) distinct fine lead link at e =
     elim (stands-at ds book b bean at).fits [
-      | inl m ↦ good-managed ds book m.decl place Leads x (managed ds m.decl).is_enabled distinct
+      | inl m ↦
+          let is_used : (managed ds m.decl).is_enabled ≡ true → IsUsed ds book b m.decl =
+          λ enabled. used ds book b m.decl (managed ds m.decl).is_enabled
+          (ap managed_in at ∙ ap (λ bn. as_managed bn.form) m.made) enabled in
+          good-managed ds book m.decl place Leads Links x (managed ds m.decl).is_enabled distinct
           (fine m.place m.decl m.there).managed_bean
-          (λ enabled. lead m.decl (used ds book b m.decl (managed ds m.decl).is_enabled
-          (ap managed_in at ∙ ap (λ bn. as_managed bn.form) m.made) enabled))
+          (λ enabled. lead m.decl (is_used enabled)) (λ enabled. link m.decl (is_used enabled))
           (sym (ap (λ bn. place_in place (as_managed bn.form)) m.made) ∙ e)
       | inr p ↦
           let none : None ≡ Some x = sym (ap (λ bn. place_in place (as_managed bn.form)) p.made) ∙ e in
           absurd (none-some x none)
     ]
 
-good-product : (ds : List Decl) (book : List Promised) (d : BeanDecl) (p : ProducerDecl) (b : ℕ) (Leads : CallSite → Type 0) (e : Bool)
+-- each interceptor around a producer method is such
+abbrev pub LinksOf : List Decl → BeanDecl → ProducerDecl → (ℕ → Type 0) → Type 0
+LinksOf ds d p Links = AreLinks Links (producer_chain ds (class_of ds d) p)
+
+good-product : (ds : List Decl) (book : List Promised) (d : BeanDecl) (p : ProducerDecl) (b : ℕ) (Leads : CallSite → Type 0)
+    (Links : ℕ → Type 0) (e : Bool)
     → AreDistinct ds → (e ≡ true → AreSatisfied ds d.points × IsFineProducer ds book d p)
-    → (e ≡ true → LeadsBy ds (points_seen p.is_static d) p.params Leads)
-    → IsGood ds book (places.Producer b) Leads
-    (cond e (product_form ds (beans ds) book (sight_of ds d) d (product ds d p) p (targets ds p.params))
+    → (e ≡ true → LeadsBy ds (points_seen p.is_static d) p.params Leads) → (e ≡ true → LinksOf ds d p Links)
+    → IsGood ds book (places.Producer b) Leads Links
+    (cond e (product_form ds (beans ds) book (sight_of ds d) (class_of ds d) (product ds d p) p (targets ds p.params))
     (unused_product (beans ds) d)).invocable
 unfolding product_form
-good-product ds book d p b Leads true distinct fine lead =
+good-product ds book d p b Leads Links true distinct fine lead link =
     let f = fine refl in
-    good-by ds book d p b Leads p.is_static distinct f.0 f.1.params f.1.part (lead refl)
-good-product ds book d p b Leads false distinct fine lead = good-empty ds book (places.Producer b) Leads
+    good-by ds book d p b Leads Links _ p.is_static distinct f.0 f.1.params f.1.part (lead refl) (link refl)
+good-product ds book d p b Leads Links false distinct fine lead link = good-empty ds book (places.Producer b) Leads Links
 
 -- what is known of an enabled product
 pub fine-product : (ds : List Decl) (book : List Promised) (k : ℕ) (d : BeanDecl) (j : ℕ) (p : ProducerDecl) → AreFine ds book
@@ -298,41 +341,47 @@ fine-product ds book k d j p fine there declared enabled =
 pub record IsProduced (ds : List Decl) (book : List Promised) (q : ℕ) (d : BeanDecl) (p : ProducerDecl) : Type 0 where
   pub place : ℕ
   pub there : slice_get ds place ≡ Some (decls.Bean d)
+  pub at : ℕ
+  pub declared : slice_get d.producers at ≡ Some p
   pub enabled : (managed ds d).is_enabled ≡ true
   pub product_is : product_in (bean_at (scene_of ds book) q)
-      ≡ Some (product_form ds (beans ds) book (sight_of ds d) d (product ds d p) p (targets ds p.params))
+      ≡ Some (product_form ds (beans ds) book (sight_of ds d) (class_of ds d) (product ds d p) p (targets ds p.params))
 
-is-produced : (ds : List Decl) (book : List Promised) (q : ℕ) (d : BeanDecl) (p : ProducerDecl) (k : ℕ) (e : Bool)
-    → slice_get ds k ≡ Some (decls.Bean d) → (e ≡ true → (managed ds d).is_enabled ≡ true)
+is-produced : (ds : List Decl) (book : List Promised) (q : ℕ) (d : BeanDecl) (p : ProducerDecl) (k j : ℕ) (e : Bool)
+    → slice_get ds k ≡ Some (decls.Bean d) → slice_get d.producers j ≡ Some p → (e ≡ true → (managed ds d).is_enabled ≡ true)
     → product_in (bean_at (scene_of ds book) q)
-    ≡ Some (cond e (product_form ds (beans ds) book (sight_of ds d) d (product ds d p) p (targets ds p.params))
+    ≡ Some (cond e (product_form ds (beans ds) book (sight_of ds d) (class_of ds d) (product ds d p) p (targets ds p.params))
     (unused_product (beans ds) d))
     → e ≡ true → IsProduced ds book q d p
-is-produced ds book q d p k true there enabled at is = record { place = k; there = there; enabled = enabled refl; product_is = at }
-is-produced ds book q d p k false there enabled at is = absurd (false≢true is)
+is-produced ds book q d p k j true there declared enabled at is =
+    record { place = k; there = there; at = j; declared = declared; enabled = enabled refl; product_is = at }
+is-produced ds book q d p k j false there declared enabled at is = absurd (false≢true is)
 
-pub producer-good : (ds : List Decl) (book : List Promised) (q : ℕ) (Leads : CallSite → Type 0) (x : Invocable) (o : Option Bean)
-    → AreDistinct ds → AreFine ds book
+pub producer-good : (ds : List Decl) (book : List Promised) (q : ℕ) (Leads : CallSite → Type 0) (Links : ℕ → Type 0) (x : Invocable)
+    (o : Option Bean) → AreDistinct ds → AreFine ds book
     → ((d : BeanDecl) (p : ProducerDecl) → IsProduced ds book q d p → LeadsBy ds (points_seen p.is_static d) p.params Leads)
-    → bean_at (scene_of ds book) q ≡ o → producer_in (product_in o) ≡ Some x → IsGood ds book (places.Producer q) Leads x
-producer-good ds book q Leads x None distinct fine lead at e = absurd (cc)
-producer-good ds book q Leads x (Some bean) distinct fine lead at e =
+    → ((d : BeanDecl) (p : ProducerDecl) → IsProduced ds book q d p → LinksOf ds d p Links)
+    → bean_at (scene_of ds book) q ≡ o → producer_in (product_in o) ≡ Some x → IsGood ds book (places.Producer q) Leads Links x
+producer-good ds book q Leads Links x None distinct fine lead link at e = absurd (cc)
+producer-good ds book q Leads Links x (Some bean) distinct fine lead link at e =
     elim (stands-at ds book q bean at).fits [
       | inl m ↦
           let none : None ≡ Some x = sym (ap (λ bn. producer_in (as_product bn.form)) m.made) ∙ e in
           absurd (none-some x none)
-      | inr p ↦ subst (IsGood ds book (places.Producer q) Leads)
+      | inr p ↦
+          let made : (product ds p.decl p.producer).is_enabled ≡ true → IsProduced ds book q p.decl p.producer =
+          λ enabled. is-produced ds book q p.decl p.producer p.place p.at (product ds p.decl p.producer).is_enabled p.there p.declared
+          (offered ds p.decl p.producer) (ap product_in at ∙ ap (λ bn. as_product bn.form) p.made) enabled in
+          subst (IsGood ds book (places.Producer q) Leads Links)
           (same_Some _ x (sym (ap (λ bn. producer_in (as_product bn.form)) p.made) ∙ e))
-          (good-product ds book p.decl p.producer q Leads (product ds p.decl p.producer).is_enabled distinct
+          (good-product ds book p.decl p.producer q Leads Links (product ds p.decl p.producer).is_enabled distinct
           (fine-product ds book p.place p.decl p.at p.producer fine p.there p.declared)
-          (λ enabled. lead p.decl p.producer (is-produced ds book q p.decl p.producer p.place
-          (product ds p.decl p.producer).is_enabled p.there (offered ds p.decl p.producer)
-          (ap product_in at ∙ ap (λ bn. as_product bn.form) p.made) enabled)))
+          (λ enabled. lead p.decl p.producer (made enabled)) (λ enabled. link p.decl p.producer (made enabled)))
     ]
 
 -- ---- static producer methods
 
-part-there : (book : List Promised) (calls : List CallSite) (allowed : ℕ) (name : List ℕ) → IsFit book allowed name
+pub part-there : (book : List Promised) (calls : List CallSite) (allowed : ℕ) (name : List ℕ) → IsFit book allowed name
     → (made : Part) × (part_of book calls name ≡ Some made)
 unfolding part_of
 part-there book calls allowed name fit =
@@ -342,23 +391,26 @@ part-there book calls allowed name fit =
       ap (λ o. part_with calls o (promise_of book name)) at.position_is ∙ ap (part_with calls (Some at.place)) fit.found,
     )
 
-static-by : (ds : List Decl) (book : List Promised) (d : BeanDecl) (p : ProducerDecl) (s : Bool) → AreDistinct ds → AreSatisfied ds p.params
+static-by : (ds : List Decl) (book : List Promised) (d : BeanDecl) (p : ProducerDecl) (chain : List ℕ) (s : Bool) → AreDistinct ds
+    → AreSatisfied ds p.params
     → IsFinePart ds book (cond s flags.at_class flags.at_instance) (p.params ++ cond s [] d.points) p.part → s ≡ true
     → (made : Part)
-    × ((staged_place ds (beans ds) book (producer_sight s (sight_of ds d) p.params (targets ds p.params)) (Some p.part)).part ≡ Some made)
+    × ((staged_place ds (beans ds) book (producer_sight s (sight_of ds d) p.params (targets ds p.params)) chain (Some p.part)).part
+    ≡ Some made)
     × IsSoundFor ds book flags.at_class [] p.params made
 unfolding staged_place staged_part
-static-by ds book d p true distinct own_params fine is =
+static-by ds book d p chain true distinct own_params fine is =
     let lead = site_of ds (beans ds) (seen ds [] p.params) in
     let made = part-there book (map lead p.part.calls) flags.at_class p.part.body fine.body in
     (made.0, made.1, part-sound ds book flags.at_class [] p.params p.part made.0 distinct (none-satisfied ds) own_params fine made.1)
-static-by ds book d p false distinct own_params fine is = absurd (false≢true is)
+static-by ds book d p chain false distinct own_params fine is = absurd (false≢true is)
 
 -- the part of a static producer method is there
 pub static-part : (ds : List Decl) (book : List Promised) (d : BeanDecl) (p : ProducerDecl) → AreDistinct ds → IsFineProducer ds book d p
     → p.is_static ≡ true
     → (made : Part)
-    × ((product_form ds (beans ds) book (sight_of ds d) d (product ds d p) p (targets ds p.params)).invocable.part ≡ Some made)
+    × ((product_form ds (beans ds) book (sight_of ds d) (class_of ds d) (product ds d p) p (targets ds p.params)).invocable.part
+    ≡ Some made)
     × IsSoundFor ds book flags.at_class [] p.params made
 unfolding product_form
-static-part ds book d p distinct fine is = static-by ds book d p p.is_static distinct fine.params fine.part is
+static-part ds book d p distinct fine is = static-by ds book d p _ p.is_static distinct fine.params fine.part is

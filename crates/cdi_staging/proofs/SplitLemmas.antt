@@ -1,22 +1,25 @@
 -- The beans of a declaration, by its records and by what is chosen for all of its injection points.
-use Rattle.std.proofs.Common.{◌≡◌, ◌≤◌, ◌+◌, ℕ, List, [], ◌∷◌, ◌++◌, map, length, length-append, append_assoc, take, drop, refl}
-use Rattle.std.proofs.Common.{sym, ap, ◌∙◌, ◌⊎◌, inl, inr, arith}
+use Rattle.std.proofs.Common.{◌≡◌, ◌≤◌, ◌+◌, ℕ, Bool, true, cond, List, [], ◌∷◌, ◌++◌, map, filter, length, length-append}
+use Rattle.std.proofs.Common.{◌<◌, get_or, append_assoc, take, drop, refl, sym, ap, ◌∙◌, ◌⊎◌, inl, inr, arith}
 use Rattle.std.specs.List.{flat_map}
-use Rattle.std.proofs.lemmas.List.{map-append, take_at, drop_at, length-map, nil_from_length}
+use Rattle.std.proofs.lemmas.List.{drop_at, drop_more, length-map, map-append, nil_from_length, take_at}
 use Rattle.std.proofs.lemmas.Simd.{map-map}
 use Rattle.cdi_model.specs.declared.decl.BeanDecl.{BeanDecl}
 use Rattle.cdi_model.specs.declared.decl.Decl.{Decl}
 use Rattle.cdi_model.specs.declared.decl.Decl.TheVariants as decls
+use Rattle.cdi_model.specs.declared.decl.InterceptorDecl.{InterceptorDecl}
 use Rattle.cdi_model.specs.declared.decl.PointDecl.{PointDecl}
 use Rattle.cdi_model.specs.declared.decl.ProducerDecl.{ProducerDecl}
 use Rattle.cdi_bodies.specs.Book.{Promised}
 use Rattle.cdi_effective.specs.Beans.{beans, entries, records, product, managed}
 use Rattle.cdi_effective.specs.declared.records.Effective.{Effective}
 use Rattle.cdi_resolve.specs.declared.choice.Choice.{Choice}
+use Rattle.cdi_intercept.specs.Chains.{interceptors, is_enabled}
 use Rattle.cdi_observe.specs.Answers.{answer_to, answers_of}
 use Rattle.cdi_observe.specs.Wanted.{points_of}
 use Rattle.cdi_staging.specs.Sites.{Sight, target_of, own_sight}
-use Rattle.cdi_staging.specs.Staged.{targets, sight_of, managed_bean, product_bean, products_by, beans_by}
+use Rattle.cdi_staging.specs.Staged.{Around, Class, around_of, class_of, targets, sight_of, managed_bean, product_bean, products_by}
+use Rattle.cdi_staging.specs.Staged.{beans_by}
 use Rattle.cdi_staging.specs.Staged.{staged_beans, staged_product}
 use Rattle.cdi_staging.specs.declared.target.Target.{Target}
 
@@ -40,56 +43,69 @@ behind ds ps qs = ap (drop (length ps)) (targets-append ds ps qs)
 -- ---- beans
 
 products-staged : (ds : List Decl) (book : List Promised) (bean : BeanDecl) (ps : List ProducerDecl)
-    → products_by ds (beans ds) book (sight_of ds bean) bean (map (product ds bean) ps) ps (targets ds (flat_map (λ p. p.params) ps))
+    → products_by ds (beans ds) book (sight_of ds bean) (class_of ds bean) (map (product ds bean) ps) ps
+    (targets ds (flat_map (λ p. p.params) ps))
     ≡ map (staged_product ds book bean) ps
 products-staged ds book bean [] = refl
 products-staged ds book bean (p ∷ ps) =
     let others = flat_map (λ q. q.params) ps in
     let all = targets ds (p.params ++ others) in
-    let made : List Target → Effective → List Target → _ = λ own x rest. product_bean ds (beans ds) book (sight_of ds bean) bean x p own
-    ∷ products_by ds (beans ds) book (sight_of ds bean) bean (map (product ds bean) ps) ps rest in
+    let made : List Target → Effective → List Target → _ = λ own x rest. product_bean ds (beans ds) book (sight_of ds bean)
+    (class_of ds bean) x p own
+    ∷ products_by ds (beans ds) book (sight_of ds bean) (class_of ds bean) (map (product ds bean) ps) ps rest in
     ap (λ own. made own (product ds bean p) (drop (length p.params) all)) (in_front ds p.params others)
     ∙ ap (λ rest. made (targets ds p.params) (product ds bean p) rest) (behind ds p.params others)
     ∙ ap (λ bs. staged_product ds book bean p ∷ bs) (products-staged ds book bean ps)
 
 -- the beans that records and choices give are those of the declaration
 pub beans-staged : (ds : List Decl) (book : List Promised) (bean : BeanDecl)
-    → beans_by ds (beans ds) book bean (records ds bean) (targets ds (points_of (decls.Bean bean))) ≡ staged_beans ds book (decls.Bean bean)
+    → beans_by ds (beans ds) book (around_of ds) bean (records ds bean) (targets ds (points_of (decls.Bean bean)))
+    ≡ staged_beans ds book (decls.Bean bean)
 unfolding staged_beans
 beans-staged ds book bean =
     let others = flat_map (λ q. q.params) bean.producers in
     let all = targets ds (bean.points ++ others) in
     let made : List Target → List Target → _ = λ own rest.
-    managed_bean ds (beans ds) book (own_sight bean.points own) bean (managed ds bean)
-    ∷ products_by ds (beans ds) book (own_sight bean.points own) bean (map (product ds bean) bean.producers) bean.producers rest in
+    managed_bean ds (beans ds) book (own_sight bean.points own) (class_of ds bean) (managed ds bean)
+    ∷ products_by ds (beans ds) book (own_sight bean.points own) (class_of ds bean)
+    (map (product ds bean) bean.producers) bean.producers rest in
     ap (λ own. made own (drop (length bean.points) all)) (in_front ds bean.points others)
     ∙ ap (λ rest. made (targets ds bean.points) rest) (behind ds bean.points others)
-    ∙ ap (λ bs. managed_bean ds (beans ds) book (sight_of ds bean) bean (managed ds bean) ∷ bs)
+    ∙ ap (λ bs. managed_bean ds (beans ds) book (sight_of ds bean) (class_of ds bean) (managed ds bean) ∷ bs)
     (products-staged ds book bean bean.producers)
 
 -- where no record or no producer method is left no product is
-pub no-product : (ds : List Decl) (list : List Effective) (book : List Promised) (own : Sight) (bean : BeanDecl) (xs : List Effective)
+pub no-product : (ds : List Decl) (list : List Effective) (book : List Promised) (own : Sight) (c : Class) (xs : List Effective)
     (ps : List ProducerDecl) (targets : List Target) → (xs ≡ []) ⊎ (ps ≡ [])
-    → products_by ds list book own bean xs ps targets ≡ []
-no-product ds list book own bean [] ps targets ends = refl
-no-product ds list book own bean (x ∷ xs) [] targets ends = refl
-no-product ds list book own bean (x ∷ xs) (p ∷ ps) targets (inl e) = absurd (cc)
-no-product ds list book own bean (x ∷ xs) (p ∷ ps) targets (inr e) = absurd (cc)
+    → products_by ds list book own c xs ps targets ≡ []
+no-product ds list book own c [] ps targets ends = refl
+no-product ds list book own c (x ∷ xs) [] targets ends = refl
+no-product ds list book own c (x ∷ xs) (p ∷ ps) targets (inl e) = absurd (cc)
+no-product ds list book own c (x ∷ xs) (p ∷ ps) targets (inr e) = absurd (cc)
 
--- the beans of a declaration, where all that is looked at is that of the declarations
-pub by-records : {A : Type 0} (value : A → Choice) (ds : List Decl) (list : List Effective) (book : List Promised) (bean : BeanDecl)
-    (d : Decl) (xs : List Effective) (answers : List A) (chosen : List Target)
-    → list ≡ beans ds → d ≡ decls.Bean bean → xs ≡ entries ds d → map value answers ≡ map (answer_to ds) (points_of d)
-    → chosen ≡ map (λ answer. target_of list (value answer)) answers
-    → beans_by ds list book bean xs chosen ≡ staged_beans ds book d
-by-records value ds list book bean d xs answers chosen all is are answered made =
-    let of_points : chosen ≡ targets ds (points_of (decls.Bean bean)) = made
+-- what is chosen by answers is what is chosen for the injection points
+pub chosen-targets : {A : Type 0} (value : A → Choice) (ds : List Decl) (list : List Effective) (d : Decl) (answers : List A)
+    (chosen : List Target) → list ≡ beans ds → map value answers ≡ map (answer_to ds) (points_of d)
+    → chosen ≡ map (λ answer. target_of list (value answer)) answers → chosen ≡ targets ds (points_of d)
+chosen-targets value ds list d answers chosen all answered made = made
     ∙ ap (λ l. map (λ answer. target_of l (value answer)) answers) all
     ∙ sym (map-map (target_of (beans ds)) value answers)
-    ∙ ap (map (target_of (beans ds))) (answered ∙ ap (λ e. map (answer_to ds) (points_of e)) is) in
-    ap (λ l. beans_by ds l book bean xs chosen) all
-    ∙ ap (λ ys. beans_by ds (beans ds) book bean ys chosen) (are ∙ ap (entries ds) is)
-    ∙ ap (λ ts. beans_by ds (beans ds) book bean (records ds bean) ts) of_points
+    ∙ ap (map (target_of (beans ds))) answered
+
+-- the beans of a declaration, where all that is looked at is that of the declarations
+pub by-records : {A : Type 0} (value : A → Choice) (ds : List Decl) (list : List Effective) (book : List Promised)
+    (around : List Around) (bean : BeanDecl) (d : Decl) (xs : List Effective) (answers : List A) (chosen : List Target)
+    → list ≡ beans ds → around ≡ around_of ds → d ≡ decls.Bean bean → xs ≡ entries ds d → map value answers
+    ≡ map (answer_to ds) (points_of d)
+    → chosen ≡ map (λ answer. target_of list (value answer)) answers
+    → beans_by ds list book around bean xs chosen ≡ staged_beans ds book d
+by-records value ds list book around bean d xs answers chosen all enabled is are answered made =
+    let of_points : chosen ≡ targets ds (points_of (decls.Bean bean)) = chosen-targets value ds list d answers chosen all answered made
+    ∙ ap (λ e. targets ds (points_of e)) is in
+    ap (λ l. beans_by ds l book around bean xs chosen) all
+    ∙ ap (λ a. beans_by ds (beans ds) book a bean xs chosen) enabled
+    ∙ ap (λ ys. beans_by ds (beans ds) book (around_of ds) bean ys chosen) (are ∙ ap (entries ds) is)
+    ∙ ap (λ ts. beans_by ds (beans ds) book (around_of ds) bean (records ds bean) ts) of_points
     ∙ beans-staged ds book bean
     ∙ ap (staged_beans ds book) (sym is)
 
@@ -172,4 +188,37 @@ pushed f olds news new p ps ps' all push is next before =
     ap (λ list. list ++ map f ps') (push ∙ ap (λ y. olds ++ y ∷ []) is)
     ∙ append_assoc olds (f p ∷ []) (map f ps')
     ∙ ap (λ qs. olds ++ map f qs) (sym next)
+    ∙ before
+
+-- ---- interceptors that are enabled
+
+-- those of some declarations, with what is chosen for their injection points
+abbrev pub around_in_order : List Decl → List Decl → List Around
+around_in_order ds left = map (λ i. (i, targets ds i.points)) (filter is_enabled (interceptors left))
+
+pub enabled-first : (ds left others : List Decl) (i : InterceptorDecl) → left ≡ decls.Interceptor i ∷ others → is_enabled i ≡ true
+    → around_in_order ds left ≡ (i, targets ds i.points) ∷ around_in_order ds others
+enabled-first ds left others i begins is =
+    let rest = filter is_enabled (interceptors others) in
+    ap (around_in_order ds) begins ∙ ap (λ (b : Bool). map (λ j. (j, targets ds j.points)) (cond b (i ∷ rest) rest)) is
+
+-- ---- what is pushed, one by one
+
+-- the next of a list
+pub pushed-next : {A B : Type 0} (f : A → B) (xs : List A) (i : ℕ) (x : A) (olds news : List B) (new : B) (all : List B)
+    → i < length xs → x ≡ get_or xs i x → news ≡ olds ++ new ∷ [] → new ≡ f x → olds ++ map f (drop i xs) ≡ all
+    → news ++ map f (drop (i + 1) xs) ≡ all
+pushed-next f xs i x olds news new all within here push is before =
+    let next : drop i xs ≡ x ∷ drop (i + 1) xs = drop_more xs i x within ∙ ap (λ y. y ∷ drop (i + 1) xs) (sym here) in
+    pushed f olds news new x (drop i xs) (drop (i + 1) xs) all push is next before
+
+-- one that is shown as the first of what is left
+pub pushed-shown : {A B : Type 0} (f : A → B) (olds news : List A) (new : A) (b : B) (left behind all : List B) → news ≡ olds ++ new ∷ []
+    → f new ≡ b → left ≡ b ∷ behind → map f olds ++ left ≡ all → map f news ++ behind ≡ all
+pushed-shown f olds news new b left behind all push is next before =
+    ap (λ list. map f list ++ behind) push
+    ∙ ap (λ list. list ++ behind) (map-append f olds (new ∷ []))
+    ∙ append_assoc (map f olds) (f new ∷ []) behind
+    ∙ ap (λ y. map f olds ++ y ∷ behind) is
+    ∙ ap (λ rest. map f olds ++ rest) (sym next)
     ∙ before

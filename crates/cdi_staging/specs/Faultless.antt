@@ -10,6 +10,7 @@ use Rattle.cdi_model.specs.declared.decl.CallDecl.{CallDecl}
 use Rattle.cdi_model.specs.declared.decl.Decl.{Decl}
 use Rattle.cdi_model.specs.declared.decl.Decl.TheVariants as decls
 use Rattle.cdi_model.specs.declared.decl.DisposerDecl.{DisposerDecl}
+use Rattle.cdi_model.specs.declared.decl.InterceptorDecl.{InterceptorDecl}
 use Rattle.cdi_model.specs.declared.decl.MethodDecl.{MethodDecl}
 use Rattle.cdi_model.specs.declared.decl.PartDecl.{PartDecl}
 use Rattle.cdi_model.specs.declared.decl.PointDecl.{PointDecl}
@@ -22,6 +23,7 @@ use Rattle.cdi_scene.specs.Sound.{IsSound}
 use Rattle.cdi_effective.specs.Beans.{managed, product}
 use Rattle.cdi_effective.specs.declared.records.BeanId.{BeanId}
 use Rattle.cdi_resolve.specs.declared.choice.Choice.TheVariants.{One}
+use Rattle.cdi_intercept.specs.Chains.{is_enabled}
 use Rattle.cdi_observe.specs.Answers.{answer_to}
 use Rattle.cdi_validate.specs.Faults.{faults}
 use Rattle.cdi_subjects.specs.Parts.{allowed_to}
@@ -84,6 +86,19 @@ pub record IsFine (ds : List Decl) (book : List Promised) (bean : BeanDecl) : Ty
 
 abbrev pub AreFine : List Decl → List Promised → Type 0
 AreFine ds book = (k : ℕ) (bean : BeanDecl) → slice_get ds k ≡ Some (decls.Bean bean) → IsFine ds book bean
+
+-- the injection points and the parts of an interceptor
+pub record IsFineAround (ds : List Decl) (book : List Promised) (i : InterceptorDecl) : Type 0 where
+  pub points : AreSatisfied ds i.points
+  pub around_invoke : (part : PartDecl) → i.around_invoke ≡ Some part → IsFinePart ds book flags.around i.points part
+  pub around_construct : (part : PartDecl) → i.around_construct ≡ Some part → IsFinePart ds book flags.around i.points part
+  pub post : (part : PartDecl) → i.post ≡ Some part → IsFinePart ds book flags.around i.points part
+  pub pre : (part : PartDecl) → i.pre ≡ Some part → IsFinePart ds book flags.around_destruction i.points part
+
+-- what is known of an interceptor declaration, where it is enabled
+abbrev pub AreFineAround : List Decl → List Promised → Type 0
+AreFineAround ds book = (k : ℕ) (i : InterceptorDecl) → slice_get ds k ≡ Some (decls.Interceptor i) → is_enabled i ≡ true
+    → IsFineAround ds book i
 
 -- A deployment without faults has a sound scene, where no two of its declarations have one kind and name and each has
 -- short lists, as what is read and put has.

@@ -1,5 +1,6 @@
 pub mod Sites
 pub mod Staged
+pub mod Shown
 pub mod Faultless
 pub mod Naming
 pub mod Lookups

@@ -5,12 +5,15 @@ use Rattle.cdi_model.specs.declared.decl.BeanDecl.{BeanDecl}
 use Rattle.cdi_model.specs.declared.decl.CallDecl.{CallDecl}
 use Rattle.cdi_model.specs.declared.decl.Decl.{Decl}
 use Rattle.cdi_model.specs.declared.decl.Decl.TheVariants as decls
+use Rattle.cdi_model.specs.declared.decl.InterceptorDecl.{InterceptorDecl}
 use Rattle.cdi_model.specs.declared.decl.MethodDecl.{MethodDecl}
 use Rattle.cdi_model.specs.declared.decl.PartDecl.{PartDecl}
 use Rattle.cdi_model.specs.declared.decl.ProducerDecl.{ProducerDecl}
 use Rattle.cdi_effective.specs.Beans.{product}
 use Rattle.cdi_effective.specs.Disposers.{disposer_of}
 use Rattle.cdi_staging.specs.declared.names.BeanNames.{BeanNames}
+use Rattle.cdi_intercept.specs.Chains.{in_order}
+use Rattle.cdi_staging.specs.declared.names.InterceptorNames.{InterceptorNames}
 use Rattle.cdi_staging.specs.declared.names.MethodNames.{MethodNames}
 use Rattle.cdi_staging.specs.declared.names.Names.{Names}
 
@@ -49,6 +52,17 @@ unfoldable pub names_in : List Decl → Decl → List BeanNames
 names_in ds (decls.Bean bean) = managed_names bean ∷ map (product_names ds bean) bean.producers
 names_in ds other = []
 
--- the names of the beans, in the order of the bean list
+-- an interceptor that is enabled
+unfoldable pub interceptor_names : InterceptorDecl → InterceptorNames
+interceptor_names i = record {
+  name = i.name;
+  around_construct = calls_of i.around_construct;
+  around_invoke = calls_of i.around_invoke;
+  post = calls_of i.post;
+  pre = calls_of i.pre;
+}
+
+-- the names of the beans, in the order of the bean list, and of the interceptors that are enabled, in the order in which they are
+-- called
 unfoldable pub names_of : List Decl → Names
-names_of ds = record { beans = flat_map (names_in ds) ds }
+names_of ds = record { beans = flat_map (names_in ds) ds; interceptors = map interceptor_names (in_order ds) }

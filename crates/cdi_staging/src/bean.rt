@@ -1,35 +1,21 @@
 //! Managed beans and products.
 ghost use Rattle.std.specs.Prelude.{◌≡◌, map, IfOk, option_copied};
 ghost use Rattle.cdi_staging.specs.Sites.{sight_in, producer_sight};
-ghost use Rattle.cdi_staging.specs.Staged.{injections_from, managed_form, disposer_named, disposer_for, product_form};
+ghost use Rattle.cdi_staging.specs.Shown.{class_in};
+ghost use Rattle.cdi_staging.specs.Staged.{managed_form, disposer_named, disposer_for, product_form};
 ghost use Rattle.cdi_staging.specs.Staged.{unused_managed, unused_product, managed_bean, product_bean};
 
+use crate::around::Class;
 use crate::part::empty_place;
 use crate::site::Visible;
 use crate::stage::Stage;
 use crate::target::{Target, position_of_class};
 use cdi_bodies::Bodies;
-use cdi_contexts::Actor;
 use cdi_effective::{Effective, disposer_of};
-use cdi_model::{BeanDecl, DisposerDecl, Ident, ProducerDecl, Seq};
+use cdi_model::{BeanDecl, BeanPlace, DisposerDecl, Ident, ProducerDecl, Seq};
 use cdi_resolve::BeanList;
-use cdi_scene::{Bean, Form, Injection, Managed, Part, Product};
+use cdi_scene::{Bean, Form, Managed, Part, Product};
 use std::alloc::{AllocError, Global};
-
-/// What is chosen for each injection point of a bean.
-fn injections(alloc: Global, targets: &[Target]) -> Result<Seq<Injection>, AllocError>
-    ensures { IfOk result (λ list. list ≡ injections_from 0 targets.now) }
-{
-    let mut injections = Seq::new(alloc);
-    for (point, target) in targets.iter().enumerate() {
-        injections.push(Injection {
-            actor: Actor::Target,
-            point,
-            bean: target.bean,
-        })?;
-    }
-    Ok(injections)
-}
 
 /// The positions of some beans.
 fn positions(alloc: Global, targets: &[Target]) -> Result<Seq<usize>, AllocError>
@@ -109,17 +95,19 @@ fn producer_sight<'a>(
 
 impl<'a, B: Bodies> Stage<'a, B> {
     #[tactic(auto, unfolding(crate::specs::Staged::managed_form))]
-    fn managed_form(&self, sight: Visible<'_>, bean: &BeanDecl) -> Result<Managed, AllocError>
+    fn managed_form(&self, sight: Visible<'_>, class: Class<'_>) -> Result<Managed, AllocError>
         ensures { IfOk result (λ made. made
             ≡ managed_form self.now.decls.now self.now.beans.now (B.promises self.now.book.now)
-            (sight_in sight.entry) bean.now) }
+            (sight_in sight.entry) (class_in class.entry)) }
     {
+        let bean = class.bean;
+        let construct = BeanPlace::Construct;
         Ok(Managed {
-            injections: injections(self.alloc, sight.targets)?,
-            construct: self.staged_place(sight, bean.construct.as_ref())?,
-            post: self.staged_place(sight, bean.post.as_ref())?,
-            pre: self.staged_place(sight, bean.pre.as_ref())?,
-            methods: self.staged_methods(sight, bean.methods.as_slice())?,
+            injections: class.injections(self.alloc, self.decls, sight.targets)?,
+            construct: self.staged_place(sight, class, &construct, bean.construct.as_ref())?,
+            post: self.staged_place(sight, class, &BeanPlace::Post, bean.post.as_ref())?,
+            pre: self.staged_place(sight, class, &BeanPlace::Pre, bean.pre.as_ref())?,
+            methods: self.staged_methods(sight, class)?,
             observers: Seq::new(self.alloc),
         })
     }
@@ -138,22 +126,23 @@ impl<'a, B: Bodies> Stage<'a, B> {
     fn product_form(
         &self,
         own: Visible<'_>,
-        bean: &BeanDecl,
+        class: Class<'_>,
         effective: &Effective,
         producer: &ProducerDecl,
         targets: &[Target],
     ) -> Result<Product, AllocError>
         ensures { IfOk result (λ made. made
             ≡ product_form self.now.decls.now self.now.beans.now (B.promises self.now.book.now) (sight_in own.entry)
-            bean.now effective.now producer.now targets.now) }
+            (class_in class.entry) effective.now producer.now targets.now) }
     {
         let sight = producer_sight(producer.is_static, own, producer, targets);
+        let chain = class.producer_chain(self.alloc, self.decls, producer)?;
         Ok(Product {
-            declaring: position_of_class(self.beans, bean.name),
+            declaring: position_of_class(self.beans, class.bean.name),
             is_static: producer.is_static,
             params: positions(self.alloc, targets)?,
-            invocable: self.staged_place(sight, Some(&producer.part))?,
-            disposer: self.disposer_for(bean, effective),
+            invocable: self.invocable(sight, chain, Some(&producer.part))?,
+            disposer: self.disposer_for(class.bean, effective),
         })
     }
 
@@ -161,15 +150,15 @@ impl<'a, B: Bodies> Stage<'a, B> {
     pub(crate) fn managed_bean(
         &self,
         sight: Visible<'_>,
-        bean: &BeanDecl,
+        class: Class<'_>,
         effective: &Effective,
     ) -> Result<Bean, AllocError>
         ensures { IfOk result (λ made. made
             ≡ managed_bean self.now.decls.now self.now.beans.now (B.promises self.now.book.now)
-            (sight_in sight.entry) bean.now effective.now) }
+            (sight_in sight.entry) (class_in class.entry) effective.now) }
     {
         let managed = if effective.is_enabled {
-            self.managed_form(sight, bean)?
+            self.managed_form(sight, class)?
         } else {
             unused_managed(self.alloc)
         };
@@ -183,19 +172,19 @@ impl<'a, B: Bodies> Stage<'a, B> {
     pub(crate) fn product_bean(
         &self,
         own: Visible<'_>,
-        bean: &BeanDecl,
+        class: Class<'_>,
         effective: &Effective,
         producer: &ProducerDecl,
         targets: &[Target],
     ) -> Result<Bean, AllocError>
         ensures { IfOk result (λ made. made
             ≡ product_bean self.now.decls.now self.now.beans.now (B.promises self.now.book.now) (sight_in own.entry)
-            bean.now effective.now producer.now targets.now) }
+            (class_in class.entry) effective.now producer.now targets.now) }
     {
         let product = if effective.is_enabled {
-            self.product_form(own, bean, effective, producer, targets)?
+            self.product_form(own, class, effective, producer, targets)?
         } else {
-            unused_product(self.alloc, self.beans, bean)
+            unused_product(self.alloc, self.beans, class.bean)
         };
         Ok(Bean {
             scope: effective.scope,

@@ -2,6 +2,7 @@
 //! points and from the book of stored bodies. What the standard says of a deployment that runs is told here, once.
 #![tactic(auto)]
 
+mod around;
 mod bean;
 mod names;
 mod part;
@@ -10,7 +11,7 @@ mod site;
 mod stage;
 mod target;
 
-pub use names::{BeanNames, MethodNames, Names, names_of};
+pub use names::{BeanNames, InterceptorNames, MethodNames, Names, names_of};
 pub use scene::scene_of;
 pub use site::method_of;
 pub use target::{Target, target_of};

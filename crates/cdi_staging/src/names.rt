@@ -4,11 +4,16 @@ ghost use Rattle.std.specs.List.{flat_map};
 ghost use Rattle.cdi_effective.specs.Beans.{beans as beans_of, product};
 ghost use Rattle.cdi_effective.specs.Disposers.{disposer_of};
 ghost use Rattle.cdi_effective.specs.Beans.{entries};
-ghost use Rattle.cdi_staging.specs.Naming.{calls_of, method_names, managed_names, product_names, names_in, names_of};
+ghost use Rattle.cdi_intercept.specs.Chains.{in_order};
+ghost use Rattle.cdi_staging.specs.Naming.{calls_of, interceptor_names, method_names, managed_names, product_names, names_in, names_of};
 
 use crate::scene::record_count;
 use cdi_effective::{BeanId, Effective, disposer_of};
-use cdi_model::{BeanDecl, CallDecl, Decl, Decls, Ident, MethodDecl, PartDecl, ProducerDecl, Seq};
+use cdi_intercept::in_order;
+use cdi_model::{
+    BeanDecl, CallDecl, Decl, Decls, Ident, InterceptorDecl, MethodDecl, Name, PartDecl,
+    ProducerDecl, Seq,
+};
 use cdi_resolve::BeanList;
 use std::alloc::{AllocError, Global};
 
@@ -32,10 +37,21 @@ pub struct BeanNames {
     pub disposer: Option<Ident>,
 }
 
-/// The names of the beans of a scene, in its order: each is found by a position in constant time.
+/// An interceptor: its name, and what its parts write at their call sites.
+#[derive(Drop)]
+pub struct InterceptorNames {
+    pub name: Name,
+    pub around_construct: Seq<CallDecl>,
+    pub around_invoke: Seq<CallDecl>,
+    pub post: Seq<CallDecl>,
+    pub pre: Seq<CallDecl>,
+}
+
+/// The names of the beans and the interceptors of a scene, in its order: each is found by a position in constant time.
 #[derive(Drop)]
 pub struct Names {
     pub beans: Seq<BeanNames>,
+    pub interceptors: Seq<InterceptorNames>,
 }
 
 fn copy_calls(alloc: Global, calls: &[CallDecl]) -> Result<Seq<CallDecl>, AllocError>
@@ -166,5 +182,29 @@ pub fn names_of(alloc: Global, decls: &Decls, beans: &BeanList) -> Result<Names,
     }
     Ok(Names {
         beans: Seq::from_vec(list),
+        interceptors: names_of_interceptors(alloc, decls)?,
+    })
+}
+
+fn names_of_interceptors(alloc: Global, decls: &Decls) -> Result<Seq<InterceptorNames>, AllocError>
+    ensures { IfOk result (λ names. names ≡ map interceptor_names (in_order decls.now)) }
+{
+    let mut names = Seq::new(alloc);
+    for interceptor in in_order(alloc, decls)? {
+        names.push(interceptor_names(alloc, interceptor)?)?;
+    }
+    Ok(names)
+}
+
+#[tactic(auto, unfolding(crate::specs::Naming::interceptor_names))]
+fn interceptor_names(alloc: Global, decl: &InterceptorDecl) -> Result<InterceptorNames, AllocError>
+    ensures { IfOk result (λ names. names ≡ interceptor_names decl.now) }
+{
+    Ok(InterceptorNames {
+        name: decl.name,
+        around_construct: calls_of(alloc, decl.around_construct.as_ref())?,
+        around_invoke: calls_of(alloc, decl.around_invoke.as_ref())?,
+        post: calls_of(alloc, decl.post.as_ref())?,
+        pre: calls_of(alloc, decl.pre.as_ref())?,
     })
 }

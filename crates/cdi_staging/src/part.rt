@@ -1,12 +1,15 @@
 //! The bodies of a bean, and what is invoked at its places.
 ghost use Rattle.std.specs.Prelude.{◌≡◌, map, Some, IfOk, option_copied};
 ghost use Rattle.cdi_staging.specs.Sites.{sight_in};
-ghost use Rattle.cdi_staging.specs.Staged.{part_of, staged_part, staged_place, staged_method, empty_place};
+ghost use Rattle.std.specs.Option.{option_and_then};
+ghost use Rattle.cdi_staging.specs.Shown.{class_in};
+ghost use Rattle.cdi_staging.specs.Staged.{class_chain, part_of, staged_part, staged_place, staged_method, empty_place};
 
+use crate::around::Class;
 use crate::site::{Visible, sites_of};
 use crate::stage::Stage;
 use cdi_bodies::Bodies;
-use cdi_model::{Ident, MethodDecl, PartDecl, Seq};
+use cdi_model::{BeanPlace, Ident, PartDecl, Seq};
 use cdi_scene::{CallSite, Invocable, Part};
 use std::alloc::{AllocError, Global};
 
@@ -50,39 +53,70 @@ impl<'a, B: Bodies> Stage<'a, B> {
         Ok(self.part_of(part.body, calls))
     }
 
-    /// What is invoked at a place, where this part is declared or none.
-    #[tactic(auto, unfolding(crate::specs::Staged::staged_place))]
-    pub(crate) fn staged_place(
+    /// The body of a part, where one is declared.
+    pub(crate) fn optional_part(
         &self,
         sight: Visible<'_>,
         part: Option<&PartDecl>,
-    ) -> Result<Invocable, AllocError>
-        ensures { IfOk result (λ made. made
-            ≡ staged_place self.now.decls.now self.now.beans.now (B.promises self.now.book.now)
-            (sight_in sight.entry) (option_copied part.entry)) }
+    ) -> Result<Option<Part>, AllocError>
+        ensures { IfOk result (λ made. made ≡ option_and_then
+            (staged_part self.now.decls.now self.now.beans.now (B.promises self.now.book.now) (sight_in sight.entry))
+            (option_copied part.entry)) }
     {
         match part {
-            Some(part) => Ok(Invocable {
-                chain: Seq::new(self.alloc),
-                part: self.staged_part(sight, part)?,
-            }),
-            None => Ok(empty_place(self.alloc)),
+            Some(part) => self.staged_part(sight, part),
+            None => Ok(None),
         }
     }
 
-    /// What is invoked at each of some methods.
+    /// What is invoked at a place with this chain, where this part is declared or none.
+    #[tactic(auto, unfolding(crate::specs::Staged::staged_place))]
+    pub(crate) fn invocable(
+        &self,
+        sight: Visible<'_>,
+        chain: Seq<usize>,
+        part: Option<&PartDecl>,
+    ) -> Result<Invocable, AllocError>
+        ensures { IfOk result (λ made. made
+            ≡ staged_place self.now.decls.now self.now.beans.now (B.promises self.now.book.now) (sight_in sight.entry)
+            chain (option_copied part.entry)) }
+    {
+        Ok(Invocable {
+            chain,
+            part: self.optional_part(sight, part)?,
+        })
+    }
+
+    /// What is invoked at a place of a class, where this part is declared or none.
+    pub(crate) fn staged_place(
+        &self,
+        sight: Visible<'_>,
+        class: Class<'_>,
+        place: &BeanPlace,
+        part: Option<&PartDecl>,
+    ) -> Result<Invocable, AllocError>
+        ensures { IfOk result (λ made. made
+            ≡ staged_place self.now.decls.now self.now.beans.now (B.promises self.now.book.now) (sight_in sight.entry)
+            (class_chain self.now.decls.now (class_in class.entry) place.now) (option_copied part.entry)) }
+    {
+        let chain = class.chain(self.alloc, self.decls, place)?;
+        self.invocable(sight, chain, part)
+    }
+
+    /// What is invoked at each of the methods of a class.
     pub(crate) fn staged_methods(
         &self,
         sight: Visible<'_>,
-        methods: &[MethodDecl],
+        class: Class<'_>,
     ) -> Result<Seq<Invocable>, AllocError>
         ensures { IfOk result (λ made. made
             ≡ map (staged_method self.now.decls.now self.now.beans.now (B.promises self.now.book.now)
-            (sight_in sight.entry)) methods.now) }
+            (sight_in sight.entry) (class_in class.entry)) class.entry.bean.now.methods) }
     {
         let mut places = Seq::new(self.alloc);
-        for method in methods {
-            places.push(self.staged_place(sight, Some(&method.part))?)?;
+        for method in class.bean.methods.as_slice() {
+            let place = BeanPlace::Method(method.name);
+            places.push(self.staged_place(sight, class, &place, Some(&method.part))?)?;
         }
         Ok(places)
     }

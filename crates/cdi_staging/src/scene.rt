@@ -8,9 +8,11 @@ ghost use Rattle.cdi_observe.specs.Wanted.{points_of};
 ghost use Rattle.cdi_model.specs.declared.decl.Decl.TheVariants as decls;
 ghost use Rattle.cdi_staging.specs.Faultless.{FaultlessIsSound};
 ghost use Rattle.cdi_staging.specs.Lookups.{ChosenHasMethods, ChosenStands};
+ghost use Rattle.cdi_staging.specs.Shown.{around_in, class_in};
 ghost use Rattle.cdi_staging.specs.Sites.{sight_in};
-ghost use Rattle.cdi_staging.specs.Staged.{scene_of, staged_beans, beans_by, products_by};
+ghost use Rattle.cdi_staging.specs.Staged.{around_of, scene_of, staged_beans, beans_by, products_by};
 
+use crate::around::{Class, around_of};
 use crate::site::Visible;
 use crate::stage::Stage;
 use crate::target::{Target, targets_of};
@@ -42,15 +44,17 @@ pub fn scene_of<B: Bodies>(
     ensures stands { ChosenStands }
     ensures methods { ChosenHasMethods }
 {
+    let around = around_of(alloc, decls, beans, answers)?;
     let stage = Stage {
         alloc,
         decls,
         beans,
+        around: &around,
         book,
     };
     Ok(Scene {
         beans: Seq::from_vec(stage.staged_beans(answers)?),
-        interceptors: Seq::new(alloc),
+        interceptors: stage.interceptors()?,
     })
 }
 
@@ -68,6 +72,7 @@ impl<'a, B: Bodies> Stage<'a, B> {
     /// The beans of all declarations, in order.
     fn staged_beans(&self, answers: &[Vec<Rc<Choice>>]) -> Result<Vec<Bean>, AllocError>
         requires beans { self.now.beans.now ≡ beans_of self.now.decls.now }
+        requires around { map around_in self.now.around.now ≡ around_of self.now.decls.now }
         requires answers { map (λ list. map (λ answer. answer.value) list.items) answers.now
             ≡ all_answers self.now.decls.now }
         ensures { IfOk result (λ list. list.items
@@ -93,6 +98,7 @@ impl<'a, B: Bodies> Stage<'a, B> {
         list: &mut Vec<Bean>,
     ) -> Result<(), AllocError>
         requires beans { self.now.beans.now ≡ beans_of self.now.decls.now }
+        requires around { map around_in self.now.around.now ≡ around_of self.now.decls.now }
         requires records { records.now ≡ entries self.now.decls.now decl.now }
         requires answers { map (λ answer. answer.value) answers.now
             ≡ map (answer_to self.now.decls.now) (points_of decl.now) }
@@ -118,7 +124,7 @@ impl<'a, B: Bodies> Stage<'a, B> {
         requires { length targets.now ≡ length (points_of (decls.Bean bean.now)) }
         ensures { OnOk result (list.new.items ≡ list.old.items
             ++ beans_by self.now.decls.now self.now.beans.now (B.promises self.now.book.now)
-            bean.now records.now targets.now) }
+            (map around_in self.now.around.now) bean.now records.now targets.now) }
     {
         let Some((managed, products)) = records.split_first() else {
             return Ok(());
@@ -131,8 +137,13 @@ impl<'a, B: Bodies> Stage<'a, B> {
             params: &[],
             param_targets: &[],
         };
-        list.push(self.managed_bean(sight, bean, managed)?)?;
-        self.push_products(sight, bean, products, rest, list)
+        let class = Class {
+            around: self.around,
+            bindings: managed.bindings.as_slice(),
+            bean,
+        };
+        list.push(self.managed_bean(sight, class, managed)?)?;
+        self.push_products(sight, class, products, rest, list)
     }
 
     /// Appends the products of a bean that sees this, with these records, where these beans are chosen for the
@@ -140,20 +151,20 @@ impl<'a, B: Bodies> Stage<'a, B> {
     fn push_products(
         &self,
         own: Visible<'_>,
-        bean: &BeanDecl,
+        class: Class<'_>,
         records: &[Effective],
         targets: &[Target],
         list: &mut Vec<Bean>,
     ) -> Result<(), AllocError>
-        requires { length targets.now ≡ length (flat_map (λ p. p.params) bean.now.producers) }
+        requires { length targets.now ≡ length (flat_map (λ p. p.params) class.bean.now.producers) }
         ensures { OnOk result (list.new.items ≡ list.old.items
             ++ products_by self.now.decls.now self.now.beans.now (B.promises self.now.book.now) (sight_in own.entry)
-            bean.now records.now bean.now.producers targets.now) }
+            (class_in class.entry) records.now class.entry.bean.now.producers targets.now) }
     {
         let mut rest = targets;
-        for (effective, producer) in records.iter().zip(bean.producers.as_slice()) {
+        for (effective, producer) in records.iter().zip(class.bean.producers.as_slice()) {
             let (chosen, others) = rest.split_at(producer.params.len());
-            list.push(self.product_bean(own, bean, effective, producer, chosen)?)?;
+            list.push(self.product_bean(own, class, effective, producer, chosen)?)?;
             rest = others;
         }
         Ok(())

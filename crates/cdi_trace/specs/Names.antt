@@ -1,12 +1,15 @@
 -- What stands at the positions that a trace tells.
-use Rattle.std.specs.Prelude.{ℕ, List, [], ◌∷◌, ◌++◌, decimal, Option, Some, None, option_and_then, unwrap_or, slice_get}
+use Rattle.std.specs.Prelude.{ℕ, List, [], ◌∷◌, ◌++◌, codes, decimal, Option, Some, None, option_and_then, unwrap_or, slice_get}
 use Rattle.cdi_model.specs.Bytes.{hash}
 use Rattle.cdi_model.specs.CallText.{text_of_call}
 use Rattle.cdi_model.specs.declared.decl.CallDecl.{CallDecl}
+use Rattle.cdi_contexts.specs.declared.instance.Actor.{Actor}
+use Rattle.cdi_contexts.specs.declared.instance.Actor.TheVariants.{Target, Interceptor as By}
 use Rattle.cdi_effective.specs.BeanText.{text_of_id}
 use Rattle.cdi_scene.specs.declared.place.Place.{Place}
 use Rattle.cdi_scene.specs.declared.place.Place.TheVariants as places
 use Rattle.cdi_staging.specs.declared.names.BeanNames.{BeanNames}
+use Rattle.cdi_staging.specs.declared.names.InterceptorNames.{InterceptorNames}
 use Rattle.cdi_staging.specs.declared.names.MethodNames.{MethodNames}
 use Rattle.cdi_staging.specs.declared.names.Names.{Names}
 
@@ -62,6 +65,40 @@ calls_told names b (places.Method m) = calls_of_method (method_told names b m)
 calls_told names b (places.Producer p) = calls_of_bean (λ x. x.produces) (bean_told names p)
 calls_told names b (places.Disposer p) = []
 calls_told names b (places.Observer o) = []
+
+-- ---- interceptors
+
+-- an interceptor among those that are enabled
+abbrev pub interceptor_told : Names → ℕ → Option InterceptorNames
+interceptor_told names q = slice_get names.interceptors q
+
+abbrev pub name_of_interceptor : Option InterceptorNames → List ℕ
+name_of_interceptor None = []
+name_of_interceptor (Some q) = q.name
+
+-- the call sites of its part for a place
+abbrev pub calls_around : Place → InterceptorNames → List CallDecl
+calls_around places.Construct q = q.around_construct
+calls_around places.Post q = q.post
+calls_around places.Pre q = q.pre
+calls_around (places.Method m) q = q.around_invoke
+calls_around (places.Producer p) q = q.around_invoke
+calls_around (places.Disposer p) q = q.around_invoke
+calls_around (places.Observer o) q = q.around_invoke
+
+abbrev pub calls_of_interceptor : Place → Option InterceptorNames → List CallDecl
+calls_of_interceptor place None = []
+calls_of_interceptor place (Some q) = calls_around place q
+
+-- those of whoever runs at a place of a bean
+abbrev pub calls_by : Names → ℕ → Place → Actor → List CallDecl
+calls_by names b place Target = calls_told names b place
+calls_by names b place (By q) = calls_of_interceptor place (interceptor_told names q)
+
+-- who runs, where it is an interceptor
+abbrev pub text_of_actor : Names → Actor → List ℕ
+text_of_actor names Target = []
+text_of_actor names (By q) = codes " by " ++ name_of_interceptor (interceptor_told names q)
 
 abbrev pub text_of_site : Option CallDecl → List ℕ
 text_of_site None = []

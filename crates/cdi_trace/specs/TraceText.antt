@@ -11,7 +11,7 @@ use Rattle.cdi_legal.specs.declared.entry.Entry.{Entry}
 use Rattle.cdi_legal.specs.declared.entry.Entry.TheVariants as entries
 use Rattle.cdi_staging.specs.declared.names.Names.{Names}
 use Rattle.cdi_trace.specs.Names.{bean_told, text_of_instance, class_of_bean, method_told, name_of_method, name_of_producer}
-use Rattle.cdi_trace.specs.Names.{name_of_disposer, calls_told, text_of_site}
+use Rattle.cdi_trace.specs.Names.{name_of_disposer, calls_by, text_of_actor, text_of_site}
 
 -- a value, or `failed` and the failure
 abbrev pub text_of_outcome : Outcome → List ℕ
@@ -32,10 +32,12 @@ abbrev pub text_of_host : Names → ℕ → Option ℕ → List ℕ
 text_of_host names b None = class_of_bean (bean_told names b)
 text_of_host names b (Some n) = text_of_instance names b n
 
+-- where a body runs, and whose it is
 abbrev pub text_of_seat : Names → Seat → List ℕ
 text_of_seat names seat = text_of_host names seat.bean seat.number ++ space ∷ text_of_place names seat.bean seat.place
+    ++ text_of_actor names seat.actor
 
--- What an entry tells. No declaration has an interceptor, an observer or a fire site yet, so that these have no names.
+-- What an entry tells. No declaration has an observer or a fire site yet, so that these have no names.
 abbrev pub text_of_entry : Names → Entry → List ℕ
 text_of_entry names (entries.Create id owner) = codes "create " ++ text_of_instance names id.bean id.number
 text_of_entry names (entries.Ready id product) = codes "ready " ++ text_of_instance names id.bean id.number
@@ -44,7 +46,7 @@ text_of_entry names (entries.Enter seat arg) = codes "enter " ++ text_of_seat na
 text_of_entry names (entries.Loaded v) = codes "load " ++ text_of_val v
 text_of_entry names (entries.Stored n actor v) = codes "store " ++ text_of_val v
 text_of_entry names (entries.Called seat k arg) =
-    codes "call " ++ text_of_site (slice_get (calls_told names seat.bean seat.place) k) ++ space ∷ text_of_val arg
+    codes "call " ++ text_of_site (slice_get (calls_by names seat.bean seat.place seat.actor) k) ++ space ∷ text_of_val arg
 text_of_entry names (entries.Fired seat k arg) = codes "fire " ++ text_of_val arg
 text_of_entry names (entries.Proceeded arg) = codes "proceed " ++ text_of_val arg
 text_of_entry names (entries.Got o) = codes "got " ++ text_of_outcome o

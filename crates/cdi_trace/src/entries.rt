@@ -6,7 +6,7 @@ ghost use Rattle.cdi_trace.specs.Names.{text_of_instance};
 ghost use Rattle.cdi_trace.specs.TraceText.{text_of_outcome, text_of_place, text_of_seat, text_of_entry, text_of_entries};
 
 use crate::names::{
-    push_class, push_disposer, push_instance, push_method, push_producer, push_site,
+    push_actor, push_class, push_disposer, push_instance, push_method, push_producer, push_site,
 };
 use cdi_contexts::InstanceId;
 use cdi_legal::Entry;
@@ -122,11 +122,11 @@ fn push_called(
     ensures { OnOk result (text.new.items ≡ text.old.items ++ text_of_entry names.now (Called seat site arg)) }
 {
     text.extend_from_slice(b"call ")?;
-    push_site(text, names, seat.bean, seat.place, usize::from(site))?;
+    push_site(text, names, seat, usize::from(site))?;
     push_value(text, b" ", arg)
 }
 
-/// Where a body runs: on an instance, or for a class, and there at a place.
+/// Where a body runs: on an instance, or for a class, and there at a place; and whose it is, if an interceptor's.
 fn push_seat(text: &mut Vec<u8>, names: &Names, seat: Seat) -> Result<(), AllocError>
     ensures { OnOk result (text.new.items ≡ text.old.items ++ text_of_seat names.now seat) }
 {
@@ -135,7 +135,8 @@ fn push_seat(text: &mut Vec<u8>, names: &Names, seat: Seat) -> Result<(), AllocE
         None => push_class(text, names, seat.bean)?,
     }
     text.push(b' ')?;
-    push_place(text, names, seat.bean, seat.place)
+    push_place(text, names, seat.bean, seat.place)?;
+    push_actor(text, names, seat.actor)
 }
 
 fn push_place(

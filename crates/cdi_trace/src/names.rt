@@ -2,9 +2,11 @@
 ghost use Rattle.std.specs.Prelude.{◌≡◌, ◌++◌, OnOk, option_copied, unwrap_or, [], slice_get};
 ghost use Rattle.cdi_trace.specs.Names.{bean_told, class_of_bean, text_of_instance, method_told};
 ghost use Rattle.cdi_trace.specs.Names.{name_of_method, name_of_producer, name_of_disposer, calls_told, text_of_site};
+ghost use Rattle.cdi_trace.specs.Names.{calls_by, calls_of_interceptor, interceptor_told, text_of_actor};
 
+use cdi_contexts::Actor;
 use cdi_model::{CallDecl, Ident};
-use cdi_scene::Place;
+use cdi_scene::{Place, Seat};
 use cdi_staging::{BeanNames, MethodNames, Names};
 use std::alloc::AllocError;
 use std::io::Write;
@@ -119,18 +121,58 @@ pub(crate) fn push_disposer(
     }
 }
 
+/// The call sites of an interceptor's part for a place.
+fn calls_around(names: &Names, position: usize, place: Place) -> &[CallDecl]
+    ensures { result.now ≡ calls_of_interceptor place (interceptor_told names.now position) }
+{
+    let Some(interceptor) = names.interceptors.as_slice().get(position) else {
+        return &[];
+    };
+    match place {
+        Place::Construct => interceptor.around_construct.as_slice(),
+        Place::Post => interceptor.post.as_slice(),
+        Place::Pre => interceptor.pre.as_slice(),
+        Place::Method(_) | Place::Producer(_) | Place::Disposer(_) | Place::Observer(_) => {
+            interceptor.around_invoke.as_slice()
+        }
+    }
+}
+
+/// The call sites of whoever runs at a seat.
+fn calls_by(names: &Names, seat: Seat) -> &[CallDecl]
+    ensures { result.now ≡ calls_by names.now seat.bean seat.place seat.actor }
+{
+    match seat.actor {
+        Actor::Target => calls_at(names, seat.bean, seat.place),
+        Actor::Interceptor(position) => calls_around(names, position, seat.place),
+    }
+}
+
+/// Appends whose body runs, if it is an interceptor's.
+pub(crate) fn push_actor(text: &mut Vec<u8>, names: &Names, actor: Actor) -> Result<(), AllocError>
+    ensures { OnOk result (text.new.items ≡ text.old.items ++ text_of_actor names.now actor) }
+{
+    let Actor::Interceptor(position) = actor else {
+        return Ok(());
+    };
+    text.extend_from_slice(b" by ")?;
+    match names.interceptors.as_slice().get(position) {
+        Some(interceptor) => text.extend_from_slice(interceptor.name.as_bytes()),
+        None => Ok(()),
+    }
+}
+
 /// Appends the text of a call site.
 pub(crate) fn push_site(
     text: &mut Vec<u8>,
     names: &Names,
-    bean: usize,
-    place: Place,
+    seat: Seat,
     site: usize,
 ) -> Result<(), AllocError>
-    ensures { OnOk result
-        (text.new.items ≡ text.old.items ++ text_of_site (slice_get (calls_told names.now bean place) site)) }
+    ensures { OnOk result (text.new.items
+        ≡ text.old.items ++ text_of_site (slice_get (calls_by names.now seat.bean seat.place seat.actor) site)) }
 {
-    match calls_at(names, bean, place).get(site) {
+    match calls_by(names, seat).get(site) {
         Some(call) => write!(text, "{call}").map_err(|_| AllocError),
         None => Ok(()),
     }

@@ -9,7 +9,7 @@ use Rattle.cdi_model.specs.declared.decl.InterceptorDecl.{InterceptorDecl}
 use Rattle.cdi_intercept.specs.Chains.{in_order, is_before}
 use Rattle.cdi_intercept.specs.Lent.{lent_in}
 use Rattle.cdi_intercept.specs.Sorting.{sorted_by}
-use Rattle.cdi_intercept.proofs.OrderLemmas.{sorted_from_sort, sorted_lent}
+use Rattle.cdi_intercept.proofs.OrderLemmas.{sorted_from_sort, sorted_map}
 use Rattle.cdi_intercept.proofs.chain.in_order.Goals as goal
 
 abbrev key : Bor InterceptorDecl → Option ℤ
@@ -23,5 +23,5 @@ returns c =
     let stable = sort.stable key (always_returns_same _ (λ a r. r ≡ key a.0.now) _ (λ a r q k. search rules)) in
     let order = ranks_by (options_total int_cmp_total) key in
     ap lent_in (sorted_from_sort (λ x y. is_before x.now y.now) order _ _ sorted stable)
-    ∙ sorted_lent c.in_ok-list.list.items
+    ∙ sorted_map (λ (i : Bor InterceptorDecl). i.now) is_before c.in_ok-list.list.items
     ∙ ap (sorted_by is_before) c.in_ok-list.ensures

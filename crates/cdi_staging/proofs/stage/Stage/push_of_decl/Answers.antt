@@ -1,6 +1,7 @@
-use Rattle.std.proofs.Common.{◌++◌, length, ap, ◌∙◌}
+use Rattle.std.proofs.Common.{◌++◌, length, map, ap, ◌∙◌}
 use Rattle.std.proofs.lemmas.Result.{on_ok_weaker}
 use Rattle.cdi_observe.specs.Wanted.{points_of}
+use Rattle.cdi_staging.specs.Shown.{around_in}
 use Rattle.cdi_staging.proofs.SplitLemmas.{by-records, as-many}
 use Rattle.cdi_staging.proofs.stage.Stage.push_of_decl.Goals as goal
 
@@ -15,7 +16,9 @@ push_beans-requires g c =
 pub returns : goal.returns
 returns g c =
     let self = c.args.self.now in
-    let same = by-records (λ answer. answer.value) self.decls.now self.beans.now (g.B.Bodies.promises self.book.now) c.in-Bean.bean
-    c.args.decl.now c.args.records.now c.args.answers.now c.as_slice.result.now c.requires.beans c.in-Bean.is c.requires.records
+    let same = by-records (λ answer. answer.value) self.decls.now self.beans.now (g.B.Bodies.promises self.book.now)
+    (map around_in self.around.now) c.in-Bean.bean
+    c.args.decl.now c.args.records.now c.args.answers.now c.as_slice.result.now c.requires.beans c.requires.around c.in-Bean.is
+    c.requires.records
     c.requires.answers (c.as_slice.ensures.value ∙ c.in_ok-targets.ensures) in
     on_ok_weaker c.push_beans.result (λ made. made ∙ ap (λ bs. c.args.list.now.items ++ bs) same) c.push_beans.ensures

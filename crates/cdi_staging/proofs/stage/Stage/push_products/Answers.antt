@@ -1,6 +1,7 @@
 use Rattle.std.proofs.Common.{◌++◌, sym, ap, ◌∙◌, append-nil, arith}
 use Rattle.std.specs.Slice.Iter.{iter_rest}
 use Rattle.std.proofs.lemmas.Slice.Zip.{either_empty_from_Zip}
+use Rattle.cdi_staging.specs.Shown.{class_in}
 use Rattle.cdi_staging.specs.Sites.{sight_in}
 use Rattle.cdi_staging.proofs.SplitLemmas.{enough, no-product}
 use Rattle.cdi_staging.proofs.stage.Stage.push_products.Goals as goal
@@ -9,7 +10,7 @@ pub returns : goal.returns
 returns g c =
     let left = c.loop-effective.effective-iterator in
     let self = c.args.self.now in
-    let none = no-product self.decls.now self.beans.now (g.B.Bodies.promises self.book.now) (sight_in c.args.own) c.args.bean.now
+    let none = no-product self.decls.now self.beans.now (g.B.Bodies.promises self.book.now) (sight_in c.args.own) (class_in c.args.class)
     (iter_rest left.a) (iter_rest left.b) c.loop-effective.rest.now
     (either_empty_from_Zip left c.next.new.self c.next.result c.in-None.is c.next.ensures.steps) in
     sym (append-nil c.loop-effective.list.items)

@@ -1,6 +1,7 @@
 use Rattle.std.proofs.Common.{◌≡◌, ◌++◌, length}
 use Rattle.std.specs.List.{flat_map}
 use Rattle.std.specs.Slice.Iter.{iter_rest}
+use Rattle.cdi_staging.specs.Shown.{class_in}
 use Rattle.cdi_staging.specs.Sites.{sight_in}
 use Rattle.cdi_staging.specs.Staged.{products_by}
 use Rattle.cdi_staging.proofs.stage.Stage.push_products.Given as goal
@@ -8,8 +9,8 @@ use Rattle.cdi_staging.proofs.stage.Stage.push_products.Given as goal
 abbrev pub invariant-loop-effective : goal.invariant-loop-effective
 invariant-loop-effective g l = record {
   chosen : length l.rest ≡ length (flat_map (λ p. p.params) (iter_rest l.effective-iterator.b));
-  beans : l.list.items ++ products_by l.self.decls.now l.self.beans.now (g.B.Bodies.promises l.self.book.now) (sight_in l.own) l.bean
-      (iter_rest l.effective-iterator.a) (iter_rest l.effective-iterator.b) l.rest
-      ≡ l.fn.list.items ++ products_by l.self.decls.now l.self.beans.now (g.B.Bodies.promises l.self.book.now) (sight_in l.own) l.bean
-      l.records l.bean.producers l.targets;
+  beans : l.list.items ++ products_by l.self.decls.now l.self.beans.now (g.B.Bodies.promises l.self.book.now) (sight_in l.own)
+      (class_in l.class) (iter_rest l.effective-iterator.a) (iter_rest l.effective-iterator.b) l.rest
+      ≡ l.fn.list.items ++ products_by l.self.decls.now l.self.beans.now (g.B.Bodies.promises l.self.book.now) (sight_in l.own)
+      (class_in l.class) l.records l.class.bean.now.producers l.targets;
 }

@@ -1,0 +1,139 @@
+-- Which interceptors are in order, and where they stand.
+use Rattle.std.proofs.Common.{◌≡◌, ℕ, zero, suc, Bool, true, false, not, ◌&&◌, ◌||◌, cond, List, [], ◌∷◌, ◌++◌, map, filter, length}
+use Rattle.std.proofs.Common.{Some, is_some, option_map, nat_eq, refl, sym, ap, subst, ◌∙◌, inl, inr}
+use Rattle.std.specs.List.{AllByRecursion, list_all, list_any, slice_get}
+use Rattle.std.proofs.Math.Bool.{and-false}
+use Rattle.std.proofs.lemmas.Bool.{cases_Bool}
+use Rattle.std.proofs.lemmas.Option.{none-some, same_Some, slice_get-map}
+use Rattle.cdi_model.specs.declared.decl.BeanDecl.{BeanDecl}
+use Rattle.cdi_model.specs.declared.decl.Decl.{Decl}
+use Rattle.cdi_model.specs.declared.decl.Decl.TheVariants as decls
+use Rattle.cdi_model.specs.declared.decl.InterceptorDecl.{InterceptorDecl}
+use Rattle.cdi_model.specs.declared.decl.MethodDecl.{MethodDecl}
+use Rattle.cdi_model.specs.declared.decl.ProducerDecl.{ProducerDecl}
+use Rattle.cdi_model.specs.declared.place.BeanPlace.{BeanPlace}
+use Rattle.cdi_model.specs.declared.place.BeanPlace.TheVariants as places
+use Rattle.cdi_model.specs.declared.quals.Qual.{Qual}
+use Rattle.cdi_intercept.specs.Chains.{covered_in, in_order, interceptors, is_before, is_enabled, part_for, surrounds, surrounds_one}
+use Rattle.cdi_intercept.specs.Sets.{places_of, set_by, sets_of}
+use Rattle.cdi_intercept.proofs.OrderLemmas.{all_sorted}
+
+-- ---- each of those in order is declared, and enabled
+
+abbrev pub IsDeclared : List Decl → InterceptorDecl → Type 0
+IsDeclared ds i = (k : ℕ) × (slice_get ds k ≡ Some (decls.Interceptor i))
+
+all-later : (d : Decl) (ds : List Decl) (is : List InterceptorDecl) → AllByRecursion (IsDeclared ds) is
+    → AllByRecursion (IsDeclared (d ∷ ds)) is
+all-later d ds [] all = tt
+all-later d ds (i ∷ is) all = ((suc all.0.0, all.0.1), all-later d ds is all.1)
+
+all-declared : (ds : List Decl) → AllByRecursion (IsDeclared ds) (interceptors ds)
+all-declared [] = tt
+all-declared (decls.Type d ∷ ds) = all-later (decls.Type d) ds (interceptors ds) (all-declared ds)
+all-declared (decls.Qualifier d ∷ ds) = all-later (decls.Qualifier d) ds (interceptors ds) (all-declared ds)
+all-declared (decls.Stereotype d ∷ ds) = all-later (decls.Stereotype d) ds (interceptors ds) (all-declared ds)
+all-declared (decls.Binding d ∷ ds) = all-later (decls.Binding d) ds (interceptors ds) (all-declared ds)
+all-declared (decls.Bean d ∷ ds) = all-later (decls.Bean d) ds (interceptors ds) (all-declared ds)
+all-declared (decls.Interceptor i ∷ ds) = ((0, refl), all-later (decls.Interceptor i) ds (interceptors ds) (all-declared ds))
+
+all-kept : {X : Type 0} (P : X → Type 0) (p : X → Bool) (xs : List X) → AllByRecursion P xs
+    → AllByRecursion (λ x. P x × (p x ≡ true)) (filter p xs)
+all-kept P p [] all = tt
+all-kept {X = X} P p (x ∷ xs) all =
+    let kept : List X → Type 0 = AllByRecursion (λ x. P x × (p x ≡ true)) in
+    elim (cases_Bool (p x)) [
+      | inl e ↦ subst (λ (b : Bool). kept (cond b (x ∷ filter p xs) (filter p xs))) (sym e) ((all.0, e), all-kept P p xs all.1)
+      | inr e ↦ subst (λ (b : Bool). kept (cond b (x ∷ filter p xs) (filter p xs))) (sym e) (all-kept P p xs all.1)
+    ]
+
+all-at : {X : Type 0} (P : X → Type 0) (xs : List X) (k : ℕ) (x : X) → AllByRecursion P xs → slice_get xs k ≡ Some x → P x
+all-at P [] k x all at = absurd (none-some x at)
+all-at P (y ∷ ys) zero x all at = subst P (same_Some y x at) all.0
+all-at P (y ∷ ys) (suc k) x all at = all-at P ys k x all.1 at
+
+pub in_order-declared : (ds : List Decl) (q : ℕ) (i : InterceptorDecl) → slice_get (in_order ds) q ≡ Some i
+    → IsDeclared ds i × (is_enabled i ≡ true)
+unfolding in_order
+in_order-declared ds q i at =
+    let found : InterceptorDecl → Type 0 = λ j. IsDeclared ds j × (is_enabled j ≡ true) in
+    let enabled = filter is_enabled (interceptors ds) in
+    all-at found _ q i (all_sorted found is_before enabled (all-kept (IsDeclared ds) is_enabled (interceptors ds) (all-declared ds))) at
+
+-- ---- where there is no binding none stands
+
+none-covered : (ds : List Decl) (bindings : List Qual) → (not (nat_eq (length bindings) 0) && list_all (covered_in ds []) bindings) ≡ false
+none-covered ds [] = refl
+none-covered ds (b ∷ bs) = and-false (not (nat_eq (length (b ∷ bs)) 0))
+
+pub none_surround : (ds : List Decl) (place : BeanPlace) (i : InterceptorDecl) → surrounds ds [] place i ≡ false
+none_surround ds place i = ap (λ b. is_some (part_for place i) && b) (none-covered ds i.bindings) ∙ and-false (is_some (part_for place i))
+
+-- ---- one that stands around a place of a bean stands around some place of it
+
+-- the place is one of the bean
+abbrev pub IsPlace : BeanDecl → BeanPlace → Type 0
+IsPlace bean place = (k : ℕ) × (slice_get (places_of bean) k ≡ Some place)
+
+in-front : {X : Type 0} (xs ys : List X) (k : ℕ) (x : X) → slice_get xs k ≡ Some x → slice_get (xs ++ ys) k ≡ Some x
+in-front [] ys k x at = absurd (none-some x at)
+in-front (v ∷ xs) ys zero x at = at
+in-front (v ∷ xs) ys (suc k) x at = in-front xs ys k x at
+
+behind : {X : Type 0} (xs ys : List X) (k : ℕ) (x : X) → slice_get ys k ≡ Some x → (j : ℕ) × (slice_get (xs ++ ys) j ≡ Some x)
+behind [] ys k x at = (k, at)
+behind (v ∷ xs) ys k x at = let rest = behind xs ys k x at in (suc rest.0, rest.1)
+
+in-filter : {X : Type 0} (p : X → Bool) (xs : List X) (k : ℕ) (x : X) → slice_get xs k ≡ Some x → p x ≡ true
+    → (j : ℕ) × (slice_get (filter p xs) j ≡ Some x)
+in-filter p [] k x at is = absurd (none-some x at)
+in-filter {X = X} p (v ∷ xs) zero x at is =
+    let here : v ≡ x = same_Some v x at in
+    (0, ap (λ (b : Bool). slice_get (cond b (v ∷ filter p xs) (filter p xs)) 0) (ap p here ∙ is) ∙ ap Some here)
+in-filter {X = X} p (v ∷ xs) (suc k) x at is =
+    let rest = in-filter p xs k x at is in
+    elim (cases_Bool (p v)) [
+      | inl e ↦ (suc rest.0, ap (λ (b : Bool). slice_get (cond b (v ∷ filter p xs) (filter p xs)) (suc rest.0)) e ∙ rest.1)
+      | inr e ↦ (rest.0, ap (λ (b : Bool). slice_get (cond b (v ∷ filter p xs) (filter p xs)) rest.0) e ∙ rest.1)
+    ]
+
+pub construct_place : (bean : BeanDecl) → IsPlace bean places.Construct
+construct_place bean = (0, refl)
+
+pub post_place : (bean : BeanDecl) → IsPlace bean places.Post
+post_place bean = (1, refl)
+
+pub pre_place : (bean : BeanDecl) → IsPlace bean places.Pre
+pre_place bean = (2, refl)
+
+pub method_place : (bean : BeanDecl) (k : ℕ) (method : MethodDecl) → slice_get bean.methods k ≡ Some method
+    → IsPlace bean (places.Method method.name)
+method_place bean k method at =
+    let name : MethodDecl → BeanPlace = λ m. places.Method m.name in
+    let found = slice_get-map name bean.methods k ∙ ap (option_map name) at in
+    (suc (suc (suc k)), in-front (map name bean.methods) _ k (places.Method method.name) found)
+
+pub producer_place : (bean : BeanDecl) (k : ℕ) (producer : ProducerDecl) → slice_get bean.producers k ≡ Some producer
+    → producer.is_static ≡ false → IsPlace bean (places.Producer producer.name)
+producer_place bean k producer at is =
+    let name : ProducerDecl → BeanPlace = λ p. places.Producer p.name in
+    let own = in-filter (λ p. not p.is_static) bean.producers k producer at (ap not is) in
+    let found = slice_get-map name (filter (λ p. not p.is_static) bean.producers) own.0 ∙ ap (option_map name) own.1 in
+    let all = behind (map (λ m. places.Method m.name) bean.methods) _ own.0 (places.Producer producer.name) found in
+    (suc (suc (suc all.0)), all.1)
+
+any-at : {X : Type 0} (test : X → Bool) (xs : List X) (k : ℕ) (x : X) → slice_get xs k ≡ Some x → test x ≡ true → list_any test xs ≡ true
+any-at test [] k x at is = absurd (none-some x at)
+any-at test (v ∷ xs) zero x at is = ap (λ b. b || list_any test xs) (ap test (same_Some v x at) ∙ is)
+any-at test (v ∷ xs) (suc k) x at is = ap (λ b. test v || b) (any-at test xs k x at is) ∙ or-true (test v)
+  where
+    or-true : (b : Bool) → (b || true) ≡ true
+    or-true true = refl
+    or-true false = refl
+
+pub surrounds_some : (ds : List Decl) (class : List Qual) (bean : BeanDecl) (place : BeanPlace) (i : InterceptorDecl) → IsPlace bean place
+    → surrounds ds (set_by ds class bean place) place i ≡ true → surrounds_one ds (sets_of ds class bean) i ≡ true
+surrounds_some ds class bean place i there is =
+    let with_set : BeanPlace → BeanPlace × List Qual = λ p. (p, set_by ds class bean p) in
+    any-at (λ z. surrounds ds z.1 z.0 i) (sets_of ds class bean) there.0 (with_set place)
+    (slice_get-map with_set (places_of bean) there.0 ∙ ap (option_map with_set) there.1) is

@@ -1,0 +1,7 @@
+use Rattle.std.proofs.Common.{◌≡◌, ◌++◌, drop}
+use Rattle.cdi_staging.specs.Staged.{injections_from}
+use Rattle.cdi_staging.proofs.around.push_injections.Given as goal
+
+abbrev pub invariant-loop-point : goal.invariant-loop-point
+invariant-loop-point l =
+    l.list ++ injections_from l.actor l.point (drop l.point l.targets) ≡ l.fn.list ++ injections_from l.actor 0 l.targets

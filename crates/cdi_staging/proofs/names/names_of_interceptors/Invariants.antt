@@ -1,0 +1,9 @@
+use Rattle.std.proofs.Common.{◌≡◌, ◌++◌, map}
+use Rattle.cdi_intercept.specs.Chains.{in_order}
+use Rattle.cdi_intercept.specs.Lent.{lent_in}
+use Rattle.cdi_staging.specs.Naming.{interceptor_names}
+use Rattle.cdi_staging.proofs.names.names_of_interceptors.Given as goal
+
+abbrev pub invariant-loop-interceptor : goal.invariant-loop-interceptor
+invariant-loop-interceptor l =
+    l.names ++ map interceptor_names (lent_in l.interceptor-iterator.rest.items) ≡ map interceptor_names (in_order l.decls)
