@@ -1,9 +1,11 @@
 """A plain model of runs: instances, contexts, the bodies that the program stores, failures and limits, and traces.
 
 It is written from the rules of `docs/language.md` and shares no code with the program. Recursion stands for frames and
-creations inside each other, a generator for a body: it yields an act and is sent the answer, so each step of it is one
-time that the body is asked. `bench/compare` uses it.
+creations inside each other, a generator for a body: it yields an act and is sent the answer, or has the failure thrown
+into it, so each step of it is one time that the body is asked. `bench/compare` uses it.
 """
+
+from chains import CALLBACKS
 
 DEPTH, STEPS, STEPS_BEFORE_DESTRUCTION, BUDGET, LIVE = 32, 64, 8, 20_000, 1024
 LEAST, GREATEST = -(2**63), 2**63 - 1
@@ -22,12 +24,17 @@ def text_of_value(value):
     return "null" if value is None else str(value)
 
 
+def within(number):
+    """The nearest number that may be."""
+    return max(LEAST, min(GREATEST, number))
+
+
 def next_of(value):
     """A value and 1, within what a number may be."""
-    return max(LEAST, min(GREATEST, (value or 0) + 1))
+    return within((value or 0) + 1)
 
 
-# The bodies that a place of a bean may have: each is given its argument and how many call sites there are.
+# The stored bodies: each is given its argument and how many call sites there are.
 def unit(_argument, _sites):
     return None
     yield
@@ -78,6 +85,38 @@ def spin(_argument, _sites):
         yield "load", None
 
 
+# Bodies of interceptors alone.
+def proceed(argument, _sites):
+    return (yield "proceed", argument)
+
+
+def double(argument, _sites):
+    value = yield "proceed", argument
+    return None if value is None else within(2 * value)
+
+
+def guard(argument, _sites):
+    if argument is not None and argument < 0:
+        raise Failed("User(1)")
+    return (yield "proceed", argument)
+
+
+def retry(argument, _sites):
+    for _ in range(2):
+        try:
+            return (yield "proceed", argument)
+        except Failed:
+            pass
+    return (yield "proceed", argument)
+
+
+def swallow(argument, _sites):
+    try:
+        return (yield "proceed", argument)
+    except Failed:
+        return None
+
+
 # No part has an event yet, so `notify` answers its argument.
 BODIES = {
     "unit": unit,
@@ -90,11 +129,19 @@ BODIES = {
     "boom": boom,
     "flaky": flaky,
     "spin": spin,
+    "pass": proceed,
+    "double": double,
+    "guard": guard,
+    "retry": retry,
+    "swallow": swallow,
 }
 
 
 class Instance:
-    """A contextual instance: of a bean, for a scope, for a point of another instance, or for none of these."""
+    """A contextual instance: of a bean, for a scope, for a point of another instance, or for none of these.
+
+    A point is told by who has it, an interceptor or none, and its name.
+    """
 
     def __init__(self, number, bean, owner, point):
         self.number = number
@@ -102,10 +149,47 @@ class Instance:
         self.owner = owner
         self.point = point
         self.state = None
+        self.states = {}
         self.is_ready = False
 
     def __str__(self):
         return f"{self.bean.ident}#{self.number}"
+
+    def load(self, actor):
+        """The state of the instance, or that of an interceptor for it."""
+        return self.states.get(actor) if actor else self.state
+
+    def store(self, actor, value):
+        if actor:
+            self.states[actor] = value
+        else:
+            self.state = value
+
+
+class Seat:
+    """Where a body runs: at a place of an instance, or of a class where there is none; an interceptor's where one is named.
+
+    It has the points that the body sees by name, each with the instance that it belongs to and the interceptor that has it.
+    """
+
+    def __init__(self, holder, place, sites, actor=None):
+        self.holder = holder
+        self.place = place
+        self.sites = sites
+        self.actor = actor
+
+    def __str__(self):
+        return f"{self.holder} {self.place}" + (f" by {self.actor}" if self.actor else "")
+
+
+class Invocation:
+    """What is invoked at a place of an instance: the interceptors around it, and its own part, if there is one."""
+
+    def __init__(self, seat, part, chain):
+        self.seat = seat
+        self.part = part
+        self.chain = chain
+        self.has_returned = False
 
 
 class Runs:
@@ -121,12 +205,14 @@ class Runs:
         self.asked = 0
         self.ending = 0
         self.chosen = {}
+        self.around = {}
 
     def lose(self):
         """What an accepted edit leaves: no instance and no request."""
         self.live = []
         self.is_active = False
         self.chosen = {}
+        self.around = {}
 
     # Commands. Each answers its text, with the trace before it.
 
@@ -214,6 +300,12 @@ class Runs:
             return method == "value"
         return any(found["name"] == method for found in self.declaration(bean).get("methods", []))
 
+    def chain(self, declaration, place):
+        key = (declaration["name"], place)
+        if key not in self.around:
+            self.around[key] = self.model.chains.around(declaration, place)
+        return self.around[key]
+
     # Creation.
 
     def obtain(self, bean):
@@ -255,17 +347,21 @@ class Runs:
 
     def construct(self, instance):
         declaration = self.declaration(instance.bean)
-        self.make_points(instance, declaration.get("points", []))
-        for place in ["construct", "post"]:
-            if place in declaration:
-                self.pass_through(place, declaration[place], None, instance, self.sites(instance, declaration))
+        for interceptor in self.model.chains.of_bean(declaration):
+            self.make_points(instance, interceptor["name"], interceptor.get("points", []))
+        self.make_points(instance, None, declaration.get("points", []))
+        constructor = self.invocation("construct", declaration.get("construct"), instance, declaration)
+        self.go_on(constructor, None)
+        if not constructor.has_returned:
+            raise Failed("NotConstructed")
+        self.go_on(self.invocation("post", declaration.get("post"), instance, declaration), None)
 
-    def make_points(self, instance, points):
-        """What is dependent of the points of an instance is made for it; of the others nothing is."""
+    def make_points(self, instance, actor, points):
+        """What is dependent of the points that an interceptor or the instance has is made for it; of the others nothing is."""
         for point in points:
             bean = self.bean_for(point["type"], point.get("qualifiers", []))
             if bean.scope == "dependent":
-                self.create(bean, instance, point["name"])
+                self.create(bean, instance, (actor, point["name"]))
 
     def produce(self, product):
         producer, declaration = self.producer(product.bean), self.declaration(product.bean)
@@ -274,15 +370,12 @@ class Runs:
         if not producer.get("static"):
             declaring = self.create(managed, None, None) if managed.scope == "dependent" else self.obtain(managed)
         try:
-            self.make_points(product, producer.get("params", []))
-            sites = {point["name"]: (product, point) for point in producer.get("params", [])}
+            self.make_points(product, None, producer.get("params", []))
+            place, params = f"producer {producer['name']}", self.sites(product, None, producer.get("params", []))
             if declaring:
-                sites.update(self.sites(declaring, declaration))
-            place = f"producer {producer['name']}"
-            if declaring:
-                state = self.pass_through(place, producer, None, declaring, sites)
+                state = self.go_on(self.invocation(place, producer, declaring, declaration, params), None)
             else:
-                state = self.frame(place, producer, None, None, sites, declaration["name"])
+                state = self.frame(Seat(declaration["name"], place, params), producer, None)
         finally:
             if declaring and managed.scope == "dependent":
                 self.destroy(declaring)
@@ -293,42 +386,58 @@ class Runs:
     # Calls.
 
     @staticmethod
-    def sites(instance, declaration):
-        """The points that a body sees, each with the instance that it belongs to."""
-        return {point["name"]: (instance, point) for point in declaration.get("points", [])}
+    def sites(instance, actor, points):
+        return {point["name"]: (instance, actor, point) for point in points}
+
+    def invocation(self, place, part, instance, declaration, params=None):
+        """What is invoked at a place of an instance, where these parameters are seen too."""
+        sites = {**self.sites(instance, None, declaration.get("points", [])), **(params or {})}
+        return Invocation(Seat(instance, place, sites), part, self.chain(declaration, place))
 
     def invoke(self, instance, method, argument):
         if self.producer(instance.bean):
             return instance.state
         declaration = self.declaration(instance.bean)
         part = next(found for found in declaration["methods"] if found["name"] == method)
-        return self.pass_through(f"method {method}", part, argument, instance, self.sites(instance, declaration))
+        return self.go_on(self.invocation(f"method {method}", part, instance, declaration), argument)
 
     def call_site(self, site, argument, sites):
         name, method = site.split(".")
-        holder, point = sites[name]
+        holder, actor, point = sites[name]
         bean = self.bean_for(point["type"], point.get("qualifiers", []))
         if bean.scope == "dependent":
-            target = next(found for found in self.live if found.owner is holder and found.point == name)
+            target = next(found for found in self.live if found.owner is holder and found.point == (actor, name))
         else:
             target = self.obtain(bean)
         return self.invoke(target, method, argument)
 
-    def pass_through(self, place, part, argument, instance, sites):
-        """A body at a place of an instance around which interceptors may stand. Runs do not pass through these yet."""
-        return self.frame(place, part, argument, instance, sites)
+    def go_on(self, invocation, argument, passed=0):
+        """Goes on behind so many of the interceptors: to the next one, or to the part of the place."""
+        seat = invocation.seat
+        if passed < len(invocation.chain):
+            interceptor = invocation.chain[passed]
+            name = interceptor["name"]
+            sites = self.sites(seat.holder, name, interceptor.get("points", []))
+            part = interceptor[CALLBACKS.get(seat.place, "around_invoke")]
 
-    def frame(self, place, part, argument, instance, sites, class_name=None):
-        """A frame of a body: on an instance, or of a class where there is none."""
+            def following(given):
+                return self.go_on(invocation, given, passed + 1)
+
+            return self.frame(Seat(seat.holder, seat.place, sites, name), part, argument, following)
+        value = self.frame(seat, invocation.part, argument) if invocation.part else None
+        invocation.has_returned = True
+        return value
+
+    def frame(self, seat, part, argument, following=None):
+        """A frame of a body; that of an interceptor is given what it stands around."""
         counted = not self.ending
         if counted and self.open >= DEPTH:
             raise Failed("Depth")
-        self.trace.append(f"enter {instance or class_name} {place} arg {text_of_value(argument)}")
+        self.trace.append(f"enter {seat} arg {text_of_value(argument)}")
         self.open += counted
         calls = part.get("calls", [])
-        most = STEPS_BEFORE_DESTRUCTION if place == "pre" else STEPS
         try:
-            value = self.ask(BODIES[part["body"]](argument, len(calls)), calls, most, instance, sites)
+            value = self.ask(BODIES[part["body"]](argument, len(calls)), seat, calls, following)
         except Failed as failed:
             self.trace.append(f"leave failed {failed.failure}")
             raise
@@ -337,43 +446,45 @@ class Runs:
         self.trace.append(f"leave {text_of_value(value)}")
         return value
 
-    def ask(self, body, calls, most, instance, sites):
-        """Asks a body until it returns or fails. A failure that a call answers is passed on by each body that calls."""
-        answer = None
+    def ask(self, body, seat, calls, following):
+        """Asks a body until it returns or fails. Before a destruction it has fewer acts, and proceeds once."""
+        is_before_destruction, proceeds, answer = seat.place == "pre", 0, None
+        most = STEPS_BEFORE_DESTRUCTION if is_before_destruction else STEPS
         for answers in range(most + 1):
             if not self.ending:
                 if self.asked >= BUDGET:
                     raise Failed("Budget")
                 self.asked += 1
             try:
-                act, given = body.send(answer)
+                act, given = body.throw(answer) if isinstance(answer, Failed) else body.send(answer)
             except StopIteration as returned:
                 return returned.value
-            if answers == most:
+            proceeds += act == "proceed"
+            if answers == most or (is_before_destruction and act == "proceed" and proceeds > 1):
                 raise Failed("Steps")
-            try:
-                answer = self.do(act, given, calls, instance, sites)
-            except Failed as failed:
-                # The body is asked once more, and fails so.
-                self.trace.append(f"got failed {failed.failure}")
-                if not self.ending:
-                    if self.asked >= BUDGET:
-                        raise Failed("Budget") from failed
-                    self.asked += 1
-                raise
+            answer = self.do(act, given, seat, calls, following)
         raise AssertionError
 
-    def do(self, act, given, calls, instance, sites):
+    def do(self, act, given, seat, calls, following):
+        """Does an act, and answers what the body is told: a value, or the failure that it is to hear."""
         if act == "load":
-            self.trace.append(f"load {text_of_value(instance.state)}")
-            return instance.state
+            self.trace.append(f"load {text_of_value(seat.holder.load(seat.actor))}")
+            return seat.holder.load(seat.actor)
         if act == "store":
             self.trace.append(f"store {text_of_value(given)}")
-            instance.state = given
+            seat.holder.store(seat.actor, given)
             return None
-        site, argument = given
-        self.trace.append(f"call {calls[site]} {text_of_value(argument)}")
-        answer = self.call_site(calls[site], argument, sites)
+        try:
+            if act == "proceed":
+                self.trace.append(f"proceed {text_of_value(given)}")
+                answer = following(given)
+            else:
+                site, argument = given
+                self.trace.append(f"call {calls[site]} {text_of_value(argument)}")
+                answer = self.call_site(calls[site], argument, seat.sites)
+        except Failed as failed:
+            self.trace.append(f"got failed {failed.failure}")
+            return failed
         self.trace.append(f"got {text_of_value(answer)}")
         return answer
 
@@ -405,11 +516,11 @@ class Runs:
 
     def call_back(self, instance):
         declaration, producer = self.declaration(instance.bean), self.producer(instance.bean)
-        if producer is None and "pre" in declaration:
-            self.pass_through("pre", declaration["pre"], None, instance, {})
+        if producer is None:
+            self.go_on(self.invocation("pre", declaration.get("pre"), instance, declaration), None)
         disposers = declaration.get("disposers", []) if producer else []
         for disposer in disposers:
             if self.model.matches(disposer, instance.bean):
-                place = f"disposer {disposer['name']}"
-                self.frame(place, disposer, instance.state, None, {}, declaration["name"])
+                seat = Seat(declaration["name"], f"disposer {disposer['name']}", {})
+                self.frame(seat, disposer, instance.state)
                 return
