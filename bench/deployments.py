@@ -2,8 +2,9 @@
 
 Types have places in an order, and each has one bean, a managed one or a product. A dependent bean has points of
 dependent beans behind it in the order alone, and of beans of the other scopes anywhere, so none needs itself before it
-is made. A product stands before the bean that declares it. Half of the deployments have bindings and interceptors; an
-interceptor has points of beans of the other scopes alone.
+is made. A product stands before the bean that declares it. Half of the deployments have bindings and interceptors, which
+proceed more often than not. The points of an interceptor are of beans of the other scopes, and of a helper: a dependent bean
+around which no interceptor stands, and which has no points.
 """
 
 METHODS = ["run", "add", "go"]
@@ -13,8 +14,10 @@ PLAIN = ["unit", "zero", "echo", "count", "count", "relay", "relay", "flaky", "b
 BEFORE_DESTRUCTION = ["unit", "count", "flaky", "boom", "spin", "zero"]
 OF_CLASS = ["zero", "unit", "echo", "relay", "relay", "boom", "short"]
 DISPOSING = ["unit", "boom", "zero"]
-AROUND_DESTRUCTION = ["pass", "pass", "double", "guard", "retry", "swallow", "short", "boom", "count", "flaky"]
-AROUND = [*AROUND_DESTRUCTION, "pass", "relay"]
+PROCEEDING = ["pass", "double", "guard", "retry", "swallow"]
+AROUND_DESTRUCTION = ["pass", *PROCEEDING, *PROCEEDING, "short", "boom", "count", "flaky"]
+AROUND = [*AROUND_DESTRUCTION, "pass", "relay", "relay", "relay"]
+HELPER = "shop.Helper"
 
 LOG, TX, AUDIT = "shop.Log", "shop.Tx", "shop.Audit"
 BINDINGS = [
@@ -37,6 +40,7 @@ class Planner:
         self.products = {name for name in self.names[:-1] if self.maybe(0.3)}
         self.never_ending = self.maybe(0.15)
         self.interceptors = [f"shop.I{number}" for number in range(self.chance.randint(1, 4))] if self.maybe(0.5) else []
+        self.helped = bool(self.interceptors) and self.maybe(0.7)
 
     def maybe(self, chance):
         return self.chance.random() < chance
@@ -47,9 +51,9 @@ class Planner:
 
     def declarations(self):
         """The types and bindings, and then the beans and interceptors in any order."""
-        types = [{"kind": "type", "name": name} for name in self.names]
+        types = [{"kind": "type", "name": name} for name in self.names + [HELPER] * self.helped]
         found = [self.bean(name) for name in self.names if name not in self.products]
-        found += [self.interceptor(name) for name in self.interceptors]
+        found += [self.interceptor(name) for name in self.interceptors] + [self.helper()] * self.helped
         self.chance.shuffle(found)
         return types + (BINDINGS if self.interceptors else []) + found
 
@@ -61,9 +65,20 @@ class Planner:
         uses = [(LOG, ())] * (logged or not further) + [self.chance.choice(ONE_OF)] * further
         return {"bindings": uses}
 
+    def helper(self):
+        """The bean of which interceptors have an instance for each point; some can't be made or destroyed without a failure."""
+        declaration = {"kind": "bean", "name": HELPER, "points": []}
+        for place, chance, bodies in [("construct", 0.2, PLAIN), ("post", 0.3, PLAIN), ("pre", 0.4, BEFORE_DESTRUCTION)]:
+            if self.maybe(chance):
+                declaration[place] = self.part([], bodies)
+        declaration["methods"] = [{"name": method, **self.part([], PLAIN)} for method in METHODS]
+        return declaration
+
     def interceptor(self, name):
         lasting = [other for other in self.names if self.scopes[other] != "dependent"]
         points = [{"name": "by", "type": self.chance.choice(lasting)}] if lasting and self.maybe(0.3) else []
+        points += [{"name": f"aid{number}", "type": HELPER} for number in range(self.chance.randint(0, 2) * self.helped)]
+        self.chance.shuffle(points)
         declaration = {"kind": "interceptor", "name": name, "points": points, **self.bindings(1, 0.3)}
         if self.maybe(0.9):
             declaration["priority"] = self.chance.choice([-1, 1, 1, 2])
@@ -124,7 +139,8 @@ class Planner:
         return points
 
     def part(self, points, bodies):
-        body = "spin" if self.never_ending and bodies is PLAIN and self.maybe(0.1) else self.chance.choice(bodies)
+        spins = self.never_ending and bodies in (PLAIN, AROUND) and self.maybe(0.1)
+        body = "spin" if spins else self.chance.choice(bodies)
         sites = [
             f"{point['name']}.{'value' if point['type'] in self.products else self.chance.choice(METHODS)}"
             for point in points
