@@ -1,9 +1,8 @@
 //! A script that runs closures of the test, which hold numbers of their own.
 ghost use Rattle.cdi_bodies.specs.Within.{IsWithin};
 
-use crate::fixtures::{assert_text, empty_page};
-use cdi_bodies::{Act, Body, Book, Frame, Promise};
-use cdi_container::{Counted, Options, run};
+use crate::fixtures::{assert_text, printed};
+use cdi_bodies::{Act, Body, Frame, Promise};
 use cdi_model::{Ident, Outcome, Val};
 use std::alloc::{AllocError, Global};
 use std::test::Fail;
@@ -109,21 +108,54 @@ fn seven_and_count(alloc: Global) -> Result<Vec<Body>, AllocError> {
     Ok(bodies)
 }
 
-/// What a run of the script prints.
-fn printed(alloc: Global) -> Result<Vec<u8>, Fail> {
-    let Ok(book) = Book::new(seven_and_count(alloc)?) else {
-        return Err(Fail::new("no book"));
-    };
-    let mut reader = Counted::new(SCRIPT);
-    let mut writer = Counted::new(empty_page(alloc)?);
-    let options = Options { quiet: false };
-    run(alloc, &mut reader, &mut writer, options, book)?;
-    Ok(writer.into_inner())
+/// A script that asks a dependent bean for a number.
+const ASKING: &[u8] = br#"put
+kind="type"
+name="A"
+.
+put
+kind="bean"
+name="A"
+methods=[{name="get",body="told"}]
+.
+call get 5 A
+"#;
+
+/// What it prints, where the number is 41.
+const ASKED: &[u8] = br#"ok
+ok
+  create A#1
+  ready A#1
+  enter A#1 method get arg 5
+  leave 41
+  destroy A#1
+  gone A#1
+value 41
+"#;
+
+/// What it prints where the body of the name `told` returns a number.
+fn told(alloc: Global, number: i64) -> Result<Vec<u8>, Fail> {
+    let mut bodies = Vec::new(alloc);
+    bodies.push(returning(alloc, Ident::new(b"told"), number)?)?;
+    printed(alloc, ASKING, bodies)
 }
 
 #[test]
 fn closures_are_run(rt: HostRuntime) -> Result<(), Fail> {
-    let written = printed(rt.alloc())?;
+    let written = printed(rt.alloc(), SCRIPT, seven_and_count(rt.alloc())?)?;
     assert_text(&rt, written.as_slice(), TEXT, &"closures");
+    Ok(())
+}
+
+#[test]
+fn asks_the_stored_body(rt: HostRuntime) -> Result<(), Fail> {
+    let written = told(rt.alloc(), 41)?;
+    let other = told(rt.alloc(), -6)?;
+    assert_text(&rt, written.as_slice(), ASKED, &"a body that returns 41");
+    assert!(rt;
+        other
+            .as_slice()
+            .ends_with(b"  leave -6\n  destroy A#1\n  gone A#1\nvalue -6\n")
+    );
     Ok(())
 }

@@ -1,4 +1,5 @@
 //! What several tests share.
+use cdi_bodies::{Body, Book};
 use cdi_container::{Counted, Options, RunFault, Summary, run};
 use cdi_fixtures::Echo;
 use std::alloc::{AllocError, Global};
@@ -34,6 +35,18 @@ pub(crate) fn outcome(alloc: Global, script: &[u8]) -> Result<(Vec<u8>, bool), F
     let options = Options { quiet: false };
     let summary = run(alloc, &mut reader, &mut writer, options, Echo)?;
     Ok((writer.into_inner(), summary.refused))
+}
+
+/// What the run of a script with these bodies prints.
+pub(crate) fn printed(alloc: Global, script: &[u8], bodies: Vec<Body>) -> Result<Vec<u8>, Fail> {
+    let Ok(book) = Book::new(bodies) else {
+        return Err(Fail::new("no book"));
+    };
+    let mut reader = Counted::new(script);
+    let mut writer = Counted::new(empty_page(alloc)?);
+    let options = Options { quiet: false };
+    run(alloc, &mut reader, &mut writer, options, book)?;
+    Ok(writer.into_inner())
 }
 
 /// Asserts that a text is the one that is wanted.

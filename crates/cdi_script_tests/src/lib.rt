@@ -13,6 +13,8 @@ mod fixtures;
 #[cfg(test)]
 mod long_rows;
 #[cfg(test)]
+mod proceeding;
+#[cfg(test)]
 mod runs;
 #[cfg(test)]
 mod session;
