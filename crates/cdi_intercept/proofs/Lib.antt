@@ -1,2 +1,4 @@
 pub mod OrderLemmas
 pub mod ChainLemmas
+pub mod UseLemmas
+pub mod SeenLemmas

@@ -2,13 +2,14 @@
 #![tactic(auto)]
 
 mod asked;
+mod bindings;
 mod chain;
 mod conflict;
 mod set;
+mod written;
 
-pub use asked::chain_of;
-pub use chain::{
-    around_any, chain_among, in_order, part_for, stands_around, surrounds, surrounds_one,
-};
+pub use asked::{chain_of, evaluate_chain};
+pub use bindings::bindings_at;
+pub use chain::{surrounds_one, around_any, chain_among, in_order, part_for, stands_around, surrounds};
 pub use conflict::has_conflict;
 pub use set::{has_place, set_by, sets_of};

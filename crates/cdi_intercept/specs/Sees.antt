@@ -1,0 +1,73 @@
+-- What the chain around a place rests on.
+use Rattle.std.specs.Prelude.{◌≡◌, ℕ, Bool, ◌&&◌, List, map, filter, Option, is_some, Ok}
+use Rattle.std.specs.List.{list_any}
+use Rattle.cdi_model.specs.declared.decl.BindingDecl.{BindingDecl}
+use Rattle.cdi_model.specs.declared.decl.Decl.{Decl}
+use Rattle.cdi_model.specs.declared.decl.InterceptorDecl.{InterceptorDecl}
+use Rattle.cdi_model.specs.declared.decl.UseKind.TheVariants as use_kinds
+use Rattle.cdi_model.specs.declared.place.BeanPlace.{BeanPlace}
+use Rattle.cdi_model.specs.declared.quals.Qual.{Qual}
+use Rattle.cdi_match.specs.Covering.{given_name}
+use Rattle.cdi_match.specs.Filling.{Values, fill_members, find_binding}
+use Rattle.cdi_effective.specs.Qualifiers.{uses_one}
+use Rattle.cdi_intercept.specs.Bindings.{in_text_order, set_at}
+use Rattle.cdi_intercept.specs.Chains.{chain_by, chain_of, in_order, part_for}
+
+-- a binding with its members filled
+pub record FilledBinding : Type 0 where
+  pub name : List ℕ
+  -- the name in a use of `Named`
+  pub given : Option (List ℕ)
+  pub values : Values
+
+abbrev pub filled : List Decl → Qual → FilledBinding
+filled ds u = record { name = u.name; given = given_name u.arguments; values = fill_members ds use_kinds.Binding u }
+
+pub record SeenInterceptor : Type 0 where
+  pub name : List ℕ
+  pub bindings : List FilledBinding
+
+abbrev pub seen_interceptor : List Decl → InterceptorDecl → SeenInterceptor
+seen_interceptor ds i = record { name = i.name; bindings = map (filled ds) i.bindings }
+
+-- it declares a binding of a type of which one of these is
+abbrev pub shares_type : List Qual → InterceptorDecl → Bool
+shares_type set i = list_any (λ u. uses_one set u.name) i.bindings
+
+-- the chain at a place with these bindings sees it: it has a body for the place, and shares a binding type
+abbrev pub is_seen : List Qual → BeanPlace → InterceptorDecl → Bool
+is_seen set place i = is_some (part_for place i) && shares_type set i
+
+-- the bindings at the place, each once, in order; the declarations of their types; and in the order in which they are called the
+-- interceptors that are enabled, have a body for the place and share a binding type with it
+pub record Seen : Type 0 where
+  pub bindings : List FilledBinding
+  pub declared : List (Option BindingDecl)
+  pub interceptors : List SeenInterceptor
+
+abbrev pub sees : List Decl → List Qual → BeanPlace → Seen
+sees ds set place = record {
+  bindings = map (filled ds) (in_text_order set);
+  declared = map (λ u. find_binding u.name ds) (in_text_order set);
+  interceptors = map (seen_interceptor ds) (filter (is_seen set place) (in_order ds));
+}
+
+-- the names of the interceptors around a place with these bindings
+abbrev pub names_around : List Decl → List Qual → BeanPlace → List (List ℕ)
+names_around ds set place = map (λ i. i.name) (chain_by ds set place)
+
+-- where the same is seen, the chain is the same
+abbrev pub ChainRestsOnSeen : Type 0
+ChainRestsOnSeen = (ds es : List Decl) (set others : List Qual) (place : BeanPlace)
+    → sees ds set place ≡ sees es others place → names_around ds set place ≡ names_around es others place
+
+-- what the chain around a place of the bean of a class sees: where there is no such place, it has no bindings
+abbrev pub sees_at : List Decl → List ℕ → BeanPlace → Seen
+sees_at ds class place = sees ds (set_at ds class place) place
+
+-- where the same is seen of a place of a bean, and the chain is told, the same is told
+abbrev pub ToldRestsOnSeen : Type 0
+ToldRestsOnSeen = (ds es : List Decl) (class : List ℕ) (place : BeanPlace) (names others : List (List ℕ))
+    → sees_at ds class place ≡ sees_at es class place
+    → chain_of ds class place ≡ Ok names → chain_of es class place ≡ Ok others
+    → names ≡ others
