@@ -112,25 +112,29 @@ covered-used ds (have ∷ set) want h =
     rest : Qual → Bool
     rest u = option_eq bytes_eq (given_name u.arguments) (given_name want.arguments) && agree (declared_of ds use_kinds.Binding u.name) u want
 
+abbrev shares_type_of : List Qual → List Qual → Bool
+shares_type_of list bindings = list_any (λ u. uses_one list u.name) bindings
+
 first-shared : (ds : List Decl) (set bindings : List Qual) → (not (nat_eq (length bindings) 0) && list_all (covered_in ds set) bindings) ≡ true
-    → list_any (λ u. uses_one set u.name) bindings ≡ true
+    → shares_type_of (in_text_order set) bindings ≡ true
 first-shared ds set [] h = absurd (false≢true h)
 first-shared ds set (u ∷ us) h =
     let all = (and_parts (not (nat_eq (length (u ∷ us)) 0)) (list_all (covered_in ds set) (u ∷ us)) h).1 in
-    or_left (uses_one set u.name) (list_any (λ v. uses_one set v.name) us)
-    (covered-used ds set u (and_parts (covered_in ds set u) (list_all (covered_in ds set) us) all).0)
+    or_left (uses_one (in_text_order set) u.name) (shares_type_of (in_text_order set) us)
+    (any-in_text_order (λ v. bytes_eq u.name v.name) set
+    ∙ covered-used ds set u (and_parts (covered_in ds set u) (list_all (covered_in ds set) us) all).0)
 
 surrounds-seen : (ds : List Decl) (set : List Qual) (place : BeanPlace) (i : InterceptorDecl)
-    → surrounds ds set place i ≡ (is_seen set place i && binds_seen (sees ds set place) (seen_interceptor ds i))
+    → surrounds ds set place i ≡ (is_seen (in_text_order set) place i && binds_seen (sees ds set place) (seen_interceptor ds i))
 surrounds-seen ds set place i = by (binds ds set i) refl
-    ∙ ap (λ b. is_seen set place i && b) (binds-seen ds set place i)
+    ∙ ap (λ b. is_seen (in_text_order set) place i && b) (binds-seen ds set place i)
   where
     part : Bool
     part = is_some (part_for place i)
 
-    by : (b : Bool) → binds ds set i ≡ b → (part && binds ds set i) ≡ ((part && shares_type set i) && binds ds set i)
+    by : (b : Bool) → binds ds set i ≡ b → (part && binds ds set i) ≡ ((part && shares_type (in_text_order set) i) && binds ds set i)
     by true e = ap (λ b. b && binds ds set i) (sym (and-true part) ∙ ap (λ b. part && b) (sym (first-shared ds set i.bindings e)))
-    by false e = rw e (and-false part ∙ sym (and-false (part && shares_type set i)))
+    by false e = rw e (and-false part ∙ sym (and-false (part && shares_type (in_text_order set) i)))
 
 -- ---- the chain among what is seen
 
@@ -164,10 +168,10 @@ unfolding chain_by
 chain-seen ds set place =
     let seen : Seen = sees ds set place in
     ap (map (λ i. i.name))
-    (filter_agree (surrounds ds set place) (λ i. is_seen set place i && binds_seen seen (seen_interceptor ds i))
+    (filter_agree (surrounds ds set place) (λ i. is_seen (in_text_order set) place i && binds_seen seen (seen_interceptor ds i))
     (surrounds-seen ds set place) (in_order ds)
-    ∙ filter-both (is_seen set place) (λ i. binds_seen seen (seen_interceptor ds i)) (in_order ds))
-    ∙ names-seen ds (binds_seen seen) (filter (is_seen set place) (in_order ds))
+    ∙ filter-both (is_seen (in_text_order set) place) (λ i. binds_seen seen (seen_interceptor ds i)) (in_order ds))
+    ∙ names-seen ds (binds_seen seen) (filter (is_seen (in_text_order set) place) (in_order ds))
 
 -- where the same is seen, the chain is the same
 pub chain_rests_on_seen : ChainRestsOnSeen

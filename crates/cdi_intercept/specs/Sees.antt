@@ -38,19 +38,24 @@ shares_type set i = list_any (λ u. uses_one set u.name) i.bindings
 abbrev pub is_seen : List Qual → BeanPlace → InterceptorDecl → Bool
 is_seen set place i = is_some (part_for place i) && shares_type set i
 
--- the bindings at the place, each once, in order; the declarations of their types; and in the order in which they are called the
--- interceptors that are enabled, have a body for the place and share a binding type with it
+-- bindings; the declarations of their types; and in the order in which they are called the interceptors that are enabled, have a
+-- body for the place and share a binding type with these
 pub record Seen : Type 0 where
   pub bindings : List FilledBinding
   pub declared : List (Option BindingDecl)
   pub interceptors : List SeenInterceptor
 
-abbrev pub sees : List Decl → List Qual → BeanPlace → Seen
-sees ds set place = record {
-  bindings = map (filled ds) (in_text_order set);
-  declared = map (λ u. find_binding u.name ds) (in_text_order set);
-  interceptors = map (seen_interceptor ds) (filter (is_seen set place) (in_order ds));
+-- what is seen of a place with these bindings
+abbrev pub sees_by : List Decl → List Qual → BeanPlace → Seen
+sees_by ds list place = record {
+  bindings = map (filled ds) list;
+  declared = map (λ u. find_binding u.name ds) list;
+  interceptors = map (seen_interceptor ds) (filter (is_seen list place) (in_order ds));
 }
+
+-- the chain around the place sees its bindings each once, in the byte order of their texts
+abbrev pub sees : List Decl → List Qual → BeanPlace → Seen
+sees ds set place = sees_by ds (in_text_order set) place
 
 -- the names of the interceptors around a place with these bindings
 abbrev pub names_around : List Decl → List Qual → BeanPlace → List (List ℕ)

@@ -5,6 +5,7 @@ mod asked;
 mod bindings;
 mod chain;
 mod conflict;
+mod seen;
 mod set;
 mod written;
 
@@ -12,4 +13,5 @@ pub use asked::{chain_of, evaluate_chain};
 pub use bindings::bindings_at;
 pub use chain::{surrounds_one, around_any, chain_among, in_order, part_for, stands_around, surrounds};
 pub use conflict::has_conflict;
+pub use seen::seen_around;
 pub use set::{has_place, set_by, sets_of};

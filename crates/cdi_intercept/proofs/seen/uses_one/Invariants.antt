@@ -1,0 +1,6 @@
+use Rattle.std.proofs.Common.{◌≡◌, drop}
+use Rattle.cdi_effective.specs.Qualifiers.{uses_one}
+use Rattle.cdi_intercept.proofs.seen.uses_one.Given as goal
+
+abbrev pub invariant-loop-binding : goal.invariant-loop-binding
+invariant-loop-binding l = uses_one (drop l.binding-index l.bindings) l.fn.name ≡ uses_one l.bindings l.fn.name
