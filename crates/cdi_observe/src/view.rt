@@ -3,12 +3,15 @@ ghost use Rattle.std.specs.Prelude.{◌≡◌, List, true, false, Option, None, 
 ghost use Rattle.cdi_model.specs.declared.decl.Decl.{Decl};
 ghost use Rattle.cdi_effective.specs.Beans.{beans as beans_of};
 ghost use Rattle.cdi_effective.specs.Records.{records_in};
+ghost use Rattle.cdi_model.specs.Answering.{Answers};
+ghost use Rattle.cdi_intercept.specs.Chains.{chain_of};
 ghost use Rattle.cdi_resolve.specs.Choices.{chosen};
-ghost use Rattle.cdi_observe.specs.Keys.{choice_key};
+ghost use Rattle.cdi_observe.specs.Keys.{choice_key, ChainKey};
 ghost use Rattle.cdi_observe.specs.Kept.{Kept, after_key};
 
 use cdi_effective::Effective;
-use cdi_model::{Decls, Name, Quals, Work};
+use cdi_intercept::evaluate_chain;
+use cdi_model::{BeanPlace, Decls, Error, Name, Quals, Seq, Work};
 use cdi_resolve::{BeanList, Choice};
 use std::alloc::{AllocError, Global};
 use std::marker::Model;
@@ -47,6 +50,22 @@ pub trait View {
         ensures ok { OnOk result (kept self.new ≡ after_key (list self.old) (choice_key bean_type quals.now) (kept self.old)) }
         ensures err { OnErr result (kept self.new ≡ kept self.old) }
         ensures staged { (kept self.old).knows (choice_key bean_type quals.now) ≡ true → staged self.new ≡ staged self.old };
+
+    /// The names of the interceptors around a place of the bean of a class, in order (Interceptors 2.1, Interceptor
+    /// Ordering), whether it is enabled or not. It is refused with `UnknownName` where no such bean is declared, and with
+    /// `NoMethod` where it has no such place. It counts, and may give an edit up, as `choose` does; where it is refused or
+    /// fails for want of memory, the view has kept and counted nothing.
+    fn chain(
+        &mut self,
+        alloc: Global,
+        class: Name,
+        place: &BeanPlace,
+    ) -> Result<Seq<Name>, Error>
+        ensures chain { Answers result (chain_of (list self.old) class place.now) }
+        ensures list { list self.new ≡ list self.old }
+        ensures ok { OnOk result (kept self.new ≡ after_key (list self.old) (ChainKey class place.now) (kept self.old)) }
+        ensures err { OnErr result (kept self.new ≡ kept self.old) }
+        ensures staged { (kept self.old).knows (ChainKey class place.now) ≡ true → staged self.new ≡ staged self.old };
 }
 
 /// A view that keeps no answer, and computes each anew.
@@ -103,5 +122,16 @@ impl<'a> View for PlainView<'a> {
         let mut work = Work::new();
         self.beans
             .choose(alloc, self.decls, bean_type, quals, &mut work)
+    }
+
+    #[tactic(auto, unfolding(crate::specs::Kept::after_key))]
+    fn chain(
+        &mut self,
+        alloc: Global,
+        class: Name,
+        place: &BeanPlace,
+    ) -> Result<Seq<Name>, Error> {
+        let mut work = Work::new();
+        evaluate_chain(alloc, self.decls, class, place, &mut work)
     }
 }
