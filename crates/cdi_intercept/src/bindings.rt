@@ -2,14 +2,16 @@
 ghost use Rattle.std.specs.Prelude.{◌≡◌, IfOk};
 ghost use Rattle.cdi_model.specs.Answering.{Answers};
 ghost use Rattle.cdi_match.specs.Bindings.{uses_in};
+ghost use Rattle.cdi_effective.specs.Bindings.{class_bindings};
 ghost use Rattle.cdi_effective.specs.Qualifiers.{has_use};
-ghost use Rattle.cdi_intercept.specs.Bindings.{bindings_at, BindingsAreThose, each_once, in_text_order};
+ghost use Rattle.cdi_intercept.specs.Bindings.{bindings_at, BindingsAreThose, each_once, in_text_order, set_at};
 ghost use Rattle.cdi_intercept.specs.Lent.{written_in};
+ghost use Rattle.cdi_intercept.specs.Sets.{set_by};
 
 use crate::set::{has_place, set_by};
 use crate::written::Written;
 use cdi_effective::class_bindings;
-use cdi_model::{BeanPlace, Decl, Decls, Error, Kind, Name, Qual, Refusal, Seq};
+use cdi_model::{BeanDecl, BeanPlace, Decl, Decls, Error, Kind, Name, Qual, Refusal, Seq};
 use std::alloc::{AllocError, Global};
 
 /// The bindings at a place of the bean of a class, whether it is enabled or not (Interceptors 2.1, Binding an Interceptor
@@ -30,10 +32,40 @@ pub fn bindings_at(
     if !has_place(bean, place) {
         return Err(Refusal::NoMethod.into());
     }
+    Ok(bindings_of(alloc, decls, bean, place)?)
+}
+
+/// What the chain around a place of the bean of a class sees of bindings: those there, as `bindings_at` tells them, and none
+/// where no such bean is declared or it has no such place. It takes memory as `bindings_at` does.
+#[tactic(auto, unfolding(crate::specs::Bindings::in_text_order))]
+pub fn bindings_seen(
+    alloc: Global,
+    decls: &Decls,
+    class: Name,
+    place: &BeanPlace,
+) -> Result<Seq<Qual>, AllocError>
+    ensures { IfOk result (λ list. list ≡ in_text_order (set_at decls.now class place.now)) }
+{
+    let Some(Decl::Bean(bean)) = decls.get(Kind::Bean, class) else {
+        return Ok(Seq::new(alloc));
+    };
+    bindings_of(alloc, decls, bean, place)
+}
+
+/// The bindings at a place of a bean, each once, in the byte order of their texts.
+fn bindings_of(
+    alloc: Global,
+    decls: &Decls,
+    bean: &BeanDecl,
+    place: &BeanPlace,
+) -> Result<Seq<Qual>, AllocError>
+    ensures { IfOk result (λ list. list
+        ≡ in_text_order (set_by decls.now (class_bindings decls.now bean.now) bean.now place.now)) }
+{
     let class_set = class_bindings(alloc, decls, bean)?;
     let set = set_by(alloc, decls, class_set.as_slice(), bean, place)?;
     let bindings = in_text_order(alloc, &set)?;
-    Ok(copies(alloc, &bindings)?)
+    copies(alloc, &bindings)
 }
 
 /// Uses, each once, in the byte order of their texts. It takes memory for the list and for the texts.
@@ -43,7 +75,7 @@ fn in_text_order<'a>(alloc: Global, uses: &[&'a Qual]) -> Result<Vec<&'a Qual>, 
     let once = each_once(alloc, uses)?;
     let mut list = with_texts(alloc, &once)?;
     list.sort_by(|first, second| first.text.cmp(&second.text))?;
-    bindings_of(alloc, &list)
+    without_texts(alloc, &list)
 }
 
 /// Uses, each where it stands first.
@@ -81,7 +113,7 @@ fn with_texts<'a>(alloc: Global, uses: &[&'a Qual]) -> Result<Vec<Written<'a>>, 
     Ok(list)
 }
 
-fn bindings_of<'a>(alloc: Global, list: &[Written<'a>]) -> Result<Vec<&'a Qual>, AllocError>
+fn without_texts<'a>(alloc: Global, list: &[Written<'a>]) -> Result<Vec<&'a Qual>, AllocError>
     ensures { IfOk result (λ bindings. uses_in bindings.items ≡ written_in list.now) }
 {
     let mut bindings = Vec::with_capacity(alloc, list.len())?;

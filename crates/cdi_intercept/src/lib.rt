@@ -10,8 +10,10 @@ mod set;
 mod written;
 
 pub use asked::{chain_of, evaluate_chain};
-pub use bindings::bindings_at;
-pub use chain::{surrounds_one, around_any, chain_among, in_order, part_for, stands_around, surrounds};
+pub use bindings::{bindings_at, bindings_seen};
+pub use chain::{
+    around_any, chain_among, in_order, part_for, stands_around, surrounds, surrounds_one,
+};
 pub use conflict::has_conflict;
 pub use seen::seen_around;
 pub use set::{has_place, set_by, sets_of};

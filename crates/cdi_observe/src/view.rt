@@ -55,12 +55,7 @@ pub trait View {
     /// Ordering), whether it is enabled or not. It is refused with `UnknownName` where no such bean is declared, and with
     /// `NoMethod` where it has no such place. It counts, and may give an edit up, as `choose` does; where it is refused or
     /// fails for want of memory, the view has kept and counted nothing.
-    fn chain(
-        &mut self,
-        alloc: Global,
-        class: Name,
-        place: &BeanPlace,
-    ) -> Result<Seq<Name>, Error>
+    fn chain(&mut self, alloc: Global, class: Name, place: &BeanPlace) -> Result<Seq<Name>, Error>
         ensures chain { Answers result (chain_of (list self.old) class place.now) }
         ensures list { list self.new ≡ list self.old }
         ensures ok { OnOk result (kept self.new ≡ after_key (list self.old) (ChainKey class place.now) (kept self.old)) }
@@ -125,12 +120,7 @@ impl<'a> View for PlainView<'a> {
     }
 
     #[tactic(auto, unfolding(crate::specs::Kept::after_key))]
-    fn chain(
-        &mut self,
-        alloc: Global,
-        class: Name,
-        place: &BeanPlace,
-    ) -> Result<Seq<Name>, Error> {
+    fn chain(&mut self, alloc: Global, class: Name, place: &BeanPlace) -> Result<Seq<Name>, Error> {
         let mut work = Work::new();
         evaluate_chain(alloc, self.decls, class, place, &mut work)
     }

@@ -13,7 +13,7 @@ use Rattle.cdi_match.specs.Filling.{as_qualifier, find_qualifier}
 use Rattle.cdi_effective.specs.Qualifiers.{required}
 use Rattle.cdi_seen.specs.Contribution.{seen_beans}
 use Rattle.cdi_seen.specs.Touched.{same_qualifier, is_touched, declare_alike, see_same_beans}
-use Rattle.cdi_seen.specs.Touched.{TouchedByParts, EditsKeepDeclared, EditsKeepSeen}
+use Rattle.cdi_seen.specs.Touched.{TouchedByParts, ChainTouchedByParts, EditsKeepDeclared, EditsKeepSeen}
 use Rattle.cdi_seen.proofs.ContributionLemmas.{edits_keep_seen_beans}
 use Rattle.cdi_seen.proofs.SameLemmas.{option-decides, same_qualifier-decides, same_beans-decides}
 
@@ -28,6 +28,10 @@ each-declared ds es (u ∷ us) = ap (λ b. declare_alike ds es u.name && b) (eac
 pub touched_by_parts : TouchedByParts
 unfolding is_touched
 touched_by_parts ds es t quals = ap (λ b. not (see_same_beans ds es t && b)) (each-declared ds es (required quals))
+
+pub chain_touched_by_parts : ChainTouchedByParts
+unfolding is_touched
+chain_touched_by_parts ds es class place = refl
 
 pub edits_keep_declared : EditsKeepDeclared
 edits_keep_declared edits ds name none =

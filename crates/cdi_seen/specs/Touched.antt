@@ -6,31 +6,46 @@ use Rattle.std.specs.Cmp.Lexicographic.{pointwise}
 use Rattle.std.specs.Option.{option_eq}
 use Rattle.std.specs.Ordering.{int_eq}
 use Rattle.std.specs.Str.{bytes_eq}
-use Rattle.cdi_model.specs.SameUse.{same_members}
+use Rattle.cdi_model.specs.SameUse.{same_members, same_qual}
 use Rattle.cdi_model.specs.DeclKey.{key_at}
+use Rattle.cdi_model.specs.declared.decl.BindingDecl.{BindingDecl}
 use Rattle.cdi_model.specs.declared.decl.Decl.{Decl}
+use Rattle.cdi_model.specs.declared.decl.InterceptorDecl.{InterceptorDecl}
 use Rattle.cdi_model.specs.declared.decl.Kind.TheVariants as kinds
 use Rattle.cdi_model.specs.declared.decl.UseKind.TheVariants as uses
 use Rattle.cdi_model.specs.declared.decl.MemberDecl.{MemberDecl}
 use Rattle.cdi_model.specs.declared.decl.QualifierDecl.{QualifierDecl}
 use Rattle.cdi_model.specs.declared.edit.Edit.{Edit}
+use Rattle.cdi_model.specs.declared.place.BeanPlace.{BeanPlace}
 use Rattle.cdi_model.specs.declared.quals.Qual.{Qual}
 use Rattle.cdi_model.specs.Edits.{edited_all, edited_keys, is_among}
-use Rattle.cdi_match.specs.Filling.{find_qualifier}
+use Rattle.cdi_match.specs.Filling.{find_binding, find_qualifier}
 use Rattle.cdi_effective.specs.Beans.{beans}
 use Rattle.cdi_effective.specs.Qualifiers.{required}
 use Rattle.cdi_effective.specs.declared.records.BeanId.{BeanId}
 use Rattle.cdi_effective.specs.declared.records.Effective.{Effective}
 use Rattle.cdi_resolve.specs.Choices.{Candidate, offers}
 use Rattle.cdi_resolve.specs.Sees.{FilledUse, SeenBean, Seen, filled, seen_bean, sees}
-use Rattle.cdi_observe.specs.Keys.{Key, ChoiceKey}
+use Rattle.cdi_intercept.specs.Bindings.{in_text_order, set_at}
+use Rattle.cdi_intercept.specs.Chains.{in_order}
+use Rattle.cdi_intercept.specs.Sees.{FilledBinding, SeenInterceptor, Seen as SeenAround, filled as filled_binding, is_seen}
+use Rattle.cdi_intercept.specs.Sees.{seen_interceptor, sees_at}
+use Rattle.cdi_observe.specs.Keys.{Key, ChainKey, ChoiceKey}
 use Rattle.cdi_observe.specs.Wanted.{is_wanted}
 use Rattle.cdi_seen.specs.Contribution.{contribution, LeaveGiven}
 
--- what a key sees: the enabled beans with its type, in order, with their filled qualifiers, their priorities and whether they
--- or what declares them are alternatives; and the declarations of its qualifiers
-abbrev pub key_sees : List Decl → Key → Seen
-key_sees ds (ChoiceKey t quals) = sees ds (beans ds) t quals
+-- what a choice sees, or what a chain sees
+pub data SeenByKey : Type 0 where
+  ByChoice : Seen → SeenByKey
+  ByChain : SeenAround → SeenByKey
+
+-- What a key sees. That of a choice sees the enabled beans with its type, in order, with their filled qualifiers, their priorities
+-- and whether they or what declares them are alternatives; and the declarations of its qualifiers. That of a chain sees the filled
+-- bindings at its place, each once, in order; the declarations of their types; and the enabled interceptors that have a body for
+-- the place and share a binding type with it, in the order in which they are called, with their filled bindings.
+abbrev pub key_sees : List Decl → Key → SeenByKey
+key_sees ds (ChoiceKey t quals) = ByChoice (sees ds (beans ds) t quals)
+key_sees ds (ChainKey class place) = ByChain (sees_at ds class place)
 
 -- ---- when the same is seen
 
@@ -62,6 +77,33 @@ same_qualifier d e = bytes_eq d.name e.name && pointwise same_member_decl d.memb
 abbrev pub same_seen : Seen → Seen → Bool
 same_seen s r = pointwise same_seen_bean s.beans r.beans && pointwise (option_eq same_qualifier) s.declared r.declared
 
+-- ---- the same of a chain
+
+-- one name, with the same beside it once the members are filled
+abbrev pub same_binding : FilledBinding → FilledBinding → Bool
+same_binding u v = bytes_eq u.name v.name && (option_eq bytes_eq u.given v.given && same_members u.values v.values)
+
+-- one name, with the same members in one order and the same bindings as they are written
+abbrev pub same_binding_type : BindingDecl → BindingDecl → Bool
+same_binding_type d e = bytes_eq d.name e.name && (pointwise same_member_decl d.members e.members && pointwise same_qual d.declares e.declares)
+
+-- one name, with the same bindings
+abbrev pub same_seen_interceptor : SeenInterceptor → SeenInterceptor → Bool
+same_seen_interceptor i j = bytes_eq i.name j.name && pointwise same_binding i.bindings j.bindings
+
+-- the same bindings and the same declarations, and the same interceptors in one order
+abbrev pub same_around : SeenAround → SeenAround → Bool
+same_around s r = pointwise same_binding s.bindings r.bindings
+    && (pointwise (option_eq same_binding_type) s.declared r.declared && pointwise same_seen_interceptor s.interceptors r.interceptors)
+
+abbrev pub same_by_key : SeenByKey → SeenByKey → Bool
+same_by_key (ByChoice s) (ByChoice r) = same_seen s r
+same_by_key (ByChain s) (ByChain r) = same_around s r
+same_by_key (ByChoice s) (ByChain r) = false
+same_by_key (ByChain s) (ByChoice r) = false
+
+-- ---- the same over two lists of declarations
+
 -- some uses say over the one list of declarations what others say over the other
 abbrev pub uses_alike : List Decl → List Qual → List Decl → List Qual → Bool
 uses_alike ds us es vs = pointwise same_filled (map (filled ds uses.Qualifier) us) (map (filled es uses.Qualifier) vs)
@@ -70,11 +112,32 @@ uses_alike ds us es vs = pointwise same_filled (map (filled ds uses.Qualifier) u
 abbrev pub beans_alike : List Decl → List Effective → List Decl → List Effective → Bool
 beans_alike ds bs es cs = pointwise same_seen_bean (map (seen_bean ds) bs) (map (seen_bean es) cs)
 
+-- some bindings say over the one list what others say over the other
+abbrev pub bindings_alike : List Decl → List Qual → List Decl → List Qual → Bool
+bindings_alike ds us es vs = pointwise same_binding (map (filled_binding ds) us) (map (filled_binding es) vs)
+
+-- the one list declares a binding type as the other declares another, or neither declares its own
+abbrev pub type_alike : List Decl → List ℕ → List Decl → List ℕ → Bool
+type_alike ds name es other = option_eq same_binding_type (find_binding name ds) (find_binding other es)
+
+-- the types of some bindings are declared in the one list as those of others are in the other
+abbrev pub types_alike : List Decl → List Qual → List Decl → List Qual → Bool
+types_alike ds us es vs = pointwise (option_eq same_binding_type) (map (λ u. find_binding u.name ds) us) (map (λ v. find_binding v.name es) vs)
+
+-- some interceptors are to a chain over the one list what others are over the other
+abbrev pub interceptors_alike : List Decl → List InterceptorDecl → List Decl → List InterceptorDecl → Bool
+interceptors_alike ds is es js = pointwise same_seen_interceptor (map (seen_interceptor ds) is) (map (seen_interceptor es) js)
+
+-- a place with some bindings is to a chain over the one list what it is with others over the other
+abbrev pub places_alike : List Decl → List Qual → List Decl → List Qual → BeanPlace → Bool
+places_alike ds us es vs place = bindings_alike ds us es vs && (types_alike ds us es vs
+    && interceptors_alike ds (filter (is_seen us place) (in_order ds)) es (filter (is_seen vs place) (in_order es)))
+
 -- ---- edits
 
 -- an edit that leads from the first list to the second touches a key: what the key sees differs
 unfoldable pub is_touched : List Decl → List Decl → Key → Bool
-is_touched ds es key = not (same_seen (key_sees ds key) (key_sees es key))
+is_touched ds es key = not (same_by_key (key_sees ds key) (key_sees es key))
 
 -- A key that is not touched sees the same before and after, and only such a key does.
 abbrev pub TouchedWhereSeenDiffers : Type 0
@@ -98,6 +161,12 @@ see_same_beans ds es t = beans_alike ds (filter (offers t) (beans ds)) es (filte
 abbrev pub TouchedByParts : Type 0
 TouchedByParts = (ds es : List Decl) (t : List ℕ) (quals : List Qual)
     → is_touched ds es (ChoiceKey t quals) ≡ not (see_same_beans ds es t && list_all (λ u. declare_alike ds es u.name) (required quals))
+
+-- The key of a chain is touched but where the bindings at its place, their types and the interceptors that it sees are alike.
+abbrev pub ChainTouchedByParts : Type 0
+ChainTouchedByParts = (ds es : List Decl) (class : List ℕ) (place : BeanPlace)
+    → is_touched ds es (ChainKey class place)
+    ≡ not (places_alike ds (in_text_order (set_at ds class place)) es (in_text_order (set_at es class place)) place)
 
 -- Edits leave how a qualifier is declared that they don't put or remove.
 abbrev pub EditsKeepDeclared : Type 0

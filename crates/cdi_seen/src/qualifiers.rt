@@ -34,7 +34,7 @@ fn find_qualifier(decls: &Decls, name: Name) -> Option<&QualifierDecl>
     }
 }
 
-fn same_members(olds: &[MemberDecl], news: &[MemberDecl]) -> bool
+pub(crate) fn same_members(olds: &[MemberDecl], news: &[MemberDecl]) -> bool
     ensures { result ≡ pointwise same_member_decl olds.now news.now }
 {
     if olds.len() != news.len() {

@@ -58,7 +58,7 @@ fn same_filled(
 }
 
 /// Whether two uses of `Named` give one name, or neither use is one.
-fn same_given(old: &Arguments, new: &Arguments) -> bool
+pub(crate) fn same_given(old: &Arguments, new: &Arguments) -> bool
     ensures { result ≡ option_eq bytes_eq (given_name old.now) (given_name new.now) }
 {
     match (old, new) {

@@ -7,17 +7,8 @@ returns-in_default-clause-order c = bindings_are_those
 pub returns-then-not-has_place-clause-order : goal.returns-then-not-has_place-clause-order
 returns-then-not-has_place-clause-order c = bindings_are_those
 
-pub returns-in_err-class_set-clause-order : goal.returns-in_err-class_set-clause-order
-returns-in_err-class_set-clause-order c = bindings_are_those
-
-pub returns-in_err-set-clause-order : goal.returns-in_err-set-clause-order
-returns-in_err-set-clause-order c = bindings_are_those
-
-pub returns-in_err-bindings-clause-order : goal.returns-in_err-bindings-clause-order
-returns-in_err-bindings-clause-order c = bindings_are_those
-
-pub returns-in_err-copies-clause-order : goal.returns-in_err-copies-clause-order
-returns-in_err-copies-clause-order c = bindings_are_those
+pub returns-in_err-bindings_of-clause-order : goal.returns-in_err-bindings_of-clause-order
+returns-in_err-bindings_of-clause-order c = bindings_are_those
 
 pub returns-clause-order : goal.returns-clause-order
 returns-clause-order c = bindings_are_those

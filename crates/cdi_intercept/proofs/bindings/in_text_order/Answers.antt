@@ -40,8 +40,8 @@ returns c =
     let after : List Written = c.sort_by.new.self.items in
     let sorted : after ≡ sorted_by by_text before = sorted_from_sort by_text order before after
     (sort.sorted by_text order compares) (sort.stable by_text order compares) in
-    IfOk-weaker c.bindings_of.result _ _ (λ list is. is
+    IfOk-weaker c.without_texts.result _ _ (λ list is. is
     ∙ ap written_in (c.deref-2.ensures.value ∙ sorted ∙ ap (λ lt. sorted_by lt before) same-order)
     ∙ sorted_map binding is_before_in_text before
     ∙ ap (sorted_by is_before_in_text) (c.in_ok-list.ensures ∙ ap uses_in c.deref.ensures.value ∙ c.in_ok-once.ensures))
-    c.bindings_of.ensures
+    c.without_texts.ensures
