@@ -1,12 +1,17 @@
 -- Uses in the byte order of their texts, each once.
+use Rattle.std.proofs.Common.{arith, suc, zero}
 use Rattle.std.proofs.Common.{◌≡◌, ℕ, Bool, true, false, cond, ◌||◌, List, [], ◌∷◌, ◌++◌, map, fold, Option, Some, None, Result, Ok, Err}
 use Rattle.std.proofs.Common.{Ordering, Less, Equal, Greater, refl, sym, ap, subst, ◌∙◌, inl, inr}
 use Rattle.std.proofs.Math.Bool.{or_assoc, or_comm, or-false, or-true}
-use Rattle.std.specs.List.{AllByRecursion, IsDistinct, list_any}
+use Rattle.std.specs.Cmp.{IsStrictWeakOrder}
+use Rattle.std.specs.Cmp.Lexicographic.{nat_list_cmp_total}
+use Rattle.std.specs.List.{AllByRecursion, AllPairs, IsDistinct, list_any}
 use Rattle.std.specs.List.Sorted.{IsStrictlySortedBy}
 use Rattle.std.specs.Ordering.{is_lt}
 use Rattle.std.proofs.lemmas.Bool.{false≢true, false_from_ne_true, or_cases, or_left, or_right}
+use Rattle.std.proofs.lemmas.List.Elements.{All-from_recursion}
 use Rattle.std.proofs.lemmas.List.Folds.{list_any-append}
+use Rattle.std.proofs.lemmas.List.Sorted.{ranks_by}
 use Rattle.std.proofs.lemmas.Map.Keys.{IsDistinct-push}
 use Rattle.std.proofs.lemmas.Map.Made.{AllPairs-from_IsDistinct}
 use Rattle.cdi_model.specs.Bytes.{byte_order}
@@ -140,6 +145,49 @@ unfolding in_text_order
 order-distinct us = distinct-from (sorted_by is_before_in_text (each_once us))
     (sorted-apart (λ (u : Qual). u) is_before_in_text (each_once us) (apart-from (each_once us) (once-distinct us)))
 
+-- ---- none comes before an earlier one
+
+module _ {X : Type 0} (before : X → X → Bool) (o : IsStrictWeakOrder before) where
+  -- none comes before this one
+  abbrev NoneBefore : X → List X → Type 0
+  NoneBefore x ys = AllByRecursion (λ y. before y x ≡ false) ys
+
+  abbrev InTurn : List X → Type 0
+  InTurn [] = Unit {0}
+  InTurn (x ∷ xs) = NoneBefore x xs × InTurn xs
+
+  none-lower : (x y : X) (ys : List X) → before y x ≡ false → NoneBefore y ys → NoneBefore x ys
+  none-lower x y [] e none = tt
+  none-lower x y (z ∷ zs) e none = (o.chain z y x none.0 e, none-lower x y zs e none.1)
+
+  put-in_turn : (x : X) (ys : List X) → InTurn ys → InTurn (put before x ys)
+  put-in_turn x [] turn = (tt, tt)
+  put-in_turn x (y ∷ ys) turn = by (before y x) refl (put-in_turn x ys turn.1)
+    where
+      by : (b : Bool) → before y x ≡ b → InTurn (put before x ys) → InTurn (cond b (y ∷ put before x ys) (x ∷ y ∷ ys))
+      by true e rest = (all-put (λ z. before z y ≡ false) before x ys (o.one_way y x e) turn.0, rest)
+      by false e rest = ((e, none-lower x y ys e turn.0), turn)
+
+  sorted-in_turn : (xs : List X) → InTurn (sorted_by before xs)
+  sorted-in_turn [] = tt
+  sorted-in_turn (x ∷ xs) = put-in_turn x (sorted_by before xs) (sorted-in_turn xs)
+
+  pairs-in_turn : (xs : List X) → InTurn xs → AllPairs (λ x y. before y x ≡ false) xs
+  pairs-in_turn [] turn i j d later within = absurd (omega (arith, within))
+  pairs-in_turn (x ∷ xs) turn zero zero d later within = absurd (omega (arith, later))
+  pairs-in_turn (x ∷ xs) turn zero (suc j) d later within =
+      All-from_recursion (λ y. before y x ≡ false) xs turn.0 j d (omega (arith, within))
+  pairs-in_turn (x ∷ xs) turn (suc i) zero d later within = absurd (omega (arith, later))
+  pairs-in_turn (x ∷ xs) turn (suc i) (suc j) d later within =
+      pairs-in_turn xs turn.1 i j d (omega (arith, later)) (omega (arith, within))
+
+order-in_turn : (us : List Qual) → AllPairs (λ u v. is_before_in_text v u ≡ false) (in_text_order us)
+unfolding in_text_order
+order-in_turn us =
+    let order = ranks_by nat_list_cmp_total text_of_use in
+    pairs-in_turn is_before_in_text order (sorted_by is_before_in_text (each_once us))
+    (sorted-in_turn is_before_in_text order (each_once us))
+
 -- ---- their texts rise
 
 module _ {X : Type 0} (text : X → List ℕ) where
@@ -212,6 +260,7 @@ pub are_in_text_order : (us : List Qual) → AreInTextOrder (in_text_order us) u
 are_in_text_order us = record {
   each = λ u. any-in_text_order (same_qual u) us;
   once = AllPairs-from_IsDistinct same_qual-decides (in_text_order us) (order-distinct us);
+  in_turn = order-in_turn us;
   rise = order-rises us;
 }
 

@@ -1,5 +1,5 @@
 -- The bindings at a place of the bean of a class, each once, in order.
-use Rattle.std.specs.Prelude.{◌≡◌, ◌≢◌, ℕ, Bool, true, List, [], ◌∷◌, ◌++◌, map, fold, AllPairs, Option, Some, None, if◌then◌else◌}
+use Rattle.std.specs.Prelude.{◌≡◌, ◌≢◌, ℕ, Bool, true, false, List, [], ◌∷◌, ◌++◌, map, fold, AllPairs, Option, Some, None, if◌then◌else◌}
 use Rattle.std.specs.Prelude.{Result, Ok, Err}
 use Rattle.std.specs.List.Sorted.{IsStrictlySortedBy}
 use Rattle.std.specs.Ordering.{is_lt}
@@ -39,10 +39,12 @@ in_text_order us = sorted_by is_before_in_text (each_once us)
 abbrev pub TextsTellApart : List Qual → Type 0
 TextsTellApart us = (u v : Qual) → has_use us u ≡ true → has_use us v ≡ true → text_of_use u ≡ text_of_use v → u ≡ v
 
--- Some uses in order have exactly those of others, each once, and their texts rise where they tell these apart.
+-- Some uses in order have exactly those of others, each once; no text comes before that of an earlier one, and the texts rise where
+-- they tell these uses apart.
 pub record AreInTextOrder (list us : List Qual) : Type 0 where
   pub each : (u : Qual) → has_use list u ≡ has_use us u
   pub once : AllPairs (λ u v. u ≢ v) list
+  pub in_turn : AllPairs (λ u v. is_before_in_text v u ≡ false) list
   pub rise : TextsTellApart us → IsStrictlySortedBy byte_order (map text_of_use list)
 
 -- ---- the bindings of a class and a place
