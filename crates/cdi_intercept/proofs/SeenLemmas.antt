@@ -27,7 +27,8 @@ use Rattle.cdi_effective.specs.Disposers.{find_bean}
 use Rattle.cdi_effective.specs.Qualifiers.{uses_one}
 use Rattle.cdi_intercept.specs.Bindings.{in_text_order, set_at, set_of}
 use Rattle.cdi_intercept.specs.Chains.{binds, chain_by, chain_told, covered_in, in_order, part_for, surrounds}
-use Rattle.cdi_intercept.specs.Sees.{FilledBinding, filled, SeenInterceptor, seen_interceptor, shares_type, is_seen, Seen, sees, names_around}
+use Rattle.cdi_intercept.specs.Sees.{FilledBinding, filled, SeenInterceptor, seen_interceptor, shares_type, is_seen, Seen, sees}
+use Rattle.cdi_intercept.specs.Sees.{names_around}
 use Rattle.cdi_intercept.specs.Sees.{ChainRestsOnSeen, ToldRestsOnSeen}
 use Rattle.cdi_intercept.specs.Sets.{has_place, set_by}
 use Rattle.cdi_intercept.proofs.UseLemmas.{any-in_text_order}
@@ -58,7 +59,8 @@ covers-filled ds have want = by (bytes_eq have.name want.name) refl
 
     by : (b : Bool) → bytes_eq have.name want.name ≡ b
         → covers ds use_kinds.Binding have want ≡ covers_filled (find_binding have.name ds) (filled ds have) (filled ds want)
-    by true e = ap (λ name. bytes_eq have.name want.name && agree_where (members_of (find_binding name ds))) (one_name have.name want.name e)
+    by true e = ap (λ name. bytes_eq have.name want.name && agree_where (members_of (find_binding name ds)))
+        (one_name have.name want.name e)
     by false e = rw e refl
 
 -- the first declaration is that of the first binding, and so on
@@ -110,12 +112,14 @@ covered-used ds (have ∷ set) want h =
   where
     -- what is said beside the names
     rest : Qual → Bool
-    rest u = option_eq bytes_eq (given_name u.arguments) (given_name want.arguments) && agree (declared_of ds use_kinds.Binding u.name) u want
+    rest u = option_eq bytes_eq (given_name u.arguments) (given_name want.arguments) && agree
+        (declared_of ds use_kinds.Binding u.name) u want
 
 abbrev shares_type_of : List Qual → List Qual → Bool
 shares_type_of list bindings = list_any (λ u. uses_one list u.name) bindings
 
-first-shared : (ds : List Decl) (set bindings : List Qual) → (not (nat_eq (length bindings) 0) && list_all (covered_in ds set) bindings) ≡ true
+first-shared : (ds : List Decl) (set bindings : List Qual) → (not (nat_eq (length bindings) 0) && list_all (covered_in ds set) bindings)
+    ≡ true
     → shares_type_of (in_text_order set) bindings ≡ true
 first-shared ds set [] h = absurd (false≢true h)
 first-shared ds set (u ∷ us) h =
@@ -144,7 +148,8 @@ filter-both p q [] = refl
 filter-both {X = X} p q (x ∷ xs) = by (p x) (filter-both p q xs)
   where
     by : (b : Bool) → filter (λ y. p y && q y) xs ≡ filter q (filter p xs)
-        → cond (b && q x) (x ∷ filter (λ y. p y && q y) xs) (filter (λ y. p y && q y) xs) ≡ filter q (cond b (x ∷ filter p xs) (filter p xs))
+        → cond (b && q x) (x ∷ filter (λ y. p y && q y) xs) (filter (λ y. p y && q y) xs)
+        ≡ filter q (cond b (x ∷ filter p xs) (filter p xs))
     by true rest = ap (λ (more : List X). cond (q x) (x ∷ more) more) rest
     by false rest = rest
 
@@ -156,7 +161,8 @@ names-seen ds r (i ∷ is) = by (r (seen_interceptor ds i)) (names-seen ds r is)
     by : (b : Bool)
         → map (λ j. j.name) (filter (λ j. r (seen_interceptor ds j)) is) ≡ map (λ j. j.name) (filter r (map (seen_interceptor ds) is))
         → map (λ j. j.name) (cond b (i ∷ filter (λ j. r (seen_interceptor ds j)) is) (filter (λ j. r (seen_interceptor ds j)) is))
-        ≡ map (λ j. j.name) (cond b (seen_interceptor ds i ∷ filter r (map (seen_interceptor ds) is)) (filter r (map (seen_interceptor ds) is)))
+        ≡ map (λ j. j.name) (cond b (seen_interceptor ds i ∷ filter r (map (seen_interceptor ds) is))
+        (filter r (map (seen_interceptor ds) is)))
     by true rest = ap (λ names. i.name ∷ names) rest
     by false rest = rest
 

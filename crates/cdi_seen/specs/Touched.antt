@@ -85,7 +85,8 @@ same_binding u v = bytes_eq u.name v.name && (option_eq bytes_eq u.given v.given
 
 -- one name, with the same members in one order and the same bindings as they are written
 abbrev pub same_binding_type : BindingDecl → BindingDecl → Bool
-same_binding_type d e = bytes_eq d.name e.name && (pointwise same_member_decl d.members e.members && pointwise same_qual d.declares e.declares)
+same_binding_type d e = bytes_eq d.name e.name
+    && (pointwise same_member_decl d.members e.members && pointwise same_qual d.declares e.declares)
 
 -- one name, with the same bindings
 abbrev pub same_seen_interceptor : SeenInterceptor → SeenInterceptor → Bool
@@ -122,7 +123,8 @@ type_alike ds name es other = option_eq same_binding_type (find_binding name ds)
 
 -- the types of some bindings are declared in the one list as those of others are in the other
 abbrev pub types_alike : List Decl → List Qual → List Decl → List Qual → Bool
-types_alike ds us es vs = pointwise (option_eq same_binding_type) (map (λ u. find_binding u.name ds) us) (map (λ v. find_binding v.name es) vs)
+types_alike ds us es vs = pointwise (option_eq same_binding_type) (map (λ u. find_binding u.name ds) us)
+    (map (λ v. find_binding v.name es) vs)
 
 -- some interceptors are to a chain over the one list what others are over the other
 abbrev pub interceptors_alike : List Decl → List InterceptorDecl → List Decl → List InterceptorDecl → Bool

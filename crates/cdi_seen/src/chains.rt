@@ -13,9 +13,10 @@ use std::alloc::{AllocError, Global};
 
 /// Whether an edit touches the question for the chain around a place of the bean of a class: it sees other bindings there,
 /// or another declaration of a type of these, or other interceptors that are enabled, have a body for the place and share
-/// such a type, or these in another order or with other bindings (Interceptors 2.1, Associating an Interceptor using Interceptor Bindings). The enabled
-/// interceptors are given, in order, before and after. It takes memory for the bindings and the interceptors that are seen,
-/// and for the members of bindings that are written, or whose types are declared, differently.
+/// such a type, or these in another order or with other bindings (Interceptors 2.1, Associating an Interceptor using
+/// Interceptor Bindings). The enabled interceptors are given, in order, before and after. It takes memory for the bindings
+/// and the interceptors that are seen, and for the members of bindings that are written, or whose types are declared,
+/// differently.
 #[tactic(auto, unfolding(crate::specs::Touched::is_touched), using(crate::proofs::TouchedLemmas::chain_touched_by_parts))]
 pub fn is_chain_touched(
     alloc: Global,
