@@ -53,7 +53,7 @@ any-once : (p : Qual → Bool) (us seen : List Qual) → list_any p (fold with_u
 any-once p [] seen = sym (or-false (list_any p seen))
 any-once p (u ∷ us) seen =
     any-once p us (with_use seen u) ∙ ap (λ b. b || list_any p us) (any-with_use p seen u)
-        ∙ or_assoc (list_any p seen) (p u) (list_any p us)
+    ∙ or_assoc (list_any p seen) (p u) (list_any p us)
 
 or-left_comm : (x y z : Bool) → (x || (y || z)) ≡ (y || (x || z))
 or-left_comm x y z = sym (or_assoc x y z) ∙ ap (λ b. b || z) (or_comm x y) ∙ or_assoc y x z
