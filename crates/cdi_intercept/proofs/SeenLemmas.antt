@@ -20,6 +20,7 @@ use Rattle.cdi_model.specs.declared.quals.Qual.{Qual}
 use Rattle.cdi_model.specs.declared.refusal.Refusal.{Refusal}
 use Rattle.cdi_model.specs.declared.refusal.Refusal.TheVariants as refusals
 use Rattle.cdi_match.specs.Covering.{agree, agree_at, covers, covers_by, given_name, is_binding}
+use Rattle.cdi_match.specs.Filled.{FilledUse, filled, filled_by}
 use Rattle.cdi_match.specs.Filling.{declared_of, fill, find_binding, value_of}
 use Rattle.cdi_match.proofs.Names.{bytes_eq-turned, one_name}
 use Rattle.cdi_effective.specs.Bindings.{class_bindings}
@@ -27,8 +28,7 @@ use Rattle.cdi_effective.specs.Disposers.{find_bean}
 use Rattle.cdi_effective.specs.Qualifiers.{uses_one}
 use Rattle.cdi_intercept.specs.Bindings.{in_text_order, set_at, set_of}
 use Rattle.cdi_intercept.specs.Chains.{binds, chain_by, chain_told, covered_in, in_order, part_for, surrounds}
-use Rattle.cdi_intercept.specs.Sees.{FilledBinding, filled, SeenInterceptor, seen_interceptor, shares_type, is_seen, Seen, sees}
-use Rattle.cdi_intercept.specs.Sees.{names_around}
+use Rattle.cdi_intercept.specs.Sees.{SeenInterceptor, seen_interceptor, shares_type, is_seen, Seen, sees, names_around}
 use Rattle.cdi_intercept.specs.Sees.{ChainRestsOnSeen, ToldRestsOnSeen}
 use Rattle.cdi_intercept.specs.Sets.{has_place, set_by}
 use Rattle.cdi_intercept.proofs.UseLemmas.{any-in_text_order}
@@ -38,7 +38,7 @@ use Rattle.cdi_intercept.proofs.UseLemmas.{any-in_text_order}
 abbrev members_of : Option BindingDecl → List MemberDecl
 members_of declared = unwrap_or (option_map (λ d. d.members) declared) []
 
-abbrev covers_filled : Option BindingDecl → FilledBinding → FilledBinding → Bool
+abbrev covers_filled : Option BindingDecl → FilledUse → FilledUse → Bool
 covers_filled declared have want =
     bytes_eq have.name want.name && (option_eq bytes_eq have.given want.given
     && list_all (agree_at (is_binding (members_of declared)) (λ name. value_of name have.values) (λ name. value_of name want.values))
@@ -46,7 +46,7 @@ covers_filled declared have want =
 
 -- the other is filled by the same declaration, as they have one name where the one covers it
 covers-filled : (ds : List Decl) (have want : Qual)
-    → covers ds use_kinds.Binding have want ≡ covers_filled (find_binding have.name ds) (filled ds have) (filled ds want)
+    → covers ds use_kinds.Binding have want ≡ covers_filled (find_binding have.name ds) (filled ds use_kinds.Binding have) (filled ds use_kinds.Binding want)
 unfolding covers_by
 covers-filled ds have want = by (bytes_eq have.name want.name) refl
   where
@@ -58,24 +58,25 @@ covers-filled ds have want = by (bytes_eq have.name want.name) refl
         (keys_of (fill (members_of (find_binding have.name ds)) have) ++ keys_of (fill others want))
 
     by : (b : Bool) → bytes_eq have.name want.name ≡ b
-        → covers ds use_kinds.Binding have want ≡ covers_filled (find_binding have.name ds) (filled ds have) (filled ds want)
+        → covers ds use_kinds.Binding have want ≡ covers_filled (find_binding have.name ds) (filled ds use_kinds.Binding have) (filled ds use_kinds.Binding want)
     by true e = ap (λ name. bytes_eq have.name want.name && agree_where (members_of (find_binding name ds)))
         (one_name have.name want.name e)
     by false e = rw e refl
 
 -- the first declaration is that of the first binding, and so on
-abbrev is_covered : List (Option BindingDecl) → List FilledBinding → FilledBinding → Bool
+abbrev is_covered : List (Option BindingDecl) → List Qual → FilledUse → Bool
 is_covered [] set want = false
 is_covered (declared ∷ more) [] want = false
-is_covered (declared ∷ more) (have ∷ set) want = covers_filled declared have want || is_covered more set want
+is_covered (declared ∷ more) (have ∷ set) want =
+    covers_filled declared (filled_by (members_of declared) have) want || is_covered more set want
 
 any-filled : (ds : List Decl) (set : List Qual) (want : Qual)
-    → covered_in ds set want ≡ is_covered (map (λ u. find_binding u.name ds) set) (map (filled ds) set) (filled ds want)
+    → covered_in ds set want ≡ is_covered (map (λ u. find_binding u.name ds) set) set (filled ds use_kinds.Binding want)
 any-filled ds [] want = refl
 any-filled ds (have ∷ set) want = rw (covers-filled ds have want, any-filled ds set want) refl
 
 covered-seen : (ds : List Decl) (set : List Qual) (place : BeanPlace) (want : Qual)
-    → covered_in ds set want ≡ is_covered (sees ds set place).declared (sees ds set place).bindings (filled ds want)
+    → covered_in ds set want ≡ is_covered (sees ds set place).declared (sees ds set place).bindings (filled ds use_kinds.Binding want)
 covered-seen ds set place want =
     sym (any-in_text_order (λ have. covers ds use_kinds.Binding have want) set) ∙ any-filled ds (in_text_order set) want
 
@@ -86,17 +87,17 @@ binds_seen seen i = not (nat_eq (length i.bindings) 0) && list_all (is_covered s
 
 all-covered : (ds : List Decl) (set : List Qual) (place : BeanPlace) (bindings : List Qual)
     → list_all (covered_in ds set) bindings
-    ≡ list_all (is_covered (sees ds set place).declared (sees ds set place).bindings) (map (filled ds) bindings)
+    ≡ list_all (is_covered (sees ds set place).declared (sees ds set place).bindings) (map (filled ds use_kinds.Binding) bindings)
 all-covered ds set place [] = refl
 all-covered ds set place (u ∷ us) =
     ap (λ b. b && list_all (covered_in ds set) us) (covered-seen ds set place u)
-    ∙ ap (λ b. is_covered (sees ds set place).declared (sees ds set place).bindings (filled ds u) && b) (all-covered ds set place us)
+    ∙ ap (λ b. is_covered (sees ds set place).declared (sees ds set place).bindings (filled ds use_kinds.Binding u) && b) (all-covered ds set place us)
 
 binds-seen : (ds : List Decl) (set : List Qual) (place : BeanPlace) (i : InterceptorDecl)
     → binds ds set i ≡ binds_seen (sees ds set place) (seen_interceptor ds i)
 binds-seen ds set place i =
-    ap (λ n. not (nat_eq n 0) && list_all (covered_in ds set) i.bindings) (sym (length-map i.bindings (filled ds)))
-    ∙ ap (λ b. not (nat_eq (length (map (filled ds) i.bindings)) 0) && b) (all-covered ds set place i.bindings)
+    ap (λ n. not (nat_eq n 0) && list_all (covered_in ds set) i.bindings) (sym (length-map i.bindings (filled ds use_kinds.Binding)))
+    ∙ ap (λ b. not (nat_eq (length (map (filled ds use_kinds.Binding) i.bindings)) 0) && b) (all-covered ds set place i.bindings)
 
 -- ---- an interceptor that binds is seen
 

@@ -7,28 +7,18 @@ use Rattle.cdi_model.specs.declared.decl.InterceptorDecl.{InterceptorDecl}
 use Rattle.cdi_model.specs.declared.decl.UseKind.TheVariants as use_kinds
 use Rattle.cdi_model.specs.declared.place.BeanPlace.{BeanPlace}
 use Rattle.cdi_model.specs.declared.quals.Qual.{Qual}
-use Rattle.cdi_match.specs.Covering.{given_name}
-use Rattle.cdi_match.specs.Filling.{Values, fill_members, find_binding}
+use Rattle.cdi_match.specs.Filled.{FilledUse, filled}
+use Rattle.cdi_match.specs.Filling.{find_binding}
 use Rattle.cdi_effective.specs.Qualifiers.{uses_one}
 use Rattle.cdi_intercept.specs.Bindings.{in_text_order, set_at}
 use Rattle.cdi_intercept.specs.Chains.{chain_by, chain_of, in_order, part_for}
 
--- a binding with its members filled
-pub record FilledBinding : Type 0 where
-  pub name : List ℕ
-  -- the name in a use of `Named`
-  pub given : Option (List ℕ)
-  pub values : Values
-
-abbrev pub filled : List Decl → Qual → FilledBinding
-filled ds u = record { name = u.name; given = given_name u.arguments; values = fill_members ds use_kinds.Binding u }
-
 pub record SeenInterceptor : Type 0 where
   pub name : List ℕ
-  pub bindings : List FilledBinding
+  pub bindings : List FilledUse
 
 abbrev pub seen_interceptor : List Decl → InterceptorDecl → SeenInterceptor
-seen_interceptor ds i = record { name = i.name; bindings = map (filled ds) i.bindings }
+seen_interceptor ds i = record { name = i.name; bindings = map (filled ds use_kinds.Binding) i.bindings }
 
 -- it declares a binding of a type of which one of these is
 abbrev pub shares_type : List Qual → InterceptorDecl → Bool
@@ -38,17 +28,17 @@ shares_type set i = list_any (λ u. uses_one set u.name) i.bindings
 abbrev pub is_seen : List Qual → BeanPlace → InterceptorDecl → Bool
 is_seen set place i = is_some (part_for place i) && shares_type set i
 
--- bindings; the declarations of their types; and in the order in which they are called the interceptors that are enabled, have a
--- body for the place and share a binding type with these
+-- bindings, as they are written; the declarations of their types; and in the order in which they are called the interceptors that
+-- are enabled, have a body for the place and share a binding type with these, with their filled bindings
 pub record Seen : Type 0 where
-  pub bindings : List FilledBinding
+  pub bindings : List Qual
   pub declared : List (Option BindingDecl)
   pub interceptors : List SeenInterceptor
 
 -- what is seen of a place with these bindings
 abbrev pub sees_by : List Decl → List Qual → BeanPlace → Seen
 sees_by ds list place = record {
-  bindings = map (filled ds) list;
+  bindings = list;
   declared = map (λ u. find_binding u.name ds) list;
   interceptors = map (seen_interceptor ds) (filter (is_seen list place) (in_order ds));
 }

@@ -20,7 +20,8 @@ use Rattle.cdi_effective.specs.Reads.{record_reads, qualifier_reads}
 use Rattle.cdi_effective.specs.declared.records.Effective.{Effective}
 use Rattle.cdi_effective.proofs.RecordLemmas.{edits_keep_records}
 use Rattle.cdi_resolve.specs.Choices.{offers, candidate}
-use Rattle.cdi_resolve.specs.Sees.{filled, seen_bean}
+use Rattle.cdi_match.specs.Filled.{filled}
+use Rattle.cdi_resolve.specs.Sees.{seen_bean}
 use Rattle.cdi_seen.specs.Contribution.{seen_of, contribution, SeenByDeclaration}
 use Rattle.cdi_seen.specs.Contribution.{EditsKeepContribution, EditsKeepSeenBeans, EditsKeepGiven}
 

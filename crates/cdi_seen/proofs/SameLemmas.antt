@@ -1,5 +1,5 @@
 -- The test of what keys see decides whether they see the same.
-use Rattle.std.proofs.Common.{◌≡◌, Bool, true, false, not, ◌&&◌, List, [], Option, Some, None, option_map, unwrap_or, refl, ap, sym, ◌∙◌}
+use Rattle.std.proofs.Common.{◌≡◌, Bool, true, false, not, ◌&&◌, List, [], Option, Some, None, refl, ap, sym, ◌∙◌}
 use Rattle.std.specs.Bool.{Decides, beq}
 use Rattle.std.specs.Cmp.{booleans_Decides}
 use Rattle.std.specs.Cmp.Lexicographic.{bytes_decides, pointwise}
@@ -14,18 +14,18 @@ use Rattle.cdi_model.specs.declared.decl.BindingDecl.{BindingDecl}
 use Rattle.cdi_model.specs.declared.decl.Decl.{Decl}
 use Rattle.cdi_model.specs.declared.decl.MemberDecl.{MemberDecl}
 use Rattle.cdi_model.specs.declared.decl.QualifierDecl.{QualifierDecl}
-use Rattle.cdi_model.specs.declared.decl.UseKind.TheVariants as uses
+use Rattle.cdi_model.specs.declared.decl.UseKind.{UseKind}
 use Rattle.cdi_model.specs.declared.quals.Qual.{Qual}
-use Rattle.cdi_match.specs.Covering.{given_name}
-use Rattle.cdi_match.specs.Filling.{fill, find_binding, find_qualifier, members_of}
+use Rattle.cdi_match.specs.Filled.{FilledUse, filled, filled_by}
+use Rattle.cdi_match.specs.Filling.{declared_of}
 use Rattle.cdi_effective.specs.declared.records.BeanId.{BeanId}
-use Rattle.cdi_intercept.specs.Sees.{FilledBinding, SeenInterceptor, Seen as SeenAround, filled as filled_binding}
+use Rattle.cdi_intercept.specs.Sees.{SeenInterceptor, Seen as SeenAround}
 use Rattle.cdi_resolve.specs.Choices.{Candidate}
-use Rattle.cdi_resolve.specs.Sees.{FilledUse, SeenBean, Seen, filled}
+use Rattle.cdi_resolve.specs.Sees.{SeenBean, Seen}
 use Rattle.cdi_seen.specs.Touched.{key_sees, same_id, same_candidate, same_filled, same_seen_bean, same_member_decl, same_qualifier}
-use Rattle.cdi_seen.specs.Touched.{same_seen, is_touched, declare_alike, TouchedWhereSeenDiffers}
-use Rattle.cdi_seen.specs.Touched.{SeenByKey, ByChain, ByChoice, same_binding, same_binding_type, same_seen_interceptor, same_around}
-use Rattle.cdi_seen.specs.Touched.{same_by_key, type_alike}
+use Rattle.cdi_seen.specs.Touched.{same_seen, is_touched, TouchedWhereSeenDiffers}
+use Rattle.cdi_seen.specs.Touched.{SeenByKey, ByChain, ByChoice, same_binding_type, same_seen_interceptor, same_around}
+use Rattle.cdi_seen.specs.Touched.{same_by_key}
 
 pub option-decides : {X : Type 0} {f : X → X → Bool} → ((x y : X) → Decides (f x y) (x ≡ y)) → (a b : Option X)
     → Decides (option_eq f a b) (a ≡ b)
@@ -99,15 +99,6 @@ same_seen-decides a b =
 
 -- ---- of a chain
 
-same_binding-decides : (a b : FilledBinding) → Decides (same_binding a b) (a ≡ b)
-same_binding-decides a b =
-    let given = option_eq bytes_eq a.given b.given in
-    let values = same_members a.values b.values in
-    Decides-like (same_binding a b) (λ e j. record { name = e.0 j; given = e.1.0 j; values = e.1.1 j })
-    (λ e. (ap (λ x. x.name) e, (ap (λ x. x.given) e, ap (λ x. x.values) e)))
-    (Decides-and (bytes_eq a.name b.name) (given && values) (bytes_decides a.name b.name)
-    (Decides-and given values (option-decides bytes_decides a.given b.given) (same_members-decides a.values b.values)))
-
 pub same_binding_type-decides : (a b : BindingDecl) → Decides (same_binding_type a b) (a ≡ b)
 same_binding_type-decides a b =
     let members = pointwise same_member_decl a.members b.members in
@@ -120,20 +111,20 @@ same_binding_type-decides a b =
 
 same_seen_interceptor-decides : (a b : SeenInterceptor) → Decides (same_seen_interceptor a b) (a ≡ b)
 same_seen_interceptor-decides a b =
-    let bindings = pointwise same_binding a.bindings b.bindings in
+    let bindings = pointwise same_filled a.bindings b.bindings in
     Decides-like (same_seen_interceptor a b) (λ e j. record { name = e.0 j; bindings = e.1 j })
     (λ e. (ap (λ x. x.name) e, ap (λ x. x.bindings) e))
     (Decides-and (bytes_eq a.name b.name) bindings (bytes_decides a.name b.name)
-    (slice_eq-Decides same_binding-decides a.bindings b.bindings bindings refl))
+    (slice_eq-Decides same_filled-decides a.bindings b.bindings bindings refl))
 
 same_around-decides : (a b : SeenAround) → Decides (same_around a b) (a ≡ b)
 same_around-decides a b =
-    let bindings = pointwise same_binding a.bindings b.bindings in
+    let bindings = pointwise same_qual a.bindings b.bindings in
     let declared = pointwise (option_eq same_binding_type) a.declared b.declared in
     let interceptors = pointwise same_seen_interceptor a.interceptors b.interceptors in
     Decides-like (same_around a b) (λ e j. record { bindings = e.0 j; declared = e.1.0 j; interceptors = e.1.1 j })
     (λ e. (ap (λ x. x.bindings) e, (ap (λ x. x.declared) e, ap (λ x. x.interceptors) e)))
-    (Decides-and bindings (declared && interceptors) (slice_eq-Decides same_binding-decides a.bindings b.bindings bindings refl)
+    (Decides-and bindings (declared && interceptors) (slice_eq-Decides same_qual-decides a.bindings b.bindings bindings refl)
     (Decides-and declared interceptors
     (slice_eq-Decides (option-decides same_binding_type-decides) a.declared b.declared declared refl)
     (slice_eq-Decides same_seen_interceptor-decides a.interceptors b.interceptors interceptors refl)))
@@ -157,25 +148,13 @@ touched_where_seen_differs ds es key =
     let d : Decides same (key_sees ds key ≡ key_sees es key) = same_by_key-decides (key_sees ds key) (key_sees es key) in
     (λ h. d.0 (sym (not_not same) ∙ h), λ e. not_not same ∙ d.1 e)
 
-abbrev binding_members : Option BindingDecl → List MemberDecl
-binding_members declared = unwrap_or (option_map (λ d. d.members) declared) []
-
--- a use that is written alike is filled alike where its qualifier is declared alike
-pub alike_fill_the_same : (ds es : List Decl) (u v : Qual) → same_qual u v ≡ true → declare_alike ds es u.name ≡ true
-    → same_filled (filled ds uses.Qualifier u) (filled es uses.Qualifier v) ≡ true
-alike_fill_the_same ds es u v same alike =
-    let declared = (option-decides same_qualifier-decides (find_qualifier u.name ds) (find_qualifier u.name es)).0 alike in
-    let own : filled ds uses.Qualifier u ≡ filled es uses.Qualifier u =
-    λ j. record { name = u.name; given = given_name u.arguments; values = fill (members_of (declared j)) u } in
-    (same_filled-decides (filled ds uses.Qualifier u) (filled es uses.Qualifier v)).1
-    (own ∙ ap (filled es uses.Qualifier) ((same_qual-decides u v).0 same))
-
--- and a binding where its type is
-pub alike_fill_binding : (ds es : List Decl) (u v : Qual) → same_qual u v ≡ true → type_alike ds u.name es u.name ≡ true
-    → same_binding (filled_binding ds u) (filled_binding es v) ≡ true
-alike_fill_binding ds es u v same alike =
-    let declared = (option-decides same_binding_type-decides (find_binding u.name ds) (find_binding u.name es)).0 alike in
-    let own : filled_binding ds u ≡ filled_binding es u =
-    λ j. record { name = u.name; given = given_name u.arguments; values = fill (binding_members (declared j)) u } in
-    (same_binding-decides (filled_binding ds u) (filled_binding es v)).1
-    (own ∙ ap (filled_binding es) ((same_qual-decides u v).0 same))
+-- a use that is written alike is filled alike where its members are declared alike
+pub alike_fill_the_same : (kind : UseKind) (ds es : List Decl) (u v : Qual) → same_qual u v ≡ true
+    → pointwise same_member_decl (declared_of ds kind u.name) (declared_of es kind u.name) ≡ true
+    → same_filled (filled ds kind u) (filled es kind v) ≡ true
+alike_fill_the_same kind ds es u v same alike =
+    let olds = declared_of ds kind u.name in
+    let news = declared_of es kind u.name in
+    let declared = (slice_eq-Decides same_member_decl-decides olds news (pointwise same_member_decl olds news) refl).0 alike in
+    (same_filled-decides (filled ds kind u) (filled es kind v)).1
+    (ap (λ ms. filled_by ms u) declared ∙ ap (filled es kind) ((same_qual-decides u v).0 same))

@@ -12,23 +12,24 @@ use Rattle.cdi_model.specs.declared.decl.BindingDecl.{BindingDecl}
 use Rattle.cdi_model.specs.declared.decl.Decl.{Decl}
 use Rattle.cdi_model.specs.declared.decl.InterceptorDecl.{InterceptorDecl}
 use Rattle.cdi_model.specs.declared.decl.Kind.TheVariants as kinds
-use Rattle.cdi_model.specs.declared.decl.UseKind.TheVariants as uses
+use Rattle.cdi_model.specs.declared.decl.UseKind.{UseKind}
 use Rattle.cdi_model.specs.declared.decl.MemberDecl.{MemberDecl}
 use Rattle.cdi_model.specs.declared.decl.QualifierDecl.{QualifierDecl}
 use Rattle.cdi_model.specs.declared.edit.Edit.{Edit}
 use Rattle.cdi_model.specs.declared.place.BeanPlace.{BeanPlace}
 use Rattle.cdi_model.specs.declared.quals.Qual.{Qual}
 use Rattle.cdi_model.specs.Edits.{edited_all, edited_keys, is_among}
+use Rattle.cdi_match.specs.Filled.{FilledUse, filled}
 use Rattle.cdi_match.specs.Filling.{find_binding, find_qualifier}
 use Rattle.cdi_effective.specs.Beans.{beans}
 use Rattle.cdi_effective.specs.Qualifiers.{required}
 use Rattle.cdi_effective.specs.declared.records.BeanId.{BeanId}
 use Rattle.cdi_effective.specs.declared.records.Effective.{Effective}
 use Rattle.cdi_resolve.specs.Choices.{Candidate, offers}
-use Rattle.cdi_resolve.specs.Sees.{FilledUse, SeenBean, Seen, filled, seen_bean, sees}
+use Rattle.cdi_resolve.specs.Sees.{SeenBean, Seen, seen_bean, sees}
 use Rattle.cdi_intercept.specs.Bindings.{in_text_order, set_at}
 use Rattle.cdi_intercept.specs.Chains.{in_order}
-use Rattle.cdi_intercept.specs.Sees.{FilledBinding, SeenInterceptor, Seen as SeenAround, filled as filled_binding, is_seen}
+use Rattle.cdi_intercept.specs.Sees.{SeenInterceptor, Seen as SeenAround, is_seen}
 use Rattle.cdi_intercept.specs.Sees.{seen_interceptor, sees_at}
 use Rattle.cdi_observe.specs.Keys.{Key, ChainKey, ChoiceKey}
 use Rattle.cdi_observe.specs.Wanted.{is_wanted}
@@ -40,9 +41,9 @@ pub data SeenByKey : Type 0 where
   ByChain : SeenAround → SeenByKey
 
 -- What a key sees. That of a choice sees the enabled beans with its type, in order, with their filled qualifiers, their priorities
--- and whether they or what declares them are alternatives; and the declarations of its qualifiers. That of a chain sees the filled
--- bindings at its place, each once, in order; the declarations of their types; and the enabled interceptors that have a body for
--- the place and share a binding type with it, in the order in which they are called, with their filled bindings.
+-- and whether they or what declares them are alternatives; and the declarations of its qualifiers. That of a chain sees the
+-- bindings at its place as they are written, each once, in order; the declarations of their types; and the enabled interceptors
+-- that have a body for the place and share a binding type with it, in the order in which they are called, with their filled bindings.
 abbrev pub key_sees : List Decl → Key → SeenByKey
 key_sees ds (ChoiceKey t quals) = ByChoice (sees ds (beans ds) t quals)
 key_sees ds (ChainKey class place) = ByChain (sees_at ds class place)
@@ -79,10 +80,6 @@ same_seen s r = pointwise same_seen_bean s.beans r.beans && pointwise (option_eq
 
 -- ---- the same of a chain
 
--- one name, with the same beside it once the members are filled
-abbrev pub same_binding : FilledBinding → FilledBinding → Bool
-same_binding u v = bytes_eq u.name v.name && (option_eq bytes_eq u.given v.given && same_members u.values v.values)
-
 -- one name, with the same members in one order and the same bindings as they are written
 abbrev pub same_binding_type : BindingDecl → BindingDecl → Bool
 same_binding_type d e = bytes_eq d.name e.name
@@ -90,11 +87,11 @@ same_binding_type d e = bytes_eq d.name e.name
 
 -- one name, with the same bindings
 abbrev pub same_seen_interceptor : SeenInterceptor → SeenInterceptor → Bool
-same_seen_interceptor i j = bytes_eq i.name j.name && pointwise same_binding i.bindings j.bindings
+same_seen_interceptor i j = bytes_eq i.name j.name && pointwise same_filled i.bindings j.bindings
 
--- the same bindings and the same declarations, and the same interceptors in one order
+-- the same bindings as they are written, the same declarations, and the same interceptors in one order
 abbrev pub same_around : SeenAround → SeenAround → Bool
-same_around s r = pointwise same_binding s.bindings r.bindings
+same_around s r = pointwise same_qual s.bindings r.bindings
     && (pointwise (option_eq same_binding_type) s.declared r.declared && pointwise same_seen_interceptor s.interceptors r.interceptors)
 
 abbrev pub same_by_key : SeenByKey → SeenByKey → Bool
@@ -106,16 +103,12 @@ same_by_key (ByChain s) (ByChoice r) = false
 -- ---- the same over two lists of declarations
 
 -- some uses say over the one list of declarations what others say over the other
-abbrev pub uses_alike : List Decl → List Qual → List Decl → List Qual → Bool
-uses_alike ds us es vs = pointwise same_filled (map (filled ds uses.Qualifier) us) (map (filled es uses.Qualifier) vs)
+abbrev pub uses_alike : UseKind → List Decl → List Qual → List Decl → List Qual → Bool
+uses_alike kind ds us es vs = pointwise same_filled (map (filled ds kind) us) (map (filled es kind) vs)
 
 -- some beans are to a choice over the one list what others are over the other
 abbrev pub beans_alike : List Decl → List Effective → List Decl → List Effective → Bool
 beans_alike ds bs es cs = pointwise same_seen_bean (map (seen_bean ds) bs) (map (seen_bean es) cs)
-
--- some bindings say over the one list what others say over the other
-abbrev pub bindings_alike : List Decl → List Qual → List Decl → List Qual → Bool
-bindings_alike ds us es vs = pointwise same_binding (map (filled_binding ds) us) (map (filled_binding es) vs)
 
 -- the one list declares a binding type as the other declares another, or neither declares its own
 abbrev pub type_alike : List Decl → List ℕ → List Decl → List ℕ → Bool
@@ -132,7 +125,7 @@ interceptors_alike ds is es js = pointwise same_seen_interceptor (map (seen_inte
 
 -- a place with some bindings is to a chain over the one list what it is with others over the other
 abbrev pub places_alike : List Decl → List Qual → List Decl → List Qual → BeanPlace → Bool
-places_alike ds us es vs place = bindings_alike ds us es vs && (types_alike ds us es vs
+places_alike ds us es vs place = pointwise same_qual us vs && (types_alike ds us es vs
     && interceptors_alike ds (filter (is_seen us place) (in_order ds)) es (filter (is_seen vs place) (in_order es)))
 
 -- ---- edits

@@ -10,7 +10,7 @@ ghost use Rattle.cdi_seen.specs.Touched.{same_candidate, same_seen_bean, beans_a
 
 use crate::uses::same_uses;
 use cdi_effective::Effective;
-use cdi_model::{Decls, Name};
+use cdi_model::{Decls, Name, UseKind};
 use std::alloc::{AllocError, Global};
 
 /// Those of some beans that are enabled and have a type, in order: of all beans, those that the questions for this type
@@ -81,6 +81,7 @@ fn same_bean(
     }
     same_uses(
         alloc,
+        UseKind::Qualifier,
         before,
         old.qualifiers.as_slice(),
         after,

@@ -6,17 +6,18 @@ ghost use Rattle.cdi_intercept.specs.Sees.{seen_interceptor};
 ghost use Rattle.cdi_observe.specs.Keys.{ChainKey};
 ghost use Rattle.cdi_seen.specs.Touched.{interceptors_alike, is_touched, same_seen_interceptor, ChainTouchedByParts};
 
-use crate::bindings::{same_bindings, same_types};
+use crate::bindings::{same_as_written, same_types};
+use crate::uses::same_uses;
 use cdi_intercept::{bindings_seen, seen_around};
-use cdi_model::{BeanPlace, Decls, InterceptorDecl, Name};
+use cdi_model::{BeanPlace, Decls, InterceptorDecl, Name, UseKind};
 use std::alloc::{AllocError, Global};
 
 /// Whether an edit touches the question for the chain around a place of the bean of a class: it sees other bindings there,
-/// or another declaration of a type of these, or other interceptors that are enabled, have a body for the place and share
-/// such a type, or these in another order or with other bindings (Interceptors 2.1, Associating an Interceptor using
-/// Interceptor Bindings). The enabled interceptors are given, in order, before and after. It takes memory for the bindings
-/// and the interceptors that are seen, and for the members of bindings that are written, or whose types are declared,
-/// differently.
+/// as they are written, or another declaration of a type of these, or other interceptors that are enabled, have a body for
+/// the place and share such a type, or these in another order or with other bindings (Interceptors 2.1, Associating an
+/// Interceptor using Interceptor Bindings). The enabled interceptors are given, in order, before and after. It takes
+/// memory for the bindings and the interceptors that are seen, and for the members of bindings of interceptors that are
+/// written, or whose types are declared, differently.
 #[tactic(auto, unfolding(crate::specs::Touched::is_touched), using(crate::proofs::TouchedLemmas::chain_touched_by_parts))]
 pub fn is_chain_touched(
     alloc: Global,
@@ -34,7 +35,7 @@ pub fn is_chain_touched(
 {
     let olds = bindings_seen(alloc, before, class, place)?;
     let news = bindings_seen(alloc, after, class, place)?;
-    if !same_bindings(alloc, before, olds.as_slice(), after, news.as_slice())? {
+    if !same_as_written(olds.as_slice(), news.as_slice()) {
         return Ok(true);
     }
     if !same_types(before, olds.as_slice(), after, news.as_slice()) {
@@ -81,8 +82,9 @@ fn same_interceptor(
     if old.name != new.name {
         return Ok(false);
     }
-    same_bindings(
+    same_uses(
         alloc,
+        UseKind::Binding,
         before,
         old.bindings.as_slice(),
         after,
