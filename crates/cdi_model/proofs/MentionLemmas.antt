@@ -1,15 +1,63 @@
 -- What a declaration names, one by one.
-use Rattle.std.proofs.Common.{◌≡◌, List, [], ◌∷◌, ◌++◌, Option, ℕ, refl, ap, ◌∙◌, sym, append-nil}
+use Rattle.std.proofs.Common.{◌≡◌, List, [], ◌∷◌, ◌++◌, refl, ap, ◌∙◌, sym, append-nil}
 use Rattle.std.specs.List.{flat_map}
-use Rattle.cdi_model.specs.declared.decl.MethodDecl.{MethodDecl}
+use Rattle.std.proofs.lemmas.List.{append_assoc}
+use Rattle.cdi_model.specs.declared.decl.EventDecl.{EventDecl}
 use Rattle.cdi_model.specs.declared.decl.PointDecl.{PointDecl}
-use Rattle.cdi_model.specs.Mentions.{Mention, MethodOf, of_bindings, of_method, of_point}
+use Rattle.cdi_model.specs.declared.mention.PointPlace.{PointPlace}
+use Rattle.cdi_model.specs.declared.mention.TypePlace.TheVariants as places
+use Rattle.cdi_model.specs.Mentions.{Mention, TypeIn, EventOf, of_event, of_point, of_qualifiers}
 
--- a method stands before its bindings, where nothing is left before it
-pub method-first : (named bound : List Mention) (producer : Option (List ℕ)) (points : List PointDecl) (methods others : List MethodDecl)
-    (m : MethodDecl) (producers disposers : List Mention) → named ≡ [] → points ≡ [] → methods ≡ m ∷ others → bound ≡ of_bindings m.bindings
-    → named ++ flat_map (of_point producer) points ++ flat_map of_method methods ++ producers ++ disposers
-    ≡ MethodOf m ∷ (bound ++ flat_map (of_point producer) points ++ flat_map of_method others ++ producers ++ disposers)
-method-first named bound producer points methods others m producers disposers none empty first are =
-    rw (none, empty, first, are) (ap (λ l. MethodOf m ∷ (l ++ flat_map of_method others ++ producers ++ disposers))
-    (sym (append-nil (of_bindings m.bindings))))
+-- ---- members of a bean
+
+-- where nothing stands before, what begins with a member goes on behind it
+pub member-first : (before all begun now body rest : List Mention) (first : Mention) → before ≡ [] → all ≡ first ∷ (body ++ rest)
+    → begun ≡ body → now ≡ rest → before ++ all ≡ first ∷ (begun ++ now)
+member-first before all begun now body rest first none is same behind = rw (none, is, same, behind) refl
+
+-- the first of a kind stands before the others of it
+pub kind-first : {A : Type 0} (f : A → List Mention) (xs ys : List A) (x : A) → xs ≡ x ∷ ys → flat_map f xs ≡ f x ++ flat_map f ys
+kind-first f xs ys x is = rw is refl
+
+-- a kind that has none gives nothing
+pub no-kind : {A : Type 0} (f : A → List Mention) (xs : List A) → xs ≡ [] → flat_map f xs ≡ []
+no-kind f xs none = rw none refl
+
+-- some before three, and before four
+before-three : (body p d o : List Mention) → body ++ p ++ d ++ o ≡ body ++ (p ++ d ++ o)
+before-three body p d o = ap (λ l. l ++ o) (append_assoc body p d) ∙ append_assoc body (p ++ d) o
+
+before-four : (body m p d o : List Mention) → body ++ m ++ p ++ d ++ o ≡ body ++ (m ++ p ++ d ++ o)
+before-four body m p d o = ap (λ l. l ++ d ++ o) (append_assoc body m p) ∙ before-three body (m ++ p) d o
+
+pub method-first : (m p d o body others : List Mention) (first : Mention) → m ≡ first ∷ (body ++ others)
+    → m ++ p ++ d ++ o ≡ first ∷ (body ++ (others ++ p ++ d ++ o))
+method-first m p d o body others first is = rw is (ap (λ l. first ∷ l) (before-four body others p d o))
+
+pub producer-first : (m p d o body others : List Mention) (first : Mention) → m ≡ [] → p ≡ first ∷ (body ++ others)
+    → m ++ p ++ d ++ o ≡ first ∷ (body ++ (m ++ others ++ d ++ o))
+producer-first m p d o body others first none is = rw (none, is) (ap (λ l. first ∷ l) (before-three body others d o))
+
+pub disposer-first : (m p d o body others : List Mention) (first : Mention) → m ≡ [] → p ≡ [] → d ≡ first ∷ (body ++ others)
+    → m ++ p ++ d ++ o ≡ first ∷ (body ++ (m ++ p ++ others ++ o))
+disposer-first m p d o body others first none empty is = rw (none, empty, is) (ap (λ l. first ∷ l) (append_assoc body others o))
+
+pub observer-first : (m p d o body others : List Mention) (first : Mention) → m ≡ [] → p ≡ [] → d ≡ [] → o ≡ first ∷ (body ++ others)
+    → m ++ p ++ d ++ o ≡ first ∷ (body ++ (m ++ p ++ d ++ others))
+observer-first m p d o body others first none empty gone is = rw (none, empty, gone, is) refl
+
+-- ---- events
+
+-- an event stands before what it names
+pub event-first : (before named rest : List Mention) (place : PointPlace) (points : List PointDecl) (events others : List EventDecl)
+    (e : EventDecl) → before ≡ [] → points ≡ [] → events ≡ e ∷ others → named ≡ TypeIn places.Fired e.event_type ∷ of_qualifiers e.qualifiers
+    → before ++ flat_map (of_point place) points ++ flat_map of_event events ++ rest
+    ≡ EventOf e ∷ (named ++ flat_map (of_point place) points ++ flat_map of_event others ++ rest)
+event-first before named rest place points events others e none empty first same =
+    rw (none, empty, first, same) (ap (λ l. EventOf e ∷ TypeIn places.Fired e.event_type ∷ (l ++ flat_map of_event others ++ rest))
+    (sym (append-nil (of_qualifiers e.qualifiers))))
+
+-- nothing is left where nothing is left of each
+pub none-left : (named : List Mention) (place : PointPlace) (points : List PointDecl) (events : List EventDecl) → named ≡ [] → points ≡ []
+    → events ≡ [] → named ++ flat_map (of_point place) points ++ flat_map of_event events ≡ []
+none-left named place points events none empty quiet = rw (none, empty, quiet) refl

@@ -18,7 +18,7 @@ pub enum BeanPlace {
     Method(Ident),
     /// A producer method that is not static.
     Producer(Ident),
-    /// An observer method. No bean has one yet.
+    /// An observer method.
     Observer(Ident),
 }
 
