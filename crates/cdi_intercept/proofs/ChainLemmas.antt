@@ -10,12 +10,13 @@ use Rattle.cdi_model.specs.declared.decl.Decl.{Decl}
 use Rattle.cdi_model.specs.declared.decl.Decl.TheVariants as decls
 use Rattle.cdi_model.specs.declared.decl.InterceptorDecl.{InterceptorDecl}
 use Rattle.cdi_model.specs.declared.decl.MethodDecl.{MethodDecl}
+use Rattle.cdi_model.specs.declared.decl.ObserverDecl.{ObserverDecl}
 use Rattle.cdi_model.specs.declared.decl.ProducerDecl.{ProducerDecl}
 use Rattle.cdi_model.specs.declared.place.BeanPlace.{BeanPlace}
 use Rattle.cdi_model.specs.declared.place.BeanPlace.TheVariants as places
 use Rattle.cdi_model.specs.declared.quals.Qual.{Qual}
 use Rattle.cdi_intercept.specs.Chains.{covered_in, in_order, interceptors, is_before, is_enabled, part_for, surrounds, surrounds_one}
-use Rattle.cdi_intercept.specs.Sets.{places_of, set_by, sets_of}
+use Rattle.cdi_intercept.specs.Sets.{methods_of, producers_of, observers_of, places_of, set_by, sets_of}
 use Rattle.cdi_intercept.proofs.OrderLemmas.{all_sorted}
 
 -- ---- each of those in order is declared, and enabled
@@ -111,7 +112,8 @@ pub method_place : (bean : BeanDecl) (k : ℕ) (method : MethodDecl) → slice_g
 method_place bean k method at =
     let name : MethodDecl → BeanPlace = λ m. places.Method m.name in
     let found = slice_get-map name bean.methods k ∙ ap (option_map name) at in
-    (suc (suc (suc k)), in-front (map name bean.methods) _ k (places.Method method.name) found)
+    let own = in-front (map name bean.methods) (producers_of bean) k (places.Method method.name) found in
+    (suc (suc (suc k)), in-front (map name bean.methods ++ producers_of bean) (observers_of bean) k (places.Method method.name) own)
 
 pub producer_place : (bean : BeanDecl) (k : ℕ) (producer : ProducerDecl) → slice_get bean.producers k ≡ Some producer
     → producer.is_static ≡ false → IsPlace bean (places.Producer producer.name)
@@ -119,7 +121,15 @@ producer_place bean k producer at is =
     let name : ProducerDecl → BeanPlace = λ p. places.Producer p.name in
     let own = in-filter (λ p. not p.is_static) bean.producers k producer at (ap not is) in
     let found = slice_get-map name (filter (λ p. not p.is_static) bean.producers) own.0 ∙ ap (option_map name) own.1 in
-    let all = behind (map (λ m. places.Method m.name) bean.methods) _ own.0 (places.Producer producer.name) found in
+    let all = behind (methods_of bean) (producers_of bean) own.0 (places.Producer producer.name) found in
+    (suc (suc (suc all.0)), in-front (methods_of bean ++ producers_of bean) (observers_of bean) all.0 (places.Producer producer.name) all.1)
+
+pub observer_place : (bean : BeanDecl) (k : ℕ) (observer : ObserverDecl) → slice_get bean.observers k ≡ Some observer
+    → IsPlace bean (places.Observer observer.name)
+observer_place bean k observer at =
+    let name : ObserverDecl → BeanPlace = λ o. places.Observer o.name in
+    let found = slice_get-map name bean.observers k ∙ ap (option_map name) at in
+    let all = behind (methods_of bean ++ producers_of bean) (observers_of bean) k (places.Observer observer.name) found in
     (suc (suc (suc all.0)), all.1)
 
 any-at : {X : Type 0} (test : X → Bool) (xs : List X) (k : ℕ) (x : X) → slice_get xs k ≡ Some x → test x ≡ true → list_any test xs ≡ true

@@ -18,6 +18,10 @@ of_method bean name = option_map (λ m. m.bindings) (find (λ m. bytes_eq m.name
 abbrev pub of_producer : BeanDecl → List ℕ → Option (List Qual)
 of_producer bean name = option_map (λ p. p.bindings) (find (λ p. bytes_eq p.name name && not p.is_static) bean.producers)
 
+-- those of the observer method of a name, if the bean has it
+abbrev pub of_observer : BeanDecl → List ℕ → Option (List Qual)
+of_observer bean name = option_map (λ o. o.bindings) (find (λ o. bytes_eq o.name name) bean.observers)
+
 -- those that a method declares, with what they bring, in the place of those of its class that are of their types; none where the
 -- bean has no such method
 abbrev pub around_method : List Decl → List Qual → Option (List Qual) → List Qual
@@ -31,27 +35,37 @@ set_by ds class bean places.Post = class
 set_by ds class bean places.Pre = class
 set_by ds class bean (places.Method name) = around_method ds class (of_method bean name)
 set_by ds class bean (places.Producer name) = around_method ds class (of_producer bean name)
-set_by ds class bean (places.Observer name) = []
+set_by ds class bean (places.Observer name) = around_method ds class (of_observer bean name)
 
--- whether a bean has the place: each has a constructor and callbacks, and none has an observer method yet
+-- whether a bean has the place: each has a constructor and callbacks
 abbrev pub has_place : BeanDecl → BeanPlace → Bool
 has_place bean places.Construct = true
 has_place bean places.Post = true
 has_place bean places.Pre = true
 has_place bean (places.Method name) = is_some (of_method bean name)
 has_place bean (places.Producer name) = is_some (of_producer bean name)
-has_place bean (places.Observer name) = false
+has_place bean (places.Observer name) = is_some (of_observer bean name)
 
--- the places with bindings of their own: the methods, and the producer methods that are not static
+-- the places with bindings of their own: the methods, the producer methods that are not static, and the observer methods
+abbrev pub methods_of : BeanDecl → List BeanPlace
+methods_of bean = map (λ m. places.Method m.name) bean.methods
+
+abbrev pub producers_of : BeanDecl → List BeanPlace
+producers_of bean = map (λ p. places.Producer p.name) (filter (λ p. not p.is_static) bean.producers)
+
+abbrev pub observers_of : BeanDecl → List BeanPlace
+observers_of bean = map (λ o. places.Observer o.name) bean.observers
+
 abbrev pub own_places : BeanDecl → List BeanPlace
-own_places bean =
-    map (λ m. places.Method m.name) bean.methods
-    ++ map (λ p. places.Producer p.name) (filter (λ p. not p.is_static) bean.producers)
+own_places bean = methods_of bean ++ producers_of bean ++ observers_of bean
 
 -- the places of a bean
 abbrev pub places_of : BeanDecl → List BeanPlace
 places_of bean = places.Construct ∷ places.Post ∷ places.Pre ∷ own_places bean
 
--- each place, with the bindings there
+-- a place, with the bindings there
+abbrev pub with_set : List Decl → List Qual → BeanDecl → BeanPlace → BeanPlace × List Qual
+with_set ds class bean place = (place, set_by ds class bean place)
+
 abbrev pub sets_of : List Decl → List Qual → BeanDecl → List (BeanPlace × List Qual)
-sets_of ds class bean = map (λ place. (place, set_by ds class bean place)) (places_of bean)
+sets_of ds class bean = map (with_set ds class bean) (places_of bean)

@@ -3,7 +3,8 @@
 ghost use Rattle.std.specs.Prelude.{◌≡◌, ◌++◌, ◌∷◌, [], map, IfOk, OnOk};
 ghost use Rattle.std.specs.Option.{option_copied};
 ghost use Rattle.cdi_match.specs.Bindings.{uses_in};
-ghost use Rattle.cdi_intercept.specs.Sets.{around_method, has_place, of_method, of_producer, set_by, sets_of};
+ghost use Rattle.cdi_intercept.specs.Sets.{around_method, has_place, of_method, of_observer, of_producer, producers_of};
+ghost use Rattle.cdi_intercept.specs.Sets.{set_by, sets_of, with_set};
 ghost use Rattle.cdi_intercept.specs.Lent.{uses_at};
 
 use cdi_effective::in_place_of;
@@ -28,7 +29,7 @@ pub fn set_by<'a>(
         BeanPlace::Construct | BeanPlace::Post | BeanPlace::Pre => lent(alloc, class),
         BeanPlace::Method(name) => around_method(alloc, decls, class, of_method(bean, *name)),
         BeanPlace::Producer(name) => around_method(alloc, decls, class, of_producer(bean, *name)),
-        BeanPlace::Observer(_) => Ok(Vec::new(alloc)),
+        BeanPlace::Observer(name) => around_method(alloc, decls, class, of_observer(bean, *name)),
     }
 }
 
@@ -49,13 +50,32 @@ pub fn sets_of<'a>(
         let place = BeanPlace::Method(method.name);
         push_set(alloc, decls, class, bean, place, &mut sets)?;
     }
+    push_sets_of_producers(alloc, decls, class, bean, &mut sets)?;
+    for observer in bean.observers.as_slice() {
+        let place = BeanPlace::Observer(observer.name);
+        push_set(alloc, decls, class, bean, place, &mut sets)?;
+    }
+    Ok(sets)
+}
+
+/// Appends the producer methods that are not static, each with the bindings there.
+fn push_sets_of_producers<'a>(
+    alloc: Global,
+    decls: &'a Decls,
+    class: &'a [Qual],
+    bean: &'a BeanDecl,
+    sets: &mut Vec<(BeanPlace, Vec<&'a Qual>)>,
+) -> Result<(), AllocError>
+    ensures { OnOk result (map uses_at sets.new.items
+        ≡ map uses_at sets.old.items ++ map (with_set decls.now class.now bean.now) (producers_of bean.now)) }
+{
     for producer in bean.producers.as_slice() {
         if !producer.is_static {
             let place = BeanPlace::Producer(producer.name);
-            push_set(alloc, decls, class, bean, place, &mut sets)?;
+            push_set(alloc, decls, class, bean, place, sets)?;
         }
     }
-    Ok(sets)
+    Ok(())
 }
 
 /// Appends a place with the bindings there.
@@ -75,8 +95,7 @@ fn push_set<'a>(
     Ok(())
 }
 
-/// Whether a bean has a place: each has a constructor and callbacks, and none has an observer method yet. It takes no
-/// memory.
+/// Whether a bean has a place: each has a constructor and callbacks. It takes no memory.
 pub fn has_place(bean: &BeanDecl, place: &BeanPlace) -> bool
     ensures { result ≡ has_place bean.now place.now }
 {
@@ -84,7 +103,7 @@ pub fn has_place(bean: &BeanDecl, place: &BeanPlace) -> bool
         BeanPlace::Construct | BeanPlace::Post | BeanPlace::Pre => true,
         BeanPlace::Method(name) => of_method(bean, *name).is_some(),
         BeanPlace::Producer(name) => of_producer(bean, *name).is_some(),
-        BeanPlace::Observer(_) => false,
+        BeanPlace::Observer(name) => of_observer(bean, *name).is_some(),
     }
 }
 
@@ -131,6 +150,18 @@ fn of_producer(bean: &BeanDecl, name: Ident) -> Option<&[Qual]>
     for producer in bean.producers.as_slice() {
         if producer.name == name && !producer.is_static {
             return Some(producer.bindings.as_slice());
+        }
+    }
+    None
+}
+
+/// Those of the observer method of a name, if the bean has it.
+fn of_observer(bean: &BeanDecl, name: Ident) -> Option<&[Qual]>
+    ensures { option_copied result ≡ of_observer bean.now name }
+{
+    for observer in bean.observers.as_slice() {
+        if observer.name == name {
+            return Some(observer.bindings.as_slice());
         }
     }
     None
