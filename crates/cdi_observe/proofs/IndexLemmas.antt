@@ -16,7 +16,7 @@ use Rattle.cdi_model.specs.SameUse.{same_qual}
 use Rattle.cdi_effective.specs.Qualifiers.{required}
 use Rattle.cdi_observe.specs.declared.keys.AskedKey.{AskedKey}
 use Rattle.cdi_observe.specs.Asked.{asked_key, has_type, has_uses, has_uses_at, indices_from, indices_of, place_of}
-use Rattle.cdi_observe.specs.Keys.{Key, ChainKey, ChoiceKey, choice_key, has_key, with_key}
+use Rattle.cdi_observe.specs.Keys.{Key, ChainKey, ChoiceKey, EventKey, choice_key, has_key, with_key}
 
 -- ---- a key by its type and its uses
 
@@ -52,6 +52,11 @@ found-behind (ChainKey class place ∷ keys) front n t uses e =
     ap (λ all. find (has_uses_at all uses) (indices_from (n + 1) t keys)) (sym (append_assoc front (ChainKey class place ∷ []) keys))
     ∙ found-behind keys (front ++ ChainKey class place ∷ []) (n + 1) t uses
     (omega (arith, e, length-append front (ChainKey class place ∷ [])))
+    ∙ ap (λ i. cond (has_key keys (ChoiceKey t uses)) (Some i) None) (omega arith)
+found-behind (EventKey s vs ∷ keys) front n t uses e =
+    ap (λ all. find (has_uses_at all uses) (indices_from (n + 1) t keys)) (sym (append_assoc front (EventKey s vs ∷ []) keys))
+    ∙ found-behind keys (front ++ EventKey s vs ∷ []) (n + 1) t uses
+    (omega (arith, e, length-append front (EventKey s vs ∷ [])))
     ∙ ap (λ i. cond (has_key keys (ChoiceKey t uses)) (Some i) None) (omega arith)
 
 pub found-place : (keys : List Key) (t : List ℕ) (uses : List Qual) → find (has_uses_at keys uses) (indices_of t keys)

@@ -6,9 +6,11 @@ ghost use Rattle.cdi_effective.specs.Records.{records_in};
 ghost use Rattle.cdi_model.specs.Answering.{Answers};
 ghost use Rattle.cdi_intercept.specs.Chains.{chain_of};
 ghost use Rattle.cdi_resolve.specs.Choices.{chosen};
-ghost use Rattle.cdi_observe.specs.Keys.{choice_key, ChainKey};
+ghost use Rattle.cdi_observe.specs.Keys.{choice_key, ChainKey, EventKey};
 ghost use Rattle.cdi_observe.specs.Kept.{Kept, after_key};
+ghost use Rattle.cdi_observe.specs.Observers.{notified};
 
+use crate::observers::{ObserverId, evaluate_observers};
 use cdi_effective::Effective;
 use cdi_intercept::evaluate_chain;
 use cdi_model::{BeanPlace, Decls, Error, Name, Quals, Seq, Work};
@@ -61,6 +63,21 @@ pub trait View {
         ensures ok { OnOk result (kept self.new ≡ after_key (list self.old) (ChainKey class place.now) (kept self.old)) }
         ensures err { OnErr result (kept self.new ≡ kept self.old) }
         ensures staged { (kept self.old).knows (ChainKey class place.now) ≡ true → staged self.new ≡ staged self.old };
+
+    /// The observer methods that are notified of an event of a type with some qualifiers, in order (CDI 4.0, Observer
+    /// resolution; Observer ordering). A type or a qualifier that is not declared is taken as it is. It counts, and may give
+    /// an edit up, as `choose` does; where it fails for want of memory, the view has kept and counted nothing.
+    fn observers(
+        &mut self,
+        alloc: Global,
+        event_type: Name,
+        quals: &Quals,
+    ) -> Result<Seq<ObserverId>, AllocError>
+        ensures observers { IfOk result (λ ids. ids ≡ notified (list self.old) (beans_of (list self.old)) event_type quals.now) }
+        ensures list { list self.new ≡ list self.old }
+        ensures ok { OnOk result (kept self.new ≡ after_key (list self.old) (EventKey event_type quals.now) (kept self.old)) }
+        ensures err { OnErr result (kept self.new ≡ kept self.old) }
+        ensures staged { (kept self.old).knows (EventKey event_type quals.now) ≡ true → staged self.new ≡ staged self.old };
 }
 
 /// A view that keeps no answer, and computes each anew.
@@ -123,5 +140,24 @@ impl<'a> View for PlainView<'a> {
     fn chain(&mut self, alloc: Global, class: Name, place: &BeanPlace) -> Result<Seq<Name>, Error> {
         let mut work = Work::new();
         evaluate_chain(alloc, self.decls, class, place, &mut work)
+    }
+
+    #[tactic(auto, unfolding(crate::specs::Kept::after_key))]
+    fn observers(
+        &mut self,
+        alloc: Global,
+        event_type: Name,
+        quals: &Quals,
+    ) -> Result<Seq<ObserverId>, AllocError> {
+        let mut work = Work::new();
+        let beans = self.beans.as_slice();
+        evaluate_observers(
+            alloc,
+            self.decls,
+            beans,
+            event_type,
+            quals.as_slice(),
+            &mut work,
+        )
     }
 }

@@ -1,0 +1,21 @@
+-- The observer methods of some beans, one bean after another.
+use Rattle.std.proofs.Common.{◌≡◌, ℕ, suc, ◌+◌, ◌<◌, Bool, List, ◌∷◌, ◌++◌, length, get_or, drop, filter, ap, sym, ◌∙◌, append_assoc, arith}
+use Rattle.std.proofs.Math.Seq.{drop-cons}
+use Rattle.std.proofs.lemmas.List.Elements.{filter-append}
+use Rattle.cdi_model.specs.declared.decl.Decl.{Decl}
+use Rattle.cdi_effective.specs.declared.records.Effective.{Effective}
+use Rattle.cdi_observe.specs.Observers.{Observer, declared_by, enabled_bean, observers}
+
+-- those of one more bean, of which a test holds
+pub next-bean : (test : Observer → Bool) (ds : List Decl) (beans : List Effective) (i : ℕ) (b : Effective) (before after all own : List Observer)
+    → i < length beans → b ≡ get_or beans i b → own ≡ declared_by (enabled_bean ds b) → after ≡ before ++ filter test own
+    → before ++ filter test (observers ds (drop i beans)) ≡ all → after ++ filter test (observers ds (drop (i + 1) beans)) ≡ all
+next-bean test ds beans i b before after all own less at are pushed is =
+    let behind = observers ds (drop (i + 1) beans) in
+    let next : suc i ≡ i + 1 = omega arith in
+    let left : drop i beans ≡ b ∷ drop (i + 1) beans =
+    drop-cons beans i b less ∙ ap (λ c. c ∷ drop (suc i) beans) (sym at) ∙ ap (λ n. b ∷ drop n beans) next in
+    ap (λ l. l ++ filter test behind) pushed ∙ append_assoc before (filter test own) (filter test behind)
+    ∙ ap (λ l. before ++ l) (sym (filter-append test own behind) ∙ ap (λ l. filter test (l ++ behind)) are
+    ∙ ap (λ l. filter test (observers ds l)) (sym left))
+    ∙ is
