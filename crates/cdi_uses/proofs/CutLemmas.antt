@@ -67,32 +67,34 @@ closed (x ∷ xs) inner true e h =
 pub before_close-joined : (text inner : List ℕ) → before_close text ≡ Some inner → text ≡ inner ++ 41 ∷ []
 before_close-joined text inner h = closed text inner _ refl h
 
--- ---- parts between commas
+-- ---- parts between equal bytes
 
-behind_comma : (l : List (List ℕ)) (p : List ℕ) (ps : List (List ℕ)) → l ≡ p ∷ ps → join_with_byte 44 ([] ∷ l) ≡ 44 ∷ join_with_byte 44 l
-behind_comma l p ps e = rw e refl
+behind_byte : (byte : ℕ) (l : List (List ℕ)) (p : List ℕ) (ps : List (List ℕ)) → l ≡ p ∷ ps
+    → join_with_byte byte ([] ∷ l) ≡ byte ∷ join_with_byte byte l
+behind_byte byte l p ps e = rw e refl
 
-onto_first : (x : ℕ) (p : List ℕ) (ps : List (List ℕ)) → join_with_byte 44 ((x ∷ p) ∷ ps) ≡ x ∷ join_with_byte 44 (p ∷ ps)
-onto_first x p [] = refl
-onto_first x p (q ∷ qs) = refl
+onto_first : (byte x : ℕ) (p : List ℕ) (ps : List (List ℕ)) → join_with_byte byte ((x ∷ p) ∷ ps) ≡ x ∷ join_with_byte byte (p ∷ ps)
+onto_first byte x p [] = refl
+onto_first byte x p (q ∷ qs) = refl
 
-pub split-joined : (text : List ℕ) → join_with_byte 44 (split 44 text) ≡ text
-split-joined [] = refl
-split-joined (x ∷ xs) = elim (cases_Bool (x == 44)) [
-  | inl same ↦ rw same (behind_comma (split 44 xs) _ _ (split-cut xs) ∙ ap (λ l. 44 ∷ l) (split-joined xs)
-      ∙ ap (λ c. c ∷ xs) (sym (eqb-true x 44 same)))
+pub split-joined : (byte : ℕ) (text : List ℕ) → join_with_byte byte (split byte text) ≡ text
+split-joined byte [] = refl
+split-joined byte (x ∷ xs) = elim (cases_Bool (x == byte)) [
+  | inl same ↦ rw same (behind_byte byte (split byte xs) _ _ (split-cut byte xs) ∙ ap (λ l. byte ∷ l) (split-joined byte xs)
+      ∙ ap (λ c. c ∷ xs) (sym (eqb-true x byte same)))
   | inr other ↦
-      let rest : join_with_byte 44 ((cut 44 xs).0 ∷ pieces (cut 44 xs).1) ≡ xs = ap (join_with_byte 44) (sym (split-cut xs))
-      ∙ split-joined xs in
-      rw (other, split-cut xs) (onto_first x (cut 44 xs).0 (pieces (cut 44 xs).1) ∙ ap (λ l. x ∷ l) rest)
+      let rest : join_with_byte byte ((cut byte xs).0 ∷ pieces byte (cut byte xs).1) ≡ xs =
+      ap (join_with_byte byte) (sym (split-cut byte xs)) ∙ split-joined byte xs in
+      rw (other, split-cut byte xs) (onto_first byte x (cut byte xs).0 (pieces byte (cut byte xs).1) ∙ ap (λ l. x ∷ l) rest)
 ]
 
-pub split-some : (text : List ℕ) → split 44 text ≢ []
-split-some text e = let none : (cut 44 text).0 ∷ pieces (cut 44 text).1 ≡ [] = sym (split-cut text) ∙ e in cc
+pub split-some : (byte : ℕ) (text : List ℕ) → split byte text ≢ []
+split-some byte text e = let none : (cut byte text).0 ∷ pieces byte (cut byte text).1 ≡ [] = sym (split-cut byte text) ∙ e in cc
 
-pub joined-split : (parts : List (List ℕ)) → parts ≢ [] → AllByRecursion (Lacks 44) parts → split 44 (join_with_byte 44 parts) ≡ parts
-joined-split [] some lack = absurd (some refl)
-joined-split (p ∷ []) some lack = rw (split-cut p, cut-none 44 p lack.0) refl
-joined-split (p ∷ q ∷ ps) some lack =
-    let rest : List ℕ = join_with_byte 44 (q ∷ ps) in
-    rw (split-cut (p ++ 44 ∷ rest), cut-at 44 p rest lack.0) (ap (λ l. p ∷ l) (joined-split (q ∷ ps) (λ none. cc) lack.1))
+pub joined-split : (byte : ℕ) (parts : List (List ℕ)) → parts ≢ [] → AllByRecursion (Lacks byte) parts
+    → split byte (join_with_byte byte parts) ≡ parts
+joined-split byte [] some lack = absurd (some refl)
+joined-split byte (p ∷ []) some lack = rw (split-cut byte p, cut-none byte p lack.0) refl
+joined-split byte (p ∷ q ∷ ps) some lack =
+    let rest : List ℕ = join_with_byte byte (q ∷ ps) in
+    rw (split-cut byte (p ++ byte ∷ rest), cut-at byte p rest lack.0) (ap (λ l. p ∷ l) (joined-split byte (q ∷ ps) (λ none. cc) lack.1))

@@ -1,11 +1,11 @@
 -- What it means to be a use of a qualifier.
 use Rattle.std.proofs.Common.{◌≡◌, ◌≢◌, ℕ, ℤ, Bool, true, false, List, [], ◌∷◌, ◌++◌, length, codes, Option, Some, None, refl, ap, sym, ◌∙◌}
-use Rattle.std.proofs.Common.{inl, inr, subst}
+use Rattle.std.proofs.Common.{inl, inr, subst, ◌<◌, arith}
 use Rattle.std.specs.Prelude.{◌==◌, ◌↔◌, not, nat_le, is_some}
 use Rattle.std.specs.List.{AllByRecursion, join_with_byte}
 use Rattle.std.specs.Str.{bytes_eq}
 use Rattle.std.specs.Cmp.Lexicographic.{bytes_decides}
-use Rattle.std.proofs.lemmas.Bool.{cases_Bool, and_parts, and_from, or_parts, not-true, eqb-true, false≢true}
+use Rattle.std.proofs.lemmas.Bool.{cases_Bool, and_parts, and_from, or_parts, not-true, eqb-true, ne_eqb, false≢true}
 use Rattle.cdi_model.specs.Grammar.{is_letter, is_word, are_words, is_ident_text, is_ident, begins, goes_on, is_name}
 use Rattle.cdi_uses.specs.Numbers.{number_of}
 use Rattle.cdi_uses.specs.Pieces.{cut, split}
@@ -18,7 +18,7 @@ use Rattle.cdi_uses.proofs.NumberLemmas.{number_plain}
 -- ---- bytes that stand in no name
 
 -- neither a letter, `_`, a digit nor a dot
-abbrev IsApart : ℕ → Type 0
+abbrev pub IsApart : ℕ → Type 0
 IsApart byte = (is_word byte ≡ false) × ((46 == byte) ≡ false)
 
 apart_byte : (b byte : ℕ) → IsApart byte → is_word b ≡ true → (b == byte) ≡ false
@@ -89,18 +89,27 @@ pairs_from_members [] all = refl
 pairs_from_members (p ∷ ps) all = and_from (is_some (pair_of p)) (are_pairs ps) (ap is_some (pair_written p all.0))
     (pairs_from_members ps all.1)
 
-appended_lacks : (byte : ℕ) (xs ys : List ℕ) → Lacks byte xs → Lacks byte ys → Lacks byte (xs ++ ys)
+pub appended_lacks : (byte : ℕ) (xs ys : List ℕ) → Lacks byte xs → Lacks byte ys → Lacks byte (xs ++ ys)
 appended_lacks byte [] ys h k = k
 appended_lacks byte (x ∷ xs) ys h k = (h.0, appended_lacks byte xs ys h.1 k)
 
-pub members_lack_commas : (pieces : List (List ℕ)) → AllByRecursion WritesMember pieces → AllByRecursion (Lacks 44) pieces
-members_lack_commas [] all = tt
-members_lack_commas (p ∷ ps) all =
-    let m = all.0 in (
-      subst (Lacks 44) (sym m.joined) (appended_lacks 44 m.name (61 ∷ m.number) (ident_lacks 44 (refl, refl) m.name m.ident)
-          (refl, number_plain m.number m.value m.writes)),
-      members_lack_commas ps all.1,
+-- neither in a name nor in a number, and not `=`
+abbrev pub IsOutside : ℕ → Type 0
+IsOutside byte = IsApart byte × (byte < 45)
+
+pub members_lack : (byte : ℕ) → IsOutside byte → (pieces : List (List ℕ)) → AllByRecursion WritesMember pieces
+    → AllByRecursion (Lacks byte) pieces
+members_lack byte outside [] all = tt
+members_lack byte outside (p ∷ ps) all =
+    let m = all.0 in
+    let low : byte < 45 = outside.1 in (
+      subst (Lacks byte) (sym m.joined) (appended_lacks byte m.name (61 ∷ m.number) (ident_lacks byte outside.0 m.name m.ident)
+          (ne_eqb 61 byte (λ same. omega arith), number_plain byte low m.number m.value m.writes)),
+      members_lack byte outside ps all.1,
     )
+
+pub members_lack_commas : (pieces : List (List ℕ)) → AllByRecursion WritesMember pieces → AllByRecursion (Lacks 44) pieces
+members_lack_commas = members_lack 44 ((refl, refl), omega arith)
 
 -- ---- uses
 
@@ -113,7 +122,7 @@ other_text a b other = elim (cases_Bool (bytes_eq a b)) [
   | inr e ↦ e
 ]
 
-not_text : (a b : List ℕ) → bytes_eq a b ≡ false → a ≢ b
+pub not_text : (a b : List ℕ) → bytes_eq a b ≡ false → a ≢ b
 not_text a b h e = false≢true (sym h ∙ (bytes_decides a b).1 e)
 
 with_inner : (text name inner : List ℕ) → text ≡ name ++ (40 ∷ inner ++ 41 ∷ []) → is_name name ≡ true → is_inside name (Some inner) ≡ true
@@ -136,9 +145,9 @@ with_inner text name inner joined grammar h = by (is_named name) refl
           not_named = not_text name (codes "Named") named;
           not_any = not_text name (codes "Any") any;
           not_default = not_text name (codes "Default") default;
-          some = split-some inner;
+          some = split-some 44 inner;
           each = members_from_pieces (split 44 inner) pairs;
-          joined = joined ∙ ap (λ l. name ++ (40 ∷ l ++ 41 ∷ [])) (sym (split-joined inner));
+          joined = joined ∙ ap (λ l. name ++ (40 ∷ l ++ 41 ∷ [])) (sym (split-joined 44 inner));
         }))
 
 spelled_by : (text name : List ℕ) (rest : Option (List ℕ)) → rejoined 40 name rest ≡ text → is_use_of name rest ≡ true → SpellsUse text
@@ -176,7 +185,7 @@ is_spelled text (inr (inr m)) =
       other_text m.name (codes "Any") m.not_any,
       other_text m.name (codes "Default")
           m.not_default,
-      joined-split m.members m.some (members_lack_commas m.members m.each),
+      joined-split 44 m.members m.some (members_lack_commas m.members m.each),
     ) (pairs_from_members m.members m.each))
 
 pub use_meaning : (text : List ℕ) → (is_use text ≡ true) ↔ SpellsUse text

@@ -62,34 +62,36 @@ numbers_read_back (negsuc n) fits =
 
 -- ---- what stands in a number
 
-digits_plain : (n : ℕ) (ds : List ℕ) (v : ℕ) → value_after n ds ≡ Some v → AllByRecursion (λ c. (c == 44) ≡ false) ds
-digits_plain n [] v e = tt
-digits_plain n (c ∷ cs) v e = by (is_digit c) refl (digits_plain (10 * n + (c - 48)) cs v)
+digits_plain : (byte : ℕ) → byte < 45 → (n : ℕ) (ds : List ℕ) (v : ℕ) → value_after n ds ≡ Some v
+    → AllByRecursion (λ c. (c == byte) ≡ false) ds
+digits_plain byte low n [] v e = tt
+digits_plain byte low n (c ∷ cs) v e = by (is_digit c) refl (digits_plain byte low (10 * n + (c - 48)) cs v)
   where
-    by : (b : Bool) → is_digit c ≡ b → (value_after (10 * n + (c - 48)) cs ≡ Some v → AllByRecursion (λ x. (x == 44) ≡ false) cs)
-        → AllByRecursion (λ x. (x == 44) ≡ false) (c ∷ cs)
+    by : (b : Bool) → is_digit c ≡ b → (value_after (10 * n + (c - 48)) cs ≡ Some v → AllByRecursion (λ x. (x == byte) ≡ false) cs)
+        → AllByRecursion (λ x. (x == byte) ≡ false) (c ∷ cs)
     by true is rest =
         let least : 48 ≤ c = leb-true 48 c (and_parts (nat_le 48 c) (nat_le c 57) is).0 in
-        (ne_eqb c 44 (λ same. omega arith), rest (rw is at e))
+        (ne_eqb c byte (λ same. omega arith), rest (rw is at e))
     by false is rest = absurd (none-some v (rw is at e))
 
-magnitude_plain : (ds : List ℕ) (most : ℕ) (f : ℕ → ℤ) (z : ℤ) → option_map f (within most (magnitude ds)) ≡ Some z
-    → AllByRecursion (λ c. (c == 44) ≡ false) ds
-magnitude_plain [] most f z e = tt
-magnitude_plain (c ∷ cs) most f z e = by (value_after 0 (c ∷ cs)) refl
+magnitude_plain : (byte : ℕ) → byte < 45 → (ds : List ℕ) (most : ℕ) (f : ℕ → ℤ) (z : ℤ)
+    → option_map f (within most (magnitude ds)) ≡ Some z → AllByRecursion (λ c. (c == byte) ≡ false) ds
+magnitude_plain byte low [] most f z e = tt
+magnitude_plain byte low (c ∷ cs) most f z e = by (value_after 0 (c ∷ cs)) refl
   where
-    by : (o : Option ℕ) → value_after 0 (c ∷ cs) ≡ o → AllByRecursion (λ x. (x == 44) ≡ false) (c ∷ cs)
-    by (Some v) is = digits_plain 0 (c ∷ cs) v is
+    by : (o : Option ℕ) → value_after 0 (c ∷ cs) ≡ o → AllByRecursion (λ x. (x == byte) ≡ false) (c ∷ cs)
+    by (Some v) is = digits_plain byte low 0 (c ∷ cs) v is
     by None is = absurd (none-some z (sym (ap (λ o. option_map f (within most o)) is) ∙ e))
 
--- a number has no comma
-pub number_plain : (text : List ℕ) (z : ℤ) → number_of text ≡ Some z → AllByRecursion (λ c. (c == 44) ≡ false) text
-number_plain [] z e = tt
-number_plain (c ∷ cs) z e = elim (cases_Bool (c == 45)) [
+-- no byte below `-` stands in a number
+pub number_plain : (byte : ℕ) → byte < 45 → (text : List ℕ) (z : ℤ) → number_of text ≡ Some z
+    → AllByRecursion (λ c. (c == byte) ≡ false) text
+number_plain byte low [] z e = tt
+number_plain byte low (c ∷ cs) z e = elim (cases_Bool (c == 45)) [
   | inl minus ↦ (
-    ne_eqb c 44 (λ same. let is : c ≡ 45 = eqb-true c 45 minus in omega arith),
-    magnitude_plain cs 9223372036854775808
+    ne_eqb c byte (λ same. let is : c ≡ 45 = eqb-true c 45 minus in omega arith),
+    magnitude_plain byte low cs 9223372036854775808
         (λ n. neg_ℤ (pos n)) z (rw minus at e),
   )
-  | inr other ↦ magnitude_plain (c ∷ cs) 9223372036854775807 pos z (rw other at e)
+  | inr other ↦ magnitude_plain byte low (c ∷ cs) 9223372036854775807 pos z (rw other at e)
 ]

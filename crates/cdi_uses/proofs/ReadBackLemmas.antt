@@ -52,7 +52,7 @@ pairs_joined (m ∷ n ∷ ms) = ap (λ l. text_of_pair m ++ 44 ∷ l) (pairs_joi
 pieces_of_pairs : (m : List ℕ × ℤ) (ms : List (List ℕ × ℤ)) → AllByRecursion IsMember (m ∷ ms)
     → split 44 (text_of_pairs (m ∷ ms)) ≡ map text_of_pair (m ∷ ms)
 pieces_of_pairs m ms all =
-    ap (split 44) (pairs_joined (m ∷ ms)) ∙ joined-split (map text_of_pair (m ∷ ms)) (λ none. cc)
+    ap (split 44) (pairs_joined (m ∷ ms)) ∙ joined-split 44 (map text_of_pair (m ∷ ms)) (λ none. cc)
     (members_lack_commas (map text_of_pair (m ∷ ms)) (member_texts (m ∷ ms) all))
 
 -- ---- the members that are read
@@ -61,7 +61,7 @@ pieces_of_pairs m ms all =
 abbrev AreBefore : List (List ℕ × ℤ) → List (List ℕ × ℤ) → Type 0
 AreBefore before ms = AllByRecursion (λ m. AllByRecursion (λ e. order m.0 e.0 ≡ Greater) before) ms
 
-turned : (k l : List ℕ) → order k l ≡ Less → order l k ≡ Greater
+pub turned : (k l : List ℕ) → order k l ≡ Less → order l k ≡ Greater
 turned k l e = nat_list_cmp_total.antisymm l k ∙ ap ordering_reverse e
 
 one_more_before : (before : List (List ℕ × ℤ)) (m : List ℕ × ℤ) (k : List ℕ) → AllByRecursion (λ e. order k e.0 ≡ Greater) before
@@ -106,7 +106,7 @@ not_among key (l ∷ ls) less =
     let apart : bytes_eq key l ≡ false = sym (is_eq-slice_cmp key l) ∙ ap is_eq less.0 in
     rw (apart, not_among key ls less.1) refl
 
-none_twice : (keys : List (List ℕ)) → IsStrictlySortedBy order keys → has_twice keys ≡ false
+pub none_twice : (keys : List (List ℕ)) → IsStrictlySortedBy order keys → has_twice keys ≡ false
 unfolding IsStrictlySortedBy
 none_twice [] rise = refl
 none_twice (key ∷ keys) rise = rw (not_among key keys rise.0, none_twice keys rise.1) refl

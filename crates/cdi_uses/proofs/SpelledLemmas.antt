@@ -139,7 +139,7 @@ says text (inr (inr m)) =
     let inner : List ℕ = join_with_byte 44 m.members in
     let whole : cut 40 (m.name ++ (40 ∷ inner ++ 41 ∷ []))
     ≡ (m.name, Some (inner ++ 41 ∷ [])) = cut-at 40 m.name (inner ++ 41 ∷ []) (name_lacks 40 (refl, refl) m.name m.grammar) in
-    let pieces : split 44 inner ≡ m.members = joined-split m.members m.some (members_lack_commas m.members m.each) in
+    let pieces : split 44 inner ≡ m.members = joined-split 44 m.members m.some (members_lack_commas m.members m.each) in
     let u : use_of text ≡ record { name = m.name; arguments = arguments.Members (members_from [] m.members) } =
     ap use_of m.joined
     ∙ ap (λ p. record { name = p.0; arguments = arguments_in p.0 p.1 }) whole
