@@ -197,7 +197,8 @@ events_read_back e can =
         joined = refl;
       });
       once = ap (λ l. has_twice (map use_name l) || list_any repeats_member l) parts.uses
-          ∙ rw (names_again e.qualifiers can.uses, none_twice (map name_of_use e.qualifiers) can.order.rise) (no_member_twice e.qualifiers can.uses);
+          ∙ rw (names_again e.qualifiers can.uses, none_twice (map name_of_use e.qualifiers) can.order.rise)
+          (no_member_twice e.qualifiers can.uses);
       says = ap (λ l. record { event_type = type_in (text_of_event e); qualifiers = quals_from [] l }) parts.uses
           ∙ ap (λ l. record { event_type = type_in (text_of_event e); qualifiers = l })
           (quals_again [] e.qualifiers can.uses (behind_none e.qualifiers) can.order.rise)

@@ -2,7 +2,8 @@
 ghost use Rattle.std.specs.Prelude.{◌≡◌, ◌↔◌, ◌≤◌, [], true, length, map, option_map, IsTrue, IfOk};
 ghost use Rattle.std.specs.List.{list_all, list_any};
 ghost use Rattle.cdi_model.specs.Quals.{list_limit};
-ghost use Rattle.cdi_uses.specs.Events.{is_event, is_event_use, event_repeats, event_of, uses_in, EventsReadBack, SpellsEvent, SpellsEventUse};
+ghost use Rattle.cdi_uses.specs.Events.{is_event, is_event_use, event_repeats, event_of, uses_in};
+ghost use Rattle.cdi_uses.specs.Events.{EventsReadBack, SpellsEvent, SpellsEventUse};
 ghost use Rattle.cdi_uses.specs.Pieces.{pieces};
 ghost use Rattle.cdi_uses.specs.Twice.{has_twice};
 ghost use Rattle.cdi_uses.specs.Uses.{repeats_member, use_name, quals_from};
