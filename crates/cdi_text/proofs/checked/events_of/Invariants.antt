@@ -1,0 +1,16 @@
+use Rattle.std.proofs.Common.{◌≡◌, false, ◌++◌, drop}
+use Rattle.toml.specs.View.{items_view}
+use Rattle.cdi_text.specs.declared.schema.Item.TheVariants.{Event}
+use Rattle.cdi_text.specs.Grammar.{misspell}
+use Rattle.cdi_text.specs.Lists.{some_is_long}
+use Rattle.cdi_text.specs.Spelled.{events_in}
+use Rattle.cdi_text.proofs.checked.events_of.Given as goal
+
+abbrev pub invariant-loop-value : goal.invariant-loop-value
+invariant-loop-value l =
+    let rest = items_view (drop l.value-index l.items.items) in
+    record {
+      read : l.events ++ events_in rest ≡ events_in (items_view l.items.items);
+      spelt : misspell Event rest ≡ false;
+      short : some_is_long Event rest ≡ false;
+    }
