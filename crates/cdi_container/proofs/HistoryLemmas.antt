@@ -8,11 +8,11 @@ use Rattle.cdi_model.specs.declared.edit.Edit.{Edit}
 use Rattle.cdi_model.specs.Edits.{edited, edited_all}
 use Rattle.cdi_text.specs.Reading.{decl_of}
 use Rattle.cdi_lines.specs.declared.command.Command.{Command}
-use Rattle.cdi_lines.specs.declared.command.Command.TheVariants.{Put, Remove, Choose, Named, Chain, Report, LookUp, Call, BeginRequest}
-use Rattle.cdi_lines.specs.declared.command.Command.TheVariants.{EndRequest}
+use Rattle.cdi_lines.specs.declared.command.Command.TheVariants.{Put, Remove, Choose, Named, Chain, Observers, Report, LookUp, Call}
+use Rattle.cdi_lines.specs.declared.command.Command.TheVariants.{BeginRequest, EndRequest}
 use Rattle.cdi_lines.specs.declared.command.Command.TheVariants.{Stop, Unreadable}
 use Rattle.cdi_container.specs.declared.answer.Answer.{Answer}
-use Rattle.cdi_container.specs.declared.answer.Answer.TheVariants.{Done, Chosen, Intercepted, Reported, Given, Refused}
+use Rattle.cdi_container.specs.declared.answer.Answer.TheVariants.{Done, Chosen, Intercepted, Observed, Reported, Given, Refused}
 use Rattle.cdi_container.specs.History.{State, empty, emptied, untold, History, Acts, LegalAnswer, LegalHistory, refusal_of, refusal_of_put}
 use Rattle.cdi_container.specs.History.{with_put, accepted_put, edits_of, accepted_edit, accepted_edits, RestsOnAcceptedEdits, left_unserved, runs}
 
@@ -40,6 +40,8 @@ acts_edits old new (Named name) answer accepted h =
     subst (λ a. new.decls ≡ edited_all old.decls (accepted_edit (Named name) (Ok a))) (sym h.0) (ap (λ s. s.decls) h.1)
 acts_edits old new (Chain bean place) answer accepted h =
     subst (λ a. new.decls ≡ edited_all old.decls (accepted_edit (Chain bean place) (Ok a))) (sym h.given) (ap (λ s. s.decls) h.rest)
+acts_edits old new (Observers t quals) answer accepted h =
+    subst (λ a. new.decls ≡ edited_all old.decls (accepted_edit (Observers t quals) (Ok a))) (sym h.0) (ap (λ s. s.decls) h.1)
 acts_edits old new Report answer accepted h =
     subst (λ a. new.decls ≡ edited_all old.decls (accepted_edit Report (Ok a))) (sym h.0) (ap (λ s. s.decls) h.1)
 acts_edits old new (LookUp t quals) answer accepted h =
@@ -64,6 +66,7 @@ step_edits : (old new : State) (command : Command) (answer : Result Answer Alloc
 step_edits old new command (Ok Done) h = acts_edits old new command Done h.0 h.1
 step_edits old new command (Ok (Chosen choice)) h = acts_edits old new command (Chosen choice) h.0 h.1
 step_edits old new command (Ok (Intercepted names)) h = acts_edits old new command (Intercepted names) h.0 h.1
+step_edits old new command (Ok (Observed ids)) h = acts_edits old new command (Observed ids) h.0 h.1
 step_edits old new command (Ok (Reported list)) h = acts_edits old new command (Reported list) h.0 h.1
 step_edits old new command (Ok (Given outcome)) h = acts_edits old new command (Given outcome) h.0 h.1
 step_edits old new command (Ok (Refused refusal)) h = ap (λ s. s.decls) h.1

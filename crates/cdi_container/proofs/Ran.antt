@@ -7,11 +7,11 @@ use Rattle.cdi_text.specs.Reading.{decl_of}
 use Rattle.cdi_legal.specs.declared.entry.Entry.{Entry}
 use Rattle.cdi_staging.specs.Naming.{names_of}
 use Rattle.cdi_lines.specs.declared.command.Command.{Command}
-use Rattle.cdi_lines.specs.declared.command.Command.TheVariants.{Put, Remove, Choose, Named, Chain, Report, LookUp, Call, BeginRequest}
-use Rattle.cdi_lines.specs.declared.command.Command.TheVariants.{EndRequest}
+use Rattle.cdi_lines.specs.declared.command.Command.TheVariants.{Put, Remove, Choose, Named, Chain, Observers, Report, LookUp, Call}
+use Rattle.cdi_lines.specs.declared.command.Command.TheVariants.{BeginRequest, EndRequest}
 use Rattle.cdi_lines.specs.declared.command.Command.TheVariants.{Stop, Unreadable}
 use Rattle.cdi_container.specs.declared.answer.Answer.{Answer}
-use Rattle.cdi_container.specs.declared.answer.Answer.TheVariants.{Done, Chosen, Intercepted, Reported, Given, Refused}
+use Rattle.cdi_container.specs.declared.answer.Answer.TheVariants.{Done, Chosen, Intercepted, Observed, Reported, Given, Refused}
 use Rattle.cdi_container.specs.Seen.{IsStep}
 use Rattle.cdi_container.specs.Text.{text_of_trace, text_of_answer}
 use Rattle.cdi_container.specs.Runner.{RunsStep, Prints}
@@ -32,6 +32,7 @@ acts_alike old new (Remove kind name) answer h = inr (ap (λ s. s.trace) h.1)
 acts_alike old new (Choose t quals) answer h = inl (ap (λ s. s.decls) h.1)
 acts_alike old new (Named name) answer h = inl (ap (λ s. s.decls) h.1)
 acts_alike old new (Chain bean place) answer h = inl (ap (λ s. s.decls) h.rest)
+acts_alike old new (Observers t quals) answer h = inl (ap (λ s. s.decls) h.1)
 acts_alike old new Report answer h = inl (ap (λ s. s.decls) h.1)
 acts_alike old new (LookUp t quals) answer h = inl (ap (λ s. s.decls) h.rest)
 acts_alike old new (Call method arg t quals) answer h = inl (ap (λ s. s.decls) h.rest)
@@ -44,6 +45,7 @@ step_alike : (old new : State) (command : Command) (answer : Answer) → IsStep 
 step_alike old new command Done h = acts_alike old new command Done h.1
 step_alike old new command (Chosen choice) h = acts_alike old new command (Chosen choice) h.1
 step_alike old new command (Intercepted names) h = acts_alike old new command (Intercepted names) h.1
+step_alike old new command (Observed ids) h = acts_alike old new command (Observed ids) h.1
 step_alike old new command (Reported list) h = acts_alike old new command (Reported list) h.1
 step_alike old new command (Given outcome) h = acts_alike old new command (Given outcome) h.1
 step_alike old new command (Refused refusal) h = inl (ap (λ s. s.decls) h.1)

@@ -16,7 +16,7 @@ use Rattle.cdi_lines.specs.declared.command.Command.TheVariants.{Put}
 use Rattle.cdi_container.specs.Commands.{Mode, Outside, InPut, is_dot}
 use Rattle.std.specs.declared.alloc.AllocError.{AllocError}
 use Rattle.cdi_container.specs.declared.answer.Answer.{Answer}
-use Rattle.cdi_container.specs.declared.answer.Answer.TheVariants.{Done, Chosen, Intercepted, Reported, Given, Refused}
+use Rattle.cdi_container.specs.declared.answer.Answer.TheVariants.{Done, Chosen, Intercepted, Observed, Reported, Given, Refused}
 use Rattle.cdi_container.specs.History.{State, LegalAnswer, refusal_of, refusal_of_put}
 use Rattle.cdi_container.specs.Text.{is_out_of_memory}
 use Rattle.cdi_container.specs.Runner.{RunsStep}
@@ -64,6 +64,7 @@ put_alike old new kept text (Ok Done) k t memory h = absurd (let e : Some TooLon
 put_alike old new kept text (Ok (Chosen choice)) k t memory h = absurd (let e : Some TooLong ≡ None = sym (too_long old kept k) ∙ h.0 in cc)
 put_alike old new kept text (Ok (Intercepted names)) k t memory h = absurd
     (let e : Some TooLong ≡ None = sym (too_long old kept k) ∙ h.0 in cc)
+put_alike old new kept text (Ok (Observed ids)) k t memory h = absurd (let e : Some TooLong ≡ None = sym (too_long old kept k) ∙ h.0 in cc)
 put_alike old new kept text (Ok (Reported list)) k t memory h = absurd (let e : Some TooLong ≡ None = sym (too_long old kept k) ∙ h.0 in cc)
 put_alike old new kept text (Ok (Given outcome)) k t memory h = absurd (let e : Some TooLong ≡ None = sym (too_long old kept k) ∙ h.0 in cc)
 put_alike old new kept text (Ok (Refused refusal)) k t memory h = (too_long old text t ∙ sym (too_long old kept k) ∙ h.0, h.1)

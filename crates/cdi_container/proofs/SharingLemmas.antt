@@ -9,11 +9,11 @@ use Rattle.cdi_scene.specs.declared.scene.Scene.{Scene}
 use Rattle.cdi_legal.specs.Single.{IsSingle}
 use Rattle.cdi_legal.proofs.Commands.{run_single, request_end_single, end_single}
 use Rattle.cdi_lines.specs.declared.command.Command.{Command}
-use Rattle.cdi_lines.specs.declared.command.Command.TheVariants.{Put, Remove, Choose, Named, Chain, Report, LookUp, Call, BeginRequest}
-use Rattle.cdi_lines.specs.declared.command.Command.TheVariants.{EndRequest}
+use Rattle.cdi_lines.specs.declared.command.Command.TheVariants.{Put, Remove, Choose, Named, Chain, Observers, Report, LookUp, Call}
+use Rattle.cdi_lines.specs.declared.command.Command.TheVariants.{BeginRequest, EndRequest}
 use Rattle.cdi_lines.specs.declared.command.Command.TheVariants.{Stop, Unreadable}
 use Rattle.cdi_container.specs.declared.answer.Answer.{Answer}
-use Rattle.cdi_container.specs.declared.answer.Answer.TheVariants.{Done, Chosen, Intercepted, Reported, Given, Refused}
+use Rattle.cdi_container.specs.declared.answer.Answer.TheVariants.{Done, Chosen, Intercepted, Observed, Reported, Given, Refused}
 use Rattle.cdi_container.specs.History.{State, empty, emptied, scene, Acts, IsRunFrom, LegalAnswer, History, LegalHistory, with_put, runs}
 use Rattle.cdi_container.specs.History.{SharesInstances}
 
@@ -38,6 +38,7 @@ acts_single old new (Remove kind name) answer h q = subst Shares (sym h.1) (noth
 acts_single old new (Choose t quals) answer h q = subst Shares (sym h.1) q
 acts_single old new (Named name) answer h q = subst Shares (sym h.1) q
 acts_single old new (Chain bean place) answer h q = subst Shares (sym h.rest) q
+acts_single old new (Observers t quals) answer h q = subst Shares (sym h.1) q
 acts_single old new Report answer h q = subst Shares (sym h.1) q
 acts_single old new (LookUp t quals) answer h q = single_behind old new h.rest (run_single h.legal q)
 acts_single old new (Call method arg t quals) answer h q = single_behind old new h.rest (run_single h.legal q)
@@ -55,6 +56,7 @@ step_single : (old new : State) (command : Command) (answer : Result Answer Allo
 step_single old new command (Ok Done) h q = acts_single old new command Done h.1 q
 step_single old new command (Ok (Chosen choice)) h q = acts_single old new command (Chosen choice) h.1 q
 step_single old new command (Ok (Intercepted names)) h q = acts_single old new command (Intercepted names) h.1 q
+step_single old new command (Ok (Observed ids)) h q = acts_single old new command (Observed ids) h.1 q
 step_single old new command (Ok (Reported list)) h q = acts_single old new command (Reported list) h.1 q
 step_single old new command (Ok (Given outcome)) h q = acts_single old new command (Given outcome) h.1 q
 step_single old new command (Ok (Refused refusal)) h q = subst Shares (sym h.1) q

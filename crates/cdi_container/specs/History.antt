@@ -21,16 +21,17 @@ use Rattle.cdi_text.specs.Reading.{decl_of}
 use Rattle.cdi_effective.specs.Beans.{beans}
 use Rattle.cdi_resolve.specs.Choices.{chosen, chosen_by_name}
 use Rattle.cdi_intercept.specs.Chains.{chain_of}
+use Rattle.cdi_observe.specs.Observers.{notified}
 use Rattle.cdi_staging.specs.Naming.{names_of}
 use Rattle.cdi_staging.specs.Staged.{scene_of}
 use Rattle.cdi_staging.specs.declared.names.Names.{Names}
 use Rattle.cdi_validate.specs.Faults.{faults}
 use Rattle.cdi_lines.specs.declared.command.Command.{Command}
-use Rattle.cdi_lines.specs.declared.command.Command.TheVariants.{Put, Remove, Choose, Named, Chain, Report, LookUp, Call, BeginRequest}
-use Rattle.cdi_lines.specs.declared.command.Command.TheVariants.{EndRequest}
+use Rattle.cdi_lines.specs.declared.command.Command.TheVariants.{Put, Remove, Choose, Named, Chain, Observers, Report, LookUp, Call}
+use Rattle.cdi_lines.specs.declared.command.Command.TheVariants.{BeginRequest, EndRequest}
 use Rattle.cdi_lines.specs.declared.command.Command.TheVariants.{Stop, Unreadable}
 use Rattle.cdi_container.specs.declared.answer.Answer.{Answer}
-use Rattle.cdi_container.specs.declared.answer.Answer.TheVariants.{Done, Chosen, Intercepted, Reported, Given, Refused}
+use Rattle.cdi_container.specs.declared.answer.Answer.TheVariants.{Done, Chosen, Intercepted, Observed, Reported, Given, Refused}
 use Rattle.cdi_container.specs.Asked.{Asked, to_look, to_call, aim_of, run_at}
 use Rattle.cdi_container.specs.declared.asked.Aim.{Aim}
 
@@ -99,6 +100,7 @@ refusal_of state (Remove kind name) = refusal_of_edit state.decls (RemoveEdit ki
 refusal_of state (Choose t quals) = None
 refusal_of state (Named name) = None
 refusal_of state (Chain bean place) = refusal_in (chain_of state.decls bean place)
+refusal_of state (Observers t quals) = None
 refusal_of state Report = None
 refusal_of state (LookUp t quals) = refusal_in (aim_of state.decls state.book (to_look t quals))
 refusal_of state (Call method arg t quals) = refusal_in (aim_of state.decls state.book (to_call method arg t quals))
@@ -148,6 +150,8 @@ Acts old (Remove kind name) answer new = (answer ≡ Done) × (new ≡ with_edit
 Acts old (Choose t quals) answer new = (answer ≡ Chosen (chosen old.decls (beans old.decls) t quals)) × (new ≡ untold old)
 Acts old (Named name) answer new = (answer ≡ Chosen (chosen_by_name (beans old.decls) name)) × (new ≡ untold old)
 Acts old (Chain bean place) answer new = TellsChain old bean place answer new
+Acts old (Observers t quals) answer new =
+    (answer ≡ Observed (notified old.decls (beans old.decls) t quals)) × (new ≡ untold old)
 Acts old Report answer new = (answer ≡ Reported (faults old.decls old.book)) × (new ≡ untold old)
 Acts old (LookUp t quals) answer new = RunsFrom old (to_look t quals) answer new
 Acts old (Call method arg t quals) answer new = RunsFrom old (to_call method arg t quals) answer new

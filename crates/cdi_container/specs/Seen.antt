@@ -14,14 +14,15 @@ use Rattle.cdi_model.specs.declared.refusal.Error.TheVariants as errors
 use Rattle.cdi_model.specs.declared.refusal.Refusal.{Refusal}
 use Rattle.cdi_model.specs.declared.edit.Edit.TheVariants.{Put as PutEdit}
 use Rattle.cdi_model.specs.Edits.{answer_of_edit}
+use Rattle.cdi_observe.specs.declared.observers.ObserverId.{ObserverId}
 use Rattle.cdi_resolve.specs.declared.choice.Choice.{Choice}
 use Rattle.cdi_faults.specs.declared.fault.Fault.{Fault}
 use Rattle.cdi_lines.specs.declared.command.Command.{Command}
-use Rattle.cdi_lines.specs.declared.command.Command.TheVariants.{Put, Remove, Choose, Named, Chain, Report, LookUp, Call, BeginRequest}
-use Rattle.cdi_lines.specs.declared.command.Command.TheVariants.{EndRequest}
+use Rattle.cdi_lines.specs.declared.command.Command.TheVariants.{Put, Remove, Choose, Named, Chain, Observers, Report, LookUp, Call}
+use Rattle.cdi_lines.specs.declared.command.Command.TheVariants.{BeginRequest, EndRequest}
 use Rattle.cdi_lines.specs.declared.command.Command.TheVariants.{Stop}
 use Rattle.cdi_container.specs.declared.answer.Answer.{Answer}
-use Rattle.cdi_container.specs.declared.answer.Answer.TheVariants.{Done, Chosen, Intercepted, Reported, Given, Refused}
+use Rattle.cdi_container.specs.declared.answer.Answer.TheVariants.{Done, Chosen, Intercepted, Observed, Reported, Given, Refused}
 use Rattle.cdi_container.specs.History.{State, LegalAnswer}
 
 -- what a put of what a text spells answers
@@ -64,6 +65,11 @@ abbrev pub chain_answer : Result (List (List ℕ)) Error → Result Answer Alloc
 chain_answer (Ok names) = Ok (Intercepted names)
 chain_answer (Err error) = failed_answer error
 
+-- the answer of a question for observer methods
+abbrev pub observers_answer : Result (List ObserverId) AllocError → Result Answer AllocError
+observers_answer (Ok ids) = Ok (Observed ids)
+observers_answer (Err error) = Err error
+
 -- the answer of a report
 abbrev pub report_answer : Result (Vec Fault Global) AllocError → Result Answer AllocError
 report_answer (Ok list) = Ok (Reported list.items)
@@ -92,6 +98,9 @@ NamedStep old name result new = IsStep old (Named name) (choice_answer result) n
 
 abbrev pub ChainStep : State → List ℕ → BeanPlace → Result (List (List ℕ)) Error → State → Type 0
 ChainStep old bean place result new = IsStep old (Chain bean place) (chain_answer result) new
+
+abbrev pub ObserversStep : State → List ℕ → List Qual → Result (List ObserverId) AllocError → State → Type 0
+ObserversStep old t quals result new = IsStep old (Observers t quals) (observers_answer result) new
 
 abbrev pub ReportStep : State → Result (Vec Fault Global) AllocError → State → Type 0
 ReportStep old result new = IsStep old Report (report_answer result) new

@@ -5,13 +5,15 @@ use Rattle.cdi_model.specs.declared.refusal.Refusal.TheVariants.{TooLong, NotTom
 use Rattle.cdi_model.specs.declared.refusal.Refusal.TheVariants.{Twice, ListTooLong, TooMany, Absent, BadCommand}
 use Rattle.cdi_model.specs.declared.refusal.Refusal.TheVariants.{RequestActive, NoRequest, Faulty, UnknownName, NoMethod}
 use Rattle.cdi_model.specs.declared.refusal.Refusal.TheVariants.{Unsatisfied, Ambiguous}
+use Rattle.cdi_observe.specs.declared.observers.ObserverId.{ObserverId}
+use Rattle.cdi_observe.specs.ObserverText.{text_of_observer}
 use Rattle.cdi_resolve.specs.ChoiceText.{text_of_choice}
 use Rattle.cdi_faults.specs.declared.fault.Fault.{Fault}
 use Rattle.cdi_faults.specs.FaultText.{text_of_fault}
 use Rattle.std.specs.declared.alloc.AllocError.{AllocError}
 use Rattle.cdi_model.specs.Bytes.{feed, space}
 use Rattle.cdi_container.specs.declared.answer.Answer.{Answer}
-use Rattle.cdi_container.specs.declared.answer.Answer.TheVariants.{Done, Chosen, Intercepted, Reported, Given, Refused}
+use Rattle.cdi_container.specs.declared.answer.Answer.TheVariants.{Done, Chosen, Intercepted, Observed, Reported, Given, Refused}
 use Rattle.cdi_legal.specs.declared.entry.Entry.{Entry}
 use Rattle.cdi_model.specs.OutcomeText.{text_of_val, text_of_failure}
 use Rattle.cdi_model.specs.declared.outcome.Outcome.{Outcome}
@@ -68,11 +70,20 @@ text_of_names names = flat_map (λ name. space ∷ name) names
 abbrev pub text_of_chain : List (List ℕ) → List ℕ
 text_of_chain names = codes "chain" ++ text_of_names names
 
+-- observer methods, each behind a space
+abbrev pub text_of_observer_ids : List ObserverId → List ℕ
+text_of_observer_ids ids = flat_map (λ id. space ∷ text_of_observer id) ids
+
+-- those of an event
+abbrev pub text_of_observers : List ObserverId → List ℕ
+text_of_observers ids = codes "observers" ++ text_of_observer_ids ids
+
 -- what an answer prints before the end of its line
 abbrev pub words_of_answer : Answer → List ℕ
 words_of_answer Done = codes "ok"
 words_of_answer (Chosen choice) = text_of_choice choice
 words_of_answer (Intercepted names) = text_of_chain names
+words_of_answer (Observed ids) = text_of_observers ids
 words_of_answer (Reported list) = text_of_report list
 words_of_answer (Given outcome) = words_of_outcome outcome
 words_of_answer (Refused refusal) = codes "refused " ++ word_of refusal ++ count_of refusal

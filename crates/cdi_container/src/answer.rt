@@ -1,10 +1,11 @@
 //! What a command answers.
 ghost use Rattle.std.specs.Prelude.{◌≡◌};
 ghost use Rattle.cdi_container.specs.Seen.{failed_answer, edit_answer, plain_answer, end_answer};
-ghost use Rattle.cdi_container.specs.Seen.{chain_answer, choice_answer, report_answer, outcome_answer};
+ghost use Rattle.cdi_container.specs.Seen.{chain_answer, choice_answer, observers_answer, outcome_answer, report_answer};
 
 use cdi_faults::Fault;
 use cdi_model::{Error, Name, Outcome, Refusal, Seq};
+use cdi_observe::ObserverId;
 use cdi_resolve::Choice;
 use std::alloc::AllocError;
 
@@ -17,6 +18,8 @@ pub enum Answer {
     Chosen(Choice),
     /// The names of the interceptors around a place, in order.
     Intercepted(Seq<Name>),
+    /// The observer methods that are notified of an event, in order.
+    Observed(Seq<ObserverId>),
     /// The faults of the deployment, in their order.
     Reported(Seq<Fault>),
     /// What a look-up or a call gave: a value or a failure.
@@ -82,6 +85,18 @@ pub(crate) fn answer_of_chain(outcome: Result<Seq<Name>, Error>) -> Result<Answe
     match outcome {
         Ok(names) => Ok(Answer::Intercepted(names)),
         Err(error) => answer_of_failure(error),
+    }
+}
+
+/// The answer of a question for observer methods.
+pub(crate) fn answer_of_observers(
+    outcome: Result<Seq<ObserverId>, AllocError>,
+) -> Result<Answer, AllocError>
+    ensures { result ≡ observers_answer outcome }
+{
+    match outcome {
+        Ok(ids) => Ok(Answer::Observed(ids)),
+        Err(error) => Err(error),
     }
 }
 

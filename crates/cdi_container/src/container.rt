@@ -7,13 +7,14 @@ ghost use Rattle.cdi_text.specs.Reading.{decl_of};
 ghost use Rattle.cdi_effective.specs.Beans.{beans};
 ghost use Rattle.cdi_resolve.specs.Choices.{chosen, chosen_by_name};
 ghost use Rattle.cdi_intercept.specs.Chains.{chain_of};
+ghost use Rattle.cdi_observe.specs.Observers.{notified};
 ghost use Rattle.cdi_validate.specs.Faults.{faults};
 ghost use Rattle.cdi_container.specs.Wired.{behind_edit};
 ghost use Rattle.cdi_container.specs.History.{History, left_by, untold, with_edit, with_put, RestsOnAcceptedEdits, SharesInstances};
 
 use crate::answer::{
-    Answer, answer_of_begin, answer_of_chain, answer_of_choice, answer_of_edit, answer_of_report,
-    answer_of_run, answer_of_stop,
+    Answer, answer_of_begin, answer_of_chain, answer_of_choice, answer_of_edit,
+    answer_of_observers, answer_of_report, answer_of_run, answer_of_stop,
 };
 use crate::deployment::Deployment;
 use cdi_bodies::Bodies;
@@ -22,6 +23,7 @@ use cdi_faults::Fault;
 use cdi_legal::{Entry, Run};
 use cdi_lines::Command;
 use cdi_model::{BeanPlace, Error, Kind, Name, Quals, Refusal, Seq, Work};
+use cdi_observe::ObserverId;
 use cdi_resolve::Choice;
 use cdi_text::read_decl;
 use cdi_trace::push_entries;
@@ -65,7 +67,7 @@ impl<B: Bodies> Container<B> {
     ghost use Rattle.cdi_trace.specs.TraceText.{text_of_entries};
     ghost use Rattle.cdi_container.specs.History.{empty};
     ghost use Rattle.cdi_container.specs.Seen.{answer_of_put, IsStep, PutStep, RemoveStep, ChooseStep, NamedStep};
-    ghost use Rattle.cdi_container.specs.Seen.{ChainStep};
+    ghost use Rattle.cdi_container.specs.Seen.{ChainStep, ObserversStep};
     ghost use Rattle.cdi_container.specs.Seen.{ReportStep};
 
     /// An empty container, which keeps this book of stored bodies. It keeps the allocator, and takes no memory yet.
@@ -99,6 +101,9 @@ impl<B: Bodies> Container<B> {
             }
             Command::Named { name } => answer_of_choice(self.named(name)),
             Command::Chain { bean, place } => answer_of_chain(self.chain(bean, &place)),
+            Command::Observers { event_type, quals } => {
+                answer_of_observers(self.observers(event_type, &quals))
+            }
             Command::Report => answer_of_report(self.report()),
             Command::LookUp { bean_type, quals } => answer_of_run(self.lookup(bean_type, &quals)),
             Command::Call {
@@ -196,6 +201,26 @@ impl<B: Bodies> Container<B> {
             self.run.restart();
         }
         told
+    }
+
+    /// The observer methods that are notified of an event of a type with some qualifiers, in order (CDI 4.0, Observer
+    /// resolution; Observer ordering). A type or a qualifier that is not declared is taken as it is. It takes memory for the
+    /// types of the event and for the observer methods of these types, and for the list of all beans as `choose` does.
+    pub fn observers(
+        &mut self,
+        event_type: Name,
+        quals: &Quals,
+    ) -> Result<Seq<ObserverId>, AllocError>
+        ensures observers { IfOk result (λ ids. ids ≡ notified self.old.decls (beans self.old.decls) event_type quals.now) }
+        ensures ok { OnOk result (self.new ≡ untold self.old) }
+        ensures err { OnErr result (self.new ≡ self.old) }
+        ensures step { ObserversStep self.old event_type quals.now result self.new }
+    {
+        let ids = self
+            .deployment
+            .observers(self.alloc, event_type, quals, &mut self.work)?;
+        self.run.restart();
+        Ok(ids)
     }
 
     /// All that is wrong with the present declarations (CDI 4.0, Problems detected automatically by the container), in

@@ -8,6 +8,7 @@ ghost use Rattle.cdi_model.specs.Work.{with_one};
 ghost use Rattle.cdi_effective.specs.Beans.{beans};
 ghost use Rattle.cdi_resolve.specs.Choices.{chosen, chosen_by_name};
 ghost use Rattle.cdi_intercept.specs.Chains.{chain_of};
+ghost use Rattle.cdi_observe.specs.Observers.{notified};
 ghost use Rattle.cdi_staging.specs.Naming.{names_of};
 ghost use Rattle.cdi_staging.specs.Staged.{scene_of};
 ghost use Rattle.cdi_validate.specs.Faults.{faults};
@@ -21,7 +22,7 @@ use cdi_ending::Stage;
 use cdi_faults::Fault;
 use cdi_intercept::chain_of;
 use cdi_model::{BeanPlace, Decl, Decls, Error, Kind, Name, Quals, Refusal, Seq, Work};
-use cdi_observe::PlainView;
+use cdi_observe::{ObserverId, PlainView, evaluate_observers};
 use cdi_resolve::{BeanList, Choice, choose_name};
 use cdi_run::Player;
 use cdi_staging::Names;
@@ -127,6 +128,33 @@ impl<B: Bodies> Deployment<B> {
         let choice = choose_name(alloc, list.as_slice(), name);
         self.beans = Some(list);
         choice
+    }
+
+    /// The observer methods that are notified of an event.
+    pub(crate) fn observers(
+        &mut self,
+        alloc: Global,
+        event_type: Name,
+        quals: &Quals,
+        work: &mut Work,
+    ) -> Result<Seq<ObserverId>, AllocError>
+        ensures observers { IfOk result (λ ids. ids ≡ notified self.old.decls (beans self.old.decls) event_type quals.now) }
+        ensures stays { self.new ≡ self.old }
+        ensures work { OnOk result (work.new ≡ with_one work.old) }
+        ensures err { OnErr result (work.new ≡ work.old) }
+    {
+        let list = self.take_beans(alloc)?;
+        let beans = list.as_slice();
+        let ids = evaluate_observers(
+            alloc,
+            &self.decls,
+            beans,
+            event_type,
+            quals.as_slice(),
+            work,
+        );
+        self.beans = Some(list);
+        ids
     }
 
     /// The names of the interceptors around a place.

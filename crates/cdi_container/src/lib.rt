@@ -20,6 +20,7 @@ pub use cdi_effective::BeanId;
 pub use cdi_faults::{Code, Fault, Subject};
 pub use cdi_legal::Entry;
 pub use cdi_lines::Command;
+pub use cdi_observe::ObserverId;
 pub use cdi_resolve::Choice;
 pub use container::Container;
 pub use script::{Options, READ_BYTES, Summary, run};

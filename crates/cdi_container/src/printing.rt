@@ -1,11 +1,13 @@
 //! The text that steps print.
 ghost use Rattle.std.specs.Prelude.{◌≡◌, ◌++◌, OnOk, Ok};
-ghost use Rattle.cdi_container.specs.Text.{word_of, text_of_chain, text_of_faults, text_of_names, text_of_report, words_of_outcome};
+ghost use Rattle.cdi_container.specs.Text.{word_of, text_of_chain, text_of_faults, text_of_names, text_of_observer_ids};
+ghost use Rattle.cdi_container.specs.Text.{text_of_observers, text_of_report, words_of_outcome};
 ghost use Rattle.cdi_container.specs.Text.{words_of_answer, text_of_answer};
 
 use crate::answer::Answer;
 use cdi_faults::Fault;
 use cdi_model::{Name, Outcome, Refusal};
+use cdi_observe::ObserverId;
 use std::alloc::AllocError;
 use std::io::Write;
 
@@ -72,6 +74,24 @@ fn push_chain(text: &mut Vec<u8>, names: &[Name]) -> Result<(), AllocError>
     push_names(text, names)
 }
 
+/// The observer methods of an event.
+fn push_observers(text: &mut Vec<u8>, ids: &[ObserverId]) -> Result<(), AllocError>
+    ensures { OnOk result (text.new.items ≡ text.old.items ++ text_of_observers ids.now) }
+{
+    text.extend_from_slice(b"observers")?;
+    push_ids(text, ids)
+}
+
+/// Observer methods, each behind a space.
+fn push_ids(text: &mut Vec<u8>, ids: &[ObserverId]) -> Result<(), AllocError>
+    ensures { OnOk result (text.new.items ≡ text.old.items ++ text_of_observer_ids ids.now) }
+{
+    for id in ids {
+        write!(text, " {id}").map_err(|_| AllocError)?;
+    }
+    Ok(())
+}
+
 /// Names, each behind a space.
 fn push_names(text: &mut Vec<u8>, names: &[Name]) -> Result<(), AllocError>
     ensures { OnOk result (text.new.items ≡ text.old.items ++ text_of_names names.now) }
@@ -100,6 +120,7 @@ fn push_words(text: &mut Vec<u8>, answer: &Answer) -> Result<(), AllocError>
         Answer::Done => text.extend_from_slice(b"ok"),
         Answer::Chosen(choice) => write!(text, "{choice}").map_err(|_| AllocError),
         Answer::Intercepted(names) => push_chain(text, names.as_slice()),
+        Answer::Observed(ids) => push_observers(text, ids.as_slice()),
         Answer::Reported(faults) => push_report(text, faults.as_slice()),
         Answer::Given(outcome) => push_outcome(text, outcome),
         Answer::Refused(refusal) => push_refusal(text, *refusal),

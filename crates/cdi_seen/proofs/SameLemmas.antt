@@ -20,12 +20,14 @@ use Rattle.cdi_match.specs.Filled.{FilledUse, filled, filled_by}
 use Rattle.cdi_match.specs.Filling.{declared_of}
 use Rattle.cdi_effective.specs.declared.records.BeanId.{BeanId}
 use Rattle.cdi_intercept.specs.Sees.{SeenInterceptor, Seen as SeenAround}
+use Rattle.cdi_observe.specs.declared.observers.ObserverId.{ObserverId}
+use Rattle.cdi_observe.specs.Sees.{SeenObserver, SeenOfEvent}
 use Rattle.cdi_resolve.specs.Choices.{Candidate}
 use Rattle.cdi_resolve.specs.Sees.{SeenBean, Seen}
 use Rattle.cdi_seen.specs.Touched.{key_sees, same_id, same_candidate, same_filled, same_seen_bean, same_member_decl, same_qualifier}
 use Rattle.cdi_seen.specs.Touched.{same_seen, is_touched, TouchedWhereSeenDiffers}
 use Rattle.cdi_seen.specs.Touched.{SeenByKey, ByChain, ByChoice, same_binding_type, same_seen_interceptor, same_around}
-use Rattle.cdi_seen.specs.Touched.{same_by_key}
+use Rattle.cdi_seen.specs.Touched.{ByEvent, same_by_key, same_observer, same_of_event, same_seen_observer}
 
 pub option-decides : {X : Type 0} {f : X → X → Bool} → ((x y : X) → Decides (f x y) (x ≡ y)) → (a b : Option X)
     → Decides (option_eq f a b) (a ≡ b)
@@ -129,13 +131,38 @@ same_around-decides a b =
     (slice_eq-Decides (option-decides same_binding_type-decides) a.declared b.declared declared refl)
     (slice_eq-Decides same_seen_interceptor-decides a.interceptors b.interceptors interceptors refl)))
 
+-- ---- of an event
+
+same_observer-decides : (a b : ObserverId) → Decides (same_observer a b) (a ≡ b)
+same_observer-decides a b =
+    Decides-like (same_observer a b) (λ e j. record { class = e.0 j; observer = e.1 j }) (λ e. (ap (λ x. x.class) e, ap (λ x. x.observer) e))
+    (Decides-and (bytes_eq a.class b.class) (bytes_eq a.observer b.observer) (bytes_decides a.class b.class)
+    (bytes_decides a.observer b.observer))
+
+same_seen_observer-decides : (a b : SeenObserver) → Decides (same_seen_observer a b) (a ≡ b)
+same_seen_observer-decides a b =
+    let quals = pointwise same_filled a.qualifiers b.qualifiers in
+    Decides-like (same_seen_observer a b) (λ e j. record { id = e.0 j; qualifiers = e.1 j })
+    (λ e. (ap (λ x. x.id) e, ap (λ x. x.qualifiers) e))
+    (Decides-and (same_observer a.id b.id) quals (same_observer-decides a.id b.id)
+    (slice_eq-Decides same_filled-decides a.qualifiers b.qualifiers quals refl))
+
+same_of_event-decides : (a b : SeenOfEvent) → Decides (same_of_event a b) (a ≡ b)
+same_of_event-decides a b =
+    let observers = pointwise same_seen_observer a.observers b.observers in
+    let declared = pointwise (option_eq same_qualifier) a.declared b.declared in
+    Decides-like (same_of_event a b) (λ e j. record { observers = e.0 j; declared = e.1 j })
+    (λ e. (ap (λ x. x.observers) e, ap (λ x. x.declared) e))
+    (Decides-and observers declared (slice_eq-Decides same_seen_observer-decides a.observers b.observers observers refl)
+    (slice_eq-Decides (option-decides same_qualifier-decides) a.declared b.declared declared refl))
+
 -- ---- of a key
 
 same_by_key-decides : (a b : SeenByKey) → Decides (same_by_key a b) (a ≡ b)
 same_by_key-decides (ByChoice s) (ByChoice r) = Decides-like (same_seen s r) (ap ByChoice) (λ e. cc) (same_seen-decides s r)
 same_by_key-decides (ByChain s) (ByChain r) = Decides-like (same_around s r) (ap ByChain) (λ e. cc) (same_around-decides s r)
-same_by_key-decides (ByChoice s) (ByChain r) = (λ h. absurd (false≢true h), λ e. cc)
-same_by_key-decides (ByChain s) (ByChoice r) = (λ h. absurd (false≢true h), λ e. cc)
+same_by_key-decides (ByEvent s) (ByEvent r) = Decides-like (same_of_event s r) (ap ByEvent) (λ e. cc) (same_of_event-decides s r)
+same_by_key-decides s r = (λ h. absurd (false≢true h), λ e. cc)
 
 not_not : (b : Bool) → not (not b) ≡ b
 not_not true = refl

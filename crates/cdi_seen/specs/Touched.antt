@@ -31,22 +31,28 @@ use Rattle.cdi_intercept.specs.Bindings.{in_text_order, set_at}
 use Rattle.cdi_intercept.specs.Chains.{in_order}
 use Rattle.cdi_intercept.specs.Sees.{SeenInterceptor, Seen as SeenAround, is_seen}
 use Rattle.cdi_intercept.specs.Sees.{seen_interceptor, sees_at}
-use Rattle.cdi_observe.specs.Keys.{Key, ChainKey, ChoiceKey}
+use Rattle.cdi_observe.specs.declared.observers.ObserverId.{ObserverId}
+use Rattle.cdi_observe.specs.Keys.{Key, ChainKey, ChoiceKey, EventKey}
+use Rattle.cdi_observe.specs.Sees.{SeenObserver, SeenOfEvent, event_sees}
 use Rattle.cdi_observe.specs.Wanted.{is_wanted}
 use Rattle.cdi_seen.specs.Contribution.{contribution, LeaveGiven}
 
--- what a choice sees, or what a chain sees
+-- what a choice sees, what a chain sees, or what an event sees
 pub data SeenByKey : Type 0 where
   ByChoice : Seen → SeenByKey
   ByChain : SeenAround → SeenByKey
+  ByEvent : SeenOfEvent → SeenByKey
 
 -- What a key sees. That of a choice sees the enabled beans with its type, in order, with their filled qualifiers, their priorities
 -- and whether they or what declares them are alternatives; and the declarations of its qualifiers. That of a chain sees the
 -- bindings at its place as they are written, each once, in order; the declarations of their types; and the enabled interceptors
 -- that have a body for the place and share a binding type with it, in the order in which they are called, with their filled bindings.
+-- That of an event sees the observer methods of enabled beans which observe a type of it, in order, with their filled qualifiers; and
+-- the declarations of its qualifiers.
 abbrev pub key_sees : List Decl → Key → SeenByKey
 key_sees ds (ChoiceKey t quals) = ByChoice (sees ds (beans ds) t quals)
 key_sees ds (ChainKey class place) = ByChain (sees_at ds class place)
+key_sees ds (EventKey t quals) = ByEvent (event_sees ds (beans ds) t quals)
 
 -- ---- when the same is seen
 
@@ -94,11 +100,26 @@ abbrev pub same_around : SeenAround → SeenAround → Bool
 same_around s r = pointwise same_qual s.bindings r.bindings
     && (pointwise (option_eq same_binding_type) s.declared r.declared && pointwise same_seen_interceptor s.interceptors r.interceptors)
 
+-- ---- the same of an event
+
+-- one class, and one observer method of it
+abbrev pub same_observer : ObserverId → ObserverId → Bool
+same_observer a b = bytes_eq a.class b.class && bytes_eq a.observer b.observer
+
+-- one observer method, with the same qualifiers
+abbrev pub same_seen_observer : SeenObserver → SeenObserver → Bool
+same_seen_observer a b = same_observer a.id b.id && pointwise same_filled a.qualifiers b.qualifiers
+
+-- the same observer methods in one order, and the same declarations
+abbrev pub same_of_event : SeenOfEvent → SeenOfEvent → Bool
+same_of_event s r =
+    pointwise same_seen_observer s.observers r.observers && pointwise (option_eq same_qualifier) s.declared r.declared
+
 abbrev pub same_by_key : SeenByKey → SeenByKey → Bool
 same_by_key (ByChoice s) (ByChoice r) = same_seen s r
 same_by_key (ByChain s) (ByChain r) = same_around s r
-same_by_key (ByChoice s) (ByChain r) = false
-same_by_key (ByChain s) (ByChoice r) = false
+same_by_key (ByEvent s) (ByEvent r) = same_of_event s r
+same_by_key s r = false
 
 -- ---- the same over two lists of declarations
 
