@@ -8,6 +8,8 @@ mod choices;
 #[cfg(test)]
 mod lists;
 #[cfg(test)]
+mod observers;
+#[cfg(test)]
 mod parts;
 #[cfg(test)]
 mod seen;

@@ -1,7 +1,9 @@
 //! Lists of declarations and of uses, and what a declaration names.
 use cdi_effective::reads_of;
 use cdi_fixtures::{declared, name, quals};
-use cdi_model::{Decl, DeclKey, Decls, Edit, Error, Kind, Mention, Name, Quals, Refusal, UseKind};
+use cdi_model::{
+    Decl, DeclKey, Decls, Edit, Error, Kind, Mention, Name, PointPlace, Quals, Refusal, UseKind,
+};
 use cdi_text::read_decl;
 use std::alloc::Global;
 use std::fmt::Display;
@@ -80,6 +82,16 @@ stereotypes = ["Plain"]
 points = [{ name = "p", type = "Box", qualifiers = ["Rank(n=1)"] }]
 producers = [{ name = "make", type = "Crate", types = ["Thing"], body = "zero", params = [{ name = "q", type = "Nail" }] }]
 disposers = [{ name = "drop", type = "Crate", qualifiers = ["Cold"], body = "unit" }]
+post = { body = "notify", fires = ["Sale Web"] }
+
+[[observers]]
+name = "sold"
+type = "Sale"
+qualifiers = ["Any"]
+bindings = ["Log"]
+body = "echo"
+params = [{ name = "r", type = "Rope" }]
+fires = ["Done"]
 "#;
 
 /// What it names, each on a line.
@@ -90,12 +102,22 @@ stereotype Plain
 point p
 type Box
 use Rank(n=1)
+event Sale
+type Sale
+use Web
 type Crate
 type Thing
 param make q
 type Nail
 type Crate
 use Cold
+type Sale
+use Any
+binding Log
+observer sold r
+type Rope
+event Done
+type Done
 ";
 
 fn push_line<T: Display>(text: &mut Vec<u8>, word: &str, what: &T) -> Result<(), Fail> {
@@ -103,12 +125,17 @@ fn push_line<T: Display>(text: &mut Vec<u8>, word: &str, what: &T) -> Result<(),
     Ok(())
 }
 
-fn push_param<T: Display, U: Display>(
+/// Writes an injection point, with the method of which it is a parameter.
+fn push_point<T: Display>(
     text: &mut Vec<u8>,
-    producer: &T,
-    param: &U,
+    place: PointPlace,
+    point: &T,
 ) -> Result<(), Fail> {
-    writeln!(text, "param {producer} {param}")?;
+    match place {
+        PointPlace::Constructor => writeln!(text, "point {point}")?,
+        PointPlace::Producer(name) => writeln!(text, "param {name} {point}")?,
+        PointPlace::Observer(name) => writeln!(text, "observer {name} {point}")?,
+    }
     Ok(())
 }
 
@@ -120,8 +147,8 @@ fn push_mention(text: &mut Vec<u8>, mention: &Mention<'_>) -> Result<(), Fail> {
         Mention::Use(UseKind::Binding, qual) => push_line(text, "binding", *qual),
         Mention::Method(method) => push_line(text, "method", &method.name),
         Mention::Stereotype(name) => push_line(text, "stereotype", name),
-        Mention::Point(None, point) => push_line(text, "point", &point.name),
-        Mention::Point(Some(producer), point) => push_param(text, producer, &point.name),
+        Mention::Point(place, point) => push_point(text, *place, &point.name),
+        Mention::Event(event) => push_line(text, "event", &event.event_type),
     }
 }
 
