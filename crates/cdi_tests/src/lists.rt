@@ -126,11 +126,7 @@ fn push_line<T: Display>(text: &mut Vec<u8>, word: &str, what: &T) -> Result<(),
 }
 
 /// Writes an injection point, with the method of which it is a parameter.
-fn push_point<T: Display>(
-    text: &mut Vec<u8>,
-    place: PointPlace,
-    point: &T,
-) -> Result<(), Fail> {
+fn push_point<T: Display>(text: &mut Vec<u8>, place: PointPlace, point: &T) -> Result<(), Fail> {
     match place {
         PointPlace::Constructor => writeln!(text, "point {point}")?,
         PointPlace::Producer(name) => writeln!(text, "param {name} {point}")?,

@@ -81,7 +81,14 @@ fn work_of(alloc: Global) -> Result<u64, Error> {
     let decls = declared(alloc, &DESK)?;
     let list = BeanList::of(alloc, &decls)?;
     let mut work = Work::new();
-    evaluate_observers(alloc, &decls, list.as_slice(), name(b"Sub")?, &[], &mut work)?;
+    evaluate_observers(
+        alloc,
+        &decls,
+        list.as_slice(),
+        name(b"Sub")?,
+        &[],
+        &mut work,
+    )?;
     Ok(work.count())
 }
 

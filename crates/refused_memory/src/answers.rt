@@ -1,6 +1,6 @@
 //! Answers, and what they are to be.
-use crate::texts::are_names;
-use cdi_container::Choice;
+use crate::texts::{are_names, are_observers};
+use cdi_container::{Choice, ObserverId};
 use cdi_fixtures::are_of;
 use cdi_model::{Error, Name, Refusal, Seq};
 
@@ -15,6 +15,8 @@ pub enum Answer {
     Faults(&'static [u8]),
     /// The names of interceptors.
     Around(&'static [&'static [u8]]),
+    /// The names of observer methods.
+    Observed(&'static [&'static [u8]]),
 }
 
 /// What a call that was not refused answered.
@@ -25,6 +27,7 @@ pub enum Answered {
     /// The texts of faults, each on a line.
     Faults(Vec<u8>),
     Names(Seq<Name>),
+    Observers(Seq<ObserverId>),
 }
 
 /// Whether a call answered what it is to answer.
@@ -44,6 +47,10 @@ fn is_answer(answered: &Answered, answer: Answer) -> bool {
         Answered::Choice(choice) => is_choice(choice, answer),
         Answered::Names(names) => match answer {
             Answer::Around(wanted) => are_names(names.as_slice(), wanted),
+            _ => false,
+        },
+        Answered::Observers(ids) => match answer {
+            Answer::Observed(wanted) => are_observers(ids.as_slice(), wanted),
             _ => false,
         },
         Answered::Faults(text) => match answer {

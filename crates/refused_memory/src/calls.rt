@@ -1,8 +1,8 @@
 //! Calls of a container, of which any one allocation may be refused.
 use crate::Difference;
 use crate::answers::{Answer, Answered, agrees};
-use Answer::{Ambiguous, Around, Done, Faults, One, Refused, Unsatisfied};
-use Call::{Chain, Choose, Named, Put, Remove, Report};
+use Answer::{Ambiguous, Around, Done, Faults, Observed, One, Refused, Unsatisfied};
+use Call::{Chain, Choose, Named, Observers, Put, Remove, Report};
 use cdi_container::{Choice, Container};
 use cdi_fixtures::{Echo, lines_of, name, quals};
 use cdi_model::{BeanPlace, Error, Ident, Kind, Refusal};
@@ -17,6 +17,8 @@ enum Call {
     Named(&'static [u8]),
     /// The interceptors around the constructor of a bean, or around the method of a name.
     Chain(&'static [u8], Option<&'static [u8]>),
+    /// The observer methods of an event of a type, with uses of qualifiers.
+    Observers(&'static [u8], &'static [&'static [u8]]),
     Report,
 }
 
@@ -86,6 +88,11 @@ const BAD_INTERCEPTOR: &[u8] = b"kind=\"interceptor\"\nname=\"Clerk\"\npre={body
 
 const CALLER: &[u8] = b"kind=\"bean\"\nname=\"Desk\"\npoints=[{name=\"t\",type=\"Till\"}]\n";
 
+const LISTENER: &[u8] = br#"kind="bean"
+name="Ear"
+observers=[{name="shop",type="Shop",body="echo"},{name="all",type="Object",qualifiers=["Any"],priority=1,body="echo"}]
+"#;
+
 const BAD_POINTS: &[u8] = br#"kind="bean"
 name="Inn"
 named="mall.x"
@@ -109,6 +116,7 @@ F10 interceptor Clerk pre
 F11 interceptor Clerk
 F01 bean Desk type Desk
 F22 bean Desk point t
+F01 bean Ear type Ear
 F01 bean Inn type Beer
 F01 bean Inn type Inn
 F01 bean Inn type Rum
@@ -121,7 +129,7 @@ F25 name mall mall.x
 ";
 
 /// Calls, each with its answer.
-static CALLS: [(Call, Answer); 38] = [
+static CALLS: [(Call, Answer); 41] = [
     (Put(TYPE), Done),
     (Put(INTERFACE), Done),
     (Put(QUALIFIER), Done),
@@ -159,12 +167,15 @@ static CALLS: [(Call, Answer); 38] = [
     (Chain(b"Till", None), Around(&[])),
     (Chain(b"Till", Some(b"stop")), Refused(Refusal::NoMethod)),
     (Chain(b"Inn", None), Refused(Refusal::UnknownName)),
+    (Put(LISTENER), Done),
+    (Observers(SHOP, RANKED), Observed(&[b"all", b"shop"])),
+    (Observers(OBJECT, PLAIN), Observed(&[b"all"])),
     (Put(BAD_POINTS), Done),
     (Report, Faults(FAULTS)),
 ];
 
 /// For each call, a look at the state before it, which changes nothing, with its answer.
-static LOOKS: [(Call, Answer); 38] = [
+static LOOKS: [(Call, Answer); 41] = [
     (Remove(Kind::Type, CORNER), Refused(Refusal::Absent)),
     (Remove(Kind::Type, SHOP), Refused(Refusal::Absent)),
     (Remove(Kind::Qualifier, b"Rank"), Refused(Refusal::Absent)),
@@ -207,6 +218,9 @@ static LOOKS: [(Call, Answer); 38] = [
     (Choose(MALL, PLAIN), One(MALL)),
     (Choose(MALL, PLAIN), One(MALL)),
     (Choose(MALL, PLAIN), One(MALL)),
+    (Observers(SHOP, PLAIN), Observed(&[])),
+    (Observers(OBJECT, PLAIN), Observed(&[b"all"])),
+    (Observers(SHOP, PLAIN), Observed(&[b"all", b"shop"])),
     (Named(b"mall.x"), Unsatisfied),
     (Choose(MALL, PLAIN), One(MALL)),
 ];
@@ -219,8 +233,19 @@ fn make(alloc: Global, container: &mut Container<Echo>, call: Call) -> Result<An
         Choose(text, uses) => choose(alloc, container, text, uses),
         Named(text) => chosen(container.named(name(text)?)),
         Chain(text, method) => chain(container, text, method),
+        Observers(text, uses) => observers(alloc, container, text, uses),
         Report => report(alloc, container),
     }
+}
+
+fn observers(
+    alloc: Global,
+    container: &mut Container<Echo>,
+    text: &[u8],
+    uses: &[&[u8]],
+) -> Result<Answered, Error> {
+    let quals = quals(alloc, uses)?;
+    Ok(Answered::Observers(container.observers(name(text)?, &quals)?))
 }
 
 fn chain(

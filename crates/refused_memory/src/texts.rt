@@ -1,4 +1,5 @@
 //! Names that texts are.
+use cdi_container::ObserverId;
 use cdi_fixtures::name;
 use cdi_model::{Error, Name};
 use std::alloc::Global;
@@ -19,4 +20,13 @@ pub fn are_names(found: &[Name], wanted: &[&[u8]]) -> bool {
             .iter()
             .zip(wanted.iter())
             .all(|(name, text)| name.as_bytes() == *text)
+}
+
+/// Whether observer methods are those of these names.
+pub fn are_observers(ids: &[ObserverId], texts: &[&[u8]]) -> bool {
+    ids.len() == texts.len()
+        && ids
+            .iter()
+            .zip(texts)
+            .all(|(id, text)| id.observer.as_bytes() == *text)
 }
