@@ -6,6 +6,7 @@
 
 mod answers;
 mod bean_questions;
+mod bodies;
 mod calls;
 mod questions;
 mod runs;

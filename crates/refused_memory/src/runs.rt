@@ -1,8 +1,9 @@
 //! Look-ups, calls, requests and a stop of a container, of which any one allocation may be refused.
 use crate::Difference;
+use crate::bodies::Bound;
 use Asked::{Begin, Call, End, LookUp, Stop};
 use cdi_container::{Container, Entry};
-use cdi_fixtures::{Echo, name};
+use cdi_fixtures::name;
 use cdi_model::{Error, Ident, Name, Outcome, Quals, Refusal, Val};
 use std::alloc::{AllocError, Global};
 
@@ -37,8 +38,10 @@ enum Going {
 
 const NULL: Option<Val> = Some(Val::Null);
 
-/// A dependent bean with a point, the bean that its point holds, a bean of the request and one of the application.
-static DECLARED: [&[u8]; 8] = [
+/// A dependent bean with a point, the bean that its point holds, a bean of the request, and one of the application around
+/// which an interceptor stands that has a point too.
+static DECLARED: [&[u8]; 10] = [
+    b"kind=\"binding\"\nname=\"Log\"\n",
     b"kind=\"type\"\nname=\"A\"\n",
     b"kind=\"type\"\nname=\"D\"\n",
     b"kind=\"type\"\nname=\"R\"\n",
@@ -46,7 +49,23 @@ static DECLARED: [&[u8]; 8] = [
     b"kind=\"bean\"\nname=\"A\"\npoints=[{name=\"d\",type=\"D\"}]\n",
     b"kind=\"bean\"\nname=\"D\"\npost={body=\"echo\"}\n",
     b"kind=\"bean\"\nname=\"R\"\nscope=\"request\"\nmethods=[{name=\"run\",body=\"echo\"}]\n",
-    b"kind=\"bean\"\nname=\"S\"\nscope=\"application\"\npoints=[{name=\"d\",type=\"D\"}]\nmethods=[{name=\"run\",body=\"echo\"}]\n",
+    br#"kind="bean"
+name="S"
+scope="application"
+bindings=["Log"]
+points=[{name="d",type="D"}]
+methods=[{name="run",body="echo"}]
+"#,
+    br#"kind="interceptor"
+name="I"
+priority=1
+bindings=["Log"]
+points=[{name="d",type="D"}]
+around_invoke={body="pass"}
+around_construct={body="pass"}
+post={body="count"}
+pre={body="count"}
+"#,
 ];
 
 /// How many entries the look-up of the dependent bean with a point has.
@@ -77,8 +96,24 @@ static STEPS: [Step; 9] = [
   enter D#4 post arg null
   leave null
   ready D#4
+  create D#5
+  enter D#5 post arg null
+  leave null
+  ready D#5
+  enter S#3 construct by I arg null
+  proceed null
+  got null
+  leave null
+  enter S#3 post by I arg null
+  load null
+  store 1
+  leave 1
   ready S#3
+  enter S#3 method run by I arg 7
+  proceed 7
   enter S#3 method run arg 7
+  leave 7
+  got 7
   leave 7
 ",
         next: 3,
@@ -87,53 +122,59 @@ static STEPS: [Step; 9] = [
         asked: Begin,
         value: None,
         trace: b"",
-        next: 5,
+        next: 6,
     },
     Step {
         asked: Call(8, b"R"),
         value: Some(Val::Int(8)),
-        trace: b"  create R#5
-  ready R#5
-  enter R#5 method run arg 8
+        trace: b"  create R#6
+  ready R#6
+  enter R#6 method run arg 8
   leave 8
 ",
-        next: 5,
+        next: 6,
     },
     Step {
         asked: End,
         value: None,
-        trace: b"  destroy R#5\n  gone R#5\n",
-        next: 6,
+        trace: b"  destroy R#6\n  gone R#6\n",
+        next: 7,
     },
     Step {
         asked: Begin,
         value: None,
         trace: b"",
-        next: 6,
+        next: 7,
     },
     Step {
         asked: LookUp(b"R"),
         value: NULL,
-        trace: b"  create R#6\n  ready R#6\n",
-        next: 6,
+        trace: b"  create R#7\n  ready R#7\n",
+        next: 7,
     },
     Step {
         asked: Stop,
         value: None,
-        trace: b"  destroy R#6
-  gone R#6
+        trace: b"  destroy R#7
+  gone R#7
   destroy S#3
+  enter S#3 pre by I arg null
+  load 1
+  store 2
+  leave 2
+  destroy D#5
+  gone D#5
   destroy D#4
   gone D#4
   gone S#3
 ",
-        next: 7,
+        next: 8,
     },
     Step {
         asked: LookUp(b"R"),
         value: None,
         trace: b"",
-        next: 7,
+        next: 8,
     },
 ];
 
@@ -146,7 +187,7 @@ fn value_of(outcome: Outcome) -> Option<Val> {
 }
 
 fn state_of(
-    container: &mut Container<Echo>,
+    container: &mut Container<Bound>,
     bean_type: Name,
     quals: &Quals,
 ) -> Result<Option<Val>, Error> {
@@ -155,7 +196,7 @@ fn state_of(
 
 /// Calls the method that the beans have.
 fn answer_of(
-    container: &mut Container<Echo>,
+    container: &mut Container<Bound>,
     bean_type: Name,
     quals: &Quals,
     arg: Val,
@@ -164,22 +205,22 @@ fn answer_of(
     Ok(value_of(outcome))
 }
 
-fn begin_request(container: &mut Container<Echo>) -> Result<(), Error> {
+fn begin_request(container: &mut Container<Bound>) -> Result<(), Error> {
     container.begin_request().map_err(Error::Refused)
 }
 
-fn end_request(container: &mut Container<Echo>) -> Result<(), Error> {
+fn end_request(container: &mut Container<Bound>) -> Result<(), Error> {
     container.end_request()
 }
 
-fn end_contexts(container: &mut Container<Echo>) -> Result<(), AllocError> {
+fn end_contexts(container: &mut Container<Bound>) -> Result<(), AllocError> {
     container.stop()
 }
 
 /// Makes a call.
 fn make(
     alloc: Global,
-    container: &mut Container<Echo>,
+    container: &mut Container<Bound>,
     asked: &Asked,
 ) -> Result<Option<Val>, Error> {
     let quals = Quals::new(alloc);
@@ -193,25 +234,25 @@ fn make(
     Ok(None)
 }
 
-fn trace_text(alloc: Global, container: &Container<Echo>) -> Result<Vec<u8>, AllocError> {
+fn trace_text(alloc: Global, container: &Container<Bound>) -> Result<Vec<u8>, AllocError> {
     let mut text = Vec::new(alloc);
     container.push_trace(&mut text)?;
     Ok(text)
 }
 
 /// Whether a container shows this trace.
-fn shows(alloc: Global, container: &Container<Echo>, wanted: &[u8]) -> Result<bool, AllocError> {
+fn shows(alloc: Global, container: &Container<Bound>, wanted: &[u8]) -> Result<bool, AllocError> {
     let text = trace_text(alloc, container)?;
     Ok(text.as_slice() == wanted)
 }
 
 /// How many entries a container shows.
-fn entries_of(container: &Container<Echo>) -> usize {
+fn entries_of(container: &Container<Bound>) -> usize {
     container.trace().len()
 }
 
 /// Whether they begin with the creation of the instance of this number.
-fn begins_at(container: &Container<Echo>, number: u64) -> bool {
+fn begins_at(container: &Container<Bound>, number: u64) -> bool {
     match container.trace().first() {
         Some(Entry::Create { id, .. }) => id.number == number,
         _ => false,
@@ -219,12 +260,12 @@ fn begins_at(container: &Container<Echo>, number: u64) -> bool {
 }
 
 /// Whether no request is active.
-fn is_closed(container: &mut Container<Echo>) -> bool {
+fn is_closed(container: &mut Container<Bound>) -> bool {
     end_request(container) == Err(Error::Refused(Refusal::NoRequest))
 }
 
 /// Whether no request is active, no instance is live and nothing is shown.
-fn is_bare(container: &mut Container<Echo>) -> Result<bool, Error> {
+fn is_bare(container: &mut Container<Bound>) -> Result<bool, Error> {
     let is_silent = entries_of(container) == 0;
     let is_closed = is_closed(container);
     end_contexts(container)?;
@@ -232,14 +273,14 @@ fn is_bare(container: &mut Container<Echo>) -> Result<bool, Error> {
 }
 
 /// Whether that is so, and a look-up answers as the first one did, with this number.
-fn is_emptied(alloc: Global, container: &mut Container<Echo>, next: u64) -> Result<bool, Error> {
+fn is_emptied(alloc: Global, container: &mut Container<Bound>, next: u64) -> Result<bool, Error> {
     let is_bare = is_bare(container)?;
     let found = make(alloc, container, &LookUp(b"A"))?;
     Ok(is_bare && found == NULL && entries_of(container) == ENTRIES && begins_at(container, next))
 }
 
 /// How a step goes that has no memory for its call.
-fn refused(alloc: Global, container: &mut Container<Echo>, step: &Step) -> Going {
+fn refused(alloc: Global, container: &mut Container<Bound>, step: &Step) -> Going {
     match is_emptied(alloc, container, step.next) {
         Ok(true) => Going::Refused,
         _ => Going::Wrong,
@@ -247,7 +288,7 @@ fn refused(alloc: Global, container: &mut Container<Echo>, step: &Step) -> Going
 }
 
 /// How a step goes whose call is right. Where there is no memory for the trace's text, the text is asked for again.
-fn shown(alloc: Global, container: &Container<Echo>, step: &Step) -> Going {
+fn shown(alloc: Global, container: &Container<Bound>, step: &Step) -> Going {
     match shows(alloc, container, step.trace) {
         Ok(true) => Going::Right,
         Ok(false) => Going::Wrong,
@@ -255,14 +296,14 @@ fn shown(alloc: Global, container: &Container<Echo>, step: &Step) -> Going {
     }
 }
 
-fn shown_again(alloc: Global, container: &Container<Echo>, step: &Step) -> Going {
+fn shown_again(alloc: Global, container: &Container<Bound>, step: &Step) -> Going {
     match shows(alloc, container, step.trace) {
         Ok(true) => Going::Refused,
         _ => Going::Wrong,
     }
 }
 
-fn take(alloc: Global, container: &mut Container<Echo>, step: &Step) -> Going {
+fn take(alloc: Global, container: &mut Container<Bound>, step: &Step) -> Going {
     match make(alloc, container, &step.asked) {
         Ok(value) if value == step.value => shown(alloc, container, step),
         Err(Error::OutOfMemory) => refused(alloc, container, step),
@@ -270,11 +311,11 @@ fn take(alloc: Global, container: &mut Container<Echo>, step: &Step) -> Going {
     }
 }
 
-fn declare_one(container: &mut Container<Echo>, text: &[u8]) -> Result<(), Error> {
+fn declare_one(container: &mut Container<Bound>, text: &[u8]) -> Result<(), Error> {
     container.put(text)
 }
 
-fn declare(container: &mut Container<Echo>) -> Result<(), Error> {
+fn declare(container: &mut Container<Bound>) -> Result<(), Error> {
     for text in &DECLARED {
         declare_one(container, text)?;
     }
@@ -282,7 +323,7 @@ fn declare(container: &mut Container<Echo>) -> Result<(), Error> {
 }
 
 /// Takes the steps, and tells whether one was refused, which ends them.
-fn take_steps(alloc: Global, container: &mut Container<Echo>) -> Result<bool, Difference> {
+fn take_steps(alloc: Global, container: &mut Container<Bound>) -> Result<bool, Difference> {
     for (place, step) in STEPS.iter().enumerate() {
         match take(alloc, container, step) {
             Going::Right => {}
@@ -294,7 +335,7 @@ fn take_steps(alloc: Global, container: &mut Container<Echo>) -> Result<bool, Di
 }
 
 /// Declares what the steps need, takes them, and tells whether there was no memory for one of these.
-fn go_through(alloc: Global, container: &mut Container<Echo>) -> Result<bool, Difference> {
+fn go_through(alloc: Global, container: &mut Container<Bound>) -> Result<bool, Difference> {
     match declare(container) {
         Ok(()) => take_steps(alloc, container),
         Err(Error::OutOfMemory) => Ok(true),
@@ -302,8 +343,8 @@ fn go_through(alloc: Global, container: &mut Container<Echo>) -> Result<bool, Di
     }
 }
 
-fn empty(alloc: Global) -> Container<Echo> {
-    Container::new(alloc, Echo)
+fn empty(alloc: Global) -> Container<Bound> {
+    Container::new(alloc, Bound)
 }
 
 fn run_once(alloc: Global) -> Result<bool, Difference> {
