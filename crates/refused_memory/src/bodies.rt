@@ -1,6 +1,5 @@
 //! The bodies of the runs of which any one allocation may be refused.
-ghost use Rattle.std.specs.Prelude.{[], ◌∷◌, codes};
-ghost use Rattle.std.specs.Prelude.{◌≡◌};
+ghost use Rattle.std.specs.Prelude.{◌≡◌, [], ◌∷◌, codes};
 ghost use Rattle.std.specs.Str.{bytes_eq};
 ghost use Rattle.cdi_stock.specs.Table.{promise_of};
 ghost use Rattle.cdi_stock.specs.declared.stock.Stock.TheVariants.{Echo, Pass, Count};
