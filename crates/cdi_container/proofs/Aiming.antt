@@ -6,8 +6,6 @@ use Rattle.cdi_model.specs.DeclList.{AreDistinct}
 use Rattle.cdi_model.specs.declared.decl.Decl.{Decl}
 use Rattle.cdi_model.specs.declared.quals.Qual.{Qual}
 use Rattle.cdi_model.specs.declared.refusal.Error.{Error}
-use Rattle.cdi_model.specs.declared.refusal.Error.TheVariants as errors
-use Rattle.cdi_model.specs.declared.refusal.Refusal.{Refusal}
 use Rattle.cdi_model.specs.declared.refusal.Refusal.TheVariants.{NoMethod}
 use Rattle.cdi_bodies.specs.Book.{Promised}
 use Rattle.cdi_effective.specs.Beans.{beans}
@@ -15,7 +13,6 @@ use Rattle.cdi_effective.specs.declared.records.BeanId.{BeanId}
 use Rattle.cdi_resolve.specs.Choices.{chosen}
 use Rattle.cdi_resolve.specs.declared.choice.Choice.{Choice}
 use Rattle.cdi_resolve.specs.declared.choice.Choice.TheVariants.{One, Unsatisfied, Ambiguous}
-use Rattle.cdi_run.specs.declared.roots.Wanted.{Wanted}
 use Rattle.cdi_run.specs.declared.roots.Wanted.TheVariants as wanteds
 use Rattle.cdi_staging.specs.Sites.{managed_class, method_of, position_of_bean}
 use Rattle.cdi_staging.specs.Staged.{scene_of}

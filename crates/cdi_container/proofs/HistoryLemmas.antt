@@ -1,5 +1,5 @@
 -- The declarations behind a legal history are what its accepted edits make.
-use Rattle.std.proofs.Common.{◌≡◌, ℕ, List, [], ◌∷◌, ◌++◌, refl, ap, sym, ◌∙◌, subst, Bool, true, false, None, Some, Option}
+use Rattle.std.proofs.Common.{◌≡◌, List, [], ◌∷◌, ◌++◌, refl, ap, sym, ◌∙◌, subst, Bool, true, false, None}
 use Rattle.std.specs.Prelude.{Result, Ok, Err, if◌then◌else◌}
 use Rattle.std.specs.declared.alloc.AllocError.{AllocError}
 use Rattle.cdi_model.specs.declared.decl.Decl.{Decl}
@@ -13,8 +13,8 @@ use Rattle.cdi_lines.specs.declared.command.Command.TheVariants.{BeginRequest, E
 use Rattle.cdi_lines.specs.declared.command.Command.TheVariants.{Stop, Unreadable}
 use Rattle.cdi_container.specs.declared.answer.Answer.{Answer}
 use Rattle.cdi_container.specs.declared.answer.Answer.TheVariants.{Done, Chosen, Intercepted, Observed, Reported, Given, Refused}
-use Rattle.cdi_container.specs.History.{State, empty, emptied, untold, History, Acts, LegalAnswer, LegalHistory, refusal_of, refusal_of_put}
-use Rattle.cdi_container.specs.History.{with_put, accepted_put, edits_of, accepted_edit, accepted_edits, RestsOnAcceptedEdits, left_unserved, runs}
+use Rattle.cdi_container.specs.History.{State, empty, emptied, History, Acts, LegalAnswer, LegalHistory, refusal_of, refusal_of_put}
+use Rattle.cdi_container.specs.History.{with_put, accepted_put, accepted_edit, accepted_edits, RestsOnAcceptedEdits, runs}
 
 edited_all-append : (ds : List Decl) (es fs : List Edit) → edited_all ds (es ++ fs) ≡ edited_all (edited_all ds es) fs
 edited_all-append ds [] fs = refl

@@ -1,10 +1,9 @@
 -- A call of the container and the printing behind it make one step.
-use Rattle.std.proofs.Common.{◌≡◌, ℕ, List, [], ◌∷◌, ◌++◌, refl, subst, sym, ap, ◌∙◌, false, inl, inr, ◌⊎◌, append_assoc}
+use Rattle.std.proofs.Common.{◌≡◌, List, [], ◌++◌, refl, subst, sym, ap, ◌∙◌, false, inl, inr, ◌⊎◌}
 use Rattle.std.specs.Prelude.{Bool, true, Result, Ok, Err}
 use Rattle.cdi_model.specs.declared.decl.Decl.{Decl}
 use Rattle.cdi_model.specs.declared.refusal.Refusal.{Refusal}
 use Rattle.cdi_text.specs.Reading.{decl_of}
-use Rattle.cdi_legal.specs.declared.entry.Entry.{Entry}
 use Rattle.cdi_staging.specs.Naming.{names_of}
 use Rattle.cdi_lines.specs.declared.command.Command.{Command}
 use Rattle.cdi_lines.specs.declared.command.Command.TheVariants.{Put, Remove, Choose, Named, Chain, Observers, Report, LookUp, Call}

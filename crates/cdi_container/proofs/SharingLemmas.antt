@@ -1,5 +1,5 @@
 -- Behind a legal history at most one instance of each bean with a normal scope is live.
-use Rattle.std.proofs.Common.{◌≡◌, ℕ, List, [], ◌∷◌, refl, ap, sym, subst, Bool, true, false, arith}
+use Rattle.std.proofs.Common.{[], ◌∷◌, refl, ap, sym, subst, Bool, true, false, arith}
 use Rattle.std.specs.Prelude.{Result, Ok, Err, if◌then◌else◌}
 use Rattle.std.specs.declared.alloc.AllocError.{AllocError}
 use Rattle.cdi_model.specs.declared.decl.Decl.{Decl}

@@ -1,5 +1,5 @@
 -- Look-ups and calls: what is asked for, when that is refused, and which run it is.
-use Rattle.std.specs.Prelude.{ℕ, ◌==◌, not, List, length, Option, None, Some, Result, Ok, Err, if◌then◌else◌}
+use Rattle.std.specs.Prelude.{ℕ, ◌==◌, List, length, Option, None, Some, Result, Ok, Err, if◌then◌else◌}
 use Rattle.cdi_model.specs.declared.decl.Decl.{Decl}
 use Rattle.cdi_model.specs.declared.outcome.Val.{Val}
 use Rattle.cdi_model.specs.declared.quals.Qual.{Qual}

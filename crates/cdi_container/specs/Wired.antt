@@ -1,7 +1,6 @@
 -- What is kept of a deployment between questions.
 use Rattle.std.specs.Prelude.{◌≡◌, ℕ, ◌<◌, Bool, true, false, List, [], length, Option, Some, None, IsSome, Result, Ok, Err}
 use Rattle.cdi_model.specs.declared.decl.Decl.{Decl}
-use Rattle.cdi_model.specs.Short.{AreShort}
 use Rattle.cdi_model.specs.Edits.{edited}
 use Rattle.cdi_model.specs.declared.edit.Edit.{Edit}
 use Rattle.cdi_bodies.specs.Book.{Promised}
