@@ -46,7 +46,8 @@ covers_filled declared have want =
 
 -- the other is filled by the same declaration, as they have one name where the one covers it
 covers-filled : (ds : List Decl) (have want : Qual)
-    → covers ds use_kinds.Binding have want ≡ covers_filled (find_binding have.name ds) (filled ds use_kinds.Binding have) (filled ds use_kinds.Binding want)
+    → covers ds use_kinds.Binding have want ≡ covers_filled (find_binding have.name ds) (filled ds use_kinds.Binding have)
+    (filled ds use_kinds.Binding want)
 unfolding covers_by
 covers-filled ds have want = by (bytes_eq have.name want.name) refl
   where
@@ -58,7 +59,8 @@ covers-filled ds have want = by (bytes_eq have.name want.name) refl
         (keys_of (fill (members_of (find_binding have.name ds)) have) ++ keys_of (fill others want))
 
     by : (b : Bool) → bytes_eq have.name want.name ≡ b
-        → covers ds use_kinds.Binding have want ≡ covers_filled (find_binding have.name ds) (filled ds use_kinds.Binding have) (filled ds use_kinds.Binding want)
+        → covers ds use_kinds.Binding have want ≡ covers_filled (find_binding have.name ds) (filled ds use_kinds.Binding have)
+        (filled ds use_kinds.Binding want)
     by true e = ap (λ name. bytes_eq have.name want.name && agree_where (members_of (find_binding name ds)))
         (one_name have.name want.name e)
     by false e = rw e refl
@@ -91,7 +93,8 @@ all-covered : (ds : List Decl) (set : List Qual) (place : BeanPlace) (bindings :
 all-covered ds set place [] = refl
 all-covered ds set place (u ∷ us) =
     ap (λ b. b && list_all (covered_in ds set) us) (covered-seen ds set place u)
-    ∙ ap (λ b. is_covered (sees ds set place).declared (sees ds set place).bindings (filled ds use_kinds.Binding u) && b) (all-covered ds set place us)
+    ∙ ap (λ b. is_covered (sees ds set place).declared (sees ds set place).bindings (filled ds use_kinds.Binding u) && b)
+    (all-covered ds set place us)
 
 binds-seen : (ds : List Decl) (set : List Qual) (place : BeanPlace) (i : InterceptorDecl)
     → binds ds set i ≡ binds_seen (sees ds set place) (seen_interceptor ds i)

@@ -50,7 +50,8 @@ observer-first m p d o body others first none empty gone is = rw (none, empty, g
 
 -- an event stands before what it names
 pub event-first : (before named rest : List Mention) (place : PointPlace) (points : List PointDecl) (events others : List EventDecl)
-    (e : EventDecl) → before ≡ [] → points ≡ [] → events ≡ e ∷ others → named ≡ TypeIn places.Fired e.event_type ∷ of_qualifiers e.qualifiers
+    (e : EventDecl) → before ≡ [] → points ≡ [] → events ≡ e ∷ others → named
+    ≡ TypeIn places.Fired e.event_type ∷ of_qualifiers e.qualifiers
     → before ++ flat_map (of_point place) points ++ flat_map of_event events ++ rest
     ≡ EventOf e ∷ (named ++ flat_map (of_point place) points ++ flat_map of_event others ++ rest)
 event-first before named rest place points events others e none empty first same =

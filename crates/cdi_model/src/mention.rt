@@ -176,7 +176,8 @@ impl<'a> Names<'a> {
 
     /// The class of a bean, and what is declared of it.
     fn of_bean(bean: &'a BeanDecl) -> Names<'a>
-        ensures { names_left result ≡ TypeIn places_are.Class bean.now.name ∷ of_attributes None bean.now.attributes ++ of_bindings bean.now.bindings }
+        ensures { names_left result ≡ TypeIn places_are.Class bean.now.name ∷ of_attributes None bean.now.attributes
+            ++ of_bindings bean.now.bindings }
     {
         Names {
             first: Some((TypePlace::Class, bean.name)),
@@ -452,7 +453,8 @@ impl<'a> Rest<'a> {
 
     /// Goes through these points and events.
     fn begin(&mut self, points: &'a [PointDecl], events: &'a [EventDecl])
-        ensures begun { left_before self.new ≡ names_left self.old.names ++ flat_map (of_point self.old.place) points.now ++ flat_map of_event events.now }
+        ensures begun { left_before self.new ≡ names_left self.old.names ++ flat_map (of_point self.old.place) points.now
+            ++ flat_map of_event events.now }
         ensures others { left_behind self.new ≡ left_behind self.old }
     {
         self.points = points;

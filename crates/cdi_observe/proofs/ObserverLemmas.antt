@@ -7,7 +7,8 @@ use Rattle.cdi_effective.specs.declared.records.Effective.{Effective}
 use Rattle.cdi_observe.specs.Observers.{Observer, declared_by, enabled_bean, observers}
 
 -- those of one more bean, of which a test holds
-pub next-bean : (test : Observer → Bool) (ds : List Decl) (beans : List Effective) (i : ℕ) (b : Effective) (before after all own : List Observer)
+pub next-bean : (test : Observer → Bool) (ds : List Decl) (beans : List Effective) (i : ℕ) (b : Effective)
+    (before after all own : List Observer)
     → i < length beans → b ≡ get_or beans i b → own ≡ declared_by (enabled_bean ds b) → after ≡ before ++ filter test own
     → before ++ filter test (observers ds (drop i beans)) ≡ all → after ++ filter test (observers ds (drop (i + 1) beans)) ≡ all
 next-bean test ds beans i b before after all own less at are pushed is =

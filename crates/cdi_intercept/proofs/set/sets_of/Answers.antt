@@ -7,7 +7,8 @@ use Rattle.cdi_intercept.specs.Sets.{observers_of, producers_of, sets_of, with_s
 use Rattle.cdi_intercept.proofs.set.sets_of.Goals as goal
 
 -- some are behind those that were there, and others behind them
-two-behind : {A B : Type 0} (f : A → B) (before after all : List B) (none some others : List A) → none ≡ [] → before ++ map f (none ++ some ++ others) ≡ all
+two-behind : {A B : Type 0} (f : A → B) (before after all : List B) (none some others : List A) → none ≡ [] → before ++ map f (none
+    ++ some ++ others) ≡ all
     → after ≡ before ++ map f some → after ++ map f others ≡ all
 two-behind f before after all none some others gone is then =
     ap (λ l. l ++ map f others) then ∙ append_assoc before (map f some) (map f others)
@@ -22,5 +23,7 @@ loop-observer-init c =
     ++ map (with_set c.args.decls.now c.args.class.now bean) (map (λ o. places.Observer o.name) items)
     ≡ sets_of c.args.decls.now c.args.class.now bean) (sym c.as_slice-observer-items.ensures)
     (two-behind (with_set c.args.decls.now c.args.class.now bean) (map uses_at c.loop-method.sets.items) _ _
-    (map (λ m. places.Method m.name) (drop c.loop-method.method-index c.as_slice-method-items.result.now)) (producers_of bean) (observers_of bean)
-    (ap (map (λ m. places.Method m.name)) (drop_of_length-le c.as_slice-method-items.result.now end)) c.loop-method.invariant (search rules))
+    (map (λ m. places.Method m.name) (drop c.loop-method.method-index c.as_slice-method-items.result.now)) (producers_of bean)
+    (observers_of bean)
+    (ap (map (λ m. places.Method m.name)) (drop_of_length-le c.as_slice-method-items.result.now end)) c.loop-method.invariant
+    (search rules))
