@@ -135,11 +135,8 @@ same_around-decides a b =
 
 same_observer-decides : (a b : ObserverId) → Decides (same_observer a b) (a ≡ b)
 same_observer-decides a b =
-    Decides-like (same_observer a b) (λ e j. record { class = e.0 j; observer = e.1 j }) (λ e. (
-      ap (λ x. x.class) e,
-      ap
-          (λ x. x.observer) e,
-    ))
+    Decides-like (same_observer a b) (λ e j. record { class = e.0 j; observer = e.1 j })
+    (λ e. (ap (λ x. x.class) e, ap (λ x. x.observer) e))
     (Decides-and (bytes_eq a.class b.class) (bytes_eq a.observer b.observer) (bytes_decides a.class b.class)
     (bytes_decides a.observer b.observer))
 
