@@ -4,6 +4,8 @@ It is written from the rules of `docs/language.md` and `docs/faults.md` and shar
 uses and choices are asked of the model in `bench/compare`, which uses it.
 """
 
+from texts import ordered
+
 # The parts of an interceptor, and which of them stands around a place of a bean.
 PARTS = ["around_invoke", "around_construct", "post", "pre"]
 CALLBACKS = {"construct": "around_construct", "post": "post", "pre": "pre"}
@@ -11,11 +13,6 @@ CALLBACKS = {"construct": "around_construct", "post": "post", "pre": "pre"}
 # What a part of an interceptor may promise.
 AT_INTERCEPTOR = "LOAD STORE CALL FIRE PROCEED FAIL"
 ALLOWED = {"pre": "LOAD STORE PROCEED FAIL"}
-
-
-def ordered(use):
-    """The same use with its members in byte order."""
-    return use if use[0] == "Named" else (use[0], tuple(sorted(use[1])))
 
 
 def replaced(own, others):
@@ -32,6 +29,8 @@ def places_of(declaration):
     for producer in declaration.get("producers", []):
         if not producer.get("static"):
             places["producer " + producer["name"]] = producer
+    for observer in declaration.get("observers", []):
+        places["observer " + observer["name"]] = observer
     return places
 
 
@@ -119,7 +118,8 @@ class Chains:
 
     def faults_of_bean(self, declaration):
         """What is wrong with the bindings of a bean."""
-        for part in [declaration, *declaration.get("methods", []), *declaration.get("producers", [])]:
+        bound = [part for key in ("methods", "producers", "observers") for part in declaration.get(key, [])]
+        for part in [declaration, *bound]:
             yield from self.model.faults_of_uses(part.get("bindings", []), "binding")
         if self.differ(self.of_class(declaration)):
             yield "F06", "class"

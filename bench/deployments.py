@@ -5,7 +5,12 @@ dependent beans behind it in the order alone, and of beans of the other scopes a
 is made. A product stands before the bean that declares it. Half of the deployments have bindings and interceptors, which
 proceed more often than not. The points of an interceptor are of beans of the other scopes, and of a helper: a dependent bean
 around which no interceptor stands, and which has no points.
+
+Two thirds have observer methods and events, where runs notify them. The parameters of an observer method are of any beans, since they are made at a
+notification; so a bean may be made for an event that is fired while it is made, until the run is too deep.
 """
+
+from texts import ANY, DEFAULT, NOTIFIES, Event, line_of
 
 METHODS = ["run", "add", "go"]
 SCOPES = ["dependent", "dependent", "application", "request"]
@@ -18,6 +23,7 @@ PROCEEDING = ["pass", "double", "guard", "retry", "swallow"]
 AROUND_DESTRUCTION = ["pass", *PROCEEDING, *PROCEEDING, "short", "boom", "count", "flaky"]
 AROUND = [*AROUND_DESTRUCTION, "pass", "relay", "relay", "relay"]
 HELPER = "shop.Helper"
+OBSERVING = ["echo", "unit", "count", "flaky", "relay", "relay", "notify", "boom"]
 
 LOG, TX, AUDIT = "shop.Log", "shop.Tx", "shop.Audit"
 BINDINGS = [
@@ -27,6 +33,19 @@ BINDINGS = [
 ]
 # Of these a list has one at most, so that no two of one type differ.
 ONE_OF = [(TX, ()), (TX, (("level", 1),)), (TX, (("level", 2),)), (AUDIT, ())]
+
+WEB, RANK = "shop.Web", "shop.Rank"
+FACE, SALE, SUB = "shop.Face", "shop.Sale", "shop.Sub"
+EVENTS = [
+    {"kind": "qualifier", "name": WEB},
+    {"kind": "qualifier", "name": RANK, "members": [{"name": "n"}, {"name": "note", "default": 0, "binding": False}]},
+    {"kind": "type", "name": FACE, "form": "interface"},
+    {"kind": "type", "name": SALE, "implements": [FACE]},
+    {"kind": "type", "name": SUB, "extends": SALE},
+]
+# The uses of events and of observer methods, of which one has those of one list, in any order.
+FIRED = [[], [], [(WEB, ())], [(RANK, (("n", 1),))], [(RANK, (("note", 3), ("n", 2))), (WEB, ())], [ANY], [("Named", "x"), ANY]]
+OBSERVED = [[], [], [], [ANY], [(WEB, ())], [(WEB, ()), ANY], [(RANK, (("n", 1), ("note", 7)))], [("Named", "x")]]
 
 
 class Planner:
@@ -41,6 +60,7 @@ class Planner:
         self.never_ending = self.maybe(0.15)
         self.interceptors = [f"shop.I{number}" for number in range(self.chance.randint(1, 4))] if self.maybe(0.5) else []
         self.helped = bool(self.interceptors) and self.maybe(0.7)
+        self.has_events = NOTIFIES and self.maybe(0.67)
 
     def maybe(self, chance):
         return self.chance.random() < chance
@@ -55,7 +75,29 @@ class Planner:
         found = [self.bean(name) for name in self.names if name not in self.products]
         found += [self.interceptor(name) for name in self.interceptors] + [self.helper()] * self.helped
         self.chance.shuffle(found)
-        return types + (BINDINGS if self.interceptors else []) + found
+        return types + EVENTS * self.has_events + (BINDINGS if self.interceptors else []) + found
+
+    def event(self):
+        """An event of one of the types of events, of `Object` or of the type of a bean."""
+        name = self.chance.choice([FACE, SALE, SALE, SUB, SUB, SUB, "Object", self.chance.choice(self.names)])
+        uses = self.chance.choice(FIRED)
+        return Event(name, tuple(self.chance.sample(uses, len(uses))))
+
+    def observers(self, name, points):
+        """The observer methods of a bean: few, since each of them may fire, too."""
+        return [self.observer(f"on{number}", name, points) for number in range(self.chance.choice([0, 1, 1, 2]))]
+
+    def observer(self, word, name, points):
+        dependent = [other for other in self.names if self.scopes[other] == "dependent"] + [HELPER] * self.helped
+        types = [self.chance.choice(dependent if dependent and self.maybe(0.6) else self.names) for _ in range(2)]
+        params = [{"name": f"for{number}", "type": other} for number, other in enumerate(types) if self.maybe(0.5)]
+        observed = self.chance.choice([FACE, SALE, SALE, SUB, SUB, "Object", self.chance.choice(self.names)])
+        observer = {"name": word, "type": observed, "qualifiers": self.chance.choice(OBSERVED), "params": params}
+        if self.maybe(0.4):
+            observer["priority"] = self.chance.choice([-1, 2499, 2500, 2501])
+        if self.scopes[name] != "dependent" and self.maybe(0.3):
+            observer["conditional"] = True
+        return {**observer, **self.bindings(0.5), **self.part(points + params, OBSERVING)}
 
     def bindings(self, chance, more=0.5):
         """The key of a list of bindings, or none."""
@@ -112,6 +154,8 @@ class Planner:
             for product in made
             if self.maybe(0.5)
         ]
+        if self.has_events:
+            declaration["observers"] = self.observers(name, points)
         return declaration
 
     def producer(self, product, points):
@@ -140,13 +184,15 @@ class Planner:
 
     def part(self, points, bodies):
         spins = self.never_ending and bodies in (PLAIN, AROUND) and self.maybe(0.1)
-        body = "spin" if spins else self.chance.choice(bodies)
+        fires = [self.event() for _ in range(self.chance.choice([0, 0, 0, 1, 1, 2]))] if self.has_events else []
+        notifies = fires and "relay" in bodies and self.maybe(0.4)
+        body = "spin" if spins else "notify" if notifies else self.chance.choice(bodies)
         sites = [
             f"{point['name']}.{'value' if point['type'] in self.products else self.chance.choice(METHODS)}"
             for point in points
         ]
         calls = [self.chance.choice(sites) for _ in range(self.chance.randint(0, 3))] if sites else []
-        return {"body": body, "calls": calls} if calls else {"body": body}
+        return {"body": body, **({"calls": calls} if calls else {}), **({"fires": fires} if fires else {})}
 
     def faulty(self, declaration):
         """The same declaration with something wrong."""
@@ -179,6 +225,8 @@ class Commander:
         return steps
 
     def command(self):
+        if self.planner.has_events and self.planner.maybe(0.25):
+            return self.command_of_event()
         runs, draw = self.model.runs, self.chance.random()
         name, uses, words = self.asked()
         if draw < 0.15:
@@ -200,9 +248,24 @@ class Commander:
         word = "null" if argument is None else argument
         return f"call {method} {word} {name}{words}\n", runs.call(method, argument, name, uses)
 
+    def command_of_event(self):
+        """An event, or a question for its observer methods; some name what is not declared, or `Default`."""
+        name, uses = self.planner.event()
+        uses = list(uses)
+        if self.planner.maybe(0.06):
+            uses.append(self.chance.choice([("Lost", ()), DEFAULT]))
+        if self.planner.maybe(0.03):
+            name = "shop.Nowhere"
+        if self.planner.maybe(0.2):
+            return line_of(["observers", name], uses), self.model.events.observers(name, uses)
+        argument = self.chance.choice([None, 0, 5, -7, 2**63 - 1])
+        word = "null" if argument is None else str(argument)
+        return line_of(["fire", word, name], uses), self.model.runs.fire(argument, name, uses)
+
     def chain(self, name):
         """A question for a chain; a product has none."""
-        place = self.chance.choice(["construct", "post", "pre", *("method " + method for method in METHODS)])
+        methods, observers = ["method " + method for method in METHODS], ["observer on0"] * self.planner.has_events
+        place = self.chance.choice(["construct", "post", "pre", *methods, *observers])
         return f"chain {name} {place}\n", self.model.chains.chain(name, place)
 
     def asked(self):

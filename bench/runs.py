@@ -5,136 +5,16 @@ creations inside each other, a generator for a body: it yields an act and is sen
 into it, so each step of it is one time that the body is asked. `bench/compare` uses it.
 """
 
+from bodies import BODIES, Failed
 from chains import CALLBACKS
+from texts import DEFAULT, Event
 
 DEPTH, STEPS, STEPS_BEFORE_DESTRUCTION, BUDGET, LIVE = 32, 64, 8, 20_000, 1024
-LEAST, GREATEST = -(2**63), 2**63 - 1
 NUMBERS = 2**64 - 1
-
-
-class Failed(Exception):
-    """An outcome that is no value."""
-
-    def __init__(self, failure):
-        super().__init__(failure)
-        self.failure = failure
 
 
 def text_of_value(value):
     return "null" if value is None else str(value)
-
-
-def within(number):
-    """The nearest number that may be."""
-    return max(LEAST, min(GREATEST, number))
-
-
-def next_of(value):
-    """A value and 1, within what a number may be."""
-    return within((value or 0) + 1)
-
-
-# The stored bodies: each is given its argument and how many call sites there are.
-def unit(_argument, _sites):
-    return None
-    yield
-
-
-def zero(_argument, _sites):
-    return 0
-    yield
-
-
-def echo(argument, _sites):
-    return argument
-    yield
-
-
-def short(_argument, _sites):
-    return -1
-    yield
-
-
-def count(_argument, _sites):
-    stored = next_of((yield "load", None))
-    yield "store", stored
-    return stored
-
-
-def relay(argument, sites):
-    for site in range(sites):
-        argument = yield "call", (site, argument)
-    return argument
-
-
-def boom(_argument, _sites):
-    raise Failed("User(9)")
-    yield
-
-
-def flaky(_argument, _sites):
-    stored = next_of((yield "load", None))
-    yield "store", stored
-    if stored % 3 == 0:
-        return stored
-    raise Failed("User(3)")
-
-
-def spin(_argument, _sites):
-    while True:
-        yield "load", None
-
-
-# Bodies of interceptors alone.
-def proceed(argument, _sites):
-    return (yield "proceed", argument)
-
-
-def double(argument, _sites):
-    value = yield "proceed", argument
-    return None if value is None else within(2 * value)
-
-
-def guard(argument, _sites):
-    if argument is not None and argument < 0:
-        raise Failed("User(1)")
-    return (yield "proceed", argument)
-
-
-def retry(argument, _sites):
-    for _ in range(2):
-        try:
-            return (yield "proceed", argument)
-        except Failed:
-            pass
-    return (yield "proceed", argument)
-
-
-def swallow(argument, _sites):
-    try:
-        return (yield "proceed", argument)
-    except Failed:
-        return None
-
-
-# No part has an event yet, so `notify` answers its argument.
-BODIES = {
-    "unit": unit,
-    "zero": zero,
-    "echo": echo,
-    "short": short,
-    "count": count,
-    "relay": relay,
-    "notify": echo,
-    "boom": boom,
-    "flaky": flaky,
-    "spin": spin,
-    "pass": proceed,
-    "double": double,
-    "guard": guard,
-    "retry": retry,
-    "swallow": swallow,
-}
 
 
 class Instance:
@@ -192,6 +72,10 @@ class Invocation:
         self.has_returned = False
 
 
+class Notification:
+    """What the dependent instances belong to that are made for the parameters of an observer method, while it is notified."""
+
+
 class Runs:
     """What stands between the commands, and what they make of it. Declarations are asked of a model."""
 
@@ -206,6 +90,7 @@ class Runs:
         self.ending = 0
         self.chosen = {}
         self.around = {}
+        self.observing = {}
 
     def lose(self):
         """What an accepted edit leaves: no instance and no request."""
@@ -213,6 +98,7 @@ class Runs:
         self.is_active = False
         self.chosen = {}
         self.around = {}
+        self.observing = {}
 
     # Commands. Each answers its text, with the trace before it.
 
@@ -247,12 +133,31 @@ class Runs:
         self.is_active = False
         return self.told("ok")
 
-    def refusal(self, name, uses):
+    def fire(self, argument, name, uses):
+        refused = self.refusal_of_names(name, uses)
+        if not refused and DEFAULT in uses:
+            refused = "refused E51 UnknownName"
+        if refused:
+            return refused
+        self.begin()
+        try:
+            self.notify(Event(name, tuple(uses)), argument)
+        except Failed as failed:
+            return self.told(f"failed {failed.failure}")
+        return self.told("value null")
+
+    def refusal_of_names(self, name, uses):
         faults = int(self.model.report().split("\n")[0].split()[1])
         if faults:
             return f"refused E50 Faulty {faults}"
         if list(self.model.unknown("type", [name])) or list(self.model.faults_of_uses(uses)):
             return "refused E51 UnknownName"
+        return None
+
+    def refusal(self, name, uses):
+        refused = self.refusal_of_names(name, uses)
+        if refused:
+            return refused
         answer = self.model.choose(name, uses)
         if answer == "unsatisfied":
             return "refused E52 Unsatisfied"
@@ -306,18 +211,30 @@ class Runs:
             self.around[key] = self.model.chains.around(declaration, place)
         return self.around[key]
 
+    def managed(self, declaration):
+        return next(bean for bean in self.model.beans() if bean.ident == declaration["name"])
+
+    def observers(self, event):
+        """The observer methods of an event, each behind its declaration and its bean."""
+        if event not in self.observing:
+            found = self.model.events.observing(event.type, event.uses)
+            self.observing[event] = [(declaration, self.managed(declaration), observer) for declaration, observer in found]
+        return self.observing[event]
+
     # Creation.
+
+    def find(self, bean):
+        """The instance of a bean with a normal scope, ready or being created, if there is one."""
+        return next((found for found in self.live if found.bean.ident == bean.ident and found.owner == bean.scope), None)
 
     def obtain(self, bean):
         """The instance of a bean with a normal scope, which is made where there is none."""
         if bean.scope == "request" and not self.is_active:
             raise Failed("NotActive")
-        for instance in self.live:
-            if instance.bean.ident == bean.ident and instance.owner == bean.scope:
-                if not instance.is_ready:
-                    raise Failed("Creating")
-                return instance
-        return self.create(bean, bean.scope, None)
+        instance = self.find(bean)
+        if instance and not instance.is_ready:
+            raise Failed("Creating")
+        return instance or self.create(bean, bean.scope, None)
 
     def create(self, bean, owner, point):
         if self.open >= DEPTH:
@@ -356,17 +273,16 @@ class Runs:
             raise Failed("NotConstructed")
         self.go_on(self.invocation("post", declaration.get("post"), instance, declaration), None)
 
-    def make_points(self, instance, actor, points):
-        """What is dependent of the points that an interceptor or the instance has is made for it; of the others nothing is."""
+    def make_points(self, holder, actor, points):
+        """What is dependent of the points that an interceptor or the holder has is made for it; of the others nothing is."""
         for point in points:
             bean = self.bean_for(point["type"], point.get("qualifiers", []))
             if bean.scope == "dependent":
-                self.create(bean, instance, (actor, point["name"]))
+                self.create(bean, holder, (actor, point["name"]))
 
     def produce(self, product):
         producer, declaration = self.producer(product.bean), self.declaration(product.bean)
-        managed = next(bean for bean in self.model.beans() if bean.ident == declaration["name"])
-        declaring = None
+        managed, declaring = self.managed(declaration), None
         if not producer.get("static"):
             declaring = self.create(managed, None, None) if managed.scope == "dependent" else self.obtain(managed)
         try:
@@ -382,6 +298,37 @@ class Runs:
         if state is None and product.bean.scope != "dependent":
             raise Failed("IllegalProduct")
         product.state = state
+
+    # Events.
+
+    def notify(self, event, argument):
+        """Notifies the observer methods of an event, up to the first that fails."""
+        for declaration, bean, observer in self.observers(event):
+            if self.is_skipped(bean, observer):
+                self.trace.append(f"skip {bean.ident} observer {observer['name']}")
+            else:
+                self.notify_one(declaration, bean, observer, argument)
+
+    def is_skipped(self, bean, observer):
+        """Whether a bean has no request to be in, or no ready instance where its observer method is conditional."""
+        if bean.scope == "request" and not self.is_active:
+            return True
+        instance = self.find(bean)
+        return bool(observer.get("conditional")) and not (instance and instance.is_ready)
+
+    def notify_one(self, declaration, bean, observer, argument):
+        """What is made for the notification is destroyed behind it, also where it failed: the parameters, then the bean's own."""
+        is_dependent, notification = bean.scope == "dependent", Notification()
+        instance = self.create(bean, None, None) if is_dependent else self.obtain(bean)
+        params = observer.get("params", [])
+        try:
+            self.make_points(notification, None, params)
+            place, sites = f"observer {observer['name']}", self.sites(notification, None, params)
+            self.go_on(self.invocation(place, observer, instance, declaration, sites), argument)
+        finally:
+            self.destroy_dependents(notification)
+            if is_dependent:
+                self.destroy(instance)
 
     # Calls.
 
@@ -401,7 +348,13 @@ class Runs:
         part = next(found for found in declaration["methods"] if found["name"] == method)
         return self.go_on(self.invocation(f"method {method}", part, instance, declaration), argument)
 
+    def fire_site(self, event, argument):
+        self.trace.append(f"fire {text_of_value(argument)} {event}")
+        self.notify(event, argument)
+        return None
+
     def call_site(self, site, argument, sites):
+        self.trace.append(f"call {site} {text_of_value(argument)}")
         name, method = site.split(".")
         holder, actor, point = sites[name]
         bean = self.bean_for(point["type"], point.get("qualifiers", []))
@@ -435,9 +388,9 @@ class Runs:
             raise Failed("Depth")
         self.trace.append(f"enter {seat} arg {text_of_value(argument)}")
         self.open += counted
-        calls = part.get("calls", [])
+        body = BODIES[part["body"]](argument, len(part.get("calls", [])), len(part.get("fires", [])))
         try:
-            value = self.ask(BODIES[part["body"]](argument, len(calls)), seat, calls, following)
+            value = self.ask(body, seat, part, following)
         except Failed as failed:
             self.trace.append(f"leave failed {failed.failure}")
             raise
@@ -446,7 +399,7 @@ class Runs:
         self.trace.append(f"leave {text_of_value(value)}")
         return value
 
-    def ask(self, body, seat, calls, following):
+    def ask(self, body, seat, part, following):
         """Asks a body until it returns or fails. Before a destruction it has fewer acts, and proceeds once."""
         is_before_destruction, proceeds, answer = seat.place == "pre", 0, None
         most = STEPS_BEFORE_DESTRUCTION if is_before_destruction else STEPS
@@ -462,10 +415,10 @@ class Runs:
             proceeds += act == "proceed"
             if answers == most or (is_before_destruction and act == "proceed" and proceeds > 1):
                 raise Failed("Steps")
-            answer = self.do(act, given, seat, calls, following)
+            answer = self.do(act, given, seat, part, following)
         raise AssertionError
 
-    def do(self, act, given, seat, calls, following):
+    def do(self, act, given, seat, part, following):
         """Does an act, and answers what the body is told: a value, or the failure that it is to hear."""
         if act == "load":
             self.trace.append(f"load {text_of_value(seat.holder.load(seat.actor))}")
@@ -478,10 +431,10 @@ class Runs:
             if act == "proceed":
                 self.trace.append(f"proceed {text_of_value(given)}")
                 answer = following(given)
+            elif act == "fire":
+                answer = self.fire_site(part["fires"][given[0]], given[1])
             else:
-                site, argument = given
-                self.trace.append(f"call {calls[site]} {text_of_value(argument)}")
-                answer = self.call_site(calls[site], argument, seat.sites)
+                answer = self.call_site(part["calls"][given[0]], given[1], seat.sites)
         except Failed as failed:
             self.trace.append(f"got failed {failed.failure}")
             return failed
