@@ -56,7 +56,7 @@ abbrev pub calls_of_bean : (BeanNames → List CallDecl) → Option BeanNames �
 calls_of_bean part None = []
 calls_of_bean part (Some x) = part x
 
--- the call sites at a place of a bean; disposer methods have none, and there are no observer methods yet
+-- the call sites at a place of a bean; disposer methods have none, and no run notifies observer methods yet
 abbrev pub calls_told : Names → ℕ → Place → List CallDecl
 calls_told names b places.Construct = calls_of_bean (λ x. x.construct) (bean_told names b)
 calls_told names b places.Post = calls_of_bean (λ x. x.post) (bean_told names b)

@@ -37,7 +37,7 @@ abbrev pub text_of_seat : Names → Seat → List ℕ
 text_of_seat names seat = text_of_host names seat.bean seat.number ++ space ∷ text_of_place names seat.bean seat.place
     ++ text_of_actor names seat.actor
 
--- What an entry tells. No declaration has an observer or a fire site yet, so that these have no names.
+-- What an entry tells. No run notifies observer methods yet, so that these and fire sites have no names.
 abbrev pub text_of_entry : Names → Entry → List ℕ
 text_of_entry names (entries.Create id owner) = codes "create " ++ text_of_instance names id.bean id.number
 text_of_entry names (entries.Ready id product) = codes "ready " ++ text_of_instance names id.bean id.number
