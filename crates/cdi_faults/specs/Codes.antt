@@ -15,7 +15,8 @@ code_order = (order_of_cases.ghosts).cmp
 abbrev pub all_codes : List Code
 all_codes =
     codes_are.UnknownName ∷ codes_are.Cycle ∷ codes_are.BadKind ∷ codes_are.Typed ∷ codes_are.ScopeConflict
-    ∷ codes_are.BindingConflict ∷ codes_are.Member ∷ codes_are.Disposer ∷ codes_are.Body ∷ codes_are.NoBinding
+    ∷ codes_are.BindingConflict ∷ codes_are.Member ∷ codes_are.Disposer ∷ codes_are.ConditionalDependent
+    ∷ codes_are.Body ∷ codes_are.NoBinding
     ∷ codes_are.Unsatisfied ∷ codes_are.Ambiguous ∷ codes_are.Unproxyable ∷ codes_are.Site
     ∷ codes_are.NameClash ∷ codes_are.NamePrefix ∷ codes_are.Circular ∷ []
 

@@ -5,6 +5,8 @@ use Rattle.std.specs.List.Sorted.{IsStrictlySortedBy}
 use Rattle.cdi_model.specs.Bytes.{byte_order, dot, space}
 use Rattle.cdi_model.specs.Decl.{declared_as, word_of_kind}
 use Rattle.cdi_model.specs.UseText.{text_of_use}
+use Rattle.cdi_model.specs.declared.mention.PointPlace.{PointPlace}
+use Rattle.cdi_model.specs.declared.mention.PointPlace.TheVariants as points
 use Rattle.cdi_match.specs.Chain.{has}
 use Rattle.cdi_effective.specs.BeanText.{text_of_id}
 use Rattle.cdi_faults.specs.Codes.{code_of}
@@ -25,10 +27,11 @@ abbrev pub in_producer : Option (List ℕ) → List ℕ → List ℕ
 in_producer None text = text
 in_producer (Some producer) text = about (codes "producer") (producer ++ space ∷ text)
 
--- a point of a bean is called so, one of a producer a param
-abbrev pub text_of_point : Option (List ℕ) → List ℕ → List ℕ
-text_of_point None point = about (codes "point") point
-text_of_point (Some producer) point = in_producer (Some producer) (about (codes "param") point)
+-- a point of a constructor is called so, one of a method a param
+abbrev pub text_of_point : PointPlace → List ℕ → List ℕ
+text_of_point points.Constructor point = about (codes "point") point
+text_of_point (points.Producer method) point = about (codes "producer") (method ++ space ∷ about (codes "param") point)
+text_of_point (points.Observer method) point = about (codes "observer") (method ++ space ∷ about (codes "param") point)
 
 -- where a body runs
 abbrev pub text_of_place : PartPlace → List ℕ
@@ -38,6 +41,7 @@ text_of_place places.Pre = codes "pre"
 text_of_place (places.Method name) = about (codes "method") name
 text_of_place (places.Producer name) = about (codes "producer") name
 text_of_place (places.Disposer name) = about (codes "disposer") name
+text_of_place (places.Observer name) = about (codes "observer") name
 text_of_place places.AroundInvoke = codes "around_invoke"
 text_of_place places.AroundConstruct = codes "around_construct"
 
@@ -52,8 +56,9 @@ text_of_subject subjects.Class = codes "class"
 text_of_subject (subjects.Typed producer name) = in_producer producer (about (codes "typed") name)
 text_of_subject (subjects.Producer name) = about (codes "producer") name
 text_of_subject (subjects.Disposer name) = about (codes "disposer") name
+text_of_subject (subjects.Observer name) = about (codes "observer") name
 text_of_subject (subjects.Use kind u) = about (word_of_kind (declared_as kind)) (text_of_use u)
-text_of_subject (subjects.Point producer point) = text_of_point producer point
+text_of_subject (subjects.Point place point) = text_of_point place point
 text_of_subject (subjects.Part place) = text_of_place place
 text_of_subject (subjects.Call place point method) = about (text_of_place place) (about (codes "call") (point ++ dot ∷ method))
 
@@ -68,6 +73,7 @@ text_of_code fault_codes.ScopeConflict = codes "F05"
 text_of_code fault_codes.BindingConflict = codes "F06"
 text_of_code fault_codes.Member = codes "F07"
 text_of_code fault_codes.Disposer = codes "F08"
+text_of_code fault_codes.ConditionalDependent = codes "F09"
 text_of_code fault_codes.Body = codes "F10"
 text_of_code fault_codes.NoBinding = codes "F11"
 text_of_code fault_codes.Unsatisfied = codes "F20"

@@ -4,7 +4,7 @@ ghost use Rattle.std.specs.List.Sorted.{IsStrictlySortedBy};
 ghost use Rattle.cdi_faults.specs.Codes.{all_codes, code_of, code_order};
 
 use crate::place::PartPlace;
-use cdi_model::{Ident, Kind, Name, Qual, UseKind};
+use cdi_model::{Ident, Kind, Name, PointPlace, Qual, UseKind};
 
 /// What is wrong. The order of the codes is that in which faults stand.
 #[derive(Clone, Copy, Debug, PartialEq, Eq, PartialOrd, Ord)]
@@ -27,6 +27,8 @@ pub enum Code {
     Member,
     /// A disposer method matches no producer method, or two match one (CDI 4.0, Disposer method resolution).
     Disposer,
+    /// A conditional observer method stands in a dependent bean (CDI 4.0, Conditional observer methods).
+    ConditionalDependent,
     /// A body that it names is not in the book, or may do more than is allowed in its place (profile).
     Body,
     /// An interceptor declares no binding (Interceptors 2.1, Declaring the Interceptor Bindings of an Interceptor).
@@ -51,7 +53,7 @@ pub enum Code {
 impl Code {
     /// All codes, in their order.
     #[tactic(auto, using(crate::proofs::CodeLemmas::codes_rise, crate::proofs::CodeLemmas::has_code))]
-    pub fn all() -> [Code; 17]
+    pub fn all() -> [Code; 18]
         ensures value { result ≡ all_codes }
         ensures order { IsStrictlySortedBy code_order all_codes }
         ensures each { (code : Code) → Contains all_codes code }
@@ -65,6 +67,7 @@ impl Code {
             Code::BindingConflict,
             Code::Member,
             Code::Disposer,
+            Code::ConditionalDependent,
             Code::Body,
             Code::NoBinding,
             Code::Unsatisfied,
@@ -102,11 +105,12 @@ pub enum Subject {
     },
     Producer(Ident),
     Disposer(Ident),
+    Observer(Ident),
     /// A use of a qualifier or of a binding.
     Use(UseKind, Qual),
-    /// An injection point of a bean, or a parameter of a producer method.
+    /// An injection point, by what it is a parameter of.
     Point {
-        producer: Option<Ident>,
+        place: PointPlace,
         name: Ident,
     },
     /// A place at which a stored body runs.

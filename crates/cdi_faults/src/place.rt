@@ -20,6 +20,8 @@ pub enum PartPlace {
     Producer(Ident),
     /// A disposer method.
     Disposer(Ident),
+    /// An observer method.
+    Observer(Ident),
     /// Around a method (Interceptors 2.1, Method Interceptors).
     AroundInvoke,
     /// Around a constructor (Interceptors 2.1, AroundConstruct).
@@ -37,6 +39,7 @@ impl fmt::Display for PartPlace {
             PartPlace::Method(name) => write!(f, "method {name}"),
             PartPlace::Producer(name) => write!(f, "producer {name}"),
             PartPlace::Disposer(name) => write!(f, "disposer {name}"),
+            PartPlace::Observer(name) => write!(f, "observer {name}"),
             PartPlace::AroundInvoke => write!(f, "around_invoke"),
             PartPlace::AroundConstruct => write!(f, "around_construct"),
         }

@@ -8,6 +8,7 @@ ghost use Rattle.cdi_faults.specs.FaultText.{SubjectsInOrder};
 
 use crate::fault::{Code, Fault, Subject};
 use cdi_effective::BeanId;
+use cdi_model::PointPlace;
 use std::alloc::{AllocError, Global};
 use std::collections::BTreeMap;
 use std::fmt;
@@ -26,6 +27,7 @@ impl fmt::Display for Code {
             Code::BindingConflict => "F06",
             Code::Member => "F07",
             Code::Disposer => "F08",
+            Code::ConditionalDependent => "F09",
             Code::Body => "F10",
             Code::NoBinding => "F11",
             Code::Unsatisfied => "F20",
@@ -60,13 +62,15 @@ impl fmt::Display for Subject {
             },
             Subject::Producer(name) => write!(f, "producer {name}"),
             Subject::Disposer(name) => write!(f, "disposer {name}"),
+            Subject::Observer(name) => write!(f, "observer {name}"),
             Subject::Use(kind, qual) => {
                 let kind = kind.declared_as();
                 write!(f, "{kind} {qual}")
             }
-            Subject::Point { producer, name } => match producer {
-                Some(producer) => write!(f, "producer {producer} param {name}"),
-                None => write!(f, "point {name}"),
+            Subject::Point { place, name } => match place {
+                PointPlace::Constructor => write!(f, "point {name}"),
+                PointPlace::Producer(method) => write!(f, "producer {method} param {name}"),
+                PointPlace::Observer(method) => write!(f, "observer {method} param {name}"),
             },
             Subject::Part(place) => write!(f, "{place}"),
             Subject::Call {

@@ -40,7 +40,7 @@ pub enum TypePlace {
 }
 
 /// Of what an injection point is a parameter.
-#[derive(Clone, Copy, Debug)]
+#[derive(Clone, Copy, Debug, PartialEq, Eq)]
 pub enum PointPlace {
     /// Of the constructor of a bean or of an interceptor.
     Constructor,

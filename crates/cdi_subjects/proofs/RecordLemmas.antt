@@ -17,8 +17,8 @@ use Rattle.cdi_effective.specs.Beans.{is_kept, restricted, effective, entries, m
 use Rattle.cdi_effective.specs.Bindings.{class_bindings}
 use Rattle.cdi_effective.specs.Disposers.{disposes}
 use Rattle.cdi_effective.specs.declared.records.Effective.{Effective}
-use Rattle.cdi_subjects.specs.Subjects.{binding_conflicts, disposers_at_fault, typed, wrongly_listed}
-use Rattle.cdi_subjects.specs.Records.{conflicts_by, conflicts_in, not_had, not_had_by, typed_by, with_two, without_product}
+use Rattle.cdi_subjects.specs.Subjects.{binding_conflicts, conditional_dependents, disposers_at_fault, typed, wrongly_listed}
+use Rattle.cdi_subjects.specs.Records.{conditional_by, conflicts_by, conflicts_in, not_had, not_had_by, typed_by, with_two, without_product}
 use Rattle.cdi_faults.specs.declared.fault.Subject.TheVariants as parts
 
 -- ---- what a record is told by
@@ -140,3 +140,11 @@ conflicts_by_entries ds (decls.Stereotype d) = refl
 conflicts_by_entries ds (decls.Binding d) = refl
 conflicts_by_entries ds (decls.Interceptor d) = refl
 conflicts_by_entries ds (decls.Bean bean) = ap (λ class. conflicts_in ds class bean) (managed-bindings ds bean)
+
+pub conditional_by_entries : (ds : List Decl) (d : Decl) → conditional_by d (entries ds d) ≡ conditional_dependents ds d
+conditional_by_entries ds (decls.Type d) = refl
+conditional_by_entries ds (decls.Qualifier d) = refl
+conditional_by_entries ds (decls.Stereotype d) = refl
+conditional_by_entries ds (decls.Binding d) = refl
+conditional_by_entries ds (decls.Interceptor d) = refl
+conditional_by_entries ds (decls.Bean bean) = refl

@@ -4,12 +4,12 @@ use Rattle.std.proofs.Common.{refl, ap, ◌∙◌, append-nil, inl, inr, ◌⊎�
 use Rattle.std.specs.List.{find, flat_map, zip}
 use Rattle.std.specs.Option.{option_or}
 use Rattle.std.specs.Str.{bytes_eq}
-use Rattle.std.proofs.lemmas.List.{map-append, take_at, drop_at, length-map}
 use Rattle.std.proofs.lemmas.List.Folds.{find-append}
 use Rattle.cdi_model.specs.declared.decl.BeanDecl.{BeanDecl}
 use Rattle.cdi_model.specs.declared.decl.CallDecl.{CallDecl}
 use Rattle.cdi_model.specs.declared.decl.Decl.{Decl}
 use Rattle.cdi_model.specs.declared.decl.Decl.TheVariants as decls
+use Rattle.cdi_model.specs.declared.decl.ObserverDecl.{ObserverDecl}
 use Rattle.cdi_model.specs.declared.decl.PointDecl.{PointDecl}
 use Rattle.cdi_model.specs.declared.decl.ProducerDecl.{ProducerDecl}
 use Rattle.cdi_effective.specs.Beans.{entries, managed, product}
@@ -19,7 +19,10 @@ use Rattle.cdi_observe.specs.Answers.{answer_to}
 use Rattle.cdi_observe.specs.Wanted.{points_of}
 use Rattle.cdi_faults.specs.declared.place.PartPlace.{PartPlace}
 use Rattle.cdi_subjects.specs.Sites.{Sight, choice_at, lost_by, lost_by_products, lost_calls, lost_in_managed, lost_in_producer, lost_sites}
-use Rattle.cdi_subjects.specs.Sites.{lost_around, sight_of, where_enabled}
+use Rattle.cdi_subjects.specs.Records.{observer_choices, params_of, product_choices}
+use Rattle.cdi_subjects.specs.Sites.{lost_around, lost_by_observers, lost_in_observer, sight_of, where_enabled}
+use Rattle.cdi_subjects.proofs.PointLemmas.{choices_of_observers, choices_of_own, choices_of_products, first_choices, further_choices}
+use Rattle.cdi_subjects.proofs.PointLemmas.{observed}
 
 -- ---- points
 
@@ -44,35 +47,36 @@ zipped_sight : (ds : List Decl) (points : List PointDecl) → zip points (map (a
 zipped_sight ds [] = refl
 zipped_sight ds (p ∷ points) = ap (λ zs. (p, answer_to ds p) ∷ zs) (zipped_sight ds points)
 
--- the choices for some points stand in front of those for others
-own_sight : (ds : List Decl) (points others : List PointDecl)
+-- those of one more stand in front of those of others
+one_sight : (ds : List Decl) (points others : List PointDecl)
     → zip points (take (length points) (map (answer_to ds) (points ++ others))) ≡ sight_of ds points
-own_sight ds points others =
-    ap (λ cs. zip points (take (length points) cs)) (map-append (answer_to ds) points others)
-    ∙ ap (zip points) (take_at (map (answer_to ds) points) (map (answer_to ds) others) (length points) (length-map points (answer_to ds)))
-    ∙ zipped_sight ds points
-
-other_choices : (ds : List Decl) (points others : List PointDecl)
-    → drop (length points) (map (answer_to ds) (points ++ others)) ≡ map (answer_to ds) others
-other_choices ds points others =
-    ap (drop (length points)) (map-append (answer_to ds) points others)
-    ∙ drop_at (map (answer_to ds) points) (map (answer_to ds) others) (length points) (length-map points (answer_to ds))
+one_sight ds points others = ap (zip points) (first_choices (answer_to ds) points others) ∙ zipped_sight ds points
 
 -- ---- records
 
 lost_by_each : (ds : List Decl) (bean : BeanDecl) (own : Sight) (ps : List ProducerDecl)
-    → lost_by_products ds own (map (product ds bean) ps) ps (map (answer_to ds) (flat_map (λ p. p.params) ps))
+    → lost_by_products ds own (map (product ds bean) ps) ps (map (answer_to ds) (params_of ps))
     ≡ flat_map (λ p. where_enabled (product ds bean p) (lost_in_producer ds own (sight_of ds p.params) p)) ps
 lost_by_each ds bean own [] = refl
 lost_by_each ds bean own (p ∷ ps) =
-    let others = flat_map (λ p. p.params) ps in
     let b = product ds bean p in
     let bs = map (product ds bean) ps in
     ap (λ params. where_enabled b (lost_in_producer ds own params p)
-    ++ lost_by_products ds own bs ps (drop (length p.params) (map (answer_to ds) (p.params ++ others)))) (own_sight ds p.params others)
+    ++ lost_by_products ds own bs ps (drop (length p.params) (map (answer_to ds) (p.params ++ params_of ps)))) (one_sight ds p.params (params_of ps))
     ∙ ap (λ cs. where_enabled b (lost_in_producer ds own (sight_of ds p.params) p) ++ lost_by_products ds own bs ps cs)
-    (other_choices ds p.params others)
+    (further_choices (answer_to ds) p.params (params_of ps))
     ∙ ap (λ ms. where_enabled b (lost_in_producer ds own (sight_of ds p.params) p) ++ ms) (lost_by_each ds bean own ps)
+
+lost_by_observing : (ds : List Decl) (own : Sight) (b : Effective) (os : List ObserverDecl)
+    → lost_by_observers ds own b os (map (answer_to ds) (observed os))
+    ≡ flat_map (λ o. where_enabled b (lost_in_observer ds own (sight_of ds o.params) o)) os
+lost_by_observing ds own b [] = refl
+lost_by_observing ds own b (o ∷ os) =
+    ap (λ params. where_enabled b (lost_in_observer ds own params o)
+    ++ lost_by_observers ds own b os (drop (length o.params) (map (answer_to ds) (o.params ++ observed os)))) (one_sight ds o.params (observed os))
+    ∙ ap (λ cs. where_enabled b (lost_in_observer ds own (sight_of ds o.params) o) ++ lost_by_observers ds own b os cs)
+    (further_choices (answer_to ds) o.params (observed os))
+    ∙ ap (λ ms. where_enabled b (lost_in_observer ds own (sight_of ds o.params) o) ++ ms) (lost_by_observing ds own b os)
 
 -- the lost call sites by the records of a declaration and the answers to its points are the lost ones of it
 pub lost_by_entries : (ds : List Decl) (d : Decl) → lost_by ds d (entries ds d) (map (answer_to ds) (points_of d)) ≡ lost_sites ds d
@@ -82,16 +86,22 @@ lost_by_entries ds (decls.Stereotype d) = refl
 lost_by_entries ds (decls.Binding d) = refl
 lost_by_entries ds (decls.Interceptor d) = ap (λ sight. lost_around ds sight d) (zipped_sight ds d.points)
 lost_by_entries ds (decls.Bean bean) =
-    let others = flat_map (λ p. p.params) bean.producers in
     let b = managed ds bean in
     let bs = map (product ds bean) bean.producers in
-    ap (λ own. where_enabled b (lost_in_managed ds own bean)
-    ++ lost_by_products ds own bs bean.producers (drop (length bean.points) (map (answer_to ds) (bean.points ++ others))))
-    (own_sight ds bean.points others)
-    ∙ ap (λ cs. where_enabled b (lost_in_managed ds (sight_of ds bean.points) bean)
-    ++ lost_by_products ds (sight_of ds bean.points) bs bean.producers cs) (other_choices ds bean.points others)
-    ∙ ap (λ ms. where_enabled b (lost_in_managed ds (sight_of ds bean.points) bean) ++ ms)
-    (lost_by_each ds bean (sight_of ds bean.points) bean.producers)
+    let own = sight_of ds bean.points in
+    let all = map (answer_to ds) (points_of (decls.Bean bean)) in
+    let of_managed = where_enabled b (lost_in_managed ds own bean) in
+    let of_products = flat_map (λ p. where_enabled (product ds bean p) (lost_in_producer ds own (sight_of ds p.params) p)) bean.producers in
+    ap (λ sight. where_enabled b (lost_in_managed ds sight bean)
+    ++ lost_by_products ds sight bs bean.producers (product_choices bean all)
+    ++ lost_by_observers ds sight b bean.observers (observer_choices bean all))
+    (ap (zip bean.points) (choices_of_own ds bean) ∙ zipped_sight ds bean.points)
+    ∙ ap (λ cs. of_managed ++ lost_by_products ds own bs bean.producers cs
+    ++ lost_by_observers ds own b bean.observers (observer_choices bean all)) (choices_of_products ds bean)
+    ∙ ap (λ ms. of_managed ++ ms ++ lost_by_observers ds own b bean.observers (observer_choices bean all))
+    (lost_by_each ds bean own bean.producers)
+    ∙ ap (λ cs. of_managed ++ of_products ++ lost_by_observers ds own b bean.observers cs) (choices_of_observers ds bean)
+    ∙ ap (λ ms. of_managed ++ of_products ++ ms) (lost_by_observing ds own b bean.observers)
 
 -- where no record or no producer method is left nothing is lost
 pub none_lost : (ds : List Decl) (own : Sight) (bs : List Effective) (ps : List ProducerDecl) (choices : List Choice)

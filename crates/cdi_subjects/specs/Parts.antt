@@ -11,6 +11,7 @@ use Rattle.cdi_model.specs.declared.decl.Decl.TheVariants as decls
 use Rattle.cdi_model.specs.declared.decl.DisposerDecl.{DisposerDecl}
 use Rattle.cdi_model.specs.declared.decl.InterceptorDecl.{InterceptorDecl}
 use Rattle.cdi_model.specs.declared.decl.MethodDecl.{MethodDecl}
+use Rattle.cdi_model.specs.declared.decl.ObserverDecl.{ObserverDecl}
 use Rattle.cdi_model.specs.declared.decl.PartDecl.{PartDecl}
 use Rattle.cdi_model.specs.declared.decl.ProducerDecl.{ProducerDecl}
 use Rattle.cdi_faults.specs.declared.fault.Subject.{Subject}
@@ -46,6 +47,9 @@ unfit_producers book producers = flat_map (λ p. unfit book (allowed_to p) (plac
 abbrev pub unfit_disposers : List Promised → List DisposerDecl → List Subject
 unfit_disposers book disposers = flat_map (λ d. unfit book flags.at_disposal (places.Disposer d.name) d.body) disposers
 
+abbrev pub unfit_observers : List Promised → List ObserverDecl → List Subject
+unfit_observers book observers = flat_map (λ o. unfit book flags.at_instance (places.Observer o.name) o.part.body) observers
+
 abbrev pub unfit_callbacks : List Promised → BeanDecl → List Subject
 unfit_callbacks book d =
     unfit_part book flags.at_instance places.Construct d.construct
@@ -63,5 +67,6 @@ unfit_around book d =
 abbrev pub unfit_parts : List Promised → Decl → List Subject
 unfit_parts book (decls.Bean d) =
     unfit_callbacks book d ++ unfit_methods book d.methods ++ unfit_producers book d.producers ++ unfit_disposers book d.disposers
+    ++ unfit_observers book d.observers
 unfit_parts book (decls.Interceptor d) = unfit_around book d
 unfit_parts book d = []

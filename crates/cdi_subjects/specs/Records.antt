@@ -1,5 +1,5 @@
 -- What is at fault of a declaration, by its records: that of a bean, and behind it those of its producer methods.
-use Rattle.std.specs.Prelude.{ℕ, Option, None, Bool, List, [], ◌∷◌, ◌++◌, map, filter, length, take, drop, nat_lt, not, if◌then◌else◌}
+use Rattle.std.specs.Prelude.{ℕ, Option, Bool, true, false, List, [], ◌∷◌, ◌++◌, map, filter, length, take, drop, nat_lt, not, if◌then◌else◌}
 use Rattle.std.specs.List.{flat_map, list_any, zip}
 use Rattle.std.specs.Option.{option_to_list}
 use Rattle.cdi_model.specs.declared.decl.Attributes.{Attributes}
@@ -7,8 +7,13 @@ use Rattle.cdi_model.specs.declared.decl.BeanDecl.{BeanDecl}
 use Rattle.cdi_model.specs.declared.decl.Decl.{Decl}
 use Rattle.cdi_model.specs.declared.decl.Decl.TheVariants as decls
 use Rattle.cdi_model.specs.declared.decl.DisposerDecl.{DisposerDecl}
+use Rattle.cdi_model.specs.declared.decl.ObserverDecl.{ObserverDecl}
 use Rattle.cdi_model.specs.declared.decl.PointDecl.{PointDecl}
 use Rattle.cdi_model.specs.declared.decl.ProducerDecl.{ProducerDecl}
+use Rattle.cdi_model.specs.declared.decl.Scope.{Scope}
+use Rattle.cdi_model.specs.declared.decl.Scope.TheVariants as scopes
+use Rattle.cdi_model.specs.declared.mention.PointPlace.{PointPlace}
+use Rattle.cdi_model.specs.declared.mention.PointPlace.TheVariants as points_are
 use Rattle.cdi_model.specs.declared.place.BeanPlace.{BeanPlace}
 use Rattle.cdi_model.specs.declared.place.BeanPlace.TheVariants as spots
 use Rattle.cdi_model.specs.declared.quals.Qual.{Qual}
@@ -53,26 +58,66 @@ with_two ds bs disposers = map subjects.Producer
 -- ---- injection points
 
 -- the points whose choice, which stands at the same place, is such
-abbrev pub at_fault_among : (PointDecl → Choice → Bool) → Option (List ℕ) → List PointDecl → List Choice → List Subject
-at_fault_among test producer points choices =
-    map (λ z. subjects.Point producer z.0.name) (filter (λ z. test z.0 z.1) (zip points choices))
+abbrev pub at_fault_among : (PointDecl → Choice → Bool) → PointPlace → List PointDecl → List Choice → List Subject
+at_fault_among test place points choices = map (λ z. subjects.Point place z.0.name) (filter (λ z. test z.0 z.1) (zip points choices))
 
 -- those of an enabled bean
-abbrev pub at_fault : (PointDecl → Choice → Bool) → Effective → List PointDecl → List Choice → List Subject
-at_fault test b points choices = if b.is_enabled then at_fault_among test b.id.producer points choices else []
+abbrev pub at_fault : (PointDecl → Choice → Bool) → Effective → PointPlace → List PointDecl → List Choice → List Subject
+at_fault test b place points choices = if b.is_enabled then at_fault_among test place points choices else []
 
 -- those of each record of a producer method: its choices stand in front of those of the ones behind it
 abbrev pub at_fault_by : (PointDecl → Choice → Bool) → List Effective → List ProducerDecl → List Choice → List Subject
 at_fault_by test (b ∷ bs) (p ∷ ps) choices =
-    at_fault test b p.params (take (length p.params) choices) ++ at_fault_by test bs ps (drop (length p.params) choices)
+    at_fault test b (points_are.Producer p.name) p.params (take (length p.params) choices)
+    ++ at_fault_by test bs ps (drop (length p.params) choices)
 at_fault_by test _ _ choices = []
 
--- those of each record of a declaration: the choices of the bean's own points stand in front
+-- those of each observer method of a bean, likewise
+abbrev pub at_fault_of : (PointDecl → Choice → Bool) → Effective → List ObserverDecl → List Choice → List Subject
+at_fault_of test b [] choices = []
+at_fault_of test b (o ∷ os) choices =
+    at_fault test b (points_are.Observer o.name) o.params (take (length o.params) choices)
+    ++ at_fault_of test b os (drop (length o.params) choices)
+
+-- the parameters of producer methods
+abbrev pub params_of : List ProducerDecl → List PointDecl
+params_of producers = flat_map (λ p. p.params) producers
+
+-- of the choices for the points of a bean, those for its own, behind them those for the parameters of its producer methods, and
+-- behind these those for the parameters of its observer methods
+abbrev pub own_choices : BeanDecl → List Choice → List Choice
+own_choices d choices = take (length d.points) choices
+
+abbrev pub product_choices : BeanDecl → List Choice → List Choice
+product_choices d choices = take (length (params_of d.producers)) (drop (length d.points) choices)
+
+abbrev pub observer_choices : BeanDecl → List Choice → List Choice
+observer_choices d choices = drop (length (params_of d.producers)) (drop (length d.points) choices)
+
+-- those of each record of a declaration
 abbrev pub points_by : (PointDecl → Choice → Bool) → Decl → List Effective → List Choice → List Subject
 points_by test (decls.Bean d) (b ∷ bs) choices =
-    at_fault test b d.points (take (length d.points) choices) ++ at_fault_by test bs d.producers (drop (length d.points) choices)
-points_by test (decls.Interceptor d) bs choices = if is_enabled d then at_fault_among test None d.points choices else []
+    at_fault test b points_are.Constructor d.points (own_choices d choices)
+    ++ at_fault_by test bs d.producers (product_choices d choices)
+    ++ at_fault_of test b d.observers (observer_choices d choices)
+points_by test (decls.Interceptor d) bs choices =
+    if is_enabled d then at_fault_among test points_are.Constructor d.points choices else []
 points_by test _ _ choices = []
+
+-- ---- conditional observer methods
+
+abbrev pub is_dependent : Scope → Bool
+is_dependent scopes.Dependent = true
+is_dependent other = false
+
+abbrev pub conditional_of : BeanDecl → Effective → List Subject
+conditional_of bean b =
+    if is_dependent b.scope then map (λ o. subjects.Observer o.name) (filter (λ o. o.is_conditional) bean.observers) else []
+
+-- the same by the record of its managed bean
+abbrev pub conditional_by : Decl → List Effective → List Subject
+conditional_by (decls.Bean d) (b ∷ bs) = conditional_of d b
+conditional_by _ _ = []
 
 -- ---- bindings
 
@@ -80,13 +125,19 @@ points_by test _ _ choices = []
 abbrev pub conflict_at : List Decl → List Qual → BeanDecl → BeanPlace → Subject → List Subject
 conflict_at ds class d place subject = if has_conflict ds (set_by ds class d place) then subject ∷ [] else []
 
+-- the producer methods that are not static
+abbrev pub conflicts_at_producers : List Decl → List Qual → BeanDecl → List Subject
+conflicts_at_producers ds class d =
+    flat_map (λ p. conflict_at ds class d (spots.Producer p.name) (subjects.Part (places.Producer p.name)))
+    (filter (λ p. not p.is_static) d.producers)
+
 -- the class, and the places with bindings of their own
 abbrev pub conflicts_in : List Decl → List Qual → BeanDecl → List Subject
 conflicts_in ds class d =
     conflict_at ds class d spots.Construct subjects.Class
     ++ flat_map (λ m. conflict_at ds class d (spots.Method m.name) (subjects.Part (places.Method m.name))) d.methods
-    ++ flat_map (λ p. conflict_at ds class d (spots.Producer p.name) (subjects.Part (places.Producer p.name)))
-    (filter (λ p. not p.is_static) d.producers)
+    ++ conflicts_at_producers ds class d
+    ++ flat_map (λ o. conflict_at ds class d (spots.Observer o.name) (subjects.Part (places.Observer o.name))) d.observers
 
 -- the same by the record of its managed bean
 abbrev pub conflicts_by : List Decl → Decl → List Effective → List Subject

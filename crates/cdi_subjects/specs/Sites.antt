@@ -9,6 +9,7 @@ use Rattle.cdi_model.specs.declared.decl.Decl.{Decl}
 use Rattle.cdi_model.specs.declared.decl.Decl.TheVariants as decls
 use Rattle.cdi_model.specs.declared.decl.InterceptorDecl.{InterceptorDecl}
 use Rattle.cdi_model.specs.declared.decl.MethodDecl.{MethodDecl}
+use Rattle.cdi_model.specs.declared.decl.ObserverDecl.{ObserverDecl}
 use Rattle.cdi_model.specs.declared.decl.PartDecl.{PartDecl}
 use Rattle.cdi_model.specs.declared.decl.PointDecl.{PointDecl}
 use Rattle.cdi_model.specs.declared.decl.ProducerDecl.{ProducerDecl}
@@ -23,6 +24,7 @@ use Rattle.cdi_observe.specs.Answers.{answer_to}
 use Rattle.cdi_faults.specs.declared.fault.Subject.{Subject}
 use Rattle.cdi_faults.specs.declared.fault.Subject.TheVariants as subjects
 use Rattle.cdi_faults.specs.declared.place.PartPlace.{PartPlace}
+use Rattle.cdi_subjects.specs.Records.{observer_choices, own_choices, product_choices}
 use Rattle.cdi_faults.specs.declared.place.PartPlace.TheVariants as places
 
 -- ---- methods
@@ -95,6 +97,10 @@ seen_by p own params = params ++ (if p.is_static then [] else own)
 abbrev pub lost_in_producer : List Decl → Sight → Sight → ProducerDecl → List Subject
 lost_in_producer ds own params p = lost_calls ds (seen_by p own params) (places.Producer p.name) p.part.calls
 
+-- an observer method sees its parameters and the points of its bean, which parameters go before (profile)
+abbrev pub lost_in_observer : List Decl → Sight → Sight → ObserverDecl → List Subject
+lost_in_observer ds own params o = lost_calls ds (params ++ own) (places.Observer o.name) o.part.calls
+
 -- those of an interceptor that sees these points, where it is enabled
 abbrev pub lost_around : List Decl → Sight → InterceptorDecl → List Subject
 lost_around ds sight d =
@@ -114,6 +120,7 @@ abbrev pub lost_sites : List Decl → Decl → List Subject
 lost_sites ds (decls.Bean d) =
     where_enabled (managed ds d) (lost_in_managed ds (sight_of ds d.points) d)
     ++ flat_map (λ p. where_enabled (product ds d p) (lost_in_producer ds (sight_of ds d.points) (sight_of ds p.params) p)) d.producers
+    ++ flat_map (λ o. where_enabled (managed ds d) (lost_in_observer ds (sight_of ds d.points) (sight_of ds o.params) o)) d.observers
 lost_sites ds (decls.Interceptor d) = lost_around ds (sight_of ds d.points) d
 lost_sites ds d = []
 
@@ -126,10 +133,18 @@ lost_by_products ds own (b ∷ bs) (p ∷ ps) choices =
     ++ lost_by_products ds own bs ps (drop (length p.params) choices)
 lost_by_products ds own _ _ choices = []
 
--- the choices of the bean's own points stand in front
+-- those of each observer method of a bean, likewise
+abbrev pub lost_by_observers : List Decl → Sight → Effective → List ObserverDecl → List Choice → List Subject
+lost_by_observers ds own b [] choices = []
+lost_by_observers ds own b (o ∷ os) choices =
+    where_enabled b (lost_in_observer ds own (zip o.params (take (length o.params) choices)) o)
+    ++ lost_by_observers ds own b os (drop (length o.params) choices)
+
+-- those of each record of a declaration
 abbrev pub lost_by : List Decl → Decl → List Effective → List Choice → List Subject
 lost_by ds (decls.Bean d) (b ∷ bs) choices =
-    where_enabled b (lost_in_managed ds (zip d.points (take (length d.points) choices)) d)
-    ++ lost_by_products ds (zip d.points (take (length d.points) choices)) bs d.producers (drop (length d.points) choices)
+    where_enabled b (lost_in_managed ds (zip d.points (own_choices d choices)) d)
+    ++ lost_by_products ds (zip d.points (own_choices d choices)) bs d.producers (product_choices d choices)
+    ++ lost_by_observers ds (zip d.points (own_choices d choices)) b d.observers (observer_choices d choices)
 lost_by ds (decls.Interceptor d) bs choices = lost_around ds (zip d.points choices) d
 lost_by ds _ _ choices = []

@@ -17,6 +17,8 @@ use Rattle.cdi_model.specs.declared.decl.Kind.TheVariants as kinds
 use Rattle.cdi_model.specs.declared.decl.PointDecl.{PointDecl}
 use Rattle.cdi_model.specs.declared.decl.UseKind.{UseKind}
 use Rattle.cdi_model.specs.declared.decl.UseKind.TheVariants as uses
+use Rattle.cdi_model.specs.declared.mention.PointPlace.{PointPlace}
+use Rattle.cdi_model.specs.declared.mention.PointPlace.TheVariants as points_are
 use Rattle.cdi_model.specs.declared.mention.TypePlace.{TypePlace}
 use Rattle.cdi_model.specs.declared.mention.TypePlace.TheVariants as places
 use Rattle.cdi_model.specs.Mentions.{Mention, TypeIn, UseOf, StereotypeOf, mentions, listed_types}
@@ -42,7 +44,7 @@ use Rattle.cdi_subjects.specs.declared.points.Verdict.{Verdict}
 use Rattle.cdi_subjects.specs.declared.points.Verdict.TheVariants as verdicts
 use Rattle.cdi_subjects.specs.Parts.{unfit_parts}
 use Rattle.cdi_subjects.specs.Proxies.{is_unproxyable}
-use Rattle.cdi_subjects.specs.Records.{conflicts_in}
+use Rattle.cdi_subjects.specs.Records.{conditional_of, conflicts_in}
 use Rattle.cdi_subjects.specs.Sites.{lost_sites}
 
 -- ---- subjects among what a declaration names
@@ -182,6 +184,12 @@ abbrev pub binding_conflicts : List Decl → Decl → List Subject
 binding_conflicts ds (decls.Bean d) = conflicts_in ds (class_bindings ds d) d
 binding_conflicts ds d = []
 
+-- ---- conditional observer methods of dependent beans (CDI 4.0, Conditional observer methods)
+
+abbrev pub conditional_dependents : List Decl → Decl → List Subject
+conditional_dependents ds (decls.Bean d) = conditional_of d (managed ds d)
+conditional_dependents ds d = []
+
 -- ---- injection points of enabled beans and interceptors
 
 abbrev pub is_unsatisfied : Choice → Bool
@@ -198,18 +206,19 @@ has_verdict ds verdicts.Ambiguous point choice = is_ambiguous choice
 has_verdict ds verdicts.Unproxyable point choice = is_unproxyable ds point choice
 
 -- the points whose choice is such
-abbrev pub points_such : (PointDecl → Choice → Bool) → List Decl → Option (List ℕ) → List PointDecl → List Subject
-points_such test ds producer points = map (λ p. subjects.Point producer p.name) (filter (λ p. test p (answer_to ds p)) points)
+abbrev pub points_such : (PointDecl → Choice → Bool) → List Decl → PointPlace → List PointDecl → List Subject
+points_such test ds place points = map (λ p. subjects.Point place p.name) (filter (λ p. test p (answer_to ds p)) points)
 
 -- those of an enabled bean
-abbrev pub points_with : (PointDecl → Choice → Bool) → List Decl → Effective → Option (List ℕ) → List PointDecl → List Subject
-points_with test ds bean producer points = if bean.is_enabled then points_such test ds producer points else []
+abbrev pub points_with : (PointDecl → Choice → Bool) → List Decl → Effective → PointPlace → List PointDecl → List Subject
+points_with test ds bean place points = if bean.is_enabled then points_such test ds place points else []
 
 abbrev pub points_at_fault : (PointDecl → Choice → Bool) → List Decl → Decl → List Subject
 points_at_fault test ds (decls.Bean d) =
-    points_with test ds (managed ds d) None d.points
-    ++ flat_map (λ p. points_with test ds (product ds d p) (Some p.name) p.params) d.producers
-points_at_fault test ds (decls.Interceptor d) = if is_enabled d then points_such test ds None d.points else []
+    points_with test ds (managed ds d) points_are.Constructor d.points
+    ++ flat_map (λ p. points_with test ds (product ds d p) (points_are.Producer p.name) p.params) d.producers
+    ++ flat_map (λ o. points_with test ds (managed ds d) (points_are.Observer o.name) o.params) d.observers
+points_at_fault test ds (decls.Interceptor d) = if is_enabled d then points_such test ds points_are.Constructor d.points else []
 points_at_fault test ds d = []
 
 -- ---- by code
@@ -224,6 +233,7 @@ subjects_at_fault codes_of.ScopeConflict ds book d = scope_conflicts (entries ds
 subjects_at_fault codes_of.BindingConflict ds book d = binding_conflicts ds d
 subjects_at_fault codes_of.Member ds book d = bad_uses ds d
 subjects_at_fault codes_of.Disposer ds book d = disposers_at_fault ds d
+subjects_at_fault codes_of.ConditionalDependent ds book d = conditional_dependents ds d
 subjects_at_fault codes_of.Body ds book d = unfit_parts book d
 subjects_at_fault codes_of.NoBinding ds book d = whole_if (is_unbound d)
 subjects_at_fault codes_of.Unsatisfied ds book d = points_at_fault (has_verdict ds verdicts.Unsatisfied) ds d

@@ -3,13 +3,14 @@ ghost use Rattle.std.specs.Prelude.{◌≡◌, ◌++◌, IfOk, OnOk};
 ghost use Rattle.cdi_bodies.specs.Book.{promise_of};
 ghost use Rattle.cdi_model.specs.declared.decl.Decl.TheVariants as decls;
 ghost use Rattle.cdi_subjects.specs.Parts.{allowed_to, is_fit, unfit, unfit_around, unfit_callbacks, unfit_disposers, unfit_methods};
-ghost use Rattle.cdi_subjects.specs.Parts.{unfit_part};
+ghost use Rattle.cdi_subjects.specs.Parts.{unfit_observers, unfit_part};
 ghost use Rattle.cdi_subjects.specs.Parts.{unfit_parts, unfit_producers};
 
 use cdi_bodies::{Bodies, Promise};
 use cdi_faults::{PartPlace, Subject};
 use cdi_model::{
-    BeanDecl, Decl, DisposerDecl, Ident, InterceptorDecl, MethodDecl, PartDecl, ProducerDecl,
+    BeanDecl, Decl, DisposerDecl, Ident, InterceptorDecl, MethodDecl, ObserverDecl, PartDecl,
+    ProducerDecl,
 };
 use std::alloc::{AllocError, Global};
 
@@ -41,7 +42,8 @@ fn push_of_bean<B: Bodies>(
     push_of_callbacks(book, bean, subjects)?;
     push_of_methods(book, bean.methods.as_slice(), subjects)?;
     push_of_producers(book, bean.producers.as_slice(), subjects)?;
-    push_of_disposers(book, bean.disposers.as_slice(), subjects)
+    push_of_disposers(book, bean.disposers.as_slice(), subjects)?;
+    push_of_observers(book, bean.observers.as_slice(), subjects)
 }
 
 /// Appends those of an interceptor.
@@ -165,6 +167,27 @@ fn push_of_disposers<B: Bodies>(
     for disposer in disposers {
         let place = PartPlace::Disposer(disposer.name);
         push_unfit(book, Promise::AT_DISPOSAL, place, disposer.body, subjects)?;
+    }
+    Ok(())
+}
+
+/// Appends those of observer methods.
+fn push_of_observers<B: Bodies>(
+    book: &B,
+    observers: &[ObserverDecl],
+    subjects: &mut Vec<Subject>,
+) -> Result<(), AllocError>
+    ensures { OnOk result (subjects.new.items ≡ subjects.old.items ++ unfit_observers (B.promises book.now) observers.now) }
+{
+    for observer in observers {
+        let place = PartPlace::Observer(observer.name);
+        push_unfit(
+            book,
+            Promise::AT_INSTANCE,
+            place,
+            observer.part.body,
+            subjects,
+        )?;
     }
     Ok(())
 }

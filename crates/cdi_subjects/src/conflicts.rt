@@ -1,6 +1,6 @@
 //! Bindings of one type that differ (Interceptors 2.1, Associating an Interceptor using Interceptor Bindings).
 ghost use Rattle.std.specs.Prelude.{◌≡◌, ◌++◌, IfOk, OnOk};
-ghost use Rattle.cdi_subjects.specs.Records.{conflict_at, conflicts_by, conflicts_in};
+ghost use Rattle.cdi_subjects.specs.Records.{conflict_at, conflicts_at_producers, conflicts_by, conflicts_in};
 
 use cdi_effective::Effective;
 use cdi_faults::{PartPlace, Subject};
@@ -8,8 +8,8 @@ use cdi_intercept::{has_conflict, set_by};
 use cdi_model::{BeanDecl, BeanPlace, Decl, Decls, Qual};
 use std::alloc::{AllocError, Global};
 
-/// The class of a bean whose bindings differ, and the methods and the producer methods that are not static at which they
-/// do, of a declaration that has these beans.
+/// The class of a bean whose bindings differ, and the methods, the producer methods that are not static and the observer
+/// methods at which they do, of a declaration that has these beans.
 pub(crate) fn binding_conflicts(
     alloc: Global,
     decls: &Decls,
@@ -43,6 +43,25 @@ fn push_conflicts(
         let subject = Subject::Part(PartPlace::Method(method.name));
         push_if_opposed(alloc, decls, class, bean, place, subject, subjects)?;
     }
+    push_of_producers(alloc, decls, class, bean, subjects)?;
+    for observer in bean.observers.as_slice() {
+        let place = BeanPlace::Observer(observer.name);
+        let subject = Subject::Part(PartPlace::Observer(observer.name));
+        push_if_opposed(alloc, decls, class, bean, place, subject, subjects)?;
+    }
+    Ok(())
+}
+
+/// Appends the producer methods that are not static at which two differ.
+fn push_of_producers(
+    alloc: Global,
+    decls: &Decls,
+    class: &[Qual],
+    bean: &BeanDecl,
+    subjects: &mut Vec<Subject>,
+) -> Result<(), AllocError>
+    ensures { OnOk result (subjects.new.items ≡ subjects.old.items ++ conflicts_at_producers decls.now class.now bean.now) }
+{
     for producer in bean.producers.as_slice() {
         if !producer.is_static {
             let place = BeanPlace::Producer(producer.name);

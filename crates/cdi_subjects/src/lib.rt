@@ -2,6 +2,7 @@
 #![tactic(auto)]
 
 mod bodies;
+mod conditional;
 mod conflicts;
 mod disposing;
 mod forms;

@@ -1,15 +1,15 @@
 //! Injection points without a bean, or with one for which no class can stand (CDI 4.0, Unsatisfied and ambiguous
 //! dependencies; Unproxyable bean types).
-ghost use Rattle.std.specs.Prelude.{◌≡◌, ◌++◌, length, map, IfOk, OnOk};
+ghost use Rattle.std.specs.Prelude.{◌≡◌, ◌++◌, flat_map, length, map, IfOk, OnOk};
 ghost use Rattle.cdi_model.specs.declared.decl.Decl.TheVariants as declared;
 ghost use Rattle.cdi_observe.specs.Wanted.{points_of};
 ghost use Rattle.cdi_subjects.specs.Subjects.{has_verdict};
-ghost use Rattle.cdi_subjects.specs.Records.{at_fault, at_fault_among, points_by};
+ghost use Rattle.cdi_subjects.specs.Records.{at_fault, at_fault_among, at_fault_by, at_fault_of, params_of, points_by};
 
 use crate::proxies::is_unproxyable;
 use cdi_effective::Effective;
 use cdi_faults::Subject;
-use cdi_model::{BeanDecl, Decl, Decls, Ident, PointDecl};
+use cdi_model::{BeanDecl, Decl, Decls, ObserverDecl, PointDecl, PointPlace, ProducerDecl};
 use cdi_resolve::Choice;
 use std::alloc::{AllocError, Global};
 use std::rc::Rc;
@@ -68,14 +68,15 @@ pub(crate) fn points_at_fault(
         )?,
         Decl::Interceptor(interceptor) if interceptor.priority.is_some() => {
             let points = interceptor.points.as_slice();
-            push_among(alloc, decls, &None, points, answers, verdict, &mut subjects)?;
+            let place = PointPlace::Constructor;
+            push_among(alloc, decls, place, points, answers, verdict, &mut subjects)?;
         }
         _ => (),
     }
     Ok(subjects)
 }
 
-/// Appends those of a bean and of its products.
+/// Appends those of a bean, of its products and of its observer methods.
 fn push_of_bean(
     alloc: Global,
     decls: &Decls,
@@ -92,13 +93,72 @@ fn push_of_bean(
     let Some((managed, products)) = beans.split_first() else {
         return Ok(());
     };
-    let points = bean.points.as_slice();
-    let (own, mut rest) = answers.split_at(points.len());
-    push_at_fault(alloc, decls, managed, points, own, verdict, subjects)?;
-    for (product, producer) in products.iter().zip(bean.producers.as_slice()) {
+    let (points, producers) = (bean.points.as_slice(), bean.producers.as_slice());
+    let (own, rest) = answers.split_at(points.len());
+    let (of_products, of_observers) = rest.split_at(count_params(producers));
+    let place = PointPlace::Constructor;
+    push_at_fault(alloc, decls, managed, place, points, own, verdict, subjects)?;
+    push_of_products(alloc, decls, products, producers, of_products, verdict, subjects)?;
+    let observers = bean.observers.as_slice();
+    push_of_observers(alloc, decls, managed, observers, of_observers, verdict, subjects)
+}
+
+/// How many parameters some producer methods have.
+pub(crate) fn count_params(producers: &[ProducerDecl]) -> usize
+    ensures { result ≡ length (params_of producers.now) }
+{
+    let mut count = 0;
+    for producer in producers {
+        count += producer.params.len();
+    }
+    count
+}
+
+/// Appends those of products.
+fn push_of_products(
+    alloc: Global,
+    decls: &Decls,
+    products: &[Effective],
+    producers: &[ProducerDecl],
+    answers: &[Rc<Choice>],
+    verdict: Verdict,
+    subjects: &mut Vec<Subject>,
+) -> Result<(), AllocError>
+    requires { length answers.now ≡ length (params_of producers.now) }
+    ensures { OnOk result (subjects.new.items ≡ subjects.old.items
+        ++ at_fault_by (has_verdict decls.now verdict) products.now producers.now (map (λ answer. answer.value) answers.now)) }
+{
+    let mut rest = answers;
+    for (product, producer) in products.iter().zip(producers) {
         let points = producer.params.as_slice();
         let (own, others) = rest.split_at(points.len());
-        push_at_fault(alloc, decls, product, points, own, verdict, subjects)?;
+        let place = PointPlace::Producer(producer.name);
+        push_at_fault(alloc, decls, product, place, points, own, verdict, subjects)?;
+        rest = others;
+    }
+    Ok(())
+}
+
+/// Appends those of the observer methods of a bean.
+fn push_of_observers(
+    alloc: Global,
+    decls: &Decls,
+    bean: &Effective,
+    observers: &[ObserverDecl],
+    answers: &[Rc<Choice>],
+    verdict: Verdict,
+    subjects: &mut Vec<Subject>,
+) -> Result<(), AllocError>
+    requires { length answers.now ≡ length (flat_map (λ o. o.params) observers.now) }
+    ensures { OnOk result (subjects.new.items ≡ subjects.old.items
+        ++ at_fault_of (has_verdict decls.now verdict) bean.now observers.now (map (λ answer. answer.value) answers.now)) }
+{
+    let mut rest = answers;
+    for observer in observers {
+        let points = observer.params.as_slice();
+        let (own, others) = rest.split_at(points.len());
+        let place = PointPlace::Observer(observer.name);
+        push_at_fault(alloc, decls, bean, place, points, own, verdict, subjects)?;
         rest = others;
     }
     Ok(())
@@ -109,45 +169,38 @@ fn push_at_fault(
     alloc: Global,
     decls: &Decls,
     bean: &Effective,
+    place: PointPlace,
     points: &[PointDecl],
     answers: &[Rc<Choice>],
     verdict: Verdict,
     subjects: &mut Vec<Subject>,
 ) -> Result<(), AllocError>
     ensures { OnOk result (subjects.new.items ≡ subjects.old.items
-        ++ at_fault (has_verdict decls.now verdict) bean.now points.now (map (λ answer. answer.value) answers.now)) }
+        ++ at_fault (has_verdict decls.now verdict) bean.now place points.now (map (λ answer. answer.value) answers.now)) }
 {
     if !bean.is_enabled {
         return Ok(());
     }
-    push_among(
-        alloc,
-        decls,
-        &bean.id.producer,
-        points,
-        answers,
-        verdict,
-        subjects,
-    )
+    push_among(alloc, decls, place, points, answers, verdict, subjects)
 }
 
-/// Appends the injection points, of a producer method where one is given, whose answers are such.
+/// Appends the injection points in a place whose answers are such.
 fn push_among(
     alloc: Global,
     decls: &Decls,
-    producer: &Option<Ident>,
+    place: PointPlace,
     points: &[PointDecl],
     answers: &[Rc<Choice>],
     verdict: Verdict,
     subjects: &mut Vec<Subject>,
 ) -> Result<(), AllocError>
     ensures { OnOk result (subjects.new.items ≡ subjects.old.items
-        ++ at_fault_among (has_verdict decls.now verdict) producer.now points.now (map (λ answer. answer.value) answers.now)) }
+        ++ at_fault_among (has_verdict decls.now verdict) place points.now (map (λ answer. answer.value) answers.now)) }
 {
     for (point, answer) in points.iter().zip(answers) {
         if verdict.is_of(alloc, decls, point, answer)? {
             subjects.push(Subject::Point {
-                producer: *producer,
+                place,
                 name: point.name,
             })?;
         }

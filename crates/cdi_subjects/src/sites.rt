@@ -1,5 +1,5 @@
 //! Call sites that name what is not there (profile).
-ghost use Rattle.std.specs.Prelude.{◌≡◌, ◌++◌, length, map, IfOk, OnOk};
+ghost use Rattle.std.specs.Prelude.{◌≡◌, ◌++◌, flat_map, length, map, IfOk, OnOk};
 ghost use Rattle.std.specs.List.{list_any, zip};
 ghost use Rattle.std.specs.Str.{bytes_eq};
 ghost use Rattle.std.specs.Option.{option_copied};
@@ -8,14 +8,16 @@ ghost use Rattle.cdi_effective.specs.Beans.{entries};
 ghost use Rattle.cdi_observe.specs.Answers.{answer_to};
 ghost use Rattle.cdi_observe.specs.Wanted.{points_of};
 ghost use Rattle.cdi_subjects.specs.Sites.{choice_at, has_method, is_lost, lacks_method, lost_around, lost_by, lost_call};
-ghost use Rattle.cdi_subjects.specs.Sites.{lost_calls};
+ghost use Rattle.cdi_subjects.specs.Records.{params_of};
+ghost use Rattle.cdi_subjects.specs.Sites.{lost_by_observers, lost_by_products, lost_calls, lost_in_observer};
 ghost use Rattle.cdi_subjects.specs.Sites.{lost_sites, lost_in_managed, lost_in_methods, lost_in_part, lost_in_producer, where_enabled};
 
+use crate::points::count_params;
 use cdi_effective::{BeanId, Effective};
 use cdi_faults::{PartPlace, Subject};
 use cdi_model::{
-    BeanDecl, CallDecl, Decl, Decls, Ident, InterceptorDecl, Kind, MethodDecl, PartDecl, PointDecl,
-    ProducerDecl,
+    BeanDecl, CallDecl, Decl, Decls, Ident, InterceptorDecl, Kind, MethodDecl, ObserverDecl,
+    PartDecl, PointDecl, ProducerDecl,
 };
 use cdi_resolve::Choice;
 use std::alloc::{AllocError, Global};
@@ -120,18 +122,82 @@ fn push_of_bean(
     let Some((managed, products)) = beans.split_first() else {
         return Ok(());
     };
-    let points = bean.points.as_slice();
-    let (answers, mut rest) = answers.split_at(points.len());
+    let (points, producers) = (bean.points.as_slice(), bean.producers.as_slice());
+    let (answers, rest) = answers.split_at(points.len());
+    let (of_products, of_observers) = rest.split_at(count_params(producers));
     let own = Points { points, answers };
     push_of_managed(decls, managed, &own, bean, subjects)?;
-    for (product, producer) in products.iter().zip(bean.producers.as_slice()) {
+    push_of_products(decls, products, &own, producers, of_products, subjects)?;
+    let observers = bean.observers.as_slice();
+    push_of_observers(decls, managed, &own, observers, of_observers, subjects)
+}
+
+/// Appends those of producer methods whose bean has these points.
+fn push_of_products(
+    decls: &Decls,
+    products: &[Effective],
+    own: &Points<'_>,
+    producers: &[ProducerDecl],
+    answers: &[Rc<Choice>],
+    subjects: &mut Vec<Subject>,
+) -> Result<(), AllocError>
+    requires { length answers.now ≡ length (params_of producers.now) }
+    ensures { OnOk result (subjects.new.items ≡ subjects.old.items
+        ++ lost_by_products decls.now own.now products.now producers.now (map (λ answer. answer.value) answers.now)) }
+{
+    let mut rest = answers;
+    for (product, producer) in products.iter().zip(producers) {
         let points = producer.params.as_slice();
         let (answers, others) = rest.split_at(points.len());
         let params = Points { points, answers };
-        push_of_product(decls, product, &own, &params, producer, subjects)?;
+        push_of_product(decls, product, own, &params, producer, subjects)?;
         rest = others;
     }
     Ok(())
+}
+
+/// Appends those of the observer methods of a bean that has these points.
+fn push_of_observers(
+    decls: &Decls,
+    bean: &Effective,
+    own: &Points<'_>,
+    observers: &[ObserverDecl],
+    answers: &[Rc<Choice>],
+    subjects: &mut Vec<Subject>,
+) -> Result<(), AllocError>
+    requires { length answers.now ≡ length (flat_map (λ o. o.params) observers.now) }
+    ensures { OnOk result (subjects.new.items ≡ subjects.old.items
+        ++ lost_by_observers decls.now own.now bean.now observers.now (map (λ answer. answer.value) answers.now)) }
+{
+    let mut rest = answers;
+    for observer in observers {
+        let points = observer.params.as_slice();
+        let (answers, others) = rest.split_at(points.len());
+        let params = Points { points, answers };
+        push_of_observer(decls, bean, own, &params, observer, subjects)?;
+        rest = others;
+    }
+    Ok(())
+}
+
+/// Appends those of an observer method that has these parameters and whose bean has these points, if the bean is enabled.
+fn push_of_observer(
+    decls: &Decls,
+    bean: &Effective,
+    own: &Points<'_>,
+    params: &Points<'_>,
+    observer: &ObserverDecl,
+    subjects: &mut Vec<Subject>,
+) -> Result<(), AllocError>
+    ensures { OnOk result (subjects.new.items ≡ subjects.old.items
+        ++ where_enabled bean.now (lost_in_observer decls.now own.now params.now observer.now)) }
+{
+    if !bean.is_enabled {
+        return Ok(());
+    }
+    let place = PartPlace::Observer(observer.name);
+    let calls = observer.part.calls.as_slice();
+    push_lost(decls, params, own, &place, calls, subjects)
 }
 
 /// Appends those of an interceptor that sees these points, if it is enabled.

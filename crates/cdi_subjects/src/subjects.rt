@@ -6,6 +6,7 @@ ghost use Rattle.cdi_observe.specs.Wanted.{points_of};
 ghost use Rattle.cdi_subjects.specs.Subjects.{subjects_at_fault};
 
 use crate::bodies::unfit_parts;
+use crate::conditional::conditional_dependents;
 use crate::conflicts::binding_conflicts;
 use crate::disposing::disposers_at_fault;
 use crate::forms::{bad_kinds, cycles, unbound};
@@ -27,7 +28,7 @@ use std::rc::Rc;
 /// in the order in which they are declared. Its records and the answers to its injection points are given in their
 /// order; no part has a fault of a name or a circle, which are no declaration's. It takes memory for the parts, and for
 /// searches among the declarations.
-#[tactic(auto, using(crate::proofs::RecordLemmas::typed_by_entries, crate::proofs::RecordLemmas::conflicts_by_entries, crate::proofs::PointLemmas::points_by_entries))]
+#[tactic(auto, using(crate::proofs::RecordLemmas::typed_by_entries, crate::proofs::RecordLemmas::conflicts_by_entries, crate::proofs::RecordLemmas::conditional_by_entries, crate::proofs::PointLemmas::points_by_entries))]
 pub fn subjects_at_fault<B: Bodies>(
     alloc: Global,
     code: Code,
@@ -50,6 +51,7 @@ pub fn subjects_at_fault<B: Bodies>(
         Code::BindingConflict => binding_conflicts(alloc, decls, decl, beans),
         Code::Member => bad_uses(alloc, decls, decl),
         Code::Disposer => disposers_at_fault(alloc, decls, decl, beans),
+        Code::ConditionalDependent => conditional_dependents(alloc, decl, beans),
         Code::Body => unfit_parts(alloc, book, decl),
         Code::NoBinding => unbound(alloc, decl),
         Code::Unsatisfied => {

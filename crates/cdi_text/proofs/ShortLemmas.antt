@@ -10,7 +10,7 @@ use Rattle.toml.specs.Data.{Data, table, Items, no_items, item, Members, get_mem
 use Rattle.cdi_model.specs.Answering.{Answers}
 use Rattle.cdi_model.specs.CallText.{call_of}
 use Rattle.cdi_model.specs.Quals.{list_limit}
-use Rattle.cdi_model.specs.Short.{HasFewCalls, HasShortLists, IsShortBean, IsShortInterceptor, IsShortProducer}
+use Rattle.cdi_model.specs.Short.{HasShortLists, IsShortBean, IsShortInterceptor, IsShortObserver, IsShortPart, IsShortProducer}
 use Rattle.cdi_model.specs.declared.decl.Decl.{Decl}
 use Rattle.cdi_model.specs.declared.decl.Kind.{Kind}
 use Rattle.cdi_model.specs.declared.decl.Kind.TheVariants as kinds
@@ -18,8 +18,9 @@ use Rattle.cdi_model.specs.declared.decl.PartDecl.{PartDecl}
 use Rattle.cdi_model.specs.declared.refusal.Error.{Error}
 use Rattle.cdi_model.specs.declared.refusal.Refusal.{Refusal}
 use Rattle.cdi_model.specs.declared.refusal.Refusal.TheVariants.{TooLong}
+use Rattle.cdi_uses.specs.Events.{event_of}
 use Rattle.cdi_text.specs.declared.conditions.Condition.{Condition}
-use Rattle.cdi_text.specs.declared.schema.Item.TheVariants.{Call, Table}
+use Rattle.cdi_text.specs.declared.schema.Item.TheVariants.{Call, Event, Table}
 use Rattle.cdi_text.specs.declared.schema.Schema.{Schema}
 use Rattle.cdi_text.specs.declared.schema.Schema.TheVariants as schemas
 use Rattle.cdi_text.specs.declared.schema.Shape.TheVariants.{One, Many}
@@ -28,9 +29,9 @@ use Rattle.cdi_text.specs.Lists.{count_of}
 use Rattle.cdi_text.specs.Reading.{decl_of, decl_of_kind, decl_of_members, decl_of_tree, kind_in, refused_or}
 use Rattle.cdi_text.specs.Reading.{schema_of, spelled, tree_of}
 use Rattle.cdi_text.specs.Schema.{shape_of}
-use Rattle.cdi_text.specs.Spelled.{with_front, items_at, calls_in, calls_at, one_at, each, each_at, part_decl}
-use Rattle.cdi_text.specs.Spelled.{method_decl, point_decl}
-use Rattle.cdi_text.specs.Spelled.{producer_decl, bean_decl, interceptor_decl}
+use Rattle.cdi_text.specs.Spelled.{with_front, items_at, calls_in, calls_at, events_in, events_at, one_at, each, each_at}
+use Rattle.cdi_text.specs.Spelled.{part_decl, method_decl, point_decl, producer_decl, observer_decl, bean_decl}
+use Rattle.cdi_text.specs.Spelled.{interceptor_decl}
 use Rattle.cdi_text.proofs.Soundness.{count_at, table_at, tables_at}
 
 -- ---- lists
@@ -43,6 +44,11 @@ length-calls : (ds : Items) → length (calls_in ds) ≤ count_of ds
 length-calls no_items = omega arith
 length-calls (item d ds) =
     length-front (option_and_then call_of (as_str d)) (calls_in ds) (count_of ds) (length-calls ds)
+
+length-events : (ds : Items) → length (events_in ds) ≤ count_of ds
+length-events no_items = omega arith
+length-events (item d ds) =
+    length-front (option_map event_of (as_str d)) (events_in ds) (count_of ds) (length-events ds)
 
 length-each : {A : Type 0} (f : Members → A) (ds : Items) → length (each f ds) ≤ count_of ds
 length-each f no_items = omega arith
@@ -67,13 +73,31 @@ few-calls schema ms sound shape =
     let calls = length-calls (items_at (codes "calls") ms) in
     omega (arith, few, calls)
 
-few-params : (ms : Members) → is_sound schemas.Producer ms ≡ true
+few-fires : (schema : Schema) (ms : Members) → is_sound schema ms ≡ true
+    → shape_of schema (codes "fires") ≡ Some (Many Event)
+    → length (events_at (codes "fires") ms) ≤ list_limit
+few-fires schema ms sound shape =
+    let few = few-items schema ms (codes "fires") (λ ds e. count_at schema Event (codes "fires") ds ms sound shape e) in
+    let fires = length-events (items_at (codes "fires") ms) in
+    omega (arith, few, fires)
+
+few-params : (schema : Schema) (ms : Members) → is_sound schema ms ≡ true
+    → shape_of schema (codes "params") ≡ Some (Many (Table schemas.Point))
     → length (each_at point_decl (codes "params") ms) ≤ list_limit
-few-params ms sound =
-    let few = few-items schemas.Producer ms (codes "params")
-    (λ ds e. count_at schemas.Producer (Table schemas.Point) (codes "params") ds ms sound refl e) in
+few-params schema ms sound shape =
+    let few = few-items schema ms (codes "params")
+    (λ ds e. count_at schema (Table schemas.Point) (codes "params") ds ms sound shape e) in
     let params = length-each point_decl (items_at (codes "params") ms) in
     omega (arith, few, params)
+
+-- the part of a sound table that has the keys of a part
+short-part : (schema : Schema) (ms : Members) → is_sound schema ms ≡ true
+    → shape_of schema (codes "calls") ≡ Some (Many Call) → shape_of schema (codes "fires") ≡ Some (Many Event)
+    → IsShortPart (part_decl ms)
+short-part schema ms sound calls fires = record {
+  calls = few-calls schema ms sound calls;
+  fires = few-fires schema ms sound fires;
+}
 
 -- ---- tables inside a table
 
@@ -124,36 +148,43 @@ from-each_at {A = A} f schema inner key ms k x sound shape e =
 
 -- ---- a bean, and an interceptor
 
-short-part : (schema : Schema) (key : List ℕ) (ms : Members) (part : PartDecl) → is_sound schema ms ≡ true
+short-one : (schema : Schema) (key : List ℕ) (ms : Members) (part : PartDecl) → is_sound schema ms ≡ true
     → shape_of schema key ≡ Some (One (Table schemas.Part)) → one_at part_decl key ms ≡ Some part
-    → HasFewCalls part
-short-part schema key ms part sound shape e =
+    → IsShortPart part
+short-one schema key ms part sound shape e =
     let of = from-one part_decl schema schemas.Part key ms part sound shape e in
-    subst HasFewCalls of.spells (few-calls schemas.Part of.ms of.sound refl)
+    subst IsShortPart of.spells (short-part schemas.Part of.ms of.sound refl refl)
 
 short-bean : (ms : Members) → is_sound schemas.Bean ms ≡ true → IsShortBean (bean_decl ms)
 short-bean ms sound = record {
-  construct = λ part e. short-part schemas.Bean (codes "construct") ms part sound refl e;
-  post = λ part e. short-part schemas.Bean (codes "post") ms part sound refl e;
-  pre = λ part e. short-part schemas.Bean (codes "pre") ms part sound refl e;
+  construct = λ part e. short-one schemas.Bean (codes "construct") ms part sound refl e;
+  post = λ part e. short-one schemas.Bean (codes "post") ms part sound refl e;
+  pre = λ part e. short-one schemas.Bean (codes "pre") ms part sound refl e;
   methods = λ k method e.
       let of = from-each_at method_decl schemas.Bean schemas.Method (codes "methods") ms k method sound refl e in
-      subst (λ m. HasFewCalls m.part) of.spells (few-calls schemas.Method of.ms of.sound refl);
+      subst (λ m. IsShortPart m.part) of.spells (short-part schemas.Method of.ms of.sound refl refl);
   producers = λ k producer e.
       let of = from-each_at producer_decl schemas.Bean schemas.Producer (codes "producers") ms k producer sound refl
       e in
       subst IsShortProducer of.spells (record {
-        params = few-params of.ms of.sound;
-        calls = few-calls schemas.Producer of.ms of.sound refl;
+        params = few-params schemas.Producer of.ms of.sound refl;
+        part = short-part schemas.Producer of.ms of.sound refl refl;
+      });
+  observers = λ k observer e.
+      let of = from-each_at observer_decl schemas.Bean schemas.Observer (codes "observers") ms k observer sound refl
+      e in
+      subst IsShortObserver of.spells (record {
+        params = few-params schemas.Observer of.ms of.sound refl;
+        part = short-part schemas.Observer of.ms of.sound refl refl;
       });
 }
 
 short-interceptor : (ms : Members) → is_sound schemas.Interceptor ms ≡ true → IsShortInterceptor (interceptor_decl ms)
 short-interceptor ms sound = record {
-  around_invoke = λ part e. short-part schemas.Interceptor (codes "around_invoke") ms part sound refl e;
-  around_construct = λ part e. short-part schemas.Interceptor (codes "around_construct") ms part sound refl e;
-  post = λ part e. short-part schemas.Interceptor (codes "post") ms part sound refl e;
-  pre = λ part e. short-part schemas.Interceptor (codes "pre") ms part sound refl e;
+  around_invoke = λ part e. short-one schemas.Interceptor (codes "around_invoke") ms part sound refl e;
+  around_construct = λ part e. short-one schemas.Interceptor (codes "around_construct") ms part sound refl e;
+  post = λ part e. short-one schemas.Interceptor (codes "post") ms part sound refl e;
+  pre = λ part e. short-one schemas.Interceptor (codes "pre") ms part sound refl e;
 }
 
 short-spelled : (kind : Kind) (ms : Members) → is_sound (schema_of kind) ms ≡ true → HasShortLists (spelled kind ms)

@@ -3,7 +3,7 @@ use Rattle.std.specs.Slice.Iter.{iter_rest}
 use Rattle.std.proofs.lemmas.Slice.Zip.{either_empty_from_Zip}
 use Rattle.cdi_subjects.specs.Subjects.{has_verdict}
 use Rattle.cdi_subjects.proofs.PointLemmas.{none_at_fault}
-use Rattle.cdi_subjects.proofs.points.push_of_bean.Goals as goal
+use Rattle.cdi_subjects.proofs.points.push_of_products.Goals as goal
 
 pub returns : goal.returns
 returns c =

@@ -2,7 +2,7 @@ use Rattle.std.proofs.Common.{◌++◌, map, sym, ap, ◌∙◌, append-nil}
 use Rattle.std.specs.Slice.Iter.{iter_rest}
 use Rattle.std.proofs.lemmas.Slice.Zip.{either_empty_from_Zip}
 use Rattle.cdi_subjects.proofs.SiteLemmas.{none_lost}
-use Rattle.cdi_subjects.proofs.sites.push_of_bean.Goals as goal
+use Rattle.cdi_subjects.proofs.sites.push_of_products.Goals as goal
 
 pub returns : goal.returns
 returns c =
