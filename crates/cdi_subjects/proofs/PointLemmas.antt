@@ -16,10 +16,9 @@ use Rattle.cdi_effective.specs.declared.records.Effective.{Effective}
 use Rattle.cdi_resolve.specs.declared.choice.Choice.{Choice}
 use Rattle.cdi_intercept.specs.Chains.{is_enabled}
 use Rattle.cdi_observe.specs.Answers.{answer_to}
-use Rattle.cdi_observe.specs.Wanted.{points_of}
+use Rattle.cdi_observe.specs.Wanted.{observer_choices, own_choices, params_of, points_of, product_choices}
 use Rattle.cdi_subjects.specs.Subjects.{points_at_fault, points_such, points_with}
-use Rattle.cdi_subjects.specs.Records.{at_fault, at_fault_among, at_fault_by, at_fault_of, params_of, points_by}
-use Rattle.cdi_subjects.specs.Records.{observer_choices, own_choices, product_choices}
+use Rattle.cdi_subjects.specs.Records.{at_fault, at_fault_among, at_fault_by, at_fault_of, points_by}
 use Rattle.cdi_faults.specs.declared.fault.Subject.{Subject}
 use Rattle.cdi_faults.specs.declared.fault.Subject.TheVariants as parts
 

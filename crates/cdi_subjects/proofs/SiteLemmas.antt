@@ -16,10 +16,9 @@ use Rattle.cdi_effective.specs.Beans.{entries, managed, product}
 use Rattle.cdi_effective.specs.declared.records.Effective.{Effective}
 use Rattle.cdi_resolve.specs.declared.choice.Choice.{Choice}
 use Rattle.cdi_observe.specs.Answers.{answer_to}
-use Rattle.cdi_observe.specs.Wanted.{points_of}
+use Rattle.cdi_observe.specs.Wanted.{observer_choices, params_of, points_of, product_choices}
 use Rattle.cdi_faults.specs.declared.place.PartPlace.{PartPlace}
 use Rattle.cdi_subjects.specs.Sites.{Sight, choice_at, lost_by, lost_by_products, lost_calls, lost_in_managed, lost_in_producer, lost_sites}
-use Rattle.cdi_subjects.specs.Records.{observer_choices, params_of, product_choices}
 use Rattle.cdi_subjects.specs.Sites.{lost_around, lost_by_observers, lost_in_observer, sight_of, where_enabled}
 use Rattle.cdi_subjects.proofs.PointLemmas.{choices_of_observers, choices_of_own, choices_of_products, first_choices, further_choices}
 use Rattle.cdi_subjects.proofs.PointLemmas.{observed}

@@ -24,6 +24,7 @@ use Rattle.cdi_intercept.specs.Chains.{is_enabled}
 use Rattle.cdi_intercept.specs.Conflicts.{has_conflict}
 use Rattle.cdi_intercept.specs.Sets.{set_by}
 use Rattle.cdi_resolve.specs.declared.choice.Choice.{Choice}
+use Rattle.cdi_observe.specs.Wanted.{own_choices, product_choices, observer_choices}
 use Rattle.cdi_faults.specs.declared.place.PartPlace.TheVariants as places
 use Rattle.cdi_faults.specs.declared.fault.Subject.{Subject}
 use Rattle.cdi_faults.specs.declared.fault.Subject.TheVariants as subjects
@@ -78,21 +79,6 @@ at_fault_of test b [] choices = []
 at_fault_of test b (o ∷ os) choices =
     at_fault test b (points_are.Observer o.name) o.params (take (length o.params) choices)
     ++ at_fault_of test b os (drop (length o.params) choices)
-
--- the parameters of producer methods
-abbrev pub params_of : List ProducerDecl → List PointDecl
-params_of producers = flat_map (λ p. p.params) producers
-
--- of the choices for the points of a bean, those for its own, behind them those for the parameters of its producer methods, and
--- behind these those for the parameters of its observer methods
-abbrev pub own_choices : BeanDecl → List Choice → List Choice
-own_choices d choices = take (length d.points) choices
-
-abbrev pub product_choices : BeanDecl → List Choice → List Choice
-product_choices d choices = take (length (params_of d.producers)) (drop (length d.points) choices)
-
-abbrev pub observer_choices : BeanDecl → List Choice → List Choice
-observer_choices d choices = drop (length (params_of d.producers)) (drop (length d.points) choices)
 
 -- those of each record of a declaration
 abbrev pub points_by : (PointDecl → Choice → Bool) → Decl → List Effective → List Choice → List Subject

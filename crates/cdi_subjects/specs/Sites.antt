@@ -24,7 +24,7 @@ use Rattle.cdi_observe.specs.Answers.{answer_to}
 use Rattle.cdi_faults.specs.declared.fault.Subject.{Subject}
 use Rattle.cdi_faults.specs.declared.fault.Subject.TheVariants as subjects
 use Rattle.cdi_faults.specs.declared.place.PartPlace.{PartPlace}
-use Rattle.cdi_subjects.specs.Records.{observer_choices, own_choices, product_choices}
+use Rattle.cdi_observe.specs.Wanted.{observer_choices, own_choices, product_choices}
 use Rattle.cdi_faults.specs.declared.place.PartPlace.TheVariants as places
 
 -- ---- methods

@@ -2,14 +2,15 @@
 //! dependencies; Unproxyable bean types).
 ghost use Rattle.std.specs.Prelude.{◌≡◌, ◌++◌, flat_map, length, map, IfOk, OnOk};
 ghost use Rattle.cdi_model.specs.declared.decl.Decl.TheVariants as declared;
-ghost use Rattle.cdi_observe.specs.Wanted.{points_of};
+ghost use Rattle.cdi_observe.specs.Wanted.{params_of, points_of};
 ghost use Rattle.cdi_subjects.specs.Subjects.{has_verdict};
-ghost use Rattle.cdi_subjects.specs.Records.{at_fault, at_fault_among, at_fault_by, at_fault_of, params_of, points_by};
+ghost use Rattle.cdi_subjects.specs.Records.{at_fault, at_fault_among, at_fault_by, at_fault_of, points_by};
 
 use crate::proxies::is_unproxyable;
 use cdi_effective::Effective;
 use cdi_faults::Subject;
 use cdi_model::{BeanDecl, Decl, Decls, ObserverDecl, PointDecl, PointPlace, ProducerDecl};
+use cdi_observe::count_params;
 use cdi_resolve::Choice;
 use std::alloc::{AllocError, Global};
 use std::rc::Rc;
@@ -101,17 +102,6 @@ fn push_of_bean(
     push_of_products(alloc, decls, products, producers, of_products, verdict, subjects)?;
     let observers = bean.observers.as_slice();
     push_of_observers(alloc, decls, managed, observers, of_observers, verdict, subjects)
-}
-
-/// How many parameters some producer methods have.
-pub(crate) fn count_params(producers: &[ProducerDecl]) -> usize
-    ensures { result ≡ length (params_of producers.now) }
-{
-    let mut count = 0;
-    for producer in producers {
-        count += producer.params.len();
-    }
-    count
 }
 
 /// Appends those of products.

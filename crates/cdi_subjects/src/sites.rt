@@ -6,19 +6,18 @@ ghost use Rattle.std.specs.Option.{option_copied};
 ghost use Rattle.cdi_model.specs.declared.decl.Decl.TheVariants as declared;
 ghost use Rattle.cdi_effective.specs.Beans.{entries};
 ghost use Rattle.cdi_observe.specs.Answers.{answer_to};
-ghost use Rattle.cdi_observe.specs.Wanted.{points_of};
+ghost use Rattle.cdi_observe.specs.Wanted.{params_of, points_of};
 ghost use Rattle.cdi_subjects.specs.Sites.{choice_at, has_method, is_lost, lacks_method, lost_around, lost_by, lost_call};
-ghost use Rattle.cdi_subjects.specs.Records.{params_of};
 ghost use Rattle.cdi_subjects.specs.Sites.{lost_by_observers, lost_by_products, lost_calls, lost_in_observer};
 ghost use Rattle.cdi_subjects.specs.Sites.{lost_sites, lost_in_managed, lost_in_methods, lost_in_part, lost_in_producer, where_enabled};
 
-use crate::points::count_params;
 use cdi_effective::{BeanId, Effective};
 use cdi_faults::{PartPlace, Subject};
 use cdi_model::{
     BeanDecl, CallDecl, Decl, Decls, Ident, InterceptorDecl, Kind, MethodDecl, ObserverDecl,
     PartDecl, PointDecl, ProducerDecl,
 };
+use cdi_observe::count_params;
 use cdi_resolve::Choice;
 use std::alloc::{AllocError, Global};
 use std::marker::Model;

@@ -1,7 +1,8 @@
 use Rattle.std.proofs.Common.{◌≡◌, ◌++◌, length, map}
 use Rattle.std.specs.Slice.Iter.{iter_rest}
 use Rattle.cdi_subjects.specs.Subjects.{has_verdict}
-use Rattle.cdi_subjects.specs.Records.{at_fault_by, params_of}
+use Rattle.cdi_observe.specs.Wanted.{params_of}
+use Rattle.cdi_subjects.specs.Records.{at_fault_by}
 use Rattle.cdi_subjects.proofs.points.push_of_products.Given as goal
 
 abbrev pub invariant-loop-product : goal.invariant-loop-product

@@ -1,6 +1,6 @@
 use Rattle.std.proofs.Common.{◌≡◌, ◌++◌, length, map}
 use Rattle.std.specs.Slice.Iter.{iter_rest}
-use Rattle.cdi_subjects.specs.Records.{params_of}
+use Rattle.cdi_observe.specs.Wanted.{params_of}
 use Rattle.cdi_subjects.specs.Sites.{lost_by_products}
 use Rattle.cdi_subjects.proofs.sites.push_of_products.Given as goal
 
