@@ -1,5 +1,5 @@
 //! How names, kinds, uses of qualifiers, values and failures print.
-use crate::decl::{CallDecl, Kind};
+use crate::decl::{CallDecl, EventDecl, Kind};
 use crate::name::{Ident, Name};
 use crate::outcome::{Failure, Val};
 use crate::quals::{Arguments, Members, Qual, Quals};
@@ -122,6 +122,36 @@ impl fmt::Display for CallDecl {
 
     fn fmt<W: fmt::Write>(&self, f: &mut fmt::Formatter<W>) -> fmt::Result {
         write!(f, "{}.{}", self.point, self.method)
+    }
+}
+
+/// Uses, each behind a space.
+#[derive(Clone, Copy)]
+struct Listed<'a>(&'a [Qual]);
+
+impl fmt::Display for Listed<'_> {
+    ghost use Rattle.std.specs.Prelude.{Some};
+    ghost use Rattle.cdi_model.specs.EventText.{text_of_uses};
+
+    ghost output = { λ listed. Some (text_of_uses listed.0.now) };
+
+    fn fmt<W: fmt::Write>(&self, f: &mut fmt::Formatter<W>) -> fmt::Result {
+        for use_of_qualifier in self.0 {
+            write!(f, " {use_of_qualifier}")?;
+        }
+        Ok(())
+    }
+}
+
+/// A type name, and qualifiers, each behind a space.
+impl fmt::Display for EventDecl {
+    ghost use Rattle.std.specs.Prelude.{Some};
+    ghost use Rattle.cdi_model.specs.EventText.{text_of_event};
+
+    ghost output = { λ event. Some (text_of_event event) };
+
+    fn fmt<W: fmt::Write>(&self, f: &mut fmt::Formatter<W>) -> fmt::Result {
+        write!(f, "{}{}", self.event_type, Listed(self.qualifiers.as_slice()))
     }
 }
 

@@ -7,11 +7,12 @@ use Rattle.std.specs.List.Sorted.{IsStrictlySortedBy}
 use Rattle.std.specs.Str.{bytes_eq}
 use Rattle.std.proofs.lemmas.Bool.{and_parts, and_from, not-true}
 use Rattle.cdi_model.specs.Bytes.{byte_order}
+use Rattle.cdi_model.specs.EventText.{text_of_event, text_of_uses}
 use Rattle.cdi_model.specs.Grammar.{is_name}
 use Rattle.cdi_model.specs.Quals.{name_of_use, put_use}
 use Rattle.cdi_model.specs.UseText.{text_of_use}
 use Rattle.cdi_model.specs.declared.quals.Qual.{Qual}
-use Rattle.cdi_uses.specs.Events.{SpellsEventUse, SpellsEvent, is_event_use, type_in, uses_in, is_event, text_of_event, IsOfEvent}
+use Rattle.cdi_uses.specs.Events.{SpellsEventUse, SpellsEvent, is_event_use, type_in, uses_in, is_event, IsOfEvent}
 use Rattle.cdi_uses.specs.Events.{EventsReadBack}
 use Rattle.cdi_uses.specs.Meaning.{SpellsUse}
 use Rattle.cdi_uses.specs.Reading.{qual_of}
@@ -182,19 +183,25 @@ behind_none : (us : List Qual) → AllByRecursion (λ w. IsBehind w.name []) us
 behind_none [] = tt
 behind_none (u ∷ us) = (tt, behind_none us)
 
+-- the uses behind a type are joined to it
+joined_behind : (t : List ℕ) (us : List Qual) → t ++ text_of_uses us ≡ join_with_byte 32 (t ∷ map text_of_use us)
+joined_behind t [] = append-nil t
+joined_behind t (u ∷ us) = ap (λ rest. t ++ 32 ∷ rest) (joined_behind (text_of_use u) us)
+
 pub events_read_back : EventsReadBack
 events_read_back e can =
     let texts : List (List ℕ) = map text_of_use e.qualifiers in
     let spells : AllByRecursion SpellsEventUse texts = spells_again e.qualifiers can.uses in
-    let parts : IsParted (text_of_event e) e.event_type texts = parted e.event_type texts
-    (name_lacks 32 (refl, refl) e.event_type can.event_type) (each_lacks texts spells) in
+    let joined : text_of_event e ≡ join_with_byte 32 (e.event_type ∷ texts) = joined_behind e.event_type e.qualifiers in
+    let parts : IsParted (text_of_event e) e.event_type texts = subst (λ t. IsParted t e.event_type texts) (sym joined)
+    (parted e.event_type texts (name_lacks 32 (refl, refl) e.event_type can.event_type) (each_lacks texts spells)) in
     record {
       grammar = spelt (text_of_event e) (record {
         event_type = e.event_type;
         uses = texts;
         grammar = can.event_type;
         each = spells;
-        joined = refl;
+        joined = joined;
       });
       once = ap (λ l. has_twice (map use_name l) || list_any repeats_member l) parts.uses
           ∙ rw (names_again e.qualifiers can.uses, none_twice (map name_of_use e.qualifiers) can.order.rise)

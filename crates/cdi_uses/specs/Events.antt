@@ -3,9 +3,9 @@ use Rattle.std.specs.Prelude.{◌≡◌, ◌≢◌, ℕ, Bool, true, false, not,
 use Rattle.std.specs.List.{AllByRecursion, join_with_byte, list_all, list_any}
 use Rattle.std.specs.Str.{bytes_eq}
 use Rattle.cdi_model.specs.Bytes.{space}
+use Rattle.cdi_model.specs.EventText.{text_of_event}
 use Rattle.cdi_model.specs.Grammar.{is_name}
 use Rattle.cdi_model.specs.Quals.{AreInOrder}
-use Rattle.cdi_model.specs.UseText.{text_of_use}
 use Rattle.cdi_model.specs.declared.decl.EventDecl.{EventDecl}
 use Rattle.cdi_model.specs.declared.quals.Qual.{Qual}
 use Rattle.cdi_uses.specs.Meaning.{CanBeSpelled, SpellsUse}
@@ -52,9 +52,6 @@ abbrev pub event_of : List ℕ → EventDecl
 event_of text = record { event_type = type_in text; qualifiers = quals_from [] (uses_in text) }
 
 -- ---- what is read back
-
-abbrev pub text_of_event : EventDecl → List ℕ
-text_of_event e = join_with_byte space (e.event_type ∷ map text_of_use e.qualifiers)
 
 -- a use that a text can spell, and not of `Default`
 abbrev pub IsOfEvent : Qual → Type 0
