@@ -4,7 +4,7 @@ use Rattle.std.specs.List.{find}
 use Rattle.std.specs.Int.RustNames.{bit_and}
 use Rattle.cdi_model.specs.DeclList.{AreDistinct}
 use Rattle.cdi_model.specs.Quals.{list_limit}
-use Rattle.cdi_model.specs.Short.{AreShort}
+use Rattle.cdi_model.specs.Short.{AreShort, IsShortPart}
 use Rattle.cdi_model.specs.declared.decl.BeanDecl.{BeanDecl}
 use Rattle.cdi_model.specs.declared.decl.CallDecl.{CallDecl}
 use Rattle.cdi_model.specs.declared.decl.Decl.{Decl}
@@ -12,6 +12,7 @@ use Rattle.cdi_model.specs.declared.decl.Decl.TheVariants as decls
 use Rattle.cdi_model.specs.declared.decl.DisposerDecl.{DisposerDecl}
 use Rattle.cdi_model.specs.declared.decl.InterceptorDecl.{InterceptorDecl}
 use Rattle.cdi_model.specs.declared.decl.MethodDecl.{MethodDecl}
+use Rattle.cdi_model.specs.declared.decl.ObserverDecl.{ObserverDecl}
 use Rattle.cdi_model.specs.declared.decl.PartDecl.{PartDecl}
 use Rattle.cdi_model.specs.declared.decl.PointDecl.{PointDecl}
 use Rattle.cdi_model.specs.declared.decl.ProducerDecl.{ProducerDecl}
@@ -51,13 +52,21 @@ pub record IsLed (ds : List Decl) (seen : List PointDecl) (call : CallDecl) : Ty
   pub sees : find (is_point call.point) seen ≡ Some point
   pub has : (id : BeanId) → answer_to ds point ≡ One id → has_method ds id call.method ≡ true
 
--- the part's body is allowed where it stands, and each of its call sites, of which there are few, leads somewhere
+-- the part's body is allowed where it stands, and each of its call sites, of which there are few, leads somewhere; there are
+-- few fire sites
 pub record IsFinePart (ds : List Decl) (book : List Promised) (allowed : ℕ) (seen : List PointDecl) (part : PartDecl) : Type 0 where
   pub body : IsFit book allowed part.body
-  pub few : length part.calls ≤ list_limit
+  pub short : IsShortPart part
   pub calls : (k : ℕ) (call : CallDecl) → slice_get part.calls k ≡ Some call → IsLed ds seen call
 
--- the injection points and the parts of a managed bean
+-- the parameters, of which there are few, and the part of an observer method, which sees them and the injection points of its
+-- bean (profile)
+pub record IsFineObserver (ds : List Decl) (book : List Promised) (bean : BeanDecl) (observer : ObserverDecl) : Type 0 where
+  pub params : AreSatisfied ds observer.params
+  pub few : length observer.params ≤ list_limit
+  pub part : IsFinePart ds book flags.at_instance (observer.params ++ bean.points) observer.part
+
+-- the injection points, the parts and the observer methods of a managed bean
 pub record IsFineManaged (ds : List Decl) (book : List Promised) (bean : BeanDecl) : Type 0 where
   pub points : AreSatisfied ds bean.points
   pub construct : (part : PartDecl) → bean.construct ≡ Some part → IsFinePart ds book flags.at_instance bean.points part
@@ -65,6 +74,8 @@ pub record IsFineManaged (ds : List Decl) (book : List Promised) (bean : BeanDec
   pub pre : (part : PartDecl) → bean.pre ≡ Some part → IsFinePart ds book flags.at_destruction bean.points part
   pub methods : (k : ℕ) (method : MethodDecl) → slice_get bean.methods k ≡ Some method
       → IsFinePart ds book flags.at_instance bean.points method.part
+  pub observers : (k : ℕ) (observer : ObserverDecl) → slice_get bean.observers k ≡ Some observer
+      → IsFineObserver ds book bean observer
 
 -- a producer method sees its parameters, and where it is not static the injection points of its bean (profile)
 abbrev pub seen_by : BeanDecl → ProducerDecl → List PointDecl

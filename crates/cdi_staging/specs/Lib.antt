@@ -1,4 +1,5 @@
 pub mod Sites
+pub mod Notifying
 pub mod Staged
 pub mod Shown
 pub mod Faultless

@@ -25,6 +25,10 @@ use Rattle.cdi_staging.specs.declared.site.Visible.{Visible}
 abbrev pub position_of_bean : List Effective → BeanId → ℕ
 position_of_bean list id = unwrap_or (position (is_told_by id) list) (length list)
 
+-- that of the managed bean of a class
+abbrev pub position_of_class : List Effective → List ℕ → ℕ
+position_of_class list class = position_of_bean list (record { class = class; producer = None })
+
 -- no bean: the position behind the last
 abbrev pub nowhere : List Effective → Target
 nowhere list = record { bean = length list; class = None }
@@ -65,10 +69,10 @@ sight_in v = record {
 abbrev pub own_sight : List PointDecl → List Target → Sight
 own_sight points targets = record { points = points; targets = targets; params = []; param_targets = [] }
 
--- what a producer method sees: its parameters, and where it is not static the injection points of its bean (profile)
-abbrev pub producer_sight : Bool → Sight → List PointDecl → List Target → Sight
-producer_sight true own params targets = record { points = []; targets = []; params = params; param_targets = targets }
-producer_sight false own params targets = record {
+-- what a method with parameters sees: these, and where it is not static the injection points of its bean (profile)
+abbrev pub method_sight : Bool → Sight → List PointDecl → List Target → Sight
+method_sight true own params targets = record { points = []; targets = []; params = params; param_targets = targets }
+method_sight false own params targets = record {
   points = own.points;
   targets = own.targets;
   params = params;

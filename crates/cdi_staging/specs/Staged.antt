@@ -1,5 +1,4 @@
--- The scene of a deployment, as a function of its declarations and of the book of stored bodies. No bean has an observer
--- method and no body a site at which it fires.
+-- The scene of a deployment, as a function of its declarations and of the book of stored bodies.
 use Rattle.std.specs.Prelude.{ℕ, ◌+◌, Bool, false, List, [], ◌∷◌, ◌++◌, map, length, take, drop, Option, Some, None, if◌then◌else◌}
 use Rattle.std.specs.List.{flat_map, find}
 use Rattle.std.specs.Option.{option_and_then}
@@ -10,6 +9,7 @@ use Rattle.cdi_model.specs.declared.decl.Decl.TheVariants as decls
 use Rattle.cdi_model.specs.declared.decl.DisposerDecl.{DisposerDecl}
 use Rattle.cdi_model.specs.declared.decl.InterceptorDecl.{InterceptorDecl}
 use Rattle.cdi_model.specs.declared.decl.MethodDecl.{MethodDecl}
+use Rattle.cdi_model.specs.declared.decl.ObserverDecl.{ObserverDecl}
 use Rattle.cdi_model.specs.declared.decl.PartDecl.{PartDecl}
 use Rattle.cdi_model.specs.declared.decl.PointDecl.{PointDecl}
 use Rattle.cdi_model.specs.declared.decl.ProducerDecl.{ProducerDecl}
@@ -27,6 +27,8 @@ use Rattle.cdi_scene.specs.declared.scene.Injection.{Injection}
 use Rattle.cdi_scene.specs.declared.scene.Interceptor.{Interceptor}
 use Rattle.cdi_scene.specs.declared.scene.Invocable.{Invocable}
 use Rattle.cdi_scene.specs.declared.scene.Managed.{Managed}
+use Rattle.cdi_scene.specs.declared.scene.Notified.{Notified}
+use Rattle.cdi_scene.specs.declared.scene.Observer.{Observer}
 use Rattle.cdi_scene.specs.declared.scene.Part.{Part}
 use Rattle.cdi_scene.specs.declared.scene.Product.{Product}
 use Rattle.cdi_scene.specs.declared.scene.Scene.{Scene}
@@ -36,23 +38,27 @@ use Rattle.cdi_effective.specs.declared.records.Effective.{Effective}
 use Rattle.cdi_intercept.specs.Chains.{in_order, surrounds, surrounds_one}
 use Rattle.cdi_intercept.specs.Sets.{set_by, sets_of}
 use Rattle.cdi_observe.specs.Answers.{answer_to}
-use Rattle.cdi_staging.specs.Sites.{Sight, target_of, own_sight, producer_sight, position_of_bean, site_of}
+use Rattle.cdi_observe.specs.Wanted.{observer_choices, own_choices, product_choices}
+use Rattle.cdi_staging.specs.Notifying.{fired_at}
+use Rattle.cdi_staging.specs.Sites.{Sight, target_of, own_sight, method_sight, position_of_class, site_of}
 use Rattle.cdi_staging.specs.declared.target.Target.{Target}
 
 -- ---- bodies
 
-abbrev pub part_with : List CallSite → Option ℕ → Option Promise → Option Part
-part_with calls (Some body) (Some promise) = Some (record { body = body; promise = promise; calls = calls; fires = [] })
-part_with calls _ _ = None
+abbrev pub part_with : List CallSite → List (List Notified) → Option ℕ → Option Promise → Option Part
+part_with calls fires (Some body) (Some promise) =
+    Some (record { body = body; promise = promise; calls = calls; fires = fires })
+part_with calls fires _ _ = None
 
 -- the body of a name, by its position in the book and with its promise; none where the book has no such body, which is a
 -- fault
-unfoldable pub part_of : List Promised → List CallSite → List ℕ → Option Part
-part_of book calls name = part_with calls (position_of book name) (promise_of book name)
+unfoldable pub part_of : List Promised → List CallSite → List (List Notified) → List ℕ → Option Part
+part_of book calls fires name = part_with calls fires (position_of book name) (promise_of book name)
 
--- a declared part: its body, and where each of its call sites leads
+-- a declared part: its body, where each of its call sites leads, and whom each of its fire sites notifies
 unfoldable pub staged_part : List Decl → List Effective → List Promised → Sight → PartDecl → Option Part
-staged_part ds list book sight part = part_of book (map (site_of ds list sight) part.calls) part.body
+staged_part ds list book sight part =
+    part_of book (map (site_of ds list sight) part.calls) (map (fired_at ds list) part.fires) part.body
 
 -- ---- interceptors
 
@@ -114,31 +120,36 @@ abbrev pub staged_method : List Decl → List Effective → List Promised → Si
 staged_method ds list book sight c method =
     staged_place ds list book sight (class_chain ds c (spots.Method method.name)) (Some method.part)
 
--- a managed bean (CDI 4.0, Managed beans): its constructor, its callbacks and its methods see its injection points; those of the
--- interceptors around its places stand in front of its own
-unfoldable pub managed_form : List Decl → List Effective → List Promised → Sight → Class → Managed
-managed_form ds list book sight c = record {
+-- an observer method (CDI 4.0, Observer methods), with what is chosen for its parameters
+unfoldable pub staged_observer : List Decl → List Effective → List Promised → Sight → Class → ObserverDecl → List Target → Observer
+staged_observer ds list book sight c observer targets = record {
+  is_conditional = observer.is_conditional;
+  params = map (λ target. target.bean) targets;
+  invocable = staged_place ds list book (method_sight false sight observer.params targets)
+      (class_chain ds c (spots.Observer observer.name)) (Some observer.part);
+}
+
+-- a managed bean (CDI 4.0, Managed beans) with these observer methods: its constructor, its callbacks and its methods see its
+-- injection points; those of the interceptors around its places stand in front of its own
+unfoldable pub managed_form : List Decl → List Effective → List Promised → Sight → Class → List Observer → Managed
+managed_form ds list book sight c observers = record {
   injections = injections_around (surrounds_one ds (sets_of ds c.bindings c.bean)) 0 c.around ++ injections_from ByTarget 0 sight.targets;
   construct = staged_place ds list book sight (class_chain ds c spots.Construct) c.bean.construct;
   post = staged_place ds list book sight (class_chain ds c spots.Post) c.bean.post;
   pre = staged_place ds list book sight (class_chain ds c spots.Pre) c.bean.pre;
   methods = map (staged_method ds list book sight c) c.bean.methods;
-  observers = [];
+  observers = observers;
 }
 
 -- ---- products
-
--- the position of the managed bean of a class
-abbrev pub position_of_class : List Effective → List ℕ → ℕ
-position_of_class list class = position_of_bean list (record { class = class; producer = None })
 
 -- the disposer method of a name
 abbrev pub disposer_named : BeanDecl → List ℕ → Option DisposerDecl
 disposer_named bean name = find (λ disposer. bytes_eq disposer.name name) bean.disposers
 
--- a disposer method calls nothing (profile)
+-- a disposer method calls and fires nothing (profile)
 abbrev pub disposer_part : List Promised → DisposerDecl → Option Part
-disposer_part book disposer = part_of book [] disposer.body
+disposer_part book disposer = part_of book [] [] disposer.body
 
 -- the disposer method that matches a product (CDI 4.0, Disposer method resolution)
 unfoldable pub disposer_for : List Decl → List Promised → BeanDecl → Effective → Option Part
@@ -156,7 +167,7 @@ product_form ds list book own c x producer targets = record {
   declaring = position_of_class list c.bean.name;
   is_static = producer.is_static;
   params = map (λ target. target.bean) targets;
-  invocable = staged_place ds list book (producer_sight producer.is_static own producer.params targets)
+  invocable = staged_place ds list book (method_sight producer.is_static own producer.params targets)
       (producer_chain ds c producer) (Some producer.part);
   disposer = disposer_for ds book c.bean x;
 }
@@ -185,10 +196,10 @@ unused_product list bean = record {
   disposer = None;
 }
 
-abbrev pub managed_bean : List Decl → List Effective → List Promised → Sight → Class → Effective → Bean
-managed_bean ds list book sight c x = record {
+abbrev pub managed_bean : List Decl → List Effective → List Promised → Sight → Class → Effective → List Observer → Bean
+managed_bean ds list book sight c x observers = record {
   scope = x.scope;
-  form = forms.Managed (if x.is_enabled then managed_form ds list book sight c else unused_managed);
+  form = forms.Managed (if x.is_enabled then managed_form ds list book sight c observers else unused_managed);
 }
 
 abbrev pub product_bean : List Decl → List Effective → List Promised → Sight → Class → Effective → ProducerDecl → List Target → Bean
@@ -213,8 +224,14 @@ around_of ds = map (λ i. (i, targets ds i.points)) (in_order ds)
 abbrev pub class_of : List Decl → BeanDecl → Class
 class_of ds bean = record { around = around_of ds; bindings = (managed ds bean).bindings; bean = bean }
 
+-- its observer methods, each with what is chosen for its parameters
+abbrev pub observers_of : List Decl → List Promised → BeanDecl → List Observer
+observers_of ds book bean =
+    map (λ o. staged_observer ds (beans ds) book (sight_of ds bean) (class_of ds bean) o (targets ds o.params)) bean.observers
+
 abbrev pub staged_managed : List Decl → List Promised → BeanDecl → Bean
-staged_managed ds book bean = managed_bean ds (beans ds) book (sight_of ds bean) (class_of ds bean) (managed ds bean)
+staged_managed ds book bean =
+    managed_bean ds (beans ds) book (sight_of ds bean) (class_of ds bean) (managed ds bean) (observers_of ds book bean)
 
 abbrev pub staged_product : List Decl → List Promised → BeanDecl → ProducerDecl → Bean
 staged_product ds book bean producer =
@@ -246,10 +263,20 @@ products_by ds list book own c (x ∷ xs) (p ∷ ps) targets =
     ∷ products_by ds list book own c xs ps (drop (length p.params) targets)
 products_by ds list book own c _ _ targets = []
 
--- the beans of a declaration: what is chosen for the bean's own injection points stands in front
+-- the observer methods of a bean, likewise
+abbrev pub observers_by : List Decl → List Effective → List Promised → Sight → Class → List ObserverDecl → List Target → List Observer
+observers_by ds list book own c [] targets = []
+observers_by ds list book own c (o ∷ os) targets =
+    staged_observer ds list book own c o (take (length o.params) targets)
+    ∷ observers_by ds list book own c os (drop (length o.params) targets)
+
+-- the beans of a declaration: what is chosen for the bean's own injection points stands in front, behind it what is for the
+-- parameters of its producer methods, and behind that what is for those of its observer methods
 abbrev pub beans_by : List Decl → List Effective → List Promised → List Around → BeanDecl → List Effective → List Target → List Bean
 beans_by ds list book around bean (x ∷ xs) targets =
-    managed_bean ds list book (own_sight bean.points (take (length bean.points) targets)) (class_by around x bean) x
-    ∷ products_by ds list book (own_sight bean.points (take (length bean.points) targets)) (class_by around x bean) xs bean.producers
-    (drop (length bean.points) targets)
+    managed_bean ds list book (own_sight bean.points (own_choices bean targets)) (class_by around x bean) x
+    (observers_by ds list book (own_sight bean.points (own_choices bean targets)) (class_by around x bean) bean.observers
+    (observer_choices bean targets))
+    ∷ products_by ds list book (own_sight bean.points (own_choices bean targets)) (class_by around x bean) xs bean.producers
+    (product_choices bean targets)
 beans_by ds list book around bean [] targets = []

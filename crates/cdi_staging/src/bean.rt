@@ -1,8 +1,8 @@
 //! Managed beans and products.
-ghost use Rattle.std.specs.Prelude.{◌≡◌, map, IfOk, option_copied};
-ghost use Rattle.cdi_staging.specs.Sites.{sight_in, producer_sight};
+ghost use Rattle.std.specs.Prelude.{◌≡◌, length, map, flat_map, IfOk, option_copied};
+ghost use Rattle.cdi_staging.specs.Sites.{sight_in, method_sight};
 ghost use Rattle.cdi_staging.specs.Shown.{class_in};
-ghost use Rattle.cdi_staging.specs.Staged.{managed_form, disposer_named, disposer_for, product_form};
+ghost use Rattle.cdi_staging.specs.Staged.{managed_form, staged_observer, observers_by, disposer_named, disposer_for, product_form};
 ghost use Rattle.cdi_staging.specs.Staged.{unused_managed, unused_product, managed_bean, product_bean};
 
 use crate::around::Class;
@@ -12,9 +12,9 @@ use crate::stage::Stage;
 use crate::target::{Target, position_of_class};
 use cdi_bodies::Bodies;
 use cdi_effective::{Effective, disposer_of};
-use cdi_model::{BeanDecl, BeanPlace, DisposerDecl, Ident, ProducerDecl, Seq};
+use cdi_model::{BeanDecl, BeanPlace, DisposerDecl, Ident, ObserverDecl, PointDecl, ProducerDecl, Seq};
 use cdi_resolve::BeanList;
-use cdi_scene::{Bean, Form, Managed, Part, Product};
+use cdi_scene::{Bean, Form, Managed, Observer, Part, Product};
 use std::alloc::{AllocError, Global};
 
 /// The positions of some beans.
@@ -66,16 +66,15 @@ fn unused_product(alloc: Global, beans: &BeanList, bean: &BeanDecl) -> Product
     }
 }
 
-/// What a producer method sees, where its bean sees this.
-fn producer_sight<'a>(
+/// What a method with these parameters sees, where its bean sees this.
+fn method_sight<'a>(
     is_static: bool,
     own: Visible<'a>,
-    producer: &'a ProducerDecl,
+    params: &'a [PointDecl],
     targets: &'a [Target],
 ) -> Visible<'a>
-    ensures { sight_in result ≡ producer_sight is_static (sight_in own.entry) producer.now.params targets.now }
+    ensures { sight_in result ≡ method_sight is_static (sight_in own.entry) params.now targets.now }
 {
-    let params = producer.params.as_slice();
     if is_static {
         Visible {
             points: &[],
@@ -94,11 +93,59 @@ fn producer_sight<'a>(
 }
 
 impl<'a, B: Bodies> Stage<'a, B> {
+    #[tactic(auto, unfolding(crate::specs::Staged::staged_observer))]
+    fn staged_observer(
+        &self,
+        own: Visible<'_>,
+        class: Class<'_>,
+        observer: &ObserverDecl,
+        targets: &[Target],
+    ) -> Result<Observer, AllocError>
+        ensures { IfOk result (λ made. made
+            ≡ staged_observer self.now.decls.now self.now.beans.now (B.promises self.now.book.now) (sight_in own.entry)
+            (class_in class.entry) observer.now targets.now) }
+    {
+        let sight = method_sight(false, own, observer.params.as_slice(), targets);
+        let place = BeanPlace::Observer(observer.name);
+        Ok(Observer {
+            is_conditional: observer.is_conditional,
+            params: positions(self.alloc, targets)?,
+            invocable: self.staged_place(sight, class, &place, Some(&observer.part))?,
+        })
+    }
+
+    /// The observer methods of a bean that sees this, where these beans are chosen for their parameters.
+    fn observers(
+        &self,
+        own: Visible<'_>,
+        class: Class<'_>,
+        targets: &[Target],
+    ) -> Result<Seq<Observer>, AllocError>
+        requires { length targets.now ≡ length (flat_map (λ o. o.params) class.bean.now.observers) }
+        ensures { IfOk result (λ made. made
+            ≡ observers_by self.now.decls.now self.now.beans.now (B.promises self.now.book.now) (sight_in own.entry)
+            (class_in class.entry) class.entry.bean.now.observers targets.now) }
+    {
+        let mut list = Seq::new(self.alloc);
+        let mut rest = targets;
+        for observer in class.bean.observers.as_slice() {
+            let (chosen, others) = rest.split_at(observer.params.len());
+            list.push(self.staged_observer(own, class, observer, chosen)?)?;
+            rest = others;
+        }
+        Ok(list)
+    }
+
     #[tactic(auto, unfolding(crate::specs::Staged::managed_form))]
-    fn managed_form(&self, sight: Visible<'_>, class: Class<'_>) -> Result<Managed, AllocError>
+    fn managed_form(
+        &self,
+        sight: Visible<'_>,
+        class: Class<'_>,
+        observers: Seq<Observer>,
+    ) -> Result<Managed, AllocError>
         ensures { IfOk result (λ made. made
             ≡ managed_form self.now.decls.now self.now.beans.now (B.promises self.now.book.now)
-            (sight_in sight.entry) (class_in class.entry)) }
+            (sight_in sight.entry) (class_in class.entry) observers) }
     {
         let bean = class.bean;
         let construct = BeanPlace::Construct;
@@ -108,7 +155,7 @@ impl<'a, B: Bodies> Stage<'a, B> {
             post: self.staged_place(sight, class, &BeanPlace::Post, bean.post.as_ref())?,
             pre: self.staged_place(sight, class, &BeanPlace::Pre, bean.pre.as_ref())?,
             methods: self.staged_methods(sight, class)?,
-            observers: Seq::new(self.alloc),
+            observers,
         })
     }
 
@@ -119,7 +166,7 @@ impl<'a, B: Bodies> Stage<'a, B> {
     {
         let name = disposer_of(self.alloc, self.decls, effective)?;
         let disposer = disposer_named(bean, name)?;
-        self.part_of(disposer.body, Seq::new(self.alloc))
+        self.part_of(disposer.body, Seq::new(self.alloc), Seq::new(self.alloc))
     }
 
     #[tactic(auto, unfolding(crate::specs::Staged::product_form))]
@@ -135,7 +182,7 @@ impl<'a, B: Bodies> Stage<'a, B> {
             ≡ product_form self.now.decls.now self.now.beans.now (B.promises self.now.book.now) (sight_in own.entry)
             (class_in class.entry) effective.now producer.now targets.now) }
     {
-        let sight = producer_sight(producer.is_static, own, producer, targets);
+        let sight = method_sight(producer.is_static, own, producer.params.as_slice(), targets);
         let chain = class.producer_chain(self.alloc, self.decls, producer)?;
         Ok(Product {
             declaring: position_of_class(self.beans, class.bean.name),
@@ -146,19 +193,24 @@ impl<'a, B: Bodies> Stage<'a, B> {
         })
     }
 
-    /// A managed bean of this record.
+    /// A managed bean of this record, where these beans are chosen for the parameters of its observer methods.
     pub(crate) fn managed_bean(
         &self,
         sight: Visible<'_>,
         class: Class<'_>,
         effective: &Effective,
+        targets: &[Target],
     ) -> Result<Bean, AllocError>
+        requires { length targets.now ≡ length (flat_map (λ o. o.params) class.bean.now.observers) }
         ensures { IfOk result (λ made. made
             ≡ managed_bean self.now.decls.now self.now.beans.now (B.promises self.now.book.now)
-            (sight_in sight.entry) (class_in class.entry) effective.now) }
+            (sight_in sight.entry) (class_in class.entry) effective.now
+            (observers_by self.now.decls.now self.now.beans.now (B.promises self.now.book.now) (sight_in sight.entry)
+            (class_in class.entry) class.entry.bean.now.observers targets.now)) }
     {
         let managed = if effective.is_enabled {
-            self.managed_form(sight, class)?
+            let observers = self.observers(sight, class, targets)?;
+            self.managed_form(sight, class, observers)?
         } else {
             unused_managed(self.alloc)
         };

@@ -5,13 +5,15 @@
 mod around;
 mod bean;
 mod names;
+mod notifying;
 mod part;
 mod scene;
 mod site;
 mod stage;
 mod target;
 
-pub use names::{BeanNames, InterceptorNames, MethodNames, Names, names_of};
+pub use names::{BeanNames, InterceptorNames, MethodNames, Names, SiteNames, names_of};
+pub use notifying::notified_at;
 pub use scene::scene_of;
 pub use site::method_of;
 pub use target::{Target, target_of};

@@ -5,46 +5,55 @@ ghost use Rattle.cdi_effective.specs.Beans.{beans as beans_of, product};
 ghost use Rattle.cdi_effective.specs.Disposers.{disposer_of};
 ghost use Rattle.cdi_effective.specs.Beans.{entries};
 ghost use Rattle.cdi_intercept.specs.Chains.{in_order};
-ghost use Rattle.cdi_staging.specs.Naming.{calls_of, interceptor_names, method_names, managed_names, product_names, names_in, names_of};
+ghost use Rattle.cdi_staging.specs.Naming.{interceptor_names, managed_names, method_names, names_in, names_of};
+ghost use Rattle.cdi_staging.specs.Naming.{no_sites, observer_names, product_names, sites_in, sites_of};
 
 use crate::scene::record_count;
 use cdi_effective::{BeanId, Effective, disposer_of};
 use cdi_intercept::in_order;
 use cdi_model::{
-    BeanDecl, CallDecl, Decl, Decls, Ident, InterceptorDecl, MethodDecl, Name, PartDecl,
-    ProducerDecl, Seq,
+    BeanDecl, CallDecl, Decl, Decls, EventDecl, Ident, InterceptorDecl, MethodDecl, Name,
+    ObserverDecl, PartDecl, ProducerDecl, Seq,
 };
 use cdi_resolve::BeanList;
 use std::alloc::{AllocError, Global};
 
-/// A method: its name, and its call sites as they are written.
+/// What a part writes at its call sites and at its fire sites.
+#[derive(Drop)]
+pub struct SiteNames {
+    pub calls: Seq<CallDecl>,
+    pub fires: Seq<EventDecl>,
+}
+
+/// A method or an observer method: its name, and its sites as they are written.
 #[derive(Drop)]
 pub struct MethodNames {
     pub name: Ident,
-    pub calls: Seq<CallDecl>,
+    pub sites: SiteNames,
 }
 
-/// A bean: its id, what its parts write at their call sites, and the disposer method of a product.
+/// A bean: its id, what its parts write at their sites, and the disposer method of a product.
 #[derive(Drop)]
 pub struct BeanNames {
     pub id: BeanId,
-    pub construct: Seq<CallDecl>,
-    pub post: Seq<CallDecl>,
-    pub pre: Seq<CallDecl>,
+    pub construct: SiteNames,
+    pub post: SiteNames,
+    pub pre: SiteNames,
     pub methods: Seq<MethodNames>,
+    pub observers: Seq<MethodNames>,
     /// Those of the producer method of a product.
-    pub produces: Seq<CallDecl>,
+    pub produces: SiteNames,
     pub disposer: Option<Ident>,
 }
 
-/// An interceptor: its name, and what its parts write at their call sites.
+/// An interceptor: its name, and what its parts write at their sites.
 #[derive(Drop)]
 pub struct InterceptorNames {
     pub name: Name,
-    pub around_construct: Seq<CallDecl>,
-    pub around_invoke: Seq<CallDecl>,
-    pub post: Seq<CallDecl>,
-    pub pre: Seq<CallDecl>,
+    pub around_construct: SiteNames,
+    pub around_invoke: SiteNames,
+    pub post: SiteNames,
+    pub pre: SiteNames,
 }
 
 /// The names of the beans and the interceptors of a scene, in its order: each is found by a position in constant time.
@@ -64,12 +73,40 @@ fn copy_calls(alloc: Global, calls: &[CallDecl]) -> Result<Seq<CallDecl>, AllocE
     Ok(copy)
 }
 
-fn calls_of(alloc: Global, part: Option<&PartDecl>) -> Result<Seq<CallDecl>, AllocError>
-    ensures { IfOk result (λ calls. calls ≡ calls_of (option_copied part.entry)) }
+fn copy_events(alloc: Global, events: &[EventDecl]) -> Result<Seq<EventDecl>, AllocError>
+    ensures { IfOk result (λ copy. copy ≡ events.now) }
+{
+    let mut copy = Seq::new(alloc);
+    for event in events {
+        copy.push(event.copy()?)?;
+    }
+    Ok(copy)
+}
+
+fn no_sites(alloc: Global) -> SiteNames
+    ensures { result ≡ no_sites }
+{
+    SiteNames {
+        calls: Seq::new(alloc),
+        fires: Seq::new(alloc),
+    }
+}
+
+fn sites_in(alloc: Global, part: &PartDecl) -> Result<SiteNames, AllocError>
+    ensures { IfOk result (λ sites. sites ≡ sites_in part.now) }
+{
+    Ok(SiteNames {
+        calls: copy_calls(alloc, part.calls.as_slice())?,
+        fires: copy_events(alloc, part.fires.as_slice())?,
+    })
+}
+
+fn sites_of(alloc: Global, part: Option<&PartDecl>) -> Result<SiteNames, AllocError>
+    ensures { IfOk result (λ sites. sites ≡ sites_of (option_copied part.entry)) }
 {
     match part {
-        Some(part) => copy_calls(alloc, part.calls.as_slice()),
-        None => Ok(Seq::new(alloc)),
+        Some(part) => sites_in(alloc, part),
+        None => Ok(no_sites(alloc)),
     }
 }
 
@@ -80,7 +117,23 @@ fn names_of_methods(alloc: Global, methods: &[MethodDecl]) -> Result<Seq<MethodN
     for method in methods {
         names.push(MethodNames {
             name: method.name,
-            calls: copy_calls(alloc, method.part.calls.as_slice())?,
+            sites: sites_in(alloc, &method.part)?,
+        })?;
+    }
+    Ok(names)
+}
+
+fn names_of_observers(
+    alloc: Global,
+    observers: &[ObserverDecl],
+) -> Result<Seq<MethodNames>, AllocError>
+    ensures { IfOk result (λ names. names ≡ map observer_names observers.now) }
+{
+    let mut names = Seq::new(alloc);
+    for observer in observers {
+        names.push(MethodNames {
+            name: observer.name,
+            sites: sites_in(alloc, &observer.part)?,
         })?;
     }
     Ok(names)
@@ -95,11 +148,12 @@ fn managed_names(alloc: Global, bean: &BeanDecl) -> Result<BeanNames, AllocError
             class: bean.name,
             producer: None,
         },
-        construct: calls_of(alloc, bean.construct.as_ref())?,
-        post: calls_of(alloc, bean.post.as_ref())?,
-        pre: calls_of(alloc, bean.pre.as_ref())?,
+        construct: sites_of(alloc, bean.construct.as_ref())?,
+        post: sites_of(alloc, bean.post.as_ref())?,
+        pre: sites_of(alloc, bean.pre.as_ref())?,
         methods: names_of_methods(alloc, bean.methods.as_slice())?,
-        produces: Seq::new(alloc),
+        observers: names_of_observers(alloc, bean.observers.as_slice())?,
+        produces: no_sites(alloc),
         disposer: None,
     })
 }
@@ -121,11 +175,12 @@ fn product_names(
             class: bean.name,
             producer: Some(producer.name),
         },
-        construct: Seq::new(alloc),
-        post: Seq::new(alloc),
-        pre: Seq::new(alloc),
+        construct: no_sites(alloc),
+        post: no_sites(alloc),
+        pre: no_sites(alloc),
         methods: Seq::new(alloc),
-        produces: copy_calls(alloc, producer.part.calls.as_slice())?,
+        observers: Seq::new(alloc),
+        produces: sites_in(alloc, &producer.part)?,
         disposer: disposer_of(alloc, decls, effective),
     })
 }
@@ -202,9 +257,9 @@ fn interceptor_names(alloc: Global, decl: &InterceptorDecl) -> Result<Intercepto
 {
     Ok(InterceptorNames {
         name: decl.name,
-        around_construct: calls_of(alloc, decl.around_construct.as_ref())?,
-        around_invoke: calls_of(alloc, decl.around_invoke.as_ref())?,
-        post: calls_of(alloc, decl.post.as_ref())?,
-        pre: calls_of(alloc, decl.pre.as_ref())?,
+        around_construct: sites_of(alloc, decl.around_construct.as_ref())?,
+        around_invoke: sites_of(alloc, decl.around_invoke.as_ref())?,
+        post: sites_of(alloc, decl.post.as_ref())?,
+        pre: sites_of(alloc, decl.pre.as_ref())?,
     })
 }

@@ -6,11 +6,12 @@ ghost use Rattle.cdi_staging.specs.Shown.{class_in};
 ghost use Rattle.cdi_staging.specs.Staged.{class_chain, part_of, staged_part, staged_place, staged_method, empty_place};
 
 use crate::around::Class;
+use crate::notifying::fired_at;
 use crate::site::{Visible, sites_of};
 use crate::stage::Stage;
 use cdi_bodies::Bodies;
 use cdi_model::{BeanPlace, Ident, PartDecl, Seq};
-use cdi_scene::{CallSite, Invocable, Part};
+use cdi_scene::{CallSite, Invocable, Notified, Part};
 use std::alloc::{AllocError, Global};
 
 /// What is invoked where nothing is declared.
@@ -24,16 +25,21 @@ pub(crate) fn empty_place(alloc: Global) -> Invocable
 }
 
 impl<'a, B: Bodies> Stage<'a, B> {
-    /// The body of a name with some call sites; none where the book has no such body.
+    /// The body of a name with some call sites and fire sites; none where the book has no such body.
     #[tactic(auto, unfolding(crate::specs::Staged::part_of))]
-    pub(crate) fn part_of(&self, name: Ident, calls: Seq<CallSite>) -> Option<Part>
-        ensures { result ≡ part_of (B.promises self.now.book.now) calls name }
+    pub(crate) fn part_of(
+        &self,
+        name: Ident,
+        calls: Seq<CallSite>,
+        fires: Seq<Seq<Notified>>,
+    ) -> Option<Part>
+        ensures { result ≡ part_of (B.promises self.now.book.now) calls fires name }
     {
         Some(Part {
             body: self.book.position(name)?,
             promise: self.book.promise(name)?,
             calls,
-            fires: Seq::new(self.alloc),
+            fires,
         })
     }
 
@@ -43,14 +49,10 @@ impl<'a, B: Bodies> Stage<'a, B> {
             ≡ staged_part self.now.decls.now self.now.beans.now (B.promises self.now.book.now)
             (sight_in sight.entry) part.now) }
     {
-        let calls = sites_of(
-            self.alloc,
-            self.decls,
-            self.beans,
-            sight,
-            part.calls.as_slice(),
-        )?;
-        Ok(self.part_of(part.body, calls))
+        let (decls, beans) = (self.decls, self.beans);
+        let calls = sites_of(self.alloc, decls, beans, sight, part.calls.as_slice())?;
+        let fires = fired_at(self.alloc, decls, beans, part.fires.as_slice())?;
+        Ok(self.part_of(part.body, calls, fires))
     }
 
     /// The body of a part, where one is declared.

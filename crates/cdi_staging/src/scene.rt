@@ -4,7 +4,7 @@ ghost use Rattle.std.specs.List.{flat_map};
 ghost use Rattle.cdi_model.specs.declared.decl.Decl.{Decl as AnyDecl};
 ghost use Rattle.cdi_effective.specs.Beans.{beans as beans_of, entries};
 ghost use Rattle.cdi_observe.specs.Answers.{answers as all_answers, answer_to};
-ghost use Rattle.cdi_observe.specs.Wanted.{points_of};
+ghost use Rattle.cdi_observe.specs.Wanted.{params_of, points_of};
 ghost use Rattle.cdi_model.specs.declared.decl.Decl.TheVariants as decls;
 ghost use Rattle.cdi_staging.specs.Faultless.{FaultlessIsSound};
 ghost use Rattle.cdi_staging.specs.Lookups.{ChosenHasMethods, ChosenStands};
@@ -19,6 +19,7 @@ use crate::target::{Target, targets_of};
 use cdi_bodies::Bodies;
 use cdi_effective::Effective;
 use cdi_model::{BeanDecl, Decl, Decls, Seq};
+use cdi_observe::count_params;
 use cdi_resolve::{BeanList, Choice};
 use cdi_scene::{Bean, Scene};
 use std::alloc::{AllocError, Global};
@@ -113,7 +114,7 @@ impl<'a, B: Bodies> Stage<'a, B> {
     }
 
     /// Appends the beans of a bean declaration, with these records, where these beans are chosen for its injection
-    /// points and then for the parameters of its producer methods.
+    /// points, then for the parameters of its producer methods and then for those of its observer methods.
     fn push_beans(
         &self,
         bean: &BeanDecl,
@@ -131,6 +132,7 @@ impl<'a, B: Bodies> Stage<'a, B> {
         };
         let points = bean.points.as_slice();
         let (own, rest) = targets.split_at(points.len());
+        let (of_products, of_observers) = rest.split_at(count_params(bean.producers.as_slice()));
         let sight = Visible {
             points,
             targets: own,
@@ -142,8 +144,8 @@ impl<'a, B: Bodies> Stage<'a, B> {
             bindings: managed.bindings.as_slice(),
             bean,
         };
-        list.push(self.managed_bean(sight, class, managed)?)?;
-        self.push_products(sight, class, products, rest, list)
+        list.push(self.managed_bean(sight, class, managed, of_observers)?)?;
+        self.push_products(sight, class, products, of_products, list)
     }
 
     /// Appends the products of a bean that sees this, with these records, where these beans are chosen for the
@@ -156,7 +158,7 @@ impl<'a, B: Bodies> Stage<'a, B> {
         targets: &[Target],
         list: &mut Vec<Bean>,
     ) -> Result<(), AllocError>
-        requires { length targets.now ≡ length (flat_map (λ p. p.params) class.bean.now.producers) }
+        requires { length targets.now ≡ length (params_of class.bean.now.producers) }
         ensures { OnOk result (list.new.items ≡ list.old.items
             ++ products_by self.now.decls.now self.now.beans.now (B.promises self.now.book.now) (sight_in own.entry)
             (class_in class.entry) records.now class.entry.bean.now.producers targets.now) }

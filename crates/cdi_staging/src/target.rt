@@ -1,7 +1,6 @@
 //! What is chosen for injection points.
 ghost use Rattle.std.specs.Prelude.{◌≡◌, ◌<◌, map, IfOk};
-ghost use Rattle.cdi_staging.specs.Staged.{position_of_class};
-ghost use Rattle.cdi_staging.specs.Sites.{managed_class, nowhere, position_of_bean, target_of};
+ghost use Rattle.cdi_staging.specs.Sites.{managed_class, nowhere, position_of_bean, position_of_class, target_of};
 
 use cdi_effective::BeanId;
 use cdi_model::Name;
