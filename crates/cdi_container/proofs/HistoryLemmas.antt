@@ -8,7 +8,7 @@ use Rattle.cdi_model.specs.declared.edit.Edit.{Edit}
 use Rattle.cdi_model.specs.Edits.{edited, edited_all}
 use Rattle.cdi_text.specs.Reading.{decl_of}
 use Rattle.cdi_lines.specs.declared.command.Command.{Command}
-use Rattle.cdi_lines.specs.declared.command.Command.TheVariants.{Put, Remove, Choose, Named, Chain, Observers, Report, LookUp, Call}
+use Rattle.cdi_lines.specs.declared.command.Command.TheVariants.{Put, Remove, Choose, Named, Chain, Observers, Report, LookUp, Call, Fire}
 use Rattle.cdi_lines.specs.declared.command.Command.TheVariants.{BeginRequest, EndRequest}
 use Rattle.cdi_lines.specs.declared.command.Command.TheVariants.{Stop, Unreadable}
 use Rattle.cdi_container.specs.declared.answer.Answer.{Answer}
@@ -49,6 +49,8 @@ acts_edits old new (LookUp t quals) answer accepted h =
 acts_edits old new (Call method arg t quals) answer accepted h =
     subst (λ a. new.decls ≡ edited_all old.decls (accepted_edit (Call method arg t quals) (Ok a))) (sym h.given)
     (ap (λ s. s.decls) h.rest)
+acts_edits old new (Fire arg t quals) answer accepted h =
+    subst (λ a. new.decls ≡ edited_all old.decls (accepted_edit (Fire arg t quals) (Ok a))) (sym h.given) (ap (λ s. s.decls) h.rest)
 acts_edits old new BeginRequest answer accepted h =
     subst (λ a. new.decls ≡ edited_all old.decls (accepted_edit BeginRequest (Ok a))) (sym h.0) (ap (λ s. s.decls) h.1)
 acts_edits old new EndRequest answer accepted h =

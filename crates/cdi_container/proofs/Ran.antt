@@ -6,7 +6,7 @@ use Rattle.cdi_model.specs.declared.refusal.Refusal.{Refusal}
 use Rattle.cdi_text.specs.Reading.{decl_of}
 use Rattle.cdi_staging.specs.Naming.{names_of}
 use Rattle.cdi_lines.specs.declared.command.Command.{Command}
-use Rattle.cdi_lines.specs.declared.command.Command.TheVariants.{Put, Remove, Choose, Named, Chain, Observers, Report, LookUp, Call}
+use Rattle.cdi_lines.specs.declared.command.Command.TheVariants.{Put, Remove, Choose, Named, Chain, Observers, Report, LookUp, Call, Fire}
 use Rattle.cdi_lines.specs.declared.command.Command.TheVariants.{BeginRequest, EndRequest}
 use Rattle.cdi_lines.specs.declared.command.Command.TheVariants.{Stop, Unreadable}
 use Rattle.cdi_container.specs.declared.answer.Answer.{Answer}
@@ -35,6 +35,7 @@ acts_alike old new (Observers t quals) answer h = inl (ap (λ s. s.decls) h.1)
 acts_alike old new Report answer h = inl (ap (λ s. s.decls) h.1)
 acts_alike old new (LookUp t quals) answer h = inl (ap (λ s. s.decls) h.rest)
 acts_alike old new (Call method arg t quals) answer h = inl (ap (λ s. s.decls) h.rest)
+acts_alike old new (Fire arg t quals) answer h = inl (ap (λ s. s.decls) h.rest)
 acts_alike old new BeginRequest answer h = inl (ap (λ s. s.decls) h.1)
 acts_alike old new EndRequest answer h = inl (ap (λ s. s.decls) h.rest)
 acts_alike old new Stop answer h = inl (ap (λ s. s.decls) h.rest)

@@ -9,7 +9,7 @@ use Rattle.cdi_scene.specs.declared.scene.Scene.{Scene}
 use Rattle.cdi_legal.specs.Single.{IsSingle}
 use Rattle.cdi_legal.proofs.Commands.{run_single, request_end_single, end_single}
 use Rattle.cdi_lines.specs.declared.command.Command.{Command}
-use Rattle.cdi_lines.specs.declared.command.Command.TheVariants.{Put, Remove, Choose, Named, Chain, Observers, Report, LookUp, Call}
+use Rattle.cdi_lines.specs.declared.command.Command.TheVariants.{Put, Remove, Choose, Named, Chain, Observers, Report, LookUp, Call, Fire}
 use Rattle.cdi_lines.specs.declared.command.Command.TheVariants.{BeginRequest, EndRequest}
 use Rattle.cdi_lines.specs.declared.command.Command.TheVariants.{Stop, Unreadable}
 use Rattle.cdi_container.specs.declared.answer.Answer.{Answer}
@@ -42,6 +42,7 @@ acts_single old new (Observers t quals) answer h q = subst Shares (sym h.1) q
 acts_single old new Report answer h q = subst Shares (sym h.1) q
 acts_single old new (LookUp t quals) answer h q = single_behind old new h.rest (run_single h.legal q)
 acts_single old new (Call method arg t quals) answer h q = single_behind old new h.rest (run_single h.legal q)
+acts_single old new (Fire arg t quals) answer h q = single_behind old new h.rest (run_single h.legal q)
 acts_single old new BeginRequest answer h q = subst Shares (sym h.1) q
 acts_single old new EndRequest answer h q = single_behind old new h.rest (request_end_single h.legal q)
 acts_single old new Stop answer h q = single_behind old new h.rest (end_single h.legal q)

@@ -1,5 +1,7 @@
--- Look-ups and calls: what is asked for, when that is refused, and which run it is.
-use Rattle.std.specs.Prelude.{ℕ, ◌==◌, List, length, Option, None, Some, Result, Ok, Err, if◌then◌else◌}
+-- Look-ups, calls and events: what is asked for, when that is refused, and which run it is.
+use Rattle.std.specs.Prelude.{ℕ, ◌==◌, Bool, not, ◌&&◌, List, codes, length, Option, None, Some, Result, Ok, Err, if◌then◌else◌}
+use Rattle.std.specs.List.{list_any}
+use Rattle.std.specs.Str.{bytes_eq}
 use Rattle.cdi_model.specs.declared.decl.Decl.{Decl}
 use Rattle.cdi_model.specs.declared.outcome.Val.{Val}
 use Rattle.cdi_model.specs.declared.quals.Qual.{Qual}
@@ -11,8 +13,10 @@ use Rattle.cdi_effective.specs.declared.records.BeanId.{BeanId}
 use Rattle.cdi_resolve.specs.Choices.{chosen}
 use Rattle.cdi_resolve.specs.declared.choice.Choice.{Choice}
 use Rattle.cdi_resolve.specs.declared.choice.Choice.TheVariants as choices
+use Rattle.cdi_scene.specs.declared.scene.Notified.{Notified}
+use Rattle.cdi_staging.specs.Notifying.{notified_at}
 use Rattle.cdi_staging.specs.Sites.{managed_class, position_of_bean, method_of}
-use Rattle.cdi_legal.specs.LegalRun.{Command, use_bean}
+use Rattle.cdi_legal.specs.LegalRun.{Command as Run, notify_all, use_bean}
 use Rattle.cdi_run.specs.Known.{use_of}
 use Rattle.cdi_run.specs.declared.roots.Wanted.{Wanted}
 use Rattle.cdi_run.specs.declared.roots.Wanted.TheVariants as wanteds
@@ -71,6 +75,37 @@ aim_faultless ds count asked = if count == 0 then aim_known ds asked else Err (r
 unfoldable pub aim_of : List Decl → List Promised → Asked → Result Aim Refusal
 aim_of ds book asked = aim_faultless ds (length (faults ds book)) asked
 
+-- ---- events
+
+-- the type and the qualifiers of an event are known, and `Default` is none of these (profile)
+abbrev pub can_be_fired : List Decl → List ℕ → List Qual → Bool
+can_be_fired ds t quals = are_known ds t quals && not (list_any (λ u. bytes_eq u.name (codes "Default")) quals)
+
+abbrev pub fired_known : List Decl → List ℕ → List Qual → Result (List Notified) Refusal
+fired_known ds t quals = if can_be_fired ds t quals then Ok (notified_at ds (beans ds) t quals) else Err refusals.UnknownName
+
+abbrev pub fired_faultless : List Decl → ℕ → List ℕ → List Qual → Result (List Notified) Refusal
+fired_faultless ds count t quals = if count == 0 then fired_known ds t quals else Err (refusals.Faulty count)
+
+-- the observer methods that an event notifies, in order, or the first refusal whose condition holds
+unfoldable pub fired_of : List Decl → List Promised → List ℕ → List Qual → Result (List Notified) Refusal
+fired_of ds book t quals = fired_faultless ds (length (faults ds book)) t quals
+
+-- ---- runs
+
 -- the run that an aim begins
-abbrev pub run_at : Aim → Command
+abbrev pub run_at : Aim → Run
 run_at aim = use_bean aim.bean (use_of aim.wanted)
+
+-- the run of what was found, or why it was refused
+abbrev pub run_by : {X : Type 0} → (X → Run) → Result X Refusal → Result Run Refusal
+run_by run (Ok found) = Ok (run found)
+run_by run (Err refusal) = Err refusal
+
+-- that of a look-up or a call
+abbrev pub run_of_use : List Decl → List Promised → Asked → Result Run Refusal
+run_of_use ds book asked = run_by run_at (aim_of ds book asked)
+
+-- and that of an event with a value (CDI 4.0, Observer notification)
+abbrev pub run_of_event : List Decl → List Promised → Val → List ℕ → List Qual → Result Run Refusal
+run_of_event ds book arg t quals = run_by (λ observers. notify_all observers arg) (fired_of ds book t quals)

@@ -14,7 +14,7 @@ use Rattle.cdi_model.specs.Edits.{edited, edited_all, refusal_of_edit}
 use Rattle.cdi_bodies.specs.Book.{Promised}
 use Rattle.cdi_contexts.specs.Standing.{Standing, opened, cleared}
 use Rattle.cdi_scene.specs.declared.scene.Scene.{Scene}
-use Rattle.cdi_legal.specs.LegalRun.{LegalRun, LegalRequestEnd, LegalEnd}
+use Rattle.cdi_legal.specs.LegalRun.{Command as Run, LegalRun, LegalRequestEnd, LegalEnd}
 use Rattle.cdi_legal.specs.Single.{IsSingle}
 use Rattle.cdi_legal.specs.declared.entry.Entry.{Entry}
 use Rattle.cdi_text.specs.Reading.{decl_of}
@@ -27,13 +27,12 @@ use Rattle.cdi_staging.specs.Staged.{scene_of}
 use Rattle.cdi_staging.specs.declared.names.Names.{Names}
 use Rattle.cdi_validate.specs.Faults.{faults}
 use Rattle.cdi_lines.specs.declared.command.Command.{Command}
-use Rattle.cdi_lines.specs.declared.command.Command.TheVariants.{Put, Remove, Choose, Named, Chain, Observers, Report, LookUp, Call}
+use Rattle.cdi_lines.specs.declared.command.Command.TheVariants.{Put, Remove, Choose, Named, Chain, Observers, Report, LookUp, Call, Fire}
 use Rattle.cdi_lines.specs.declared.command.Command.TheVariants.{BeginRequest, EndRequest}
 use Rattle.cdi_lines.specs.declared.command.Command.TheVariants.{Stop, Unreadable}
 use Rattle.cdi_container.specs.declared.answer.Answer.{Answer}
 use Rattle.cdi_container.specs.declared.answer.Answer.TheVariants.{Done, Chosen, Intercepted, Observed, Reported, Given, Refused}
-use Rattle.cdi_container.specs.Asked.{Asked, to_look, to_call, aim_of, run_at}
-use Rattle.cdi_container.specs.declared.asked.Aim.{Aim}
+use Rattle.cdi_container.specs.Asked.{to_look, to_call, run_of_event, run_of_use}
 
 -- what a container holds
 pub record State : Type 0 where
@@ -102,8 +101,9 @@ refusal_of state (Named name) = None
 refusal_of state (Chain bean place) = refusal_in (chain_of state.decls bean place)
 refusal_of state (Observers t quals) = None
 refusal_of state Report = None
-refusal_of state (LookUp t quals) = refusal_in (aim_of state.decls state.book (to_look t quals))
-refusal_of state (Call method arg t quals) = refusal_in (aim_of state.decls state.book (to_call method arg t quals))
+refusal_of state (LookUp t quals) = refusal_in (run_of_use state.decls state.book (to_look t quals))
+refusal_of state (Call method arg t quals) = refusal_in (run_of_use state.decls state.book (to_call method arg t quals))
+refusal_of state (Fire arg t quals) = refusal_in (run_of_event state.decls state.book arg t quals)
 refusal_of state BeginRequest = refusal_of_begin state.standing
 refusal_of state EndRequest = refusal_of_end state.standing
 refusal_of state Stop = None
@@ -115,13 +115,13 @@ refusal_of state Unreadable = Some BadCommand
 abbrev pub IsRunFrom : State → State → Type 0
 IsRunFrom old new = new ≡ record old { standing = new.standing; trace = new.trace }
 
--- the look-up or the call has a legal run with this outcome
-pub record RunsFrom (old : State) (asked : Asked) (answer : Answer) (new : State) : Type 0 where
-  pub aim : Aim
-  pub leads : aim_of old.decls old.book asked ≡ Ok aim
+-- the run that so begins is legal and has this outcome
+pub record RunsFrom (old : State) (begun : Result Run Refusal) (answer : Answer) (new : State) : Type 0 where
+  pub run : Run
+  pub begins : begun ≡ Ok run
   pub outcome : Outcome
   pub given : answer ≡ Given outcome
-  pub legal : LegalRun (scene old) (run_at aim) old.standing new.trace outcome new.standing
+  pub legal : LegalRun (scene old) run old.standing new.trace outcome new.standing
   pub rest : IsRunFrom old new
 
 -- the request context ends legally, and then no request is active
@@ -153,18 +153,24 @@ Acts old (Chain bean place) answer new = TellsChain old bean place answer new
 Acts old (Observers t quals) answer new =
     (answer ≡ Observed (notified old.decls (beans old.decls) t quals)) × (new ≡ untold old)
 Acts old Report answer new = (answer ≡ Reported (faults old.decls old.book)) × (new ≡ untold old)
-Acts old (LookUp t quals) answer new = RunsFrom old (to_look t quals) answer new
-Acts old (Call method arg t quals) answer new = RunsFrom old (to_call method arg t quals) answer new
+Acts old (LookUp t quals) answer new = RunsFrom old (run_of_use old.decls old.book (to_look t quals)) answer new
+Acts old (Call method arg t quals) answer new = RunsFrom old (run_of_use old.decls old.book (to_call method arg t quals)) answer new
+Acts old (Fire arg t quals) answer new = RunsFrom old (run_of_event old.decls old.book arg t quals) answer new
 Acts old BeginRequest answer new = (answer ≡ Done) × (new ≡ with_request old)
 Acts old EndRequest answer new = EndsRequest old answer new
 Acts old Stop answer new = EndsContexts old answer new
 Acts old Unreadable answer new = ⊥
 
--- what a look-up or a call answers, and leaves
-abbrev pub UsesFrom : State → Asked → Result Outcome Error → State → Type 0
-UsesFrom old asked (Ok outcome) new = RunsFrom old asked (Given outcome) new
-UsesFrom old asked (Err errors.OutOfMemory) new = new ≡ emptied old
-UsesFrom old asked (Err (errors.Refused refusal)) new = (aim_of old.decls old.book asked ≡ Err refusal) × (new ≡ untold old)
+-- what a look-up, a call or an event whose run so begins answers, and leaves
+abbrev pub RunAnswers : State → Result Run Refusal → Result Outcome Error → State → Type 0
+RunAnswers old begun (Ok outcome) new = RunsFrom old begun (Given outcome) new
+RunAnswers old begun (Err errors.OutOfMemory) new = new ≡ emptied old
+RunAnswers old begun (Err (errors.Refused refusal)) new = (begun ≡ Err refusal) × (new ≡ untold old)
+
+-- what a run leaves that did not begin: refused, or for want of memory
+abbrev pub unplayed : Error → State → State
+unplayed errors.OutOfMemory old = emptied old
+unplayed (errors.Refused refusal) old = untold old
 
 -- what a call leaves that was refused, or that found no memory and is no run
 abbrev pub left_by : Error → State → State
@@ -175,6 +181,7 @@ left_by (errors.Refused refusal) old = untold old
 abbrev pub runs : Command → Bool
 runs (LookUp t quals) = true
 runs (Call method arg t quals) = true
+runs (Fire arg t quals) = true
 runs EndRequest = true
 runs Stop = true
 runs command = false

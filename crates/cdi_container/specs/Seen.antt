@@ -18,7 +18,7 @@ use Rattle.cdi_observe.specs.declared.observers.ObserverId.{ObserverId}
 use Rattle.cdi_resolve.specs.declared.choice.Choice.{Choice}
 use Rattle.cdi_faults.specs.declared.fault.Fault.{Fault}
 use Rattle.cdi_lines.specs.declared.command.Command.{Command}
-use Rattle.cdi_lines.specs.declared.command.Command.TheVariants.{Put, Remove, Choose, Named, Chain, Observers, Report, LookUp, Call}
+use Rattle.cdi_lines.specs.declared.command.Command.TheVariants.{Put, Remove, Choose, Named, Chain, Observers, Report, LookUp, Call, Fire}
 use Rattle.cdi_lines.specs.declared.command.Command.TheVariants.{BeginRequest, EndRequest}
 use Rattle.cdi_lines.specs.declared.command.Command.TheVariants.{Stop}
 use Rattle.cdi_container.specs.declared.answer.Answer.{Answer}
@@ -75,7 +75,7 @@ abbrev pub report_answer : Result (Vec Fault Global) AllocError → Result Answe
 report_answer (Ok list) = Ok (Reported list.items)
 report_answer (Err error) = Err error
 
--- the answer of a look-up or a call
+-- the answer of a look-up, a call or an event
 abbrev pub outcome_answer : Result Outcome Error → Result Answer AllocError
 outcome_answer (Ok outcome) = Ok (Given outcome)
 outcome_answer (Err error) = failed_answer error
@@ -110,6 +110,9 @@ LookUpStep old t quals result new = IsStep old (LookUp t quals) (outcome_answer 
 
 abbrev pub CallStep : State → List ℕ → Val → List ℕ → List Qual → Result Outcome Error → State → Type 0
 CallStep old method arg t quals result new = IsStep old (Call method arg t quals) (outcome_answer result) new
+
+abbrev pub FireStep : State → Val → List ℕ → List Qual → Result Outcome Error → State → Type 0
+FireStep old arg t quals result new = IsStep old (Fire arg t quals) (outcome_answer result) new
 
 abbrev pub BeginStep : State → Result (Unit {0}) Refusal → State → Type 0
 BeginStep old result new = IsStep old BeginRequest (plain_answer result) new

@@ -1,16 +1,16 @@
-//! Where look-ups and calls lead.
+//! Where look-ups and calls lead, and which events may be fired.
 ghost use Rattle.std.specs.Prelude.{◌≡◌, IfOk, IfErr, OnOk, None, Some};
 ghost use Rattle.cdi_model.specs.Answering.{Answers};
 ghost use Rattle.cdi_effective.specs.Beans.{beans as beans_of};
 ghost use Rattle.cdi_staging.specs.Sites.{managed_class};
-ghost use Rattle.cdi_container.specs.Asked.{wanted_of, aim_of_choice, aim_for, asked_for};
+ghost use Rattle.cdi_container.specs.Asked.{wanted_of, aim_of_choice, aim_for, asked_for, can_be_fired};
 
 use cdi_effective::BeanId;
 use cdi_model::{Decls, Error, Ident, Name, Quals, Refusal, Val, Work};
 use cdi_resolve::{BeanList, Choice};
 use cdi_run::Wanted;
 use cdi_staging::{method_of, target_of};
-use cdi_subjects::has_method;
+use cdi_subjects::{are_known, has_method};
 use std::alloc::Global;
 
 /// A method and its argument.
@@ -90,4 +90,15 @@ fn wanted_of(
         method: method_of(decls, class, method),
         arg,
     })
+}
+
+/// Whether the type and the qualifiers of an event are known, and `Default` is none of these (profile).
+pub(crate) fn can_be_fired(decls: &Decls, event_type: Name, quals: &Quals) -> bool
+    ensures { result ≡ can_be_fired decls.now event_type quals.now }
+{
+    let names_default = quals
+        .as_slice()
+        .iter()
+        .any(|have| have.name.as_bytes() == b"Default".as_slice());
+    are_known(decls, event_type, quals) && !names_default
 }

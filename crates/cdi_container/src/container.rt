@@ -112,6 +112,11 @@ impl<B: Bodies> Container<B> {
                 bean_type,
                 quals,
             } => answer_of_run(self.call(bean_type, &quals, method, arg)),
+            Command::Fire {
+                arg,
+                event_type,
+                quals,
+            } => answer_of_run(self.fire(event_type, &quals, arg)),
             Command::BeginRequest => answer_of_begin(self.begin_request()),
             Command::EndRequest => answer_of_edit(self.end_request()),
             Command::Stop => answer_of_stop(self.stop()),

@@ -12,10 +12,11 @@ ghost use Rattle.cdi_observe.specs.Observers.{notified};
 ghost use Rattle.cdi_staging.specs.Naming.{names_of};
 ghost use Rattle.cdi_staging.specs.Staged.{scene_of};
 ghost use Rattle.cdi_validate.specs.Faults.{faults};
-ghost use Rattle.cdi_container.specs.Asked.{aim_of, asked_for};
+ghost use Rattle.cdi_container.specs.Asked.{aim_of, asked_for, fired_of};
+ghost use Rattle.cdi_scene.specs.Sound.{AreObservers};
 ghost use Rattle.cdi_container.specs.Wired.{StandsIn, IsSameDeployment, IsWiredOf, without_wiring};
 
-use crate::asked::{Aim, Message, aim_for};
+use crate::asked::{Aim, Message, aim_for, can_be_fired};
 use crate::wiring::{Wired, Wiring};
 use cdi_bodies::Bodies;
 use cdi_ending::Stage;
@@ -25,7 +26,8 @@ use cdi_model::{BeanPlace, Decl, Decls, Error, Kind, Name, Quals, Refusal, Seq, 
 use cdi_observe::{ObserverId, PlainView, evaluate_observers};
 use cdi_resolve::{BeanList, Choice, choose_name};
 use cdi_run::Player;
-use cdi_staging::Names;
+use cdi_scene::Notified;
+use cdi_staging::{Names, notified_at};
 use cdi_subjects::are_known;
 use cdi_validate::faults;
 use std::alloc::{AllocError, Global};
@@ -227,6 +229,36 @@ impl<B: Bodies> Deployment<B> {
         let aim = aim_for(alloc, &self.decls, &list, bean_type, quals, message, work);
         self.beans = Some(list);
         aim
+    }
+
+    /// The observer methods that an event notifies. Where it is not refused, the scene is there from now on.
+    #[tactic(auto, unfolding(crate::specs::Asked::fired_of))]
+    pub(crate) fn notified(
+        &mut self,
+        alloc: Global,
+        event_type: Name,
+        quals: &Quals,
+        work: &mut Work,
+    ) -> Result<Seq<Notified>, Error>
+        ensures answer { Answers result (fired_of self.old.decls self.old.book event_type quals.now) }
+        ensures wired { OnOk result (self.new.is_wired ≡ true) }
+        ensures there { IfOk result (λ list. AreObservers (scene_of self.old.decls self.old.book) list) }
+        ensures same { IsSameDeployment self.old self.new }
+    {
+        let count = self.wire(alloc)?;
+        if count != 0 {
+            return Err(Error::Refused(Refusal::Faulty(count)));
+        }
+        if !can_be_fired(&self.decls, event_type, quals) {
+            return Err(Error::Refused(Refusal::UnknownName));
+        }
+        let list = self.take_beans(alloc)?;
+        // No effect at run time. The proof reads here that no two declarations have one kind and name.
+        let _ = self.decls.iter();
+        let notified = notified_at(alloc, &self.decls, &list, event_type, quals.as_slice());
+        self.beans = Some(list);
+        work.add_one();
+        Ok(notified?)
     }
 
     /// The scene and its names, where they are there.

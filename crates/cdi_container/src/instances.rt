@@ -1,10 +1,10 @@
-//! Look-ups and calls, requests, and the ends of contexts.
+//! Look-ups, calls and events, requests, and the ends of contexts.
 ghost use Rattle.std.specs.Prelude.{◌≡◌, Some, IfOk, IfErr, OnOk, OnErr};
 ghost use Rattle.cdi_model.specs.Answering.{Answers};
-ghost use Rattle.cdi_container.specs.Asked.{asked_for, to_look, to_call};
-ghost use Rattle.cdi_container.specs.History.{emptied, untold, with_request, refusal_of_begin, refusal_of_end, UsesFrom, RunsFrom};
+ghost use Rattle.cdi_container.specs.Asked.{asked_for, to_look, to_call, run_of_event, run_of_use};
+ghost use Rattle.cdi_container.specs.History.{emptied, untold, unplayed, with_request, refusal_of_begin, refusal_of_end, RunAnswers, RunsFrom};
 ghost use Rattle.cdi_container.specs.History.{EndsRequest, EndsContexts};
-ghost use Rattle.cdi_container.specs.Seen.{LookUpStep, CallStep, BeginStep, EndStep, StopStep, done_or};
+ghost use Rattle.cdi_container.specs.Seen.{LookUpStep, CallStep, FireStep, BeginStep, EndStep, StopStep, done_or};
 
 use crate::answer::Answer;
 use crate::asked::Message;
@@ -25,7 +25,7 @@ impl<B: Bodies> Container<B> {
     /// `OutOfMemory`, or the first of these refusals that applies: `Faulty`, where the deployment has faults;
     /// `UnknownName`; `Unsatisfied`; `Ambiguous`.
     pub fn lookup(&mut self, bean_type: Name, quals: &Quals) -> Result<Outcome, Error>
-        ensures uses { UsesFrom self.old (to_look bean_type quals.now) result self.new }
+        ensures uses { RunAnswers self.old (run_of_use self.old.decls self.old.book (to_look bean_type quals.now)) result self.new }
         ensures step { LookUpStep self.old bean_type quals.now result self.new }
     {
         self.use_bean(bean_type, quals, None)
@@ -44,7 +44,8 @@ impl<B: Bodies> Container<B> {
         method: Ident,
         arg: Val,
     ) -> Result<Outcome, Error>
-        ensures uses { UsesFrom self.old (to_call method arg bean_type quals.now) result self.new }
+        ensures uses { RunAnswers self.old (run_of_use self.old.decls self.old.book (to_call method arg bean_type quals.now))
+            result self.new }
         ensures step { CallStep self.old method arg bean_type quals.now result self.new }
     {
         self.use_bean(bean_type, quals, Some(Message { method, arg }))
@@ -57,7 +58,8 @@ impl<B: Bodies> Container<B> {
         quals: &Quals,
         message: Option<Message>,
     ) -> Result<Outcome, Error>
-        ensures { UsesFrom self.old (asked_for bean_type quals.now message) result self.new }
+        ensures { RunAnswers self.old (run_of_use self.old.decls self.old.book (asked_for bean_type quals.now message))
+            result self.new }
     {
         match self
             .deployment
@@ -68,15 +70,46 @@ impl<B: Bodies> Container<B> {
                 let outcome = player.use_one(&mut self.run, aim.bean, aim.wanted)?;
                 Ok(outcome)
             }
-            Err(Error::Refused(refusal)) => {
-                self.run.restart();
-                Err(Error::Refused(refusal))
-            }
-            Err(Error::OutOfMemory) => {
-                self.run.clear(self.run.given());
-                Err(Error::OutOfMemory)
-            }
+            Err(error) => Err(self.leave_unplayed(error)),
         }
+    }
+
+    /// An event with a value, for the observer methods that it notifies, in order, up to the first failure, which is its outcome
+    /// then (CDI 4.0, Observer notification); else the outcome is null. It takes memory as `report` does at the first look-up,
+    /// call or event after an edit, and else as `observers` does and for the instances and the entries of its trace.
+    ///
+    /// # Errors
+    ///
+    /// `OutOfMemory`, or the first of these refusals that applies: `Faulty`, where the deployment has faults;
+    /// `UnknownName`, which `Default` among the qualifiers has too (profile).
+    pub fn fire(&mut self, event_type: Name, quals: &Quals, arg: Val) -> Result<Outcome, Error>
+        ensures notifies { RunAnswers self.old (run_of_event self.old.decls self.old.book arg event_type quals.now)
+            result self.new }
+        ensures step { FireStep self.old arg event_type quals.now result self.new }
+    {
+        match self
+            .deployment
+            .notified(self.alloc, event_type, quals, &mut self.work)
+        {
+            Ok(observers) => {
+                let player = self.deployment.player();
+                let outcome = player.fire(&mut self.run, observers.as_slice(), arg)?;
+                Ok(outcome)
+            }
+            Err(error) => Err(self.leave_unplayed(error)),
+        }
+    }
+
+    /// What is left of the contexts and the trace where a run does not begin, for this reason.
+    fn leave_unplayed(&mut self, error: Error) -> Error
+        ensures same { result ≡ error }
+        ensures left { self.new ≡ unplayed error self.old }
+    {
+        match error {
+            Error::Refused(_) => self.run.restart(),
+            Error::OutOfMemory => self.run.clear(self.run.given()),
+        }
+        error
     }
 
     /// A request is active from now on (CDI 4.0, Context management for built-in scopes). It takes no memory.
