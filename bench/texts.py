@@ -8,7 +8,7 @@ from typing import NamedTuple
 
 ANY, DEFAULT = ("Any", ()), ("Default", ())
 # Whether runs notify observer methods, so that random scripts have these and events.
-NOTIFIES = False
+NOTIFIES = True
 KEYS_OF_USES = ["qualifiers", "bindings", "declares"]
 
 
