@@ -1,30 +1,32 @@
-//! Look-ups, calls, requests and stops of a container, with ample memory.
+//! Look-ups, calls, events, requests and stops of a container, with ample memory.
 use cdi_container::{Answer, Command, Container, Entry};
 use cdi_fixtures::{Echo, name};
 use cdi_model::{Error, Failure, Ident, Name, Outcome, Quals, Refusal, Val};
 use std::alloc::{AllocError, Global};
 use std::test::Fail;
 
-/// A call of a container. What is looked up and called is meant by its type alone.
+/// A call of a container. What is looked up and called, and an event, is meant by its type alone.
 #[derive(Clone, Copy)]
 enum Asked {
     LookUp(&'static [u8]),
     Call(&'static [u8], Val, &'static [u8]),
+    Fire(Val, &'static [u8]),
     Begin,
     End,
     Stop,
 }
 
-/// What a call answers: an outcome where it is a look-up or the call of a method.
+/// What a call answers: an outcome where it is a look-up, the call of a method or an event.
 type Told = Result<Option<Outcome>, Error>;
 
 /// A call, what it answers, and the trace that is shown behind it.
 #[derive(Clone, Copy)]
 struct Step(Asked, Told, &'static [u8]);
 
-use Asked::{Begin, Call, End, LookUp, Stop};
+use Asked::{Begin, Call, End, Fire, LookUp, Stop};
 
-/// A dependent bean, whose point holds another one that has a callback, a bean of the request and one of the application.
+/// A dependent bean, whose point holds another one that has a callback, a bean of the request, and one of the application with
+/// an observer method.
 static DECLARED: [&[u8]; 8] = [
     b"kind=\"type\"\nname=\"A\"\n",
     b"kind=\"type\"\nname=\"D\"\n",
@@ -33,7 +35,12 @@ static DECLARED: [&[u8]; 8] = [
     b"kind=\"bean\"\nname=\"A\"\npoints=[{name=\"d\",type=\"D\"}]\nmethods=[{name=\"run\",body=\"echo\"}]\n",
     b"kind=\"bean\"\nname=\"D\"\npost={body=\"echo\"}\n",
     b"kind=\"bean\"\nname=\"R\"\nscope=\"request\"\nmethods=[{name=\"run\",body=\"echo\"}]\n",
-    b"kind=\"bean\"\nname=\"S\"\nscope=\"application\"\nmethods=[{name=\"run\",body=\"echo\"}]\n",
+    br#"kind="bean"
+name="S"
+scope="application"
+methods=[{name="run",body="echo"}]
+observers=[{name="see",type="D",body="echo"}]
+"#,
 ];
 
 /// A point whose type is not declared: two faults.
@@ -45,7 +52,7 @@ const NULL: Told = Ok(Some(Outcome::Value(Val::Null)));
 
 const NOT_ACTIVE: Told = Ok(Some(Outcome::Failed(Failure::NotActive)));
 
-static STEPS: [Step; 16] = [
+static STEPS: [Step; 19] = [
     Step(
         LookUp(b"A"),
         NULL,
@@ -102,6 +109,17 @@ static STEPS: [Step; 16] = [
     ),
     Step(LookUp(b"S"), NULL, b""),
     Step(
+        Fire(Val::Int(3), b"D"),
+        NULL,
+        b"  enter S#6 observer see arg 3\n  leave 3\n",
+    ),
+    Step(Fire(Val::Int(3), b"A"), NULL, b""),
+    Step(
+        Fire(Val::Int(3), b"Z"),
+        Err(Error::Refused(Refusal::UnknownName)),
+        b"",
+    ),
+    Step(
         Call(b"go", Val::Null, b"S"),
         Err(Error::Refused(Refusal::NoMethod)),
         b"",
@@ -119,11 +137,16 @@ static STEPS: [Step; 16] = [
 ];
 
 /// The steps behind a bean that has faults.
-static FAULTY_STEPS: [Step; 5] = [
+static FAULTY_STEPS: [Step; 6] = [
     Step(Begin, DONE, b""),
     Step(LookUp(b"A"), Err(Error::Refused(Refusal::Faulty(2))), b""),
     Step(
         Call(b"go", Val::Null, b"Z"),
+        Err(Error::Refused(Refusal::Faulty(2))),
+        b"",
+    ),
+    Step(
+        Fire(Val::Null, b"Z"),
         Err(Error::Refused(Refusal::Faulty(2))),
         b"",
     ),
@@ -176,6 +199,15 @@ fn answer_of(
     given(container.call(bean_type, quals, method, arg))
 }
 
+fn outcome_of(
+    container: &mut Container<Echo>,
+    event_type: Name,
+    quals: &Quals,
+    arg: Val,
+) -> Told {
+    given(container.fire(event_type, quals, arg))
+}
+
 fn begin_request(container: &mut Container<Echo>) -> Told {
     done(container.begin_request().map_err(Error::Refused))
 }
@@ -194,6 +226,7 @@ fn make(alloc: Global, container: &mut Container<Echo>, asked: &Asked) -> Told {
     match asked {
         LookUp(text) => state_of(container, name(text)?, &quals),
         Call(text, arg, of) => answer_of(container, name(of)?, &quals, method(text)?, *arg),
+        Fire(arg, of) => outcome_of(container, name(of)?, &quals, *arg),
         Begin => begin_request(container),
         End => end_request(container),
         Stop => end_contexts(container),
@@ -214,6 +247,11 @@ fn command_of(alloc: Global, asked: &Asked) -> Result<Command, Error> {
             bean_type: name(of)?,
             quals,
         }),
+        Fire(arg, of) => Ok(Command::Fire {
+            arg: *arg,
+            event_type: name(of)?,
+            quals,
+        }),
         Begin => Ok(Command::BeginRequest),
         End => Ok(Command::EndRequest),
         Stop => Ok(Command::Stop),
@@ -224,7 +262,7 @@ fn execute(container: &mut Container<Echo>, command: Command) -> Result<Answer, 
     container.execute(command)
 }
 
-/// What a command tells that is a look-up, a call, or about a context.
+/// What a command tells that is a look-up, a call, an event, or about a context.
 fn told_by(answer: &Answer) -> Told {
     match answer {
         Answer::Given(outcome) => Ok(Some(*outcome)),
@@ -338,7 +376,7 @@ fn commands_run_bodies(rt: HostRuntime) -> Result<(), Fail> {
 }
 
 #[test]
-fn faults_refuse_look_ups_and_calls(rt: HostRuntime) -> Result<(), Fail> {
+fn faults_refuse_look_ups_calls_and_events(rt: HostRuntime) -> Result<(), Fail> {
     let mut container = stored(rt.alloc(), &[DECLARED[0], FAULTY])?;
     let other = first_other_call(rt.alloc(), &mut container, &FAULTY_STEPS)?;
     assert!(rt; other.is_none(), "{other:?}");

@@ -1,17 +1,18 @@
-//! Look-ups, calls, requests and a stop of a container, of which any one allocation may be refused.
+//! Look-ups, calls, requests, a stop and an event of a container, of which any one allocation may be refused.
 use crate::Difference;
 use crate::bodies::Bound;
-use Asked::{Begin, Call, End, LookUp, Stop};
+use Asked::{Begin, Call, End, Fire, LookUp, Stop};
 use cdi_container::{Container, Entry};
 use cdi_fixtures::name;
 use cdi_model::{Error, Ident, Name, Outcome, Quals, Refusal, Val};
 use std::alloc::{AllocError, Global};
 
-/// A call of a container. What is looked up and called is meant by its type alone.
+/// A call of a container. What is looked up and called, and an event, is meant by its type alone.
 #[derive(Clone, Copy)]
 enum Asked {
     LookUp(&'static [u8]),
     Call(i64, &'static [u8]),
+    Fire(i64, &'static [u8]),
     Begin,
     End,
     Stop,
@@ -38,15 +39,19 @@ enum Going {
 
 const NULL: Option<Val> = Some(Val::Null);
 
-/// A dependent bean with a point, the bean that its point holds, a bean of the request, and one of the application around
-/// which an interceptor stands that has a point too.
+/// A dependent bean with a point and an observer method, the bean that its point holds, a bean of the request, and one of the
+/// application, which may fire an event and around which an interceptor stands that has a point too.
 static DECLARED: [&[u8]; 10] = [
     b"kind=\"binding\"\nname=\"Log\"\n",
     b"kind=\"type\"\nname=\"A\"\n",
     b"kind=\"type\"\nname=\"D\"\n",
     b"kind=\"type\"\nname=\"R\"\n",
     b"kind=\"type\"\nname=\"S\"\n",
-    b"kind=\"bean\"\nname=\"A\"\npoints=[{name=\"d\",type=\"D\"}]\n",
+    br#"kind="bean"
+name="A"
+points=[{name="d",type="D"}]
+observers=[{name="see",type="R",qualifiers=["Any"],body="echo",params=[{name="e",type="D"}]}]
+"#,
     b"kind=\"bean\"\nname=\"D\"\npost={body=\"echo\"}\n",
     b"kind=\"bean\"\nname=\"R\"\nscope=\"request\"\nmethods=[{name=\"run\",body=\"echo\"}]\n",
     br#"kind="bean"
@@ -54,7 +59,7 @@ name="S"
 scope="application"
 bindings=["Log"]
 points=[{name="d",type="D"}]
-methods=[{name="run",body="echo"}]
+methods=[{name="run",body="echo",fires=["R"]}]
 "#,
     br#"kind="interceptor"
 name="I"
@@ -71,7 +76,7 @@ pre={body="count"}
 /// How many entries the look-up of the dependent bean with a point has.
 const ENTRIES: usize = 10;
 
-static STEPS: [Step; 9] = [
+static STEPS: [Step; 10] = [
     Step {
         asked: LookUp(b"A"),
         value: NULL,
@@ -176,6 +181,30 @@ static STEPS: [Step; 9] = [
         trace: b"",
         next: 8,
     },
+    Step {
+        asked: Fire(5, b"R"),
+        value: NULL,
+        trace: b"  create A#8
+  create D#9
+  enter D#9 post arg null
+  leave null
+  ready D#9
+  ready A#8
+  create D#10
+  enter D#10 post arg null
+  leave null
+  ready D#10
+  enter A#8 observer see arg 5
+  leave 5
+  destroy D#10
+  gone D#10
+  destroy A#8
+  destroy D#9
+  gone D#9
+  gone A#8
+",
+        next: 8,
+    },
 ];
 
 /// The value that an outcome is, if it is one.
@@ -205,6 +234,16 @@ fn answer_of(
     Ok(value_of(outcome))
 }
 
+/// Fires an event without qualifiers.
+fn outcome_of(
+    container: &mut Container<Bound>,
+    event_type: Name,
+    quals: &Quals,
+    arg: Val,
+) -> Result<Option<Val>, Error> {
+    Ok(value_of(container.fire(event_type, quals, arg)?))
+}
+
 fn begin_request(container: &mut Container<Bound>) -> Result<(), Error> {
     container.begin_request().map_err(Error::Refused)
 }
@@ -227,6 +266,7 @@ fn make(
     match asked {
         LookUp(text) => return state_of(container, name(text)?, &quals),
         Call(arg, text) => return answer_of(container, name(text)?, &quals, Val::Int(*arg)),
+        Fire(arg, text) => return outcome_of(container, name(text)?, &quals, Val::Int(*arg)),
         Begin => begin_request(container)?,
         End => end_request(container)?,
         Stop => end_contexts(container)?,
