@@ -1,17 +1,18 @@
 //! Where what is chosen for parameters stands among what is chosen for the injection points of a bean.
-ghost use Rattle.std.specs.Prelude.{◌≡◌, length};
+ghost use Rattle.std.specs.Prelude.{◌≡◌, length, take, drop};
 ghost use Rattle.cdi_observe.specs.Wanted.{params_of};
 
 use cdi_model::ProducerDecl;
 
-/// How many parameters some producer methods have. What is chosen for those of a bean stands behind what is for its own
-/// injection points, and in front of what is for the parameters of its observer methods. It takes no memory.
-pub fn count_params(producers: &[ProducerDecl]) -> usize
-    ensures { result ≡ length (params_of producers.now) }
+/// Of what is chosen for the parameters of the producer methods of a bean and behind them for those of its observer
+/// methods, that for the former and that for the latter. It takes no memory.
+pub fn split_params<'a, T>(producers: &[ProducerDecl], chosen: &'a [T]) -> (&'a [T], &'a [T])
+    ensures products { result.0.now ≡ take (length (params_of producers.now)) chosen.now }
+    ensures observers { result.1.now ≡ drop (length (params_of producers.now)) chosen.now }
 {
-    let mut count = 0;
+    let mut count: usize = 0;
     for producer in producers {
-        count += producer.params.len();
+        count = count.saturating_add(producer.params.len());
     }
-    count
+    chosen.split_at(count.min(chosen.len()))
 }
