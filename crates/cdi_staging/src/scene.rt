@@ -19,7 +19,7 @@ use crate::target::{Target, targets_of};
 use cdi_bodies::Bodies;
 use cdi_effective::Effective;
 use cdi_model::{BeanDecl, Decl, Decls, Seq};
-use cdi_observe::count_params;
+use cdi_observe::split_params;
 use cdi_resolve::{BeanList, Choice};
 use cdi_scene::{Bean, Scene};
 use std::alloc::{AllocError, Global};
@@ -132,7 +132,7 @@ impl<'a, B: Bodies> Stage<'a, B> {
         };
         let points = bean.points.as_slice();
         let (own, rest) = targets.split_at(points.len());
-        let (of_products, of_observers) = rest.split_at(count_params(bean.producers.as_slice()));
+        let (of_products, of_observers) = split_params(bean.producers.as_slice(), rest);
         let sight = Visible {
             points,
             targets: own,
