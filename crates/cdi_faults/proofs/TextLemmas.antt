@@ -2,6 +2,7 @@
 use Rattle.std.proofs.Common.{◌≡◌, ◌∷◌, ℕ, List, refl}
 use Rattle.std.specs.Prelude.{Some, None, ◌≢◌}
 use Rattle.cdi_model.specs.declared.decl.UseKind.TheVariants as uses
+use Rattle.cdi_model.specs.declared.mention.PointPlace.TheVariants as points
 use Rattle.cdi_faults.specs.declared.fault.Subject.{Subject}
 use Rattle.cdi_faults.specs.declared.fault.Subject.TheVariants as subjects
 use Rattle.cdi_faults.specs.declared.place.PartPlace.{PartPlace}
@@ -15,6 +16,7 @@ behind_space_of_place places.Pre = refl
 behind_space_of_place (places.Method name) = refl
 behind_space_of_place (places.Producer name) = refl
 behind_space_of_place (places.Disposer name) = refl
+behind_space_of_place (places.Observer name) = refl
 behind_space_of_place places.AroundInvoke = refl
 behind_space_of_place places.AroundConstruct = refl
 
@@ -26,6 +28,7 @@ behind_space_of_call places.Pre point method = refl
 behind_space_of_call (places.Method name) point method = refl
 behind_space_of_call (places.Producer name) point method = refl
 behind_space_of_call (places.Disposer name) point method = refl
+behind_space_of_call (places.Observer name) point method = refl
 behind_space_of_call places.AroundInvoke point method = refl
 behind_space_of_call places.AroundConstruct point method = refl
 
@@ -43,9 +46,11 @@ behind_space_of (subjects.Typed None name) h = refl
 behind_space_of (subjects.Typed (Some producer) name) h = refl
 behind_space_of (subjects.Producer name) h = refl
 behind_space_of (subjects.Disposer name) h = refl
+behind_space_of (subjects.Observer name) h = refl
 behind_space_of (subjects.Use uses.Qualifier u) h = refl
 behind_space_of (subjects.Use uses.Binding u) h = refl
-behind_space_of (subjects.Point None point) h = refl
-behind_space_of (subjects.Point (Some producer) point) h = refl
+behind_space_of (subjects.Point points.Constructor point) h = refl
+behind_space_of (subjects.Point (points.Producer method) point) h = refl
+behind_space_of (subjects.Point (points.Observer method) point) h = refl
 behind_space_of (subjects.Part place) h = behind_space_of_place place
 behind_space_of (subjects.Call place point method) h = behind_space_of_call place point method
