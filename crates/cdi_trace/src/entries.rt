@@ -1,17 +1,18 @@
 //! The text of entries.
 ghost use Rattle.std.specs.Prelude.{◌≡◌, ◌++◌, IfOk, OnErr, OnOk};
 ghost use Rattle.cdi_model.specs.OutcomeText.{text_of_val};
-ghost use Rattle.cdi_legal.specs.declared.entry.Entry.TheVariants.{Broken, Called, Enter};
+ghost use Rattle.cdi_legal.specs.declared.entry.Entry.TheVariants.{Broken, Called, Enter, Fired, Skip};
 ghost use Rattle.cdi_trace.specs.Names.{text_of_instance};
 ghost use Rattle.cdi_trace.specs.TraceText.{text_of_outcome, text_of_place, text_of_seat, text_of_entry, text_of_entries};
 
 use crate::names::{
-    push_actor, push_class, push_disposer, push_instance, push_method, push_producer, push_site,
+    push_actor, push_call_site, push_class, push_disposer, push_fire_site, push_instance,
+    push_method, push_observer, push_producer,
 };
 use cdi_contexts::InstanceId;
 use cdi_legal::Entry;
 use cdi_model::{Failure, Outcome, Val};
-use cdi_scene::{Place, Seat};
+use cdi_scene::{Notified, Place, Seat};
 use cdi_staging::Names;
 use std::alloc::{AllocError, Global};
 use std::io::Write;
@@ -50,11 +51,11 @@ fn push_entry(text: &mut Vec<u8>, names: &Names, entry: Entry) -> Result<(), All
         Entry::Loaded { value } => push_value(text, b"load ", value),
         Entry::Stored { value, .. } => push_value(text, b"store ", value),
         Entry::Called { seat, site, arg } => push_called(text, names, seat, site, arg),
-        Entry::Fired { arg, .. } => push_value(text, b"fire ", arg),
+        Entry::Fired { seat, site, arg } => push_fired(text, names, seat, site, arg),
         Entry::Proceeded { arg } => push_value(text, b"proceed ", arg),
         Entry::Got { outcome } => push_outcome(text, b"got ", outcome),
         Entry::Leave { outcome } => push_outcome(text, b"leave ", outcome),
-        Entry::Skip { .. } => text.extend_from_slice(b"skip"),
+        Entry::Skip { observer } => push_skip(text, names, observer),
         Entry::Destroy { id } => push_about(text, names, b"destroy ", id),
         Entry::Gone { id } => push_about(text, names, b"gone ", id),
     }
@@ -122,8 +123,32 @@ fn push_called(
     ensures { OnOk result (text.new.items ≡ text.old.items ++ text_of_entry names.now (Called seat site arg)) }
 {
     text.extend_from_slice(b"call ")?;
-    push_site(text, names, seat, usize::from(site))?;
+    push_call_site(text, names, seat, usize::from(site))?;
     push_value(text, b" ", arg)
+}
+
+fn push_fired(
+    text: &mut Vec<u8>,
+    names: &Names,
+    seat: Seat,
+    site: u8,
+    arg: Val,
+) -> Result<(), AllocError>
+    ensures { OnOk result (text.new.items ≡ text.old.items ++ text_of_entry names.now (Fired seat site arg)) }
+{
+    push_value(text, b"fire ", arg)?;
+    text.push(b' ')?;
+    push_fire_site(text, names, seat, usize::from(site))
+}
+
+/// An observer method that is not notified, behind its class.
+fn push_skip(text: &mut Vec<u8>, names: &Names, observer: Notified) -> Result<(), AllocError>
+    ensures { OnOk result (text.new.items ≡ text.old.items ++ text_of_entry names.now (Skip observer)) }
+{
+    text.extend_from_slice(b"skip ")?;
+    push_class(text, names, observer.bean)?;
+    text.push(b' ')?;
+    push_place(text, names, observer.bean, Place::Observer(observer.observer))
 }
 
 /// Where a body runs: on an instance, or for a class, and there at a place; and whose it is, if an interceptor's.
@@ -163,6 +188,9 @@ fn push_place(
             text.extend_from_slice(b"disposer ")?;
             push_disposer(text, names, product)
         }
-        Place::Observer(_) => text.extend_from_slice(b"observer"),
+        Place::Observer(position) => {
+            text.extend_from_slice(b"observer ")?;
+            push_observer(text, names, bean, position)
+        }
     }
 }

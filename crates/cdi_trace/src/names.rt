@@ -1,13 +1,14 @@
 //! What stands at the positions that a trace tells.
-ghost use Rattle.std.specs.Prelude.{◌≡◌, ◌++◌, OnOk, option_copied, unwrap_or, [], slice_get};
-ghost use Rattle.cdi_trace.specs.Names.{bean_told, class_of_bean, text_of_instance, method_told};
-ghost use Rattle.cdi_trace.specs.Names.{name_of_method, name_of_producer, name_of_disposer, calls_told, text_of_site};
-ghost use Rattle.cdi_trace.specs.Names.{calls_by, calls_of_interceptor, interceptor_told, text_of_actor};
+ghost use Rattle.std.specs.Prelude.{◌≡◌, ◌++◌, OnOk, option_copied, option_map, unwrap_or, []};
+ghost use Rattle.cdi_trace.specs.Names.{bean_told, class_of_bean, text_of_instance, method_told, observer_told};
+ghost use Rattle.cdi_trace.specs.Names.{name_of_method, name_of_producer, name_of_disposer, interceptor_told, text_of_actor};
+ghost use Rattle.cdi_trace.specs.Names.{sites_told, sites_around, sites_by, call_told, fire_told};
+ghost use Rattle.cdi_trace.specs.Names.{text_of_call_site, text_of_fire_site};
 
 use cdi_contexts::Actor;
-use cdi_model::{CallDecl, Ident};
+use cdi_model::{CallDecl, EventDecl, Ident};
 use cdi_scene::{Place, Seat};
-use cdi_staging::{BeanNames, MethodNames, Names};
+use cdi_staging::{BeanNames, MethodNames, Names, SiteNames};
 use std::alloc::AllocError;
 use std::io::Write;
 
@@ -24,32 +25,25 @@ fn method_in(names: &Names, bean: usize, position: usize) -> Option<&MethodNames
     bean.methods.as_slice().get(position)
 }
 
-/// The call sites at a place of a bean.
-fn calls_at(names: &Names, bean: usize, place: Place) -> &[CallDecl]
-    ensures { result.now ≡ calls_told names.now bean place }
+fn observer_in(names: &Names, bean: usize, position: usize) -> Option<&MethodNames>
+    ensures { option_copied result ≡ observer_told names.now bean position }
+{
+    let bean = bean_in(names, bean)?;
+    bean.observers.as_slice().get(position)
+}
+
+/// The sites at a place of a bean.
+fn sites_at(names: &Names, bean: usize, place: Place) -> Option<&SiteNames>
+    ensures { option_copied result ≡ sites_told names.now bean place }
 {
     match place {
-        Place::Construct => match bean_in(names, bean) {
-            Some(bean) => bean.construct.as_slice(),
-            None => &[],
-        },
-        Place::Post => match bean_in(names, bean) {
-            Some(bean) => bean.post.as_slice(),
-            None => &[],
-        },
-        Place::Pre => match bean_in(names, bean) {
-            Some(bean) => bean.pre.as_slice(),
-            None => &[],
-        },
-        Place::Method(position) => match method_in(names, bean, position) {
-            Some(method) => method.calls.as_slice(),
-            None => &[],
-        },
-        Place::Producer(product) => match bean_in(names, product) {
-            Some(product) => product.produces.as_slice(),
-            None => &[],
-        },
-        Place::Disposer(_) | Place::Observer(_) => &[],
+        Place::Construct => Some(&bean_in(names, bean)?.construct),
+        Place::Post => Some(&bean_in(names, bean)?.post),
+        Place::Pre => Some(&bean_in(names, bean)?.pre),
+        Place::Method(position) => Some(&method_in(names, bean, position)?.sites),
+        Place::Producer(product) => Some(&bean_in(names, product)?.produces),
+        Place::Disposer(_) => None,
+        Place::Observer(position) => Some(&observer_in(names, bean, position)?.sites),
     }
 }
 
@@ -93,6 +87,21 @@ pub(crate) fn push_method(
     }
 }
 
+/// Appends the name of an observer method.
+pub(crate) fn push_observer(
+    text: &mut Vec<u8>,
+    names: &Names,
+    bean: usize,
+    position: usize,
+) -> Result<(), AllocError>
+    ensures { OnOk result (text.new.items ≡ text.old.items ++ name_of_method (observer_told names.now bean position)) }
+{
+    match observer_in(names, bean, position) {
+        Some(observer) => write!(text, "{}", observer.name).map_err(|_| AllocError),
+        None => Ok(()),
+    }
+}
+
 /// Appends the name of the producer method of a product.
 pub(crate) fn push_producer(
     text: &mut Vec<u8>,
@@ -121,31 +130,41 @@ pub(crate) fn push_disposer(
     }
 }
 
-/// The call sites of an interceptor's part for a place.
-fn calls_around(names: &Names, position: usize, place: Place) -> &[CallDecl]
-    ensures { result.now ≡ calls_of_interceptor place (interceptor_told names.now position) }
+/// The sites of an interceptor's part for a place.
+fn sites_around(names: &Names, position: usize, place: Place) -> Option<&SiteNames>
+    ensures { option_copied result ≡ option_map (sites_around place) (interceptor_told names.now position) }
 {
-    let Some(interceptor) = names.interceptors.as_slice().get(position) else {
-        return &[];
-    };
+    let interceptor = names.interceptors.as_slice().get(position)?;
     match place {
-        Place::Construct => interceptor.around_construct.as_slice(),
-        Place::Post => interceptor.post.as_slice(),
-        Place::Pre => interceptor.pre.as_slice(),
+        Place::Construct => Some(&interceptor.around_construct),
+        Place::Post => Some(&interceptor.post),
+        Place::Pre => Some(&interceptor.pre),
         Place::Method(_) | Place::Producer(_) | Place::Disposer(_) | Place::Observer(_) => {
-            interceptor.around_invoke.as_slice()
+            Some(&interceptor.around_invoke)
         }
     }
 }
 
-/// The call sites of whoever runs at a seat.
-fn calls_by(names: &Names, seat: Seat) -> &[CallDecl]
-    ensures { result.now ≡ calls_by names.now seat.bean seat.place seat.actor }
+/// The sites of whoever runs at a seat.
+fn sites_by(names: &Names, seat: Seat) -> Option<&SiteNames>
+    ensures { option_copied result ≡ sites_by names.now seat.bean seat.place seat.actor }
 {
     match seat.actor {
-        Actor::Target => calls_at(names, seat.bean, seat.place),
-        Actor::Interceptor(position) => calls_around(names, position, seat.place),
+        Actor::Target => sites_at(names, seat.bean, seat.place),
+        Actor::Interceptor(position) => sites_around(names, position, seat.place),
     }
+}
+
+fn call_in(names: &Names, seat: Seat, site: usize) -> Option<&CallDecl>
+    ensures { option_copied result ≡ call_told names.now seat site }
+{
+    sites_by(names, seat)?.calls.as_slice().get(site)
+}
+
+fn fire_in(names: &Names, seat: Seat, site: usize) -> Option<&EventDecl>
+    ensures { option_copied result ≡ fire_told names.now seat site }
+{
+    sites_by(names, seat)?.fires.as_slice().get(site)
 }
 
 /// Appends whose body runs, if it is an interceptor's.
@@ -163,17 +182,31 @@ pub(crate) fn push_actor(text: &mut Vec<u8>, names: &Names, actor: Actor) -> Res
 }
 
 /// Appends the text of a call site.
-pub(crate) fn push_site(
+pub(crate) fn push_call_site(
     text: &mut Vec<u8>,
     names: &Names,
     seat: Seat,
     site: usize,
 ) -> Result<(), AllocError>
-    ensures { OnOk result (text.new.items
-        ≡ text.old.items ++ text_of_site (slice_get (calls_by names.now seat.bean seat.place seat.actor) site)) }
+    ensures { OnOk result (text.new.items ≡ text.old.items ++ text_of_call_site (call_told names.now seat site)) }
 {
-    match calls_by(names, seat).get(site) {
+    match call_in(names, seat, site) {
         Some(call) => write!(text, "{call}").map_err(|_| AllocError),
+        None => Ok(()),
+    }
+}
+
+/// Appends the text of a fire site.
+pub(crate) fn push_fire_site(
+    text: &mut Vec<u8>,
+    names: &Names,
+    seat: Seat,
+    site: usize,
+) -> Result<(), AllocError>
+    ensures { OnOk result (text.new.items ≡ text.old.items ++ text_of_fire_site (fire_told names.now seat site)) }
+{
+    match fire_in(names, seat, site) {
+        Some(event) => write!(text, "{event}").map_err(|_| AllocError),
         None => Ok(()),
     }
 }
