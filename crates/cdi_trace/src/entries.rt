@@ -148,7 +148,12 @@ fn push_skip(text: &mut Vec<u8>, names: &Names, observer: Notified) -> Result<()
     text.extend_from_slice(b"skip ")?;
     push_class(text, names, observer.bean)?;
     text.push(b' ')?;
-    push_place(text, names, observer.bean, Place::Observer(observer.observer))
+    push_place(
+        text,
+        names,
+        observer.bean,
+        Place::Observer(observer.observer),
+    )
 }
 
 /// Where a body runs: on an instance, or for a class, and there at a place; and whose it is, if an interceptor's.
