@@ -8,7 +8,7 @@ ghost use Rattle.cdi_trace.specs.Names.{text_of_call_site, text_of_fire_site};
 use cdi_contexts::Actor;
 use cdi_model::{CallDecl, EventDecl, Ident};
 use cdi_scene::{Place, Seat};
-use cdi_staging::{BeanNames, MethodNames, Names, SiteNames};
+use cdi_staging::{BeanNames, InterceptorNames, MethodNames, Names, SiteNames};
 use std::alloc::AllocError;
 use std::io::Write;
 
@@ -30,6 +30,12 @@ fn observer_in(names: &Names, bean: usize, position: usize) -> Option<&MethodNam
 {
     let bean = bean_in(names, bean)?;
     bean.observers.as_slice().get(position)
+}
+
+fn interceptor_in(names: &Names, position: usize) -> Option<&InterceptorNames>
+    ensures { option_copied result ≡ interceptor_told names.now position }
+{
+    names.interceptors.as_slice().get(position)
 }
 
 /// The sites at a place of a bean.
@@ -134,7 +140,7 @@ pub(crate) fn push_disposer(
 fn sites_around(names: &Names, position: usize, place: Place) -> Option<&SiteNames>
     ensures { option_copied result ≡ option_map (sites_around place) (interceptor_told names.now position) }
 {
-    let interceptor = names.interceptors.as_slice().get(position)?;
+    let interceptor = interceptor_in(names, position)?;
     match place {
         Place::Construct => Some(&interceptor.around_construct),
         Place::Post => Some(&interceptor.post),
@@ -175,7 +181,7 @@ pub(crate) fn push_actor(text: &mut Vec<u8>, names: &Names, actor: Actor) -> Res
         return Ok(());
     };
     text.extend_from_slice(b" by ")?;
-    match names.interceptors.as_slice().get(position) {
+    match interceptor_in(names, position) {
         Some(interceptor) => text.extend_from_slice(interceptor.name.as_bytes()),
         None => Ok(()),
     }
