@@ -2,7 +2,7 @@
 use Rattle.std.proofs.Common.{◌≡◌, Bool, true, false, cond, List, [], ◌∷◌, ◌++◌, map, filter, length, take, drop}
 use Rattle.std.proofs.Common.{refl, sym, ap, ◌∙◌, inl, inr, ◌⊎◌, append_assoc}
 use Rattle.std.specs.List.{flat_map, zip}
-use Rattle.std.proofs.lemmas.List.{map-append, take_at, drop_at, length-map}
+use Rattle.std.proofs.lemmas.List.{map-append, take_at, take-map, drop_at, drop-map, length-map}
 use Rattle.cdi_model.specs.declared.decl.BeanDecl.{BeanDecl}
 use Rattle.cdi_model.specs.declared.decl.Decl.{Decl}
 use Rattle.cdi_model.specs.declared.decl.Decl.TheVariants as decls
@@ -61,6 +61,30 @@ pub choices_of_observers : (ds : List Decl) (bean : BeanDecl)
 choices_of_observers ds bean =
     ap (drop (length (params_of bean.producers))) (behind_own ds bean)
     ∙ further_choices (answer_to ds) (params_of bean.producers) (observed bean.observers)
+
+-- answers that are cut where the choices are
+pub record AreCut {A : Type 0} (value : A → Choice) (bean : BeanDecl) (answers first second third : List A) : Type 0 where
+  pub own : map value first ≡ own_choices bean (map value answers)
+  pub products : map value second ≡ product_choices bean (map value answers)
+  pub observers : map value third ≡ observer_choices bean (map value answers)
+
+pub cut_apart : {A : Type 0} (value : A → Choice) (bean : BeanDecl) (points : List PointDecl) (producers : List ProducerDecl)
+    (answers own rest of_products of_observers : List A) → points ≡ bean.points → producers ≡ bean.producers
+    → own ≡ take (length points) answers → rest ≡ drop (length points) answers
+    → of_products ≡ take (length (params_of producers)) rest → of_observers ≡ drop (length (params_of producers)) rest
+    → AreCut value bean answers own of_products of_observers
+cut_apart value bean points producers answers own rest of_products of_observers at made front back first second =
+    let n = length bean.points in
+    let m = length (params_of bean.producers) in
+    let behind : map value rest ≡ drop n (map value answers) =
+    ap (map value) (back ∙ ap (λ ps. drop (length ps) answers) at) ∙ sym (drop-map value n answers) in
+    record {
+      own = ap (map value) (front ∙ ap (λ ps. take (length ps) answers) at) ∙ sym (take-map value n answers);
+      products = ap (map value) (first ∙ ap (λ ps. take (length (params_of ps)) rest) made)
+          ∙ sym (take-map value m rest) ∙ ap (take m) behind;
+      observers = ap (map value) (second ∙ ap (λ ps. drop (length (params_of ps)) rest) made)
+          ∙ sym (drop-map value m rest) ∙ ap (drop m) behind;
+    }
 
 -- ---- points beside their choices
 

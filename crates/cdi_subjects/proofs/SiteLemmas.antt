@@ -16,12 +16,12 @@ use Rattle.cdi_effective.specs.Beans.{entries, managed, product}
 use Rattle.cdi_effective.specs.declared.records.Effective.{Effective}
 use Rattle.cdi_resolve.specs.declared.choice.Choice.{Choice}
 use Rattle.cdi_observe.specs.Answers.{answer_to}
-use Rattle.cdi_observe.specs.Wanted.{observer_choices, params_of, points_of, product_choices}
+use Rattle.cdi_observe.specs.Wanted.{observer_choices, own_choices, params_of, points_of, product_choices}
 use Rattle.cdi_faults.specs.declared.place.PartPlace.{PartPlace}
 use Rattle.cdi_subjects.specs.Sites.{Sight, choice_at, lost_by, lost_by_products, lost_calls, lost_in_managed, lost_in_producer, lost_sites}
 use Rattle.cdi_subjects.specs.Sites.{lost_around, lost_by_observers, lost_in_observer, sight_of, where_enabled}
 use Rattle.cdi_subjects.proofs.PointLemmas.{choices_of_observers, choices_of_own, choices_of_products, first_choices, further_choices}
-use Rattle.cdi_subjects.proofs.PointLemmas.{observed}
+use Rattle.cdi_subjects.proofs.PointLemmas.{observed, AreCut}
 
 -- ---- points
 
@@ -101,6 +101,27 @@ lost_by_entries ds (decls.Bean bean) =
     (lost_by_each ds bean own bean.producers)
     ∙ ap (λ cs. of_managed ++ of_products ++ lost_by_observers ds own b bean.observers cs) (choices_of_observers ds bean)
     ∙ ap (λ ms. of_managed ++ of_products ++ ms) (lost_by_observing ds own b bean.observers)
+
+-- those by answers that are cut apart
+pub lost_by_cut : {A : Type 0} (value : A → Choice) (ds : List Decl) (bean : BeanDecl) (b : Effective) (bs : List Effective)
+    (points : List PointDecl) (producers : List ProducerDecl) (observers : List ObserverDecl)
+    (answers own of_products of_observers : List A) → points ≡ bean.points → producers ≡ bean.producers → observers ≡ bean.observers
+    → AreCut value bean answers own of_products of_observers
+    → where_enabled b (lost_in_managed ds (zip points (map value own)) bean)
+    ++ lost_by_products ds (zip points (map value own)) bs producers (map value of_products)
+    ++ lost_by_observers ds (zip points (map value own)) b observers (map value of_observers)
+    ≡ lost_by ds (decls.Bean bean) (b ∷ bs) (map value answers)
+lost_by_cut value ds bean b bs points producers observers answers own of_products of_observers at made seen cut =
+    let all = λ (sight : Sight) (ps : List ProducerDecl) (cs : List Choice) (os : List ObserverDecl) (ks : List Choice).
+    where_enabled b (lost_in_managed ds sight bean) ++ lost_by_products ds sight bs ps cs ++ lost_by_observers ds sight b os ks in
+    ap (λ ps. all (zip ps (map value own)) producers (map value of_products) observers (map value of_observers)) at
+    ∙ ap (λ cs. all (zip bean.points cs) producers (map value of_products) observers (map value of_observers)) cut.own
+    ∙ ap (λ ps. all (zip bean.points (own_choices bean (map value answers))) ps (map value of_products) observers (map value of_observers)) made
+    ∙ ap (λ cs. all (zip bean.points (own_choices bean (map value answers))) bean.producers cs observers (map value of_observers)) cut.products
+    ∙ ap (λ os. all (zip bean.points (own_choices bean (map value answers))) bean.producers (product_choices bean (map value answers)) os
+    (map value of_observers)) seen
+    ∙ ap (λ ks. all (zip bean.points (own_choices bean (map value answers))) bean.producers (product_choices bean (map value answers))
+    bean.observers ks) cut.observers
 
 -- where no record or no producer method is left nothing is lost
 pub none_lost : (ds : List Decl) (own : Sight) (bs : List Effective) (ps : List ProducerDecl) (choices : List Choice)

@@ -1,5 +1,5 @@
 -- Injection points for which no class can stand between the bean and its callers (CDI 4.0, Unproxyable bean types).
-use Rattle.std.specs.Prelude.{ℕ, Bool, true, false, not, ◌||◌, ◌&&◌, List, [], length, nat_eq, Option, Some, None, is_some}
+use Rattle.std.specs.Prelude.{ℕ, Bool, true, false, not, ◌||◌, ◌&&◌, List, length, nat_eq, Option, Some, None, is_some}
 use Rattle.std.specs.List.{find}
 use Rattle.std.specs.Option.{option_eq}
 use Rattle.std.specs.Str.{bytes_eq}

@@ -1,5 +1,5 @@
 -- What is at fault of a declaration, by its records: that of a bean, and behind it those of its producer methods.
-use Rattle.std.specs.Prelude.{ℕ, Option, Bool, true, false, List, [], ◌∷◌, ◌++◌, map, filter, length, take, drop, nat_lt, not, if◌then◌else◌}
+use Rattle.std.specs.Prelude.{Bool, true, false, List, [], ◌∷◌, ◌++◌, map, filter, length, take, drop, nat_lt, not, if◌then◌else◌}
 use Rattle.std.specs.List.{flat_map, list_any, zip}
 use Rattle.std.specs.Option.{option_to_list}
 use Rattle.cdi_model.specs.declared.decl.Attributes.{Attributes}

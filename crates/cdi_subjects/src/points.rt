@@ -10,7 +10,7 @@ use crate::proxies::is_unproxyable;
 use cdi_effective::Effective;
 use cdi_faults::Subject;
 use cdi_model::{BeanDecl, Decl, Decls, ObserverDecl, PointDecl, PointPlace, ProducerDecl};
-use cdi_observe::count_params;
+use cdi_observe::split_params;
 use cdi_resolve::Choice;
 use std::alloc::{AllocError, Global};
 use std::rc::Rc;
@@ -70,7 +70,7 @@ pub(crate) fn points_at_fault(
         Decl::Interceptor(interceptor) if interceptor.priority.is_some() => {
             let points = interceptor.points.as_slice();
             let place = PointPlace::Constructor;
-            push_among(alloc, decls, place, points, answers, verdict, &mut subjects)?;
+            push_among(alloc, decls, &place, points, answers, verdict, &mut subjects)?;
         }
         _ => (),
     }
@@ -96,9 +96,9 @@ fn push_of_bean(
     };
     let (points, producers) = (bean.points.as_slice(), bean.producers.as_slice());
     let (own, rest) = answers.split_at(points.len());
-    let (of_products, of_observers) = rest.split_at(count_params(producers));
+    let (of_products, of_observers) = split_params(producers, rest);
     let place = PointPlace::Constructor;
-    push_at_fault(alloc, decls, managed, place, points, own, verdict, subjects)?;
+    push_at_fault(alloc, decls, managed, &place, points, own, verdict, subjects)?;
     push_of_products(alloc, decls, products, producers, of_products, verdict, subjects)?;
     let observers = bean.observers.as_slice();
     push_of_observers(alloc, decls, managed, observers, of_observers, verdict, subjects)
@@ -123,7 +123,7 @@ fn push_of_products(
         let points = producer.params.as_slice();
         let (own, others) = rest.split_at(points.len());
         let place = PointPlace::Producer(producer.name);
-        push_at_fault(alloc, decls, product, place, points, own, verdict, subjects)?;
+        push_at_fault(alloc, decls, product, &place, points, own, verdict, subjects)?;
         rest = others;
     }
     Ok(())
@@ -148,7 +148,7 @@ fn push_of_observers(
         let points = observer.params.as_slice();
         let (own, others) = rest.split_at(points.len());
         let place = PointPlace::Observer(observer.name);
-        push_at_fault(alloc, decls, bean, place, points, own, verdict, subjects)?;
+        push_at_fault(alloc, decls, bean, &place, points, own, verdict, subjects)?;
         rest = others;
     }
     Ok(())
@@ -159,14 +159,14 @@ fn push_at_fault(
     alloc: Global,
     decls: &Decls,
     bean: &Effective,
-    place: PointPlace,
+    place: &PointPlace,
     points: &[PointDecl],
     answers: &[Rc<Choice>],
     verdict: Verdict,
     subjects: &mut Vec<Subject>,
 ) -> Result<(), AllocError>
     ensures { OnOk result (subjects.new.items ≡ subjects.old.items
-        ++ at_fault (has_verdict decls.now verdict) bean.now place points.now (map (λ answer. answer.value) answers.now)) }
+        ++ at_fault (has_verdict decls.now verdict) bean.now place.now points.now (map (λ answer. answer.value) answers.now)) }
 {
     if !bean.is_enabled {
         return Ok(());
@@ -178,19 +178,19 @@ fn push_at_fault(
 fn push_among(
     alloc: Global,
     decls: &Decls,
-    place: PointPlace,
+    place: &PointPlace,
     points: &[PointDecl],
     answers: &[Rc<Choice>],
     verdict: Verdict,
     subjects: &mut Vec<Subject>,
 ) -> Result<(), AllocError>
     ensures { OnOk result (subjects.new.items ≡ subjects.old.items
-        ++ at_fault_among (has_verdict decls.now verdict) place points.now (map (λ answer. answer.value) answers.now)) }
+        ++ at_fault_among (has_verdict decls.now verdict) place.now points.now (map (λ answer. answer.value) answers.now)) }
 {
     for (point, answer) in points.iter().zip(answers) {
         if verdict.is_of(alloc, decls, point, answer)? {
             subjects.push(Subject::Point {
-                place,
+                place: *place,
                 name: point.name,
             })?;
         }

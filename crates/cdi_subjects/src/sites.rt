@@ -17,7 +17,7 @@ use cdi_model::{
     BeanDecl, CallDecl, Decl, Decls, Ident, InterceptorDecl, Kind, MethodDecl, ObserverDecl,
     PartDecl, PointDecl, ProducerDecl,
 };
-use cdi_observe::count_params;
+use cdi_observe::split_params;
 use cdi_resolve::Choice;
 use std::alloc::{AllocError, Global};
 use std::marker::Model;
@@ -123,7 +123,7 @@ fn push_of_bean(
     };
     let (points, producers) = (bean.points.as_slice(), bean.producers.as_slice());
     let (answers, rest) = answers.split_at(points.len());
-    let (of_products, of_observers) = rest.split_at(count_params(producers));
+    let (of_products, of_observers) = split_params(producers, rest);
     let own = Points { points, answers };
     push_of_managed(decls, managed, &own, bean, subjects)?;
     push_of_products(decls, products, &own, producers, of_products, subjects)?;

@@ -13,6 +13,6 @@ returns c =
     let none = zip-map-empty (λ a. a.value) (iter_rest left.a) (iter_rest left.b)
     (either_empty_from_Zip left c.next.new.self c.next.result c.in-None.is c.next.ensures.steps) in
     sym (append-nil c.loop-point.subjects.items)
-    ∙ ap (λ zs. c.loop-point.subjects.items ++ map (λ z. parts.Point c.args.place z.0.name) (filter (λ z. test z.0 z.1) zs))
+    ∙ ap (λ zs. c.loop-point.subjects.items ++ map (λ z. parts.Point c.args.place.now z.0.name) (filter (λ z. test z.0 z.1) zs))
     (sym none)
     ∙ c.loop-point.invariant
