@@ -34,7 +34,7 @@ use Rattle.cdi_effective.specs.declared.records.Effective.{Effective}
 use Rattle.cdi_intercept.specs.Chains.{is_enabled, stands_around}
 use Rattle.cdi_resolve.specs.declared.choice.Choice.{Choice}
 use Rattle.cdi_observe.specs.Answers.{answer_to}
-use Rattle.cdi_observe.specs.Wanted.{points_of}
+use Rattle.cdi_observe.specs.Wanted.{params_of, points_of}
 use Rattle.cdi_validate.specs.Circles.{Need, between, chosen_for, chosen_one, circular, declaring, dependents, dependents_by_text}
 use Rattle.cdi_validate.specs.Circles.{is_dependent, managed_id, need_around, need_of_managed, need_of_product, needed_by, needs_in}
 use Rattle.cdi_validate.specs.Circles.{needs_itself, with_dependent}
@@ -259,17 +259,19 @@ others_behind ds points others =
     ap (drop (length points)) (map-append (answer_to ds) points others)
     ∙ drop_at (map (answer_to ds) points) (map (answer_to ds) others) (length points) (length-map points (answer_to ds))
 
-needs_of_each : (ds : List Decl) (d : BeanDecl) (ps : List ProducerDecl)
-    → needs_of_products d ps (map (answer_to ds) (flat_map (λ p. p.params) ps)) ≡ map (need_of_product ds d) ps
-needs_of_each ds d [] = refl
-needs_of_each ds d (p ∷ ps) =
-    let others = flat_map (λ p. p.params) ps in
+-- those of others, as of observer methods, may stand behind them
+needs_of_each : (ds : List Decl) (d : BeanDecl) (ps : List ProducerDecl) (behind : List PointDecl)
+    → needs_of_products d ps (map (answer_to ds) (params_of ps ++ behind)) ≡ map (need_of_product ds d) ps
+needs_of_each ds d [] behind = refl
+needs_of_each ds d (p ∷ ps) behind =
+    let others = params_of ps ++ behind in
     let first = (need_of_product ds d p).0 in
     let maker = map text_of_id (option_to_list (declaring d p)) in
-    ap (λ xs. (first, maker ++ xs) ∷ needs_of_products d ps (drop (length p.params) (map (answer_to ds) (p.params ++ others))))
+    ap (λ points. needs_of_products d (p ∷ ps) (map (answer_to ds) points)) (append_assoc p.params (params_of ps) behind)
+    ∙ ap (λ xs. (first, maker ++ xs) ∷ needs_of_products d ps (drop (length p.params) (map (answer_to ds) (p.params ++ others))))
     (chosen_in_front ds p.params others)
     ∙ ap (λ cs. need_of_product ds d p ∷ needs_of_products d ps cs) (others_behind ds p.params others)
-    ∙ ap (λ ns. need_of_product ds d p ∷ ns) (needs_of_each ds d ps)
+    ∙ ap (λ ns. need_of_product ds d p ∷ ns) (needs_of_each ds d ps behind)
 
 -- by the answers to its points the beans of a declaration need what they need
 pub needs_by_answers : (ds : List Decl) (d : Decl) → needs_by ds d (map (answer_to ds) (points_of d)) ≡ needs_in ds d
@@ -279,9 +281,11 @@ needs_by_answers ds (decls.Stereotype d) = refl
 needs_by_answers ds (decls.Binding d) = refl
 needs_by_answers ds (decls.Interceptor i) = ap (λ xs. flat_map (need_around ds i xs) ds) (chosen_by_answers ds i.points)
 needs_by_answers ds (decls.Bean d) =
-    let others = flat_map (λ p. p.params) d.producers in
-    ap (λ xs. (text_of_id (managed_id d), xs)
+    let behind = flat_map (λ o. o.params) d.observers in
+    let others = params_of d.producers ++ behind in
+    ap (λ points. needs_by ds (decls.Bean d) (map (answer_to ds) points)) (append_assoc d.points (params_of d.producers) behind)
+    ∙ ap (λ xs. (text_of_id (managed_id d), xs)
     ∷ needs_of_products d d.producers (drop (length d.points) (map (answer_to ds) (d.points ++ others))))
     (chosen_in_front ds d.points others)
     ∙ ap (λ cs. need_of_managed ds d ∷ needs_of_products d d.producers cs) (others_behind ds d.points others)
-    ∙ ap (λ ns. need_of_managed ds d ∷ ns) (needs_of_each ds d d.producers)
+    ∙ ap (λ ns. need_of_managed ds d ∷ ns) (needs_of_each ds d d.producers behind)

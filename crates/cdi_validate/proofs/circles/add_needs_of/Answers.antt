@@ -5,6 +5,7 @@ use Rattle.std.specs.List.{flat_map}
 use Rattle.std.proofs.lemmas.List.{at_drop_more, drop_all, drop-map, length-append, take-map}
 use Rattle.cdi_circles.specs.Edges.{next_in}
 use Rattle.cdi_resolve.specs.declared.choice.Choice.{Choice}
+use Rattle.cdi_observe.specs.Wanted.{params_of}
 use Rattle.cdi_validate.specs.Circles.{between, managed_id, declaring, product_id}
 use Rattle.cdi_validate.specs.Needed.{needs_of_products}
 use Rattle.cdi_validate.proofs.NeedLemmas.{adds_first, between-none}
@@ -23,10 +24,18 @@ pub loop-producer-init : goal.loop-producer-init
 loop-producer-init c =
     let bean = c.args.bean.now in
     let nodes = keys c.args.dependents.now in
-    let params = flat_map (λ p. p.params) bean.producers in
-    let all : length c.args.answers.now ≡ length (bean.points ++ params) = c.requires in
+    let params = params_of bean.producers in
+    let observed = flat_map (λ o. o.params) bean.observers in
+    let all : length c.args.answers.now ≡ length (bean.points ++ params ++ observed) = c.requires in
     record {
-      answered = omega (arith, all, length-append bean.points params, c.split_at.ensures.back_len, c.len.ensures);
+      answered = omega (
+        arith,
+        all,
+        length-append (bean.points ++ params) observed,
+        length-append bean.points params,
+        c.split_at.ensures.back_len,
+        c.len.ensures,
+      );
       edges = λ x. adds_first nodes c.args.edges.now c.add_need.new.edges c.managed_id.result (managed_id bean) None None _ _ _ _
           (needs_of_products bean bean.producers) c.managed_id.ensures refl
           (front_choices (λ a. a.value) c.args.answers.now c.split_at.result.0.now c.len.result (length bean.points)
@@ -44,13 +53,14 @@ loop-producer-preserved c =
     let nodes = keys c.args.dependents.now in
     let others = drop (i + 1) bean.producers in
     let choices = map (λ a. a.value) c.loop-producer.rest.now in
-    let params = flat_map (λ q. q.params) others in
+    let params = params_of others in
+    let observed = length (flat_map (λ o. o.params) bean.observers) in
     let before = c.loop-producer.edges in
     let within : i < length bean.producers = subst (λ ps. i < length ps) c.as_slice-producer-items.ensures c.loop-producer-test.true in
     let at : p ≡ get_or bean.producers i p = c.producer-item.is ∙ ap (λ ps. get_or ps i p) c.as_slice-producer-items.ensures in
-    let all : length c.loop-producer.rest.now ≡ length (p.params ++ params) = c.loop-producer.invariant.answered
-    ∙ at_drop_more (λ qs. length (flat_map (λ q. q.params) qs)) bean.producers i p within
-    ∙ ap (λ q. length (q.params ++ params)) (sym at) in
+    let all : length c.loop-producer.rest.now ≡ length (p.params ++ params) + observed = c.loop-producer.invariant.answered
+    ∙ at_drop_more (λ qs. length (params_of qs) + observed) bean.producers i p within
+    ∙ ap (λ q. length (q.params ++ params) + observed) (sym at) in
     record {
       answered = omega (
         arith,
