@@ -2,7 +2,8 @@
 ghost use Rattle.std.specs.Prelude.{◌≡◌, Some, IfOk, IfErr, OnOk, OnErr};
 ghost use Rattle.cdi_model.specs.Answering.{Answers};
 ghost use Rattle.cdi_container.specs.Asked.{asked_for, to_look, to_call, run_of_event, run_of_use};
-ghost use Rattle.cdi_container.specs.History.{emptied, untold, unplayed, with_request, refusal_of_begin, refusal_of_end, RunAnswers, RunsFrom};
+ghost use Rattle.cdi_container.specs.History.{emptied, untold, unplayed, with_request, refusal_of_begin, refusal_of_end};
+ghost use Rattle.cdi_container.specs.History.{RunAnswers, RunsFrom};
 ghost use Rattle.cdi_container.specs.History.{EndsRequest, EndsContexts};
 ghost use Rattle.cdi_container.specs.Seen.{LookUpStep, CallStep, FireStep, BeginStep, EndStep, StopStep, done_or};
 

@@ -199,12 +199,7 @@ fn answer_of(
     given(container.call(bean_type, quals, method, arg))
 }
 
-fn outcome_of(
-    container: &mut Container<Echo>,
-    event_type: Name,
-    quals: &Quals,
-    arg: Val,
-) -> Told {
+fn outcome_of(container: &mut Container<Echo>, event_type: Name, quals: &Quals, arg: Val) -> Told {
     given(container.fire(event_type, quals, arg))
 }
 
