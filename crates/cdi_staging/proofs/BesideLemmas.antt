@@ -1,10 +1,13 @@
 -- Two lists, place by place; and what is found in lists.
 use Rattle.std.proofs.Common.{◌≡◌, ◌+◌, ℕ, zero, suc, Bool, true, false, cond, List, [], ◌∷◌, ◌++◌, map, filter, Some}
-use Rattle.std.proofs.Common.{None, refl, sym, subst, ap, ◌∙◌, arith}
-use Rattle.std.specs.List.{flat_map, find, position, position_from, slice_get}
+use Rattle.std.proofs.Common.{None, length, refl, sym, subst, ap, ◌∙◌, inl, inr, ◌⊎◌, arith}
+use Rattle.std.specs.List.{AllByRecursion, flat_map, find, position, position_from, slice_get}
 use Rattle.std.specs.Option.{option_or}
 use Rattle.std.proofs.lemmas.Bool.{false≢true}
 use Rattle.std.proofs.lemmas.Iterator.Adapters.{position_from-zero}
+use Rattle.std.proofs.lemmas.Option.{same_Some}
+use Rattle.cdi_intercept.specs.Sorting.{sorted_by}
+use Rattle.cdi_intercept.proofs.OrderLemmas.{all_sorted}
 
 -- at each place of two lists stand two that belong together
 abbrev pub Beside : {X Y : Type 0} → (X → Y → Type 0) → List X → List Y → Type 0
@@ -204,3 +207,46 @@ in-flat f (v ∷ ps) zero p j x at there =
 in-flat f (v ∷ ps) (suc k) p j x at there =
     let rest = in-flat f ps k p j x at there in
     in-append-right (f v) (flat_map f ps) rest.0 x rest.1
+
+-- what stands in two lists, one behind the other, stands in one of them
+pub in-one : {X : Type 0} (xs ys : List X) (k : ℕ) (x : X) → slice_get (xs ++ ys) k ≡ Some x
+    → (slice_get xs k ≡ Some x) ⊎ ((i : ℕ) × (k ≡ length xs + i) × (slice_get ys i ≡ Some x))
+in-one [] ys k x e = inr (k, omega arith, e)
+in-one (v ∷ xs) ys zero x e = inl e
+in-one (v ∷ xs) ys (suc k) x e = elim (in-one xs ys k x e) [
+  | inl here ↦ inl here
+  | inr later ↦ inr (later.0, omega (arith, later.1), later.2)
+]
+
+-- what is among what all give is among what one element gives
+pub record FromFlat {P X : Type 0} (f : P → List X) (ps : List P) (x : X) : Type 0 where
+  pub place : ℕ
+  pub value : P
+  pub there : slice_get ps place ≡ Some value
+  pub at : ℕ
+  pub gives : slice_get (f value) at ≡ Some x
+
+pub from-flat : {P X : Type 0} (f : P → List X) (ps : List P) (k : ℕ) (x : X) → slice_get (flat_map f ps) k ≡ Some x → FromFlat f ps x
+from-flat f [] k x e = absurd (cc)
+from-flat f (p ∷ ps) k x e = elim (in-one (f p) (flat_map f ps) k x e) [
+  | inl here ↦ record { place = zero; value = p; there = refl; at = k; gives = here }
+  | inr later ↦
+      let rest = from-flat f ps later.0 x later.2 in
+      record { place = suc rest.place; value = rest.value; there = rest.there; at = rest.at; gives = rest.gives }
+]
+
+all-of : {X : Type 0} (P : X → Type 0) (xs : List X) → ((k : ℕ) (x : X) → slice_get xs k ≡ Some x → P x) → AllByRecursion P xs
+all-of P [] each = tt
+all-of P (x ∷ xs) each = (each zero x refl, all-of P xs (λ k y e. each (suc k) y e))
+
+all-at : {X : Type 0} (P : X → Type 0) (xs : List X) (k : ℕ) (x : X) → AllByRecursion P xs → slice_get xs k ≡ Some x → P x
+all-at P [] k x all e = absurd (cc)
+all-at P (y ∷ ys) zero x all e = subst P (same_Some y x e) all.0
+all-at P (y ∷ ys) (suc k) x all e = all-at P ys k x all.1 e
+
+-- what stands in a list that was put in order stood in the list
+pub from-sorted : {X : Type 0} (before : X → X → Bool) (xs : List X) (k : ℕ) (x : X) → slice_get (sorted_by before xs) k ≡ Some x
+    → (j : ℕ) × (slice_get xs j ≡ Some x)
+from-sorted {X = X} before xs k x e =
+    let stood : X → Type 0 = λ y. (j : ℕ) × (slice_get xs j ≡ Some y) in
+    all-at stood (sorted_by before xs) k x (all_sorted stood before xs (all-of stood xs (λ j y at. (j, at)))) e

@@ -21,8 +21,9 @@ use Rattle.cdi_match.proofs.Names.{one_name, same_text}
 use Rattle.cdi_bodies.specs.Book.{Promised}
 use Rattle.cdi_scene.specs.declared.scene.Bean.{Bean}
 use Rattle.cdi_scene.specs.declared.scene.Form.TheVariants as forms
+use Rattle.cdi_scene.specs.declared.scene.Managed.{Managed}
 use Rattle.cdi_scene.specs.declared.scene.Product.{Product}
-use Rattle.cdi_scene.specs.Scene.{bean_at}
+use Rattle.cdi_scene.specs.Scene.{as_managed, bean_at}
 use Rattle.cdi_effective.specs.Beans.{beans, entries, managed, product, effective}
 use Rattle.cdi_effective.specs.Disposers.{as_bean, find_bean}
 use Rattle.cdi_effective.specs.Qualifiers.{required, cover_all}
@@ -32,10 +33,10 @@ use Rattle.cdi_resolve.specs.Choices.{Candidate, candidate, choice_of, chosen, e
 use Rattle.cdi_resolve.specs.Choices.{greatest, is_greatest, alternatives, offers}
 use Rattle.cdi_resolve.specs.Position.{is_told_by}
 use Rattle.cdi_resolve.specs.declared.choice.Choice.TheVariants.{One}
-use Rattle.cdi_staging.specs.Sites.{position_of_bean}
+use Rattle.cdi_staging.specs.Sites.{position_of_bean, position_of_class}
 use Rattle.cdi_staging.specs.Staged.{class_of, scene_of, sight_of, staged_beans, staged_managed, staged_product, managed_form}
-use Rattle.cdi_staging.specs.Staged.{unused_managed}
-use Rattle.cdi_staging.proofs.BesideLemmas.{Beside, beside-map, beside-flat, second-at, found, from-filter, from-map}
+use Rattle.cdi_staging.specs.Staged.{observers_of, unused_managed}
+use Rattle.cdi_staging.proofs.BesideLemmas.{Beside, beside-map, beside-flat, second-at, found, from-filter, from-map, in-flat}
 
 -- ---- the one that is chosen
 
@@ -182,7 +183,7 @@ bean-found ds k d distinct at = ap as_bean (found-own ds k (decls.Bean d) distin
 
 -- ---- what is chosen stands in the scene
 
-managed-id : (ds : List Decl) (d : BeanDecl) → ((managed ds d).id.class ≡ d.name) × ((managed ds d).id.producer ≡ None)
+pub managed-id : (ds : List Decl) (d : BeanDecl) → ((managed ds d).id.class ≡ d.name) × ((managed ds d).id.producer ≡ None)
 unfolding effective
 managed-id ds d = (refl, refl)
 
@@ -207,11 +208,15 @@ of-some ds book x bean p (inl managed_one) some =
     let clash : None ≡ Some p = sym (managed-id ds managed_one.decl).1 ∙ sym (ap (λ y. y.id.producer) managed_one.is) ∙ some in
     absurd (cc)
 
+-- what stands for a managed bean that is enabled
+abbrev pub used_form : List Decl → List Promised → BeanDecl → Managed
+used_form ds book d = managed_form ds (beans ds) book (sight_of ds d) (class_of ds d) (observers_of ds book d)
+
 -- the managed bean of a class and of an enabled bean of it
 pub record IsManagedOf (ds : List Decl) (book : List Promised) (class : List ℕ) (bean : Bean) : Type 0 where
   pub decl : BeanDecl
   pub is : find_bean class ds ≡ Some decl
-  pub form : bean.form ≡ forms.Managed (managed_form ds (beans ds) book (sight_of ds decl) (class_of ds decl))
+  pub form : bean.form ≡ forms.Managed (used_form ds book decl)
 
 pub record Reached (ds : List Decl) (book : List Promised) (id : BeanId) : Type 0 where
   pub bean : Bean
@@ -219,7 +224,7 @@ pub record Reached (ds : List Decl) (book : List Promised) (id : BeanId) : Type 
   pub of_managed : id.producer ≡ None → IsManagedOf ds book id.class bean
   pub of_product : (p : List ℕ) → id.producer ≡ Some p → (made : Product) × (bean.form ≡ forms.Product made)
 
-named-decl : (ds : List Decl) (book : List Promised) (x : Effective) (bean : Bean) (class : List ℕ) → AreDistinct ds
+pub named-decl : (ds : List Decl) (book : List Promised) (x : Effective) (bean : Bean) (class : List ℕ) → AreDistinct ds
     → (m : OfManaged ds book x bean) → x.id.class ≡ class → find_bean class ds ≡ Some m.decl
 named-decl ds book x bean class distinct m is =
     let name : m.decl.name ≡ class = sym (managed-id ds m.decl).0 ∙ sym (ap (λ y. y.id.class) m.is) ∙ is in
@@ -251,10 +256,34 @@ reached ds book id distinct offered =
             decl = m.decl;
             is = by_first;
             form = ap (λ b. b.form) m.made
-                ∙ ap (λ b. forms.Managed (cond b (managed_form ds (beans ds) book (sight_of ds m.decl)
-                (class_of ds m.decl)) unused_managed)) enabled;
+                ∙ ap (λ b. forms.Managed (cond b (used_form ds book m.decl) unused_managed)) enabled;
           };
       of_product = λ p some.
           let m = of-some ds book first.value staged.value p staged.fits (is.1 ∙ some) in
           (_, ap (λ b. b.form) m.made);
     }
+
+-- ---- managed beans that are enabled
+
+abbrev pub managed_in : Option Bean → Option Managed
+managed_in (Some bean) = as_managed bean.form
+managed_in None = None
+
+-- a managed bean that is enabled stands at the position
+abbrev pub IsUsed : List Decl → List Promised → ℕ → BeanDecl → Type 0
+IsUsed ds book b d = managed_in (bean_at (scene_of ds book) b) ≡ Some (used_form ds book d)
+
+-- the bean of an enabled declaration stands at the position of its class
+pub host-used : (ds : List Decl) (book : List Promised) (k : ℕ) (d : BeanDecl) → AreDistinct ds → slice_get ds k ≡ Some (decls.Bean d)
+    → (managed ds d).is_enabled ≡ true → IsUsed ds book (position_of_class (beans ds) d.name) d
+unfolding beans effective
+host-used ds book k d distinct at enabled =
+    let id : BeanId = record { class = d.name; producer = None } in
+    let among = in-flat (entries ds) ds k (decls.Bean d) 0 (managed ds d) at refl in
+    let offered : IsOffered id (beans ds) =
+    record { place = among.0; value = managed ds d; there = among.1; is = refl; enabled = enabled } in
+    let r = reached ds book id distinct offered in
+    let m = r.of_managed refl in
+    let same : m.decl ≡ d = same_Some m.decl d (sym m.is ∙ bean-found ds k d distinct at) in
+    ap managed_in r.there ∙ ap as_managed m.form
+    ∙ ap (λ e. Some (used_form ds book e)) same

@@ -1,6 +1,7 @@
 mod SplitLemmas
 mod BesideLemmas
 mod ChosenLemmas
+pub mod NotifiedLemmas
 mod PartLemmas
 mod SoundLemmas
 mod LinkLemmas

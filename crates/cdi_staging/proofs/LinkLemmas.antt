@@ -33,13 +33,15 @@ use Rattle.cdi_intercept.specs.Chains.{part_for as declared_for}
 use Rattle.cdi_intercept.specs.Sets.{sets_of}
 use Rattle.cdi_intercept.proofs.ChainLemmas.{in_order-declared}
 use Rattle.cdi_staging.specs.Faultless.{AreFineAround, IsFineAround, IsFinePart}
+use Rattle.cdi_staging.specs.Notifying.{fired_at}
 use Rattle.cdi_staging.specs.Sites.{site_of}
 use Rattle.cdi_staging.specs.Staged.{Around, around_of, chain_at, class_of, injections_around, injections_from, managed_form, places_from}
 use Rattle.cdi_staging.specs.Staged.{scene_of, sight_of, staged_interceptor, staged_part, targets}
 use Rattle.cdi_staging.specs.declared.target.Target.{Target}
-use Rattle.cdi_staging.proofs.BesideLemmas.{from-map, in-append-left, in-append-right}
+use Rattle.cdi_staging.proofs.BesideLemmas.{from-map, in-append-left, in-append-right, in-one}
 use Rattle.cdi_staging.proofs.PartLemmas.{NamesVia, part-sound, seen}
-use Rattle.cdi_staging.proofs.SoundLemmas.{IsUsed, none-satisfied, part-there}
+use Rattle.cdi_staging.proofs.SoundLemmas.{none-satisfied, part-there}
+use Rattle.cdi_staging.proofs.ChosenLemmas.{IsUsed, used_form}
 
 -- ---- who stands in a chain
 
@@ -146,16 +148,6 @@ injection-of actor n (t ∷ ts) (suc k) x e =
     let rest = injection-of actor (n + 1) ts k x e in
     let place : n + 1 + k ≡ n + suc k = omega arith in
     (rest.0, rest.1, rest.2 ∙ ap (λ p. injected actor p rest.0.bean) place)
-
--- what stands in two lists, one behind the other, stands in one of them
-pub in-one : {X : Type 0} (xs ys : List X) (k : ℕ) (x : X) → slice_get (xs ++ ys) k ≡ Some x
-    → (slice_get xs k ≡ Some x) ⊎ ((i : ℕ) × (k ≡ length xs + i) × (slice_get ys i ≡ Some x))
-in-one [] ys k x e = inr (k, omega arith, e)
-in-one (v ∷ xs) ys zero x e = inl e
-in-one (v ∷ xs) ys (suc k) x e = elim (in-one xs ys k x e) [
-  | inl here ↦ inl here
-  | inr later ↦ inr (later.0, omega (arith, later.1), later.2)
-]
 
 from-block : (n : ℕ) (b : Around) (around : List Around) (c : Bool) (k : ℕ) (x : Injection)
     → slice_get (cond c (injections_from (By n) 0 b.1) []) k ≡ Some x → OfAround n (b ∷ around) x
@@ -364,7 +356,7 @@ link-point ds book b place q n p c i t at host point same =
     (injections_from ByTarget 0 (targets ds d.points)) found.0 (injected (By (0 + q)) p t.bean) found.1 in
     let place_is : 0 + q ≡ q = omega arith in
     record {
-      managed = managed_form ds (beans ds) book (sight_of ds d) (class_of ds d);
+      managed = used_form ds book d;
       there = ap (managed_at (scene_of ds book)) host.is ∙ host.used;
       number = n;
       seated = refl;
@@ -392,7 +384,8 @@ link-sound ds book b place spot set q n distinct fine link same intercepted host
     let body : body_of place i ≡ Some part.0 = sym same ∙ part.1 in
     let fine_part = fine-body ds book i place part.0 own body in
     let lead = site_of ds (beans ds) (seen ds i.points []) in
-    let made = part-there book (map lead part.0.calls) (around_at place) part.0.body fine_part.body in
+    let made = part-there book (map lead part.0.calls) (map (fired_at ds (beans ds)) part.0.fires) (around_at place) part.0.body
+    fine_part.body in
     let sound = part-sound ds book (around_at place) i.points [] part.0 made.0 distinct own.points (none-satisfied ds) fine_part made.1 in
     record {
       body = made.0;

@@ -13,9 +13,9 @@ use Rattle.cdi_effective.specs.Beans.{beans}
 use Rattle.cdi_staging.specs.Lookups.{ChosenStands, ChosenHasMethods}
 use Rattle.cdi_staging.specs.Sites.{managed_class, method_of, position_of_bean}
 use Rattle.cdi_staging.specs.Staged.{scene_of}
-use Rattle.cdi_staging.proofs.ChosenLemmas.{chosen-offered, reached}
+use Rattle.cdi_staging.proofs.ChosenLemmas.{chosen-offered, managed_in, reached}
 use Rattle.cdi_staging.proofs.PartLemmas.{method-there}
-use Rattle.cdi_staging.proofs.SoundLemmas.{managed_in, place_in, product_in}
+use Rattle.cdi_staging.proofs.SoundLemmas.{place_in, product_in}
 
 pub chosen-stands : ChosenStands
 chosen-stands ds book t quals id distinct one =

@@ -19,8 +19,9 @@ use Rattle.cdi_bodies.specs.Book.{Promised, is_named, promise_of}
 use Rattle.std.specs.Int.RustNames.{bit_and}
 use Rattle.cdi_bodies.specs.Within.{Has}
 use Rattle.cdi_bodies.specs.declared.promise.Promise.{Promise}
-use Rattle.cdi_scene.specs.Sound.{IsInBook, HasMethod, IsSoundSite, IsSoundPart}
+use Rattle.cdi_scene.specs.Sound.{AreObservers, IsInBook, HasMethod, IsSoundSite, IsSoundPart}
 use Rattle.cdi_scene.specs.declared.scene.CallSite.{CallSite}
+use Rattle.cdi_scene.specs.declared.scene.Notified.{Notified}
 use Rattle.cdi_scene.specs.declared.scene.Part.{Part}
 use Rattle.cdi_scene.specs.declared.scene.Via.{Via}
 use Rattle.cdi_scene.specs.declared.scene.Via.TheVariants.{Own, Param}
@@ -31,6 +32,7 @@ use Rattle.cdi_resolve.specs.declared.choice.Choice.TheVariants.{One}
 use Rattle.cdi_observe.specs.Answers.{answer_to}
 use Rattle.cdi_subjects.specs.Sites.{has_method, methods_in}
 use Rattle.cdi_staging.specs.Faultless.{IsFit, IsSatisfied, AreSatisfied, IsLed, IsFinePart}
+use Rattle.cdi_staging.specs.Notifying.{fired_at}
 use Rattle.cdi_staging.specs.Sites.{Sight, nowhere, target_of, class_with, method_declared, method_of, is_method}
 use Rattle.cdi_staging.specs.Sites.{is_point, position_of_bean, site_at, site_among, site_of, target_at}
 use Rattle.cdi_staging.specs.Staged.{part_of, part_with, staged_part, staged_method, managed_form, sight_of, scene_of}
@@ -38,6 +40,7 @@ use Rattle.cdi_staging.specs.Staged.{class_of, targets}
 use Rattle.cdi_staging.specs.declared.target.Target.{Target}
 use Rattle.cdi_staging.proofs.BesideLemmas.{of-find, no-position, find-append, from-map}
 use Rattle.cdi_staging.proofs.ChosenLemmas.{Reached, chosen-offered, reached}
+use Rattle.cdi_staging.proofs.NotifiedLemmas.{notified_stand}
 
 -- ---- bodies
 
@@ -46,26 +49,27 @@ from-option f None y e = absurd (cc)
 from-option f (Some x) y e = (x, refl, cc)
 
 -- a part that was made of a body in the book
-pub record IsMade (book : List Promised) (calls : List CallSite) (promise : Promise) (part : Part) : Type 0 where
+pub record IsMade (book : List Promised) (calls : List CallSite) (fires : List (List Notified)) (promise : Promise)
+    (part : Part) : Type 0 where
   pub body : IsInBook book part
   pub calls_are : part.calls ≡ calls
-  pub fires_are : part.fires ≡ []
+  pub fires_are : part.fires ≡ fires
   pub promise_is : part.promise ≡ promise
 
-pub part-made : (book : List Promised) (calls : List CallSite) (allowed : ℕ) (name : List ℕ) (part : Part) (fit : IsFit book allowed name)
-    → part_of book calls name ≡ Some part → IsMade book calls fit.promise part
+pub part-made : (book : List Promised) (calls : List CallSite) (fires : List (List Notified)) (allowed : ℕ) (name : List ℕ) (part : Part)
+    (fit : IsFit book allowed name) → part_of book calls fires name ≡ Some part → IsMade book calls fires fit.promise part
 unfolding part_of
-part-made book calls allowed name part fit e =
+part-made book calls fires allowed name part fit e =
     let kept = from-option (λ b. b.1) (find (is_named name) book) fit.promise fit.found in
     let at = of-find (is_named name) book kept.0 kept.1 in
     let value : at.value ≡ kept.0 = same_Some at.value kept.0 (sym at.find_is ∙ kept.1) in
-    let body : Part = record { body = at.place; promise = fit.promise; calls = calls; fires = [] } in
-    let made : Some body ≡ Some part = sym (ap (λ o. part_with calls o (promise_of book name)) at.position_is
-    ∙ ap (part_with calls (Some at.place)) fit.found) ∙ e in
+    let body : Part = record { body = at.place; promise = fit.promise; calls = calls; fires = fires } in
+    let made : Some body ≡ Some part = sym (ap (λ o. part_with calls fires o (promise_of book name)) at.position_is
+    ∙ ap (part_with calls fires (Some at.place)) fit.found) ∙ e in
     let is : body ≡ part = same_Some body part made in
     let there : slice_get book at.place ≡ Some (kept.0.0, fit.promise) = at.there ∙ ap Some value
     ∙ ap (λ p. Some (kept.0.0, p)) kept.2 in
-    subst (IsMade book calls fit.promise) is (record {
+    subst (IsMade book calls fires fit.promise) is (record {
       body = record { name = kept.0.0; found = there };
       calls_are = refl;
       fires_are = refl;
@@ -236,7 +240,8 @@ pub part-sound : (ds : List Decl) (book : List Promised) (allowed : ℕ) (points
 unfolding staged_part
 part-sound ds book allowed points params part made distinct own_points own_params fine e =
     let lead = site_of ds (beans ds) (seen ds points params) in
-    let m = part-made book (map lead part.calls) allowed part.body made fine.body e in
+    let notify = fired_at ds (beans ds) in
+    let m = part-made book (map lead part.calls) (map notify part.fires) allowed part.body made fine.body e in
     let good : (k : ℕ) (site : CallSite) → slice_get made.calls k ≡ Some site → IsGoodSite ds book points params site =
     λ k site at.
     let found = from-map lead part.calls k site (sym (ap (λ cs. slice_get cs k) m.calls_are) ∙ at) in
@@ -245,22 +250,23 @@ part-sound ds book allowed points params part made distinct own_points own_param
     record {
       sound = record {
         body = m.body;
-        few_calls = subst (λ n. n ≤ 32) (sym (ap length m.calls_are ∙ length-map part.calls lead)) fine.few;
-        few_fires = subst (λ fs. length fs ≤ 32) (sym m.fires_are) (omega arith);
+        few_calls = subst (λ n. n ≤ 32) (sym (ap length m.calls_are ∙ length-map part.calls lead)) fine.short.calls;
+        few_fires = subst (λ n. n ≤ 32) (sym (ap length m.fires_are ∙ length-map part.fires notify)) fine.short.fires;
         calls = λ k site at. (good k site at).0;
         fires = λ k os at.
-            let none : None ≡ Some os = sym (ap (λ fs. slice_get fs k) m.fires_are) ∙ at in
-            absurd (cc);
+            let found = from-map notify part.fires k os (sym (ap (λ fs. slice_get fs k) m.fires_are) ∙ at) in
+            subst (AreObservers (scene_of ds book)) found.2
+            (notified_stand ds book found.0.event_type found.0.qualifiers distinct);
       };
       kept = λ flag has. fine.body.kept flag (subst (λ p. Has p flag) m.promise_is has);
       names = λ k site at. (good k site at).1;
     }
 
--- a disposer method's part has no call site
+-- a disposer method's part has no call site and no fire site
 pub disposer-sound : (ds : List Decl) (book : List Promised) (allowed : ℕ) (name : List ℕ) (made : Part) → IsFit book allowed name
-    → part_of book [] name ≡ Some made → IsSoundFor ds book allowed [] [] made
+    → part_of book [] [] name ≡ Some made → IsSoundFor ds book allowed [] [] made
 disposer-sound ds book allowed name made fit e =
-    let m = part-made book [] allowed name made fit e in
+    let m = part-made book [] [] allowed name made fit e in
     record {
       sound = record {
         body = m.body;

@@ -13,6 +13,7 @@ use Rattle.cdi_model.specs.declared.decl.BeanDecl.{BeanDecl}
 use Rattle.cdi_model.specs.declared.decl.Decl.{Decl}
 use Rattle.cdi_model.specs.declared.decl.Decl.TheVariants as decls
 use Rattle.cdi_model.specs.declared.decl.InterceptorDecl.{InterceptorDecl}
+use Rattle.cdi_model.specs.declared.decl.ObserverDecl.{ObserverDecl}
 use Rattle.cdi_model.specs.declared.decl.PointDecl.{PointDecl}
 use Rattle.cdi_model.specs.declared.decl.ProducerDecl.{ProducerDecl}
 use Rattle.cdi_model.specs.declared.place.BeanPlace.{BeanPlace}
@@ -22,7 +23,7 @@ use Rattle.cdi_bodies.specs.Book.{Promised}
 use Rattle.cdi_bodies.specs.Flags as flags
 use Rattle.cdi_contexts.specs.declared.instance.Actor.TheVariants.{Target as ByTarget}
 use Rattle.cdi_scene.specs.Scene.{as_managed, as_product, bean_at, managed_at, product_at, invocable_at, target_part}
-use Rattle.cdi_scene.specs.Sound.{params_at, home_of, IsOwnPoint, IsNamed}
+use Rattle.cdi_scene.specs.Sound.{params_at, home_of, AreBeans, IsOwnPoint, IsNamed}
 use Rattle.cdi_scene.specs.Sound.{IsSound, IsSoundAt, IsSoundForm, IsSoundInvocable, IsSoundManaged, IsSoundProduct, IsStatic}
 use Rattle.cdi_scene.specs.declared.place.Place.{Place}
 use Rattle.cdi_scene.specs.declared.place.Place.TheVariants as places
@@ -44,22 +45,22 @@ use Rattle.cdi_resolve.specs.Position.{is_told_by}
 use Rattle.cdi_intercept.specs.Chains.{in_order, part_for, surrounds_one}
 use Rattle.cdi_intercept.specs.Sets.{set_by, sets_of}
 use Rattle.cdi_intercept.proofs.ChainLemmas.{IsPlace, construct_place, in_order-declared, method_place, post_place, pre_place}
-use Rattle.cdi_intercept.proofs.ChainLemmas.{producer_place, surrounds_some}
+use Rattle.cdi_intercept.proofs.ChainLemmas.{observer_place, producer_place, surrounds_some}
 use Rattle.cdi_observe.specs.Answers.{answer_to}
 use Rattle.cdi_staging.specs.Faultless.{AreFine, AreFineAround, AreSatisfied, IsFineManaged, IsFineProducer, IsFit}
-use Rattle.cdi_staging.specs.Sites.{position_of_bean, target_of}
+use Rattle.cdi_staging.specs.Sites.{position_of_bean, position_of_class, target_of}
 use Rattle.cdi_staging.specs.Staged.{disposer_for, disposer_named, disposer_part, injections_from, managed_form}
-use Rattle.cdi_staging.specs.Staged.{position_of_class, product_form, scene_of, sight_of, targets, unused_managed}
+use Rattle.cdi_staging.specs.Staged.{product_form, scene_of, sight_of, staged_observer, targets, unused_managed}
 use Rattle.cdi_staging.specs.Staged.{Around, around_of, chain_at, class_of, injections_around, unused_product}
 use Rattle.cdi_staging.specs.declared.target.Target.{Target}
-use Rattle.cdi_staging.proofs.BesideLemmas.{in-append-right, second-at, found, of-find, from-map, in-flat}
-use Rattle.cdi_staging.proofs.ChosenLemmas.{IsOffered, Stands, all-stand, bean-found, of-none, reached, told-self, told-is}
+use Rattle.cdi_staging.proofs.BesideLemmas.{in-append-right, in-one, second-at, found, of-find, from-map, in-flat}
+use Rattle.cdi_staging.proofs.ChosenLemmas.{IsUsed, Stands, all-stand, host-used, managed_in, of-none, told-self, told-is, used_form}
 use Rattle.cdi_staging.proofs.PartLemmas.{IsSoundFor, NamesVia, disposer-sound, point-reached}
 use Rattle.cdi_staging.proofs.SplitLemmas.{length-targets}
-use Rattle.cdi_staging.proofs.LinkLemmas.{IsIntercepted, OfAround, apart-own, body_of, from-around, in-one, injected, injection-of}
+use Rattle.cdi_staging.proofs.LinkLemmas.{IsIntercepted, OfAround, apart-own, body_of, from-around, injected, injection-of}
 use Rattle.cdi_staging.proofs.LinkLemmas.{injection-there, link-of, link-sound, link_seat}
-use Rattle.cdi_staging.proofs.SoundLemmas.{AreLinks, IsGood, IsProduced, IsSpot, IsUsed, LeadsBy, LinksAt, LinksOf, points_seen}
-use Rattle.cdi_staging.proofs.SoundLemmas.{disposer_in, fine-product, managed_in, no-call-disposal}
+use Rattle.cdi_staging.proofs.SoundLemmas.{AreLinks, IsGood, IsProduced, IsSpot, LeadsBy, LeadsObserver, LinksAt, LinksOf, made_observer}
+use Rattle.cdi_staging.proofs.SoundLemmas.{disposer_in, fine-product, no-call-disposal, observer-good, observer_in, points_seen}
 use Rattle.cdi_staging.proofs.SoundLemmas.{no-fire-disposal, no-load-disposal, no-proceed-disposal, no-store-disposal}
 use Rattle.cdi_staging.proofs.SoundLemmas.{no-load-class, no-proceed-class, no-store-class, own-good, part_in}
 use Rattle.cdi_staging.proofs.SoundLemmas.{producer-good, producer_in, product_in, stands-at, static-part}
@@ -111,31 +112,6 @@ invocable-sound ds book b place x at good = record {
       };
 }
 
--- the observer methods of a bean
-abbrev observer_in : ℕ → Option Managed → Option Observer
-observer_in o (Some one) = slice_get one.observers o
-observer_in o None = None
-
-abbrev observed_in : Option Observer → Option Invocable
-observed_in (Some observer) = Some observer.invocable
-observed_in None = None
-
-no-observers : (ds : List Decl) (book : List Promised) (d : BeanDecl) (e : Bool)
-    → (cond e (managed_form ds (beans ds) book (sight_of ds d) (class_of ds d)) unused_managed).observers ≡ []
-unfolding managed_form
-no-observers ds book d true = refl
-no-observers ds book d false = refl
-
-no-observed : (ds : List Decl) (book : List Promised) (b o : ℕ) (x : Invocable) (bean : Option Bean) → bean_at (scene_of ds book) b ≡ bean
-    → observed_in (observer_in o (managed_in bean)) ≡ Some x → ⊥
-no-observed ds book b o x None at e = none-some x e
-no-observed ds book b o x (Some bean) at e =
-    elim (stands-at ds book b bean at).fits [
-      | inl m ↦ none-some x (sym (ap (λ bn. observed_in (observer_in o (as_managed bn.form))) m.made
-          ∙ ap (λ os. observed_in (slice_get os o)) (no-observers ds book m.decl (managed ds m.decl).is_enabled)) ∙ e)
-      | inr p ↦ none-some x (sym (ap (λ bn. observed_in (observer_in o (as_managed bn.form))) p.made) ∙ e)
-    ]
-
 -- ---- where call sites lead
 
 -- an injection point of the bean at home
@@ -149,7 +125,7 @@ own-point ds book home d seat n p b t used is seated own at same =
     let found = in-append-right around (injections_from ByTarget 0 (targets ds d.points)) p (injected ByTarget (0 + p) t.bean)
     (injection-there ByTarget 0 (targets ds d.points) p t at) in
     record {
-      managed = managed_form ds (beans ds) book (sight_of ds d) (class_of ds d);
+      managed = used_form ds book d;
       there = ap (managed_at (scene_of ds book)) is ∙ used;
       number = n;
       seated = seated;
@@ -174,20 +150,27 @@ param-named : (ds : List Decl) (params : List PointDecl) (p b : ℕ) (t : Target
 param-named ds params p b t at same =
     slice_get-map (λ target. target.bean) (targets ds params) p ∙ ap (option_map (λ target. target.bean)) at ∙ ap Some same
 
--- the bean of an enabled declaration stands at the position of its class
-host-used : (ds : List Decl) (book : List Promised) (k : ℕ) (d : BeanDecl) → AreDistinct ds → slice_get ds k ≡ Some (decls.Bean d)
-    → (managed ds d).is_enabled ≡ true → IsUsed ds book (position_of_class (beans ds) d.name) d
-unfolding beans effective
-host-used ds book k d distinct at enabled =
-    let id : BeanId = record { class = d.name; producer = None } in
-    let among = in-flat (entries ds) ds k (decls.Bean d) 0 (managed ds d) at refl in
-    let offered : IsOffered id (beans ds) =
-    record { place = among.0; value = managed ds d; there = among.1; is = refl; enabled = enabled } in
-    let r = reached ds book id distinct offered in
-    let m = r.of_managed refl in
-    let same : m.decl ≡ d = same_Some m.decl d (sym m.is ∙ bean-found ds k d distinct at) in
-    ap managed_in r.there ∙ ap as_managed m.form
-    ∙ ap (λ e. Some (managed_form ds (beans ds) book (sight_of ds e) (class_of ds e))) same
+abbrev params_in : Option Observer → List ℕ
+params_in (Some observer) = observer.params
+params_in None = []
+
+-- what is chosen for an observer method of a bean that is enabled
+observer-leads : (ds : List Decl) (book : List Promised) (b o : ℕ) (d : BeanDecl) → IsUsed ds book b d
+    → LeadsObserver ds d o (LeadsAt (scene_of ds book) b (places.Observer o))
+unfolding managed_form staged_observer
+observer-leads ds book b o d used observer at site names n = by site.via names
+  where
+    made : ObserverDecl → Observer
+    made = made_observer ds book d
+
+    there : params_at (scene_of ds book) b (places.Observer o) ≡ map (λ target. target.bean) (targets ds observer.params)
+    there = ap (λ m. params_in (observer_in o m)) used
+        ∙ ap params_in (slice_get-map made d.observers o ∙ ap (option_map made) at)
+
+    by : (via : Via) → NamesVia (targets ds d.points) (targets ds observer.params) via site.bean
+        → IsNamed (scene_of ds book) (own_seat b (places.Observer o) n) via site.bean
+    by (Own p) t = own-point ds book b d (own_seat b (places.Observer o) n) n p site.bean t.0 used refl refl refl t.1 t.2
+    by (Param p) t = ap (λ bs. slice_get bs p) there ∙ param-named ds observer.params p site.bean t.0 t.1 t.2
 
 product-leads : (ds : List Decl) (book : List Promised) (b q : ℕ) (d : BeanDecl) (p : ProducerDecl) → AreDistinct ds
     → IsProduced ds book q d p
@@ -218,7 +201,7 @@ spot-place d places.Pre spot e = subst (IsPlace d) (sym e) (pre_place d)
 spot-place d (places.Method m) spot e = subst (IsPlace d) (sym e.2) (method_place d m e.0 e.1)
 spot-place d (places.Producer b) spot e = absurd e
 spot-place d (places.Disposer b) spot e = absurd e
-spot-place d (places.Observer o) spot e = absurd e
+spot-place d (places.Observer o) spot e = subst (IsPlace d) (sym e.2) (observer_place d o e.0 e.1)
 
 spot-body : (d : BeanDecl) (place : Place) (spot : BeanPlace) (i : InterceptorDecl) → IsSpot d place spot
     → part_for spot i ≡ body_of place i
@@ -228,7 +211,7 @@ spot-body d places.Pre spot i e = ap (λ s. part_for s i) e
 spot-body d (places.Method m) spot i e = ap (λ s. part_for s i) e.2
 spot-body d (places.Producer b) spot i e = absurd e
 spot-body d (places.Disposer b) spot i e = absurd e
-spot-body d (places.Observer o) spot i e = absurd e
+spot-body d (places.Observer o) spot i e = ap (λ s. part_for s i) e.2
 
 own-links : (ds : List Decl) (book : List Promised) (b : ℕ) (place : Place) (d : BeanDecl) → AreDistinct ds → AreFineAround ds book
     → home_of (scene_of ds book) b place ≡ b → IsIntercepted place → IsUsed ds book b d → LinksAt ds d place (LinkAt ds book b place)
@@ -293,7 +276,9 @@ all-invocables ds book b (places.Producer q) x distinct fine around at =
     (λ d p made. product-links ds book b q d p distinct around made) refl at
 all-invocables ds book b (places.Disposer q) x distinct fine around at = absurd (none-some x at)
 all-invocables ds book b (places.Observer o) x distinct fine around at =
-    absurd (no-observed ds book b o x (bean_at (scene_of ds book) b) refl at)
+    observer-good ds book b o _ (LinkAt ds book b (places.Observer o)) x (bean_at (scene_of ds book) b) distinct fine
+    (λ d used. observer-leads ds book b o d used)
+    (λ d used. own-links ds book b (places.Observer o) d distinct around refl tt used) refl at
 
 -- ---- beans
 
@@ -323,9 +308,31 @@ around-stands ds book x distinct fine of =
     let bean = target-stands ds book i.0.points of.point of.target distinct own.points chosen in
     (bean.0, ap (λ j. bean_at (scene_of ds book) j.bean) of.is ∙ bean.1)
 
+-- what is chosen for some parameters, of which there are few
+params-sound : (ds : List Decl) (book : List Promised) (params : List PointDecl) → AreDistinct ds → AreSatisfied ds params
+    → length params ≤ 32
+    → AreBeans (scene_of ds book) (map (λ target. target.bean) (targets ds params))
+    × (length (map (λ target. target.bean) (targets ds params)) ≤ 32)
+params-sound ds book params distinct satisfied few = (
+  λ j c e.
+      let t = from-map (λ target. target.bean) (targets ds params) j c e in
+      let bean = target-stands ds book params j t.0 distinct satisfied t.1 in
+      (bean.0, ap (bean_at (scene_of ds book)) (sym t.2) ∙ bean.1),
+  subst (λ n. n ≤ 32) (sym (length-map (targets ds params) (λ target. target.bean) ∙ length-targets ds params)) few,
+)
+
+observer-sound : (ds : List Decl) (book : List Promised) (d : BeanDecl) (k : ℕ) (observer : ObserverDecl) → AreDistinct ds
+    → IsFineManaged ds book d → slice_get d.observers k ≡ Some observer
+    → AreBeans (scene_of ds book) (made_observer ds book d observer).params
+    × (length (made_observer ds book d observer).params ≤ 32)
+unfolding staged_observer
+observer-sound ds book d k observer distinct fine at =
+    let own = fine.observers k observer at in
+    params-sound ds book observer.params distinct own.params own.few
+
 managed-sound : (ds : List Decl) (book : List Promised) (d : BeanDecl) (e : Bool) → AreDistinct ds → AreFineAround ds book
     → (e ≡ true → IsFineManaged ds book d)
-    → IsSoundManaged (scene_of ds book) (cond e (managed_form ds (beans ds) book (sight_of ds d) (class_of ds d)) unused_managed)
+    → IsSoundManaged (scene_of ds book) (cond e (used_form ds book d) unused_managed)
 unfolding managed_form
 managed-sound ds book d true distinct around fine =
     let test = surrounds_one ds (sets_of ds (class_of ds d).bindings d) in
@@ -339,7 +346,10 @@ managed-sound ds book d true distinct around fine =
                 (bean.0, ap (λ j. bean_at (scene_of ds book) j.bean) t.2 ∙ bean.1)
           ];
       apart = apart-own test (around_of ds) (targets ds d.points);
-      observers = λ k o at. absurd (none-some o at);
+      observers = λ k o at.
+          let made = from-map (made_observer ds book d) d.observers k o at in
+          subst (λ x. AreBeans (scene_of ds book) x.params × (length x.params ≤ 32)) made.2
+          (observer-sound ds book d k made.0 distinct (fine refl) made.1);
     }
 managed-sound ds book d false distinct around fine = record {
   injections = λ k i at. absurd (none-some i at);
@@ -428,15 +438,12 @@ product-sound ds book k d p b false distinct at fine there =
 product-sound ds book k d p b true distinct at fine there =
     let host = declaring-there ds book k d at in
     let f = (fine refl).1 in
-    let points = (fine refl).0 in
+    let params = params-sound ds book p.params distinct f.params f.few in
     record {
       host = host.0;
       declared = host.1;
-      params = λ j c e.
-          let t = from-map (λ target. target.bean) (targets ds p.params) j c e in
-          let bean = target-stands ds book p.params j t.0 distinct f.params t.1 in
-          (bean.0, ap (bean_at (scene_of ds book)) (sym t.2) ∙ bean.1);
-      few = subst (λ n. n ≤ 32) (sym (length-map (targets ds p.params) (λ target. target.bean) ∙ length-targets ds p.params)) f.few;
+      params = params.0;
+      few = params.1;
       producer = λ is_static.
           let made = static-part ds book d p distinct f is_static in
           record {

@@ -10,6 +10,7 @@ use Rattle.cdi_model.specs.declared.decl.BeanDecl.{BeanDecl}
 use Rattle.cdi_model.specs.declared.decl.Decl.{Decl}
 use Rattle.cdi_model.specs.declared.decl.Decl.TheVariants as decls
 use Rattle.cdi_model.specs.declared.decl.MethodDecl.{MethodDecl}
+use Rattle.cdi_model.specs.declared.decl.ObserverDecl.{ObserverDecl}
 use Rattle.cdi_model.specs.declared.decl.PartDecl.{PartDecl}
 use Rattle.cdi_model.specs.declared.decl.PointDecl.{PointDecl}
 use Rattle.cdi_model.specs.declared.decl.ProducerDecl.{ProducerDecl}
@@ -25,16 +26,19 @@ use Rattle.cdi_scene.specs.declared.place.Place.TheVariants as places
 use Rattle.cdi_scene.specs.declared.scene.Bean.{Bean}
 use Rattle.cdi_scene.specs.declared.scene.Invocable.{Invocable}
 use Rattle.cdi_scene.specs.declared.scene.Managed.{Managed}
+use Rattle.cdi_scene.specs.declared.scene.Notified.{Notified}
+use Rattle.cdi_scene.specs.declared.scene.Observer.{Observer}
 use Rattle.cdi_scene.specs.declared.scene.Part.{Part}
 use Rattle.cdi_scene.specs.declared.scene.Product.{Product}
 use Rattle.cdi_effective.specs.Beans.{beans, effective, managed, product}
 use Rattle.cdi_staging.specs.Faultless.{AreFine, AreSatisfied, IsFineManaged, IsFinePart, IsFineProducer, IsFit}
-use Rattle.cdi_staging.specs.Sites.{producer_sight, site_of}
+use Rattle.cdi_staging.specs.Notifying.{fired_at}
+use Rattle.cdi_staging.specs.Sites.{method_sight, site_of}
 use Rattle.cdi_staging.specs.Staged.{empty_place, managed_form, part_of, part_with, product_form, scene_of, sight_of}
 use Rattle.cdi_staging.specs.Staged.{staged_method, staged_part, staged_place, targets, unused_managed}
-use Rattle.cdi_staging.specs.Staged.{class_chain, class_of, producer_chain, unused_product}
+use Rattle.cdi_staging.specs.Staged.{class_chain, class_of, producer_chain, staged_observer, unused_product}
 use Rattle.cdi_staging.proofs.BesideLemmas.{First, first-at, of-find, from-map}
-use Rattle.cdi_staging.proofs.ChosenLemmas.{Stands, all-stand}
+use Rattle.cdi_staging.proofs.ChosenLemmas.{IsUsed, Stands, all-stand, managed_in, used_form}
 use Rattle.cdi_staging.proofs.PartLemmas.{IsSoundFor, Names, from-option, part-sound, seen}
 
 -- ---- what the places allow
@@ -160,6 +164,8 @@ IsSpot d places.Construct spot = spot ≡ spots.Construct
 IsSpot d places.Post spot = spot ≡ spots.Post
 IsSpot d places.Pre spot = spot ≡ spots.Pre
 IsSpot d (places.Method m) spot = (method : MethodDecl) × (slice_get d.methods m ≡ Some method) × (spot ≡ spots.Method method.name)
+IsSpot d (places.Observer o) spot =
+    (observer : ObserverDecl) × (slice_get d.observers o ≡ Some observer) × (spot ≡ spots.Observer observer.name)
 IsSpot d place spot = ⊥
 
 -- each interceptor around the place is such
@@ -168,7 +174,7 @@ LinksAt ds d place Links = (spot : BeanPlace) → IsSpot d place spot → AreLin
 
 good-form : (ds : List Decl) (book : List Promised) (d : BeanDecl) (place : Place) (Leads : CallSite → Type 0) (Links : ℕ → Type 0)
     (x : Invocable) → AreDistinct ds → IsFineManaged ds book d → LeadsBy ds d.points [] Leads → LinksAt ds d place Links
-    → place_of (managed_form ds (beans ds) book (sight_of ds d) (class_of ds d)) place ≡ Some x → IsGood ds book place Leads Links x
+    → place_of (used_form ds book d) place ≡ Some x → IsGood ds book place Leads Links x
 unfolding managed_form
 good-form ds book d places.Construct Leads Links x distinct fine lead link e =
     subst (IsGood ds book places.Construct Leads Links) (same_Some _ x e)
@@ -209,11 +215,63 @@ good-unused ds book (places.Observer o) Leads Links x e = absurd (cc)
 good-managed : (ds : List Decl) (book : List Promised) (d : BeanDecl) (place : Place) (Leads : CallSite → Type 0) (Links : ℕ → Type 0)
     (x : Invocable) (e : Bool) → AreDistinct ds → (e ≡ true → IsFineManaged ds book d) → (e ≡ true → LeadsBy ds d.points [] Leads)
     → (e ≡ true → LinksAt ds d place Links)
-    → place_of (cond e (managed_form ds (beans ds) book (sight_of ds d) (class_of ds d)) unused_managed) place ≡ Some x
+    → place_of (cond e (used_form ds book d) unused_managed) place ≡ Some x
     → IsGood ds book place Leads Links x
 good-managed ds book d place Leads Links x true distinct fine lead link at =
     good-form ds book d place Leads Links x distinct (fine refl) (lead refl) (link refl) at
 good-managed ds book d place Leads Links x false distinct fine lead link at = good-unused ds book place Leads Links x at
+
+-- ---- observer methods
+
+-- what is invoked for an observer method of a bean
+abbrev pub observer_in : ℕ → Option Managed → Option Observer
+observer_in o (Some one) = slice_get one.observers o
+observer_in o None = None
+
+abbrev pub observed_in : Option Observer → Option Invocable
+observed_in (Some observer) = Some observer.invocable
+observed_in None = None
+
+-- an observer method of a bean, with what is chosen for its parameters
+abbrev pub made_observer : List Decl → List Promised → BeanDecl → ObserverDecl → Observer
+made_observer ds book d observer =
+    staged_observer ds (beans ds) book (sight_of ds d) (class_of ds d) observer (targets ds observer.params)
+
+-- each call site is such that names an injection point of the bean or a parameter of an observer method of it
+abbrev pub LeadsObserver : List Decl → BeanDecl → ℕ → (CallSite → Type 0) → Type 0
+LeadsObserver ds d o Leads =
+    (observer : ObserverDecl) → slice_get d.observers o ≡ Some observer → LeadsBy ds d.points observer.params Leads
+
+good-staged : (ds : List Decl) (book : List Promised) (d : BeanDecl) (o : ℕ) (Leads : CallSite → Type 0) (Links : ℕ → Type 0)
+    (observer : ObserverDecl) → AreDistinct ds → IsFineManaged ds book d → slice_get d.observers o ≡ Some observer
+    → LeadsBy ds d.points observer.params Leads → LinksAt ds d (places.Observer o) Links
+    → IsGood ds book (places.Observer o) Leads Links (made_observer ds book d observer).invocable
+unfolding staged_observer
+good-staged ds book d o Leads Links observer distinct fine at lead link =
+    let own = fine.observers o observer at in
+    good-place ds book flags.at_instance (places.Observer o) d.points observer.params Leads Links _ (Some observer.part) distinct
+    fine.points own.params
+    (λ part same. subst (IsFinePart ds book flags.at_instance (observer.params ++ d.points)) (same_Some observer.part part same) own.part)
+    (at-instance ds book (places.Observer o) d.points observer.params Leads (λ part. tt) lead)
+    (link (spots.Observer observer.name) (observer, at, refl))
+
+from-observed : (one : Option Observer) (x : Invocable) → observed_in one ≡ Some x
+    → (observer : Observer) × (one ≡ Some observer) × (observer.invocable ≡ x)
+from-observed None x e = absurd (none-some x e)
+from-observed (Some observer) x e = (observer, refl, same_Some observer.invocable x e)
+
+good-observer : (ds : List Decl) (book : List Promised) (d : BeanDecl) (o : ℕ) (Leads : CallSite → Type 0) (Links : ℕ → Type 0)
+    (x : Invocable) (e : Bool) → AreDistinct ds → (e ≡ true → IsFineManaged ds book d) → (e ≡ true → LeadsObserver ds d o Leads)
+    → (e ≡ true → LinksAt ds d (places.Observer o) Links)
+    → observed_in (observer_in o (Some (cond e (used_form ds book d) unused_managed))) ≡ Some x
+    → IsGood ds book (places.Observer o) Leads Links x
+unfolding managed_form
+good-observer ds book d o Leads Links x true distinct fine lead link at =
+    let one = from-observed (observer_in o (Some (used_form ds book d))) x at in
+    let declared = from-map (made_observer ds book d) d.observers o one.0 one.1 in
+    subst (IsGood ds book (places.Observer o) Leads Links) (ap (λ y. y.invocable) declared.2 ∙ one.2)
+    (good-staged ds book d o Leads Links declared.0 distinct (fine refl) declared.1 (lead refl declared.0 declared.1) (link refl))
+good-observer ds book d o Leads Links x false distinct fine lead link at = absurd (none-some x at)
 
 -- ---- producer methods
 
@@ -232,7 +290,7 @@ good-by : (ds : List Decl) (book : List Promised) (d : BeanDecl) (p : ProducerDe
     → IsFinePart ds book (cond s flags.at_class flags.at_instance) (p.params ++ cond s [] d.points) p.part
     → LeadsBy ds (points_seen s d) p.params Leads → AreLinks Links chain
     → IsGood ds book (places.Producer b) Leads Links
-    (staged_place ds (beans ds) book (producer_sight s (sight_of ds d) p.params (targets ds p.params)) chain (Some p.part))
+    (staged_place ds (beans ds) book (method_sight s (sight_of ds d) p.params (targets ds p.params)) chain (Some p.part))
 good-by ds book d p b Leads Links chain true distinct own_points own_params fine lead links =
     good-place ds book flags.at_class (places.Producer b) [] p.params Leads Links chain (Some p.part) distinct
     (none-satisfied ds) own_params
@@ -250,10 +308,6 @@ good-by ds book d p b Leads Links chain false distinct own_points own_params fin
     (at-instance ds book (places.Producer b) d.points p.params Leads (λ part. tt) lead) links
 
 -- ---- what stands at a position
-
-abbrev pub managed_in : Option Bean → Option Managed
-managed_in (Some bean) = as_managed bean.form
-managed_in None = None
 
 abbrev pub product_in : Option Bean → Option Product
 product_in (Some bean) = as_product bean.form
@@ -280,13 +334,9 @@ pub stands-at : (ds : List Decl) (book : List Promised) (b : ℕ) (bean : Bean) 
     → First (Stands ds book) (beans ds) b bean
 stands-at ds book b bean at = first-at (Stands ds book) (beans ds) (scene_of ds book).beans b bean (all-stand ds book) at
 
--- a managed bean that is enabled stands at the position
-abbrev pub IsUsed : List Decl → List Promised → ℕ → BeanDecl → Type 0
-IsUsed ds book b d = managed_in (bean_at (scene_of ds book) b) ≡ Some (managed_form ds (beans ds) book (sight_of ds d) (class_of ds d))
-
 used : (ds : List Decl) (book : List Promised) (b : ℕ) (d : BeanDecl) (e : Bool)
     → managed_in (bean_at (scene_of ds book) b) ≡ Some (cond e
-    (managed_form ds (beans ds) book (sight_of ds d) (class_of ds d)) unused_managed)
+    (used_form ds book d) unused_managed)
     → e ≡ true → IsUsed ds book b d
 used ds book b d true at is = at
 used ds book b d false at is = absurd (false≢true is)
@@ -310,6 +360,26 @@ own-good ds book b place Leads Links x (Some bean) distinct fine lead link at e 
       | inr p ↦
           let none : None ≡ Some x = sym (ap (λ bn. place_in place (as_managed bn.form)) p.made) ∙ e in
           absurd (none-some x none)
+    ]
+
+pub observer-good : (ds : List Decl) (book : List Promised) (b o : ℕ) (Leads : CallSite → Type 0) (Links : ℕ → Type 0)
+    (x : Invocable) (bean : Option Bean) → AreDistinct ds → AreFine ds book
+    → ((d : BeanDecl) → IsUsed ds book b d → LeadsObserver ds d o Leads)
+    → ((d : BeanDecl) → IsUsed ds book b d → LinksAt ds d (places.Observer o) Links)
+    → bean_at (scene_of ds book) b ≡ bean → observed_in (observer_in o (managed_in bean)) ≡ Some x
+    → IsGood ds book (places.Observer o) Leads Links x
+observer-good ds book b o Leads Links x None distinct fine lead link at e = absurd (none-some x e)
+observer-good ds book b o Leads Links x (Some bean) distinct fine lead link at e =
+    elim (stands-at ds book b bean at).fits [
+      | inl m ↦
+          let is_used : (managed ds m.decl).is_enabled ≡ true → IsUsed ds book b m.decl =
+          λ enabled. used ds book b m.decl (managed ds m.decl).is_enabled
+          (ap managed_in at ∙ ap (λ bn. as_managed bn.form) m.made) enabled in
+          good-observer ds book m.decl o Leads Links x (managed ds m.decl).is_enabled distinct
+          (fine m.place m.decl m.there).managed_bean
+          (λ enabled. lead m.decl (is_used enabled)) (λ enabled. link m.decl (is_used enabled))
+          (sym (ap (λ bn. observed_in (observer_in o (as_managed bn.form))) m.made) ∙ e)
+      | inr p ↦ absurd (none-some x (sym (ap (λ bn. observed_in (observer_in o (as_managed bn.form))) p.made) ∙ e))
     ]
 
 -- each interceptor around a producer method is such
@@ -381,27 +451,28 @@ producer-good ds book q Leads Links x (Some bean) distinct fine lead link at e =
 
 -- ---- static producer methods
 
-pub part-there : (book : List Promised) (calls : List CallSite) (allowed : ℕ) (name : List ℕ) → IsFit book allowed name
-    → (made : Part) × (part_of book calls name ≡ Some made)
+pub part-there : (book : List Promised) (calls : List CallSite) (fires : List (List Notified)) (allowed : ℕ) (name : List ℕ)
+    → IsFit book allowed name → (made : Part) × (part_of book calls fires name ≡ Some made)
 unfolding part_of
-part-there book calls allowed name fit =
+part-there book calls fires allowed name fit =
     let kept = from-option (λ b. b.1) (find (is_named name) book) fit.promise fit.found in
     let at = of-find (is_named name) book kept.0 kept.1 in (
-      record { body = at.place; promise = fit.promise; calls = calls; fires = [] },
-      ap (λ o. part_with calls o (promise_of book name)) at.position_is ∙ ap (part_with calls (Some at.place)) fit.found,
+      record { body = at.place; promise = fit.promise; calls = calls; fires = fires },
+      ap (λ o. part_with calls fires o (promise_of book name)) at.position_is ∙ ap (part_with calls fires (Some at.place)) fit.found,
     )
 
 static-by : (ds : List Decl) (book : List Promised) (d : BeanDecl) (p : ProducerDecl) (chain : List ℕ) (s : Bool) → AreDistinct ds
     → AreSatisfied ds p.params
     → IsFinePart ds book (cond s flags.at_class flags.at_instance) (p.params ++ cond s [] d.points) p.part → s ≡ true
     → (made : Part)
-    × ((staged_place ds (beans ds) book (producer_sight s (sight_of ds d) p.params (targets ds p.params)) chain (Some p.part)).part
+    × ((staged_place ds (beans ds) book (method_sight s (sight_of ds d) p.params (targets ds p.params)) chain (Some p.part)).part
     ≡ Some made)
     × IsSoundFor ds book flags.at_class [] p.params made
 unfolding staged_place staged_part
 static-by ds book d p chain true distinct own_params fine is =
     let lead = site_of ds (beans ds) (seen ds [] p.params) in
-    let made = part-there book (map lead p.part.calls) flags.at_class p.part.body fine.body in
+    let made = part-there book (map lead p.part.calls) (map (fired_at ds (beans ds)) p.part.fires) flags.at_class p.part.body
+    fine.body in
     (made.0, made.1, part-sound ds book flags.at_class [] p.params p.part made.0 distinct (none-satisfied ds) own_params fine made.1)
 static-by ds book d p chain false distinct own_params fine is = absurd (false≢true is)
 

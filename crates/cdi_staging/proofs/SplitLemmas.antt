@@ -8,19 +8,22 @@ use Rattle.cdi_model.specs.declared.decl.BeanDecl.{BeanDecl}
 use Rattle.cdi_model.specs.declared.decl.Decl.{Decl}
 use Rattle.cdi_model.specs.declared.decl.Decl.TheVariants as decls
 use Rattle.cdi_model.specs.declared.decl.InterceptorDecl.{InterceptorDecl}
+use Rattle.cdi_model.specs.declared.decl.ObserverDecl.{ObserverDecl}
 use Rattle.cdi_model.specs.declared.decl.PointDecl.{PointDecl}
 use Rattle.cdi_model.specs.declared.decl.ProducerDecl.{ProducerDecl}
 use Rattle.cdi_bodies.specs.Book.{Promised}
+use Rattle.cdi_scene.specs.declared.scene.Bean.{Bean}
+use Rattle.cdi_scene.specs.declared.scene.Observer.{Observer}
 use Rattle.cdi_effective.specs.Beans.{beans, entries, records, product, managed}
 use Rattle.cdi_effective.specs.declared.records.Effective.{Effective}
 use Rattle.cdi_resolve.specs.declared.choice.Choice.{Choice}
 use Rattle.cdi_intercept.specs.Chains.{interceptors, is_enabled}
 use Rattle.cdi_observe.specs.Answers.{answer_to, answers_of}
-use Rattle.cdi_observe.specs.Wanted.{points_of}
+use Rattle.cdi_observe.specs.Wanted.{observer_choices, own_choices, params_of, points_of, product_choices}
 use Rattle.cdi_staging.specs.Sites.{Sight, target_of, own_sight}
 use Rattle.cdi_staging.specs.Staged.{Around, Class, around_of, class_of, targets, sight_of, managed_bean, product_bean, products_by}
 use Rattle.cdi_staging.specs.Staged.{beans_by}
-use Rattle.cdi_staging.specs.Staged.{staged_beans, staged_product}
+use Rattle.cdi_staging.specs.Staged.{observers_by, staged_beans, staged_managed, staged_observer, staged_product}
 use Rattle.cdi_staging.specs.declared.target.Target.{Target}
 
 -- ---- what is chosen for some injection points, in front of what is for others
@@ -57,22 +60,44 @@ products-staged ds book bean (p ∷ ps) =
     ∙ ap (λ rest. made (targets ds p.params) (product ds bean p) rest) (behind ds p.params others)
     ∙ ap (λ bs. staged_product ds book bean p ∷ bs) (products-staged ds book bean ps)
 
+observers-staged : (ds : List Decl) (book : List Promised) (bean : BeanDecl) (os : List ObserverDecl)
+    → observers_by ds (beans ds) book (sight_of ds bean) (class_of ds bean) os (targets ds (flat_map (λ o. o.params) os))
+    ≡ map (λ o. staged_observer ds (beans ds) book (sight_of ds bean) (class_of ds bean) o (targets ds o.params)) os
+observers-staged ds book bean [] = refl
+observers-staged ds book bean (o ∷ os) =
+    let others = flat_map (λ p. p.params) os in
+    let all = targets ds (o.params ++ others) in
+    let staged : List Target → Observer = λ own. staged_observer ds (beans ds) book (sight_of ds bean) (class_of ds bean) o own in
+    let behind_it : List Target → List Observer = λ rest. observers_by ds (beans ds) book (sight_of ds bean) (class_of ds bean) os rest in
+    ap (λ own. staged own ∷ behind_it (drop (length o.params) all)) (in_front ds o.params others)
+    ∙ ap (λ rest. staged (targets ds o.params) ∷ behind_it rest) (behind ds o.params others)
+    ∙ ap (λ more. staged (targets ds o.params) ∷ more) (observers-staged ds book bean os)
+
 -- the beans that records and choices give are those of the declaration
 pub beans-staged : (ds : List Decl) (book : List Promised) (bean : BeanDecl)
     → beans_by ds (beans ds) book (around_of ds) bean (records ds bean) (targets ds (points_of (decls.Bean bean)))
     ≡ staged_beans ds book (decls.Bean bean)
 unfolding staged_beans
 beans-staged ds book bean =
-    let others = flat_map (λ q. q.params) bean.producers in
+    let params = params_of bean.producers in
+    let observed = flat_map (λ o. o.params) bean.observers in
+    let others = params ++ observed in
     let all = targets ds (bean.points ++ others) in
-    let made : List Target → List Target → _ = λ own rest.
-    managed_bean ds (beans ds) book (own_sight bean.points own) (class_of ds bean) (managed ds bean)
+    let with_observers : List Target → List Observer → List Target → List Bean = λ own os of_products.
+    managed_bean ds (beans ds) book (own_sight bean.points own) (class_of ds bean) (managed ds bean) os
     ∷ products_by ds (beans ds) book (own_sight bean.points own) (class_of ds bean)
-    (map (product ds bean) bean.producers) bean.producers rest in
-    ap (λ own. made own (drop (length bean.points) all)) (in_front ds bean.points others)
-    ∙ ap (λ rest. made (targets ds bean.points) rest) (behind ds bean.points others)
-    ∙ ap (λ bs. managed_bean ds (beans ds) book (sight_of ds bean) (class_of ds bean) (managed ds bean) ∷ bs)
-    (products-staged ds book bean bean.producers)
+    (map (product ds bean) bean.producers) bean.producers of_products in
+    let made : List Target → List Target → List Target → List Bean = λ own of_products of_observers.
+    with_observers own (observers_by ds (beans ds) book (own_sight bean.points own) (class_of ds bean) bean.observers of_observers)
+    of_products in
+    ap (λ ps. made (own_choices bean (targets ds ps)) (product_choices bean (targets ds ps)) (observer_choices bean (targets ds ps)))
+    (append_assoc bean.points params observed)
+    ∙ ap (λ own. made own (product_choices bean all) (observer_choices bean all)) (in_front ds bean.points others)
+    ∙ ap (λ rest. made (targets ds bean.points) (take (length params) rest) (drop (length params) rest)) (behind ds bean.points others)
+    ∙ ap (λ own. made (targets ds bean.points) own (drop (length params) (targets ds others))) (in_front ds params observed)
+    ∙ ap (λ rest. made (targets ds bean.points) (targets ds params) rest) (behind ds params observed)
+    ∙ ap (λ os. with_observers (targets ds bean.points) os (targets ds params)) (observers-staged ds book bean bean.observers)
+    ∙ ap (λ bs. staged_managed ds book bean ∷ bs) (products-staged ds book bean bean.producers)
 
 -- where no record or no producer method is left no product is
 pub no-product : (ds : List Decl) (list : List Effective) (book : List Promised) (own : Sight) (c : Class) (xs : List Effective)
