@@ -7,15 +7,18 @@ use Rattle.std.proofs.lemmas.Bool.{false≢true, true≢false, not-false}
 use Rattle.std.proofs.lemmas.Bool.Decides.{nat_tests}
 use Rattle.std.proofs.lemmas.List.{map-append}
 use Rattle.cdi_model.specs.Decl.{kind_of, name_of_decl}
-use Rattle.cdi_model.specs.Short.{AreShort, HasFewCalls, IsShortBean, IsShortInterceptor}
+use Rattle.cdi_model.specs.Short.{AreShort, IsShortPart, IsShortBean, IsShortInterceptor}
 use Rattle.cdi_model.specs.declared.decl.BeanDecl.{BeanDecl}
 use Rattle.cdi_model.specs.declared.decl.CallDecl.{CallDecl}
 use Rattle.cdi_model.specs.declared.decl.Decl.{Decl}
 use Rattle.cdi_model.specs.declared.decl.Decl.TheVariants as decls
 use Rattle.cdi_model.specs.declared.decl.InterceptorDecl.{InterceptorDecl}
+use Rattle.cdi_model.specs.declared.decl.ObserverDecl.{ObserverDecl}
 use Rattle.cdi_model.specs.declared.decl.PartDecl.{PartDecl}
 use Rattle.cdi_model.specs.declared.decl.PointDecl.{PointDecl}
 use Rattle.cdi_model.specs.declared.decl.ProducerDecl.{ProducerDecl}
+use Rattle.cdi_model.specs.declared.mention.PointPlace.{PointPlace}
+use Rattle.cdi_model.specs.declared.mention.PointPlace.TheVariants as points_are
 use Rattle.cdi_bodies.specs.Book.{Promised, promise_of}
 use Rattle.cdi_bodies.specs.Flags as flags
 use Rattle.cdi_bodies.specs.declared.promise.Promise.{Promise}
@@ -43,14 +46,14 @@ use Rattle.cdi_validate.specs.Faults.{faults, faults_of, faults_of_code}
 use Rattle.cdi_subjects.specs.Subjects.{subjects_at_fault}
 use Rattle.cdi_subjects.specs.Parts.{allowed_to, is_fit, unfit, unfit_callbacks, unfit_methods, unfit_part}
 use Rattle.cdi_subjects.specs.Parts.{unfit_producers}
-use Rattle.cdi_subjects.specs.Parts.{unfit_disposers}
+use Rattle.cdi_subjects.specs.Parts.{unfit_disposers, unfit_observers}
 use Rattle.cdi_subjects.specs.Sites.{choice_at, has_method, is_lost, is_lost_among, lacks_method, lost_call}
 use Rattle.cdi_subjects.specs.Sites.{lost_calls}
-use Rattle.cdi_subjects.specs.Sites.{lost_in_managed, lost_in_part, lost_in_producer, where_enabled}
+use Rattle.cdi_subjects.specs.Sites.{lost_in_managed, lost_in_observer, lost_in_part, lost_in_producer, where_enabled}
 use Rattle.cdi_subjects.specs.Sites.{sight_of as sight_at}
 use Rattle.cdi_staging.specs.Faultless.{AreFine, AreFineAround, IsFineAround}
 use Rattle.cdi_staging.specs.Faultless.{AreSatisfied, FaultlessIsSound, IsFineManaged, IsFinePart}
-use Rattle.cdi_staging.specs.Faultless.{IsFineProducer, IsFit, IsLed, seen_by}
+use Rattle.cdi_staging.specs.Faultless.{IsFineObserver, IsFineProducer, IsFit, IsLed, seen_by}
 use Rattle.cdi_staging.specs.Sites.{is_point}
 use Rattle.cdi_staging.proofs.SceneLemmas.{fine_is_sound}
 
@@ -178,30 +181,30 @@ abbrev ambiguous : PointDecl → Choice → Bool
 ambiguous point choice = is_ambiguous choice
 
 -- no point has a choice that the test finds
-none-found : (test : PointDecl → Choice → Bool) (ds : List Decl) (producer : Option (List ℕ))
+none-found : (test : PointDecl → Choice → Bool) (ds : List Decl) (place : PointPlace)
     (points : List PointDecl) (k : ℕ) (point : PointDecl)
-    → points_such test ds producer points ≡ [] → slice_get points k ≡ Some point
+    → points_such test ds place points ≡ [] → slice_get points k ≡ Some point
     → test point (answer_to ds point) ≡ false
-none-found test ds producer points k point none at =
+none-found test ds place points k point none at =
     filter-empty (λ p. test p (answer_to ds p)) points k point
-    (map-empty (λ p. subjects.Point producer p.name) (filter (λ p. test p (answer_to ds p)) points) none) at
+    (map-empty (λ p. subjects.Point place p.name) (filter (λ p. test p (answer_to ds p)) points) none) at
 
-satisfied-by : (ds : List Decl) (producer : Option (List ℕ)) (points : List PointDecl)
-    → points_such unsatisfied ds producer points ≡ []
-    → points_such ambiguous ds producer points ≡ [] → AreSatisfied ds points
-satisfied-by ds producer points some single k point at =
+satisfied-by : (ds : List Decl) (place : PointPlace) (points : List PointDecl)
+    → points_such unsatisfied ds place points ≡ []
+    → points_such ambiguous ds place points ≡ [] → AreSatisfied ds points
+satisfied-by ds place points some single k point at =
     let one = one-chosen (answer_to ds point)
-    (none-found unsatisfied ds producer points k point some at)
-    (none-found ambiguous ds producer points k point single at) in
+    (none-found unsatisfied ds place points k point some at)
+    (none-found ambiguous ds place points k point single at) in
     record { id = one.0; chosen = one.1 }
 
 -- the same of an enabled bean
-satisfied : (ds : List Decl) (bean : Effective) (producer : Option (List ℕ)) (points : List PointDecl)
+satisfied : (ds : List Decl) (bean : Effective) (place : PointPlace) (points : List PointDecl)
     → bean.is_enabled ≡ true
-    → points_with unsatisfied ds bean producer points ≡ []
-    → points_with ambiguous ds bean producer points ≡ [] → AreSatisfied ds points
-satisfied ds bean producer points enabled some single =
-    satisfied-by ds producer points (where-true bean.is_enabled _ enabled some) (where-true bean.is_enabled _ enabled single)
+    → points_with unsatisfied ds bean place points ≡ []
+    → points_with ambiguous ds bean place points ≡ [] → AreSatisfied ds points
+satisfied ds bean place points enabled some single =
+    satisfied-by ds place points (where-true bean.is_enabled _ enabled some) (where-true bean.is_enabled _ enabled single)
 
 -- ---- call sites
 
@@ -243,25 +246,25 @@ all-led ds points place calls none k call at =
 
 fine-part : (ds : List Decl) (book : List Promised) (allowed : ℕ) (place : PartPlace) (points : List PointDecl)
     (part : PartDecl)
-    → HasFewCalls part → unfit book allowed place part.body ≡ []
+    → IsShortPart part → unfit book allowed place part.body ≡ []
     → lost_calls ds (sight_at ds points) place part.calls ≡ []
     → IsFinePart ds book allowed points part
-fine-part ds book allowed place points part few fits found = record {
+fine-part ds book allowed place points part short fits found = record {
   body = fit book allowed place part.body fits;
-  few = few;
+  short = short;
   calls = all-led ds points place part.calls found;
 }
 
 -- a part that may be there
 fine-some : (ds : List Decl) (book : List Promised) (allowed : ℕ) (place : PartPlace) (points : List PointDecl)
     (o : Option PartDecl)
-    → ((part : PartDecl) → o ≡ Some part → HasFewCalls part) → unfit_part book allowed place o ≡ []
+    → ((part : PartDecl) → o ≡ Some part → IsShortPart part) → unfit_part book allowed place o ≡ []
     → lost_in_part ds (sight_at ds points) place o ≡ [] → (part : PartDecl) → o ≡ Some part
     → IsFinePart ds book allowed points part
-fine-some ds book allowed place points None few fits found part is = absurd (cc)
-fine-some ds book allowed place points (Some p) few fits found part is =
+fine-some ds book allowed place points None short fits found part is = absurd (cc)
+fine-some ds book allowed place points (Some p) short fits found part is =
     let same : p ≡ part = cc in
-    subst (IsFinePart ds book allowed points) same (fine-part ds book allowed place points p (few p refl) fits found)
+    subst (IsFinePart ds book allowed points) same (fine-part ds book allowed place points p (short p refl) fits found)
 
 -- ---- what is known of a bean
 
@@ -272,21 +275,79 @@ record HasNone (ds : List Decl) (book : List Promised) (bean : BeanDecl) : Type 
   pub ambiguous : subjects_at_fault codes_of.Ambiguous ds book (decls.Bean bean) ≡ []
   pub site : subjects_at_fault codes_of.Site ds book (decls.Bean bean) ≡ []
 
+-- what is at fault of the parameters of its producer methods and of its observer methods
+abbrev params_of_product : (PointDecl → Choice → Bool) → List Decl → BeanDecl → ProducerDecl → List Subject
+params_of_product test ds bean p = points_with test ds (product ds bean p) (points_are.Producer p.name) p.params
+
+abbrev params_of_products : (PointDecl → Choice → Bool) → List Decl → BeanDecl → List Subject
+params_of_products test ds bean = flat_map (params_of_product test ds bean) bean.producers
+
+abbrev params_of_observer : (PointDecl → Choice → Bool) → List Decl → BeanDecl → ObserverDecl → List Subject
+params_of_observer test ds bean o = points_with test ds (managed ds bean) (points_are.Observer o.name) o.params
+
+abbrev params_of_observers : (PointDecl → Choice → Bool) → List Decl → BeanDecl → List Subject
+params_of_observers test ds bean = flat_map (params_of_observer test ds bean) bean.observers
+
+-- the call sites of these that are lost
+abbrev lost_of_product : List Decl → BeanDecl → ProducerDecl → List Subject
+lost_of_product ds bean p =
+    where_enabled (product ds bean p) (lost_in_producer ds (sight_at ds bean.points) (sight_at ds p.params) p)
+
+abbrev lost_of_products : List Decl → BeanDecl → List Subject
+lost_of_products ds bean = flat_map (lost_of_product ds bean) bean.producers
+
+abbrev lost_of_observer : List Decl → BeanDecl → ObserverDecl → List Subject
+lost_of_observer ds bean o =
+    where_enabled (managed ds bean) (lost_in_observer ds (sight_at ds bean.points) (sight_at ds o.params) o)
+
+abbrev lost_of_observers : List Decl → BeanDecl → List Subject
+lost_of_observers ds bean = flat_map (lost_of_observer ds bean) bean.observers
+
+-- a point, with what is chosen for it
+abbrev beside : List Decl → PointDecl → PointDecl × Choice
+beside ds point = (point, answer_to ds point)
+
+fine-observer : (ds : List Decl) (book : List Promised) (bean : BeanDecl) (k : ℕ) (observer : ObserverDecl) → HasNone ds book bean
+    → IsShortBean bean → slice_get bean.observers k ≡ Some observer → (managed ds bean).is_enabled ≡ true
+    → IsFineObserver ds book bean observer
+fine-observer ds book bean k observer none short at enabled =
+    let lost = where-true (managed ds bean).is_enabled
+    (lost_in_observer ds (sight_at ds bean.points) (sight_at ds observer.params) observer) enabled
+    (flat-empty (lost_of_observer ds bean) bean.observers k observer (second-empty _ (lost_of_observers ds bean) none.site) at) in
+    let own = short.observers k observer at in
+    record {
+      params = satisfied ds (managed ds bean) (points_are.Observer observer.name) observer.params enabled
+          (flat-empty (params_of_observer unsatisfied ds bean) bean.observers k observer
+          (second-empty _ (params_of_observers unsatisfied ds bean) none.unsatisfied) at)
+          (flat-empty (params_of_observer ambiguous ds bean) bean.observers k observer
+          (second-empty _ (params_of_observers ambiguous ds bean) none.ambiguous) at);
+      few = own.params;
+      part = fine-part ds book flags.at_instance (places.Observer observer.name) (observer.params ++ bean.points) observer.part own.part
+          (flat-empty (λ o. unfit book flags.at_instance (places.Observer o.name) o.part.body) bean.observers k observer
+          (second-empty _ (unfit_observers book bean.observers) none.body) at)
+          (subst (λ sight. lost_calls ds sight (places.Observer observer.name) observer.part.calls ≡ [])
+          (sym (map-append (beside ds) observer.params bean.points)) lost);
+    }
+
 fine-managed : (ds : List Decl) (book : List Promised) (bean : BeanDecl) → HasNone ds book bean → IsShortBean bean
     → (managed ds bean).is_enabled ≡ true → IsFineManaged ds book bean
 fine-managed ds book bean none short enabled =
     let sight = sight_at ds bean.points in
     let instance_parts = unfit_callbacks book bean ++ unfit_methods book bean.methods in
-    let of_callbacks = first-empty instance_parts _ (first-empty _ _ none.body) in
+    let of_callbacks = first-empty instance_parts _ (first-empty _ (unfit_disposers book bean.disposers)
+    (first-empty _ (unfit_observers book bean.observers) none.body)) in
     let callbacks = first-empty (unfit_callbacks book bean) _ of_callbacks in
     let early = first-empty _ _ callbacks in
     let own = where-true (managed ds bean).is_enabled (lost_in_managed ds sight bean) enabled
-    (first-empty _ _ none.site) in
+    (first-empty _ (lost_of_products ds bean) (first-empty _ (lost_of_observers ds bean) none.site)) in
     let of_parts = first-empty _ _ own in
     let of_early = first-empty _ _ of_parts in
     record {
-      points = satisfied ds (managed ds bean) None bean.points enabled (first-empty _ _ none.unsatisfied)
-          (first-empty _ _ none.ambiguous);
+      points = satisfied ds (managed ds bean) points_are.Constructor bean.points enabled
+          (first-empty _ (params_of_products unsatisfied ds bean)
+          (first-empty _ (params_of_observers unsatisfied ds bean) none.unsatisfied))
+          (first-empty _ (params_of_products ambiguous ds bean)
+          (first-empty _ (params_of_observers ambiguous ds bean) none.ambiguous));
       construct = fine-some ds book flags.at_instance places.Construct bean.points bean.construct short.construct
           (first-empty _ _ early) (first-empty _ _ of_early);
       post = fine-some ds book flags.at_instance places.Post bean.points bean.post short.post
@@ -300,6 +361,7 @@ fine-managed ds book bean none short enabled =
           (second-empty (unfit_callbacks book bean) _ of_callbacks) at)
           (flat-empty (λ m. lost_calls ds sight (places.Method m.name) m.part.calls) bean.methods k method
           (second-empty _ _ own) at);
+      observers = λ k observer at. fine-observer ds book bean k observer none short at enabled;
     }
 
 -- what a producer method sees, as points and as sight
@@ -308,47 +370,42 @@ seen-sight : (ds : List Decl) (bean : BeanDecl) (producer : ProducerDecl)
     (sight_at ds bean.points)
 seen-sight ds bean producer = by producer.is_static
   where
-    beside : PointDecl → PointDecl × Choice
-    beside point = (point, answer_to ds point)
-
     by : (s : Bool) → sight_at ds (producer.params ++ cond s [] bean.points)
         ≡ sight_at ds producer.params ++ cond s [] (sight_at ds bean.points)
-    by true = map-append beside producer.params []
-    by false = map-append beside producer.params bean.points
+    by true = map-append (beside ds) producer.params []
+    by false = map-append (beside ds) producer.params bean.points
 
 fine-producer : (ds : List Decl) (book : List Promised) (bean : BeanDecl) (k : ℕ) (producer : ProducerDecl)
     → HasNone ds book bean
     → IsShortBean bean → slice_get bean.producers k ≡ Some producer → (product ds bean producer).is_enabled ≡ true
     → IsFineProducer ds book bean producer
 fine-producer ds book bean k producer none short at enabled =
-    let own = sight_at ds bean.points in
-    let lost_in : ProducerDecl → List Subject = λ p. where_enabled (product ds bean p)
-    (lost_in_producer ds own (sight_at ds p.params) p) in
-    let own_lost = where_enabled (managed ds bean) (lost_in_managed ds own bean) in
+    let own_lost = where_enabled (managed ds bean) (lost_in_managed ds (sight_at ds bean.points) bean) in
     let lost = where-true (product ds bean producer).is_enabled
-    (lost_in_producer ds own (sight_at ds producer.params) producer) enabled
-    (flat-empty lost_in bean.producers k producer (second-empty own_lost _ none.site) at) in
-    let params_with : (PointDecl → Choice → Bool) → ProducerDecl → List Subject = λ test p.
-    points_with test ds (product ds bean p) (Some p.name) p.params in
-    let points_of : (PointDecl → Choice → Bool) → List Subject = λ test. points_with test ds (managed ds bean) None bean.points in
-    let few = short.producers k producer at in
+    (lost_in_producer ds (sight_at ds bean.points) (sight_at ds producer.params) producer) enabled
+    (flat-empty (lost_of_product ds bean) bean.producers k producer
+    (second-empty own_lost (lost_of_products ds bean) (first-empty _ (lost_of_observers ds bean) none.site)) at) in
+    let own = short.producers k producer at in
+    let of_disposers = first-empty _ (unfit_observers book bean.observers) none.body in
     record {
-      params = satisfied ds (product ds bean producer) (Some producer.name) producer.params enabled
-          (flat-empty (params_with unsatisfied) bean.producers k producer
-          (second-empty (points_of unsatisfied) _ none.unsatisfied) at)
-          (flat-empty (params_with ambiguous) bean.producers k producer
-          (second-empty (points_of ambiguous) _ none.ambiguous) at);
-      few = few.params;
+      params = satisfied ds (product ds bean producer) (points_are.Producer producer.name) producer.params enabled
+          (flat-empty (params_of_product unsatisfied ds bean) bean.producers k producer
+          (second-empty _ (params_of_products unsatisfied ds bean)
+          (first-empty _ (params_of_observers unsatisfied ds bean) none.unsatisfied)) at)
+          (flat-empty (params_of_product ambiguous ds bean) bean.producers k producer
+          (second-empty _ (params_of_products ambiguous ds bean)
+          (first-empty _ (params_of_observers ambiguous ds bean) none.ambiguous)) at);
+      few = own.params;
       part = fine-part ds book (allowed_to producer) (places.Producer producer.name) (seen_by bean producer)
-          producer.part few.calls
+          producer.part own.part
           (flat-empty (λ p. unfit book (allowed_to p) (places.Producer p.name) p.part.body) bean.producers k producer
           (second-empty _ (unfit_producers book bean.producers)
-          (first-empty _ (unfit_disposers book bean.disposers) none.body)) at)
+          (first-empty _ (unfit_disposers book bean.disposers) of_disposers)) at)
           (subst (λ sight. lost_calls ds sight (places.Producer producer.name) producer.part.calls ≡ [])
           (sym (seen-sight ds bean producer)) lost);
       disposers = λ j disposer here. fit book flags.at_disposal (places.Disposer disposer.name) disposer.body
           (flat-empty (λ d. unfit book flags.at_disposal (places.Disposer d.name) d.body) bean.disposers j disposer
-          (second-empty _ (unfit_disposers book bean.disposers) none.body) here);
+          (second-empty _ (unfit_disposers book bean.disposers) of_disposers) here);
     }
 
 -- ---- what is known of an interceptor
@@ -370,7 +427,7 @@ fine-around ds book i none short enabled =
     let lost_three = first-empty _ _ lost in
     let lost_two = first-empty _ _ lost_three in
     record {
-      points = satisfied-by ds None i.points (where-true (is_enabled i) _ enabled none.unsatisfied)
+      points = satisfied-by ds points_are.Constructor i.points (where-true (is_enabled i) _ enabled none.unsatisfied)
           (where-true (is_enabled i) _ enabled none.ambiguous);
       around_invoke = fine-some ds book flags.around places.AroundInvoke i.points i.around_invoke short.around_invoke
           (first-empty _ _ two) (first-empty _ _ lost_two);

@@ -1,0 +1,8 @@
+use Rattle.std.proofs.Common.{◌≡◌, drop}
+use Rattle.std.specs.List.{position, position_from}
+use Rattle.cdi_staging.specs.Notifying.{is_observer}
+use Rattle.cdi_staging.proofs.notifying.observer_named.Given as goal
+
+abbrev pub invariant-loop-place : goal.invariant-loop-place
+invariant-loop-place l =
+    position_from (is_observer l.name) l.place (drop l.place l.observers) ≡ position (is_observer l.name) l.observers
