@@ -1,6 +1,6 @@
 -- Interceptors in the scene: where they stand, what is chosen for their injection points, and their bodies.
-use Rattle.std.proofs.Common.{◌≡◌, ◌+◌, ℕ, zero, suc, Bool, true, false, cond, List, [], ◌∷◌, ◌++◌, map, length}
-use Rattle.std.proofs.Common.{Option, Some, None, is_some, option_map, refl, sym, subst, ap, ◌∙◌, inl, inr, ◌⊎◌, arith}
+use Rattle.std.proofs.Common.{◌≡◌, ◌+◌, ℕ, zero, suc, Bool, true, false, cond, List, [], ◌∷◌, ◌++◌, map}
+use Rattle.std.proofs.Common.{Option, Some, None, is_some, option_map, refl, sym, subst, ap, ◌∙◌, inl, inr, arith}
 use Rattle.std.specs.List.{slice_get}
 use Rattle.std.specs.Option.{option_and_then}
 use Rattle.std.specs.Int.RustNames.{bit_and}
@@ -36,7 +36,7 @@ use Rattle.cdi_staging.specs.Faultless.{AreFineAround, IsFineAround, IsFinePart}
 use Rattle.cdi_staging.specs.Notifying.{fired_at}
 use Rattle.cdi_staging.specs.Sites.{site_of}
 use Rattle.cdi_staging.specs.Staged.{Around, around_of, chain_at, class_of, injections_around, injections_from, managed_form, places_from}
-use Rattle.cdi_staging.specs.Staged.{scene_of, sight_of, staged_interceptor, staged_part, targets}
+use Rattle.cdi_staging.specs.Staged.{scene_of, staged_interceptor, staged_part, targets}
 use Rattle.cdi_staging.specs.declared.target.Target.{Target}
 use Rattle.cdi_staging.proofs.BesideLemmas.{from-map, in-append-left, in-append-right, in-one}
 use Rattle.cdi_staging.proofs.PartLemmas.{NamesVia, part-sound, seen}

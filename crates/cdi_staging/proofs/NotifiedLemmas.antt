@@ -23,7 +23,7 @@ use Rattle.cdi_staging.specs.Notifying.{is_observer, notified_as, notified_at, o
 use Rattle.cdi_staging.specs.Sites.{position_of_class}
 use Rattle.cdi_staging.specs.Staged.{class_of, managed_form, scene_of, sight_of, staged_observer, targets}
 use Rattle.cdi_staging.proofs.BesideLemmas.{found, from-filter, from-flat, from-map, from-sorted, second-at}
-use Rattle.cdi_staging.proofs.ChosenLemmas.{Stands, all-stand, bean-found, host-used, managed-id, named-decl, of-none}
+use Rattle.cdi_staging.proofs.ChosenLemmas.{Stands, all-stand, bean-found, host-used, named-decl, of-none}
 
 -- ---- whose observer methods they are
 
@@ -107,9 +107,9 @@ stands ds book o distinct of =
     (record {
       observer = made first.value;
       there = ap (λ one. elim one [
-          | Some managed_bean ↦ slice_get managed_bean.observers (observer_declared (find_bean m.decl.name ds) o.method.name)
-          | None ↦ None
-        ]) used
+        | Some managed_bean ↦ slice_get managed_bean.observers (observer_declared (find_bean m.decl.name ds) o.method.name)
+        | None ↦ None
+      ]) used
           ∙ ap (slice_get (map made m.decl.observers)) place
           ∙ slice_get-map made m.decl.observers first.place
           ∙ ap (option_map made) first.there;

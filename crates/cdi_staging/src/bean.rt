@@ -12,7 +12,9 @@ use crate::stage::Stage;
 use crate::target::{Target, position_of_class};
 use cdi_bodies::Bodies;
 use cdi_effective::{Effective, disposer_of};
-use cdi_model::{BeanDecl, BeanPlace, DisposerDecl, Ident, ObserverDecl, PointDecl, ProducerDecl, Seq};
+use cdi_model::{
+    BeanDecl, BeanPlace, DisposerDecl, Ident, ObserverDecl, PointDecl, ProducerDecl, Seq,
+};
 use cdi_resolve::BeanList;
 use cdi_scene::{Bean, Form, Managed, Observer, Part, Product};
 use std::alloc::{AllocError, Global};

@@ -19,6 +19,6 @@ returns g c =
 
 pub split_at-requires : goal.split_at-requires
 split_at-requires g c =
-    let room = enough (λ p. p.params) c.loop-effective.rest.now (iter_rest c.loop-effective.effective-iterator.b) (iter_rest c.next.new.self.b)
-    c.in-Some.producer.now c.in-Some.ensures.steps.1 c.loop-effective.invariant.chosen in
+    let room = enough (λ p. p.params) c.loop-effective.rest.now (iter_rest c.loop-effective.effective-iterator.b)
+    (iter_rest c.next.new.self.b) c.in-Some.producer.now c.in-Some.ensures.steps.1 c.loop-effective.invariant.chosen in
     omega (arith, room)
