@@ -77,9 +77,12 @@ aim_of ds book asked = aim_faultless ds (length (faults ds book)) asked
 
 -- ---- events
 
+abbrev pub names_default : List Qual → Bool
+names_default quals = list_any (λ u. bytes_eq u.name (codes "Default")) quals
+
 -- the type and the qualifiers of an event are known, and `Default` is none of these (profile)
 abbrev pub can_be_fired : List Decl → List ℕ → List Qual → Bool
-can_be_fired ds t quals = are_known ds t quals && not (list_any (λ u. bytes_eq u.name (codes "Default")) quals)
+can_be_fired ds t quals = are_known ds t quals && not (names_default quals)
 
 abbrev pub fired_known : List Decl → List ℕ → List Qual → Result (List Notified) Refusal
 fired_known ds t quals = if can_be_fired ds t quals then Ok (notified_at ds (beans ds) t quals) else Err refusals.UnknownName

@@ -4,9 +4,10 @@ ghost use Rattle.cdi_model.specs.Answering.{Answers};
 ghost use Rattle.cdi_effective.specs.Beans.{beans as beans_of};
 ghost use Rattle.cdi_staging.specs.Sites.{managed_class};
 ghost use Rattle.cdi_container.specs.Asked.{wanted_of, aim_of_choice, aim_for, asked_for, can_be_fired};
+ghost use Rattle.cdi_container.specs.Asked.{names_default};
 
 use cdi_effective::BeanId;
-use cdi_model::{Decls, Error, Ident, Name, Quals, Refusal, Val, Work};
+use cdi_model::{Decls, Error, Ident, Name, Qual, Quals, Refusal, Val, Work};
 use cdi_resolve::{BeanList, Choice};
 use cdi_run::Wanted;
 use cdi_staging::{method_of, target_of};
@@ -96,9 +97,13 @@ fn wanted_of(
 pub(crate) fn can_be_fired(decls: &Decls, event_type: Name, quals: &Quals) -> bool
     ensures { result ≡ can_be_fired decls.now event_type quals.now }
 {
-    let names_default = quals
-        .as_slice()
+    are_known(decls, event_type, quals) && !names_default(quals.as_slice())
+}
+
+fn names_default(quals: &[Qual]) -> bool
+    ensures { result ≡ names_default quals.now }
+{
+    quals
         .iter()
-        .any(|have| have.name.as_bytes() == b"Default".as_slice());
-    are_known(decls, event_type, quals) && !names_default
+        .any(|have| have.name.as_bytes() == b"Default".as_slice())
 }
