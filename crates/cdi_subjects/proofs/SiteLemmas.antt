@@ -61,7 +61,8 @@ lost_by_each ds bean own (p ∷ ps) =
     let b = product ds bean p in
     let bs = map (product ds bean) ps in
     ap (λ params. where_enabled b (lost_in_producer ds own params p)
-    ++ lost_by_products ds own bs ps (drop (length p.params) (map (answer_to ds) (p.params ++ params_of ps)))) (one_sight ds p.params (params_of ps))
+    ++ lost_by_products ds own bs ps (drop (length p.params) (map (answer_to ds) (p.params ++ params_of ps))))
+    (one_sight ds p.params (params_of ps))
     ∙ ap (λ cs. where_enabled b (lost_in_producer ds own (sight_of ds p.params) p) ++ lost_by_products ds own bs ps cs)
     (further_choices (answer_to ds) p.params (params_of ps))
     ∙ ap (λ ms. where_enabled b (lost_in_producer ds own (sight_of ds p.params) p) ++ ms) (lost_by_each ds bean own ps)
@@ -72,7 +73,8 @@ lost_by_observing : (ds : List Decl) (own : Sight) (b : Effective) (os : List Ob
 lost_by_observing ds own b [] = refl
 lost_by_observing ds own b (o ∷ os) =
     ap (λ params. where_enabled b (lost_in_observer ds own params o)
-    ++ lost_by_observers ds own b os (drop (length o.params) (map (answer_to ds) (o.params ++ observed os)))) (one_sight ds o.params (observed os))
+    ++ lost_by_observers ds own b os (drop (length o.params) (map (answer_to ds) (o.params ++ observed os))))
+    (one_sight ds o.params (observed os))
     ∙ ap (λ cs. where_enabled b (lost_in_observer ds own (sight_of ds o.params) o) ++ lost_by_observers ds own b os cs)
     (further_choices (answer_to ds) o.params (observed os))
     ∙ ap (λ ms. where_enabled b (lost_in_observer ds own (sight_of ds o.params) o) ++ ms) (lost_by_observing ds own b os)
@@ -112,16 +114,18 @@ pub lost_by_cut : {A : Type 0} (value : A → Choice) (ds : List Decl) (bean : B
     ++ lost_by_observers ds (zip points (map value own)) b observers (map value of_observers)
     ≡ lost_by ds (decls.Bean bean) (b ∷ bs) (map value answers)
 lost_by_cut value ds bean b bs points producers observers answers own of_products of_observers at made seen cut =
+    let choices = map value answers in
+    let firsts = map value of_products in
+    let lasts = map value of_observers in
+    let sight = zip bean.points (own_choices bean choices) in
     let all = λ (sight : Sight) (ps : List ProducerDecl) (cs : List Choice) (os : List ObserverDecl) (ks : List Choice).
     where_enabled b (lost_in_managed ds sight bean) ++ lost_by_products ds sight bs ps cs ++ lost_by_observers ds sight b os ks in
-    ap (λ ps. all (zip ps (map value own)) producers (map value of_products) observers (map value of_observers)) at
-    ∙ ap (λ cs. all (zip bean.points cs) producers (map value of_products) observers (map value of_observers)) cut.own
-    ∙ ap (λ ps. all (zip bean.points (own_choices bean (map value answers))) ps (map value of_products) observers (map value of_observers)) made
-    ∙ ap (λ cs. all (zip bean.points (own_choices bean (map value answers))) bean.producers cs observers (map value of_observers)) cut.products
-    ∙ ap (λ os. all (zip bean.points (own_choices bean (map value answers))) bean.producers (product_choices bean (map value answers)) os
-    (map value of_observers)) seen
-    ∙ ap (λ ks. all (zip bean.points (own_choices bean (map value answers))) bean.producers (product_choices bean (map value answers))
-    bean.observers ks) cut.observers
+    ap (λ ps. all (zip ps (map value own)) producers firsts observers lasts) at
+    ∙ ap (λ cs. all (zip bean.points cs) producers firsts observers lasts) cut.own
+    ∙ ap (λ ps. all sight ps firsts observers lasts) made
+    ∙ ap (λ cs. all sight bean.producers cs observers lasts) cut.products
+    ∙ ap (λ os. all sight bean.producers (product_choices bean choices) os lasts) seen
+    ∙ ap (λ ks. all sight bean.producers (product_choices bean choices) bean.observers ks) cut.observers
 
 -- where no record or no producer method is left nothing is lost
 pub none_lost : (ds : List Decl) (own : Sight) (bs : List Effective) (ps : List ProducerDecl) (choices : List Choice)

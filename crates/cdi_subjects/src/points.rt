@@ -58,19 +58,21 @@ pub(crate) fn points_at_fault(
 {
     let mut subjects = Vec::new(alloc);
     match decl {
-        Decl::Bean(bean) => push_of_bean(
-            alloc,
-            decls,
-            bean,
-            beans,
-            answers,
-            verdict,
-            &mut subjects,
-        )?,
+        Decl::Bean(bean) => {
+            push_of_bean(alloc, decls, bean, beans, answers, verdict, &mut subjects)?;
+        }
         Decl::Interceptor(interceptor) if interceptor.priority.is_some() => {
             let points = interceptor.points.as_slice();
             let place = PointPlace::Constructor;
-            push_among(alloc, decls, &place, points, answers, verdict, &mut subjects)?;
+            push_among(
+                alloc,
+                decls,
+                &place,
+                points,
+                answers,
+                verdict,
+                &mut subjects,
+            )?;
         }
         _ => (),
     }
@@ -96,12 +98,14 @@ fn push_of_bean(
     };
     let (points, producers) = (bean.points.as_slice(), bean.producers.as_slice());
     let (own, rest) = answers.split_at(points.len());
-    let (of_products, of_observers) = split_params(producers, rest);
+    let (params, rest) = split_params(producers, rest);
     let place = PointPlace::Constructor;
-    push_at_fault(alloc, decls, managed, &place, points, own, verdict, subjects)?;
-    push_of_products(alloc, decls, products, producers, of_products, verdict, subjects)?;
+    push_at_fault(
+        alloc, decls, managed, &place, points, own, verdict, subjects,
+    )?;
+    push_of_products(alloc, decls, products, producers, params, verdict, subjects)?;
     let observers = bean.observers.as_slice();
-    push_of_observers(alloc, decls, managed, observers, of_observers, verdict, subjects)
+    push_of_observers(alloc, decls, managed, observers, rest, verdict, subjects)
 }
 
 /// Appends those of products.
@@ -123,7 +127,9 @@ fn push_of_products(
         let points = producer.params.as_slice();
         let (own, others) = rest.split_at(points.len());
         let place = PointPlace::Producer(producer.name);
-        push_at_fault(alloc, decls, product, &place, points, own, verdict, subjects)?;
+        push_at_fault(
+            alloc, decls, product, &place, points, own, verdict, subjects,
+        )?;
         rest = others;
     }
     Ok(())

@@ -14,11 +14,13 @@ use Rattle.cdi_validate.proofs.circles.add_needs_of.Goals as goal
 -- the choices in front and behind are those of the answers there
 front_choices : {A : Type 0} (value : A → Choice) (answers front : List A) (n m : ℕ) → front ≡ take n answers → n ≡ m
     → map value front ≡ take m (map value answers)
-front_choices value answers front n m is same = ap (map value) is ∙ sym (take-map value n answers) ∙ ap (λ k. take k (map value answers)) same
+front_choices value answers front n m is same =
+    ap (map value) is ∙ sym (take-map value n answers) ∙ ap (λ k. take k (map value answers)) same
 
 back_choices : {A : Type 0} (value : A → Choice) (answers back : List A) (n m : ℕ) → back ≡ drop n answers → n ≡ m
     → map value back ≡ drop m (map value answers)
-back_choices value answers back n m is same = ap (map value) is ∙ sym (drop-map value n answers) ∙ ap (λ k. drop k (map value answers)) same
+back_choices value answers back n m is same =
+    ap (map value) is ∙ sym (drop-map value n answers) ∙ ap (λ k. drop k (map value answers)) same
 
 pub loop-producer-init : goal.loop-producer-init
 loop-producer-init c =
@@ -90,5 +92,6 @@ returns c = λ x.
     sym (append-nil now)
     ∙ ap (λ ys. now ++ ys) (sym (between-none nodes x))
     ∙ ap (λ qs. now ++ between nodes (needs_of_products bean qs choices) x)
-    (sym (drop_all c.loop-producer.producer-index bean.producers (omega (arith, c.loop-producer-test.false, ap length c.as_slice-producer-items.ensures))))
+    (sym (drop_all c.loop-producer.producer-index bean.producers
+    (omega (arith, c.loop-producer-test.false, ap length c.as_slice-producer-items.ensures))))
     ∙ c.loop-producer.invariant.edges x
