@@ -183,7 +183,7 @@ bean-found ds k d distinct at = ap as_bean (found-own ds k (decls.Bean d) distin
 
 -- ---- what is chosen stands in the scene
 
-pub managed-id : (ds : List Decl) (d : BeanDecl) → ((managed ds d).id.class ≡ d.name) × ((managed ds d).id.producer ≡ None)
+managed-id : (ds : List Decl) (d : BeanDecl) → ((managed ds d).id.class ≡ d.name) × ((managed ds d).id.producer ≡ None)
 unfolding effective
 managed-id ds d = (refl, refl)
 

@@ -1,8 +1,8 @@
 -- The beans of a declaration, by its records and by what is chosen for all of its injection points.
 use Rattle.std.proofs.Common.{◌≡◌, ◌≤◌, ◌+◌, ℕ, Bool, true, cond, List, [], ◌∷◌, ◌++◌, map, filter, length, length-append}
-use Rattle.std.proofs.Common.{◌<◌, ◌-◌, get_or, append_assoc, take, drop, refl, sym, ap, ◌∙◌, ◌⊎◌, inl, inr, arith}
+use Rattle.std.proofs.Common.{◌<◌, get_or, append_assoc, take, drop, refl, sym, ap, ◌∙◌, ◌⊎◌, inl, inr, arith}
 use Rattle.std.specs.List.{flat_map}
-use Rattle.std.proofs.lemmas.List.{drop_at, drop_more, length-drop, length-map, map-append, nil_from_length, take_at}
+use Rattle.std.proofs.lemmas.List.{drop_at, drop_more, length-map, map-append, nil_from_length, take_at}
 use Rattle.std.proofs.lemmas.Simd.{map-map}
 use Rattle.cdi_model.specs.declared.decl.BeanDecl.{BeanDecl}
 use Rattle.cdi_model.specs.declared.decl.Decl.{Decl}
@@ -153,33 +153,6 @@ enough params rest ps others p begins left =
     ∙ ap (λ qs. length (flat_map params qs)) begins
     ∙ length-append (params p) (flat_map params others) in
     omega arith
-
--- and then for the ones behind it
-pub enough-behind : {A : Type 0} (params : A → List PointDecl) (rest : List Target) (ps others : List A) (p : A) → ps ≡ p ∷ others
-    → length rest ≡ length (flat_map params ps) → length (drop (length (params p)) rest) ≡ length (flat_map params others)
-enough-behind params rest ps others p begins left =
-    let all : length rest ≡ length (params p) + length (flat_map params others) = left
-    ∙ ap (λ qs. length (flat_map params qs)) begins
-    ∙ length-append (params p) (flat_map params others) in
-    let after : length (drop (length (params p)) rest) ≡ length rest - length (params p) = length-drop (length (params p)) rest in
-    omega arith
-
--- the observer methods before one, that one, and the ones behind it
-pub next-observer : (ds : List Decl) (list : List Effective) (book : List Promised) (own : Sight) (c : Class) (os : List ObserverDecl)
-    (i : ℕ) (o : ObserverDecl) (rest chosen others : List Target) (olds news : List Observer) (new : Observer) (all : List Observer)
-    → i < length os → o ≡ get_or os i o → chosen ≡ take (length o.params) rest → others ≡ drop (length o.params) rest
-    → news ≡ olds ++ new ∷ [] → new ≡ staged_observer ds list book own c o chosen
-    → olds ++ observers_by ds list book own c (drop i os) rest ≡ all
-    → news ++ observers_by ds list book own c (drop (i + 1) os) others ≡ all
-next-observer ds list book own c os i o rest chosen others olds news new all within here first second push is before =
-    let made : List Target → Observer = staged_observer ds list book own c o in
-    let behind_it : List Target → List Observer = observers_by ds list book own c (drop (i + 1) os) in
-    let next : drop i os ≡ o ∷ drop (i + 1) os = drop_more os i o within ∙ ap (λ y. y ∷ drop (i + 1) os) (sym here) in
-    ap (λ l. l ++ behind_it others) (push ∙ ap (λ y. olds ++ y ∷ []) (is ∙ ap made first))
-    ∙ append_assoc olds (made (take (length o.params) rest) ∷ []) (behind_it others)
-    ∙ ap (λ ts. olds ++ made (take (length o.params) rest) ∷ behind_it ts) second
-    ∙ ap (λ l. olds ++ observers_by ds list book own c l rest) (sym next)
-    ∙ before
 
 -- the records of the first declaration stand first
 pub first-records : (ds left others : List Decl) (d : Decl) (rest : List Effective) → left ≡ d ∷ others
