@@ -151,7 +151,12 @@ impl fmt::Display for EventDecl {
     ghost output = { λ event. Some (text_of_event event) };
 
     fn fmt<W: fmt::Write>(&self, f: &mut fmt::Formatter<W>) -> fmt::Result {
-        write!(f, "{}{}", self.event_type, Listed(self.qualifiers.as_slice()))
+        write!(
+            f,
+            "{}{}",
+            self.event_type,
+            Listed(self.qualifiers.as_slice())
+        )
     }
 }
 
