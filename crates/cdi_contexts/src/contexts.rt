@@ -97,6 +97,13 @@ impl Contexts {
         }
     }
 
+    /// The live instances, oldest first, those that are being created too.
+    pub fn instances(&self) -> &[Instance]
+        ensures { result.now ≡ self.now.standing.live }
+    {
+        self.live.as_slice()
+    }
+
     /// How many instances are live, those that are being created too.
     pub fn live(&self) -> usize
         ensures { result ≡ length self.now.standing.live }

@@ -64,7 +64,7 @@ found-such P f (x ∷ xs) i a e = by (f x.id x.owner) refl (found-such P f xs i 
 abbrev IsAlone : List Instance → Instance → Type 0
 IsAlone live i = AllByRecursion (λ z. z.id.number ≡ i.id.number → z.owner ≡ i.owner) live
 
-all-above : (low given : ℕ) (live : List Instance) → RisesFrom low given live
+pub all-above : (low given : ℕ) (live : List Instance) → RisesFrom low given live
     → AllByRecursion (λ z. low < z.id.number) live
 all-above low given [] r = tt
 all-above low given (i ∷ is) r =
@@ -136,7 +136,7 @@ inside K n actor p Nobody e k out = cc
 -- ---- steps of ends
 
 -- what holds of each live instance by its id and owner is kept where none begins
-all-step : (P : InstanceId → Owner → Type 0) (e : Entry) (s : Standing) → is_create e ≡ false
+pub all-step : (P : InstanceId → Owner → Type 0) (e : Entry) (s : Standing) → is_create e ≡ false
     → AllByRecursion (λ i. P i.id i.owner) s.live → AllByRecursion (λ i. P i.id i.owner) (step s e).live
 all-step P (entries.Create id owner) s h a = cc
 all-step P (entries.Ready id product) s h a =

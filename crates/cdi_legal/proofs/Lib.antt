@@ -9,3 +9,5 @@ pub mod Injecting
 pub mod Settling
 pub mod Reaching
 pub mod Supplying
+pub mod Rooting
+pub mod Housing

@@ -112,7 +112,7 @@ keeps-had s m m' i r step h =
     actor p)
     m.standing.live d (all-given 0 m.standing.given m.standing.live r) e).0 e) h
 
-same-given : (m : Moment) → m.standing.given ≤ m.standing.given
+pub same-given : (m : Moment) → m.standing.given ≤ m.standing.given
 same-given m = omega arith
 
 pub rises-after : {s : Scene} {k : ℕ} {x : Node} {a : Answer} {m m' : Moment} → Legal s k x m a m' → Begins x m
@@ -305,7 +305,7 @@ set_up {s} apart (Legal.produced_on_own _ _ i x _ b _ _ _ _ _ p0 p1 _ _ _ _ _ _)
 
 -- ---- what begins
 
-abbrev new_one : InstanceId → Owner → Moment → Instance
+abbrev pub new_one : InstanceId → Owner → Moment → Instance
 new_one i o m = record {
   id = record { bean = i.bean; number = m.standing.given + 1 };
   owner = o;

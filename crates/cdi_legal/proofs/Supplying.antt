@@ -15,13 +15,13 @@ use Rattle.cdi_legal.proofs.Injecting.{nat_cases, shared-clash}
 use Rattle.cdi_legal.proofs.Keeping.{Rises, WasGiven, given-more, owned-param}
 use Rattle.cdi_legal.proofs.Settling.{Begins, IsApart, Settled, created_has, has-after, legal_settled}
 
-kept-in : (h : Held) (x : Option InstanceId) (k : ℕ) (y : Option InstanceId) → slice_get h k ≡ Some y
+pub kept-in : (h : Held) (x : Option InstanceId) (k : ℕ) (y : Option InstanceId) → slice_get h k ≡ Some y
     → slice_get (h ++ x ∷ []) k ≡ Some y
 kept-in [] x k y e = cc
 kept-in (z ∷ h) x zero y e = e
 kept-in (z ∷ h) x (suc k) y e = kept-in h x k y e
 
-last-in : (h : Held) (x : Option InstanceId) → slice_get (h ++ x ∷ []) (length h) ≡ Some x
+pub last-in : (h : Held) (x : Option InstanceId) → slice_get (h ++ x ∷ []) (length h) ≡ Some x
 last-in [] x = refl
 last-in (z ∷ h) x = last-in h x
 

@@ -7,6 +7,7 @@ use Rattle.cdi_scene.specs.Sound.{Bodies, IsSound}
 use Rattle.cdi_scene.specs.declared.scene.Scene.{Scene}
 use Rattle.cdi_legal.specs.Furnished.{IsFurnished}
 use Rattle.cdi_legal.specs.LegalRun.{Command, LegalRun, LegalRequestEnd, LegalEnd}
+use Rattle.cdi_legal.specs.Rooted.{IsRooted}
 use Rattle.cdi_legal.specs.Single.{IsSingle}
 use Rattle.cdi_legal.specs.declared.entry.Entry.{Entry}
 
@@ -46,3 +47,17 @@ KeepsFurnished s before after =
 
 abbrev pub CommandsKeepFurnished : Type 0
 CommandsKeepFurnished = IsKeptByCommands KeepsFurnished
+
+-- where numbers rise, and each live instance stands in a context or was made for a live one before, this is so after
+abbrev pub KeepsRooted : Scene → Standing → Standing → Type 0
+KeepsRooted s before after =
+    IsRising before.given before.live → IsRooted before.live → IsRising after.given after.live × IsRooted after.live
+
+abbrev pub CommandsKeepRooted : Type 0
+CommandsKeepRooted = IsKeptByCommands KeepsRooted
+
+-- then the end of both contexts leaves no instance
+abbrev pub BothEndsLeaveNothing : Type 0
+BothEndsLeaveNothing =
+    (s : Scene) (before : Standing) (trace : List Entry) (after : Standing) → IsRising before.given before.live
+    → IsRooted before.live → LegalEnd s before trace after → after.live ≡ []

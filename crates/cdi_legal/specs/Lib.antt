@@ -5,8 +5,8 @@ pub mod Legal
 pub mod LegalRun
 pub mod Follows
 pub mod Grows
-pub mod Room
 pub mod Single
 pub mod Keeps
+pub mod Rooted
 pub mod Laws
 pub mod Furnished

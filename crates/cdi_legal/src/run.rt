@@ -4,7 +4,8 @@ ghost use Rattle.cdi_bodies.specs.Shown.{first_shown};
 ghost use Rattle.cdi_contexts.specs.Standing.{IsFull, IsLive, numbered, found, made_for, last_of, last_in, state_of};
 ghost use Rattle.cdi_contexts.specs.Standing.{begun, opened, closed, cleared};
 ghost use Rattle.cdi_contexts.specs.Rising.{IsOwnerOf, IsRising};
-ghost use Rattle.cdi_legal.specs.Laws.{CommandsKeepFurnished, CommandsKeepSingle, CommandsRaiseGiven, EmptyEnds};
+ghost use Rattle.cdi_legal.specs.Laws.{BothEndsLeaveNothing, CommandsKeepFurnished, CommandsKeepRooted, CommandsKeepSingle};
+ghost use Rattle.cdi_legal.specs.Laws.{CommandsRaiseGiven, EmptyEnds};
 ghost use Rattle.cdi_legal.specs.Moment.{Moment, Track, put, ask_more, beginning, is_create};
 ghost use Rattle.cdi_legal.specs.declared.entry.Entry.TheVariants.{Create};
 
@@ -59,7 +60,8 @@ impl Run {
 
     /// A command begins: the entries of the command before and its askings are cleared. It takes no memory.
     pub fn restart(&mut self)
-        ensures { self.new.moment ≡ beginning self.old.moment.standing }
+        ensures moment { self.new.moment ≡ beginning self.old.moment.standing }
+        ensures room { self.old.room ≤ self.new.room }
     {
         self.trace.clear();
         self.asked = 0;
@@ -169,6 +171,13 @@ impl Run {
         self.spare.end(frame);
     }
 
+    /// The live instances, oldest first, those that are being created too.
+    pub fn instances(&self) -> &[Instance]
+        ensures { result.now ≡ self.now.moment.standing.live }
+    {
+        self.contexts.instances()
+    }
+
     /// Whether a request is active.
     pub fn is_active(&self) -> bool
         ensures { result ≡ self.now.moment.standing.active }
@@ -246,6 +255,8 @@ impl Run {
         ensures given { CommandsRaiseGiven }
         ensures furnished { CommandsKeepFurnished }
         ensures empty { EmptyEnds }
+        ensures rooted { CommandsKeepRooted }
+        ensures nothing { BothEndsLeaveNothing }
     {
         (self.contexts, self.trace)
     }

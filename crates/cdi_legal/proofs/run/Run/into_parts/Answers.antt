@@ -1,4 +1,5 @@
 use Rattle.cdi_legal.proofs.Commands.{commands_keep_furnished, commands_keep_single, commands_raise_given, empty_ends}
+use Rattle.cdi_legal.proofs.Housing.{both_ends_leave_nothing, commands_keep_rooted}
 use Rattle.cdi_legal.proofs.run.Run.into_parts.Goals as goal
 
 pub returns-clause-single : goal.returns-clause-single
@@ -12,3 +13,9 @@ returns-clause-furnished c = commands_keep_furnished
 
 pub returns-clause-empty : goal.returns-clause-empty
 returns-clause-empty c = empty_ends
+
+pub returns-clause-rooted : goal.returns-clause-rooted
+returns-clause-rooted c = commands_keep_rooted
+
+pub returns-clause-nothing : goal.returns-clause-nothing
+returns-clause-nothing c = both_ends_leave_nothing

@@ -1,0 +1,346 @@
+-- Along what ends, each live instance keeps its home: its context, or the instance that it was made for.
+use Rattle.std.proofs.Common.{◌≡◌, ℕ, ◌<◌, ◌⊎◌, inl, inr, Bool, true, false, ◌==◌, cond, List, [], ◌∷◌}
+use Rattle.std.proofs.Common.{map, reverse, length, slice_get}
+use Rattle.std.proofs.Common.{Option, Some, None, IsSome, refl, arith, ap, subst, sym, ◌∙◌}
+use Rattle.std.specs.List.{find, AllByRecursion}
+use Rattle.std.specs.Option.{option_map, option_or}
+use Rattle.std.proofs.lemmas.List.{reverse-append}
+use Rattle.std.proofs.lemmas.List.Folds.{find-append}
+use Rattle.std.proofs.lemmas.Option.{slice_get_within}
+use Rattle.cdi_model.specs.declared.decl.Scope.{Scope}
+use Rattle.cdi_model.specs.declared.outcome.Outcome.{Outcome}
+use Rattle.cdi_bodies.specs.declared.act.Act.{Act}
+use Rattle.cdi_bodies.specs.declared.act.Act.TheVariants.{Load, Store, Call, Fire, Proceed, Return, Fail}
+use Rattle.cdi_contexts.specs.Owned.{is_of, is_part_of}
+use Rattle.cdi_contexts.specs.Standing.{Standing, numbered, without, keep, finish, last_where}
+use Rattle.cdi_contexts.specs.declared.instance.Actor.{Actor}
+use Rattle.cdi_contexts.specs.declared.instance.Actor.TheVariants.{Target, Interceptor}
+use Rattle.cdi_contexts.specs.declared.instance.Instance.{Instance}
+use Rattle.cdi_contexts.specs.declared.instance.InstanceId.{InstanceId}
+use Rattle.cdi_contexts.specs.declared.instance.Owner.{Owner}
+use Rattle.cdi_contexts.specs.declared.instance.Owner.TheVariants.{Request, Application, Point, Nobody}
+use Rattle.cdi_scene.specs.declared.scene.Scene.{Scene}
+use Rattle.cdi_legal.specs.Acts.{Touches}
+use Rattle.cdi_legal.specs.Ends.{Ends, End, Held, destroy, dependents, held, context}
+use Rattle.cdi_legal.specs.Keeps.{IsStill}
+use Rattle.cdi_legal.specs.Moment.{Moment, step, put, is_create}
+use Rattle.cdi_legal.specs.Rooted.{IsHome}
+use Rattle.cdi_legal.specs.declared.entry.Entry.{Entry}
+use Rattle.cdi_legal.specs.declared.entry.Entry.TheVariants as entries
+use Rattle.cdi_legal.proofs.Keeping.{Test, all-without, still-finish, still-keep, still-without}
+use Rattle.cdi_legal.proofs.Furnishing.{all-both, all-imply, all-step, ends-all, found-such, none-left}
+use Rattle.cdi_legal.proofs.Injecting.{nat_cases}
+
+-- ---- homes
+
+-- which instances need no home, by their number and their owner
+abbrev pub Free : Type 1
+Free = ℕ → Owner → Type 0
+
+-- each of the others has one
+abbrev pub AreHome : Free → List Instance → Type 0
+AreHome L live = AllByRecursion (λ z. IsHome live z.owner ⊎ L z.id.number z.owner) live
+
+-- what is live stays so
+abbrev pub Stay : List Instance → List Instance → Type 0
+Stay live after = (n : ℕ) → IsSome (numbered live n) → IsSome (numbered after n)
+
+abbrev pub of_number : ℕ → Test
+of_number n = λ id o. id.number == n
+
+pub some-of : {X : Type 0} (o : Option X) → IsSome o → (x : X) × (o ≡ Some x)
+some-of (Some x) h = (x, refl)
+some-of None h = cc
+
+pub is-some : {X : Type 0} (o : Option X) (x : X) → o ≡ Some x → IsSome o
+is-some (Some y) x e = refl
+is-some None x e = cc
+
+-- it is so where each instance that is found is still found
+pub stay-still : (live after : List Instance)
+    → ((n : ℕ) (i : Instance) → numbered live n ≡ Some i → IsStill i (numbered after n)) → Stay live after
+stay-still live after still n h =
+    let one = some-of (numbered live n) h in
+    let s = still n one.0 one.1 in
+    is-some (numbered after n) s.same s.there
+
+pub home-stay : (live after : List Instance) (o : Owner) → Stay live after → IsHome live o → IsHome after o
+home-stay live after (Point n actor p) stay h = stay n h
+home-stay live after Request stay h = tt
+home-stay live after Application stay h = tt
+home-stay live after Nobody stay h = absurd h
+
+-- ---- which need none
+
+-- one more, by its number
+abbrev pub Also : Free → ℕ → Free
+Also L k n o = L n o ⊎ (n ≡ k)
+
+-- and what was made for it
+abbrev pub AlsoParts : Free → ℕ → Free
+AlsoParts L k n o = L n o ⊎ (is_part_of k o ≡ true)
+
+pub wider : (L M : Free) (live : List Instance) → ((n : ℕ) (o : Owner) → L n o → M n o) → AreHome L live → AreHome M live
+wider L M live more a =
+    all-imply (λ z. IsHome live z.owner ⊎ L z.id.number z.owner) (λ z. IsHome live z.owner ⊎ M z.id.number z.owner) live
+    (λ z h. elim h [ inl home ↦ inl home | inr free ↦ inr (more z.id.number z.owner free) ]) a
+
+-- where none of the further ones is live, those that were needed none before are all
+pub narrower : (L M : Free) (live : List Instance) → AllByRecursion (λ z. M z.id.number z.owner → ⊥) live
+    → AreHome (λ n o. L n o ⊎ M n o) live → AreHome L live
+narrower L M live none a =
+    all-imply (λ z. Before z × (M z.id.number z.owner → ⊥)) (λ z. IsHome live z.owner ⊎ L z.id.number z.owner) live
+    (λ z h. by z h.0 h.1)
+    (all-both Before (λ z. M z.id.number z.owner → ⊥) live a none)
+  where
+    Before : Instance → Type 0
+    Before z = IsHome live z.owner ⊎ (L z.id.number z.owner ⊎ M z.id.number z.owner)
+
+    by : (z : Instance) → Before z → (M z.id.number z.owner → ⊥) → IsHome live z.owner ⊎ L z.id.number z.owner
+    by z (inl home) never = inl home
+    by z (inr (inl free)) never = inr free
+    by z (inr (inr more)) never = absurd (never more)
+
+-- ---- entries
+
+-- the entry begins no instance and takes none away
+abbrev pub IsCalm : Entry → Type 0
+IsCalm (entries.Create id owner) = ⊥
+IsCalm (entries.Ready id product) = Unit {0}
+IsCalm (entries.Broken id failure) = ⊥
+IsCalm (entries.Stored number actor value) = Unit {0}
+IsCalm (entries.Gone id) = ⊥
+IsCalm (entries.Enter seat arg) = Unit {0}
+IsCalm (entries.Loaded value) = Unit {0}
+IsCalm (entries.Called seat site arg) = Unit {0}
+IsCalm (entries.Fired seat site arg) = Unit {0}
+IsCalm (entries.Proceeded arg) = Unit {0}
+IsCalm (entries.Got outcome) = Unit {0}
+IsCalm (entries.Leave outcome) = Unit {0}
+IsCalm (entries.Skip observer) = Unit {0}
+IsCalm (entries.Destroy id) = Unit {0}
+
+pub calm-begins : (e : Entry) → IsCalm e → is_create e ≡ false
+calm-begins (entries.Create id owner) p = absurd p
+calm-begins (entries.Ready id product) p = refl
+calm-begins (entries.Broken id failure) p = refl
+calm-begins (entries.Stored number actor value) p = refl
+calm-begins (entries.Gone id) p = refl
+calm-begins (entries.Enter seat arg) p = refl
+calm-begins (entries.Loaded value) p = refl
+calm-begins (entries.Called seat site arg) p = refl
+calm-begins (entries.Fired seat site arg) p = refl
+calm-begins (entries.Proceeded arg) p = refl
+calm-begins (entries.Got outcome) p = refl
+calm-begins (entries.Leave outcome) p = refl
+calm-begins (entries.Skip observer) p = refl
+calm-begins (entries.Destroy id) p = refl
+
+stay-step : (e : Entry) (s : Standing) → IsCalm e → Stay s.live (step s e).live
+stay-step (entries.Create id owner) s p = absurd p
+stay-step (entries.Ready id product) s p =
+    stay-still s.live (map (finish id.number product) s.live)
+    (λ n i h. still-finish (of_number n) id.number product s.live i h)
+stay-step (entries.Broken id failure) s p = absurd p
+stay-step (entries.Stored number Target value) s p =
+    stay-still s.live (map (keep number value) s.live) (λ n i h. still-keep (of_number n) number value s.live i h)
+stay-step (entries.Stored number (Interceptor q) value) s p = λ n h. h
+stay-step (entries.Gone id) s p = absurd p
+stay-step (entries.Enter seat arg) s p = λ n h. h
+stay-step (entries.Loaded value) s p = λ n h. h
+stay-step (entries.Called seat site arg) s p = λ n h. h
+stay-step (entries.Fired seat site arg) s p = λ n h. h
+stay-step (entries.Proceeded arg) s p = λ n h. h
+stay-step (entries.Got outcome) s p = λ n h. h
+stay-step (entries.Leave outcome) s p = λ n h. h
+stay-step (entries.Skip observer) s p = λ n h. h
+stay-step (entries.Destroy id) s p = λ n h. h
+
+home-step : (L : Free) (e : Entry) (s : Standing) → IsCalm e → AreHome L s.live → AreHome L (step s e).live
+home-step L e s p a =
+    let after = (step s e).live in
+    all-step (λ id o. IsHome after o ⊎ L id.number o) e s (calm-begins e p)
+    (all-imply (λ z. IsHome s.live z.owner ⊎ L z.id.number z.owner) (λ z. IsHome after z.owner ⊎ L z.id.number z.owner) s.live
+    (λ z h. elim h [ inl home ↦ inl (home-stay s.live after z.owner (stay-step e s p) home) | inr free ↦ inr free ]) a)
+
+pub home-entry : (L : Free) (e : Entry) (m m' : Moment) → m' ≡ put e m → IsCalm e → AreHome L m.standing.live
+    → AreHome L m'.standing.live
+home-entry L e m m' h p a = subst (λ (x : Moment). AreHome L x.standing.live) (sym h) (home-step L e m.standing p a)
+
+pub home-touch : (L : Free) (n : ℕ) (actor : Actor) (x : Act) (m : Moment) (o : Outcome) (m' : Moment)
+    → Touches n actor x m o m' → AreHome L m.standing.live → AreHome L m'.standing.live
+home-touch L n actor Load m o m' h a = home-entry L _ m m' h.1 tt a
+home-touch L n actor (Store v) m o m' h a = home-entry L _ m m' h.1 tt a
+home-touch L n actor (Call site arg) m o m' h a = absurd h
+home-touch L n actor (Fire site arg) m o m' h a = absurd h
+home-touch L n actor (Proceed arg) m o m' h a = absurd h
+home-touch L n actor (Return v) m o m' h a = absurd h
+home-touch L n actor (Fail f) m o m' h a = absurd h
+
+-- ---- an instance goes
+
+all-any : {X : Type 0} (P : X → Type 0) (xs : List X) → ((x : X) → P x) → AllByRecursion P xs
+all-any P [] h = tt
+all-any P (x ∷ xs) h = (h x, all-any P xs h)
+
+-- none of these was made for instance k
+abbrev pub NoParts : ℕ → List Instance → Type 0
+NoParts k live = AllByRecursion (λ z. is_part_of k z.owner ≡ false) live
+
+-- none of them has number k
+abbrev pub NoNumber : ℕ → List Instance → Type 0
+NoNumber k live = AllByRecursion (λ z. z.id.number ≡ k → ⊥) live
+
+stay-without : (k n : ℕ) (live : List Instance) → (n ≡ k → ⊥) → IsSome (numbered live n) → IsSome (numbered (without k live) n)
+stay-without k n live other h =
+    let one = some-of (numbered live n) h in
+    let found = found-such (λ z. Unit {0}) (of_number n) live one.0 (all-any (λ z. Unit {0}) live (λ z. tt)) one.1 in
+    let is : one.0.id.number ≡ n = grind (arith, found.1) in
+    let s = still-without (of_number n) k live one.0 (λ e. other (sym is ∙ e)) one.1 in
+    is-some (numbered (without k live) n) s.same s.there
+
+home-without : (k : ℕ) (live : List Instance) (o : Owner) → is_part_of k o ≡ false → IsHome live o → IsHome (without k live) o
+home-without k live (Point n actor p) e h =
+    stay-without k n live (λ same. let clash : (n == k) ≡ true = grind arith in let no : true ≡ false = sym clash ∙ e in cc) h
+home-without k live Request e h = tt
+home-without k live Application e h = tt
+home-without k live Nobody e h = absurd h
+
+-- what was made for it needs no home any more
+pub home-lost : (L : Free) (k : ℕ) (live : List Instance) → AreHome L live → AreHome (AlsoParts L k) (without k live)
+home-lost L k live a =
+    all-without (λ z. IsHome (without k live) z.owner ⊎ AlsoParts L k z.id.number z.owner) k live
+    (all-imply (λ z. IsHome live z.owner ⊎ L z.id.number z.owner)
+    (λ z. IsHome (without k live) z.owner ⊎ AlsoParts L k z.id.number z.owner) live
+    (λ z h. by z (is_part_of k z.owner) refl h) a)
+  where
+    by : (z : Instance) (b : Bool) → is_part_of k z.owner ≡ b → IsHome live z.owner ⊎ L z.id.number z.owner
+        → IsHome (without k live) z.owner ⊎ AlsoParts L k z.id.number z.owner
+    by z true e h = inr (inr e)
+    by z false e (inl home) = inl (home-without k live z.owner e home)
+    by z false e (inr free) = inr (inl free)
+
+pub no-parts : (k : ℕ) (live : List Instance) → NoParts k live → AllByRecursion (λ z. is_part_of k z.owner ≡ true → ⊥) live
+no-parts k live a =
+    all-imply (λ z. is_part_of k z.owner ≡ false) (λ z. is_part_of k z.owner ≡ true → ⊥) live
+    (λ z e h. let no : true ≡ false = sym h ∙ e in cc) a
+
+-- where nothing was made for it, all others keep theirs
+home-gone : (L : Free) (k : ℕ) (live : List Instance) → NoParts k live → AreHome L live → AreHome L (without k live)
+home-gone L k live none a =
+    narrower L (λ n o. is_part_of k o ≡ true) (without k live)
+    (no-parts k (without k live) (all-without (λ z. is_part_of k z.owner ≡ false) k live none)) (home-lost L k live a)
+
+-- ---- what is not found
+
+none-last : (f : Owner → Bool) (live : List Instance) → last_where f live ≡ None → AllByRecursion (λ z. f z.owner ≡ false) live
+none-last f [] e = tt
+none-last f (x ∷ xs) e =
+    let p : Instance → Bool = λ i. f i.owner in
+    let end : find p (reverse (x ∷ xs)) ≡ option_or (find p (reverse xs)) (cond (f x.owner) (Some x) None) =
+    ap (find p) (reverse-append (x ∷ []) xs) ∙ find-append p (reverse xs) (x ∷ []) in
+    by (find (λ i. f i.owner) (reverse xs)) (f x.owner) refl refl (none-last f xs) (sym (ap (option_map (λ i. i.id)) end) ∙ e)
+  where
+    by : (o : Option Instance) (b : Bool) → find (λ i. f i.owner) (reverse xs) ≡ o → f x.owner ≡ b
+        → (last_where f xs ≡ None → AllByRecursion (λ z. f z.owner ≡ false) xs)
+        → option_map (λ i. i.id) (option_or o (cond b (Some x) None)) ≡ None → AllByRecursion (λ z. f z.owner ≡ false) (x ∷ xs)
+    by (Some y) b there is rest h = cc
+    by None true there is rest h = cc
+    by None false there is rest h = (is, rest (ap (option_map (λ i. i.id)) there))
+
+-- ---- ends
+
+-- nothing is left that was made for its points
+pub dependents-gone : {s : Scene} {n : ℕ} {m m' : Moment} → Ends s (dependents n) m m' → NoParts n m'.standing.live
+dependents-gone (Ends.no_dependent n m p0) = none-last (is_part_of n) m.standing.live p0
+dependents-gone (Ends.youngest _ _ _ _ _ _ _ p2) = dependents-gone p2
+
+-- nothing is left in the context
+pub context-gone : {s : Scene} {scope : Scope} {m m' : Moment} → Ends s (context scope) m m'
+    → AllByRecursion (λ z. is_of scope z.owner ≡ false) m'.standing.live
+context-gone (Ends.context_empty scope m p0) = none-last (is_of scope) m.standing.live p0
+context-gone (Ends.context_left _ _ _ _ _ _ _ p2) = context-gone p2
+
+-- the instance is not live
+pub destroy-gone : {s : Scene} {i : InstanceId} {m m' : Moment} → Ends s (destroy i) m m' → NoNumber i.number m'.standing.live
+destroy-gone (Ends.destroyed i m m₁ m₂ m₃ m' p0 p1 p2 p3) =
+    subst (λ (x : Moment). NoNumber i.number x.standing.live) (sym p3) (none-left i.number m₃.standing.live)
+
+-- what ends leaves the others their homes
+pub ends-home : (L : Free) {s : Scene} {e : End} {m m' : Moment} → Ends s e m m' → AreHome L m.standing.live
+    → AreHome L m'.standing.live
+ends-home L (Ends.destroyed i m m₁ m₂ m₃ m' p0 p1 p2 p3) a =
+    subst (λ (x : Moment). AreHome L x.standing.live) (sym p3)
+    (home-gone L i.number m₃.standing.live (dependents-gone p2) (ends-home L p2 (ends-home L p1 (home-entry L _ m m₁ p0 tt a))))
+ends-home L (Ends.no_dependent _ m _) a = a
+ends-home L (Ends.youngest _ _ _ _ _ _ p1 p2) a = ends-home L p2 (ends-home L p1 a)
+ends-home L (Ends.none_held _ m) a = a
+ends-home L (Ends.proxy_held _ _ _ _ _ _ _ p2) a = ends-home L p2 a
+ends-home L (Ends.instance_held _ _ _ _ _ _ _ _ _ p2 p3) a = ends-home L p3 (ends-home L p2 a)
+ends-home L (Ends.context_empty _ m _) a = a
+ends-home L (Ends.context_left _ _ _ _ _ _ p1 p2) a = ends-home L p2 (ends-home L p1 a)
+ends-home L (Ends.called_back _ _ _ _ _ _ p1) a = ends-home L p1 a
+ends-home L (Ends.undisposed _ _ m _ _) a = a
+ends-home L (Ends.disposed _ _ _ _ _ _ _ _ p2) a = ends-home L p2 a
+ends-home L (Ends.no_bean _ m _ _) a = a
+ends-home L (Ends.linked_back _ _ _ _ _ _ _ _ _ _ p2) a = ends-home L p2 a
+ends-home L (Ends.bare_back _ _ _ _ m _ _ _) a = a
+ends-home L (Ends.targeted_back _ _ _ _ _ _ _ _ _ _ _ p3) a = ends-home L p3 a
+ends-home L (Ends.framed_back _ _ _ _ m m₁ m₂ m' p0 p1 p2) a =
+    home-entry L _ m₂ m' p2 tt (ends-home L p1 (home-entry L _ m m₁ p0 tt a))
+ends-home L (Ends.ended_back _ _ _ _ _ _ m _ _) a = a
+ends-home L (Ends.stopped_back _ _ _ _ m _ _) a = a
+ends-home L (Ends.proceeded_twice _ _ _ _ m _) a = a
+ends-home L (Ends.touched_back seat _ _ n _ act r _ m m₁ m' _ _ _ p3 p4) a =
+    ends-home L p4 (home-touch L n seat.actor act m r m₁ p3 a)
+ends-home L (Ends.proceeded_back _ _ _ _ _ _ _ m m₁ m₂ m₃ m' _ _ _ _ p4 p5 p6 p7) a =
+    ends-home L p7 (home-entry L _ m₂ m₃ p6 tt (ends-home L p5 (home-entry L _ m m₁ p4 tt a)))
+
+-- ---- what is destroyed where it was made
+
+pub destroyed-home : (L : Free) {s : Scene} {i : InstanceId} {m m' : Moment} → Ends s (destroy i) m m'
+    → AreHome (Also L i.number) m.standing.live → AreHome L m'.standing.live
+destroyed-home L {i = i} {m' = m'} p a =
+    narrower L (λ n o. n ≡ i.number) m'.standing.live (destroy-gone p) (ends-home (Also L i.number) p a)
+
+-- it is the number of one that is held
+pub record IsIn (h : Held) (n : ℕ) : Type 0 where
+  pub place : ℕ
+  pub id : InstanceId
+  pub there : slice_get h place ≡ Some (Some id)
+  pub is : n ≡ id.number
+
+-- none of these so many is live
+abbrev NoneOf : Held → ℕ → InstanceId → Owner → Type 0
+NoneOf h k d o = (j : ℕ) (i : InstanceId) → j < k → slice_get h j ≡ Some (Some i) → d.number ≡ i.number → ⊥
+
+held-gone : {s : Scene} {h : Held} {k : ℕ} {m m' : Moment} → Ends s (held h k) m m'
+    → AllByRecursion (λ z. NoneOf h k z.id z.owner) m'.standing.live
+held-gone (Ends.none_held h m) =
+    all-any (λ z. NoneOf h 0 z.id z.owner) m.standing.live (λ z j i less there same. absurd (omega (arith, less)))
+held-gone (Ends.proxy_held h j k m m' p0 p1 p2) =
+    all-imply (λ z. NoneOf h j z.id z.owner) (λ z. NoneOf h k z.id z.owner) m'.standing.live
+    (λ z none l i less there same. elim (nat_cases l j (omega (arith, less, p0))) [
+      | inl last ↦ (let both : Some (Some i) ≡ Some None = sym there ∙ ap (slice_get h) last ∙ p1 in cc)
+      | inr low ↦ none l i low there same
+    ])
+    (held-gone p2)
+held-gone (Ends.instance_held h j k i m m₁ m' p0 p1 p2 p3) =
+    all-imply (λ z. NoneOf h j z.id z.owner × (z.id.number ≡ i.number → ⊥)) (λ z. NoneOf h k z.id z.owner) m'.standing.live
+    (λ z none l d less there same. elim (nat_cases l j (omega (arith, less, p0))) [
+      | inl last ↦ (let both : Some (Some d) ≡ Some (Some i) = sym there ∙ ap (slice_get h) last ∙ p1 in
+          let is : d ≡ i = cc in
+          none.1 (same ∙ ap (λ (x : InstanceId). x.number) is))
+      | inr low ↦ none.0 l d low there same
+    ])
+    (all-both (λ z. NoneOf h j z.id z.owner) (λ z. z.id.number ≡ i.number → ⊥) m'.standing.live (held-gone p3)
+    (ends-all (λ id o. id.number ≡ i.number → ⊥) p3 (destroy-gone p2)))
+
+-- so nothing is left of what was held
+pub held-home : (L : Free) {s : Scene} {h : Held} {m m' : Moment} → Ends s (held h (length h)) m m'
+    → AreHome (λ n o. L n o ⊎ IsIn h n) m.standing.live → AreHome L m'.standing.live
+held-home L {h = h} {m' = m'} p a =
+    narrower L (λ n o. IsIn h n) m'.standing.live
+    (all-imply (λ z. NoneOf h (length h) z.id z.owner) (λ z. IsIn h z.id.number → ⊥) m'.standing.live
+    (λ z none one. none one.place one.id (slice_get_within h one.place (Some one.id) one.there) one.there one.is) (held-gone p))
+    (ends-home (λ n o. L n o ⊎ IsIn h n) p a)
