@@ -10,7 +10,7 @@ use Rattle.cdi_bodies.specs.declared.act.Act.{Act}
 use Rattle.cdi_bodies.specs.declared.act.Act.TheVariants.{Load, Store, Call, Fire, Proceed, Return, Fail}
 use Rattle.cdi_scene.specs.Sound.{Bodies, IsSound, IsSoundAt, KeepsToItself}
 use Rattle.cdi_scene.specs.declared.scene.Invocable.{Invocable}
-use Rattle.cdi_legal.specs.Room.{frames_from, frames_within}
+use Rattle.cdi_ending.specs.Room.{frames_from, frames_within}
 use Rattle.cdi_scene.specs.declared.place.Place.TheVariants.{Pre}
 use Rattle.cdi_scene.specs.declared.place.Seat.{Seat}
 use Rattle.cdi_scene.specs.declared.scene.Managed.{Managed}

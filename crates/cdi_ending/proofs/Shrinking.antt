@@ -6,16 +6,41 @@ use Rattle.cdi_contexts.specs.Standing.{Standing, without, keep, stored, gone, n
 use Rattle.cdi_contexts.specs.declared.instance.Actor.{Actor}
 use Rattle.cdi_contexts.specs.declared.instance.Actor.TheVariants.{Target, Interceptor}
 use Rattle.cdi_contexts.specs.declared.instance.Instance.{Instance}
-use Rattle.cdi_legal.specs.Room.{Shrinks, IsSteady}
+use Rattle.cdi_ending.specs.Room.{Shrinks, IsSteady}
+use Rattle.cdi_ending.proofs.Costs.{cost-kept, cost-without, cost-others}
+
+same_live : (floor : ℕ) (a b : Standing) → b.given ≡ a.given → b.live ≡ a.live → Shrinks floor a b
+same_live floor a b g e =
+    record {
+      given = g;
+      few = rw e (omega arith);
+      kept = λ j h k. rw e k;
+      cheaper = λ s counts. rw e (omega arith);
+      counted = λ s j h. rw e (omega arith);
+    }
 
 pub Shrinks-refl : (floor : ℕ) (s : Standing) → Shrinks floor s s
-Shrinks-refl floor s = record { given = refl; few = omega arith; kept = λ j h k. k }
+Shrinks-refl floor s = same_live floor s s refl refl
 
 pub Shrinks-trans : (floor : ℕ) (a b c : Standing) → Shrinks floor a b → Shrinks floor b c → Shrinks floor a c
-Shrinks-trans floor a b c p q = record { given = cc; few = omega (arith, p.few, q.few); kept = λ j h k. q.kept j h (p.kept j h k) }
+Shrinks-trans floor a b c p q =
+    record {
+      given = cc;
+      few = omega (arith, p.few, q.few);
+      kept = λ j h k. q.kept j h (p.kept j h k);
+      cheaper = λ s counts. omega (arith, p.cheaper s counts, q.cheaper s counts);
+      counted = λ s j h. omega (arith, p.counted s j h, q.counted s j h);
+    }
 
 pub Shrinks-lower : (floor low : ℕ) (a b : Standing) → low ≤ floor → Shrinks floor a b → Shrinks low a b
-Shrinks-lower floor low a b h p = record { given = p.given; few = p.few; kept = λ j k. p.kept j (omega arith) }
+Shrinks-lower floor low a b h p =
+    record {
+      given = p.given;
+      few = p.few;
+      kept = λ j k. p.kept j (omega arith);
+      cheaper = p.cheaper;
+      counted = λ s j k. p.counted s j (omega arith);
+    }
 
 length-kept : (n : ℕ) (v : Val) (live : List Instance) → length (map (keep n v) live) ≡ length live
 length-kept n v [] = refl
@@ -39,8 +64,14 @@ numbered-kept n v (i ∷ is) j h =
 
 pub IsSteady-stored : (n : ℕ) (actor : Actor) (v : Val) (s : Standing) → IsSteady s (stored n actor v s)
 IsSteady-stored n Target v s floor =
-    record { given = refl; few = omega (arith, length-kept n v s.live); kept = λ j h k. numbered-kept n v s.live j k }
-IsSteady-stored n (Interceptor q) v s floor = record { given = refl; few = omega arith; kept = λ j h k. k }
+    record {
+      given = refl;
+      few = omega (arith, length-kept n v s.live);
+      kept = λ j h k. numbered-kept n v s.live j k;
+      cheaper = λ scene counts. omega (arith, cost-kept scene counts n v s.live);
+      counted = λ scene j h. omega (arith, cost-kept scene (λ m. m == j) n v s.live);
+    }
+IsSteady-stored n (Interceptor q) v s floor = same_live floor s (stored n (Interceptor q) v s) refl refl
 
 length_cond : (b : Bool) (i : Instance) (is js : List Instance) → length js ≤ length is
     → length (if b then i ∷ js else js) ≤ length (i ∷ is)
@@ -79,4 +110,6 @@ Shrinks-gone n s =
       given = refl;
       few = length-without n s.live;
       kept = λ j h k. numbered-without n s.live j (λ e. absurd (omega arith)) k;
+      cheaper = λ scene counts. cost-without scene counts n s.live;
+      counted = λ scene j h. cost-others scene (λ m. m == j) n (grind arith) s.live;
     }

@@ -1,5 +1,5 @@
 -- What the code of pre-destroy callbacks rests on.
-use Rattle.std.specs.Prelude.{◌≡◌, ℕ, ◌+◌, ◌*◌, Bool, true, false, Some, None, slice_get}
+use Rattle.std.specs.Prelude.{◌≡◌, ℕ, ◌+◌, ◌*◌, Bool, true, false, Some, slice_get}
 use Rattle.cdi_model.specs.declared.outcome.Outcome.{Outcome}
 use Rattle.cdi_model.specs.declared.outcome.Val.{Val}
 use Rattle.cdi_bodies.specs.Flags as flags
@@ -8,19 +8,16 @@ use Rattle.cdi_bodies.specs.declared.act.Act.TheVariants as acts
 use Rattle.cdi_contexts.specs.declared.instance.Actor.{Actor}
 use Rattle.cdi_contexts.specs.declared.instance.Actor.TheVariants.{Target, Interceptor}
 use Rattle.cdi_contexts.specs.declared.instance.InstanceId.{InstanceId}
-use Rattle.cdi_scene.specs.Scene.{bean_at, part_at}
+use Rattle.cdi_scene.specs.Scene.{part_at}
 use Rattle.cdi_scene.specs.Sound.{IsSoundPart, IsQuiet, IsStatic, KeepsToItself, Lacks}
 use Rattle.cdi_scene.specs.declared.place.Place.TheVariants.{Pre}
 use Rattle.cdi_scene.specs.declared.place.Seat.{Seat}
-use Rattle.cdi_scene.specs.declared.scene.Form.{Form}
-use Rattle.cdi_scene.specs.declared.scene.Form.TheVariants as forms
 use Rattle.cdi_scene.specs.declared.scene.Managed.{Managed}
 use Rattle.cdi_scene.specs.declared.scene.Part.{Part}
 use Rattle.cdi_scene.specs.declared.scene.Scene.{Scene}
 use Rattle.cdi_legal.specs.Acts.{Touches}
 use Rattle.cdi_legal.specs.Ends.{Ends, seat_on, invoke_back}
 use Rattle.cdi_legal.specs.Moment.{Moment, put}
-use Rattle.cdi_legal.specs.Room.{frames_from}
 use Rattle.cdi_legal.specs.declared.entry.Entry.TheVariants.{Proceeded, Got}
 use Rattle.cdi_ending.specs.Staged.{Staged}
 
@@ -99,11 +96,3 @@ spent_by (acts.Fail f) frames = 1
 abbrev pub spent_before : Bool → ℕ → ℕ
 spent_before true frames = 1 + 11 * frames
 spent_before false frames = 0
-
-abbrev pub form_callback_cost : Form → ℕ
-form_callback_cost (forms.Managed b) = 11 * frames_from b.pre 0
-form_callback_cost (forms.Product b) = 2
-
--- how many entries the callbacks of an instance of this bean take at most
-abbrev pub callback_cost : Scene → ℕ → ℕ
-callback_cost s b = elim (bean_at s b) [ Some bean ↦ form_callback_cost bean.form | None ↦ 0 ]

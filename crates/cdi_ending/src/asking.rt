@@ -1,7 +1,7 @@
 //! Acts that end a frame, and acts that touch what an instance holds. Runs do these too, outside destruction.
 ghost use Rattle.std.specs.Prelude.{◌≡◌, ◌+◌, ◌<◌, ◌≤◌, IfOk, OnOk, IsOk};
 ghost use Rattle.cdi_legal.specs.Acts.{ending, IsTouch, Touches};
-ghost use Rattle.cdi_legal.specs.Room.{IsSteady};
+ghost use Rattle.cdi_ending.specs.Room.{IsSteady};
 
 use cdi_bodies::Act;
 use cdi_contexts::Actor;

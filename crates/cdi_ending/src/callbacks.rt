@@ -6,8 +6,8 @@ ghost use Rattle.std.specs.Prelude.{◌≡◌, ◌&&◌, ◌||◌, ◌+◌, ◌*
 ghost use Rattle.cdi_scene.specs.Scene.{managed_at};
 ghost use Rattle.cdi_scene.specs.declared.place.Place.TheVariants.{Pre};
 ghost use Rattle.cdi_legal.specs.Ends.{Ends, callback, invoke_back, frame_back, asks_back, seat_on};
-ghost use Rattle.cdi_legal.specs.Room.{IsSteady, frames_from, frames_within};
-ghost use Rattle.cdi_ending.specs.Back.{ActsBefore, IsBack, is_proceeding, GoesOn, DoesBack, spent_by, IsOwnDisposal, callback_cost};
+ghost use Rattle.cdi_ending.specs.Room.{IsSteady, frames_from, frames_within, callback_cost};
+ghost use Rattle.cdi_ending.specs.Back.{ActsBefore, IsBack, is_proceeding, GoesOn, DoesBack, spent_by, IsOwnDisposal};
 
 use crate::asking::{ending, touch};
 use crate::stage::Stage;

@@ -1,9 +1,10 @@
 //! The destruction of instances (CDI 4.0, Destruction of dependent objects; Context management for built-in scopes). An error
-//! leaves it where it was: whoever began the run clears it.
-ghost use Rattle.std.specs.Prelude.{◌≡◌, ◌+◌, ◌<◌, OnOk, IsSome, Some, length, slice_get};
+//! leaves it where it was: whoever began the run clears it. Where there is room for the cost of the instances, no memory is
+//! taken and nothing fails.
+ghost use Rattle.std.specs.Prelude.{◌≡◌, ◌+◌, ◌<◌, ◌≤◌, OnOk, IsOk, IsSome, Some, length, slice_get};
 ghost use Rattle.cdi_contexts.specs.Standing.{numbered};
 ghost use Rattle.cdi_legal.specs.Ends.{Ends, destroy, dependents, held, context};
-ghost use Rattle.cdi_legal.specs.Room.{Shrinks};
+ghost use Rattle.cdi_ending.specs.Room.{Shrinks, IsCounted, Pays, cost_from};
 
 use crate::stage::Stage;
 use cdi_bodies::Bodies;
@@ -20,6 +21,10 @@ impl<'a, B: Bodies> Stage<'a, B> {
         ensures shrinks { OnOk result (Shrinks id.number run.old.moment.standing run.new.moment.standing) }
         ensures fewer { let before = run.old.moment.standing.live in
             OnOk result (IsSome (numbered before id.number) → length run.new.moment.standing.live < length before) }
+        ensures possible { let live = run.old.moment.standing.live in
+            IsCounted self.now.scene id live → cost_from self.now.scene id.number live ≤ run.old.room → IsOk result }
+        ensures pays { let live = run.old.moment.standing.live in
+            OnOk result (IsCounted self.now.scene id live → Pays self.now.scene id.number run.old run.new) }
     {
         run.note(Entry::Destroy { id })?;
         self.call_back(run, id)?;
@@ -33,6 +38,9 @@ impl<'a, B: Bodies> Stage<'a, B> {
     pub fn destroy_dependents(&self, run: &mut Run, number: u64) -> Result<(), AllocError>
         ensures legal { OnOk result (Ends self.now.scene (dependents number) run.old.moment run.new.moment) }
         ensures shrinks { OnOk result (Shrinks (number + 1) run.old.moment.standing run.new.moment.standing) }
+        ensures possible { let live = run.old.moment.standing.live in
+            cost_from self.now.scene (number + 1) live ≤ run.old.room → IsOk result }
+        ensures pays { OnOk result (Pays self.now.scene (number + 1) run.old run.new) }
     {
         while let Some(youngest) = run.last_dependent(number) {
             self.destroy(run, youngest)?;
@@ -58,6 +66,9 @@ impl<'a, B: Bodies> Stage<'a, B> {
     /// active stays as it was.
     pub fn end_context(&self, run: &mut Run, scope: Scope) -> Result<(), AllocError>
         ensures legal { OnOk result (Ends self.now.scene (context scope) run.old.moment run.new.moment) }
+        ensures possible { let live = run.old.moment.standing.live in
+            cost_from self.now.scene 0 live ≤ run.old.room → IsOk result }
+        ensures pays { OnOk result (Pays self.now.scene 0 run.old run.new) }
     {
         while let Some(youngest) = run.last(scope) {
             self.destroy(run, youngest)?;

@@ -5,6 +5,7 @@
 mod asking;
 mod callbacks;
 mod destroying;
+mod reserving;
 mod stage;
 
 pub use asking::{ending, touch};

@@ -1,5 +1,5 @@
 //! Where runs begin: look-ups, calls and events, and the ends of contexts.
-ghost use Rattle.std.specs.Prelude.{◌≡◌, IfOk, OnOk, OnErr, IsSome};
+ghost use Rattle.std.specs.Prelude.{◌≡◌, ◌≤◌, [], IfOk, IsOk, OnOk, OnErr, IsSome};
 ghost use Rattle.cdi_scene.specs.Scene.{bean_at};
 ghost use Rattle.cdi_scene.specs.Sound.{AreObservers};
 ghost use Rattle.cdi_contexts.specs.Standing.{closed, cleared};
@@ -8,7 +8,9 @@ ghost use Rattle.cdi_legal.specs.Furnished.{HasDependents, IsFurnished};
 ghost use Rattle.cdi_legal.specs.Keeps.{Keeps};
 ghost use Rattle.cdi_legal.specs.LegalRun.{LegalRun, LegalRequestEnd, LegalEnd, Runs, Uses, use_bean, notify_all};
 ghost use Rattle.cdi_legal.specs.Moment.{beginning};
-ghost use Rattle.cdi_run.specs.Known.{IsUsable, use_of, EndsAll, IsSettled, StaysFurnished, StaysSingle};
+ghost use Rattle.cdi_legal.specs.Rooted.{IsRooted};
+ghost use Rattle.cdi_ending.specs.Room.{cost_from};
+ghost use Rattle.cdi_run.specs.Known.{IsUsable, use_of, EndsAll, IsSettled, StaysFurnished, StaysRooted, StaysSingle};
 
 use crate::invoking::Passed;
 use crate::player::Player;
@@ -34,7 +36,7 @@ pub enum Wanted {
 
 /// Each public call is a whole command: the entries of the command before are cleared, those that it pushes are those of a
 /// legal run, in order, and what stands follows from them. After want of memory no instance is live, no request active and
-/// the trace empty, and numbers go on from where they were.
+/// the trace empty, and numbers go on from where they were; but where contexts were to end, all is as it was.
 impl<'a, B: Bodies> Player<'a, B> {
     /// A look-up or a call: the shared instance of a bean with a normal scope is used, and an instance of a dependent bean is
     /// made for this use and destroyed before the answer (the latter: profile).
@@ -49,6 +51,7 @@ impl<'a, B: Bodies> Player<'a, B> {
         ensures single { OnOk result (StaysSingle self.now.stage.scene (beginning run.old.moment.standing) run.new.moment) }
         ensures kept { OnOk result (Keeps (beginning run.old.moment.standing) run.new.moment) }
         ensures furnished { IsFurnished self.now.stage.scene run.new.moment.standing.live }
+        ensures rooted { StaysRooted (beginning run.old.moment.standing) run.new.moment }
         ensures out_of_memory { OnErr result (run.new.moment ≡ beginning (cleared run.old.moment.standing.given)) }
     {
         let given = run.given();
@@ -80,6 +83,7 @@ impl<'a, B: Bodies> Player<'a, B> {
         ensures single { OnOk result (StaysSingle self.now.stage.scene (beginning run.old.moment.standing) run.new.moment) }
         ensures kept { OnOk result (Keeps (beginning run.old.moment.standing) run.new.moment) }
         ensures furnished { IsFurnished self.now.stage.scene run.new.moment.standing.live }
+        ensures rooted { StaysRooted (beginning run.old.moment.standing) run.new.moment }
         ensures out_of_memory { OnErr result (run.new.moment ≡ beginning (cleared run.old.moment.standing.given)) }
     {
         let given = run.given();
@@ -96,7 +100,8 @@ impl<'a, B: Bodies> Player<'a, B> {
     }
 
     /// Ends the request context, and then no request is active (CDI 4.0, Context management for built-in scopes). Whether
-    /// one was active is the caller's to ask.
+    /// one was active is the caller's to ask. Memory is taken before the first callback only: where it is wanted, nothing has
+    /// changed.
     pub fn end_request(&self, run: &mut Run) -> Result<(), AllocError>
         ensures legal { let before = run.old.moment.standing in let now = run.new.moment in
             OnOk result (LegalRequestEnd self.now.stage.scene before now.trace now.standing) }
@@ -104,24 +109,25 @@ impl<'a, B: Bodies> Player<'a, B> {
             OnOk result (now.standing ≡ closed (after before now.trace)) }
         ensures single { OnOk result (StaysSingle self.now.stage.scene (beginning run.old.moment.standing) run.new.moment) }
         ensures furnished { StaysFurnished self.now.stage.scene (beginning run.old.moment.standing) run.new.moment }
-        ensures out_of_memory { OnErr result (run.new.moment ≡ beginning (cleared run.old.moment.standing.given)) }
+        ensures rooted { StaysRooted (beginning run.old.moment.standing) run.new.moment }
+        ensures out_of_memory { OnErr result (run.new.moment ≡ run.old.moment) }
     {
-        let given = run.given();
+        // Owners are older than what was made for them.
+        let _rising = run.given();
+        self.stage.reserve_ends(run)?;
         run.restart();
         match self.stage.end_context(run, Scope::Request) {
             Ok(()) => {
                 run.close();
                 Ok(())
             }
-            Err(error) => {
-                run.clear(given);
-                Err(error)
-            }
+            Err(_) => unreachable!(),
         }
     }
 
     /// Ends the request context and then the application context, and then no request is active (CDI 4.0, Context
-    /// management for built-in scopes).
+    /// management for built-in scopes). Memory is taken before the first callback only: where it is wanted, nothing has
+    /// changed.
     pub fn end_contexts(&self, run: &mut Run) -> Result<(), AllocError>
         ensures legal { let before = run.old.moment.standing in let now = run.new.moment in
             OnOk result (LegalEnd self.now.stage.scene before now.trace now.standing) }
@@ -129,19 +135,20 @@ impl<'a, B: Bodies> Player<'a, B> {
             OnOk result (now.standing ≡ closed (after before now.trace)) }
         ensures single { OnOk result (StaysSingle self.now.stage.scene (beginning run.old.moment.standing) run.new.moment) }
         ensures furnished { StaysFurnished self.now.stage.scene (beginning run.old.moment.standing) run.new.moment }
-        ensures out_of_memory { OnErr result (run.new.moment ≡ beginning (cleared run.old.moment.standing.given)) }
+        ensures rooted { StaysRooted (beginning run.old.moment.standing) run.new.moment }
+        ensures nothing { OnOk result (IsRooted run.old.moment.standing.live → run.new.moment.standing.live ≡ []) }
+        ensures out_of_memory { OnErr result (run.new.moment ≡ run.old.moment) }
     {
-        let given = run.given();
+        // Owners are older than what was made for them.
+        let _rising = run.given();
+        self.stage.reserve_ends(run)?;
         run.restart();
         match self.end_both(run) {
             Ok(()) => {
                 run.close();
                 Ok(())
             }
-            Err(error) => {
-                run.clear(given);
-                Err(error)
-            }
+            Err(_) => unreachable!(),
         }
     }
 
@@ -201,7 +208,9 @@ impl<'a, B: Bodies> Player<'a, B> {
 
     /// Ends both contexts.
     fn end_both(&self, run: &mut Run) -> Result<(), AllocError>
-        ensures { OnOk result (EndsAll self.now.stage.scene run.old.moment run.new.moment) }
+        ensures ends { OnOk result (EndsAll self.now.stage.scene run.old.moment run.new.moment) }
+        ensures possible { let live = run.old.moment.standing.live in
+            cost_from self.now.stage.scene 0 live ≤ run.old.room → IsOk result }
     {
         self.stage.end_context(run, Scope::Request)?;
         self.stage.end_context(run, Scope::Application)?;

@@ -2,7 +2,7 @@ use Rattle.std.proofs.Common.{rules, ◌≡◌, ◌<◌, ◌≤◌, ◌+◌, ◌
 use Rattle.std.proofs.lemmas.Grind.{common_steps}
 use Rattle.cdi_legal.specs.Acts.{ending}
 use Rattle.cdi_legal.specs.Ends.{Ends}
-use Rattle.cdi_legal.specs.Room.{frames_within}
+use Rattle.cdi_ending.specs.Room.{frames_within}
 use Rattle.cdi_ending.specs.Back.{is_proceeding}
 use Rattle.cdi_ending.proofs.Before.{some_of}
 use Rattle.cdi_ending.proofs.Proceeding.{twice_ends, act_goes_on, act_takes}

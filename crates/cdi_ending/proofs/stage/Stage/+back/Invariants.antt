@@ -3,7 +3,7 @@ use Rattle.cdi_model.specs.declared.outcome.Outcome.{Outcome}
 use Rattle.cdi_scene.specs.declared.place.Place.TheVariants.{Pre}
 use Rattle.cdi_legal.specs.Ends.{Ends, asks_back, seat_on}
 use Rattle.cdi_legal.specs.Moment.{Moment}
-use Rattle.cdi_legal.specs.Room.{IsSteady, frames_from, frames_within}
+use Rattle.cdi_ending.specs.Room.{IsSteady, frames_from, frames_within}
 use Rattle.cdi_ending.specs.Back.{spent_before}
 use Rattle.cdi_ending.proofs.stage.Stage.+back.Given as goal
 

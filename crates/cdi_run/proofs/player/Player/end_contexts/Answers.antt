@@ -5,6 +5,7 @@ use Rattle.cdi_legal.specs.LegalRun.{LegalEnd}
 use Rattle.cdi_legal.specs.Moment.{Moment, beginning}
 use Rattle.cdi_legal.proofs.Commands.{end_follows, end_single}
 use Rattle.cdi_run.specs.Known.{EndsAll}
+use Rattle.cdi_legal.proofs.Housing.{both_ends_leave_nothing, end_rooted}
 use Rattle.cdi_run.proofs.Staying.{end_stays}
 use Rattle.cdi_run.proofs.player.Player.end_contexts.Goals as goal
 
@@ -20,12 +21,30 @@ ended s before old end new began ends closes = record {
   leaves = ap (λ (m : Moment). m.standing) closes;
 }
 
-pub returns-in-Ok-clause-follows : goal.returns-in-Ok-clause-follows
-returns-in-Ok-clause-follows g c = end_follows (ended _ _ _ _ _ c.restart.ensures c.in-Ok.ensures c.close.ensures)
+pub returns-clause-follows : goal.returns-clause-follows
+returns-clause-follows g c = end_follows
+    (ended _ _ _ _ _ (rw c.in_ok-reserve_ends.ensures.same at c.restart.ensures.moment) c.in-Ok.ensures.ends
+    c.close.ensures)
 
-pub returns-in-Ok-clause-single : goal.returns-in-Ok-clause-single
-returns-in-Ok-clause-single g c = end_single (ended _ _ _ _ _ c.restart.ensures c.in-Ok.ensures c.close.ensures)
+pub returns-clause-single : goal.returns-clause-single
+returns-clause-single g c = end_single
+    (ended _ _ _ _ _ (rw c.in_ok-reserve_ends.ensures.same at c.restart.ensures.moment) c.in-Ok.ensures.ends
+    c.close.ensures)
 
-pub returns-in-Ok-clause-furnished : goal.returns-in-Ok-clause-furnished
-returns-in-Ok-clause-furnished g c = λ f.
-    end_stays (ended _ _ _ _ _ c.restart.ensures c.in-Ok.ensures c.close.ensures) c.given-given.ensures.rising f
+pub returns-clause-furnished : goal.returns-clause-furnished
+returns-clause-furnished g c = λ f.
+    end_stays
+    (ended _ _ _ _ _ (rw c.in_ok-reserve_ends.ensures.same at c.restart.ensures.moment) c.in-Ok.ensures.ends
+    c.close.ensures) c.given-rising.ensures.rising f
+
+pub returns-clause-rooted : goal.returns-clause-rooted
+returns-clause-rooted g c = λ h.
+    end_rooted
+    (ended _ _ _ _ _ (rw c.in_ok-reserve_ends.ensures.same at c.restart.ensures.moment) c.in-Ok.ensures.ends
+    c.close.ensures) c.given-rising.ensures.rising h
+
+pub returns-clause-nothing : goal.returns-clause-nothing
+returns-clause-nothing g c = λ h.
+    both_ends_leave_nothing _ _ _ _ c.given-rising.ensures.rising h
+    (ended _ _ _ _ _ (rw c.in_ok-reserve_ends.ensures.same at c.restart.ensures.moment) c.in-Ok.ensures.ends
+    c.close.ensures)

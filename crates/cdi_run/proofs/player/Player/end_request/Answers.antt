@@ -6,6 +6,7 @@ use Rattle.cdi_legal.specs.Ends.{Ends, context}
 use Rattle.cdi_legal.specs.LegalRun.{LegalRequestEnd}
 use Rattle.cdi_legal.specs.Moment.{Moment, beginning}
 use Rattle.cdi_legal.proofs.Commands.{request_end_follows, request_end_single}
+use Rattle.cdi_legal.proofs.Housing.{request_end_rooted}
 use Rattle.cdi_run.proofs.Staying.{request_end_stays}
 use Rattle.cdi_run.proofs.player.Player.end_request.Goals as goal
 
@@ -19,14 +20,26 @@ ended s before old end new began ends closes = record {
   leaves = ap (λ (m : Moment). m.standing) closes;
 }
 
-pub returns-in-Ok-clause-follows : goal.returns-in-Ok-clause-follows
-returns-in-Ok-clause-follows g c =
-    request_end_follows (ended _ _ _ _ _ c.restart.ensures c.in-Ok.ensures.legal c.close.ensures)
+pub returns-clause-follows : goal.returns-clause-follows
+returns-clause-follows g c =
+    request_end_follows
+    (ended _ _ _ _ _ (rw c.in_ok-reserve_ends.ensures.same at c.restart.ensures.moment) c.in-Ok.ensures.legal
+    c.close.ensures)
 
-pub returns-in-Ok-clause-single : goal.returns-in-Ok-clause-single
-returns-in-Ok-clause-single g c =
-    request_end_single (ended _ _ _ _ _ c.restart.ensures c.in-Ok.ensures.legal c.close.ensures)
+pub returns-clause-single : goal.returns-clause-single
+returns-clause-single g c =
+    request_end_single
+    (ended _ _ _ _ _ (rw c.in_ok-reserve_ends.ensures.same at c.restart.ensures.moment) c.in-Ok.ensures.legal
+    c.close.ensures)
 
-pub returns-in-Ok-clause-furnished : goal.returns-in-Ok-clause-furnished
-returns-in-Ok-clause-furnished g c = λ f.
-    request_end_stays (ended _ _ _ _ _ c.restart.ensures c.in-Ok.ensures.legal c.close.ensures) c.given-given.ensures.rising f
+pub returns-clause-furnished : goal.returns-clause-furnished
+returns-clause-furnished g c = λ f.
+    request_end_stays
+    (ended _ _ _ _ _ (rw c.in_ok-reserve_ends.ensures.same at c.restart.ensures.moment) c.in-Ok.ensures.legal
+    c.close.ensures) c.given-rising.ensures.rising f
+
+pub returns-clause-rooted : goal.returns-clause-rooted
+returns-clause-rooted g c = λ h.
+    request_end_rooted
+    (ended _ _ _ _ _ (rw c.in_ok-reserve_ends.ensures.same at c.restart.ensures.moment) c.in-Ok.ensures.legal
+    c.close.ensures) c.given-rising.ensures.rising h

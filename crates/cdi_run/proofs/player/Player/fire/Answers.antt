@@ -2,6 +2,7 @@ use Rattle.std.proofs.Common.{refl, ap}
 use Rattle.cdi_legal.specs.LegalRun.{Runs}
 use Rattle.cdi_legal.specs.Moment.{Moment}
 use Rattle.cdi_legal.proofs.Following.{legal_follows}
+use Rattle.cdi_legal.proofs.Housing.{runs_rooted}
 use Rattle.cdi_legal.proofs.Keeping.{runs_keep}
 use Rattle.cdi_legal.proofs.Sharing.{legal_single}
 use Rattle.cdi_run.specs.Known.{IsSettled}
@@ -11,25 +12,29 @@ use Rattle.cdi_run.proofs.player.Player.fire.Goals as goal
 pub returns-in-Ok-clause-legal : goal.returns-in-Ok-clause-legal
 returns-in-Ok-clause-legal g c = record {
   end = c.notify_each.new.run.moment;
-  runs = Runs.fired _ _ _ _ _ (rw c.restart.ensures at c.in-Ok.ensures);
+  runs = Runs.fired _ _ _ _ _ (rw c.restart.ensures.moment at c.in-Ok.ensures);
   pushed = refl;
   leaves = refl;
 }
 
 pub returns-in-Ok-clause-follows : goal.returns-in-Ok-clause-follows
-returns-in-Ok-clause-follows g c = legal_follows (rw c.restart.ensures at c.in-Ok.ensures)
+returns-in-Ok-clause-follows g c = legal_follows (rw c.restart.ensures.moment at c.in-Ok.ensures)
 
 pub returns-in-Ok-clause-single : goal.returns-in-Ok-clause-single
-returns-in-Ok-clause-single g c = legal_single (rw c.restart.ensures at c.in-Ok.ensures) tt
+returns-in-Ok-clause-single g c = legal_single (rw c.restart.ensures.moment at c.in-Ok.ensures) tt
 
 pub returns-in-Ok-clause-kept : goal.returns-in-Ok-clause-kept
 returns-in-Ok-clause-kept g c =
-    runs_keep (Runs.fired _ _ _ _ _ (rw c.restart.ensures at c.in-Ok.ensures)) c.given-given.ensures.rising
+    runs_keep (Runs.fired _ _ _ _ _ (rw c.restart.ensures.moment at c.in-Ok.ensures)) c.given-given.ensures.rising
 
 pub returns-in-Ok-clause-furnished : goal.returns-in-Ok-clause-furnished
 returns-in-Ok-clause-furnished g c =
     let settled : IsSettled c.args.self.now.stage c.restart.new.self.moment =
     settled_same c.args.self.now.stage c.args.run.now.moment c.restart.new.self.moment
-    (ap (λ (m : Moment). m.standing) c.restart.ensures)
+    (ap (λ (m : Moment). m.standing) c.restart.ensures.moment)
     (record { sound = c.scene.ensures.sound; rises = c.given-given.ensures.rising; furnished = c.requires.furnished }) in
     (settled_after c.args.self.now.stage c.in-Ok.ensures tt settled).furnished
+
+pub returns-in-Ok-clause-rooted : goal.returns-in-Ok-clause-rooted
+returns-in-Ok-clause-rooted g c = λ h.
+    runs_rooted (Runs.fired _ _ _ _ _ (rw c.restart.ensures.moment at c.in-Ok.ensures)) c.given-given.ensures.rising h
