@@ -54,10 +54,25 @@ pub fn faults<V: View, B: Bodies>(
     ensures circle_lines { LinesRise (circles (V.list view.old)) }
 {
     let answers = evaluate(alloc, view)?;
+    faults_by(alloc, view, book, answers.as_slice())
+}
+
+/// The same, by what `evaluate` answered of the view: nothing is asked for again.
+pub fn faults_by<V: View, B: Bodies>(
+    alloc: Global,
+    view: &V,
+    book: &B,
+    answers: &[Vec<Rc<Choice>>],
+) -> Result<Vec<Fault>, AllocError>
+    requires { map (λ list. map (λ answer. answer.value) list.items) answers.now ≡ all_answers (V.list view.now) }
+    ensures faults { IfOk result (λ list. list.items ≡ faults (V.list view.now) (B.promises book.now)) }
+    ensures once { IfOk result (λ list. AllPairs (λ f g. f ≢ g) list.items) }
+    ensures prefixes { OnOk result (LinesRise (name_prefixes (beans (V.list view.now)))) }
+{
     let mut faults = Vec::new(alloc);
-    push_of_decls(alloc, view, book, answers.as_slice(), &mut faults)?;
+    push_of_decls(alloc, view, book, answers, &mut faults)?;
     push_of_names(alloc, view, &mut faults)?;
-    push_of_circles(alloc, view, answers.as_slice(), &mut faults)?;
+    push_of_circles(alloc, view, answers, &mut faults)?;
     Ok(faults)
 }
 

@@ -6,4 +6,4 @@ mod deployment;
 mod names;
 mod records;
 
-pub use deployment::faults;
+pub use deployment::{faults, faults_by};
