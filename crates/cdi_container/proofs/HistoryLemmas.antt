@@ -5,6 +5,7 @@ use Rattle.std.specs.declared.alloc.AllocError.{AllocError}
 use Rattle.cdi_model.specs.declared.decl.Decl.{Decl}
 use Rattle.cdi_model.specs.declared.refusal.Refusal.{Refusal}
 use Rattle.cdi_model.specs.declared.edit.Edit.{Edit}
+use Rattle.cdi_model.specs.declared.edit.Edit.TheVariants.{Put as PutEdit, Remove as RemoveEdit}
 use Rattle.cdi_model.specs.Edits.{edited, edited_all}
 use Rattle.cdi_text.specs.Reading.{decl_of}
 use Rattle.cdi_lines.specs.declared.command.Command.{Command}
@@ -13,27 +14,31 @@ use Rattle.cdi_lines.specs.declared.command.Command.TheVariants.{BeginRequest, E
 use Rattle.cdi_lines.specs.declared.command.Command.TheVariants.{Stop, Unreadable}
 use Rattle.cdi_container.specs.declared.answer.Answer.{Answer}
 use Rattle.cdi_container.specs.declared.answer.Answer.TheVariants.{Done, Chosen, Intercepted, Observed, Reported, Given, Refused}
-use Rattle.cdi_container.specs.History.{State, empty, emptied, History, Acts, LegalAnswer, LegalHistory, refusal_of, refusal_of_put}
-use Rattle.cdi_container.specs.History.{with_put, accepted_put, accepted_edit, accepted_edits, RestsOnAcceptedEdits, runs}
+use Rattle.cdi_container.specs.History.{State, empty, emptied, History, Acts, EditsFrom, LegalAnswer, LegalHistory, PutsFrom, refusal_of}
+use Rattle.cdi_container.specs.History.{accepted_put, accepted_edit, accepted_edits, RestsOnAcceptedEdits, runs}
 
 edited_all-append : (ds : List Decl) (es fs : List Edit) → edited_all ds (es ++ fs) ≡ edited_all (edited_all ds es) fs
 edited_all-append ds [] fs = refl
 edited_all-append ds (e ∷ es) fs = edited_all-append (edited ds e) es fs
 
+decls_of_edit : (old new : State) (edit : Edit) → EditsFrom old edit new → new.decls ≡ edited old.decls edit
+decls_of_edit old new edit h = ap (λ s. s.decls) h.rest
+
 -- a put of what was read is one accepted edit
-put_of_read : (old : State) (read : Result Decl Refusal) → refusal_of_put old.decls read ≡ None
-    → (with_put old read).decls ≡ edited_all old.decls (accepted_put read)
-put_of_read old (Ok d) accepted = refl
-put_of_read old (Err refusal) accepted = cc
+put_of_read : (old new : State) (read : Result Decl Refusal) → PutsFrom old read new
+    → new.decls ≡ edited_all old.decls (accepted_put read)
+put_of_read old new (Ok d) h = decls_of_edit old new (PutEdit d) h
+put_of_read old new (Err refusal) h = absurd h
 
 -- what a command that was carried out leaves is what its edits make
-acts_edits : (old new : State) (command : Command) (answer : Answer) → refusal_of old command ≡ None → Acts old command answer new
+pub acts_edits : (old new : State) (command : Command) (answer : Answer) → refusal_of old command ≡ None → Acts old command answer new
     → new.decls ≡ edited_all old.decls (accepted_edit command (Ok answer))
 acts_edits old new (Put text) answer accepted h =
     subst (λ a. new.decls ≡ edited_all old.decls (accepted_edit (Put text) (Ok a))) (sym h.0)
-    (ap (λ s. s.decls) h.1 ∙ put_of_read old (decl_of text) accepted)
+    (put_of_read old new (decl_of text) h.1)
 acts_edits old new (Remove kind name) answer accepted h =
-    subst (λ a. new.decls ≡ edited_all old.decls (accepted_edit (Remove kind name) (Ok a))) (sym h.0) (ap (λ s. s.decls) h.1)
+    subst (λ a. new.decls ≡ edited_all old.decls (accepted_edit (Remove kind name) (Ok a))) (sym h.0)
+    (decls_of_edit old new (RemoveEdit kind name) h.1)
 acts_edits old new (Choose t quals) answer accepted h =
     subst (λ a. new.decls ≡ edited_all old.decls (accepted_edit (Choose t quals) (Ok a))) (sym h.0) (ap (λ s. s.decls) h.1)
 acts_edits old new (Named name) answer accepted h =

@@ -9,3 +9,6 @@ mod Going
 mod Putting
 mod HistoryLemmas
 mod SharingLemmas
+mod ToldLemmas
+mod Editing
+mod Playing

@@ -10,7 +10,7 @@ use Rattle.cdi_model.specs.declared.edit.Edit.TheVariants.{Put as PutEdit}
 use Rattle.cdi_model.specs.Edits.{refusal_of_edit, answer_of_edit}
 use Rattle.cdi_model.specs.Answering.{Answers}
 use Rattle.cdi_text.specs.Reading.{decl_of}
-use Rattle.cdi_container.specs.History.{State, refusal_of_put, with_put, left_by}
+use Rattle.cdi_container.specs.History.{State, PutsFrom, refusal_of_put, left_by}
 use Rattle.cdi_container.specs.Seen.{PutStep, answer_of_put}
 
 -- an edit that is accepted has no refusal
@@ -39,7 +39,7 @@ refused_put ds (Ok d) r h = refused ds (PutEdit d) r h
 refused_put ds (Err s) r h = cc
 
 pub put_step : (old new : State) (text : List ℕ) (result : Result (Unit {0}) Error)
-    → Answers result (answer_of_put old.decls (decl_of text)) → OnOk result (new ≡ with_put old (decl_of text))
+    → Answers result (answer_of_put old.decls (decl_of text)) → OnOk result (PutsFrom old (decl_of text) new)
     → IfErr result (λ error. new ≡ left_by error old) → PutStep old text result new
 put_step old new text (Ok u) answer ok err = (accepted_put old.decls (decl_of text) u answer, (refl, ok))
 put_step old new text (Err errors.OutOfMemory) answer ok err = err

@@ -1,7 +1,9 @@
 -- A call of the container and the printing behind it make one step.
-use Rattle.std.proofs.Common.{◌≡◌, List, [], ◌++◌, refl, subst, sym, ap, ◌∙◌, false, inl, inr, ◌⊎◌}
-use Rattle.std.specs.Prelude.{Bool, true, Result, Ok, Err}
+use Rattle.std.proofs.Common.{◌≡◌, List, [], ◌++◌, refl, subst, sym, ap, ◌∙◌, false}
+use Rattle.std.specs.Prelude.{Bool, Result, Ok, Err, if◌then◌else◌}
 use Rattle.cdi_model.specs.declared.decl.Decl.{Decl}
+use Rattle.cdi_model.specs.declared.edit.Edit.{Edit}
+use Rattle.cdi_model.specs.declared.edit.Edit.TheVariants.{Put as PutEdit, Remove as RemoveEdit}
 use Rattle.cdi_model.specs.declared.refusal.Refusal.{Refusal}
 use Rattle.cdi_text.specs.Reading.{decl_of}
 use Rattle.cdi_staging.specs.Naming.{names_of}
@@ -12,55 +14,49 @@ use Rattle.cdi_lines.specs.declared.command.Command.TheVariants.{Stop, Unreadabl
 use Rattle.cdi_container.specs.declared.answer.Answer.{Answer}
 use Rattle.cdi_container.specs.declared.answer.Answer.TheVariants.{Done, Chosen, Intercepted, Observed, Reported, Given, Refused}
 use Rattle.cdi_container.specs.Seen.{IsStep}
-use Rattle.cdi_container.specs.Text.{text_of_trace, text_of_answer}
+use Rattle.cdi_container.specs.Text.{text_of_answer}
 use Rattle.cdi_container.specs.Runner.{RunsStep, Prints}
-use Rattle.cdi_container.specs.History.{State, Acts, with_put}
+use Rattle.cdi_container.specs.History.{State, Acts, EditsFrom, PutsFrom, told_on, untold, with_request}
 use Rattle.cdi_container.specs.declared.runner.Runner.{Runner}
 
--- a command that leaves entries behind leaves the declarations
-abbrev TellsAlike : State → State → Type 0
-TellsAlike old new = (new.decls ≡ old.decls) ⊎ (new.trace ≡ [])
+-- the entries of a command are told by the declarations before it
+abbrev pub Tells : State → State → Type 0
+Tells old new = new.text ≡ told_on old new.trace
 
-put_tells_nothing : (old : State) (read : Result Decl Refusal) → (with_put old read).trace ≡ []
-put_tells_nothing old (Ok d) = refl
-put_tells_nothing old (Err refusal) = refl
+untold_tells : (old new : State) → new ≡ untold old → Tells old new
+untold_tells old new h = subst (Tells old) (sym h) refl
 
-acts_alike : (old new : State) (command : Command) (answer : Answer) → Acts old command answer new → TellsAlike old new
-acts_alike old new (Put text) answer h = inr (ap (λ s. s.trace) h.1 ∙ put_tells_nothing old (decl_of text))
-acts_alike old new (Remove kind name) answer h = inr (ap (λ s. s.trace) h.1)
-acts_alike old new (Choose t quals) answer h = inl (ap (λ s. s.decls) h.1)
-acts_alike old new (Named name) answer h = inl (ap (λ s. s.decls) h.1)
-acts_alike old new (Chain bean place) answer h = inl (ap (λ s. s.decls) h.rest)
-acts_alike old new (Observers t quals) answer h = inl (ap (λ s. s.decls) h.1)
-acts_alike old new Report answer h = inl (ap (λ s. s.decls) h.1)
-acts_alike old new (LookUp t quals) answer h = inl (ap (λ s. s.decls) h.rest)
-acts_alike old new (Call method arg t quals) answer h = inl (ap (λ s. s.decls) h.rest)
-acts_alike old new (Fire arg t quals) answer h = inl (ap (λ s. s.decls) h.rest)
-acts_alike old new BeginRequest answer h = inl (ap (λ s. s.decls) h.1)
-acts_alike old new EndRequest answer h = inl (ap (λ s. s.decls) h.rest)
-acts_alike old new Stop answer h = inl (ap (λ s. s.decls) h.rest)
-acts_alike old new Unreadable answer h = absurd h
+edit_tells : (old new : State) (edit : Edit) → EditsFrom old edit new → Tells old new
+edit_tells old new edit h = subst (Tells old) (sym h.rest) (ap (λ s. s.text) h.ends.rest)
 
-step_alike : (old new : State) (command : Command) (answer : Answer) → IsStep old command (Ok answer) new → TellsAlike old new
-step_alike old new command Done h = acts_alike old new command Done h.1
-step_alike old new command (Chosen choice) h = acts_alike old new command (Chosen choice) h.1
-step_alike old new command (Intercepted names) h = acts_alike old new command (Intercepted names) h.1
-step_alike old new command (Observed ids) h = acts_alike old new command (Observed ids) h.1
-step_alike old new command (Reported list) h = acts_alike old new command (Reported list) h.1
-step_alike old new command (Given outcome) h = acts_alike old new command (Given outcome) h.1
-step_alike old new command (Refused refusal) h = inl (ap (λ s. s.decls) h.1)
+put_tells : (old new : State) (read : Result Decl Refusal) → PutsFrom old read new → Tells old new
+put_tells old new (Ok d) h = edit_tells old new (PutEdit d) h
+put_tells old new (Err refusal) h = absurd h
 
--- a trace without entries has no text, whoever tells it
-nothing_told : (quiet : Bool) (ds es : List Decl) → text_of_trace quiet (names_of ds) [] ≡ text_of_trace quiet (names_of es) []
-nothing_told true ds es = refl
-nothing_told false ds es = refl
+pub acts_tell : (old new : State) (command : Command) (answer : Answer) → Acts old command answer new → Tells old new
+acts_tell old new (Put text) answer h = put_tells old new (decl_of text) h.1
+acts_tell old new (Remove kind name) answer h = edit_tells old new (RemoveEdit kind name) h.1
+acts_tell old new (Choose t quals) answer h = untold_tells old new h.1
+acts_tell old new (Named name) answer h = untold_tells old new h.1
+acts_tell old new (Chain bean place) answer h = untold_tells old new h.rest
+acts_tell old new (Observers t quals) answer h = untold_tells old new h.1
+acts_tell old new Report answer h = untold_tells old new h.1
+acts_tell old new (LookUp t quals) answer h = ap (λ s. s.text) h.rest
+acts_tell old new (Call method arg t quals) answer h = ap (λ s. s.text) h.rest
+acts_tell old new (Fire arg t quals) answer h = ap (λ s. s.text) h.rest
+acts_tell old new BeginRequest answer h = subst (Tells old) (sym h.1) refl
+acts_tell old new EndRequest answer h = ap (λ s. s.text) h.rest
+acts_tell old new Stop answer h = ap (λ s. s.text) h.rest
+acts_tell old new Unreadable answer h = absurd h
 
-told_alike : (quiet : Bool) (old new : State) → TellsAlike old new
-    → text_of_trace quiet (names_of new.decls) new.trace ≡ text_of_trace quiet (names_of old.decls) new.trace
-told_alike quiet old new (inl same) = ap (λ ds. text_of_trace quiet (names_of ds) new.trace) same
-told_alike quiet old new (inr none) =
-    ap (text_of_trace quiet (names_of new.decls)) none ∙ nothing_told quiet new.decls old.decls
-    ∙ sym (ap (text_of_trace quiet (names_of old.decls)) none)
+step_tells : (old new : State) (command : Command) (answer : Answer) → IsStep old command (Ok answer) new → Tells old new
+step_tells old new command Done h = acts_tell old new command Done h.1
+step_tells old new command (Chosen choice) h = acts_tell old new command (Chosen choice) h.1
+step_tells old new command (Intercepted names) h = acts_tell old new command (Intercepted names) h.1
+step_tells old new command (Observed ids) h = acts_tell old new command (Observed ids) h.1
+step_tells old new command (Reported list) h = acts_tell old new command (Reported list) h.1
+step_tells old new command (Given outcome) h = acts_tell old new command (Given outcome) h.1
+step_tells old new command (Refused refusal) h = untold_tells old new h.1
 
 pub ran : {B : Type 0} (old new : Runner B) (container : State) (command : Command) (answer : Answer)
     → IsStep old.container command (Ok answer) container → Prints (record old { container = container }) new answer
@@ -74,8 +70,8 @@ ran old new container command answer step prints = record {
     trace = sym (ap (λ s. s.trace) prints.container);
     names = refl;
   };
-  text = prints.text ∙ ap (λ t. old.out.items ++ (t ++ text_of_answer (Ok answer)))
-      (told_alike old.quiet old.container container (step_alike old.container container command answer step));
+  text = prints.text ∙ ap (λ t. old.out.items ++ ((if old.quiet then [] else t) ++ text_of_answer (Ok answer)))
+      (step_tells old.container container command answer step);
   refused = prints.refused;
   quiet = prints.quiet;
 }

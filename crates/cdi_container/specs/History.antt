@@ -25,6 +25,7 @@ use Rattle.cdi_observe.specs.Observers.{notified}
 use Rattle.cdi_staging.specs.Naming.{names_of}
 use Rattle.cdi_staging.specs.Staged.{scene_of}
 use Rattle.cdi_staging.specs.declared.names.Names.{Names}
+use Rattle.cdi_trace.specs.TraceText.{text_of_entries}
 use Rattle.cdi_validate.specs.Faults.{faults}
 use Rattle.cdi_lines.specs.declared.command.Command.{Command}
 use Rattle.cdi_lines.specs.declared.command.Command.TheVariants.{Put, Remove, Choose, Named, Chain, Observers, Report, LookUp, Call, Fire}
@@ -44,36 +45,29 @@ pub record State : Type 0 where
   pub standing : Standing
   -- the entries of the last command that was answered
   pub trace : List Entry
+  -- what is printed of them
+  pub text : List ℕ
 
 abbrev pub empty : List Promised → State
-empty book = record { decls = []; book = book; standing = cleared 0; trace = [] }
+empty book = record { decls = []; book = book; standing = cleared 0; trace = []; text = [] }
 
 abbrev pub scene : State → Scene
 scene state = scene_of state.decls state.book
 
+-- what is printed of entries on these declarations
+abbrev pub told_on : State → List Entry → List ℕ
+told_on state trace = text_of_entries (names_of state.decls) trace
+
 -- the same, behind a command that makes, calls and destroys nothing
 abbrev pub untold : State → State
-untold state = record state { trace = [] }
+untold state = record state { trace = []; text = [] }
 
 -- no instance is live and no request active; numbers go on
 abbrev pub emptied : State → State
-emptied state = record state { standing = cleared state.standing.given; trace = [] }
-
--- an accepted edit loses both contexts and the request (profile)
-abbrev pub with_edit : State → Edit → State
-with_edit state edit = record state {
-  decls = edited state.decls edit;
-  standing = cleared state.standing.given;
-  trace = [];
-}
-
--- the state behind a put of what a text spells
-abbrev pub with_put : State → Result Decl Refusal → State
-with_put state (Ok d) = with_edit state (PutEdit d)
-with_put state (Err refusal) = untold state
+emptied state = record state { standing = cleared state.standing.given; trace = []; text = [] }
 
 abbrev pub with_request : State → State
-with_request state = record state { standing = opened state.standing; trace = [] }
+with_request state = record state { standing = opened state.standing; trace = []; text = [] }
 
 -- ---- refusals
 
@@ -113,7 +107,7 @@ refusal_of state Unreadable = Some BadCommand
 
 -- nothing but what stands and the trace is changed
 abbrev pub IsRunFrom : State → State → Type 0
-IsRunFrom old new = new ≡ record old { standing = new.standing; trace = new.trace }
+IsRunFrom old new = new ≡ record old { standing = new.standing; trace = new.trace; text = told_on old new.trace }
 
 -- the run that so begins is legal and has this outcome
 pub record RunsFrom (old : State) (begun : Result Run Refusal) (answer : Answer) (new : State) : Type 0 where
@@ -136,6 +130,18 @@ pub record EndsContexts (old : State) (answer : Answer) (new : State) : Type 0 w
   pub legal : LegalEnd (scene old) old.standing new.trace new.standing
   pub rest : IsRunFrom old new
 
+-- an accepted edit first ends both contexts, as a stop does, on the declarations before it; then it changes the declarations
+-- and nothing else (profile)
+pub record EditsFrom (old : State) (edit : Edit) (new : State) : Type 0 where
+  pub stopped : State
+  pub ends : EndsContexts old Done stopped
+  pub rest : new ≡ record stopped { decls = edited old.decls edit }
+
+-- so does an accepted put of what a text spells
+abbrev pub PutsFrom : State → Result Decl Refusal → State → Type 0
+PutsFrom old (Ok d) new = EditsFrom old (PutEdit d) new
+PutsFrom old (Err refusal) new = ⊥
+
 -- the interceptors around a place of a bean are told
 pub record TellsChain (old : State) (bean : List ℕ) (place : BeanPlace) (answer : Answer) (new : State) : Type 0 where
   pub names : List (List ℕ)
@@ -145,8 +151,8 @@ pub record TellsChain (old : State) (bean : List ℕ) (place : BeanPlace) (answe
 
 -- what a command that isn't refused answers, and the state that it leaves
 abbrev pub Acts : State → Command → Answer → State → Type 0
-Acts old (Put text) answer new = (answer ≡ Done) × (new ≡ with_put old (decl_of text))
-Acts old (Remove kind name) answer new = (answer ≡ Done) × (new ≡ with_edit old (RemoveEdit kind name))
+Acts old (Put text) answer new = (answer ≡ Done) × PutsFrom old (decl_of text) new
+Acts old (Remove kind name) answer new = (answer ≡ Done) × EditsFrom old (RemoveEdit kind name) new
 Acts old (Choose t quals) answer new = (answer ≡ Chosen (chosen old.decls (beans old.decls) t quals)) × (new ≡ untold old)
 Acts old (Named name) answer new = (answer ≡ Chosen (chosen_by_name (beans old.decls) name)) × (new ≡ untold old)
 Acts old (Chain bean place) answer new = TellsChain old bean place answer new
@@ -177,16 +183,14 @@ abbrev pub left_by : Error → State → State
 left_by errors.OutOfMemory old = old
 left_by (errors.Refused refusal) old = untold old
 
--- the command makes, calls or destroys instances
+-- the command makes and calls instances
 abbrev pub runs : Command → Bool
 runs (LookUp t quals) = true
 runs (Call method arg t quals) = true
 runs (Fire arg t quals) = true
-runs EndRequest = true
-runs Stop = true
 runs command = false
 
--- what want of memory leaves: of a run no instance and no request, and otherwise all as it was
+-- what want of memory leaves: of a run no instance and no request, and otherwise, where contexts were to end too, all as it was
 abbrev pub left_unserved : State → Command → State
 left_unserved old command = if runs command then emptied old else old
 

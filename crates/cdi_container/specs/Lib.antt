@@ -1,12 +1,14 @@
 pub mod Commands
 pub mod Asked
 pub mod History
+pub mod Told
 pub mod Wired
 pub mod Seen
 pub mod Text
 pub mod Runner
 pub mod Intake
 pub mod Run
+pub use Rattle.cdi_bodies.specs.Within
 pub use Rattle.cdi_model.specs.Bytes
 pub use Rattle.cdi_model.specs.Edits
 pub use Rattle.cdi_model.specs.DeclList

@@ -1,11 +1,10 @@
 -- What running one command does to what runs it.
 use Rattle.std.specs.List.{list_any}
-use Rattle.std.specs.Prelude.{map, ◌≡◌, ℕ, Bool, false, ◌||◌, List, ◌++◌, Ok}
-use Rattle.cdi_staging.specs.Naming.{names_of}
+use Rattle.std.specs.Prelude.{map, ◌≡◌, ℕ, Bool, false, ◌||◌, List, [], ◌++◌, Ok, if◌then◌else◌}
 use Rattle.cdi_lines.specs.declared.command.Command.{Command}
 use Rattle.cdi_container.specs.declared.answer.Answer.{Answer}
 use Rattle.cdi_container.specs.History.{State, Step, LegalStep, History, LegalHistory}
-use Rattle.cdi_container.specs.Text.{text_of_step, text_of, text_of_answer, text_of_trace, is_refused, is_out_of_memory}
+use Rattle.cdi_container.specs.Text.{text_of_step, text_of, text_of_answer, is_refused, is_out_of_memory}
 use Rattle.cdi_container.specs.declared.runner.Runner.{Runner}
 
 -- one legal step of this command was made, and its text is printed behind the rest
@@ -25,7 +24,7 @@ pub record PrintsNothing {B : Type 0} (old new : Runner B) : Type 0 where
 
 -- the trace that a state shows, unless it is left out
 abbrev pub text_shown : Bool → State → List ℕ
-text_shown quiet state = text_of_trace quiet (names_of state.decls) state.trace
+text_shown quiet state = if quiet then [] else state.text
 
 -- the trace of the container and an answer were printed, and the container stays
 pub record Prints {B : Type 0} (old new : Runner B) (answer : Answer) : Type 0 where

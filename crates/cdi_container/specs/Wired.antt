@@ -1,20 +1,20 @@
 -- What is kept of a deployment between questions.
-use Rattle.std.specs.Prelude.{◌≡◌, ℕ, ◌<◌, Bool, true, false, List, [], length, Option, Some, None, IsSome, Result, Ok, Err}
+use Rattle.std.specs.Prelude.{◌≡◌, ℕ, ◌<◌, Bool, true, false, List, [], length, Option, Some, None, IsSome, unwrap_or, if◌then◌else◌}
 use Rattle.cdi_model.specs.declared.decl.Decl.{Decl}
-use Rattle.cdi_model.specs.Edits.{edited}
 use Rattle.cdi_model.specs.declared.edit.Edit.{Edit}
+use Rattle.cdi_model.specs.declared.edit.Edit.TheVariants as edits
+use Rattle.cdi_model.specs.Short.{HasShortLists}
 use Rattle.cdi_bodies.specs.Book.{Promised}
-use Rattle.cdi_contexts.specs.Standing.{cleared}
-use Rattle.cdi_model.specs.declared.refusal.Error.{Error}
-use Rattle.cdi_model.specs.declared.refusal.Error.TheVariants as errors
 use Rattle.cdi_legal.specs.Furnished.{IsFurnished}
-use Rattle.cdi_legal.specs.Moment.{Moment, beginning}
+use Rattle.cdi_legal.specs.Moment.{Moment}
+use Rattle.cdi_legal.specs.Rooted.{IsRooted}
 use Rattle.cdi_scene.specs.Scene.{bean_at}
 use Rattle.cdi_scene.specs.Sound.{IsSound}
 use Rattle.cdi_scene.specs.declared.scene.Scene.{Scene}
 use Rattle.cdi_run.specs.Known.{IsUsable}
 use Rattle.cdi_staging.specs.Naming.{names_of}
 use Rattle.cdi_staging.specs.Staged.{scene_of}
+use Rattle.cdi_staging.specs.declared.names.Names.{Names}
 use Rattle.cdi_validate.specs.Faults.{faults}
 use Rattle.cdi_container.specs.declared.asked.Aim.{Aim}
 use Rattle.cdi_container.specs.declared.wiring.Wired.{Wired}
@@ -48,8 +48,18 @@ abbrev pub IsWiringOf : List Decl → List Promised → Wiring → Type 0
 IsWiringOf ds book (wirings.Faulty count) = (count ≡ length (faults ds book)) × (0 < count)
 IsWiringOf ds book (wirings.Sound wired) = IsWiredOf ds book wired
 
-abbrev pub without_wiring : Deployed → Edit → Deployed
-without_wiring d edit = record { decls = edited d.decls edit; book = d.book; is_wired = false }
+-- what is put has short lists
+abbrev pub IsShortEdit : Edit → Type 0
+IsShortEdit (edits.Put d) = HasShortLists d
+IsShortEdit (edits.Remove kind name) = Unit {0}
+
+-- the names of a scene that was there
+abbrev pub names_if : Deployed → Option Names
+names_if d = if d.is_wired then Some (names_of d.decls) else None
+
+-- what the trace is told by: names from before, where the declarations have changed since, and else theirs
+abbrev pub told_by : Deployed → Option Names → Names
+told_by d before = unwrap_or before (names_of d.decls)
 
 -- it is the same deployment, whose scene is there if it was
 pub record IsSameDeployment (old new : Deployed) : Type 0 where
@@ -57,19 +67,16 @@ pub record IsSameDeployment (old new : Deployed) : Type 0 where
   pub book : new.book ≡ old.book
   pub wired : old.is_wired ≡ true → new.is_wired ≡ true
 
--- without a scene nothing is live, and nothing is told; each ready instance has its dependent objects
-pub record RestsOnScene (d : Deployed) (m : Moment) : Type 0 where
+-- Without a scene nothing is live, and nothing is told but by names from before, which are there only without one. Each live
+-- instance stands in a context or was made for a point of a live one, and each ready one has its dependent objects.
+pub record RestsOnScene (d : Deployed) (m : Moment) (before : Option Names) : Type 0 where
   pub nothing_lives : d.is_wired ≡ false → m.standing.live ≡ []
-  pub nothing_told : d.is_wired ≡ false → m.trace ≡ []
+  pub nothing_told : d.is_wired ≡ false → before ≡ None → m.trace ≡ []
+  pub told_now : d.is_wired ≡ true → before ≡ None
+  pub rooted : IsRooted m.standing.live
   pub furnished : IsFurnished (scene_of d.decls d.book) m.standing.live
 
 -- the bean that is aimed at is there, with the method that is called
 pub record StandsIn (scene : Scene) (aim : Aim) : Type 0 where
   pub there : IsSome (bean_at scene aim.bean)
   pub usable : IsUsable scene aim.bean aim.wanted
-
--- where a run stands behind an edit that ended so
-abbrev pub behind_edit : Result (Unit {0}) Error → Moment → Moment
-behind_edit (Ok u) m = beginning (cleared m.standing.given)
-behind_edit (Err (errors.Refused refusal)) m = beginning m.standing
-behind_edit (Err errors.OutOfMemory) m = m

@@ -1,7 +1,7 @@
 //! The container.
-ghost use Rattle.std.specs.Prelude.{◌≡◌, ◌≢◌, AllPairs, OnOk, OnErr, IfOk, IfErr};
+ghost use Rattle.std.specs.Prelude.{◌≡◌, ◌≢◌, [], AllPairs, OnOk, OnErr, IfOk, IfErr};
 ghost use Rattle.cdi_model.specs.declared.edit.Edit.TheVariants.{Remove as RemoveEdit};
-ghost use Rattle.cdi_model.specs.Edits.{answer_of_edit as answer_of_removal};
+ghost use Rattle.cdi_model.specs.Edits.{answer_of_edit as answer_of_removal, answer_of_edit};
 ghost use Rattle.cdi_model.specs.Answering.{Answers};
 ghost use Rattle.cdi_text.specs.Reading.{decl_of};
 ghost use Rattle.cdi_effective.specs.Beans.{beans};
@@ -9,8 +9,8 @@ ghost use Rattle.cdi_resolve.specs.Choices.{chosen, chosen_by_name};
 ghost use Rattle.cdi_intercept.specs.Chains.{chain_of};
 ghost use Rattle.cdi_observe.specs.Observers.{notified};
 ghost use Rattle.cdi_validate.specs.Faults.{faults};
-ghost use Rattle.cdi_container.specs.Wired.{behind_edit};
-ghost use Rattle.cdi_container.specs.History.{History, left_by, untold, with_edit, with_put, RestsOnAcceptedEdits, SharesInstances};
+ghost use Rattle.cdi_container.specs.Wired.{IsShortEdit};
+ghost use Rattle.cdi_container.specs.History.{EditsFrom, History, PutsFrom, left_by, untold, RestsOnAcceptedEdits, SharesInstances};
 
 use crate::answer::{
     Answer, answer_of_begin, answer_of_chain, answer_of_choice, answer_of_edit,
@@ -22,9 +22,10 @@ use cdi_contexts::Contexts;
 use cdi_faults::Fault;
 use cdi_legal::{Entry, Run};
 use cdi_lines::Command;
-use cdi_model::{BeanPlace, Error, Kind, Name, Quals, Refusal, Seq, Work};
+use cdi_model::{BeanPlace, Edit, Error, Kind, Name, Quals, Refusal, Seq, Work};
 use cdi_observe::ObserverId;
 use cdi_resolve::Choice;
+use cdi_staging::Names;
 use cdi_text::read_decl;
 use cdi_trace::push_entries;
 use std::alloc::{AllocError, Global};
@@ -35,19 +36,22 @@ use std::marker::Model;
 /// and promises of the bodies, what stands between runs, and the trace of the last command that was answered.
 ///
 /// Each call is one step of a legal history: a refused call changes nothing. One that runs out of memory changes nothing
-/// either, but that a look-up, a call, the end of a request and a stop leave no instance and no request. Beside that step
-/// each call says by itself what it answers and what it leaves.
+/// either, but that a look-up, a call and an event leave no instance and no request. Beside that step each call says by
+/// itself what it answers and what it leaves.
 #[derive(Drop)]
 pub struct Container<B: Bodies> {
     pub(crate) alloc: Global,
     pub(crate) deployment: Deployment<B>,
     pub(crate) run: Run,
+    /// What the trace of an edit is told by: the names of the declarations before it.
+    pub(crate) told: Option<Names>,
     pub(crate) work: Work,
 }
 
 impl<B: Bodies> Model for Container<B> {
+    ghost use Rattle.cdi_trace.specs.TraceText.{text_of_entries};
     ghost use Rattle.cdi_container.specs.History.{State};
-    ghost use Rattle.cdi_container.specs.Wired.{RestsOnScene};
+    ghost use Rattle.cdi_container.specs.Wired.{RestsOnScene, told_by};
 
     ghost Value = { State };
 
@@ -56,22 +60,22 @@ impl<B: Bodies> Model for Container<B> {
       book = c.deployment.book;
       standing = c.run.moment.standing;
       trace = c.run.moment.trace;
+      text = text_of_entries (told_by c.deployment c.told) c.run.moment.trace;
     } };
 
-    ghost invariant = { λ c. RestsOnScene c.deployment c.run.moment };
+    ghost invariant = { λ c. RestsOnScene c.deployment c.run.moment c.told };
 }
 
 impl<B: Bodies> Container<B> {
     ghost use Rattle.std.specs.Prelude.{◌++◌};
-    ghost use Rattle.cdi_staging.specs.Naming.{names_of};
-    ghost use Rattle.cdi_trace.specs.TraceText.{text_of_entries};
     ghost use Rattle.cdi_container.specs.History.{empty};
+    ghost use Rattle.cdi_container.specs.Told.{IsTold};
     ghost use Rattle.cdi_container.specs.Seen.{answer_of_put, IsStep, PutStep, RemoveStep, ChooseStep, NamedStep};
     ghost use Rattle.cdi_container.specs.Seen.{ChainStep, ObserversStep};
     ghost use Rattle.cdi_container.specs.Seen.{ReportStep};
 
     /// An empty container, which keeps this book of stored bodies. It keeps the allocator, and takes no memory yet.
-    #[tactic(auto, using(crate::proofs::HistoryLemmas::rests_on_accepted_edits, crate::proofs::SharingLemmas::shares_instances))]
+    #[tactic(auto, using(crate::proofs::HistoryLemmas::rests_on_accepted_edits, crate::proofs::SharingLemmas::shares_instances, crate::proofs::ToldLemmas::is_told))]
     pub fn new(alloc: Global, book: B) -> Container<B>
         ensures empty { result ≡ empty (B.promises book) }
 
@@ -80,11 +84,15 @@ impl<B: Bodies> Container<B> {
 
         // And at most one instance of each bean with a normal scope is live at a time.
         ensures shared { (history : History) → SharesInstances history }
+
+        // What stands is told by what was commanded, answered and traced.
+        ensures told { (history : History) → IsTold history }
     {
         Container {
             alloc,
             deployment: Deployment::new(alloc, book),
             run: Run::new(Contexts::new(alloc), Vec::new(alloc)),
+            told: None,
             work: Work::new(),
         }
     }
@@ -121,44 +129,78 @@ impl<B: Bodies> Container<B> {
             Command::EndRequest => answer_of_edit(self.end_request()),
             Command::Stop => answer_of_stop(self.stop()),
             Command::Unreadable => {
-                self.run.restart();
+                self.restart();
                 Ok(Answer::Refused(Refusal::BadCommand))
             }
         }
     }
 
-    /// Puts the declaration that a TOML text spells in the place of the one of its kind and name, or at the end. No
-    /// instance is live afterwards, and no request active (profile). It takes memory for the declaration and its place.
+    /// Puts the declaration that a TOML text spells in the place of the one of its kind and name, or at the end. First the
+    /// request context, if a request is active, and the application context end, as they do at a `stop`, on the declarations
+    /// from before (profile). It takes memory for the declaration, for a list of all declarations, and for the entries of its
+    /// trace, all of it before the first callback: where it is wanted, nothing has changed.
     #[tactic(auto, using(crate::proofs::Putting::put_step))]
     pub fn put(&mut self, text: &[u8]) -> Result<(), Error>
         ensures answer { Answers result (answer_of_put self.old.decls (decl_of text.now)) }
-        ensures ok { OnOk result (self.new ≡ with_put self.old (decl_of text.now)) }
+        ensures ok { OnOk result (PutsFrom self.old (decl_of text.now) self.new) }
+        ensures nothing { OnOk result (self.new.standing.live ≡ []) }
         ensures err { IfErr result (λ error. self.new ≡ left_by error self.old) }
         ensures step { PutStep self.old text.now result self.new }
     {
-        let edited = match read_decl(self.alloc, text) {
-            Ok(decl) => self.deployment.put(decl),
-            Err(error) => Err(error),
-        };
-        leave_edit(&mut self.run, &edited);
-        edited
+        match read_decl(self.alloc, text) {
+            Ok(decl) => self.edit(Edit::Put(decl)),
+            Err(error) => Err(self.leave(error)),
+        }
     }
 
-    /// Removes the declaration of a kind and name. No instance is live afterwards, and no request active (profile). It
-    /// takes no memory.
+    /// Removes the declaration of a kind and name. Contexts end first, as `put` says. It takes memory as that does.
     pub fn remove(&mut self, kind: Kind, name: Name) -> Result<(), Error>
         ensures answer { Answers result (answer_of_removal self.old.decls (RemoveEdit kind name)) }
-        ensures no_memory { IfErr result (λ error. error ≢ Error.OutOfMemory) }
-        ensures ok { OnOk result (self.new ≡ with_edit self.old (RemoveEdit kind name)) }
-        ensures err { OnErr result (self.new ≡ untold self.old) }
+        ensures ok { OnOk result (EditsFrom self.old (RemoveEdit kind name) self.new) }
+        ensures nothing { OnOk result (self.new.standing.live ≡ []) }
+        ensures err { IfErr result (λ error. self.new ≡ left_by error self.old) }
         ensures step { RemoveStep self.old kind name result self.new }
     {
-        let edited = match self.deployment.remove(kind, name) {
-            Ok(()) => Ok(()),
-            Err(refusal) => Err(Error::Refused(refusal)),
-        };
-        leave_edit(&mut self.run, &edited);
-        edited
+        self.edit(Edit::Remove(kind, name))
+    }
+
+    /// An edit, with the end of both contexts before it.
+    fn edit(&mut self, edit: Edit) -> Result<(), Error>
+        requires { IsShortEdit edit }
+        ensures answer { Answers result (answer_of_edit self.old.decls edit) }
+        ensures ok { OnOk result (EditsFrom self.old edit self.new) }
+        ensures nothing { OnOk result (self.new.standing.live ≡ []) }
+        ensures err { IfErr result (λ error. self.new ≡ left_by error self.old) }
+    {
+        match self.deployment.edited(edit) {
+            Ok(next) => {
+                self.stop()?;
+                let names = self.deployment.replace(next);
+                let before = self.told.take();
+                self.told = names.or(before);
+                Ok(())
+            }
+            Err(error) => Err(self.leave(error)),
+        }
+    }
+
+    /// What is left of the trace where a command that is no run is refused, or finds no memory.
+    fn leave(&mut self, error: Error) -> Error
+        ensures same { result ≡ error }
+        ensures left { self.new ≡ left_by error self.old }
+    {
+        if let Error::Refused(_) = error {
+            self.restart();
+        }
+        error
+    }
+
+    /// A command begins: what was told is told no more.
+    pub(crate) fn restart(&mut self)
+        ensures { self.new ≡ untold self.old }
+    {
+        self.run.restart();
+        self.told = None;
     }
 
     /// Which bean is right for a type and qualifiers (CDI 4.0, Performing typesafe resolution). Where no qualifier is
@@ -175,7 +217,7 @@ impl<B: Bodies> Container<B> {
         let choice = self
             .deployment
             .choose(self.alloc, bean_type, quals, &mut self.work)?;
-        self.run.restart();
+        self.restart();
         Ok(choice)
     }
 
@@ -187,7 +229,7 @@ impl<B: Bodies> Container<B> {
         ensures step { NamedStep self.old name result self.new }
     {
         let choice = self.deployment.named(self.alloc, name)?;
-        self.run.restart();
+        self.restart();
         Ok(choice)
     }
 
@@ -203,7 +245,7 @@ impl<B: Bodies> Container<B> {
     {
         let told = self.deployment.chain(self.alloc, bean, place);
         if !matches!(told, Err(Error::OutOfMemory)) {
-            self.run.restart();
+            self.restart();
         }
         told
     }
@@ -224,7 +266,7 @@ impl<B: Bodies> Container<B> {
         let ids = self
             .deployment
             .observers(self.alloc, event_type, quals, &mut self.work)?;
-        self.run.restart();
+        self.restart();
         Ok(ids)
     }
 
@@ -239,7 +281,7 @@ impl<B: Bodies> Container<B> {
         ensures step { ReportStep self.old result self.new }
     {
         let faults = self.deployment.report(self.alloc)?;
-        self.run.restart();
+        self.restart();
         Ok(faults)
     }
 
@@ -252,24 +294,15 @@ impl<B: Bodies> Container<B> {
 
     /// Appends their text, each on a line of its own behind two spaces. It takes memory for it; at `Err` nothing is appended.
     pub fn push_trace(&self, text: &mut Vec<u8>) -> Result<(), AllocError>
-        ensures ok { OnOk result (text.new.items
-            ≡ text.old.items ++ text_of_entries (names_of self.now.decls) self.now.trace) }
+        ensures ok { OnOk result (text.new.items ≡ text.old.items ++ self.now.text) }
         ensures err { OnErr result (text.new.items ≡ text.old.items) }
     {
+        if let Some(names) = &self.told {
+            return push_entries(text, names, self.run.trace());
+        }
         if !self.deployment.is_wired() {
             return Ok(());
         }
         push_entries(text, self.deployment.names(), self.run.trace())
-    }
-}
-
-/// What an edit leaves of the contexts and the trace: nothing where it is accepted, and no trace where it is refused.
-fn leave_edit(run: &mut Run, edited: &Result<(), Error>)
-    ensures { run.new.moment ≡ behind_edit edited.now run.old.moment }
-{
-    match edited {
-        Ok(()) => run.clear(run.given()),
-        Err(Error::Refused(_)) => run.restart(),
-        Err(Error::OutOfMemory) => {}
     }
 }

@@ -1,9 +1,8 @@
 //! The present declarations and the stored bodies, and what questions have made of them.
-ghost use Rattle.std.specs.Prelude.{◌≡◌, ◌≢◌, AllPairs, IsSome, None, [], length, true, false, Err, OnOk, OnErr, IfOk};
-ghost use Rattle.cdi_model.specs.declared.edit.Edit.TheVariants.{Put, Remove};
-ghost use Rattle.cdi_model.specs.Edits.{answer_of_edit};
+ghost use Rattle.std.specs.Prelude.{◌≡◌, ◌≢◌, AllPairs, IsSome, None, [], length, true, false, Ok, Err, OnOk, OnErr, IfOk, IfErr};
+ghost use Rattle.cdi_model.specs.Edits.{answer_of_edit, edited};
 ghost use Rattle.cdi_model.specs.Answering.{Answers};
-ghost use Rattle.cdi_model.specs.Short.{HasShortLists};
+ghost use Rattle.cdi_model.specs.Short.{AreShort};
 ghost use Rattle.cdi_model.specs.Work.{with_one};
 ghost use Rattle.cdi_effective.specs.Beans.{beans};
 ghost use Rattle.cdi_resolve.specs.Choices.{chosen, chosen_by_name};
@@ -14,7 +13,7 @@ ghost use Rattle.cdi_staging.specs.Staged.{scene_of};
 ghost use Rattle.cdi_validate.specs.Faults.{faults};
 ghost use Rattle.cdi_container.specs.Asked.{aim_of, asked_for, fired_of};
 ghost use Rattle.cdi_scene.specs.Sound.{AreObservers};
-ghost use Rattle.cdi_container.specs.Wired.{StandsIn, IsSameDeployment, IsWiredOf, without_wiring};
+ghost use Rattle.cdi_container.specs.Wired.{StandsIn, IsSameDeployment, IsShortEdit, IsWiredOf, names_if};
 
 use crate::asked::{Aim, Message, aim_for, can_be_fired};
 use crate::wiring::{Wired, Wiring};
@@ -22,7 +21,7 @@ use cdi_bodies::Bodies;
 use cdi_ending::Stage;
 use cdi_faults::Fault;
 use cdi_intercept::chain_of;
-use cdi_model::{BeanPlace, Decl, Decls, Error, Kind, Name, Quals, Refusal, Seq, Work};
+use cdi_model::{BeanPlace, Decls, Edit, Error, Name, Quals, Refusal, Seq, Work};
 use cdi_observe::{ObserverId, PlainView, evaluate_observers};
 use cdi_resolve::{BeanList, Choice, choose_name};
 use cdi_run::Player;
@@ -74,31 +73,33 @@ impl<B: Bodies> Deployment<B> {
         }
     }
 
-    /// Puts a declaration in the place of the one of its kind and name, or at the end.
-    #[tactic(auto, using(cdi_model::proofs::ShortLemmas::put_short))]
-    pub(crate) fn put(&mut self, decl: Decl) -> Result<(), Error>
-        requires { HasShortLists decl }
-        ensures answer { Answers result (answer_of_edit self.old.decls (Put decl)) }
-        ensures ok { OnOk result (self.new ≡ without_wiring self.old (Put decl)) }
-        ensures err { OnErr result (self.new ≡ self.old) }
+    /// The declarations behind an edit. It takes memory for a list of them.
+    #[tactic(auto, using(crate::proofs::Editing::edit_short))]
+    pub(crate) fn edited(&self, edit: Edit) -> Result<Decls, Error>
+        requires { IsShortEdit edit }
+        ensures accepted { OnOk result (answer_of_edit self.now.decls edit ≡ Ok tt) }
+        ensures refused { IfErr result (λ error. Answers (Err error) (answer_of_edit self.now.decls edit)) }
+        ensures value { IfOk result (λ next. next ≡ edited self.now.decls edit) }
+        ensures short { IfOk result (λ next. AreShort next) }
     {
-        self.decls.put(decl)?;
-        self.beans = None;
-        self.wiring = None;
-        Ok(())
+        let mut next = self.decls.copy()?;
+        next.apply(edit)?;
+        Ok(next)
     }
 
-    /// Removes the declaration of a kind and name. It takes no memory.
-    #[tactic(auto, using(cdi_model::proofs::ShortLemmas::remove_short))]
-    pub(crate) fn remove(&mut self, kind: Kind, name: Name) -> Result<(), Refusal>
-        ensures answer { result ≡ answer_of_edit self.old.decls (Remove kind name) }
-        ensures ok { OnOk result (self.new ≡ without_wiring self.old (Remove kind name)) }
-        ensures err { OnErr result (self.new ≡ self.old) }
+    /// These declarations are present from now on; the names of those from before, where the scene was there. It takes no
+    /// memory.
+    pub(crate) fn replace(&mut self, next: Decls) -> Option<Names>
+        requires { AreShort next }
+        ensures names { result ≡ names_if self.old }
+        ensures new { self.new ≡ record self.old { decls = next; is_wired = false } }
     {
-        self.decls.remove(kind, name)?;
+        self.decls = next;
         self.beans = None;
-        self.wiring = None;
-        Ok(())
+        match self.wiring.take() {
+            Some(Wiring::Sound(wired)) => Some(wired.names),
+            _ => None,
+        }
     }
 
     /// The bean for a type and qualifiers.

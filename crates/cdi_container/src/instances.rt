@@ -1,8 +1,8 @@
 //! Look-ups, calls and events, requests, and the ends of contexts.
-ghost use Rattle.std.specs.Prelude.{◌≡◌, Some, IfOk, IfErr, OnOk, OnErr};
+ghost use Rattle.std.specs.Prelude.{◌≡◌, [], Some, IfOk, IfErr, OnOk, OnErr};
 ghost use Rattle.cdi_model.specs.Answering.{Answers};
 ghost use Rattle.cdi_container.specs.Asked.{asked_for, to_look, to_call, run_of_event, run_of_use};
-ghost use Rattle.cdi_container.specs.History.{emptied, untold, unplayed, with_request, refusal_of_begin, refusal_of_end};
+ghost use Rattle.cdi_container.specs.History.{left_by, untold, unplayed, with_request, refusal_of_begin, refusal_of_end};
 ghost use Rattle.cdi_container.specs.History.{RunAnswers, RunsFrom};
 ghost use Rattle.cdi_container.specs.History.{EndsRequest, EndsContexts};
 ghost use Rattle.cdi_container.specs.Seen.{LookUpStep, CallStep, FireStep, BeginStep, EndStep, StopStep, done_or};
@@ -62,6 +62,8 @@ impl<B: Bodies> Container<B> {
         ensures { RunAnswers self.old (run_of_use self.old.decls self.old.book (asked_for bean_type quals.now message))
             result self.new }
     {
+        self.run.restart();
+        self.told = None;
         match self
             .deployment
             .aim(self.alloc, bean_type, quals, message, &mut self.work)
@@ -88,6 +90,8 @@ impl<B: Bodies> Container<B> {
             result self.new }
         ensures step { FireStep self.old arg event_type quals.now result self.new }
     {
+        self.run.restart();
+        self.told = None;
         match self
             .deployment
             .notified(self.alloc, event_type, quals, &mut self.work)
@@ -101,14 +105,15 @@ impl<B: Bodies> Container<B> {
         }
     }
 
-    /// What is left of the contexts and the trace where a run does not begin, for this reason.
+    /// What is left of the contexts where a run does not begin, for this reason.
     fn leave_unplayed(&mut self, error: Error) -> Error
+        requires { self.old ≡ untold self.old }
         ensures same { result ≡ error }
         ensures left { self.new ≡ unplayed error self.old }
     {
-        match error {
-            Error::Refused(_) => self.run.restart(),
-            Error::OutOfMemory => self.run.clear(self.run.given()),
+        if let Error::OutOfMemory = error {
+            let given = self.run.given();
+            self.run.clear(given);
         }
         error
     }
@@ -124,6 +129,7 @@ impl<B: Bodies> Container<B> {
         ensures err { OnErr result (self.new ≡ untold self.old) }
         ensures step { BeginStep self.old result self.new }
     {
+        self.told = None;
         match self.run.begin_request() {
             Ok(()) => Ok(()),
             Err(_) => Err(Refusal::RequestActive),
@@ -131,7 +137,8 @@ impl<B: Bodies> Container<B> {
     }
 
     /// The instances of the request are destroyed, and it is active no more (CDI 4.0, Context management for built-in
-    /// scopes). It takes memory for the entries of its trace.
+    /// scopes). It takes memory for the entries of its trace, all of it before the first callback: where it is wanted, nothing
+    /// has changed.
     ///
     /// # Errors
     ///
@@ -139,33 +146,41 @@ impl<B: Bodies> Container<B> {
     pub fn end_request(&mut self) -> Result<(), Error>
         ensures answer { Answers result (done_or (refusal_of_end self.old.standing)) }
         ensures ok { OnOk result (EndsRequest self.old Answer.Done self.new) }
+        ensures err { IfErr result (λ error. self.new ≡ left_by error self.old) }
         ensures step { EndStep self.old result self.new }
     {
         if !self.run.is_active() {
-            self.run.restart();
+            self.restart();
             return Err(Error::Refused(Refusal::NoRequest));
         }
         if self.deployment.is_wired() {
             self.deployment.player().end_request(&mut self.run)?;
-        } else {
-            self.run.restart();
-            self.run.close();
+            self.told = None;
+            return Ok(());
         }
+        self.run.restart();
+        self.run.close();
+        self.told = None;
         Ok(())
     }
 
     /// The instances of the request are destroyed, if one is active, and then those of the application, and no request is
-    /// active (CDI 4.0, Context management for built-in scopes). It takes memory for the entries of its trace.
+    /// active (CDI 4.0, Context management for built-in scopes). No instance is live behind it. It takes memory for the
+    /// entries of its trace, all of it before the first callback: where it is wanted, nothing has changed.
     pub fn stop(&mut self) -> Result<(), AllocError>
         ensures ok { OnOk result (EndsContexts self.old Answer.Done self.new) }
-        ensures err { OnErr result (self.new ≡ emptied self.old) }
+        ensures nothing { OnOk result (self.new.standing.live ≡ []) }
+        ensures err { OnErr result (self.new ≡ self.old) }
         ensures step { StopStep self.old result self.new }
     {
         if self.deployment.is_wired() {
-            return self.deployment.player().end_contexts(&mut self.run);
+            self.deployment.player().end_contexts(&mut self.run)?;
+            self.told = None;
+            return Ok(());
         }
         self.run.restart();
         self.run.close();
+        self.told = None;
         Ok(())
     }
 }

@@ -14,12 +14,13 @@ mod script;
 mod wiring;
 
 pub use answer::Answer;
-pub use cdi_bodies::Book;
+pub use cdi_bodies::{Act, Body, Book, Frame, Promise};
 pub use cdi_devices::{Counted, RunFault, SCRIPT_LIMIT};
 pub use cdi_effective::BeanId;
 pub use cdi_faults::{Code, Fault, Subject};
 pub use cdi_legal::Entry;
 pub use cdi_lines::Command;
+pub use cdi_model::{Error, Failure, Ident, Name, Outcome, Quals, Refusal, Val};
 pub use cdi_observe::ObserverId;
 pub use cdi_resolve::Choice;
 pub use container::Container;

@@ -10,7 +10,7 @@ use cdi_observe::{PlainView, evaluate};
 use cdi_resolve::BeanList;
 use cdi_scene::Scene;
 use cdi_staging::{Names, names_of, scene_of};
-use cdi_validate::faults;
+use cdi_validate::faults_by;
 use std::alloc::{AllocError, Global};
 
 /// The scene of a deployment without faults, and the names that its traces are told by.
@@ -42,14 +42,15 @@ impl Wiring {
         requires short { AreShort decls.now }
         ensures { IfOk result (λ wiring. IsWiringOf decls.now (B.promises book.now) wiring) }
     {
-        let found = faults(alloc, &mut PlainView::new(decls, beans), book)?;
+        let mut view = PlainView::new(decls, beans);
+        let answers = evaluate(alloc, &mut view)?;
+        let found = faults_by(alloc, &view, book, answers.as_slice())?;
         let count = found.as_slice().len();
         if count != 0 {
             return Ok(Wiring::Faulty(count));
         }
         // No effect at run time. The proof reads here that no two declarations have one kind and name.
         let _ = decls.iter();
-        let answers = evaluate(alloc, &mut PlainView::new(decls, beans))?;
         Ok(Wiring::Sound(Wired {
             scene: scene_of(alloc, decls, beans, answers.as_slice(), book)?,
             names: names_of(alloc, decls, beans)?,

@@ -1,19 +1,20 @@
 use Rattle.std.proofs.Common.{sym, ◌∙◌}
+use Rattle.cdi_container.specs.Wired.{told_by}
 use Rattle.cdi_container.proofs.Ending.{ends_no_request, has_request, is_closed}
 use Rattle.cdi_container.proofs.container.Container.end_request.Goals as goal
 
-pub returns-else-is_wired-clause-ok : goal.returns-else-is_wired-clause-ok
-returns-else-is_wired-clause-ok g c =
+pub returns-clause-ok : goal.returns-clause-ok
+returns-clause-ok g c =
     let d = c.self.inside.deployment in
     let m = c.self.inside.run.moment in
-    ends_no_request d.decls d.book c.args.self.now m c.close.new.self.moment c.self.view_is
+    ends_no_request d.decls d.book (told_by d c.self.inside.told) c.args.self.now m c.close.new.self.moment c.self.view_is
     (c.self.invariant.nothing_lives (sym c.is_wired.ensures ∙ c.if-is_wired.false))
-    (is_closed m c.restart-else-is_wired.new.self.moment c.close.new.self.moment c.restart-else-is_wired.ensures c.close.ensures)
+    (is_closed m c.restart-2.new.self.moment c.close.new.self.moment c.restart-2.ensures.moment c.close.ensures)
 
-pub returns-else-is_wired-clause-step : goal.returns-else-is_wired-clause-step
-returns-else-is_wired-clause-step g c =
+pub returns-clause-step : goal.returns-clause-step
+returns-clause-step g c =
     let d = c.self.inside.deployment in (
-      has_request d.decls d.book c.args.self.now c.self.inside.run.moment c.self.view_is
+      has_request d.decls d.book (told_by d c.self.inside.told) c.args.self.now c.self.inside.run.moment c.self.view_is
           (sym c.is_active.ensures ∙ c.if-not-is_active.false),
-      returns-else-is_wired-clause-ok g c,
+      returns-clause-ok g c,
     )

@@ -1,0 +1,55 @@
+-- That the state behind a legal history is told by what was commanded, answered and traced.
+use Rattle.std.specs.Prelude.{◌≡◌, ℕ, List, [], ◌∷◌, Result, Ok, Err}
+use Rattle.std.specs.declared.alloc.AllocError.{AllocError}
+use Rattle.cdi_model.specs.Edits.{edited_all}
+use Rattle.cdi_bodies.specs.Book.{Promised}
+use Rattle.cdi_contexts.specs.Standing.{Standing, opened, closed}
+use Rattle.cdi_legal.specs.Follows.{after}
+use Rattle.cdi_legal.specs.declared.entry.Entry.{Entry}
+use Rattle.cdi_staging.specs.declared.names.Names.{Names}
+use Rattle.cdi_trace.specs.TraceText.{text_of_entries}
+use Rattle.cdi_lines.specs.declared.command.Command.{Command}
+use Rattle.cdi_lines.specs.declared.command.Command.TheVariants.{Put, Remove, LookUp, Call, Fire, BeginRequest, EndRequest, Stop}
+use Rattle.cdi_container.specs.declared.answer.Answer.{Answer}
+use Rattle.cdi_container.specs.declared.answer.Answer.TheVariants.{Refused}
+use Rattle.cdi_container.specs.History.{State, History, LegalHistory, empty, untold, left_unserved, accepted_edit}
+
+-- what stands behind a command that was carried out with this trace: the fold of its entries; and a request begins only by its
+-- own command, and is active no more behind the end of its context
+abbrev pub standing_behind : Command → Standing → List Entry → Standing
+standing_behind (Put text) s trace = closed (after s trace)
+standing_behind (Remove kind name) s trace = closed (after s trace)
+standing_behind (LookUp t quals) s trace = after s trace
+standing_behind (Call method arg t quals) s trace = after s trace
+standing_behind (Fire arg t quals) s trace = after s trace
+standing_behind BeginRequest s trace = opened s
+standing_behind EndRequest s trace = closed (after s trace)
+standing_behind Stop s trace = closed (after s trace)
+standing_behind command s trace = s
+
+-- the state behind a command that was carried out
+abbrev pub carried_out : State → Command → Answer → List Entry → Names → State
+carried_out old command answer trace names = record {
+  decls = edited_all old.decls (accepted_edit command (Ok answer));
+  book = old.book;
+  standing = standing_behind command old.standing trace;
+  trace = trace;
+  text = text_of_entries names trace;
+}
+
+-- the state behind a command that was answered so
+abbrev pub told_behind : State → Command → Result Answer AllocError → List Entry → Names → State
+told_behind old command (Ok (Refused refusal)) trace names = untold old
+told_behind old command (Ok answer) trace names = carried_out old command answer trace names
+told_behind old command (Err error) trace names = left_unserved old command
+
+-- the state behind some steps
+abbrev pub told_by : State → History → State
+told_by state [] = state
+told_by state (step ∷ steps) = told_by (told_behind state step.command step.answer step.trace step.names) steps
+
+-- the state behind a legal history is told by it: by its accepted edits, its traces, where requests begin and end, and where a run
+-- found no memory
+abbrev pub IsTold : History → Type 0
+IsTold history = (book : List Promised) (state : State) → LegalHistory (empty book) history state
+    → state ≡ told_by (empty book) history
