@@ -1,10 +1,10 @@
-//! Look-ups, calls, requests, a stop and an event of a container, of which any one allocation may be refused.
+//! Look-ups, calls, an event, requests, edits and a stop of a container, of which any one allocation may be refused.
 use crate::Difference;
 use crate::bodies::Bound;
-use Asked::{Begin, Call, End, Fire, LookUp, Stop};
+use Asked::{Begin, Call, End, Fire, LookUp, Put, Remove, Stop};
 use cdi_container::{Container, Entry};
 use cdi_fixtures::name;
-use cdi_model::{Error, Ident, Name, Outcome, Quals, Refusal, Val};
+use cdi_model::{Error, Ident, Kind, Name, Outcome, Quals, Refusal, Val};
 use std::alloc::{AllocError, Global};
 
 /// A call of a container. What is looked up and called, and an event, is meant by its type alone.
@@ -13,6 +13,9 @@ enum Asked {
     LookUp(&'static [u8]),
     Call(i64, &'static [u8]),
     Fire(i64, &'static [u8]),
+    Put(&'static [u8]),
+    /// Of a type.
+    Remove(&'static [u8]),
     Begin,
     End,
     Stop,
@@ -33,8 +36,10 @@ enum Going {
     Right,
     /// It answers, shows or leaves something else.
     Wrong,
-    /// It has no memory, and leaves what it is to leave.
-    Refused,
+    /// It has no memory and changes nothing, and is right when it is made again.
+    Repeated,
+    /// It has no memory, and leaves no instance, no request and no trace.
+    Emptied,
 }
 
 const NULL: Option<Val> = Some(Val::Null);
@@ -76,7 +81,7 @@ pre={body="count"}
 /// How many entries the look-up of the dependent bean with a point has.
 const ENTRIES: usize = 10;
 
-static STEPS: [Step; 10] = [
+static STEPS: [Step; 16] = [
     Step {
         asked: LookUp(b"A"),
         value: NULL,
@@ -158,7 +163,7 @@ static STEPS: [Step; 10] = [
         next: 7,
     },
     Step {
-        asked: Stop,
+        asked: Put(b"kind=\"type\"\nname=\"E\"\n"),
         value: None,
         trace: b"  destroy R#7
   gone R#7
@@ -204,6 +209,112 @@ static STEPS: [Step; 10] = [
   gone A#8
 ",
         next: 8,
+    },
+    Step {
+        asked: Call(9, b"S"),
+        value: Some(Val::Int(9)),
+        trace: b"  create S#11
+  create D#12
+  enter D#12 post arg null
+  leave null
+  ready D#12
+  create D#13
+  enter D#13 post arg null
+  leave null
+  ready D#13
+  enter S#11 construct by I arg null
+  proceed null
+  got null
+  leave null
+  enter S#11 post by I arg null
+  load null
+  store 1
+  leave 1
+  ready S#11
+  enter S#11 method run by I arg 9
+  proceed 9
+  enter S#11 method run arg 9
+  leave 9
+  got 9
+  leave 9
+",
+        next: 11,
+    },
+    Step {
+        asked: Stop,
+        value: None,
+        trace: b"  destroy S#11
+  enter S#11 pre by I arg null
+  load 1
+  store 2
+  leave 2
+  destroy D#13
+  gone D#13
+  destroy D#12
+  gone D#12
+  gone S#11
+",
+        next: 14,
+    },
+    Step {
+        asked: Begin,
+        value: None,
+        trace: b"",
+        next: 14,
+    },
+    Step {
+        asked: Call(4, b"S"),
+        value: Some(Val::Int(4)),
+        trace: b"  create S#14
+  create D#15
+  enter D#15 post arg null
+  leave null
+  ready D#15
+  create D#16
+  enter D#16 post arg null
+  leave null
+  ready D#16
+  enter S#14 construct by I arg null
+  proceed null
+  got null
+  leave null
+  enter S#14 post by I arg null
+  load null
+  store 1
+  leave 1
+  ready S#14
+  enter S#14 method run by I arg 4
+  proceed 4
+  enter S#14 method run arg 4
+  leave 4
+  got 4
+  leave 4
+",
+        next: 14,
+    },
+    Step {
+        asked: LookUp(b"R"),
+        value: NULL,
+        trace: b"  create R#17\n  ready R#17\n",
+        next: 17,
+    },
+    Step {
+        asked: Remove(b"E"),
+        value: None,
+        trace: b"  destroy R#17
+  gone R#17
+  destroy S#14
+  enter S#14 pre by I arg null
+  load 1
+  store 2
+  leave 2
+  destroy D#16
+  gone D#16
+  destroy D#15
+  gone D#15
+  gone S#14
+",
+        next: 18,
     },
 ];
 
@@ -267,6 +378,8 @@ fn make(
         LookUp(text) => return state_of(container, name(text)?, &quals),
         Call(arg, text) => return answer_of(container, name(text)?, &quals, Val::Int(*arg)),
         Fire(arg, text) => return outcome_of(container, name(text)?, &quals, Val::Int(*arg)),
+        Put(text) => declare_one(container, text)?,
+        Remove(text) => container.remove(Kind::Type, name(text)?)?,
         Begin => begin_request(container)?,
         End => end_request(container)?,
         Stop => end_contexts(container)?,
@@ -319,11 +432,42 @@ fn is_emptied(alloc: Global, container: &mut Container<Bound>, next: u64) -> Res
     Ok(is_bare && found == NULL && entries_of(container) == ENTRIES && begins_at(container, next))
 }
 
-/// How a step goes that has no memory for its call.
-fn refused(alloc: Global, container: &mut Container<Bound>, step: &Step) -> Going {
-    match is_emptied(alloc, container, step.next) {
-        Ok(true) => Going::Refused,
-        _ => Going::Wrong,
+/// Whether the type that the edits put and remove is unknown, where an edit would put it, or known, where one would remove it.
+fn is_declared_as_before(alloc: Global, container: &mut Container<Bound>, asked: &Asked) -> bool {
+    let refusal = match asked {
+        Put(_) => Refusal::UnknownName,
+        Remove(_) => Refusal::Unsatisfied,
+        _ => return true,
+    };
+    let quals = Quals::new(alloc);
+    container.lookup(Name::new(b"E"), &quals) == Err(Error::Refused(refusal))
+}
+
+/// Whether a call that found no memory has changed nothing: the trace from before is shown, the declarations are the same,
+/// and the call answers and shows the same when it is made again.
+fn is_unchanged(
+    alloc: Global,
+    container: &mut Container<Bound>,
+    step: &Step,
+    before: &[u8],
+) -> Result<bool, Error> {
+    let is_shown = shows(alloc, container, before)?;
+    let is_declared = is_declared_as_before(alloc, container, &step.asked);
+    let value = make(alloc, container, &step.asked)?;
+    Ok(is_shown && is_declared && value == step.value && shows(alloc, container, step.trace)?)
+}
+
+/// How a step goes that has no memory for its call, behind one that shows this trace.
+fn refused(alloc: Global, container: &mut Container<Bound>, step: &Step, before: &[u8]) -> Going {
+    match step.asked {
+        Put(_) | Remove(_) | End | Stop => match is_unchanged(alloc, container, step, before) {
+            Ok(true) => Going::Repeated,
+            _ => Going::Wrong,
+        },
+        _ => match is_emptied(alloc, container, step.next) {
+            Ok(true) => Going::Emptied,
+            _ => Going::Wrong,
+        },
     }
 }
 
@@ -338,15 +482,15 @@ fn shown(alloc: Global, container: &Container<Bound>, step: &Step) -> Going {
 
 fn shown_again(alloc: Global, container: &Container<Bound>, step: &Step) -> Going {
     match shows(alloc, container, step.trace) {
-        Ok(true) => Going::Refused,
+        Ok(true) => Going::Repeated,
         _ => Going::Wrong,
     }
 }
 
-fn take(alloc: Global, container: &mut Container<Bound>, step: &Step) -> Going {
+fn take(alloc: Global, container: &mut Container<Bound>, step: &Step, before: &[u8]) -> Going {
     match make(alloc, container, &step.asked) {
         Ok(value) if value == step.value => shown(alloc, container, step),
-        Err(Error::OutOfMemory) => refused(alloc, container, step),
+        Err(Error::OutOfMemory) => refused(alloc, container, step, before),
         _ => Going::Wrong,
     }
 }
@@ -362,16 +506,20 @@ fn declare(container: &mut Container<Bound>) -> Result<(), Error> {
     Ok(())
 }
 
-/// Takes the steps, and tells whether one was refused, which ends them.
+/// Takes the steps, and tells whether one had no memory. One that leaves no instance then ends them.
 fn take_steps(alloc: Global, container: &mut Container<Bound>) -> Result<bool, Difference> {
+    let mut before: &[u8] = b"";
+    let mut is_refused = false;
     for (place, step) in STEPS.iter().enumerate() {
-        match take(alloc, container, step) {
+        match take(alloc, container, step, before) {
             Going::Right => {}
+            Going::Repeated => is_refused = true,
             Going::Wrong => return Err(Difference::Step(place)),
-            Going::Refused => return Ok(true),
+            Going::Emptied => return Ok(true),
         }
+        before = step.trace;
     }
-    Ok(false)
+    Ok(is_refused)
 }
 
 /// Declares what the steps need, takes them, and tells whether there was no memory for one of these.
@@ -392,8 +540,8 @@ fn run_once(alloc: Global) -> Result<bool, Difference> {
     go_through(alloc, &mut container)
 }
 
-/// Takes the steps in a container, and tells whether one had no memory. Where one has none, it leaves no instance, no
-/// request and no trace, and the steps are taken in a new container.
+/// Takes the steps in a container, and tells whether one had no memory. Where one had none, all steps are taken in a new
+/// container once more.
 pub fn run_steps(alloc: Global) -> Result<bool, Difference> {
     if !run_once(alloc)? {
         return Ok(false);
