@@ -128,7 +128,7 @@ class Planner:
             ("around_invoke", 0.8, AROUND),
             ("around_construct", 0.4, AROUND),
             ("post", 0.4, AROUND),
-            ("pre", 0.4, AROUND_DESTRUCTION),
+            ("pre", 0.6, AROUND_DESTRUCTION),
         ]:
             if self.maybe(chance):
                 declaration[place] = self.part(points if place != "pre" else [], bodies)
@@ -140,7 +140,7 @@ class Planner:
         for place, chance, bodies in [
             ("construct", 0.3, PLAIN),
             ("post", 0.3, PLAIN),
-            ("pre", 0.4, BEFORE_DESTRUCTION),
+            ("pre", 0.6, BEFORE_DESTRUCTION),
         ]:
             if self.maybe(chance):
                 declaration[place] = self.part(points if place != "pre" else [], bodies)
@@ -211,17 +211,17 @@ class Commander:
     def put(self, declaration):
         return self.text_of_put(declaration), self.model.put(declaration)
 
-    def script(self):
+    def script(self, length):
         beans = self.planner.declarations()
         steps = [self.put(declaration) for declaration in beans]
         steps.append(("report\n", self.model.report()))
         if self.planner.interceptors:
             steps.extend(self.chain(name) for name in self.planner.names)
         changing = [found for found in beans if found["kind"] in ("bean", "interceptor")]
-        for _ in range(self.chance.randint(10, 40)):
+        for _ in range(length * self.chance.randint(10, 40)):
             steps.append(self.command())
-            if self.chance.random() < 0.05:
-                steps.extend(self.edits(self.chance.choice(changing)))
+            if self.chance.random() < (0.3 if self.model.runs.live else 0.05):
+                steps.extend(self.edits(changing))
         return steps
 
     def command(self):
@@ -282,9 +282,36 @@ class Commander:
             return name, [("Named", "nobody")], " Named(nobody)"
         return (name, [("Any", ())], " Any") if draw < 0.2 else (name, [], "")
 
-    def edits(self, bean):
-        """A put of what is there, or of something wrong that is mended after a command or two."""
+    def edits(self, changing):
+        """An edit of one of these declarations, which ends what is live by those from before; or one that is refused."""
+        place = self.chance.randrange(len(changing))
+        present, draw = changing[place], self.chance.random()
+        if draw < 0.2:
+            return [self.put(present)]
+        if draw < 0.55:
+            changing[place] = self.anew(present)
+            return [self.put(changing[place])]
+        if draw < 0.65:
+            return [self.refused()]
+        if draw < 0.75 and present["kind"] == "interceptor":
+            wrong = self.drop("interceptor", present["name"])
+        else:
+            wrong = self.put(self.planner.faulty(present))
+        return [wrong, *(self.command() for _ in range(self.chance.randint(0, 2))), self.put(present)]
+
+    def anew(self, present):
+        """Another declaration of the same bean or interceptor: its bodies, its callbacks and its observer methods are others."""
+        name = present["name"]
+        if present["kind"] == "interceptor":
+            return self.planner.interceptor(name)
+        return self.planner.helper() if name == HELPER else self.planner.bean(name)
+
+    def drop(self, kind, name):
+        return f"drop {kind} {name}\n", self.model.drop(kind, name)
+
+    def refused(self):
+        """A drop or a put that is refused, and ends nothing."""
         if self.planner.maybe(0.5):
-            return [self.put(bean)]
-        wrong = self.put(self.planner.faulty(bean))
-        return [wrong, *(self.command() for _ in range(self.chance.randint(0, 2))), self.put(bean)]
+            return self.drop("bean", "shop.Nowhere")
+        text = 'kind = "bean"\nname = "shop.Nowhere"\ncolour = "red"\n'
+        return f"put\n{text}.\n", self.model.put_text(text)

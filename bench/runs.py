@@ -92,10 +92,8 @@ class Runs:
         self.around = {}
         self.observing = {}
 
-    def lose(self):
-        """What an accepted edit leaves: no instance and no request."""
-        self.live = []
-        self.is_active = False
+    def forget(self):
+        """Forgets what was found of the declarations, which change."""
         self.chosen = {}
         self.around = {}
         self.observing = {}

@@ -34,9 +34,10 @@ KINDS = ["type"] * 3 + ["qualifier", "binding"] + ["stereotype"] * 2 + ["interce
 class Writer:
     """Random declarations, commands and their texts."""
 
-    def __init__(self, seed, new_model):
+    def __init__(self, seed, new_model, length=1):
         self.random = random.Random(seed)
         self.new_model = new_model
+        self.length = length
 
     def maybe(self, chance):
         return self.random.random() < chance
@@ -265,10 +266,10 @@ class Writer:
         """
         model, steps = self.new_model(), []
         if self.maybe(0.5):
-            return Commander(self.random, model, text_of_put).script()
+            return Commander(self.random, model, text_of_put).script(self.length)
         if self.maybe(0.5):
             steps = [self.put(model, kind) for kind in ["binding"] * 2 + ["interceptor"] * 3]
-        for _ in range(self.random.randint(5, 25)):
+        for _ in range(self.length * self.random.randint(5, 25)):
             steps.append(self.edit(model))
             steps.extend(self.question(model) for _ in range(self.random.randint(0, 4)))
             steps.extend(self.run(model) for _ in range(self.random.randint(0, 1)))
