@@ -1,18 +1,14 @@
--- The ends of contexts where no instance is live, and what the container keeps beside them.
-use Rattle.std.proofs.Common.{◌≡◌, List, [], refl, sym, subst, ◌∙◌, true, false, Option, None}
+-- Where no instance is live, the end of a request and a stop are legal with no entry.
+use Rattle.std.proofs.Common.{◌≡◌, List, [], true, None, refl, sym, subst}
 use Rattle.cdi_model.specs.declared.decl.Decl.{Decl}
 use Rattle.cdi_bodies.specs.Book.{Promised}
 use Rattle.cdi_contexts.specs.Standing.{closed}
 use Rattle.cdi_legal.specs.Moment.{Moment, beginning}
-use Rattle.cdi_legal.specs.Furnished.{IsFurnished}
-use Rattle.cdi_legal.specs.Rooted.{IsRooted}
 use Rattle.cdi_legal.proofs.Commands.{empty_ends}
 use Rattle.cdi_staging.specs.Naming.{names_of}
-use Rattle.cdi_staging.specs.Staged.{scene_of}
 use Rattle.cdi_staging.specs.declared.names.Names.{Names}
 use Rattle.cdi_trace.specs.TraceText.{text_of_entries}
 use Rattle.cdi_container.specs.declared.answer.Answer.TheVariants.{Done}
-use Rattle.cdi_container.specs.Wired.{Deployed, RestsOnScene}
 use Rattle.cdi_container.specs.History.{State, EndsRequest, EndsContexts, refusal_of_end, scene}
 
 -- the state where a run stands so, and its trace is told by these names
@@ -52,42 +48,3 @@ pub has_request : (ds : List Decl) (book : List Promised) (names : Names) (old :
 has_request ds book names old m is active =
     let here : refusal_of_end m.standing ≡ None = rw active refl in
     subst (λ s. refusal_of_end s.standing ≡ None) is here
-
--- ---- what is kept rests on the scene
-
--- behind the beginning of a command
-pub rests_restarted : (d : Deployed) (m n : Moment) (before : Option Names) → RestsOnScene d m before → n ≡ beginning m.standing
-    → RestsOnScene d n None
-rests_restarted d m n before r e =
-    subst (λ (x : Moment). RestsOnScene d x None) (sym e)
-    (record {
-      nothing_lives = r.nothing_lives;
-      nothing_told = λ w b. refl;
-      told_now = λ w. refl;
-      rooted = r.rooted;
-      furnished = r.furnished;
-    })
-
--- where nothing is live and no request is active any more
-pub rests_closed : (d : Deployed) (m n : Moment) (before : Option Names) → RestsOnScene d m before → IsClosed m n
-    → RestsOnScene d n None
-rests_closed d m n before r e =
-    subst (λ (x : Moment). RestsOnScene d x None) (sym e)
-    (record {
-      nothing_lives = r.nothing_lives;
-      nothing_told = λ w b. refl;
-      told_now = λ w. refl;
-      rooted = r.rooted;
-      furnished = r.furnished;
-    })
-
--- behind a run or an end, which leaves the scene
-pub rests_played : (d : Deployed) (n : Moment) → d.is_wired ≡ true → IsRooted n.standing.live
-    → IsFurnished (scene_of d.decls d.book) n.standing.live → RestsOnScene d n None
-rests_played d n wired rooted furnished = record {
-  nothing_lives = λ w. absurd (let no : true ≡ false = sym wired ∙ w in cc);
-  nothing_told = λ w b. absurd (let no : true ≡ false = sym wired ∙ w in cc);
-  told_now = λ w. refl;
-  rooted = rooted;
-  furnished = furnished;
-}

@@ -1,4 +1,4 @@
--- What is kept rests on the scene behind a look-up, a call or an event.
+-- What is kept rests on the scene behind a look-up, a call or an event, however it ended.
 use Rattle.std.proofs.Common.{◌≡◌, Bool, true, false, List, Option, None, refl, sym, subst, ◌∙◌}
 use Rattle.cdi_model.specs.declared.decl.Decl.{Decl}
 use Rattle.cdi_bodies.specs.Book.{Promised}
@@ -11,7 +11,19 @@ use Rattle.cdi_scene.specs.declared.scene.Scene.{Scene}
 use Rattle.cdi_staging.specs.Staged.{scene_of}
 use Rattle.cdi_staging.specs.declared.names.Names.{Names}
 use Rattle.cdi_container.specs.Wired.{Deployed, IsSameDeployment, RestsOnScene}
-use Rattle.cdi_container.proofs.Ending.{rests_played, rests_restarted}
+
+-- behind the beginning of a command
+rests_restarted : (d : Deployed) (m n : Moment) (before : Option Names) → RestsOnScene d m before → n ≡ beginning m.standing
+    → RestsOnScene d n None
+rests_restarted d m n before r e =
+    subst (λ (x : Moment). RestsOnScene d x None) (sym e)
+    (record {
+      nothing_lives = r.nothing_lives;
+      nothing_told = λ w b. refl;
+      told_now = λ w. refl;
+      rooted = r.rooted;
+      furnished = r.furnished;
+    })
 
 -- where memory was wanted
 pub rests_cleared : (d : Deployed) (m n : Moment) → n ≡ beginning (cleared m.standing.given) → RestsOnScene d n None
@@ -23,6 +35,17 @@ rests_cleared d m n e =
       rooted = tt;
       furnished = tt;
     })
+
+-- behind what leaves the scene
+rests_played : (d : Deployed) (n : Moment) → d.is_wired ≡ true → IsRooted n.standing.live
+    → IsFurnished (scene_of d.decls d.book) n.standing.live → RestsOnScene d n None
+rests_played d n wired rooted furnished = record {
+  nothing_lives = λ w. absurd (let no : true ≡ false = sym wired ∙ w in cc);
+  nothing_told = λ w b. absurd (let no : true ≡ false = sym wired ∙ w in cc);
+  told_now = λ w. refl;
+  rooted = rooted;
+  furnished = furnished;
+}
 
 -- behind a run
 pub rests_ran : (d : Deployed) (s : Scene) (m begun n : Moment) → d.is_wired ≡ true → s ≡ scene_of d.decls d.book

@@ -14,7 +14,7 @@ mod script;
 mod wiring;
 
 pub use answer::Answer;
-pub use cdi_bodies::{Act, Body, Book, Frame, Promise};
+pub use cdi_bodies::{Act, Bodies, Body, Book, Frame, Promise};
 pub use cdi_devices::{Counted, RunFault, SCRIPT_LIMIT};
 pub use cdi_effective::BeanId;
 pub use cdi_faults::{Code, Fault, Subject};
