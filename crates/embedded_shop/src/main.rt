@@ -5,24 +5,18 @@
 ghost use Rattle.cdi_container.specs.Within.{IsWithin};
 
 use cdi_container::{
-    Act, Body, Book, Container, Error, Frame, Ident, Name, Outcome, Promise, Quals, Val,
+    Act, Bodies, Body, Book, Container, Error, Frame, Ident, Name, Outcome, Promise, Quals, Val,
 };
 use std::alloc::Global;
 use std::io::{self, Write};
 
-const CLASS: &[u8] = b"kind = \"type\"\nname = \"Shop\"\n";
+const CLASS: &[u8] = b"kind = 'type'\nname = 'Shop'\n";
 
-const SHOP: &[u8] = br#"kind = "bean"
-name = "Shop"
-scope = "application"
-methods = [{ name = "sell", body = "full" }]
-"#;
+const SHOP: &[u8] =
+    b"kind='bean'\nname='Shop'\nscope='application'\nmethods=[{name='sell',body='full'}]\n";
 
-const SALE: &[u8] = br#"kind = "bean"
-name = "Shop"
-scope = "application"
-methods = [{ name = "sell", body = "reduced" }]
-"#;
+const SALE: &[u8] =
+    b"kind='bean'\nname='Shop'\nscope='application'\nmethods=[{name='sell',body='less'}]\n";
 
 /// Loads what the shop has taken so far, stores it with the price of these pieces, and returns the sum.
 fn sell(frame: &Frame, price: i64) -> Act
@@ -43,36 +37,43 @@ fn sell(frame: &Frame, price: i64) -> Act
     }
 }
 
-/// Sells three pieces, and appends what that did.
-fn ask(alloc: Global, shop: &mut Container<Book>, told: &mut Vec<u8>) -> Result<(), Error> {
-    let quals = Quals::new(alloc);
-    shop.call(Name::new(b"Shop"), &quals, Ident::new(b"sell"), Val::Int(3))?;
-    shop.push_trace(told)?;
-    Ok(())
+fn declare<B: Bodies>(shop: &mut Container<B>, text: &[u8]) -> Result<(), Error> {
+    shop.put(text)
 }
 
-fn trade(alloc: Global, price: i64, reduced: i64) -> Result<Vec<u8>, Error> {
-    let full = Box::new(alloc, move |frame: &Frame| sell(frame, price))?;
-    let less = Box::new(alloc, move |frame: &Frame| sell(frame, reduced))?;
+/// Sells three pieces, and appends what the edit before and the sale did.
+fn sale<B: Bodies>(alloc: Global, shop: &mut Container<B>, log: &mut Vec<u8>) -> Result<(), Error> {
+    shop.push_trace(log)?;
+    let quals = Quals::new(alloc);
+    shop.call(Name::new(b"Shop"), &quals, Ident::new(b"sell"), Val::Int(3))?;
+    Ok(shop.push_trace(log)?)
+}
+
+/// Declares the shop, sells, declares it anew, sells again, and answers what was done.
+fn trade<B: Bodies + Drop>(alloc: Global, book: B) -> Result<Vec<u8>, Error> {
+    let mut shop = Container::new(alloc, book);
+    let mut log = Vec::new(alloc);
+    declare(&mut shop, CLASS)?;
+    declare(&mut shop, SHOP)?;
+    sale(alloc, &mut shop, &mut log)?;
+    declare(&mut shop, SALE)?;
+    sale(alloc, &mut shop, &mut log)?;
+    Ok(log)
+}
+
+/// Stores the sale at either price, and trades with both.
+fn trade_at(alloc: Global, full: i64, less: i64) -> Result<Vec<u8>, Error> {
+    let full = Box::new(alloc, move |frame: &Frame| sell(frame, full))?;
+    let less = Box::new(alloc, move |frame: &Frame| sell(frame, less))?;
     let mut bodies = Vec::new(alloc);
     bodies.push(Body::new(Ident::new(b"full"), Promise::LOAD_STORE, full))?;
-    bodies.push(Body::new(Ident::new(b"reduced"), Promise::LOAD_STORE, less))?;
-    let book = Book::new(bodies).map_err(|_| Error::OutOfMemory)?;
-
-    let mut shop = Container::new(alloc, book);
-    let mut told = Vec::new(alloc);
-    shop.put(CLASS)?;
-    shop.put(SHOP)?;
-    ask(alloc, &mut shop, &mut told)?;
-    shop.put(SALE)?;
-    shop.push_trace(&mut told)?;
-    ask(alloc, &mut shop, &mut told)?;
-    Ok(told)
+    bodies.push(Body::new(Ident::new(b"less"), Promise::LOAD_STORE, less))?;
+    trade(alloc, Book::new(bodies).map_err(|_| Error::OutOfMemory)?)
 }
 
 fn main(rt: HostRuntime) -> io::Result<()> {
-    match trade(rt.alloc(), 10, 7) {
-        Ok(told) => io::writer(&rt).write_all(told.as_slice()),
+    match trade_at(rt.alloc(), 10, 7) {
+        Ok(log) => io::writer(&rt).write_all(log.as_slice()),
         Err(error) => println!(&rt; "{error}"),
     }
 }
