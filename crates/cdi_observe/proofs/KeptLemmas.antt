@@ -13,10 +13,10 @@ use Rattle.std.proofs.lemmas.List.Sums.{AllPass-from_list_all, fold-append, list
 use Rattle.cdi_model.specs.declared.decl.Decl.{Decl}
 use Rattle.cdi_model.specs.Work.{with_one}
 use Rattle.cdi_observe.specs.Keys.{Key, same_key, has_key}
-use Rattle.cdi_observe.specs.Wanted.{wanted, is_wanted}
+use Rattle.cdi_observe.specs.Wanted.{wanted_choices, is_wanted, is_wanted_choice}
 use Rattle.cdi_observe.specs.Kept.{Kept, with_known, work_with, after_key, evaluated, unknown, KnowsWanted}
 use Rattle.cdi_observe.proofs.KeyLemmas.{same_key-decides, same_key-equiv}
-use Rattle.cdi_observe.proofs.WantedLemmas.{has-wanted, wanted-distinct}
+use Rattle.cdi_observe.proofs.WantedLemmas.{choice-is_wanted, has-wanted_choice, wanted_choices-distinct}
 
 -- what holds at all holds where there is an error
 pub where_err : {T E P : Type 0} (r : Result T E) → P → OnErr r P
@@ -99,7 +99,7 @@ known-next ds keys i key kept before lt at is all =
     (list_all-from_AllPass kept.knows (take i keys) (All-take (λ k. kept.knows k ≡ true) i keys each)))
     ∙ ap kept.knows at ∙ each i key lt
 
--- ---- the wanted keys
+-- ---- the wanted choices
 
 -- a view that keeps answers, with some more keys that it knows, each of which was counted once
 abbrev with_all : List Key → Kept → Kept
@@ -175,21 +175,10 @@ each-among P (k ∷ keys) each = (
 
 pub knows_wanted : KnowsWanted
 knows_wanted ds kept keeps =
-    evaluated-distinct ds (wanted ds) kept keeps (each-among (λ key. is_wanted ds key
-    ≡ true) (wanted ds) (λ key h. sym (has-wanted ds key) ∙ h)) (wanted-distinct ds)
+    evaluated-distinct ds (wanted_choices ds) kept keeps (each-among (λ key. is_wanted ds key ≡ true) (wanted_choices ds)
+    (λ key h. choice-is_wanted ds key (sym (has-wanted_choice ds key) ∙ h))) (wanted_choices-distinct ds)
     ∙ (λ j. record {
       keeps = true;
-      knows = λ key. kept.knows key || has-wanted ds key j;
-      work = iterate with_one (unknown kept.knows (wanted ds)) kept.work;
+      knows = λ key. kept.knows key || has-wanted_choice ds key j;
+      work = iterate with_one (unknown kept.knows (wanted_choices ds)) kept.work;
     })
-
--- after all wanted keys were evaluated each of them is known to a view that keeps answers
-pub wanted_known : (ds : List Decl) (kept : Kept) → kept.keeps ≡ true → (key : Key) → is_wanted ds key ≡ true
-    → (evaluated ds (wanted ds) kept).knows key ≡ true
-wanted_known ds kept keeps key wants =
-    ap (λ after. after.knows key) (knows_wanted ds kept keeps) ∙ or_right (kept.knows key) (is_wanted ds key) wants
-
--- and its work has risen once for each of them that was not known
-pub wanted_work : (ds : List Decl) (kept : Kept) → kept.keeps ≡ true
-    → (evaluated ds (wanted ds) kept).work ≡ iterate with_one (unknown kept.knows (wanted ds)) kept.work
-wanted_work ds kept keeps = ap (λ after. after.work) (knows_wanted ds kept keeps)

@@ -4,7 +4,7 @@ use Rattle.std.specs.Fn.{iterate}
 use Rattle.cdi_model.specs.declared.decl.Decl.{Decl}
 use Rattle.cdi_model.specs.Work.{with_one}
 use Rattle.cdi_observe.specs.Keys.{Key, same_key}
-use Rattle.cdi_observe.specs.Wanted.{wanted, is_wanted}
+use Rattle.cdi_observe.specs.Wanted.{wanted_choices, is_wanted, is_wanted_choice}
 
 -- whether a view keeps answers, which keys have theirs kept, and how many answers it computed: one that keeps none has no
 -- known key and tells no work
@@ -32,17 +32,17 @@ after_key ds key kept =
 abbrev pub evaluated : List Decl → List Key → Kept → Kept
 evaluated ds keys kept = fold (λ before key. after_key ds key before) kept keys
 
--- ---- the wanted keys evaluated
+-- ---- the wanted choices evaluated
 
 -- how many of some keys are not known
 abbrev pub unknown : (Key → Bool) → List Key → ℕ
 unknown knows keys = length (filter (λ key. not (knows key)) keys)
 
--- A view that keeps answers knows each wanted key after all were evaluated, and has counted each that it did not know once.
+-- A view that keeps answers knows each wanted choice after all were evaluated, and has counted each that it did not know once.
 abbrev pub KnowsWanted : Type 0
 KnowsWanted = (ds : List Decl) (kept : Kept) → kept.keeps ≡ true
-    → evaluated ds (wanted ds) kept ≡ record {
+    → evaluated ds (wanted_choices ds) kept ≡ record {
       keeps = true;
-      knows = λ key. kept.knows key || is_wanted ds key;
-      work = iterate with_one (unknown kept.knows (wanted ds)) kept.work;
+      knows = λ key. kept.knows key || is_wanted_choice ds key;
+      work = iterate with_one (unknown kept.knows (wanted_choices ds)) kept.work;
     }

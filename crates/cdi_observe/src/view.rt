@@ -39,7 +39,7 @@ pub trait View {
         ensures { result.now ≡ records_in (list self.now) class };
 
     /// The bean for a type and qualifiers (CDI 4.0, Performing typesafe resolution). Where the answer was not kept, a view
-    /// that keeps answers counts one more, and keeps it if an injection point asks for it; an edit that is staged may be
+    /// that keeps answers counts one more, and keeps it if a declaration asks for it; an edit that is staged may be
     /// given up then. Where the call fails for want of memory, the view has kept and counted nothing.
     fn choose(
         &mut self,

@@ -6,7 +6,7 @@ ghost use Rattle.cdi_model.specs.DeclList.{AreDistinct};
 ghost use Rattle.cdi_effective.specs.Beans.{beans, entries};
 ghost use Rattle.cdi_observe.specs.Answers.{answer_to, answers as all_answers};
 ghost use Rattle.cdi_observe.specs.Kept.{evaluated};
-ghost use Rattle.cdi_observe.specs.Wanted.{points_of, wanted};
+ghost use Rattle.cdi_observe.specs.Wanted.{points_of, wanted_choices};
 ghost use Rattle.cdi_faults.specs.FaultText.{SubjectsInOrder};
 ghost use Rattle.cdi_validate.specs.Circles.{NeedsItselfOnCircle};
 ghost use Rattle.cdi_validate.specs.Faults.{circles, faults, faults_of, name_clashes, name_prefixes};
@@ -41,10 +41,10 @@ pub fn faults<V: View, B: Bodies>(
 ) -> Result<Vec<Fault>, AllocError>
     ensures faults { IfOk result (λ list. list.items ≡ faults (V.list view.old) (B.promises book.now)) }
     ensures list { V.list view.new ≡ V.list view.old }
-    ensures ok { OnOk result (V.kept view.new ≡ evaluated (V.list view.old) (wanted (V.list view.old)) (V.kept view.old)) }
+    ensures ok { OnOk result (V.kept view.new ≡ evaluated (V.list view.old) (wanted_choices (V.list view.old)) (V.kept view.old)) }
     ensures err { OnErr result ((i : ℕ) × (V.kept view.new
-        ≡ evaluated (V.list view.old) (take i (wanted (V.list view.old))) (V.kept view.old))) }
-    ensures staged { list_all (V.kept view.old).knows (wanted (V.list view.old)) ≡ true → V.staged view.new ≡ V.staged view.old }
+        ≡ evaluated (V.list view.old) (take i (wanted_choices (V.list view.old))) (V.kept view.old))) }
+    ensures staged { list_all (V.kept view.old).knows (wanted_choices (V.list view.old)) ≡ true → V.staged view.new ≡ V.staged view.old }
     ensures order { SubjectsInOrder }
     ensures once { IfOk result (λ list. AllPairs (λ f g. f ≢ g) list.items) }
     ensures clashes { LinesRise (name_clashes (beans (V.list view.old))) }

@@ -6,20 +6,20 @@ use Rattle.cdi_model.specs.declared.decl.Decl.{Decl}
 use Rattle.cdi_effective.specs.Beans.{beans}
 use Rattle.cdi_observe.specs.Answers.{answers}
 use Rattle.cdi_observe.specs.Kept.{Kept, evaluated}
-use Rattle.cdi_observe.specs.Wanted.{wanted}
+use Rattle.cdi_observe.specs.Wanted.{wanted_choices}
 use Rattle.cdi_faults.proofs.OrderLemmas.{subjects_in_order}
 use Rattle.cdi_validate.specs.Faults.{faults, name_prefixes, LinesRise}
 use Rattle.cdi_validate.proofs.BehindLemmas.{prefixes_go_on}
 use Rattle.cdi_validate.proofs.deployment.faults.Goals as goal
 
 -- where all keys were asked, those from the front on were, up to the last
-all_asked : {T E : Type 0} (r : Result T E) (ds : List Decl) (before after : Kept) → after ≡ evaluated ds (wanted ds) before
-    → OnErr r ((i : ℕ) × (after ≡ evaluated ds (take i (wanted ds)) before))
+all_asked : {T E : Type 0} (r : Result T E) (ds : List Decl) (before after : Kept) → after ≡ evaluated ds (wanted_choices ds) before
+    → OnErr r ((i : ℕ) × (after ≡ evaluated ds (take i (wanted_choices ds)) before))
 all_asked (Ok x) ds before after all = tt
 all_asked (Err e) ds before after all = (
-  length (wanted ds),
+  length (wanted_choices ds),
   all
-      ∙ ap (λ keys. evaluated ds keys before) (sym (take_all (length (wanted ds)) (wanted ds) (omega arith))),
+      ∙ ap (λ keys. evaluated ds keys before) (sym (take_all (length (wanted_choices ds)) (wanted_choices ds) (omega arith))),
 )
 
 pub faults_by-requires : goal.faults_by-requires
