@@ -13,7 +13,7 @@ use Rattle.std.proofs.lemmas.List.Sums.{AllPass-from_list_all, fold-append, list
 use Rattle.cdi_model.specs.declared.decl.Decl.{Decl}
 use Rattle.cdi_model.specs.Work.{with_one}
 use Rattle.cdi_observe.specs.Keys.{Key, same_key, has_key}
-use Rattle.cdi_observe.specs.Wanted.{wanted_choices, is_wanted, is_wanted_choice}
+use Rattle.cdi_observe.specs.Wanted.{wanted_choices, is_wanted}
 use Rattle.cdi_observe.specs.Kept.{Kept, with_known, work_with, after_key, evaluated, unknown, KnowsWanted}
 use Rattle.cdi_observe.proofs.KeyLemmas.{same_key-decides, same_key-equiv}
 use Rattle.cdi_observe.proofs.WantedLemmas.{choice-is_wanted, has-wanted_choice, wanted_choices-distinct}
