@@ -1,13 +1,14 @@
--- When a search ends, and what it has found then.
+-- What edges lead on, what a search that leaves no text has found, and which texts are on circles.
 use Rattle.std.proofs.Common.{◌≡◌, ◌↔◌, ℕ, Bool, true, false, cond, ◌||◌, List, [], ◌∷◌, length, refl}
-use Rattle.std.proofs.Common.{◌∙◌, ap, subst, arith, Vec, Global, Some}
+use Rattle.std.proofs.Common.{sym, ◌∙◌, ap, subst, arith, Vec, Global, Option, Some, None}
 use Rattle.std.specs.Bool.{Decides}
 use Rattle.std.specs.List.{flat_map}
 use Rattle.std.specs.BTreeMap.{is_at}
 use Rattle.std.specs.Map.{keys_of, lookup}
+use Rattle.std.specs.Option.{unwrap_or}
 use Rattle.std.specs.Str.{bytes_eq}
-use Rattle.std.proofs.lemmas.Bool.{or_parts, or_left, or_right}
-use Rattle.std.proofs.lemmas.Bool.Decides.{same_from_decides, Decides-at}
+use Rattle.std.proofs.lemmas.Bool.{and_parts, or_parts, or_left, or_right}
+use Rattle.std.proofs.lemmas.Bool.Decides.{Decides-at}
 use Rattle.std.proofs.lemmas.List.Folds.{list_any-append}
 use Rattle.std.proofs.lemmas.List.{length-map}
 use Rattle.cdi_model.specs.Bytes.{byte_order}
@@ -16,10 +17,11 @@ use Rattle.cdi_match.specs.Search.{Closing, Within}
 use Rattle.cdi_match.proofs.Chains.{reaches_from_one_decides}
 use Rattle.cdi_match.proofs.Names.{at_name, bytes_eq-turned}
 use Rattle.cdi_match.proofs.SearchLemmas.{Closing-all}
-use Rattle.cdi_circles.specs.Edges.{Edges, is_on_circle, next_in, texts_in}
+use Rattle.cdi_circles.specs.Edges.{among, is_on_circle, next_in, texts_in, Edges, LeadsOn}
 use Rattle.cdi_circles.specs.Search.{all_next}
+use Rattle.cdi_circles.proofs.ChainLemmas.{has-filter}
 
-abbrev Entries : Type 0
+abbrev pub Entries : Type 0
 Entries = List (List ℕ × Vec (List ℕ) Global)
 
 -- no edge leads from a text that has no entry
@@ -30,7 +32,7 @@ leave_entries (e ∷ es) x none =
     ap (λ b. texts_in (cond b (Some e.1) (lookup (is_at (byte_order x)) es))) (at_name x e.0 ∙ bytes_eq-turned x e.0 ∙ parts.0)
     ∙ leave_entries es x parts.1
 
-leave_only : (edges : Edges) → LeaveOnly (keys_of edges.entries) (next_in edges)
+pub leave_only : (edges : Edges) → LeaveOnly (keys_of edges.entries) (next_in edges)
 leave_only edges x none = leave_entries edges.entries x none
 
 -- what follows a text is among all that follow one
@@ -47,30 +49,13 @@ within_entries (e ∷ es) x s among =
     by true h rest = or_left _ _ h
     by false h rest = or_right _ _ (rest h)
 
-pub next_within : (edges : Edges) (x : List ℕ) → Within (next_in edges x) (all_next edges)
+next_within : (edges : Edges) (x : List ℕ) → Within (next_in edges x) (all_next edges)
 next_within edges x s among = within_entries edges.entries x s among
 
 led_to : (edges : Edges) (starts : List (List ℕ)) (s : List ℕ)
     → Decides (reaches_from_one (length edges.entries) (next_in edges) starts s) (ChainFromOne (leads (next_in edges)) starts s)
 led_to edges starts s = reaches_from_one_decides (keys_of edges.entries) (next_in edges) (leave_only edges) (length edges.entries)
     (omega (arith, length-map edges.entries (λ e. e.0))) starts s
-
-nothing : (l : List (List ℕ)) → length l ≡ 0 → l ≡ []
-nothing [] e = refl
-nothing (x ∷ xs) e = absurd (omega (arith, e))
-
--- when no text is left, those to which a chain leads were found
-pub led_to-all : (edges : Edges) (starts : List (List ℕ)) (f : List ℕ → Bool) (l : List (List ℕ)) → Closing (next_in edges) starts f l
-    → length l ≡ 0 → (s : List ℕ) → f s ≡ reaches_from_one (length edges.entries) (next_in edges) starts s
-led_to-all edges starts f l i none s =
-    same_from_decides (f s) (reaches_from_one (length edges.entries) (next_in edges) starts s)
-    (i.sound s, Closing-all (next_in edges) starts f (subst (λ texts. Closing (next_in edges) starts f texts) (nothing l none) i) s)
-    (led_to edges starts s)
-
--- a chain leads to a found text
-pub led_to-found : (edges : Edges) (starts : List (List ℕ)) (f : List ℕ → Bool) (l : List (List ℕ)) → Closing (next_in edges) starts f l
-    → (s : List ℕ) → f s ≡ true → reaches_from_one (length edges.entries) (next_in edges) starts s ≡ true
-led_to-found edges starts f l i s h = (led_to edges starts s).1 (i.sound s h)
 
 -- A chain leads back to a text from one that follows it just where the text is on a circle.
 pub circle_decides : (edges : Edges) (s : List ℕ) → Decides (is_on_circle edges s) (Circle (leads (next_in edges)) s)
@@ -83,3 +68,34 @@ circle_decides edges s =
 
 pub circle_means : (edges : Edges) (s : List ℕ) (is : Bool) → is ≡ is_on_circle edges s → (is ≡ true) ↔ Circle (leads (next_in edges)) s
 circle_means edges s is e = Decides-at is (is_on_circle edges s) e (circle_decides edges s)
+
+-- a text from which no edge leads is on no circle
+pub off_circle : (edges : Edges) (x : List ℕ) → has (keys_of edges.entries) x ≡ false → is_on_circle edges x ≡ false
+unfolding is_on_circle
+off_circle edges x none = ap (λ starts. reaches_from_one (length edges.entries) (next_in edges) starts x) (leave_only edges x none)
+
+-- those that pass a test are among all that follow one
+pub among_within : (p : List ℕ → Bool) (edges : Edges) (x : List ℕ) → Within (among p (next_in edges) x) (all_next edges)
+among_within p edges x s h =
+    next_within edges x s ((and_parts (p s) (has (next_in edges x) s) (sym (has-filter p (next_in edges x) s) ∙ h)).1)
+
+-- a search from what follows x that leaves no text has found those to which chains lead from x
+pub found-all : (next : List ℕ → List (List ℕ)) (x : List ℕ) (f : List ℕ → Bool) (l : List (List ℕ)) → Closing next (next x) f l
+    → l ≡ [] → (y : List ℕ) → (f y ≡ true) ↔ LeadsOn (leads next) x y
+found-all next x f l i none y = (
+  λ h. let chain = i.sound y h in ((chain.2).0, (chain.0, chain.1, (chain.2).1)),
+  λ on. Closing-all next (next x) f (subst (λ texts. Closing next (next x) f texts) none i) y ((on.1).0, (on.1).1, (on.0, (on.1).2)),
+)
+
+-- ---- entries that are put in
+
+-- what is left of an entry, or nothing
+pub left_in : (o : Option (Vec (List ℕ) Global)) (none : Vec (List ℕ) Global) → none.items ≡ [] → (unwrap_or o none).items ≡ texts_in o
+left_in None none empty = empty
+left_in (Some texts) none empty = refl
+
+-- an entry is taken out, and another put in
+pub texts_in-put : (b : Bool) (texts : Vec (List ℕ) Global) (o : Option (Vec (List ℕ) Global))
+    → texts_in (cond b (Some texts) (cond b None o)) ≡ cond b texts.items (texts_in o)
+texts_in-put true texts o = refl
+texts_in-put false texts o = refl

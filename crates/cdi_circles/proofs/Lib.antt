@@ -1,1 +1,4 @@
+pub mod ChainLemmas
+pub mod CircleLemmas
 pub mod EdgeLemmas
+pub mod TurnLemmas

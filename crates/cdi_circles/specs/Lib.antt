@@ -1,2 +1,4 @@
+pub mod Circles
 pub mod Edges
+pub mod Order
 pub mod Search

@@ -1,0 +1,13 @@
+use Rattle.std.proofs.Common.{◌≡◌, true, ℕ, List, vec_len}
+use Rattle.cdi_match.specs.Chain.{has}
+use Rattle.cdi_circles.specs.Circles.{is_unknown, IsSettled}
+use Rattle.cdi_circles.proofs.circles.on_circles.Given as goal
+
+abbrev pub invariant-left : goal.invariant-left
+invariant-left l = record {
+  settled : IsSettled l.edges l.circles;
+  left : (x : List ℕ) → is_unknown l.circles x ≡ true → has l.left.items x ≡ true;
+}
+
+abbrev pub decreases-left : goal.decreases-left
+decreases-left l = vec_len l.left

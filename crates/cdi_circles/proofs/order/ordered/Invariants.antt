@@ -1,0 +1,6 @@
+use Rattle.std.specs.BTreeMap.{keys}
+use Rattle.cdi_match.specs.Search.{Within}
+use Rattle.cdi_circles.proofs.order.ordered.Given as goal
+
+abbrev pub invariant-loop-node : goal.invariant-loop-node
+invariant-loop-node l = Within (keys l.edges) l.walk.order.items
