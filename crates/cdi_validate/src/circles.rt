@@ -15,7 +15,7 @@ ghost use Rattle.cdi_validate.specs.Faults.{circle, circles};
 ghost use Rattle.cdi_validate.specs.Needed.{need_by, needed_first, needs_by, needs_of_bean, AddsNeeds};
 
 use crate::records::records_of;
-use cdi_circles::{Node, reaches_itself};
+use cdi_circles::{Node, on_circles};
 use cdi_effective::{BeanId, Effective};
 use cdi_faults::Fault;
 use cdi_intercept::stands_around;
@@ -28,7 +28,7 @@ use std::io::Write;
 use std::rc::Rc;
 
 /// Appends a fault for each dependent bean that needs itself, by the answers to the injection points of each declaration.
-/// It takes memory for the dependent beans, for what they need, and for the searches.
+/// It takes memory for the dependent beans, for what they need, and for what is on circles.
 pub(crate) fn push_of_circles<V: View>(
     alloc: Global,
     view: &V,
@@ -43,7 +43,7 @@ pub(crate) fn push_of_circles<V: View>(
     push_circles(alloc, &dependents, &edges, faults)
 }
 
-/// Appends a fault for each bean that reaches itself.
+/// Appends a fault for each bean that is on a circle.
 fn push_circles(
     alloc: Global,
     dependents: &BTreeMap<Node, BeanId>,
@@ -53,8 +53,9 @@ fn push_circles(
     ensures { OnOk result (faults.new.items ≡ faults.old.items
         ++ map circle (map (λ e. e.1) (filter (λ e. is_on_circle edges.now e.0) dependents.now.entries))) }
 {
+    let found = on_circles(alloc, edges)?;
     for (node, id) in dependents.iter() {
-        if reaches_itself(alloc, edges, node)? {
+        if found.contains(node) {
             faults.push(circle(*id))?;
         }
     }

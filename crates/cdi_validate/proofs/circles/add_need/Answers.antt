@@ -9,6 +9,7 @@ use Rattle.cdi_model.specs.Bytes.{byte_order}
 use Rattle.cdi_match.specs.Chain.{has}
 use Rattle.cdi_match.proofs.Names.{at_name}
 use Rattle.cdi_circles.specs.Edges.{Edges, next_in, texts_in}
+use Rattle.cdi_circles.proofs.EdgeLemmas.{left_in, texts_in-put}
 use Rattle.cdi_validate.specs.Circles.{between}
 use Rattle.cdi_validate.specs.Needed.{needed_first, AddsNeeds}
 use Rattle.cdi_validate.proofs.NeedLemmas.{need_added}
@@ -16,15 +17,6 @@ use Rattle.cdi_validate.proofs.circles.add_need.Goals as goal
 
 abbrev Texts : Type 0
 Texts = Vec (List ℕ) Global
-
--- what is left of an entry, or nothing
-left : (o : Option Texts) (none : Texts) → none.items ≡ [] → (unwrap_or o none).items ≡ texts_in o
-left None none empty = empty
-left (Some texts) none empty = refl
-
-inserted : (t : Bool) (texts : Texts) (o : Option Texts) → texts_in (cond t (Some texts) (cond t None o)) ≡ cond t texts.items (texts_in o)
-inserted true texts o = refl
-inserted false texts o = refl
 
 removed : (t : Bool) (o : Option Texts) → texts_in (cond t None o) ≡ cond t [] (texts_in o)
 removed true o = refl
@@ -38,7 +30,7 @@ need_put : (nodes : List (List ℕ)) (old new : Edges) (node text : List ℕ) (n
     → AddsNeeds nodes ((text, needed) ∷ []) old new
 need_put nodes old new node text needed items taken o is among empty found are entries = λ x.
     need_added nodes (next_in old) (next_in new) node needed items among
-    (are ∙ ap (λ xs. xs ++ filter (has nodes) needed) (left o taken empty ∙ ap texts_in found)) entries x
+    (are ∙ ap (λ xs. xs ++ filter (has nodes) needed) (left_in o taken empty ∙ ap texts_in found)) entries x
     ∙ ap (λ t. next_in old x ++ between nodes ((t, needed) ∷ []) x) is
 
 pub returns-in_ok-insert : goal.returns-in_ok-insert
@@ -56,7 +48,7 @@ returns-in_ok-insert c =
     ∙ ap (λ t. cond t (Some next) (get byte_order between-edges x)) (at_name node x)
     ∙ ap (λ o. cond (bytes_eq node x) (Some next) o) (c.remove.ensures.updates.0 x
     ∙ ap (λ t. cond t None (get byte_order old x)) (at_name node x)))
-    ∙ inserted (bytes_eq node x) next (get byte_order old x))
+    ∙ texts_in-put (bytes_eq node x) next (get byte_order old x))
 
 pub returns-else-not-is_empty : goal.returns-else-not-is_empty
 returns-else-not-is_empty c =
