@@ -1,6 +1,6 @@
 -- What is found on circles, from one text and back.
-use Rattle.std.proofs.Common.{◌≡◌, ◌↔◌, ℕ, zero, suc, Bool, true, false, not, cond, ◌&&◌, ◌||◌, List, [], ◌∷◌, ◌++◌, refl, sym, ◌∙◌, ap, subst}
-use Rattle.std.proofs.Common.{inl, inr}
+use Rattle.std.proofs.Common.{◌≡◌, ◌↔◌, ℕ, zero, suc, Bool, true, false, not, cond, ◌&&◌, ◌||◌, List, [], ◌∷◌, ◌++◌, refl}
+use Rattle.std.proofs.Common.{sym, ◌∙◌, ap, subst, inl, inr}
 use Rattle.std.specs.Str.{bytes_eq}
 use Rattle.std.specs.BTreeMap.{keys}
 use Rattle.std.proofs.Math.Bool.{and-true, or-false}
@@ -50,6 +50,10 @@ circle_around edges back x unknown ahead circle turned pass reaches returns =
           (chain-turned (leads next) (leads behind) again x y (chain_of (leads next) x y to))));
     }
 
+-- x, and the texts that are on a circle with it, are not unknown any more
+abbrev pub TakesOut : List ℕ → Found → Found → Found → Type 0
+TakesOut x circle old new = (z : List ℕ) → new z ≡ (cond (bytes_eq x z) false (old z) && not (circle z))
+
 apart_from : (unknown : Found) (x z : List ℕ) (told now : Bool) → now ≡ (cond (bytes_eq x z) false (unknown z) && not told)
     → now ≡ true → (bytes_eq x z ≡ false) × (unknown z ≡ true) × (told ≡ false)
 apart_from unknown x z told now e h = by (bytes_eq x z) (unknown z) told refl refl refl (sym e ∙ h)
@@ -62,18 +66,18 @@ apart_from unknown x z told now e h = by (bytes_eq x z) (unknown z) told refl re
     by false true false same is tells h = (same, is, tells)
 
 -- Those that are on a circle with an unknown text are found, and neither they nor it are unknown any more.
-pub Settles-more : (edges : Edges) (x : List ℕ) (unknown found circle unknown' found' : Found) → Settles edges unknown found → unknown x ≡ true
-    → IsCircle edges x circle → ((z : List ℕ) → unknown' z ≡ (cond (bytes_eq x z) false (unknown z) && not (circle z)))
+pub Settles-more : (edges : Edges) (x : List ℕ) (unknown found circle unknown' found' : Found) → Settles edges unknown found
+    → unknown x ≡ true → IsCircle edges x circle → TakesOut x circle unknown unknown'
     → ((z : List ℕ) → found' z ≡ (found z || circle z)) → Settles edges unknown' found'
-Settles-more edges x unknown found circle unknown' found' s is_unknown is opens finds = record {
+Settles-more edges x unknown found circle unknown' found' s is_unknown is takes finds = record {
   right = λ z. right_at z (circle z) refl (bytes_eq x z) refl;
   whole = λ z y h to from. (
-      let was = apart_from unknown x z (circle z) (unknown' z) (opens z) h in
+      let was = apart_from unknown x z (circle z) (unknown' z) (takes z) h in
       let apart : circle y ≡ false = false_from_ne_true (circle y) (λ told.
       let ways = is.around y told in
       both_ways (circle z) was.2 (is.all z (leads_on-then (leads (next_in edges)) x y z ways.0 from)
       (chain-then_on (leads (next_in edges)) z y x to ways.1))) in
-      opens y ∙ rw (other z y was.0 was.2 to from, s.whole z y was.1 to from, apart) refl);
+      takes y ∙ rw (other z y was.0 was.2 to from, s.whole z y was.1 to from, apart) refl);
 }
   where
     right_at : (z : List ℕ) (told : Bool) → circle z ≡ told → (same : Bool) → bytes_eq x z ≡ same
@@ -82,7 +86,7 @@ Settles-more edges x unknown found circle unknown' found' s is_unknown is opens 
         let ways = is.around z t in
         let on : is_on_circle edges z ≡ true =
         (circle_decides edges z).1 (leads_on-then (leads (next_in edges)) z x z ways.1 (chain_of (leads (next_in edges)) x z ways.0)) in
-        let closed : unknown' z ≡ false = opens z ∙ rw t (and_right (cond (bytes_eq x z) false (unknown z)) false refl) in
+        let closed : unknown' z ≡ false = takes z ∙ rw t (and_right (cond (bytes_eq x z) false (unknown z)) false refl) in
         finds z ∙ or_right (found z) (circle z) t ∙ rw (closed, on) refl
     right_at z false t true e =
         let one : x ≡ z = one_name x z e in
@@ -95,7 +99,7 @@ Settles-more edges x unknown found circle unknown' found' s is_unknown is opens 
         let was : unknown z ≡ true = ap unknown (sym one) ∙ is_unknown in
         finds z ∙ ap (λ b. b || circle z) (s.right z) ∙ rw (was, t, off) (sym (and_right (not (unknown' z)) false refl))
     right_at z false t false e =
-        let same : unknown' z ≡ unknown z = opens z ∙ rw (e, t) (and-true (unknown z)) in
+        let same : unknown' z ≡ unknown z = takes z ∙ rw (e, t) (and-true (unknown z)) in
         finds z ∙ rw t (or-false (found z)) ∙ s.right z ∙ ap (λ b. not b && is_on_circle edges z) (sym same)
 
     other : (z y : List ℕ) → bytes_eq x z ≡ false → circle z ≡ false → Chain (leads (next_in edges)) z y
@@ -115,32 +119,30 @@ Settles-more edges x unknown found circle unknown' found' s is_unknown is opens 
             by (suc n) steps = (n, steps)
 
 -- then it is known of that text
-pub known_itself : (x : List ℕ) (unknown circle unknown' : Found)
-    → ((z : List ℕ) → unknown' z ≡ (cond (bytes_eq x z) false (unknown z) && not (circle z))) → unknown' x ≡ false
-known_itself x unknown circle unknown' opens = opens x ∙ rw (same_text x x refl) refl
+pub known_itself : (x : List ℕ) (unknown circle unknown' : Found) → TakesOut x circle unknown unknown' → unknown' x ≡ false
+known_itself x unknown circle unknown' takes = takes x ∙ rw (same_text x x refl) refl
 
--- and of no other less than before
-pub known_still : (x : List ℕ) (unknown circle unknown' : Found)
-    → ((z : List ℕ) → unknown' z ≡ (cond (bytes_eq x z) false (unknown z) && not (circle z))) → (z : List ℕ) → unknown' z ≡ true
+-- and one that is unknown still was so before
+pub known_still : (x : List ℕ) (unknown circle unknown' : Found) → TakesOut x circle unknown unknown' → (z : List ℕ) → unknown' z ≡ true
     → unknown z ≡ true
-known_still x unknown circle unknown' opens z h = (apart_from unknown x z (circle z) (unknown' z) (opens z) h).1
+known_still x unknown circle unknown' takes z h = (apart_from unknown x z (circle z) (unknown' z) (takes z) h).1
 
 -- at the beginning the texts from which edges lead are unknown
-pub Settles-begin : (edges : Edges) (unknown found : Found) → ((x : List ℕ) → unknown x ≡ has (keys edges) x) → ((x : List ℕ) → found x ≡ false)
-    → Settles edges unknown found
-Settles-begin edges unknown found opened none = record {
+pub Settles-begin : (edges : Edges) (unknown found : Found) → ((x : List ℕ) → unknown x ≡ has (keys edges) x)
+    → ((x : List ℕ) → found x ≡ false) → Settles edges unknown found
+Settles-begin edges unknown found begun none = record {
   right = λ x. none x ∙ sym (by x (unknown x) refl);
   whole = λ x y h to from. from_open x y h from.0 from.1;
 }
   where
     by : (x : List ℕ) (is : Bool) → unknown x ≡ is → (not (unknown x) && is_on_circle edges x) ≡ false
     by x true e = rw e refl
-    by x false e = rw e (off_circle edges x (sym (opened x) ∙ e))
+    by x false e = rw e (off_circle edges x (sym (begun x) ∙ e))
 
     from_open : (x y : List ℕ) → unknown x ≡ true → (n : ℕ) → Steps (leads (next_in edges)) n y x → unknown y ≡ true
     from_open x y h zero e = subst (λ u. unknown u ≡ true) (sym e) h
     from_open x y h (suc n) c = true_from_ne_false (unknown y) (λ closed.
-        both_ways (leads (next_in edges) y c.0) (ap (λ names. has names c.0) (leave_only edges y (sym (opened y) ∙ closed))) c.1)
+        both_ways (leads (next_in edges) y c.0) (ap (λ names. has names c.0) (leave_only edges y (sym (begun y) ∙ closed))) c.1)
 
 -- at the end no text is unknown
 pub Settles-end : (edges : Edges) (unknown found : Found) → Settles edges unknown found → ((x : List ℕ) → unknown x ≡ false) → (x : List ℕ)

@@ -58,7 +58,7 @@ impl Circles {
         self.add(circle)
     }
 
-    /// Finds some texts on circles.
+    /// Tells of some texts that they are on circles.
     fn add(&mut self, nodes: BTreeSet<Node>) -> Result<(), AllocError>
         ensures { OnOk result (Tells nodes self.old self.new) }
     {

@@ -65,9 +65,9 @@ fn plan(nodes: Vec<Node>, left: &mut Vec<Step>) -> Result<(), AllocError>
     Ok(())
 }
 
-/// The texts from which edges may lead, each once or twice. From the end they stand as a walk in depth along the edges turned
-/// round leaves them, the last first. So where they are taken in this order, chains by texts that are not taken yet lead from
-/// a text to none but those that are on a circle with it. No clause rests on that: it keeps the searches short.
+/// The texts from which edges may lead, each once or twice. Taken from the end, they come as a walk in depth along the edges
+/// turned round leaves them, the last first. Then chains by texts that are yet to come lead from a text to none but those that
+/// are on a circle with it. No clause rests on that, which keeps the searches short.
 pub(crate) fn ordered(
     alloc: Global,
     edges: &BTreeMap<Node, Vec<Node>>,
