@@ -6,8 +6,9 @@ is made. A product stands before the bean that declares it. Half of the deployme
 proceed more often than not. The points of an interceptor are of beans of the other scopes, and of a helper: a dependent bean
 around which no interceptor stands, and which has no points.
 
-Two thirds have observer methods and events, where runs notify them. The parameters of an observer method are of any beans, since they are made at a
-notification; so a bean may be made for an event that is fired while it is made, until the run is too deep.
+Two thirds have observer methods and events, where runs notify them. The parameters of an observer method are of any
+beans, since they are made at a notification; so a bean may be made for an event that is fired while it is made, until
+the run is too deep.
 """
 
 from texts import ANY, DEFAULT, NOTIFIES, Event, line_of

@@ -35,8 +35,8 @@ ends_nothing ds book names old m n is none shut =
     (subst (λ x. EndsContexts (standing_at ds book names m) Done (standing_at ds book (names_of ds) x)) (sym shut)
     (record { done = refl; legal = empty_ends.end (scene (standing_at ds book names m)) m.standing none; rest = refl }))
 
-pub ends_no_request : (ds : List Decl) (book : List Promised) (names : Names) (old : State) (m n : Moment) → standing_at ds book names m ≡ old
-    → m.standing.live ≡ [] → IsClosed m n → EndsRequest old Done (standing_at ds book (names_of ds) n)
+pub ends_no_request : (ds : List Decl) (book : List Promised) (names : Names) (old : State) (m n : Moment)
+    → standing_at ds book names m ≡ old → m.standing.live ≡ [] → IsClosed m n → EndsRequest old Done (standing_at ds book (names_of ds) n)
 ends_no_request ds book names old m n is none shut =
     subst (λ s. EndsRequest s Done (standing_at ds book (names_of ds) n)) is
     (subst (λ x. EndsRequest (standing_at ds book names m) Done (standing_at ds book (names_of ds) x)) (sym shut)

@@ -75,7 +75,7 @@ impl<B: Bodies> Container<B> {
     ghost use Rattle.cdi_container.specs.Seen.{ReportStep};
 
     /// An empty container, which keeps this book of stored bodies. It keeps the allocator, and takes no memory yet.
-    #[tactic(auto, using(crate::proofs::HistoryLemmas::rests_on_accepted_edits, crate::proofs::SharingLemmas::shares_instances, crate::proofs::ToldLemmas::is_told))]
+    #[tactic(auto, using(crate::proofs::HistoryLemmas::rests_on_accepted_edits, crate::proofs::SharingLemmas::shares_instances))]
     pub fn new(alloc: Global, book: B) -> Container<B>
         ensures empty { result ≡ empty (B.promises book) }
 

@@ -132,7 +132,8 @@ none_held : (s : Scene) (live : List Instance) (held : Held) → AreHeld s live 
 none_held s live held = λ k b less there own. absurd (omega (arith, less))
 
 pub served_alone : (s : Scene) (live : List Instance) (i : InstanceId) (place : Place)
-    → HasDependents s live (at (home_of s i.bean place) i.number) → params_at s i.bean place ≡ [] → IsServed s live (seat_on i Target place) []
+    → HasDependents s live (at (home_of s i.bean place) i.number) → params_at s i.bean place ≡ []
+    → IsServed s live (seat_on i Target place) []
 served_alone s live i place has is = served_with s live i place [] [] has is (none_held s live [])
 
 pub served_statically : (s : Scene) (live : List Instance) (b : ℕ) (place : Place) (held : Held) (ps : List ℕ)

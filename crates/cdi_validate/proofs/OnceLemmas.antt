@@ -291,7 +291,8 @@ clashes-tagged names = all-map (λ f. is-declared f ≡ 1) faults_are.NameClash 
 names-differ_too : (bs : List Effective) → Differ (name_clashes bs ++ name_prefixes bs)
 names-differ_too bs =
     differ-append is-declared 1 (name_clashes bs) (name_prefixes bs) (clashes-tagged _)
-    (prefixes-each (λ f. is-declared f ≢ 1) (λ x y. two-apart) (enabled_names bs) (enabled_names bs)) (clashes-differ bs) (prefixes-differ bs)
+    (prefixes-each (λ f. is-declared f ≢ 1) (λ x y. two-apart) (enabled_names bs) (enabled_names bs)) (clashes-differ bs)
+    (prefixes-differ bs)
 
 names-not_declared : (bs : List Effective) → AllByRecursion (λ f. is-declared f ≢ 0) (name_clashes bs ++ name_prefixes bs)
 names-not_declared bs =

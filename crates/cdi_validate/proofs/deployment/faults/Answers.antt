@@ -10,6 +10,7 @@ use Rattle.cdi_observe.specs.Wanted.{wanted_choices}
 use Rattle.cdi_faults.proofs.OrderLemmas.{subjects_in_order}
 use Rattle.cdi_validate.specs.Faults.{faults, name_prefixes, LinesRise}
 use Rattle.cdi_validate.proofs.BehindLemmas.{prefixes_go_on}
+use Rattle.cdi_validate.proofs.CircleLemmas.{needs_itself_on_circle}
 use Rattle.cdi_validate.proofs.deployment.faults.Goals as goal
 
 -- where all keys were asked, those from the front on were, up to the last
@@ -29,7 +30,8 @@ faults_by-requires g c =
 
 pub returns-clause-faults : goal.returns-clause-faults
 returns-clause-faults g c =
-    IfOk-weaker c.faults_by.result _ _ (λ list are. are ∙ ap (λ ds. faults ds (g.B.Bodies.promises c.args.book.now)) c.in_ok-answers.ensures.list)
+    IfOk-weaker c.faults_by.result _ _
+    (λ list are. are ∙ ap (λ ds. faults ds (g.B.Bodies.promises c.args.book.now)) c.in_ok-answers.ensures.list)
     c.faults_by.ensures.faults
 
 pub returns-clause-err : goal.returns-clause-err
@@ -45,6 +47,12 @@ returns-in_err-answers-clause-order g c = subjects_in_order
 
 pub returns-clause-order : goal.returns-clause-order
 returns-clause-order g c = subjects_in_order
+
+pub returns-in_err-answers-clause-circles : goal.returns-in_err-answers-clause-circles
+returns-in_err-answers-clause-circles g c = needs_itself_on_circle
+
+pub returns-clause-circles : goal.returns-clause-circles
+returns-clause-circles g c = needs_itself_on_circle
 
 pub returns-in_err-answers-clause-longer : goal.returns-in_err-answers-clause-longer
 returns-in_err-answers-clause-longer g c = prefixes_go_on

@@ -15,7 +15,8 @@ returns g c =
     let found = c.in_ok-found.found.items in
     let same = c.in_ok-answers.ensures.list ∙ c.new-view.ensures in
     let are : found ≡ faults c.args.decls.now book = subst (λ ds. found ≡ faults ds book) same c.in_ok-found.ensures.faults in
-    let none : faults c.args.decls.now book ≡ [] = sym are ∙ nil_from_length found (sym (ap length c.as_slice-count.ensures.value) ∙ c.if-count-ne0.false) in
+    let none : faults c.args.decls.now book ≡ [] =
+    sym are ∙ nil_from_length found (sym (ap length c.as_slice-count.ensures.value) ∙ c.if-count-ne0.false) in
     record {
       faultless = none;
       scene = c.in_ok-scene_of.ensures.value;

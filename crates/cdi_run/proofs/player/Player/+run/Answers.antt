@@ -91,8 +91,8 @@ attend-invoke-requires g t c =
     let p = rw (c.as_slice-params.ensures, c.in-None.is) at c.in_ok-supplied.ensures in
     let o = c.requires.observer in
     let settled : IsSettled c.args.self.now.stage c.supply.new.run.moment = settled_after c.args.self.now.stage p tt c.requires.settled in
-    let served : IsServed c.args.self.now.stage.scene c.supply.new.run.moment.standing.live (seat_on c.args.id Target (Observing c.args.position))
-    c.deref-in-None.result.now =
+    let served : IsServed c.args.self.now.stage.scene c.supply.new.run.moment.standing.live
+    (seat_on c.args.id Target (Observing c.args.position)) c.deref-in-None.result.now =
     rw c.deref-in-None.ensures.0
     (served_observer c.args.self.now.stage c.args.id c.args.position c.args.observer.now o.there p c.requires.settled c.requires.has) in
     search rules
@@ -274,7 +274,8 @@ pub notify_own-attend-requires : goal.notify_own-attend-requires
 notify_own-attend-requires g t c =
     let p = rw c.in-Instance.is at c.in_ok-failure.ensures in
     let settled : IsSettled c.args.self.now.stage c.create.new.run.moment = settled_after c.args.self.now.stage p tt c.requires.settled in
-    let has : HasDependents c.args.self.now.stage.scene c.create.new.run.moment.standing.live (at c.args.notified.bean c.in-Instance.number) =
+    let has : HasDependents c.args.self.now.stage.scene c.create.new.run.moment.standing.live
+    (at c.args.notified.bean c.in-Instance.number) =
     created c.args.self.now.stage p tt c.requires.settled in
     search rules
 
@@ -295,7 +296,8 @@ pub notify_shared-attend-requires : goal.notify_shared-attend-requires
 notify_shared-attend-requires g t c =
     let p = rw c.in-Instance.is at c.in_ok-failure.ensures in
     let settled : IsSettled c.args.self.now.stage c.obtain.new.run.moment = settled_after c.args.self.now.stage p tt c.requires.settled in
-    let has : HasDependents c.args.self.now.stage.scene c.obtain.new.run.moment.standing.live (at c.args.notified.bean c.in-Instance.number) =
+    let has : HasDependents c.args.self.now.stage.scene c.obtain.new.run.moment.standing.live
+    (at c.args.notified.bean c.in-Instance.number) =
     obtained c.args.self.now.stage p c.requires.settled in
     search rules
 
@@ -352,7 +354,8 @@ produce-frame-requires g t c =
     settled_after c.args.self.now.stage p c.requires.begun c.requires.settled in
     let served : IsServed c.args.self.now.stage.scene c.supply.new.run.moment.standing.live
     (seat_of_class c.args.product.now.declaring (Producer c.args.id.bean)) c.deref.result.now =
-    rw c.deref.ensures.0 (served_class c.args.self.now.stage c.args.id c.args.product.now product.there p c.requires.begun c.requires.settled) in
+    rw c.deref.ensures.0
+    (served_class c.args.self.now.stage c.args.id c.args.product.now product.there p c.requires.begun c.requires.settled) in
     search rules
 
 pub produce-invoke-requires : goal.produce-invoke-requires
@@ -366,7 +369,8 @@ produce-invoke-requires g t c =
     let served : IsServed c.args.self.now.stage.scene c.supply.new.run.moment.standing.live
     (seat_on c.in-Some-host.host Target (Producer c.args.id.bean)) c.deref-in-Some-host.result.now =
     rw c.deref-in-Some-host.ensures.0
-    (served_host c.args.self.now.stage c.args.id c.in-Some-host.host c.args.product.now product.there p c.requires.begun c.requires.settled has) in
+    (served_host c.args.self.now.stage c.args.id c.in-Some-host.host c.args.product.now product.there p c.requires.begun
+    c.requires.settled has) in
     search rules
 
 pub produce-returns-in-Some : goal.produce-returns-in-Some
@@ -392,7 +396,8 @@ produce_on_own-produce-requires g t c =
     omega (arith, legal_grows c.in_ok-failure.ensures, c.requires.begun) in
     let p = rw c.in-Instance.is at c.in_ok-failure.ensures in
     let settled : IsSettled c.args.self.now.stage c.create.new.run.moment = settled_after c.args.self.now.stage p tt c.requires.settled in
-    let has : HasDependents c.args.self.now.stage.scene c.create.new.run.moment.standing.live (at c.args.product.now.declaring c.in-Instance.number) =
+    let has : HasDependents c.args.self.now.stage.scene c.create.new.run.moment.standing.live
+    (at c.args.product.now.declaring c.in-Instance.number) =
     created c.args.self.now.stage p tt c.requires.settled in
     search rules
 
@@ -416,7 +421,8 @@ produce_on_shared-produce-requires g t c =
     omega (arith, legal_grows c.in_ok-failure.ensures, c.requires.begun) in
     let p = rw c.in-Instance.is at c.in_ok-failure.ensures in
     let settled : IsSettled c.args.self.now.stage c.obtain.new.run.moment = settled_after c.args.self.now.stage p tt c.requires.settled in
-    let has : HasDependents c.args.self.now.stage.scene c.obtain.new.run.moment.standing.live (at c.args.product.now.declaring c.in-Instance.number) =
+    let has : HasDependents c.args.self.now.stage.scene c.obtain.new.run.moment.standing.live
+    (at c.args.product.now.declaring c.in-Instance.number) =
     obtained c.args.self.now.stage p c.requires.settled in
     search rules
 

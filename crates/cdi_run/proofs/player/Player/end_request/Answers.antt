@@ -12,7 +12,8 @@ use Rattle.cdi_run.proofs.player.Player.end_request.Goals as goal
 
 -- the context ended, and then the request was closed
 ended : (s : Scene) (before : Standing) (old end new : Moment) → old ≡ beginning before
-    → Ends s (context Request) old end → new ≡ record end { standing = closed end.standing } → LegalRequestEnd s before new.trace new.standing
+    → Ends s (context Request) old end → new ≡ record end { standing = closed end.standing }
+    → LegalRequestEnd s before new.trace new.standing
 ended s before old end new began ends closes = record {
   end = end;
   ends = rw began at ends;

@@ -25,7 +25,8 @@ invoke-requires g c =
     let there = (rw c.in-Answer.is at c.requires.usable) none in
     let served : IsServed c.args.self.now.stage.scene c.args.run.now.moment.standing.live
     (seat_on c.args.id Target (Method c.in-Answer.method)) [] =
-    served_alone c.args.self.now.stage.scene c.args.run.now.moment.standing.live c.args.id (Method c.in-Answer.method) c.requires.has refl in
+    served_alone c.args.self.now.stage.scene c.args.run.now.moment.standing.live c.args.id (Method c.in-Answer.method)
+    c.requires.has refl in
     search rules
 
 pub returns-in_ok-given-in-Answer : goal.returns-in_ok-given-in-Answer
