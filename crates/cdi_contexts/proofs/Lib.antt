@@ -1,4 +1,5 @@
 pub mod Last
+pub mod HomeLemmas
 pub mod Rising
 pub mod Places
 pub mod Younger

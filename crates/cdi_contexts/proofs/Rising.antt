@@ -44,11 +44,11 @@ produced_same : (b : Bool) (v : Val) (i : Instance) → IsSame i (if b then reco
 produced_same true v i = (refl, refl)
 produced_same false v i = (refl, refl)
 
-kept_same : (b : Bool) (v : Val) (i : Instance) → IsSame i (if b then record i { state = v } else i)
+pub kept_same : (b : Bool) (v : Val) (i : Instance) → IsSame i (if b then record i { state = v } else i)
 kept_same true v i = (refl, refl)
 kept_same false v i = (refl, refl)
 
-finish_same : (n : ℕ) (product : Option Val) (i : Instance) → IsSame i (finish n product i)
+pub finish_same : (n : ℕ) (product : Option Val) (i : Instance) → IsSame i (finish n product i)
 finish_same n None i = ready_same (i.id.number == n) i
 finish_same n (Some v) i = produced_same (i.id.number == n) v i
 

@@ -1,5 +1,5 @@
 -- What was made for an instance is younger than it.
-use Rattle.std.proofs.Common.{◌≡◌, ℕ, zero, suc, ◌<◌, ◌≤◌, Bool, true, false, ◌==◌, ◌&&◌, cond, nat_lt, leb}
+use Rattle.std.proofs.Common.{◌≡◌, ℕ, zero, suc, ◌<◌, ◌≤◌, Bool, true, false, cond, nat_lt, leb}
 use Rattle.std.proofs.Common.{List, [], ◌∷◌, take, drop, length, reverse, ◌-◌, Option, Some, None}
 use Rattle.std.proofs.Common.{refl, arith, ap, sym, subst, ◌∙◌}
 use Rattle.std.specs.List.{find, AllByRecursion}
@@ -9,14 +9,11 @@ use Rattle.std.proofs.lemmas.Bool.Decides.{nat_tests}
 use Rattle.std.proofs.lemmas.List.{reverse-append, take_rest}
 use Rattle.std.proofs.lemmas.List.Folds.{find-append}
 use Rattle.std.proofs.lemmas.List.Sorted.{IsPartitionedBy-leb}
-use Rattle.cdi_contexts.specs.Owned.{is_part_of, is_at, same_actor}
+use Rattle.cdi_contexts.specs.Owned.{is_part_of}
 use Rattle.cdi_contexts.specs.Places.{younger_than}
 use Rattle.cdi_contexts.specs.Rising.{IsRising, RisesFrom}
-use Rattle.cdi_contexts.specs.Standing.{made_for, last_of}
-use Rattle.cdi_contexts.specs.declared.instance.Actor.{Actor}
+use Rattle.cdi_contexts.specs.Standing.{last_of}
 use Rattle.cdi_contexts.specs.declared.instance.Instance.{Instance}
-use Rattle.cdi_contexts.specs.declared.instance.Owner.{Owner}
-use Rattle.cdi_contexts.specs.declared.instance.Owner.TheVariants.{Request, Application, Point, Nobody}
 use Rattle.cdi_contexts.proofs.Last.{part_above}
 use Rattle.cdi_contexts.proofs.Places.{number_at, along}
 
@@ -83,25 +80,8 @@ younger_along n live xs ys m e f bound point =
 abbrev IsYoung : ℕ → (Instance → Bool) → Instance → Type 0
 IsYoung n p i = p i ≡ true → nat_lt n i.id.number ≡ true
 
-skips : (b c : Bool) (i : Instance) (x y : Option Instance) (is : List Instance) (p : Instance → Bool) → p i ≡ c
-    → (c ≡ true → b ≡ true) → find p is ≡ y → x ≡ y → find p (cond b (i ∷ is) is) ≡ cond c (Some i) x
-skips true c i x y is p pc young e f = rw (pc, e, f) refl
-skips false true i x y is p pc young e f = let no : false ≡ true = young refl in cc
-skips false false i x y is p pc young e f = e ∙ sym f
-
-find_young : (n : ℕ) (p : Instance → Bool) (live : List Instance) → AllByRecursion (IsYoung n p) live
-    → find p (younger_than n live) ≡ find p live
-find_young n p [] a = refl
-find_young n p (i ∷ is) a =
-    let rest = find_young n p is a.1 in
-    skips (nat_lt n i.id.number) (p i) i (find p is) (find p is) (younger_than n is) p refl a.0 rest refl
-
 is_above : (n x : ℕ) → n < x → nat_lt n x ≡ true
 is_above n x h = grind (arith, nat_tests)
-
-and_first : (a b : Bool) → (a && b) ≡ true → a ≡ true
-and_first true b h = refl
-and_first false b h = cc
 
 all_part_young : (low given n : ℕ) (live : List Instance) → RisesFrom low given live
     → AllByRecursion (IsYoung n (λ i. is_part_of n i.owner)) live
@@ -109,28 +89,6 @@ all_part_young low given n [] r = tt
 all_part_young low given n (i ∷ is) r =
     let young = λ (e : is_part_of n i.owner ≡ true). is_above n i.id.number (part_above i.id.number n i.owner r.1 e) in
     (young, all_part_young i.id.number given n is r.2)
-
-at_part : (n : ℕ) (actor : Actor) (point : ℕ) (o : Owner) → is_at n actor point o ≡ true → is_part_of n o ≡ true
-at_part n actor point (Point m who p) h =
-    and_first (m == n) (same_actor who actor) (and_first ((m == n) && same_actor who actor) (p == point) h)
-at_part n actor point Request h = cc
-at_part n actor point Application h = cc
-at_part n actor point Nobody h = cc
-
-all_at_young : (low given n : ℕ) (actor : Actor) (point : ℕ) (live : List Instance) → RisesFrom low given live
-    → AllByRecursion (IsYoung n (λ i. is_at n actor point i.owner)) live
-all_at_young low given n actor point [] r = tt
-all_at_young low given n actor point (i ∷ is) r =
-    let young = λ (e : is_at n actor point i.owner ≡ true).
-    is_above n i.id.number (part_above i.id.number n i.owner r.1 (at_part n actor point i.owner e)) in
-    (young, all_at_young i.id.number given n actor point is r.2)
-
-pub made_young : (given n : ℕ) (actor : Actor) (point : ℕ) (live : List Instance) → IsRising given live
-    → made_for (younger_than n live) n actor point ≡ made_for live n actor point
-made_young given n actor point live r =
-    find_young n (λ i. is_at n actor point i.owner) live (all_at_young 0 given n actor point live r)
-
--- ---- and so from the end
 
 or_none : (o : Option Instance) → option_or o None ≡ o
 or_none (Some i) = refl

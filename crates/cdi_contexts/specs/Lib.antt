@@ -1,4 +1,6 @@
+pub mod Homes
 pub mod Owned
+pub mod SameHomes
 pub mod Standing
 pub mod Rising
 pub mod Storage

@@ -1,8 +1,6 @@
 -- Where an instance stands among the live ones.
 use Rattle.std.specs.Prelude.{◌≡◌, ◌≢◌, ℕ, ◌<◌, nat_lt, List, length, filter, Option, Some, None}
 use Rattle.std.specs.List.{All, HoldsAt}
-use Rattle.cdi_contexts.specs.Standing.{made_for}
-use Rattle.cdi_contexts.specs.declared.instance.Actor.{Actor}
 use Rattle.cdi_contexts.specs.declared.instance.Instance.{Instance}
 
 -- the instance with number n stands at place k; at none where none of them has the number
@@ -13,7 +11,3 @@ IsPlace live n None = All (λ i. i.id.number ≢ n) live
 -- the instances that are younger than this number
 abbrev pub younger_than : ℕ → List Instance → List Instance
 younger_than n live = filter (λ i. nat_lt n i.id.number) live
-
--- what was made for a point of instance n is the same among some as among all
-abbrev pub EachIsAmong : List Instance → List Instance → ℕ → Type 0
-EachIsAmong some live n = (actor : Actor) (point : ℕ) → made_for some n actor point ≡ made_for live n actor point

@@ -3,11 +3,13 @@ ghost use Rattle.std.specs.Prelude.{◌≡◌, ◌+◌, ◌<◌, ◌≤◌, ◌�
 ghost use Rattle.std.specs.Prelude.{None, IfSome, IsSome, IsOk, OnOk, OnErr, IfOk};
 ghost use Rattle.cdi_contexts.specs.Standing.{IsFull, IsLive, numbered, found, made_for, last_of, last_in, state_of};
 ghost use Rattle.cdi_contexts.specs.Standing.{started, gone, finished, without, stored, begun, closing, opened, closed, cleared};
-ghost use Rattle.cdi_contexts.specs.Places.{IsPlace, younger_than, EachIsAmong};
+ghost use Rattle.cdi_contexts.specs.Homes.{living_at};
+ghost use Rattle.cdi_contexts.specs.Places.{IsPlace, younger_than};
 ghost use Rattle.cdi_contexts.specs.Rising.{IsOwnerOf, IsRising};
 ghost use Rattle.cdi_contexts.specs.declared.instance.Actor.TheVariants.{Target, Interceptor};
 
 use crate::error::RequestError;
+use crate::homes::{Home, Homes};
 use crate::instance::{Actor, Instance, InstanceId, Owner};
 use crate::states::{InterceptorState, has_state, held_for, keep_among};
 use cdi_model::{Scope, Val};
@@ -21,6 +23,7 @@ const MOST_LIVE: usize = 1024;
 #[derive(Drop)]
 pub struct Contexts {
     live: Vec<Instance>,
+    homes: Homes,
     states: Vec<InterceptorState>,
     given: u64,
     is_active: bool,
@@ -29,6 +32,7 @@ pub struct Contexts {
 impl Model for Contexts {
     ghost use Rattle.std.specs.Prelude.{◌-◌};
     ghost use Rattle.std.specs.Vec.{vec_len, vec_capacity};
+    ghost use Rattle.cdi_contexts.specs.Homes.{AreHomesOf};
     ghost use Rattle.cdi_contexts.specs.Storage.{Storage};
     ghost use Rattle.cdi_contexts.specs.Rising.{IsRising};
 
@@ -39,29 +43,7 @@ impl Model for Contexts {
       room = vec_capacity c.states - vec_len c.states;
     } };
 
-    ghost invariant = { λ c. IsRising c.given c.live.items };
-}
-
-fn found_among(live: &[Instance], scope: Scope, bean: usize) -> Option<Instance>
-    ensures { result ≡ found live.now scope bean }
-{
-    for instance in live {
-        if instance.id.bean == bean && instance.owner.is_of(scope) {
-            return Some(*instance);
-        }
-    }
-    None
-}
-
-fn made_among(live: &[Instance], owner: u64, actor: Actor, point: usize) -> Option<Instance>
-    ensures { result ≡ made_for live.now owner actor point }
-{
-    for instance in live {
-        if instance.owner.is_at(owner, actor, point) {
-            return Some(*instance);
-        }
-    }
-    None
+    ghost invariant = { λ c. IsRising c.given c.live.items × AreHomesOf c.homes c.live.items };
 }
 
 fn last_of_among(live: &[Instance], owner: u64) -> Option<InstanceId>
@@ -91,6 +73,7 @@ impl Contexts {
     {
         Contexts {
             live: Vec::new(alloc),
+            homes: Homes::new(alloc),
             states: Vec::new(alloc),
             given: 0,
             is_active: false,
@@ -152,19 +135,35 @@ impl Contexts {
     }
 
     /// The instance of a bean in the context of its scope, being created or ready; none for the dependent pseudo-scope
-    /// (CDI 4.0, Normal scopes and pseudo-scopes). It goes through the live instances and takes no memory.
+    /// (CDI 4.0, Normal scopes and pseudo-scopes). Its time is that of `numbered`. It takes no memory.
     pub fn find(&self, scope: Scope, bean: usize) -> Option<Instance>
         ensures { result ≡ found self.now.standing.live scope bean }
     {
-        found_among(&self.live, scope, bean)
+        match scope {
+            Scope::Dependent => None,
+            Scope::Request => self.living_at(Home::Request(bean)),
+            Scope::Application => self.living_at(Home::Application(bean)),
+        }
     }
 
-    /// The instance that was made for this point of this actor of an instance (CDI 4.0, Dependent objects). It goes
-    /// through those that are younger than their owner, from the oldest on, and takes no memory.
+    /// The instance that was made for this point of this actor of an instance (CDI 4.0, Dependent objects). Its time is
+    /// that of `numbered`. It takes no memory.
     pub fn made_for(&self, owner: u64, actor: Actor, point: usize) -> Option<Instance>
         ensures { result ≡ made_for self.now.standing.live owner actor point }
     {
-        made_among(self.younger(owner), owner, actor, point)
+        self.living_at(Home::Point {
+            instance: owner,
+            actor,
+            point,
+        })
+    }
+
+    /// The oldest instance that lives there.
+    fn living_at(&self, home: Home) -> Option<Instance>
+        ensures { result ≡ living_at home self.now.standing.live }
+    {
+        let number = self.homes.at(home)?;
+        self.numbered(number)
     }
 
     /// The youngest instance that was made for a point of this one: it is younger than this one. So dependents are
@@ -186,10 +185,10 @@ impl Contexts {
         last_in_among(&self.live, scope)
     }
 
-    /// The instances that are younger than this number, by bisection: what was made for that instance is among them.
+    /// The instances that are younger than this number, by bisection: the youngest that was made for that instance is among
+    /// them.
     fn younger(&self, number: u64) -> &[Instance]
         ensures value { result.now ≡ younger_than number self.now.standing.live }
-        ensures made { EachIsAmong result.now self.now.standing.live number }
         ensures last { last_of result.now number ≡ last_of self.now.standing.live number }
         ensures lives { let s = self.now.standing in
             IfSome (last_of s.live number)
@@ -230,12 +229,15 @@ impl Contexts {
             return Ok(None);
         }
         let number = self.given + 1;
-        self.live.push(Instance {
+        let instance = Instance {
             id: InstanceId { bean, number },
             owner,
             is_ready: false,
             state: Val::Null,
-        })?;
+        };
+        self.live.reserve(1)?;
+        self.homes.settle(&instance)?;
+        self.live.push(instance)?;
         self.given = number;
         Ok(Some(number))
     }
@@ -265,7 +267,8 @@ impl Contexts {
         ensures room { self.new.room ≡ self.old.room }
     {
         if let Some(place) = self.place_of(number) {
-            self.live.remove(place);
+            let gone = self.live.remove(place);
+            self.homes.leave(&gone, &self.live[place..]);
         }
     }
 
@@ -359,6 +362,7 @@ impl Contexts {
         ensures room { self.old.room ≤ self.new.room }
     {
         self.live.clear();
+        self.homes.clear();
         self.states.clear();
         self.given = given;
         self.is_active = false;

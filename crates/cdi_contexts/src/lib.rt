@@ -3,6 +3,7 @@
 
 mod contexts;
 mod error;
+mod homes;
 mod instance;
 mod states;
 

@@ -13,4 +13,4 @@ returns c =
     let place = c.in_ok-place.place in
     let there = place_along _ _ c.args.number (Some place) c.self.view_is (c.in_ok-place.ensures) in
     rw (← c.self.view_is)
-    (numbered_there inside.given c.args.number inside.live.items place c.index.result.now c.self.invariant there c.index.ensures)
+    (numbered_there inside.given c.args.number inside.live.items place c.index.result.now c.self.invariant.0 there c.index.ensures)

@@ -1,0 +1,241 @@
+-- Who lives where, as instances come, change and go.
+use Rattle.std.proofs.Common.{◌≡◌, ℕ, zero, suc, ◌<◌, Bool, true, false, ◌==◌, ◌&&◌, cond}
+use Rattle.std.proofs.Common.{List, [], ◌∷◌, ◌++◌, map, length, get_or, drop, Option, Some, None, refl, arith, ap, sym, subst, ◌∙◌}
+use Rattle.std.specs.List.{find, remove}
+use Rattle.std.specs.Option.{option_map, option_or}
+use Rattle.std.proofs.lemmas.Bool.Decides.{nat_tests}
+use Rattle.std.proofs.lemmas.List.Folds.{find-append}
+use Rattle.cdi_model.specs.declared.decl.Scope.TheVariants as scopes
+use Rattle.cdi_model.specs.declared.outcome.Val.{Val}
+use Rattle.cdi_contexts.specs.Homes.{home_of, is_home_of, lives_at, living_at, oldest_at, joined, left_of, kept_at, AreHomesOf}
+use Rattle.cdi_contexts.specs.Owned.{is_of}
+use Rattle.cdi_contexts.specs.Places.{IsPlace}
+use Rattle.cdi_contexts.specs.Rising.{IsRising, RisesFrom}
+use Rattle.cdi_contexts.specs.SameHomes.{same_home}
+use Rattle.cdi_contexts.specs.Standing.{found, numbered, finish, keep}
+use Rattle.cdi_contexts.specs.declared.homes.Home.{Home}
+use Rattle.cdi_contexts.specs.declared.homes.Home.TheVariants as homes
+use Rattle.cdi_contexts.specs.declared.homes.Homes.{Homes}
+use Rattle.cdi_contexts.specs.declared.instance.Instance.{Instance}
+use Rattle.cdi_contexts.specs.declared.instance.InstanceId.{InstanceId}
+use Rattle.cdi_contexts.specs.declared.instance.Owner.{Owner}
+use Rattle.cdi_contexts.specs.declared.instance.Owner.TheVariants.{Request, Application, Point, Nobody}
+use Rattle.cdi_contexts.proofs.Places.{above, number_at}
+use Rattle.cdi_contexts.proofs.Rising.{IsSame, finish_same, kept_same}
+
+-- ---- an instance lives at its home and nowhere else
+
+and_true : (b : Bool) → (b && true) ≡ b
+and_true true = refl
+and_true false = refl
+
+and_false : (b : Bool) → (b && false) ≡ false
+and_false true = refl
+and_false false = refl
+
+-- whether it is this home, where there is one
+abbrev is_this : Option Home → Home → Bool
+is_this (Some home) h = same_home home h
+is_this None h = false
+
+lives_home : (h : Home) (bean : ℕ) (o : Owner) → is_home_of h bean o ≡ is_this (home_of bean o) h
+lives_home (homes.Request b) bean Request = and_true (bean == b)
+lives_home (homes.Request b) bean Application = and_false (bean == b)
+lives_home (homes.Request b) bean (Point n actor p) = and_false (bean == b)
+lives_home (homes.Request b) bean Nobody = and_false (bean == b)
+lives_home (homes.Application b) bean Request = and_false (bean == b)
+lives_home (homes.Application b) bean Application = and_true (bean == b)
+lives_home (homes.Application b) bean (Point n actor p) = and_false (bean == b)
+lives_home (homes.Application b) bean Nobody = and_false (bean == b)
+lives_home (homes.Point n actor p) bean Request = refl
+lives_home (homes.Point n actor p) bean Application = refl
+lives_home (homes.Point n actor p) bean (Point m who q) = refl
+lives_home (homes.Point n actor p) bean Nobody = refl
+
+-- no instance is found in a context of dependent ones
+pub found-dependent : (live : List Instance) (b : ℕ) → found live scopes.Dependent b ≡ None
+found-dependent [] b = refl
+found-dependent (i ∷ is) b = none (i.id.bean == b) (is_of scopes.Dependent i.owner) (never i.owner) ∙ found-dependent is b
+  where
+    never : (o : Owner) → is_of scopes.Dependent o ≡ false
+    never Request = refl
+    never Application = refl
+    never (Point m actor p) = refl
+    never Nobody = refl
+
+    none : (here of : Bool) → of ≡ false → cond (here && of) (Some i) (found is scopes.Dependent b) ≡ found is scopes.Dependent b
+    none here of e =
+        ap (λ x. cond (here && x) (Some i) (found is scopes.Dependent b)) e
+        ∙ ap (λ x. cond x (Some i) (found is scopes.Dependent b)) (and_false here)
+
+-- ---- who is found is found by number
+
+skipped : (b : Bool) (i : Instance) (o : Option Instance) → b ≡ false → cond b (Some i) o ≡ o
+skipped true i o h = cc
+skipped false i o h = refl
+
+-- who is found is found by its number, which is above this one
+abbrev IsNumbered : ℕ → List Instance → Instance → Type 0
+IsNumbered low live j = (low < j.id.number) × (numbered live j.id.number ≡ Some j)
+
+first_numbered : (low : ℕ) (i j : Instance) (is : List Instance) → low < i.id.number → Some i ≡ Some j → IsNumbered low (i ∷ is) j
+first_numbered low i j is less e =
+    let same : i ≡ j = cc in
+    let itself : (i.id.number == i.id.number) ≡ true = grind arith in
+    subst (λ (x : Instance). IsNumbered low (i ∷ is) x) same (less, rw itself refl)
+
+later_numbered : (low : ℕ) (i j : Instance) (is : List Instance) → low < i.id.number → IsNumbered i.id.number is j
+    → IsNumbered low (i ∷ is) j
+later_numbered low i j is less rest =
+    let above = rest.0 in
+    let apart : (i.id.number == j.id.number) ≡ false = grind (arith, nat_tests, above) in
+    (omega (arith, less, above), skipped (i.id.number == j.id.number) i (numbered is j.id.number) apart ∙ rest.1)
+
+found_step : (b : Bool) (low : ℕ) (i j : Instance) (is : List Instance) (o : Option Instance) → low < i.id.number
+    → cond b (Some i) o ≡ Some j → (o ≡ Some j → IsNumbered i.id.number is j) → IsNumbered low (i ∷ is) j
+found_step true low i j is o less e rest = first_numbered low i j is less e
+found_step false low i j is o less e rest = later_numbered low i j is less (rest e)
+
+found_numbered : (p : Instance → Bool) (low given : ℕ) (live : List Instance) (j : Instance) → RisesFrom low given live
+    → find p live ≡ Some j → IsNumbered low live j
+found_numbered p low given [] j r e = cc
+found_numbered p low given (i ∷ is) j r e =
+    found_step (p i) low i j is (find p is) r.0 e (found_numbered p i.id.number given is j r.2)
+
+-- the number that stands at a home is that of who lives there
+pub living_numbered : (given : ℕ) (live : List Instance) (h : Home) (n : ℕ) → IsRising given live → Some n ≡ oldest_at h live
+    → numbered live n ≡ living_at h live
+living_numbered given live h n r e = by (living_at h live) refl
+  where
+    by : (o : Option Instance) → living_at h live ≡ o → numbered live n ≡ living_at h live
+    by None is = absurd (let no : Some n ≡ None = e ∙ ap (option_map (λ i. i.id.number)) is in cc)
+    by (Some j) is =
+        let same : Some n ≡ Some j.id.number = e ∙ ap (option_map (λ i. i.id.number)) is in
+        let number : n ≡ j.id.number = cc in
+        rw number (found_numbered (lives_at h) 0 given live j r is).1 ∙ sym is
+
+pub living_nowhere : (live : List Instance) (h : Home) → None ≡ oldest_at h live → None ≡ living_at h live
+living_nowhere live h e = by (living_at h live) refl
+  where
+    by : (o : Option Instance) → living_at h live ≡ o → None ≡ living_at h live
+    by None is = sym is
+    by (Some j) is = absurd (let no : None ≡ Some j.id.number = e ∙ ap (option_map (λ i. i.id.number)) is in cc)
+
+-- ---- an instance changes what it holds
+
+oldest_of : (b : Bool) (i j : Instance) (o p : Option Instance) → j.id ≡ i.id
+    → option_map (λ (x : Instance). x.id.number) o ≡ option_map (λ (x : Instance). x.id.number) p
+    → option_map (λ (x : Instance). x.id.number) (cond b (Some j) o) ≡ option_map (λ (x : Instance). x.id.number) (cond b (Some i) p)
+oldest_of true i j o p same rest = ap (λ (d : InstanceId). Some d.number) same
+oldest_of false i j o p same rest = rest
+
+oldest-map : (h : Home) (f : Instance → Instance) (live : List Instance) → ((i : Instance) → IsSame i (f i))
+    → oldest_at h (map f live) ≡ oldest_at h live
+oldest-map h f [] same = refl
+oldest-map h f (i ∷ is) same =
+    let there : lives_at h (f i) ≡ lives_at h i = rw ((same i).0, (same i).1) refl in
+    ap (λ b. option_map (λ (x : Instance). x.id.number) (cond b (Some (f i)) (living_at h (map f is)))) there
+    ∙ oldest_of (lives_at h i) i (f i) (living_at h (map f is)) (living_at h is) (same i).0 (oldest-map h f is same)
+
+pub homes-same : (homes : Homes) (f : Instance → Instance) (live xs : List Instance) → ((i : Instance) → IsSame i (f i))
+    → xs ≡ map f live → AreHomesOf homes live → AreHomesOf homes xs
+homes-same homes f live xs same e are home = are home ∙ sym (ap (oldest_at home) e ∙ oldest-map home f live same)
+
+pub homes-finished : (homes : Homes) (n : ℕ) (product : Option Val) (live xs : List Instance) → xs ≡ map (finish n product) live
+    → AreHomesOf homes live → AreHomesOf homes xs
+homes-finished homes n product live xs e are = homes-same homes (finish n product) live xs (finish_same n product) e are
+
+pub homes-stored : (homes : Homes) (n : ℕ) (v : Val) (live xs : List Instance) → xs ≡ map (keep n v) live
+    → AreHomesOf homes live → AreHomesOf homes xs
+homes-stored homes n v live xs e are = homes-same homes (keep n v) live xs (λ i. kept_same (i.id.number == n) v i) e are
+
+-- ---- an instance is added
+
+oldest-more : (h : Home) (live : List Instance) (i : Instance)
+    → oldest_at h (live ++ i ∷ []) ≡ joined (oldest_at h live) (lives_at h i) i.id.number
+oldest-more h live i =
+    ap (option_map (λ j. j.id.number)) (find-append (lives_at h) live (i ∷ [])) ∙ by (living_at h live) (lives_at h i)
+  where
+    by : (o : Option Instance) (b : Bool) → option_map (λ (j : Instance). j.id.number) (option_or o (cond b (Some i) None))
+        ≡ joined (option_map (λ (j : Instance). j.id.number) o) b i.id.number
+    by (Some j) b = refl
+    by None true = refl
+    by None false = refl
+
+-- ---- an instance goes
+
+pub left-elsewhere : (o : Option ℕ) (n : ℕ) (next : Option ℕ) → left_of o false n next ≡ o
+left-elsewhere (Some m) n next = refl
+left-elsewhere None n next = refl
+
+left-here : (n : ℕ) (next : Option ℕ) → left_of (Some n) true n next ≡ next
+left-here n next = let itself : (n == n) ≡ true = grind arith in rw itself refl
+
+left-older : (m n : ℕ) (here : Bool) (next : Option ℕ) → m < n → left_of (Some m) here n next ≡ Some m
+left-older m n here next less =
+    let other : (m == n) ≡ false = grind (arith, nat_tests, less) in
+    rw (other, and_false here) refl
+
+removed_first : (h : Home) (i : Instance) (is : List Instance) (b : Bool)
+    → oldest_at h is ≡ left_of (option_map (λ (j : Instance). j.id.number) (cond b (Some i) (living_at h is))) b i.id.number (oldest_at h is)
+removed_first h i is true = sym (left-here i.id.number (oldest_at h is))
+removed_first h i is false = sym (left-elsewhere (oldest_at h is) i.id.number (oldest_at h is))
+
+removed_later : (b here : Bool) (i : Instance) (o p : Option Instance) (n : ℕ) (next : Option ℕ) → i.id.number < n
+    → option_map (λ (j : Instance). j.id.number) o ≡ left_of (option_map (λ (j : Instance). j.id.number) p) here n next
+    → option_map (λ (j : Instance). j.id.number) (cond b (Some i) o)
+    ≡ left_of (option_map (λ (j : Instance). j.id.number) (cond b (Some i) p)) here n next
+removed_later true here i o p n next less rest = sym (left-older i.id.number n here next less)
+removed_later false here i o p n next less rest = rest
+
+oldest-removed : (h : Home) (low given : ℕ) (live : List Instance) (k : ℕ) (d : Instance) → RisesFrom low given live → k < length live
+    → oldest_at h (remove live k)
+    ≡ left_of (oldest_at h live) (lives_at h (get_or live k d)) (number_at live k d) (oldest_at h (drop k (remove live k)))
+oldest-removed h low given [] k d r within = absurd (omega (arith, within))
+oldest-removed h low given (i ∷ is) zero d r within = removed_first h i is (lives_at h i)
+oldest-removed h low given (i ∷ is) (suc k) d r within =
+    let less : k < length is = omega (arith, within) in
+    removed_later (lives_at h i) (lives_at h (get_or is k d)) i (living_at h (remove is k)) (living_at h is) (number_at is k d)
+    (oldest_at h (drop k (remove is k))) (above i.id.number given is k d r.2 less) (oldest-removed h i.id.number given is k d r.2 less)
+
+-- what is kept behind the one at a place is right once it is gone
+pub homes-removed : (homes new : Homes) (given n : ℕ) (live : List Instance) (k : ℕ) (i : Instance) → IsRising given live
+    → AreHomesOf homes live → IsPlace live n (Some k) → i ≡ get_or live k i
+    → ((h : Home) → kept_at new h ≡ left_of (kept_at homes h) (lives_at h i) i.id.number (oldest_at h (drop k (remove live k))))
+    → AreHomesOf new (remove live k)
+homes-removed homes new given n live k i r are place at kept h =
+    let next = oldest_at h (drop k (remove live k)) in
+    let removed = oldest-removed h 0 given live k i r place.0 in
+    kept h ∙ ap (λ o. left_of o (lives_at h i) i.id.number next) (are h)
+    ∙ sym (removed ∙ ap (λ (j : Instance). left_of (oldest_at h live) (lives_at h j) j.id.number next) (sym at))
+
+-- who has no home is kept nowhere
+abbrev IsNobodys : Instance → Type 0
+IsNobodys i = home_of i.id.bean i.owner ≡ None
+
+nobodys : (i : Instance) (h : Home) → IsNobodys i → lives_at h i ≡ false
+nobodys i h e = lives_home h i.id.bean i.owner ∙ ap (λ o. is_this o h) e
+
+pub left-nobodys : (i : Instance) (h : Home) (o next : Option ℕ) → None ≡ home_of i.id.bean i.owner
+    → o ≡ left_of o (lives_at h i) i.id.number next
+left-nobodys i h o next e =
+    sym (ap (λ b. left_of o b i.id.number next) (nobodys i h (sym e)) ∙ left-elsewhere o i.id.number next)
+
+pub joined-nobodys : (i : Instance) (h : Home) (o : Option ℕ) → None ≡ home_of i.id.bean i.owner
+    → o ≡ joined o (lives_at h i) i.id.number
+joined-nobodys i h o e = by o ∙ sym (ap (λ b. joined o b i.id.number) (nobodys i h (sym e)))
+  where
+    by : (o : Option ℕ) → o ≡ joined o false i.id.number
+    by (Some m) = refl
+    by None = refl
+
+-- and who has one is kept there
+pub lives_there : (i : Instance) (h home : Home) → Some home ≡ home_of i.id.bean i.owner → same_home home h ≡ lives_at h i
+lives_there i h home e = ap (λ o. is_this o h) e ∙ sym (lives_home h i.id.bean i.owner)
+
+-- ---- an instance is begun
+
+pub homes-more : (homes new : Homes) (live : List Instance) (i : Instance) → AreHomesOf homes live
+    → ((h : Home) → kept_at new h ≡ joined (kept_at homes h) (lives_at h i) i.id.number) → AreHomesOf new (live ++ i ∷ [])
+homes-more homes new live i are kept h =
+    kept h ∙ ap (λ o. joined o (lives_at h i) i.id.number) (are h) ∙ sym (oldest-more h live i)
