@@ -69,6 +69,26 @@ fn a_dependent_object_is_found_by_its_point(rt: HostRuntime) -> Result<(), Fail>
 }
 
 #[test]
+fn the_oldest_at_a_home_is_found_until_it_is_gone(rt: HostRuntime) -> Result<(), Fail> {
+    let mut contexts = Contexts::new(rt.alloc());
+    for owner in [Owner::Application, Owner::Application, Owner::Application] {
+        contexts.start(3, owner)?;
+    }
+    contexts.start(3, Owner::Request)?;
+    assert!(rt; number(contexts.find(Scope::Application, 3)) == Some(1));
+    contexts.abandon(2);
+    assert!(rt; number(contexts.find(Scope::Application, 3)) == Some(1));
+    contexts.abandon(1);
+    assert!(rt; number(contexts.find(Scope::Application, 3)) == Some(3));
+    contexts.abandon(3);
+    assert!(rt; contexts.find(Scope::Application, 3).is_none());
+    assert!(rt; number(contexts.find(Scope::Request, 3)) == Some(4));
+    contexts.clear(4);
+    assert!(rt; contexts.find(Scope::Request, 3).is_none());
+    Ok(())
+}
+
+#[test]
 fn dependents_are_given_youngest_first(rt: HostRuntime) -> Result<(), Fail> {
     let mut contexts = Contexts::new(rt.alloc());
     contexts.start(0, Owner::Application)?;

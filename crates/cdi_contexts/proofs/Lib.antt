@@ -3,3 +3,4 @@ pub mod HomeLemmas
 pub mod Rising
 pub mod Places
 pub mod Younger
+pub mod StateLemmas

@@ -1,7 +1,9 @@
 pub mod Homes
 pub mod Owned
+pub mod SameHolders
 pub mod SameHomes
 pub mod Standing
 pub mod Rising
+pub mod States
 pub mod Storage
 pub mod Places

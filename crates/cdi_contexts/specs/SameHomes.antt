@@ -30,7 +30,7 @@ home_input (Request b) = fed.usize b
 home_input (Application b) = fed.usize b
 home_input (Point n actor p) = fed.u64 n ++ fed.usize (actor_number actor) ++ fed.usize p
 
-same_number : (a b : ℕ) → Decides (a == b) (a ≡ b)
+pub same_number : (a b : ℕ) → Decides (a == b) (a ≡ b)
 same_number a b = (λ e. grind (arith, nat_tests, e), λ e. grind (arith, nat_tests, e))
 
 same_actor_decides : (x y : Actor) → Decides (same_actor x y) (x ≡ y)
@@ -40,11 +40,11 @@ same_actor_decides (Interceptor p) Target = (λ e. cc, λ e. cc)
 same_actor_decides (Interceptor p) (Interceptor q) =
     (λ e. ap (λ x. Interceptor x) ((same_number p q).0 e), λ e. (same_number p q).1 (cc))
 
-both : (a b : Bool) → a ≡ true → b ≡ true → (a && b) ≡ true
+pub both : (a b : Bool) → a ≡ true → b ≡ true → (a && b) ≡ true
 both true b e f = f
 both false b e f = e
 
-of_both : (a b : Bool) → (a && b) ≡ true → (a ≡ true) × (b ≡ true)
+pub of_both : (a b : Bool) → (a && b) ≡ true → (a ≡ true) × (b ≡ true)
 of_both true b e = (refl, e)
 of_both false b e = cc
 

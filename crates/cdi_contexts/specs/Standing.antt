@@ -14,7 +14,12 @@ use Rattle.cdi_contexts.specs.declared.instance.InstanceId.{InstanceId}
 use Rattle.cdi_contexts.specs.declared.instance.Owner.{Owner}
 use Rattle.cdi_contexts.specs.declared.error.RequestError.{RequestError}
 use Rattle.cdi_contexts.specs.declared.error.RequestError.TheVariants.{Active, Inactive}
-use Rattle.cdi_contexts.specs.declared.states.InterceptorState.{InterceptorState}
+
+-- what an instance holds for an interceptor
+pub record InterceptorState : Type 0 where
+  pub number : ℕ
+  pub interceptor : ℕ
+  pub value : Val
 
 -- the live instances, oldest first; what they hold for interceptors; how many numbers were given so far; and whether a
 -- request is active

@@ -11,7 +11,7 @@ ghost use Rattle.cdi_contexts.specs.declared.instance.Actor.TheVariants.{Target,
 use crate::error::RequestError;
 use crate::homes::{Home, Homes};
 use crate::instance::{Actor, Instance, InstanceId, Owner};
-use crate::states::{InterceptorState, has_state, held_for, keep_among};
+use crate::states::States;
 use cdi_model::{Scope, Val};
 use std::alloc::{AllocError, Global};
 use std::marker::Model;
@@ -24,23 +24,22 @@ const MOST_LIVE: usize = 1024;
 pub struct Contexts {
     live: Vec<Instance>,
     homes: Homes,
-    states: Vec<InterceptorState>,
+    states: States,
     given: u64,
     is_active: bool,
 }
 
 impl Model for Contexts {
-    ghost use Rattle.std.specs.Prelude.{◌-◌};
-    ghost use Rattle.std.specs.Vec.{vec_len, vec_capacity};
     ghost use Rattle.cdi_contexts.specs.Homes.{AreHomesOf};
+    ghost use Rattle.cdi_contexts.specs.States.{states_in, room_in};
     ghost use Rattle.cdi_contexts.specs.Storage.{Storage};
     ghost use Rattle.cdi_contexts.specs.Rising.{IsRising};
 
     ghost Value = { Storage };
 
     ghost view = { λ c. record {
-      standing = record { live = c.live.items; states = c.states.items; given = c.given; active = c.is_active };
-      room = vec_capacity c.states - vec_len c.states;
+      standing = record { live = c.live.items; states = states_in c.states; given = c.given; active = c.is_active };
+      room = room_in c.states;
     } };
 
     ghost invariant = { λ c. IsRising c.given c.live.items × AreHomesOf c.homes c.live.items };
@@ -74,7 +73,7 @@ impl Contexts {
         Contexts {
             live: Vec::new(alloc),
             homes: Homes::new(alloc),
-            states: Vec::new(alloc),
+            states: States::new(alloc),
             given: 0,
             is_active: false,
         }
@@ -209,7 +208,7 @@ impl Contexts {
                 Some(instance) => instance.state,
                 None => Val::Null,
             },
-            Actor::Interceptor(interceptor) => held_for(&self.states, number, interceptor),
+            Actor::Interceptor(interceptor) => self.states.held_for(number, interceptor),
         }
     }
 
@@ -259,7 +258,7 @@ impl Contexts {
         ensures room { self.old.room ≤ self.new.room }
     {
         self.take_out(number);
-        self.states.retain(|state| state.number != number);
+        self.states.forget(number);
     }
 
     fn take_out(&mut self, number: u64)
@@ -286,7 +285,7 @@ impl Contexts {
                 self.store_own(number, value);
                 Ok(())
             }
-            Actor::Interceptor(interceptor) => self.store_for(number, interceptor, value),
+            Actor::Interceptor(interceptor) => self.states.store(number, interceptor, value),
         }
     }
 
@@ -297,24 +296,6 @@ impl Contexts {
         if let Some(place) = self.place_of(number) {
             self.live[place] = self.live[place].keeping(number, value);
         }
-    }
-
-    fn store_for(&mut self, number: u64, interceptor: usize, value: Val) -> Result<(), AllocError>
-        ensures ok { OnOk result (self.new.standing ≡ stored number (Interceptor interceptor) value self.old.standing) }
-        ensures err { OnErr result (self.new.standing ≡ self.old.standing) }
-        ensures possible { 0 < self.old.room → IsOk result }
-        ensures room { self.old.room ≤ self.new.room + 1 }
-    {
-        if has_state(&self.states, number, interceptor) {
-            keep_among(&mut self.states, number, interceptor, value);
-            return Ok(());
-        }
-        self.states.push(InterceptorState {
-            number,
-            interceptor,
-            value,
-        })?;
-        Ok(())
     }
 
     /// Makes room for so many states of interceptors.

@@ -10,4 +10,3 @@ mod states;
 pub use contexts::Contexts;
 pub use error::RequestError;
 pub use instance::{Actor, Instance, InstanceId, Owner};
-pub use states::InterceptorState;

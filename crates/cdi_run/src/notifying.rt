@@ -142,7 +142,13 @@ impl<'a, B: Bodies> Player<'a, B> {
         ensures { IfOk result (λ answer.
             Leads self.now.stage levels (attend id position observer.now arg) run.old (outcome_is answer) run.new) }
     {
+        let place = Place::Observer(position);
+        let first = Passed { arg, link: 0 };
         let params = observer.params.as_slice();
+        if params.is_empty() {
+            let given = self.invoke(run, levels, id, place, &[], first)?;
+            return Ok(given.outcome);
+        }
         let supplied = self.supply(run, levels, None, params)?;
         match supplied.failure {
             Some(failure) => {
@@ -150,15 +156,7 @@ impl<'a, B: Bodies> Player<'a, B> {
                 Ok(Outcome::Failed(failure))
             }
             None => {
-                let place = Place::Observer(position);
-                let given = self.invoke(
-                    run,
-                    levels,
-                    id,
-                    place,
-                    &supplied.held,
-                    Passed { arg, link: 0 },
-                )?;
+                let given = self.invoke(run, levels, id, place, &supplied.held, first)?;
                 self.stage.destroy_held(run, &supplied.held)?;
                 Ok(given.outcome)
             }

@@ -7,7 +7,7 @@ use Rattle.cdi_scene.specs.Scene.{product_at}
 use Rattle.cdi_scene.specs.Sound.{IsSoundAt}
 use Rattle.cdi_scene.specs.declared.place.Place.TheVariants.{Construct, Post, Method, Producer, Observer as Observing}
 use Rattle.cdi_legal.specs.Acts.{ending, Permits}
-use Rattle.cdi_legal.specs.Ends.{seat_on, seat_of_class}
+use Rattle.cdi_legal.specs.Ends.{Ends, seat_on, seat_of_class}
 use Rattle.cdi_legal.specs.Legal.{Legal, IsInactive, at, is_normal}
 use Rattle.cdi_legal.specs.Furnished.{HasDependents, IsDependent, IsServed}
 use Rattle.cdi_legal.specs.Moment.{Moment}
@@ -88,6 +88,23 @@ ask_on-asking-preserved g t c =
 
 pub attend-invoke-requires : goal.attend-invoke-requires
 attend-invoke-requires g t c =
+    let o = c.requires.observer in
+    let none : length c.args.observer.now.params ≤ 0 =
+    rw (← c.as_slice-params.ensures) (grind (arith, common_steps, c.is_empty.ensures, c.if-is_empty.true)) in
+    let served : IsServed c.args.self.now.stage.scene c.args.run.now.moment.standing.live
+    (seat_on c.args.id Target (Observing c.args.position)) [] =
+    served_observer c.args.self.now.stage c.args.id c.args.position c.args.observer.now o.there
+    (Legal.no_more_params 0 0 None c.args.observer.now.params [] c.args.run.now.moment none) c.requires.settled c.requires.has in
+    search rules
+
+pub attend-returns-then-is_empty : goal.attend-returns-then-is_empty
+attend-returns-then-is_empty g t c =
+    let none : length c.args.observer.now.params ≤ 0 =
+    rw (← c.as_slice-params.ensures) (grind (arith, common_steps, c.is_empty.ensures, c.if-is_empty.true)) in
+    Legal.attended _ _ _ _ _ _ _ _ _ _ _ _ (Legal.no_more_params _ _ _ _ _ _ none) c.in_ok-given.ensures (Ends.none_held _ _)
+
+pub attend-invoke-requires-in-None : goal.attend-invoke-requires-in-None
+attend-invoke-requires-in-None g t c =
     let p = rw (c.as_slice-params.ensures, c.in-None.is) at c.in_ok-supplied.ensures in
     let o = c.requires.observer in
     let settled : IsSettled c.args.self.now.stage c.supply.new.run.moment = settled_after c.args.self.now.stage p tt c.requires.settled in
