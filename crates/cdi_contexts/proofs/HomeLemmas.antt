@@ -229,10 +229,6 @@ joined-nobodys i h o e = by o ∙ sym (ap (λ b. joined o b i.id.number) (nobody
     by (Some m) = refl
     by None = refl
 
--- and who has one is kept there
-pub lives_there : (i : Instance) (h home : Home) → Some home ≡ home_of i.id.bean i.owner → same_home home h ≡ lives_at h i
-lives_there i h home e = ap (λ o. is_this o h) e ∙ sym (lives_home h i.id.bean i.owner)
-
 -- ---- an instance is begun
 
 pub homes-more : (homes new : Homes) (live : List Instance) (i : Instance) → AreHomesOf homes live
