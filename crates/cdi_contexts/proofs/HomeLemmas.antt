@@ -177,7 +177,8 @@ left-older m n here next less =
     rw (other, and_false here) refl
 
 removed_first : (h : Home) (i : Instance) (is : List Instance) (b : Bool)
-    → oldest_at h is ≡ left_of (option_map (λ (j : Instance). j.id.number) (cond b (Some i) (living_at h is))) b i.id.number (oldest_at h is)
+    → oldest_at h is
+    ≡ left_of (option_map (λ (j : Instance). j.id.number) (cond b (Some i) (living_at h is))) b i.id.number (oldest_at h is)
 removed_first h i is true = sym (left-here i.id.number (oldest_at h is))
 removed_first h i is false = sym (left-elsewhere (oldest_at h is) i.id.number (oldest_at h is))
 

@@ -78,7 +78,8 @@ stored_step true k v s states other =
 stored_step false k v s states other = refl
 
 stored : (k : Holder) (v : Val) (es : List Entry) → IsDistinct same_holder (keys_of (insert_entry same_holder es k v))
-    → states_of (insert_entry same_holder es k v) ≡ stored_by (list_any (is_state_of k.number k.interceptor) (states_of es)) k v (states_of es)
+    → states_of (insert_entry same_holder es k v)
+    ≡ stored_by (list_any (is_state_of k.number k.interceptor) (states_of es)) k v (states_of es)
 unfolding IsDistinct
 stored k v [] distinct = refl
 stored k v (e ∷ es) distinct = by (same_holder k e.0) refl (stored k v es)

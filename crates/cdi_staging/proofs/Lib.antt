@@ -8,3 +8,4 @@ mod LinkLemmas
 pub mod LookupLemmas
 pub mod SceneLemmas
 pub mod FaultLemmas
+pub mod Laws

@@ -35,5 +35,3 @@ chosen-has-methods ds book t quals id name distinct one has none =
     let there = method-there ds book id name r (Own 0) has id.producer refl in
     ap (λ o. is_some (place_in (places.Method m) (managed_in o))) r.there
     ∙ in-form (scene_of ds book) site r.bean.form (sym (ap product_in r.there) ∙ none) there
-
-pub ruleset of_lookups = (chosen-stands, chosen-has-methods)

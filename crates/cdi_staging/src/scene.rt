@@ -30,7 +30,7 @@ use std::rc::Rc;
 /// looks each name of a body, a bean and a method up once for each place that writes it, so its time is near the size
 /// of the declarations; it takes memory for the scene. The clauses behind say that a deployment without faults has a
 /// sound scene, and that a bean which is chosen for a look-up from outside stands there and has its methods.
-#[tactic(auto, using(crate::proofs::FaultLemmas::faultless_is_sound, crate::proofs::LookupLemmas::of_lookups), unfolding(crate::specs::Staged::scene_of))]
+#[tactic(auto, using(crate::proofs::Laws::of_scenes), unfolding(crate::specs::Staged::scene_of))]
 pub fn scene_of<B: Bodies>(
     alloc: Global,
     decls: &Decls,

@@ -1,3 +1,4 @@
+pub mod Laws
 pub mod PointLemmas
 pub mod PushLemmas
 pub mod RecordLemmas

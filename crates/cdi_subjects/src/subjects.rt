@@ -28,7 +28,7 @@ use std::rc::Rc;
 /// in the order in which they are declared. Its records and the answers to its injection points are given in their
 /// order; no part has a fault of a name or a circle, which are no declaration's. It takes memory for the parts, and for
 /// searches among the declarations.
-#[tactic(auto, using(crate::proofs::RecordLemmas::typed_by_entries, crate::proofs::RecordLemmas::conflicts_by_entries, crate::proofs::RecordLemmas::conditional_by_entries, crate::proofs::PointLemmas::points_by_entries))]
+#[tactic(auto, using(crate::proofs::Laws::by_entries))]
 pub fn subjects_at_fault<B: Bodies>(
     alloc: Global,
     code: Code,
