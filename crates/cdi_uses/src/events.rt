@@ -1,6 +1,7 @@
 //! Which texts are events, and what they say.
 ghost use Rattle.std.specs.Prelude.{◌≡◌, ◌↔◌, ◌≤◌, [], true, length, map, option_map, IsTrue, IfOk};
 ghost use Rattle.std.specs.List.{list_all, list_any};
+ghost use Rattle.cdi_model.specs.Bytes.{space};
 ghost use Rattle.cdi_model.specs.Quals.{list_limit};
 ghost use Rattle.cdi_uses.specs.Events.{is_event, is_event_use, event_repeats, event_of, uses_in};
 ghost use Rattle.cdi_uses.specs.Events.{EventsReadBack, SpellsEvent, SpellsEventUse};
@@ -40,7 +41,7 @@ fn spells_event(text: &[u8]) -> bool
 
 /// Whether each part of what is left is a use that an event may have.
 fn are_event_uses(uses: Option<&[u8]>) -> bool
-    ensures { result ≡ list_all is_event_use (pieces 32 (option_map (λ u. u.now) uses.entry)) }
+    ensures { result ≡ list_all is_event_use (pieces space (option_map (λ u. u.now) uses.entry)) }
 {
     let mut rest = uses;
     while let Some(left) = rest {
@@ -134,9 +135,9 @@ pub fn event_of(alloc: Global, text: &[u8]) -> Result<EventDecl, AllocError>
 
 /// The qualifiers that the parts of what is left say.
 fn quals_in(alloc: Global, uses: Option<&[u8]>) -> Result<Quals, AllocError>
-    requires uses { list_all is_event_use (pieces 32 (option_map (λ u. u.now) uses)) ≡ true }
-    requires count { length (pieces 32 (option_map (λ u. u.now) uses)) ≤ list_limit }
-    ensures { IfOk result (λ quals. quals ≡ quals_from [] (pieces 32 (option_map (λ u. u.now) uses.entry))) }
+    requires uses { list_all is_event_use (pieces space (option_map (λ u. u.now) uses)) ≡ true }
+    requires count { length (pieces space (option_map (λ u. u.now) uses)) ≤ list_limit }
+    ensures { IfOk result (λ quals. quals ≡ quals_from [] (pieces space (option_map (λ u. u.now) uses.entry))) }
 {
     let mut quals = Quals::new(alloc);
     let mut rest = uses;
