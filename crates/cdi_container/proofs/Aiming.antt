@@ -13,12 +13,12 @@ use Rattle.cdi_effective.specs.declared.records.BeanId.{BeanId}
 use Rattle.cdi_resolve.specs.Choices.{chosen}
 use Rattle.cdi_resolve.specs.declared.choice.Choice.{Choice}
 use Rattle.cdi_resolve.specs.declared.choice.Choice.TheVariants.{One, Unsatisfied, Ambiguous}
-use Rattle.cdi_run.specs.declared.roots.Wanted.TheVariants as wanteds
+use Rattle.cdi_run.specs.declared.roots.Purpose.TheVariants as purposes
 use Rattle.cdi_staging.specs.Sites.{managed_class, method_of, position_of_bean}
 use Rattle.cdi_staging.specs.Staged.{scene_of}
 use Rattle.cdi_staging.proofs.LookupLemmas.{chosen-stands, chosen-has-methods}
 use Rattle.cdi_subjects.specs.Sites.{has_method}
-use Rattle.cdi_container.specs.Asked.{Asked, aim_for, aim_of_choice, aim_with, wanted_of}
+use Rattle.cdi_container.specs.Asked.{Asked, aim_for, aim_of_choice, aim_with, purpose_of}
 use Rattle.cdi_container.specs.Wired.{StandsIn}
 use Rattle.cdi_container.specs.declared.asked.Aim.{Aim}
 use Rattle.cdi_container.specs.declared.asked.Message.{Message}
@@ -28,7 +28,7 @@ ok_same x y r h k = cc
 
 module _ (ds : List Decl) (book : List Promised) (t : List ℕ) (quals : List Qual) (distinct : AreDistinct ds) where
   stands_at : (id : BeanId) (message : Option Message) (aim : Aim) → chosen ds (beans ds) t quals ≡ One id
-      → aim_with (position_of_bean (beans ds) id) (wanted_of ds id message) ≡ Ok aim → StandsIn (scene_of ds book) aim
+      → aim_with (position_of_bean (beans ds) id) (purpose_of ds id message) ≡ Ok aim → StandsIn (scene_of ds book) aim
   stands_at id None aim one is =
       subst (StandsIn (scene_of ds book)) (ok_same _ _ _ refl is)
       (record { there = chosen-stands ds book t quals id distinct one; usable = tt })
@@ -36,7 +36,7 @@ module _ (ds : List Decl) (book : List Promised) (t : List ℕ) (quals : List Qu
     where
       by : (b : Bool) → has_method ds id message.method ≡ b
           → aim_with (position_of_bean (beans ds) id)
-          (if b then Ok (wanteds.Answer (method_of ds (managed_class id) message.method) message.arg) else Err NoMethod) ≡ Ok aim
+          (if b then Ok (purposes.Answer (method_of ds (managed_class id) message.method) message.arg) else Err NoMethod) ≡ Ok aim
           → StandsIn (scene_of ds book) aim
       by true has same = subst (StandsIn (scene_of ds book)) (ok_same _ _ _ refl same) (record {
         there = chosen-stands ds book t quals id distinct one;

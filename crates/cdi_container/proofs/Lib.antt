@@ -12,3 +12,4 @@ mod SharingLemmas
 mod ToldLemmas
 mod Editing
 mod Playing
+mod LastEventLemmas

@@ -18,8 +18,8 @@ use Rattle.cdi_staging.specs.Notifying.{notified_at}
 use Rattle.cdi_staging.specs.Sites.{managed_class, position_of_bean, method_of}
 use Rattle.cdi_legal.specs.LegalRun.{Command as Run, notify_all, use_bean}
 use Rattle.cdi_run.specs.Known.{use_of}
-use Rattle.cdi_run.specs.declared.roots.Wanted.{Wanted}
-use Rattle.cdi_run.specs.declared.roots.Wanted.TheVariants as wanteds
+use Rattle.cdi_run.specs.declared.roots.Purpose.{Purpose}
+use Rattle.cdi_run.specs.declared.roots.Purpose.TheVariants as purposes
 use Rattle.cdi_subjects.specs.Asked.{are_known}
 use Rattle.cdi_validate.specs.Faults.{faults}
 use Rattle.cdi_subjects.specs.Sites.{has_method}
@@ -44,21 +44,21 @@ to_call method arg t quals = asked_for t quals (Some (record { method = method; 
 -- ---- where it leads, or why it is refused
 
 -- what is done with the instance of a bean: its state is looked up, or a method is called that it has
-abbrev pub wanted_of : List Decl → BeanId → Option Message → Result Wanted Refusal
-wanted_of ds id None = Ok wanteds.State
-wanted_of ds id (Some message) =
+abbrev pub purpose_of : List Decl → BeanId → Option Message → Result Purpose Refusal
+purpose_of ds id None = Ok purposes.State
+purpose_of ds id (Some message) =
     if has_method ds id message.method
-    then Ok (wanteds.Answer (method_of ds (managed_class id) message.method) message.arg)
+    then Ok (purposes.Answer (method_of ds (managed_class id) message.method) message.arg)
     else Err refusals.NoMethod
 
-abbrev pub aim_with : ℕ → Result Wanted Refusal → Result Aim Refusal
-aim_with b (Ok wanted) = Ok (record { bean = b; wanted = wanted })
+abbrev pub aim_with : ℕ → Result Purpose Refusal → Result Aim Refusal
+aim_with b (Ok purpose) = Ok (record { bean = b; purpose = purpose })
 aim_with b (Err refusal) = Err refusal
 
 abbrev pub aim_of_choice : List Decl → Option Message → Choice → Result Aim Refusal
 aim_of_choice ds message choices.Unsatisfied = Err refusals.Unsatisfied
 aim_of_choice ds message (choices.Ambiguous ids) = Err refusals.Ambiguous
-aim_of_choice ds message (choices.One id) = aim_with (position_of_bean (beans ds) id) (wanted_of ds id message)
+aim_of_choice ds message (choices.One id) = aim_with (position_of_bean (beans ds) id) (purpose_of ds id message)
 
 -- the bean that is right for it (CDI 4.0, Performing typesafe resolution)
 unfoldable pub aim_for : List Decl → Asked → Result Aim Refusal
@@ -98,7 +98,7 @@ fired_of ds book t quals = fired_faultless ds (length (faults ds book)) t quals
 
 -- the run that an aim begins
 abbrev pub run_at : Aim → Run
-run_at aim = use_bean aim.bean (use_of aim.wanted)
+run_at aim = use_bean aim.bean (use_of aim.purpose)
 
 -- the run of what was found, or why it was refused
 abbrev pub run_by : {X : Type 0} → (X → Run) → Result X Refusal → Result Run Refusal

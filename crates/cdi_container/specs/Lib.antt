@@ -3,6 +3,7 @@ pub mod Asked
 pub mod History
 pub mod Told
 pub mod Wired
+pub mod LastEvents
 pub mod Seen
 pub mod Text
 pub mod Runner

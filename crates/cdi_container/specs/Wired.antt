@@ -58,8 +58,8 @@ abbrev pub names_if : Deployed → Option Names
 names_if d = if d.is_wired then Some (names_of d.decls) else None
 
 -- what the trace is told by: names from before, where the declarations have changed since, and else theirs
-abbrev pub told_by : Deployed → Option Names → Names
-told_by d before = unwrap_or before (names_of d.decls)
+abbrev pub trace_names : Deployed → Option Names → Names
+trace_names d before = unwrap_or before (names_of d.decls)
 
 -- it is the same deployment, whose scene is there if it was
 pub record IsSameDeployment (old new : Deployed) : Type 0 where
@@ -79,4 +79,4 @@ pub record RestsOnScene (d : Deployed) (m : Moment) (before : Option Names) : Ty
 -- the bean that is aimed at is there, with the method that is called
 pub record StandsIn (scene : Scene) (aim : Aim) : Type 0 where
   pub there : IsSome (bean_at scene aim.bean)
-  pub usable : IsUsable scene aim.bean aim.wanted
+  pub usable : IsUsable scene aim.bean aim.purpose

@@ -22,7 +22,7 @@ pub enum Answer {
     Observed(Seq<ObserverId>),
     /// The faults of the deployment, in their order.
     Reported(Seq<Fault>),
-    /// What a look-up or a call gave: a value or a failure.
+    /// What a look-up, a call or an event gave: a value or a failure.
     Given(Outcome),
     /// The command is refused and has changed nothing.
     Refused(Refusal),
@@ -112,7 +112,7 @@ pub(crate) fn answer_of_report(
     }
 }
 
-/// The answer of a look-up or a call.
+/// The answer of a look-up, a call or an event.
 pub(crate) fn answer_of_run(outcome: Result<Outcome, Error>) -> Result<Answer, AllocError>
     ensures { result ≡ outcome_answer outcome }
 {

@@ -3,13 +3,13 @@ ghost use Rattle.std.specs.Prelude.{◌≡◌, IfOk, IfErr, OnOk, None, Some};
 ghost use Rattle.cdi_model.specs.Answering.{Answers};
 ghost use Rattle.cdi_effective.specs.Beans.{beans as beans_of};
 ghost use Rattle.cdi_staging.specs.Sites.{managed_class};
-ghost use Rattle.cdi_container.specs.Asked.{wanted_of, aim_of_choice, aim_for, asked_for, can_be_fired};
+ghost use Rattle.cdi_container.specs.Asked.{purpose_of, aim_of_choice, aim_for, asked_for, can_be_fired};
 ghost use Rattle.cdi_container.specs.Asked.{names_default};
 
 use cdi_effective::BeanId;
 use cdi_model::{Decls, Error, Ident, Name, Qual, Quals, Refusal, Val, Work};
 use cdi_resolve::{BeanList, Choice};
-use cdi_run::Wanted;
+use cdi_run::Purpose;
 use cdi_staging::{method_of, target_of};
 use cdi_subjects::{are_known, has_method};
 use std::alloc::Global;
@@ -25,7 +25,7 @@ pub(crate) struct Message {
 #[derive(Clone, Copy)]
 pub(crate) struct Aim {
     pub(crate) bean: usize,
-    pub(crate) wanted: Wanted,
+    pub(crate) purpose: Purpose,
 }
 
 /// The aim of what is asked for, by the bean list of some declarations without faults, or why it is refused. It takes
@@ -65,29 +65,29 @@ fn aim_of_choice(
             let target = target_of(beans, choice);
             Ok(Aim {
                 bean: target.bean,
-                wanted: wanted_of(decls, *id, target.class, message)?,
+                purpose: purpose_of(decls, *id, target.class, message)?,
             })
         }
     }
 }
 
 /// What is done with the instance of a bean, which has this class unless it is a product.
-fn wanted_of(
+fn purpose_of(
     decls: &Decls,
     id: BeanId,
     class: Option<Name>,
     message: Option<Message>,
-) -> Result<Wanted, Refusal>
+) -> Result<Purpose, Refusal>
     requires { class ≡ managed_class id }
-    ensures { result ≡ wanted_of decls.now id message }
+    ensures { result ≡ purpose_of decls.now id message }
 {
     let Some(Message { method, arg }) = message else {
-        return Ok(Wanted::State);
+        return Ok(Purpose::State);
     };
     if !has_method(decls, id, method) {
         return Err(Refusal::NoMethod);
     }
-    Ok(Wanted::Answer {
+    Ok(Purpose::Answer {
         method: method_of(decls, class, method),
         arg,
     })

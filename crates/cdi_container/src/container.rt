@@ -51,7 +51,7 @@ pub struct Container<B: Bodies> {
 impl<B: Bodies> Model for Container<B> {
     ghost use Rattle.cdi_trace.specs.TraceText.{text_of_entries};
     ghost use Rattle.cdi_container.specs.History.{State};
-    ghost use Rattle.cdi_container.specs.Wired.{RestsOnScene, told_by};
+    ghost use Rattle.cdi_container.specs.Wired.{RestsOnScene, trace_names};
 
     ghost Value = { State };
 
@@ -60,7 +60,7 @@ impl<B: Bodies> Model for Container<B> {
       book = c.deployment.book;
       standing = c.run.moment.standing;
       trace = c.run.moment.trace;
-      text = text_of_entries (told_by c.deployment c.told) c.run.moment.trace;
+      text = text_of_entries (trace_names c.deployment c.told) c.run.moment.trace;
     } };
 
     ghost invariant = { λ c. RestsOnScene c.deployment c.run.moment c.told };
@@ -137,8 +137,9 @@ impl<B: Bodies> Container<B> {
 
     /// Puts the declaration that a TOML text spells in the place of the one of its kind and name, or at the end. First the
     /// request context, if a request is active, and the application context end, as they do at a `stop`, on the declarations
-    /// from before (profile). It takes memory for the declaration, for a list of all declarations, and for the entries of its
-    /// trace, all of it before the first callback: where it is wanted, nothing has changed.
+    /// from before (profile). It takes memory for the declaration and, where instances may be live, for a list of all
+    /// declarations and for the entries of its trace, all of it before the first callback: where it is wanted, nothing has
+    /// changed.
     #[tactic(auto, using(crate::proofs::Putting::put_step))]
     pub fn put(&mut self, text: &[u8]) -> Result<(), Error>
         ensures answer { Answers result (answer_of_put self.old.decls (decl_of text.now)) }
@@ -164,8 +165,43 @@ impl<B: Bodies> Container<B> {
         self.edit(Edit::Remove(kind, name))
     }
 
-    /// An edit, with the end of both contexts before it.
+    /// An edit, with the end of both contexts before it. Where no scene is there, nothing lives.
     fn edit(&mut self, edit: Edit) -> Result<(), Error>
+        requires { IsShortEdit edit }
+        ensures answer { Answers result (answer_of_edit self.old.decls edit) }
+        ensures ok { OnOk result (EditsFrom self.old edit self.new) }
+        ensures nothing { OnOk result (self.new.standing.live ≡ []) }
+        ensures err { IfErr result (λ error. self.new ≡ left_by error self.old) }
+    {
+        if self.deployment.is_wired() {
+            self.edit_behind_ends(edit)
+        } else {
+            self.edit_in_place(edit)
+        }
+    }
+
+    /// An edit where nothing lives. It takes memory for what is put alone.
+    fn edit_in_place(&mut self, edit: Edit) -> Result<(), Error>
+        requires short { IsShortEdit edit }
+        requires nothing { self.old.standing.live ≡ [] }
+        ensures answer { Answers result (answer_of_edit self.old.decls edit) }
+        ensures ok { OnOk result (EditsFrom self.old edit self.new) }
+        ensures nothing { OnOk result (self.new.standing.live ≡ []) }
+        ensures err { IfErr result (λ error. self.new ≡ left_by error self.old) }
+    {
+        match self.deployment.apply(edit) {
+            Ok(()) => {
+                self.run.restart();
+                self.run.close();
+                self.told = None;
+                Ok(())
+            }
+            Err(error) => Err(self.leave(error)),
+        }
+    }
+
+    /// An edit of a list of its own, which takes the place of the declarations once both contexts have ended.
+    fn edit_behind_ends(&mut self, edit: Edit) -> Result<(), Error>
         requires { IsShortEdit edit }
         ensures answer { Answers result (answer_of_edit self.old.decls edit) }
         ensures ok { OnOk result (EditsFrom self.old edit self.new) }

@@ -16,6 +16,7 @@ ghost use Rattle.cdi_scene.specs.Sound.{AreObservers};
 ghost use Rattle.cdi_container.specs.Wired.{StandsIn, IsSameDeployment, IsShortEdit, IsWiredOf, names_if};
 
 use crate::asked::{Aim, Message, aim_for, can_be_fired};
+use crate::last_events::LastEvents;
 use crate::wiring::{Wired, Wiring};
 use cdi_bodies::Bodies;
 use cdi_ending::Stage;
@@ -26,20 +27,23 @@ use cdi_observe::{ObserverId, PlainView, evaluate_observers};
 use cdi_resolve::{BeanList, Choice, choose_name};
 use cdi_run::Player;
 use cdi_scene::Notified;
-use cdi_staging::{Names, notified_at};
+use cdi_staging::Names;
 use cdi_subjects::are_known;
 use cdi_validate::faults;
 use std::alloc::{AllocError, Global};
 use std::marker::Model;
 
-/// The present declarations and the book of stored bodies, with the bean list and the wiring that questions made of them
-/// where none was edited since.
+/// The present declarations and the book of stored bodies, and what was made of them since the last edit.
 #[derive(Drop)]
 pub(crate) struct Deployment<B: Bodies> {
     decls: Decls,
     book: B,
+    /// Made by the first question.
     beans: Option<BeanList>,
+    /// Made by the first look-up, call or event.
     wiring: Option<Wiring>,
+    /// Whom the last event of each type notified.
+    last_events: LastEvents,
 }
 
 impl<B: Bodies> Model for Deployment<B> {
@@ -47,6 +51,7 @@ impl<B: Bodies> Model for Deployment<B> {
     ghost use Rattle.cdi_model.specs.Short.{AreShort};
     ghost use Rattle.cdi_effective.specs.Beans.{beans as bean_list};
     ghost use Rattle.cdi_container.specs.Asked.{aim_of, asked_for};
+    ghost use Rattle.cdi_container.specs.LastEvents.{AreFiredOn};
     ghost use Rattle.cdi_container.specs.Wired.{StandsIn, Deployed, IsWiringOf, is_sound};
 
     ghost Value = { Deployed };
@@ -55,7 +60,8 @@ impl<B: Bodies> Model for Deployment<B> {
 
     ghost invariant = { λ d. AreShort d.decls
         × IfSome d.beans (λ list. list ≡ bean_list d.decls)
-        × IfSome d.wiring (λ wiring. IsWiringOf d.decls (B.promises d.book) wiring) };
+        × IfSome d.wiring (λ wiring. IsWiringOf d.decls (B.promises d.book) wiring)
+        × AreFiredOn d.decls d.last_events };
 }
 
 impl<B: Bodies> Deployment<B> {
@@ -70,6 +76,7 @@ impl<B: Bodies> Deployment<B> {
             book,
             beans: None,
             wiring: None,
+            last_events: LastEvents::new(alloc),
         }
     }
 
@@ -87,6 +94,25 @@ impl<B: Bodies> Deployment<B> {
         Ok(next)
     }
 
+    /// Makes an edit in place, after which the scene is not there. It takes memory for what is put alone.
+    #[tactic(auto, using(crate::proofs::Editing::edit_short))]
+    pub(crate) fn apply(&mut self, edit: Edit) -> Result<(), Error>
+        requires { IsShortEdit edit }
+        ensures answer { Answers result (answer_of_edit self.old.decls edit) }
+        ensures ok { OnOk result (self.new ≡ record self.old { decls = edited self.old.decls edit; is_wired = false }) }
+        ensures err { OnErr result (self.new ≡ self.old) }
+    {
+        match self.decls.apply(edit) {
+            Ok(()) => {
+                self.beans = None;
+                self.wiring = None;
+                self.last_events.clear();
+                Ok(())
+            }
+            Err(error) => Err(error),
+        }
+    }
+
     /// These declarations are present from now on; the names of those from before, where the scene was there. It takes no
     /// memory.
     pub(crate) fn replace(&mut self, next: Decls) -> Option<Names>
@@ -96,6 +122,7 @@ impl<B: Bodies> Deployment<B> {
     {
         self.decls = next;
         self.beans = None;
+        self.last_events.clear();
         match self.wiring.take() {
             Some(Wiring::Sound(wired)) => Some(wired.names),
             _ => None,
@@ -256,7 +283,9 @@ impl<B: Bodies> Deployment<B> {
         let list = self.take_beans(alloc)?;
         // No effect at run time. The proof reads here that no two declarations have one kind and name.
         let _ = self.decls.iter();
-        let notified = notified_at(alloc, &self.decls, &list, event_type, quals.as_slice());
+        let notified = self
+            .last_events
+            .notified(alloc, &self.decls, &list, event_type, quals);
         self.beans = Some(list);
         work.add_one();
         Ok(notified?)

@@ -18,8 +18,8 @@ impl<B: Bodies> Container<B> {
     /// The state of the instance of the bean that is right for a type and qualifiers (CDI 4.0, Normal scopes and pseudo-scopes; the
     /// answer: profile). A dependent bean has its instance made for it, which is destroyed before the answer.
     ///
-    /// It takes memory as `report` does at the first look-up or call after an edit, and else for a choice and for the
-    /// instances and the entries of its trace.
+    /// It takes memory as `report` does at the first look-up, call or event after an edit, and else for a choice and for
+    /// the instances and the entries of its trace.
     ///
     /// # Errors
     ///
@@ -70,7 +70,7 @@ impl<B: Bodies> Container<B> {
         {
             Ok(aim) => {
                 let player = self.deployment.player();
-                let outcome = player.use_one(&mut self.run, aim.bean, aim.wanted)?;
+                let outcome = player.use_one(&mut self.run, aim.bean, aim.purpose)?;
                 Ok(outcome)
             }
             Err(error) => Err(self.leave_unplayed(error)),
@@ -79,7 +79,8 @@ impl<B: Bodies> Container<B> {
 
     /// An event with a value, for the observer methods that it notifies, in order, up to the first failure, which is its outcome
     /// then (CDI 4.0, Observer notification); else the outcome is null. It takes memory as `report` does at the first look-up,
-    /// call or event after an edit, and else as `observers` does and for the instances and the entries of its trace.
+    /// call or event after an edit, and else for the instances and the entries of
+    /// its trace, and as `observers` does where the last event of the type had other qualifiers.
     ///
     /// # Errors
     ///

@@ -8,20 +8,26 @@ mod container;
 mod deployment;
 mod instances;
 mod intake;
+mod last_events;
 mod printing;
 mod runner;
 mod script;
 mod wiring;
 
 pub use answer::Answer;
-pub use cdi_bodies::{Act, Bodies, Body, Book, Frame, Promise};
+pub use cdi_bodies::{Act, Bodies, Body, Book, BookCause, BookError, Frame, Promise};
+pub use cdi_contexts::{Actor, InstanceId, Owner};
 pub use cdi_devices::{Counted, RunFault, SCRIPT_LIMIT};
 pub use cdi_effective::BeanId;
 pub use cdi_faults::{Code, Fault, Subject};
 pub use cdi_legal::Entry;
 pub use cdi_lines::Command;
-pub use cdi_model::{Error, Failure, Ident, Name, Outcome, Quals, Refusal, Val};
+pub use cdi_model::{
+    BeanPlace, Error, Failure, Ident, Kind, Name, Outcome, Qual, Quals, Refusal, Seq, Val,
+};
 pub use cdi_observe::ObserverId;
 pub use cdi_resolve::Choice;
+pub use cdi_scene::{Notified, Place, Seat};
+pub use cdi_text::read_qualifier;
 pub use container::Container;
 pub use script::{Options, READ_BYTES, Summary, run};

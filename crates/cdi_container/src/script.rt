@@ -236,7 +236,7 @@ pub fn run<B: Bodies + Drop, R: Read, W: Write>(
         FailsToWrite R.remaining W.contents SCRIPT_LIMIT READ_BYTES (setting_with options.quiet (B.promises book))
         reader.old reader.new writer.old writer.new }
 
-    // All that was written was flushed, at the end and before the read that failed, as any read may.
+    // All that was written was flushed at the end, also where a read failed.
     ensures flushed { IsErrOf result RunFault.Write ⊎ (is_flushed writer.new ≡ true) }
 
     // `Read` and `Write` come exactly where a device failed, or the reader gave a byte behind the limit.

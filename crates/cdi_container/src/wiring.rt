@@ -1,4 +1,4 @@
-//! What look-ups and calls make of a deployment, and keep until the next edit.
+//! What look-ups, calls and events make of a deployment, and keep until the next edit.
 ghost use Rattle.std.specs.Prelude.{◌≡◌, IfOk};
 ghost use Rattle.cdi_model.specs.Short.{AreShort};
 ghost use Rattle.cdi_effective.specs.Beans.{beans as beans_of};

@@ -11,4 +11,4 @@ mod roots;
 mod words;
 
 pub use player::Player;
-pub use roots::Wanted;
+pub use roots::Purpose;

@@ -27,7 +27,7 @@ const DEPTH: u32 = 32;
 
 /// What is done with an instance: its state is looked up, or a method is called with an argument.
 #[derive(Clone, Copy, PartialEq, Eq, Debug)]
-pub enum Wanted {
+pub enum Purpose {
     /// The state of the instance.
     State,
     /// What a method answers. A product has one, which answers its state.
@@ -40,12 +40,17 @@ pub enum Wanted {
 impl<'a, B: Bodies> Player<'a, B> {
     /// A look-up or a call: the shared instance of a bean with a normal scope is used, and an instance of a dependent bean is
     /// made for this use and destroyed before the answer (the latter: profile).
-    pub fn use_one(&self, run: &mut Run, bean: usize, wanted: Wanted) -> Result<Outcome, AllocError>
+    pub fn use_one(
+        &self,
+        run: &mut Run,
+        bean: usize,
+        purpose: Purpose,
+    ) -> Result<Outcome, AllocError>
         requires there { IsSome (bean_at self.now.stage.scene bean) }
-        requires usable { IsUsable self.now.stage.scene bean wanted }
+        requires usable { IsUsable self.now.stage.scene bean purpose }
         requires furnished { IsFurnished self.now.stage.scene run.old.moment.standing.live }
         ensures legal { let before = run.old.moment.standing in let now = run.new.moment in
-            IfOk result (λ outcome. LegalRun self.now.stage.scene (use_bean bean (use_of wanted)) before
+            IfOk result (λ outcome. LegalRun self.now.stage.scene (use_bean bean (use_of purpose)) before
             now.trace outcome now.standing) }
         ensures follows { OnOk result (Follows (beginning run.old.moment.standing) run.new.moment) }
         ensures single { OnOk result (StaysSingle self.now.stage.scene (beginning run.old.moment.standing) run.new.moment) }
@@ -58,7 +63,7 @@ impl<'a, B: Bodies> Player<'a, B> {
         // No effect at run time. The proof reads here that the scene is sound.
         let _ = self.stage.scene();
         run.restart();
-        match self.use_either(run, bean, wanted) {
+        match self.use_either(run, bean, purpose) {
             Ok(outcome) => Ok(outcome),
             Err(error) => {
                 run.clear(given);
@@ -153,18 +158,23 @@ impl<'a, B: Bodies> Player<'a, B> {
     }
 
     /// A look-up or a call: the bean's instance is obtained; a dependent one is made, and destroyed before the answer.
-    fn use_either(&self, run: &mut Run, bean: usize, wanted: Wanted) -> Result<Outcome, AllocError>
+    fn use_either(
+        &self,
+        run: &mut Run,
+        bean: usize,
+        purpose: Purpose,
+    ) -> Result<Outcome, AllocError>
         requires there { IsSome (bean_at self.now.stage.scene bean) }
-        requires usable { IsUsable self.now.stage.scene bean wanted }
+        requires usable { IsUsable self.now.stage.scene bean purpose }
         requires settled { IsSettled self.now.stage run.old.moment }
         ensures { IfOk result (λ outcome.
-            Runs self.now.stage.scene (use_bean bean (use_of wanted)) run.old.moment outcome run.new.moment) }
+            Runs self.now.stage.scene (use_bean bean (use_of purpose)) run.old.moment outcome run.new.moment) }
     {
         if is_normal(self.scope_of(bean)) {
             return match self.obtain(run, DEPTH, bean)? {
                 Made::Refused(failure) => Ok(Outcome::Failed(failure)),
                 Made::Instance(number) => {
-                    let outcome = self.use_instance(run, InstanceId { bean, number }, wanted)?;
+                    let outcome = self.use_instance(run, InstanceId { bean, number }, purpose)?;
                     Ok(outcome)
                 }
             };
@@ -173,7 +183,7 @@ impl<'a, B: Bodies> Player<'a, B> {
             Made::Refused(failure) => Ok(Outcome::Failed(failure)),
             Made::Instance(number) => {
                 let id = InstanceId { bean, number };
-                let outcome = self.use_instance(run, id, wanted)?;
+                let outcome = self.use_instance(run, id, purpose)?;
                 self.stage.destroy(run, id)?;
                 Ok(outcome)
             }
@@ -185,17 +195,17 @@ impl<'a, B: Bodies> Player<'a, B> {
         &self,
         run: &mut Run,
         id: InstanceId,
-        wanted: Wanted,
+        purpose: Purpose,
     ) -> Result<Outcome, AllocError>
-        requires usable { IsUsable self.now.stage.scene id.bean wanted }
+        requires usable { IsUsable self.now.stage.scene id.bean purpose }
         requires settled { IsSettled self.now.stage run.old.moment }
         requires has { HasDependents self.now.stage.scene run.old.moment.standing.live id }
         ensures { IfOk result (λ outcome.
-            Uses self.now.stage.scene id (use_of wanted) run.old.moment outcome run.new.moment) }
+            Uses self.now.stage.scene id (use_of purpose) run.old.moment outcome run.new.moment) }
     {
-        match wanted {
-            Wanted::State => Ok(Outcome::Value(run.load(id.number, Actor::Target))),
-            Wanted::Answer { method, arg } => {
+        match purpose {
+            Purpose::State => Ok(Outcome::Value(run.load(id.number, Actor::Target))),
+            Purpose::Answer { method, arg } => {
                 if self.product(id.bean).is_some() {
                     return Ok(Outcome::Value(run.load(id.number, Actor::Target)));
                 }

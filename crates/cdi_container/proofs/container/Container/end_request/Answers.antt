@@ -1,5 +1,5 @@
 use Rattle.std.proofs.Common.{sym, ◌∙◌}
-use Rattle.cdi_container.specs.Wired.{told_by}
+use Rattle.cdi_container.specs.Wired.{trace_names}
 use Rattle.cdi_container.proofs.Ending.{ends_no_request, has_request, is_closed}
 use Rattle.cdi_container.proofs.container.Container.end_request.Goals as goal
 
@@ -7,14 +7,14 @@ pub returns-clause-ok : goal.returns-clause-ok
 returns-clause-ok g c =
     let d = c.self.inside.deployment in
     let m = c.self.inside.run.moment in
-    ends_no_request d.decls d.book (told_by d c.self.inside.told) c.args.self.now m c.close.new.self.moment c.self.view_is
+    ends_no_request d.decls d.book (trace_names d c.self.inside.told) c.args.self.now m c.close.new.self.moment c.self.view_is
     (c.self.invariant.nothing_lives (sym c.is_wired.ensures ∙ c.if-is_wired.false))
     (is_closed m c.restart-2.new.self.moment c.close.new.self.moment c.restart-2.ensures.moment c.close.ensures)
 
 pub returns-clause-step : goal.returns-clause-step
 returns-clause-step g c =
     let d = c.self.inside.deployment in (
-      has_request d.decls d.book (told_by d c.self.inside.told) c.args.self.now c.self.inside.run.moment c.self.view_is
+      has_request d.decls d.book (trace_names d c.self.inside.told) c.args.self.now c.self.inside.run.moment c.self.view_is
           (sym c.is_active.ensures ∙ c.if-not-is_active.false),
       returns-clause-ok g c,
     )
