@@ -8,6 +8,7 @@ mod answers;
 mod bean_questions;
 mod bodies;
 mod calls;
+mod chain_questions;
 mod questions;
 mod runs;
 mod scripts;

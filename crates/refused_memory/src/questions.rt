@@ -1,8 +1,9 @@
-//! Questions about types, qualifiers, stereotypes and beans, of which any one allocation may be refused. They change
+//! Questions about types, qualifiers, stereotypes, beans and chains, of which any one allocation may be refused. They change
 //! nothing.
 use crate::Difference;
 use crate::answers::Answer;
 use crate::bean_questions::{BeanQuestion, Compared, Deployed, Recorded, Told};
+use crate::chain_questions::{Audited, ChainQuestion};
 use crate::texts::{are_names, names};
 use cdi_fixtures::name;
 use cdi_match::{closure, extends_itself, fill_members, inherits_itself, is_type, stereotypes};
@@ -31,11 +32,15 @@ enum Question {
     InheritsItself(&'static [u8], bool),
     /// What is asked of the beans.
     OfBeans(BeanQuestion),
+    /// What is asked of the audited bean.
+    OfChains(ChainQuestion),
 }
 
 use BeanQuestion::{Beans, Choose, ChooseName, Evaluate, Put, Record};
+use ChainQuestion::{Around, Bound, Observed, Touched};
 use Question::{
-    BadUse, Closure, ExtendsItself, Fill, InheritsItself, IsType, OfBeans, Read, Stereotypes,
+    BadUse, Closure, ExtendsItself, Fill, InheritsItself, IsType, OfBeans, OfChains, Read,
+    Stereotypes,
 };
 
 /// What is declared: types of which two extend each other, a qualifier, stereotypes of which two declare each other,
@@ -71,7 +76,7 @@ producers=[
 "#,
 ];
 
-static QUESTIONS: [Question; 31] = [
+static QUESTIONS: [Question; 37] = [
     Closure(
         b"Corner",
         &[b"Corner", b"Object", b"Place", b"Shop", b"Stand", b"Stop"],
@@ -160,24 +165,54 @@ static QUESTIONS: [Question; 31] = [
             Compared(b"Mill", true),
         ],
     )),
+    OfChains(Around(b"run", &[b"G"])),
+    // A binding of the method stands in the place of the one of its type that the class is brought.
+    OfChains(Around(b"fast", &[])),
+    OfChains(Bound(b"fast", &[b"Audit", b"Log", b"Tx"])),
+    OfChains(Observed(b"S", &[b"see"])),
+    OfChains(Touched(
+        b"kind=\"interceptor\"\nname=\"H\"\npriority=2\nbindings=[\"Log\"]\naround_invoke={body=\"pass\"}\n",
+        b"run",
+        true,
+    )),
+    OfChains(Touched(
+        b"kind=\"interceptor\"\nname=\"H\"\npriority=2\nbindings=[\"Other\"]\naround_invoke={body=\"pass\"}\n",
+        b"run",
+        false,
+    )),
 ];
+
+/// What the questions are about.
+#[derive(Drop)]
+struct Asked {
+    deployed: Deployed,
+    audited: Audited,
+}
+
+impl Asked {
+    fn new(alloc: Global) -> Result<Asked, Error> {
+        let deployed = Deployed::new(alloc, &TEXTS)?;
+        let audited = Audited::new(alloc)?;
+        Ok(Asked { deployed, audited })
+    }
+}
 
 /// Asks the questions, and tells whether one got no memory. Where one gets none, it is asked again.
 pub fn ask_questions(alloc: Global) -> Result<bool, Difference> {
-    let mut made = Deployed::new(alloc, &TEXTS);
+    let mut made = Asked::new(alloc);
     let mut refused = matches!(made, Err(Error::OutOfMemory));
     if refused {
-        made = Deployed::new(alloc, &TEXTS);
+        made = Asked::new(alloc);
     }
-    let deployed = made.map_err(|_| Difference::Declarations)?;
+    let asked = made.map_err(|_| Difference::Declarations)?;
     for (place, question) in QUESTIONS.iter().enumerate() {
-        let mut answered = ask(alloc, &deployed, *question);
+        let mut answered = ask(alloc, &asked, *question);
         if matches!(answered, Err(Error::OutOfMemory)) {
             if refused {
                 return Err(Difference::RefusedAgain);
             }
             refused = true;
-            answered = ask(alloc, &deployed, *question);
+            answered = ask(alloc, &asked, *question);
         }
         if answered != Ok(true) {
             return Err(Difference::Question(place));
@@ -187,8 +222,8 @@ pub fn ask_questions(alloc: Global) -> Result<bool, Difference> {
 }
 
 /// Whether a question has its answer.
-fn ask(alloc: Global, deployed: &Deployed, question: Question) -> Result<bool, Error> {
-    let decls = &deployed.decls;
+fn ask(alloc: Global, asked: &Asked, question: Question) -> Result<bool, Error> {
+    let decls = &asked.deployed.decls;
     match question {
         Closure(text, wanted) => has_types(alloc, decls, text, wanted),
         IsType(text, other, wanted) => {
@@ -200,7 +235,8 @@ fn ask(alloc: Global, deployed: &Deployed, question: Question) -> Result<bool, E
         BadUse(text, refusal) => refuses(alloc, text, refusal),
         Fill(text, wanted) => fills(alloc, decls, text, wanted),
         Stereotypes(texts, wanted) => has_stereotypes(alloc, decls, texts, wanted),
-        OfBeans(question) => deployed.answers(alloc, question),
+        OfBeans(question) => asked.deployed.answers(alloc, question),
+        OfChains(question) => asked.audited.answers(alloc, question),
     }
 }
 

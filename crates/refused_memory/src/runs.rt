@@ -81,7 +81,7 @@ pre={body="count"}
 /// How many entries the look-up of the dependent bean with a point has.
 const ENTRIES: usize = 10;
 
-static STEPS: [Step; 16] = [
+static STEPS: [Step; 20] = [
     Step {
         asked: LookUp(b"A"),
         value: NULL,
@@ -315,6 +315,68 @@ static STEPS: [Step; 16] = [
   gone S#14
 ",
         next: 18,
+    },
+    // Where nothing was asked since the last edit, one is made in place.
+    Step {
+        asked: Put(b"kind=\"type\"\nname=\"E\"\n"),
+        value: None,
+        trace: b"",
+        next: 18,
+    },
+    Step {
+        asked: Remove(b"E"),
+        value: None,
+        trace: b"",
+        next: 18,
+    },
+    Step {
+        asked: Fire(5, b"R"),
+        value: NULL,
+        trace: b"  create A#18
+  create D#19
+  enter D#19 post arg null
+  leave null
+  ready D#19
+  ready A#18
+  create D#20
+  enter D#20 post arg null
+  leave null
+  ready D#20
+  enter A#18 observer see arg 5
+  leave 5
+  destroy D#20
+  gone D#20
+  destroy A#18
+  destroy D#19
+  gone D#19
+  gone A#18
+",
+        next: 18,
+    },
+    // Whom the same event notifies is known by now.
+    Step {
+        asked: Fire(6, b"R"),
+        value: NULL,
+        trace: b"  create A#21
+  create D#22
+  enter D#22 post arg null
+  leave null
+  ready D#22
+  ready A#21
+  create D#23
+  enter D#23 post arg null
+  leave null
+  ready D#23
+  enter A#21 observer see arg 6
+  leave 6
+  destroy D#23
+  gone D#23
+  destroy A#21
+  destroy D#22
+  gone D#22
+  gone A#21
+",
+        next: 21,
     },
 ];
 
