@@ -5,7 +5,7 @@ ghost use Rattle.cdi_bodies.specs.Within.{IsAllowed, CoversNoMore, keeps_to};
 
 use bitflags::{Flag, Flags, bitflag_items};
 
-/// The kinds of acts that a body may answer, one flag for each. To return needs no promise.
+/// The acts that a body may answer, one flag for each. To return needs no promise.
 #[derive(Clone, Copy, PartialEq, Eq, Debug)]
 pub struct Promise(u8);
 

@@ -54,7 +54,7 @@ part_for (places.Observer name) i = i.around_invoke
 abbrev pub covered_in : List Decl → List Qual → Qual → Bool
 covered_in ds set want = list_any (λ have. covers ds use_kinds.Binding have want) set
 
--- an interceptor binds where it declares a binding and each that it declares is covered
+-- an interceptor binds where it declares a binding and each that it declares is covered, whatever these bring (profile)
 abbrev pub binds : List Decl → List Qual → InterceptorDecl → Bool
 binds ds set i = not (nat_eq (length i.bindings) 0) && list_all (covered_in ds set) i.bindings
 

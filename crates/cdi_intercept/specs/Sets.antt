@@ -22,8 +22,8 @@ of_producer bean name = option_map (λ p. p.bindings) (find (λ p. bytes_eq p.na
 abbrev pub of_observer : BeanDecl → List ℕ → Option (List Qual)
 of_observer bean name = option_map (λ o. o.bindings) (find (λ o. bytes_eq o.name name) bean.observers)
 
--- those that a method declares, with what they bring, in the place of those of its class that are of their types; none where the
--- bean has no such method
+-- those that a method declares, with what they bring, in the place of those of its class that are of their types (profile); none
+-- where the bean has no such method
 abbrev pub around_method : List Decl → List Qual → Option (List Qual) → List Qual
 around_method ds class None = []
 around_method ds class (Some own) = in_place_of class (with_brought ds own)

@@ -159,7 +159,7 @@ pub data Answer : Type 0 where
 
 -- With so many entries that may still be opened, the node leads from one moment to another, and answers this.
 pub data Legal (s : Scene) : ℕ → Node → Moment → Answer → Moment → Type 0 where
-  -- ---- obtain (CDI 4.0, Normal scopes and pseudo-scopes)
+  -- ---- obtain (CDI 4.0, Normal scopes and pseudo-scopes; that an instance which is being created is not given: profile)
   inactive : (k b : ℕ) (x : Bean) (m : Moment)
       → bean_at s b ≡ Some x → IsInactive x.scope m
       → Legal s k (obtain b) m (made_is (Refused failures.NotActive)) m
@@ -176,7 +176,7 @@ pub data Legal (s : Scene) : ℕ → Node → Moment → Answer → Moment → T
       → found m.standing.live x.scope b ≡ None
       → Legal s k (create b (context_of x.scope)) m a m'
       → Legal s k (obtain b) m a m'
-  -- ---- create
+  -- ---- create (the limits of depth and of live instances: profile)
   too_deep : (k b : ℕ) (o : Owner) (m : Moment)
       → k ≡ 0
       → Legal s k (create b o) m (made_is (Refused failures.Depth)) m
@@ -198,7 +198,8 @@ pub data Legal (s : Scene) : ℕ → Node → Moment → Answer → Moment → T
       → m₃ ≡ put (entries.Broken i f) m₂
       → Ends s (dependents i.number) m₃ m'
       → Legal s k (create b o) m (made_is (Refused f)) m'
-  -- ---- the setup of a managed bean: points, constructor, post-construct callbacks (CDI 4.0, Lifecycle of managed beans)
+  -- ---- the setup of a managed bean: points, constructor, post-construct callbacks (CDI 4.0, Lifecycle of managed beans; that
+  -- it fails where no constructor returned a value: profile)
   uninjected : (k : ℕ) (i : InstanceId) (b : Managed) (f : Failure) (m m' : Moment)
       → managed_at s i.bean ≡ Some b
       → Legal s k (inject i b.injections 0) m (failure_is (Some f)) m'
@@ -305,7 +306,7 @@ pub data Legal (s : Scene) : ℕ → Node → Moment → Answer → Moment → T
       → invocable_at s i.bean place ≡ Some x → length x.chain ≤ l → x.part ≡ Some part
       → Legal s k (frame (seat_on i Target place) h arg l) m a m'
       → Legal s k (invoke i place h arg l) m a m'
-  -- ---- frames
+  -- ---- frames (the limits of depth, of askings and of 64 acts: profile)
   frame_too_deep : (k l : ℕ) (seat : Seat) (h : Held) (arg : Val) (m : Moment)
       → k ≡ 0
       → Legal s k (frame seat h arg l) m (answered_is (answered (Failed failures.Depth) false)) m

@@ -19,11 +19,11 @@ use Rattle.cdi_legal.specs.Moment.{Moment, beginning}
 use Rattle.cdi_legal.specs.declared.entry.Entry.{Entry}
 use Rattle.cdi_legal.specs.declared.entry.Made.TheVariants.{Instance as Obtained, Refused}
 
--- how many creations and frames may be open
+-- how many creations and frames may be open (profile)
 abbrev pub depth : ℕ
 depth = 32
 
--- what is done with the instance of a bean: its state is looked up, or a method is called with an argument
+-- what is done with the instance of a bean: its state is looked up (profile), or a method is called with an argument
 pub data Use : Type 0 where
   look : Use
   call : ℕ → Val → Use
@@ -89,7 +89,7 @@ pub record LegalRequestEnd (s : Scene) (before : Standing) (trace : List Entry) 
   pub pushed : trace ≡ end.trace
   pub leaves : after ≡ closed end.standing
 
--- The request context ends, which is empty unless a request is active, and then the application context.
+-- The request context ends, in which instances are only made while a request is active, and then the application context.
 pub record LegalEnd (s : Scene) (before : Standing) (trace : List Entry) (after : Standing) : Type 0 where
   pub middle : Moment
   pub end : Moment

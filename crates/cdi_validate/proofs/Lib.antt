@@ -6,4 +6,5 @@ pub mod LineLemmas
 pub mod BehindLemmas
 pub mod FoundLemmas
 pub mod NeedLemmas
+pub mod SurroundLemmas
 pub mod CircleLemmas

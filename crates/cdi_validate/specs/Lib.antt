@@ -3,3 +3,4 @@ pub mod Names
 pub mod Records
 pub mod Circles
 pub mod Needed
+pub mod Surrounded

@@ -13,13 +13,15 @@ ghost use Rattle.cdi_validate.specs.Circles.{between, chosen_one, declaring, dep
 ghost use Rattle.cdi_validate.specs.Circles.{need_around, needs, product_id, with_dependent};
 ghost use Rattle.cdi_validate.specs.Faults.{circle, circles};
 ghost use Rattle.cdi_validate.specs.Needed.{need_by, needed_first, needs_by, needs_of_bean, AddsNeeds};
+ghost use Rattle.cdi_validate.specs.Surrounded.{beans_at, with_binding, AreByBinding};
 
 use crate::records::records_of;
+use crate::surrounded::{add_bean, may_surround};
 use cdi_circles::{Node, on_circles};
 use cdi_effective::{BeanId, Effective};
 use cdi_faults::Fault;
 use cdi_intercept::stands_around;
-use cdi_model::{BeanDecl, Decl, Decls, InterceptorDecl, ProducerDecl, Scope};
+use cdi_model::{BeanDecl, Decl, Decls, InterceptorDecl, Name, ProducerDecl, Scope};
 use cdi_observe::View;
 use cdi_resolve::Choice;
 use std::alloc::{AllocError, Global};
@@ -28,7 +30,8 @@ use std::io::Write;
 use std::rc::Rc;
 
 /// Appends a fault for each dependent bean that needs itself, by the answers to the injection points of each declaration.
-/// It takes memory for the dependent beans, for what they need, and for what is on circles.
+/// It takes memory for the dependent beans, for the bindings at their places, for what they need, and for what is on
+/// circles.
 pub(crate) fn push_of_circles<V: View>(
     alloc: Global,
     view: &V,
@@ -124,11 +127,57 @@ fn edges_between(
     requires { map (λ list. map (λ answer. answer.value) list.items) answers.now ≡ all_answers decls.now }
     ensures { IfOk result (λ edges. (x : List ℕ) → next_in edges x ≡ between (keys dependents.now) (needs decls.now) x) }
 {
+    let by_binding = by_binding(alloc, dependents, decls)?;
     let mut edges = BTreeMap::new(alloc);
     for (decl, own) in decls.iter().zip(answers) {
-        add_needs(alloc, dependents, decls, decl, own.as_slice(), &mut edges)?;
+        add_needs(
+            alloc,
+            dependents,
+            decls,
+            &by_binding,
+            decl,
+            own.as_slice(),
+            &mut edges,
+        )?;
     }
     Ok(edges)
+}
+
+/// The dependent beans by the binding types at their places. It takes memory for them, and for the bindings at the places
+/// of each.
+fn by_binding<'a>(
+    alloc: Global,
+    dependents: &BTreeMap<Node, BeanId>,
+    decls: &'a Decls,
+) -> Result<BTreeMap<Name, Vec<&'a BeanDecl>>, AllocError>
+    ensures { IfOk result (λ by_binding. AreByBinding (keys dependents.now) decls.now by_binding) }
+{
+    let mut by_binding = BTreeMap::new(alloc);
+    for decl in decls.iter() {
+        add_by_binding(alloc, dependents, decls, decl, &mut by_binding)?;
+    }
+    Ok(by_binding)
+}
+
+/// Adds the managed bean of a declaration to those of the binding types at its places, if it is dependent.
+fn add_by_binding<'a>(
+    alloc: Global,
+    dependents: &BTreeMap<Node, BeanId>,
+    decls: &Decls,
+    decl: &'a Decl,
+    by_binding: &mut BTreeMap<Name, Vec<&'a BeanDecl>>,
+) -> Result<(), AllocError>
+    ensures { OnOk result ((name : List ℕ) → beans_at by_binding.new name
+        ≡ beans_at by_binding.old name ++ with_binding (keys dependents.now) decls.now name decl.now) }
+{
+    let Decl::Bean(bean) = decl else {
+        return Ok(());
+    };
+    let node = node_of(alloc, managed_id(bean))?;
+    if !is_among(dependents, &node) {
+        return Ok(());
+    }
+    add_bean(alloc, decls, bean, by_binding)
 }
 
 /// Adds what beans need by a declaration, which has these answers to its injection points.
@@ -136,18 +185,28 @@ fn add_needs(
     alloc: Global,
     dependents: &BTreeMap<Node, BeanId>,
     decls: &Decls,
+    by_binding: &BTreeMap<Name, Vec<&BeanDecl>>,
     decl: &Decl,
     answers: &[Rc<Choice>],
     edges: &mut BTreeMap<Node, Vec<Node>>,
 ) -> Result<(), AllocError>
-    requires { length answers.now ≡ length (points_of decl.now) }
+    requires answered { length answers.now ≡ length (points_of decl.now) }
+    requires by_binding { AreByBinding (keys dependents.now) decls.now by_binding.now }
     ensures { OnOk result (AddsNeeds (keys dependents.now)
         (needs_by decls.now decl.now (map (λ answer. answer.value) answers.now)) edges.old edges.new) }
 {
     match decl {
         Decl::Bean(bean) => add_needs_of(alloc, dependents, bean, answers, edges),
         Decl::Interceptor(interceptor) => {
-            add_needs_around(alloc, dependents, decls, interceptor, answers, edges)
+            add_needs_around(
+                alloc,
+                dependents,
+                decls,
+                by_binding,
+                interceptor,
+                answers,
+                edges,
+            )
         }
         _ => Ok(()),
     }
@@ -182,10 +241,12 @@ fn add_needs_around(
     alloc: Global,
     dependents: &BTreeMap<Node, BeanId>,
     decls: &Decls,
+    by_binding: &BTreeMap<Name, Vec<&BeanDecl>>,
     interceptor: &InterceptorDecl,
     answers: &[Rc<Choice>],
     edges: &mut BTreeMap<Node, Vec<Node>>,
 ) -> Result<(), AllocError>
+    requires { AreByBinding (keys dependents.now) decls.now by_binding.now }
     ensures { OnOk result (AddsNeeds (keys dependents.now) (flat_map (need_around decls.now interceptor.now
         (flat_map chosen_one (map (λ answer. answer.value) answers.now))) decls.now) edges.old edges.new) }
 {
@@ -197,38 +258,32 @@ fn add_needs_around(
     if chosen.is_empty() {
         return Ok(());
     }
-    for decl in decls.iter() {
-        add_need_around(alloc, dependents, decls, interceptor, decl, answers, edges)?;
+    let Some(beans) = may_surround(by_binding, interceptor) else {
+        return Ok(());
+    };
+    for bean in beans.as_slice() {
+        add_need_around(alloc, dependents, decls, interceptor, bean, answers, edges)?;
     }
     Ok(())
 }
 
-/// Adds what the managed bean of a declaration needs for an interceptor, if it has one that is dependent, and the
-/// interceptor stands around a place of it.
+/// Adds what a managed bean needs for an interceptor, if it is dependent, and the interceptor stands around a place of it.
 fn add_need_around(
     alloc: Global,
     dependents: &BTreeMap<Node, BeanId>,
     decls: &Decls,
     interceptor: &InterceptorDecl,
-    decl: &Decl,
+    bean: &BeanDecl,
     answers: &[Rc<Choice>],
     edges: &mut BTreeMap<Node, Vec<Node>>,
 ) -> Result<(), AllocError>
     ensures { OnOk result (AddsNeeds (keys dependents.now) (need_around decls.now interceptor.now
-        (flat_map chosen_one (map (λ answer. answer.value) answers.now)) decl.now) edges.old edges.new) }
+        (flat_map chosen_one (map (λ answer. answer.value) answers.now)) (declared.Bean bean.now)) edges.old edges.new) }
 {
-    let Decl::Bean(bean) = decl else {
-        return Ok(());
-    };
-    let id = managed_id(bean);
-    let node = node_of(alloc, id)?;
-    if !is_among(dependents, &node) {
-        return Ok(());
-    }
     if !stands_around(alloc, decls, interceptor, bean)? {
         return Ok(());
     }
-    add_need(alloc, dependents, id, None, answers, edges)
+    add_need(alloc, dependents, managed_id(bean), None, answers, edges)
 }
 
 fn managed_id(bean: &BeanDecl) -> BeanId

@@ -5,5 +5,6 @@ mod circles;
 mod deployment;
 mod names;
 mod records;
+mod surrounded;
 
 pub use deployment::{faults, faults_by};

@@ -1,0 +1,271 @@
+-- Beans by the binding types at their places, and that an interceptor stands around none but those of its first binding type.
+use Rattle.std.proofs.Common.{◌≡◌, ◌<◌, ◌+◌, ℕ, Bool, true, false, ◌&&◌, ◌||◌, cond, Less, List, [], ◌∷◌, ◌++◌, length, drop, get_or, map}
+use Rattle.std.proofs.Common.{filter, refl, sym, ap, ◌∙◌, subst, append-nil, inl, inr, Option, Some, None, Vec, Global}
+use Rattle.std.specs.Borrow.{Bor}
+use Rattle.std.specs.List.{AllByRecursion, flat_map, list_all}
+use Rattle.std.specs.List.Sorted.{IsStrictlySortedBy}
+use Rattle.std.specs.Option.{unwrap_or}
+use Rattle.std.specs.Str.{bytes_eq}
+use Rattle.std.proofs.Math.Bool.{and-false, or_assoc}
+use Rattle.std.proofs.lemmas.Bool.{and_parts, false≢true, or_cases, or_left, or_right}
+use Rattle.std.proofs.lemmas.Grind.{flat_map-append}
+use Rattle.std.proofs.lemmas.List.{at_drop_more, map-append}
+use Rattle.cdi_model.specs.Bytes.{byte_order}
+use Rattle.cdi_model.specs.Quals.{name_of_use}
+use Rattle.cdi_model.specs.declared.decl.BeanDecl.{BeanDecl}
+use Rattle.cdi_model.specs.declared.decl.Decl.{Decl}
+use Rattle.cdi_model.specs.declared.decl.Decl.TheVariants as decls
+use Rattle.cdi_model.specs.declared.decl.InterceptorDecl.{InterceptorDecl}
+use Rattle.cdi_model.specs.declared.decl.UseKind.TheVariants as use_kinds
+use Rattle.cdi_model.specs.declared.place.BeanPlace.{BeanPlace}
+use Rattle.cdi_model.specs.declared.quals.Qual.{Qual}
+use Rattle.cdi_match.specs.Chain.{has}
+use Rattle.cdi_match.specs.Covering.{covers, covers_by}
+use Rattle.cdi_match.proofs.Names.{at_name, bytes_eq-turned, one_name}
+use Rattle.cdi_effective.specs.Bindings.{class_bindings}
+use Rattle.cdi_effective.specs.BeanText.{text_of_id}
+use Rattle.cdi_intercept.specs.Chains.{binds, covered_in, is_enabled, stands_around, surrounds, surrounds_one}
+use Rattle.cdi_intercept.specs.Sets.{sets_of}
+use Rattle.cdi_circles.specs.Edges.{Edges, next_in}
+use Rattle.cdi_validate.specs.Circles.{between, managed_id, need_around}
+use Rattle.cdi_validate.specs.Needed.{AddsNeeds}
+use Rattle.cdi_validate.specs.Surrounded.{beans_in, has_binding_at_place, has_binding_in, may_surround, with_binding}
+use Rattle.cdi_validate.specs.Surrounded.{AreByBinding, BeansByBinding}
+use Rattle.cdi_validate.proofs.NeedLemmas.{between-append, between-none}
+
+-- ---- lists, one element after another
+
+-- a function of what is left of a list, where its next element is known
+pub next-left : {X Y : Type 0} (f : List X → Y) (xs : List X) (i : ℕ) (x : X) → i < length xs → x ≡ get_or xs i x
+    → f (drop i xs) ≡ f (x ∷ drop (i + 1) xs)
+next-left f xs i x lt is = at_drop_more f xs i x lt ∙ ap (λ y. f (y ∷ drop (i + 1) xs)) (sym is)
+
+-- what holds of one of the elements that were taken, or of one that is left
+pub one-next : {X : Type 0} (f : List X → Bool) (xs : List X) (i : ℕ) (x : X) (here old new all : Bool) → i < length xs
+    → x ≡ get_or xs i x
+    → f (x ∷ drop (i + 1) xs) ≡ (here || f (drop (i + 1) xs))
+    → new ≡ (old || here)
+    → (old || f (drop i xs)) ≡ all
+    → (new || f (drop (i + 1) xs)) ≡ all
+one-next f xs i x here old new all lt is first added before =
+    let left = f (drop (i + 1) xs) in
+    ap (λ b. b || left) added ∙ or_assoc old here left ∙ ap (λ b. old || b) (sym first)
+    ∙ sym (next-left (λ ys. old || f ys) xs i x lt is) ∙ before
+
+-- ---- binding types
+
+-- a name that is before others is none of them
+none-after : (name : List ℕ) (names : List (List ℕ)) → AllByRecursion (λ n. byte_order name n ≡ Less) names → has names name ≡ false
+none-after name [] all = refl
+none-after name (n ∷ ns) all =
+    let other : false ≡ bytes_eq name n = rw all.0 at (at_name name n) in
+    rw (bytes_eq-turned n name ∙ sym other) (none-after name ns all.1)
+
+pub rise-next : (names : List (List ℕ)) (i : ℕ) (name : List ℕ) → i < length names → name ≡ get_or names i name
+    → IsStrictlySortedBy byte_order (drop i names)
+    → AllByRecursion (λ n. byte_order name n ≡ Less) (drop (i + 1) names) × IsStrictlySortedBy byte_order (drop (i + 1) names)
+unfolding IsStrictlySortedBy
+rise-next names i name lt is rise = subst (IsStrictlySortedBy byte_order) (next-left (λ ns. ns) names i name lt is) rise
+
+-- a bean is added to those of one more binding type
+pub bean-next : (names : List (List ℕ)) (i : ℕ) (name t : List ℕ) (bean : BeanDecl) (olds news all : List BeanDecl) → i < length names
+    → name ≡ get_or names i name
+    → IsStrictlySortedBy byte_order (drop i names)
+    → news ≡ olds ++ cond (bytes_eq name t) (bean ∷ []) []
+    → olds ++ cond (has (drop i names) t) (bean ∷ []) [] ≡ all
+    → news ++ cond (has (drop (i + 1) names) t) (bean ∷ []) [] ≡ all
+bean-next names i name t bean olds news all lt is rise added before =
+    ap (λ ps. ps ++ cond (has (drop (i + 1) names) t) (bean ∷ []) []) added
+    ∙ by (bytes_eq name t) refl
+    ∙ sym (next-left (λ ns. olds ++ cond (has ns t) (bean ∷ []) []) names i name lt is)
+    ∙ before
+  where
+    by : (b : Bool) → bytes_eq name t ≡ b
+        → (olds ++ cond (bytes_eq name t) (bean ∷ []) []) ++ cond (has (drop (i + 1) names) t) (bean ∷ []) []
+        ≡ olds ++ cond (has (name ∷ drop (i + 1) names) t) (bean ∷ []) []
+    by true e =
+        let none : has (drop (i + 1) names) t ≡ false = ap (has (drop (i + 1) names)) (sym (one_name name t e))
+        ∙ none-after name (drop (i + 1) names) (rise-next names i name lt is rise).0 in
+        rw (e, none) (append-nil (olds ++ bean ∷ []))
+    by false e = rw e (ap (λ ps. ps ++ cond (has (drop (i + 1) names) t) (bean ∷ []) []) (append-nil olds))
+
+abbrev Beans : Type 0
+Beans = Vec (Bor BeanDecl) Global
+
+-- the beans of a binding type are taken out, and put in with one more
+pub bean-put : (old : List ℕ → Option Beans) (name other : List ℕ) (bean : Bor BeanDecl) (none beans : Beans) (new : Option Beans)
+    → none.items ≡ []
+    → beans.items ≡ (unwrap_or (old name) none).items ++ bean ∷ []
+    → new ≡ cond (bytes_eq name other) (Some beans) (cond (bytes_eq name other) None (old other))
+    → beans_in new ≡ beans_in (old other) ++ cond (bytes_eq name other) (bean.now ∷ []) []
+bean-put old name other bean none beans new empty pushed put = ap beans_in put ∙ by (bytes_eq name other) refl
+  where
+    now : Bor BeanDecl → BeanDecl
+    now b = b.now
+
+    left : (o : Option Beans) → map now (unwrap_or o none).items ≡ beans_in o
+    left None = ap (map now) empty
+    left (Some some) = refl
+
+    by : (t : Bool) → bytes_eq name other ≡ t
+        → beans_in (cond t (Some beans) (cond t None (old other))) ≡ beans_in (old other) ++ cond t (bean.now ∷ []) []
+    by true e =
+        ap (map now) pushed
+        ∙ map-append now (unwrap_or (old name) none).items (bean ∷ [])
+        ∙ ap (λ bs. bs ++ bean.now ∷ []) (left (old name) ∙ ap (λ n. beans_in (old n)) (one_name name other e))
+    by false e = sym (append-nil (beans_in (old other)))
+
+-- a binding type is found, or was
+pub found-or : (is was : Bool) → cond is true was ≡ (was || is)
+found-or true true = refl
+found-or true false = refl
+found-or false true = refl
+found-or false false = refl
+
+-- ---- an interceptor stands only where there is a binding of its first binding type
+
+has-covered : (ds : List Decl) (set : List Qual) (want : Qual) → covered_in ds set want ≡ true → has (map name_of_use set) want.name ≡ true
+unfolding covers_by
+has-covered ds [] want covered = absurd (false≢true covered)
+has-covered ds (have ∷ set) want covered =
+    elim (or_cases (covers ds use_kinds.Binding have want) (covered_in ds set want) covered) [
+      | inl here ↦ or_left (bytes_eq have.name want.name) (has (map name_of_use set) want.name)
+          (and_parts (bytes_eq have.name want.name) _ here).0
+      | inr there ↦ or_right (bytes_eq have.name want.name) (has (map name_of_use set) want.name) (has-covered ds set want there)
+    ]
+
+first-covered : (ds : List Decl) (set : List Qual) (place : BeanPlace) (i : InterceptorDecl) (b : Qual) (bs : List Qual)
+    → i.bindings ≡ b ∷ bs → surrounds ds set place i ≡ true → covered_in ds set b ≡ true
+first-covered ds set place i b bs are stands =
+    let each : list_all (covered_in ds set) i.bindings ≡ true =
+    (and_parts _ (list_all (covered_in ds set) i.bindings) (and_parts _ (binds ds set i) stands).1).1 in
+    (and_parts (covered_in ds set b) (list_all (covered_in ds set) bs) (ap (list_all (covered_in ds set)) (sym are) ∙ each)).0
+
+has-first : (ds : List Decl) (sets : List (BeanPlace × List Qual)) (i : InterceptorDecl) (b : Qual) (bs : List Qual) → i.bindings ≡ b ∷ bs
+    → surrounds_one ds sets i ≡ true → has_binding_in sets b.name ≡ true
+has-first ds [] i b bs are stands = absurd (false≢true stands)
+has-first ds (z ∷ sets) i b bs are stands =
+    elim (or_cases (surrounds ds z.1 z.0 i) (surrounds_one ds sets i) stands) [
+      | inl here ↦ or_left (has (map name_of_use z.1) b.name) (has_binding_in sets b.name)
+          (has-covered ds z.1 b (first-covered ds z.1 z.0 i b bs are here))
+      | inr there ↦ or_right (has (map name_of_use z.1) b.name) (has_binding_in sets b.name) (has-first ds sets i b bs are there)
+    ]
+
+none-with_other : (ds : List Decl) (i : InterceptorDecl) (b : Qual) (bs : List Qual) (d : BeanDecl) → i.bindings ≡ b ∷ bs
+    → has_binding_at_place ds b.name d ≡ false → stands_around ds i d ≡ false
+unfolding stands_around
+none-with_other ds i b bs d are other = by (stands_around ds i d) refl
+  where
+    sets : List (BeanPlace × List Qual)
+    sets = sets_of ds (class_bindings ds d) d
+
+    by : (t : Bool) → (is_enabled i && surrounds_one ds sets i) ≡ t → (is_enabled i && surrounds_one ds sets i) ≡ false
+    by true e = absurd (false≢true (sym other ∙ has-first ds sets i b bs are (and_parts (is_enabled i) (surrounds_one ds sets i) e).1))
+    by false e = e
+
+-- and where it lists no binding, nowhere
+none-bound : (ds : List Decl) (sets : List (BeanPlace × List Qual)) (i : InterceptorDecl) → i.bindings ≡ []
+    → surrounds_one ds sets i ≡ false
+none-bound ds [] i none = refl
+none-bound ds (z ∷ sets) i none = rw none (rw (and-false _) (none-bound ds sets i none))
+
+none-unbound : (ds : List Decl) (i : InterceptorDecl) (d : BeanDecl) → i.bindings ≡ [] → stands_around ds i d ≡ false
+unfolding stands_around
+none-unbound ds i d none =
+    ap (λ t. is_enabled i && t) (none-bound ds (sets_of ds (class_bindings ds d) d) i none) ∙ and-false (is_enabled i)
+
+-- ---- the needs of the beans of that type are all
+
+-- another bean than some has no edge between them
+none-other : (nodes chosen : List (List ℕ)) (text x : List ℕ) → has nodes text ≡ false → between nodes ((text, chosen) ∷ []) x ≡ []
+none-other nodes chosen text x other = by (bytes_eq text x) refl
+  where
+    neither : (t : Bool) → cond t (filter (has nodes) []) [] ≡ []
+    neither true = refl
+    neither false = refl
+
+    by : (t : Bool) → bytes_eq text x ≡ t → cond (has nodes x) (filter (has nodes) (cond (bytes_eq text x) chosen [] ++ [])) [] ≡ []
+    by true e = ap (λ t. cond t (filter (has nodes) (cond (bytes_eq text x) chosen [] ++ [])) [])
+        (ap (has nodes) (sym (one_name text x e)) ∙ other)
+    by false e = ap (λ t. cond (has nodes x) (filter (has nodes) (cond t chosen [] ++ [])) []) e ∙ neither (has nodes x)
+
+-- the same edges are between some beans by the needs of those of them that have a binding of the first binding type
+around-one : (ds : List Decl) (nodes : List (List ℕ)) (i : InterceptorDecl) (b : Qual) (bs : List Qual) (chosen : List (List ℕ))
+    (x : List ℕ) → i.bindings ≡ b ∷ bs → (d : Decl)
+    → between nodes (flat_map (need_around ds i chosen) (map (λ bean. decls.Bean bean) (with_binding nodes ds b.name d))) x
+    ≡ between nodes (need_around ds i chosen d) x
+around-one ds nodes i b bs chosen x are (decls.Type d) = refl
+around-one ds nodes i b bs chosen x are (decls.Qualifier d) = refl
+around-one ds nodes i b bs chosen x are (decls.Stereotype d) = refl
+around-one ds nodes i b bs chosen x are (decls.Binding d) = refl
+around-one ds nodes i b bs chosen x are (decls.Interceptor d) = refl
+around-one ds nodes i b bs chosen x are (decls.Bean d) = by (has nodes text) (has_binding_at_place ds b.name d) refl refl
+  where
+    text : List ℕ
+    text = text_of_id (managed_id d)
+
+    outside : (t : Bool) → has nodes text ≡ false → [] ≡ between nodes (cond t ((text, chosen) ∷ []) []) x
+    outside true other = sym (none-other nodes chosen text x other)
+    outside false other = sym (between-none nodes x)
+
+    by : (t u : Bool) → has nodes text ≡ t → has_binding_at_place ds b.name d ≡ u
+        → between nodes (flat_map (need_around ds i chosen) (map (λ bean. decls.Bean bean) (cond (t && u) (d ∷ []) []))) x
+        ≡ between nodes (need_around ds i chosen (decls.Bean d)) x
+    by true true e f = ap (λ needs. between nodes needs x) (append-nil (need_around ds i chosen (decls.Bean d)))
+    by true false e f = ap (λ t. between nodes (cond t ((text, chosen) ∷ []) []) x) (sym (none-with_other ds i b bs d are f))
+    by false u e f = between-none nodes x ∙ outside (stands_around ds i d) e
+
+around-first : (ds : List Decl) (nodes : List (List ℕ)) (i : InterceptorDecl) (b : Qual) (bs : List Qual) (chosen : List (List ℕ))
+    (x : List ℕ) → i.bindings ≡ b ∷ bs → (es : List Decl)
+    → between nodes (flat_map (need_around ds i chosen) (map (λ bean. decls.Bean bean) (flat_map (with_binding nodes ds b.name) es))) x
+    ≡ between nodes (flat_map (need_around ds i chosen) es) x
+around-first ds nodes i b bs chosen x are [] = refl
+around-first ds nodes i b bs chosen x are (e ∷ es) =
+    let given = need_around ds i chosen in
+    let own = with_binding nodes ds b.name e in
+    let others = flat_map (with_binding nodes ds b.name) es in
+    let bean : BeanDecl → Decl = λ d. decls.Bean d in
+    ap (λ all. between nodes (flat_map given all) x) (map-append bean own others)
+    ∙ ap (λ needs. between nodes needs x) (flat_map-append given (map bean own) (map bean others))
+    ∙ between-append nodes (flat_map given (map bean own)) (flat_map given (map bean others)) x
+    ∙ ap (λ ys. ys ++ between nodes (flat_map given (map bean others)) x) (around-one ds nodes i b bs chosen x are e)
+    ∙ ap (λ ys. between nodes (given e) x ++ ys) (around-first ds nodes i b bs chosen x are es)
+    ∙ sym (between-append nodes (given e) (flat_map given es) x)
+
+-- an interceptor that lists no binding gives no bean a need
+none-given : (ds : List Decl) (i : InterceptorDecl) (chosen : List (List ℕ)) → i.bindings ≡ [] → (es : List Decl)
+    → flat_map (need_around ds i chosen) es ≡ []
+none-given ds i chosen none [] = refl
+none-given ds i chosen none (decls.Type d ∷ es) = none-given ds i chosen none es
+none-given ds i chosen none (decls.Qualifier d ∷ es) = none-given ds i chosen none es
+none-given ds i chosen none (decls.Stereotype d ∷ es) = none-given ds i chosen none es
+none-given ds i chosen none (decls.Binding d ∷ es) = none-given ds i chosen none es
+none-given ds i chosen none (decls.Interceptor d ∷ es) = none-given ds i chosen none es
+none-given ds i chosen none (decls.Bean d ∷ es) =
+    ap (λ t. cond t ((text_of_id (managed_id d), chosen) ∷ []) [] ++ flat_map (need_around ds i chosen) es) (none-unbound ds i d none)
+    ∙ none-given ds i chosen none es
+
+-- so the beans around which an interceptor may stand are enough
+pub around-may : (ds : List Decl) (nodes : List (List ℕ)) (i : InterceptorDecl) (chosen : List (List ℕ)) (by_binding : BeansByBinding)
+    → AreByBinding nodes ds by_binding → (x : List ℕ)
+    → between nodes (flat_map (need_around ds i chosen) (map (λ bean. decls.Bean bean) (may_surround by_binding i.bindings))) x
+    ≡ between nodes (flat_map (need_around ds i chosen) ds) x
+around-may ds nodes i chosen by_binding stand x = by i.bindings refl
+  where
+    by : (bindings : List Qual) → i.bindings ≡ bindings
+        → between nodes (flat_map (need_around ds i chosen) (map (λ bean. decls.Bean bean) (may_surround by_binding bindings))) x
+        ≡ between nodes (flat_map (need_around ds i chosen) ds) x
+    by [] none = ap (λ needs. between nodes needs x) (sym (none-given ds i chosen none ds))
+    by (b ∷ bs) are =
+        ap (λ beans. between nodes (flat_map (need_around ds i chosen) (map (λ bean. decls.Bean bean) beans)) x) (stand b.name)
+        ∙ around-first ds nodes i b bs chosen x are ds
+
+-- and where there is none the edges stay as they were
+pub adds-none-may : (ds : List Decl) (nodes : List (List ℕ)) (i : InterceptorDecl) (chosen : List (List ℕ)) (by_binding : BeansByBinding)
+    (edges : Edges) → AreByBinding nodes ds by_binding → [] ≡ may_surround by_binding i.bindings
+    → AddsNeeds nodes (flat_map (need_around ds i chosen) ds) edges edges
+adds-none-may ds nodes i chosen by_binding edges stand none x =
+    sym (append-nil (next_in edges x))
+    ∙ ap (λ ys. next_in edges x ++ ys) (sym (between-none nodes x)
+    ∙ ap (λ beans. between nodes (flat_map (need_around ds i chosen) (map (λ bean. decls.Bean bean) beans)) x) none
+    ∙ around-may ds nodes i chosen by_binding stand x)

@@ -1,0 +1,14 @@
+use Rattle.std.proofs.Common.{◌++◌, sym, ap, ◌∙◌, map}
+use Rattle.std.specs.BTreeMap.{keys}
+use Rattle.std.proofs.lemmas.Result.{IfOk-weaker}
+use Rattle.cdi_circles.specs.Edges.{next_in}
+use Rattle.cdi_validate.specs.Circles.{between}
+use Rattle.cdi_validate.specs.Needed.{needs_by}
+use Rattle.cdi_validate.proofs.circles.add_needs.Goals as goal
+
+pub returns-in-Interceptor : goal.returns-in-Interceptor
+returns-in-Interceptor c =
+    IfOk-weaker c.add_needs_around.result _ _ (λ done e x. e x
+    ∙ ap (λ d. next_in c.args.edges.now x
+    ++ between (keys c.args.dependents.now) (needs_by c.args.decls.now d (map (λ answer. answer.value) c.args.answers.now)) x)
+    (sym c.in-Interceptor.is)) c.add_needs_around.ensures

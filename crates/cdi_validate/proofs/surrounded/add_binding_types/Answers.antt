@@ -1,0 +1,19 @@
+use Rattle.std.proofs.Common.{true, cond, map, refl, ap, ◌∙◌}
+use Rattle.std.specs.BTreeSet.{contains}
+use Rattle.std.specs.Str.{bytes_eq}
+use Rattle.cdi_match.specs.Bindings.{uses_in}
+use Rattle.cdi_match.specs.Chain.{has}
+use Rattle.cdi_match.proofs.Names.{at_name}
+use Rattle.cdi_model.specs.Bytes.{byte_order}
+use Rattle.cdi_model.specs.Quals.{name_of_use}
+use Rattle.cdi_validate.proofs.SurroundLemmas.{found-or, one-next}
+use Rattle.cdi_validate.proofs.surrounded.add_binding_types.Goals as goal
+
+pub loop-binding-preserved : goal.loop-binding-preserved
+loop-binding-preserved c = λ name.
+    let added = c.binding-item.result.now.name in
+    let was = contains byte_order c.loop-binding.names name in
+    one-next (λ set. has (map name_of_use (uses_in set)) name) c.args.set.now c.loop-binding.binding-index c.binding-item.result
+    (bytes_eq added name) was _ _ c.loop-binding-test.true c.binding-item.is refl
+    (c.in_ok-insert.ensures.updates.0 name ∙ ap (λ t. cond t true was) (at_name added name) ∙ found-or (bytes_eq added name) was)
+    (c.loop-binding.invariant name)

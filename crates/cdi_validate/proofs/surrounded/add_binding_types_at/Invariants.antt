@@ -1,0 +1,11 @@
+use Rattle.std.proofs.Common.{◌≡◌, ◌||◌, ℕ, List, drop, map}
+use Rattle.std.specs.BTreeSet.{contains}
+use Rattle.cdi_model.specs.Bytes.{byte_order}
+use Rattle.cdi_intercept.specs.Lent.{uses_at}
+use Rattle.cdi_validate.specs.Surrounded.{has_binding_in}
+use Rattle.cdi_validate.proofs.surrounded.add_binding_types_at.Given as goal
+
+abbrev pub invariant-loop-set : goal.invariant-loop-set
+invariant-loop-set l = (name : List ℕ) →
+    (contains byte_order l.names name || has_binding_in (map uses_at (drop l.set-index l.sets)) name)
+    ≡ (contains byte_order l.fn.names name || has_binding_in (map uses_at l.sets) name)

@@ -1,0 +1,21 @@
+use Rattle.std.proofs.Common.{◌++◌, ◌∷◌, [], None, Some, cond, ap, ◌∙◌}
+use Rattle.std.specs.BTreeMap.{get}
+use Rattle.std.specs.Option.{unwrap_or}
+use Rattle.cdi_model.specs.Bytes.{byte_order}
+use Rattle.cdi_match.proofs.Names.{at_name}
+use Rattle.cdi_validate.proofs.SurroundLemmas.{bean-put}
+use Rattle.cdi_validate.proofs.surrounded.add_to.Goals as goal
+
+pub returns : goal.returns
+returns c = λ other.
+    let name = c.args.name in
+    let old = c.args.by_binding.now in
+    let between = c.remove.new.self in
+    let beans = c.push.new.self in
+    bean-put (get byte_order old) name other c.args.bean c.new.result beans (get byte_order c.insert.new.self other) c.new.ensures.items
+    (c.in_ok-push.ensures.items
+    ∙ ap (λ v. v.items ++ c.args.bean ∷ []) (c.unwrap_or-beans.ensures ∙ ap (λ o. unwrap_or o c.new.result) c.remove.ensures.value))
+    (c.in_ok-insert.ensures.updates.0 other
+    ∙ ap (λ t. cond t (Some beans) (get byte_order between other)) (at_name name other)
+    ∙ ap (cond _ (Some beans)) (c.remove.ensures.updates.0 other
+    ∙ ap (λ t. cond t None (get byte_order old other)) (at_name name other)))
