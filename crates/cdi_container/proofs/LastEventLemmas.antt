@@ -1,5 +1,5 @@
 -- What is kept of events, and uses that are found to be the same.
-use Rattle.std.proofs.Common.{◌≡◌, ℕ, Bool, List, true, false, Option, Some, refl, subst, sym, cond}
+use Rattle.std.proofs.Common.{◌≡◌, ℕ, Bool, List, true, false, Some, refl, subst, sym}
 use Rattle.std.specs.Prelude.{IfSome, if◌then◌else◌}
 use Rattle.std.specs.Cmp.Lexicographic.{bytes_decides, pointwise}
 use Rattle.std.specs.HashMap.{get}

@@ -1,6 +1,6 @@
 -- A call of the container and the printing behind it make one step.
-use Rattle.std.proofs.Common.{◌≡◌, List, [], ◌++◌, refl, subst, sym, ap, ◌∙◌, false}
-use Rattle.std.specs.Prelude.{Bool, Result, Ok, Err, if◌then◌else◌}
+use Rattle.std.proofs.Common.{◌≡◌, [], ◌++◌, refl, subst, sym, ap, ◌∙◌}
+use Rattle.std.specs.Prelude.{Result, Ok, Err, if◌then◌else◌}
 use Rattle.cdi_model.specs.declared.decl.Decl.{Decl}
 use Rattle.cdi_model.specs.declared.edit.Edit.{Edit}
 use Rattle.cdi_model.specs.declared.edit.Edit.TheVariants.{Put as PutEdit, Remove as RemoveEdit}
@@ -16,7 +16,7 @@ use Rattle.cdi_container.specs.declared.answer.Answer.TheVariants.{Done, Chosen,
 use Rattle.cdi_container.specs.Seen.{IsStep}
 use Rattle.cdi_container.specs.Text.{text_of_answer}
 use Rattle.cdi_container.specs.Runner.{RunsStep, Prints}
-use Rattle.cdi_container.specs.History.{State, Acts, EditsFrom, PutsFrom, told_on, untold, with_request}
+use Rattle.cdi_container.specs.History.{State, Acts, EditsFrom, PutsFrom, told_on, untold}
 use Rattle.cdi_container.specs.declared.runner.Runner.{Runner}
 
 -- the entries of a command are told by the declarations before it

@@ -1,5 +1,5 @@
 -- That the state behind a legal history is told by what was commanded, answered and traced.
-use Rattle.std.specs.Prelude.{◌≡◌, ℕ, List, [], ◌∷◌, Result, Ok, Err}
+use Rattle.std.specs.Prelude.{◌≡◌, List, [], ◌∷◌, Result, Ok, Err}
 use Rattle.std.specs.declared.alloc.AllocError.{AllocError}
 use Rattle.cdi_model.specs.Edits.{edited_all}
 use Rattle.cdi_bodies.specs.Book.{Promised}

@@ -18,7 +18,7 @@ use Rattle.cdi_resolve.specs.Choices.{HasEnough, offers}
 use Rattle.cdi_resolve.specs.Places.{same_name}
 
 -- a function of what is left of a list, where its next element is known
-next-left : {X Y : Type 0} (f : List X → Y) (xs : List X) (i : ℕ) (x : X) → i < length xs → x ≡ get_or xs i x
+pub next-left : {X Y : Type 0} (f : List X → Y) (xs : List X) (i : ℕ) (x : X) → i < length xs → x ≡ get_or xs i x
     → f (drop i xs) ≡ f (x ∷ drop (i + 1) xs)
 next-left f xs i x lt is = at_drop_more f xs i x lt ∙ ap (λ y. f (y ∷ drop (i + 1) xs)) (sym is)
 
@@ -46,7 +46,7 @@ class-next beans i bean class old new lt is noted before =
 -- ---- types
 
 -- a name that is before others is none of them
-none-after : (name : List ℕ) (names : List (List ℕ)) → AllByRecursion (λ n. byte_order name n ≡ Less) names → has names name ≡ false
+pub none-after : (name : List ℕ) (names : List (List ℕ)) → AllByRecursion (λ n. byte_order name n ≡ Less) names → has names name ≡ false
 none-after name [] all = refl
 none-after name (n ∷ ns) all =
     let other : false ≡ bytes_eq name n = rw all.0 at (at_name name n) in

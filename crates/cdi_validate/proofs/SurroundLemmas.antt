@@ -1,15 +1,15 @@
 -- Beans by the binding types at their places, and that an interceptor stands around none but those of its first binding type.
-use Rattle.std.proofs.Common.{◌≡◌, ◌<◌, ◌+◌, ℕ, Bool, true, false, ◌&&◌, ◌||◌, cond, Less, List, [], ◌∷◌, ◌++◌, length, drop, get_or, map}
-use Rattle.std.proofs.Common.{filter, refl, sym, ap, ◌∙◌, subst, append-nil, inl, inr, Option, Some, None, Vec, Global}
+use Rattle.std.proofs.Common.{◌≡◌, ◌<◌, ◌+◌, ℕ, Bool, true, false, ◌&&◌, ◌||◌, cond, List, [], ◌∷◌, ◌++◌, length, drop, get_or, map}
+use Rattle.std.proofs.Common.{filter, refl, sym, ap, ◌∙◌, append-nil, inl, inr, Option, Some, None, Vec, Global}
 use Rattle.std.specs.Borrow.{Bor}
-use Rattle.std.specs.List.{AllByRecursion, flat_map, list_all}
+use Rattle.std.specs.List.{flat_map, list_all}
 use Rattle.std.specs.List.Sorted.{IsStrictlySortedBy}
 use Rattle.std.specs.Option.{unwrap_or}
 use Rattle.std.specs.Str.{bytes_eq}
 use Rattle.std.proofs.Math.Bool.{and-false, or_assoc}
 use Rattle.std.proofs.lemmas.Bool.{and_parts, false≢true, or_cases, or_left, or_right}
 use Rattle.std.proofs.lemmas.Grind.{flat_map-append}
-use Rattle.std.proofs.lemmas.List.{at_drop_more, map-append}
+use Rattle.std.proofs.lemmas.List.{map-append}
 use Rattle.cdi_model.specs.Bytes.{byte_order}
 use Rattle.cdi_model.specs.Quals.{name_of_use}
 use Rattle.cdi_model.specs.declared.decl.BeanDecl.{BeanDecl}
@@ -21,11 +21,12 @@ use Rattle.cdi_model.specs.declared.place.BeanPlace.{BeanPlace}
 use Rattle.cdi_model.specs.declared.quals.Qual.{Qual}
 use Rattle.cdi_match.specs.Chain.{has}
 use Rattle.cdi_match.specs.Covering.{covers, covers_by}
-use Rattle.cdi_match.proofs.Names.{at_name, bytes_eq-turned, one_name}
+use Rattle.cdi_match.proofs.Names.{one_name}
 use Rattle.cdi_effective.specs.Bindings.{class_bindings}
 use Rattle.cdi_effective.specs.BeanText.{text_of_id}
 use Rattle.cdi_intercept.specs.Chains.{binds, covered_in, is_enabled, stands_around, surrounds, surrounds_one}
 use Rattle.cdi_intercept.specs.Sets.{sets_of}
+use Rattle.cdi_resolve.proofs.PlaceLemmas.{next-left, none-after, rise-next}
 use Rattle.cdi_circles.specs.Edges.{Edges, next_in}
 use Rattle.cdi_validate.specs.Circles.{between, managed_id, need_around}
 use Rattle.cdi_validate.specs.Needed.{AddsNeeds}
@@ -34,11 +35,6 @@ use Rattle.cdi_validate.specs.Surrounded.{AreByBinding, BeansByBinding}
 use Rattle.cdi_validate.proofs.NeedLemmas.{between-append, between-none}
 
 -- ---- lists, one element after another
-
--- a function of what is left of a list, where its next element is known
-pub next-left : {X Y : Type 0} (f : List X → Y) (xs : List X) (i : ℕ) (x : X) → i < length xs → x ≡ get_or xs i x
-    → f (drop i xs) ≡ f (x ∷ drop (i + 1) xs)
-next-left f xs i x lt is = at_drop_more f xs i x lt ∙ ap (λ y. f (y ∷ drop (i + 1) xs)) (sym is)
 
 -- what holds of one of the elements that were taken, or of one that is left
 pub one-next : {X : Type 0} (f : List X → Bool) (xs : List X) (i : ℕ) (x : X) (here old new all : Bool) → i < length xs
@@ -53,19 +49,6 @@ one-next f xs i x here old new all lt is first added before =
     ∙ sym (next-left (λ ys. old || f ys) xs i x lt is) ∙ before
 
 -- ---- binding types
-
--- a name that is before others is none of them
-none-after : (name : List ℕ) (names : List (List ℕ)) → AllByRecursion (λ n. byte_order name n ≡ Less) names → has names name ≡ false
-none-after name [] all = refl
-none-after name (n ∷ ns) all =
-    let other : false ≡ bytes_eq name n = rw all.0 at (at_name name n) in
-    rw (bytes_eq-turned n name ∙ sym other) (none-after name ns all.1)
-
-pub rise-next : (names : List (List ℕ)) (i : ℕ) (name : List ℕ) → i < length names → name ≡ get_or names i name
-    → IsStrictlySortedBy byte_order (drop i names)
-    → AllByRecursion (λ n. byte_order name n ≡ Less) (drop (i + 1) names) × IsStrictlySortedBy byte_order (drop (i + 1) names)
-unfolding IsStrictlySortedBy
-rise-next names i name lt is rise = subst (IsStrictlySortedBy byte_order) (next-left (λ ns. ns) names i name lt is) rise
 
 -- a bean is added to those of one more binding type
 pub bean-next : (names : List (List ℕ)) (i : ℕ) (name t : List ℕ) (bean : BeanDecl) (olds news all : List BeanDecl) → i < length names

@@ -10,7 +10,8 @@ use Rattle.cdi_model.specs.declared.decl.Decl.TheVariants as declared
 use Rattle.cdi_validate.specs.Circles.{between, chosen_one, need_around}
 use Rattle.cdi_validate.specs.Surrounded.{beans_in}
 use Rattle.cdi_validate.proofs.NeedLemmas.{adds_more, adds-none-around, between-none}
-use Rattle.cdi_validate.proofs.SurroundLemmas.{adds-none-may, around-may, next-left}
+use Rattle.cdi_resolve.proofs.PlaceLemmas.{next-left}
+use Rattle.cdi_validate.proofs.SurroundLemmas.{adds-none-may, around-may}
 use Rattle.cdi_validate.proofs.circles.add_needs_around.Goals as goal
 
 pub returns-then-is_none : goal.returns-then-is_none
