@@ -49,14 +49,12 @@ observers=[{name="see",type="S",body="echo"}]
 #[derive(Drop)]
 pub struct Audited {
     decls: Decls,
-    beans: BeanList,
 }
 
 impl Audited {
     pub fn new(alloc: Global) -> Result<Audited, Error> {
         let decls = declared(alloc, &AUDITED)?;
-        let beans = BeanList::of(alloc, &decls)?;
-        Ok(Audited { decls, beans })
+        Ok(Audited { decls })
     }
 
     /// Whether a question has its answer.
@@ -70,7 +68,8 @@ impl Audited {
     }
 
     fn is_surrounded(&self, alloc: Global, called: &[u8], wanted: &[&[u8]]) -> Result<bool, Error> {
-        let mut view = PlainView::new(&self.decls, &self.beans);
+        let list = BeanList::of(alloc, &self.decls)?;
+        let mut view = PlainView::new(&self.decls, &list);
         let chain = view.chain(alloc, name(b"S")?, &method(called)?)?;
         Ok(are_names(chain.as_slice(), wanted))
     }
@@ -97,7 +96,8 @@ impl Audited {
         wanted: &[&[u8]],
     ) -> Result<bool, Error> {
         let quals = Quals::new(alloc);
-        let mut view = PlainView::new(&self.decls, &self.beans);
+        let list = BeanList::of(alloc, &self.decls)?;
+        let mut view = PlainView::new(&self.decls, &list);
         let ids = view.observers(alloc, name(event_type)?, &quals)?;
         Ok(are_observers(ids.as_slice(), wanted))
     }
