@@ -5,16 +5,18 @@ use Rattle.cdi_model.specs.declared.decl.UseKind.TheVariants as uses
 use Rattle.cdi_model.specs.declared.mention.PointPlace.TheVariants as points
 use Rattle.cdi_faults.specs.declared.fault.Subject.{Subject}
 use Rattle.cdi_faults.specs.declared.fault.Subject.TheVariants as subjects
-use Rattle.cdi_faults.specs.declared.place.PartPlace.{PartPlace}
-use Rattle.cdi_faults.specs.declared.place.PartPlace.TheVariants as places
-use Rattle.cdi_faults.specs.FaultText.{text_of_place, text_of_subject, behind_space}
+use Rattle.cdi_model.specs.declared.place.PartPlace.{PartPlace}
+use Rattle.cdi_model.specs.declared.place.PartPlace.TheVariants as places
+use Rattle.cdi_model.specs.PlaceText.{text_of_part_place}
+use Rattle.cdi_faults.specs.FaultText.{text_of_subject, behind_space}
 
-behind_space_of_place : (place : PartPlace) → behind_space (text_of_place place) ≡ 32 ∷ text_of_place place
+behind_space_of_place : (place : PartPlace) → behind_space (text_of_part_place place) ≡ 32 ∷ text_of_part_place place
 behind_space_of_place places.Construct = refl
 behind_space_of_place places.Post = refl
 behind_space_of_place places.Pre = refl
 behind_space_of_place (places.Method name) = refl
 behind_space_of_place (places.Producer name) = refl
+behind_space_of_place (places.StaticProducer name) = refl
 behind_space_of_place (places.Disposer name) = refl
 behind_space_of_place (places.Observer name) = refl
 behind_space_of_place places.AroundInvoke = refl
@@ -27,6 +29,7 @@ behind_space_of_call places.Post point method = refl
 behind_space_of_call places.Pre point method = refl
 behind_space_of_call (places.Method name) point method = refl
 behind_space_of_call (places.Producer name) point method = refl
+behind_space_of_call (places.StaticProducer name) point method = refl
 behind_space_of_call (places.Disposer name) point method = refl
 behind_space_of_call (places.Observer name) point method = refl
 behind_space_of_call places.AroundInvoke point method = refl

@@ -4,6 +4,7 @@ use Rattle.std.specs.BTreeMap.{insert_entry}
 use Rattle.std.specs.List.Sorted.{IsStrictlySortedBy}
 use Rattle.cdi_model.specs.Bytes.{byte_order, dot, space}
 use Rattle.cdi_model.specs.Decl.{declared_as, word_of_kind}
+use Rattle.cdi_model.specs.PlaceText.{text_of_part_place}
 use Rattle.cdi_model.specs.UseText.{text_of_use}
 use Rattle.cdi_model.specs.declared.mention.PointPlace.{PointPlace}
 use Rattle.cdi_model.specs.declared.mention.PointPlace.TheVariants as points
@@ -16,8 +17,6 @@ use Rattle.cdi_faults.specs.declared.fault.Fault.{Fault}
 use Rattle.cdi_faults.specs.declared.fault.Fault.TheVariants as faults_are
 use Rattle.cdi_faults.specs.declared.fault.Subject.{Subject}
 use Rattle.cdi_faults.specs.declared.fault.Subject.TheVariants as subjects
-use Rattle.cdi_faults.specs.declared.place.PartPlace.{PartPlace}
-use Rattle.cdi_faults.specs.declared.place.PartPlace.TheVariants as places
 
 -- a word, a space, and what it is about
 abbrev pub about : List ℕ → List ℕ → List ℕ
@@ -33,18 +32,6 @@ text_of_point points.Constructor point = about (codes "point") point
 text_of_point (points.Producer method) point = about (codes "producer") (method ++ space ∷ about (codes "param") point)
 text_of_point (points.Observer method) point = about (codes "observer") (method ++ space ∷ about (codes "param") point)
 
--- where a body runs
-abbrev pub text_of_place : PartPlace → List ℕ
-text_of_place places.Construct = codes "construct"
-text_of_place places.Post = codes "post"
-text_of_place places.Pre = codes "pre"
-text_of_place (places.Method name) = about (codes "method") name
-text_of_place (places.Producer name) = about (codes "producer") name
-text_of_place (places.Disposer name) = about (codes "disposer") name
-text_of_place (places.Observer name) = about (codes "observer") name
-text_of_place places.AroundInvoke = codes "around_invoke"
-text_of_place places.AroundConstruct = codes "around_construct"
-
 abbrev pub text_of_subject : Subject → List ℕ
 text_of_subject subjects.Whole = []
 text_of_subject (subjects.Type name) = about (codes "type") name
@@ -59,8 +46,8 @@ text_of_subject (subjects.Disposer name) = about (codes "disposer") name
 text_of_subject (subjects.Observer name) = about (codes "observer") name
 text_of_subject (subjects.Use kind u) = about (word_of_kind (declared_as kind)) (text_of_use u)
 text_of_subject (subjects.Point place point) = text_of_point place point
-text_of_subject (subjects.Part place) = text_of_place place
-text_of_subject (subjects.Call place point method) = about (text_of_place place) (about (codes "call") (point ++ dot ∷ method))
+text_of_subject (subjects.Part place) = text_of_part_place place
+text_of_subject (subjects.Call place point method) = about (text_of_part_place place) (about (codes "call") (point ++ dot ∷ method))
 
 -- ---- what a fault prints
 

@@ -2,9 +2,8 @@
 #![tactic(auto)]
 
 mod fault;
-mod place;
 mod text;
 
 pub use fault::{Code, Fault, Subject};
-pub use place::PartPlace;
+
 pub use text::in_text_order;

@@ -46,19 +46,13 @@ pub observer-first : (m p d o body others : List Mention) (first : Mention) → 
     → m ++ p ++ d ++ o ≡ first ∷ (body ++ (m ++ p ++ d ++ others))
 observer-first m p d o body others first none empty gone is = rw (none, empty, gone, is) refl
 
--- ---- events
+-- ---- bodies
 
--- an event stands before what it names
-pub event-first : (before named rest : List Mention) (place : PointPlace) (points : List PointDecl) (events others : List EventDecl)
-    (e : EventDecl) → before ≡ [] → points ≡ [] → events ≡ e ∷ others → named
-    ≡ TypeIn places.Fired e.event_type ∷ of_qualifiers e.qualifiers
-    → before ++ flat_map (of_point place) points ++ flat_map of_event events ++ rest
-    ≡ EventOf e ∷ (named ++ flat_map (of_point place) points ++ flat_map of_event others ++ rest)
-event-first before named rest place points events others e none empty first same =
-    rw (none, empty, first, same) (ap (λ l. EventOf e ∷ TypeIn places.Fired e.event_type ∷ (l ++ flat_map of_event others ++ rest))
-    (sym (append-nil (of_qualifiers e.qualifiers))))
-
--- nothing is left where nothing is left of each
-pub none-left : (named : List Mention) (place : PointPlace) (points : List PointDecl) (events : List EventDecl) → named ≡ [] → points ≡ []
-    → events ≡ [] → named ++ flat_map (of_point place) points ++ flat_map of_event events ≡ []
-none-left named place points events none empty quiet = rw (none, empty, quiet) refl
+-- where nothing is left of what is gone through, the first body stands before what it may call and fire, and before the others
+pub part-first : (named asked sites parts others begun behind : List Mention) (first : Mention) → named ++ asked ++ sites ≡ []
+    → parts ≡ (first ∷ begun) ++ others → named ++ asked ++ sites ++ parts ++ behind
+    ≡ first ∷ (named ++ asked ++ begun ++ others ++ behind)
+part-first [] [] [] parts others begun behind first none is = rw is refl
+part-first [] [] (m ∷ ms) parts others begun behind first none is = absurd (cc)
+part-first [] (m ∷ ms) sites parts others begun behind first none is = absurd (cc)
+part-first (m ∷ ms) asked sites parts others begun behind first none is = absurd (cc)

@@ -1,18 +1,21 @@
 //! What a declaration names.
 ghost use Rattle.std.specs.Prelude.{◌≡◌, [], ◌∷◌, ◌++◌, map, flat_map, Some, None};
+ghost use Rattle.cdi_model.specs.declared.place.PartPlace.TheVariants as parts_are;
 ghost use Rattle.std.specs.Iterator.{YieldsFirstBy, item_count};
 ghost use Rattle.cdi_model.specs.declared.decl.Decl.TheVariants as decls_are;
-ghost use Rattle.cdi_model.specs.Mentions.{Mention as AnyMention, TypeIn, StereotypeOf};
+ghost use Rattle.cdi_model.specs.Mentions.{Mention as AnyMention, BodyOf, TypeIn, StereotypeOf};
 ghost use Rattle.cdi_model.specs.declared.mention.PointPlace.TheVariants as points_are;
 ghost use Rattle.cdi_model.specs.declared.mention.TypePlace.TheVariants as places_are;
-ghost use Rattle.cdi_model.specs.Mentions.{events_left, fired_by, left, left_before, left_behind, listed_types, mentions, names_left};
-ghost use Rattle.cdi_model.specs.Mentions.{of_attributes, of_bindings, of_event, of_point, of_qualifiers, shown, supers};
+ghost use Rattle.cdi_model.specs.Mentions.{body_left, calls_left, left, left_before, left_behind, left_now, listed_types, mentions};
+ghost use Rattle.cdi_model.specs.Mentions.{names_left, of_attributes, of_bindings, of_event, of_part, of_parts, of_point, of_qualifiers};
+ghost use Rattle.cdi_model.specs.Mentions.{part_place_of, parts_left, shown, sites_left, some_left, supers};
 
 use crate::decl::{
-    Attributes, BeanDecl, Decl, DisposerDecl, EventDecl, InterceptorDecl, MethodDecl, ObserverDecl,
-    PartDecl, PointDecl, ProducerDecl, UseKind,
+    Attributes, BeanDecl, CallDecl, Decl, DisposerDecl, EventDecl, InterceptorDecl, MethodDecl,
+    ObserverDecl, PartDecl, PointDecl, ProducerDecl, UseKind,
 };
 use crate::name::{Ident, Name};
+use crate::place::PartPlace;
 use crate::quals::Qual;
 use std::marker::Model;
 
@@ -60,6 +63,10 @@ pub enum Mention<'a> {
     Method(&'a MethodDecl),
     /// An injection point. Its type and its uses come behind it.
     Point(PointPlace, &'a PointDecl),
+    /// The stored body that runs in a place. What it may call and fire comes behind it.
+    Body(PartPlace, Ident),
+    /// A call site of the body in a place, and the parameters of the method whose body it is.
+    Call(PartPlace, &'a [PointDecl], &'a CallDecl),
     /// An event that a body may fire. Its type and its uses come behind it.
     Event(&'a EventDecl),
 }
@@ -230,78 +237,197 @@ fn listed_types(attributes: &Attributes) -> &[Name]
     }
 }
 
-/// The events of some parts, one part after another.
+/// The call sites and the events of the body that runs in a place.
 #[derive(Drop)]
-pub(crate) struct Events<'a> {
-    first: &'a [EventDecl],
-    second: &'a [EventDecl],
-    third: &'a [EventDecl],
-    fourth: &'a [EventDecl],
+pub(crate) struct Sites<'a> {
+    place: PartPlace,
+    /// The parameters of the method whose body it is.
+    params: &'a [PointDecl],
+    calls: &'a [CallDecl],
+    fires: &'a [EventDecl],
 }
 
-impl<'a> Events<'a> {
-    fn of(events: &'a [EventDecl]) -> Events<'a>
-        ensures { events_left result ≡ events.now }
+impl<'a> Sites<'a> {
+    /// Of a body that calls and fires nothing.
+    fn none() -> Sites<'a>
+        ensures calls { result.calls.now ≡ [] }
+        ensures fires { result.fires.now ≡ [] }
     {
-        Events {
-            first: events,
-            second: none(),
-            third: none(),
-            fourth: none(),
+        Sites {
+            place: PartPlace::Construct,
+            params: none(),
+            calls: none(),
+            fires: none(),
         }
     }
 
-    fn of_bean(bean: &'a BeanDecl) -> Events<'a>
-        ensures { events_left result ≡ fired_by bean.now.construct ++ fired_by bean.now.post ++ fired_by bean.now.pre }
+    fn of(body: Body<'a>) -> Sites<'a>
+        ensures { BodyOf body.entry.place body.entry.name ∷ sites_left result ≡ body_left body.entry }
     {
-        Events {
-            first: none(),
-            second: fired_by(&bean.construct),
-            third: fired_by(&bean.post),
-            fourth: fired_by(&bean.pre),
+        Sites {
+            place: body.place,
+            params: body.params,
+            calls: body.calls,
+            fires: body.fires,
         }
     }
 
-    fn of_interceptor(decl: &'a InterceptorDecl) -> Events<'a>
-        ensures { events_left result ≡ fired_by decl.now.around_invoke ++ fired_by decl.now.around_construct ++ fired_by decl.now.post
-            ++ fired_by decl.now.pre }
+    /// The first of the call sites that are left.
+    fn next_call(&mut self) -> Option<Mention<'a>>
+        ensures call { YieldsFirstBy shown calls_left self.old result self.new }
+        ensures fires { self.new.fires.now ≡ self.old.fires.now }
     {
-        Events {
-            first: fired_by(&decl.around_invoke),
-            second: fired_by(&decl.around_construct),
-            third: fired_by(&decl.post),
-            fourth: fired_by(&decl.pre),
-        }
+        let (call, others) = self.calls.split_first()?;
+        self.calls = others;
+        Some(Mention::Call(self.place, self.params, call))
     }
 
-    fn next(&mut self) -> Option<&'a EventDecl>
-        ensures { YieldsFirstBy (λ e. e.now) events_left self.old result self.new }
+    /// The first of the events that are left.
+    fn next_event(&mut self) -> Option<&'a EventDecl>
+        ensures event { YieldsFirstBy (λ e. e.now) (λ s. s.fires.now) self.old result self.new }
+        ensures calls { calls_left self.new ≡ calls_left self.old }
     {
-        if let Some((event, others)) = self.first.split_first() {
-            self.first = others;
-            return Some(event);
-        }
-        if let Some((event, others)) = self.second.split_first() {
-            self.second = others;
-            return Some(event);
-        }
-        if let Some((event, others)) = self.third.split_first() {
-            self.third = others;
-            return Some(event);
-        }
-        let (event, others) = self.fourth.split_first()?;
-        self.fourth = others;
+        let (event, others) = self.fires.split_first()?;
+        self.fires = others;
         Some(event)
     }
 }
 
-/// The events that a part may fire, where there is one.
-fn fired_by(part: &Option<PartDecl>) -> &[EventDecl]
-    ensures { result.now ≡ fired_by part.now }
+/// The body that runs in a place.
+#[derive(Clone, Copy)]
+pub(crate) struct Body<'a> {
+    place: PartPlace,
+    name: Ident,
+    /// The parameters of the method whose body it is.
+    params: &'a [PointDecl],
+    calls: &'a [CallDecl],
+    fires: &'a [EventDecl],
+}
+
+impl<'a> Body<'a> {
+    /// The body of a method that has these parameters.
+    fn of(place: PartPlace, params: &'a [PointDecl], part: &'a PartDecl) -> Body<'a>
+        ensures { body_left result ≡ of_part place params.now part.now }
+    {
+        Body {
+            place,
+            name: part.body,
+            params,
+            calls: part.calls.as_slice(),
+            fires: part.fires.as_slice(),
+        }
+    }
+}
+
+/// The bodies that are not begun, each of which may be there.
+#[derive(Drop)]
+pub(crate) struct Parts<'a> {
+    first: Option<Body<'a>>,
+    second: Option<Body<'a>>,
+    third: Option<Body<'a>>,
+    fourth: Option<Body<'a>>,
+}
+
+impl<'a> Parts<'a> {
+    fn none() -> Parts<'a>
+        ensures first { some_left result.first ≡ [] }
+        ensures second { some_left result.second ≡ [] }
+        ensures third { some_left result.third ≡ [] }
+        ensures fourth { some_left result.fourth ≡ [] }
+    {
+        Parts {
+            first: None,
+            second: None,
+            third: None,
+            fourth: None,
+        }
+    }
+
+    /// The body of a method that has these parameters.
+    fn of(place: PartPlace, params: &'a [PointDecl], part: &'a PartDecl) -> Parts<'a>
+        ensures { parts_left result ≡ of_part place params.now part.now }
+    {
+        let mut parts = Parts::none();
+        parts.first = Some(Body::of(place, params, part));
+        parts
+    }
+
+    fn of_producer(producer: &'a ProducerDecl) -> Parts<'a>
+        ensures { parts_left result ≡ of_part (part_place_of producer.now) producer.now.params producer.now.part }
+    {
+        let place = if producer.is_static {
+            PartPlace::StaticProducer(producer.name)
+        } else {
+            PartPlace::Producer(producer.name)
+        };
+        Parts::of(place, producer.params.as_slice(), &producer.part)
+    }
+
+    fn of_disposer(disposer: &'a DisposerDecl) -> Parts<'a>
+        ensures { parts_left result ≡ BodyOf (parts_are.Disposer disposer.now.name) disposer.now.body ∷ [] }
+    {
+        let mut parts = Parts::none();
+        parts.first = Some(Body {
+            place: PartPlace::Disposer(disposer.name),
+            name: disposer.body,
+            params: none(),
+            calls: none(),
+            fires: none(),
+        });
+        parts
+    }
+
+    /// The constructor and the callbacks of a bean.
+    fn of_bean(bean: &'a BeanDecl) -> Parts<'a>
+        ensures { parts_left result ≡ of_parts parts_are.Construct bean.now.construct ++ of_parts parts_are.Post bean.now.post
+            ++ of_parts parts_are.Pre bean.now.pre }
+    {
+        Parts {
+            first: body_in(PartPlace::Construct, &bean.construct),
+            second: body_in(PartPlace::Post, &bean.post),
+            third: body_in(PartPlace::Pre, &bean.pre),
+            fourth: None,
+        }
+    }
+
+    fn of_interceptor(decl: &'a InterceptorDecl) -> Parts<'a>
+        ensures { parts_left result ≡ of_parts parts_are.AroundInvoke decl.now.around_invoke
+            ++ of_parts parts_are.AroundConstruct decl.now.around_construct ++ of_parts parts_are.Post decl.now.post
+            ++ of_parts parts_are.Pre decl.now.pre }
+    {
+        Parts {
+            first: body_in(PartPlace::AroundInvoke, &decl.around_invoke),
+            second: body_in(PartPlace::AroundConstruct, &decl.around_construct),
+            third: body_in(PartPlace::Post, &decl.post),
+            fourth: body_in(PartPlace::Pre, &decl.pre),
+        }
+    }
+
+    /// The first of them, which is begun.
+    fn begin(&mut self) -> Option<Body<'a>>
+        ensures first { parts_left self.old ≡ some_left result ++ parts_left self.new }
+        ensures none { result ≡ None → parts_left self.old ≡ [] }
+    {
+        if let Some(body) = self.first.take() {
+            return Some(body);
+        }
+        if let Some(body) = self.second.take() {
+            return Some(body);
+        }
+        if let Some(body) = self.third.take() {
+            return Some(body);
+        }
+        self.fourth.take()
+    }
+}
+
+/// The body in a place, where there is one. It has no parameters.
+fn body_in<'a>(place: PartPlace, part: &'a Option<PartDecl>) -> Option<Body<'a>>
+    ensures { some_left result ≡ of_parts place part.now }
 {
     match part {
-        Some(part) => part.fires.as_slice(),
-        None => none(),
+        Some(part) => Some(Body::of(place, none(), part)),
+        None => None,
     }
 }
 
@@ -312,7 +438,8 @@ pub(crate) struct Rest<'a> {
     /// Of what the points are parameters.
     place: PointPlace,
     points: &'a [PointDecl],
-    events: Events<'a>,
+    sites: Sites<'a>,
+    parts: Parts<'a>,
     methods: &'a [MethodDecl],
     producers: &'a [ProducerDecl],
     disposers: &'a [DisposerDecl],
@@ -325,14 +452,16 @@ impl<'a> Rest<'a> {
         ensures names { names_left result.names ≡ [] }
         ensures place { result.place ≡ points_are.Constructor }
         ensures points { result.points.now ≡ [] }
-        ensures events { events_left result.events ≡ [] }
+        ensures sites { sites_left result.sites ≡ [] }
+        ensures parts { parts_left result.parts ≡ [] }
         ensures behind { left_behind result ≡ [] }
     {
         Rest {
             names: Names::of_uses(none(), none()),
             place: PointPlace::Constructor,
             points: none(),
-            events: Events::of(none()),
+            sites: Sites::none(),
+            parts: Parts::none(),
             methods: none(),
             producers: none(),
             disposers: none(),
@@ -348,7 +477,8 @@ impl<'a> Rest<'a> {
             names: Names::of_bean(bean),
             place: PointPlace::Constructor,
             points: bean.points.as_slice(),
-            events: Events::of_bean(bean),
+            sites: Sites::none(),
+            parts: Parts::of_bean(bean),
             methods: bean.methods.as_slice(),
             producers: bean.producers.as_slice(),
             disposers: bean.disposers.as_slice(),
@@ -363,7 +493,7 @@ impl<'a> Rest<'a> {
         let mut rest = Rest::none();
         rest.names = Names::of_uses(none(), decl.bindings.as_slice());
         rest.points = decl.points.as_slice();
-        rest.events = Events::of_interceptor(decl);
+        rest.parts = Parts::of_interceptor(decl);
         rest
     }
 
@@ -408,7 +538,19 @@ impl<'a> Rest<'a> {
             );
             return Some(Mention::Point(self.place, point));
         }
-        if let Some(event) = self.events.next() {
+        self.next_site()
+    }
+
+    /// The same where neither names nor points are left of what is gone through.
+    fn next_site(&mut self) -> Option<Mention<'a>>
+        requires names { names_left self.now.names ≡ [] }
+        requires points { self.now.points.now ≡ [] }
+        ensures { YieldsFirstBy shown left self.old result self.new }
+    {
+        if let Some(call) = self.sites.next_call() {
+            return Some(call);
+        }
+        if let Some(event) = self.sites.next_event() {
             self.names = Names::of_type(
                 TypePlace::Fired,
                 event.event_type,
@@ -416,10 +558,23 @@ impl<'a> Rest<'a> {
             );
             return Some(Mention::Event(event));
         }
-        self.next_member()
+        self.next_part()
     }
 
     /// The same where nothing is left of what is gone through.
+    fn next_part(&mut self) -> Option<Mention<'a>>
+        requires through { left_now self.now ≡ [] }
+        ensures { YieldsFirstBy shown left self.old result self.new }
+    {
+        if let Some(body) = self.parts.begin() {
+            let (place, name) = (body.place, body.name);
+            self.sites = Sites::of(body);
+            return Some(Mention::Body(place, name));
+        }
+        self.next_member()
+    }
+
+    /// The same where no body is left either.
     fn next_member(&mut self) -> Option<Mention<'a>>
         requires through { left_before self.now ≡ [] }
         ensures { YieldsFirstBy shown left self.old result self.new }
@@ -427,44 +582,50 @@ impl<'a> Rest<'a> {
         if let Some((method, others)) = self.methods.split_first() {
             self.methods = others;
             self.names = Names::of_uses(none(), method.bindings.as_slice());
-            self.begin(none(), method.part.fires.as_slice());
+            let place = PartPlace::Method(method.name);
+            self.parts = Parts::of(place, none(), &method.part);
+            self.begin(none());
             return Some(Mention::Method(method));
         }
         if let Some((producer, others)) = self.producers.split_first() {
             self.producers = others;
             self.place = PointPlace::Producer(producer.name);
             self.names = Names::of_product(producer);
-            self.begin(producer.params.as_slice(), producer.part.fires.as_slice());
+            self.parts = Parts::of_producer(producer);
+            self.begin(producer.params.as_slice());
             return Some(Mention::Type(TypePlace::Produced, producer.product_type));
         }
         if let Some((disposer, others)) = self.disposers.split_first() {
             self.disposers = others;
             self.names = Names::of_uses(disposer.qualifiers.as_slice(), none());
-            self.begin(none(), none());
+            self.parts = Parts::of_disposer(disposer);
+            self.begin(none());
             return Some(Mention::Type(TypePlace::Disposed, disposer.product_type));
         }
         let (observer, others) = self.observers.split_first()?;
         self.observers = others;
         self.place = PointPlace::Observer(observer.name);
         self.names = Names::of_uses(observer.qualifiers.as_slice(), observer.bindings.as_slice());
-        self.begin(observer.params.as_slice(), observer.part.fires.as_slice());
+        let place = PartPlace::Observer(observer.name);
+        self.parts = Parts::of(place, observer.params.as_slice(), &observer.part);
+        self.begin(observer.params.as_slice());
         Some(Mention::Type(TypePlace::Observed, observer.event_type))
     }
 
-    /// Goes through these points and events.
-    fn begin(&mut self, points: &'a [PointDecl], events: &'a [EventDecl])
+    /// Goes through these points before the bodies.
+    fn begin(&mut self, points: &'a [PointDecl])
         ensures begun { left_before self.new ≡ names_left self.old.names ++ flat_map (of_point self.old.place) points.now
-            ++ flat_map of_event events.now }
+            ++ parts_left self.old.parts }
         ensures others { left_behind self.new ≡ left_behind self.old }
     {
         self.points = points;
-        self.events = Events::of(events);
+        self.sites = Sites::none();
     }
 }
 
 impl Decl {
-    /// What it names, in order: each type, use of a qualifier or of a binding, stereotype, business method, injection point
-    /// and event, with where it stands. It takes no memory.
+    /// What it names, in order: each type, use of a qualifier or of a binding, stereotype, business method, injection point,
+    /// stored body, call site and event, with where it stands. It takes no memory.
     pub fn mentions(&self) -> Mentions<'_>
         ensures { result ≡ mentions self.now }
     {
