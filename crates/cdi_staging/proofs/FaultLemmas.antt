@@ -1,31 +1,39 @@
 -- What is known of each declaration of a deployment without faults, and that such a deployment has a sound scene.
-use Rattle.std.proofs.Common.{◌≡◌, ◌==◌, ℕ, zero, suc, Bool, true, false, cond, List, [], ◌∷◌, ◌++◌, map, filter}
+use Rattle.std.proofs.Common.{◌≡◌, ◌==◌, ◌&&◌, ℕ, zero, suc, Bool, true, false, not, cond, List, [], ◌∷◌, ◌++◌, map, append-nil}
 use Rattle.std.proofs.Common.{Option, Some, None, option_map, Contains, refl, sym, subst, ap, ◌∙◌, arith, bit_and}
 use Rattle.std.specs.List.{find, flat_map, slice_get}
+use Rattle.std.specs.Option.{option_eq, option_to_list}
 use Rattle.std.specs.Str.{bytes_eq}
-use Rattle.std.proofs.lemmas.Bool.{false≢true, true≢false, not-false}
+use Rattle.std.proofs.lemmas.Bool.{false≢true, true≢false, not-false, or_left, or_right}
 use Rattle.std.proofs.lemmas.Bool.Decides.{nat_tests}
-use Rattle.std.proofs.lemmas.List.{map-append}
+use Rattle.std.proofs.lemmas.Grind.{flat_map-append}
 use Rattle.cdi_model.specs.Decl.{kind_of, name_of_decl}
+use Rattle.cdi_model.specs.Mentions.{Mention, BodyOf, CallOf, MethodOf, TypeIn, mentions, of_attributes, of_bindings, of_disposer, of_event}
+use Rattle.cdi_model.specs.Mentions.{of_method, of_observer, of_part, of_parts, of_point, of_producer, of_qualifiers, part_place_of}
 use Rattle.cdi_model.specs.Short.{AreShort, IsShortPart, IsShortBean, IsShortInterceptor}
 use Rattle.cdi_model.specs.declared.decl.BeanDecl.{BeanDecl}
 use Rattle.cdi_model.specs.declared.decl.CallDecl.{CallDecl}
 use Rattle.cdi_model.specs.declared.decl.Decl.{Decl}
 use Rattle.cdi_model.specs.declared.decl.Decl.TheVariants as decls
+use Rattle.cdi_model.specs.declared.decl.DisposerDecl.{DisposerDecl}
 use Rattle.cdi_model.specs.declared.decl.InterceptorDecl.{InterceptorDecl}
+use Rattle.cdi_model.specs.declared.decl.MethodDecl.{MethodDecl}
 use Rattle.cdi_model.specs.declared.decl.ObserverDecl.{ObserverDecl}
 use Rattle.cdi_model.specs.declared.decl.PartDecl.{PartDecl}
 use Rattle.cdi_model.specs.declared.decl.PointDecl.{PointDecl}
 use Rattle.cdi_model.specs.declared.decl.ProducerDecl.{ProducerDecl}
 use Rattle.cdi_model.specs.declared.mention.PointPlace.{PointPlace}
 use Rattle.cdi_model.specs.declared.mention.PointPlace.TheVariants as points_are
+use Rattle.cdi_model.specs.declared.mention.TypePlace.TheVariants as types_are
+use Rattle.cdi_model.specs.declared.place.PartPlace.{PartPlace}
+use Rattle.cdi_model.specs.declared.place.PartPlace.TheVariants as places
 use Rattle.cdi_bodies.specs.Book.{Promised, promise_of}
 use Rattle.cdi_bodies.specs.Flags as flags
 use Rattle.cdi_bodies.specs.declared.promise.Promise.{Promise}
 use Rattle.cdi_bodies.proofs.FlagLemmas.{keeps_each}
-use Rattle.cdi_effective.specs.Beans.{managed, product}
+use Rattle.cdi_match.proofs.Names.{same_text}
+use Rattle.cdi_effective.specs.Beans.{entries, managed, product}
 use Rattle.cdi_effective.specs.declared.records.BeanId.{BeanId}
-use Rattle.cdi_effective.specs.declared.records.Effective.{Effective}
 use Rattle.cdi_resolve.specs.declared.choice.Choice.{Choice}
 use Rattle.cdi_resolve.specs.declared.choice.Choice.TheVariants as choices
 use Rattle.cdi_intercept.specs.Chains.{is_enabled}
@@ -37,22 +45,16 @@ use Rattle.cdi_faults.specs.declared.fault.Code.TheVariants as codes_of
 use Rattle.cdi_faults.specs.declared.fault.Fault.TheVariants as faults_are
 use Rattle.cdi_faults.specs.declared.fault.Subject.{Subject}
 use Rattle.cdi_faults.specs.declared.fault.Subject.TheVariants as subjects
-use Rattle.cdi_faults.specs.declared.place.PartPlace.{PartPlace}
-use Rattle.cdi_faults.specs.declared.place.PartPlace.TheVariants as places
 use Rattle.cdi_faults.proofs.CodeLemmas.{has_code}
 use Rattle.cdi_faults.proofs.OrderLemmas.{none_in_order}
-use Rattle.cdi_subjects.specs.Subjects.{is_ambiguous, is_unsatisfied, points_such, points_with}
+use Rattle.cdi_subjects.specs.Filter.{found_in, has_enabled, is_enabled_in, producer_of_part, producer_of_point, some_if}
+use Rattle.cdi_subjects.specs.Parts.{allowed_in, is_fit, unfit_in}
+use Rattle.cdi_subjects.specs.Sites.{has_method, is_lost, is_lost_among, lacks_method, lost_in, own_points, points_seen}
+use Rattle.cdi_subjects.specs.Subjects.{is_ambiguous, is_unsatisfied, point_in, subjects_at_fault}
+use Rattle.cdi_subjects.proofs.RecordLemmas.{managed-producer, product-producer}
 use Rattle.cdi_validate.specs.Faults.{faults, faults_of, faults_of_code}
-use Rattle.cdi_subjects.specs.Subjects.{subjects_at_fault}
-use Rattle.cdi_subjects.specs.Parts.{allowed_to, is_fit, unfit, unfit_callbacks, unfit_methods, unfit_part}
-use Rattle.cdi_subjects.specs.Parts.{unfit_producers}
-use Rattle.cdi_subjects.specs.Parts.{unfit_disposers, unfit_observers}
-use Rattle.cdi_subjects.specs.Sites.{choice_at, has_method, is_lost, is_lost_among, lacks_method, lost_call}
-use Rattle.cdi_subjects.specs.Sites.{lost_calls}
-use Rattle.cdi_subjects.specs.Sites.{lost_in_managed, lost_in_observer, lost_in_part, lost_in_producer, where_enabled}
-use Rattle.cdi_subjects.specs.Sites.{sight_of as sight_at}
 use Rattle.cdi_staging.specs.Faultless.{AreFine, AreFineAround, IsFineAround}
-use Rattle.cdi_staging.specs.Faultless.{AreSatisfied, FaultlessIsSound, IsFineManaged, IsFinePart}
+use Rattle.cdi_staging.specs.Faultless.{AreSatisfied, FaultlessIsSound, IsFineManaged, IsFinePart, allowed_to}
 use Rattle.cdi_staging.specs.Faultless.{IsFineObserver, IsFineProducer, IsFit, IsLed, seen_by}
 use Rattle.cdi_staging.specs.Sites.{is_point}
 use Rattle.cdi_staging.proofs.SceneLemmas.{fine_is_sound}
@@ -86,30 +88,13 @@ flat-empty-in f (v ∷ xs) x e (zero, within, at) = subst (λ w. f w ≡ []) at 
 flat-empty-in f (v ∷ xs) x e (suc k, within, at) =
     flat-empty-in f xs x (second-empty (f v) (flat_map f xs) e) (k, omega (arith, within), at)
 
-filter-empty : {X : Type 0} (p : X → Bool) (xs : List X) (k : ℕ) (x : X) → filter p xs ≡ [] → slice_get xs k ≡ Some x
-    → p x ≡ false
-filter-empty p [] k x e at = absurd (cc)
-filter-empty p (v ∷ xs) k x e at = by (p v) refl (λ i. filter-empty p xs i x) e k at
-  where
-    by : (b : Bool) → p v ≡ b → ((i : ℕ) → filter p xs ≡ [] → slice_get xs i ≡ Some x → p x ≡ false)
-        → cond b (v ∷ filter p xs) (filter p xs) ≡ [] → (i : ℕ) → slice_get (v ∷ xs) i ≡ Some x → p x ≡ false
-    by true is rest none i here = absurd (cc)
-    by false is rest none zero here =
-        let same : v ≡ x = cc in
-        subst (λ w. p w ≡ false) same is
-    by false is rest none (suc i) here = rest i none here
+some-empty : {X : Type 0} (o : Option X) → option_to_list o ≡ [] → o ≡ None
+some-empty None e = refl
+some-empty (Some x) e = absurd (cc)
 
-when-empty : {X : Type 0} (b : Bool) (x : X) → cond b [] (x ∷ []) ≡ [] → b ≡ true
-when-empty true x e = refl
-when-empty false x e = absurd (cc)
-
-unless-empty : {X : Type 0} (b : Bool) (x : X) → cond b (x ∷ []) [] ≡ [] → b ≡ false
-unless-empty true x e = absurd (cc)
-unless-empty false x e = refl
-
-where-true : {X : Type 0} (b : Bool) (xs : List X) → b ≡ true → cond b xs [] ≡ [] → xs ≡ []
-where-true true xs is e = e
-where-true false xs is e = absurd (false≢true is)
+not-found : (b : Bool) (subject : Subject) → some_if b subject ≡ None → b ≡ false
+not-found true subject e = absurd (cc)
+not-found false subject e = refl
 
 -- ---- faults
 
@@ -141,12 +126,140 @@ none-at-fault ds book k d code none at =
     none_in_order found
     (map-empty (λ m. faults_are.Declared code (kind_of d) (name_of_decl d) m) (in_text_order found) of_code)
 
+-- ---- what no mention has
+
+-- nothing is at fault of some mentions
+abbrev IsFree : (Mention → Option Subject) → List Mention → Type 0
+IsFree f ms = found_in f ms ≡ []
+
+front-free : (f : Mention → Option Subject) (xs ys : List Mention) → IsFree f (xs ++ ys) → IsFree f xs
+front-free f xs ys free = first-empty (found_in f xs) (found_in f ys) (sym (flat_map-append (λ m. option_to_list (f m)) xs ys) ∙ free)
+
+back-free : (f : Mention → Option Subject) (xs ys : List Mention) → IsFree f (xs ++ ys) → IsFree f ys
+back-free f xs ys free = second-empty (found_in f xs) (found_in f ys) (sym (flat_map-append (λ m. option_to_list (f m)) xs ys) ∙ free)
+
+each-free : {X : Type 0} (f : Mention → Option Subject) (g : X → List Mention) (xs : List X) (k : ℕ) (x : X) → IsFree f (flat_map g xs)
+    → slice_get xs k ≡ Some x → IsFree f (g x)
+each-free f g [] k x free at = absurd (cc)
+each-free f g (v ∷ xs) zero x free at =
+    let same : v ≡ x = cc in
+    subst (λ w. IsFree f (g w)) same (front-free f (g v) (flat_map g xs) free)
+each-free f g (v ∷ xs) (suc k) x free at = each-free f g xs k x (back-free f (g v) (flat_map g xs) free) at
+
+one-free : {X : Type 0} (f : Mention → Option Subject) (g : X → Mention) (xs : List X) (k : ℕ) (x : X) → IsFree f (map g xs)
+    → slice_get xs k ≡ Some x → f (g x) ≡ None
+one-free f g [] k x free at = absurd (cc)
+one-free f g (v ∷ xs) zero x free at =
+    let same : v ≡ x = cc in
+    subst (λ w. f (g w) ≡ None) same (some-empty (f (g v)) (first-empty (option_to_list (f (g v))) (found_in f (map g xs)) free))
+one-free f g (v ∷ xs) (suc k) x free at =
+    one-free f g xs k x (second-empty (option_to_list (f (g v))) (found_in f (map g xs)) free) at
+
+-- nothing is at fault of what a bean declaration names
+record AreFree (f : Mention → Option Subject) (bean : BeanDecl) : Type 0 where
+  pub own : IsFree f (flat_map (of_point points_are.Constructor) bean.points)
+  pub construct : IsFree f (of_parts places.Construct bean.construct)
+  pub post : IsFree f (of_parts places.Post bean.post)
+  pub pre : IsFree f (of_parts places.Pre bean.pre)
+  pub methods : IsFree f (flat_map of_method bean.methods)
+  pub producers : IsFree f (flat_map of_producer bean.producers)
+  pub disposers : IsFree f (flat_map of_disposer bean.disposers)
+  pub observers : IsFree f (flat_map of_observer bean.observers)
+
+each-part-free : (f : Mention → Option Subject) (bean : BeanDecl) → IsFree f (mentions (decls.Bean bean)) → AreFree f bean
+unfolding mentions
+each-part-free f bean free =
+    let class = TypeIn types_are.Class bean.name ∷ of_attributes None bean.attributes in
+    let bindings = of_bindings bean.bindings in
+    let own = flat_map (of_point points_are.Constructor) bean.points in
+    let construct = of_parts places.Construct bean.construct in
+    let post = of_parts places.Post bean.post in
+    let pre = of_parts places.Pre bean.pre in
+    let methods = flat_map of_method bean.methods in
+    let producers = flat_map of_producer bean.producers in
+    let disposers = flat_map of_disposer bean.disposers in
+    let observers = flat_map of_observer bean.observers in
+    let to_bodies = class ++ bindings ++ own ++ (construct ++ post ++ pre) in
+    let before_observers = front-free f (to_bodies ++ methods ++ producers ++ disposers) observers free in
+    let before_disposers = front-free f (to_bodies ++ methods ++ producers) disposers before_observers in
+    let before_producers = front-free f (to_bodies ++ methods) producers before_disposers in
+    let before_methods = front-free f to_bodies methods before_producers in
+    let bodies = back-free f (class ++ bindings ++ own) (construct ++ post ++ pre) before_methods in
+    let early = front-free f (construct ++ post) pre bodies in
+    record {
+      own = back-free f (class ++ bindings) own (front-free f (class ++ bindings ++ own) (construct ++ post ++ pre) before_methods);
+      construct = front-free f construct post early;
+      post = back-free f construct post early;
+      pre = back-free f (construct ++ post) pre bodies;
+      methods = back-free f to_bodies methods before_producers;
+      producers = back-free f (to_bodies ++ methods) producers before_disposers;
+      disposers = back-free f (to_bodies ++ methods ++ producers) disposers before_observers;
+      observers = back-free f (to_bodies ++ methods ++ producers ++ disposers) observers free;
+    }
+
+-- nothing is at fault of what an interceptor declaration names
+record AreFreeAround (f : Mention → Option Subject) (i : InterceptorDecl) : Type 0 where
+  pub own : IsFree f (flat_map (of_point points_are.Constructor) i.points)
+  pub around_invoke : IsFree f (of_parts places.AroundInvoke i.around_invoke)
+  pub around_construct : IsFree f (of_parts places.AroundConstruct i.around_construct)
+  pub post : IsFree f (of_parts places.Post i.post)
+  pub pre : IsFree f (of_parts places.Pre i.pre)
+
+each-part-free-around : (f : Mention → Option Subject) (i : InterceptorDecl) → IsFree f (mentions (decls.Interceptor i))
+    → AreFreeAround f i
+unfolding mentions
+each-part-free-around f i free =
+    let bindings = of_bindings i.bindings in
+    let own = flat_map (of_point points_are.Constructor) i.points in
+    let invoke = of_parts places.AroundInvoke i.around_invoke in
+    let construct = of_parts places.AroundConstruct i.around_construct in
+    let post = of_parts places.Post i.post in
+    let pre = of_parts places.Pre i.pre in
+    let bodies = back-free f (bindings ++ own) (invoke ++ construct ++ post ++ pre) free in
+    let three = front-free f (invoke ++ construct ++ post) pre bodies in
+    let two = front-free f (invoke ++ construct) post three in
+    record {
+      own = back-free f bindings own (front-free f (bindings ++ own) (invoke ++ construct ++ post ++ pre) free);
+      around_invoke = front-free f invoke construct two;
+      around_construct = back-free f invoke construct two;
+      post = back-free f (invoke ++ construct) post three;
+      pre = back-free f (invoke ++ construct ++ post) pre bodies;
+    }
+
+-- ---- enabled beans
+
+managed-enabled : (ds : List Decl) (bean : BeanDecl) → (managed ds bean).is_enabled ≡ true
+    → is_enabled_in (decls.Bean bean) (entries ds (decls.Bean bean)) None ≡ true
+managed-enabled ds bean enabled =
+    let b = managed ds bean in
+    or_left (option_eq bytes_eq b.id.producer None && b.is_enabled) (has_enabled (map (product ds bean) bean.producers) None)
+    (ap (λ o. option_eq bytes_eq o None && b.is_enabled) (managed-producer ds bean) ∙ enabled)
+
+one-enabled : (ds : List Decl) (bean : BeanDecl) (ps : List ProducerDecl) (k : ℕ) (p : ProducerDecl) → slice_get ps k ≡ Some p
+    → (product ds bean p).is_enabled ≡ true → has_enabled (map (product ds bean) ps) (Some p.name) ≡ true
+one-enabled ds bean [] k p at enabled = absurd (cc)
+one-enabled ds bean (v ∷ ps) zero p at enabled =
+    let same : p ≡ v = cc in
+    let is : (option_eq bytes_eq (product ds bean p).id.producer (Some p.name) && (product ds bean p).is_enabled) ≡ true =
+    ap (λ o. option_eq bytes_eq o (Some p.name) && (product ds bean p).is_enabled) (product-producer ds bean p)
+    ∙ ap (λ b. b && (product ds bean p).is_enabled) (same_text p.name p.name refl) ∙ enabled in
+    or_left (option_eq bytes_eq (product ds bean v).id.producer (Some p.name) && (product ds bean v).is_enabled)
+    (has_enabled (map (product ds bean) ps) (Some p.name))
+    (subst (λ w. (option_eq bytes_eq (product ds bean w).id.producer (Some p.name) && (product ds bean w).is_enabled) ≡ true) same is)
+one-enabled ds bean (v ∷ ps) (suc k) p at enabled =
+    or_right (option_eq bytes_eq (product ds bean v).id.producer (Some p.name) && (product ds bean v).is_enabled)
+    (has_enabled (map (product ds bean) ps) (Some p.name)) (one-enabled ds bean ps k p at enabled)
+
+product-enabled : (ds : List Decl) (bean : BeanDecl) (k : ℕ) (p : ProducerDecl) → slice_get bean.producers k ≡ Some p
+    → (product ds bean p).is_enabled ≡ true → is_enabled_in (decls.Bean bean) (entries ds (decls.Bean bean)) (Some p.name) ≡ true
+product-enabled ds bean k p at enabled =
+    or_right (option_eq bytes_eq (managed ds bean).id.producer (Some p.name) && (managed ds bean).is_enabled)
+    (has_enabled (map (product ds bean) bean.producers) (Some p.name)) (one-enabled ds bean bean.producers k p at enabled)
+
 -- ---- bodies
 
-fit : (book : List Promised) (allowed : ℕ) (place : PartPlace) (body : List ℕ) → unfit book allowed place body ≡ []
-    → IsFit book allowed body
-fit book allowed place body e = by (promise_of book body) refl
-    (when-empty (is_fit allowed (promise_of book body)) (subjects.Part place) e)
+fit : (book : List Promised) (allowed : ℕ) (body : List ℕ) → is_fit allowed (promise_of book body) ≡ true → IsFit book allowed body
+fit book allowed body e = by (promise_of book body) refl e
   where
     all : (promise : Promise) → (bit_and allowed promise.0 == promise.0) ≡ true → bit_and allowed promise.0 ≡ promise.0
     all promise is = grind (arith, nat_tests)
@@ -159,12 +272,13 @@ fit book allowed place body e = by (promise_of book body) refl
       kept = keeps_each promise allowed (all promise is);
     }
 
-fit-part : (book : List Promised) (allowed : ℕ) (place : PartPlace) (o : Option PartDecl) (part : PartDecl)
-    → unfit_part book allowed place o ≡ [] → o ≡ Some part → IsFit book allowed part.body
-fit-part book allowed place None part e is = absurd (cc)
-fit-part book allowed place (Some p) part e is =
-    let same : p ≡ part = cc in
-    subst (λ q. IsFit book allowed q.body) same (fit book allowed place p.body e)
+-- the first of some mentions, where it is a body
+fit-first : (book : List Promised) (d : Decl) (place : PartPlace) (body : List ℕ) (ms : List Mention)
+    → IsFree (unfit_in book d) (BodyOf place body ∷ ms) → IsFit book (allowed_in d place) body
+fit-first book d place body ms free =
+    let is = is_fit (allowed_in d place) (promise_of book body) in
+    fit book (allowed_in d place) body (not-false is (not-found (not is) (subjects.Part place)
+    (some-empty (some_if (not is) (subjects.Part place)) (first-empty _ (found_in (unfit_in book d) ms) free))))
 
 -- ---- injection points
 
@@ -180,51 +294,45 @@ unsatisfied point choice = is_unsatisfied choice
 abbrev ambiguous : PointDecl → Choice → Bool
 ambiguous point choice = is_ambiguous choice
 
--- no point has a choice that the test finds
-none-found : (test : PointDecl → Choice → Bool) (ds : List Decl) (place : PointPlace)
-    (points : List PointDecl) (k : ℕ) (point : PointDecl)
-    → points_such test ds place points ≡ [] → slice_get points k ≡ Some point
+-- what is at fault of the points of a declaration, or of its call sites, by what is chosen for each
+abbrev at_points : (PointDecl → Choice → Bool) → List Decl → Decl → Mention → Option Subject
+at_points test ds d = point_in test (answer_to ds) (entries ds d) d
+
+abbrev at_calls : List Decl → Decl → Mention → Option Subject
+at_calls ds d = lost_in ds (answer_to ds) (entries ds d) d
+
+where-enabled : (enabled test : Bool) → enabled ≡ true → (enabled && test) ≡ false → test ≡ false
+where-enabled true test is e = e
+where-enabled false test is e = absurd (false≢true is)
+
+-- no point of what is enabled has a choice that the test finds
+none-found : (test : PointDecl → Choice → Bool) (ds : List Decl) (d : Decl) (place : PointPlace) (points : List PointDecl) (k : ℕ)
+    (point : PointDecl) → is_enabled_in d (entries ds d) (producer_of_point place) ≡ true
+    → IsFree (at_points test ds d) (flat_map (of_point place) points) → slice_get points k ≡ Some point
     → test point (answer_to ds point) ≡ false
-none-found test ds place points k point none at =
-    filter-empty (λ p. test p (answer_to ds p)) points k point
-    (map-empty (λ p. subjects.Point place p.name) (filter (λ p. test p (answer_to ds p)) points) none) at
+none-found test ds d place points k point enabled free at =
+    let is = is_enabled_in d (entries ds d) (producer_of_point place) in
+    let such = test point (answer_to ds point) in
+    let subject = subjects.Point place point.name in
+    where-enabled is such enabled (not-found (is && such) subject (some-empty (some_if (is && such) subject)
+    (first-empty _ (found_in (at_points test ds d) (TypeIn types_are.Required point.required_type ∷ of_qualifiers point.qualifiers))
+    (each-free (at_points test ds d) (of_point place) points k point free at))))
 
-satisfied-by : (ds : List Decl) (place : PointPlace) (points : List PointDecl)
-    → points_such unsatisfied ds place points ≡ []
-    → points_such ambiguous ds place points ≡ [] → AreSatisfied ds points
-satisfied-by ds place points some single k point at =
+satisfied : (ds : List Decl) (d : Decl) (place : PointPlace) (points : List PointDecl)
+    → is_enabled_in d (entries ds d) (producer_of_point place) ≡ true
+    → IsFree (at_points unsatisfied ds d) (flat_map (of_point place) points)
+    → IsFree (at_points ambiguous ds d) (flat_map (of_point place) points) → AreSatisfied ds points
+satisfied ds d place points enabled some single k point at =
     let one = one-chosen (answer_to ds point)
-    (none-found unsatisfied ds place points k point some at)
-    (none-found ambiguous ds place points k point single at) in
+    (none-found unsatisfied ds d place points k point enabled some at)
+    (none-found ambiguous ds d place points k point enabled single at) in
     record { id = one.0; chosen = one.1 }
-
--- the same of an enabled bean
-satisfied : (ds : List Decl) (bean : Effective) (place : PointPlace) (points : List PointDecl)
-    → bean.is_enabled ≡ true
-    → points_with unsatisfied ds bean place points ≡ []
-    → points_with ambiguous ds bean place points ≡ [] → AreSatisfied ds points
-satisfied ds bean place points enabled some single =
-    satisfied-by ds place points (where-true bean.is_enabled _ enabled some) (where-true bean.is_enabled _ enabled single)
 
 -- ---- call sites
 
--- what is chosen for the point of a name
-chosen-at : (ds : List Decl) (points : List PointDecl) (name : List ℕ)
-    → choice_at (sight_at ds points) name ≡ option_map (answer_to ds) (find (is_point name) points)
-chosen-at ds [] name = refl
-chosen-at ds (p ∷ points) name = by (bytes_eq p.name name) (chosen-at ds points name)
-  where
-    by : (b : Bool) → choice_at (sight_at ds points) name ≡ option_map (answer_to ds) (find (is_point name) points)
-        → option_map (λ z. z.1)
-        (cond b (Some (p, answer_to ds p)) (find (λ z. bytes_eq z.0.name name) (sight_at ds points)))
-        ≡ option_map (answer_to ds) (cond b (Some p) (find (is_point name) points))
-    by true rest = refl
-    by false rest = rest
-
-led : (ds : List Decl) (points : List PointDecl) (call : CallDecl) → is_lost ds (sight_at ds points) call ≡ false
+led : (ds : List Decl) (points : List PointDecl) (call : CallDecl) → is_lost ds (answer_to ds) points call ≡ false
     → IsLed ds points call
-led ds points call found = by (find (is_point call.point) points) refl
-    (sym (ap (is_lost_among ds call.method) (chosen-at ds points call.point)) ∙ found)
+led ds points call found = by (find (is_point call.point) points) refl found
   where
     by : (o : Option PointDecl) → find (is_point call.point) points ≡ o
         → is_lost_among ds call.method (option_map (answer_to ds) o) ≡ false → IsLed ds points call
@@ -235,222 +343,201 @@ led ds points call found = by (find (is_point call.point) points) refl
       has = λ id one. not-false (has_method ds id call.method) (sym (ap (lacks_method ds call.method) one) ∙ kept);
     }
 
--- each call site of a body that sees some points, where none is lost
-all-led : (ds : List Decl) (points : List PointDecl) (place : PartPlace) (calls : List CallDecl)
-    → lost_calls ds (sight_at ds points) place calls ≡ [] → (k : ℕ) (call : CallDecl) → slice_get calls k ≡ Some call
-    → IsLed ds points call
-all-led ds points place calls none k call at =
-    let sight = sight_at ds points in
-    led ds points call (unless-empty (is_lost ds sight call) (subjects.Call place call.point call.method)
-    (flat-empty (lost_call ds sight place) calls k call none at))
+-- each call site of a body of what is enabled, where none is lost
+all-led : (ds : List Decl) (d : Decl) (place : PartPlace) (params : List PointDecl) (calls : List CallDecl)
+    → is_enabled_in d (entries ds d) (producer_of_part place) ≡ true → IsFree (at_calls ds d) (map (CallOf place params) calls)
+    → (k : ℕ) (call : CallDecl) → slice_get calls k ≡ Some call → IsLed ds (points_seen place params (own_points d)) call
+all-led ds d place params calls enabled free k call at =
+    let is = is_enabled_in d (entries ds d) (producer_of_part place) in
+    let lost = is_lost ds (answer_to ds) (points_seen place params (own_points d)) call in
+    led ds (points_seen place params (own_points d)) call
+    (where-enabled is lost enabled (not-found (is && lost) (subjects.Call place call.point call.method)
+    (one-free (at_calls ds d) (CallOf place params) calls k call free at)))
 
-fine-part : (ds : List Decl) (book : List Promised) (allowed : ℕ) (place : PartPlace) (points : List PointDecl)
-    (part : PartDecl)
-    → IsShortPart part → unfit book allowed place part.body ≡ []
-    → lost_calls ds (sight_at ds points) place part.calls ≡ []
-    → IsFinePart ds book allowed points part
-fine-part ds book allowed place points part short fits found = record {
-  body = fit book allowed place part.body fits;
-  short = short;
-  calls = all-led ds points place part.calls found;
-}
+fine-part : (ds : List Decl) (book : List Promised) (d : Decl) (place : PartPlace) (params : List PointDecl) (part : PartDecl)
+    → IsShortPart part → is_enabled_in d (entries ds d) (producer_of_part place) ≡ true
+    → IsFree (unfit_in book d) (of_part place params part) → IsFree (at_calls ds d) (of_part place params part)
+    → IsFinePart ds book (allowed_in d place) (points_seen place params (own_points d)) part
+fine-part ds book d place params part short enabled fits found =
+    let calls = map (CallOf place params) part.calls in
+    let events = flat_map of_event part.fires in
+    record {
+      body = fit-first book d place part.body (calls ++ events) fits;
+      short = short;
+      calls = all-led ds d place params part.calls enabled (front-free (at_calls ds d) calls events found);
+    }
 
 -- a part that may be there
-fine-some : (ds : List Decl) (book : List Promised) (allowed : ℕ) (place : PartPlace) (points : List PointDecl)
-    (o : Option PartDecl)
-    → ((part : PartDecl) → o ≡ Some part → IsShortPart part) → unfit_part book allowed place o ≡ []
-    → lost_in_part ds (sight_at ds points) place o ≡ [] → (part : PartDecl) → o ≡ Some part
-    → IsFinePart ds book allowed points part
-fine-some ds book allowed place points None short fits found part is = absurd (cc)
-fine-some ds book allowed place points (Some p) short fits found part is =
+fine-some : (ds : List Decl) (book : List Promised) (d : Decl) (place : PartPlace) (o : Option PartDecl)
+    → ((part : PartDecl) → o ≡ Some part → IsShortPart part) → is_enabled_in d (entries ds d) (producer_of_part place) ≡ true
+    → IsFree (unfit_in book d) (of_parts place o) → IsFree (at_calls ds d) (of_parts place o) → (part : PartDecl) → o ≡ Some part
+    → IsFinePart ds book (allowed_in d place) (points_seen place [] (own_points d)) part
+fine-some ds book d place None short enabled fits found part is = absurd (cc)
+fine-some ds book d place (Some p) short enabled fits found part is =
     let same : p ≡ part = cc in
-    subst (IsFinePart ds book allowed points) same (fine-part ds book allowed place points p (short p refl) fits found)
+    subst (IsFinePart ds book (allowed_in d place) (points_seen place [] (own_points d))) same
+    (fine-part ds book d place [] p (short p refl) enabled fits found)
 
 -- ---- what is known of a bean
 
 -- nothing of the bean has one of these codes
 record HasNone (ds : List Decl) (book : List Promised) (bean : BeanDecl) : Type 0 where
-  pub body : subjects_at_fault codes_of.Body ds book (decls.Bean bean) ≡ []
-  pub unsatisfied : subjects_at_fault codes_of.Unsatisfied ds book (decls.Bean bean) ≡ []
-  pub ambiguous : subjects_at_fault codes_of.Ambiguous ds book (decls.Bean bean) ≡ []
-  pub site : subjects_at_fault codes_of.Site ds book (decls.Bean bean) ≡ []
+  pub body : AreFree (unfit_in book (decls.Bean bean)) bean
+  pub unsatisfied : AreFree (at_points unsatisfied ds (decls.Bean bean)) bean
+  pub ambiguous : AreFree (at_points ambiguous ds (decls.Bean bean)) bean
+  pub site : AreFree (at_calls ds (decls.Bean bean)) bean
 
--- what is at fault of the parameters of its producer methods and of its observer methods
-abbrev params_of_product : (PointDecl → Choice → Bool) → List Decl → BeanDecl → ProducerDecl → List Subject
-params_of_product test ds bean p = points_with test ds (product ds bean p) (points_are.Producer p.name) p.params
+-- of what a method names its body stands last
+method-body : (f : Mention → Option Subject) (m : MethodDecl) → IsFree f (of_method m)
+    → IsFree f (of_part (places.Method m.name) [] m.part)
+method-body f m free =
+    back-free f (MethodOf m ∷ of_bindings m.bindings) (of_part (places.Method m.name) [] m.part) free
 
-abbrev params_of_products : (PointDecl → Choice → Bool) → List Decl → BeanDecl → List Subject
-params_of_products test ds bean = flat_map (params_of_product test ds bean) bean.producers
+producer-body : (f : Mention → Option Subject) (p : ProducerDecl) → IsFree f (of_producer p)
+    → IsFree f (of_part (part_place_of p) p.params p.part)
+producer-body f p free =
+    back-free f (TypeIn types_are.Produced p.product_type ∷ of_attributes (Some p.name) p.attributes ++ of_bindings p.bindings
+    ++ flat_map (of_point (points_are.Producer p.name)) p.params) (of_part (part_place_of p) p.params p.part) free
 
-abbrev params_of_observer : (PointDecl → Choice → Bool) → List Decl → BeanDecl → ObserverDecl → List Subject
-params_of_observer test ds bean o = points_with test ds (managed ds bean) (points_are.Observer o.name) o.params
+producer-params : (f : Mention → Option Subject) (p : ProducerDecl) → IsFree f (of_producer p)
+    → IsFree f (flat_map (of_point (points_are.Producer p.name)) p.params)
+producer-params f p free =
+    let before = TypeIn types_are.Produced p.product_type ∷ of_attributes (Some p.name) p.attributes ++ of_bindings p.bindings in
+    let params = flat_map (of_point (points_are.Producer p.name)) p.params in
+    back-free f before params (front-free f (before ++ params) (of_part (part_place_of p) p.params p.part) free)
 
-abbrev params_of_observers : (PointDecl → Choice → Bool) → List Decl → BeanDecl → List Subject
-params_of_observers test ds bean = flat_map (params_of_observer test ds bean) bean.observers
+observer-body : (f : Mention → Option Subject) (o : ObserverDecl) → IsFree f (of_observer o)
+    → IsFree f (of_part (places.Observer o.name) o.params o.part)
+observer-body f o free =
+    back-free f (TypeIn types_are.Observed o.event_type ∷ of_qualifiers o.qualifiers ++ of_bindings o.bindings
+    ++ flat_map (of_point (points_are.Observer o.name)) o.params) (of_part (places.Observer o.name) o.params o.part) free
 
--- the call sites of these that are lost
-abbrev lost_of_product : List Decl → BeanDecl → ProducerDecl → List Subject
-lost_of_product ds bean p =
-    where_enabled (product ds bean p) (lost_in_producer ds (sight_at ds bean.points) (sight_at ds p.params) p)
+observer-params : (f : Mention → Option Subject) (o : ObserverDecl) → IsFree f (of_observer o)
+    → IsFree f (flat_map (of_point (points_are.Observer o.name)) o.params)
+observer-params f o free =
+    let before = TypeIn types_are.Observed o.event_type ∷ of_qualifiers o.qualifiers ++ of_bindings o.bindings in
+    let params = flat_map (of_point (points_are.Observer o.name)) o.params in
+    back-free f before params (front-free f (before ++ params) (of_part (places.Observer o.name) o.params o.part) free)
 
-abbrev lost_of_products : List Decl → BeanDecl → List Subject
-lost_of_products ds bean = flat_map (lost_of_product ds bean) bean.producers
-
-abbrev lost_of_observer : List Decl → BeanDecl → ObserverDecl → List Subject
-lost_of_observer ds bean o =
-    where_enabled (managed ds bean) (lost_in_observer ds (sight_at ds bean.points) (sight_at ds o.params) o)
-
-abbrev lost_of_observers : List Decl → BeanDecl → List Subject
-lost_of_observers ds bean = flat_map (lost_of_observer ds bean) bean.observers
-
--- a point, with what is chosen for it
-abbrev beside : List Decl → PointDecl → PointDecl × Choice
-beside ds point = (point, answer_to ds point)
+disposer-body : (book : List Promised) (bean : BeanDecl) (s : DisposerDecl) → IsFree (unfit_in book (decls.Bean bean)) (of_disposer s)
+    → IsFit book flags.at_disposal s.body
+disposer-body book bean s free =
+    let d = decls.Bean bean in
+    fit-first book d (places.Disposer s.name) s.body [] (back-free (unfit_in book d)
+    (TypeIn types_are.Disposed s.product_type ∷ of_qualifiers s.qualifiers) (BodyOf (places.Disposer s.name) s.body ∷ []) free)
 
 fine-observer : (ds : List Decl) (book : List Promised) (bean : BeanDecl) (k : ℕ) (observer : ObserverDecl) → HasNone ds book bean
     → IsShortBean bean → slice_get bean.observers k ≡ Some observer → (managed ds bean).is_enabled ≡ true
     → IsFineObserver ds book bean observer
-fine-observer ds book bean k observer none short at enabled =
-    let lost = where-true (managed ds bean).is_enabled
-    (lost_in_observer ds (sight_at ds bean.points) (sight_at ds observer.params) observer) enabled
-    (flat-empty (lost_of_observer ds bean) bean.observers k observer (second-empty _ (lost_of_observers ds bean) none.site) at) in
+fine-observer ds book bean k observer none short at on =
+    let d = decls.Bean bean in
+    let enabled = managed-enabled ds bean on in
     let own = short.observers k observer at in
+    let of = λ (f : Mention → Option Subject) (free : AreFree f bean). each-free f of_observer bean.observers k observer free.observers at in
     record {
-      params = satisfied ds (managed ds bean) (points_are.Observer observer.name) observer.params enabled
-          (flat-empty (params_of_observer unsatisfied ds bean) bean.observers k observer
-          (second-empty _ (params_of_observers unsatisfied ds bean) none.unsatisfied) at)
-          (flat-empty (params_of_observer ambiguous ds bean) bean.observers k observer
-          (second-empty _ (params_of_observers ambiguous ds bean) none.ambiguous) at);
+      params = satisfied ds d (points_are.Observer observer.name) observer.params enabled
+          (observer-params (at_points unsatisfied ds d) observer (of (at_points unsatisfied ds d) none.unsatisfied))
+          (observer-params (at_points ambiguous ds d) observer (of (at_points ambiguous ds d) none.ambiguous));
       few = own.params;
-      part = fine-part ds book flags.at_instance (places.Observer observer.name) (observer.params ++ bean.points) observer.part own.part
-          (flat-empty (λ o. unfit book flags.at_instance (places.Observer o.name) o.part.body) bean.observers k observer
-          (second-empty _ (unfit_observers book bean.observers) none.body) at)
-          (subst (λ sight. lost_calls ds sight (places.Observer observer.name) observer.part.calls ≡ [])
-          (sym (map-append (beside ds) observer.params bean.points)) lost);
+      part = fine-part ds book d (places.Observer observer.name) observer.params observer.part own.part enabled
+          (observer-body (unfit_in book d) observer (of (unfit_in book d) none.body))
+          (observer-body (at_calls ds d) observer (of (at_calls ds d) none.site));
     }
 
 fine-managed : (ds : List Decl) (book : List Promised) (bean : BeanDecl) → HasNone ds book bean → IsShortBean bean
     → (managed ds bean).is_enabled ≡ true → IsFineManaged ds book bean
-fine-managed ds book bean none short enabled =
-    let sight = sight_at ds bean.points in
-    let instance_parts = unfit_callbacks book bean ++ unfit_methods book bean.methods in
-    let of_callbacks = first-empty instance_parts _ (first-empty _ (unfit_disposers book bean.disposers)
-    (first-empty _ (unfit_observers book bean.observers) none.body)) in
-    let callbacks = first-empty (unfit_callbacks book bean) _ of_callbacks in
-    let early = first-empty _ _ callbacks in
-    let own = where-true (managed ds bean).is_enabled (lost_in_managed ds sight bean) enabled
-    (first-empty _ (lost_of_products ds bean) (first-empty _ (lost_of_observers ds bean) none.site)) in
-    let of_parts = first-empty _ _ own in
-    let of_early = first-empty _ _ of_parts in
+fine-managed ds book bean none short on =
+    let d = decls.Bean bean in
+    let enabled = managed-enabled ds bean on in
     record {
-      points = satisfied ds (managed ds bean) points_are.Constructor bean.points enabled
-          (first-empty _ (params_of_products unsatisfied ds bean)
-          (first-empty _ (params_of_observers unsatisfied ds bean) none.unsatisfied))
-          (first-empty _ (params_of_products ambiguous ds bean)
-          (first-empty _ (params_of_observers ambiguous ds bean) none.ambiguous));
-      construct = fine-some ds book flags.at_instance places.Construct bean.points bean.construct short.construct
-          (first-empty _ _ early) (first-empty _ _ of_early);
-      post = fine-some ds book flags.at_instance places.Post bean.points bean.post short.post
-          (second-empty (unfit_part book flags.at_instance places.Construct bean.construct) _ early)
-          (second-empty (lost_in_part ds sight places.Construct bean.construct) _ of_early);
-      pre = fine-some ds book flags.at_destruction places.Pre bean.points bean.pre short.pre
-          (second-empty _ _ callbacks) (second-empty _ _ of_parts);
-      methods = λ k method at. fine-part ds book flags.at_instance (places.Method method.name) bean.points method.part
-          (short.methods k method at)
-          (flat-empty (λ m. unfit book flags.at_instance (places.Method m.name) m.part.body) bean.methods k method
-          (second-empty (unfit_callbacks book bean) _ of_callbacks) at)
-          (flat-empty (λ m. lost_calls ds sight (places.Method m.name) m.part.calls) bean.methods k method
-          (second-empty _ _ own) at);
-      observers = λ k observer at. fine-observer ds book bean k observer none short at enabled;
+      points = satisfied ds d points_are.Constructor bean.points enabled none.unsatisfied.own none.ambiguous.own;
+      construct = fine-some ds book d places.Construct bean.construct short.construct enabled none.body.construct none.site.construct;
+      post = fine-some ds book d places.Post bean.post short.post enabled none.body.post none.site.post;
+      pre = fine-some ds book d places.Pre bean.pre short.pre enabled none.body.pre none.site.pre;
+      methods = λ k method at. fine-part ds book d (places.Method method.name) [] method.part (short.methods k method at) enabled
+          (method-body (unfit_in book d) method (each-free (unfit_in book d) of_method bean.methods k method none.body.methods at))
+          (method-body (at_calls ds d) method (each-free (at_calls ds d) of_method bean.methods k method none.site.methods at));
+      observers = λ k observer at. fine-observer ds book bean k observer none short at on;
     }
 
--- what a producer method sees, as points and as sight
-seen-sight : (ds : List Decl) (bean : BeanDecl) (producer : ProducerDecl)
-    → sight_at ds (seen_by bean producer) ≡ sight_at ds producer.params ++ cond producer.is_static []
-    (sight_at ds bean.points)
-seen-sight ds bean producer = by producer.is_static
+-- what is allowed to a producer method, and what it sees
+fine-method : (ds : List Decl) (book : List Promised) (bean : BeanDecl) (p : ProducerDecl)
+    → IsFinePart ds book (allowed_in (decls.Bean bean) (part_place_of p)) (points_seen (part_place_of p) p.params bean.points) p.part
+    → IsFinePart ds book (allowed_to p) (seen_by bean p) p.part
+fine-method ds book bean p fine = by p.is_static fine
   where
-    by : (s : Bool) → sight_at ds (producer.params ++ cond s [] bean.points)
-        ≡ sight_at ds producer.params ++ cond s [] (sight_at ds bean.points)
-    by true = map-append (beside ds) producer.params []
-    by false = map-append (beside ds) producer.params bean.points
+    by : (s : Bool)
+        → IsFinePart ds book (allowed_in (decls.Bean bean) (cond s (places.StaticProducer p.name) (places.Producer p.name)))
+        (points_seen (cond s (places.StaticProducer p.name) (places.Producer p.name)) p.params bean.points) p.part
+        → IsFinePart ds book (cond s flags.at_class flags.at_instance) (p.params ++ cond s [] bean.points) p.part
+    by true fine = subst (λ seen. IsFinePart ds book flags.at_class seen p.part) (sym (append-nil p.params)) fine
+    by false fine = fine
+
+-- a producer method belongs to its product, whether it is static or not
+of-product : (p : ProducerDecl) → producer_of_part (part_place_of p) ≡ Some p.name
+of-product p = by p.is_static
+  where
+    by : (s : Bool) → producer_of_part (cond s (places.StaticProducer p.name) (places.Producer p.name)) ≡ Some p.name
+    by true = refl
+    by false = refl
 
 fine-producer : (ds : List Decl) (book : List Promised) (bean : BeanDecl) (k : ℕ) (producer : ProducerDecl)
     → HasNone ds book bean
     → IsShortBean bean → slice_get bean.producers k ≡ Some producer → (product ds bean producer).is_enabled ≡ true
     → IsFineProducer ds book bean producer
-fine-producer ds book bean k producer none short at enabled =
-    let own_lost = where_enabled (managed ds bean) (lost_in_managed ds (sight_at ds bean.points) bean) in
-    let lost = where-true (product ds bean producer).is_enabled
-    (lost_in_producer ds (sight_at ds bean.points) (sight_at ds producer.params) producer) enabled
-    (flat-empty (lost_of_product ds bean) bean.producers k producer
-    (second-empty own_lost (lost_of_products ds bean) (first-empty _ (lost_of_observers ds bean) none.site)) at) in
+fine-producer ds book bean k producer none short at on =
+    let d = decls.Bean bean in
+    let enabled = product-enabled ds bean k producer at on in
     let own = short.producers k producer at in
-    let of_disposers = first-empty _ (unfit_observers book bean.observers) none.body in
+    let of = λ (f : Mention → Option Subject) (free : AreFree f bean). each-free f of_producer bean.producers k producer free.producers at in
     record {
-      params = satisfied ds (product ds bean producer) (points_are.Producer producer.name) producer.params enabled
-          (flat-empty (params_of_product unsatisfied ds bean) bean.producers k producer
-          (second-empty _ (params_of_products unsatisfied ds bean)
-          (first-empty _ (params_of_observers unsatisfied ds bean) none.unsatisfied)) at)
-          (flat-empty (params_of_product ambiguous ds bean) bean.producers k producer
-          (second-empty _ (params_of_products ambiguous ds bean)
-          (first-empty _ (params_of_observers ambiguous ds bean) none.ambiguous)) at);
+      params = satisfied ds d (points_are.Producer producer.name) producer.params enabled
+          (producer-params (at_points unsatisfied ds d) producer (of (at_points unsatisfied ds d) none.unsatisfied))
+          (producer-params (at_points ambiguous ds d) producer (of (at_points ambiguous ds d) none.ambiguous));
       few = own.params;
-      part = fine-part ds book (allowed_to producer) (places.Producer producer.name) (seen_by bean producer)
-          producer.part own.part
-          (flat-empty (λ p. unfit book (allowed_to p) (places.Producer p.name) p.part.body) bean.producers k producer
-          (second-empty _ (unfit_producers book bean.producers)
-          (first-empty _ (unfit_disposers book bean.disposers) of_disposers)) at)
-          (subst (λ sight. lost_calls ds sight (places.Producer producer.name) producer.part.calls ≡ [])
-          (sym (seen-sight ds bean producer)) lost);
-      disposers = λ j disposer here. fit book flags.at_disposal (places.Disposer disposer.name) disposer.body
-          (flat-empty (λ d. unfit book flags.at_disposal (places.Disposer d.name) d.body) bean.disposers j disposer
-          (second-empty _ (unfit_disposers book bean.disposers) of_disposers) here);
+      part = fine-method ds book bean producer (fine-part ds book d (part_place_of producer) producer.params producer.part own.part
+          (ap (is_enabled_in d (entries ds d)) (of-product producer) ∙ enabled)
+          (producer-body (unfit_in book d) producer (of (unfit_in book d) none.body))
+          (producer-body (at_calls ds d) producer (of (at_calls ds d) none.site)));
+      disposers = λ j disposer here. disposer-body book bean disposer
+          (each-free (unfit_in book d) of_disposer bean.disposers j disposer none.body.disposers here);
     }
 
 -- ---- what is known of an interceptor
 
 -- nothing of it has one of these codes
 record HasNoneAround (ds : List Decl) (book : List Promised) (i : InterceptorDecl) : Type 0 where
-  pub body : subjects_at_fault codes_of.Body ds book (decls.Interceptor i) ≡ []
-  pub unsatisfied : subjects_at_fault codes_of.Unsatisfied ds book (decls.Interceptor i) ≡ []
-  pub ambiguous : subjects_at_fault codes_of.Ambiguous ds book (decls.Interceptor i) ≡ []
-  pub site : subjects_at_fault codes_of.Site ds book (decls.Interceptor i) ≡ []
+  pub body : AreFreeAround (unfit_in book (decls.Interceptor i)) i
+  pub unsatisfied : AreFreeAround (at_points unsatisfied ds (decls.Interceptor i)) i
+  pub ambiguous : AreFreeAround (at_points ambiguous ds (decls.Interceptor i)) i
+  pub site : AreFreeAround (at_calls ds (decls.Interceptor i)) i
 
 fine-around : (ds : List Decl) (book : List Promised) (i : InterceptorDecl) → HasNoneAround ds book i → IsShortInterceptor i
     → is_enabled i ≡ true → IsFineAround ds book i
 fine-around ds book i none short enabled =
-    let sight = sight_at ds i.points in
-    let three = first-empty _ _ none.body in
-    let two = first-empty _ _ three in
-    let lost = where-true (is_enabled i) _ enabled none.site in
-    let lost_three = first-empty _ _ lost in
-    let lost_two = first-empty _ _ lost_three in
+    let d = decls.Interceptor i in
     record {
-      points = satisfied-by ds points_are.Constructor i.points (where-true (is_enabled i) _ enabled none.unsatisfied)
-          (where-true (is_enabled i) _ enabled none.ambiguous);
-      around_invoke = fine-some ds book flags.around places.AroundInvoke i.points i.around_invoke short.around_invoke
-          (first-empty _ _ two) (first-empty _ _ lost_two);
-      around_construct = fine-some ds book flags.around places.AroundConstruct i.points i.around_construct short.around_construct
-          (second-empty (unfit_part book flags.around places.AroundInvoke i.around_invoke) _ two)
-          (second-empty (lost_in_part ds sight places.AroundInvoke i.around_invoke) _ lost_two);
-      post = fine-some ds book flags.around places.Post i.points i.post short.post
-          (second-empty _ _ three) (second-empty _ _ lost_three);
-      pre = fine-some ds book flags.around_destruction places.Pre i.points i.pre short.pre
-          (second-empty _ _ none.body) (second-empty _ _ lost);
+      points = satisfied ds d points_are.Constructor i.points enabled none.unsatisfied.own none.ambiguous.own;
+      around_invoke = fine-some ds book d places.AroundInvoke i.around_invoke short.around_invoke enabled
+          none.body.around_invoke none.site.around_invoke;
+      around_construct = fine-some ds book d places.AroundConstruct i.around_construct short.around_construct enabled
+          none.body.around_construct none.site.around_construct;
+      post = fine-some ds book d places.Post i.post short.post enabled none.body.post none.site.post;
+      pre = fine-some ds book d places.Pre i.pre short.pre enabled none.body.pre none.site.pre;
     }
 
 -- ---- the law
 
 pub are_fine : (ds : List Decl) (book : List Promised) → AreShort ds → faults ds book ≡ [] → AreFine ds book
 are_fine ds book short none k bean at =
+    let d = decls.Bean bean in
     let of : HasNone ds book bean = record {
-      body = none-at-fault ds book k (decls.Bean bean) codes_of.Body none at;
-      unsatisfied = none-at-fault ds book k (decls.Bean bean) codes_of.Unsatisfied none at;
-      ambiguous = none-at-fault ds book k (decls.Bean bean) codes_of.Ambiguous none at;
-      site = none-at-fault ds book k (decls.Bean bean) codes_of.Site none at;
+      body = each-part-free (unfit_in book d) bean (none-at-fault ds book k d codes_of.Body none at);
+      unsatisfied = each-part-free (at_points unsatisfied ds d) bean (none-at-fault ds book k d codes_of.Unsatisfied none at);
+      ambiguous = each-part-free (at_points ambiguous ds d) bean (none-at-fault ds book k d codes_of.Ambiguous none at);
+      site = each-part-free (at_calls ds d) bean (none-at-fault ds book k d codes_of.Site none at);
     } in
-    let few : IsShortBean bean = short k (decls.Bean bean) at in
+    let few : IsShortBean bean = short k d at in
     record {
       managed_bean = λ enabled. fine-managed ds book bean of few enabled;
       products = λ j producer here enabled. fine-producer ds book bean j producer of few here enabled;
@@ -458,13 +545,14 @@ are_fine ds book short none k bean at =
 
 pub are_fine_around : (ds : List Decl) (book : List Promised) → AreShort ds → faults ds book ≡ [] → AreFineAround ds book
 are_fine_around ds book short none k i at enabled =
+    let d = decls.Interceptor i in
     let of : HasNoneAround ds book i = record {
-      body = none-at-fault ds book k (decls.Interceptor i) codes_of.Body none at;
-      unsatisfied = none-at-fault ds book k (decls.Interceptor i) codes_of.Unsatisfied none at;
-      ambiguous = none-at-fault ds book k (decls.Interceptor i) codes_of.Ambiguous none at;
-      site = none-at-fault ds book k (decls.Interceptor i) codes_of.Site none at;
+      body = each-part-free-around (unfit_in book d) i (none-at-fault ds book k d codes_of.Body none at);
+      unsatisfied = each-part-free-around (at_points unsatisfied ds d) i (none-at-fault ds book k d codes_of.Unsatisfied none at);
+      ambiguous = each-part-free-around (at_points ambiguous ds d) i (none-at-fault ds book k d codes_of.Ambiguous none at);
+      site = each-part-free-around (at_calls ds d) i (none-at-fault ds book k d codes_of.Site none at);
     } in
-    fine-around ds book i of (short k (decls.Interceptor i) at) enabled
+    fine-around ds book i of (short k d at) enabled
 
 pub faultless_is_sound : FaultlessIsSound
 faultless_is_sound ds book distinct short none =

@@ -27,7 +27,6 @@ use Rattle.cdi_resolve.specs.declared.choice.Choice.TheVariants.{One}
 use Rattle.cdi_intercept.specs.Chains.{is_enabled}
 use Rattle.cdi_observe.specs.Answers.{answer_to}
 use Rattle.cdi_validate.specs.Faults.{faults}
-use Rattle.cdi_subjects.specs.Parts.{allowed_to}
 use Rattle.cdi_subjects.specs.Sites.{has_method}
 use Rattle.cdi_staging.specs.Sites.{is_point}
 use Rattle.cdi_staging.specs.Staged.{scene_of}
@@ -76,6 +75,10 @@ pub record IsFineManaged (ds : List Decl) (book : List Promised) (bean : BeanDec
       → IsFinePart ds book flags.at_instance bean.points method.part
   pub observers : (k : ℕ) (observer : ObserverDecl) → slice_get bean.observers k ≡ Some observer
       → IsFineObserver ds book bean observer
+
+-- a static producer method has no instance (profile)
+abbrev pub allowed_to : ProducerDecl → ℕ
+allowed_to producer = if producer.is_static then flags.at_class else flags.at_instance
 
 -- a producer method sees its parameters, and where it is not static the injection points of its bean (profile)
 abbrev pub seen_by : BeanDecl → ProducerDecl → List PointDecl

@@ -1,5 +1,4 @@
+pub mod AnsweredLemmas
 pub mod Laws
-pub mod PointLemmas
 pub mod PushLemmas
 pub mod RecordLemmas
-pub mod SiteLemmas

@@ -1,4 +1,6 @@
+pub mod Answered
 pub mod Asked
+pub mod Filter
 pub mod Parts
 pub mod Proxies
 pub mod Records

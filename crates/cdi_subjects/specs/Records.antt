@@ -1,5 +1,5 @@
 -- What is at fault of a declaration, by its records: that of a bean, and behind it those of its producer methods.
-use Rattle.std.specs.Prelude.{Bool, true, false, List, [], ◌∷◌, ◌++◌, map, filter, length, take, drop, nat_lt, not, if◌then◌else◌}
+use Rattle.std.specs.Prelude.{Bool, true, false, List, [], ◌∷◌, ◌++◌, map, filter, length, nat_lt, not, if◌then◌else◌}
 use Rattle.std.specs.List.{flat_map, list_any, zip}
 use Rattle.std.specs.Option.{option_to_list}
 use Rattle.cdi_model.specs.declared.decl.Attributes.{Attributes}
@@ -7,25 +7,18 @@ use Rattle.cdi_model.specs.declared.decl.BeanDecl.{BeanDecl}
 use Rattle.cdi_model.specs.declared.decl.Decl.{Decl}
 use Rattle.cdi_model.specs.declared.decl.Decl.TheVariants as decls
 use Rattle.cdi_model.specs.declared.decl.DisposerDecl.{DisposerDecl}
-use Rattle.cdi_model.specs.declared.decl.ObserverDecl.{ObserverDecl}
-use Rattle.cdi_model.specs.declared.decl.PointDecl.{PointDecl}
 use Rattle.cdi_model.specs.declared.decl.ProducerDecl.{ProducerDecl}
 use Rattle.cdi_model.specs.declared.decl.Scope.{Scope}
 use Rattle.cdi_model.specs.declared.decl.Scope.TheVariants as scopes
-use Rattle.cdi_model.specs.declared.mention.PointPlace.{PointPlace}
-use Rattle.cdi_model.specs.declared.mention.PointPlace.TheVariants as points_are
 use Rattle.cdi_model.specs.declared.place.BeanPlace.{BeanPlace}
 use Rattle.cdi_model.specs.declared.place.BeanPlace.TheVariants as spots
 use Rattle.cdi_model.specs.declared.quals.Qual.{Qual}
 use Rattle.cdi_match.specs.Chain.{has}
 use Rattle.cdi_effective.specs.Disposers.{disposes}
 use Rattle.cdi_effective.specs.declared.records.Effective.{Effective}
-use Rattle.cdi_intercept.specs.Chains.{is_enabled}
 use Rattle.cdi_intercept.specs.Conflicts.{has_conflict}
 use Rattle.cdi_intercept.specs.Sets.{set_by}
-use Rattle.cdi_resolve.specs.declared.choice.Choice.{Choice}
-use Rattle.cdi_observe.specs.Wanted.{own_choices, product_choices, observer_choices}
-use Rattle.cdi_faults.specs.declared.place.PartPlace.TheVariants as places
+use Rattle.cdi_model.specs.declared.place.PartPlace.TheVariants as places
 use Rattle.cdi_faults.specs.declared.fault.Subject.{Subject}
 use Rattle.cdi_faults.specs.declared.fault.Subject.TheVariants as subjects
 use Rattle.cdi_model.specs.Mentions.{listed_types}
@@ -55,40 +48,6 @@ without_product ds bs disposers = map (λ s. subjects.Disposer s.name) (filter (
 abbrev pub with_two : List Decl → List Effective → List DisposerDecl → List Subject
 with_two ds bs disposers = map subjects.Producer
     (flat_map (λ b. option_to_list b.id.producer) (filter (λ b. nat_lt 1 (length (filter (disposes ds b) disposers))) bs))
-
--- ---- injection points
-
--- the points whose choice, which stands at the same place, is such
-abbrev pub at_fault_among : (PointDecl → Choice → Bool) → PointPlace → List PointDecl → List Choice → List Subject
-at_fault_among test place points choices = map (λ z. subjects.Point place z.0.name) (filter (λ z. test z.0 z.1) (zip points choices))
-
--- those of an enabled bean
-abbrev pub at_fault : (PointDecl → Choice → Bool) → Effective → PointPlace → List PointDecl → List Choice → List Subject
-at_fault test b place points choices = if b.is_enabled then at_fault_among test place points choices else []
-
--- those of each record of a producer method: its choices stand in front of those of the ones behind it
-abbrev pub at_fault_by : (PointDecl → Choice → Bool) → List Effective → List ProducerDecl → List Choice → List Subject
-at_fault_by test (b ∷ bs) (p ∷ ps) choices =
-    at_fault test b (points_are.Producer p.name) p.params (take (length p.params) choices)
-    ++ at_fault_by test bs ps (drop (length p.params) choices)
-at_fault_by test _ _ choices = []
-
--- those of each observer method of a bean, likewise
-abbrev pub at_fault_of : (PointDecl → Choice → Bool) → Effective → List ObserverDecl → List Choice → List Subject
-at_fault_of test b [] choices = []
-at_fault_of test b (o ∷ os) choices =
-    at_fault test b (points_are.Observer o.name) o.params (take (length o.params) choices)
-    ++ at_fault_of test b os (drop (length o.params) choices)
-
--- those of each record of a declaration
-abbrev pub points_by : (PointDecl → Choice → Bool) → Decl → List Effective → List Choice → List Subject
-points_by test (decls.Bean d) (b ∷ bs) choices =
-    at_fault test b points_are.Constructor d.points (own_choices d choices)
-    ++ at_fault_by test bs d.producers (product_choices d choices)
-    ++ at_fault_of test b d.observers (observer_choices d choices)
-points_by test (decls.Interceptor d) bs choices =
-    if is_enabled d then at_fault_among test points_are.Constructor d.points choices else []
-points_by test _ _ choices = []
 
 -- ---- conditional observer methods
 

@@ -1,8 +1,7 @@
 -- The parts of a declaration that have a fault (CDI 4.0, Problems detected automatically by the container), for each code.
-use Rattle.std.specs.Prelude.{ℕ, nat_eq, nat_lt, Bool, true, false, not, ◌||◌, List, [], ◌∷◌, ◌++◌}
+use Rattle.std.specs.Prelude.{ℕ, nat_eq, nat_lt, Bool, true, false, not, ◌&&◌, ◌||◌, List, [], ◌∷◌, ◌++◌}
 use Rattle.std.specs.Prelude.{map, filter, length, codes, Option, Some, None, is_some, option_map, unwrap_or, if◌then◌else◌}
 use Rattle.std.specs.List.{list_any, flat_map}
-use Rattle.std.specs.Option.{option_to_list}
 use Rattle.std.specs.Str.{bytes_eq}
 use Rattle.cdi_bodies.specs.Book.{Promised}
 use Rattle.cdi_model.specs.DeclList.{find_decl}
@@ -17,11 +16,9 @@ use Rattle.cdi_model.specs.declared.decl.Kind.TheVariants as kinds
 use Rattle.cdi_model.specs.declared.decl.PointDecl.{PointDecl}
 use Rattle.cdi_model.specs.declared.decl.UseKind.{UseKind}
 use Rattle.cdi_model.specs.declared.decl.UseKind.TheVariants as uses
-use Rattle.cdi_model.specs.declared.mention.PointPlace.{PointPlace}
-use Rattle.cdi_model.specs.declared.mention.PointPlace.TheVariants as points_are
 use Rattle.cdi_model.specs.declared.mention.TypePlace.{TypePlace}
 use Rattle.cdi_model.specs.declared.mention.TypePlace.TheVariants as places
-use Rattle.cdi_model.specs.Mentions.{Mention, TypeIn, UseOf, StereotypeOf, mentions, listed_types}
+use Rattle.cdi_model.specs.Mentions.{Mention, TypeIn, UseOf, StereotypeOf, PointOf, listed_types}
 use Rattle.cdi_match.specs.Bindings.{brings_itself}
 use Rattle.cdi_match.specs.Chain.{has}
 use Rattle.cdi_match.specs.Misuse.{is_misused}
@@ -32,7 +29,6 @@ use Rattle.cdi_effective.specs.Disposers.{disposes}
 use Rattle.cdi_effective.specs.declared.records.BeanId.{BeanId}
 use Rattle.cdi_effective.specs.declared.records.Effective.{Effective}
 use Rattle.cdi_effective.specs.Bindings.{class_bindings}
-use Rattle.cdi_intercept.specs.Chains.{is_enabled}
 use Rattle.cdi_resolve.specs.declared.choice.Choice.{Choice}
 use Rattle.cdi_resolve.specs.declared.choice.Choice.TheVariants.{Unsatisfied, Ambiguous}
 use Rattle.cdi_observe.specs.Answers.{answer_to}
@@ -42,20 +38,11 @@ use Rattle.cdi_faults.specs.declared.fault.Subject.{Subject}
 use Rattle.cdi_faults.specs.declared.fault.Subject.TheVariants as subjects
 use Rattle.cdi_subjects.specs.declared.points.Verdict.{Verdict}
 use Rattle.cdi_subjects.specs.declared.points.Verdict.TheVariants as verdicts
+use Rattle.cdi_subjects.specs.Filter.{is_enabled_in, producer_of_point, some_if, subjects_in}
 use Rattle.cdi_subjects.specs.Parts.{unfit_parts}
 use Rattle.cdi_subjects.specs.Proxies.{is_unproxyable}
 use Rattle.cdi_subjects.specs.Records.{conditional_of, conflicts_in}
 use Rattle.cdi_subjects.specs.Sites.{lost_sites}
-
--- ---- subjects among what a declaration names
-
--- the subject, where it is at fault
-abbrev pub some_if : Bool → Subject → Option Subject
-some_if at_fault subject = if at_fault then Some subject else None
-
--- what is at fault of that which a declaration names
-abbrev pub subjects_in : (Mention → Option Subject) → Decl → List Subject
-subjects_in fault_in d = flat_map (λ mention. option_to_list (fault_in mention)) (mentions d)
 
 -- ---- names that are neither declared nor built in
 
@@ -205,21 +192,15 @@ has_verdict ds verdicts.Unsatisfied point choice = is_unsatisfied choice
 has_verdict ds verdicts.Ambiguous point choice = is_ambiguous choice
 has_verdict ds verdicts.Unproxyable point choice = is_unproxyable ds point choice
 
--- the points whose choice is such
-abbrev pub points_such : (PointDecl → Choice → Bool) → List Decl → PointPlace → List PointDecl → List Subject
-points_such test ds place points = map (λ p. subjects.Point place p.name) (filter (λ p. test p (answer_to ds p)) points)
+-- a point of an enabled bean or interceptor, where what is chosen for it is such
+abbrev pub point_in : (PointDecl → Choice → Bool) → (PointDecl → Choice) → List Effective → Decl → Mention → Option Subject
+point_in test answer bs d (PointOf place p) = some_if (is_enabled_in d bs (producer_of_point place) && test p (answer p))
+    (subjects.Point place p.name)
+point_in test answer bs d _ = None
 
--- those of an enabled bean
-abbrev pub points_with : (PointDecl → Choice → Bool) → List Decl → Effective → PointPlace → List PointDecl → List Subject
-points_with test ds bean place points = if bean.is_enabled then points_such test ds place points else []
-
-abbrev pub points_at_fault : (PointDecl → Choice → Bool) → List Decl → Decl → List Subject
-points_at_fault test ds (decls.Bean d) =
-    points_with test ds (managed ds d) points_are.Constructor d.points
-    ++ flat_map (λ p. points_with test ds (product ds d p) (points_are.Producer p.name) p.params) d.producers
-    ++ flat_map (λ o. points_with test ds (managed ds d) (points_are.Observer o.name) o.params) d.observers
-points_at_fault test ds (decls.Interceptor d) = if is_enabled d then points_such test ds points_are.Constructor d.points else []
-points_at_fault test ds d = []
+-- the injection points of a declaration that has these beans, for whose points this is chosen
+abbrev pub points_at_fault : (PointDecl → Choice → Bool) → (PointDecl → Choice) → List Effective → Decl → List Subject
+points_at_fault test answer bs d = subjects_in (point_in test answer bs d) d
 
 -- ---- by code
 
@@ -236,10 +217,10 @@ subjects_at_fault codes_of.Disposer ds book d = disposers_at_fault ds d
 subjects_at_fault codes_of.ConditionalDependent ds book d = conditional_dependents ds d
 subjects_at_fault codes_of.Body ds book d = unfit_parts book d
 subjects_at_fault codes_of.NoBinding ds book d = whole_if (is_unbound d)
-subjects_at_fault codes_of.Unsatisfied ds book d = points_at_fault (has_verdict ds verdicts.Unsatisfied) ds d
-subjects_at_fault codes_of.Ambiguous ds book d = points_at_fault (has_verdict ds verdicts.Ambiguous) ds d
-subjects_at_fault codes_of.Unproxyable ds book d = points_at_fault (has_verdict ds verdicts.Unproxyable) ds d
-subjects_at_fault codes_of.Site ds book d = lost_sites ds d
+subjects_at_fault codes_of.Unsatisfied ds book d = points_at_fault (has_verdict ds verdicts.Unsatisfied) (answer_to ds) (entries ds d) d
+subjects_at_fault codes_of.Ambiguous ds book d = points_at_fault (has_verdict ds verdicts.Ambiguous) (answer_to ds) (entries ds d) d
+subjects_at_fault codes_of.Unproxyable ds book d = points_at_fault (has_verdict ds verdicts.Unproxyable) (answer_to ds) (entries ds d) d
+subjects_at_fault codes_of.Site ds book d = lost_sites ds (answer_to ds) (entries ds d) d
 subjects_at_fault codes_of.NameClash ds book d = []
 subjects_at_fault codes_of.NamePrefix ds book d = []
 subjects_at_fault codes_of.Circular ds book d = []

@@ -3,9 +3,9 @@ ghost use Rattle.std.specs.Prelude.{◌≡◌, ◌++◌, IfOk, OnOk};
 ghost use Rattle.cdi_subjects.specs.Records.{conflict_at, conflicts_at_producers, conflicts_by, conflicts_in};
 
 use cdi_effective::Effective;
-use cdi_faults::{PartPlace, Subject};
+use cdi_faults::Subject;
 use cdi_intercept::{has_conflict, set_by};
-use cdi_model::{BeanDecl, BeanPlace, Decl, Decls, Qual};
+use cdi_model::{BeanDecl, BeanPlace, Decl, Decls, PartPlace, Qual};
 use std::alloc::{AllocError, Global};
 
 /// The class of a bean whose bindings differ, and the methods, the producer methods that are not static and the observer

@@ -5,6 +5,7 @@ mod bodies;
 mod conditional;
 mod conflicts;
 mod disposing;
+mod enabled;
 mod forms;
 mod points;
 mod proxies;

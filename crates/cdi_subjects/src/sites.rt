@@ -1,73 +1,27 @@
 //! Call sites that name what is not there (profile).
-ghost use Rattle.std.specs.Prelude.{◌≡◌, ◌++◌, flat_map, length, map, IfOk, OnOk};
-ghost use Rattle.std.specs.List.{list_any, zip};
+ghost use Rattle.std.specs.Prelude.{◌≡◌, drop, map, IfOk};
+ghost use Rattle.std.specs.List.{list_any};
+ghost use Rattle.std.specs.Option.{option_copied, option_or};
 ghost use Rattle.std.specs.Str.{bytes_eq};
-ghost use Rattle.std.specs.Option.{option_copied};
-ghost use Rattle.cdi_model.specs.declared.decl.Decl.TheVariants as declared;
-ghost use Rattle.cdi_effective.specs.Beans.{entries};
+ghost use Rattle.cdi_model.specs.Mentions.{mentions};
 ghost use Rattle.cdi_observe.specs.Answers.{answer_to};
-ghost use Rattle.cdi_observe.specs.Wanted.{params_of, points_of};
-ghost use Rattle.cdi_subjects.specs.Sites.{choice_at, has_method, is_lost, lacks_method, lost_around, lost_by, lost_call};
-ghost use Rattle.cdi_subjects.specs.Sites.{lost_by_observers, lost_by_products, lost_calls, lost_in_observer};
-ghost use Rattle.cdi_subjects.specs.Sites.{lost_sites, lost_in_managed, lost_in_methods, lost_in_part, lost_in_producer, where_enabled};
+ghost use Rattle.cdi_observe.specs.Wanted.{points_of};
+ghost use Rattle.cdi_subjects.specs.Answered.{call_by, calls_by, choice_beside, is_begin};
+ghost use Rattle.cdi_subjects.specs.Sites.{has_method, is_lost_among, lacks_method, lost_sites, own_points, own_seen};
 
+use crate::enabled::{is_enabled_in, producer_of_part};
 use cdi_effective::{BeanId, Effective};
-use cdi_faults::{PartPlace, Subject};
+use cdi_faults::Subject;
 use cdi_model::{
-    BeanDecl, CallDecl, Decl, Decls, Ident, InterceptorDecl, Kind, MethodDecl, ObserverDecl,
-    PartDecl, PointDecl, ProducerDecl,
+    CallDecl, Decl, Decls, Ident, Kind, Mention, MethodDecl, PartPlace, PointDecl, TypePlace,
 };
-use cdi_observe::split_params;
 use cdi_resolve::Choice;
 use std::alloc::{AllocError, Global};
-use std::marker::Model;
 use std::rc::Rc;
-
-/// Injection points, and their answers in the same order.
-#[derive(Drop)]
-pub(crate) struct Points<'a> {
-    points: &'a [PointDecl],
-    answers: &'a [Rc<Choice>],
-}
-
-impl<'a> Model for Points<'a> {
-    ghost use Rattle.std.specs.Prelude.{map};
-    ghost use Rattle.std.specs.List.{list_any, zip};
-    ghost use Rattle.std.specs.Str.{bytes_eq};
-    ghost use Rattle.cdi_subjects.specs.Sites.{Sight};
-
-    ghost Value = { Sight };
-
-    ghost view = { λ v. zip v.points.now (map (λ answer. answer.value) v.answers.now) };
-}
-
-impl<'a> Points<'a> {
-    /// What is chosen for the point of a name, if it is among them.
-    fn choice(&self, name: Ident) -> Option<&Choice>
-        ensures { option_copied result ≡ choice_at self.now name }
-    {
-        choice_among(self.points, self.answers, name)
-    }
-}
-
-fn choice_among<'a>(
-    points: &[PointDecl],
-    answers: &'a [Rc<Choice>],
-    name: Ident,
-) -> Option<&'a Choice>
-    ensures { option_copied result ≡ choice_at (zip points.now (map (λ answer. answer.value) answers.now)) name }
-{
-    for (point, answer) in points.iter().zip(answers) {
-        if point.name == name {
-            return Some(answer);
-        }
-    }
-    None
-}
 
 /// The call sites of enabled beans and interceptors that name a point that their body does not see, or a method that the chosen bean does
 /// not have, of a declaration that has these beans, and these answers to its injection points.
-#[tactic(auto, using(crate::proofs::SiteLemmas::lost_by_entries))]
+#[tactic(auto, using(crate::proofs::AnsweredLemmas::calls_answered))]
 pub(crate) fn lost_sites(
     alloc: Global,
     decls: &Decls,
@@ -75,303 +29,155 @@ pub(crate) fn lost_sites(
     beans: &[Effective],
     answers: &[Rc<Choice>],
 ) -> Result<Vec<Subject>, AllocError>
-    requires beans { beans.now ≡ entries decls.now decl.now }
-    requires answers { map (λ answer. answer.value) answers.now ≡ map (answer_to decls.now) (points_of decl.now) }
-    ensures { IfOk result (λ list. list.items ≡ lost_sites decls.now decl.now) }
+    requires { map (λ answer. answer.value) answers.now ≡ map (answer_to decls.now) (points_of decl.now) }
+    ensures { IfOk result (λ list. list.items ≡ lost_sites decls.now (answer_to decls.now) beans.now decl.now) }
 {
-    lost_by(alloc, decls, decl, beans, answers)
+    calls_by(alloc, decls, decl, beans, answers)
 }
 
-/// The same by the beans and the answers alone.
-fn lost_by(
+/// The same by the answers alone.
+fn calls_by(
     alloc: Global,
     decls: &Decls,
     decl: &Decl,
     beans: &[Effective],
     answers: &[Rc<Choice>],
 ) -> Result<Vec<Subject>, AllocError>
-    requires { length answers.now ≡ length (points_of decl.now) }
-    ensures { IfOk result (λ list. list.items ≡ lost_by decls.now decl.now beans.now (map (λ answer. answer.value) answers.now)) }
+    ensures { IfOk result (λ list. list.items
+        ≡ calls_by decls.now beans.now decl.now (own_points decl.now) (map (λ answer. answer.value) answers.now)
+        (map (λ answer. answer.value) answers.now) (map (λ answer. answer.value) answers.now) (mentions decl.now)) }
 {
     let mut subjects = Vec::new(alloc);
-    match decl {
-        Decl::Bean(bean) => push_of_bean(decls, bean, beans, answers, &mut subjects)?,
-        Decl::Interceptor(interceptor) => {
-            let points = interceptor.points.as_slice();
-            let own = Points { points, answers };
-            push_around(decls, &own, interceptor, &mut subjects)?;
+    let (mut left, mut here) = (answers, answers);
+    for mention in decl.mentions() {
+        match mention {
+            Mention::Point(..) => left = behind_first(left),
+            Mention::Type(place, _) if is_begin(place) => here = left,
+            Mention::Call(place, params, call) => {
+                let lost = call_by(decls, beans, decl, answers, here, &place, params, call);
+                if let Some(subject) = lost {
+                    subjects.push(subject)?;
+                }
+            }
+            _ => (),
         }
-        _ => (),
     }
     Ok(subjects)
 }
 
-/// Appends those of a bean.
-fn push_of_bean(
+/// The answers but the first.
+fn behind_first(answers: &[Rc<Choice>]) -> &[Rc<Choice>]
+    ensures { result.now ≡ drop 1 answers.now }
+{
+    match answers.split_first() {
+        Some((_, others)) => others,
+        None => answers,
+    }
+}
+
+/// Whether a producer method or an observer method begins where a type is named in this place.
+fn is_begin(place: TypePlace) -> bool
+    ensures { result ≡ is_begin place }
+{
+    matches!(place, TypePlace::Produced | TypePlace::Observed)
+}
+
+/// A call site of the body in a place, where it is lost. The first answers are those to the points of the declaration, and
+/// `here` begins with those to the parameters.
+fn call_by(
     decls: &Decls,
-    bean: &BeanDecl,
     beans: &[Effective],
+    decl: &Decl,
     answers: &[Rc<Choice>],
-    subjects: &mut Vec<Subject>,
-) -> Result<(), AllocError>
-    requires { length answers.now ≡ length (points_of (declared.Bean bean.now)) }
-    ensures { OnOk result (subjects.new.items ≡ subjects.old.items
-        ++ lost_by decls.now (declared.Bean bean.now) beans.now (map (λ answer. answer.value) answers.now)) }
-{
-    let Some((managed, products)) = beans.split_first() else {
-        return Ok(());
-    };
-    let (points, producers) = (bean.points.as_slice(), bean.producers.as_slice());
-    let (answers, rest) = answers.split_at(points.len());
-    let (of_products, of_observers) = split_params(producers, rest);
-    let own = Points { points, answers };
-    push_of_managed(decls, managed, &own, bean, subjects)?;
-    push_of_products(decls, products, &own, producers, of_products, subjects)?;
-    let observers = bean.observers.as_slice();
-    push_of_observers(decls, managed, &own, observers, of_observers, subjects)
-}
-
-/// Appends those of producer methods whose bean has these points.
-fn push_of_products(
-    decls: &Decls,
-    products: &[Effective],
-    own: &Points<'_>,
-    producers: &[ProducerDecl],
-    answers: &[Rc<Choice>],
-    subjects: &mut Vec<Subject>,
-) -> Result<(), AllocError>
-    requires { length answers.now ≡ length (params_of producers.now) }
-    ensures { OnOk result (subjects.new.items ≡ subjects.old.items
-        ++ lost_by_products decls.now own.now products.now producers.now (map (λ answer. answer.value) answers.now)) }
-{
-    let mut rest = answers;
-    for (product, producer) in products.iter().zip(producers) {
-        let points = producer.params.as_slice();
-        let (answers, others) = rest.split_at(points.len());
-        let params = Points { points, answers };
-        push_of_product(decls, product, own, &params, producer, subjects)?;
-        rest = others;
-    }
-    Ok(())
-}
-
-/// Appends those of the observer methods of a bean that has these points.
-fn push_of_observers(
-    decls: &Decls,
-    bean: &Effective,
-    own: &Points<'_>,
-    observers: &[ObserverDecl],
-    answers: &[Rc<Choice>],
-    subjects: &mut Vec<Subject>,
-) -> Result<(), AllocError>
-    requires { length answers.now ≡ length (flat_map (λ o. o.params) observers.now) }
-    ensures { OnOk result (subjects.new.items ≡ subjects.old.items
-        ++ lost_by_observers decls.now own.now bean.now observers.now (map (λ answer. answer.value) answers.now)) }
-{
-    let mut rest = answers;
-    for observer in observers {
-        let points = observer.params.as_slice();
-        let (answers, others) = rest.split_at(points.len());
-        let params = Points { points, answers };
-        push_of_observer(decls, bean, own, &params, observer, subjects)?;
-        rest = others;
-    }
-    Ok(())
-}
-
-/// Appends those of an observer method that has these parameters and whose bean has these points, if the bean is enabled.
-fn push_of_observer(
-    decls: &Decls,
-    bean: &Effective,
-    own: &Points<'_>,
-    params: &Points<'_>,
-    observer: &ObserverDecl,
-    subjects: &mut Vec<Subject>,
-) -> Result<(), AllocError>
-    ensures { OnOk result (subjects.new.items ≡ subjects.old.items
-        ++ where_enabled bean.now (lost_in_observer decls.now own.now params.now observer.now)) }
-{
-    if !bean.is_enabled {
-        return Ok(());
-    }
-    let place = PartPlace::Observer(observer.name);
-    let calls = observer.part.calls.as_slice();
-    push_lost(decls, params, own, &place, calls, subjects)
-}
-
-/// Appends those of an interceptor that sees these points, if it is enabled.
-fn push_around(
-    decls: &Decls,
-    own: &Points<'_>,
-    interceptor: &InterceptorDecl,
-    subjects: &mut Vec<Subject>,
-) -> Result<(), AllocError>
-    ensures { OnOk result (subjects.new.items ≡ subjects.old.items ++ lost_around decls.now own.now interceptor.now) }
-{
-    if interceptor.priority.is_none() {
-        return Ok(());
-    }
-    let place = PartPlace::AroundInvoke;
-    push_of_part(decls, own, place, &interceptor.around_invoke, subjects)?;
-    let place = PartPlace::AroundConstruct;
-    push_of_part(decls, own, place, &interceptor.around_construct, subjects)?;
-    push_of_part(decls, own, PartPlace::Post, &interceptor.post, subjects)?;
-    push_of_part(decls, own, PartPlace::Pre, &interceptor.pre, subjects)
-}
-
-/// Appends those of the constructor, the lifecycle callbacks and the methods of a bean that sees these points, if it is
-/// enabled.
-fn push_of_managed(
-    decls: &Decls,
-    managed: &Effective,
-    own: &Points<'_>,
-    bean: &BeanDecl,
-    subjects: &mut Vec<Subject>,
-) -> Result<(), AllocError>
-    ensures { OnOk result (subjects.new.items ≡ subjects.old.items
-        ++ where_enabled managed.now (lost_in_managed decls.now own.now bean.now)) }
-{
-    if !managed.is_enabled {
-        return Ok(());
-    }
-    push_of_part(decls, own, PartPlace::Construct, &bean.construct, subjects)?;
-    push_of_part(decls, own, PartPlace::Post, &bean.post, subjects)?;
-    push_of_part(decls, own, PartPlace::Pre, &bean.pre, subjects)?;
-    push_of_methods(decls, own, bean.methods.as_slice(), subjects)
-}
-
-/// Appends those of a part in a place, where there is one.
-fn push_of_part(
-    decls: &Decls,
-    own: &Points<'_>,
-    place: PartPlace,
-    part: &Option<PartDecl>,
-    subjects: &mut Vec<Subject>,
-) -> Result<(), AllocError>
-    ensures { OnOk result (subjects.new.items ≡ subjects.old.items ++ lost_in_part decls.now own.now place part.now) }
-{
-    match part {
-        Some(part) => push_of_body(decls, own, place, part.calls.as_slice(), subjects),
-        None => Ok(()),
-    }
-}
-
-/// Appends those of business methods.
-fn push_of_methods(
-    decls: &Decls,
-    own: &Points<'_>,
-    methods: &[MethodDecl],
-    subjects: &mut Vec<Subject>,
-) -> Result<(), AllocError>
-    ensures { OnOk result (subjects.new.items ≡ subjects.old.items ++ lost_in_methods decls.now own.now methods.now) }
-{
-    for method in methods {
-        let place = PartPlace::Method(method.name);
-        push_of_body(decls, own, place, method.part.calls.as_slice(), subjects)?;
-    }
-    Ok(())
-}
-
-/// Appends those of a body that sees some points and no others.
-#[tactic(auto, using(crate::proofs::SiteLemmas::seen_alone))]
-fn push_of_body(
-    decls: &Decls,
-    own: &Points<'_>,
-    place: PartPlace,
-    calls: &[CallDecl],
-    subjects: &mut Vec<Subject>,
-) -> Result<(), AllocError>
-    ensures { OnOk result (subjects.new.items ≡ subjects.old.items ++ lost_calls decls.now own.now place calls.now) }
-{
-    let none = Points {
-        points: &[],
-        answers: &[],
-    };
-    push_lost(decls, own, &none, &place, calls, subjects)
-}
-
-/// Appends those of a producer method that has these parameters and whose bean has these points, if its product is enabled.
-#[tactic(auto, using(crate::proofs::SiteLemmas::seen_alone))]
-fn push_of_product(
-    decls: &Decls,
-    product: &Effective,
-    own: &Points<'_>,
-    params: &Points<'_>,
-    producer: &ProducerDecl,
-    subjects: &mut Vec<Subject>,
-) -> Result<(), AllocError>
-    ensures { OnOk result (subjects.new.items ≡ subjects.old.items
-        ++ where_enabled product.now (lost_in_producer decls.now own.now params.now producer.now)) }
-{
-    if !product.is_enabled {
-        return Ok(());
-    }
-    let place = PartPlace::Producer(producer.name);
-    let calls = producer.part.calls.as_slice();
-    if producer.is_static {
-        push_of_body(decls, params, place, calls, subjects)
-    } else {
-        push_lost(decls, params, own, &place, calls, subjects)
-    }
-}
-
-/// Appends those of a body that sees some points and then others.
-fn push_lost(
-    decls: &Decls,
-    first: &Points<'_>,
-    others: &Points<'_>,
+    here: &[Rc<Choice>],
     place: &PartPlace,
-    calls: &[CallDecl],
-    subjects: &mut Vec<Subject>,
-) -> Result<(), AllocError>
-    ensures { OnOk result (subjects.new.items ≡ subjects.old.items ++ lost_calls decls.now (first.now ++ others.now) place.now calls.now) }
-{
-    for call in calls {
-        push_if_lost(decls, first, others, place, call, subjects)?;
-    }
-    Ok(())
-}
-
-/// Appends a call site in a place, where it is lost.
-fn push_if_lost(
-    decls: &Decls,
-    first: &Points<'_>,
-    others: &Points<'_>,
-    place: &PartPlace,
+    params: &[PointDecl],
     call: &CallDecl,
-    subjects: &mut Vec<Subject>,
-) -> Result<(), AllocError>
-    ensures { OnOk result (subjects.new.items ≡ subjects.old.items ++ lost_call decls.now (first.now ++ others.now) place.now call.now) }
+) -> Option<Subject>
+    ensures { result ≡ call_by decls.now beans.now decl.now (own_points decl.now) (map (λ answer. answer.value) answers.now)
+        (map (λ answer. answer.value) here.now) place.now params.now call.now }
 {
-    if is_lost(decls, first, others, call) {
-        subjects.push(Subject::Call {
+    let is_enabled = is_enabled_in(decl, beans, producer_of_part(place));
+    if is_enabled && is_lost(decls, params, here, own_seen(place, decl), answers, call) {
+        return Some(Subject::Call {
             place: *place,
             point: call.point,
             method: call.method,
-        })?;
+        });
     }
-    Ok(())
+    None
 }
 
-/// Whether a call site names a point that is not there, or a method that the chosen bean does not have.
-fn is_lost(decls: &Decls, first: &Points<'_>, others: &Points<'_>, call: &CallDecl) -> bool
-    ensures { result ≡ is_lost decls.now (first.now ++ others.now) call.now }
+/// Those injection points of a bean or an interceptor that the body in a place sees: a static producer method none.
+fn own_seen<'a>(place: &PartPlace, decl: &'a Decl) -> &'a [PointDecl]
+    ensures { result.now ≡ own_seen place.now (own_points decl.now) }
 {
-    match choice_at(first, others, call.point) {
+    match place {
+        PartPlace::StaticProducer(_) => &[],
+        _ => own_points(decl),
+    }
+}
+
+fn own_points(decl: &Decl) -> &[PointDecl]
+    ensures { result.now ≡ own_points decl.now }
+{
+    match decl {
+        Decl::Bean(bean) => bean.points.as_slice(),
+        Decl::Interceptor(interceptor) => interceptor.points.as_slice(),
+        _ => &[],
+    }
+}
+
+/// Whether a call site names a point that is neither among some points nor among others, or a method that the chosen bean
+/// does not have. The answers stand in the order of the points.
+fn is_lost(
+    decls: &Decls,
+    params: &[PointDecl],
+    here: &[Rc<Choice>],
+    own: &[PointDecl],
+    answers: &[Rc<Choice>],
+    call: &CallDecl,
+) -> bool
+    ensures { result ≡ is_lost_among decls.now call.now.method
+        (option_or (choice_beside params.now (map (λ answer. answer.value) here.now) call.now.point)
+        (choice_beside own.now (map (λ answer. answer.value) answers.now) call.now.point)) }
+{
+    match choice_beside(params, here, call.point) {
+        Some(choice) => lacks_method(decls, call.method, choice),
+        None => is_lost_beside(decls, own, answers, call),
+    }
+}
+
+/// The same of some points alone.
+fn is_lost_beside(
+    decls: &Decls,
+    points: &[PointDecl],
+    answers: &[Rc<Choice>],
+    call: &CallDecl,
+) -> bool
+    ensures { result ≡ is_lost_among decls.now call.now.method
+        (choice_beside points.now (map (λ answer. answer.value) answers.now) call.now.point) }
+{
+    match choice_beside(points, answers, call.point) {
         Some(choice) => lacks_method(decls, call.method, choice),
         None => true,
     }
 }
 
-/// What is chosen for the point of a name among some points and then others, if it is there.
-#[tactic(auto, using(crate::proofs::SiteLemmas::choice_at_append))]
-fn choice_at<'a>(first: &'a Points<'_>, others: &'a Points<'_>, name: Ident) -> Option<&'a Choice>
-    ensures { option_copied result ≡ choice_at (first.now ++ others.now) name }
+/// What is chosen for the point of a name among some points, to which the answers stand in their order.
+fn choice_beside<'a>(
+    points: &[PointDecl],
+    answers: &'a [Rc<Choice>],
+    name: Ident,
+) -> Option<&'a Choice>
+    ensures { option_copied result ≡ choice_beside points.now (map (λ answer. answer.value) answers.now) name }
 {
-    match first.choice(name) {
-        Some(choice) => Some(choice),
-        None => others.choice(name),
+    for (point, answer) in points.iter().zip(answers) {
+        if point.name == name {
+            return Some(answer);
+        }
     }
+    None
 }
 
 /// Whether one bean is chosen, and does not have a method.

@@ -2,7 +2,8 @@
 use cdi_effective::reads_of;
 use cdi_fixtures::{declared, name, quals};
 use cdi_model::{
-    Decl, DeclKey, Decls, Edit, Error, Kind, Mention, Name, PointPlace, Quals, Refusal, UseKind,
+    CallDecl, Decl, DeclKey, Decls, Edit, Error, Ident, Kind, Mention, Name, PartPlace, PointPlace,
+    Quals, Refusal, UseKind,
 };
 use cdi_text::read_decl;
 use std::alloc::Global;
@@ -80,7 +81,7 @@ types = ["Store"]
 qualifiers = ["Cold"]
 stereotypes = ["Plain"]
 points = [{ name = "p", type = "Box", qualifiers = ["Rank(n=1)"] }]
-producers = [{ name = "make", type = "Crate", types = ["Thing"], body = "zero", params = [{ name = "q", type = "Nail" }] }]
+producers = [{ name = "make", type = "Crate", types = ["Thing"], body = "zero", calls = ["q.hit"], params = [{ name = "q", type = "Nail" }] }]
 disposers = [{ name = "drop", type = "Crate", qualifiers = ["Cold"], body = "unit" }]
 post = { body = "notify", fires = ["Sale Web"] }
 
@@ -102,6 +103,7 @@ stereotype Plain
 point p
 type Box
 use Rank(n=1)
+body post notify
 event Sale
 type Sale
 use Web
@@ -109,13 +111,17 @@ type Crate
 type Thing
 param make q
 type Nail
+body producer make zero
+call producer make q.hit
 type Crate
 use Cold
+body disposer drop unit
 type Sale
 use Any
 binding Log
 observer sold r
 type Rope
+body observer sold echo
 event Done
 type Done
 ";
@@ -135,6 +141,18 @@ fn push_point<T: Display>(text: &mut Vec<u8>, place: PointPlace, point: &T) -> R
     Ok(())
 }
 
+/// Writes a stored body, with where it runs.
+fn push_body(text: &mut Vec<u8>, place: PartPlace, body: Ident) -> Result<(), Fail> {
+    writeln!(text, "body {place} {body}")?;
+    Ok(())
+}
+
+/// Writes a call site, with where the body runs that has it.
+fn push_call(text: &mut Vec<u8>, place: PartPlace, call: &CallDecl) -> Result<(), Fail> {
+    writeln!(text, "call {place} {}.{}", call.point, call.method)?;
+    Ok(())
+}
+
 /// Writes what is named in one place.
 fn push_mention(text: &mut Vec<u8>, mention: &Mention<'_>) -> Result<(), Fail> {
     match mention {
@@ -144,6 +162,8 @@ fn push_mention(text: &mut Vec<u8>, mention: &Mention<'_>) -> Result<(), Fail> {
         Mention::Method(method) => push_line(text, "method", &method.name),
         Mention::Stereotype(name) => push_line(text, "stereotype", name),
         Mention::Point(place, point) => push_point(text, *place, &point.name),
+        Mention::Body(place, body) => push_body(text, *place, *body),
+        Mention::Call(place, _, call) => push_call(text, *place, call),
         Mention::Event(event) => push_line(text, "event", &event.event_type),
     }
 }

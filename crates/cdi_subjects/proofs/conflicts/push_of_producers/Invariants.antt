@@ -2,7 +2,7 @@ use Rattle.std.proofs.Common.{◌≡◌, ◌++◌, drop, filter, not}
 use Rattle.std.specs.List.{flat_map}
 use Rattle.cdi_model.specs.declared.place.BeanPlace.TheVariants as spots
 use Rattle.cdi_faults.specs.declared.fault.Subject.TheVariants as subjects
-use Rattle.cdi_faults.specs.declared.place.PartPlace.TheVariants as places
+use Rattle.cdi_model.specs.declared.place.PartPlace.TheVariants as places
 use Rattle.cdi_subjects.specs.Records.{conflict_at, conflicts_at_producers}
 use Rattle.cdi_subjects.proofs.conflicts.push_of_producers.Given as goal
 
