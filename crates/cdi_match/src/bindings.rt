@@ -5,7 +5,9 @@ ghost use Rattle.cdi_match.specs.Bindings.{brings, brings_itself, brought, types
 ghost use Rattle.cdi_match.specs.Chain.{Circle};
 ghost use Rattle.cdi_match.specs.Locality.{EditsKeepBindings};
 
-use crate::search::{Links, in_order, reached, reaches_itself};
+use crate::followers::Links;
+use crate::search::{in_order, reached};
+use crate::walk::reaches_itself;
 use cdi_model::{Decl, Decls, Kind, Name, Qual};
 use std::alloc::{AllocError, Global};
 
@@ -55,14 +57,13 @@ pub fn types_brought(alloc: Global, decls: &Decls, uses: &[&Qual]) -> Result<Vec
     in_order(alloc, found)
 }
 
-/// Whether a binding type reaches itself by a chain of one `declares` or more. It takes memory for the search, and none
-/// where the binding type declares none.
+/// Whether a binding type reaches itself by a chain of one `declares` or more. It takes no memory.
 #[tactic(auto, unfolding(crate::specs::Bindings::brings_itself))]
-pub fn brings_itself(alloc: Global, decls: &Decls, name: Name) -> Result<bool, AllocError>
-    ensures value { IfOk result (λ is. is ≡ brings_itself decls.now name) }
-    ensures meaning { IfOk result (λ is. IsTrue is ↔ Circle (brings decls.now) name) }
+pub fn brings_itself(decls: &Decls, name: Name) -> bool
+    ensures value { result ≡ brings_itself decls.now name }
+    ensures meaning { IsTrue result ↔ Circle (brings decls.now) name }
 {
-    reaches_itself(alloc, decls, Links::Bindings, name)
+    reaches_itself(decls, Links::Bindings, name)
 }
 
 /// The uses that the declaration of a binding type declares: none where it is not declared. It takes no memory.

@@ -18,20 +18,20 @@ pub(crate) fn cycles(alloc: Global, decls: &Decls, decl: &Decl) -> Result<Vec<Su
     ensures { IfOk result (λ list. list.items ≡ whole_if (reaches_itself decls.now decl.now)) }
 {
     let mut subjects = Vec::new(alloc);
-    if reaches_itself(alloc, decls, decl)? {
+    if reaches_itself(decls, decl) {
         subjects.push(Subject::Whole)?;
     }
     Ok(subjects)
 }
 
-fn reaches_itself(alloc: Global, decls: &Decls, decl: &Decl) -> Result<bool, AllocError>
-    ensures { IfOk result (λ is. is ≡ reaches_itself decls.now decl.now) }
+fn reaches_itself(decls: &Decls, decl: &Decl) -> bool
+    ensures { result ≡ reaches_itself decls.now decl.now }
 {
     match decl {
-        Decl::Type(decl) => extends_itself(alloc, decls, decl.name),
-        Decl::Binding(decl) => brings_itself(alloc, decls, decl.name),
-        Decl::Stereotype(decl) => inherits_itself(alloc, decls, decl.name),
-        _ => Ok(false),
+        Decl::Type(decl) => extends_itself(decls, decl.name),
+        Decl::Binding(decl) => brings_itself(decls, decl.name),
+        Decl::Stereotype(decl) => inherits_itself(decls, decl.name),
+        _ => false,
     }
 }
 

@@ -1,0 +1,323 @@
+-- The search that keeps positions: what one more found declaration changes, and what is found when none is left.
+use Rattle.std.proofs.Common.{◌≡◌, ◌≢◌, ◌<◌, ◌+◌, ℕ, zero, suc, Bool, true, false, not, cond, List, [], ◌∷◌, ◌++◌, length}
+use Rattle.std.proofs.Common.{Option, Some, None, is_some, option_map, refl, sym, ◌∙◌, subst, inl, inr, ap, arith, position, slice_get}
+use Rattle.std.proofs.Common.{slice_index_or, slice_set, replicate}
+use Rattle.std.specs.List.{filter}
+use Rattle.std.specs.Option.{option_to_list}
+use Rattle.std.specs.Str.{bytes_eq}
+use Rattle.std.proofs.lemmas.Bool.{or_cases, or_left, or_right, cases_Bool, false≢true, both_ways}
+use Rattle.std.proofs.lemmas.Bool.Decides.{same_from_decides}
+use Rattle.std.proofs.lemmas.List.{get_or-set_same, get_or-set_other, length-set}
+use Rattle.cdi_model.specs.Decl.{name_of_decl}
+use Rattle.cdi_model.specs.DeclList.{find_decl, is_of}
+use Rattle.cdi_model.specs.declared.decl.Decl.{Decl}
+use Rattle.cdi_model.specs.declared.decl.Kind.{Kind}
+use Rattle.cdi_model.proofs.PositionLemmas.{name-found, one_position, position-found, position-there}
+use Rattle.cdi_match.specs.declared.followers.Links.{Links}
+use Rattle.cdi_match.specs.declared.followers.Links.TheVariants as links
+use Rattle.cdi_match.specs.declared.walk.Walk.{Walk}
+use Rattle.cdi_match.specs.Chain.{ChainFromOne, Steps, has, leads}
+use Rattle.cdi_match.specs.Search.{Adds, Closing, is_led_to, kind_of, listed_by, next_of}
+use Rattle.cdi_match.specs.Walk.{declared_among, has_met, is_marked, IsWalking, Meets, HasRoom, names_at, next_declared}
+use Rattle.cdi_match.proofs.Names.{one_name, same_text}
+use Rattle.cdi_match.proofs.SearchLemmas.{Adds-again, Adds-new, Adds-none, Adds-then, Closing-all, Closing-start, Closing-step}
+use Rattle.cdi_match.proofs.SearchLemmas.{is_led_to_decides}
+
+-- ---- marks
+
+-- one more mark leaves one fewer that is not marked
+pub marking : (marks : List Bool) (i : ℕ) → i < length marks → slice_index_or marks i false ≡ false
+    → length (filter not (slice_set marks i true)) + 1 ≡ length (filter not marks)
+marking [] i within unmarked = absurd (omega (arith, within))
+marking (true ∷ ms) zero within unmarked = absurd (false≢true (sym unmarked))
+marking (false ∷ ms) zero within unmarked = omega arith
+marking (true ∷ ms) (suc i) within unmarked = marking ms i (omega (arith, within)) unmarked
+marking (false ∷ ms) (suc i) within unmarked = let more = marking ms i (omega (arith, within)) unmarked in omega (arith, more)
+
+unmarked_at : (n i : ℕ) → slice_index_or (replicate n false) i false ≡ false
+unmarked_at zero i = refl
+unmarked_at (suc n) zero = refl
+unmarked_at (suc n) (suc i) = unmarked_at n i
+
+-- none is marked at first
+pub none_marked : (n : ℕ) (o : Option ℕ) → is_marked (replicate n false) o ≡ false
+none_marked n None = refl
+none_marked n (Some i) = unmarked_at n i
+
+marked_at : (ms : List Bool) (i j : ℕ) → j ≢ i → slice_index_or (slice_set ms i true) j false ≡ slice_index_or ms j false
+marked_at ms i j other = get_or-set_other ms i j true false other
+
+-- a mark at the place of a name
+marked-more : (kind : Kind) (ds : List Decl) (marks : List Bool) (name : List ℕ) (i : ℕ) → position (is_of kind name) ds ≡ Some i
+    → i < length marks → (s : List ℕ)
+    → is_marked (slice_set marks i true) (position (is_of kind s) ds)
+    ≡ cond (bytes_eq name s) true (is_marked marks (position (is_of kind s) ds))
+marked-more kind ds marks name i at within s = by (bytes_eq name s) refl (position (is_of kind s) ds) refl
+  where
+    by : (b : Bool) → bytes_eq name s ≡ b → (o : Option ℕ) → position (is_of kind s) ds ≡ o
+        → is_marked (slice_set marks i true) (position (is_of kind s) ds)
+        ≡ cond (bytes_eq name s) true (is_marked marks (position (is_of kind s) ds))
+    by true e o f =
+        let there : position (is_of kind s) ds ≡ Some i = ap (λ n. position (is_of kind n) ds) (sym (one_name name s e)) ∙ at in
+        rw (e, there) (get_or-set_same marks i true false within)
+    by false e None f = rw (e, f) refl
+    by false e (Some j) f = rw (e, f) (marked_at marks i j (λ same.
+        both_ways (bytes_eq name s) e (same_text name s (one_position kind name s ds i at (f ∙ ap Some same)))))
+
+-- a name that is marked already
+marked-again : (kind : Kind) (ds : List Decl) (marks : List Bool) (name : List ℕ) → is_marked marks (position (is_of kind name) ds) ≡ true
+    → (s : List ℕ)
+    → is_marked marks (position (is_of kind s) ds) ≡ cond (bytes_eq name s) true (is_marked marks (position (is_of kind s) ds))
+marked-again kind ds marks name was s = by (bytes_eq name s) refl
+  where
+    by : (b : Bool) → bytes_eq name s ≡ b
+        → is_marked marks (position (is_of kind s) ds) ≡ cond (bytes_eq name s) true (is_marked marks (position (is_of kind s) ds))
+    by true e = rw e (ap (λ n. is_marked marks (position (is_of kind n) ds)) (sym (one_name name s e)) ∙ was)
+    by false e = rw e refl
+
+-- ---- names that are declared
+
+declared-one : (which : Links) (ds : List Decl) (name : List ℕ) → is_some (find_decl (kind_of which) name ds) ≡ true
+    → declared_among which ds (name ∷ []) ≡ name ∷ []
+declared-one which ds name is = rw is refl
+
+declared-none : (which : Links) (ds : List Decl) (name : List ℕ) → is_some (find_decl (kind_of which) name ds) ≡ false
+    → declared_among which ds (name ∷ []) ≡ []
+declared-none which ds name is = rw is refl
+
+declared-cons : (which : Links) (ds : List Decl) (name : List ℕ) (names : List (List ℕ))
+    → declared_among which ds (name ∷ []) ++ declared_among which ds names ≡ declared_among which ds (name ∷ names)
+declared-cons which ds name names = by (is_some (find_decl (kind_of which) name ds)) refl
+  where
+    by : (b : Bool) → is_some (find_decl (kind_of which) name ds) ≡ b
+        → declared_among which ds (name ∷ []) ++ declared_among which ds names ≡ declared_among which ds (name ∷ names)
+    by true e = rw e refl
+    by false e = rw e refl
+
+names-append : (ds : List Decl) (ps : List ℕ) (p : ℕ)
+    → names_at ds (ps ++ p ∷ []) ≡ names_at ds ps ++ option_to_list (option_map name_of_decl (slice_get ds p))
+names-append ds [] p = by (slice_get ds p)
+  where
+    by : (o : Option Decl) → option_to_list (option_map name_of_decl o) ++ [] ≡ option_to_list (option_map name_of_decl o)
+    by None = refl
+    by (Some d) = refl
+names-append ds (q ∷ ps) p = by (slice_get ds q) (names-append ds ps p)
+  where
+    by : (o : Option Decl)
+        → names_at ds (ps ++ p ∷ []) ≡ names_at ds ps ++ option_to_list (option_map name_of_decl (slice_get ds p))
+        → option_to_list (option_map name_of_decl o) ++ names_at ds (ps ++ p ∷ [])
+        ≡ (option_to_list (option_map name_of_decl o) ++ names_at ds ps) ++ option_to_list (option_map name_of_decl (slice_get ds p))
+    by None more = more
+    by (Some d) more = ap (λ ns. name_of_decl d ∷ ns) more
+
+-- the name that stands at the place of a name is that name
+name-at : (kind : Kind) (ds : List Decl) (name : List ℕ) (i : ℕ) → position (is_of kind name) ds ≡ Some i
+    → option_to_list (option_map name_of_decl (slice_get ds i)) ≡ name ∷ []
+name-at kind ds name i at = by (find_decl kind name ds) refl
+  where
+    by : (o : Option Decl) → find_decl kind name ds ≡ o → option_to_list (option_map name_of_decl (slice_get ds i)) ≡ name ∷ []
+    by None e = absurd (let no : true ≡ false = ap is_some (sym at) ∙ position-found kind name ds ∙ ap is_some e in cc)
+    by (Some d) e =
+        ap (λ o. option_to_list (option_map name_of_decl o)) (position-there kind name ds i at ∙ e)
+        ∙ ap (λ n. n ∷ []) (name-found kind name ds d e)
+
+-- ---- finding
+
+pub Meets-new : (which : Links) (ds : List Decl) (name : List ℕ) (old new : Walk) (i : ℕ)
+    → position (is_of (kind_of which) name) ds ≡ Some i → i < length old.marks → slice_index_or old.marks i false ≡ false
+    → new.marks ≡ slice_set old.marks i true → new.left.items ≡ old.left.items ++ i ∷ [] → Meets which ds (name ∷ []) old new
+Meets-new which ds name old new i at within unmarked marked pushed =
+    let kind = kind_of which in
+    let is : is_some (find_decl kind name ds) ≡ true = sym (position-found kind name ds) ∙ ap is_some at in
+    record {
+      adds = subst (λ names. Adds names (has_met which ds old) (names_at ds old.left.items) (has_met which ds new)
+          (names_at ds new.left.items)) (sym (declared-one which ds name is))
+          (Adds-new name (has_met which ds old) (names_at ds old.left.items) (has_met which ds new) (names_at ds new.left.items)
+          (λ s. ap (λ ms. is_marked ms (position (is_of kind s) ds)) marked ∙ marked-more kind ds old.marks name i at within s)
+          (ap (is_marked old.marks) at ∙ unmarked)
+          (ap (names_at ds) pushed ∙ names-append ds old.left.items i ∙ ap (λ ns. names_at ds old.left.items ++ ns)
+          (name-at kind ds name i at)));
+      same_size = ap length marked ∙ length-set old.marks i true;
+      same_tasks =
+          let fewer = marking old.marks i within unmarked in
+          let marks : length (filter not new.marks) ≡ length (filter not (slice_set old.marks i true)) =
+          ap (λ ms. length (filter not ms)) marked in
+          let left : length new.left.items ≡ length old.left.items + 1 = ap length pushed ∙ one_longer old.left.items i in
+          omega (arith, fewer, marks, left);
+    }
+  where
+    one_longer : (ps : List ℕ) (p : ℕ) → length (ps ++ p ∷ []) ≡ length ps + 1
+    one_longer [] p = refl
+    one_longer (q ∷ ps) p = let more = one_longer ps p in omega (arith, more)
+
+pub Meets-again : (which : Links) (ds : List Decl) (name : List ℕ) (w : Walk) (i : ℕ)
+    → position (is_of (kind_of which) name) ds ≡ Some i → slice_index_or w.marks i false ≡ true → Meets which ds (name ∷ []) w w
+Meets-again which ds name w i at was =
+    let kind = kind_of which in
+    let is : is_some (find_decl kind name ds) ≡ true = sym (position-found kind name ds) ∙ ap is_some at in
+    let found : has_met which ds w name ≡ true = ap (is_marked w.marks) at ∙ was in
+    record {
+      adds = subst (λ names. Adds names (has_met which ds w) (names_at ds w.left.items) (has_met which ds w)
+          (names_at ds w.left.items)) (sym (declared-one which ds name is))
+          (Adds-again name (has_met which ds w) (names_at ds w.left.items) (has_met which ds w) (names_at ds w.left.items)
+          (marked-again kind ds w.marks name found) found refl);
+      same_size = refl;
+      same_tasks = refl;
+    }
+
+pub Meets-undeclared : (which : Links) (ds : List Decl) (name : List ℕ) (w : Walk)
+    → is_some (find_decl (kind_of which) name ds) ≡ false → Meets which ds (name ∷ []) w w
+Meets-undeclared which ds name w none = record {
+  adds = subst (λ names. Adds names (has_met which ds w) (names_at ds w.left.items) (has_met which ds w)
+      (names_at ds w.left.items)) (sym (declared-none which ds name none)) (Adds-none (has_met which ds w) (names_at ds w.left.items));
+  same_size = refl;
+  same_tasks = refl;
+}
+
+pub Meets-none : (which : Links) (ds : List Decl) (w : Walk) → Meets which ds [] w w
+Meets-none which ds w = record { adds = Adds-none (has_met which ds w) (names_at ds w.left.items); same_size = refl; same_tasks = refl }
+
+-- a name is found, and then others
+pub Meets-cons : (which : Links) (ds : List Decl) (name : List ℕ) (names : List (List ℕ)) (a b c : Walk)
+    → Meets which ds (name ∷ []) a b → Meets which ds names b c → Meets which ds (name ∷ names) a c
+Meets-cons which ds name names a b c m n = record {
+  adds = subst (λ all. Adds all (has_met which ds a) (names_at ds a.left.items) (has_met which ds c)
+      (names_at ds c.left.items)) (declared-cons which ds name names)
+      (Adds-then (declared_among which ds (name ∷ [])) (declared_among which ds names) (has_met which ds a) (names_at ds a.left.items)
+      (has_met which ds b) (names_at ds b.left.items) (has_met which ds c) (names_at ds c.left.items) m.adds n.adds);
+  same_size = n.same_size ∙ m.same_size;
+  same_tasks = n.same_tasks ∙ m.same_tasks;
+}
+
+-- there is still room behind it
+pub HasRoom-met : (which : Links) (ds : List Decl) (names : List (List ℕ)) (old new : Walk) → HasRoom old → Meets which ds names old new
+    → HasRoom new
+HasRoom-met which ds names old new room m =
+    record { sized = m.same_size ∙ room.sized; fits = omega (arith, m.same_tasks, room.fits) }
+
+-- ---- a walk
+
+-- it starts with some names
+pub walk-start : (which : Links) (ds : List Decl) (starts : List (List ℕ)) (old new : Walk)
+    → ((o : Option ℕ) → is_marked old.marks o ≡ false) → old.left.items ≡ [] → Meets which ds starts old new
+    → IsWalking which ds starts new
+walk-start which ds starts old new none empty m =
+    Closing-start (next_declared which ds) (declared_among which ds starts) (has_met which ds old) (names_at ds old.left.items)
+    (has_met which ds new) (names_at ds new.left.items)
+    (λ s. none (position (is_of (kind_of which) s) ds)) (ap (names_at ds) empty) m.adds
+
+-- what follows one that was left is found
+pub walk-step : (which : Links) (ds : List Decl) (starts : List (List ℕ)) (w popped new : Walk) (p : ℕ) (d : Decl)
+    (names : List (List ℕ)) → IsWalking which ds starts w → popped.marks ≡ w.marks → w.left.items ≡ popped.left.items ++ p ∷ [] → slice_get ds p ≡ Some d
+    → names ≡ next_of which ds (name_of_decl d) → Meets which ds names popped new → IsWalking which ds starts new
+walk-step which ds starts w popped new p d names walking same left is follow m =
+    let taken : names_at ds w.left.items ≡ names_at ds popped.left.items ++ name_of_decl d ∷ [] =
+    ap (names_at ds) left ∙ names-append ds popped.left.items p
+    ∙ ap (λ o. names_at ds popped.left.items ++ option_to_list (option_map name_of_decl o)) is in
+    let before : IsWalkingBy (has_met which ds popped) = subst (λ ms. IsWalkingBy (λ s. is_marked ms (position (is_of (kind_of which) s) ds)))
+    (sym same) walking in
+    Closing-step (next_declared which ds) (declared_among which ds starts) (name_of_decl d) (has_met which ds popped)
+    (names_at ds w.left.items) (names_at ds popped.left.items) (has_met which ds new) (names_at ds new.left.items) before taken
+    (subst (λ ns. Adds (declared_among which ds ns) (has_met which ds popped) (names_at ds popped.left.items) (has_met which ds new)
+    (names_at ds new.left.items)) follow m.adds)
+  where
+    IsWalkingBy : (List ℕ → Bool) → Type 0
+    IsWalkingBy f = Closing (next_declared which ds) (declared_among which ds starts) f (names_at ds w.left.items)
+
+-- ---- chains to what is declared
+
+has-among : (which : Links) (ds : List Decl) (names : List (List ℕ)) (y : List ℕ) → has (declared_among which ds names) y ≡ true
+    → has names y ≡ true
+has-among which ds [] y h = h
+has-among which ds (n ∷ ns) y h = by (is_some (find_decl (kind_of which) n ds)) refl (has-among which ds ns y)
+  where
+    by : (b : Bool) → is_some (find_decl (kind_of which) n ds) ≡ b → (has (declared_among which ds ns) y ≡ true → has ns y ≡ true)
+        → has (n ∷ ns) y ≡ true
+    by false e more = or_right (bytes_eq n y) (has ns y) (more (rw e at h))
+    by true e more = elim (or_cases (bytes_eq n y) (has (declared_among which ds ns) y) (rw e at h)) [
+      | inl here ↦ or_left (bytes_eq n y) (has ns y) here
+      | inr there ↦ or_right (bytes_eq n y) (has ns y) (more there)
+    ]
+
+among-has : (which : Links) (ds : List Decl) (names : List (List ℕ)) (y : List ℕ) → is_some (find_decl (kind_of which) y ds) ≡ true
+    → has names y ≡ true → has (declared_among which ds names) y ≡ true
+among-has which ds [] y is h = h
+among-has which ds (n ∷ ns) y is h = by (is_some (find_decl (kind_of which) n ds)) refl (among-has which ds ns y is)
+  where
+    by : (b : Bool) → is_some (find_decl (kind_of which) n ds) ≡ b → (has ns y ≡ true → has (declared_among which ds ns) y ≡ true)
+        → has (declared_among which ds (n ∷ ns)) y ≡ true
+    by true e more = rw e (elim (or_cases (bytes_eq n y) (has ns y) h) [
+      | inl here ↦ or_left (bytes_eq n y) (has (declared_among which ds ns) y) here
+      | inr there ↦ or_right (bytes_eq n y) (has (declared_among which ds ns) y) (more there)
+    ])
+    by false e more = rw e (elim (or_cases (bytes_eq n y) (has ns y) h) [
+      | inl here ↦ absurd (both_ways (is_some (find_decl (kind_of which) n ds)) e
+          (ap (λ z. is_some (find_decl (kind_of which) z ds)) (one_name n y here) ∙ is))
+      | inr there ↦ more there
+    ])
+
+next-listed : (which : Links) (ds : List Decl) (x : List ℕ) → next_of which ds x ≡ listed_by which (find_decl (kind_of which) x ds)
+next-listed links.Supers ds x = refl
+next-listed links.Stereotypes ds x = refl
+next-listed links.Bindings ds x = refl
+
+listed-none : (which : Links) → listed_by which None ≡ []
+listed-none links.Supers = refl
+listed-none links.Stereotypes = refl
+listed-none links.Bindings = refl
+
+-- what is not declared lists nothing
+next-undeclared : (which : Links) (ds : List Decl) (x : List ℕ) → is_some (find_decl (kind_of which) x ds) ≡ false
+    → next_of which ds x ≡ []
+next-undeclared which ds x none = next-listed which ds x ∙ by (find_decl (kind_of which) x ds) none
+  where
+    by : (o : Option Decl) → is_some o ≡ false → listed_by which o ≡ []
+    by None e = listed-none which
+    by (Some d) e = absurd (false≢true (sym e))
+
+-- a name that another follows is declared
+owner : (which : Links) (ds : List Decl) (x y : List ℕ) → leads (next_of which ds) x y ≡ true
+    → is_some (find_decl (kind_of which) x ds) ≡ true
+owner which ds x y h = elim (cases_Bool (is_some (find_decl (kind_of which) x ds))) [
+  | inl is ↦ is
+  | inr none ↦ absurd (false≢true (ap (λ names. has names y) (sym (next-undeclared which ds x none)) ∙ h))
+]
+
+steps-lift : (which : Links) (ds : List Decl) (n : ℕ) (x y : List ℕ) → Steps (leads (next_declared which ds)) n x y
+    → Steps (leads (next_of which ds)) n x y
+steps-lift which ds zero x y c = c
+steps-lift which ds (suc n) x y c =
+    (c.0, has-among which ds (next_of which ds x) c.0 c.1, steps-lift which ds n c.0 y c.2)
+
+-- all names of a chain that ends at one that is declared are declared
+steps-declared : (which : Links) (ds : List Decl) (n : ℕ) (x y : List ℕ) → is_some (find_decl (kind_of which) y ds) ≡ true
+    → Steps (leads (next_of which ds)) n x y
+    → Steps (leads (next_declared which ds)) n x y × (is_some (find_decl (kind_of which) x ds) ≡ true)
+steps-declared which ds zero x y is c = (c, subst (λ z. is_some (find_decl (kind_of which) z ds) ≡ true) (sym c) is)
+steps-declared which ds (suc n) x y is c =
+    let rest = steps-declared which ds n c.0 y is c.2 in
+    ((c.0, among-has which ds (next_of which ds x) c.0 rest.1 c.1, rest.0), owner which ds x c.0 c.1)
+
+-- a chain leads to what was found
+pub walk-sound : (which : Links) (ds : List Decl) (starts : List (List ℕ)) (w : Walk) (s : List ℕ) → IsWalking which ds starts w
+    → has_met which ds w s ≡ true → is_led_to which ds starts s ≡ true
+walk-sound which ds starts w s walking h =
+    let c : ChainFromOne (leads (next_declared which ds)) (declared_among which ds starts) s = walking.sound s h in
+    (is_led_to_decides which ds starts s).1
+    (c.0, has-among which ds starts c.0 c.1, ((c.2).0, steps-lift which ds (c.2).0 c.0 s (c.2).1))
+
+-- where none is left, what is declared was found just where a chain leads to it
+pub walk-all : (which : Links) (ds : List Decl) (starts : List (List ℕ)) (w : Walk) (s : List ℕ) → IsWalking which ds starts w
+    → w.left.items ≡ [] → is_some (find_decl (kind_of which) s ds) ≡ true → has_met which ds w s ≡ is_led_to which ds starts s
+walk-all which ds starts w s walking empty is =
+    same_from_decides (has_met which ds w s) (is_led_to which ds starts s) (
+      λ h. (is_led_to_decides which ds starts s).0 (walk-sound which ds starts w s walking h),
+      λ c.
+          let steps = steps-declared which ds (c.2).0 c.0 s is (c.2).1 in
+          let chain : ChainFromOne (leads (next_declared which ds)) (declared_among which ds starts) s =
+          (c.0, among-has which ds starts c.0 steps.1 c.1, ((c.2).0, steps.0)) in
+          Closing-all (next_declared which ds) (declared_among which ds starts) (has_met which ds w)
+          (subst (λ ns. Closing (next_declared which ds) (declared_among which ds starts) (has_met which ds w) ns) (ap (names_at ds) empty)
+          walking) s chain,
+    )
+    (is_led_to_decides which ds starts s)
