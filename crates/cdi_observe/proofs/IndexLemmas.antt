@@ -133,10 +133,10 @@ indices-each items kept kept' own t uses keys keys' written more is each q =
 
 -- whether the key at an index asks for some uses
 pub uses-at : (keys : List AskedKey) (uses asks : List Qual) (i : ℕ) (k : AskedKey) (b : Bool) → i < length keys → k ≡ get_or keys i k
-    → asks ≡ required (get_or keys i k).quals → b ≡ pointwise same_qual uses asks → has_uses_at (map asked_key keys) uses i ≡ b
+    → asks ≡ required (get_or keys i k).quals.now → b ≡ pointwise same_qual uses asks → has_uses_at (map asked_key keys) uses i ≡ b
 uses-at keys uses asks i k b lt at are same =
     ap (has_uses uses) (slice_get-map asked_key keys i ∙ ap (option_map asked_key) (slice_get_read keys (length keys) i k refl lt at))
-    ∙ ap (λ l. pointwise same_qual uses (required l.quals)) at ∙ ap (pointwise same_qual uses) (sym are) ∙ sym same
+    ∙ ap (λ l. pointwise same_qual uses (required l.quals.now)) at ∙ ap (pointwise same_qual uses) (sym are) ∙ sym same
 
 find-next : (test : ℕ → Bool) (places : List ℕ) (i : ℕ) → i < length places
     → find test (drop i places) ≡ cond (test (get_or places i 0)) (Some (get_or places i 0)) (find test (drop (i + 1) places))

@@ -1,8 +1,8 @@
-use Rattle.std.proofs.Common.{map, length, sym, ap, ◌∙◌}
+use Rattle.std.proofs.Common.{map, length, refl, sym, ap, ◌∙◌}
 use Rattle.cdi_observe.specs.Asked.{asked_key, place_of}
 use Rattle.std.specs.List.{slice_get}
 use Rattle.std.proofs.lemmas.List.{length-map}
-use Rattle.cdi_observe.specs.Keys.{choice_key, has_key, with_key}
+use Rattle.cdi_observe.specs.Keys.{has_key, with_key}
 use Rattle.cdi_observe.specs.Wanted.{key_of_point}
 use Rattle.cdi_observe.proofs.IndexLemmas.{indices-within, searched, is_known, is_new, indices-more, stands-last}
 use Rattle.cdi_observe.proofs.PlaceLemmas.{get-place, with_key-known, with_key-new}
@@ -39,7 +39,7 @@ pub returns-clause-places : goal.returns-clause-places
 returns-clause-places c =
     indices-more c.args.point.now.required_type c.args.point.now.qualifiers c.args.keys.now.items c.push.new.self.items _
     c.args.places.now.items c.push-2.new.self.items c.len-place.result
-    c.in_ok-push.ensures.items (ap (choice_key c.args.point.now.required_type) c.in_ok-copy.ensures) c.requires
+    c.in_ok-push.ensures.items refl c.requires
     (c.len-place.ensures ∙ sym c.as_slice.ensures.len ∙ ap length c.as_slice.ensures.value)
     c.in_ok-push-2.ensures.items
 
@@ -51,11 +51,11 @@ returns-clause-keys c =
     c.args.places.now.items c.args.point.now.required_type c.required.result.now c.args.point.now.qualifiers
     c.as_slice.ensures.value c.as_slice-2.ensures.value c.requires c.required.ensures c.with_uses-known.ensures in
     with_key-new c.args.keys.now.items _ _ key c.in_ok-push.ensures.items
-    (ap (choice_key c.args.point.now.required_type) c.in_ok-copy.ensures)
+    refl
     (is_new (has_key keys key) (place_of keys key) (sym c.in_default.is ∙ found))
 
 pub returns-clause-place : goal.returns-clause-place
 returns-clause-place c =
     stands-last c.args.keys.now.items c.push.new.self.items _ (key_of_point c.args.point.now) c.len-place.result
-    c.in_ok-push.ensures.items (ap (choice_key c.args.point.now.required_type) c.in_ok-copy.ensures)
+    c.in_ok-push.ensures.items refl
     (c.len-place.ensures ∙ sym c.as_slice.ensures.len ∙ ap length c.as_slice.ensures.value)
