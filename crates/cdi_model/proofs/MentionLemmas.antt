@@ -1,12 +1,8 @@
 -- What a declaration names, one by one.
-use Rattle.std.proofs.Common.{◌≡◌, List, [], ◌∷◌, ◌++◌, refl, ap, ◌∙◌, sym, append-nil}
+use Rattle.std.proofs.Common.{◌≡◌, List, [], ◌∷◌, ◌++◌, refl, ap, ◌∙◌}
 use Rattle.std.specs.List.{flat_map}
 use Rattle.std.proofs.lemmas.List.{append_assoc}
-use Rattle.cdi_model.specs.declared.decl.EventDecl.{EventDecl}
-use Rattle.cdi_model.specs.declared.decl.PointDecl.{PointDecl}
-use Rattle.cdi_model.specs.declared.mention.PointPlace.{PointPlace}
-use Rattle.cdi_model.specs.declared.mention.TypePlace.TheVariants as places
-use Rattle.cdi_model.specs.Mentions.{Mention, TypeIn, EventOf, of_event, of_point, of_qualifiers}
+use Rattle.cdi_model.specs.Mentions.{Mention}
 
 -- ---- members of a bean
 

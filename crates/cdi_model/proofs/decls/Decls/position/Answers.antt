@@ -1,4 +1,4 @@
-use Rattle.std.proofs.Common.{◌≡◌, ℕ, Option, Some, None, is_some, IfSome, slice_get, position, refl, sym, ap, ◌∙◌}
+use Rattle.std.proofs.Common.{◌≡◌, ℕ, Option, Some, None, is_some, IfSome, slice_get, position, sym, ap, ◌∙◌}
 use Rattle.cdi_model.specs.DeclKey.{key_at}
 use Rattle.cdi_model.specs.DeclList.{find_decl, is_of}
 use Rattle.cdi_model.proofs.PositionLemmas.{position-keys, position-there, position-found}
