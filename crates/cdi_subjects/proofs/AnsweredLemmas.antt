@@ -41,12 +41,12 @@ use Rattle.cdi_subjects.specs.Subjects.{point_in, points_at_fault}
 -- ---- which points some mentions have, and which of them stand behind the beginning of the latest method
 
 -- some points begin with others
-abbrev IsFront : List PointDecl → List PointDecl → Type 0
+abbrev pub IsFront : List PointDecl → List PointDecl → Type 0
 IsFront params since = (rest : List PointDecl) × (since ≡ params ++ rest)
 
 -- The points among some mentions are these, in order; and those since the latest method began, of which there are some already, begin
 -- with the parameters at each call site.
-abbrev AreListed : List PointDecl → List PointDecl → List Mention → Type 0
+abbrev pub AreListed : List PointDecl → List PointDecl → List Mention → Type 0
 AreListed since points [] = points ≡ []
 AreListed since points (PointOf place p ∷ ms) = (rest : List PointDecl) × (points ≡ p ∷ rest) × AreListed (since ++ p ∷ []) rest ms
 AreListed since points (TypeIn place t ∷ ms) = AreListed (cond (is_begin place) [] since) points ms
@@ -178,7 +178,7 @@ disposers-listed since points (s ∷ xs) ms listed =
     (uses-listed since points uses.Qualifier s.qualifiers (body ++ (others ++ ms))
     (disposers-listed since points xs ms listed)))
 
-abbrev observed : List ObserverDecl → List PointDecl
+abbrev pub observed : List ObserverDecl → List PointDecl
 observed observers = flat_map (λ o. o.params) observers
 
 observers-listed : (since : List PointDecl) (xs : List ObserverDecl) → AreListed since (observed xs) (flat_map of_observer xs)
@@ -241,7 +241,7 @@ bean-listed bean =
 end : (since : List PointDecl) (ms : List Mention) → AreListed since [] (ms ++ []) → AreListed since [] ms
 end since ms listed = subst (AreListed since []) (append-nil ms) listed
 
-all-listed : (d : Decl) → AreListed [] (points_of d) (mentions d)
+pub all-listed : (d : Decl) → AreListed [] (points_of d) (mentions d)
 unfolding mentions
 all-listed (decls.Type d) =
     types-listed [] [] types_are.Extends (option_to_list d.extends) (map (TypeIn types_are.Implements) d.implements) refl
@@ -384,7 +384,7 @@ calls-found ds answer bs d others since points (BodyOf place body ∷ ms) listed
 calls-found ds answer bs d others since points (EventOf e ∷ ms) listed = calls-found ds answer bs d others since points ms listed
 
 -- the points of a bean or an interceptor itself stand before the others of its declaration
-own-first : (d : Decl) → (others : List PointDecl) × (points_of d ≡ own_points d ++ others)
+pub own-first : (d : Decl) → (others : List PointDecl) × (points_of d ≡ own_points d ++ others)
 own-first (decls.Type d) = ([], refl)
 own-first (decls.Qualifier d) = ([], refl)
 own-first (decls.Binding d) = ([], refl)

@@ -2,3 +2,4 @@ pub mod AnsweredLemmas
 pub mod Laws
 pub mod PushLemmas
 pub mod RecordLemmas
+pub mod RestLemmas

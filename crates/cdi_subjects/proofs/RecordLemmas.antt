@@ -70,7 +70,7 @@ disposers_of_records ds bean b bs same =
 
 -- ---- listed types
 
-same_filter : {A : Type 0} (p q : A → Bool) (xs : List A) → AllByRecursion (λ x. p x ≡ q x) xs → filter p xs ≡ filter q xs
+pub same_filter : {A : Type 0} (p q : A → Bool) (xs : List A) → AllByRecursion (λ x. p x ≡ q x) xs → filter p xs ≡ filter q xs
 same_filter p q [] same = refl
 same_filter p q (x ∷ xs) same = ap (λ b. cond b (x ∷ filter p xs) (filter p xs)) same.0
     ∙ ap (λ ys. cond (q x) (x ∷ ys) ys) (same_filter p q xs same.1)

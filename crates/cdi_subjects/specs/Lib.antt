@@ -4,5 +4,6 @@ pub mod Filter
 pub mod Parts
 pub mod Proxies
 pub mod Records
+pub mod Rests
 pub mod Sites
 pub mod Subjects

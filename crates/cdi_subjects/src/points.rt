@@ -13,7 +13,8 @@ use crate::enabled::{is_enabled_in, producer_of_point};
 use crate::proxies::is_unproxyable;
 use cdi_effective::Effective;
 use cdi_faults::Subject;
-use cdi_model::{Decl, Decls, Mention, PointDecl, PointPlace};
+use cdi_model::{Decl, Mention, PointDecl, PointPlace};
+use cdi_observe::View;
 use cdi_resolve::Choice;
 use std::alloc::{AllocError, Global};
 use std::rc::Rc;
@@ -28,19 +29,19 @@ pub(crate) enum Verdict {
 
 impl Verdict {
     /// Whether the answer to a point is such.
-    fn is_of(
+    fn is_of<V: View>(
         self,
         alloc: Global,
-        decls: &Decls,
+        view: &V,
         point: &PointDecl,
         choice: &Choice,
     ) -> Result<bool, AllocError>
-        ensures { IfOk result (λ is. is ≡ has_verdict decls.now self point.now choice.now) }
+        ensures { IfOk result (λ is. is ≡ has_verdict (V.list view.now) self point.now choice.now) }
     {
         match self {
             Verdict::Unsatisfied => Ok(matches!(choice, Choice::Unsatisfied)),
             Verdict::Ambiguous => Ok(matches!(choice, Choice::Ambiguous(_))),
-            Verdict::Unproxyable => is_unproxyable(alloc, decls, point, choice),
+            Verdict::Unproxyable => is_unproxyable(alloc, view, point, choice),
         }
     }
 }
@@ -48,32 +49,32 @@ impl Verdict {
 /// The injection points of enabled beans and interceptors whose answers are such, of a declaration that has these beans, and
 /// these answers to its injection points.
 #[tactic(auto, using(crate::proofs::AnsweredLemmas::points_answered))]
-pub(crate) fn points_at_fault(
+pub(crate) fn points_at_fault<V: View>(
     alloc: Global,
-    decls: &Decls,
+    view: &V,
     decl: &Decl,
     beans: &[Effective],
     answers: &[Rc<Choice>],
     verdict: Verdict,
 ) -> Result<Vec<Subject>, AllocError>
-    requires { map (λ answer. answer.value) answers.now ≡ map (answer_to decls.now) (points_of decl.now) }
+    requires { map (λ answer. answer.value) answers.now ≡ map (answer_to (V.list view.now)) (points_of decl.now) }
     ensures { IfOk result (λ list. list.items
-        ≡ points_at_fault (has_verdict decls.now verdict) (answer_to decls.now) beans.now decl.now) }
+        ≡ points_at_fault (has_verdict (V.list view.now) verdict) (answer_to (V.list view.now)) beans.now decl.now) }
 {
-    points_by(alloc, decls, decl, beans, answers, verdict)
+    points_by(alloc, view, decl, beans, answers, verdict)
 }
 
 /// The same by the answers alone.
-fn points_by(
+fn points_by<V: View>(
     alloc: Global,
-    decls: &Decls,
+    view: &V,
     decl: &Decl,
     beans: &[Effective],
     answers: &[Rc<Choice>],
     verdict: Verdict,
 ) -> Result<Vec<Subject>, AllocError>
     ensures { IfOk result (λ list. list.items
-        ≡ points_by (has_verdict decls.now verdict) beans.now decl.now (map (λ answer. answer.value) answers.now) (mentions decl.now)) }
+        ≡ points_by (has_verdict (V.list view.now) verdict) beans.now decl.now (map (λ answer. answer.value) answers.now) (mentions decl.now)) }
 {
     let mut subjects = Vec::new(alloc);
     let mut left = answers;
@@ -81,7 +82,7 @@ fn points_by(
         if let Mention::Point(place, point) = mention {
             if let Some((answer, others)) = left.split_first() {
                 left = others;
-                let found = point_by(alloc, decls, decl, beans, &place, point, answer, verdict)?;
+                let found = point_by(alloc, view, decl, beans, &place, point, answer, verdict)?;
                 if let Some(subject) = found {
                     subjects.push(subject)?;
                 }
@@ -92,9 +93,9 @@ fn points_by(
 }
 
 /// A point, where the answer to it is such.
-fn point_by(
+fn point_by<V: View>(
     alloc: Global,
-    decls: &Decls,
+    view: &V,
     decl: &Decl,
     beans: &[Effective],
     place: &PointPlace,
@@ -103,12 +104,12 @@ fn point_by(
     verdict: Verdict,
 ) -> Result<Option<Subject>, AllocError>
     ensures { IfOk result (λ found. found ≡ some_if (is_enabled_in decl.now beans.now (producer_of_point place.now)
-        && has_verdict decls.now verdict point.now answer.now) (the_subjects.Point place.now point.now.name)) }
+        && has_verdict (V.list view.now) verdict point.now answer.now) (the_subjects.Point place.now point.now.name)) }
 {
     if !is_enabled_in(decl, beans, producer_of_point(place)) {
         return Ok(None);
     }
-    if !verdict.is_of(alloc, decls, point, answer)? {
+    if !verdict.is_of(alloc, view, point, answer)? {
         return Ok(None);
     }
     Ok(Some(Subject::Point {

@@ -7,25 +7,26 @@ ghost use Rattle.std.specs.Option.{option_eq};
 ghost use Rattle.std.specs.Str.{bytes_eq};
 ghost use Rattle.cdi_effective.specs.Beans.{records};
 
-use cdi_effective::{BeanId, Effective, records_of};
+use cdi_effective::{BeanId, Effective};
 use cdi_intercept::{around_any, in_order};
 use cdi_model::{BeanDecl, Decl, Decls, Form, Ident, Kind, Name, PointDecl, Qual, Scope};
+use cdi_observe::View;
 use cdi_resolve::Choice;
 use std::alloc::{AllocError, Global};
 
 /// Whether one bean is chosen for a point, its instances need a subclass, and the class that the point requires may have
-/// none. It takes memory for the records of the bean, and where it is managed for the interceptors, only at such a class.
-pub(crate) fn is_unproxyable(
+/// none. It takes memory for the interceptors of a managed bean without a normal scope, only at such a class.
+pub(crate) fn is_unproxyable<V: View>(
     alloc: Global,
-    decls: &Decls,
+    view: &V,
     point: &PointDecl,
     choice: &Choice,
 ) -> Result<bool, AllocError>
-    ensures { IfOk result (λ is. is ≡ is_unproxyable decls.now point.now choice.now) }
+    ensures { IfOk result (λ is. is ≡ is_unproxyable (V.list view.now) point.now choice.now) }
 {
     match choice {
-        Choice::One(id) if is_final(decls, point.required_type) => {
-            needs_subclass(alloc, decls, *id)
+        Choice::One(id) if is_final(view.decls(), point.required_type) => {
+            needs_subclass(alloc, view, *id)
         }
         _ => Ok(false),
     }
@@ -41,13 +42,15 @@ fn is_final(decls: &Decls, name: Name) -> bool
     }
 }
 
-fn needs_subclass(alloc: Global, decls: &Decls, id: BeanId) -> Result<bool, AllocError>
-    ensures { IfOk result (λ needs. needs ≡ needs_subclass decls.now id) }
+#[tactic(auto, unfolding(cdi_effective::specs::Records::records_in))]
+fn needs_subclass<V: View>(alloc: Global, view: &V, id: BeanId) -> Result<bool, AllocError>
+    ensures { IfOk result (λ needs. needs ≡ needs_subclass (V.list view.now) id) }
 {
+    let decls = view.decls();
     match decls.get(Kind::Bean, id.class) {
         Some(Decl::Bean(bean)) => {
-            let records = records_of(alloc, decls, bean)?;
-            needs_subclass_as(alloc, decls, bean, &records, id.producer)
+            let records = view.records(id.class);
+            needs_subclass_as(alloc, decls, bean, records, id.producer)
         }
         _ => Ok(false),
     }

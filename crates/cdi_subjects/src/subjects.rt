@@ -3,6 +3,7 @@ ghost use Rattle.std.specs.Prelude.{◌≡◌, map, IfOk};
 ghost use Rattle.cdi_effective.specs.Beans.{entries};
 ghost use Rattle.cdi_observe.specs.Answers.{answer_to};
 ghost use Rattle.cdi_observe.specs.Wanted.{points_of};
+ghost use Rattle.cdi_subjects.specs.Rests.{FaultsRestOn};
 ghost use Rattle.cdi_subjects.specs.Subjects.{subjects_at_fault};
 
 use crate::bodies::unfit_parts;
@@ -19,29 +20,32 @@ use crate::used::bad_uses;
 use cdi_bodies::Bodies;
 use cdi_effective::Effective;
 use cdi_faults::{Code, Subject};
-use cdi_model::{Decl, Decls};
+use cdi_model::Decl;
+use cdi_observe::View;
 use cdi_resolve::Choice;
 use std::alloc::{AllocError, Global};
 use std::rc::Rc;
 
 /// The parts of a declaration that have a fault of a code (CDI 4.0, Problems detected automatically by the container),
 /// in the order in which they are declared. Its records and the answers to its injection points are given in their
-/// order; no part has a fault of a name or a circle, which are no declaration's. It takes memory for the parts, and for
-/// searches among the declarations.
-#[tactic(auto, using(crate::proofs::Laws::by_entries))]
-pub fn subjects_at_fault<B: Bodies>(
+/// order; no part has a fault of a name or a circle, which are no declaration's. It takes memory for the parts that have
+/// one, and where a place has bindings of its own.
+#[tactic(auto, using(crate::proofs::Laws::by_entries, crate::proofs::RestLemmas::faults_rest_on))]
+pub fn subjects_at_fault<V: View, B: Bodies>(
     alloc: Global,
     code: Code,
-    decls: &Decls,
+    view: &V,
     book: &B,
     decl: &Decl,
     beans: &[Effective],
     answers: &[Rc<Choice>],
 ) -> Result<Vec<Subject>, AllocError>
-    requires beans { beans.now ≡ entries decls.now decl.now }
-    requires answers { map (λ answer. answer.value) answers.now ≡ map (answer_to decls.now) (points_of decl.now) }
-    ensures { IfOk result (λ list. list.items ≡ subjects_at_fault code decls.now (B.promises book.now) decl.now) }
+    requires beans { beans.now ≡ entries (V.list view.now) decl.now }
+    requires answers { map (λ answer. answer.value) answers.now ≡ map (answer_to (V.list view.now)) (points_of decl.now) }
+    ensures subjects { IfOk result (λ list. list.items ≡ subjects_at_fault code (V.list view.now) (B.promises book.now) decl.now) }
+    ensures rests { FaultsRestOn }
 {
+    let decls = view.decls();
     match code {
         Code::UnknownName => unknown_names(alloc, decls, decl),
         Code::Cycle => cycles(alloc, decls, decl),
@@ -55,13 +59,13 @@ pub fn subjects_at_fault<B: Bodies>(
         Code::Body => unfit_parts(alloc, book, decl),
         Code::NoBinding => unbound(alloc, decl),
         Code::Unsatisfied => {
-            points_at_fault(alloc, decls, decl, beans, answers, Verdict::Unsatisfied)
+            points_at_fault(alloc, view, decl, beans, answers, Verdict::Unsatisfied)
         }
         Code::Ambiguous => {
-            points_at_fault(alloc, decls, decl, beans, answers, Verdict::Ambiguous)
+            points_at_fault(alloc, view, decl, beans, answers, Verdict::Ambiguous)
         }
         Code::Unproxyable => {
-            points_at_fault(alloc, decls, decl, beans, answers, Verdict::Unproxyable)
+            points_at_fault(alloc, view, decl, beans, answers, Verdict::Unproxyable)
         }
         Code::Site => lost_sites(alloc, decls, decl, beans, answers),
         Code::NameClash | Code::NamePrefix | Code::Circular => Ok(Vec::new(alloc)),

@@ -19,7 +19,7 @@ use crate::records::records_of;
 use cdi_bodies::Bodies;
 use cdi_effective::Effective;
 use cdi_faults::{Code, Fault, Subject, in_text_order};
-use cdi_model::{Decl, Decls};
+use cdi_model::Decl;
 use cdi_observe::{View, evaluate};
 use cdi_resolve::Choice;
 use cdi_subjects::subjects_at_fault;
@@ -92,27 +92,27 @@ fn push_of_decls<V: View, B: Bodies>(
     let decls = view.decls();
     for (decl, own) in decls.iter().zip(answers) {
         let beans = records_of(view, decl);
-        push_of_decl(alloc, decls, book, decl, beans, own.as_slice(), faults)?;
+        push_of_decl(alloc, view, book, decl, beans, own.as_slice(), faults)?;
     }
     Ok(())
 }
 
 /// Appends the faults of a declaration, which has these beans, and these answers to its injection points.
-fn push_of_decl<B: Bodies>(
+fn push_of_decl<V: View, B: Bodies>(
     alloc: Global,
-    decls: &Decls,
+    view: &V,
     book: &B,
     decl: &Decl,
     beans: &[Effective],
     answers: &[Rc<Choice>],
     faults: &mut Vec<Fault>,
 ) -> Result<(), AllocError>
-    requires beans { beans.now ≡ entries decls.now decl.now }
-    requires answers { map (λ answer. answer.value) answers.now ≡ map (answer_to decls.now) (points_of decl.now) }
-    ensures { OnOk result (faults.new.items ≡ faults.old.items ++ faults_of decls.now (B.promises book.now) decl.now) }
+    requires beans { beans.now ≡ entries (V.list view.now) decl.now }
+    requires answers { map (λ answer. answer.value) answers.now ≡ map (answer_to (V.list view.now)) (points_of decl.now) }
+    ensures { OnOk result (faults.new.items ≡ faults.old.items ++ faults_of (V.list view.now) (B.promises book.now) decl.now) }
 {
     for code in Code::all() {
-        let subjects = subjects_at_fault(alloc, code, decls, book, decl, beans, answers)?;
+        let subjects = subjects_at_fault(alloc, code, view, book, decl, beans, answers)?;
         push_declared(code, decl, in_text_order(alloc, subjects)?, faults)?;
     }
     Ok(())

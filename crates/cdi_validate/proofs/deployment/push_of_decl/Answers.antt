@@ -16,11 +16,11 @@ loop-code-preserved g c =
     let codes = c.all-code-items.result in
     let code = get_or codes i codes_of.UnknownName in
     let old = c.loop-code.faults.items in
-    let of_code = faults_of_code c.args.decls.now (g.B.Bodies.promises c.args.book.now) d in
+    let of_code = faults_of_code (g.V.View.list c.args.view.now) (g.B.Bodies.promises c.args.book.now) d in
     let within = subst (λ cs. i < length cs) (sym c.all-code-items.ensures.value) c.loop-code-test.true in
     ap (λ fs. fs ++ flat_map of_code (drop (i + 1) codes))
     (c.in_ok-push_declared.ensures
     ∙ ap (λ ms. old ++ map (the_faults.Declared code (kind_of d) (name_of_decl d)) ms)
-    (c.in_ok-in_text_order.ensures.value ∙ ap in_text_order c.in_ok-subjects.ensures))
+    (c.in_ok-in_text_order.ensures.value ∙ ap in_text_order c.in_ok-subjects.ensures.subjects))
     ∙ appended of_code codes i code old _ within
     (get_or_default codes i codes_of.UnknownName code within) c.loop-code.invariant

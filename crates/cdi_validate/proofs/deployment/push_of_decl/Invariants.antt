@@ -5,5 +5,5 @@ use Rattle.cdi_validate.proofs.deployment.push_of_decl.Given as goal
 
 abbrev pub invariant-loop-code : goal.invariant-loop-code
 invariant-loop-code g l =
-    l.faults.items ++ flat_map (faults_of_code l.decls (g.B.Bodies.promises l.book) l.decl) (drop l.code-index l.code-items)
-    ≡ l.fn.faults.items ++ faults_of l.decls (g.B.Bodies.promises l.book) l.decl
+    l.faults.items ++ flat_map (faults_of_code (g.V.View.list l.view) (g.B.Bodies.promises l.book) l.decl) (drop l.code-index l.code-items)
+    ≡ l.fn.faults.items ++ faults_of (g.V.View.list l.view) (g.B.Bodies.promises l.book) l.decl

@@ -1,7 +1,9 @@
 use Rattle.std.proofs.Common.{◌≡◌, ◌++◌, [], ◌∷◌, map, sym, ap, ◌∙◌, append_assoc, append-nil, ⊎_elim}
 use Rattle.std.specs.List.{flat_map}
 use Rattle.std.specs.Slice.Iter.{iter_rest}
-use Rattle.cdi_observe.specs.Answers.{answers, answers_of}
+use Rattle.cdi_effective.specs.Beans.{entries}
+use Rattle.cdi_observe.specs.Answers.{answer_to, answers, answers_of}
+use Rattle.cdi_observe.specs.Wanted.{points_of}
 use Rattle.cdi_validate.specs.Faults.{faults_of}
 use Rattle.cdi_validate.specs.Records.{records_by}
 use Rattle.cdi_validate.proofs.FoundLemmas.{first-answers, none-left, records_found}
@@ -30,6 +32,7 @@ push_of_decl-requires-clause-beans g c =
     ∙ ap (λ ds. records_by ds d) (sym c.decls-decls.ensures)
     ∙ records_found c.decls-decls.result.now gone.0 c.next.new.self.a d c.iter.ensures.distinct
     (ap (λ rest. gone.0 ++ rest) (sym c.in-Some.ensures.steps.0) ∙ gone.1)
+    ∙ ap (λ ds. entries ds d) c.decls-decls.ensures
 
 pub push_of_decl-requires-clause-answers : goal.push_of_decl-requires-clause-answers
 push_of_decl-requires-clause-answers g c =
@@ -37,6 +40,7 @@ push_of_decl-requires-clause-answers g c =
     ∙ (first-answers (λ list. map (λ answer. answer.value) list.items) c.decls-decls.result.now c.loop-decl.decl-iterator.a
     c.next.new.self.a c.in-Some.decl.now (iter_rest c.loop-decl.decl-iterator.b) (iter_rest c.next.new.self.b) c.in-Some.own.now
     c.in-Some.ensures.steps.1 c.in-Some.ensures.steps.0 c.loop-decl.invariant.answers).0
+    ∙ ap (λ ds. map (answer_to ds) (points_of c.in-Some.decl.now)) c.decls-decls.ensures
 
 pub loop-decl-preserved : goal.loop-decl-preserved
 loop-decl-preserved g c =
@@ -51,6 +55,8 @@ loop-decl-preserved g c =
           (iter_rest c.loop-decl.decl-iterator.b) (iter_rest c.next.new.self.b) c.in-Some.own.now
           c.in-Some.ensures.steps.1 c.in-Some.ensures.steps.0 c.loop-decl.invariant.answers).1;
       faults = ap (λ fs. fs ++ flat_map of_decl left) c.in_ok-push_of_decl.ensures
+          ∙ ap (λ es. c.loop-decl.faults.items ++ faults_of es (g.B.Bodies.promises c.args.book.now) d ++ flat_map of_decl left)
+          (sym c.decls-decls.ensures)
           ∙ append_assoc c.loop-decl.faults.items (of_decl d) (flat_map of_decl left)
           ∙ ap (λ es. c.loop-decl.faults.items ++ flat_map of_decl es) (sym c.in-Some.ensures.steps.0)
           ∙ c.loop-decl.invariant.faults;

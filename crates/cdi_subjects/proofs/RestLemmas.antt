@@ -1,0 +1,411 @@
+-- The faults of a declaration rest on its records, the answers to its points and what the names that it writes are declared as.
+use Rattle.std.proofs.Common.{◌≡◌, ℕ, Bool, true, false, not, cond, ◌&&◌, ◌||◌, List, [], ◌∷◌, ◌++◌, map, filter, length, nat_lt, codes}
+use Rattle.std.proofs.Common.{Option, Some, None, is_some, option_map, refl, sym, ap, subst, ◌∙◌}
+use Rattle.std.specs.List.{AllByRecursion, find, flat_map, list_all, list_any}
+use Rattle.std.specs.Option.{option_to_list, unwrap_or}
+use Rattle.std.specs.Str.{bytes_eq}
+use Rattle.cdi_bodies.specs.Book.{Promised}
+use Rattle.cdi_model.specs.DeclList.{find_decl}
+use Rattle.cdi_model.specs.Mentions.{Mention, TypeIn, UseOf, StereotypeOf, MethodOf, PointOf, BodyOf, CallOf, EventOf, mentions}
+use Rattle.cdi_model.specs.declared.decl.BeanDecl.{BeanDecl}
+use Rattle.cdi_model.specs.declared.decl.CallDecl.{CallDecl}
+use Rattle.cdi_model.specs.declared.decl.Decl.{Decl}
+use Rattle.cdi_model.specs.declared.decl.Decl.TheVariants as decls
+use Rattle.cdi_model.specs.declared.decl.DisposerDecl.{DisposerDecl}
+use Rattle.cdi_model.specs.declared.decl.Kind.TheVariants as kinds
+use Rattle.cdi_model.specs.declared.decl.PointDecl.{PointDecl}
+use Rattle.cdi_model.specs.declared.decl.UseKind.TheVariants as uses
+use Rattle.cdi_model.specs.declared.mention.PointPlace.{PointPlace}
+use Rattle.cdi_model.specs.declared.mention.TypePlace.{TypePlace}
+use Rattle.cdi_model.specs.declared.mention.TypePlace.TheVariants as types_are
+use Rattle.cdi_model.specs.declared.place.BeanPlace.{BeanPlace}
+use Rattle.cdi_model.specs.declared.place.BeanPlace.TheVariants as spots
+use Rattle.cdi_model.specs.declared.place.PartPlace.{PartPlace}
+use Rattle.cdi_model.specs.declared.place.PartPlace.TheVariants as places
+use Rattle.cdi_model.specs.declared.quals.Qual.{Qual}
+use Rattle.cdi_match.specs.Chain.{has}
+use Rattle.cdi_match.specs.Covering.{covers, covers_by}
+use Rattle.cdi_match.specs.Filling.{as_binding, as_qualifier}
+use Rattle.cdi_match.specs.Misuse.{misuses}
+use Rattle.cdi_match.specs.Types.{object}
+use Rattle.cdi_effective.specs.Beans.{entries, managed, product}
+use Rattle.cdi_effective.specs.Bindings.{class_bindings}
+use Rattle.cdi_effective.specs.Disposers.{disposes}
+use Rattle.cdi_effective.specs.Qualifiers.{cover_all, required, some_covers}
+use Rattle.cdi_effective.specs.declared.records.BeanId.{BeanId}
+use Rattle.cdi_effective.specs.declared.records.Effective.{Effective}
+use Rattle.cdi_intercept.specs.Conflicts.{has_conflict}
+use Rattle.cdi_intercept.specs.Sets.{set_by}
+use Rattle.cdi_resolve.specs.declared.choice.Choice.{Choice}
+use Rattle.cdi_resolve.specs.declared.choice.Choice.TheVariants as choices
+use Rattle.cdi_observe.specs.Answers.{answer_to}
+use Rattle.cdi_observe.specs.Wanted.{points_of}
+use Rattle.cdi_faults.specs.declared.fault.Code.{Code}
+use Rattle.cdi_faults.specs.declared.fault.Code.TheVariants as codes_of
+use Rattle.cdi_faults.specs.declared.fault.Subject.{Subject}
+use Rattle.cdi_faults.specs.declared.fault.Subject.TheVariants as subjects
+use Rattle.cdi_subjects.specs.Filter.{found_in, is_enabled_in, producer_of_part, producer_of_point, some_if}
+use Rattle.cdi_subjects.specs.Proxies.{is_final_decl, is_unproxyable, needs_subclass}
+use Rattle.cdi_subjects.specs.Records.{conditional_by, conflict_at, conflicts_at_producers, conflicts_in, typed_by, with_two, without_product}
+use Rattle.cdi_subjects.specs.Rests.{AreAlike, DifferAlike, FaultsRestOn, HasQualifiersAlike, IsAnsweredAlike, IsBeanAlike, IsSeenAlike}
+use Rattle.cdi_subjects.specs.Rests.{named_in}
+use Rattle.cdi_subjects.specs.Sites.{has_method, is_lost, is_lost_among, lacks_method, lost_in, own_points, own_seen, points_seen}
+use Rattle.cdi_subjects.specs.Subjects.{bad_kind_in, bad_use_in, disposers_at_fault, form_of, has_verdict, is_class_form, is_interface_form}
+use Rattle.cdi_subjects.specs.Subjects.{is_known_in, point_in, scope_conflicts, subjects_at_fault, unknown_in, whole_if}
+use Rattle.cdi_subjects.specs.declared.points.Verdict.{Verdict}
+use Rattle.cdi_subjects.specs.declared.points.Verdict.TheVariants as verdicts
+use Rattle.cdi_subjects.proofs.AnsweredLemmas.{AreListed, IsFront, all-listed, own-first}
+use Rattle.cdi_subjects.proofs.RecordLemmas.{conditional_by_entries, disposers_of_records, same_filter, typed_by_entries}
+
+-- ---- what holds of each
+
+all-weaker : {A : Type 0} (P Q : A → Type 0) (xs : List A) → ((x : A) → P x → Q x) → AllByRecursion P xs → AllByRecursion Q xs
+all-weaker P Q [] weaker all = tt
+all-weaker P Q (x ∷ xs) weaker all = (weaker x all.0, all-weaker P Q xs weaker all.1)
+
+all-append : {A : Type 0} (P : A → Type 0) (xs ys : List A) → AllByRecursion P xs → AllByRecursion P ys → AllByRecursion P (xs ++ ys)
+all-append P [] ys first second = second
+all-append P (x ∷ xs) ys first second = (first.0, all-append P xs ys first.1 second)
+
+all-front : {A : Type 0} (P : A → Type 0) (xs ys : List A) → AllByRecursion P (xs ++ ys) → AllByRecursion P xs
+all-front P [] ys all = tt
+all-front P (x ∷ xs) ys all = (all.0, all-front P xs ys all.1)
+
+found-same : (f g : Mention → Option Subject) (ms : List Mention) → AllByRecursion (λ m. f m ≡ g m) ms → found_in f ms ≡ found_in g ms
+found-same f g [] same = refl
+found-same f g (m ∷ ms) same = ap (λ o. option_to_list o ++ found_in f ms) same.0
+    ∙ ap (λ l. option_to_list (g m) ++ l) (found-same f g ms same.1)
+
+any-same : {A : Type 0} (p q : A → Bool) (xs : List A) → AllByRecursion (λ x. p x ≡ q x) xs → list_any p xs ≡ list_any q xs
+any-same p q [] same = refl
+any-same p q (x ∷ xs) same = ap (λ b. b || list_any p xs) same.0 ∙ ap (λ b. q x || b) (any-same p q xs same.1)
+
+each-same : {A : Type 0} (f g : A → List Subject) (xs : List A) → ((x : A) → f x ≡ g x) → flat_map f xs ≡ flat_map g xs
+each-same f g [] same = refl
+each-same f g (x ∷ xs) same = ap (λ l. l ++ flat_map f xs) (same x) ∙ ap (λ l. g x ++ l) (each-same f g xs same)
+
+-- ---- names
+
+known-same : (ds es : List Decl) (place : TypePlace) (t : List ℕ) → find_decl kinds.Type t ds ≡ find_decl kinds.Type t es
+    → is_known_in ds place t ≡ is_known_in es place t
+known-same ds es types_are.Class t e = ap is_some e
+known-same ds es types_are.Extends t e = ap (λ o. bytes_eq t object || is_some o) e
+known-same ds es types_are.Implements t e = ap (λ o. bytes_eq t object || is_some o) e
+known-same ds es (types_are.Listed p) t e = ap (λ o. bytes_eq t object || is_some o) e
+known-same ds es types_are.Required t e = ap (λ o. bytes_eq t object || is_some o) e
+known-same ds es types_are.Produced t e = ap (λ o. bytes_eq t object || is_some o) e
+known-same ds es types_are.Disposed t e = ap (λ o. bytes_eq t object || is_some o) e
+known-same ds es types_are.Observed t e = ap (λ o. bytes_eq t object || is_some o) e
+known-same ds es types_are.Fired t e = ap (λ o. bytes_eq t object || is_some o) e
+
+unknown-same : (ds es : List Decl) (m : Mention) → AreAlike ds es (named_in m) → unknown_in ds m ≡ unknown_in es m
+unknown-same ds es (TypeIn place t) e = ap (λ b. some_if (not b) (subjects.Type t)) (known-same ds es place t e)
+unknown-same ds es (UseOf uses.Qualifier u) e =
+    ap (λ o. some_if (not (has (codes "Any" ∷ codes "Default" ∷ codes "Named" ∷ []) u.name || is_some o)) (subjects.Used uses.Qualifier u.name)) e
+unknown-same ds es (UseOf uses.Binding u) e = ap (λ o. some_if (not (is_some o)) (subjects.Used uses.Binding u.name)) e
+unknown-same ds es (StereotypeOf s) e = ap (λ o. some_if (not (is_some o)) (subjects.Stereotype s)) e
+unknown-same ds es (MethodOf x) e = refl
+unknown-same ds es (PointOf place p) e = refl
+unknown-same ds es (BodyOf place body) e = refl
+unknown-same ds es (CallOf place params call) e = refl
+unknown-same ds es (EventOf x) e = refl
+
+form-same : (ds es : List Decl) (d : Decl) (place : TypePlace) (t : List ℕ) → find_decl kinds.Type t ds ≡ find_decl kinds.Type t es
+    → bad_kind_in ds d (TypeIn place t) ≡ bad_kind_in es d (TypeIn place t)
+form-same ds es d types_are.Class t e = ap (λ o. some_if (is_interface_form (form_of o)) subjects.Class) e
+form-same ds es d types_are.Extends t e =
+    ap (λ o. some_if (is_interface_form (form_of (Some d)) || is_interface_form (form_of o)) (subjects.Extends t)) e
+form-same ds es d types_are.Implements t e = ap (λ o. some_if (bytes_eq t object || is_class_form (form_of o)) (subjects.Implements t)) e
+form-same ds es d (types_are.Listed p) t e = refl
+form-same ds es d types_are.Required t e = refl
+form-same ds es d types_are.Produced t e = refl
+form-same ds es d types_are.Disposed t e = refl
+form-same ds es d types_are.Observed t e = refl
+form-same ds es d types_are.Fired t e = refl
+
+bad-kind-same : (ds es : List Decl) (d : Decl) (m : Mention) → AreAlike ds es (named_in m) → bad_kind_in ds d m ≡ bad_kind_in es d m
+bad-kind-same ds es d (TypeIn place t) e = form-same ds es d place t e
+bad-kind-same ds es d (UseOf kind u) e = refl
+bad-kind-same ds es d (StereotypeOf s) e = refl
+bad-kind-same ds es d (MethodOf x) e = refl
+bad-kind-same ds es d (PointOf place p) e = refl
+bad-kind-same ds es d (BodyOf place body) e = refl
+bad-kind-same ds es d (CallOf place params call) e = refl
+bad-kind-same ds es d (EventOf x) e = refl
+
+bad-use-same : (ds es : List Decl) (m : Mention) → AreAlike ds es (named_in m) → bad_use_in ds m ≡ bad_use_in es m
+bad-use-same ds es (UseOf uses.Qualifier u) e =
+    ap (λ o. some_if (misuses (option_map (λ d. d.members) (as_qualifier o)) u) (subjects.Use uses.Qualifier u)) e
+bad-use-same ds es (UseOf uses.Binding u) e =
+    ap (λ o. some_if (misuses (option_map (λ d. d.members) (as_binding o)) u) (subjects.Use uses.Binding u)) e
+bad-use-same ds es (TypeIn place t) e = refl
+bad-use-same ds es (StereotypeOf s) e = refl
+bad-use-same ds es (MethodOf x) e = refl
+bad-use-same ds es (PointOf place p) e = refl
+bad-use-same ds es (BodyOf place body) e = refl
+bad-use-same ds es (CallOf place params call) e = refl
+bad-use-same ds es (EventOf x) e = refl
+
+-- ---- records
+
+covered-same : (ds es : List Decl) (quals : List Qual) (want : Qual)
+    → AllByRecursion (λ u. find_decl kinds.Qualifier u.name ds ≡ find_decl kinds.Qualifier u.name es) quals
+    → some_covers ds quals want ≡ some_covers es quals want
+covered-same ds es quals want alike =
+    any-same (λ have. covers ds uses.Qualifier have want) (λ have. covers es uses.Qualifier have want) quals
+    (all-weaker (λ u. find_decl kinds.Qualifier u.name ds ≡ find_decl kinds.Qualifier u.name es)
+    (λ have. covers ds uses.Qualifier have want ≡ covers es uses.Qualifier have want) quals
+    (λ have e. ap (λ o. covers_by (unwrap_or (option_map (λ d. d.members) (as_qualifier o)) []) have want) e) alike)
+
+cover-same : (ds es : List Decl) (quals asked : List Qual)
+    → AllByRecursion (λ u. find_decl kinds.Qualifier u.name ds ≡ find_decl kinds.Qualifier u.name es) quals
+    → cover_all ds quals asked ≡ cover_all es quals asked
+cover-same ds es quals [] alike = refl
+cover-same ds es quals (want ∷ asked) alike =
+    ap (λ b. b && cover_all ds quals asked) (covered-same ds es quals want alike)
+    ∙ ap (λ b. some_covers es quals want && b) (cover-same ds es quals asked alike)
+
+disposes-same : (ds es : List Decl) (s : DisposerDecl) (b : Effective) → HasQualifiersAlike ds es b → disposes ds b s ≡ disposes es b s
+disposes-same ds es s b alike =
+    ap (λ t. has b.types s.product_type && t) (cover-same ds es b.qualifiers (required s.qualifiers) alike)
+
+each-filter : {A : Type 0} (p q : A → Bool) (xs : List A) → ((x : A) → p x ≡ q x) → filter p xs ≡ filter q xs
+each-filter {A = A} p q xs same = same_filter p q xs (all xs)
+  where
+    all : (ys : List A) → AllByRecursion (λ x. p x ≡ q x) ys
+    all [] = tt
+    all (y ∷ ys) = (same y, all ys)
+
+without-same : (ds es : List Decl) (bs : List Effective) (disposers : List DisposerDecl) → AllByRecursion (HasQualifiersAlike ds es) bs
+    → without_product ds bs disposers ≡ without_product es bs disposers
+without-same ds es bs disposers alike =
+    ap (map (λ s. subjects.Disposer s.name))
+    (each-filter (λ s. not (list_any (λ p. disposes ds p s) bs)) (λ s. not (list_any (λ p. disposes es p s) bs)) disposers
+    (λ s. ap not (any-same (λ p. disposes ds p s) (λ p. disposes es p s) bs
+    (all-weaker (HasQualifiersAlike ds es) (λ p. disposes ds p s ≡ disposes es p s) bs (disposes-same ds es s) alike))))
+
+two-same : (ds es : List Decl) (bs : List Effective) (disposers : List DisposerDecl) → AllByRecursion (HasQualifiersAlike ds es) bs
+    → with_two ds bs disposers ≡ with_two es bs disposers
+two-same ds es bs disposers alike =
+    ap (λ rs. map subjects.Producer (flat_map (λ b. option_to_list b.id.producer) rs))
+    (same_filter (λ b. nat_lt 1 (length (filter (disposes ds b) disposers))) (λ b. nat_lt 1 (length (filter (disposes es b) disposers))) bs
+    (all-weaker (HasQualifiersAlike ds es)
+    (λ b. nat_lt 1 (length (filter (disposes ds b) disposers)) ≡ nat_lt 1 (length (filter (disposes es b) disposers))) bs
+    (λ b own. ap (λ xs. nat_lt 1 (length xs))
+    (each-filter (disposes ds b) (disposes es b) disposers (λ s. disposes-same ds es s b own))) alike))
+
+disposers-same : (ds es : List Decl) (d : Decl) → entries ds d ≡ entries es d → AllByRecursion (HasQualifiersAlike ds es) (entries ds d)
+    → disposers_at_fault ds d ≡ disposers_at_fault es d
+disposers-same ds es (decls.Type d) same alike = refl
+disposers-same ds es (decls.Qualifier d) same alike = refl
+disposers-same ds es (decls.Binding d) same alike = refl
+disposers-same ds es (decls.Stereotype d) same alike = refl
+disposers-same ds es (decls.Interceptor d) same alike = refl
+disposers-same ds es (decls.Bean bean) same alike =
+    let b = managed ds bean in
+    let bs = map (product ds bean) bean.producers in
+    sym (disposers_of_records ds bean b bs refl)
+    ∙ ap (λ l. l ++ with_two ds bs bean.disposers) (without-same ds es bs bean.disposers alike.1)
+    ∙ ap (λ l. without_product es bs bean.disposers ++ l) (two-same ds es bs bean.disposers alike.1)
+    ∙ disposers_of_records es bean b bs same
+
+conflicts-same : (ds es : List Decl) (bean : BeanDecl) → DifferAlike ds es (decls.Bean bean)
+    → conflicts_in ds (class_bindings ds bean) bean ≡ conflicts_in es (class_bindings es bean) bean
+conflicts-same ds es bean alike =
+    let class = class_bindings ds bean in
+    let other = class_bindings es bean in
+    let at : (place : BeanPlace) (subject : Subject) → conflict_at ds class bean place subject ≡ conflict_at es other bean place subject =
+    λ place subject. ap (λ b. cond b (subject ∷ []) []) (alike place) in
+    let methods = each-same (λ m. conflict_at ds class bean (spots.Method m.name) (subjects.Part (places.Method m.name)))
+    (λ m. conflict_at es other bean (spots.Method m.name) (subjects.Part (places.Method m.name))) bean.methods
+    (λ m. at (spots.Method m.name) (subjects.Part (places.Method m.name))) in
+    let producers = each-same (λ p. conflict_at ds class bean (spots.Producer p.name) (subjects.Part (places.Producer p.name)))
+    (λ p. conflict_at es other bean (spots.Producer p.name) (subjects.Part (places.Producer p.name)))
+    (filter (λ p. not p.is_static) bean.producers) (λ p. at (spots.Producer p.name) (subjects.Part (places.Producer p.name))) in
+    let observers = each-same (λ o. conflict_at ds class bean (spots.Observer o.name) (subjects.Part (places.Observer o.name)))
+    (λ o. conflict_at es other bean (spots.Observer o.name) (subjects.Part (places.Observer o.name))) bean.observers
+    (λ o. at (spots.Observer o.name) (subjects.Part (places.Observer o.name))) in
+    rw (at spots.Construct subjects.Class, methods, producers, observers) refl
+
+-- ---- injection points
+
+-- a test of points and of what is chosen for them that is the same wherever these are answered alike
+abbrev IsTestAlike : List Decl → List Decl → (PointDecl → Choice → Bool) → (PointDecl → Choice → Bool) → Type 0
+IsTestAlike ds es t u = (p : PointDecl) → find_decl kinds.Type p.required_type ds ≡ find_decl kinds.Type p.required_type es
+    → IsAnsweredAlike ds es p → t p (answer_to ds p) ≡ u p (answer_to es p)
+
+points-same : (ds es : List Decl) (t u : PointDecl → Choice → Bool) (bs : List Effective) (d : Decl) → IsTestAlike ds es t u
+    → (since points : List PointDecl) (ms : List Mention) → AreListed since points ms
+    → AllByRecursion (λ m. AreAlike ds es (named_in m)) ms → AllByRecursion (IsAnsweredAlike ds es) points
+    → found_in (point_in t (answer_to ds) bs d) ms ≡ found_in (point_in u (answer_to es) bs d) ms
+points-same ds es t u bs d alike since points [] listed names answers = refl
+points-same ds es t u bs d alike since points (PointOf place p ∷ ms) (rest, is, listed) names answers =
+    let own = subst (AllByRecursion (IsAnsweredAlike ds es)) is answers in
+    let others = found_in (point_in t (answer_to ds) bs d) ms in
+    let enabled = is_enabled_in d bs (producer_of_point place) in
+    ap (λ b. option_to_list (some_if (enabled && b) (subjects.Point place p.name)) ++ others) (alike p names.0 own.0)
+    ∙ ap (λ l. option_to_list (some_if (enabled && u p (answer_to es p)) (subjects.Point place p.name)) ++ l)
+    (points-same ds es t u bs d alike (since ++ p ∷ []) rest ms listed names.1 own.1)
+points-same ds es t u bs d alike since points (TypeIn place x ∷ ms) listed names answers =
+    points-same ds es t u bs d alike _ points ms listed names.1 answers
+points-same ds es t u bs d alike since points (CallOf place params call ∷ ms) (front, listed) names answers =
+    points-same ds es t u bs d alike since points ms listed names.1 answers
+points-same ds es t u bs d alike since points (UseOf kind x ∷ ms) listed names answers =
+    points-same ds es t u bs d alike since points ms listed names.1 answers
+points-same ds es t u bs d alike since points (StereotypeOf s ∷ ms) listed names answers =
+    points-same ds es t u bs d alike since points ms listed names.1 answers
+points-same ds es t u bs d alike since points (MethodOf m ∷ ms) listed names answers =
+    points-same ds es t u bs d alike since points ms listed names.1 answers
+points-same ds es t u bs d alike since points (BodyOf place body ∷ ms) listed names answers =
+    points-same ds es t u bs d alike since points ms listed names.1 answers
+points-same ds es t u bs d alike since points (EventOf e ∷ ms) listed names answers =
+    points-same ds es t u bs d alike since points ms listed names.1 answers
+
+proxy-same : (ds es : List Decl) (p : PointDecl) (c : Choice) → find_decl kinds.Type p.required_type ds ≡ find_decl kinds.Type p.required_type es
+    → ((id : BeanId) → c ≡ choices.One id → IsBeanAlike ds es id) → is_unproxyable ds p c ≡ is_unproxyable es p c
+proxy-same ds es p choices.Unsatisfied e alike = refl
+proxy-same ds es p (choices.Ambiguous ids) e alike = refl
+proxy-same ds es p (choices.One id) e alike =
+    ap (λ o. is_final_decl o && needs_subclass ds id) e
+    ∙ ap (λ b. is_final_decl (find_decl kinds.Type p.required_type es) && b) (alike id refl).subclass
+
+verdict-same : (ds es : List Decl) (v : Verdict) → IsTestAlike ds es (has_verdict ds v) (has_verdict es v)
+verdict-same ds es verdicts.Unsatisfied p e answered = ap (has_verdict ds verdicts.Unsatisfied p) answered.answer
+verdict-same ds es verdicts.Ambiguous p e answered = ap (has_verdict ds verdicts.Ambiguous p) answered.answer
+verdict-same ds es verdicts.Unproxyable p e answered =
+    proxy-same ds es p (answer_to ds p) e answered.bean ∙ ap (is_unproxyable es p) answered.answer
+
+-- ---- call sites
+
+lacks-same : (ds es : List Decl) (method : List ℕ) (c : Choice) → ((id : BeanId) → c ≡ choices.One id → IsBeanAlike ds es id)
+    → lacks_method ds method c ≡ lacks_method es method c
+lacks-same ds es method choices.Unsatisfied alike = refl
+lacks-same ds es method (choices.Ambiguous ids) alike = refl
+lacks-same ds es method (choices.One id) alike = ap not ((alike id refl).methods method)
+
+lost-same : (ds es : List Decl) (method name : List ℕ) (ps : List PointDecl) → AllByRecursion (IsAnsweredAlike ds es) ps
+    → is_lost_among ds method (option_map (answer_to ds) (find (λ p. bytes_eq p.name name) ps))
+    ≡ is_lost_among es method (option_map (answer_to es) (find (λ p. bytes_eq p.name name) ps))
+lost-same ds es method name [] answers = refl
+lost-same ds es method name (p ∷ ps) answers = by (bytes_eq p.name name) (lost-same ds es method name ps answers.1)
+  where
+    by : (b : Bool) → is_lost_among ds method (option_map (answer_to ds) (find (λ p. bytes_eq p.name name) ps))
+        ≡ is_lost_among es method (option_map (answer_to es) (find (λ p. bytes_eq p.name name) ps))
+        → is_lost_among ds method (option_map (answer_to ds) (cond b (Some p) (find (λ p. bytes_eq p.name name) ps)))
+        ≡ is_lost_among es method (option_map (answer_to es) (cond b (Some p) (find (λ p. bytes_eq p.name name) ps)))
+    by true rest = lacks-same ds es method (answer_to ds p) answers.0.bean ∙ ap (lacks_method es method) answers.0.answer
+    by false rest = rest
+
+seen-alike : (P : PointDecl → Type 0) (place : PartPlace) (own : List PointDecl) → AllByRecursion P own
+    → AllByRecursion P (own_seen place own)
+seen-alike P (places.StaticProducer n) own all = tt
+seen-alike P places.Construct own all = all
+seen-alike P places.Post own all = all
+seen-alike P places.Pre own all = all
+seen-alike P (places.Method n) own all = all
+seen-alike P (places.Producer n) own all = all
+seen-alike P (places.Disposer n) own all = all
+seen-alike P (places.Observer n) own all = all
+seen-alike P places.AroundInvoke own all = all
+seen-alike P places.AroundConstruct own all = all
+
+calls-same : (ds es : List Decl) (bs : List Effective) (d : Decl) → AllByRecursion (IsAnsweredAlike ds es) (own_points d)
+    → (since points : List PointDecl) (ms : List Mention) → AreListed since points ms → AllByRecursion (IsAnsweredAlike ds es) since
+    → AllByRecursion (IsAnsweredAlike ds es) points
+    → found_in (lost_in ds (answer_to ds) bs d) ms ≡ found_in (lost_in es (answer_to es) bs d) ms
+calls-same ds es bs d own since points [] listed before answers = refl
+calls-same ds es bs d own since points (PointOf place p ∷ ms) (rest, is, listed) before answers =
+    let left = subst (AllByRecursion (IsAnsweredAlike ds es)) is answers in
+    calls-same ds es bs d own (since ++ p ∷ []) rest ms listed
+    (all-append (IsAnsweredAlike ds es) since (p ∷ []) before (left.0, tt)) left.1
+calls-same ds es bs d own since points (TypeIn types_are.Produced x ∷ ms) listed before answers =
+    calls-same ds es bs d own [] points ms listed tt answers
+calls-same ds es bs d own since points (TypeIn types_are.Observed x ∷ ms) listed before answers =
+    calls-same ds es bs d own [] points ms listed tt answers
+calls-same ds es bs d own since points (TypeIn types_are.Class x ∷ ms) listed before answers =
+    calls-same ds es bs d own since points ms listed before answers
+calls-same ds es bs d own since points (TypeIn types_are.Extends x ∷ ms) listed before answers =
+    calls-same ds es bs d own since points ms listed before answers
+calls-same ds es bs d own since points (TypeIn types_are.Implements x ∷ ms) listed before answers =
+    calls-same ds es bs d own since points ms listed before answers
+calls-same ds es bs d own since points (TypeIn (types_are.Listed n) x ∷ ms) listed before answers =
+    calls-same ds es bs d own since points ms listed before answers
+calls-same ds es bs d own since points (TypeIn types_are.Required x ∷ ms) listed before answers =
+    calls-same ds es bs d own since points ms listed before answers
+calls-same ds es bs d own since points (TypeIn types_are.Disposed x ∷ ms) listed before answers =
+    calls-same ds es bs d own since points ms listed before answers
+calls-same ds es bs d own since points (TypeIn types_are.Fired x ∷ ms) listed before answers =
+    calls-same ds es bs d own since points ms listed before answers
+calls-same ds es bs d own since points (CallOf place params call ∷ ms) ((rest, is), listed) before answers =
+    let P = IsAnsweredAlike ds es in
+    let seen = all-append P params (own_seen place (own_points d))
+    (all-front P params rest (subst (AllByRecursion P) is before)) (seen-alike P place (own_points d) own) in
+    let enabled = is_enabled_in d bs (producer_of_part place) in
+    let subject = subjects.Call place call.point call.method in
+    let others = found_in (lost_in ds (answer_to ds) bs d) ms in
+    ap (λ b. option_to_list (some_if (enabled && b) subject) ++ others)
+    (lost-same ds es call.method call.point (points_seen place params (own_points d)) seen)
+    ∙ ap (λ l. option_to_list (lost_in es (answer_to es) bs d (CallOf place params call)) ++ l)
+    (calls-same ds es bs d own since points ms listed before answers)
+calls-same ds es bs d own since points (UseOf kind x ∷ ms) listed before answers =
+    calls-same ds es bs d own since points ms listed before answers
+calls-same ds es bs d own since points (StereotypeOf s ∷ ms) listed before answers =
+    calls-same ds es bs d own since points ms listed before answers
+calls-same ds es bs d own since points (MethodOf m ∷ ms) listed before answers =
+    calls-same ds es bs d own since points ms listed before answers
+calls-same ds es bs d own since points (BodyOf place body ∷ ms) listed before answers =
+    calls-same ds es bs d own since points ms listed before answers
+calls-same ds es bs d own since points (EventOf e ∷ ms) listed before answers =
+    calls-same ds es bs d own since points ms listed before answers
+
+-- ---- the law
+
+verdicts-same : (ds es : List Decl) (v : Verdict) (d : Decl) → IsSeenAlike ds es d
+    → found_in (point_in (has_verdict ds v) (answer_to ds) (entries ds d) d) (mentions d)
+    ≡ found_in (point_in (has_verdict es v) (answer_to es) (entries es d) d) (mentions d)
+verdicts-same ds es v d alike =
+    points-same ds es (has_verdict ds v) (has_verdict es v) (entries ds d) d (verdict-same ds es v) [] (points_of d) (mentions d)
+    (all-listed d) alike.names alike.answers
+    ∙ ap (λ bs. found_in (point_in (has_verdict es v) (answer_to es) bs d) (mentions d)) alike.records
+
+binding-same : (ds es : List Decl) (book : List Promised) (d : Decl) → DifferAlike ds es d
+    → subjects_at_fault codes_of.BindingConflict ds book d ≡ subjects_at_fault codes_of.BindingConflict es book d
+binding-same ds es book (decls.Type d) alike = refl
+binding-same ds es book (decls.Qualifier d) alike = refl
+binding-same ds es book (decls.Binding d) alike = refl
+binding-same ds es book (decls.Stereotype d) alike = refl
+binding-same ds es book (decls.Interceptor d) alike = refl
+binding-same ds es book (decls.Bean bean) alike = conflicts-same ds es bean alike
+
+pub faults_rest_on : FaultsRestOn
+faults_rest_on codes_of.UnknownName ds es book d alike =
+    found-same (unknown_in ds) (unknown_in es) (mentions d)
+    (all-weaker (λ m. AreAlike ds es (named_in m)) (λ m. unknown_in ds m ≡ unknown_in es m) (mentions d) (unknown-same ds es) alike.names)
+faults_rest_on codes_of.Cycle ds es book d alike = ap whole_if alike.circle
+faults_rest_on codes_of.BadKind ds es book d alike =
+    found-same (bad_kind_in ds d) (bad_kind_in es d) (mentions d)
+    (all-weaker (λ m. AreAlike ds es (named_in m)) (λ m. bad_kind_in ds d m ≡ bad_kind_in es d m) (mentions d) (bad-kind-same ds es d)
+    alike.names)
+faults_rest_on codes_of.Typed ds es book d alike =
+    sym (typed_by_entries ds d) ∙ ap (typed_by d) alike.records ∙ typed_by_entries es d
+faults_rest_on codes_of.ScopeConflict ds es book d alike = ap scope_conflicts alike.records
+faults_rest_on codes_of.BindingConflict ds es book d alike = binding-same ds es book d alike.bindings
+faults_rest_on codes_of.Member ds es book d alike =
+    found-same (bad_use_in ds) (bad_use_in es) (mentions d)
+    (all-weaker (λ m. AreAlike ds es (named_in m)) (λ m. bad_use_in ds m ≡ bad_use_in es m) (mentions d) (bad-use-same ds es) alike.names)
+faults_rest_on codes_of.Disposer ds es book d alike = disposers-same ds es d alike.records alike.qualifiers
+faults_rest_on codes_of.ConditionalDependent ds es book d alike =
+    sym (conditional_by_entries ds d) ∙ ap (conditional_by d) alike.records ∙ conditional_by_entries es d
+faults_rest_on codes_of.Body ds es book d alike = refl
+faults_rest_on codes_of.NoBinding ds es book d alike = refl
+faults_rest_on codes_of.Unsatisfied ds es book d alike = verdicts-same ds es verdicts.Unsatisfied d alike
+faults_rest_on codes_of.Ambiguous ds es book d alike = verdicts-same ds es verdicts.Ambiguous d alike
+faults_rest_on codes_of.Unproxyable ds es book d alike = verdicts-same ds es verdicts.Unproxyable d alike
+faults_rest_on codes_of.Site ds es book d alike =
+    let first = own-first d in
+    let own = all-front (IsAnsweredAlike ds es) (own_points d) first.0 (subst (AllByRecursion (IsAnsweredAlike ds es)) first.1 alike.answers) in
+    calls-same ds es (entries ds d) d own [] (points_of d) (mentions d) (all-listed d) tt alike.answers
+    ∙ ap (λ bs. found_in (lost_in es (answer_to es) bs d) (mentions d)) alike.records
+faults_rest_on codes_of.NameClash ds es book d alike = refl
+faults_rest_on codes_of.NamePrefix ds es book d alike = refl
+faults_rest_on codes_of.Circular ds es book d alike = refl
