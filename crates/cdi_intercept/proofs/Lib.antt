@@ -2,3 +2,4 @@ pub mod OrderLemmas
 pub mod ChainLemmas
 pub mod UseLemmas
 pub mod SeenLemmas
+mod SetLemmas

@@ -14,6 +14,6 @@ pub use bindings::{bindings_at, bindings_seen};
 pub use chain::{
     around_any, chain_among, in_order, part_for, stands_around, surrounds, surrounds_one,
 };
-pub use conflict::has_conflict;
+pub use conflict::has_conflict_at;
 pub use seen::seen_around;
 pub use set::{has_place, set_by, sets_of};

@@ -4,7 +4,7 @@ ghost use Rattle.cdi_subjects.specs.Records.{conflict_at, conflicts_at_producers
 
 use cdi_effective::Effective;
 use cdi_faults::Subject;
-use cdi_intercept::{has_conflict, set_by};
+use cdi_intercept::has_conflict_at;
 use cdi_model::{BeanDecl, BeanPlace, Decl, Decls, PartPlace, Qual};
 use std::alloc::{AllocError, Global};
 
@@ -84,7 +84,7 @@ fn push_if_opposed(
 ) -> Result<(), AllocError>
     ensures { OnOk result (subjects.new.items ≡ subjects.old.items ++ conflict_at decls.now class.now bean.now place subject) }
 {
-    if has_conflict(alloc, decls, &set_by(alloc, decls, class, bean, &place)?)? {
+    if has_conflict_at(alloc, decls, class, bean, &place)? {
         subjects.push(subject)?;
     }
     Ok(())
