@@ -19,7 +19,8 @@ no_uses : (us : List Qual) → length us ≡ 0 → us ≡ []
 no_uses [] e = refl
 no_uses (u ∷ us) e = absurd (omega (arith, e))
 
-around-none : (ds : List Decl) (class : List Qual) (own : Option (List Qual)) → declares_none own ≡ true → around_method ds class own ≡ class
+around-none : (ds : List Decl) (class : List Qual) (own : Option (List Qual)) → declares_none own ≡ true
+    → around_method ds class own ≡ class
 around-none ds class None h = absurd (false≢true h)
 around-none ds class (Some own) h =
     let none : own ≡ [] = no_uses own (eqb-true (length own) 0 h) in

@@ -3,7 +3,8 @@
 ghost use Rattle.std.specs.Prelude.{◌≡◌, ◌++◌, ◌∷◌, [], map, IfOk, OnOk};
 ghost use Rattle.std.specs.Option.{option_copied};
 ghost use Rattle.cdi_match.specs.Bindings.{uses_in};
-ghost use Rattle.cdi_intercept.specs.Sets.{around_method, declares_none, has_class_set, has_place, of_method, of_observer, of_producer, producers_of};
+ghost use Rattle.cdi_intercept.specs.Sets.{around_method, declares_none, has_class_set, has_place, of_method, of_observer, of_producer};
+ghost use Rattle.cdi_intercept.specs.Sets.{producers_of};
 ghost use Rattle.cdi_intercept.specs.Sets.{set_by, sets_of, with_set};
 ghost use Rattle.cdi_intercept.specs.Lent.{uses_at};
 

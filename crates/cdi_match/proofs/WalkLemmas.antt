@@ -208,13 +208,15 @@ walk-start which ds starts old new none empty m =
 
 -- what follows one that was left is found
 pub walk-step : (which : Links) (ds : List Decl) (starts : List (List ℕ)) (w popped new : Walk) (p : ℕ) (d : Decl)
-    (names : List (List ℕ)) → IsWalking which ds starts w → popped.marks ≡ w.marks → w.left.items ≡ popped.left.items ++ p ∷ [] → slice_get ds p ≡ Some d
+    (names : List (List ℕ)) → IsWalking which ds starts w → popped.marks ≡ w.marks → w.left.items ≡ popped.left.items ++ p ∷ []
+    → slice_get ds p ≡ Some d
     → names ≡ next_of which ds (name_of_decl d) → Meets which ds names popped new → IsWalking which ds starts new
 walk-step which ds starts w popped new p d names walking same left is follow m =
     let taken : names_at ds w.left.items ≡ names_at ds popped.left.items ++ name_of_decl d ∷ [] =
     ap (names_at ds) left ∙ names-append ds popped.left.items p
     ∙ ap (λ o. names_at ds popped.left.items ++ option_to_list (option_map name_of_decl o)) is in
-    let before : IsWalkingBy (has_met which ds popped) = subst (λ ms. IsWalkingBy (λ s. is_marked ms (position (is_of (kind_of which) s) ds)))
+    let before : IsWalkingBy (has_met which ds popped) =
+    subst (λ ms. IsWalkingBy (λ s. is_marked ms (position (is_of (kind_of which) s) ds)))
     (sym same) walking in
     Closing-step (next_declared which ds) (declared_among which ds starts) (name_of_decl d) (has_met which ds popped)
     (names_at ds w.left.items) (names_at ds popped.left.items) (has_met which ds new) (names_at ds new.left.items) before taken
