@@ -6,7 +6,6 @@ use Rattle.cdi_model.specs.declared.decl.Decl.{Decl}
 use Rattle.cdi_model.specs.declared.place.BeanPlace.{BeanPlace}
 use Rattle.cdi_model.specs.declared.place.BeanPlace.TheVariants as places
 use Rattle.cdi_model.specs.declared.quals.Qual.{Qual}
-use Rattle.cdi_match.specs.Bindings.{with_brought}
 use Rattle.cdi_match.proofs.BindingLemmas.{none_brought}
 use Rattle.cdi_effective.specs.Bindings.{in_place_of}
 use Rattle.cdi_intercept.specs.Sets.{around_method, declares_none, has_class_set, of_method, of_observer, of_producer, set_by}

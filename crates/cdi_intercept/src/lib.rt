@@ -5,6 +5,7 @@ mod asked;
 mod bindings;
 mod chain;
 mod conflict;
+mod intercepted;
 mod seen;
 mod set;
 mod written;
@@ -15,5 +16,6 @@ pub use chain::{
     around_any, chain_among, in_order, part_for, stands_around, surrounds, surrounds_one,
 };
 pub use conflict::has_conflict_at;
+pub use intercepted::is_intercepted;
 pub use seen::seen_around;
 pub use set::{has_place, set_by, sets_of};

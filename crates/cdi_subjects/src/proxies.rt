@@ -1,6 +1,6 @@
 //! Injection points for which no class can stand between the bean and its callers (CDI 4.0, Unproxyable bean types).
 ghost use Rattle.std.specs.Prelude.{◌≡◌, IfOk};
-ghost use Rattle.cdi_subjects.specs.Proxies.{is_final, is_intercepted, is_normal, is_unproxyable, needs_subclass, needs_subclass_as};
+ghost use Rattle.cdi_subjects.specs.Proxies.{is_final, is_normal, is_unproxyable, needs_subclass, needs_subclass_as};
 ghost use Rattle.cdi_subjects.specs.Proxies.{needs_subclass_by};
 ghost use Rattle.std.specs.List.{find};
 ghost use Rattle.std.specs.Option.{option_eq};
@@ -8,14 +8,14 @@ ghost use Rattle.std.specs.Str.{bytes_eq};
 ghost use Rattle.cdi_effective.specs.Beans.{records};
 
 use cdi_effective::{BeanId, Effective};
-use cdi_intercept::{around_any, in_order};
-use cdi_model::{BeanDecl, Decl, Decls, Form, Ident, Kind, Name, PointDecl, Qual, Scope};
+use cdi_intercept::is_intercepted;
+use cdi_model::{BeanDecl, Decl, Decls, Form, Ident, Kind, Name, PointDecl, Scope};
 use cdi_observe::View;
 use cdi_resolve::Choice;
 use std::alloc::{AllocError, Global};
 
 /// Whether one bean is chosen for a point, its instances need a subclass, and the class that the point requires may have
-/// none. It takes memory for the interceptors of a managed bean without a normal scope, only at such a class.
+/// none. It takes memory where the bean is managed and has bindings of its own at a place, only at such a class.
 pub(crate) fn is_unproxyable<V: View>(
     alloc: Global,
     view: &V,
@@ -100,17 +100,4 @@ fn is_normal(scope: Scope) -> bool
         Scope::Dependent => false,
         Scope::Request | Scope::Application => true,
     }
-}
-
-/// Whether an interceptor stands around some place of a bean whose class has these bindings.
-fn is_intercepted(
-    alloc: Global,
-    decls: &Decls,
-    class: &[Qual],
-    bean: &BeanDecl,
-) -> Result<bool, AllocError>
-    ensures { IfOk result (λ is. is ≡ is_intercepted decls.now class.now bean.now) }
-{
-    let order = in_order(alloc, decls)?;
-    Ok(!around_any(alloc, decls, &order, class, bean)?.is_empty())
 }

@@ -1,0 +1,20 @@
+use Rattle.std.proofs.Common.{◌≡◌, true, ap, sym, ◌∙◌, arith}
+use Rattle.std.specs.List.{list_any}
+use Rattle.std.proofs.lemmas.List.Folds.{list_any_at}
+use Rattle.cdi_model.specs.declared.decl.ObserverDecl.{ObserverDecl}
+use Rattle.cdi_model.specs.declared.place.BeanPlace.TheVariants as places
+use Rattle.cdi_intercept.specs.Chains.{is_around}
+use Rattle.cdi_intercept.proofs.AroundLemmas.{any-map}
+use Rattle.cdi_intercept.proofs.intercepted.is_at_observers.Goals as goal
+
+pub returns-then-branch : goal.returns-then-branch
+returns-then-branch c =
+    let at = is_around c.args.decls.now c.args.class.now c.args.bean.now in
+    let items = c.as_slice-observer-items.result.now in
+    let here = sym (ap (λ (m : ObserverDecl). at (places.Observer m.name)) c.observer-item.is) ∙ sym c.in_ok-is_around.ensures
+    ∙ c.if-branch.true in
+    let one : list_any (λ (m : ObserverDecl). at (places.Observer m.name)) items ≡ true =
+    list_any_at (λ (m : ObserverDecl). at (places.Observer m.name)) items c.loop-observer.observer-index c.observer-item.result
+    (omega (arith, c.loop-observer-test.true)) here in
+    sym (any-map (λ (m : ObserverDecl). places.Observer m.name) at c.args.bean.now.observers
+    ∙ sym (ap (list_any (λ (m : ObserverDecl). at (places.Observer m.name))) c.as_slice-observer-items.ensures) ∙ one)
