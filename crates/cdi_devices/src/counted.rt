@@ -6,18 +6,21 @@ ghost use Rattle.std.specs.Io.KnownBytes.{Keeps, ReadConsumes, WriteAppends};
 use std::io;
 use std::io::{Read, Write};
 
-/// A reader or a writer, with a count of the bytes that went through and two notes: whether a call answered an error or
-/// a write of some bytes took none, and whether all that was written has been flushed. It takes no memory.
+/// A reader or a writer, with a count of the bytes that went through and notes: whether a call answered an error or a
+/// write of some bytes took none, whether all that was written has been flushed, and of a reader what its `Console` had
+/// sent before each read. It takes no memory.
 #[derive(Drop)]
 pub struct Counted<T> {
     inner: T,
     bytes: u64,
     failed: bool,
     flushed: bool,
+    settled: bool,
+    sent_before: u64,
 }
 
 impl<T> Counted<T> {
-    ghost use Rattle.cdi_devices.specs.Counted.{inner_of, bytes_of, has_failed, is_flushed};
+    ghost use Rattle.cdi_devices.specs.Counted.{inner_of, bytes_of, has_failed, is_flushed, is_settled, sent_before};
 
     /// Nothing went through yet, and no call failed.
     pub fn new(inner: T) -> Counted<T>
@@ -25,12 +28,15 @@ impl<T> Counted<T> {
         ensures bytes { bytes_of result ≡ 0 }
         ensures failed { has_failed result ≡ false }
         ensures flushed { is_flushed result ≡ true }
+        ensures settled { is_settled result ≡ true }
     {
         Counted {
             inner,
             bytes: 0,
             failed: false,
             flushed: true,
+            settled: true,
+            sent_before: 0,
         }
     }
 
@@ -55,6 +61,20 @@ impl<T> Counted<T> {
         self.flushed
     }
 
+    /// Whether each read so far came by a `Console`, while all that its writer had taken was flushed, and behind no error.
+    pub fn is_settled(&self) -> bool
+        ensures { result ≡ is_settled self.now }
+    {
+        self.settled
+    }
+
+    /// How many bytes the writer of its `Console` had taken when a read last came by one, and 0 before.
+    pub fn sent_before(&self) -> u64
+        ensures { result ≡ sent_before self.now }
+    {
+        self.sent_before
+    }
+
     /// The reader or the writer itself.
     pub fn into_inner(self) -> T
         ensures { result ≡ inner_of self }
@@ -63,16 +83,22 @@ impl<T> Counted<T> {
     }
 }
 
-impl<R: Read> Read for Counted<R> {
-    ghost use Rattle.cdi_devices.specs.Counted.{inner_of, bytes_of, has_failed, NotesRead};
+impl<R: Read> Counted<R> {
+    ghost use Rattle.cdi_devices.specs.Counted.{inner_of, bytes_of, has_failed, NotesReadBehind};
 
-    ghost remaining = { λ c. R.remaining c.inner };
-
-    fn read(&mut self, buf: &mut [u8]) -> io::Result<usize>
+    /// A read, and a note of how many bytes were sent before it and whether these were flushed.
+    pub(crate) fn read_behind(
+        &mut self,
+        sent: u64,
+        flushed: bool,
+        buf: &mut [u8],
+    ) -> io::Result<usize>
         ensures bound { ReadsAtMost result buf.new }
         ensures bytes { ReadConsumes (R.remaining (inner_of self.old)) (R.remaining (inner_of self.new)) result buf.new }
-        ensures noted { NotesRead self.old self.new result }
+        ensures noted { NotesReadBehind sent flushed self.old self.new result }
     {
+        self.settled = self.settled && flushed && !self.failed;
+        self.sent_before = sent;
         match self.inner.read(buf) {
             Ok(n) => {
                 self.bytes = self.bytes.saturating_add(n as u64);
@@ -83,6 +109,21 @@ impl<R: Read> Read for Counted<R> {
                 Err(e)
             }
         }
+    }
+}
+
+impl<R: Read> Read for Counted<R> {
+    ghost use Rattle.cdi_devices.specs.Counted.{inner_of, bytes_of, has_failed, NotesRead};
+
+    ghost remaining = { λ c. R.remaining c.inner };
+
+    /// A read of the reader alone, which no flush is known to come before.
+    fn read(&mut self, buf: &mut [u8]) -> io::Result<usize>
+        ensures bound { ReadsAtMost result buf.new }
+        ensures bytes { ReadConsumes (R.remaining (inner_of self.old)) (R.remaining (inner_of self.new)) result buf.new }
+        ensures noted { NotesRead self.old self.new result }
+    {
+        self.read_behind(self.sent_before, false, buf)
     }
 }
 

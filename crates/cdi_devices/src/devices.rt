@@ -1,10 +1,12 @@
 //! Reading up to the limit of a script, and writing to the end.
-ghost use Rattle.std.specs.Prelude.{◌≡◌, ℕ, ◌+◌, ◌-◌, ◌<◌, ◌≤◌, take, length, OnOk, OnErr, IfOk, IsErrOf, IfErr, false, true};
+ghost use Rattle.std.specs.Prelude.{◌≡◌, ℕ, ◌+◌, ◌-◌, ◌<◌, ◌≤◌, ◌&&◌, not, take, length, OnOk, OnErr, IfOk, IsErrOf, IfErr, false, true};
 ghost use Rattle.std.specs.Io.KnownBytes.{Appends, Consumes, IsAtEnd};
-ghost use Rattle.cdi_devices.specs.Counted.{inner_of, bytes_of, has_failed, is_flushed};
+ghost use Rattle.cdi_devices.specs.Counted.{inner_of, bytes_of, has_failed, is_flushed, is_settled, sent_before};
+ghost use Rattle.cdi_devices.specs.Console.{reader_of, writer_of, KeepsStreams};
 ghost use Rattle.cdi_devices.specs.Devices.{Gives, ReadFails, WritesPart};
 ghost use Rattle.cdi_devices.specs.declared.devices.RunFault.TheVariants.{Memory};
 
+use crate::console::Console;
 use crate::counted::Counted;
 use std::alloc::{AllocError, AllocFailed};
 use std::io::{Read, Write};
@@ -44,24 +46,34 @@ impl<T: Drop> From<AllocFailed<T>> for RunFault {
 }
 
 /// One read into the buffer, of at most as many bytes as the limit of a script leaves; at the limit it asks for one
-/// byte more, and a byte that comes then is a fault. An `Ok(0)` is the end of the input. It takes no memory.
-pub fn read_some<R: Read>(reader: &mut Counted<R>, buffer: &mut [u8]) -> Result<usize, RunFault>
-    requires within { bytes_of reader.old ≤ SCRIPT_LIMIT }
+/// byte more, and a byte that comes then is a fault. An `Ok(0)` is the end of the input. The reader notes what was
+/// sent before. It takes no memory.
+pub fn read_some<R: Read, W>(
+    console: &mut Console<'_, R, W>,
+    buffer: &mut [u8],
+) -> Result<usize, RunFault>
+    requires within { bytes_of (reader_of console.old) ≤ SCRIPT_LIMIT }
     requires room { 0 < length buffer.old }
-    ensures gives { IfOk result (λ n. Gives R.remaining SCRIPT_LIMIT reader.old reader.new n buffer.new) }
-    ensures fails { OnErr result (ReadFails R.remaining SCRIPT_LIMIT reader.old reader.new) }
+    ensures gives { IfOk result (λ n.
+        Gives R.remaining SCRIPT_LIMIT (reader_of console.old) (reader_of console.new) n buffer.new) }
+    ensures fails { OnErr result (ReadFails R.remaining SCRIPT_LIMIT (reader_of console.old) (reader_of console.new)) }
     ensures error { IfErr result (λ fault. fault ≡ RunFault.Read) }
+    ensures settled { is_settled (reader_of console.new)
+        ≡ (is_settled (reader_of console.old) && is_flushed (writer_of console.old) && not (has_failed (reader_of console.old))) }
+    ensures sent { sent_before (reader_of console.new) ≡ bytes_of (writer_of console.old) }
+    ensures writer { writer_of console.new ≡ writer_of console.old }
+    ensures streams { KeepsStreams console.old console.new }
 {
-    let left = SCRIPT_LIMIT - reader.count();
+    let left = SCRIPT_LIMIT - console.reader().count();
     if left == 0 {
         let mut one = [0u8; 1];
-        return match reader.read(&mut one) {
+        return match console.read(&mut one) {
             Ok(0) => Ok(0),
             _ => Err(RunFault::Read),
         };
     }
     let most = buffer.len().min(left as usize);
-    match reader.read(&mut buffer[..most]) {
+    match console.read(&mut buffer[..most]) {
         Ok(n) => Ok(n),
         Err(_) => Err(RunFault::Read),
     }
