@@ -7,16 +7,16 @@ use Rattle.std.specs.BTreeMap.{is_at}
 use Rattle.std.specs.Map.{keys_of, lookup}
 use Rattle.std.specs.Option.{unwrap_or}
 use Rattle.std.specs.Str.{bytes_eq}
-use Rattle.std.proofs.lemmas.Bool.{and_parts, or_parts, or_left, or_right}
+use Rattle.std.proofs.lemmas.Bool.{and_parts, or_parts, or_left, or_right, false≢true, both_ways}
 use Rattle.std.proofs.lemmas.Bool.Decides.{Decides-at}
 use Rattle.std.proofs.lemmas.List.Folds.{list_any-append}
 use Rattle.std.proofs.lemmas.List.{length-map}
 use Rattle.cdi_model.specs.Bytes.{byte_order}
 use Rattle.cdi_match.specs.Chain.{ChainFromOne, Circle, has, leads, LeaveOnly, reaches_from_one}
-use Rattle.cdi_match.specs.Search.{Closing, Within}
+use Rattle.cdi_match.specs.Search.{Adds, Closing, Within}
 use Rattle.cdi_match.proofs.Chains.{reaches_from_one_decides}
-use Rattle.cdi_match.proofs.Names.{at_name, bytes_eq-turned}
-use Rattle.cdi_match.proofs.SearchLemmas.{Closing-all}
+use Rattle.cdi_match.proofs.Names.{at_name, bytes_eq-turned, same_text}
+use Rattle.cdi_match.proofs.SearchLemmas.{Closing-all, Closing-start}
 use Rattle.cdi_circles.specs.Edges.{among, is_on_circle, next_in, texts_in, Edges, LeadsOn}
 use Rattle.cdi_circles.specs.Search.{all_next}
 use Rattle.cdi_circles.proofs.ChainLemmas.{has-filter}
@@ -99,3 +99,19 @@ pub texts_in-put : (b : Bool) (texts : Vec (List ℕ) Global) (o : Option (Vec (
     → texts_in (cond b (Some texts) (cond b None o)) ≡ cond b texts.items (texts_in o)
 texts_in-put true texts o = refl
 texts_in-put false texts o = refl
+
+-- ---- beginnings
+
+-- A search of no start that finds some names is one that starts with them.
+pub Closing-begin : (next : List ℕ → List (List ℕ)) (names : List (List ℕ)) (f : List ℕ → Bool) (l : List (List ℕ)) (g : List ℕ → Bool)
+    (m : List (List ℕ)) → Closing next [] f l → Adds names f l g m → Closing next names g m
+Closing-begin next names f l g m none a = Closing-start next names f l g m (λ s. not_found s (f s) refl) (no_name l none.taken) a
+  where
+    not_found : (s : List ℕ) (b : Bool) → f s ≡ b → f s ≡ false
+    not_found s true e = absurd (false≢true ((none.sound s e).1))
+    not_found s false e = e
+
+    no_name : (left : List (List ℕ)) → ((x : List ℕ) → has left x ≡ true → f x ≡ true) → left ≡ []
+    no_name [] taken = refl
+    no_name (x ∷ xs) taken = absurd (both_ways (f x) (not_found x (f x) refl)
+        (taken x (or_left (bytes_eq x x) (has xs x) (same_text x x refl))))

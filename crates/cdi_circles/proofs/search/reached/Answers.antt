@@ -2,10 +2,10 @@ use Rattle.std.proofs.Common.{arith}
 use Rattle.std.specs.BTreeSet.{contains}
 use Rattle.std.proofs.lemmas.List.{nil_from_length}
 use Rattle.cdi_model.specs.Bytes.{byte_order}
-use Rattle.cdi_match.proofs.SearchLemmas.{Closing-begin, Closing-step, work_less}
+use Rattle.cdi_match.proofs.SearchLemmas.{Closing-step, work_less}
 use Rattle.cdi_circles.specs.Edges.{among, next_in}
 use Rattle.cdi_circles.specs.Search.{all_next}
-use Rattle.cdi_circles.proofs.EdgeLemmas.{among_within, found-all}
+use Rattle.cdi_circles.proofs.EdgeLemmas.{Closing-begin, among_within, found-all}
 use Rattle.cdi_circles.proofs.search.reached.Goals as goal
 
 pub taken-init : goal.taken-init
