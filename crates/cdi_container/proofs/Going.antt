@@ -1,13 +1,14 @@
 -- A run from one read to the next, and how it ends.
 use Rattle.std.proofs.Common.{◌≡◌, ℕ, List, [], ◌++◌, take, refl, ap, sym, ◌∙◌, subst, Option, Some, None, length, true, false, inl, inr}
-use Rattle.std.proofs.Common.{append_assoc, arith}
-use Rattle.std.specs.Prelude.{Bool, ◌≤◌}
+use Rattle.std.proofs.Common.{append_assoc, arith, ap₂}
+use Rattle.std.specs.Prelude.{Bool, ◌≤◌, ◌&&◌, not}
+use Rattle.std.proofs.Math.Bool.{and-true}
 use Rattle.std.specs.Io.KnownBytes.{Appends, Consumes}
 use Rattle.std.proofs.lemmas.List.{append-nil, length-append, length-take}
 use Rattle.cdi_lines.specs.declared.command.Command.{Command}
 use Rattle.cdi_lines.specs.Lines.{ended_from, begun_line}
 use Rattle.cdi_container.specs.Commands.{Outside, complete_commands, mode_of, commands, commands_of_lines}
-use Rattle.cdi_devices.specs.Counted.{inner_of, bytes_of, has_failed, is_flushed}
+use Rattle.cdi_devices.specs.Counted.{inner_of, bytes_of, has_failed, is_flushed, is_settled}
 use Rattle.cdi_devices.specs.Devices.{Gives, ReadFails}
 use Rattle.cdi_lines.specs.Kept.{ServesLine}
 use Rattle.cdi_container.specs.History.{empty}
@@ -74,13 +75,20 @@ module _ {R W : Type 0} (remaining : R → Option (List ℕ)) (contents : W → 
     reader_still = r_ok;
     writer_still = w_ok;
     flushed = flushed;
+    settled = refl;
   }
+
+  -- a read that comes then is behind a flush, and behind no read that failed
+  pub stays_settled : {B : Type 0} (r r' : Counted R) (w : Counted W) (s : Intake B) → Goes remaining contents limit setting r0 w0 r w s
+      → is_settled r' ≡ (is_settled r && is_flushed w && not (has_failed r)) → is_settled r' ≡ is_settled r0
+  stays_settled r r' w s h noted = noted ∙ ap₂ (λ a b. is_settled r && a && not b) h.flushed h.reader_still ∙ and-true (is_settled r)
+      ∙ h.settled
 
   pub goes_on : {B : Type 0} (r r' : Counted R) (w w' : Counted W) (s s' : Intake B) (n : ℕ) (buffer : List ℕ)
       → Goes remaining contents limit setting r0 w0 r w s → Gives remaining limit r r' n buffer
       → Feeds contents s s' w w' (take n buffer) → has_failed w' ≡ has_failed w → is_flushed w' ≡ true → s'.runner.out.items ≡ []
-      → Goes remaining contents limit setting r0 w0 r' w' s'
-  goes_on r r' w w' s s' n buffer h g f still flushed out = record {
+      → is_settled r' ≡ (is_settled r && is_flushed w && not (has_failed r)) → Goes remaining contents limit setting r0 w0 r' w' s'
+  goes_on r r' w w' s s' n buffer h g f still flushed out noted = record {
     given = h.given ++ take n buffer;
     came = Consumes-more _ _ _ h.given (take n buffer) h.came g.bytes;
     stands = f setting (contents (inner_of w0)) h.given h.stands;
@@ -91,6 +99,7 @@ module _ {R W : Type 0} (remaining : R → Option (List ℕ)) (contents : W → 
     reader_still = g.still ∙ h.reader_still;
     writer_still = still ∙ h.writer_still;
     flushed = flushed;
+    settled = stays_settled r r' w s h noted;
   }
 
   pub fails_to_read : {B : Type 0} (r r' : Counted R) (w : Counted W) (s : Intake B) → Goes remaining contents limit setting r0 w0 r w s

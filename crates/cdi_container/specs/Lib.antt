@@ -20,6 +20,7 @@ pub use Rattle.cdi_text.specs.Reading
 pub use Rattle.cdi_effective.specs.Beans
 pub use Rattle.cdi_resolve.specs.Choices
 pub use Rattle.cdi_resolve.specs.ChoiceText
+pub use Rattle.cdi_devices.specs.Console
 pub use Rattle.cdi_devices.specs.Counted
 pub use Rattle.cdi_validate.specs.Faults
 pub use Rattle.cdi_faults.specs.Codes

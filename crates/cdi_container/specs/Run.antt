@@ -8,7 +8,7 @@ use Rattle.cdi_container.specs.Commands.{commands, complete_commands, mode_of}
 use Rattle.cdi_lines.specs.Lines.{begun_line}
 use Rattle.cdi_container.specs.History.{State, empty, History, LegalHistory}
 use Rattle.cdi_container.specs.Text.{text_of, is_refused, is_out_of_memory}
-use Rattle.cdi_devices.specs.Counted.{inner_of, bytes_of, has_failed, is_flushed}
+use Rattle.cdi_devices.specs.Counted.{inner_of, bytes_of, has_failed, is_flushed, is_settled}
 use Rattle.cdi_devices.specs.declared.counted.Counted.{Counted}
 use Rattle.cdi_container.specs.declared.runner.Runner.{Runner}
 use Rattle.cdi_container.specs.Intake.{Keeps}
@@ -204,3 +204,4 @@ module _ {R W : Type 0} (remaining : R → Option (List ℕ)) (contents : W → 
     pub reader_still : has_failed reader ≡ false
     pub writer_still : has_failed writer ≡ false
     pub flushed : is_flushed writer ≡ true
+    pub settled : is_settled reader ≡ is_settled first_reader

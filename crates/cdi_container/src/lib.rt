@@ -17,7 +17,7 @@ mod wiring;
 pub use answer::Answer;
 pub use cdi_bodies::{Act, Bodies, Body, Book, BookCause, BookError, Frame, Promise};
 pub use cdi_contexts::{Actor, InstanceId, Owner};
-pub use cdi_devices::{Counted, RunFault, SCRIPT_LIMIT};
+pub use cdi_devices::{Console, Counted, RunFault, SCRIPT_LIMIT};
 pub use cdi_effective::BeanId;
 pub use cdi_faults::{Code, Fault, Subject};
 pub use cdi_legal::Entry;

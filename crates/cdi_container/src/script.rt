@@ -2,7 +2,8 @@
 ghost use Rattle.std.specs.Prelude.{◌≡◌, ◌≢◌, ◌≤◌, ◌<◌, ◌+◌, ◌⊎◌, length, OnOk, OnErr, IfOk, IfErr, IsErrOf, false, true, take, []};
 ghost use Rattle.std.specs.Io.KnownBytes.{Appends};
 ghost use Rattle.cdi_devices.specs.Devices.{WritesPart};
-ghost use Rattle.cdi_devices.specs.Counted.{inner_of, bytes_of, has_failed, is_flushed};
+ghost use Rattle.cdi_devices.specs.Counted.{inner_of, bytes_of, has_failed, is_flushed, is_settled, sent_before};
+ghost use Rattle.cdi_devices.specs.Console.{reader_of, writer_of, KeepsStreams};
 ghost use Rattle.cdi_container.specs.Run.{Sends, SendsPart, SendsLast, Feeds, FeedsBeforeMemory, FeedsPart, Ends, EndsBeforeMemory};
 ghost use Rattle.cdi_container.specs.Run.{EndsPart, RunsScript, FailsToRead, RunsOutOfMemory, FailsToWrite};
 ghost use Rattle.cdi_container.specs.Run.{setting_of, setting_with};
@@ -11,7 +12,7 @@ ghost use Rattle.cdi_container.specs.Intake.{IsFresh};
 use crate::intake::Intake;
 use crate::runner::Runner;
 use cdi_bodies::Bodies;
-use cdi_devices::{Counted, RunFault, SCRIPT_LIMIT, read_some, write_and_flush};
+use cdi_devices::{Console, Counted, RunFault, SCRIPT_LIMIT, read_some, write_and_flush};
 use std::alloc::Global;
 use std::io::{Read, Write};
 
@@ -169,34 +170,41 @@ fn finish<B: Bodies, W: Write>(
 fn read_all<B: Bodies, R: Read, W: Write>(
     intake: &mut Intake<B>,
     buffer: &mut [u8],
-    reader: &mut Counted<R>,
-    writer: &mut Counted<W>,
+    console: &mut Console<'_, R, W>,
 ) -> Result<Summary, RunFault>
     requires room { (0 < length buffer.old) × (length buffer.old ≤ READ_BYTES) }
     requires fresh { IsFresh intake.old.runner.container.book intake.old }
-    requires reader_fresh { (bytes_of reader.old ≡ 0) × (has_failed reader.old ≡ false) }
-    requires writer_fresh { (has_failed writer.old ≡ false) × (is_flushed writer.old ≡ true) }
+    requires reader_fresh { (bytes_of (reader_of console.old) ≡ 0) × (has_failed (reader_of console.old) ≡ false) }
+    requires writer_fresh { (has_failed (writer_of console.old) ≡ false) × (is_flushed (writer_of console.old) ≡ true) }
     ensures ok { IfOk result (λ summary.
         RunsScript R.remaining W.contents SCRIPT_LIMIT (setting_of intake.old)
-        reader.old reader.new writer.old writer.new summary.refused) }
+        (reader_of console.old) (reader_of console.new) (writer_of console.old) (writer_of console.new) summary.refused) }
     ensures read { IsErrOf result RunFault.Read →
-        FailsToRead R.remaining W.contents SCRIPT_LIMIT (setting_of intake.old) reader.old reader.new writer.old writer.new }
+        FailsToRead R.remaining W.contents SCRIPT_LIMIT (setting_of intake.old)
+        (reader_of console.old) (reader_of console.new) (writer_of console.old) (writer_of console.new) }
     ensures memory { IsErrOf result RunFault.Memory →
-        RunsOutOfMemory R.remaining W.contents SCRIPT_LIMIT READ_BYTES (setting_of intake.old) reader.old reader.new writer.old writer.new }
+        RunsOutOfMemory R.remaining W.contents SCRIPT_LIMIT READ_BYTES (setting_of intake.old)
+        (reader_of console.old) (reader_of console.new) (writer_of console.old) (writer_of console.new) }
     ensures write { IsErrOf result RunFault.Write →
-        FailsToWrite R.remaining W.contents SCRIPT_LIMIT READ_BYTES (setting_of intake.old) reader.old reader.new writer.old writer.new }
-    ensures flushed { IsErrOf result RunFault.Write ⊎ (is_flushed writer.new ≡ true) }
-    ensures read_cause { IsErrOf result RunFault.Read → (has_failed reader.new ≡ true) ⊎ (SCRIPT_LIMIT < bytes_of reader.new) }
-    ensures reader_sound { IsErrOf result RunFault.Read ⊎ ((has_failed reader.new ≡ false) × (bytes_of reader.new ≤ SCRIPT_LIMIT)) }
-    ensures write_cause { IsErrOf result RunFault.Write → has_failed writer.new ≡ true }
-    ensures writer_sound { IsErrOf result RunFault.Write ⊎ (has_failed writer.new ≡ false) }
-    ensures most { bytes_of reader.new ≤ SCRIPT_LIMIT + 1 }
+        FailsToWrite R.remaining W.contents SCRIPT_LIMIT READ_BYTES (setting_of intake.old)
+        (reader_of console.old) (reader_of console.new) (writer_of console.old) (writer_of console.new) }
+    ensures flushed { IsErrOf result RunFault.Write ⊎ (is_flushed (writer_of console.new) ≡ true) }
+    ensures read_cause { IsErrOf result RunFault.Read →
+        (has_failed (reader_of console.new) ≡ true) ⊎ (SCRIPT_LIMIT < bytes_of (reader_of console.new)) }
+    ensures reader_sound { IsErrOf result RunFault.Read
+        ⊎ ((has_failed (reader_of console.new) ≡ false) × (bytes_of (reader_of console.new) ≤ SCRIPT_LIMIT)) }
+    ensures write_cause { IsErrOf result RunFault.Write → has_failed (writer_of console.new) ≡ true }
+    ensures writer_sound { IsErrOf result RunFault.Write ⊎ (has_failed (writer_of console.new) ≡ false) }
+    ensures settled { is_settled (reader_of console.new) ≡ is_settled (reader_of console.old) }
+    ensures unsent { IsErrOf result RunFault.Read → sent_before (reader_of console.new) ≡ bytes_of (writer_of console.new) }
+    ensures most { bytes_of (reader_of console.new) ≤ SCRIPT_LIMIT + 1 }
+    ensures streams { KeepsStreams console.old console.new }
 {
     loop {
-        match read_some(reader, buffer) {
+        match read_some(console, buffer) {
             Err(fault) => return Err(fault),
-            Ok(0) => return finish(intake, writer),
-            Ok(n) => match feed(intake, writer, &buffer[..n]) {
+            Ok(0) => return finish(intake, console.writer()),
+            Ok(n) => match feed(intake, console.writer(), &buffer[..n]) {
                 Ok(()) => {}
                 Err(fault) => return Err(fault),
             },
@@ -205,49 +213,59 @@ fn read_all<B: Bodies, R: Read, W: Write>(
 }
 
 /// Reads a script, runs each command on a container that is empty at first and keeps this book of stored bodies, and
-/// writes and flushes each command's lines before more is read. It takes a buffer of 65,536 bytes, what the container
-/// takes, and a bounded number of bytes for the line and the put block that have begun.
+/// writes what the commands print. All that it had sent was flushed before each read, and no read comes behind an error
+/// of the reader; where it answers `Read`, it sent nothing behind its last read. It takes a buffer of 65,536 bytes, what
+/// the container takes, and a bounded number of bytes for the line and the put block that have begun.
 ///
 /// The clauses speak of the bytes of readers and writers that tell their bytes to contracts. Those of `std`'s files and
-/// standard streams are not told; of these they say what was counted, failed and flushed.
+/// standard streams are not told; of these they say what was counted, failed and flushed. That a command's lines are sent
+/// before a read that gives more is tested.
 pub fn run<B: Bodies + Drop, R: Read, W: Write>(
     alloc: Global,
-    reader: &mut Counted<R>,
-    writer: &mut Counted<W>,
+    console: &mut Console<'_, R, W>,
     options: Options,
     book: B,
 ) -> Result<Summary, RunFault>
-    requires reader_fresh { (bytes_of reader.old ≡ 0) × (has_failed reader.old ≡ false) }
-    requires writer_fresh { (has_failed writer.old ≡ false) × (is_flushed writer.old ≡ true) }
+    requires reader_fresh { (bytes_of (reader_of console.old) ≡ 0) × (has_failed (reader_of console.old) ≡ false) }
+    requires writer_fresh { (has_failed (writer_of console.old) ≡ false) × (is_flushed (writer_of console.old) ≡ true) }
 
     // The text of a legal history of exactly the script's commands was written, and the summary tells of it.
     ensures ok { IfOk result (λ summary.
         RunsScript R.remaining W.contents SCRIPT_LIMIT (setting_with options.quiet (B.promises book))
-        reader.old reader.new writer.old writer.new summary.refused) }
+        (reader_of console.old) (reader_of console.new) (writer_of console.old) (writer_of console.new) summary.refused) }
 
     // What was written where the run ended early.
     ensures read { IsErrOf result RunFault.Read →
         FailsToRead R.remaining W.contents SCRIPT_LIMIT (setting_with options.quiet (B.promises book))
-        reader.old reader.new writer.old writer.new }
+        (reader_of console.old) (reader_of console.new) (writer_of console.old) (writer_of console.new) }
     ensures memory { IsErrOf result RunFault.Memory →
         RunsOutOfMemory R.remaining W.contents SCRIPT_LIMIT READ_BYTES (setting_with options.quiet (B.promises book))
-        reader.old reader.new writer.old writer.new }
+        (reader_of console.old) (reader_of console.new) (writer_of console.old) (writer_of console.new) }
     ensures write { IsErrOf result RunFault.Write →
         FailsToWrite R.remaining W.contents SCRIPT_LIMIT READ_BYTES (setting_with options.quiet (B.promises book))
-        reader.old reader.new writer.old writer.new }
+        (reader_of console.old) (reader_of console.new) (writer_of console.old) (writer_of console.new) }
 
     // All that was written was flushed at the end, also where a read failed.
-    ensures flushed { IsErrOf result RunFault.Write ⊎ (is_flushed writer.new ≡ true) }
+    ensures flushed { IsErrOf result RunFault.Write ⊎ (is_flushed (writer_of console.new) ≡ true) }
+
+    // All that was sent was flushed before each read, and no read came behind an error of the reader.
+    ensures settled { is_settled (reader_of console.new) ≡ is_settled (reader_of console.old) }
+
+    // Where a read failed, or gave a byte behind the limit, nothing was sent behind it.
+    ensures unsent { IsErrOf result RunFault.Read → sent_before (reader_of console.new) ≡ bytes_of (writer_of console.new) }
 
     // `Read` and `Write` come exactly where a device failed, or the reader gave a byte behind the limit.
-    ensures read_cause { IsErrOf result RunFault.Read → (has_failed reader.new ≡ true) ⊎ (SCRIPT_LIMIT < bytes_of reader.new) }
-    ensures reader_sound { IsErrOf result RunFault.Read ⊎ ((has_failed reader.new ≡ false) × (bytes_of reader.new ≤ SCRIPT_LIMIT)) }
-    ensures write_cause { IsErrOf result RunFault.Write → has_failed writer.new ≡ true }
-    ensures writer_sound { IsErrOf result RunFault.Write ⊎ (has_failed writer.new ≡ false) }
-    ensures most { bytes_of reader.new ≤ SCRIPT_LIMIT + 1 }
+    ensures read_cause { IsErrOf result RunFault.Read →
+        (has_failed (reader_of console.new) ≡ true) ⊎ (SCRIPT_LIMIT < bytes_of (reader_of console.new)) }
+    ensures reader_sound { IsErrOf result RunFault.Read
+        ⊎ ((has_failed (reader_of console.new) ≡ false) × (bytes_of (reader_of console.new) ≤ SCRIPT_LIMIT)) }
+    ensures write_cause { IsErrOf result RunFault.Write → has_failed (writer_of console.new) ≡ true }
+    ensures writer_sound { IsErrOf result RunFault.Write ⊎ (has_failed (writer_of console.new) ≡ false) }
+    ensures most { bytes_of (reader_of console.new) ≤ SCRIPT_LIMIT + 1 }
+    ensures streams { KeepsStreams console.old console.new }
     ensures limits { (SCRIPT_LIMIT ≡ 16777216) × (READ_BYTES ≡ 65536) }
 {
     let mut buffer = vec![in alloc; 0u8; READ_BYTES]?;
     let mut intake = Intake::new(alloc, book, options.quiet);
-    read_all(&mut intake, buffer.as_mut_slice(), reader, writer)
+    read_all(&mut intake, buffer.as_mut_slice(), console)
 }

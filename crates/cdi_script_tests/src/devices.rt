@@ -1,6 +1,6 @@
 //! Runs over readers and writers that fail, that never end, and that watch each other.
 use crate::fixtures::{STORED_SCRIPT, STORED_TEXT, assert_text, empty_page, fault_of, outcome};
-use cdi_container::{Counted, Options, RunFault, run};
+use cdi_container::{Console, Counted, Options, RunFault, run};
 use cdi_devices::SCRIPT_LIMIT;
 use cdi_fixtures::Echo;
 use std::cell::Cell;
@@ -130,7 +130,8 @@ fn answers_are_written_before_more_is_read(rt: HostRuntime) -> Result<(), Fail> 
         bytes: empty_page(rt.alloc())?,
         flushed,
     });
-    let summary = run(rt.alloc(), &mut reader, &mut writer, OPTIONS, Echo)?;
+    let mut console = Console::new(&mut reader, &mut writer);
+    let summary = run(rt.alloc(), &mut console, OPTIONS, Echo)?;
     assert!(rt; summary.refused && !reader.into_inner().is_out_of_step);
     let written = writer.into_inner().bytes;
     let text = b"ok\nok\none Corner\nunsatisfied\nrefused E11 Absent\nrefused E20 BadCommand\n";
@@ -164,7 +165,8 @@ fn reads_that_fail(rt: HostRuntime) -> Result<(), Fail> {
             reads,
         });
         let mut writer = Counted::new(empty_page(rt.alloc())?);
-        let outcome = run(rt.alloc(), &mut reader, &mut writer, OPTIONS, Echo);
+        let mut console = Console::new(&mut reader, &mut writer);
+        let outcome = run(rt.alloc(), &mut console, OPTIONS, Echo);
         let is_read = fault_of(outcome)? == Some(RunFault::Read);
         assert!(rt; is_read, "after {reads}");
         let count = STORED_SCRIPT.len().min(reads * 5);
@@ -192,7 +194,8 @@ impl Read for Endless {
 fn a_script_without_end_is_a_failed_read(rt: HostRuntime) -> Result<(), Fail> {
     let mut reader = Counted::new(Endless { asked: 0 });
     let mut writer = Counted::new(empty_page(rt.alloc())?);
-    let outcome = run(rt.alloc(), &mut reader, &mut writer, OPTIONS, Echo);
+    let mut console = Console::new(&mut reader, &mut writer);
+    let outcome = run(rt.alloc(), &mut console, OPTIONS, Echo);
     let is_read = fault_of(outcome)? == Some(RunFault::Read);
     assert!(rt; is_read && writer.into_inner().is_empty());
     let count = reader.count();
@@ -235,7 +238,8 @@ fn writes_that_fail(rt: HostRuntime) -> Result<(), Fail> {
                 fails,
                 bytes: empty_page(rt.alloc())?,
             });
-            let outcome = run(rt.alloc(), &mut reader, &mut writer, OPTIONS, Echo);
+            let mut console = Console::new(&mut reader, &mut writer);
+            let outcome = run(rt.alloc(), &mut console, OPTIONS, Echo);
             let is_write = fault_of(outcome)? == Some(RunFault::Write);
             let is_right = is_write && writer.has_failed() && writer.count() == left as u64;
             assert!(rt; is_right, "at {left}");

@@ -1,6 +1,6 @@
 //! What several tests share.
 use cdi_bodies::{Body, Book};
-use cdi_container::{Counted, Options, RunFault, Summary, run};
+use cdi_container::{Console, Counted, Options, RunFault, Summary, run};
 use cdi_fixtures::Echo;
 use std::alloc::{AllocError, Global};
 use std::fmt::Display;
@@ -33,7 +33,8 @@ pub(crate) fn outcome(alloc: Global, script: &[u8]) -> Result<(Vec<u8>, bool), F
     let mut reader = Counted::new(script);
     let mut writer = Counted::new(empty_page(alloc)?);
     let options = Options { quiet: false };
-    let summary = run(alloc, &mut reader, &mut writer, options, Echo)?;
+    let mut console = Console::new(&mut reader, &mut writer);
+    let summary = run(alloc, &mut console, options, Echo)?;
     Ok((writer.into_inner(), summary.refused))
 }
 
@@ -45,7 +46,8 @@ pub(crate) fn printed(alloc: Global, script: &[u8], bodies: Vec<Body>) -> Result
     let mut reader = Counted::new(script);
     let mut writer = Counted::new(empty_page(alloc)?);
     let options = Options { quiet: false };
-    run(alloc, &mut reader, &mut writer, options, book)?;
+    let mut console = Console::new(&mut reader, &mut writer);
+    run(alloc, &mut console, options, book)?;
     Ok(writer.into_inner())
 }
 

@@ -13,7 +13,7 @@ use Rattle.clap.specs.declared.error.kind.ErrorKind.TheVariants.{DisplayHelp, Ou
 use Rattle.cdi_bodies.specs.Book.{Promised}
 use Rattle.cdi_container.specs.Run.{Setting, setting_with, RunsScript, FailsToRead, FailsToWrite, RunsOutOfMemory}
 use Rattle.cdi_container.specs.declared.script.Summary.{Summary}
-use Rattle.cdi_devices.specs.Counted.{inner_of, bytes_of, has_failed, is_flushed}
+use Rattle.cdi_devices.specs.Counted.{inner_of, bytes_of, has_failed, is_flushed, is_settled, sent_before}
 use Rattle.cdi_devices.specs.Devices.{WritesPart}
 use Rattle.cdi_devices.specs.declared.counted.Counted.{Counted}
 use Rattle.cdi_devices.specs.declared.devices.RunFault.{RunFault}
@@ -64,25 +64,31 @@ module _ {E : Type 0} (contents : E → Option (List ℕ)) where
 abbrev pub ReaderFact : Type 1
 ReaderFact = (R : Type 0) → (R → Option (List ℕ)) → Counted R → Counted R → Type 0
 
+-- all that was sent was flushed before each read, and no read came behind an error of the reader
+abbrev pub ReadsBehindFlushes : {R : Type 0} → Counted R → Counted R → Type 0
+ReadsBehindFlushes reader reader_after = is_settled reader_after ≡ is_settled reader
+
 module _ {O : Type 0} (held : O → Option (List ℕ)) (limit piece : ℕ) (setting : Setting) (output output_after : Counted O) where
   -- the script ran to its end, and all of its text was written and flushed
   abbrev pub RunsToItsEnd : Bool → ReaderFact
   RunsToItsEnd refused R left reader reader_after = RunsScript left held limit setting reader reader_after output output_after refused
-      × (has_failed output_after ≡ false) × (is_flushed output_after ≡ true)
+      × (has_failed output_after ≡ false) × (is_flushed output_after ≡ true) × ReadsBehindFlushes reader reader_after
 
-  -- the reader failed, or gave a byte behind the limit, and the text of the lines before was written
+  -- the reader failed, or gave a byte behind the limit, and the text of the lines before was written, all of it before that read
   abbrev pub StopsReading : ReaderFact
   StopsReading R left reader reader_after = FailsToRead left held limit setting reader reader_after output output_after
       × ((has_failed reader_after ≡ true) ⊎ (limit < bytes_of reader_after))
+      × (sent_before reader_after ≡ bytes_of output_after) × ReadsBehindFlushes reader reader_after
 
   -- the writer failed
   abbrev pub StopsWriting : ReaderFact
   StopsWriting R left reader reader_after = FailsToWrite left held limit piece setting reader reader_after output output_after
-      × (has_failed output_after ≡ true)
+      × (has_failed output_after ≡ true) × ReadsBehindFlushes reader reader_after
 
   -- a command wanted memory that was not given
   abbrev pub WantsMemory : ReaderFact
   WantsMemory R left reader reader_after = RunsOutOfMemory left held limit piece setting reader reader_after output output_after
+      × ReadsBehindFlushes reader reader_after
 
   -- what a script came to
   abbrev pub ComesTo : Result Summary RunFault → ReaderFact
@@ -98,6 +104,7 @@ module _ {File : Type 0} (left : File → Option (List ℕ)) where
     pub file_after : Counted File
     pub holds : left (inner_of file) ≡ bytes
     pub start : bytes_of file ≡ 0
+    pub settled : is_settled file ≡ true
     pub fact : Fact File left file file_after
 
 module _ {File O : Type 0} (left : File → Option (List ℕ)) (held : O → Option (List ℕ)) (limit piece : ℕ) (setting : Setting) where

@@ -9,7 +9,7 @@ use crate::complaints::{fault_of_open, refuse_line, tell_fault};
 use crate::files::Files;
 use crate::options::{Arguments, options};
 use cdi_bodies::Bodies;
-use cdi_container::{Counted, Options, READ_BYTES, RunFault, SCRIPT_LIMIT, Summary, run};
+use cdi_container::{Console, Counted, Options, READ_BYTES, RunFault, SCRIPT_LIMIT, Summary, run};
 use std::alloc::Global;
 use std::convert::AsStr;
 use std::io::{Read, Write};
@@ -123,7 +123,8 @@ fn run_from<B: Bodies + Drop, R: Read, O: Write>(
     ensures { ComesTo O.contents SCRIPT_LIMIT READ_BYTES (setting_with settings.quiet (B.promises book))
         output.old output.new result R R.remaining reader.old reader.new }
 {
-    run(alloc, reader, output, settings, book)
+    let mut console = Console::new(reader, output);
+    run(alloc, &mut console, settings, book)
 }
 
 fn status_of(strict: bool, outcome: Result<Summary, RunFault>) -> u8

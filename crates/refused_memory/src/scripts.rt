@@ -1,6 +1,6 @@
 //! The run of a script, of which any one allocation may be refused.
 use crate::Difference;
-use cdi_container::{Counted, Options, RunFault, run};
+use cdi_container::{Console, Counted, Options, RunFault, run};
 use cdi_fixtures::Echo;
 use std::alloc::Global;
 
@@ -75,7 +75,8 @@ fn run_once(alloc: Global) -> Result<bool, Difference> {
     let mut reader = Counted::new(SCRIPT);
     let mut writer = Counted::new(&mut page[..]);
     let options = Options { quiet: false };
-    let outcome = run(alloc, &mut reader, &mut writer, options, Echo);
+    let mut console = Console::new(&mut reader, &mut writer);
+    let outcome = run(alloc, &mut console, options, Echo);
     let count = writer.count() as usize;
     let written = page.get(..count).ok_or(Difference::Run)?;
     match outcome {

@@ -4,7 +4,7 @@ ghost use Rattle.std.specs.Prelude.{◌≡◌, ◌≢◌, ◌<◌, ◌↔◌, If
 use crate::difference::Difference;
 use crate::rows::{Row, rows_of};
 use cdi_bodies::Book;
-use cdi_container::{Counted, Options, run};
+use cdi_container::{Console, Counted, Options, run};
 use cdi_stock::stock_bodies;
 use std::alloc::{AllocError, Global};
 
@@ -27,7 +27,8 @@ fn check_row<'t>(alloc: Global, row: &Row<'t>) -> Result<(), Difference<'t>> {
     let Ok(book) = Book::new(stock_bodies!(alloc)) else {
         return Err(Difference::OutOfMemory);
     };
-    if let Err(fault) = run(alloc, &mut reader, &mut writer, options, book) {
+    let mut console = Console::new(&mut reader, &mut writer);
+    if let Err(fault) = run(alloc, &mut console, options, book) {
         return Err(Difference::Run {
             row: row.name,
             fault,

@@ -7,5 +7,6 @@ returns-in-Ok g c = inl (record {
   file_after = c.run_from.new.reader;
   holds = search rules;
   start = c.new-reader.ensures.bytes;
+  settled = c.new-reader.ensures.settled;
   fact = c.run_from.ensures;
 })
