@@ -1,5 +1,5 @@
 //! Look-ups, calls, events, requests and stops of a container, with ample memory.
-use cdi_container::{Answer, Command, Container, Entry};
+use cdi_container::{Container, Entry};
 use cdi_fixtures::{Echo, name};
 use cdi_model::{Error, Failure, Ident, Name, Outcome, Quals, Refusal, Val};
 use std::alloc::{AllocError, Global};
@@ -228,49 +228,6 @@ fn make(alloc: Global, container: &mut Container<Echo>, asked: &Asked) -> Told {
     }
 }
 
-/// The command that a call is.
-fn command_of(alloc: Global, asked: &Asked) -> Result<Command, Error> {
-    let quals = Quals::new(alloc);
-    match asked {
-        LookUp(text) => Ok(Command::LookUp {
-            bean_type: name(text)?,
-            quals,
-        }),
-        Call(text, arg, of) => Ok(Command::Call {
-            method: method(text)?,
-            arg: *arg,
-            bean_type: name(of)?,
-            quals,
-        }),
-        Fire(arg, of) => Ok(Command::Fire {
-            arg: *arg,
-            event_type: name(of)?,
-            quals,
-        }),
-        Begin => Ok(Command::BeginRequest),
-        End => Ok(Command::EndRequest),
-        Stop => Ok(Command::Stop),
-    }
-}
-
-fn execute(container: &mut Container<Echo>, command: Command) -> Result<Answer, AllocError> {
-    container.execute(command)
-}
-
-/// What a command tells that is a look-up, a call, an event, or about a context.
-fn told_by(answer: &Answer) -> Told {
-    match answer {
-        Answer::Given(outcome) => Ok(Some(*outcome)),
-        Answer::Refused(refusal) => Err(Error::Refused(*refusal)),
-        _ => Ok(None),
-    }
-}
-
-/// Makes a call as a command.
-fn command(alloc: Global, container: &mut Container<Echo>, asked: &Asked) -> Told {
-    told_by(&execute(container, command_of(alloc, asked)?)?)
-}
-
 fn trace_text(alloc: Global, container: &Container<Echo>) -> Result<Vec<u8>, AllocError> {
     let mut text = Vec::new(alloc);
     container.push_trace(&mut text)?;
@@ -295,16 +252,6 @@ fn makes(alloc: Global, container: &mut Container<Echo>, step: &Step) -> Result<
     Ok(told == step.1 && shows(alloc, container, step.2)?)
 }
 
-/// Whether its command has.
-fn executes(
-    alloc: Global,
-    container: &mut Container<Echo>,
-    step: &Step,
-) -> Result<bool, AllocError> {
-    let told = command(alloc, container, &step.0);
-    Ok(told == step.1 && shows(alloc, container, step.2)?)
-}
-
 /// The place of the first step whose call has not.
 fn first_other_call(
     alloc: Global,
@@ -313,20 +260,6 @@ fn first_other_call(
 ) -> Result<Option<usize>, AllocError> {
     for (place, step) in steps.iter().enumerate() {
         if !makes(alloc, container, step)? {
-            return Ok(Some(place));
-        }
-    }
-    Ok(None)
-}
-
-/// The place of the first step whose command has not.
-fn first_other_command(
-    alloc: Global,
-    container: &mut Container<Echo>,
-    steps: &[Step],
-) -> Result<Option<usize>, AllocError> {
-    for (place, step) in steps.iter().enumerate() {
-        if !executes(alloc, container, step)? {
             return Ok(Some(place));
         }
     }
@@ -358,14 +291,6 @@ fn forgets_trace(alloc: Global, container: &mut Container<Echo>) -> Result<bool,
 fn calls_run_bodies(rt: HostRuntime) -> Result<(), Fail> {
     let mut container = stored(rt.alloc(), &DECLARED)?;
     let other = first_other_call(rt.alloc(), &mut container, &STEPS)?;
-    assert!(rt; other.is_none(), "{other:?}");
-    Ok(())
-}
-
-#[test]
-fn commands_run_bodies(rt: HostRuntime) -> Result<(), Fail> {
-    let mut container = stored(rt.alloc(), &DECLARED)?;
-    let other = first_other_command(rt.alloc(), &mut container, &STEPS)?;
     assert!(rt; other.is_none(), "{other:?}");
     Ok(())
 }
