@@ -4,7 +4,7 @@ ghost use Rattle.std.specs.Prelude.{Some};
 use cdi_container::Counted;
 use cdi_fixtures::Echo;
 use cdi_session::{Files, refuse_words, session};
-use std::alloc::Global;
+use std::alloc::{AllocError, Global};
 use std::io;
 use std::io::{ErrorKind, Read, Write};
 use std::test::Fail;
@@ -119,99 +119,134 @@ const FAULTY: &[u8] =
 const FAULTY_TEXT: &str =
     "ok\nok\nok\nunsatisfied\nambiguous A C\nfaults 3\nF01 bean A type B\nF20 bean A point p\nF01 bean C type C\n";
 
+/// Whether a run has this status, and wrote this to the output and to the errors.
+fn is_run(ran: &Ran, status: u8, output: &str, errors: &str) -> bool {
+    ran.status == status
+        && ran.output.as_slice() == output.as_bytes()
+        && ran.errors.as_slice() == errors.as_bytes()
+}
+
+/// Flags, a script, and the status and the output of its run.
+#[derive(Clone, Copy)]
+struct Case(&'static [&'static str], &'static [u8], u8, &'static str);
+
+static CASES: [Case; 9] = [
+    Case(&[], REFUSED, 0, REFUSED_TEXT),
+    Case(&["--strict"], REFUSED, 1, REFUSED_TEXT),
+    Case(&["--quiet"], REFUSED, 0, REFUSED_TEXT),
+    Case(&["--quiet", "--strict"], MISSPELT, 1, MISSPELT_TEXT),
+    Case(&["--strict", "--quiet"], ACCEPTED, 0, ACCEPTED_TEXT),
+    Case(&["--strict"], ACCEPTED, 0, ACCEPTED_TEXT),
+    Case(&["--strict"], FAULTY, 0, FAULTY_TEXT),
+    Case(&["--strict"], b"drop type A\n", 1, "refused E11 Absent\n"),
+    Case(&[], b"put\nkind=\"type\"", 0, "refused E20 BadCommand\n"),
+];
+
+/// The words of a command line.
+fn words_of(
+    alloc: Global,
+    path: &'static str,
+    flags: &[&'static str],
+) -> Result<Vec<&'static str>, AllocError> {
+    let mut words = Vec::with_capacity(alloc, 4)?;
+    words.push("program")?;
+    words.push(path)?;
+    words.extend_from_slice(flags)?;
+    Ok(words)
+}
+
+/// Whether the script of a case runs as it is to where a file has it.
+fn runs_from_file(alloc: Global, case: &Case) -> Result<bool, AllocError> {
+    let words = words_of(alloc, "script", case.0)?;
+    let files = OneFile(case.1, ErrorKind::NotFound);
+    let ran = run_program(&files, alloc, words.as_slice(), &b""[..]);
+    Ok(is_run(&ran, case.2, case.3, ""))
+}
+
+/// The same where the input has it.
+fn runs_from_input(alloc: Global, case: &Case) -> Result<bool, AllocError> {
+    let words = words_of(alloc, "-", case.0)?;
+    let files = OneFile(b"", ErrorKind::NotFound);
+    let ran = run_program(&files, alloc, words.as_slice(), case.1);
+    Ok(is_run(&ran, case.2, case.3, ""))
+}
+
 #[test]
 fn flags_from_a_file_and_from_the_input(rt: HostRuntime) -> Result<(), Fail> {
-    let none: &[&str] = &[];
-    let cases = [
-        (none, REFUSED, 0, REFUSED_TEXT),
-        (&["--strict"], REFUSED, 1, REFUSED_TEXT),
-        (&["--quiet"], REFUSED, 0, REFUSED_TEXT),
-        (&["--quiet", "--strict"], MISSPELT, 1, MISSPELT_TEXT),
-        (&["--strict", "--quiet"], ACCEPTED, 0, ACCEPTED_TEXT),
-        (&["--strict"], ACCEPTED, 0, ACCEPTED_TEXT),
-        (&["--strict"], FAULTY, 0, FAULTY_TEXT),
-        (&["--strict"], b"drop type A\n", 1, "refused E11 Absent\n"),
-        (none, b"put\nkind=\"type\"", 0, "refused E20 BadCommand\n"),
-    ];
-    for (flags, script, status, text) in cases {
-        for (path, file, input) in [("script", script, &b""[..]), ("-", &b""[..], script)] {
-            let mut words = Vec::new(rt.alloc());
-            words.push("program")?;
-            words.push(path)?;
-            words.extend_from_slice(flags)?;
-            let files = OneFile(file, ErrorKind::NotFound);
-            let ran = run_program(&files, rt.alloc(), words.as_slice(), input);
-            assert_eq!(rt; ran.status, status, "{words:?}");
-            assert_eq!(rt; ran.output.as_slice(), text.as_bytes());
-            assert!(rt; ran.errors.is_empty());
-        }
+    for (place, case) in CASES.iter().enumerate() {
+        let is_right = runs_from_file(rt.alloc(), case)? && runs_from_input(rt.alloc(), case)?;
+        assert!(rt; is_right, "case {place}");
     }
     Ok(())
+}
+
+/// Whether the run of a path at which such an error waits ends so.
+fn fails_to_open(alloc: Global, kind: ErrorKind, status: u8, complaint: &str) -> bool {
+    let files = OneFile(REFUSED, kind);
+    let words = ["program", "other", "--strict"];
+    let ran = run_program(&files, alloc, words.as_slice(), REFUSED);
+    is_run(&ran, status, "", complaint)
 }
 
 #[test]
 fn path_that_cannot_be_opened(rt: HostRuntime) -> Result<(), Fail> {
-    let cases = [
-        (ErrorKind::NotFound, 3, "error: read failed\n"),
-        (ErrorKind::OutOfMemory, 4, "error: out of memory\n"),
-    ];
-    for (kind, status, complaint) in cases {
-        let files = OneFile(REFUSED, kind);
-        let words = ["program", "other", "--strict"];
-        let ran = run_program(&files, rt.alloc(), words.as_slice(), REFUSED);
-        assert_eq!(rt; ran.status, status);
-        assert!(rt; ran.output.is_empty());
-        assert_eq!(rt; ran.errors.as_slice(), complaint.as_bytes());
-    }
+    let alloc = rt.alloc();
+    assert!(rt; fails_to_open(alloc, ErrorKind::NotFound, 3, "error: read failed\n"));
+    assert!(rt; fails_to_open(alloc, ErrorKind::OutOfMemory, 4, "error: out of memory\n"));
     Ok(())
+}
+
+/// Whether words without a script have a status, and a text on the errors where it is 2 and on the output where it is 0.
+fn is_told(alloc: Global, flag: &str, status: u8) -> bool {
+    let files = OneFile(REFUSED, ErrorKind::NotFound);
+    let words = ["program", flag];
+    let ran = run_program(&files, alloc, words.as_slice(), &b""[..]);
+    ran.status == status
+        && ran.output.is_empty() == (status == 2)
+        && ran.errors.is_empty() == (status == 0)
 }
 
 #[test]
 fn no_script_is_status_2_and_help_is_status_0(rt: HostRuntime) -> Result<(), Fail> {
-    let cases = [
-        (["program", "--strict"], 2),
-        (["program", "--loud"], 2),
-        (["program", "--help"], 0),
-    ];
-    for (words, status) in cases {
-        let files = OneFile(REFUSED, ErrorKind::NotFound);
-        let ran = run_program(&files, rt.alloc(), words.as_slice(), &b""[..]);
-        assert_eq!(rt; ran.status, status);
-        assert_eq!(rt; ran.output.is_empty(), status == 2);
-        assert_eq!(rt; ran.errors.is_empty(), status == 0);
-    }
+    assert!(rt; is_told(rt.alloc(), "--strict", 2));
+    assert!(rt; is_told(rt.alloc(), "--loud", 2));
+    assert!(rt; is_told(rt.alloc(), "--help", 0));
     Ok(())
+}
+
+/// Whether a run whose writer takes so many bytes has written these and says that a write failed.
+fn writes_front(alloc: Global, count: usize) -> bool {
+    let mut input = Counted::new(REFUSED);
+    let mut output = Counted::new(Full {
+        left: count,
+        flushes: count < REFUSED_TEXT.len(),
+        bytes: Vec::new(alloc),
+    });
+    let mut errors = Counted::new(Vec::new(alloc));
+    let words = ["program", "-"];
+    let files = OneFile(b"", ErrorKind::NotFound);
+    let status = session(
+        &files,
+        alloc,
+        words.as_slice(),
+        Echo,
+        &mut input,
+        &mut output,
+        &mut errors,
+    );
+    let ran = Ran {
+        status,
+        output: output.into_inner().bytes,
+        errors: errors.into_inner(),
+    };
+    let front = REFUSED_TEXT.get(..count).unwrap_or("");
+    is_run(&ran, 3, front, "error: write failed\n")
 }
 
 #[test]
 fn writer_that_fails_has_a_front_part(rt: HostRuntime) -> Result<(), Fail> {
-    for k in 0..=REFUSED_TEXT.len() {
-        let mut input = Counted::new(REFUSED);
-        let mut output = Counted::new(Full {
-            left: k,
-            flushes: k < REFUSED_TEXT.len(),
-            bytes: Vec::new(rt.alloc()),
-        });
-        let mut errors = Counted::new(Vec::new(rt.alloc()));
-        let words = ["program", "-"];
-        let status = session(
-            &OneFile(b"", ErrorKind::NotFound),
-            rt.alloc(),
-            words.as_slice(),
-            Echo,
-            &mut input,
-            &mut output,
-            &mut errors,
-        );
-        assert_eq!(rt; status, 3);
-        assert_eq!(rt;
-            output.into_inner().bytes.as_slice(),
-            &REFUSED_TEXT.as_bytes()[..k]
-        );
-        assert_eq!(rt;
-            errors.into_inner().as_slice(),
-            &b"error: write failed\n"[..]
-        );
+    for count in 0..=REFUSED_TEXT.len() {
+        assert!(rt; writes_front(rt.alloc(), count), "at {count}");
     }
     Ok(())
 }
@@ -222,27 +257,23 @@ fn reader_that_fails_leaves_the_complete_lines(rt: HostRuntime) -> Result<(), Fa
     let words = ["program", "-"];
     let input = Broken(b"drop type A\nchoose A\nchoose B");
     let ran = run_program(&files, rt.alloc(), words.as_slice(), input);
-    assert_eq!(rt; ran.status, 3);
     let complete = "refused E11 Absent\nunsatisfied\n";
-    assert_eq!(rt; ran.output.as_slice(), complete.as_bytes());
-    assert_eq!(rt; ran.errors.as_slice(), &b"error: read failed\n"[..]);
+    assert!(rt; is_run(&ran, 3, complete, "error: read failed\n"));
     Ok(())
+}
+
+/// Whether words that cannot be had for such an error end with a status and a text on the errors.
+fn refuses_words(alloc: Global, kind: ErrorKind, status: u8, complaint: &str) -> bool {
+    let mut errors = Counted::new(Vec::new(alloc));
+    let told = refuse_words(&io::Error::from(kind), &mut errors);
+    told == status && errors.into_inner().as_slice() == complaint.as_bytes()
 }
 
 #[test]
 fn words_that_cannot_be_had(rt: HostRuntime) -> Result<(), Fail> {
-    let cases = [
-        (ErrorKind::OutOfMemory, 4, "error: out of memory\n"),
-        (
-            ErrorKind::InvalidData,
-            2,
-            "error: an argument is not UTF-8\n",
-        ),
-    ];
-    for (kind, status, complaint) in cases {
-        let mut errors = Counted::new(Vec::new(rt.alloc()));
-        assert_eq!(rt; refuse_words(&io::Error::from(kind), &mut errors), status);
-        assert_eq!(rt; errors.into_inner().as_slice(), complaint.as_bytes());
-    }
+    let alloc = rt.alloc();
+    let not_utf8 = "error: an argument is not UTF-8\n";
+    assert!(rt; refuses_words(alloc, ErrorKind::OutOfMemory, 4, "error: out of memory\n"));
+    assert!(rt; refuses_words(alloc, ErrorKind::InvalidData, 2, not_utf8));
     Ok(())
 }
