@@ -3,7 +3,6 @@ ghost use Rattle.std.specs.Prelude.{◌≡◌, Contains};
 ghost use Rattle.std.specs.List.Sorted.{IsStrictlySortedBy};
 ghost use Rattle.cdi_faults.specs.Codes.{all_codes, code_of, code_order};
 
-
 use cdi_model::{Ident, Kind, Name, PartPlace, PointPlace, Qual, UseKind};
 
 /// What is wrong. The order of the codes is that in which faults stand.

@@ -5,5 +5,4 @@ mod fault;
 mod text;
 
 pub use fault::{Code, Fault, Subject};
-
 pub use text::in_text_order;
