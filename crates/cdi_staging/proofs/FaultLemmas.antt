@@ -433,7 +433,8 @@ fine-observer ds book bean k observer none short at on =
     let d = decls.Bean bean in
     let enabled = managed-enabled ds bean on in
     let own = short.observers k observer at in
-    let of = λ (f : Mention → Option Subject) (free : AreFree f bean). each-free f of_observer bean.observers k observer free.observers at in
+    let of = λ (f : Mention → Option Subject) (free : AreFree f bean).
+    each-free f of_observer bean.observers k observer free.observers at in
     record {
       params = satisfied ds d (points_are.Observer observer.name) observer.params enabled
           (observer-params (at_points unsatisfied ds d) observer (of (at_points unsatisfied ds d) none.unsatisfied))
@@ -489,7 +490,8 @@ fine-producer ds book bean k producer none short at on =
     let d = decls.Bean bean in
     let enabled = product-enabled ds bean k producer at on in
     let own = short.producers k producer at in
-    let of = λ (f : Mention → Option Subject) (free : AreFree f bean). each-free f of_producer bean.producers k producer free.producers at in
+    let of = λ (f : Mention → Option Subject) (free : AreFree f bean).
+    each-free f of_producer bean.producers k producer free.producers at in
     record {
       params = satisfied ds d (points_are.Producer producer.name) producer.params enabled
           (producer-params (at_points unsatisfied ds d) producer (of (at_points unsatisfied ds d) none.unsatisfied))

@@ -25,7 +25,8 @@ use Rattle.cdi_model.specs.declared.mention.TypePlace.TheVariants as types_are
 use Rattle.cdi_model.specs.declared.place.PartPlace.{PartPlace}
 use Rattle.cdi_model.specs.declared.place.PartPlace.TheVariants as parts_are
 use Rattle.cdi_model.specs.declared.quals.Qual.{Qual}
-use Rattle.cdi_model.specs.Mentions.{Mention, TypeIn, UseOf, StereotypeOf, MethodOf, PointOf, BodyOf, CallOf, EventOf, mentions, listed_types}
+use Rattle.cdi_model.specs.Mentions.{Mention, TypeIn, UseOf, StereotypeOf, MethodOf, PointOf, BodyOf, CallOf, EventOf, mentions}
+use Rattle.cdi_model.specs.Mentions.{listed_types}
 use Rattle.cdi_model.specs.Mentions.{of_attributes, of_bindings, of_disposer, of_event, of_method, of_observer, of_part, of_parts, of_point}
 use Rattle.cdi_model.specs.Mentions.{of_producer, of_qualifiers, part_place_of}
 use Rattle.cdi_effective.specs.declared.records.Effective.{Effective}
@@ -217,7 +218,8 @@ bean-listed bean =
     let last = disposers ++ observers in
     let members = methods ++ (producers ++ last) in
     let bodies = construct ++ (post ++ (pre ++ members)) in
-    subst (λ ps. AreListed [] ps (attributes ++ bindings ++ own ++ (construct ++ post ++ pre) ++ methods ++ producers ++ disposers ++ observers))
+    subst (λ ps. AreListed [] ps
+    (attributes ++ bindings ++ own ++ (construct ++ post ++ pre) ++ methods ++ producers ++ disposers ++ observers))
     (sym (append_assoc bean.points (params_of bean.producers) (observed bean.observers)))
     (nest [] all (attributes ++ bindings ++ own ++ (construct ++ post ++ pre) ++ methods ++ producers) disposers observers
     (nest [] all (attributes ++ bindings ++ own ++ (construct ++ post ++ pre) ++ methods) producers last

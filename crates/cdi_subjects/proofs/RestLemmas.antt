@@ -46,7 +46,7 @@ use Rattle.cdi_faults.specs.declared.fault.Subject.{Subject}
 use Rattle.cdi_faults.specs.declared.fault.Subject.TheVariants as subjects
 use Rattle.cdi_subjects.specs.Filter.{found_in, is_enabled_in, producer_of_part, producer_of_point, some_if}
 use Rattle.cdi_subjects.specs.Proxies.{is_final_decl, is_unproxyable, needs_subclass}
-use Rattle.cdi_subjects.specs.Records.{conditional_by, conflict_at, conflicts_at_producers, conflicts_in, typed_by, with_two, without_product}
+use Rattle.cdi_subjects.specs.Records.{conditional_by, conflict_at, conflicts_in, typed_by, with_two, without_product}
 use Rattle.cdi_subjects.specs.Rests.{AreAlike, DifferAlike, FaultsRestOn, HasQualifiersAlike, IsAnsweredAlike, IsBeanAlike, IsSeenAlike}
 use Rattle.cdi_subjects.specs.Rests.{named_in}
 use Rattle.cdi_subjects.specs.Sites.{has_method, is_lost, is_lost_among, lacks_method, lost_in, own_points, own_seen, points_seen}
@@ -101,7 +101,8 @@ known-same ds es types_are.Fired t e = ap (λ o. bytes_eq t object || is_some o)
 unknown-same : (ds es : List Decl) (m : Mention) → AreAlike ds es (named_in m) → unknown_in ds m ≡ unknown_in es m
 unknown-same ds es (TypeIn place t) e = ap (λ b. some_if (not b) (subjects.Type t)) (known-same ds es place t e)
 unknown-same ds es (UseOf uses.Qualifier u) e =
-    ap (λ o. some_if (not (has (codes "Any" ∷ codes "Default" ∷ codes "Named" ∷ []) u.name || is_some o)) (subjects.Used uses.Qualifier u.name)) e
+    ap (λ o. some_if (not (has (codes "Any" ∷ codes "Default" ∷ codes "Named" ∷ []) u.name || is_some o))
+    (subjects.Used uses.Qualifier u.name)) e
 unknown-same ds es (UseOf uses.Binding u) e = ap (λ o. some_if (not (is_some o)) (subjects.Used uses.Binding u.name)) e
 unknown-same ds es (StereotypeOf s) e = ap (λ o. some_if (not (is_some o)) (subjects.Stereotype s)) e
 unknown-same ds es (MethodOf x) e = refl
@@ -261,7 +262,8 @@ points-same ds es t u bs d alike since points (BodyOf place body ∷ ms) listed 
 points-same ds es t u bs d alike since points (EventOf e ∷ ms) listed names answers =
     points-same ds es t u bs d alike since points ms listed names.1 answers
 
-proxy-same : (ds es : List Decl) (p : PointDecl) (c : Choice) → find_decl kinds.Type p.required_type ds ≡ find_decl kinds.Type p.required_type es
+proxy-same : (ds es : List Decl) (p : PointDecl) (c : Choice)
+    → find_decl kinds.Type p.required_type ds ≡ find_decl kinds.Type p.required_type es
     → ((id : BeanId) → c ≡ choices.One id → IsBeanAlike ds es id) → is_unproxyable ds p c ≡ is_unproxyable es p c
 proxy-same ds es p choices.Unsatisfied e alike = refl
 proxy-same ds es p (choices.Ambiguous ids) e alike = refl
@@ -403,7 +405,8 @@ faults_rest_on codes_of.Ambiguous ds es book d alike = verdicts-same ds es verdi
 faults_rest_on codes_of.Unproxyable ds es book d alike = verdicts-same ds es verdicts.Unproxyable d alike
 faults_rest_on codes_of.Site ds es book d alike =
     let first = own-first d in
-    let own = all-front (IsAnsweredAlike ds es) (own_points d) first.0 (subst (AllByRecursion (IsAnsweredAlike ds es)) first.1 alike.answers) in
+    let own = all-front (IsAnsweredAlike ds es) (own_points d) first.0
+    (subst (AllByRecursion (IsAnsweredAlike ds es)) first.1 alike.answers) in
     calls-same ds es (entries ds d) d own [] (points_of d) (mentions d) (all-listed d) tt alike.answers
     ∙ ap (λ bs. found_in (lost_in es (answer_to es) bs d) (mentions d)) alike.records
 faults_rest_on codes_of.NameClash ds es book d alike = refl

@@ -74,7 +74,8 @@ fn points_by<V: View>(
     verdict: Verdict,
 ) -> Result<Vec<Subject>, AllocError>
     ensures { IfOk result (λ list. list.items
-        ≡ points_by (has_verdict (V.list view.now) verdict) beans.now decl.now (map (λ answer. answer.value) answers.now) (mentions decl.now)) }
+        ≡ points_by (has_verdict (V.list view.now) verdict) beans.now decl.now (map (λ answer. answer.value) answers.now)
+        (mentions decl.now)) }
 {
     let mut subjects = Vec::new(alloc);
     let mut left = answers;

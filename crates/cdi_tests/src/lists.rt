@@ -81,7 +81,9 @@ types = ["Store"]
 qualifiers = ["Cold"]
 stereotypes = ["Plain"]
 points = [{ name = "p", type = "Box", qualifiers = ["Rank(n=1)"] }]
-producers = [{ name = "make", type = "Crate", types = ["Thing"], body = "zero", calls = ["q.hit"], params = [{ name = "q", type = "Nail" }] }]
+producers = [
+    { name = "make", type = "Crate", types = ["Thing"], body = "zero", calls = ["q.hit"], params = [{ name = "q", type = "Nail" }] },
+]
 disposers = [{ name = "drop", type = "Crate", qualifiers = ["Cold"], body = "unit" }]
 post = { body = "notify", fires = ["Sale Web"] }
 

@@ -6,5 +6,6 @@ use Rattle.cdi_subjects.proofs.points.points_by.Given as goal
 
 abbrev pub invariant-loop-mention : goal.invariant-loop-mention
 invariant-loop-mention g l =
-    l.subjects.items ++ points_by (has_verdict (g.V.View.list l.view) l.verdict) l.beans l.decl (map (λ a. a.value) l.left) l.mention-iterator
+    l.subjects.items
+    ++ points_by (has_verdict (g.V.View.list l.view) l.verdict) l.beans l.decl (map (λ a. a.value) l.left) l.mention-iterator
     ≡ points_by (has_verdict (g.V.View.list l.view) l.verdict) l.beans l.decl (map (λ a. a.value) l.answers) (mentions l.decl)
