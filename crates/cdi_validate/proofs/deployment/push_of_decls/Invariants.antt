@@ -8,9 +8,9 @@ use Rattle.cdi_validate.proofs.deployment.push_of_decls.Given as goal
 
 abbrev pub invariant-loop-decl : goal.invariant-loop-decl
 invariant-loop-decl g l = record {
-  gone : (es : List Decl) × (es ++ l.decl-iterator.a ≡ l.decls);
+  gone : (es : List Decl) × (es ++ l.decl-iterator.a ≡ g.V.View.list l.view);
   answers : map (λ list. map (λ answer. answer.value) list.items) (iter_rest l.decl-iterator.b)
-      ≡ map (answers_of l.decls) l.decl-iterator.a;
-  faults : l.faults.items ++ flat_map (faults_of l.decls (g.B.Bodies.promises l.book)) l.decl-iterator.a
-      ≡ l.fn.faults.items ++ flat_map (faults_of l.decls (g.B.Bodies.promises l.book)) l.decls;
+      ≡ map (answers_of (g.V.View.list l.view)) l.decl-iterator.a;
+  faults : l.faults.items ++ flat_map (faults_of (g.V.View.list l.view) (g.B.Bodies.promises l.book)) l.decl-iterator.a
+      ≡ l.fn.faults.items ++ flat_map (faults_of (g.V.View.list l.view) (g.B.Bodies.promises l.book)) (g.V.View.list l.view);
 }
