@@ -471,7 +471,7 @@ fine-method ds book bean p fine = by p.is_static fine
         → IsFinePart ds book (allowed_in (decls.Bean bean) (cond s (places.StaticProducer p.name) (places.Producer p.name)))
         (points_seen (cond s (places.StaticProducer p.name) (places.Producer p.name)) p.params bean.points) p.part
         → IsFinePart ds book (cond s flags.at_class flags.at_instance) (p.params ++ cond s [] bean.points) p.part
-    by true fine = subst (λ seen. IsFinePart ds book flags.at_class seen p.part) (sym (append-nil p.params)) fine
+    by true fine = fine
     by false fine = fine
 
 -- a producer method belongs to its product, whether it is static or not
