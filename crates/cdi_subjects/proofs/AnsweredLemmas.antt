@@ -1,5 +1,5 @@
 -- What is at fault by the answers to the points of a declaration, in their order, is what is at fault by what is chosen for each.
-use Rattle.std.proofs.Common.{◌≡◌, ℕ, Bool, true, false, cond, ◌&&◌, List, [], ◌∷◌, ◌++◌, map, drop, Option, Some, None, option_map}
+use Rattle.std.proofs.Common.{◌≡◌, ℕ, Bool, true, false, cond, ◌&&◌, List, [], ◌∷◌, ◌++◌, map, Option, Some, None, option_map}
 use Rattle.std.proofs.Common.{refl, sym, ap, subst, ◌∙◌, append_assoc, append-nil}
 use Rattle.std.specs.List.{find, flat_map, zip}
 use Rattle.std.specs.Option.{option_or, option_to_list}
@@ -32,11 +32,10 @@ use Rattle.cdi_model.specs.Mentions.{of_producer, of_qualifiers, part_place_of}
 use Rattle.cdi_effective.specs.declared.records.Effective.{Effective}
 use Rattle.cdi_resolve.specs.declared.choice.Choice.{Choice}
 use Rattle.cdi_observe.specs.Wanted.{params_of, points_of}
-use Rattle.cdi_faults.specs.declared.fault.Subject.{Subject}
 use Rattle.cdi_faults.specs.declared.fault.Subject.TheVariants as subjects
 use Rattle.cdi_subjects.specs.Answered.{call_by, calls_by, choice_beside, is_begin, points_by}
-use Rattle.cdi_subjects.specs.Filter.{found_in, is_enabled_in, producer_of_part, producer_of_point, some_if, subjects_in}
-use Rattle.cdi_subjects.specs.Sites.{choice_at, is_lost_among, lost_in, lost_sites, own_points, own_seen, points_seen}
+use Rattle.cdi_subjects.specs.Filter.{found_in, is_enabled_in, producer_of_part, producer_of_point, some_if}
+use Rattle.cdi_subjects.specs.Sites.{choice_at, is_lost_among, lost_in, lost_sites, own_points, own_seen}
 use Rattle.cdi_subjects.specs.Subjects.{point_in, points_at_fault}
 
 -- ---- which points some mentions have, and which of them stand behind the beginning of the latest method

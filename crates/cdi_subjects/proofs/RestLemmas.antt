@@ -1,21 +1,19 @@
 -- The faults of a declaration rest on its records, the answers to its points and what the names that it writes are declared as.
 use Rattle.std.proofs.Common.{◌≡◌, ℕ, Bool, true, false, not, cond, ◌&&◌, ◌||◌, List, [], ◌∷◌, ◌++◌, map, filter, length, nat_lt, codes}
-use Rattle.std.proofs.Common.{Option, Some, None, is_some, option_map, refl, sym, ap, subst, ◌∙◌}
-use Rattle.std.specs.List.{AllByRecursion, find, flat_map, list_all, list_any}
+use Rattle.std.proofs.Common.{Option, Some, is_some, option_map, refl, sym, ap, subst, ◌∙◌}
+use Rattle.std.specs.List.{AllByRecursion, find, flat_map, list_any}
 use Rattle.std.specs.Option.{option_to_list, unwrap_or}
 use Rattle.std.specs.Str.{bytes_eq}
 use Rattle.cdi_bodies.specs.Book.{Promised}
 use Rattle.cdi_model.specs.DeclList.{find_decl}
 use Rattle.cdi_model.specs.Mentions.{Mention, TypeIn, UseOf, StereotypeOf, MethodOf, PointOf, BodyOf, CallOf, EventOf, mentions}
 use Rattle.cdi_model.specs.declared.decl.BeanDecl.{BeanDecl}
-use Rattle.cdi_model.specs.declared.decl.CallDecl.{CallDecl}
 use Rattle.cdi_model.specs.declared.decl.Decl.{Decl}
 use Rattle.cdi_model.specs.declared.decl.Decl.TheVariants as decls
 use Rattle.cdi_model.specs.declared.decl.DisposerDecl.{DisposerDecl}
 use Rattle.cdi_model.specs.declared.decl.Kind.TheVariants as kinds
 use Rattle.cdi_model.specs.declared.decl.PointDecl.{PointDecl}
 use Rattle.cdi_model.specs.declared.decl.UseKind.TheVariants as uses
-use Rattle.cdi_model.specs.declared.mention.PointPlace.{PointPlace}
 use Rattle.cdi_model.specs.declared.mention.TypePlace.{TypePlace}
 use Rattle.cdi_model.specs.declared.mention.TypePlace.TheVariants as types_are
 use Rattle.cdi_model.specs.declared.place.BeanPlace.{BeanPlace}
@@ -34,13 +32,10 @@ use Rattle.cdi_effective.specs.Disposers.{disposes}
 use Rattle.cdi_effective.specs.Qualifiers.{cover_all, required, some_covers}
 use Rattle.cdi_effective.specs.declared.records.BeanId.{BeanId}
 use Rattle.cdi_effective.specs.declared.records.Effective.{Effective}
-use Rattle.cdi_intercept.specs.Conflicts.{has_conflict}
-use Rattle.cdi_intercept.specs.Sets.{set_by}
 use Rattle.cdi_resolve.specs.declared.choice.Choice.{Choice}
 use Rattle.cdi_resolve.specs.declared.choice.Choice.TheVariants as choices
 use Rattle.cdi_observe.specs.Answers.{answer_to}
 use Rattle.cdi_observe.specs.Wanted.{points_of}
-use Rattle.cdi_faults.specs.declared.fault.Code.{Code}
 use Rattle.cdi_faults.specs.declared.fault.Code.TheVariants as codes_of
 use Rattle.cdi_faults.specs.declared.fault.Subject.{Subject}
 use Rattle.cdi_faults.specs.declared.fault.Subject.TheVariants as subjects
@@ -49,12 +44,12 @@ use Rattle.cdi_subjects.specs.Proxies.{is_final_decl, is_unproxyable, needs_subc
 use Rattle.cdi_subjects.specs.Records.{conditional_by, conflict_at, conflicts_in, typed_by, with_two, without_product}
 use Rattle.cdi_subjects.specs.Rests.{AreAlike, DifferAlike, FaultsRestOn, HasQualifiersAlike, IsAnsweredAlike, IsBeanAlike, IsSeenAlike}
 use Rattle.cdi_subjects.specs.Rests.{named_in}
-use Rattle.cdi_subjects.specs.Sites.{has_method, is_lost, is_lost_among, lacks_method, lost_in, own_points, own_seen, points_seen}
+use Rattle.cdi_subjects.specs.Sites.{is_lost_among, lacks_method, lost_in, own_points, own_seen, points_seen}
 use Rattle.cdi_subjects.specs.Subjects.{bad_kind_in, bad_use_in, disposers_at_fault, form_of, has_verdict, is_class_form, is_interface_form}
 use Rattle.cdi_subjects.specs.Subjects.{is_known_in, point_in, scope_conflicts, subjects_at_fault, unknown_in, whole_if}
 use Rattle.cdi_subjects.specs.declared.points.Verdict.{Verdict}
 use Rattle.cdi_subjects.specs.declared.points.Verdict.TheVariants as verdicts
-use Rattle.cdi_subjects.proofs.AnsweredLemmas.{AreListed, IsFront, all-listed, own-first}
+use Rattle.cdi_subjects.proofs.AnsweredLemmas.{AreListed, all-listed, own-first}
 use Rattle.cdi_subjects.proofs.RecordLemmas.{conditional_by_entries, disposers_of_records, same_filter, typed_by_entries}
 
 -- ---- what holds of each

@@ -6,14 +6,12 @@ use Rattle.cdi_bodies.specs.Book.{Promised}
 use Rattle.cdi_model.specs.Decl.{declared_as}
 use Rattle.cdi_model.specs.DeclList.{find_decl}
 use Rattle.cdi_model.specs.Mentions.{Mention, TypeIn, UseOf, StereotypeOf, PointOf, mentions}
-use Rattle.cdi_model.specs.declared.decl.BeanDecl.{BeanDecl}
 use Rattle.cdi_model.specs.declared.decl.Decl.{Decl}
 use Rattle.cdi_model.specs.declared.decl.Decl.TheVariants as decls
 use Rattle.cdi_model.specs.declared.decl.Kind.{Kind}
 use Rattle.cdi_model.specs.declared.decl.Kind.TheVariants as kinds
 use Rattle.cdi_model.specs.declared.decl.PointDecl.{PointDecl}
 use Rattle.cdi_model.specs.declared.place.BeanPlace.{BeanPlace}
-use Rattle.cdi_model.specs.declared.quals.Qual.{Qual}
 use Rattle.cdi_effective.specs.Beans.{entries}
 use Rattle.cdi_effective.specs.Bindings.{class_bindings}
 use Rattle.cdi_effective.specs.declared.records.BeanId.{BeanId}
