@@ -1,8 +1,8 @@
 -- A run from one read to the next, and how it ends.
 use Rattle.std.proofs.Common.{◌≡◌, ℕ, List, [], ◌++◌, take, refl, ap, sym, ◌∙◌, subst, Option, Some, None, length, true, false, inl, inr}
-use Rattle.std.proofs.Common.{append_assoc, arith, ap₂}
+use Rattle.std.proofs.Common.{append_assoc, arith}
 use Rattle.std.specs.Prelude.{Bool, ◌≤◌, ◌&&◌, not}
-use Rattle.std.proofs.Math.Bool.{and-true}
+use Rattle.std.proofs.lemmas.Bool.{false≢true, true≢false}
 use Rattle.std.specs.Io.KnownBytes.{Appends, Consumes}
 use Rattle.std.proofs.lemmas.List.{append-nil, length-append, length-take}
 use Rattle.cdi_lines.specs.declared.command.Command.{Command}
@@ -43,6 +43,13 @@ wrote_nothing setting known = record {
   written = Appends-none known;
 }
 
+-- behind a flush, and behind no error, a note stays as it is
+behind_flush : (noted flushed failed : Bool) → flushed ≡ true → failed ≡ false → (noted && flushed && not failed) ≡ noted
+behind_flush true true false is still = refl
+behind_flush false true false is still = refl
+behind_flush noted true true is still = absurd (true≢false still)
+behind_flush noted false failed is still = absurd (false≢true is)
+
 module _ {R W : Type 0} (remaining : R → Option (List ℕ)) (contents : W → Option (List ℕ)) (limit piece : ℕ)
     (setting : Setting) (r0 : Counted R) (w0 : Counted W) where
   abbrev Goes-here : {B : Type 0} → Counted R → Counted W → Intake B → Type 0
@@ -81,8 +88,7 @@ module _ {R W : Type 0} (remaining : R → Option (List ℕ)) (contents : W → 
   -- a read that comes then is behind a flush, and behind no read that failed
   pub stays_settled : {B : Type 0} (r r' : Counted R) (w : Counted W) (s : Intake B) → Goes remaining contents limit setting r0 w0 r w s
       → is_settled r' ≡ (is_settled r && is_flushed w && not (has_failed r)) → is_settled r' ≡ is_settled r0
-  stays_settled r r' w s h noted = noted ∙ ap₂ (λ a b. is_settled r && a && not b) h.flushed h.reader_still ∙ and-true (is_settled r)
-      ∙ h.settled
+  stays_settled r r' w s h noted = noted ∙ behind_flush (is_settled r) (is_flushed w) (has_failed r) h.flushed h.reader_still ∙ h.settled
 
   pub goes_on : {B : Type 0} (r r' : Counted R) (w w' : Counted W) (s s' : Intake B) (n : ℕ) (buffer : List ℕ)
       → Goes remaining contents limit setting r0 w0 r w s → Gives remaining limit r r' n buffer
