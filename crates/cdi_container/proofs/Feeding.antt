@@ -6,6 +6,7 @@ use Rattle.std.specs.Io.KnownBytes.{Appends}
 use Rattle.std.proofs.lemmas.List.{append-nil, map-append, take-append-drop}
 use Rattle.std.proofs.lemmas.List.Folds.{list_any-append}
 use Rattle.std.proofs.lemmas.Grind.{flat_map-append}
+use Rattle.cdi_model.specs.Bytes.{feed}
 use Rattle.cdi_lines.specs.Lines.{ended_from, begun_from, ended_lines, begun_line, last_line}
 use Rattle.cdi_lines.specs.declared.command.Command.{Command}
 use Rattle.cdi_container.specs.Commands.{Mode, Outside, commands_of_line, mode_after, commands_of_lines, mode_of_lines, complete_commands}
@@ -25,14 +26,14 @@ use Rattle.std.proofs.lemmas.Bool.{cases_Bool}
 
 pub begun_from-append : (b xs ys : List ℕ) → begun_from b (xs ++ ys) ≡ begun_from (begun_from b xs) ys
 begun_from-append b [] ys = refl
-begun_from-append b (x ∷ xs) ys = elim (cases_Bool (x == 10)) [
+begun_from-append b (x ∷ xs) ys = elim (cases_Bool (x == feed)) [
   | inl e ↦ rw e (begun_from-append [] xs ys)
   | inr e ↦ rw e (begun_from-append (b ++ x ∷ []) xs ys)
 ]
 
 pub ended_from-append : (b xs ys : List ℕ) → ended_from b (xs ++ ys) ≡ ended_from b xs ++ ended_from (begun_from b xs) ys
 ended_from-append b [] ys = refl
-ended_from-append b (x ∷ xs) ys = elim (cases_Bool (x == 10)) [
+ended_from-append b (x ∷ xs) ys = elim (cases_Bool (x == feed)) [
   | inl e ↦ rw e (ap (λ l. b ∷ l) (ended_from-append [] xs ys))
   | inr e ↦ rw e (ended_from-append (b ++ x ∷ []) xs ys)
 ]

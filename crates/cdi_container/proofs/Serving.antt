@@ -6,6 +6,7 @@ use Rattle.std.specs.Prelude.{◌==◌, codes, Result, Ok, Err}
 use Rattle.std.specs.Str.{bytes_eq}
 use Rattle.std.proofs.lemmas.List.{append-nil, length-append}
 use Rattle.std.proofs.lemmas.Bool.{lt-ltb}
+use Rattle.cdi_model.specs.Bytes.{dot, feed}
 use Rattle.cdi_model.specs.declared.refusal.Refusal.TheVariants.{TooLong}
 use Rattle.cdi_text.specs.Reading.{decl_of}
 use Rattle.cdi_lines.specs.Words.{without_return}
@@ -43,7 +44,7 @@ serves_command kept line (inr h) = ap said_of_line (sym (append-nil kept)) ∙ h
 long_no_dot : (t : List ℕ) → 1 < length t → bytes_eq t (codes ".") ≡ false
 long_no_dot [] h = absurd (omega arith)
 long_no_dot (b ∷ []) h = absurd (omega arith)
-long_no_dot (b ∷ c ∷ bs) h = and-false (b == 46)
+long_no_dot (b ∷ c ∷ bs) h = and-false (b == dot)
 
 pub serves_dot : (kept line : List ℕ) → ServesLine kept line → is_dot kept ≡ is_dot line
 serves_dot kept line (inl h) = ap is_dot h
@@ -88,8 +89,8 @@ serves_put old new kept text (inr h) r = record {
   quiet = r.quiet;
 }
 
-longer : (text line : List ℕ) → 65536 < length line + 1 → 65536 < length (text ++ line ++ 10 ∷ [])
-longer text line h = let a = length-append (text ++ line) (10 ∷ []) in let b = length-append text line in omega arith
+longer : (text line : List ℕ) → 65536 < length line + 1 → 65536 < length (text ++ line ++ feed ∷ [])
+longer text line h = let a = length-append (text ++ line) (feed ∷ []) in let b = length-append text line in omega arith
 
 still_longer : (text line end : List ℕ) → 65536 < length text → 65536 < length (text ++ line ++ end)
 still_longer text line end h = let a = length-append (text ++ line) end in let b = length-append text line in omega arith

@@ -2,6 +2,7 @@
 use Rattle.std.proofs.Common.{◌≡◌, ℕ, List, [], ◌∷◌, ◌++◌, refl, ap, sym, ◌∙◌, subst, true, false, append_assoc}
 use Rattle.std.specs.Prelude.{Result, Ok}
 use Rattle.std.proofs.lemmas.List.{append-nil}
+use Rattle.cdi_model.specs.Bytes.{feed}
 use Rattle.cdi_model.specs.declared.refusal.Refusal.{Refusal}
 use Rattle.cdi_lines.specs.declared.command.Command.{Command}
 use Rattle.cdi_lines.specs.declared.command.Command.TheVariants.{Put, Unreadable}
@@ -121,11 +122,11 @@ pub begun_from-no_feed : (begun xs : List ℕ) → NoFeed xs → begun_from begu
 begun_from-no_feed begun [] h = sym (append-nil begun)
 begun_from-no_feed begun (x ∷ xs) h = rw h.0 (begun_from-no_feed (begun ++ x ∷ []) xs h.1 ∙ append_assoc begun (x ∷ []) xs)
 
-pub ended_from-feed : (begun xs : List ℕ) → NoFeed xs → ended_from begun (xs ++ 10 ∷ []) ≡ (begun ++ xs) ∷ []
+pub ended_from-feed : (begun xs : List ℕ) → NoFeed xs → ended_from begun (xs ++ feed ∷ []) ≡ (begun ++ xs) ∷ []
 ended_from-feed begun [] h = ap (λ l. l ∷ []) (sym (append-nil begun))
 ended_from-feed begun (x ∷ xs) h = rw h.0 (ended_from-feed (begun ++ x ∷ []) xs h.1 ∙ ap (λ l. l ∷ []) (append_assoc begun (x ∷ []) xs))
 
-pub begun_from-feed : (begun xs : List ℕ) → NoFeed xs → begun_from begun (xs ++ 10 ∷ []) ≡ []
+pub begun_from-feed : (begun xs : List ℕ) → NoFeed xs → begun_from begun (xs ++ feed ∷ []) ≡ []
 begun_from-feed begun [] h = refl
 begun_from-feed begun (x ∷ xs) h = rw h.0 (begun_from-feed (begun ++ x ∷ []) xs h.1)
 
@@ -143,7 +144,7 @@ begins old new piece no_feed kept same stays = record {
 pub ends : {B : Type 0} (old mid new : Intake B) (piece kept : List ℕ) → NoFeed piece → ServesLine kept (old.line ++ piece)
     → mid.runner ≡ old.runner
     → mode_seen mid.mode ≡ mode_seen old.mode → mid.line ≡ []
-    → TakesLine mid new kept → Advances old new (piece ++ 10 ∷ [])
+    → TakesLine mid new kept → Advances old new (piece ++ feed ∷ [])
 ends old mid new piece kept no_feed is same stays none h = record {
   runs = λ mode line k.
       let sm : ServesMode (mode_seen mid.mode) mode = subst (λ m. ServesMode m mode) (sym stays) k.mode_serves in
@@ -161,11 +162,11 @@ ends old mid new piece kept no_feed is same stays none h = record {
       });
 }
 
-last_of : (line : List ℕ) → (line ≡ [] → ⊥) → last_line line ≡ ended_from line (10 ∷ [])
+last_of : (line : List ℕ) → (line ≡ [] → ⊥) → last_line line ≡ ended_from line (feed ∷ [])
 last_of [] h = absurd (h refl)
 last_of (b ∷ bs) h = refl
 
-pub ends_last : {B : Type 0} (old new : Intake B) → (old.line ≡ [] → ⊥) → Advances old new (10 ∷ []) → EndsLastLine old new
+pub ends_last : {B : Type 0} (old new : Intake B) → (old.line ≡ [] → ⊥) → Advances old new (feed ∷ []) → EndsLastLine old new
 ends_last old new some h = record {
   runs = λ mode line k. rw (last_of line (serves_started old.line line k.line_serves some)) (h.runs mode line k);
   mode = λ mode line k. rw (last_of line (serves_started old.line line k.line_serves some)) ((h.keeps mode line k).mode_serves);

@@ -1,5 +1,6 @@
 //! Taking a script's bytes piece by piece.
 ghost use Rattle.std.specs.Prelude.{◌≡◌, ◌<◌, ◌≤◌, ◌++◌, ◌∷◌, [], take, length, OnOk, OnErr, IfOk, false, Ok};
+ghost use Rattle.cdi_model.specs.Bytes.{feed};
 ghost use Rattle.cdi_lines.specs.Lines.{NoFeed};
 ghost use Rattle.cdi_container.specs.Commands.{Outside};
 ghost use Rattle.cdi_container.specs.History.{empty};
@@ -105,7 +106,7 @@ impl<B: Bodies> Intake<B> {
     /// Takes the rest of a line.
     fn end_line(&mut self, piece: &[u8]) -> Result<(), AllocError>
         requires { NoFeed piece.now }
-        ensures ok { OnOk result (Advances self.old self.new (piece.now ++ 10 ∷ [])) }
+        ensures ok { OnOk result (Advances self.old self.new (piece.now ++ feed ∷ [])) }
         ensures err { OnErr result (PrintsNothing self.old.runner self.new.runner) }
     {
         if self.line.is_empty() {

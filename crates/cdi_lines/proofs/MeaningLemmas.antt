@@ -4,78 +4,80 @@ use Rattle.std.proofs.Common.{append-nil}
 use Rattle.std.specs.Prelude.{◌==◌}
 use Rattle.std.specs.List.{AllByRecursion, fold, flat_map}
 use Rattle.std.proofs.lemmas.Bool.{cases_Bool, eqb-true, eq-eqb, false≢true}
+use Rattle.cdi_model.specs.Bytes.{carriage_return, feed, space}
 use Rattle.cdi_lines.specs.Words.{without_return, IsWithoutReturn, onto_words, begins_with_word, words_of, IsWord, IsBehindWord, AreWordsOf}
 use Rattle.cdi_lines.specs.Lines.{BlocksAreLines}
 use Rattle.cdi_lines.specs.Kept.{with_line}
 
 -- ---- words
 
-is_apart : (b : ℕ) → (b == 32) ≡ false → b ≢ 32
-is_apart b other same = false≢true (sym other ∙ eq-eqb b 32 same)
+is_apart : (b : ℕ) → (b == space) ≡ false → b ≢ space
+is_apart b other same = false≢true (sym other ∙ eq-eqb b space same)
 
 -- a space more in front
-spaced : (b : ℕ) (bs : List ℕ) → b ≡ 32 → (words : List (List ℕ)) → AreWordsOf bs words → AreWordsOf (b ∷ bs) words
-spaced b bs space [] are = (space, are)
-spaced b bs space (word ∷ words) are = (b ∷ are.0, are.1, (space, are.2), are.3, ap (λ l. b ∷ l) are.4, are.5, are.6)
+spaced : (b : ℕ) (bs : List ℕ) → b ≡ space → (words : List (List ℕ)) → AreWordsOf bs words → AreWordsOf (b ∷ bs) words
+spaced b bs same [] are = (same, are)
+spaced b bs same (word ∷ words) are = (b ∷ are.0, are.1, (same, are.2), are.3, ap (λ l. b ∷ l) are.4, are.5, are.6)
 
-one_byte : (b : ℕ) → b ≢ 32 → IsWord (b ∷ [])
+one_byte : (b : ℕ) → b ≢ space → IsWord (b ∷ [])
 one_byte b other = record { some = λ none. cc; no_space = (other, tt) }
 
 -- a byte more in front of the first word, which begins the line
-grown : (b c : ℕ) (cs : List ℕ) → b ≢ 32 → c ≢ 32 → (words : List (List ℕ)) → AreWordsOf (c ∷ cs) words
+grown : (b c : ℕ) (cs : List ℕ) → b ≢ space → c ≢ space → (words : List (List ℕ)) → AreWordsOf (c ∷ cs) words
     → AreWordsOf (b ∷ c ∷ cs) (onto_words b true words)
 grown b c cs other begins [] are = absurd (begins are.0)
 grown b c cs other begins (word ∷ words) are = by are.0 are.2 are.4
   where
-    by : (spaces : List ℕ) → AllByRecursion (λ x. x ≡ 32) spaces → c ∷ cs ≡ spaces ++ (word ++ are.1)
+    by : (spaces : List ℕ) → AllByRecursion (λ x. x ≡ space) spaces → c ∷ cs ≡ spaces ++ (word ++ are.1)
         → AreWordsOf (b ∷ c ∷ cs) ((b ∷ word) ∷ words)
     by [] all line = ([], are.1, tt, record { some = λ none. cc; no_space = (other, are.3.no_space) }, ap (λ l. b ∷ l) line, are.5, are.6)
     by (s ∷ ss) all line = absurd (begins (let same : c ≡ s = cc in same ∙ all.0))
 
 -- a word of one byte
-alone : (b : ℕ) (bs : List ℕ) → b ≢ 32 → IsBehindWord bs → AreWordsOf bs (words_of bs) → AreWordsOf (b ∷ bs) ((b ∷ []) ∷ words_of bs)
+alone : (b : ℕ) (bs : List ℕ) → b ≢ space → IsBehindWord bs → AreWordsOf bs (words_of bs) → AreWordsOf (b ∷ bs) ((b ∷ []) ∷ words_of bs)
 alone b bs other behind are = ([], bs, tt, one_byte b other, refl, behind, are)
 
-joined : (b : ℕ) (bs : List ℕ) → b ≢ 32 → AreWordsOf bs (words_of bs)
+joined : (b : ℕ) (bs : List ℕ) → b ≢ space → AreWordsOf bs (words_of bs)
     → AreWordsOf (b ∷ bs) (onto_words b (begins_with_word bs) (words_of bs))
 joined b [] other are = alone b [] other tt are
-joined b (c ∷ cs) other are = elim (cases_Bool (c == 32)) [
-  | inl space ↦
-      let no : not (c == 32) ≡ false = ap not space in
-      let whole : AreWordsOf (b ∷ c ∷ cs) ((b ∷ []) ∷ words_of (c ∷ cs)) = alone b (c ∷ cs) other (eqb-true c 32 space) are in
+joined b (c ∷ cs) other are = elim (cases_Bool (c == space)) [
+  | inl same ↦
+      let no : not (c == space) ≡ false = ap not same in
+      let whole : AreWordsOf (b ∷ c ∷ cs) ((b ∷ []) ∷ words_of (c ∷ cs)) = alone b (c ∷ cs) other (eqb-true c space same) are in
       subst (λ v. AreWordsOf (b ∷ c ∷ cs) (onto_words b v (words_of (c ∷ cs)))) (sym no) whole
   | inr e ↦
-      let yes : not (c == 32) ≡ true = ap not e in
+      let yes : not (c == space) ≡ true = ap not e in
       subst (λ v. AreWordsOf (b ∷ c ∷ cs) (onto_words b v (words_of (c ∷ cs)))) (sym yes)
       (grown b c cs other (is_apart c e) (words_of (c ∷ cs)) are)
 ]
 
 pub words_are : (line : List ℕ) → AreWordsOf line (words_of line)
 words_are [] = tt
-words_are (b ∷ bs) = elim (cases_Bool (b == 32)) [
-  | inl space ↦ rw space (spaced b bs (eqb-true b 32 space) (words_of bs) (words_are bs))
+words_are (b ∷ bs) = elim (cases_Bool (b == space)) [
+  | inl same ↦ rw same (spaced b bs (eqb-true b space same) (words_of bs) (words_are bs))
   | inr e ↦ rw e (joined b bs (is_apart b e) (words_are bs))
 ]
 
 -- ---- the carriage return at the end
 
-none_at_end : (b c : ℕ) (bs : List ℕ) → ((front : List ℕ) → c ∷ bs ≢ front ++ 13 ∷ []) → (front : List ℕ) → b ∷ c ∷ bs ≢ front ++ 13 ∷ []
+none_at_end : (b c : ℕ) (bs : List ℕ) → ((front : List ℕ) → c ∷ bs ≢ front ++ carriage_return ∷ []) → (front : List ℕ)
+    → b ∷ c ∷ bs ≢ front ++ carriage_return ∷ []
 none_at_end b c bs none [] e = cc
-none_at_end b c bs none (f ∷ front) e = none front (let rest : c ∷ bs ≡ front ++ 13 ∷ [] = cc in rest)
+none_at_end b c bs none (f ∷ front) e = none front (let rest : c ∷ bs ≡ front ++ carriage_return ∷ [] = cc in rest)
 
-none_alone : (b : ℕ) → (b == 13) ≡ false → (front : List ℕ) → b ∷ [] ≢ front ++ 13 ∷ []
-none_alone b other [] e = false≢true (sym other ∙ eq-eqb b 13 (let same : b ≡ 13 = cc in same))
+none_alone : (b : ℕ) → (b == carriage_return) ≡ false → (front : List ℕ) → b ∷ [] ≢ front ++ carriage_return ∷ []
+none_alone b other [] e = false≢true (sym other ∙ eq-eqb b carriage_return (let same : b ≡ carriage_return = cc in same))
 none_alone b other (f ∷ []) e = cc
 none_alone b other (f ∷ g ∷ front) e = cc
 
 pub is_without_return : (line : List ℕ) → IsWithoutReturn line (without_return line)
 is_without_return [] = inr (refl, none)
   where
-    none : (front : List ℕ) → [] ≢ front ++ 13 ∷ []
+    none : (front : List ℕ) → [] ≢ front ++ carriage_return ∷ []
     none [] e = cc
     none (f ∷ front) e = cc
-is_without_return (b ∷ []) = elim (cases_Bool (b == 13)) [
-  | inl return ↦ rw return (inl (ap (λ c. c ∷ []) (eqb-true b 13 return)))
+is_without_return (b ∷ []) = elim (cases_Bool (b == carriage_return)) [
+  | inl return ↦ rw return (inl (ap (λ c. c ∷ []) (eqb-true b carriage_return return)))
   | inr other ↦ rw other (inr (refl, none_alone b other))
 ]
 is_without_return (b ∷ c ∷ bs) = elim (is_without_return (c ∷ bs)) [
@@ -86,13 +88,13 @@ is_without_return (b ∷ c ∷ bs) = elim (is_without_return (c ∷ bs)) [
 -- ---- put blocks
 
 appended : (text : List ℕ) (lines : List (List ℕ))
-    → fold with_line text lines ≡ text ++ flat_map (λ line. without_return line ++ 10 ∷ []) lines
+    → fold with_line text lines ≡ text ++ flat_map (λ line. without_return line ++ feed ∷ []) lines
 appended text [] = sym (append-nil text)
 appended text (line ∷ lines) =
-    let end : List ℕ = flat_map (λ line. without_return line ++ 10 ∷ []) lines in
+    let end : List ℕ = flat_map (λ line. without_return line ++ feed ∷ []) lines in
     appended (with_line text line) lines
-    ∙ ap (λ l. l ++ end) (append_assoc text (without_return line) (10 ∷ []))
-    ∙ append_assoc text (without_return line ++ 10 ∷ []) end
+    ∙ ap (λ l. l ++ end) (append_assoc text (without_return line) (feed ∷ []))
+    ∙ append_assoc text (without_return line ++ feed ∷ []) end
 
 pub blocks_are_lines : BlocksAreLines
 blocks_are_lines lines = appended [] lines

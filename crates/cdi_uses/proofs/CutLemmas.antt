@@ -6,6 +6,7 @@ use Rattle.std.specs.List.{AllByRecursion, join_with_byte}
 use Rattle.std.proofs.lemmas.Bool.{cases_Bool, eqb-true, eq-eqb, false≢true}
 use Rattle.std.proofs.lemmas.List.{length-append, take_all, take_at, get_or-append-add, take_more}
 use Rattle.std.proofs.lemmas.Option.{none-some, same_Some}
+use Rattle.cdi_model.specs.Bytes.{closing}
 use Rattle.cdi_uses.specs.Pieces.{cut, split, pieces}
 use Rattle.cdi_uses.specs.Uses.{before_close}
 use Rattle.cdi_uses.proofs.PieceLemmas.{split-cut}
@@ -43,28 +44,28 @@ cut-joined byte (x ∷ xs) = elim (cases_Bool (x == byte)) [
 
 -- ---- what stands before a bracket at the end
 
-pub before_close-at : (inner : List ℕ) → before_close (inner ++ 41 ∷ []) ≡ Some inner
+pub before_close-at : (inner : List ℕ) → before_close (inner ++ closing ∷ []) ≡ Some inner
 before_close-at inner =
-    let all : List ℕ = inner ++ 41 ∷ [] in
-    let count : length inner ≡ length all - 1 = omega (arith, length-append inner (41 ∷ [])) in
-    let last : get_or all (length inner + 0) 0 ≡ 41 = get_or-append-add inner (41 ∷ []) 0 0 in
+    let all : List ℕ = inner ++ closing ∷ [] in
+    let count : length inner ≡ length all - 1 = omega (arith, length-append inner (closing ∷ [])) in
+    let last : get_or all (length inner + 0) 0 ≡ closing = get_or-append-add inner (closing ∷ []) 0 0 in
     let place : length all - 1 ≡ length inner + 0 = omega (arith, count) in
-    let at : get_or all (length all - 1) 0 ≡ 41 = ap (λ n. get_or all n 0) place ∙ last in
-    rw (eq-eqb _ 41 at) (ap Some (take_at inner (41 ∷ []) (length all - 1) count))
+    let at : get_or all (length all - 1) 0 ≡ closing = ap (λ n. get_or all n 0) place ∙ last in
+    rw (eq-eqb _ closing at) (ap Some (take_at inner (closing ∷ []) (length all - 1) count))
 
-closed : (text inner : List ℕ) (b : Bool) → (slice_index text (length text - 1) == 41) ≡ b
-    → cond b (Some (take (length text - 1) text)) None ≡ Some inner → text ≡ inner ++ 41 ∷ []
+closed : (text inner : List ℕ) (b : Bool) → (slice_index text (length text - 1) == closing) ≡ b
+    → cond b (Some (take (length text - 1) text)) None ≡ Some inner → text ≡ inner ++ closing ∷ []
 closed text inner false e h = absurd (none-some inner h)
 closed [] inner true e h = absurd (false≢true e)
 closed (x ∷ xs) inner true e h =
     let within : length xs < length (x ∷ xs) = omega arith in
     let place : length (x ∷ xs) - 1 ≡ length xs = omega arith in
-    let last : get_or (x ∷ xs) (length xs) 0 ≡ 41 = sym (ap (λ n. get_or (x ∷ xs) n 0) place) ∙ eqb-true _ 41 e in
+    let last : get_or (x ∷ xs) (length xs) 0 ≡ closing = sym (ap (λ n. get_or (x ∷ xs) n 0) place) ∙ eqb-true _ closing e in
     let front : take (length xs) (x ∷ xs) ≡ inner = sym (ap (λ n. take n (x ∷ xs)) place) ∙ same_Some _ inner h in
     sym (take_all (length xs + 1) (x ∷ xs) (omega arith)) ∙ take_more (x ∷ xs) (length xs) 0 within
     ∙ ap (λ l. l ++ get_or (x ∷ xs) (length xs) 0 ∷ []) front ∙ ap (λ b. inner ++ b ∷ []) last
 
-pub before_close-joined : (text inner : List ℕ) → before_close text ≡ Some inner → text ≡ inner ++ 41 ∷ []
+pub before_close-joined : (text inner : List ℕ) → before_close text ≡ Some inner → text ≡ inner ++ closing ∷ []
 before_close-joined text inner h = closed text inner _ refl h
 
 -- ---- parts between equal bytes

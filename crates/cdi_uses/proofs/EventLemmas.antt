@@ -6,7 +6,7 @@ use Rattle.std.specs.List.{AllByRecursion, join_with_byte, list_all, list_any}
 use Rattle.std.specs.List.Sorted.{IsStrictlySortedBy}
 use Rattle.std.specs.Str.{bytes_eq}
 use Rattle.std.proofs.lemmas.Bool.{and_parts, and_from, not-true}
-use Rattle.cdi_model.specs.Bytes.{byte_order}
+use Rattle.cdi_model.specs.Bytes.{byte_order, closing, comma, opening, space}
 use Rattle.cdi_model.specs.EventText.{text_of_event, text_of_uses}
 use Rattle.cdi_model.specs.Grammar.{is_name}
 use Rattle.cdi_model.specs.Quals.{name_of_use, put_use}
@@ -33,19 +33,20 @@ joined_lacks byte other apart (p ∷ q ∷ ps) all =
     appended_lacks byte p (other ∷ join_with_byte other (q ∷ ps)) all.0 (apart, joined_lacks byte other apart (q ∷ ps) all.1)
 
 -- nor in what stands in brackets
-in_brackets : (name inner : List ℕ) → Lacks 32 name → Lacks 32 inner → Lacks 32 (name ++ (40 ∷ inner ++ 41 ∷ []))
-in_brackets name inner outer h = appended_lacks 32 name (40 ∷ inner ++ 41 ∷ []) outer (refl, appended_lacks 32 inner (41 ∷ []) h (refl, tt))
+in_brackets : (name inner : List ℕ) → Lacks space name → Lacks space inner → Lacks space (name ++ (opening ∷ inner ++ closing ∷ []))
+in_brackets name inner outer h =
+    appended_lacks space name (opening ∷ inner ++ closing ∷ []) outer (refl, appended_lacks space inner (closing ∷ []) h (refl, tt))
 
-use_lacks : (text : List ℕ) → SpellsUse text → Lacks 32 text
-use_lacks text (inl bare) = name_lacks 32 (refl, refl) text bare.grammar
-use_lacks text (inr (inl named)) = subst (Lacks 32) (sym named.joined)
-    (in_brackets (codes "Named") named.inner (name_lacks 32 (refl, refl) (codes "Named") refl)
-    (name_lacks 32 (refl, refl) named.inner named.grammar))
+use_lacks : (text : List ℕ) → SpellsUse text → Lacks space text
+use_lacks text (inl bare) = name_lacks space (refl, refl) text bare.grammar
+use_lacks text (inr (inl named)) = subst (Lacks space) (sym named.joined)
+    (in_brackets (codes "Named") named.inner (name_lacks space (refl, refl) (codes "Named") refl)
+    (name_lacks space (refl, refl) named.inner named.grammar))
 use_lacks text (inr (inr m)) =
-    let outside : IsOutside 32 = ((refl, refl), omega arith) in
-    subst (Lacks 32) (sym m.joined)
-    (in_brackets m.name (join_with_byte 44 m.members) (name_lacks 32 (refl, refl) m.name m.grammar)
-    (joined_lacks 32 44 refl m.members (members_lack 32 outside m.members m.each)))
+    let outside : IsOutside space = ((refl, refl), omega arith) in
+    subst (Lacks space) (sym m.joined)
+    (in_brackets m.name (join_with_byte comma m.members) (name_lacks space (refl, refl) m.name m.grammar)
+    (joined_lacks space comma refl m.members (members_lack space outside m.members m.each)))
 
 -- ---- uses that an event may have
 
@@ -71,7 +72,7 @@ each_spelt : (uses : List (List ℕ)) → AllByRecursion SpellsEventUse uses →
 each_spelt [] all = refl
 each_spelt (u ∷ us) all = and_from (is_event_use u) (list_all is_event_use us) ((event_use_meaning u).1 all.0) (each_spelt us all.1)
 
-each_lacks : (uses : List (List ℕ)) → AllByRecursion SpellsEventUse uses → AllByRecursion (Lacks 32) uses
+each_lacks : (uses : List (List ℕ)) → AllByRecursion SpellsEventUse uses → AllByRecursion (Lacks space) uses
 each_lacks [] all = tt
 each_lacks (u ∷ us) all = (use_lacks u all.0.0, each_lacks us all.1)
 
@@ -85,7 +86,7 @@ spells text h =
       uses = uses_in text;
       grammar = grammar;
       each = spells_each (uses_in text) uses;
-      joined = sym (split-joined 32 text) ∙ ap (join_with_byte 32) (split-cut 32 text);
+      joined = sym (split-joined space text) ∙ ap (join_with_byte space) (split-cut space text);
     }
 
 -- a text of parts without spaces is parted into them
@@ -93,20 +94,20 @@ record IsParted (text name : List ℕ) (parts : List (List ℕ)) : Type 0 where
   event_type : type_in text ≡ name
   uses : uses_in text ≡ parts
 
-parted : (event_type : List ℕ) (uses : List (List ℕ)) → Lacks 32 event_type → AllByRecursion (Lacks 32) uses
-    → IsParted (join_with_byte 32 (event_type ∷ uses)) event_type uses
+parted : (event_type : List ℕ) (uses : List (List ℕ)) → Lacks space event_type → AllByRecursion (Lacks space) uses
+    → IsParted (join_with_byte space (event_type ∷ uses)) event_type uses
 parted event_type uses first rest =
-    let text : List ℕ = join_with_byte 32 (event_type ∷ uses) in
-    let parts : (type_in text ∷ uses_in text) ≡ (event_type ∷ uses) = sym (split-cut 32 text)
-    ∙ joined-split 32 (event_type ∷ uses) (λ none. cc) (first, rest) in
+    let text : List ℕ = join_with_byte space (event_type ∷ uses) in
+    let parts : (type_in text ∷ uses_in text) ≡ (event_type ∷ uses) = sym (split-cut space text)
+    ∙ joined-split space (event_type ∷ uses) (λ none. cc) (first, rest) in
     record { event_type = cc; uses = cc }
 
 spelt : (text : List ℕ) → SpellsEvent text → is_event text ≡ true
 spelt text s =
-    let parts = parted s.event_type s.uses (name_lacks 32 (refl, refl) s.event_type s.grammar) (each_lacks s.uses s.each) in
+    let parts = parted s.event_type s.uses (name_lacks space (refl, refl) s.event_type s.grammar) (each_lacks s.uses s.each) in
     ap is_event s.joined
-    ∙ and_from (is_name (type_in (join_with_byte 32 (s.event_type ∷ s.uses))))
-    (list_all is_event_use (uses_in (join_with_byte 32 (s.event_type ∷ s.uses))))
+    ∙ and_from (is_name (type_in (join_with_byte space (s.event_type ∷ s.uses))))
+    (list_all is_event_use (uses_in (join_with_byte space (s.event_type ∷ s.uses))))
     (ap is_name parts.event_type ∙ s.grammar) (ap (list_all is_event_use) parts.uses ∙ each_spelt s.uses s.each)
 
 pub event_meaning : (text : List ℕ) → (is_event text ≡ true) ↔ SpellsEvent text
@@ -184,17 +185,17 @@ behind_none [] = tt
 behind_none (u ∷ us) = (tt, behind_none us)
 
 -- the uses behind a type are joined to it
-joined_behind : (t : List ℕ) (us : List Qual) → t ++ text_of_uses us ≡ join_with_byte 32 (t ∷ map text_of_use us)
+joined_behind : (t : List ℕ) (us : List Qual) → t ++ text_of_uses us ≡ join_with_byte space (t ∷ map text_of_use us)
 joined_behind t [] = append-nil t
-joined_behind t (u ∷ us) = ap (λ rest. t ++ 32 ∷ rest) (joined_behind (text_of_use u) us)
+joined_behind t (u ∷ us) = ap (λ rest. t ++ space ∷ rest) (joined_behind (text_of_use u) us)
 
 pub events_read_back : EventsReadBack
 events_read_back e can =
     let texts : List (List ℕ) = map text_of_use e.qualifiers in
     let spells : AllByRecursion SpellsEventUse texts = spells_again e.qualifiers can.uses in
-    let joined : text_of_event e ≡ join_with_byte 32 (e.event_type ∷ texts) = joined_behind e.event_type e.qualifiers in
+    let joined : text_of_event e ≡ join_with_byte space (e.event_type ∷ texts) = joined_behind e.event_type e.qualifiers in
     let parts : IsParted (text_of_event e) e.event_type texts = subst (λ t. IsParted t e.event_type texts) (sym joined)
-    (parted e.event_type texts (name_lacks 32 (refl, refl) e.event_type can.event_type) (each_lacks texts spells)) in
+    (parted e.event_type texts (name_lacks space (refl, refl) e.event_type can.event_type) (each_lacks texts spells)) in
     record {
       grammar = spelt (text_of_event e) (record {
         event_type = e.event_type;

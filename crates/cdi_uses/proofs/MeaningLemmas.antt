@@ -6,6 +6,7 @@ use Rattle.std.specs.List.{AllByRecursion, join_with_byte}
 use Rattle.std.specs.Str.{bytes_eq}
 use Rattle.std.specs.Cmp.Lexicographic.{bytes_decides}
 use Rattle.std.proofs.lemmas.Bool.{cases_Bool, and_parts, and_from, or_parts, not-true, eqb-true, ne_eqb, false≢true}
+use Rattle.cdi_model.specs.Bytes.{closing, comma, dot, equals_sign, minus, opening}
 use Rattle.cdi_model.specs.Grammar.{is_letter, is_word, are_words, is_ident_text, is_ident, begins, goes_on, is_name}
 use Rattle.cdi_uses.specs.Numbers.{number_of}
 use Rattle.cdi_uses.specs.Pieces.{cut, split}
@@ -19,7 +20,7 @@ use Rattle.cdi_uses.proofs.NumberLemmas.{number_plain}
 
 -- neither a letter, `_`, a digit nor a dot
 abbrev pub IsApart : ℕ → Type 0
-IsApart byte = (is_word byte ≡ false) × ((46 == byte) ≡ false)
+IsApart byte = (is_word byte ≡ false) × ((dot == byte) ≡ false)
 
 apart_byte : (b byte : ℕ) → IsApart byte → is_word b ≡ true → (b == byte) ≡ false
 apart_byte b byte apart word = elim (cases_Bool (b == byte)) [
@@ -51,12 +52,13 @@ mutual
 
   goes_on_lacks : (byte : ℕ) → IsApart byte → (text : List ℕ) → goes_on text ≡ true → Lacks byte text
   goes_on_lacks byte apart [] h = tt
-  goes_on_lacks byte apart (b ∷ bs) h = by (b == 46) refl (begins_lacks byte apart bs) (goes_on_lacks byte apart bs)
+  goes_on_lacks byte apart (b ∷ bs) h = by (b == dot) refl (begins_lacks byte apart bs) (goes_on_lacks byte apart bs)
     where
-      by : (dot : Bool) → (b == 46) ≡ dot → (begins bs ≡ true → Lacks byte bs) → (goes_on bs ≡ true → Lacks byte bs) → Lacks byte (b ∷ bs)
-      by true dot whole rest = (ap (λ c. c == byte) (eqb-true b 46 dot) ∙ apart.1, whole (rw dot at h))
-      by false dot whole rest =
-          let (word, more) = and_parts (is_word b) (goes_on bs) (rw dot at h) in
+      by : (at_dot : Bool) → (b == dot) ≡ at_dot → (begins bs ≡ true → Lacks byte bs) → (goes_on bs ≡ true → Lacks byte bs)
+          → Lacks byte (b ∷ bs)
+      by true same whole rest = (ap (λ c. c == byte) (eqb-true b dot same) ∙ apart.1, whole (rw same at h))
+      by false other whole rest =
+          let (word, more) = and_parts (is_word b) (goes_on bs) (rw other at h) in
           (apart_byte b byte apart word, rest more)
 
 pub name_lacks : (byte : ℕ) → IsApart byte → (text : List ℕ) → is_name text ≡ true → Lacks byte text
@@ -64,7 +66,7 @@ name_lacks byte apart text h = begins_lacks byte apart text (and_parts (begins t
 
 -- ---- members
 
-member_from : (piece name : List ℕ) (rest : Option (List ℕ)) → rejoined 61 name rest ≡ piece → is_some (pair_in name rest) ≡ true
+member_from : (piece name : List ℕ) (rest : Option (List ℕ)) → rejoined equals_sign name rest ≡ piece → is_some (pair_in name rest) ≡ true
     → WritesMember piece
 member_from piece name None joined h = absurd (false≢true h)
 member_from piece name (Some value) joined h = by (is_ident name) (number_of value) refl refl
@@ -76,13 +78,14 @@ member_from piece name (Some value) joined h = by (is_ident name) (number_of val
 
 pub pair_written : (piece : List ℕ) (m : WritesMember piece) → pair_of piece ≡ Some (m.name, m.value)
 pair_written piece m =
-    ap pair_of m.joined ∙ (rw (cut-at 61 m.name m.number (ident_lacks 61 (refl, refl) m.name m.ident), m.ident, m.writes) refl)
+    ap pair_of m.joined
+    ∙ (rw (cut-at equals_sign m.name m.number (ident_lacks equals_sign (refl, refl) m.name m.ident), m.ident, m.writes) refl)
 
 members_from_pieces : (pieces : List (List ℕ)) → are_pairs pieces ≡ true → AllByRecursion WritesMember pieces
 members_from_pieces [] h = tt
 members_from_pieces (p ∷ ps) h =
     let (this, rest) = and_parts (is_some (pair_of p)) (are_pairs ps) h in
-    (member_from p (cut 61 p).0 (cut 61 p).1 (cut-joined 61 p) this, members_from_pieces ps rest)
+    (member_from p (cut equals_sign p).0 (cut equals_sign p).1 (cut-joined equals_sign p) this, members_from_pieces ps rest)
 
 pairs_from_members : (pieces : List (List ℕ)) → AllByRecursion WritesMember pieces → are_pairs pieces ≡ true
 pairs_from_members [] all = refl
@@ -95,21 +98,21 @@ appended_lacks byte (x ∷ xs) ys h k = (h.0, appended_lacks byte xs ys h.1 k)
 
 -- neither in a name nor in a number, and not `=`
 abbrev pub IsOutside : ℕ → Type 0
-IsOutside byte = IsApart byte × (byte < 45)
+IsOutside byte = IsApart byte × (byte < minus)
 
 pub members_lack : (byte : ℕ) → IsOutside byte → (pieces : List (List ℕ)) → AllByRecursion WritesMember pieces
     → AllByRecursion (Lacks byte) pieces
 members_lack byte outside [] all = tt
 members_lack byte outside (p ∷ ps) all =
     let m = all.0 in
-    let low : byte < 45 = outside.1 in (
-      subst (Lacks byte) (sym m.joined) (appended_lacks byte m.name (61 ∷ m.number) (ident_lacks byte outside.0 m.name m.ident)
-          (ne_eqb 61 byte (λ same. omega arith), number_plain byte low m.number m.value m.writes)),
+    let low : byte < minus = outside.1 in (
+      subst (Lacks byte) (sym m.joined) (appended_lacks byte m.name (equals_sign ∷ m.number) (ident_lacks byte outside.0 m.name m.ident)
+          (ne_eqb equals_sign byte (λ same. omega arith), number_plain byte low m.number m.value m.writes)),
       members_lack byte outside ps all.1,
     )
 
-pub members_lack_commas : (pieces : List (List ℕ)) → AllByRecursion WritesMember pieces → AllByRecursion (Lacks 44) pieces
-members_lack_commas = members_lack 44 ((refl, refl), omega arith)
+pub members_lack_commas : (pieces : List (List ℕ)) → AllByRecursion WritesMember pieces → AllByRecursion (Lacks comma) pieces
+members_lack_commas = members_lack comma ((refl, refl), omega arith)
 
 -- ---- uses
 
@@ -125,32 +128,32 @@ other_text a b other = elim (cases_Bool (bytes_eq a b)) [
 pub not_text : (a b : List ℕ) → bytes_eq a b ≡ false → a ≢ b
 not_text a b h e = false≢true (sym h ∙ (bytes_decides a b).1 e)
 
-with_inner : (text name inner : List ℕ) → text ≡ name ++ (40 ∷ inner ++ 41 ∷ []) → is_name name ≡ true → is_inside name (Some inner) ≡ true
-    → SpellsUse text
+with_inner : (text name inner : List ℕ) → text ≡ name ++ (opening ∷ inner ++ closing ∷ []) → is_name name ≡ true
+    → is_inside name (Some inner) ≡ true → SpellsUse text
 with_inner text name inner joined grammar h = by (is_named name) refl
   where
     by : (named : Bool) → is_named name ≡ named → SpellsUse text
     by true named = inr (inl (record {
       inner = inner;
       grammar = rw named at h;
-      joined = joined ∙ ap (λ n. n ++ (40 ∷ inner ++ 41 ∷ [])) (same_text name (codes "Named") named);
+      joined = joined ∙ ap (λ n. n ++ (opening ∷ inner ++ closing ∷ [])) (same_text name (codes "Named") named);
     }))
     by false named =
-        let (plain, pairs) = and_parts (not (is_plain name)) (are_pairs (split 44 inner)) (rw named at h) in
+        let (plain, pairs) = and_parts (not (is_plain name)) (are_pairs (split comma inner)) (rw named at h) in
         let (any, default) = or_parts (bytes_eq name (codes "Any")) (bytes_eq name (codes "Default")) (not-true (is_plain name) plain) in
         inr (inr (record {
           name = name;
-          members = split 44 inner;
+          members = split comma inner;
           grammar = grammar;
           not_named = not_text name (codes "Named") named;
           not_any = not_text name (codes "Any") any;
           not_default = not_text name (codes "Default") default;
-          some = split-some 44 inner;
-          each = members_from_pieces (split 44 inner) pairs;
-          joined = joined ∙ ap (λ l. name ++ (40 ∷ l ++ 41 ∷ [])) (sym (split-joined 44 inner));
+          some = split-some comma inner;
+          each = members_from_pieces (split comma inner) pairs;
+          joined = joined ∙ ap (λ l. name ++ (opening ∷ l ++ closing ∷ [])) (sym (split-joined comma inner));
         }))
 
-spelled_by : (text name : List ℕ) (rest : Option (List ℕ)) → rejoined 40 name rest ≡ text → is_use_of name rest ≡ true → SpellsUse text
+spelled_by : (text name : List ℕ) (rest : Option (List ℕ)) → rejoined opening name rest ≡ text → is_use_of name rest ≡ true → SpellsUse text
 spelled_by text name None joined h =
     let (grammar, other) = and_parts (is_name name) (not (is_named name)) h in
     inl (record {
@@ -163,30 +166,30 @@ spelled_by text name (Some rest) joined h =
   where
     by : (inner : Option (List ℕ)) → before_close rest ≡ inner → is_name name ≡ true → is_inside name inner ≡ true → SpellsUse text
     by None e grammar inside = absurd (false≢true inside)
-    by (Some inner) e grammar inside = with_inner text name inner (sym joined ∙ ap (λ r. name ++ 40 ∷ r) (before_close-joined rest inner e))
-        grammar inside
+    by (Some inner) e grammar inside = with_inner text name inner
+        (sym joined ∙ ap (λ r. name ++ opening ∷ r) (before_close-joined rest inner e)) grammar inside
 
 -- a name, a bracket, what it takes, and a bracket
 pub use_inside : (name inner : List ℕ) → is_name name ≡ true → is_inside name (Some inner) ≡ true
-    → is_use (name ++ (40 ∷ inner ++ 41 ∷ [])) ≡ true
+    → is_use (name ++ (opening ∷ inner ++ closing ∷ [])) ≡ true
 use_inside name inner grammar h =
-    rw (cut-at 40 name (inner ++ 41 ∷ []) (name_lacks 40 (refl, refl) name grammar), before_close-at inner)
+    rw (cut-at opening name (inner ++ closing ∷ []) (name_lacks opening (refl, refl) name grammar), before_close-at inner)
     (and_from (is_name name) (is_inside name (Some inner)) grammar h)
 
 is_spelled : (text : List ℕ) → SpellsUse text → is_use text ≡ true
 is_spelled text (inl bare) =
-    rw (cut-none 40 text (name_lacks 40 (refl, refl) text bare.grammar))
+    rw (cut-none opening text (name_lacks opening (refl, refl) text bare.grammar))
     (and_from (is_name text) (not (is_named text)) bare.grammar (ap not (other_text text (codes "Named") bare.not_named)))
 is_spelled text (inr (inl named)) = ap is_use named.joined ∙ use_inside (codes "Named") named.inner refl named.grammar
 is_spelled text (inr (inr m)) =
-    ap is_use m.joined ∙ use_inside m.name (join_with_byte 44 m.members) m.grammar
+    ap is_use m.joined ∙ use_inside m.name (join_with_byte comma m.members) m.grammar
     (rw (
       other_text m.name (codes "Named") m.not_named,
       other_text m.name (codes "Any") m.not_any,
       other_text m.name (codes "Default")
           m.not_default,
-      joined-split 44 m.members m.some (members_lack_commas m.members m.each),
+      joined-split comma m.members m.some (members_lack_commas m.members m.each),
     ) (pairs_from_members m.members m.each))
 
 pub use_meaning : (text : List ℕ) → (is_use text ≡ true) ↔ SpellsUse text
-use_meaning text = (spelled_by text (cut 40 text).0 (cut 40 text).1 (cut-joined 40 text), is_spelled text)
+use_meaning text = (spelled_by text (cut opening text).0 (cut opening text).1 (cut-joined opening text), is_spelled text)

@@ -7,32 +7,35 @@ use Rattle.std.specs.Prelude.{neg_ℤ}
 use Rattle.std.proofs.lemmas.Bool.{cases_Bool, and_parts, and_from, le-leb, leb-true, ne_eqb, eqb-true}
 use Rattle.std.proofs.lemmas.Option.{none-some, same_Some}
 use Rattle.std.proofs.lemmas.Fmt.{decimal_by_steps, decimal_nonempty}
-use Rattle.cdi_uses.specs.Numbers.{is_digit, value_after, magnitude, within, number_of}
+use Rattle.cdi_model.specs.Bytes.{minus}
+use Rattle.cdi_uses.specs.Numbers.{digit_zero, digit_nine, is_digit, value_after, magnitude, within, number_of}
 use Rattle.cdi_uses.specs.Meaning.{NumbersReadBack}
 
-digit : (d : ℕ) → d < 10 → is_digit (48 + d) ≡ true
-digit d h = and_from (nat_le 48 (48 + d)) (nat_le (48 + d) 57) (le-leb 48 (48 + d) (omega arith)) (le-leb (48 + d) 57 (omega arith))
+digit : (d : ℕ) → d < 10 → is_digit (digit_zero + d) ≡ true
+digit d h =
+    and_from (nat_le digit_zero (digit_zero + d)) (nat_le (digit_zero + d) digit_nine)
+    (le-leb digit_zero (digit_zero + d) (omega arith)) (le-leb (digit_zero + d) digit_nine (omega arith))
 
 -- one more digit
 pushed : (n : ℕ) (ds : List ℕ) (v c : ℕ) → value_after n ds ≡ Some v → is_digit c ≡ true
-    → value_after n (ds ++ c ∷ []) ≡ Some (10 * v + (c - 48))
-pushed n [] v c e d = rw d (ap (λ m. Some (10 * m + (c - 48))) (same_Some n v e))
-pushed n (x ∷ xs) v c e d = by (is_digit x) refl (pushed (10 * n + (x - 48)) xs v c)
+    → value_after n (ds ++ c ∷ []) ≡ Some (10 * v + (c - digit_zero))
+pushed n [] v c e d = rw d (ap (λ m. Some (10 * m + (c - digit_zero))) (same_Some n v e))
+pushed n (x ∷ xs) v c e d = by (is_digit x) refl (pushed (10 * n + (x - digit_zero)) xs v c)
   where
-    by : (b : Bool) → is_digit x ≡ b → (value_after (10 * n + (x - 48)) xs ≡ Some v → is_digit c ≡ true
-        → value_after (10 * n + (x - 48)) (xs ++ c ∷ []) ≡ Some (10 * v + (c - 48)))
-        → value_after n ((x ∷ xs) ++ c ∷ []) ≡ Some (10 * v + (c - 48))
+    by : (b : Bool) → is_digit x ≡ b → (value_after (10 * n + (x - digit_zero)) xs ≡ Some v → is_digit c ≡ true
+        → value_after (10 * n + (x - digit_zero)) (xs ++ c ∷ []) ≡ Some (10 * v + (c - digit_zero)))
+        → value_after n ((x ∷ xs) ++ c ∷ []) ≡ Some (10 * v + (c - digit_zero))
     by true is rest = rw is (rest (rw is at e) d)
     by false is rest = absurd (none-some v (rw is at e))
 
 value-decimal : (n : ℕ) → n < 2 ^ 64 → value_after 0 (decimal n) ≡ Some n
 value-decimal n h = decimal_by_steps (λ m ds. value_after 0 ds ≡ Some m) one more n h
   where
-    one : (m : ℕ) → m < 10 → value_after 0 ((48 + m) ∷ []) ≡ Some m
+    one : (m : ℕ) → m < 10 → value_after 0 ((digit_zero + m) ∷ []) ≡ Some m
     one m small = rw (digit m small) (ap Some (omega arith))
 
-    more : (m : ℕ) (ds : List ℕ) → 10 ≤ m → value_after 0 ds ≡ Some (m / 10) → value_after 0 (ds ++ ((48 + m % 10) ∷ [])) ≡ Some m
-    more m ds large e = pushed 0 ds (m / 10) (48 + m % 10) e (digit (m % 10) (omega arith)) ∙ ap Some (omega arith)
+    more : (m : ℕ) (ds : List ℕ) → 10 ≤ m → value_after 0 ds ≡ Some (m / 10) → value_after 0 (ds ++ ((digit_zero + m % 10) ∷ [])) ≡ Some m
+    more m ds large e = pushed 0 ds (m / 10) (digit_zero + m % 10) e (digit (m % 10) (omega arith)) ∙ ap Some (omega arith)
 
 -- digits alone are a number, if it is small enough
 of_digits : (ds : List ℕ) (n : ℕ) → 0 < length ds → value_after 0 ds ≡ Some n → n ≤ 9223372036854775807 → number_of ds ≡ Some (pos n)
@@ -41,8 +44,8 @@ of_digits (c ∷ cs) n some e small = by (is_digit c) refl
   where
     by : (b : Bool) → is_digit c ≡ b → number_of (c ∷ cs) ≡ Some (pos n)
     by true is =
-        let least : 48 ≤ c = leb-true 48 c (and_parts (nat_le 48 c) (nat_le c 57) is).0 in
-        rw (ne_eqb c 45 (λ same. omega arith)) (ap (λ o. option_map pos (within 9223372036854775807 o)) e
+        let least : digit_zero ≤ c = leb-true digit_zero c (and_parts (nat_le digit_zero c) (nat_le c digit_nine) is).0 in
+        rw (ne_eqb c minus (λ same. omega arith)) (ap (λ o. option_map pos (within 9223372036854775807 o)) e
         ∙ (rw (le-leb n 9223372036854775807 small) refl))
     by false is = absurd (none-some n (rw is at e))
 
@@ -54,7 +57,7 @@ numbers_read_back (negsuc n) fits =
     let small : n < 9223372036854775808 = fits.sfits in
     negative (decimal (suc n)) (decimal_nonempty (suc n) (omega arith)) (value-decimal (suc n) (omega arith))
   where
-    negative : (ds : List ℕ) → 0 < length ds → value_after 0 ds ≡ Some (suc n) → number_of (45 ∷ ds) ≡ Some (negsuc n)
+    negative : (ds : List ℕ) → 0 < length ds → value_after 0 ds ≡ Some (suc n) → number_of (minus ∷ ds) ≡ Some (negsuc n)
     negative [] some e = absurd (omega arith)
     negative (c ∷ cs) some e =
         ap (λ o. option_map (λ m. neg_ℤ (pos m)) (within 9223372036854775808 o)) e
@@ -62,19 +65,19 @@ numbers_read_back (negsuc n) fits =
 
 -- ---- what stands in a number
 
-digits_plain : (byte : ℕ) → byte < 45 → (n : ℕ) (ds : List ℕ) (v : ℕ) → value_after n ds ≡ Some v
+digits_plain : (byte : ℕ) → byte < minus → (n : ℕ) (ds : List ℕ) (v : ℕ) → value_after n ds ≡ Some v
     → AllByRecursion (λ c. (c == byte) ≡ false) ds
 digits_plain byte low n [] v e = tt
-digits_plain byte low n (c ∷ cs) v e = by (is_digit c) refl (digits_plain byte low (10 * n + (c - 48)) cs v)
+digits_plain byte low n (c ∷ cs) v e = by (is_digit c) refl (digits_plain byte low (10 * n + (c - digit_zero)) cs v)
   where
-    by : (b : Bool) → is_digit c ≡ b → (value_after (10 * n + (c - 48)) cs ≡ Some v → AllByRecursion (λ x. (x == byte) ≡ false) cs)
+    by : (b : Bool) → is_digit c ≡ b → (value_after (10 * n + (c - digit_zero)) cs ≡ Some v → AllByRecursion (λ x. (x == byte) ≡ false) cs)
         → AllByRecursion (λ x. (x == byte) ≡ false) (c ∷ cs)
     by true is rest =
-        let least : 48 ≤ c = leb-true 48 c (and_parts (nat_le 48 c) (nat_le c 57) is).0 in
+        let least : digit_zero ≤ c = leb-true digit_zero c (and_parts (nat_le digit_zero c) (nat_le c digit_nine) is).0 in
         (ne_eqb c byte (λ same. omega arith), rest (rw is at e))
     by false is rest = absurd (none-some v (rw is at e))
 
-magnitude_plain : (byte : ℕ) → byte < 45 → (ds : List ℕ) (most : ℕ) (f : ℕ → ℤ) (z : ℤ)
+magnitude_plain : (byte : ℕ) → byte < minus → (ds : List ℕ) (most : ℕ) (f : ℕ → ℤ) (z : ℤ)
     → option_map f (within most (magnitude ds)) ≡ Some z → AllByRecursion (λ c. (c == byte) ≡ false) ds
 magnitude_plain byte low [] most f z e = tt
 magnitude_plain byte low (c ∷ cs) most f z e = by (value_after 0 (c ∷ cs)) refl
@@ -84,14 +87,14 @@ magnitude_plain byte low (c ∷ cs) most f z e = by (value_after 0 (c ∷ cs)) r
     by None is = absurd (none-some z (sym (ap (λ o. option_map f (within most o)) is) ∙ e))
 
 -- no byte below `-` stands in a number
-pub number_plain : (byte : ℕ) → byte < 45 → (text : List ℕ) (z : ℤ) → number_of text ≡ Some z
+pub number_plain : (byte : ℕ) → byte < minus → (text : List ℕ) (z : ℤ) → number_of text ≡ Some z
     → AllByRecursion (λ c. (c == byte) ≡ false) text
 number_plain byte low [] z e = tt
-number_plain byte low (c ∷ cs) z e = elim (cases_Bool (c == 45)) [
-  | inl minus ↦ (
-    ne_eqb c byte (λ same. let is : c ≡ 45 = eqb-true c 45 minus in omega arith),
+number_plain byte low (c ∷ cs) z e = elim (cases_Bool (c == minus)) [
+  | inl negative ↦ (
+    ne_eqb c byte (λ same. let is : c ≡ minus = eqb-true c minus negative in omega arith),
     magnitude_plain byte low cs 9223372036854775808
-        (λ n. neg_ℤ (pos n)) z (rw minus at e),
+        (λ n. neg_ℤ (pos n)) z (rw negative at e),
   )
   | inr other ↦ magnitude_plain byte low (c ∷ cs) 9223372036854775807 pos z (rw other at e)
 ]

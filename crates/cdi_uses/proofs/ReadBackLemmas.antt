@@ -11,6 +11,7 @@ use Rattle.std.specs.Ordering.{nat_cmp, is_eq, ordering_reverse}
 use Rattle.std.specs.Str.{bytes_eq}
 use Rattle.std.specs.Cmp.Lexicographic.{slice_cmp, nat_list_cmp_total}
 use Rattle.std.proofs.lemmas.Map.Text.{is_eq-slice_cmp}
+use Rattle.cdi_model.specs.Bytes.{closing, comma, equals_sign, opening}
 use Rattle.cdi_model.specs.UseText.{text_of_pair, text_of_pairs, text_of_use}
 use Rattle.cdi_model.specs.declared.quals.Arguments.{Arguments}
 use Rattle.cdi_model.specs.declared.quals.Arguments.TheVariants as arguments
@@ -44,15 +45,15 @@ member_texts : (ms : List (List ℕ × ℤ)) → AllByRecursion IsMember ms → 
 member_texts [] all = tt
 member_texts (m ∷ ms) all = (member_text m all.0, member_texts ms all.1)
 
-pairs_joined : (ms : List (List ℕ × ℤ)) → text_of_pairs ms ≡ join_with_byte 44 (map text_of_pair ms)
+pairs_joined : (ms : List (List ℕ × ℤ)) → text_of_pairs ms ≡ join_with_byte comma (map text_of_pair ms)
 pairs_joined [] = refl
 pairs_joined (m ∷ []) = refl
-pairs_joined (m ∷ n ∷ ms) = ap (λ l. text_of_pair m ++ 44 ∷ l) (pairs_joined (n ∷ ms))
+pairs_joined (m ∷ n ∷ ms) = ap (λ l. text_of_pair m ++ comma ∷ l) (pairs_joined (n ∷ ms))
 
 pieces_of_pairs : (m : List ℕ × ℤ) (ms : List (List ℕ × ℤ)) → AllByRecursion IsMember (m ∷ ms)
-    → split 44 (text_of_pairs (m ∷ ms)) ≡ map text_of_pair (m ∷ ms)
+    → split comma (text_of_pairs (m ∷ ms)) ≡ map text_of_pair (m ∷ ms)
 pieces_of_pairs m ms all =
-    ap (split 44) (pairs_joined (m ∷ ms)) ∙ joined-split 44 (map text_of_pair (m ∷ ms)) (λ none. cc)
+    ap (split comma) (pairs_joined (m ∷ ms)) ∙ joined-split comma (map text_of_pair (m ∷ ms)) (λ none. cc)
     (members_lack_commas (map text_of_pair (m ∷ ms)) (member_texts (m ∷ ms) all))
 
 -- ---- the members that are read
@@ -98,7 +99,8 @@ nothing_before (m ∷ ms) = (tt, nothing_before ms)
 
 names_again : (ms : List (List ℕ × ℤ)) → AllByRecursion IsMember ms → member_names (map text_of_pair ms) ≡ keys_of ms
 names_again [] all = refl
-names_again (m ∷ ms) all = rw (cut-at 61 m.0 (signed_decimal m.1) (ident_lacks 61 (refl, refl) m.0 all.0.ident), names_again ms all.1) refl
+names_again (m ∷ ms) all =
+    rw (cut-at equals_sign m.0 (signed_decimal m.1) (ident_lacks equals_sign (refl, refl) m.0 all.0.ident), names_again ms all.1) refl
 
 not_among : (key : List ℕ) (keys : List (List ℕ)) → AllByRecursion (λ l. order key l ≡ Less) keys → is_text_among keys key ≡ false
 not_among key [] less = refl
@@ -119,7 +121,7 @@ read_as text u is once says = rw (is, once) (ap Ok says)
 bare_again : (name : List ℕ) → CanBeSpelled (record { name = name; arguments = arguments.Members [] })
     → qual_of (name ++ []) ≡ Ok (record { name = name; arguments = arguments.Members [] })
 bare_again name can =
-    let whole : cut 40 name ≡ (name, None) = cut-none 40 name (name_lacks 40 (refl, refl) name can.name) in
+    let whole : cut opening name ≡ (name, None) = cut-none opening name (name_lacks opening (refl, refl) name can.name) in
     ap qual_of (append-nil name)
     ∙ read_as name (record { name = name; arguments = arguments.Members [] })
     ((use_meaning name).1 (inl (record { grammar = can.name; not_named = can.arguments })))
@@ -127,21 +129,22 @@ bare_again name can =
     (ap (λ p. record { name = p.0; arguments = arguments_in p.0 p.1 }) whole)
 
 named_again : (name inner : List ℕ) → CanBeSpelled (record { name = name; arguments = arguments.Name inner })
-    → qual_of (name ++ (40 ∷ inner ++ 41 ∷ [])) ≡ Ok (record { name = name; arguments = arguments.Name inner })
+    → qual_of (name ++ (opening ∷ inner ++ closing ∷ [])) ≡ Ok (record { name = name; arguments = arguments.Name inner })
 named_again name inner can =
     rw (can.arguments.0, before_close-at inner, can.arguments.1) refl
 
 members_read : (name : List ℕ) (m : List ℕ × ℤ) (ms : List (List ℕ × ℤ))
     → CanBeSpelled (record { name = name; arguments = arguments.Members (m ∷ ms) })
-    → qual_of (name ++ (40 ∷ text_of_pairs (m ∷ ms) ++ 41 ∷ [])) ≡ Ok (record { name = name; arguments = arguments.Members (m ∷ ms) })
+    → qual_of (name ++ (opening ∷ text_of_pairs (m ∷ ms) ++ closing ∷ []))
+    ≡ Ok (record { name = name; arguments = arguments.Members (m ∷ ms) })
 members_read name m ms can =
     let pairs : List ℕ = text_of_pairs (m ∷ ms) in
-    let text : List ℕ = name ++ (40 ∷ pairs ++ 41 ∷ []) in
+    let text : List ℕ = name ++ (opening ∷ pairs ++ closing ∷ []) in
     let all = can.arguments.3 in
     let named : is_named name ≡ false = other_text name (codes "Named") can.arguments.0 in
-    let whole : cut 40 text ≡ (name, Some (pairs ++ 41 ∷ [])) = cut-at 40 name (pairs ++ 41 ∷ []) (name_lacks 40 (refl, refl) name can.name)
-    in
-    let pieces : split 44 pairs ≡ map text_of_pair (m ∷ ms) = pieces_of_pairs m ms all in
+    let whole : cut opening text ≡ (name, Some (pairs ++ closing ∷ [])) =
+    cut-at opening name (pairs ++ closing ∷ []) (name_lacks opening (refl, refl) name can.name) in
+    let pieces : split comma pairs ≡ map text_of_pair (m ∷ ms) = pieces_of_pairs m ms all in
     read_as text (record { name = name; arguments = arguments.Members (m ∷ ms) })
     ((use_meaning text).1 (inr (inr (record {
       name = name;
@@ -152,14 +155,14 @@ members_read name m ms can =
       not_default = can.arguments.2;
       some = λ none. cc;
       each = member_texts (m ∷ ms) all;
-      joined = ap (λ l. name ++ (40 ∷ l ++ 41 ∷ [])) (pairs_joined (m ∷ ms));
+      joined = ap (λ l. name ++ (opening ∷ l ++ closing ∷ [])) (pairs_joined (m ∷ ms));
     }))))
     (ap (λ p. repeats_in p.0 p.1) whole ∙ ap (repeats_inside name) (before_close-at pairs)
-    ∙ ap (λ b. not b && has_twice (member_names (split 44 pairs))) named
+    ∙ ap (λ b. not b && has_twice (member_names (split comma pairs))) named
     ∙ ap has_twice (ap member_names pieces ∙ names_again (m ∷ ms) all) ∙ none_twice (keys_of (m ∷ ms)) can.arguments.4)
     (ap (λ p. record { name = p.0; arguments = arguments_in p.0 p.1 }) whole
     ∙ ap (λ o. record { name = name; arguments = arguments_inside name (unwrap_or o []) }) (before_close-at pairs)
-    ∙ ap (λ b. record { name = name; arguments = cond b (arguments.Name pairs) (arguments.Members (members_from [] (split 44 pairs))) })
+    ∙ ap (λ b. record { name = name; arguments = cond b (arguments.Name pairs) (arguments.Members (members_from [] (split comma pairs))) })
     named
     ∙ ap (λ l. record { name = name; arguments = arguments.Members l })
     (ap (members_from []) pieces ∙ members_again [] (m ∷ ms) (nothing_before (m ∷ ms)) can.arguments.4 all))

@@ -12,6 +12,7 @@ use Rattle.std.specs.Cmp.Lexicographic.{slice_cmp, nat_list_cmp_total, bytes_dec
 use Rattle.std.proofs.lemmas.Bool.{cases_Bool, leb-true}
 use Rattle.std.proofs.lemmas.Map.Text.{is_eq-slice_cmp}
 use Rattle.std.proofs.lemmas.Option.{none-some, same_Some}
+use Rattle.cdi_model.specs.Bytes.{closing, comma, minus, opening}
 use Rattle.cdi_model.specs.declared.quals.Arguments.TheVariants as arguments
 use Rattle.cdi_uses.specs.Numbers.{magnitude, within, number_of}
 use Rattle.cdi_uses.specs.Pieces.{cut, split}
@@ -47,8 +48,8 @@ mapped_fits f most o z fits e = by (within most o) refl
 
 number_fits : (text : List ℕ) (z : ℤ) → number_of text ≡ Some z → FitsSigned w64 z
 number_fits [] z e = absurd (none-some z e)
-number_fits (c ∷ cs) z e = elim (cases_Bool (c == 45)) [
-  | inl minus ↦ mapped_fits (λ n. neg_ℤ (pos n)) 9223372036854775808 (magnitude cs) z negated (rw minus at e)
+number_fits (c ∷ cs) z e = elim (cases_Bool (c == minus)) [
+  | inl negative ↦ mapped_fits (λ n. neg_ℤ (pos n)) 9223372036854775808 (magnitude cs) z negated (rw negative at e)
   | inr other ↦ mapped_fits pos 9223372036854775807 (magnitude (c ∷ cs)) z (λ n le. record { sfits = omega arith }) (rw other at e)
 ]
 
@@ -126,7 +127,7 @@ of_members name (m ∷ ms) named any default are = (named, any, default, are.are
 says : (text : List ℕ) → SpellsUse text → CanBeSpelled (use_of text)
 unfolding IsStrictlySortedBy
 says text (inl bare) =
-    let whole : cut 40 text ≡ (text, None) = cut-none 40 text (name_lacks 40 (refl, refl) text bare.grammar) in
+    let whole : cut opening text ≡ (text, None) = cut-none opening text (name_lacks opening (refl, refl) text bare.grammar) in
     let u : use_of text ≡ record { name = text; arguments = arguments.Members [] } = ap
     (λ p. record { name = p.0; arguments = arguments_in p.0 p.1 }) whole in
     subst CanBeSpelled (sym u) (record { name = bare.grammar; arguments = bare.not_named })
@@ -136,15 +137,16 @@ says text (inr (inl named)) =
     (before_close-at named.inner) in
     subst CanBeSpelled (sym u) (record { name = refl; arguments = (refl, named.grammar) })
 says text (inr (inr m)) =
-    let inner : List ℕ = join_with_byte 44 m.members in
-    let whole : cut 40 (m.name ++ (40 ∷ inner ++ 41 ∷ []))
-    ≡ (m.name, Some (inner ++ 41 ∷ [])) = cut-at 40 m.name (inner ++ 41 ∷ []) (name_lacks 40 (refl, refl) m.name m.grammar) in
-    let pieces : split 44 inner ≡ m.members = joined-split 44 m.members m.some (members_lack_commas m.members m.each) in
+    let inner : List ℕ = join_with_byte comma m.members in
+    let whole : cut opening (m.name ++ (opening ∷ inner ++ closing ∷ [])) ≡ (m.name, Some (inner ++ closing ∷ [])) =
+    cut-at opening m.name (inner ++ closing ∷ []) (name_lacks opening (refl, refl) m.name m.grammar) in
+    let pieces : split comma inner ≡ m.members = joined-split comma m.members m.some (members_lack_commas m.members m.each) in
     let u : use_of text ≡ record { name = m.name; arguments = arguments.Members (members_from [] m.members) } =
     ap use_of m.joined
     ∙ ap (λ p. record { name = p.0; arguments = arguments_in p.0 p.1 }) whole
     ∙ ap (λ o. record { name = m.name; arguments = arguments_inside m.name (unwrap_or o []) }) (before_close-at inner)
-    ∙ ap (λ b. record { name = m.name; arguments = cond b (arguments.Name inner) (arguments.Members (members_from [] (split 44 inner))) })
+    ∙ ap
+    (λ b. record { name = m.name; arguments = cond b (arguments.Name inner) (arguments.Members (members_from [] (split comma inner))) })
     (other_text m.name (codes "Named") m.not_named)
     ∙ ap (λ l. record { name = m.name; arguments = arguments.Members (members_from [] l) }) pieces in
     subst CanBeSpelled (sym u) (record {

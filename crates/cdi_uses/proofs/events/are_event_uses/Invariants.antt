@@ -1,12 +1,13 @@
 use Rattle.std.proofs.Common.{◌≡◌, option_map}
 use Rattle.std.specs.List.{list_all}
+use Rattle.cdi_model.specs.Bytes.{space}
 use Rattle.cdi_uses.specs.Events.{is_event_use}
 use Rattle.cdi_uses.specs.Pieces.{pieces, left_of}
 use Rattle.cdi_uses.proofs.events.are_event_uses.Given as goal
 
 abbrev pub invariant-loop-rest : goal.invariant-loop-rest
-invariant-loop-rest l = list_all is_event_use (pieces 32 (option_map (λ u. u.now) l.rest))
-    ≡ list_all is_event_use (pieces 32 (option_map (λ u. u.now) l.uses))
+invariant-loop-rest l = list_all is_event_use (pieces space (option_map (λ u. u.now) l.rest))
+    ≡ list_all is_event_use (pieces space (option_map (λ u. u.now) l.uses))
 
 abbrev pub decreases-loop-rest : goal.decreases-loop-rest
 decreases-loop-rest l = left_of (option_map (λ u. u.now) l.rest)

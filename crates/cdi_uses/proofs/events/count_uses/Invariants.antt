@@ -1,4 +1,5 @@
 use Rattle.std.proofs.Common.{◌≡◌, ◌≤◌, ◌+◌, length, option_map}
+use Rattle.cdi_model.specs.Bytes.{space}
 use Rattle.cdi_uses.specs.Events.{uses_in}
 use Rattle.cdi_uses.specs.Pieces.{pieces, left_of}
 use Rattle.cdi_uses.proofs.events.count_uses.Given as goal
@@ -6,7 +7,7 @@ use Rattle.cdi_uses.proofs.events.count_uses.Given as goal
 abbrev pub invariant-loop-rest : goal.invariant-loop-rest
 invariant-loop-rest l =
     record {
-      counted : l.count + length (pieces 32 (option_map (λ u. u.now) l.rest)) ≡ length (uses_in l.text);
+      counted : l.count + length (pieces space (option_map (λ u. u.now) l.rest)) ≡ length (uses_in l.text);
       small : l.count + left_of (option_map (λ u. u.now) l.rest) ≤ length l.text;
     }
 

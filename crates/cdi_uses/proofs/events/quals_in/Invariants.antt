@@ -1,5 +1,6 @@
 use Rattle.std.proofs.Common.{◌≡◌, ◌≤◌, ◌+◌, true, [], length, option_map}
 use Rattle.std.specs.List.{list_all}
+use Rattle.cdi_model.specs.Bytes.{space}
 use Rattle.cdi_model.specs.Quals.{list_limit}
 use Rattle.cdi_uses.specs.Events.{is_event_use}
 use Rattle.cdi_uses.specs.Pieces.{pieces, left_of}
@@ -8,9 +9,9 @@ use Rattle.cdi_uses.proofs.events.quals_in.Given as goal
 
 abbrev pub invariant-loop-rest : goal.invariant-loop-rest
 invariant-loop-rest l =
-    let parts = pieces 32 (option_map (λ u. u.now) l.rest) in
+    let parts = pieces space (option_map (λ u. u.now) l.rest) in
     record {
-      read : quals_from l.quals parts ≡ quals_from [] (pieces 32 (option_map (λ u. u.now) l.uses));
+      read : quals_from l.quals parts ≡ quals_from [] (pieces space (option_map (λ u. u.now) l.uses));
       uses : list_all is_event_use parts ≡ true;
       room : length l.quals + length parts ≤ list_limit;
     }
