@@ -43,15 +43,11 @@ products-in-order ds bean (p ∷ ps) rest all = (
 
 all-in-order : (ds es : List Decl) → AllByRecursion IsInOrder (flat_map (entries ds) es)
 all-in-order ds [] = tt
-all-in-order ds (decls.Type d ∷ es) = all-in-order ds es
-all-in-order ds (decls.Qualifier d ∷ es) = all-in-order ds es
-all-in-order ds (decls.Binding d ∷ es) = all-in-order ds es
-all-in-order ds (decls.Stereotype d ∷ es) = all-in-order ds es
-all-in-order ds (decls.Interceptor d ∷ es) = all-in-order ds es
 all-in-order ds (decls.Bean bean ∷ es) = (
   one-in-order ds (managed_origin bean) bean.attributes (class_bindings ds bean),
   products-in-order ds bean bean.producers (flat_map (entries ds) es) (all-in-order ds es),
 )
+all-in-order ds (other ∷ es) = all-in-order ds es
 
 pub types_stand_in_order : TypesStandInOrder
 unfolding beans

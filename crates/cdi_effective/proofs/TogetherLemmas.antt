@@ -42,12 +42,8 @@ take-products ds bean (p ∷ ps) rest none =
 none-first : (ds es : List Decl) → take_while is_product (flat_map (entries ds) es) ≡ []
 unfolding effective
 none-first ds [] = refl
-none-first ds (decls.Type d ∷ es) = none-first ds es
-none-first ds (decls.Qualifier d ∷ es) = none-first ds es
-none-first ds (decls.Binding d ∷ es) = none-first ds es
-none-first ds (decls.Stereotype d ∷ es) = none-first ds es
-none-first ds (decls.Interceptor d ∷ es) = none-first ds es
 none-first ds (decls.Bean bean ∷ es) = refl
+none-first ds (other ∷ es) = none-first ds es
 
 product-class : (ds : List Decl) (class : List ℕ) (bean : BeanDecl) (p : ProducerDecl)
     → is_of_class class (product ds bean p) ≡ bytes_eq bean.name class
@@ -83,11 +79,6 @@ among : (ds : List Decl) (class : List ℕ) (es : List Decl)
     → with_products (from_class class (flat_map (entries ds) es)) ≡ records_declared ds (find_bean class es)
 unfolding from_class
 among ds class [] = refl
-among ds class (decls.Type d ∷ es) = among ds class es
-among ds class (decls.Qualifier d ∷ es) = among ds class es
-among ds class (decls.Binding d ∷ es) = among ds class es
-among ds class (decls.Stereotype d ∷ es) = among ds class es
-among ds class (decls.Interceptor d ∷ es) = among ds class es
 among ds class (decls.Bean bean ∷ es) = by (bytes_eq bean.name class) refl (among ds class es)
   where
     by : (b : Bool) → bytes_eq bean.name class ≡ b
@@ -98,6 +89,7 @@ among ds class (decls.Bean bean ∷ es) = by (bytes_eq bean.name class) refl (am
         (ap with_products (at-records ds class bean (flat_map (entries ds) es) true e) ∙ first-records ds bean es)
     by false e more = rw (bytes_eq-turned class bean.name ∙ e)
         (ap with_products (at-records ds class bean (flat_map (entries ds) es) false e) ∙ more)
+among ds class (other ∷ es) = among ds class es
 
 pub records_stand_together : RecordsStandTogether
 unfolding beans records_in from_class

@@ -31,12 +31,8 @@ all-later d ds (i ∷ is) all = ((suc all.0.0, all.0.1), all-later d ds is all.1
 
 all-declared : (ds : List Decl) → AllByRecursion (IsDeclared ds) (interceptors ds)
 all-declared [] = tt
-all-declared (decls.Type d ∷ ds) = all-later (decls.Type d) ds (interceptors ds) (all-declared ds)
-all-declared (decls.Qualifier d ∷ ds) = all-later (decls.Qualifier d) ds (interceptors ds) (all-declared ds)
-all-declared (decls.Stereotype d ∷ ds) = all-later (decls.Stereotype d) ds (interceptors ds) (all-declared ds)
-all-declared (decls.Binding d ∷ ds) = all-later (decls.Binding d) ds (interceptors ds) (all-declared ds)
-all-declared (decls.Bean d ∷ ds) = all-later (decls.Bean d) ds (interceptors ds) (all-declared ds)
 all-declared (decls.Interceptor i ∷ ds) = ((0, refl), all-later (decls.Interceptor i) ds (interceptors ds) (all-declared ds))
+all-declared (other ∷ ds) = all-later other ds (interceptors ds) (all-declared ds)
 
 all-kept : {X : Type 0} (P : X → Type 0) (p : X → Bool) (xs : List X) → AllByRecursion P xs
     → AllByRecursion (λ x. P x × (p x ≡ true)) (filter p xs)

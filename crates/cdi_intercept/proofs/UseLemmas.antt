@@ -2,7 +2,7 @@
 use Rattle.std.proofs.Common.{arith, suc, zero}
 use Rattle.std.proofs.Common.{◌≡◌, ℕ, Bool, true, false, cond, ◌||◌, List, [], ◌∷◌, ◌++◌, map, fold, Option, Some, None, Result, Ok, Err}
 use Rattle.std.proofs.Common.{Ordering, Less, Equal, Greater, refl, sym, ap, subst, ◌∙◌, inl, inr}
-use Rattle.std.proofs.Math.Bool.{or_assoc, or_comm, or-false, or-true}
+use Rattle.std.proofs.Math.Bool.{or_assoc, or-false, or-true}
 use Rattle.std.specs.Cmp.{IsStrictWeakOrder}
 use Rattle.std.specs.Cmp.Lexicographic.{nat_list_cmp_total}
 use Rattle.std.specs.List.{AllByRecursion, AllPairs, IsDistinct, list_any}
@@ -22,6 +22,7 @@ use Rattle.cdi_model.specs.declared.quals.Qual.{Qual}
 use Rattle.cdi_model.specs.declared.refusal.Refusal.{Refusal}
 use Rattle.cdi_model.specs.declared.refusal.Refusal.TheVariants as refusals
 use Rattle.cdi_model.proofs.QualLemmas.{before-all, same_name, turned_order}
+use Rattle.cdi_match.proofs.OrderLemmas.{or-left_comm}
 use Rattle.cdi_effective.specs.Bindings.{class_bindings}
 use Rattle.cdi_effective.specs.Disposers.{find_bean}
 use Rattle.cdi_effective.specs.Qualifiers.{has_use}
@@ -54,9 +55,6 @@ any-once p [] seen = sym (or-false (list_any p seen))
 any-once p (u ∷ us) seen =
     any-once p us (with_use seen u) ∙ ap (λ b. b || list_any p us) (any-with_use p seen u)
     ∙ or_assoc (list_any p seen) (p u) (list_any p us)
-
-or-left_comm : (x y z : Bool) → (x || (y || z)) ≡ (y || (x || z))
-or-left_comm x y z = sym (or_assoc x y z) ∙ ap (λ b. b || z) (or_comm x y) ∙ or_assoc y x z
 
 module _ {X : Type 0} (before : X → X → Bool) where
   any-put : (p : X → Bool) (x : X) (ys : List X) → list_any p (put before x ys) ≡ (p x || list_any p ys)

@@ -137,16 +137,12 @@ Stands ds book x bean = OfManaged ds book x bean ⊎ OfProduct ds book x bean
 of-decl : (ds : List Decl) (book : List Promised) (k : ℕ) (d : Decl) → slice_get ds k ≡ Some d
     → Beside (Stands ds book) (entries ds d) (staged_beans ds book d)
 unfolding staged_beans
-of-decl ds book k (decls.Type d) at = tt
-of-decl ds book k (decls.Qualifier d) at = tt
-of-decl ds book k (decls.Stereotype d) at = tt
-of-decl ds book k (decls.Binding d) at = tt
-of-decl ds book k (decls.Interceptor d) at = tt
 of-decl ds book k (decls.Bean d) at = (
   inl (record { decl = d; place = k; there = at; is = refl; made = refl }),
   beside-map (Stands ds book) (product ds d) (staged_product ds book d) d.producers
       (λ j p e. inr (record { decl = d; place = k; there = at; producer = p; at = j; declared = e; is = refl; made = refl })),
 )
+of-decl ds book k other at = tt
 
 -- the beans of the scene stand beside their records
 pub all-stand : (ds : List Decl) (book : List Promised) → Beside (Stands ds book) (beans ds) (scene_of ds book).beans

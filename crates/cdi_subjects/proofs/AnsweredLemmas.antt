@@ -25,7 +25,7 @@ use Rattle.cdi_model.specs.declared.mention.TypePlace.TheVariants as types_are
 use Rattle.cdi_model.specs.declared.place.PartPlace.{PartPlace}
 use Rattle.cdi_model.specs.declared.place.PartPlace.TheVariants as parts_are
 use Rattle.cdi_model.specs.declared.quals.Qual.{Qual}
-use Rattle.cdi_model.specs.Mentions.{Mention, TypeIn, UseOf, StereotypeOf, MethodOf, PointOf, BodyOf, CallOf, EventOf, mentions}
+use Rattle.cdi_model.specs.Mentions.{Mention, TypeIn, UseOf, StereotypeOf, PointOf, BodyOf, CallOf, mentions}
 use Rattle.cdi_model.specs.Mentions.{listed_types}
 use Rattle.cdi_model.specs.Mentions.{of_attributes, of_bindings, of_disposer, of_event, of_method, of_observer, of_part, of_parts, of_point}
 use Rattle.cdi_model.specs.Mentions.{of_producer, of_qualifiers, part_place_of}
@@ -51,11 +51,7 @@ AreListed since points [] = points ≡ []
 AreListed since points (PointOf place p ∷ ms) = (rest : List PointDecl) × (points ≡ p ∷ rest) × AreListed (since ++ p ∷ []) rest ms
 AreListed since points (TypeIn place t ∷ ms) = AreListed (cond (is_begin place) [] since) points ms
 AreListed since points (CallOf place params call ∷ ms) = IsFront params since × AreListed since points ms
-AreListed since points (UseOf kind u ∷ ms) = AreListed since points ms
-AreListed since points (StereotypeOf s ∷ ms) = AreListed since points ms
-AreListed since points (MethodOf m ∷ ms) = AreListed since points ms
-AreListed since points (BodyOf place body ∷ ms) = AreListed since points ms
-AreListed since points (EventOf e ∷ ms) = AreListed since points ms
+AreListed since points (other ∷ ms) = AreListed since points ms
 
 -- whatever stands before
 abbrev AreListedBehind : List PointDecl → List Mention → Type 0
@@ -284,11 +280,7 @@ points-found test answer bs d since points (TypeIn place t ∷ ms) listed =
     points-found test answer bs d (cond (is_begin place) [] since) points ms listed
 points-found test answer bs d since points (CallOf place params call ∷ ms) (front, listed) =
     points-found test answer bs d since points ms listed
-points-found test answer bs d since points (UseOf kind u ∷ ms) listed = points-found test answer bs d since points ms listed
-points-found test answer bs d since points (StereotypeOf s ∷ ms) listed = points-found test answer bs d since points ms listed
-points-found test answer bs d since points (MethodOf m ∷ ms) listed = points-found test answer bs d since points ms listed
-points-found test answer bs d since points (BodyOf place body ∷ ms) listed = points-found test answer bs d since points ms listed
-points-found test answer bs d since points (EventOf e ∷ ms) listed = points-found test answer bs d since points ms listed
+points-found test answer bs d since points (other ∷ ms) listed = points-found test answer bs d since points ms listed
 
 -- the points that are at fault by the answers in their order are those that are by what is chosen for each
 pub points_answered : (test : PointDecl → Choice → Bool) (answer : PointDecl → Choice) (bs : List Effective) (d : Decl)
@@ -322,15 +314,7 @@ choice-append answer (p ∷ ps) qs name = by (bytes_eq p.name name) (choice-appe
 choice-seen : (answer : PointDecl → Choice) (place : PartPlace) (own others : List PointDecl) (name : List ℕ)
     → choice_beside (own_seen place own) (map answer (own ++ others)) name ≡ choice_at answer (own_seen place own) name
 choice-seen answer (parts_are.StaticProducer n) own others name = refl
-choice-seen answer parts_are.Construct own others name = choice-beside answer own others name
-choice-seen answer parts_are.Post own others name = choice-beside answer own others name
-choice-seen answer parts_are.Pre own others name = choice-beside answer own others name
-choice-seen answer (parts_are.Method n) own others name = choice-beside answer own others name
-choice-seen answer (parts_are.Producer n) own others name = choice-beside answer own others name
-choice-seen answer (parts_are.Disposer n) own others name = choice-beside answer own others name
-choice-seen answer (parts_are.Observer n) own others name = choice-beside answer own others name
-choice-seen answer parts_are.AroundInvoke own others name = choice-beside answer own others name
-choice-seen answer parts_are.AroundConstruct own others name = choice-beside answer own others name
+choice-seen answer other own others name = choice-beside answer own others name
 
 -- a call site in a declaration whose points are its own and behind them others
 call-found : (ds : List Decl) (answer : PointDecl → Choice) (bs : List Effective) (d : Decl) (others since points : List PointDecl)
@@ -378,21 +362,14 @@ calls-found ds answer bs d others since points (CallOf place params call ∷ ms)
     (call-found ds answer bs d others since points place params call front)
     ∙ ap (λ l. option_to_list (lost_in ds answer bs d (CallOf place params call)) ++ l)
     (calls-found ds answer bs d others since points ms listed)
-calls-found ds answer bs d others since points (UseOf kind u ∷ ms) listed = calls-found ds answer bs d others since points ms listed
-calls-found ds answer bs d others since points (StereotypeOf s ∷ ms) listed = calls-found ds answer bs d others since points ms listed
-calls-found ds answer bs d others since points (MethodOf m ∷ ms) listed = calls-found ds answer bs d others since points ms listed
-calls-found ds answer bs d others since points (BodyOf place body ∷ ms) listed = calls-found ds answer bs d others since points ms listed
-calls-found ds answer bs d others since points (EventOf e ∷ ms) listed = calls-found ds answer bs d others since points ms listed
+calls-found ds answer bs d others since points (other ∷ ms) listed = calls-found ds answer bs d others since points ms listed
 
 -- the points of a bean or an interceptor itself stand before the others of its declaration
 pub own-first : (d : Decl) → (others : List PointDecl) × (points_of d ≡ own_points d ++ others)
-own-first (decls.Type d) = ([], refl)
-own-first (decls.Qualifier d) = ([], refl)
-own-first (decls.Binding d) = ([], refl)
-own-first (decls.Stereotype d) = ([], refl)
 own-first (decls.Interceptor d) = ([], sym (append-nil d.points))
 own-first (decls.Bean bean) =
     (params_of bean.producers ++ observed bean.observers, append_assoc bean.points (params_of bean.producers) (observed bean.observers))
+own-first other = ([], refl)
 
 -- the call sites that are lost by the answers in their order are those that are by what is chosen for each point
 pub calls_answered : (ds : List Decl) (answer : PointDecl → Choice) (bs : List Effective) (d : Decl)

@@ -117,15 +117,11 @@ not_had_by_products ds bean (p ∷ ps) =
 
 -- the listed types that the records of a declaration do not have are those that are not among the unrestricted ones
 pub typed_by_entries : (ds : List Decl) (d : Decl) → typed_by d (entries ds d) ≡ typed ds d
-typed_by_entries ds (decls.Type d) = refl
-typed_by_entries ds (decls.Qualifier d) = refl
-typed_by_entries ds (decls.Stereotype d) = refl
-typed_by_entries ds (decls.Binding d) = refl
-typed_by_entries ds (decls.Interceptor d) = refl
 typed_by_entries ds (decls.Bean bean) =
     ap (λ ms. ms ++ not_had_by (map (product ds bean) bean.producers) bean.producers) (not_had_of_managed ds bean)
     ∙ ap (λ ms. map (λ s. parts.Typed None s) (wrongly_listed ds bean.name bean.attributes) ++ ms)
     (not_had_by_products ds bean bean.producers)
+typed_by_entries ds other = refl
 
 -- ---- bindings
 
@@ -134,17 +130,9 @@ unfolding effective
 managed-bindings ds bean = refl
 
 pub conflicts_by_entries : (ds : List Decl) (d : Decl) → conflicts_by ds d (entries ds d) ≡ binding_conflicts ds d
-conflicts_by_entries ds (decls.Type d) = refl
-conflicts_by_entries ds (decls.Qualifier d) = refl
-conflicts_by_entries ds (decls.Stereotype d) = refl
-conflicts_by_entries ds (decls.Binding d) = refl
-conflicts_by_entries ds (decls.Interceptor d) = refl
 conflicts_by_entries ds (decls.Bean bean) = ap (λ class. conflicts_in ds class bean) (managed-bindings ds bean)
+conflicts_by_entries ds other = refl
 
 pub conditional_by_entries : (ds : List Decl) (d : Decl) → conditional_by d (entries ds d) ≡ conditional_dependents ds d
-conditional_by_entries ds (decls.Type d) = refl
-conditional_by_entries ds (decls.Qualifier d) = refl
-conditional_by_entries ds (decls.Stereotype d) = refl
-conditional_by_entries ds (decls.Binding d) = refl
-conditional_by_entries ds (decls.Interceptor d) = refl
 conditional_by_entries ds (decls.Bean bean) = refl
+conditional_by_entries ds other = refl

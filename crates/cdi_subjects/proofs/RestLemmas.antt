@@ -6,7 +6,7 @@ use Rattle.std.specs.Option.{option_to_list, unwrap_or}
 use Rattle.std.specs.Str.{bytes_eq}
 use Rattle.cdi_bodies.specs.Book.{Promised}
 use Rattle.cdi_model.specs.DeclList.{find_decl}
-use Rattle.cdi_model.specs.Mentions.{Mention, TypeIn, UseOf, StereotypeOf, MethodOf, PointOf, BodyOf, CallOf, EventOf, mentions}
+use Rattle.cdi_model.specs.Mentions.{Mention, TypeIn, UseOf, StereotypeOf, PointOf, CallOf, mentions}
 use Rattle.cdi_model.specs.declared.decl.BeanDecl.{BeanDecl}
 use Rattle.cdi_model.specs.declared.decl.Decl.{Decl}
 use Rattle.cdi_model.specs.declared.decl.Decl.TheVariants as decls
@@ -84,14 +84,7 @@ each-same f g (x ∷ xs) same = ap (λ l. l ++ flat_map f xs) (same x) ∙ ap (�
 known-same : (ds es : List Decl) (place : TypePlace) (t : List ℕ) → find_decl kinds.Type t ds ≡ find_decl kinds.Type t es
     → is_known_in ds place t ≡ is_known_in es place t
 known-same ds es types_are.Class t e = ap is_some e
-known-same ds es types_are.Extends t e = ap (λ o. bytes_eq t object || is_some o) e
-known-same ds es types_are.Implements t e = ap (λ o. bytes_eq t object || is_some o) e
-known-same ds es (types_are.Listed p) t e = ap (λ o. bytes_eq t object || is_some o) e
-known-same ds es types_are.Required t e = ap (λ o. bytes_eq t object || is_some o) e
-known-same ds es types_are.Produced t e = ap (λ o. bytes_eq t object || is_some o) e
-known-same ds es types_are.Disposed t e = ap (λ o. bytes_eq t object || is_some o) e
-known-same ds es types_are.Observed t e = ap (λ o. bytes_eq t object || is_some o) e
-known-same ds es types_are.Fired t e = ap (λ o. bytes_eq t object || is_some o) e
+known-same ds es other t e = ap (λ o. bytes_eq t object || is_some o) e
 
 unknown-same : (ds es : List Decl) (m : Mention) → AreAlike ds es (named_in m) → unknown_in ds m ≡ unknown_in es m
 unknown-same ds es (TypeIn place t) e = ap (λ b. some_if (not b) (subjects.Type t)) (known-same ds es place t e)
@@ -100,11 +93,7 @@ unknown-same ds es (UseOf uses.Qualifier u) e =
     (subjects.Used uses.Qualifier u.name)) e
 unknown-same ds es (UseOf uses.Binding u) e = ap (λ o. some_if (not (is_some o)) (subjects.Used uses.Binding u.name)) e
 unknown-same ds es (StereotypeOf s) e = ap (λ o. some_if (not (is_some o)) (subjects.Stereotype s)) e
-unknown-same ds es (MethodOf x) e = refl
-unknown-same ds es (PointOf place p) e = refl
-unknown-same ds es (BodyOf place body) e = refl
-unknown-same ds es (CallOf place params call) e = refl
-unknown-same ds es (EventOf x) e = refl
+unknown-same ds es other e = refl
 
 form-same : (ds es : List Decl) (d : Decl) (place : TypePlace) (t : List ℕ) → find_decl kinds.Type t ds ≡ find_decl kinds.Type t es
     → bad_kind_in ds d (TypeIn place t) ≡ bad_kind_in es d (TypeIn place t)
@@ -112,35 +101,18 @@ form-same ds es d types_are.Class t e = ap (λ o. some_if (is_interface_form (fo
 form-same ds es d types_are.Extends t e =
     ap (λ o. some_if (is_interface_form (form_of (Some d)) || is_interface_form (form_of o)) (subjects.Extends t)) e
 form-same ds es d types_are.Implements t e = ap (λ o. some_if (bytes_eq t object || is_class_form (form_of o)) (subjects.Implements t)) e
-form-same ds es d (types_are.Listed p) t e = refl
-form-same ds es d types_are.Required t e = refl
-form-same ds es d types_are.Produced t e = refl
-form-same ds es d types_are.Disposed t e = refl
-form-same ds es d types_are.Observed t e = refl
-form-same ds es d types_are.Fired t e = refl
+form-same ds es d other t e = refl
 
 bad-kind-same : (ds es : List Decl) (d : Decl) (m : Mention) → AreAlike ds es (named_in m) → bad_kind_in ds d m ≡ bad_kind_in es d m
 bad-kind-same ds es d (TypeIn place t) e = form-same ds es d place t e
-bad-kind-same ds es d (UseOf kind u) e = refl
-bad-kind-same ds es d (StereotypeOf s) e = refl
-bad-kind-same ds es d (MethodOf x) e = refl
-bad-kind-same ds es d (PointOf place p) e = refl
-bad-kind-same ds es d (BodyOf place body) e = refl
-bad-kind-same ds es d (CallOf place params call) e = refl
-bad-kind-same ds es d (EventOf x) e = refl
+bad-kind-same ds es d other e = refl
 
 bad-use-same : (ds es : List Decl) (m : Mention) → AreAlike ds es (named_in m) → bad_use_in ds m ≡ bad_use_in es m
 bad-use-same ds es (UseOf uses.Qualifier u) e =
     ap (λ o. some_if (misuses (option_map (λ d. d.members) (as_qualifier o)) u) (subjects.Use uses.Qualifier u)) e
 bad-use-same ds es (UseOf uses.Binding u) e =
     ap (λ o. some_if (misuses (option_map (λ d. d.members) (as_binding o)) u) (subjects.Use uses.Binding u)) e
-bad-use-same ds es (TypeIn place t) e = refl
-bad-use-same ds es (StereotypeOf s) e = refl
-bad-use-same ds es (MethodOf x) e = refl
-bad-use-same ds es (PointOf place p) e = refl
-bad-use-same ds es (BodyOf place body) e = refl
-bad-use-same ds es (CallOf place params call) e = refl
-bad-use-same ds es (EventOf x) e = refl
+bad-use-same ds es other e = refl
 
 -- ---- records
 
@@ -192,11 +164,6 @@ two-same ds es bs disposers alike =
 
 disposers-same : (ds es : List Decl) (d : Decl) → entries ds d ≡ entries es d → AllByRecursion (HasQualifiersAlike ds es) (entries ds d)
     → disposers_at_fault ds d ≡ disposers_at_fault es d
-disposers-same ds es (decls.Type d) same alike = refl
-disposers-same ds es (decls.Qualifier d) same alike = refl
-disposers-same ds es (decls.Binding d) same alike = refl
-disposers-same ds es (decls.Stereotype d) same alike = refl
-disposers-same ds es (decls.Interceptor d) same alike = refl
 disposers-same ds es (decls.Bean bean) same alike =
     let b = managed ds bean in
     let bs = map (product ds bean) bean.producers in
@@ -204,6 +171,7 @@ disposers-same ds es (decls.Bean bean) same alike =
     ∙ ap (λ l. l ++ with_two ds bs bean.disposers) (without-same ds es bs bean.disposers alike.1)
     ∙ ap (λ l. without_product es bs bean.disposers ++ l) (two-same ds es bs bean.disposers alike.1)
     ∙ disposers_of_records es bean b bs same
+disposers-same ds es other same alike = refl
 
 conflicts-same : (ds es : List Decl) (bean : BeanDecl) → DifferAlike ds es (decls.Bean bean)
     → conflicts_in ds (class_bindings ds bean) bean ≡ conflicts_in es (class_bindings es bean) bean
@@ -246,15 +214,7 @@ points-same ds es t u bs d alike since points (TypeIn place x ∷ ms) listed nam
     points-same ds es t u bs d alike _ points ms listed names.1 answers
 points-same ds es t u bs d alike since points (CallOf place params call ∷ ms) (front, listed) names answers =
     points-same ds es t u bs d alike since points ms listed names.1 answers
-points-same ds es t u bs d alike since points (UseOf kind x ∷ ms) listed names answers =
-    points-same ds es t u bs d alike since points ms listed names.1 answers
-points-same ds es t u bs d alike since points (StereotypeOf s ∷ ms) listed names answers =
-    points-same ds es t u bs d alike since points ms listed names.1 answers
-points-same ds es t u bs d alike since points (MethodOf m ∷ ms) listed names answers =
-    points-same ds es t u bs d alike since points ms listed names.1 answers
-points-same ds es t u bs d alike since points (BodyOf place body ∷ ms) listed names answers =
-    points-same ds es t u bs d alike since points ms listed names.1 answers
-points-same ds es t u bs d alike since points (EventOf e ∷ ms) listed names answers =
+points-same ds es t u bs d alike since points (other ∷ ms) listed names answers =
     points-same ds es t u bs d alike since points ms listed names.1 answers
 
 proxy-same : (ds es : List Decl) (p : PointDecl) (c : Choice)
@@ -296,15 +256,7 @@ lost-same ds es method name (p ∷ ps) answers = by (bytes_eq p.name name) (lost
 seen-alike : (P : PointDecl → Type 0) (place : PartPlace) (own : List PointDecl) → AllByRecursion P own
     → AllByRecursion P (own_seen place own)
 seen-alike P (places.StaticProducer n) own all = tt
-seen-alike P places.Construct own all = all
-seen-alike P places.Post own all = all
-seen-alike P places.Pre own all = all
-seen-alike P (places.Method n) own all = all
-seen-alike P (places.Producer n) own all = all
-seen-alike P (places.Disposer n) own all = all
-seen-alike P (places.Observer n) own all = all
-seen-alike P places.AroundInvoke own all = all
-seen-alike P places.AroundConstruct own all = all
+seen-alike P other own all = all
 
 calls-same : (ds es : List Decl) (bs : List Effective) (d : Decl) → AllByRecursion (IsAnsweredAlike ds es) (own_points d)
     → (since points : List PointDecl) (ms : List Mention) → AreListed since points ms → AllByRecursion (IsAnsweredAlike ds es) since
@@ -319,20 +271,6 @@ calls-same ds es bs d own since points (TypeIn types_are.Produced x ∷ ms) list
     calls-same ds es bs d own [] points ms listed tt answers
 calls-same ds es bs d own since points (TypeIn types_are.Observed x ∷ ms) listed before answers =
     calls-same ds es bs d own [] points ms listed tt answers
-calls-same ds es bs d own since points (TypeIn types_are.Class x ∷ ms) listed before answers =
-    calls-same ds es bs d own since points ms listed before answers
-calls-same ds es bs d own since points (TypeIn types_are.Extends x ∷ ms) listed before answers =
-    calls-same ds es bs d own since points ms listed before answers
-calls-same ds es bs d own since points (TypeIn types_are.Implements x ∷ ms) listed before answers =
-    calls-same ds es bs d own since points ms listed before answers
-calls-same ds es bs d own since points (TypeIn (types_are.Listed n) x ∷ ms) listed before answers =
-    calls-same ds es bs d own since points ms listed before answers
-calls-same ds es bs d own since points (TypeIn types_are.Required x ∷ ms) listed before answers =
-    calls-same ds es bs d own since points ms listed before answers
-calls-same ds es bs d own since points (TypeIn types_are.Disposed x ∷ ms) listed before answers =
-    calls-same ds es bs d own since points ms listed before answers
-calls-same ds es bs d own since points (TypeIn types_are.Fired x ∷ ms) listed before answers =
-    calls-same ds es bs d own since points ms listed before answers
 calls-same ds es bs d own since points (CallOf place params call ∷ ms) ((rest, is), listed) before answers =
     let P = IsAnsweredAlike ds es in
     let seen = all-append P params (own_seen place (own_points d))
@@ -344,15 +282,7 @@ calls-same ds es bs d own since points (CallOf place params call ∷ ms) ((rest,
     (lost-same ds es call.method call.point (points_seen place params (own_points d)) seen)
     ∙ ap (λ l. option_to_list (lost_in es (answer_to es) bs d (CallOf place params call)) ++ l)
     (calls-same ds es bs d own since points ms listed before answers)
-calls-same ds es bs d own since points (UseOf kind x ∷ ms) listed before answers =
-    calls-same ds es bs d own since points ms listed before answers
-calls-same ds es bs d own since points (StereotypeOf s ∷ ms) listed before answers =
-    calls-same ds es bs d own since points ms listed before answers
-calls-same ds es bs d own since points (MethodOf m ∷ ms) listed before answers =
-    calls-same ds es bs d own since points ms listed before answers
-calls-same ds es bs d own since points (BodyOf place body ∷ ms) listed before answers =
-    calls-same ds es bs d own since points ms listed before answers
-calls-same ds es bs d own since points (EventOf e ∷ ms) listed before answers =
+calls-same ds es bs d own since points (other ∷ ms) listed before answers =
     calls-same ds es bs d own since points ms listed before answers
 
 -- ---- the law
@@ -367,12 +297,8 @@ verdicts-same ds es v d alike =
 
 binding-same : (ds es : List Decl) (book : List Promised) (d : Decl) → DifferAlike ds es d
     → subjects_at_fault codes_of.BindingConflict ds book d ≡ subjects_at_fault codes_of.BindingConflict es book d
-binding-same ds es book (decls.Type d) alike = refl
-binding-same ds es book (decls.Qualifier d) alike = refl
-binding-same ds es book (decls.Binding d) alike = refl
-binding-same ds es book (decls.Stereotype d) alike = refl
-binding-same ds es book (decls.Interceptor d) alike = refl
 binding-same ds es book (decls.Bean bean) alike = conflicts-same ds es bean alike
+binding-same ds es book other alike = refl
 
 pub faults_rest_on : FaultsRestOn
 faults_rest_on codes_of.UnknownName ds es book d alike =
@@ -393,8 +319,6 @@ faults_rest_on codes_of.Member ds es book d alike =
 faults_rest_on codes_of.Disposer ds es book d alike = disposers-same ds es d alike.records alike.qualifiers
 faults_rest_on codes_of.ConditionalDependent ds es book d alike =
     sym (conditional_by_entries ds d) ∙ ap (conditional_by d) alike.records ∙ conditional_by_entries es d
-faults_rest_on codes_of.Body ds es book d alike = refl
-faults_rest_on codes_of.NoBinding ds es book d alike = refl
 faults_rest_on codes_of.Unsatisfied ds es book d alike = verdicts-same ds es verdicts.Unsatisfied d alike
 faults_rest_on codes_of.Ambiguous ds es book d alike = verdicts-same ds es verdicts.Ambiguous d alike
 faults_rest_on codes_of.Unproxyable ds es book d alike = verdicts-same ds es verdicts.Unproxyable d alike
@@ -404,6 +328,4 @@ faults_rest_on codes_of.Site ds es book d alike =
     (subst (AllByRecursion (IsAnsweredAlike ds es)) first.1 alike.answers) in
     calls-same ds es (entries ds d) d own [] (points_of d) (mentions d) (all-listed d) tt alike.answers
     ∙ ap (λ bs. found_in (lost_in es (answer_to es) bs d) (mentions d)) alike.records
-faults_rest_on codes_of.NameClash ds es book d alike = refl
-faults_rest_on codes_of.NamePrefix ds es book d alike = refl
-faults_rest_on codes_of.Circular ds es book d alike = refl
+faults_rest_on other ds es book d alike = refl

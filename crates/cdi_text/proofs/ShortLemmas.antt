@@ -188,12 +188,9 @@ short-interceptor ms sound = record {
 }
 
 short-spelled : (kind : Kind) (ms : Members) → is_sound (schema_of kind) ms ≡ true → HasShortLists (spelled kind ms)
-short-spelled kinds.Type ms sound = tt
-short-spelled kinds.Qualifier ms sound = tt
-short-spelled kinds.Binding ms sound = tt
-short-spelled kinds.Stereotype ms sound = tt
 short-spelled kinds.Bean ms sound = short-bean ms sound
 short-spelled kinds.Interceptor ms sound = short-interceptor ms sound
+short-spelled other ms sound = tt
 
 -- ---- a text
 

@@ -43,16 +43,12 @@ found-own (e ∷ es) rest d apart =
 -- so the records of the bean of its name are its records
 pub records_found : (ds es rest : List Decl) (d : Decl) → AreDistinct ds → es ++ d ∷ rest ≡ ds → records_by ds d ≡ entries ds d
 unfolding records_in
-records_found ds es rest (decls.Type d) distinct split = refl
-records_found ds es rest (decls.Qualifier d) distinct split = refl
-records_found ds es rest (decls.Stereotype d) distinct split = refl
-records_found ds es rest (decls.Binding d) distinct split = refl
-records_found ds es rest (decls.Interceptor d) distinct split = refl
 records_found ds es rest (decls.Bean bean) distinct split =
     let keys-differ : Decl → Decl → Type 0 = λ d e. key_of d ≢ key_of e in
     ap (λ found. records_declared ds (as_bean found))
     (subst (λ all. find_decl kinds.Bean bean.name all ≡ Some (decls.Bean bean)) split
     (found-own es rest (decls.Bean bean) (pairs-apart keys-differ (es ++ decls.Bean bean ∷ rest) (subst AreDistinct (sym split) distinct))))
+records_found ds es rest other distinct split = refl
 
 -- the records of one more declaration
 pub records-next : (ds es rest : List Decl) (d : Decl) (records : List Effective) → AreDistinct ds → es ++ d ∷ rest ≡ ds

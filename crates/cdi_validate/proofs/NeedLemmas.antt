@@ -187,12 +187,8 @@ none-around ds nodes i chosen x out (other ∷ others) =
     around false text none = between-none nodes x
 
     by : (d : Decl) → between nodes (need_around ds i chosen d) x ≡ []
-    by (decls.Type d) = between-none nodes x
-    by (decls.Qualifier d) = between-none nodes x
-    by (decls.Stereotype d) = between-none nodes x
-    by (decls.Binding d) = between-none nodes x
-    by (decls.Interceptor d) = between-none nodes x
     by (decls.Bean d) = ⊎_elim (λ off. rw off (between-none nodes x)) (around (stands_around ds i d) (text_of_id (managed_id d))) out
+    by other = between-none nodes x
 
 -- so the edges stay as they were
 pub adds-none-around : (ds : List Decl) (nodes : List (List ℕ)) (i : InterceptorDecl) (chosen : List (List ℕ)) (edges : Edges)
@@ -275,10 +271,6 @@ needs_of_each ds d (p ∷ ps) behind =
 
 -- by the answers to its points the beans of a declaration need what they need
 pub needs_by_answers : (ds : List Decl) (d : Decl) → needs_by ds d (map (answer_to ds) (points_of d)) ≡ needs_in ds d
-needs_by_answers ds (decls.Type d) = refl
-needs_by_answers ds (decls.Qualifier d) = refl
-needs_by_answers ds (decls.Stereotype d) = refl
-needs_by_answers ds (decls.Binding d) = refl
 needs_by_answers ds (decls.Interceptor i) = ap (λ xs. flat_map (need_around ds i xs) ds) (chosen_by_answers ds i.points)
 needs_by_answers ds (decls.Bean d) =
     let behind = flat_map (λ o. o.params) d.observers in
@@ -289,3 +281,4 @@ needs_by_answers ds (decls.Bean d) =
     (chosen_in_front ds d.points others)
     ∙ ap (λ cs. need_of_managed ds d ∷ needs_of_products d d.producers cs) (others_behind ds d.points others)
     ∙ ap (λ ns. need_of_managed ds d ∷ ns) (needs_of_each ds d d.producers behind)
+needs_by_answers ds other = refl

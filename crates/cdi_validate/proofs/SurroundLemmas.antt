@@ -177,11 +177,6 @@ around-one : (ds : List Decl) (nodes : List (List ℕ)) (i : InterceptorDecl) (b
     (x : List ℕ) → i.bindings ≡ b ∷ bs → (d : Decl)
     → between nodes (flat_map (need_around ds i chosen) (map (λ bean. decls.Bean bean) (with_binding nodes ds b.name d))) x
     ≡ between nodes (need_around ds i chosen d) x
-around-one ds nodes i b bs chosen x are (decls.Type d) = refl
-around-one ds nodes i b bs chosen x are (decls.Qualifier d) = refl
-around-one ds nodes i b bs chosen x are (decls.Stereotype d) = refl
-around-one ds nodes i b bs chosen x are (decls.Binding d) = refl
-around-one ds nodes i b bs chosen x are (decls.Interceptor d) = refl
 around-one ds nodes i b bs chosen x are (decls.Bean d) = by (has nodes text) (has_binding_at_place ds b.name d) refl refl
   where
     text : List ℕ
@@ -197,6 +192,7 @@ around-one ds nodes i b bs chosen x are (decls.Bean d) = by (has nodes text) (ha
     by true true e f = ap (λ needs. between nodes needs x) (append-nil (need_around ds i chosen (decls.Bean d)))
     by true false e f = ap (λ t. between nodes (cond t ((text, chosen) ∷ []) []) x) (sym (none-with_other ds i b bs d are f))
     by false u e f = between-none nodes x ∙ outside (stands_around ds i d) e
+around-one ds nodes i b bs chosen x are other = refl
 
 around-first : (ds : List Decl) (nodes : List (List ℕ)) (i : InterceptorDecl) (b : Qual) (bs : List Qual) (chosen : List (List ℕ))
     (x : List ℕ) → i.bindings ≡ b ∷ bs → (es : List Decl)
@@ -219,14 +215,10 @@ around-first ds nodes i b bs chosen x are (e ∷ es) =
 none-given : (ds : List Decl) (i : InterceptorDecl) (chosen : List (List ℕ)) → i.bindings ≡ [] → (es : List Decl)
     → flat_map (need_around ds i chosen) es ≡ []
 none-given ds i chosen none [] = refl
-none-given ds i chosen none (decls.Type d ∷ es) = none-given ds i chosen none es
-none-given ds i chosen none (decls.Qualifier d ∷ es) = none-given ds i chosen none es
-none-given ds i chosen none (decls.Stereotype d ∷ es) = none-given ds i chosen none es
-none-given ds i chosen none (decls.Binding d ∷ es) = none-given ds i chosen none es
-none-given ds i chosen none (decls.Interceptor d ∷ es) = none-given ds i chosen none es
 none-given ds i chosen none (decls.Bean d ∷ es) =
     ap (λ t. cond t ((text_of_id (managed_id d), chosen) ∷ []) [] ++ flat_map (need_around ds i chosen) es) (none-unbound ds i d none)
     ∙ none-given ds i chosen none es
+none-given ds i chosen none (other ∷ es) = none-given ds i chosen none es
 
 -- so the beans around which an interceptor may stand are enough
 pub around-may : (ds : List Decl) (nodes : List (List ℕ)) (i : InterceptorDecl) (chosen : List (List ℕ)) (by_binding : BeansByBinding)
