@@ -1,5 +1,5 @@
 -- A dependent bean needs itself exactly where it is on a circle.
-use Rattle.std.proofs.Common.{◌≡◌, ℕ, zero, suc, cond, List, [], length, map, filter, sym, ap, ◌∙◌, arith}
+use Rattle.std.proofs.Common.{◌≡◌, ℕ, zero, suc, cond, List, [], ◌∷◌, length, map, filter, refl, sym, ap, ◌∙◌, arith}
 use Rattle.std.specs.Bool.{Decides}
 use Rattle.std.specs.BTreeMap.{BTreeMap, keys}
 use Rattle.std.specs.Map.{keys_of}
@@ -63,3 +63,14 @@ circles_found ds nodes edges are same =
     ∙ ap (λ es. map circle (map (λ e. e.1) es))
     (filter_agree (λ e. is_on_circle edges e.0) (λ e. needs_itself ds e.0) (λ e. on_circle ds edges next_found e.0)
     (dependents_by_text bs))
+
+-- where no bean is dependent, none needs itself
+pub no_circles : (ds : List Decl) (nodes : BTreeMap (List ℕ) BeanId) → nodes.entries ≡ dependents_by_text (beans ds)
+    → length nodes.entries ≡ 0 → circles ds ≡ []
+unfolding circular
+no_circles ds nodes are empty =
+    ap (λ es. map circle (map (λ e. e.1) (filter (λ e. needs_itself ds e.0) es))) (sym are ∙ none nodes.entries empty)
+  where
+    none : (es : List (List ℕ × BeanId)) → length es ≡ 0 → es ≡ []
+    none [] h = refl
+    none (e ∷ es) h = absurd (omega (arith, h))

@@ -42,6 +42,9 @@ pub(crate) fn push_of_circles<V: View>(
     ensures { OnOk result (faults.new.items ≡ faults.old.items ++ circles (V.list view.now)) }
 {
     let dependents = dependents_of(alloc, view)?;
+    if dependents.is_empty() {
+        return Ok(());
+    }
     let edges = edges_between(alloc, &dependents, view.decls(), answers)?;
     push_circles(alloc, &dependents, &edges, faults)
 }

@@ -1,9 +1,15 @@
-use Rattle.std.proofs.Common.{◌++◌, ap, ◌∙◌}
+use Rattle.std.proofs.Common.{◌++◌, ap, sym, ◌∙◌}
 use Rattle.std.specs.BTreeMap.{keys}
+use Rattle.std.proofs.lemmas.List.{append-nil}
 use Rattle.std.proofs.lemmas.Result.{IfOk-weaker}
 use Rattle.cdi_validate.specs.Circles.{between, needs}
-use Rattle.cdi_validate.proofs.CircleLemmas.{circles_found}
+use Rattle.cdi_validate.proofs.CircleLemmas.{circles_found, no_circles}
 use Rattle.cdi_validate.proofs.circles.push_of_circles.Goals as goal
+
+pub returns-then-is_empty : goal.returns-then-is_empty
+returns-then-is_empty g c =
+    sym (ap (λ fs. c.args.faults.now.items ++ fs) (no_circles (g.V.View.list c.args.view.now) c.in_ok-dependents.dependents
+    c.in_ok-dependents.ensures (c.is_empty.ensures.0 c.if-is_empty.true)) ∙ append-nil c.args.faults.now.items)
 
 pub returns : goal.returns
 returns g c =
