@@ -3,11 +3,12 @@ use Rattle.std.proofs.Common.{◌≡◌, ℕ, suc, Bool, true, false, not, ◌||
 use Rattle.std.proofs.Common.{refl, sym, ap, ◌∙◌, arith}
 use Rattle.std.specs.List.{list_any}
 use Rattle.std.proofs.Math.Bool.{or_assoc}
-use Rattle.std.proofs.lemmas.Bool.{eqb-true, false_from_ne_true, not_from_false}
+use Rattle.std.proofs.lemmas.Bool.{eqb-true, false_from_ne_true, not_from_false, or_left}
 use Rattle.std.proofs.lemmas.List.Folds.{list_any-append}
 use Rattle.cdi_model.specs.declared.decl.BeanDecl.{BeanDecl}
 use Rattle.cdi_model.specs.declared.decl.Decl.{Decl}
 use Rattle.cdi_model.specs.declared.decl.InterceptorDecl.{InterceptorDecl}
+use Rattle.cdi_model.specs.declared.decl.ProducerDecl.{ProducerDecl}
 use Rattle.cdi_model.specs.declared.place.BeanPlace.{BeanPlace}
 use Rattle.cdi_model.specs.declared.place.BeanPlace.TheVariants as places
 use Rattle.cdi_model.specs.declared.quals.Qual.{Qual}
@@ -117,3 +118,10 @@ intercepted_by_parts ds class bean =
     three true b c d = refl
     three false true c d = refl
     three false false c d = refl
+
+-- one that is not static, at the front of some producer methods, settles what is asked of their places
+pub produced-first : (at : BeanPlace → Bool) (p : ProducerDecl) (ps : List ProducerDecl) → p.is_static ≡ false
+    → at (places.Producer p.name) ≡ true
+    → list_any at (map (λ q. places.Producer q.name) (filter (λ q. not q.is_static) (p ∷ ps))) ≡ true
+produced-first at p ps is here =
+    rw is (or_left (at (places.Producer p.name)) (list_any at (map (λ q. places.Producer q.name) (filter (λ q. not q.is_static) ps))) here)

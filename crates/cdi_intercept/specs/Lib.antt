@@ -5,3 +5,4 @@ pub mod Chains
 pub mod Sees
 pub mod Conflicts
 pub mod Lent
+pub mod PlaceSets

@@ -1,6 +1,5 @@
 -- The bindings at a place of a bean (Interceptors 2.1, Binding an Interceptor to a Class; Binding an Interceptor to a Method).
-use Rattle.std.specs.Prelude.{ℕ, Bool, true, false, not, ◌&&◌, List, [], ◌∷◌, ◌++◌, map, filter, Option, Some, None, is_some, option_map}
-use Rattle.std.specs.Prelude.{length, nat_eq}
+use Rattle.std.specs.Prelude.{ℕ, Bool, not, ◌&&◌, List, [], ◌∷◌, ◌++◌, map, filter, Option, Some, None, is_some, option_map}
 use Rattle.std.specs.List.{find}
 use Rattle.std.specs.Str.{bytes_eq}
 use Rattle.cdi_model.specs.declared.decl.BeanDecl.{BeanDecl}
@@ -38,28 +37,18 @@ set_by ds class bean (places.Method name) = around_method ds class (of_method be
 set_by ds class bean (places.Producer name) = around_method ds class (of_producer bean name)
 set_by ds class bean (places.Observer name) = around_method ds class (of_observer bean name)
 
--- a method declares no bindings
-abbrev pub declares_none : Option (List Qual) → Bool
-declares_none None = false
-declares_none (Some own) = nat_eq (length own) 0
-
--- the place has no bindings of its own, so that those of the class are there
-abbrev pub has_class_set : BeanDecl → BeanPlace → Bool
-has_class_set bean places.Construct = true
-has_class_set bean places.Post = true
-has_class_set bean places.Pre = true
-has_class_set bean (places.Method name) = declares_none (of_method bean name)
-has_class_set bean (places.Producer name) = declares_none (of_producer bean name)
-has_class_set bean (places.Observer name) = declares_none (of_observer bean name)
+-- the bindings that a place declares of its own: none at the constructor and the callbacks
+abbrev pub own_at : BeanDecl → BeanPlace → Option (List Qual)
+own_at bean places.Construct = Some []
+own_at bean places.Post = Some []
+own_at bean places.Pre = Some []
+own_at bean (places.Method name) = of_method bean name
+own_at bean (places.Producer name) = of_producer bean name
+own_at bean (places.Observer name) = of_observer bean name
 
 -- whether a bean has the place: each has a constructor and callbacks
 abbrev pub has_place : BeanDecl → BeanPlace → Bool
-has_place bean places.Construct = true
-has_place bean places.Post = true
-has_place bean places.Pre = true
-has_place bean (places.Method name) = is_some (of_method bean name)
-has_place bean (places.Producer name) = is_some (of_producer bean name)
-has_place bean (places.Observer name) = is_some (of_observer bean name)
+has_place bean place = is_some (own_at bean place)
 
 -- the places with bindings of their own: the methods, the producer methods that are not static, and the observer methods
 abbrev pub methods_of : BeanDecl → List BeanPlace

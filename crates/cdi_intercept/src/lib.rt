@@ -6,6 +6,7 @@ mod bindings;
 mod chain;
 mod conflict;
 mod intercepted;
+mod place_set;
 mod seen;
 mod set;
 mod written;

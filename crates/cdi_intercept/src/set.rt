@@ -3,7 +3,7 @@
 ghost use Rattle.std.specs.Prelude.{◌≡◌, ◌++◌, ◌∷◌, [], map, IfOk, OnOk};
 ghost use Rattle.std.specs.Option.{option_copied};
 ghost use Rattle.cdi_match.specs.Bindings.{uses_in};
-ghost use Rattle.cdi_intercept.specs.Sets.{around_method, declares_none, has_class_set, has_place, of_method, of_observer, of_producer};
+ghost use Rattle.cdi_intercept.specs.Sets.{around_method, has_place, of_method, of_observer, of_producer, own_at};
 ghost use Rattle.cdi_intercept.specs.Sets.{producers_of};
 ghost use Rattle.cdi_intercept.specs.Sets.{set_by, sets_of, with_set};
 ghost use Rattle.cdi_intercept.specs.Lent.{uses_at};
@@ -100,33 +100,18 @@ fn push_set<'a>(
 pub fn has_place(bean: &BeanDecl, place: &BeanPlace) -> bool
     ensures { result ≡ has_place bean.now place.now }
 {
-    match place {
-        BeanPlace::Construct | BeanPlace::Post | BeanPlace::Pre => true,
-        BeanPlace::Method(name) => of_method(bean, *name).is_some(),
-        BeanPlace::Producer(name) => of_producer(bean, *name).is_some(),
-        BeanPlace::Observer(name) => of_observer(bean, *name).is_some(),
-    }
+    own_at(bean, place).is_some()
 }
 
-/// Whether a place has no bindings of its own, so that those of the class are there. It takes no memory.
-pub(crate) fn has_class_set(bean: &BeanDecl, place: &BeanPlace) -> bool
-    ensures { result ≡ has_class_set bean.now place.now }
+/// The bindings that a place declares of its own, if the bean has it: none at the constructor and the callbacks.
+pub(crate) fn own_at<'a>(bean: &'a BeanDecl, place: &BeanPlace) -> Option<&'a [Qual]>
+    ensures { option_copied result ≡ own_at bean.now place.now }
 {
     match place {
-        BeanPlace::Construct | BeanPlace::Post | BeanPlace::Pre => true,
-        BeanPlace::Method(name) => declares_none(of_method(bean, *name)),
-        BeanPlace::Producer(name) => declares_none(of_producer(bean, *name)),
-        BeanPlace::Observer(name) => declares_none(of_observer(bean, *name)),
-    }
-}
-
-/// Whether there is a method, and it declares no bindings.
-fn declares_none(own: Option<&[Qual]>) -> bool
-    ensures { result ≡ declares_none (option_copied own.entry) }
-{
-    match own {
-        Some(own) => own.is_empty(),
-        None => false,
+        BeanPlace::Construct | BeanPlace::Post | BeanPlace::Pre => Some(&[]),
+        BeanPlace::Method(name) => of_method(bean, *name),
+        BeanPlace::Producer(name) => of_producer(bean, *name),
+        BeanPlace::Observer(name) => of_observer(bean, *name),
     }
 }
 

@@ -1,6 +1,6 @@
 -- The names to which chains lead from some names, by what the declarations of one kind list: the test is the relation, and the list
 -- of them has just these.
-use Rattle.std.proofs.Common.{◌≡◌, ℕ, true, Bool, List, [], ◌++◌, length, filter, flat_map, Option, Some, None, ◌∙◌, subst, inl, inr}
+use Rattle.std.proofs.Common.{◌≡◌, ℕ, true, Bool, List, [], ◌++◌, length, filter, flat_map, Some, None, ◌∙◌, subst, inl, inr}
 use Rattle.std.specs.Bool.{Decides}
 use Rattle.std.specs.List.Sorted.{IsStrictlySortedBy}
 use Rattle.std.specs.Str.{bytes_eq}

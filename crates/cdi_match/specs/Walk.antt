@@ -1,5 +1,6 @@
 -- The search for declared names that chains lead to, which keeps positions of declarations.
-use Rattle.std.specs.Prelude.{◌≡◌, ◌≤◌, ◌+◌, ℕ, Bool, false, not, List, [], length, flat_map, Option, Some, None, is_some, option_map}
+use Rattle.std.specs.Prelude.{◌≡◌, ◌≤◌, ◌+◌, ◌↔◌, ℕ, Bool, true, false, not, if◌then◌else◌, List, [], ◌∷◌, length, flat_map, Contains}
+use Rattle.std.specs.Prelude.{Option, Some, None, is_some, option_map}
 use Rattle.std.specs.Prelude.{position, slice_get, slice_index_or}
 use Rattle.std.specs.List.{filter}
 use Rattle.std.specs.Option.{option_to_list}
@@ -8,7 +9,7 @@ use Rattle.cdi_model.specs.DeclList.{find_decl, is_of, limit}
 use Rattle.cdi_model.specs.declared.decl.Decl.{Decl}
 use Rattle.cdi_match.specs.declared.followers.Links.{Links}
 use Rattle.cdi_match.specs.declared.walk.Walk.{Walk}
-use Rattle.cdi_match.specs.Search.{Adds, Closing, kind_of, next_of}
+use Rattle.cdi_match.specs.Search.{Adds, Closing, is_led_to, kind_of, next_of}
 
 -- what stands at the position is marked, if there is one
 abbrev pub is_marked : List Bool → Option ℕ → Bool
@@ -49,9 +50,24 @@ pub record HasRoom (w : Walk) : Type 0 where
 abbrev pub has_none_left : Walk → Type 0
 has_none_left w = w.left.items ≡ []
 
+-- each position that is marked is that of the declaration of a name
+abbrev pub IsPlaced : Links → List Decl → Walk → Type 0
+IsPlaced which ds w = (i : ℕ) → slice_index_or w.marks i false ≡ true → (s : List ℕ) × (position (is_of (kind_of which) s) ds ≡ Some i)
+
 -- the declarations of some names were found, and those that are new are left to be taken
 pub record Meets (which : Links) (ds : List Decl) (names : List (List ℕ)) (old new : Walk) : Type 0 where
   pub adds : Adds (declared_among which ds names) (has_met which ds old) (names_at ds old.left.items) (has_met which ds new)
       (names_at ds new.left.items)
   pub same_size : length new.marks ≡ length old.marks
   pub same_tasks : tasks new ≡ tasks old
+  pub placed : IsPlaced which ds old → IsPlaced which ds new
+
+-- the positions of what is marked, where the first mark is that of a position
+abbrev pub marked_from : ℕ → List Bool → List ℕ
+marked_from n [] = []
+marked_from n (m ∷ ms) = if m then n ∷ marked_from (n + 1) ms else marked_from (n + 1) ms
+
+-- The positions are just those of the declarations of the names to which chains lead from the starts.
+abbrev pub HasPositions : Links → List Decl → List (List ℕ) → List ℕ → Type 0
+HasPositions which ds starts positions = (i : ℕ) → Contains positions i
+    ↔ ((s : List ℕ) × (position (is_of (kind_of which) s) ds ≡ Some i) × (is_led_to which ds starts s ≡ true))

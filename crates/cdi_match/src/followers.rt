@@ -2,6 +2,7 @@
 ghost use Rattle.std.specs.Prelude.{◌≡◌, [], Some, None, flat_map, map};
 ghost use Rattle.std.specs.Iterator.{YieldsFirst, item_count};
 ghost use Rattle.std.specs.Option.{option_copied};
+ghost use Rattle.cdi_model.specs.Quals.{name_of_use};
 ghost use Rattle.cdi_match.specs.Search.{kind_of, listed_by, next_of};
 
 use cdi_model::{Decl, Decls, Kind, Name, Qual};
@@ -50,6 +51,17 @@ impl<'a> Model for Followers<'a> {
 }
 
 impl<'a> Followers<'a> {
+    /// The types of some uses.
+    pub(crate) fn of_uses(uses: &'a [Qual]) -> Followers<'a>
+        ensures { result ≡ map name_of_use uses.now }
+    {
+        Followers {
+            first: None,
+            names: &[],
+            uses,
+        }
+    }
+
     /// What a declaration lists, if there is one.
     fn of(links: Links, decl: Option<&'a Decl>) -> Followers<'a>
         ensures { result ≡ listed_by links (option_copied decl.entry) }

@@ -1,14 +1,16 @@
 //! The search for declared names to which chains lead, which takes no memory.
-ghost use Rattle.std.specs.Prelude.{◌≡◌, ◌<◌, ◌∷◌, [], List, ℕ, Option, Bool, true, false};
-ghost use Rattle.cdi_match.specs.Search.{is_led_to, next_of};
-ghost use Rattle.cdi_match.specs.Walk.{is_marked, has_none_left, tasks, HasRoom, IsWalking, Meets};
+ghost use Rattle.std.specs.Prelude.{◌≡◌, ◌<◌, ◌∷◌, [], List, ℕ, Option, Bool, true, false, is_some, length};
+ghost use Rattle.cdi_model.specs.DeclList.{find_decl, limit};
+ghost use Rattle.cdi_match.specs.Search.{is_led_to, kind_of, next_of};
+ghost use Rattle.cdi_match.specs.Walk.{has_met, is_marked, has_none_left, marked_from, tasks, HasPositions, HasRoom, IsPlaced, IsWalking};
+ghost use Rattle.cdi_match.specs.Walk.{Meets};
 
 use crate::followers::{Followers, Links, following};
 use arrayvec::ArrayVec;
 use cdi_model::{Decls, Name};
 
 /// How many declarations there are at most.
-const DECLS_LIMIT: usize = 512;
+pub(crate) const DECLS_LIMIT: usize = 512;
 
 /// The declarations that were found, and those of them that are left to be taken, by their positions.
 #[derive(Drop)]
@@ -27,6 +29,22 @@ impl Walk {
         Walk {
             marks: [false; DECLS_LIMIT],
             left: ArrayVec::new(),
+        }
+    }
+
+    /// The declarations to which chains lead from some names are found.
+    fn from(decls: &Decls, links: Links, names: Followers<'_>) -> Walk
+        ensures sized { length result.marks ≡ limit }
+        ensures placed { IsPlaced links decls.now result }
+        ensures found { (s : List ℕ) → is_some (find_decl (kind_of links) s decls.now) ≡ true
+            → has_met links decls.now result s ≡ is_led_to links decls.now names.entry s }
+    {
+        let mut walk = Walk::new();
+        walk.add_all(decls, links, names);
+        'taken: loop {
+            if !walk.take_one(decls, links) {
+                return walk;
+            }
         }
     }
 
@@ -59,9 +77,11 @@ impl Walk {
         requires { HasRoom self.old }
         ensures walking { (starts : List (List ℕ)) → IsWalking links decls.now starts self.old
             → IsWalking links decls.now starts self.new }
+        ensures placed { IsPlaced links decls.now self.old → IsPlaced links decls.now self.new }
         ensures room { HasRoom self.new }
         ensures less { result ≡ true → tasks self.new < tasks self.old }
         ensures end { result ≡ false → has_none_left self.old }
+        ensures same { result ≡ false → self.new ≡ self.old }
     {
         let Some(position) = self.left.pop() else {
             return false;
@@ -88,4 +108,29 @@ pub(crate) fn reaches_itself(decls: &Decls, links: Links, name: Name) -> bool
         }
     }
     true
+}
+
+/// The positions, rising, of the declarations to which chains lead from some names. It takes no memory.
+pub(crate) fn positions_from(
+    decls: &Decls,
+    links: Links,
+    names: Followers<'_>,
+) -> ArrayVec<usize, DECLS_LIMIT>
+    ensures { HasPositions links decls.now names.entry result.items }
+{
+    let walk = Walk::from(decls, links, names);
+    marked(&walk.marks)
+}
+
+/// The positions that are marked, rising.
+fn marked(marks: &[bool; DECLS_LIMIT]) -> ArrayVec<usize, DECLS_LIMIT>
+    ensures { result.items ≡ marked_from 0 marks.now }
+{
+    let mut positions = ArrayVec::new();
+    for (position, mark) in marks.iter().enumerate() {
+        if *mark {
+            positions.push(position);
+        }
+    }
+    positions
 }

@@ -21,14 +21,13 @@ pub(crate) fn binding_conflicts(
     let mut subjects = Vec::new(alloc);
     if let (Decl::Bean(bean), Some(managed)) = (decl, beans.first()) {
         let class = managed.bindings.as_slice();
-        push_conflicts(alloc, decls, class, bean, &mut subjects)?;
+        push_conflicts(decls, class, bean, &mut subjects)?;
     }
     Ok(subjects)
 }
 
 /// Appends those of a bean whose class has these bindings.
 fn push_conflicts(
-    alloc: Global,
     decls: &Decls,
     class: &[Qual],
     bean: &BeanDecl,
@@ -37,24 +36,23 @@ fn push_conflicts(
     ensures { OnOk result (subjects.new.items ≡ subjects.old.items ++ conflicts_in decls.now class.now bean.now) }
 {
     let place = BeanPlace::Construct;
-    push_if_opposed(alloc, decls, class, bean, place, Subject::Class, subjects)?;
+    push_if_opposed(decls, class, bean, place, Subject::Class, subjects)?;
     for method in bean.methods.as_slice() {
         let place = BeanPlace::Method(method.name);
         let subject = Subject::Part(PartPlace::Method(method.name));
-        push_if_opposed(alloc, decls, class, bean, place, subject, subjects)?;
+        push_if_opposed(decls, class, bean, place, subject, subjects)?;
     }
-    push_of_producers(alloc, decls, class, bean, subjects)?;
+    push_of_producers(decls, class, bean, subjects)?;
     for observer in bean.observers.as_slice() {
         let place = BeanPlace::Observer(observer.name);
         let subject = Subject::Part(PartPlace::Observer(observer.name));
-        push_if_opposed(alloc, decls, class, bean, place, subject, subjects)?;
+        push_if_opposed(decls, class, bean, place, subject, subjects)?;
     }
     Ok(())
 }
 
 /// Appends the producer methods that are not static at which two differ.
 fn push_of_producers(
-    alloc: Global,
     decls: &Decls,
     class: &[Qual],
     bean: &BeanDecl,
@@ -66,7 +64,7 @@ fn push_of_producers(
         if !producer.is_static {
             let place = BeanPlace::Producer(producer.name);
             let subject = Subject::Part(PartPlace::Producer(producer.name));
-            push_if_opposed(alloc, decls, class, bean, place, subject, subjects)?;
+            push_if_opposed(decls, class, bean, place, subject, subjects)?;
         }
     }
     Ok(())
@@ -74,7 +72,6 @@ fn push_of_producers(
 
 /// Appends a part, where two bindings at its place differ.
 fn push_if_opposed(
-    alloc: Global,
     decls: &Decls,
     class: &[Qual],
     bean: &BeanDecl,
@@ -84,7 +81,7 @@ fn push_if_opposed(
 ) -> Result<(), AllocError>
     ensures { OnOk result (subjects.new.items ≡ subjects.old.items ++ conflict_at decls.now class.now bean.now place subject) }
 {
-    if has_conflict_at(alloc, decls, class, bean, &place)? {
+    if has_conflict_at(decls, class, bean, &place) {
         subjects.push(subject)?;
     }
     Ok(())

@@ -1,5 +1,5 @@
 //! Injection points for which no class can stand between the bean and its callers (CDI 4.0, Unproxyable bean types).
-ghost use Rattle.std.specs.Prelude.{◌≡◌, IfOk};
+ghost use Rattle.std.specs.Prelude.{◌≡◌};
 ghost use Rattle.cdi_subjects.specs.Proxies.{is_final, is_normal, is_unproxyable, needs_subclass, needs_subclass_as};
 ghost use Rattle.cdi_subjects.specs.Proxies.{needs_subclass_by};
 ghost use Rattle.std.specs.List.{find};
@@ -12,23 +12,15 @@ use cdi_intercept::is_intercepted;
 use cdi_model::{BeanDecl, Decl, Decls, Form, Ident, Kind, Name, PointDecl, Scope};
 use cdi_observe::View;
 use cdi_resolve::Choice;
-use std::alloc::{AllocError, Global};
 
 /// Whether one bean is chosen for a point, its instances need a subclass, and the class that the point requires may have
-/// none. It takes memory where the bean is managed and has bindings of its own at a place, only at such a class.
-pub(crate) fn is_unproxyable<V: View>(
-    alloc: Global,
-    view: &V,
-    point: &PointDecl,
-    choice: &Choice,
-) -> Result<bool, AllocError>
-    ensures { IfOk result (λ is. is ≡ is_unproxyable (V.list view.now) point.now choice.now) }
+/// none. It takes no memory.
+pub(crate) fn is_unproxyable<V: View>(view: &V, point: &PointDecl, choice: &Choice) -> bool
+    ensures { result ≡ is_unproxyable (V.list view.now) point.now choice.now }
 {
     match choice {
-        Choice::One(id) if is_final(view.decls(), point.required_type) => {
-            needs_subclass(alloc, view, *id)
-        }
-        _ => Ok(false),
+        Choice::One(id) if is_final(view.decls(), point.required_type) => needs_subclass(view, *id),
+        _ => false,
     }
 }
 
@@ -43,54 +35,48 @@ fn is_final(decls: &Decls, name: Name) -> bool
 }
 
 #[tactic(auto, unfolding(cdi_effective::specs::Records::records_in))]
-fn needs_subclass<V: View>(alloc: Global, view: &V, id: BeanId) -> Result<bool, AllocError>
-    ensures { IfOk result (λ needs. needs ≡ needs_subclass (V.list view.now) id) }
+fn needs_subclass<V: View>(view: &V, id: BeanId) -> bool
+    ensures { result ≡ needs_subclass (V.list view.now) id }
 {
     let decls = view.decls();
     match decls.get(Kind::Bean, id.class) {
         Some(Decl::Bean(bean)) => {
             let records = view.records(id.class);
-            needs_subclass_as(alloc, decls, bean, records, id.producer)
+            needs_subclass_as(decls, bean, records, id.producer)
         }
-        _ => Ok(false),
+        _ => false,
     }
 }
 
 /// The same by the records of the bean, and its producer method where it is the product of one.
 fn needs_subclass_as(
-    alloc: Global,
     decls: &Decls,
     bean: &BeanDecl,
     records: &[Effective],
     producer: Option<Ident>,
-) -> Result<bool, AllocError>
-    ensures { IfOk result (λ needs. needs
-        ≡ needs_subclass_as decls.now bean.now (find (λ b. option_eq bytes_eq b.id.producer producer) records.now)) }
+) -> bool
+    ensures { result
+        ≡ needs_subclass_as decls.now bean.now (find (λ b. option_eq bytes_eq b.id.producer producer) records.now) }
 {
     for record in records {
         if record.id.producer == producer {
-            return needs_subclass_by(alloc, decls, bean, record);
+            return needs_subclass_by(decls, bean, record);
         }
     }
-    Ok(false)
+    false
 }
 
 /// Whether a client proxy stands for the instances of a bean, or it is a managed bean with interceptors.
-fn needs_subclass_by(
-    alloc: Global,
-    decls: &Decls,
-    bean: &BeanDecl,
-    effective: &Effective,
-) -> Result<bool, AllocError>
-    ensures { IfOk result (λ needs. needs ≡ needs_subclass_by decls.now bean.now effective.now) }
+fn needs_subclass_by(decls: &Decls, bean: &BeanDecl, effective: &Effective) -> bool
+    ensures { result ≡ needs_subclass_by decls.now bean.now effective.now }
 {
     if is_normal(effective.scope) {
-        return Ok(true);
+        return true;
     }
     if effective.id.producer.is_some() {
-        return Ok(false);
+        return false;
     }
-    is_intercepted(alloc, decls, effective.bindings.as_slice(), bean)
+    is_intercepted(decls, effective.bindings.as_slice(), bean)
 }
 
 fn is_normal(scope: Scope) -> bool

@@ -1,12 +1,30 @@
-use Rattle.std.proofs.Common.{ap, sym, ◌∙◌}
+use Rattle.std.proofs.Common.{ap, subst, sym, ◌∙◌}
+use Rattle.cdi_match.specs.Bindings.{with_brought, with_declared, HaveTheSame}
 use Rattle.cdi_intercept.specs.Chains.{is_surrounded}
-use Rattle.cdi_intercept.proofs.SetLemmas.{set-of_class}
+use Rattle.cdi_intercept.proofs.SetLemmas.{none-surrounded, set-class, set-none, set-same, surrounded-same}
 use Rattle.cdi_intercept.proofs.intercepted.is_around.Goals as goal
 
-pub returns-then-has_class_set : goal.returns-then-has_class_set
-returns-then-has_class_set c =
+pub returns-in_default : goal.returns-in_default
+returns-in_default c =
     let ds = c.args.decls.now in
     let place = c.args.place.now in
-    c.is_surrounded_in.ensures
-    ∙ sym (ap (λ set. is_surrounded ds set place) (set-of_class ds c.args.class.now c.args.bean.now place
-    (sym c.has_class_set.ensures ∙ c.if-has_class_set.true)))
+    sym (ap (λ set. is_surrounded ds set place) (set-none ds c.args.class.now c.args.bean.now place (sym c.in_default.ensures))
+    ∙ none-surrounded ds place)
+
+pub returns-then-is_empty : goal.returns-then-is_empty
+returns-then-is_empty c =
+    let ds = c.args.decls.now in
+    let place = c.args.place.now in
+    c.is_surrounded.ensures
+    ∙ ap (λ set. is_surrounded ds set place) (c.of_class.ensures
+    ∙ set-class ds c.args.class.now c.args.bean.now place c.in-Some.own.now (sym c.in-Some.ensures)
+    (sym c.is_empty.ensures ∙ c.if-is_empty.true))
+
+pub returns : goal.returns
+returns c =
+    let ds = c.args.decls.now in
+    let place = c.args.place.now in
+    let own = c.in-Some.own.now in
+    c.is_surrounded-2.ensures ∙ ap (λ set. is_surrounded ds set place) c.new-set.ensures
+    ∙ surrounded-same ds _ _ place (set-same ds c.args.class.now c.args.bean.now place own _ (sym c.in-Some.ensures)
+    (subst (λ types. HaveTheSame (with_declared ds own types) (with_brought ds own)) (sym c.as_slice.ensures) c.of-types.ensures))

@@ -7,12 +7,12 @@ use Rattle.cdi_intercept.specs.Chains.{is_around}
 use Rattle.cdi_intercept.proofs.AroundLemmas.{any-map}
 use Rattle.cdi_intercept.proofs.intercepted.is_at_methods.Goals as goal
 
-pub returns-then-branch : goal.returns-then-branch
-returns-then-branch c =
+pub returns-then-is_around : goal.returns-then-is_around
+returns-then-is_around c =
     let at = is_around c.args.decls.now c.args.class.now c.args.bean.now in
     let items = c.as_slice-method-items.result.now in
-    let here = sym (ap (λ (m : MethodDecl). at (places.Method m.name)) c.method-item.is) ∙ sym c.in_ok-is_around.ensures
-    ∙ c.if-branch.true in
+    let here = sym (ap (λ (m : MethodDecl). at (places.Method m.name)) c.method-item.is) ∙ sym c.is_around.ensures
+    ∙ c.if-is_around.true in
     let one : list_any (λ (m : MethodDecl). at (places.Method m.name)) items ≡ true =
     list_any_at (λ (m : MethodDecl). at (places.Method m.name)) items c.loop-method.method-index c.method-item.result
     (omega (arith, c.loop-method-test.true)) here in

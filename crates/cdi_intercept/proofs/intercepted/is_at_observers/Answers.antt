@@ -7,12 +7,12 @@ use Rattle.cdi_intercept.specs.Chains.{is_around}
 use Rattle.cdi_intercept.proofs.AroundLemmas.{any-map}
 use Rattle.cdi_intercept.proofs.intercepted.is_at_observers.Goals as goal
 
-pub returns-then-branch : goal.returns-then-branch
-returns-then-branch c =
+pub returns-then-is_around : goal.returns-then-is_around
+returns-then-is_around c =
     let at = is_around c.args.decls.now c.args.class.now c.args.bean.now in
     let items = c.as_slice-observer-items.result.now in
-    let here = sym (ap (λ (m : ObserverDecl). at (places.Observer m.name)) c.observer-item.is) ∙ sym c.in_ok-is_around.ensures
-    ∙ c.if-branch.true in
+    let here = sym (ap (λ (m : ObserverDecl). at (places.Observer m.name)) c.observer-item.is) ∙ sym c.is_around.ensures
+    ∙ c.if-is_around.true in
     let one : list_any (λ (m : ObserverDecl). at (places.Observer m.name)) items ≡ true =
     list_any_at (λ (m : ObserverDecl). at (places.Observer m.name)) items c.loop-observer.observer-index c.observer-item.result
     (omega (arith, c.loop-observer-test.true)) here in
