@@ -288,7 +288,7 @@ fn forgets_trace(alloc: Global, container: &mut Container<Echo>) -> Result<bool,
 }
 
 #[test]
-fn calls_run_bodies(rt: HostRuntime) -> Result<(), Fail> {
+fn answers_with_ample_memory(rt: HostRuntime) -> Result<(), Fail> {
     let mut container = stored(rt.alloc(), &DECLARED)?;
     let other = first_other_call(rt.alloc(), &mut container, &STEPS)?;
     assert!(rt; other.is_none(), "{other:?}");

@@ -174,7 +174,7 @@ fn edits_touch_chains(rt: HostRuntime) -> Result<(), Fail> {
     assert!(rt; put_touches(alloc, TURNED, b"fast")?);
     assert!(rt; !put_touches(alloc, APART, b"run")?);
     assert!(rt; put_touches(alloc, SHARING, b"run")?);
-    let drop_interceptor = Edit::Remove(Kind::Interceptor, name(b"G")?);
-    assert!(rt; touches(alloc, drop_interceptor, b"run")?);
+    let removal = Edit::Remove(Kind::Interceptor, name(b"G")?);
+    assert!(rt; touches(alloc, removal, b"run")?);
     Ok(())
 }
