@@ -1,17 +1,15 @@
 //! Which texts are events, and what they say.
 ghost use Rattle.std.specs.Prelude.{◌≡◌, ◌↔◌, ◌≤◌, [], true, length, map, option_map, IsTrue, IfOk};
-ghost use Rattle.std.specs.List.{list_all, list_any};
+ghost use Rattle.std.specs.List.{list_all};
 ghost use Rattle.cdi_model.specs.Bytes.{space};
 ghost use Rattle.cdi_model.specs.Quals.{list_limit};
 ghost use Rattle.cdi_uses.specs.Events.{is_event, is_event_use, event_repeats, event_of, uses_in};
 ghost use Rattle.cdi_uses.specs.Events.{EventsReadBack, SpellsEvent, SpellsEventUse};
 ghost use Rattle.cdi_uses.specs.Pieces.{pieces};
-ghost use Rattle.cdi_uses.specs.Twice.{has_twice};
-ghost use Rattle.cdi_uses.specs.Uses.{repeats_member, use_name, quals_from};
+ghost use Rattle.cdi_uses.specs.Uses.{quals_from};
 
 use crate::pieces::{cut, next_piece};
-use crate::twice::has_twice;
-use crate::uses::{add_use, is_use, repeats_member, use_name};
+use crate::uses::{add_use, has_name_twice, is_use, repeats_some_member};
 use cdi_model::{EventDecl, Name, Quals, is_name};
 use std::alloc::{AllocError, Global};
 
@@ -78,7 +76,7 @@ pub fn event_repeats(alloc: Global, text: &[u8]) -> Result<bool, AllocError>
     if has_name_twice(alloc, uses.as_slice())? {
         return Ok(true);
     }
-    some_repeats_member(alloc, uses.as_slice())
+    repeats_some_member(alloc, uses.as_slice())
 }
 
 /// The parts behind the type.
@@ -93,27 +91,6 @@ fn uses_in<'a>(alloc: Global, text: &'a [u8]) -> Result<Vec<&'a [u8]>, AllocErro
         rest = more;
     }
     Ok(uses)
-}
-
-fn has_name_twice(alloc: Global, uses: &[&[u8]]) -> Result<bool, AllocError>
-    ensures { IfOk result (λ found. found ≡ has_twice (map use_name (map (λ u. u.now) uses.now))) }
-{
-    let mut names = Vec::with_capacity(alloc, uses.len())?;
-    for text in uses {
-        names.push(use_name(text))?;
-    }
-    has_twice(alloc, names.as_slice())
-}
-
-fn some_repeats_member(alloc: Global, uses: &[&[u8]]) -> Result<bool, AllocError>
-    ensures { IfOk result (λ found. found ≡ list_any repeats_member (map (λ u. u.now) uses.now)) }
-{
-    for text in uses {
-        if repeats_member(alloc, text)? {
-            return Ok(true);
-        }
-    }
-    Ok(false)
 }
 
 /// The event that a text says which is one. Of a qualifier that stands twice the last use counts.

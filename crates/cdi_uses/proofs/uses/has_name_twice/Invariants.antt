@@ -1,6 +1,6 @@
 use Rattle.std.proofs.Common.{◌≡◌, ◌++◌, map, drop}
 use Rattle.cdi_uses.specs.Uses.{use_name}
-use Rattle.cdi_uses.proofs.events.has_name_twice.Given as goal
+use Rattle.cdi_uses.proofs.uses.has_name_twice.Given as goal
 
 abbrev pub invariant-loop-text : goal.invariant-loop-text
 invariant-loop-text l = map (λ n. n.now) l.names.items ++ map use_name (map (λ u. u.now) (drop l.text-index l.uses))
