@@ -13,3 +13,4 @@ mod ToldLemmas
 mod Editing
 mod Playing
 mod LastEventLemmas
+mod RunAnswered

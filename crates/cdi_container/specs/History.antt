@@ -173,6 +173,11 @@ RunAnswers old begun (Ok outcome) new = RunsFrom old begun (Given outcome) new
 RunAnswers old begun (Err errors.OutOfMemory) new = new ≡ emptied old
 RunAnswers old begun (Err (errors.Refused refusal)) new = (begun ≡ Err refusal) × (new ≡ untold old)
 
+-- where a run whose beginning is this was refused, it was for this
+abbrev pub IsRefusedBy : Result Run Refusal → Error → Type 0
+IsRefusedBy begun errors.OutOfMemory = Unit {0}
+IsRefusedBy begun (errors.Refused refusal) = begun ≡ Err refusal
+
 -- what a run leaves that did not begin: refused, or for want of memory
 abbrev pub unplayed : Error → State → State
 unplayed errors.OutOfMemory old = emptied old

@@ -3,7 +3,8 @@ ghost use Rattle.std.specs.Prelude.{◌≡◌, [], Some, IfOk, IfErr, OnOk, OnEr
 ghost use Rattle.cdi_model.specs.Answering.{Answers};
 ghost use Rattle.cdi_container.specs.Asked.{asked_for, to_look, to_call, run_of_event, run_of_use};
 ghost use Rattle.cdi_container.specs.History.{left_by, untold, unplayed, with_request, refusal_of_begin, refusal_of_end};
-ghost use Rattle.cdi_container.specs.History.{RunAnswers, RunsFrom};
+ghost use Rattle.cdi_container.specs.History.{IsRefusedBy, RunAnswers, RunsFrom};
+ghost use Rattle.cdi_container.specs.declared.answer.Answer.TheVariants.{Given};
 ghost use Rattle.cdi_container.specs.History.{EndsRequest, EndsContexts};
 ghost use Rattle.cdi_container.specs.Seen.{LookUpStep, CallStep, FireStep, BeginStep, EndStep, StopStep, done_or};
 
@@ -25,8 +26,12 @@ impl<B: Bodies> Container<B> {
     ///
     /// `OutOfMemory`, or the first of these refusals that applies: `Faulty`, where the deployment has faults;
     /// `UnknownName`; `Unsatisfied`; `Ambiguous`.
+    #[tactic(auto, using(crate::proofs::RunAnswered::answered))]
     pub fn lookup(&mut self, bean_type: Name, quals: &Quals) -> Result<Outcome, Error>
-        ensures uses { RunAnswers self.old (run_of_use self.old.decls self.old.book (to_look bean_type quals.now)) result self.new }
+        ensures ok { IfOk result (λ outcome. RunsFrom self.old
+            (run_of_use self.old.decls self.old.book (to_look bean_type quals.now)) (Given outcome) self.new) }
+        ensures refused { IfErr result (IsRefusedBy (run_of_use self.old.decls self.old.book (to_look bean_type quals.now))) }
+        ensures err { IfErr result (λ error. self.new ≡ unplayed error self.old) }
         ensures step { LookUpStep self.old bean_type quals.now result self.new }
     {
         self.use_bean(bean_type, quals, None)
@@ -38,6 +43,7 @@ impl<B: Bodies> Container<B> {
     /// # Errors
     ///
     /// Those of `lookup`, and then `NoMethod`.
+    #[tactic(auto, using(crate::proofs::RunAnswered::answered))]
     pub fn call(
         &mut self,
         bean_type: Name,
@@ -45,8 +51,11 @@ impl<B: Bodies> Container<B> {
         method: Ident,
         arg: Val,
     ) -> Result<Outcome, Error>
-        ensures uses { RunAnswers self.old (run_of_use self.old.decls self.old.book (to_call method arg bean_type quals.now))
-            result self.new }
+        ensures ok { IfOk result (λ outcome. RunsFrom self.old
+            (run_of_use self.old.decls self.old.book (to_call method arg bean_type quals.now)) (Given outcome) self.new) }
+        ensures refused { IfErr result
+            (IsRefusedBy (run_of_use self.old.decls self.old.book (to_call method arg bean_type quals.now))) }
+        ensures err { IfErr result (λ error. self.new ≡ unplayed error self.old) }
         ensures step { CallStep self.old method arg bean_type quals.now result self.new }
     {
         self.use_bean(bean_type, quals, Some(Message { method, arg }))
@@ -86,10 +95,20 @@ impl<B: Bodies> Container<B> {
     ///
     /// `OutOfMemory`, or the first of these refusals that applies: `Faulty`, where the deployment has faults;
     /// `UnknownName`, which `Default` among the qualifiers has too (profile).
+    #[tactic(auto, using(crate::proofs::RunAnswered::answered))]
     pub fn fire(&mut self, event_type: Name, quals: &Quals, arg: Val) -> Result<Outcome, Error>
-        ensures notifies { RunAnswers self.old (run_of_event self.old.decls self.old.book arg event_type quals.now)
-            result self.new }
+        ensures ok { IfOk result (λ outcome. RunsFrom self.old
+            (run_of_event self.old.decls self.old.book arg event_type quals.now) (Given outcome) self.new) }
+        ensures refused { IfErr result (IsRefusedBy (run_of_event self.old.decls self.old.book arg event_type quals.now)) }
+        ensures err { IfErr result (λ error. self.new ≡ unplayed error self.old) }
         ensures step { FireStep self.old arg event_type quals.now result self.new }
+    {
+        self.notify(event_type, quals, arg)
+    }
+
+    /// An event, for whom it notifies.
+    fn notify(&mut self, event_type: Name, quals: &Quals, arg: Val) -> Result<Outcome, Error>
+        ensures { RunAnswers self.old (run_of_event self.old.decls self.old.book arg event_type quals.now) result self.new }
     {
         self.run.restart();
         self.told = None;

@@ -1,5 +1,5 @@
 use Rattle.cdi_container.proofs.Playing.{rests_cleared, rests_ran, rests_unplayed}
-use Rattle.cdi_container.proofs.container.Container.fire.Goals as goal
+use Rattle.cdi_container.proofs.container.Container.notify.Goals as goal
 
 pub invariant_of-self : goal.invariant_of-self
 invariant_of-self g c =
