@@ -34,7 +34,7 @@ one : {X : Type 0} (x y : X) → Some x ≡ Some y → x ≡ y
 one x y e = cc
 
 -- where a place has these of its own, those of the class stand behind them and what they bring
-set-own : (ds : List Decl) (class : List Qual) (bean : BeanDecl) (place : BeanPlace) (own : List Qual) → own_at bean place ≡ Some own
+pub set-own : (ds : List Decl) (class : List Qual) (bean : BeanDecl) (place : BeanPlace) (own : List Qual) → own_at bean place ≡ Some own
     → set_by ds class bean place ≡ in_place_of class (with_brought ds own)
 set-own ds class bean places.Construct own h = class-alone ds class own (one [] own h)
 set-own ds class bean places.Post own h = class-alone ds class own (one [] own h)
@@ -101,7 +101,7 @@ filter-by p q (u ∷ us) e = by (p u) refl (filter-by p q us e)
     by false h more = rw (h, sym (e u) ∙ h) more
 
 -- those of the class behind own ones that are the same are the same
-replaced-same : (class own others : List Qual) → HaveTheSame own others → HaveTheSame (in_place_of class own) (in_place_of class others)
+pub replaced-same : (class own others : List Qual) → HaveTheSame own others → HaveTheSame (in_place_of class own) (in_place_of class others)
 replaced-same class own others same u =
     let left : filter (λ v. not (uses_one own v.name)) class ≡ filter (λ v. not (uses_one others v.name)) class =
     filter-by (λ v. not (uses_one own v.name)) (λ v. not (uses_one others v.name)) class
@@ -118,15 +118,6 @@ replaced-same class own others same u =
       | inl front ↦ Contains-append_left vs behind' u (within u front)
       | inr back ↦ Contains-append_right vs behind' u (subst (λ ws. Contains ws u) e back)
     ]
-
--- what a place declares of its own with what is declared by the types that it brings, and those of the class behind them, are the
--- bindings there
-pub set-same : (ds : List Decl) (class : List Qual) (bean : BeanDecl) (place : BeanPlace) (own with_types : List Qual)
-    → own_at bean place ≡ Some own → HaveTheSame with_types (with_brought ds own)
-    → HaveTheSame (in_place_of class with_types) (set_by ds class bean place)
-set-same ds class bean place own with_types h same =
-    subst (HaveTheSame (in_place_of class with_types)) (sym (set-own ds class bean place own h))
-    (replaced-same class with_types (with_brought ds own) same)
 
 -- two of them differ just where two of the others do
 pub conflict-same : (ds : List Decl) (us vs : List Qual) → HaveTheSame us vs → has_conflict ds us ≡ has_conflict ds vs

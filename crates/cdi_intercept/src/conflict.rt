@@ -1,6 +1,8 @@
 //! Bindings of one type that differ (Interceptors 2.1, Associating an Interceptor using Interceptor Bindings).
 ghost use Rattle.std.specs.Prelude.{◌≡◌};
 ghost use Rattle.std.specs.List.{list_any};
+ghost use Rattle.cdi_match.specs.Bindings.{with_brought};
+ghost use Rattle.cdi_effective.specs.Bindings.{in_place_of};
 ghost use Rattle.cdi_intercept.specs.Conflicts.{are_opposed, has_conflict};
 ghost use Rattle.cdi_intercept.specs.PlaceSets.{uses_of};
 ghost use Rattle.cdi_intercept.specs.Sets.{set_by};
@@ -22,6 +24,13 @@ pub fn has_conflict_at(decls: &Decls, class: &[Qual], bean: &BeanDecl, place: &B
     if own.is_empty() {
         return has_conflict(decls, PlaceSet::of_class(decls, class));
     }
+    has_conflict_with(decls, own, class)
+}
+
+/// Whether two differ of some that a place declares of its own, of what they bring, and of those of its class.
+fn has_conflict_with(decls: &Decls, own: &[Qual], class: &[Qual]) -> bool
+    ensures { result ≡ has_conflict decls.now (in_place_of class.now (with_brought decls.now own.now)) }
+{
     let types = BroughtTypes::of(decls, own);
     has_conflict(decls, PlaceSet::new(decls, own, types.as_slice(), class))
 }

@@ -2,6 +2,8 @@
 ghost use Rattle.std.specs.Prelude.{◌≡◌, ◌||◌, length, nat_eq, not};
 ghost use Rattle.std.specs.List.{list_all, list_any};
 ghost use Rattle.cdi_model.specs.declared.place.BeanPlace.TheVariants.{Construct, Post, Pre};
+ghost use Rattle.cdi_match.specs.Bindings.{with_brought};
+ghost use Rattle.cdi_effective.specs.Bindings.{in_place_of};
 ghost use Rattle.cdi_intercept.specs.Chains.{around_any, binds, covered_in, is_around, is_surrounded, surrounds};
 ghost use Rattle.cdi_intercept.specs.PlaceSets.{uses_of};
 ghost use Rattle.cdi_intercept.specs.Sets.{methods_of, observers_of, producers_of};
@@ -84,6 +86,13 @@ fn is_around(decls: &Decls, class: &[Qual], bean: &BeanDecl, place: &BeanPlace) 
     if own.is_empty() {
         return is_surrounded(decls, PlaceSet::of_class(decls, class), place);
     }
+    is_surrounded_with(decls, own, class, place)
+}
+
+/// Whether one stands around a place with some of its own, with what they bring, and those of its class.
+fn is_surrounded_with(decls: &Decls, own: &[Qual], class: &[Qual], place: &BeanPlace) -> bool
+    ensures { result ≡ is_surrounded decls.now (in_place_of class.now (with_brought decls.now own.now)) place.now }
+{
     let types = BroughtTypes::of(decls, own);
     let set = PlaceSet::new(decls, own, types.as_slice(), class);
     is_surrounded(decls, set, place)

@@ -12,7 +12,7 @@ use arrayvec::ArrayVec;
 use cdi_model::{Decl, Decls, Qual};
 use std::marker::Model;
 
-/// The binding types that some uses bring, by the positions of their declarations, which rise.
+/// The binding types that some uses bring, by the positions of their declarations.
 #[derive(Drop)]
 pub struct BroughtTypes {
     positions: ArrayVec<usize, DECLS_LIMIT>,

@@ -1,7 +1,8 @@
 -- What is at fault by the answers to the points of a declaration, in their order, is what is at fault by what is chosen for each.
-use Rattle.std.proofs.Common.{◌≡◌, ℕ, Bool, true, false, cond, ◌&&◌, List, [], ◌∷◌, ◌++◌, map, Option, Some, None, option_map}
+use Rattle.std.proofs.Common.{◌≡◌, ℕ, Bool, true, false, cond, ◌&&◌, ◌||◌, List, [], ◌∷◌, ◌++◌, map, Option, Some, None, option_map}
 use Rattle.std.proofs.Common.{refl, sym, ap, subst, ◌∙◌, append_assoc, append-nil}
-use Rattle.std.specs.List.{find, flat_map, zip}
+use Rattle.std.specs.List.{find, flat_map, list_any, zip}
+use Rattle.std.proofs.lemmas.Bool.{false≢true}
 use Rattle.std.specs.Option.{option_or, option_to_list}
 use Rattle.std.specs.Str.{bytes_eq}
 use Rattle.cdi_model.specs.declared.decl.Attributes.{Attributes}
@@ -31,12 +32,16 @@ use Rattle.cdi_model.specs.Mentions.{of_attributes, of_bindings, of_disposer, of
 use Rattle.cdi_model.specs.Mentions.{of_producer, of_qualifiers, part_place_of}
 use Rattle.cdi_effective.specs.declared.records.Effective.{Effective}
 use Rattle.cdi_resolve.specs.declared.choice.Choice.{Choice}
+use Rattle.cdi_resolve.specs.declared.choice.Choice.TheVariants as choices_are
 use Rattle.cdi_observe.specs.Wanted.{params_of, points_of}
+use Rattle.cdi_faults.specs.declared.fault.Subject.{Subject}
 use Rattle.cdi_faults.specs.declared.fault.Subject.TheVariants as subjects
 use Rattle.cdi_subjects.specs.Answered.{call_by, calls_by, choice_beside, is_begin, points_by}
 use Rattle.cdi_subjects.specs.Filter.{found_in, is_enabled_in, producer_of_part, producer_of_point, some_if}
 use Rattle.cdi_subjects.specs.Sites.{choice_at, is_lost_among, lost_in, lost_sites, own_points, own_seen}
-use Rattle.cdi_subjects.specs.Subjects.{point_in, points_at_fault}
+use Rattle.cdi_subjects.specs.Subjects.{has_verdict, may_have, point_in, points_at_fault}
+use Rattle.cdi_subjects.specs.declared.points.Verdict.{Verdict}
+use Rattle.cdi_subjects.specs.declared.points.Verdict.TheVariants as verdicts
 
 -- ---- which points some mentions have, and which of them stand behind the beginning of the latest method
 
@@ -286,6 +291,38 @@ points-found test answer bs d since points (other ∷ ms) listed = points-found 
 pub points_answered : (test : PointDecl → Choice → Bool) (answer : PointDecl → Choice) (bs : List Effective) (d : Decl)
     → points_by test bs d (map answer (points_of d)) (mentions d) ≡ points_at_fault test answer bs d
 points_answered test answer bs d = points-found test answer bs d [] (points_of d) (mentions d) (all-listed d)
+
+-- where no choice may be such, none is
+never : (ds : List Decl) (verdict : Verdict) (p : PointDecl) (c : Choice) → may_have verdict c ≡ false → has_verdict ds verdict p c ≡ false
+never ds verdicts.Unsatisfied p c h = h
+never ds verdicts.Ambiguous p c h = h
+never ds verdicts.Unproxyable p (choices_are.One id) h = absurd (false≢true (sym h))
+never ds verdicts.Unproxyable p choices_are.Unsatisfied h = refl
+never ds verdicts.Unproxyable p (choices_are.Ambiguous ids) h = refl
+
+pub none_such : (ds : List Decl) (verdict : Verdict) (bs : List Effective) (d : Decl) (choices : List Choice) (ms : List Mention)
+    → list_any (may_have verdict) choices ≡ false → points_by (has_verdict ds verdict) bs d choices ms ≡ []
+none_such ds verdict bs d choices [] h = refl
+none_such ds verdict bs d [] (PointOf place p ∷ ms) h = none_such ds verdict bs d [] ms h
+none_such ds verdict bs d (c ∷ cs) (PointOf place p ∷ ms) h =
+    let rest = none_such ds verdict bs d cs ms (others (may_have verdict c) (list_any (may_have verdict) cs) h) in
+    ap (λ b. option_to_list (some_if (is_enabled_in d bs (producer_of_point place) && b) (subjects.Point place p.name))
+    ++ points_by (has_verdict ds verdict) bs d cs ms) (never ds verdict p c (first (may_have verdict c) (list_any (may_have verdict) cs) h))
+    ∙ ap (λ o. option_to_list o ++ points_by (has_verdict ds verdict) bs d cs ms)
+    (apart (is_enabled_in d bs (producer_of_point place)) (subjects.Point place p.name)) ∙ rest
+  where
+    first : (a b : Bool) → (a || b) ≡ false → a ≡ false
+    first false b h = refl
+    first true b h = h
+
+    others : (a b : Bool) → (a || b) ≡ false → b ≡ false
+    others false b h = h
+    others true b h = absurd (false≢true (sym h))
+
+    apart : (b : Bool) (s : Subject) → some_if (b && false) s ≡ None
+    apart true s = refl
+    apart false s = refl
+none_such ds verdict bs d choices (other ∷ ms) h = none_such ds verdict bs d choices ms h
 
 -- ---- call sites
 

@@ -1,13 +1,14 @@
 //! Injection points without a bean, or with one for which no class can stand (CDI 4.0, Unsatisfied and ambiguous
 //! dependencies; Unproxyable bean types).
 ghost use Rattle.std.specs.Prelude.{◌≡◌, ◌&&◌, map, IfOk};
+ghost use Rattle.std.specs.List.{list_any};
 ghost use Rattle.cdi_model.specs.Mentions.{mentions};
 ghost use Rattle.cdi_observe.specs.Answers.{answer_to};
 ghost use Rattle.cdi_observe.specs.Wanted.{points_of};
 ghost use Rattle.cdi_faults.specs.declared.fault.Subject.TheVariants as the_subjects;
 ghost use Rattle.cdi_subjects.specs.Answered.{points_by};
 ghost use Rattle.cdi_subjects.specs.Filter.{is_enabled_in, producer_of_point, some_if};
-ghost use Rattle.cdi_subjects.specs.Subjects.{has_verdict, points_at_fault};
+ghost use Rattle.cdi_subjects.specs.Subjects.{has_verdict, may_have, points_at_fault};
 
 use crate::enabled::{is_enabled_in, producer_of_point};
 use crate::proxies::is_unproxyable;
@@ -37,6 +38,29 @@ impl Verdict {
             Verdict::Ambiguous => matches!(choice, Choice::Ambiguous(_)),
             Verdict::Unproxyable => is_unproxyable(view, point, choice),
         }
+    }
+
+    /// Whether an answer may be such at some point.
+    fn may_be_of(self, choice: &Choice) -> bool
+        ensures { result ≡ may_have self choice.now }
+    {
+        match self {
+            Verdict::Unsatisfied => matches!(choice, Choice::Unsatisfied),
+            Verdict::Ambiguous => matches!(choice, Choice::Ambiguous(_)),
+            Verdict::Unproxyable => matches!(choice, Choice::One(_)),
+        }
+    }
+
+    /// Whether one of some answers may be such.
+    fn may_be_among(self, answers: &[Rc<Choice>]) -> bool
+        ensures { result ≡ list_any (may_have self) (map (λ answer. answer.value) answers.now) }
+    {
+        for answer in answers {
+            if self.may_be_of(answer) {
+                return true;
+            }
+        }
+        false
     }
 }
 
@@ -72,6 +96,9 @@ fn points_by<V: View>(
         (mentions decl.now)) }
 {
     let mut subjects = Vec::new(alloc);
+    if !verdict.may_be_among(answers) {
+        return Ok(subjects);
+    }
     let mut left = answers;
     for mention in decl.mentions() {
         if let Mention::Point(place, point) = mention {

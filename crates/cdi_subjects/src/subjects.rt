@@ -29,7 +29,7 @@ use std::rc::Rc;
 /// The parts of a declaration that have a fault of a code (CDI 4.0, Problems detected automatically by the container),
 /// in the order in which they are declared. Its records and the answers to its injection points are given in their
 /// order; no part has a fault of a name or a circle, which are no declaration's. It takes memory for the parts that have
-/// one, and where a place has bindings of its own.
+/// one.
 #[tactic(auto, using(crate::proofs::Laws::by_entries, crate::proofs::RestLemmas::faults_rest_on))]
 pub fn subjects_at_fault<V: View, B: Bodies>(
     alloc: Global,

@@ -1,7 +1,6 @@
-use Rattle.std.proofs.Common.{ap, subst, sym, ◌∙◌}
-use Rattle.cdi_match.specs.Bindings.{with_brought, with_declared, HaveTheSame}
+use Rattle.std.proofs.Common.{ap, sym, ◌∙◌}
 use Rattle.cdi_intercept.specs.Conflicts.{has_conflict}
-use Rattle.cdi_intercept.proofs.SetLemmas.{conflict-same, set-class, set-same}
+use Rattle.cdi_intercept.proofs.SetLemmas.{set-class, set-own}
 use Rattle.cdi_intercept.proofs.conflict.has_conflict_at.Goals as goal
 
 pub returns-then-is_empty : goal.returns-then-is_empty
@@ -14,7 +13,5 @@ returns-then-is_empty c =
 pub returns : goal.returns
 returns c =
     let ds = c.args.decls.now in
-    let own = c.in-Some.own.now in
-    c.has_conflict-2.ensures ∙ ap (has_conflict ds) c.new.ensures
-    ∙ conflict-same ds _ _ (set-same ds c.args.class.now c.args.bean.now c.args.place.now own _ (sym c.in-Some.ensures)
-    (subst (λ types. HaveTheSame (with_declared ds own types) (with_brought ds own)) (sym c.as_slice.ensures) c.of-types.ensures))
+    c.has_conflict_with.ensures
+    ∙ ap (has_conflict ds) (sym (set-own ds c.args.class.now c.args.bean.now c.args.place.now c.in-Some.own.now (sym c.in-Some.ensures)))

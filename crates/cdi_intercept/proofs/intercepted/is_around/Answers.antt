@@ -1,7 +1,6 @@
-use Rattle.std.proofs.Common.{ap, subst, sym, ◌∙◌}
-use Rattle.cdi_match.specs.Bindings.{with_brought, with_declared, HaveTheSame}
+use Rattle.std.proofs.Common.{ap, sym, ◌∙◌}
 use Rattle.cdi_intercept.specs.Chains.{is_surrounded}
-use Rattle.cdi_intercept.proofs.SetLemmas.{none-surrounded, set-class, set-none, set-same, surrounded-same}
+use Rattle.cdi_intercept.proofs.SetLemmas.{none-surrounded, set-class, set-none, set-own}
 use Rattle.cdi_intercept.proofs.intercepted.is_around.Goals as goal
 
 pub returns-in_default : goal.returns-in_default
@@ -24,7 +23,6 @@ pub returns : goal.returns
 returns c =
     let ds = c.args.decls.now in
     let place = c.args.place.now in
-    let own = c.in-Some.own.now in
-    c.is_surrounded-2.ensures ∙ ap (λ set. is_surrounded ds set place) c.new-set.ensures
-    ∙ surrounded-same ds _ _ place (set-same ds c.args.class.now c.args.bean.now place own _ (sym c.in-Some.ensures)
-    (subst (λ types. HaveTheSame (with_declared ds own types) (with_brought ds own)) (sym c.as_slice.ensures) c.of-types.ensures))
+    c.is_surrounded_with.ensures
+    ∙ ap (λ set. is_surrounded ds set place)
+    (sym (set-own ds c.args.class.now c.args.bean.now place c.in-Some.own.now (sym c.in-Some.ensures)))
