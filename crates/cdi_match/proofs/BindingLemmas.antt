@@ -13,8 +13,8 @@ use Rattle.cdi_model.specs.Quals.{name_of_use}
 use Rattle.cdi_model.specs.declared.decl.Decl.{Decl}
 use Rattle.cdi_model.specs.declared.decl.Kind.TheVariants as kinds
 use Rattle.cdi_model.specs.declared.quals.Qual.{Qual}
-use Rattle.cdi_match.specs.Bindings.{brings_type, brought, brought_by, declared_at, types_brought, with_brought, BringsType, BroughtAreThese}
-use Rattle.cdi_match.specs.Bindings.{with_declared, HaveTheSame}
+use Rattle.cdi_match.specs.Bindings.{brings_type, brought, brought_by, declared_at, types_brought, with_brought}
+use Rattle.cdi_match.specs.Bindings.{with_declared, BringsType, BroughtAreThese, HaveTheSame}
 use Rattle.cdi_match.specs.Chain.{has}
 use Rattle.cdi_match.specs.Filling.{as_binding}
 use Rattle.cdi_match.specs.Walk.{HasPositions}

@@ -20,8 +20,8 @@ use Rattle.cdi_match.specs.declared.followers.Links.TheVariants as links
 use Rattle.cdi_match.specs.declared.walk.Walk.{Walk}
 use Rattle.cdi_match.specs.Chain.{ChainFromOne, Steps, has, leads}
 use Rattle.cdi_match.specs.Search.{Adds, Closing, is_led_to, kind_of, listed_by, next_of}
-use Rattle.cdi_match.specs.Walk.{declared_among, has_met, is_marked, marked_from, HasPositions, IsPlaced, IsWalking, Meets, HasRoom, names_at}
-use Rattle.cdi_match.specs.Walk.{next_declared}
+use Rattle.cdi_match.specs.Walk.{declared_among, has_met, is_marked, marked_from, HasPositions, IsPlaced, IsWalking, Meets}
+use Rattle.cdi_match.specs.Walk.{HasRoom, names_at, next_declared}
 use Rattle.cdi_match.proofs.Names.{one_name, same_text}
 use Rattle.cdi_match.proofs.SearchLemmas.{Adds-again, Adds-new, Adds-none, Adds-then, Closing-all, Closing-start, Closing-step}
 use Rattle.cdi_match.proofs.SearchLemmas.{is_led_to_decides}
