@@ -8,9 +8,10 @@ use Rattle.cdi_faults.specs.declared.fault.Subject.TheVariants as subjects
 use Rattle.cdi_model.specs.declared.place.PartPlace.{PartPlace}
 use Rattle.cdi_model.specs.declared.place.PartPlace.TheVariants as places
 use Rattle.cdi_model.specs.PlaceText.{text_of_part_place}
+use Rattle.cdi_model.specs.Bytes.{space}
 use Rattle.cdi_faults.specs.FaultText.{text_of_subject, behind_space}
 
-behind_space_of_place : (place : PartPlace) → behind_space (text_of_part_place place) ≡ 32 ∷ text_of_part_place place
+behind_space_of_place : (place : PartPlace) → behind_space (text_of_part_place place) ≡ space ∷ text_of_part_place place
 behind_space_of_place places.Construct = refl
 behind_space_of_place places.Post = refl
 behind_space_of_place places.Pre = refl
@@ -23,7 +24,7 @@ behind_space_of_place places.AroundInvoke = refl
 behind_space_of_place places.AroundConstruct = refl
 
 behind_space_of_call : (place : PartPlace) (point method : List ℕ)
-    → behind_space (text_of_subject (subjects.Call place point method)) ≡ 32 ∷ text_of_subject (subjects.Call place point method)
+    → behind_space (text_of_subject (subjects.Call place point method)) ≡ space ∷ text_of_subject (subjects.Call place point method)
 behind_space_of_call places.Construct point method = refl
 behind_space_of_call places.Post point method = refl
 behind_space_of_call places.Pre point method = refl
@@ -36,7 +37,7 @@ behind_space_of_call places.AroundInvoke point method = refl
 behind_space_of_call places.AroundConstruct point method = refl
 
 -- what is not the declaration as a whole has a text
-pub behind_space_of : (m : Subject) → m ≢ subjects.Whole → behind_space (text_of_subject m) ≡ 32 ∷ text_of_subject m
+pub behind_space_of : (m : Subject) → m ≢ subjects.Whole → behind_space (text_of_subject m) ≡ space ∷ text_of_subject m
 behind_space_of subjects.Whole h = absurd (h refl)
 behind_space_of (subjects.Type name) h = refl
 behind_space_of (subjects.Used uses.Qualifier name) h = refl

@@ -38,13 +38,13 @@ at_first_dot (b ∷ bs) back h = rw (h.0, at_first_dot bs back h.1) refl
 -- and put together again
 joined : (text : List ℕ) (p : List ℕ × List ℕ) → around_dot text ≡ Some p → text ≡ p.0 ++ dot ∷ p.1
 joined [] p e = absurd (none-some p e)
-joined (b ∷ bs) p e = by (b == 46) refl (around_dot bs) refl (joined bs)
+joined (b ∷ bs) p e = by (b == dot) refl (around_dot bs) refl (joined bs)
   where
-    by : (is : Bool) → (b == 46) ≡ is → (o : Option (List ℕ × List ℕ)) → around_dot bs ≡ o
+    by : (is : Bool) → (b == dot) ≡ is → (o : Option (List ℕ × List ℕ)) → around_dot bs ≡ o
         → ((q : List ℕ × List ℕ) → around_dot bs ≡ Some q → bs ≡ q.0 ++ dot ∷ q.1) → b ∷ bs ≡ p.0 ++ dot ∷ p.1
     by true d o f rest =
         let same : ([], bs) ≡ p = same_Some ([], bs) p (rw d at e) in
-        ap (λ c. c ∷ bs) (eqb-true b 46 d) ∙ ap (λ q. q.0 ++ dot ∷ q.1) same
+        ap (λ c. c ∷ bs) (eqb-true b dot d) ∙ ap (λ q. q.0 ++ dot ∷ q.1) same
     by false d None f rest = absurd (none-some p (rw (d, f) at e))
     by false d (Some q) f rest =
         let same : (b ∷ q.0, q.1) ≡ p = same_Some (b ∷ q.0, q.1) p (rw (d, f) at e) in

@@ -1,6 +1,7 @@
 use Rattle.std.proofs.Common.{ap, ◌∙◌, [], ◌++◌, ◌∷◌, refl, rules}
 use Rattle.std.specs.Fmt.{signed_decimal}
 use Rattle.std.proofs.Output.{has_written_append, has_written_of_eq}
+use Rattle.cdi_model.specs.Bytes.{equals_sign}
 use Rattle.cdi_model.proofs.UseTextLemmas.{pairs_behind, pairs_behind_more, pairs_behind_done}
 use Rattle.cdi_model.proofs.display.MembersDisplay.fmt.Goals as goal
 
@@ -19,7 +20,7 @@ pub loop-name-preserved : goal.loop-name-preserved
 loop-name-preserved g c = (
   λ plain.
       let so_far = c.loop-name.invariant.0 plain in (
-        so_far.0 ++ (c.loop-name.separator.now ++ (c.in-Some.name.now ++ 61 ∷ signed_decimal c.in-Some.value.now)),
+        so_far.0 ++ (c.loop-name.separator.now ++ (c.in-Some.name.now ++ equals_sign ∷ signed_decimal c.in-Some.value.now)),
         pairs_behind_more so_far.0 c.loop-name.separator.now c.in-Some.name.now _ c.in-Some.value.now _ _ c.in-Some.ensures.steps so_far.1,
         has_written_append _ _ _ _ _ _ so_far.2 (c.in_ok-write.ensures.writes so_far.2.plain refl),
       ),
