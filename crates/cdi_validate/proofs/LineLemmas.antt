@@ -110,7 +110,7 @@ continued-above false (b ∷ bs) is = by (b == dot) refl (continued-above true b
   where
     by : (t : Bool) → (b == dot) ≡ t → (begins bs ≡ true → IsAboveSpace bs) → (continues_name bs ≡ true → IsAboveSpace bs)
         → IsAboveSpace (b ∷ bs)
-    by true e starts rest = (let e : b ≡ 46 = eqb-true b 46 e in omega arith, starts (rw e at is))
+    by true e starts rest = (let e : b ≡ dot = eqb-true b dot e in omega arith, starts (rw e at is))
     by false e starts rest = let (word, more) = and_parts (is_word b) (continues_name bs) (rw e at is) in (word-above b word, rest more)
 
 name-above : (name : List ℕ) → is_name name ≡ true → IsAboveSpace name

@@ -12,6 +12,7 @@ use Rattle.std.proofs.lemmas.Bool.{false≢true, and_parts, eqb-true}
 use Rattle.std.proofs.lemmas.Bool.Decides.{Decides-eqb}
 use Rattle.std.proofs.lemmas.Cmp.{nat_cmp_total, tied_itself}
 use Rattle.std.proofs.lemmas.Map.Lookups.{exact_unsigned}
+use Rattle.cdi_model.specs.Bytes.{dot}
 use Rattle.cdi_match.specs.Chain.{has}
 use Rattle.cdi_match.specs.Order.{in_order}
 use Rattle.cdi_match.proofs.Names.{has-by_order}
@@ -30,7 +31,7 @@ order = slice_cmp nat_cmp
 -- a name that goes on behind another begins with it, and has a dot there
 goes_on-parts : (x y : List ℕ) → goes_on x y ≡ (starts_with nat_eq y x && has_dot_at y (length x))
 goes_on-parts [] [] = refl
-goes_on-parts [] (b ∷ ys) = and-true (nat_eq 46 b)
+goes_on-parts [] (b ∷ ys) = and-true (nat_eq dot b)
 goes_on-parts (a ∷ xs) [] = refl
 goes_on-parts (a ∷ xs) (b ∷ ys) = ap (λ rest. nat_eq a b && rest) (goes_on-parts xs ys)
     ∙ sym (and_assoc (nat_eq a b) (starts_with nat_eq ys xs) (has_dot_at ys (length xs)))

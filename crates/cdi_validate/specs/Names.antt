@@ -5,6 +5,7 @@ use Rattle.std.specs.BTreeMap.{BTreeMap, get}
 use Rattle.std.specs.Cmp.Lexicographic.{slice_cmp}
 use Rattle.std.specs.Ordering.{nat_cmp}
 use Rattle.std.specs.List.{slice_get}
+use Rattle.cdi_model.specs.Bytes.{dot}
 use Rattle.cdi_model.specs.Grammar.{is_name}
 use Rattle.cdi_match.specs.Chain.{has}
 use Rattle.cdi_effective.specs.declared.records.Effective.{Effective}
@@ -36,7 +37,7 @@ AreLed leaders bs = (s : List ℕ) → get (slice_cmp nat_cmp) leaders s ≡ lea
 
 abbrev pub is_dot : Option ℕ → Bool
 is_dot None = false
-is_dot (Some byte) = nat_eq 46 byte
+is_dot (Some byte) = nat_eq dot byte
 
 -- a dot is the i-th byte
 abbrev pub has_dot_at : List ℕ → ℕ → Bool
