@@ -1,5 +1,5 @@
 //! The bindings that uses of binding types bring with them (Interceptors 2.1, Interceptor Binding Types).
-ghost use Rattle.std.specs.Prelude.{◌≡◌, ◌↔◌, ◌++◌, IsTrue, IfOk, OnOk, map};
+ghost use Rattle.std.specs.Prelude.{◌≡◌, ◌↔◌, ◌++◌, ℕ, IsTrue, IfOk, OnOk, OnErr, map, take};
 ghost use Rattle.cdi_model.specs.Quals.{name_of_use};
 ghost use Rattle.cdi_match.specs.Bindings.{brings, brings_itself, brought, types_brought, uses_in, with_brought, BroughtAreThese};
 ghost use Rattle.cdi_match.specs.Chain.{Circle};
@@ -34,9 +34,10 @@ pub fn with_brought<'a>(
     Ok(list)
 }
 
-/// Appends some uses.
+/// Appends some uses. Where memory runs out, the first of them may have been appended.
 pub fn push_uses<'a>(list: &mut Vec<&'a Qual>, uses: &'a [Qual]) -> Result<(), AllocError>
-    ensures { OnOk result (uses_in list.new.items ≡ uses_in list.old.items ++ uses.now) }
+    ensures ok { OnOk result (uses_in list.new.items ≡ uses_in list.old.items ++ uses.now) }
+    ensures err { OnErr result ((i : ℕ) × (uses_in list.new.items ≡ uses_in list.old.items ++ take i uses.now)) }
 {
     for binding in uses {
         list.push(binding)?;

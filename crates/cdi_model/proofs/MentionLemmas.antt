@@ -4,20 +4,20 @@ use Rattle.std.specs.List.{flat_map}
 use Rattle.std.proofs.lemmas.List.{append_assoc}
 use Rattle.cdi_model.specs.Mentions.{Mention}
 
--- ---- members of a bean
+-- ---- methods of a bean
 
--- where nothing stands before, what begins with a member goes on behind it
-pub member-first : (before all begun now body rest : List Mention) (first : Mention) → before ≡ [] → all ≡ first ∷ (body ++ rest)
+-- where nothing stands before, what begins with a method goes on behind it
+pub any-first : (before all begun now body rest : List Mention) (first : Mention) → before ≡ [] → all ≡ first ∷ (body ++ rest)
     → begun ≡ body → now ≡ rest → before ++ all ≡ first ∷ (begun ++ now)
-member-first before all begun now body rest first none is same behind = rw (none, is, same, behind) refl
+any-first before all begun now body rest first none is same behind = rw (none, is, same, behind) refl
 
--- the first of a kind stands before the others of it
-pub kind-first : {A : Type 0} (f : A → List Mention) (xs ys : List A) (x : A) → xs ≡ x ∷ ys → flat_map f xs ≡ f x ++ flat_map f ys
-kind-first f xs ys x is = rw is refl
+-- the first of a list stands before the others of it
+pub listed-first : {A : Type 0} (f : A → List Mention) (xs ys : List A) (x : A) → xs ≡ x ∷ ys → flat_map f xs ≡ f x ++ flat_map f ys
+listed-first f xs ys x is = rw is refl
 
--- a kind that has none gives nothing
-pub no-kind : {A : Type 0} (f : A → List Mention) (xs : List A) → xs ≡ [] → flat_map f xs ≡ []
-no-kind f xs none = rw none refl
+-- an empty list gives nothing
+pub none-listed : {A : Type 0} (f : A → List Mention) (xs : List A) → xs ≡ [] → flat_map f xs ≡ []
+none-listed f xs none = rw none refl
 
 -- some before three, and before four
 before-three : (body p d o : List Mention) → body ++ p ++ d ++ o ≡ body ++ (p ++ d ++ o)

@@ -40,8 +40,29 @@ dot = 46
 abbrev pub slash : ℕ
 slash = 47
 
+-- the first and the last digit
+abbrev pub digit_zero : ℕ
+digit_zero = 48
+
+abbrev pub digit_nine : ℕ
+digit_nine = 57
+
 abbrev pub equals_sign : ℕ
 equals_sign = 61
 
+-- the first and the last capital letter
+abbrev pub capital_a : ℕ
+capital_a = 65
+
+abbrev pub capital_z : ℕ
+capital_z = 90
+
 abbrev pub underscore : ℕ
 underscore = 95
+
+-- the first and the last small letter
+abbrev pub small_a : ℕ
+small_a = 97
+
+abbrev pub small_z : ℕ
+small_z = 122

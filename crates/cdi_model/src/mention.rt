@@ -571,11 +571,11 @@ impl<'a> Rest<'a> {
             self.sites = Sites::of(body);
             return Some(Mention::Body(place, name));
         }
-        self.next_member()
+        self.next_method()
     }
 
     /// The same where no body is left either.
-    fn next_member(&mut self) -> Option<Mention<'a>>
+    fn next_method(&mut self) -> Option<Mention<'a>>
         requires through { left_before self.now ≡ [] }
         ensures { YieldsFirstBy shown left self.old result self.new }
     {

@@ -7,8 +7,8 @@ use Rattle.std.specs.Prelude.{neg_ℤ}
 use Rattle.std.proofs.lemmas.Bool.{cases_Bool, and_parts, and_from, le-leb, leb-true, ne_eqb, eqb-true}
 use Rattle.std.proofs.lemmas.Option.{none-some, same_Some}
 use Rattle.std.proofs.lemmas.Fmt.{decimal_by_steps, decimal_nonempty}
-use Rattle.cdi_model.specs.Bytes.{minus}
-use Rattle.cdi_uses.specs.Numbers.{digit_zero, digit_nine, is_digit, value_after, magnitude, within, number_of}
+use Rattle.cdi_model.specs.Bytes.{digit_nine, digit_zero, minus}
+use Rattle.cdi_uses.specs.Numbers.{is_digit, value_after, magnitude, within, number_of}
 use Rattle.cdi_uses.specs.Meaning.{NumbersReadBack}
 
 digit : (d : ℕ) → d < 10 → is_digit (digit_zero + d) ≡ true
