@@ -39,50 +39,50 @@ fn answer_of_failure(error: Error) -> Result<Answer, AllocError>
 }
 
 /// The answer of a call that gives no value.
-pub(crate) fn answer_of_edit(outcome: Result<(), Error>) -> Result<Answer, AllocError>
-    ensures { result ≡ edit_answer outcome }
+pub(crate) fn answer_of_edit(called: Result<(), Error>) -> Result<Answer, AllocError>
+    ensures { result ≡ edit_answer called }
 {
-    match outcome {
+    match called {
         Ok(()) => Ok(Answer::Done),
         Err(error) => answer_of_failure(error),
     }
 }
 
 /// The answer of a call that gives no value and takes no memory.
-pub(crate) fn answer_of_begin(outcome: Result<(), Refusal>) -> Result<Answer, AllocError>
-    ensures { result ≡ plain_answer outcome }
+pub(crate) fn answer_of_begin(called: Result<(), Refusal>) -> Result<Answer, AllocError>
+    ensures { result ≡ plain_answer called }
 {
-    match outcome {
+    match called {
         Ok(()) => Ok(Answer::Done),
         Err(refusal) => Ok(Answer::Refused(refusal)),
     }
 }
 
 /// The answer of a call that gives no value and is never refused.
-pub(crate) fn answer_of_stop(outcome: Result<(), AllocError>) -> Result<Answer, AllocError>
-    ensures { result ≡ end_answer outcome }
+pub(crate) fn answer_of_stop(called: Result<(), AllocError>) -> Result<Answer, AllocError>
+    ensures { result ≡ end_answer called }
 {
-    match outcome {
+    match called {
         Ok(()) => Ok(Answer::Done),
         Err(error) => Err(error),
     }
 }
 
 /// The answer of a question for a bean.
-pub(crate) fn answer_of_choice(outcome: Result<Choice, AllocError>) -> Result<Answer, AllocError>
-    ensures { result ≡ choice_answer outcome }
+pub(crate) fn answer_of_choice(called: Result<Choice, AllocError>) -> Result<Answer, AllocError>
+    ensures { result ≡ choice_answer called }
 {
-    match outcome {
+    match called {
         Ok(choice) => Ok(Answer::Chosen(choice)),
         Err(error) => Err(error),
     }
 }
 
 /// The answer of a question for interceptors.
-pub(crate) fn answer_of_chain(outcome: Result<Seq<Name>, Error>) -> Result<Answer, AllocError>
-    ensures { result ≡ chain_answer outcome }
+pub(crate) fn answer_of_chain(called: Result<Seq<Name>, Error>) -> Result<Answer, AllocError>
+    ensures { result ≡ chain_answer called }
 {
-    match outcome {
+    match called {
         Ok(names) => Ok(Answer::Intercepted(names)),
         Err(error) => answer_of_failure(error),
     }
@@ -90,11 +90,11 @@ pub(crate) fn answer_of_chain(outcome: Result<Seq<Name>, Error>) -> Result<Answe
 
 /// The answer of a question for observer methods.
 pub(crate) fn answer_of_observers(
-    outcome: Result<Seq<ObserverId>, AllocError>,
+    called: Result<Seq<ObserverId>, AllocError>,
 ) -> Result<Answer, AllocError>
-    ensures { result ≡ observers_answer outcome }
+    ensures { result ≡ observers_answer called }
 {
-    match outcome {
+    match called {
         Ok(ids) => Ok(Answer::Observed(ids)),
         Err(error) => Err(error),
     }
@@ -102,21 +102,21 @@ pub(crate) fn answer_of_observers(
 
 /// The answer of a report.
 pub(crate) fn answer_of_report(
-    outcome: Result<Vec<Fault>, AllocError>,
+    called: Result<Vec<Fault>, AllocError>,
 ) -> Result<Answer, AllocError>
-    ensures { result ≡ report_answer outcome }
+    ensures { result ≡ report_answer called }
 {
-    match outcome {
+    match called {
         Ok(faults) => Ok(Answer::Reported(Seq::from_vec(faults))),
         Err(error) => Err(error),
     }
 }
 
 /// The answer of a look-up, a call or an event.
-pub(crate) fn answer_of_run(outcome: Result<Outcome, Error>) -> Result<Answer, AllocError>
-    ensures { result ≡ outcome_answer outcome }
+pub(crate) fn answer_of_run(called: Result<Outcome, Error>) -> Result<Answer, AllocError>
+    ensures { result ≡ outcome_answer called }
 {
-    match outcome {
+    match called {
         Ok(outcome) => Ok(Answer::Given(outcome)),
         Err(error) => answer_of_failure(error),
     }

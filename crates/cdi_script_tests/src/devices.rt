@@ -1,5 +1,5 @@
 //! Runs over readers and writers that fail, that never end, and that watch each other.
-use crate::fixtures::{STORED_SCRIPT, STORED_TEXT, assert_text, empty_page, fault_of, outcome};
+use crate::fixtures::{STORED_SCRIPT, STORED_TEXT, assert_text, empty_page, fault_of, ending};
 use cdi_container::{Console, Counted, Options, RunFault, run};
 use cdi_devices::SCRIPT_LIMIT;
 use cdi_fixtures::Echo;
@@ -166,8 +166,8 @@ fn reads_that_fail(rt: HostRuntime) -> Result<(), Fail> {
         });
         let mut writer = Counted::new(empty_page(rt.alloc())?);
         let mut console = Console::new(&mut reader, &mut writer);
-        let outcome = run(rt.alloc(), &mut console, OPTIONS, Echo);
-        let is_read = fault_of(outcome)? == Some(RunFault::Read);
+        let ending = run(rt.alloc(), &mut console, OPTIONS, Echo);
+        let is_read = fault_of(ending)? == Some(RunFault::Read);
         assert!(rt; is_read, "after {reads}");
         let count = STORED_SCRIPT.len().min(reads * 5);
         let text = text_of(&CUTS_BY_FAILURE, count).ok_or("no text")?;
@@ -195,8 +195,8 @@ fn a_script_without_end_is_a_failed_read(rt: HostRuntime) -> Result<(), Fail> {
     let mut reader = Counted::new(Endless { asked: 0 });
     let mut writer = Counted::new(empty_page(rt.alloc())?);
     let mut console = Console::new(&mut reader, &mut writer);
-    let outcome = run(rt.alloc(), &mut console, OPTIONS, Echo);
-    let is_read = fault_of(outcome)? == Some(RunFault::Read);
+    let ending = run(rt.alloc(), &mut console, OPTIONS, Echo);
+    let is_read = fault_of(ending)? == Some(RunFault::Read);
     assert!(rt; is_read && writer.into_inner().is_empty());
     let count = reader.count();
     let asked = reader.into_inner().asked;
@@ -239,8 +239,8 @@ fn writes_that_fail(rt: HostRuntime) -> Result<(), Fail> {
                 bytes: empty_page(rt.alloc())?,
             });
             let mut console = Console::new(&mut reader, &mut writer);
-            let outcome = run(rt.alloc(), &mut console, OPTIONS, Echo);
-            let is_write = fault_of(outcome)? == Some(RunFault::Write);
+            let ending = run(rt.alloc(), &mut console, OPTIONS, Echo);
+            let is_write = fault_of(ending)? == Some(RunFault::Write);
             let is_right = is_write && writer.has_failed() && writer.count() == left as u64;
             assert!(rt; is_right, "at {left}");
             let bytes = writer.into_inner().bytes;
@@ -253,7 +253,7 @@ fn writes_that_fail(rt: HostRuntime) -> Result<(), Fail> {
 #[test]
 fn scripts_that_end_early(rt: HostRuntime) -> Result<(), Fail> {
     for count in 0..=STORED_SCRIPT.len() {
-        let (written, _) = outcome(rt.alloc(), &STORED_SCRIPT[..count])?;
+        let (written, _) = ending(rt.alloc(), &STORED_SCRIPT[..count])?;
         let text = text_of(&CUTS_BY_END, count).ok_or("no text")?;
         assert_text(&rt, written.as_slice(), text, &count);
     }

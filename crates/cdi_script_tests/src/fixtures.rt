@@ -20,8 +20,8 @@ pub(crate) fn empty_page(alloc: Global) -> Result<Vec<u8>, AllocError> {
 }
 
 /// Why a run for which there is memory ended before its script's end.
-pub(crate) fn fault_of(outcome: Result<Summary, RunFault>) -> Result<Option<RunFault>, Fail> {
-    match outcome {
+pub(crate) fn fault_of(ending: Result<Summary, RunFault>) -> Result<Option<RunFault>, Fail> {
+    match ending {
         Ok(_) => Ok(None),
         Err(RunFault::Memory) => Err(Fail::new("out of memory")),
         Err(fault) => Ok(Some(fault)),
@@ -29,7 +29,7 @@ pub(crate) fn fault_of(outcome: Result<Summary, RunFault>) -> Result<Option<RunF
 }
 
 /// What the run of a script wrote, and whether a command was refused.
-pub(crate) fn outcome(alloc: Global, script: &[u8]) -> Result<(Vec<u8>, bool), Fail> {
+pub(crate) fn ending(alloc: Global, script: &[u8]) -> Result<(Vec<u8>, bool), Fail> {
     let mut reader = Counted::new(script);
     let mut writer = Counted::new(empty_page(alloc)?);
     let options = Options { quiet: false };

@@ -1,5 +1,5 @@
 //! Scripts with lines, blocks or lists at a limit, or with bytes that no text has, and what they print.
-use crate::fixtures::{assert_text, outcome};
+use crate::fixtures::{assert_text, ending};
 use std::alloc::{AllocError, Global};
 use std::io;
 use std::io::Write;
@@ -135,7 +135,7 @@ fn joined(alloc: Global, pieces: &[Piece]) -> Result<Vec<u8>, AllocError> {
 fn long_scripts_print_their_texts(rt: HostRuntime) -> Result<(), Fail> {
     for row in &LONG_ROWS {
         let script = joined(rt.alloc(), row.script)?;
-        let (written, refused) = outcome(rt.alloc(), script.as_slice())?;
+        let (written, refused) = ending(rt.alloc(), script.as_slice())?;
         assert_text(&rt, written.as_slice(), row.text, &row.name);
         assert!(rt; refused == row.refused, "{}", row.name);
     }
@@ -160,7 +160,7 @@ fn the_513th_declaration_is_refused(rt: HostRuntime) -> Result<(), Fail> {
         text.extend_from_slice(b"ok\n")?;
     }
     text.extend_from_slice(b"refused E10 TooMany\nok\n")?;
-    let (written, refused) = outcome(rt.alloc(), script.as_slice())?;
+    let (written, refused) = ending(rt.alloc(), script.as_slice())?;
     assert_text(&rt, written.as_slice(), text.as_slice(), &"513");
     assert!(rt; refused);
     Ok(())

@@ -110,8 +110,8 @@ module _ {File : Type 0} (left : File → Option (List ℕ)) where
 module _ {File O : Type 0} (left : File → Option (List ℕ)) (held : O → Option (List ℕ)) (limit piece : ℕ) (setting : Setting) where
   -- the path was opened and its script came to this, or it was refused for that fault and nothing was written
   abbrev pub FileComesTo : Option (List ℕ) → (opening.ErrorKind → Type 0) → Counted O → Counted O → Result Summary RunFault → Type 0
-  FileComesTo bytes refuses output output_after outcome = OfFile left bytes (ComesTo held limit piece setting output output_after outcome)
-      ⊎ ((kind : opening.ErrorKind) × refuses kind × (outcome ≡ Err (fault_of_open kind)) × (output_after ≡ output))
+  FileComesTo bytes refuses output output_after ending = OfFile left bytes (ComesTo held limit piece setting output output_after ending)
+      ⊎ ((kind : opening.ErrorKind) × refuses kind × (ending ≡ Err (fault_of_open kind)) × (output_after ≡ output))
 
 -- ---- the program
 
@@ -122,19 +122,19 @@ IsInput script = script ≡ codes "-"
 module _ {I File O E : Type 0} (contents_at : Text → Option (List ℕ)) (refuses : Text → opening.ErrorKind → Type 0)
     (input_left : I → Option (List ℕ)) (file_left : File → Option (List ℕ))
     (held : O → Option (List ℕ)) (told : E → Option (List ℕ)) (limit piece : ℕ) (book : List Promised) where
-  -- the words mean options, the script that they name came to an outcome, a fault was told, and the status says which
+  -- the words mean options, the script that they name came to this, a fault was told, and the status says which
   pub record RunsWords (words : List Text) (input input_after : Counted I) (output output_after : Counted O)
       (errors errors_after : Counted E) (status : ℕ) : Type 0 where
     pub options : Arguments
     pub means : Means (matches_of script_app words) options
-    pub outcome : Result Summary RunFault
+    pub ending : Result Summary RunFault
     pub from_input : IsInput options.script.now
-        → ComesTo held limit piece (setting_with options.quiet book) output output_after outcome I input_left input input_after
+        → ComesTo held limit piece (setting_with options.quiet book) output output_after ending I input_left input input_after
     pub from_file : ¬ IsInput options.script.now → (input_after ≡ input)
         × FileComesTo file_left held limit piece (setting_with options.quiet book) (contents_at options.script.now)
-        (refuses options.script.now) output output_after outcome
-    pub complaint : MatchResult outcome (λ _. errors_after ≡ errors) (λ fault. Tells told errors errors_after (text_of_fault fault))
-    pub status_is : status ≡ status_of options.strict outcome
+        (refuses options.script.now) output output_after ending
+    pub complaint : MatchResult ending (λ _. errors_after ≡ errors) (λ fault. Tells told errors errors_after (text_of_fault fault))
+    pub status_is : status ≡ status_of options.strict ending
 
 module _ {E : Type 0} where
   -- the kinds of `clap` ask for help, nothing is complained of, and the status is 0

@@ -49,11 +49,11 @@ pub fn session<F: Files, S: AsStr, B: Bodies + Drop, I: Read, O: Write, E: Write
 {
     match options(alloc, words) {
         Ok(options) => {
-            let outcome = run_script(rt, alloc, book, &options, input, output);
-            if let Err(fault) = outcome {
+            let ending = run_script(rt, alloc, book, &options, input, output);
+            if let Err(fault) = ending {
                 tell_fault(fault, errors);
             }
-            status_of(options.strict, outcome)
+            status_of(options.strict, ending)
         }
         Err(error) => refuse_line(&error, output, errors),
     }
@@ -127,10 +127,10 @@ fn run_from<B: Bodies + Drop, R: Read, O: Write>(
     run(alloc, &mut console, settings, book)
 }
 
-fn status_of(strict: bool, outcome: Result<Summary, RunFault>) -> u8
-    ensures { result ≡ status_of strict outcome }
+fn status_of(strict: bool, ending: Result<Summary, RunFault>) -> u8
+    ensures { result ≡ status_of strict ending }
 {
-    match outcome {
+    match ending {
         Ok(summary) => u8::from(strict && summary.refused),
         Err(RunFault::Read) | Err(RunFault::Write) => 3,
         Err(RunFault::Memory) => 4,

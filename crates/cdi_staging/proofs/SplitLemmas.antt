@@ -19,10 +19,12 @@ use Rattle.cdi_effective.specs.declared.records.Effective.{Effective}
 use Rattle.cdi_resolve.specs.declared.choice.Choice.{Choice}
 use Rattle.cdi_intercept.specs.Chains.{interceptors, is_enabled}
 use Rattle.cdi_observe.specs.Answers.{answer_to, answers_of}
-use Rattle.cdi_observe.specs.Wanted.{observer_choices, own_choices, params_of, points_of, product_choices}
+use Rattle.cdi_observe.specs.Wanted.{points_of}
+use Rattle.cdi_subjects.specs.Sites.{declared_points, params_of}
+use Rattle.cdi_subjects.proofs.AnsweredLemmas.{points-declared}
 use Rattle.cdi_staging.specs.Sites.{Sight, target_of, own_sight}
 use Rattle.cdi_staging.specs.Staged.{Around, Class, around_of, class_of, targets, sight_of, managed_bean, product_bean, products_by}
-use Rattle.cdi_staging.specs.Staged.{beans_by}
+use Rattle.cdi_staging.specs.Staged.{beans_by, observer_choices, own_choices, product_choices}
 use Rattle.cdi_staging.specs.Staged.{observers_by, staged_beans, staged_managed, staged_observer, staged_product}
 use Rattle.cdi_staging.specs.declared.target.Target.{Target}
 
@@ -75,7 +77,7 @@ observers-staged ds book bean (o ∷ os) =
 
 -- the beans that records and choices give are those of the declaration
 pub beans-staged : (ds : List Decl) (book : List Promised) (bean : BeanDecl)
-    → beans_by ds (beans ds) book (around_of ds) bean (records ds bean) (targets ds (points_of (decls.Bean bean)))
+    → beans_by ds (beans ds) book (around_of ds) bean (records ds bean) (targets ds (declared_points (decls.Bean bean)))
     ≡ staged_beans ds book (decls.Bean bean)
 unfolding staged_beans
 beans-staged ds book bean =
@@ -125,8 +127,9 @@ pub by-records : {A : Type 0} (value : A → Choice) (ds : List Decl) (list : Li
     → chosen ≡ map (λ answer. target_of list (value answer)) answers
     → beans_by ds list book around bean xs chosen ≡ staged_beans ds book d
 by-records value ds list book around bean d xs answers chosen all enabled is are answered made =
-    let of_points : chosen ≡ targets ds (points_of (decls.Bean bean)) = chosen-targets value ds list d answers chosen all answered made
-    ∙ ap (λ e. targets ds (points_of e)) is in
+    let of_points : chosen ≡ targets ds (declared_points (decls.Bean bean)) =
+    chosen-targets value ds list d answers chosen all answered made
+    ∙ ap (λ e. targets ds (points_of e)) is ∙ ap (targets ds) (points-declared (decls.Bean bean)) in
     ap (λ l. beans_by ds l book around bean xs chosen) all
     ∙ ap (λ a. beans_by ds (beans ds) book a bean xs chosen) enabled
     ∙ ap (λ ys. beans_by ds (beans ds) book (around_of ds) bean ys chosen) (are ∙ ap (entries ds) is)

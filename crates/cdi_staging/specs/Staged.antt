@@ -38,7 +38,7 @@ use Rattle.cdi_effective.specs.declared.records.Effective.{Effective}
 use Rattle.cdi_intercept.specs.Chains.{in_order, surrounds, surrounds_one}
 use Rattle.cdi_intercept.specs.Sets.{set_by, sets_of}
 use Rattle.cdi_observe.specs.Answers.{answer_to}
-use Rattle.cdi_observe.specs.Wanted.{observer_choices, own_choices, product_choices}
+use Rattle.cdi_subjects.specs.Sites.{params_of}
 use Rattle.cdi_staging.specs.Notifying.{fired_at}
 use Rattle.cdi_staging.specs.Sites.{Sight, target_of, own_sight, method_sight, position_of_class, site_of}
 use Rattle.cdi_staging.specs.declared.target.Target.{Target}
@@ -269,6 +269,17 @@ observers_by ds list book own c [] targets = []
 observers_by ds list book own c (o ∷ os) targets =
     staged_observer ds list book own c o (take (length o.params) targets)
     ∷ observers_by ds list book own c os (drop (length o.params) targets)
+
+-- of what stands in the order of the points of a bean, that of its own points, behind it that of the parameters of its producer
+-- methods, and behind that that of the parameters of its observer methods
+abbrev pub own_choices : {A : Type 0} → BeanDecl → List A → List A
+own_choices bean choices = take (length bean.points) choices
+
+abbrev pub product_choices : {A : Type 0} → BeanDecl → List A → List A
+product_choices bean choices = take (length (params_of bean.producers)) (drop (length bean.points) choices)
+
+abbrev pub observer_choices : {A : Type 0} → BeanDecl → List A → List A
+observer_choices bean choices = drop (length (params_of bean.producers)) (drop (length bean.points) choices)
 
 -- the beans of a declaration: what is chosen for the bean's own injection points stands in front, behind it what is for the
 -- parameters of its producer methods, and behind that what is for those of its observer methods

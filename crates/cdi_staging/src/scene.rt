@@ -1,10 +1,11 @@
 //! The scene of a deployment.
-ghost use Rattle.std.specs.Prelude.{◌≡◌, ◌++◌, List, length, map, IfOk, OnOk};
+ghost use Rattle.std.specs.Prelude.{◌≡◌, ◌++◌, List, length, map, take, drop, IfOk, OnOk};
 ghost use Rattle.std.specs.List.{flat_map};
 ghost use Rattle.cdi_model.specs.declared.decl.Decl.{Decl as AnyDecl};
 ghost use Rattle.cdi_effective.specs.Beans.{beans as beans_of, entries};
 ghost use Rattle.cdi_observe.specs.Answers.{answers as all_answers, answer_to};
-ghost use Rattle.cdi_observe.specs.Wanted.{params_of, points_of};
+ghost use Rattle.cdi_observe.specs.Wanted.{points_of};
+ghost use Rattle.cdi_subjects.specs.Sites.{declared_points, params_of};
 ghost use Rattle.cdi_model.specs.declared.decl.Decl.TheVariants as decls;
 ghost use Rattle.cdi_staging.specs.Faultless.{FaultlessIsSound};
 ghost use Rattle.cdi_staging.specs.Lookups.{ChosenHasMethods, ChosenStands};
@@ -18,8 +19,7 @@ use crate::stage::Stage;
 use crate::target::{Target, targets_of};
 use cdi_bodies::Bodies;
 use cdi_effective::Effective;
-use cdi_model::{BeanDecl, Decl, Decls, Seq};
-use cdi_observe::split_params;
+use cdi_model::{BeanDecl, Decl, Decls, ProducerDecl, Seq};
 use cdi_resolve::{BeanList, Choice};
 use cdi_scene::{Bean, Scene};
 use std::alloc::{AllocError, Global};
@@ -67,6 +67,19 @@ pub(crate) fn record_count(decl: &Decl) -> usize
         Decl::Bean(bean) => 1 + bean.producers.as_slice().len(),
         _ => 0,
     }
+}
+
+/// Of what is chosen for the parameters of the producer methods of a bean and behind them for those of its observer
+/// methods, that for the former and that for the latter.
+fn split_params<'a, T>(producers: &[ProducerDecl], chosen: &'a [T]) -> (&'a [T], &'a [T])
+    ensures products { result.0.now ≡ take (length (params_of producers.now)) chosen.now }
+    ensures observers { result.1.now ≡ drop (length (params_of producers.now)) chosen.now }
+{
+    let mut count: usize = 0;
+    for producer in producers {
+        count = count.saturating_add(producer.params.len());
+    }
+    chosen.split_at(count.min(chosen.len()))
 }
 
 impl<'a, B: Bodies> Stage<'a, B> {
@@ -122,7 +135,7 @@ impl<'a, B: Bodies> Stage<'a, B> {
         targets: &[Target],
         list: &mut Vec<Bean>,
     ) -> Result<(), AllocError>
-        requires { length targets.now ≡ length (points_of (decls.Bean bean.now)) }
+        requires { length targets.now ≡ length (declared_points (decls.Bean bean.now)) }
         ensures { OnOk result (list.new.items ≡ list.old.items
             ++ beans_by self.now.decls.now self.now.beans.now (B.promises self.now.book.now)
             (map around_in self.now.around.now) bean.now records.now targets.now) }

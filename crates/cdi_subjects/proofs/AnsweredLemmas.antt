@@ -33,12 +33,13 @@ use Rattle.cdi_model.specs.Mentions.{of_producer, of_qualifiers, part_place_of}
 use Rattle.cdi_effective.specs.declared.records.Effective.{Effective}
 use Rattle.cdi_resolve.specs.declared.choice.Choice.{Choice}
 use Rattle.cdi_resolve.specs.declared.choice.Choice.TheVariants as choices_are
-use Rattle.cdi_observe.specs.Wanted.{params_of, points_of}
+use Rattle.cdi_observe.specs.Wanted.{point_named, points_of}
 use Rattle.cdi_faults.specs.declared.fault.Subject.{Subject}
 use Rattle.cdi_faults.specs.declared.fault.Subject.TheVariants as subjects
 use Rattle.cdi_subjects.specs.Answered.{call_by, calls_by, choice_beside, is_begin, points_by}
 use Rattle.cdi_subjects.specs.Filter.{found_in, is_enabled_in, producer_of_part, producer_of_point, some_if}
-use Rattle.cdi_subjects.specs.Sites.{choice_at, is_lost_among, lost_in, lost_sites, own_points, own_seen}
+use Rattle.cdi_subjects.specs.Sites.{choice_at, declared_points, is_lost_among, lost_in, lost_sites, observed, own_points, own_seen}
+use Rattle.cdi_subjects.specs.Sites.{params_of}
 use Rattle.cdi_subjects.specs.Subjects.{has_verdict, may_have, point_in, points_at_fault}
 use Rattle.cdi_subjects.specs.declared.points.Verdict.{Verdict}
 use Rattle.cdi_subjects.specs.declared.points.Verdict.TheVariants as verdicts
@@ -179,9 +180,6 @@ disposers-listed since points (s ∷ xs) ms listed =
     (uses-listed since points uses.Qualifier s.qualifiers (body ++ (others ++ ms))
     (disposers-listed since points xs ms listed)))
 
-abbrev pub observed : List ObserverDecl → List PointDecl
-observed observers = flat_map (λ o. o.params) observers
-
 observers-listed : (since : List PointDecl) (xs : List ObserverDecl) → AreListed since (observed xs) (flat_map of_observer xs)
 observers-listed since [] = refl
 observers-listed since (o ∷ xs) =
@@ -200,7 +198,7 @@ observers-listed since (o ∷ xs) =
     (part-listed o.params left (parts_are.Observer o.name) o.params o.part others ([], sym (append-nil o.params))
     (observers-listed o.params xs)))))))
 
-bean-listed : (bean : BeanDecl) → AreListed [] (points_of (decls.Bean bean)) (mentions (decls.Bean bean))
+bean-listed : (bean : BeanDecl) → AreListed [] (declared_points (decls.Bean bean)) (mentions (decls.Bean bean))
 unfolding mentions
 bean-listed bean =
     let attributes = of_attributes None bean.attributes in
@@ -243,18 +241,18 @@ bean-listed bean =
 end : (since : List PointDecl) (ms : List Mention) → AreListed since [] (ms ++ []) → AreListed since [] ms
 end since ms listed = subst (AreListed since []) (append-nil ms) listed
 
-pub all-listed : (d : Decl) → AreListed [] (points_of d) (mentions d)
+declared-listed : (d : Decl) → AreListed [] (declared_points d) (mentions d)
 unfolding mentions
-all-listed (decls.Type d) =
+declared-listed (decls.Type d) =
     types-listed [] [] types_are.Extends (option_to_list d.extends) (map (TypeIn types_are.Implements) d.implements) refl
     (end [] (map (TypeIn types_are.Implements) d.implements) (types-listed [] [] types_are.Implements d.implements [] refl refl))
-all-listed (decls.Qualifier d) = refl
-all-listed (decls.Binding d) = end [] (of_bindings d.declares) (uses-listed [] [] uses.Binding d.declares [] refl)
-all-listed (decls.Stereotype d) =
+declared-listed (decls.Qualifier d) = refl
+declared-listed (decls.Binding d) = end [] (of_bindings d.declares) (uses-listed [] [] uses.Binding d.declares [] refl)
+declared-listed (decls.Stereotype d) =
     stereotypes-listed [] [] d.stereotypes (of_bindings d.bindings)
     (end [] (of_bindings d.bindings) (uses-listed [] [] uses.Binding d.bindings [] refl))
-all-listed (decls.Bean d) = bean-listed d
-all-listed (decls.Interceptor d) =
+declared-listed (decls.Bean d) = bean-listed d
+declared-listed (decls.Interceptor d) =
     let bindings = of_bindings d.bindings in
     let own = flat_map (of_point points_are.Constructor) d.points in
     let invoke = of_parts parts_are.AroundInvoke d.around_invoke in
@@ -271,6 +269,22 @@ all-listed (decls.Interceptor d) =
     (parts-listed d.points [] parts_are.AroundConstruct d.around_construct (post ++ pre)
     (parts-listed d.points [] parts_are.Post d.post pre
     (end d.points pre (parts-listed d.points [] parts_are.Pre d.pre [] refl))))))))))
+
+-- those that are listed are those that are named
+listed-named : (since points : List PointDecl) (ms : List Mention) → AreListed since points ms → points ≡ flat_map point_named ms
+listed-named since points [] listed = listed
+listed-named since points (PointOf place p ∷ ms) (rest, is, listed) =
+    is ∙ ap (λ ps. p ∷ ps) (listed-named (since ++ p ∷ []) rest ms listed)
+listed-named since points (TypeIn place t ∷ ms) listed = listed-named (cond (is_begin place) [] since) points ms listed
+listed-named since points (CallOf place params call ∷ ms) (front, listed) = listed-named since points ms listed
+listed-named since points (other ∷ ms) listed = listed-named since points ms listed
+
+-- the points of a declaration stand in the order in which they are declared
+pub points-declared : (d : Decl) → points_of d ≡ declared_points d
+points-declared d = sym (listed-named [] (declared_points d) (mentions d) (declared-listed d))
+
+pub all-listed : (d : Decl) → AreListed [] (points_of d) (mentions d)
+all-listed d = subst (λ ps. AreListed [] ps (mentions d)) (sym (points-declared d)) (declared-listed d)
 
 -- ---- injection points
 
@@ -403,10 +417,15 @@ calls-found ds answer bs d others since points (other ∷ ms) listed = calls-fou
 
 -- the points of a bean or an interceptor itself stand before the others of its declaration
 pub own-first : (d : Decl) → (others : List PointDecl) × (points_of d ≡ own_points d ++ others)
-own-first (decls.Interceptor d) = ([], sym (append-nil d.points))
-own-first (decls.Bean bean) =
-    (params_of bean.producers ++ observed bean.observers, append_assoc bean.points (params_of bean.producers) (observed bean.observers))
-own-first other = ([], refl)
+own-first d = by d (points-declared d)
+  where
+    by : (e : Decl) → points_of e ≡ declared_points e → (others : List PointDecl) × (points_of e ≡ own_points e ++ others)
+    by (decls.Interceptor i) is = ([], is ∙ sym (append-nil i.points))
+    by (decls.Bean bean) is = (
+      params_of bean.producers ++ observed bean.observers,
+      is ∙ append_assoc bean.points (params_of bean.producers) (observed bean.observers),
+    )
+    by other is = ([], is)
 
 -- the call sites that are lost by the answers in their order are those that are by what is chosen for each point
 pub calls_answered : (ds : List Decl) (answer : PointDecl → Choice) (bs : List Effective) (d : Decl)

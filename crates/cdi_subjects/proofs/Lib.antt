@@ -1,4 +1,5 @@
 pub mod AnsweredLemmas
+pub mod GlanceLemmas
 pub mod Laws
 pub mod PushLemmas
 pub mod RecordLemmas

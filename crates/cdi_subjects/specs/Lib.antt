@@ -1,6 +1,7 @@
 pub mod Answered
 pub mod Asked
 pub mod Filter
+pub mod Glance
 pub mod Parts
 pub mod Proxies
 pub mod Records

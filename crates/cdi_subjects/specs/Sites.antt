@@ -1,14 +1,16 @@
 -- What is at fault of the call sites of a bean or an interceptor.
 use Rattle.std.specs.Prelude.{ℕ, Bool, true, false, not, ◌&&◌, List, [], ◌++◌, codes, Option, Some, None}
 use Rattle.std.specs.Prelude.{is_some, option_map, if◌then◌else◌}
-use Rattle.std.specs.List.{find, list_any}
+use Rattle.std.specs.List.{find, flat_map, list_any}
 use Rattle.std.specs.Str.{bytes_eq}
 use Rattle.cdi_model.specs.declared.decl.BeanDecl.{BeanDecl}
 use Rattle.cdi_model.specs.declared.decl.CallDecl.{CallDecl}
 use Rattle.cdi_model.specs.declared.decl.Decl.{Decl}
 use Rattle.cdi_model.specs.declared.decl.Decl.TheVariants as decls
 use Rattle.cdi_model.specs.declared.decl.MethodDecl.{MethodDecl}
+use Rattle.cdi_model.specs.declared.decl.ObserverDecl.{ObserverDecl}
 use Rattle.cdi_model.specs.declared.decl.PointDecl.{PointDecl}
+use Rattle.cdi_model.specs.declared.decl.ProducerDecl.{ProducerDecl}
 use Rattle.cdi_model.specs.declared.place.PartPlace.{PartPlace}
 use Rattle.cdi_model.specs.declared.place.PartPlace.TheVariants as places
 use Rattle.cdi_model.specs.Mentions.{Mention, CallOf}
@@ -39,6 +41,20 @@ lacks_method ds method (One id) = not (has_method ds id method)
 lacks_method ds method _ = false
 
 -- ---- points
+
+-- the parameters of producer methods, and of observer methods
+abbrev pub params_of : List ProducerDecl → List PointDecl
+params_of producers = flat_map (λ producer. producer.params) producers
+
+abbrev pub observed : List ObserverDecl → List PointDecl
+observed observers = flat_map (λ observer. observer.params) observers
+
+-- the injection points of a declaration by where they are declared: those of a bean, and behind them the parameters of its producer
+-- methods and of its observer methods; those of an interceptor
+abbrev pub declared_points : Decl → List PointDecl
+declared_points (decls.Bean bean) = bean.points ++ params_of bean.producers ++ observed bean.observers
+declared_points (decls.Interceptor interceptor) = interceptor.points
+declared_points d = []
 
 -- the injection points of a bean or an interceptor itself
 abbrev pub own_points : Decl → List PointDecl

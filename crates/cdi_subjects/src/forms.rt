@@ -3,7 +3,7 @@ ghost use Rattle.std.specs.Prelude.{◌≡◌, Some, IfOk};
 ghost use Rattle.std.specs.Str.{bytes_eq};
 ghost use Rattle.cdi_model.specs.declared.decl.Kind.TheVariants as kinds;
 ghost use Rattle.cdi_model.specs.DeclList.{find_decl};
-ghost use Rattle.cdi_model.specs.Mentions.{TypeIn};
+ghost use Rattle.cdi_model.specs.Mentions.{shown, TypeIn};
 ghost use Rattle.cdi_match.specs.Types.{object};
 ghost use Rattle.cdi_subjects.specs.Subjects.{bad_kind_in, bad_kinds, form_of, is_class, is_interface, is_interface_form};
 ghost use Rattle.cdi_subjects.specs.Subjects.{is_unbound, reaches_itself, whole_if};
@@ -59,13 +59,21 @@ pub(crate) fn bad_kinds(
 {
     let mut subjects = Vec::new(alloc);
     for mention in decl.mentions() {
-        if let Mention::Type(place, name) = mention {
-            if let Some(subject) = bad_kind_at(decls, decl, place, name) {
-                subjects.push(subject)?;
-            }
+        if let Some(subject) = bad_kind_in(decls, decl, &mention) {
+            subjects.push(subject)?;
         }
     }
     Ok(subjects)
+}
+
+/// What is named in a place, where it is a type of the wrong form.
+pub(crate) fn bad_kind_in(decls: &Decls, decl: &Decl, mention: &Mention<'_>) -> Option<Subject>
+    ensures { result ≡ bad_kind_in decls.now decl.now (shown mention.now) }
+{
+    match mention {
+        Mention::Type(place, name) => bad_kind_at(decls, decl, *place, *name),
+        _ => None,
+    }
 }
 
 /// A type that a declaration names in a place, where it is of the wrong form.

@@ -7,6 +7,7 @@ mod conflicts;
 mod disposing;
 mod enabled;
 mod forms;
+mod glance;
 mod points;
 mod proxies;
 mod sites;
@@ -16,6 +17,7 @@ mod typing;
 mod unknown;
 mod used;
 
+pub use glance::Glance;
 pub use sites::has_method;
 pub use subjects::subjects_at_fault;
 pub use unknown::are_known;

@@ -25,7 +25,7 @@ pub(crate) fn is_unproxyable<V: View>(view: &V, point: &PointDecl, choice: &Choi
 }
 
 /// Whether it is a declared class that may have no subclass.
-fn is_final(decls: &Decls, name: Name) -> bool
+pub(crate) fn is_final(decls: &Decls, name: Name) -> bool
     ensures { result ≡ is_final decls.now name }
 {
     match decls.get(Kind::Type, name) {

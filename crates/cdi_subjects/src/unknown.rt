@@ -31,7 +31,7 @@ pub(crate) fn unknown_names(
 }
 
 /// What is named in a place, where it is unknown.
-fn unknown_in(decls: &Decls, mention: &Mention<'_>) -> Option<Subject>
+pub(crate) fn unknown_in(decls: &Decls, mention: &Mention<'_>) -> Option<Subject>
     ensures { result ≡ unknown_in decls.now (shown mention.now) }
 {
     match mention {

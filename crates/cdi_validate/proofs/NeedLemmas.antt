@@ -1,5 +1,5 @@
 -- What beans need, as it is found: the dependent beans by their texts, and the edges between them.
-use Rattle.std.proofs.Common.{◌≡◌, ℕ, Bool, true, false, ◌||◌, cond, List, [], ◌∷◌, ◌++◌, map, filter, fold, length, take, drop, refl, sym}
+use Rattle.std.proofs.Common.{◌≡◌, ℕ, Bool, true, false, ◌||◌, cond, List, [], ◌∷◌, ◌++◌, map, filter, fold, refl, sym}
 use Rattle.std.proofs.Common.{◌⊎◌, ⊎_elim, ap, ◌∙◌, subst, append_assoc, append-nil, Option, Ordering, Less, Equal, Greater}
 use Rattle.std.specs.BTreeMap.{insert_entry, is_at}
 use Rattle.std.specs.BTreeSet.{insert_key}
@@ -10,7 +10,6 @@ use Rattle.std.specs.Option.{is_some, option_to_list}
 use Rattle.std.specs.Str.{bytes_eq}
 use Rattle.std.proofs.Math.Bool.{or-false, or_assoc, or_comm}
 use Rattle.std.proofs.lemmas.Grind.{flat_map-append}
-use Rattle.std.proofs.lemmas.List.{map-append, take_at, drop_at, length-map}
 use Rattle.std.proofs.lemmas.List.Elements.{filter-append, filter_agree}
 use Rattle.std.proofs.lemmas.List.Kept.{IsStrictlySortedBy-filter}
 use Rattle.std.proofs.lemmas.Map.Made.{is_some-lookup}
@@ -21,7 +20,7 @@ use Rattle.cdi_model.specs.declared.decl.Decl.{Decl}
 use Rattle.cdi_model.specs.declared.decl.Decl.TheVariants as decls
 use Rattle.cdi_model.specs.declared.decl.InterceptorDecl.{InterceptorDecl}
 use Rattle.cdi_model.specs.declared.decl.PointDecl.{PointDecl}
-use Rattle.cdi_model.specs.declared.decl.ProducerDecl.{ProducerDecl}
+use Rattle.cdi_model.specs.Mentions.{Mention, BodyOf, CallOf, PointOf, TypeIn, mentions}
 use Rattle.cdi_match.specs.Chain.{has}
 use Rattle.cdi_match.specs.Order.{in_order}
 use Rattle.cdi_match.proofs.Names.{has-by_order, one_name}
@@ -34,11 +33,13 @@ use Rattle.cdi_effective.specs.declared.records.Effective.{Effective}
 use Rattle.cdi_intercept.specs.Chains.{is_enabled, stands_around}
 use Rattle.cdi_resolve.specs.declared.choice.Choice.{Choice}
 use Rattle.cdi_observe.specs.Answers.{answer_to}
-use Rattle.cdi_observe.specs.Wanted.{params_of, points_of}
-use Rattle.cdi_validate.specs.Circles.{Need, between, chosen_for, chosen_one, circular, declaring, dependents, dependents_by_text}
-use Rattle.cdi_validate.specs.Circles.{is_dependent, managed_id, need_around, need_of_managed, need_of_product, needed_by, needs_in}
+use Rattle.cdi_observe.specs.Wanted.{points_of}
+use Rattle.cdi_subjects.specs.Answered.{is_begin}
+use Rattle.cdi_subjects.proofs.AnsweredLemmas.{all-listed, points-declared, AreListed}
+use Rattle.cdi_validate.specs.Circles.{Need, between, chosen_for, chosen_one, circular, dependents, dependents_by_text}
+use Rattle.cdi_validate.specs.Circles.{is_dependent, made_behind, managed_id, need_around, need_in, needed_by, needs_in, needs_to_run}
 use Rattle.cdi_validate.specs.Circles.{needs_itself, with_dependent}
-use Rattle.cdi_validate.specs.Needed.{need_by, needs_by, needs_of_products, AddsNeeds}
+use Rattle.cdi_validate.specs.Needed.{needs_along, needs_by, AddsNeeds}
 
 abbrev Entries : Type 0
 Entries = List (List ℕ × BeanId)
@@ -204,17 +205,9 @@ adds_more nodes old new some more adds x =
     ∙ append_assoc (next_in old x) (between nodes some x) (between nodes more x)
     ∙ ap (λ ys. next_in old x ++ ys) (sym (between-append nodes some more x))
 
--- those of one need, which is told by answers that stand in front of others
-pub adds_first : (nodes : List (List ℕ)) (old new : Edges) (id of_bean : BeanId) (first declares : Option BeanId)
-    (front own back behind : List Choice) (more : List Choice → List Need) → id ≡ of_bean → first ≡ declares → front ≡ own → back ≡ behind
-    → AddsNeeds nodes (need_by id first front ∷ []) old new
-    → (x : List ℕ) → next_in new x ++ between nodes (more back) x
-    ≡ next_in old x ++ between nodes (need_by of_bean declares own ∷ more behind) x
-adds_first nodes old new id of_bean first declares front own back behind more ids firsts fronts backs adds x =
-    adds_more nodes old new (need_by id first front ∷ []) (more back) adds x
-    ∙ ap (λ needs. next_in old x ++ between nodes needs x)
-    (ap (λ i. need_by i first front ∷ more back) ids ∙ ap (λ f. need_by of_bean f front ∷ more back) firsts
-    ∙ ap (λ cs. need_by of_bean declares cs ∷ more back) fronts ∙ ap (λ cs. need_by of_bean declares own ∷ more cs) backs)
+-- none add no edge
+pub adds_none : (nodes : List (List ℕ)) (edges : Edges) → AddsNeeds nodes [] edges edges
+adds_none nodes edges x = sym (append-nil (next_in edges x)) ∙ ap (λ ys. next_in edges x ++ ys) (sym (between-none nodes x))
 
 -- a bean whose entry has now these behind what it had
 pub need_added : (nodes : List (List ℕ)) (old new : List ℕ → List (List ℕ)) (node : List ℕ) (needed items : List (List ℕ))
@@ -240,45 +233,25 @@ chosen_by_answers : (ds : List Decl) (points : List PointDecl)
 chosen_by_answers ds [] = refl
 chosen_by_answers ds (p ∷ ps) = ap (λ xs. chosen_one (answer_to ds p) ++ xs) (chosen_by_answers ds ps)
 
--- they stand in front of those to others
-chosen_in_front : (ds : List Decl) (points others : List PointDecl)
-    → flat_map chosen_one (take (length points) (map (answer_to ds) (points ++ others))) ≡ chosen_for ds points
-chosen_in_front ds points others =
-    ap (λ cs. flat_map chosen_one (take (length points) cs)) (map-append (answer_to ds) points others)
-    ∙ ap (flat_map chosen_one) (take_at (map (answer_to ds) points) (map (answer_to ds) others) (length points)
-    (length-map points (answer_to ds)))
-    ∙ chosen_by_answers ds points
-
-others_behind : (ds : List Decl) (points others : List PointDecl)
-    → drop (length points) (map (answer_to ds) (points ++ others)) ≡ map (answer_to ds) others
-others_behind ds points others =
-    ap (drop (length points)) (map-append (answer_to ds) points others)
-    ∙ drop_at (map (answer_to ds) points) (map (answer_to ds) others) (length points) (length-map points (answer_to ds))
-
--- those of others, as of observer methods, may stand behind them
-needs_of_each : (ds : List Decl) (d : BeanDecl) (ps : List ProducerDecl) (behind : List PointDecl)
-    → needs_of_products d ps (map (answer_to ds) (params_of ps ++ behind)) ≡ map (need_of_product ds d) ps
-needs_of_each ds d [] behind = refl
-needs_of_each ds d (p ∷ ps) behind =
-    let others = params_of ps ++ behind in
-    let first = (need_of_product ds d p).0 in
-    let maker = map text_of_id (option_to_list (declaring d p)) in
-    ap (λ points. needs_of_products d (p ∷ ps) (map (answer_to ds) points)) (append_assoc p.params (params_of ps) behind)
-    ∙ ap (λ xs. (first, maker ++ xs) ∷ needs_of_products d ps (drop (length p.params) (map (answer_to ds) (p.params ++ others))))
-    (chosen_in_front ds p.params others)
-    ∙ ap (λ cs. need_of_product ds d p ∷ needs_of_products d ps cs) (others_behind ds p.params others)
-    ∙ ap (λ ns. need_of_product ds d p ∷ ns) (needs_of_each ds d ps behind)
+-- along what a declaration names its beans need for each place what is chosen there, and what runs
+needs-found : (ds : List Decl) (d : BeanDecl) (since points : List PointDecl) (ms : List Mention) → AreListed since points ms
+    → needs_along d (map (answer_to ds) points) ms ≡ flat_map (need_in ds d) ms
+needs-found ds d since points [] listed = refl
+needs-found ds d since points (PointOf place p ∷ ms) (rest, is, listed) =
+    rw is (ap (λ chosen. map (λ id. (text_of_id id, chosen)) (option_to_list (made_behind d place))
+    ++ needs_along d (map (answer_to ds) rest) ms) (append-nil (chosen_one (answer_to ds p)))
+    ∙ ap (λ l. need_in ds d (PointOf place p) ++ l) (needs-found ds d (since ++ p ∷ []) rest ms listed))
+needs-found ds d since points (TypeIn place t ∷ ms) listed = needs-found ds d (cond (is_begin place) [] since) points ms listed
+needs-found ds d since points (CallOf place params call ∷ ms) (front, listed) = needs-found ds d since points ms listed
+needs-found ds d since points (BodyOf place body ∷ ms) listed =
+    ap (λ l. needs_to_run d place ++ l) (needs-found ds d since points ms listed)
+needs-found ds d since points (other ∷ ms) listed = needs-found ds d since points ms listed
 
 -- by the answers to its points the beans of a declaration need what they need
 pub needs_by_answers : (ds : List Decl) (d : Decl) → needs_by ds d (map (answer_to ds) (points_of d)) ≡ needs_in ds d
-needs_by_answers ds (decls.Interceptor i) = ap (λ xs. flat_map (need_around ds i xs) ds) (chosen_by_answers ds i.points)
+needs_by_answers ds (decls.Interceptor i) =
+    ap (λ points. flat_map (need_around ds i (flat_map chosen_one (map (answer_to ds) points))) ds) (points-declared (decls.Interceptor i))
+    ∙ ap (λ xs. flat_map (need_around ds i xs) ds) (chosen_by_answers ds i.points)
 needs_by_answers ds (decls.Bean d) =
-    let behind = flat_map (λ o. o.params) d.observers in
-    let others = params_of d.producers ++ behind in
-    ap (λ points. needs_by ds (decls.Bean d) (map (answer_to ds) points)) (append_assoc d.points (params_of d.producers) behind)
-    ∙ ap (λ xs. (text_of_id (managed_id d), xs)
-    ∷ needs_of_products d d.producers (drop (length d.points) (map (answer_to ds) (d.points ++ others))))
-    (chosen_in_front ds d.points others)
-    ∙ ap (λ cs. need_of_managed ds d ∷ needs_of_products d d.producers cs) (others_behind ds d.points others)
-    ∙ ap (λ ns. need_of_managed ds d ∷ ns) (needs_of_each ds d d.producers behind)
+    needs-found ds d [] (points_of (decls.Bean d)) (mentions (decls.Bean d)) (all-listed (decls.Bean d))
 needs_by_answers ds other = refl

@@ -11,9 +11,13 @@ use Rattle.cdi_model.specs.declared.decl.Decl.{Decl}
 use Rattle.cdi_model.specs.declared.decl.Decl.TheVariants as decls
 use Rattle.cdi_model.specs.declared.decl.InterceptorDecl.{InterceptorDecl}
 use Rattle.cdi_model.specs.declared.decl.PointDecl.{PointDecl}
-use Rattle.cdi_model.specs.declared.decl.ProducerDecl.{ProducerDecl}
 use Rattle.cdi_model.specs.declared.decl.Scope.{Scope}
 use Rattle.cdi_model.specs.declared.decl.Scope.TheVariants as scopes
+use Rattle.cdi_model.specs.declared.mention.PointPlace.{PointPlace}
+use Rattle.cdi_model.specs.declared.mention.PointPlace.TheVariants as points
+use Rattle.cdi_model.specs.declared.place.PartPlace.{PartPlace}
+use Rattle.cdi_model.specs.declared.place.PartPlace.TheVariants as parts
+use Rattle.cdi_model.specs.Mentions.{Mention, BodyOf, PointOf, mentions}
 use Rattle.cdi_match.specs.Chain.{Circle, has, leads, reaches_from_one}
 use Rattle.cdi_effective.specs.Beans.{beans}
 use Rattle.cdi_effective.specs.BeanText.{text_of_id}
@@ -54,20 +58,25 @@ Need = List ℕ × List (List ℕ)
 abbrev pub managed_id : BeanDecl → BeanId
 managed_id d = record { class = d.name; producer = None }
 
-abbrev pub product_id : BeanDecl → ProducerDecl → BeanId
-product_id d p = record { class = d.name; producer = Some p.name }
+abbrev pub product_id : BeanDecl → List ℕ → BeanId
+product_id d name = record { class = d.name; producer = Some name }
 
--- a managed bean needs those that are chosen for its points
-abbrev pub need_of_managed : List Decl → BeanDecl → Need
-need_of_managed ds d = (text_of_id (managed_id d), chosen_for ds d.points)
+-- the bean that is made behind what is chosen for a point: nothing is made behind the parameters of an observer method
+abbrev pub made_behind : BeanDecl → PointPlace → Option BeanId
+made_behind d points.Constructor = Some (managed_id d)
+made_behind d (points.Producer name) = Some (product_id d name)
+made_behind d (points.Observer name) = None
 
--- the bean that is made before a product: the one that declares it, where the producer method is not static
-abbrev pub declaring : BeanDecl → ProducerDecl → Option BeanId
-declaring d p = if p.is_static then None else Some (managed_id d)
+-- a product needs the bean that declares it, where the producer method is not static
+abbrev pub needs_to_run : BeanDecl → PartPlace → List Need
+needs_to_run d (parts.Producer name) = (text_of_id (product_id d name), text_of_id (managed_id d) ∷ []) ∷ []
+needs_to_run d place = []
 
--- a product needs that, and those that are chosen for its params
-abbrev pub need_of_product : List Decl → BeanDecl → ProducerDecl → Need
-need_of_product ds d p = (text_of_id (product_id d p), map text_of_id (option_to_list (declaring d p)) ++ chosen_for ds p.params)
+-- what the beans of a declaration need for what it names in one place: what is chosen for a point, and what runs a producer method
+abbrev pub need_in : List Decl → BeanDecl → Mention → List Need
+need_in ds d (PointOf place p) = map (λ id. (text_of_id id, chosen_one (answer_to ds p))) (option_to_list (made_behind d place))
+need_in ds d (BodyOf place body) = needs_to_run d place
+need_in ds d mention = []
 
 -- a managed bean needs these, which are chosen for the points of an interceptor, where that stands around a place of it
 abbrev pub need_around : List Decl → InterceptorDecl → List (List ℕ) → Decl → List Need
@@ -75,7 +84,7 @@ need_around ds i chosen (decls.Bean d) = if stands_around ds i d then (text_of_i
 need_around ds i chosen d = []
 
 abbrev pub needs_in : List Decl → Decl → List Need
-needs_in ds (decls.Bean d) = need_of_managed ds d ∷ map (need_of_product ds d) d.producers
+needs_in ds (decls.Bean d) = flat_map (need_in ds d) (mentions (decls.Bean d))
 needs_in ds (decls.Interceptor i) = flat_map (need_around ds i (chosen_for ds i.points)) ds
 needs_in ds d = []
 

@@ -1,16 +1,16 @@
 -- What beans need, by the answers to injection points, and the edges that are made of it.
-use Rattle.std.specs.Prelude.{◌≡◌, ℕ, List, [], ◌∷◌, ◌++◌, map, length, take, drop, Option, None}
+use Rattle.std.specs.Prelude.{◌≡◌, ℕ, List, [], ◌∷◌, ◌++◌, map, take, drop, Option, None}
 use Rattle.std.specs.List.{flat_map}
 use Rattle.std.specs.Option.{option_to_list}
 use Rattle.cdi_model.specs.declared.decl.BeanDecl.{BeanDecl}
 use Rattle.cdi_model.specs.declared.decl.Decl.{Decl}
 use Rattle.cdi_model.specs.declared.decl.Decl.TheVariants as decls
-use Rattle.cdi_model.specs.declared.decl.ProducerDecl.{ProducerDecl}
+use Rattle.cdi_model.specs.Mentions.{Mention, BodyOf, PointOf, mentions}
 use Rattle.cdi_effective.specs.BeanText.{text_of_id}
 use Rattle.cdi_effective.specs.declared.records.BeanId.{BeanId}
 use Rattle.cdi_resolve.specs.declared.choice.Choice.{Choice}
 use Rattle.cdi_circles.specs.Edges.{Edges, next_in}
-use Rattle.cdi_validate.specs.Circles.{Need, between, chosen_one, declaring, managed_id, need_around, product_id}
+use Rattle.cdi_validate.specs.Circles.{Need, between, chosen_one, made_behind, need_around, needs_to_run}
 
 -- a bean that is made first, and those that are chosen
 abbrev pub needed_first : Option BeanId → List Choice → List (List ℕ)
@@ -20,20 +20,25 @@ needed_first first choices = map text_of_id (option_to_list first) ++ flat_map c
 abbrev pub need_by : BeanId → Option BeanId → List Choice → Need
 need_by id first choices = (text_of_id id, needed_first first choices)
 
--- those of each product: its choices stand in front of those of the ones behind it
-abbrev pub needs_of_products : BeanDecl → List ProducerDecl → List Choice → List Need
-needs_of_products d [] choices = []
-needs_of_products d (p ∷ ps) choices =
-    need_by (product_id d p) (declaring d p) (take (length p.params) choices) ∷ needs_of_products d ps (drop (length p.params) choices)
+-- what the beans of a declaration need for what it names in one place: a point has the first of these choices
+abbrev pub needs_at : BeanDecl → List Choice → Mention → List Need
+needs_at d choices (PointOf place p) = map (λ id. need_by id None (take 1 choices)) (option_to_list (made_behind d place))
+needs_at d choices (BodyOf place body) = needs_to_run d place
+needs_at d choices mention = []
 
--- those of each bean of a declaration: the choices of the bean's own points stand in front
-abbrev pub needs_of_bean : BeanDecl → List Choice → List Need
-needs_of_bean d choices =
-    need_by (managed_id d) None (take (length d.points) choices) ∷ needs_of_products d d.producers (drop (length d.points) choices)
+-- the choices that are left behind it
+abbrev pub left_behind : List Choice → Mention → List Choice
+left_behind choices (PointOf place p) = drop 1 choices
+left_behind choices mention = choices
+
+-- those for all that it names, where the choices stand in the order of its points
+abbrev pub needs_along : BeanDecl → List Choice → List Mention → List Need
+needs_along d choices [] = []
+needs_along d choices (m ∷ ms) = needs_at d choices m ++ needs_along d (left_behind choices m) ms
 
 -- those that a declaration gives to beans: an interceptor gives its own to each around which it stands
 abbrev pub needs_by : List Decl → Decl → List Choice → List Need
-needs_by ds (decls.Bean d) choices = needs_of_bean d choices
+needs_by ds (decls.Bean d) choices = needs_along d choices (mentions (decls.Bean d))
 needs_by ds (decls.Interceptor i) choices = flat_map (need_around ds i (flat_map chosen_one choices)) ds
 needs_by ds d choices = []
 

@@ -1,5 +1,5 @@
 //! Dependent beans that need themselves before they can be made (profile).
-ghost use Rattle.std.specs.Prelude.{◌≡◌, ◌∷◌, [], ◌++◌, ℕ, List, filter, fold, length, map, IfOk, OnOk};
+ghost use Rattle.std.specs.Prelude.{◌≡◌, ◌∷◌, [], ◌++◌, ℕ, List, filter, fold, map, take, IfOk, OnOk};
 ghost use Rattle.std.specs.BTreeMap.{keys};
 ghost use Rattle.std.specs.List.{flat_map};
 ghost use Rattle.cdi_circles.specs.Edges.{is_on_circle, next_in};
@@ -7,12 +7,12 @@ ghost use Rattle.cdi_effective.specs.Beans.{beans};
 ghost use Rattle.cdi_effective.specs.BeanText.{text_of_id};
 ghost use Rattle.cdi_match.specs.Chain.{has};
 ghost use Rattle.cdi_model.specs.declared.decl.Decl.TheVariants as declared;
+ghost use Rattle.cdi_model.specs.Mentions.{shown};
 ghost use Rattle.cdi_observe.specs.Answers.{answers as all_answers};
-ghost use Rattle.cdi_observe.specs.Wanted.{points_of};
-ghost use Rattle.cdi_validate.specs.Circles.{between, chosen_one, declaring, dependents_by_text, is_dependent, managed_id};
+ghost use Rattle.cdi_validate.specs.Circles.{between, chosen_one, dependents_by_text, is_dependent, made_behind, managed_id};
 ghost use Rattle.cdi_validate.specs.Circles.{need_around, needs, product_id, with_dependent};
 ghost use Rattle.cdi_validate.specs.Faults.{circle, circles};
-ghost use Rattle.cdi_validate.specs.Needed.{need_by, needed_first, needs_by, needs_of_bean, AddsNeeds};
+ghost use Rattle.cdi_validate.specs.Needed.{left_behind, need_by, needed_first, needs_along, needs_at, needs_by, AddsNeeds};
 ghost use Rattle.cdi_validate.specs.Surrounded.{beans_at, with_binding, AreByBinding};
 
 use crate::records::records_of;
@@ -21,7 +21,9 @@ use cdi_circles::{Node, on_circles};
 use cdi_effective::{BeanId, Effective};
 use cdi_faults::Fault;
 use cdi_intercept::stands_around;
-use cdi_model::{BeanDecl, Decl, Decls, InterceptorDecl, Name, ProducerDecl, Scope};
+use cdi_model::{
+    BeanDecl, Decl, Decls, Ident, InterceptorDecl, Mention, Mentions, Name, PartPlace, PointPlace, Scope,
+};
 use cdi_observe::View;
 use cdi_resolve::Choice;
 use std::alloc::{AllocError, Global};
@@ -193,13 +195,14 @@ fn add_needs(
     answers: &[Rc<Choice>],
     edges: &mut BTreeMap<Node, Vec<Node>>,
 ) -> Result<(), AllocError>
-    requires answered { length answers.now ≡ length (points_of decl.now) }
-    requires by_binding { AreByBinding (keys dependents.now) decls.now by_binding.now }
+    requires { AreByBinding (keys dependents.now) decls.now by_binding.now }
     ensures { OnOk result (AddsNeeds (keys dependents.now)
         (needs_by decls.now decl.now (map (λ answer. answer.value) answers.now)) edges.old edges.new) }
 {
     match decl {
-        Decl::Bean(bean) => add_needs_of(alloc, dependents, bean, answers, edges),
+        Decl::Bean(bean) => {
+            add_needs_along(alloc, dependents, bean, decl.mentions(), answers, edges)
+        }
         Decl::Interceptor(interceptor) => {
             add_needs_around(
                 alloc,
@@ -215,27 +218,77 @@ fn add_needs(
     }
 }
 
-/// Adds what a managed bean and its products need, by the answers to their injection points.
-fn add_needs_of(
+/// Adds what the beans of a declaration need for all that it names, by the answers to its injection points in their order.
+fn add_needs_along(
+    alloc: Global,
+    dependents: &BTreeMap<Node, BeanId>,
+    bean: &BeanDecl,
+    mentions: Mentions<'_>,
+    answers: &[Rc<Choice>],
+    edges: &mut BTreeMap<Node, Vec<Node>>,
+) -> Result<(), AllocError>
+    ensures { OnOk result (AddsNeeds (keys dependents.now)
+        (needs_along bean.now (map (λ answer. answer.value) answers.now) mentions.entry) edges.old edges.new) }
+{
+    let mut left = answers;
+    for mention in mentions {
+        add_needs_at(alloc, dependents, bean, left, &mention, edges)?;
+        left = left_behind(left, &mention);
+    }
+    Ok(())
+}
+
+/// Adds what they need for what is named in one place: the first of these answers is that to a point.
+fn add_needs_at(
     alloc: Global,
     dependents: &BTreeMap<Node, BeanId>,
     bean: &BeanDecl,
     answers: &[Rc<Choice>],
+    mention: &Mention<'_>,
     edges: &mut BTreeMap<Node, Vec<Node>>,
 ) -> Result<(), AllocError>
-    requires { length answers.now ≡ length (points_of (declared.Bean bean.now)) }
-    ensures { OnOk result (AddsNeeds (keys dependents.now) (needs_of_bean bean.now (map (λ answer. answer.value) answers.now))
-        edges.old edges.new) }
+    ensures { OnOk result (AddsNeeds (keys dependents.now)
+        (needs_at bean.now (map (λ answer. answer.value) answers.now) (shown mention.now)) edges.old edges.new) }
 {
-    let (own, mut rest) = answers.split_at(bean.points.len());
-    add_need(alloc, dependents, managed_id(bean), None, own, edges)?;
-    for producer in bean.producers.as_slice() {
-        let (own, others) = rest.split_at(producer.params.len());
-        let id = product_id(bean, producer);
-        add_need(alloc, dependents, id, declaring(bean, producer), own, edges)?;
-        rest = others;
+    match mention {
+        Mention::Point(place, _) => match made_behind(bean, place) {
+            Some(id) => add_need(alloc, dependents, id, None, first_of(answers), edges),
+            None => Ok(()),
+        },
+        Mention::Body(PartPlace::Producer(name), _) => {
+            let first = Some(managed_id(bean));
+            add_need(alloc, dependents, product_id(bean, *name), first, &[], edges)
+        }
+        _ => Ok(()),
     }
-    Ok(())
+}
+
+/// The first of the answers, if there is one.
+fn first_of(answers: &[Rc<Choice>]) -> &[Rc<Choice>]
+    ensures { result.now ≡ take 1 answers.now }
+{
+    answers.split_at(answers.len().min(1)).0
+}
+
+/// The answers that are left behind what is named in a place.
+fn left_behind<'a>(answers: &'a [Rc<Choice>], mention: &Mention<'_>) -> &'a [Rc<Choice>]
+    ensures { map (λ answer. answer.value) result.now ≡ left_behind (map (λ answer. answer.value) answers.now) (shown mention.now) }
+{
+    match (mention, answers.split_first()) {
+        (Mention::Point(..), Some((_, others))) => others,
+        _ => answers,
+    }
+}
+
+/// The bean that is made behind what is chosen for a point.
+fn made_behind(bean: &BeanDecl, place: &PointPlace) -> Option<BeanId>
+    ensures { result ≡ made_behind bean.now place.now }
+{
+    match place {
+        PointPlace::Constructor => Some(managed_id(bean)),
+        PointPlace::Producer(name) => Some(product_id(bean, *name)),
+        PointPlace::Observer(_) => None,
+    }
 }
 
 /// Adds what each managed bean needs for an interceptor that stands around a place of it, by the answers to the
@@ -298,23 +351,12 @@ fn managed_id(bean: &BeanDecl) -> BeanId
     }
 }
 
-fn product_id(bean: &BeanDecl, producer: &ProducerDecl) -> BeanId
-    ensures { result ≡ product_id bean.now producer.now }
+fn product_id(bean: &BeanDecl, producer: Ident) -> BeanId
+    ensures { result ≡ product_id bean.now producer }
 {
     BeanId {
         class: bean.name,
-        producer: Some(producer.name),
-    }
-}
-
-/// The bean that is made before a product: the one that declares it, where the producer method is not static.
-fn declaring(bean: &BeanDecl, producer: &ProducerDecl) -> Option<BeanId>
-    ensures { result ≡ declaring bean.now producer.now }
-{
-    if producer.is_static {
-        None
-    } else {
-        Some(managed_id(bean))
+        producer: Some(producer),
     }
 }
 

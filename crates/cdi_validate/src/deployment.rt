@@ -22,7 +22,7 @@ use cdi_faults::{Code, Fault, Subject, in_text_order};
 use cdi_model::Decl;
 use cdi_observe::{View, evaluate};
 use cdi_resolve::Choice;
-use cdi_subjects::subjects_at_fault;
+use cdi_subjects::{Glance, subjects_at_fault};
 use std::alloc::{AllocError, Global};
 use std::rc::Rc;
 
@@ -97,7 +97,8 @@ fn push_of_decls<V: View, B: Bodies>(
     Ok(())
 }
 
-/// Appends the faults of a declaration, which has these beans, and these answers to its injection points.
+/// Appends the faults of a declaration, which has these beans, and these answers to its injection points. Codes of which
+/// one look at what the declaration names finds no fault are passed over.
 fn push_of_decl<V: View, B: Bodies>(
     alloc: Global,
     view: &V,
@@ -111,7 +112,11 @@ fn push_of_decl<V: View, B: Bodies>(
     requires answers { map (λ answer. answer.value) answers.now ≡ map (answer_to (V.list view.now)) (points_of decl.now) }
     ensures { OnOk result (faults.new.items ≡ faults.old.items ++ faults_of (V.list view.now) (B.promises book.now) decl.now) }
 {
+    let glance = Glance::at(view.decls(), book, decl);
     for code in Code::all() {
+        if !glance.may_find(code) {
+            continue;
+        }
         let subjects = subjects_at_fault(alloc, code, view, book, decl, beans, answers)?;
         push_declared(code, decl, in_text_order(alloc, subjects)?, faults)?;
     }

@@ -92,13 +92,13 @@ impl Deployed {
         let quals = quals(alloc, uses)?;
         let mut work = Work::new();
         work.add_one();
-        let outcome = self
+        let chosen = self
             .beans
             .choose(alloc, &self.decls, name(text)?, &quals, &mut work);
-        if work.count() != 1 + u64::from(outcome.is_ok()) {
+        if work.count() != 1 + u64::from(chosen.is_ok()) {
             return Ok(false);
         }
-        Ok(is_choice(&outcome?, answer))
+        Ok(is_choice(&chosen?, answer))
     }
 
     /// Whether each type has its answer where a text is put.

@@ -48,12 +48,12 @@ pub enum Difference {
 
 fn main(rt: HostRuntime) -> ExitCode {
     drop_boxes(rt.alloc(), read_count(&mut rt.reader()));
-    let outcome = compare(rt.alloc());
-    let printed = match print(&rt, outcome) {
-        Err(error) if error.kind() == ErrorKind::OutOfMemory => print(&rt, outcome),
+    let compared = compare(rt.alloc());
+    let printed = match print(&rt, compared) {
+        Err(error) if error.kind() == ErrorKind::OutOfMemory => print(&rt, compared),
         printed => printed,
     };
-    match (printed, outcome) {
+    match (printed, compared) {
         (Ok(()), Ok(refused)) => ExitCode::from(if refused { STATUS_REFUSED } else { 0 }),
         _ => ExitCode::from(1),
     }
@@ -90,8 +90,8 @@ fn compare(alloc: Global) -> Result<bool, Difference> {
     }
 }
 
-fn print(rt: &impl Print, outcome: Result<bool, Difference>) -> io::Result<()> {
-    match outcome {
+fn print(rt: &impl Print, compared: Result<bool, Difference>) -> io::Result<()> {
+    match compared {
         Ok(_) => println!(rt; "every answer is right"),
         Err(difference) => println!(rt; "{difference}"),
     }

@@ -1,5 +1,6 @@
 //! The rows of a page.
 ghost use Rattle.std.specs.Prelude.{◌≡◌, ◌<◌, ◌++◌, ◌∷◌, [], IfOk, OnOk, string_bytes, vec_len};
+ghost use Rattle.cdi_container.specs.Bytes.{feed};
 ghost use Rattle.worked_rows.specs.Rows.{IsBlockLine, TakesLine};
 
 use crate::difference::Difference;
@@ -70,7 +71,7 @@ impl<'t> Row<'t> {
 }
 
 fn push_with_feed(text: &mut String, line: &str) -> Result<(), AllocError>
-    ensures { OnOk result (string_bytes text.new ≡ string_bytes text.old ++ line.now ++ 10 ∷ []) }
+    ensures { OnOk result (string_bytes text.new ≡ string_bytes text.old ++ line.now ++ feed ∷ []) }
 {
     text.push_str(line)?;
     text.push('\n')

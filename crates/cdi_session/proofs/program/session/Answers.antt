@@ -1,23 +1,23 @@
 use Rattle.std.proofs.Common.{◌∙◌, ap, inl, inr, refl, sym}
 use Rattle.cdi_session.specs.Session.{status_of}
 use Rattle.cdi_session.proofs.Refusals.{accepted_lacks, refused_words}
-use Rattle.cdi_session.proofs.program.session.Goals.{in-Err-outcome, in_default}
+use Rattle.cdi_session.proofs.program.session.Goals.{in-Err-ending, in_default}
 use Rattle.cdi_session.proofs.program.session.Goals as goal
 
-pub returns-after-outcome-clause-accepted : goal.returns-after-outcome-clause-accepted
-returns-after-outcome-clause-accepted g c = λ _. inl (record {
+pub returns-after-ending-clause-accepted : goal.returns-after-ending-clause-accepted
+returns-after-ending-clause-accepted g c = λ _. inl (record {
   options = c.in-Ok.options;
   means = c.in-Ok.ensures.means;
-  outcome = c.run_script-outcome.result;
-  from_input = c.run_script-outcome.ensures.from_input;
-  from_file = λ path. (c.run_script-outcome.ensures.unread path, c.run_script-outcome.ensures.from_file path);
-  complaint = elim c.match-outcome.branch [
-    | in-Err-outcome w ↦ rw (w.in-Err-outcome.is, w.errors-is) w.tell_fault.ensures
+  ending = c.run_script-ending.result;
+  from_input = c.run_script-ending.ensures.from_input;
+  from_file = λ path. (c.run_script-ending.ensures.unread path, c.run_script-ending.ensures.from_file path);
+  complaint = elim c.match-ending.branch [
+    | in-Err-ending w ↦ rw (w.in-Err-ending.is, w.errors-is) w.tell_fault.ensures
     | in_default w ↦ rw w.in_default.is w.errors-is
   ];
-  status_is = c.status_of.ensures ∙ ap (status_of c.in-Ok.options.strict) (elim c.match-outcome.branch [
-    | in-Err-outcome w ↦ w.outcome-is ∙ sym w.in-Err-outcome.is
-    | in_default w ↦ w.outcome-is
+  status_is = c.status_of.ensures ∙ ap (status_of c.in-Ok.options.strict) (elim c.match-ending.branch [
+    | in-Err-ending w ↦ w.ending-is ∙ sym w.in-Err-ending.is
+    | in_default w ↦ w.ending-is
   ]);
 })
 

@@ -4,6 +4,7 @@ use Rattle.cdi_model.specs.declared.decl.Decl.TheVariants as decls
 use Rattle.cdi_intercept.specs.Chains.{is_enabled}
 use Rattle.cdi_observe.specs.Answers.{answers, answers_of}
 use Rattle.cdi_observe.specs.Wanted.{points_of}
+use Rattle.cdi_subjects.proofs.AnsweredLemmas.{points-declared}
 use Rattle.cdi_staging.specs.Shown.{around_in}
 use Rattle.cdi_staging.specs.Staged.{targets}
 use Rattle.cdi_staging.proofs.SplitLemmas.{around_in_order, chosen-targets, enabled-first, first-answers, pushed-shown}
@@ -37,7 +38,7 @@ loop-decl-preserved-in-Continue-branch-2 c =
     let chosen : c.in_ok-targets.targets.items ≡ targets ds i.points =
     chosen-targets (λ answer. answer.value) ds c.args.beans.now c.in-Some.decl.now c.as_slice.result.now c.in_ok-targets.targets.items
     c.requires.beans (ap (map (λ answer. answer.value)) c.as_slice.ensures.value ∙ here.0) c.in_ok-targets.ensures
-    ∙ ap (λ d. targets ds (points_of d)) c.in-Interceptor.is in
+    ∙ ap (λ d. targets ds (points_of d)) c.in-Interceptor.is ∙ ap (targets ds) (points-declared (decls.Interceptor i)) in
     record {
       answers = here.1;
       around = pushed-shown around_in c.loop-decl.list.items _ _ (i, targets ds i.points) (around_in_order ds left)

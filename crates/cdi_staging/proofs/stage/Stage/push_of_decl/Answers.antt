@@ -1,6 +1,8 @@
 use Rattle.std.proofs.Common.{◌++◌, length, map, ap, ◌∙◌}
 use Rattle.std.proofs.lemmas.Result.{on_ok_weaker}
+use Rattle.cdi_model.specs.declared.decl.Decl.TheVariants as decls
 use Rattle.cdi_observe.specs.Wanted.{points_of}
+use Rattle.cdi_subjects.proofs.AnsweredLemmas.{points-declared}
 use Rattle.cdi_staging.specs.Shown.{around_in}
 use Rattle.cdi_staging.proofs.SplitLemmas.{by-records, as-many}
 use Rattle.cdi_staging.proofs.stage.Stage.push_of_decl.Goals as goal
@@ -11,7 +13,7 @@ push_beans-requires g c =
     ap length c.as_slice.ensures.value
     ∙ as-many (λ answer. answer.value) self.decls.now self.beans.now c.args.decl.now c.args.answers.now c.in_ok-targets.targets.items
     c.requires.answers c.in_ok-targets.ensures
-    ∙ ap (λ d. length (points_of d)) c.in-Bean.is
+    ∙ ap (λ d. length (points_of d)) c.in-Bean.is ∙ ap length (points-declared (decls.Bean c.in-Bean.bean))
 
 pub returns : goal.returns
 returns g c =

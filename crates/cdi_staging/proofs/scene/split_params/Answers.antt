@@ -1,8 +1,8 @@
 use Rattle.std.proofs.Common.{◌≡◌, ◌≤◌, ◌+◌, ◌-◌, ◌^◌, ◌++◌, ℕ, List, drop, take, length, min, sym, ap, ◌∙◌, arith}
 use Rattle.std.proofs.lemmas.List.{drop_all, drop_min, drop_more, length-append, take_min}
 use Rattle.cdi_model.specs.declared.decl.ProducerDecl.{ProducerDecl}
-use Rattle.cdi_observe.specs.Wanted.{params_of}
-use Rattle.cdi_observe.proofs.points.split_params.Goals as goal
+use Rattle.cdi_subjects.specs.Sites.{params_of}
+use Rattle.cdi_staging.proofs.scene.split_params.Goals as goal
 
 pub loop-producer-preserved : goal.loop-producer-preserved
 loop-producer-preserved g c =

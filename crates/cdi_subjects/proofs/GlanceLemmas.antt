@@ -1,0 +1,110 @@
+-- What one look at all that a declaration names tells of its faults.
+use Rattle.std.proofs.Common.{◌≡◌, Bool, true, false, ◌||◌, ◌&&◌, List, [], ◌∷◌, ◌++◌, Option, Some, None, refl, sym, ap, ◌∙◌}
+use Rattle.std.specs.List.{list_any}
+use Rattle.std.specs.Option.{is_some, option_to_list}
+use Rattle.std.proofs.Math.Bool.{or_assoc}
+use Rattle.std.proofs.lemmas.Bool.{false≢true, or_parts}
+use Rattle.cdi_bodies.specs.Book.{Promised}
+use Rattle.cdi_model.specs.declared.decl.Decl.{Decl}
+use Rattle.cdi_model.specs.declared.decl.PointDecl.{PointDecl}
+use Rattle.cdi_model.specs.Mentions.{Mention, CallOf, PointOf, mentions}
+use Rattle.cdi_effective.specs.Beans.{entries}
+use Rattle.cdi_effective.specs.declared.records.Effective.{Effective}
+use Rattle.cdi_resolve.specs.declared.choice.Choice.{Choice}
+use Rattle.cdi_resolve.specs.declared.choice.Choice.TheVariants as choices_are
+use Rattle.cdi_observe.specs.Answers.{answer_to}
+use Rattle.cdi_faults.specs.declared.fault.Code.TheVariants as codes_of
+use Rattle.cdi_faults.specs.declared.fault.Subject.{Subject}
+use Rattle.cdi_faults.specs.declared.fault.Subject.TheVariants as subjects
+use Rattle.cdi_subjects.specs.declared.glance.Glance.{Glance}
+use Rattle.cdi_subjects.specs.declared.points.Verdict.TheVariants as verdicts
+use Rattle.cdi_subjects.specs.Filter.{found_in, is_enabled_in, producer_of_point, some_if}
+use Rattle.cdi_subjects.specs.Glance.{glance_at, is_call, is_wrong_in, may_find, requires_final_in, with_mention, MissesNothing}
+use Rattle.cdi_subjects.specs.Parts.{unfit_in}
+use Rattle.cdi_subjects.specs.Proxies.{is_final, needs_subclass}
+use Rattle.cdi_subjects.specs.Sites.{lost_in}
+use Rattle.cdi_subjects.specs.Subjects.{bad_kind_in, bad_use_in, has_verdict, point_in, unknown_in}
+
+-- ---- a look that has come to some places
+
+-- what it tells where these are left
+abbrev pub behind : List Decl → List Promised → Decl → Glance → List Mention → Glance
+behind ds book d glance ms = record {
+  is_wrong = glance.is_wrong || list_any (is_wrong_in ds book d) ms;
+  requires_final = glance.requires_final || list_any (requires_final_in ds) ms;
+  calls = glance.calls || list_any is_call ms;
+}
+
+pub behind-next : (ds : List Decl) (book : List Promised) (d : Decl) (glance : Glance) (m : Mention) (ms : List Mention)
+    → behind ds book d (with_mention ds book d glance m) ms ≡ behind ds book d glance (m ∷ ms)
+behind-next ds book d glance m ms =
+    let wrong = or_assoc glance.is_wrong (is_wrong_in ds book d m) (list_any (is_wrong_in ds book d) ms) in
+    let final = or_assoc glance.requires_final (requires_final_in ds m) (list_any (requires_final_in ds) ms) in
+    let call = or_assoc glance.calls (is_call m) (list_any is_call ms) in
+    rw (wrong, final, call) refl
+
+-- ---- where nothing is found
+
+found-none : (fault_in : Mention → Option Subject) (test : Mention → Bool) → ((m : Mention) → test m ≡ false → fault_in m ≡ None)
+    → (ms : List Mention) → list_any test ms ≡ false → found_in fault_in ms ≡ []
+found-none fault_in test each [] none = refl
+found-none fault_in test each (m ∷ ms) none =
+    let (first, others) = or_parts (test m) (list_any test ms) none in
+    ap (λ o. option_to_list o ++ found_in fault_in ms) (each m first) ∙ found-none fault_in test each ms others
+
+none-if : (o : Option Subject) → is_some o ≡ false → o ≡ None
+none-if None none = refl
+none-if (Some s) none = absurd (false≢true (sym none))
+
+not-unknown : (ds : List Decl) (book : List Promised) (d : Decl) (m : Mention) → is_wrong_in ds book d m ≡ false → unknown_in ds m ≡ None
+not-unknown ds book d m right =
+    let (three, fit) = or_parts _ (is_some (unfit_in book d m)) right in
+    let (two, use) = or_parts _ (is_some (bad_use_in ds m)) three in
+    none-if (unknown_in ds m) (or_parts (is_some (unknown_in ds m)) (is_some (bad_kind_in ds d m)) two).0
+
+right-form : (ds : List Decl) (book : List Promised) (d : Decl) (m : Mention) → is_wrong_in ds book d m ≡ false → bad_kind_in ds d m ≡ None
+right-form ds book d m right =
+    let (three, fit) = or_parts _ (is_some (unfit_in book d m)) right in
+    let (two, use) = or_parts _ (is_some (bad_use_in ds m)) three in
+    none-if (bad_kind_in ds d m) (or_parts (is_some (unknown_in ds m)) (is_some (bad_kind_in ds d m)) two).1
+
+right-use : (ds : List Decl) (book : List Promised) (d : Decl) (m : Mention) → is_wrong_in ds book d m ≡ false → bad_use_in ds m ≡ None
+right-use ds book d m right =
+    let (three, fit) = or_parts _ (is_some (unfit_in book d m)) right in
+    none-if (bad_use_in ds m) (or_parts _ (is_some (bad_use_in ds m)) three).1
+
+fit-body : (ds : List Decl) (book : List Promised) (d : Decl) (m : Mention) → is_wrong_in ds book d m ≡ false → unfit_in book d m ≡ None
+fit-body ds book d m right = none-if (unfit_in book d m) (or_parts _ (is_some (unfit_in book d m)) right).1
+
+-- a point whose type lets subclasses be is not at fault for them
+not-final : (ds : List Decl) (bs : List Effective) (d : Decl) (m : Mention) → requires_final_in ds m ≡ false
+    → point_in (has_verdict ds verdicts.Unproxyable) (answer_to ds) bs d m ≡ None
+not-final ds bs d (PointOf place p) open =
+    ap (λ t. some_if (is_enabled_in d bs (producer_of_point place) && t) (subjects.Point place p.name)) (fits (answer_to ds p))
+    ∙ apart (is_enabled_in d bs (producer_of_point place)) (subjects.Point place p.name)
+  where
+    fits : (c : Choice) → has_verdict ds verdicts.Unproxyable p c ≡ false
+    fits (choices_are.One id) = ap (λ t. t && needs_subclass ds id) open
+    fits choices_are.Unsatisfied = refl
+    fits (choices_are.Ambiguous ids) = refl
+
+    apart : (b : Bool) (s : Subject) → some_if (b && false) s ≡ None
+    apart true s = refl
+    apart false s = refl
+not-final ds bs d other open = refl
+
+no-call : (ds : List Decl) (bs : List Effective) (d : Decl) (m : Mention) → is_call m ≡ false → lost_in ds (answer_to ds) bs d m ≡ None
+no-call ds bs d (CallOf place params call) none = absurd (false≢true (sym none))
+no-call ds bs d other none = refl
+
+pub misses_nothing : MissesNothing
+misses_nothing ds book d codes_of.UnknownName none = found-none (unknown_in ds) _ (not-unknown ds book d) (mentions d) none
+misses_nothing ds book d codes_of.BadKind none = found-none (bad_kind_in ds d) _ (right-form ds book d) (mentions d) none
+misses_nothing ds book d codes_of.Member none = found-none (bad_use_in ds) _ (right-use ds book d) (mentions d) none
+misses_nothing ds book d codes_of.Body none = found-none (unfit_in book d) _ (fit-body ds book d) (mentions d) none
+misses_nothing ds book d codes_of.Unproxyable none = found-none _ _ (not-final ds (entries ds d) d) (mentions d) none
+misses_nothing ds book d codes_of.Site none = found-none _ _ (no-call ds (entries ds d) d) (mentions d) none
+misses_nothing ds book d codes_of.NameClash none = refl
+misses_nothing ds book d codes_of.NamePrefix none = refl
+misses_nothing ds book d codes_of.Circular none = refl
+misses_nothing ds book d other none = absurd (false≢true (sym none))

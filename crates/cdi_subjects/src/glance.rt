@@ -1,0 +1,99 @@
+//! One look at all that a declaration names.
+ghost use Rattle.std.specs.Prelude.{◌≡◌, ◌||◌};
+ghost use Rattle.cdi_model.specs.Mentions.{shown};
+ghost use Rattle.cdi_subjects.specs.Glance.{glance_at, is_call, is_wrong_in, may_find, requires_final_in, with_mention, MissesNothing};
+
+use crate::bodies::unfit_in;
+use crate::forms::bad_kind_in;
+use crate::proxies::is_final;
+use crate::unknown::unknown_in;
+use crate::used::is_bad_use;
+use cdi_bodies::Bodies;
+use cdi_faults::Code;
+use cdi_model::{Decl, Decls, Mention};
+
+/// What one look at all that a declaration names tells: of which codes none of its parts can have a fault.
+#[derive(Clone, Copy, Debug)]
+pub struct Glance {
+    /// What is named in some place is at fault by itself.
+    pub is_wrong: bool,
+    /// Some injection point requires a class that may have no subclass.
+    pub requires_final: bool,
+    /// Some body has a call site.
+    pub calls: bool,
+}
+
+impl Glance {
+    /// A look at a declaration where the bodies of a book are stored. It goes through what the declaration names once, and takes
+    /// no memory.
+    #[tactic(auto, using(crate::proofs::GlanceLemmas::misses_nothing))]
+    pub fn at<B: Bodies>(decls: &Decls, book: &B, decl: &Decl) -> Glance
+        ensures value { result ≡ glance_at decls.now (B.promises book.now) decl.now }
+        ensures nothing { MissesNothing }
+    {
+        let mut glance = Glance {
+            is_wrong: false,
+            requires_final: false,
+            calls: false,
+        };
+        for mention in decl.mentions() {
+            glance = glance.with(decls, book, decl, &mention);
+        }
+        glance
+    }
+
+    /// The same with what is named in one more place.
+    fn with<B: Bodies>(
+        self,
+        decls: &Decls,
+        book: &B,
+        decl: &Decl,
+        mention: &Mention<'_>,
+    ) -> Glance
+        ensures { result ≡ with_mention decls.now (B.promises book.now) decl.now self (shown mention.now) }
+    {
+        Glance {
+            is_wrong: self.is_wrong || is_wrong_in(decls, book, decl, mention),
+            requires_final: self.requires_final || requires_final_in(decls, mention),
+            calls: self.calls || is_call(mention),
+        }
+    }
+
+    /// Whether a part of the declaration may have a fault of a code.
+    pub fn may_find(self, code: Code) -> bool
+        ensures { result ≡ may_find self code }
+    {
+        match code {
+            Code::UnknownName | Code::BadKind | Code::Member | Code::Body => self.is_wrong,
+            Code::Unproxyable => self.requires_final,
+            Code::Site => self.calls,
+            Code::NameClash | Code::NamePrefix | Code::Circular => false,
+            _ => true,
+        }
+    }
+}
+
+/// Whether what is named in a place is at fault by itself, whatever is chosen for an injection point.
+fn is_wrong_in<B: Bodies>(decls: &Decls, book: &B, decl: &Decl, mention: &Mention<'_>) -> bool
+    ensures { result ≡ is_wrong_in decls.now (B.promises book.now) decl.now (shown mention.now) }
+{
+    unknown_in(decls, mention).is_some()
+        || bad_kind_in(decls, decl, mention).is_some()
+        || is_bad_use(decls, mention)
+        || unfit_in(book, decl, mention).is_some()
+}
+
+fn requires_final_in(decls: &Decls, mention: &Mention<'_>) -> bool
+    ensures { result ≡ requires_final_in decls.now (shown mention.now) }
+{
+    match mention {
+        Mention::Point(_, point) => is_final(decls, point.required_type),
+        _ => false,
+    }
+}
+
+fn is_call(mention: &Mention<'_>) -> bool
+    ensures { result ≡ is_call (shown mention.now) }
+{
+    matches!(mention, Mention::Call(..))
+}
