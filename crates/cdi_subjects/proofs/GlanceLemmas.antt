@@ -6,7 +6,6 @@ use Rattle.std.proofs.Math.Bool.{or_assoc}
 use Rattle.std.proofs.lemmas.Bool.{false≢true, or_parts}
 use Rattle.cdi_bodies.specs.Book.{Promised}
 use Rattle.cdi_model.specs.declared.decl.Decl.{Decl}
-use Rattle.cdi_model.specs.declared.decl.PointDecl.{PointDecl}
 use Rattle.cdi_model.specs.Mentions.{Mention, CallOf, PointOf, mentions}
 use Rattle.cdi_effective.specs.Beans.{entries}
 use Rattle.cdi_effective.specs.declared.records.Effective.{Effective}
@@ -19,9 +18,9 @@ use Rattle.cdi_faults.specs.declared.fault.Subject.TheVariants as subjects
 use Rattle.cdi_subjects.specs.declared.glance.Glance.{Glance}
 use Rattle.cdi_subjects.specs.declared.points.Verdict.TheVariants as verdicts
 use Rattle.cdi_subjects.specs.Filter.{found_in, is_enabled_in, producer_of_point, some_if}
-use Rattle.cdi_subjects.specs.Glance.{glance_at, is_call, is_wrong_in, may_find, requires_final_in, with_mention, MissesNothing}
+use Rattle.cdi_subjects.specs.Glance.{is_call, is_wrong_in, requires_final_in, with_mention, MissesNothing}
 use Rattle.cdi_subjects.specs.Parts.{unfit_in}
-use Rattle.cdi_subjects.specs.Proxies.{is_final, needs_subclass}
+use Rattle.cdi_subjects.specs.Proxies.{needs_subclass}
 use Rattle.cdi_subjects.specs.Sites.{lost_in}
 use Rattle.cdi_subjects.specs.Subjects.{bad_kind_in, bad_use_in, has_verdict, point_in, unknown_in}
 
@@ -59,13 +58,13 @@ none-if (Some s) none = absurd (false≢true (sym none))
 not-unknown : (ds : List Decl) (book : List Promised) (d : Decl) (m : Mention) → is_wrong_in ds book d m ≡ false → unknown_in ds m ≡ None
 not-unknown ds book d m right =
     let (three, fit) = or_parts _ (is_some (unfit_in book d m)) right in
-    let (two, use) = or_parts _ (is_some (bad_use_in ds m)) three in
+    let (two, right_use) = or_parts _ (is_some (bad_use_in ds m)) three in
     none-if (unknown_in ds m) (or_parts (is_some (unknown_in ds m)) (is_some (bad_kind_in ds d m)) two).0
 
 right-form : (ds : List Decl) (book : List Promised) (d : Decl) (m : Mention) → is_wrong_in ds book d m ≡ false → bad_kind_in ds d m ≡ None
 right-form ds book d m right =
     let (three, fit) = or_parts _ (is_some (unfit_in book d m)) right in
-    let (two, use) = or_parts _ (is_some (bad_use_in ds m)) three in
+    let (two, right_use) = or_parts _ (is_some (bad_use_in ds m)) three in
     none-if (bad_kind_in ds d m) (or_parts (is_some (unknown_in ds m)) (is_some (bad_kind_in ds d m)) two).1
 
 right-use : (ds : List Decl) (book : List Promised) (d : Decl) (m : Mention) → is_wrong_in ds book d m ≡ false → bad_use_in ds m ≡ None
@@ -79,19 +78,19 @@ fit-body ds book d m right = none-if (unfit_in book d m) (or_parts _ (is_some (u
 -- a point whose type lets subclasses be is not at fault for them
 not-final : (ds : List Decl) (bs : List Effective) (d : Decl) (m : Mention) → requires_final_in ds m ≡ false
     → point_in (has_verdict ds verdicts.Unproxyable) (answer_to ds) bs d m ≡ None
-not-final ds bs d (PointOf place p) open =
+not-final ds bs d (PointOf place p) lets =
     ap (λ t. some_if (is_enabled_in d bs (producer_of_point place) && t) (subjects.Point place p.name)) (fits (answer_to ds p))
     ∙ apart (is_enabled_in d bs (producer_of_point place)) (subjects.Point place p.name)
   where
     fits : (c : Choice) → has_verdict ds verdicts.Unproxyable p c ≡ false
-    fits (choices_are.One id) = ap (λ t. t && needs_subclass ds id) open
+    fits (choices_are.One id) = ap (λ t. t && needs_subclass ds id) lets
     fits choices_are.Unsatisfied = refl
     fits (choices_are.Ambiguous ids) = refl
 
     apart : (b : Bool) (s : Subject) → some_if (b && false) s ≡ None
     apart true s = refl
     apart false s = refl
-not-final ds bs d other open = refl
+not-final ds bs d other lets = refl
 
 no-call : (ds : List Decl) (bs : List Effective) (d : Decl) (m : Mention) → is_call m ≡ false → lost_in ds (answer_to ds) bs d m ≡ None
 no-call ds bs d (CallOf place params call) none = absurd (false≢true (sym none))

@@ -27,11 +27,7 @@ pub(crate) fn unfit_parts<B: Bodies>(
 }
 
 /// A part, where its body is not in the book or promises more than is allowed.
-pub(crate) fn unfit_in<B: Bodies>(
-    book: &B,
-    decl: &Decl,
-    mention: &Mention<'_>,
-) -> Option<Subject>
+pub(crate) fn unfit_in<B: Bodies>(book: &B, decl: &Decl, mention: &Mention<'_>) -> Option<Subject>
     ensures { result ≡ unfit_in (B.promises book.now) decl.now (shown mention.now) }
 {
     match mention {

@@ -43,13 +43,7 @@ impl Glance {
     }
 
     /// The same with what is named in one more place.
-    fn with<B: Bodies>(
-        self,
-        decls: &Decls,
-        book: &B,
-        decl: &Decl,
-        mention: &Mention<'_>,
-    ) -> Glance
+    fn with<B: Bodies>(self, decls: &Decls, book: &B, decl: &Decl, mention: &Mention<'_>) -> Glance
         ensures { result ≡ with_mention decls.now (B.promises book.now) decl.now self (shown mention.now) }
     {
         Glance {
