@@ -1,6 +1,6 @@
 -- What beans need, as it is found: the dependent beans by their texts, and the edges between them.
 use Rattle.std.proofs.Common.{◌≡◌, ℕ, Bool, true, false, ◌||◌, cond, List, [], ◌∷◌, ◌++◌, map, filter, fold, refl, sym}
-use Rattle.std.proofs.Common.{◌⊎◌, ⊎_elim, ap, ◌∙◌, subst, append_assoc, append-nil, Option, Ordering, Less, Equal, Greater}
+use Rattle.std.proofs.Common.{◌⊎◌, ⊎_elim, ap, ◌∙◌, subst, append_assoc, append-nil, Ordering, Less, Equal, Greater}
 use Rattle.std.specs.BTreeMap.{insert_entry, is_at}
 use Rattle.std.specs.BTreeSet.{insert_key}
 use Rattle.std.specs.List.{AllByRecursion, flat_map}
@@ -31,7 +31,6 @@ use Rattle.cdi_effective.specs.BeanText.{text_of_id}
 use Rattle.cdi_effective.specs.declared.records.BeanId.{BeanId}
 use Rattle.cdi_effective.specs.declared.records.Effective.{Effective}
 use Rattle.cdi_intercept.specs.Chains.{is_enabled, stands_around}
-use Rattle.cdi_resolve.specs.declared.choice.Choice.{Choice}
 use Rattle.cdi_observe.specs.Answers.{answer_to}
 use Rattle.cdi_observe.specs.Wanted.{points_of}
 use Rattle.cdi_subjects.specs.Answered.{is_begin}

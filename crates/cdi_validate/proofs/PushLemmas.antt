@@ -1,5 +1,5 @@
 -- Loops that push what each element gives.
-use Rattle.std.proofs.Common.{◌≡◌, ℕ, ◌+◌, ◌<◌, List, ◌∷◌, ◌++◌, length, get_or, drop, sym, ap, ◌∙◌, append_assoc}
+use Rattle.std.proofs.Common.{◌≡◌, ℕ, ◌+◌, ◌<◌, List, [], ◌∷◌, ◌++◌, length, get_or, drop, sym, ap, ◌∙◌, append_assoc}
 use Rattle.std.specs.List.{flat_map}
 use Rattle.std.proofs.lemmas.List.{at_drop_more}
 
@@ -9,4 +9,12 @@ pub appended : {A B : Type 0} (f : A → List B) (xs : List A) (i : ℕ) (x : A)
 appended f xs i x old total within at all =
     let rest = drop (i + 1) xs in
     append_assoc old (f x) (flat_map f rest) ∙ ap (λ y. old ++ flat_map f (y ∷ rest)) at
+    ∙ sym (at_drop_more (λ ys. old ++ flat_map f ys) xs i x within) ∙ all
+
+-- one that gives nothing is passed over
+pub skipped : {A B : Type 0} (f : A → List B) (xs : List A) (i : ℕ) (x : A) (old total : List B) → i < length xs → x ≡ get_or xs i x
+    → f x ≡ [] → old ++ flat_map f (drop i xs) ≡ total → old ++ flat_map f (drop (i + 1) xs) ≡ total
+skipped f xs i x old total within at none all =
+    let rest = drop (i + 1) xs in
+    ap (λ ys. old ++ (ys ++ flat_map f rest)) (sym none) ∙ ap (λ y. old ++ flat_map f (y ∷ rest)) at
     ∙ sym (at_drop_more (λ ys. old ++ flat_map f ys) xs i x within) ∙ all

@@ -22,7 +22,8 @@ use cdi_effective::{BeanId, Effective};
 use cdi_faults::Fault;
 use cdi_intercept::stands_around;
 use cdi_model::{
-    BeanDecl, Decl, Decls, Ident, InterceptorDecl, Mention, Mentions, Name, PartPlace, PointPlace, Scope,
+    BeanDecl, Decl, Decls, Ident, InterceptorDecl, Mention, Mentions, Name, PartPlace, PointPlace,
+    Scope,
 };
 use cdi_observe::View;
 use cdi_resolve::Choice;
@@ -257,7 +258,14 @@ fn add_needs_at(
         },
         Mention::Body(PartPlace::Producer(name), _) => {
             let first = Some(managed_id(bean));
-            add_need(alloc, dependents, product_id(bean, *name), first, &[], edges)
+            add_need(
+                alloc,
+                dependents,
+                product_id(bean, *name),
+                first,
+                &[],
+                edges,
+            )
         }
         _ => Ok(()),
     }
