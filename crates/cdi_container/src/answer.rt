@@ -101,9 +101,7 @@ pub(crate) fn answer_of_observers(
 }
 
 /// The answer of a report.
-pub(crate) fn answer_of_report(
-    called: Result<Vec<Fault>, AllocError>,
-) -> Result<Answer, AllocError>
+pub(crate) fn answer_of_report(called: Result<Vec<Fault>, AllocError>) -> Result<Answer, AllocError>
     ensures { result ≡ report_answer called }
 {
     match called {
