@@ -36,7 +36,7 @@ use Rattle.cdi_observe.specs.Wanted.{points_of}
 use Rattle.cdi_subjects.specs.Answered.{is_begin}
 use Rattle.cdi_subjects.proofs.AnsweredLemmas.{all-listed, points-declared, AreListed}
 use Rattle.cdi_validate.specs.Circles.{Need, between, chosen_for, chosen_one, circular, dependents, dependents_by_text}
-use Rattle.cdi_validate.specs.Circles.{is_dependent, made_behind, managed_id, need_around, need_in, needed_by, needs_in, needs_to_run}
+use Rattle.cdi_validate.specs.Circles.{bean_of_point, is_dependent, managed_id, need_around, need_in, needed_by, needs_in, needs_to_run}
 use Rattle.cdi_validate.specs.Circles.{needs_itself, with_dependent}
 use Rattle.cdi_validate.specs.Needed.{needs_along, needs_by, AddsNeeds}
 
@@ -237,7 +237,7 @@ needs-found : (ds : List Decl) (d : BeanDecl) (since points : List PointDecl) (m
     → needs_along d (map (answer_to ds) points) ms ≡ flat_map (need_in ds d) ms
 needs-found ds d since points [] listed = refl
 needs-found ds d since points (PointOf place p ∷ ms) (rest, is, listed) =
-    rw is (ap (λ chosen. map (λ id. (text_of_id id, chosen)) (option_to_list (made_behind d place))
+    rw is (ap (λ chosen. map (λ id. (text_of_id id, chosen)) (option_to_list (bean_of_point d place))
     ++ needs_along d (map (answer_to ds) rest) ms) (append-nil (chosen_one (answer_to ds p)))
     ∙ ap (λ l. need_in ds d (PointOf place p) ++ l) (needs-found ds d (since ++ p ∷ []) rest ms listed))
 needs-found ds d since points (TypeIn place t ∷ ms) listed = needs-found ds d (cond (is_begin place) [] since) points ms listed

@@ -61,11 +61,11 @@ managed_id d = record { class = d.name; producer = None }
 abbrev pub product_id : BeanDecl → List ℕ → BeanId
 product_id d name = record { class = d.name; producer = Some name }
 
--- the bean that is made behind what is chosen for a point: nothing is made behind the parameters of an observer method
-abbrev pub made_behind : BeanDecl → PointPlace → Option BeanId
-made_behind d points.Constructor = Some (managed_id d)
-made_behind d (points.Producer name) = Some (product_id d name)
-made_behind d (points.Observer name) = None
+-- the bean for which a point is there: an observer method is called on one that is made, so none waits for its parameters
+abbrev pub bean_of_point : BeanDecl → PointPlace → Option BeanId
+bean_of_point d points.Constructor = Some (managed_id d)
+bean_of_point d (points.Producer name) = Some (product_id d name)
+bean_of_point d (points.Observer name) = None
 
 -- a product needs the bean that declares it, where the producer method is not static
 abbrev pub needs_to_run : BeanDecl → PartPlace → List Need
@@ -74,7 +74,7 @@ needs_to_run d place = []
 
 -- what the beans of a declaration need for what it names in one place: what is chosen for a point, and what runs a producer method
 abbrev pub need_in : List Decl → BeanDecl → Mention → List Need
-need_in ds d (PointOf place p) = map (λ id. (text_of_id id, chosen_one (answer_to ds p))) (option_to_list (made_behind d place))
+need_in ds d (PointOf place p) = map (λ id. (text_of_id id, chosen_one (answer_to ds p))) (option_to_list (bean_of_point d place))
 need_in ds d (BodyOf place body) = needs_to_run d place
 need_in ds d mention = []
 

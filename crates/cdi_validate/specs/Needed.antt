@@ -10,7 +10,7 @@ use Rattle.cdi_effective.specs.BeanText.{text_of_id}
 use Rattle.cdi_effective.specs.declared.records.BeanId.{BeanId}
 use Rattle.cdi_resolve.specs.declared.choice.Choice.{Choice}
 use Rattle.cdi_circles.specs.Edges.{Edges, next_in}
-use Rattle.cdi_validate.specs.Circles.{Need, between, chosen_one, made_behind, need_around, needs_to_run}
+use Rattle.cdi_validate.specs.Circles.{Need, bean_of_point, between, chosen_one, need_around, needs_to_run}
 
 -- a bean that is made first, and those that are chosen
 abbrev pub needed_first : Option BeanId → List Choice → List (List ℕ)
@@ -22,7 +22,7 @@ need_by id first choices = (text_of_id id, needed_first first choices)
 
 -- what the beans of a declaration need for what it names in one place: a point has the first of these choices
 abbrev pub needs_at : BeanDecl → List Choice → Mention → List Need
-needs_at d choices (PointOf place p) = map (λ id. need_by id None (take 1 choices)) (option_to_list (made_behind d place))
+needs_at d choices (PointOf place p) = map (λ id. need_by id None (take 1 choices)) (option_to_list (bean_of_point d place))
 needs_at d choices (BodyOf place body) = needs_to_run d place
 needs_at d choices mention = []
 

@@ -9,7 +9,7 @@ ghost use Rattle.cdi_match.specs.Chain.{has};
 ghost use Rattle.cdi_model.specs.declared.decl.Decl.TheVariants as declared;
 ghost use Rattle.cdi_model.specs.Mentions.{shown};
 ghost use Rattle.cdi_observe.specs.Answers.{answers as all_answers};
-ghost use Rattle.cdi_validate.specs.Circles.{between, chosen_one, dependents_by_text, is_dependent, made_behind, managed_id};
+ghost use Rattle.cdi_validate.specs.Circles.{bean_of_point, between, chosen_one, dependents_by_text, is_dependent, managed_id};
 ghost use Rattle.cdi_validate.specs.Circles.{need_around, needs, product_id, with_dependent};
 ghost use Rattle.cdi_validate.specs.Faults.{circle, circles};
 ghost use Rattle.cdi_validate.specs.Needed.{left_behind, need_by, needed_first, needs_along, needs_at, needs_by, AddsNeeds};
@@ -252,20 +252,13 @@ fn add_needs_at(
         (needs_at bean.now (map (λ answer. answer.value) answers.now) (shown mention.now)) edges.old edges.new) }
 {
     match mention {
-        Mention::Point(place, _) => match made_behind(bean, place) {
+        Mention::Point(place, _) => match bean_of_point(bean, place) {
             Some(id) => add_need(alloc, dependents, id, None, first_of(answers), edges),
             None => Ok(()),
         },
         Mention::Body(PartPlace::Producer(name), _) => {
-            let first = Some(managed_id(bean));
-            add_need(
-                alloc,
-                dependents,
-                product_id(bean, *name),
-                first,
-                &[],
-                edges,
-            )
+            let (id, first) = (product_id(bean, *name), Some(managed_id(bean)));
+            add_need(alloc, dependents, id, first, &[], edges)
         }
         _ => Ok(()),
     }
@@ -288,9 +281,9 @@ fn left_behind<'a>(answers: &'a [Rc<Choice>], mention: &Mention<'_>) -> &'a [Rc<
     }
 }
 
-/// The bean that is made behind what is chosen for a point.
-fn made_behind(bean: &BeanDecl, place: &PointPlace) -> Option<BeanId>
-    ensures { result ≡ made_behind bean.now place.now }
+/// The bean for which a point is there: none waits for the parameters of an observer method.
+fn bean_of_point(bean: &BeanDecl, place: &PointPlace) -> Option<BeanId>
+    ensures { result ≡ bean_of_point bean.now place.now }
 {
     match place {
         PointPlace::Constructor => Some(managed_id(bean)),
