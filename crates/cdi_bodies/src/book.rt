@@ -19,13 +19,13 @@ pub trait Bodies {
     ghost promises: { Self → List (List ℕ × Promise) };
 
     /// The position of the body of a name.
-    fn position(&self, name: Ident) -> Option<usize>
-        ensures value { result ≡ position_of (promises self.now) name }
+    fn position(&self, name: &Ident) -> Option<usize>
+        ensures value { result ≡ position_of (promises self.now) name.now }
         ensures found { IfSome result (λ position. position < length (promises self.now)) };
 
     /// The promise of the body of a name.
-    fn promise(&self, name: Ident) -> Option<Promise>
-        ensures { result ≡ promise_of (promises self.now) name };
+    fn promise(&self, name: &Ident) -> Option<Promise>
+        ensures { result ≡ promise_of (promises self.now) name.now };
 
     /// The next act of the body at a position.
     fn ask_at(&self, position: usize, frame: &Frame) -> Act
@@ -33,9 +33,10 @@ pub trait Bodies {
         ensures { IfSome (slice_get (promises self.now) position) (λ body. IsWithin body.1 frame.now result) };
 
     /// The next act of the body of a name, if there is one.
-    fn ask(&self, name: Ident, frame: &Frame) -> Option<Act>
-        ensures known { is_some result ≡ is_some (promise_of (promises self.now) name) }
-        ensures within { IfSome result (λ act. IfSome (promise_of (promises self.now) name) (λ promise. IsWithin promise frame.now act)) };
+    fn ask(&self, name: &Ident, frame: &Frame) -> Option<Act>
+        ensures known { is_some result ≡ is_some (promise_of (promises self.now) name.now) }
+        ensures within { IfSome result (λ act.
+            IfSome (promise_of (promises self.now) name.now) (λ promise. IsWithin promise frame.now act)) };
 }
 
 /// The bodies of a container, of distinct names. Nothing shows of it but what `Bodies` tells.
@@ -82,11 +83,11 @@ impl Book {
 impl Bodies for Book {
     ghost promises = { λ book. map (λ body. (body.name, body.promise)) book.bodies.items };
 
-    fn position(&self, name: Ident) -> Option<usize> {
-        self.names.get_index_of(&name)
+    fn position(&self, name: &Ident) -> Option<usize> {
+        self.names.get_index_of(name)
     }
 
-    fn promise(&self, name: Ident) -> Option<Promise> {
+    fn promise(&self, name: &Ident) -> Option<Promise> {
         let position = self.position(name)?;
         Some(self.bodies[position].promise)
     }
@@ -95,7 +96,7 @@ impl Bodies for Book {
         self.bodies[position].ask(frame)
     }
 
-    fn ask(&self, name: Ident, frame: &Frame) -> Option<Act> {
+    fn ask(&self, name: &Ident, frame: &Frame) -> Option<Act> {
         let position = self.position(name)?;
         Some(self.bodies[position].ask(frame))
     }

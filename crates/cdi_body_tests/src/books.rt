@@ -85,12 +85,12 @@ fn book(bodies: Vec<Body>) -> Result<Book, Fail> {
 
 /// What the body of this name promises.
 fn promised(book: &Book, text: &[u8]) -> Result<Option<Promise>, Fail> {
-    Ok(book.promise(ident(text)?))
+    Ok(book.promise(&ident(text)?))
 }
 
 /// The position of the body of this name.
 fn place(book: &Book, text: &[u8]) -> Result<Option<usize>, Fail> {
-    Ok(book.position(ident(text)?))
+    Ok(book.position(&ident(text)?))
 }
 
 fn tells_promises(book: &Book) -> Result<bool, Fail> {
@@ -122,11 +122,12 @@ fn a_body_is_asked_for_its_next_act(rt: HostRuntime) -> Result<(), Fail> {
     let held = Outcome::Value(Val::Int(4));
     let sum = Val::Int(7);
     let stored = Outcome::Value(Val::Null);
-    assert!(rt; book.ask(count, &shown(Val::Null, &[])) == Some(Act::Load));
-    assert!(rt; book.ask(count, &shown(Val::Null, &[held])) == Some(Act::Store(sum)));
-    assert!(rt; book.ask(count, &shown(Val::Null, &[held, stored])) == Some(Act::Return(sum)));
-    assert!(rt; book.ask(ident(b"seven")?, &shown(Val::Int(5), &[])) == Some(Act::Return(sum)));
-    assert!(rt; book.ask(ident(b"eight")?, &shown(Val::Null, &[])).is_none());
+    assert!(rt; book.ask(&count, &shown(Val::Null, &[])) == Some(Act::Load));
+    assert!(rt; book.ask(&count, &shown(Val::Null, &[held])) == Some(Act::Store(sum)));
+    assert!(rt; book.ask(&count, &shown(Val::Null, &[held, stored])) == Some(Act::Return(sum)));
+    assert!(rt; book.ask(&ident(b"seven")?, &shown(Val::Int(5), &[])) == Some(Act::Return(sum)));
+    let eight = ident(b"eight")?;
+    assert!(rt; book.ask(&eight, &shown(Val::Null, &[])).is_none());
     Ok(())
 }
 
@@ -174,7 +175,7 @@ fn want_of_memory_hands_bodies_back(rt: HostRuntime) -> Result<(), Fail> {
 #[test]
 fn no_body_makes_a_book(rt: HostRuntime) -> Result<(), Fail> {
     let book = book(Vec::new(rt.alloc()))?;
-    assert!(rt; book.promise(ident(b"seven")?).is_none());
+    assert!(rt; book.promise(&ident(b"seven")?).is_none());
     Ok(())
 }
 

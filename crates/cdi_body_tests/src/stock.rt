@@ -160,7 +160,7 @@ fn frame_of(case: &Case) -> Frame {
 /// Whether the body of a case makes its act.
 fn holds(book: &Book, case: &Case) -> bool {
     match Ident::parse(case.0) {
-        Some(name) => book.ask(name, &frame_of(case)) == Some(case.4),
+        Some(name) => book.ask(&name, &frame_of(case)) == Some(case.4),
         None => false,
     }
 }
@@ -179,7 +179,7 @@ fn has_promises(book: &Book, promises: &[(&[u8], Promise)]) -> bool {
 
 fn stands_at(book: &Book, place: usize, text: &[u8], promise: Promise) -> bool {
     match Ident::parse(text) {
-        Some(name) => book.position(name) == Some(place) && book.promise(name) == Some(promise),
+        Some(name) => book.position(&name) == Some(place) && book.promise(&name) == Some(promise),
         None => false,
     }
 }

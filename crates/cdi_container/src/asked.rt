@@ -84,7 +84,7 @@ fn purpose_of(
     let Some(Message { method, arg }) = message else {
         return Ok(Purpose::State);
     };
-    if !has_method(decls, id, method) {
+    if !has_method(decls, &id, method) {
         return Err(Refusal::NoMethod);
     }
     Ok(Purpose::Answer {

@@ -36,7 +36,7 @@ pub(crate) fn given_bindings<'a>(
 {
     let mut list = Vec::new(alloc);
     for name in stereotypes(alloc, decls, declared)? {
-        if let Some(stereotype) = find_stereotype(decls, name) {
+        if let Some(stereotype) = find_stereotype(decls, &name) {
             push_uses(&mut list, stereotype.bindings.as_slice())?;
         }
     }

@@ -10,8 +10,8 @@ use cdi_model::Ident;
 pub struct Echo;
 
 /// Whether this is the name of the body.
-fn is_echo(name: Ident) -> bool
-    ensures { result ≡ bytes_eq name (codes "echo") }
+fn is_echo(name: &Ident) -> bool
+    ensures { result ≡ bytes_eq name.now (codes "echo") }
 {
     name.as_bytes() == b"echo".as_slice()
 }
@@ -19,11 +19,11 @@ fn is_echo(name: Ident) -> bool
 impl Bodies for Echo {
     ghost promises = { λ _. (codes "echo", record { 0 = 0 }) ∷ [] };
 
-    fn position(&self, name: Ident) -> Option<usize> {
+    fn position(&self, name: &Ident) -> Option<usize> {
         if is_echo(name) { Some(0) } else { None }
     }
 
-    fn promise(&self, name: Ident) -> Option<Promise> {
+    fn promise(&self, name: &Ident) -> Option<Promise> {
         if is_echo(name) {
             Some(Promise::NONE)
         } else {
@@ -35,7 +35,7 @@ impl Bodies for Echo {
         Act::Return(frame.argument)
     }
 
-    fn ask(&self, name: Ident, frame: &Frame) -> Option<Act> {
+    fn ask(&self, name: &Ident, frame: &Frame) -> Option<Act> {
         if is_echo(name) {
             Some(Act::Return(frame.argument))
         } else {

@@ -22,7 +22,7 @@ pub fn chain_of(
 ) -> Result<Seq<Name>, Error>
     ensures { Answers result (chain_of decls.now class place.now) }
 {
-    let Some(Decl::Bean(bean)) = decls.get(Kind::Bean, class) else {
+    let Some(Decl::Bean(bean)) = decls.get(Kind::Bean, &class) else {
         return Err(Refusal::UnknownName.into());
     };
     if !has_place(bean, place) {

@@ -26,7 +26,7 @@ pub fn bindings_at(
     ensures value { Answers result (bindings_at decls.now class place.now) }
     ensures order { BindingsAreThose }
 {
-    let Some(Decl::Bean(bean)) = decls.get(Kind::Bean, class) else {
+    let Some(Decl::Bean(bean)) = decls.get(Kind::Bean, &class) else {
         return Err(Refusal::UnknownName.into());
     };
     if !has_place(bean, place) {
@@ -46,7 +46,7 @@ pub fn bindings_seen(
 ) -> Result<Seq<Qual>, AllocError>
     ensures { IfOk result (λ list. list ≡ in_text_order (set_at decls.now class place.now)) }
 {
-    let Some(Decl::Bean(bean)) = decls.get(Kind::Bean, class) else {
+    let Some(Decl::Bean(bean)) = decls.get(Kind::Bean, &class) else {
         return Ok(Seq::new(alloc));
     };
     bindings_of(alloc, decls, bean, place)

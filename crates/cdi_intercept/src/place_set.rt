@@ -68,11 +68,11 @@ impl<'a> PlaceSet<'a> {
     }
 
     /// Whether one of the own ones, or of what they bring, is of a type.
-    fn replaces(self, name: Name) -> bool
-        ensures { result ≡ uses_one (own_uses self.entry) name }
+    fn replaces(self, name: &Name) -> bool
+        ensures { result ≡ uses_one (own_uses self.entry) name.now }
     {
         for binding in self.own() {
-            if name == binding.name {
+            if *name == binding.name {
                 return true;
             }
         }
@@ -102,7 +102,7 @@ impl<'a> Iterator for PlaceUses<'a> {
         'replaced: loop {
             let (binding, others) = self.class.split_first()?;
             self.class = others;
-            if !self.set.replaces(binding.name) {
+            if !self.set.replaces(&binding.name) {
                 return Some(binding);
             }
         }

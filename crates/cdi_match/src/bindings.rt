@@ -29,7 +29,7 @@ pub fn with_brought<'a>(
         return Ok(list);
     }
     for name in types_brought(alloc, decls, list.as_slice())? {
-        push_uses(&mut list, brought(decls, name))?;
+        push_uses(&mut list, brought(decls, &name))?;
     }
     Ok(list)
 }
@@ -60,16 +60,16 @@ pub fn types_brought(alloc: Global, decls: &Decls, uses: &[&Qual]) -> Result<Vec
 
 /// Whether a binding type reaches itself by a chain of one `declares` or more. It takes no memory.
 #[tactic(auto, unfolding(crate::specs::Bindings::brings_itself))]
-pub fn brings_itself(decls: &Decls, name: Name) -> bool
-    ensures value { result ≡ brings_itself decls.now name }
-    ensures meaning { IsTrue result ↔ Circle (brings decls.now) name }
+pub fn brings_itself(decls: &Decls, name: &Name) -> bool
+    ensures value { result ≡ brings_itself decls.now name.now }
+    ensures meaning { IsTrue result ↔ Circle (brings decls.now) name.now }
 {
     reaches_itself(decls, Links::Bindings, name)
 }
 
 /// The uses that the declaration of a binding type declares: none where it is not declared. It takes no memory.
-pub fn brought(decls: &Decls, name: Name) -> &[Qual]
-    ensures { result.now ≡ brought decls.now name }
+pub fn brought<'a>(decls: &'a Decls, name: &Name) -> &'a [Qual]
+    ensures { result.now ≡ brought decls.now name.now }
 {
     match decls.get(Kind::Binding, name) {
         Some(Decl::Binding(decl)) => decl.declares.as_slice(),

@@ -1,6 +1,6 @@
 //! The names that follow a name.
 ghost use Rattle.std.specs.Prelude.{◌≡◌, [], Some, None, flat_map, map};
-ghost use Rattle.std.specs.Iterator.{YieldsFirst, item_count};
+ghost use Rattle.std.specs.Iterator.{YieldsFirstRef, item_count};
 ghost use Rattle.std.specs.Option.{option_copied};
 ghost use Rattle.cdi_model.specs.Quals.{name_of_use};
 ghost use Rattle.cdi_match.specs.Search.{kind_of, listed_by, next_of};
@@ -35,19 +35,19 @@ impl Links {
 /// Names that are left of those that follow one, in order.
 #[derive(Drop)]
 pub(crate) struct Followers<'a> {
-    first: Option<Name>,
+    first: Option<&'a Name>,
     names: &'a [Name],
     uses: &'a [Qual],
 }
 
 impl<'a> Model for Followers<'a> {
     ghost use Rattle.std.specs.Prelude.{List, ℕ, map, ◌++◌};
-    ghost use Rattle.std.specs.Option.{option_to_list};
+    ghost use Rattle.std.specs.Option.{option_copied, option_to_list};
     ghost use Rattle.cdi_model.specs.Quals.{name_of_use};
 
     ghost Value = { List (List ℕ) };
 
-    ghost view = { λ f. option_to_list f.first ++ f.names.now ++ map name_of_use f.uses.now };
+    ghost view = { λ f. option_to_list (option_copied f.first) ++ f.names.now ++ map name_of_use f.uses.now };
 }
 
 impl<'a> Followers<'a> {
@@ -73,7 +73,7 @@ impl<'a> Followers<'a> {
         };
         match (links, decl) {
             (Links::Supers, Some(Decl::Type(decl))) => {
-                followers.first = decl.extends;
+                followers.first = decl.extends.as_ref();
                 followers.names = decl.implements.as_slice();
             }
             (Links::Stereotypes, Some(Decl::Stereotype(decl))) => {
@@ -89,29 +89,29 @@ impl<'a> Followers<'a> {
 }
 
 impl<'a> Iterator for Followers<'a> {
-    type Item = Name;
+    type Item = &'a Name;
 
-    ghost next_gives = { YieldsFirst (λ s. s) };
+    ghost next_gives = { YieldsFirstRef (λ s. s) };
 
     ghost remaining = { item_count (λ s. s) };
 
-    fn next(&mut self) -> Option<Name> {
+    fn next(&mut self) -> Option<&'a Name> {
         if let Some(name) = self.first.take() {
             return Some(name);
         }
         if let Some((name, others)) = self.names.split_first() {
             self.names = others;
-            return Some(*name);
+            return Some(name);
         }
         let (binding, others) = self.uses.split_first()?;
         self.uses = others;
-        Some(binding.name)
+        Some(&binding.name)
     }
 }
 
 /// The names that follow a name: none where it is not declared. It takes no memory.
-pub(crate) fn following(decls: &Decls, links: Links, name: Name) -> Followers<'_>
-    ensures { result ≡ next_of links decls.now name }
+pub(crate) fn following<'a>(decls: &'a Decls, links: Links, name: &Name) -> Followers<'a>
+    ensures { result ≡ next_of links decls.now name.now }
 {
     Followers::of(links, decls.get(links.kind(), name))
 }

@@ -49,9 +49,9 @@ impl Walk {
     }
 
     /// Finds the declaration of a name, if there is one.
-    fn add(&mut self, decls: &Decls, links: Links, name: Name)
+    fn add(&mut self, decls: &Decls, links: Links, name: &Name)
         requires { HasRoom self.old }
-        ensures { Meets links decls.now (name ∷ []) self.old self.new }
+        ensures { Meets links decls.now (name.now ∷ []) self.old self.new }
     {
         let Some(position) = decls.position(links.kind(), name) else {
             return;
@@ -94,8 +94,8 @@ impl Walk {
 }
 
 /// Whether a chain of one link or more leads from a name back to it. It takes no memory.
-pub(crate) fn reaches_itself(decls: &Decls, links: Links, name: Name) -> bool
-    ensures { result ≡ is_led_to links decls.now (next_of links decls.now name) name }
+pub(crate) fn reaches_itself(decls: &Decls, links: Links, name: &Name) -> bool
+    ensures { result ≡ is_led_to links decls.now (next_of links decls.now name.now) name.now }
 {
     let Some(goal) = decls.position(links.kind(), name) else {
         return false;

@@ -1,5 +1,6 @@
 -- What a declaration names, and where.
 use Rattle.std.specs.Prelude.{ℕ, List, [], ◌∷◌, ◌++◌, map, flat_map, unwrap_or, Option, Some, None, if◌then◌else◌}
+use Rattle.std.specs.Borrow.{Bor}
 use Rattle.std.specs.Option.{option_to_list}
 use Rattle.cdi_model.specs.declared.decl.Attributes.{Attributes}
 use Rattle.cdi_model.specs.declared.decl.CallDecl.{CallDecl}
@@ -52,8 +53,8 @@ abbrev pub listed_types : Attributes → List (List ℕ)
 listed_types a = unwrap_or a.types []
 
 -- what is declared of a bean, or of the product of a producer method
-abbrev pub of_attributes : Option (List ℕ) → Attributes → List Mention
-of_attributes producer a = map (TypeIn (places.Listed producer)) (listed_types a) ++ of_qualifiers a.qualifiers
+abbrev pub of_attributes : Attributes → List Mention
+of_attributes a = map (TypeIn places.Listed) (listed_types a) ++ of_qualifiers a.qualifiers
     ++ map StereotypeOf a.stereotypes
 
 abbrev pub of_point : PointPlace → PointDecl → List Mention
@@ -79,7 +80,7 @@ abbrev pub of_method : MethodDecl → List Mention
 of_method m = MethodOf m ∷ of_bindings m.bindings ++ of_part (parts.Method m.name) [] m.part
 
 abbrev pub of_producer : ProducerDecl → List Mention
-of_producer p = TypeIn places.Produced p.product_type ∷ of_attributes (Some p.name) p.attributes ++ of_bindings p.bindings
+of_producer p = TypeIn places.Produced p.product_type ∷ of_attributes p.attributes ++ of_bindings p.bindings
     ++ flat_map (of_point (points.Producer p.name)) p.params ++ of_part (part_place_of p) p.params p.part
 
 abbrev pub of_disposer : DisposerDecl → List Mention
@@ -94,7 +95,7 @@ unfoldable pub mentions : Decl → List Mention
 mentions (decls.Type d) = map (TypeIn places.Extends) (option_to_list d.extends) ++ map (TypeIn places.Implements) d.implements
 mentions (decls.Binding d) = of_bindings d.declares
 mentions (decls.Stereotype d) = map StereotypeOf d.stereotypes ++ of_bindings d.bindings
-mentions (decls.Bean d) = TypeIn places.Class d.name ∷ of_attributes None d.attributes ++ of_bindings d.bindings
+mentions (decls.Bean d) = TypeIn places.Class d.name ∷ of_attributes d.attributes ++ of_bindings d.bindings
     ++ flat_map (of_point points.Constructor) d.points
     ++ (of_parts parts.Construct d.construct ++ of_parts parts.Post d.post ++ of_parts parts.Pre d.pre)
     ++ flat_map of_method d.methods ++ flat_map of_producer d.producers ++ flat_map of_disposer d.disposers
@@ -108,22 +109,22 @@ mentions d = []
 
 -- what it gives in one place
 abbrev pub shown : AnyMention → Mention
-shown (given.Type place t) = TypeIn place t
+shown (given.Type place t) = TypeIn place t.now
 shown (given.Use kind u) = UseOf kind u.now
-shown (given.Stereotype s) = StereotypeOf s
+shown (given.Stereotype s) = StereotypeOf s.now
 shown (given.Method m) = MethodOf m.now
 shown (given.Point place p) = PointOf place p.now
-shown (given.Body place body) = BodyOf place body
+shown (given.Body place body) = BodyOf place body.now
 shown (given.Call place params call) = CallOf place params.now call.now
 shown (given.Event e) = EventOf e.now
 
 -- a type, if there is one, in its place, and some that are implemented
-abbrev pub supers : Option (TypePlace × List ℕ) → List (List ℕ) → List Mention
-supers first ts = map (λ t. TypeIn t.0 t.1) (option_to_list first) ++ map (TypeIn places.Implements) ts
+abbrev pub supers : Option (TypePlace × Bor (List ℕ)) → List (List ℕ) → List Mention
+supers first ts = map (λ t. TypeIn t.0 t.1.now) (option_to_list first) ++ map (TypeIn places.Implements) ts
 
 -- what it has left
 abbrev pub names_left : Names → List Mention
-names_left n = map (λ t. TypeIn t.0 t.1) (option_to_list n.first) ++ map (TypeIn n.place) n.types.now ++ of_qualifiers n.qualifiers.now
+names_left n = map (λ t. TypeIn t.0 t.1.now) (option_to_list n.first) ++ map (TypeIn n.place) n.types.now ++ of_qualifiers n.qualifiers.now
     ++ map StereotypeOf n.stereotypes.now ++ of_bindings n.bindings.now
 
 -- of the call sites of a body
@@ -136,7 +137,7 @@ sites_left s = calls_left s ++ flat_map of_event s.fires.now
 
 -- of a body that is not begun
 abbrev pub body_left : Body → List Mention
-body_left b = BodyOf b.place b.name ∷ (map (CallOf b.place b.params.now) b.calls.now ++ flat_map of_event b.fires.now)
+body_left b = BodyOf b.place b.name.now ∷ (map (CallOf b.place b.params.now) b.calls.now ++ flat_map of_event b.fires.now)
 
 abbrev pub some_left : Option Body → List Mention
 some_left None = []

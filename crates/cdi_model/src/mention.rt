@@ -28,8 +28,8 @@ pub enum TypePlace {
     Extends,
     /// The type implements it.
     Implements,
-    /// It is among those to which a bean, or the product of the producer method of this name, is restricted.
-    Listed(Option<Ident>),
+    /// It is among those to which a bean, or the product of a producer method, is restricted.
+    Listed,
     /// An injection point requires it.
     Required,
     /// A producer method declares to return it.
@@ -56,15 +56,15 @@ pub enum PointPlace {
 /// What a declaration names in one place.
 #[derive(Clone, Copy)]
 pub enum Mention<'a> {
-    Type(TypePlace, Name),
+    Type(TypePlace, &'a Name),
     Use(UseKind, &'a Qual),
-    Stereotype(Name),
+    Stereotype(&'a Name),
     /// A business method. Its bindings come behind it.
     Method(&'a MethodDecl),
     /// An injection point. Its type and its uses come behind it.
     Point(PointPlace, &'a PointDecl),
     /// The stored body that runs in a place. What it may call and fire comes behind it.
-    Body(PartPlace, Ident),
+    Body(PartPlace, &'a Ident),
     /// A call site of the body in a place, and the parameters of the method whose body it is.
     Call(PartPlace, &'a [PointDecl], &'a CallDecl),
     /// An event that a body may fire. Its type and its uses come behind it.
@@ -101,7 +101,7 @@ impl<'a> Iterator for Mentions<'a> {
 /// Types, uses and stereotypes that stand beside one another.
 #[derive(Drop)]
 pub(crate) struct Names<'a> {
-    first: Option<(TypePlace, Name)>,
+    first: Option<(TypePlace, &'a Name)>,
     /// The place of the others.
     place: TypePlace,
     types: &'a [Name],
@@ -112,8 +112,8 @@ pub(crate) struct Names<'a> {
 
 impl<'a> Names<'a> {
     /// Some types that a type names.
-    fn of_types(first: Option<(TypePlace, Name)>, types: &'a [Name]) -> Names<'a>
-        ensures { names_left result ≡ supers first types.now }
+    fn of_types(first: Option<(TypePlace, &'a Name)>, types: &'a [Name]) -> Names<'a>
+        ensures { names_left result ≡ supers first.entry types.now }
     {
         Names {
             first,
@@ -155,11 +155,11 @@ impl<'a> Names<'a> {
 
     /// What is declared of the product of a producer method.
     fn of_product(producer: &'a ProducerDecl) -> Names<'a>
-        ensures { names_left result ≡ of_attributes (Some producer.now.name) producer.now.attributes ++ of_bindings producer.now.bindings }
+        ensures { names_left result ≡ of_attributes producer.now.attributes ++ of_bindings producer.now.bindings }
     {
         Names {
             first: None,
-            place: TypePlace::Listed(Some(producer.name)),
+            place: TypePlace::Listed,
             types: listed_types(&producer.attributes),
             qualifiers: producer.attributes.qualifiers.as_slice(),
             stereotypes: producer.attributes.stereotypes.as_slice(),
@@ -168,8 +168,8 @@ impl<'a> Names<'a> {
     }
 
     /// A type, and uses of qualifiers.
-    fn of_type(place: TypePlace, name: Name, qualifiers: &'a [Qual]) -> Names<'a>
-        ensures { names_left result ≡ TypeIn place name ∷ of_qualifiers qualifiers.now }
+    fn of_type(place: TypePlace, name: &'a Name, qualifiers: &'a [Qual]) -> Names<'a>
+        ensures { names_left result ≡ TypeIn place name.now ∷ of_qualifiers qualifiers.now }
     {
         Names {
             first: Some((place, name)),
@@ -183,12 +183,12 @@ impl<'a> Names<'a> {
 
     /// The class of a bean, and what is declared of it.
     fn of_bean(bean: &'a BeanDecl) -> Names<'a>
-        ensures { names_left result ≡ TypeIn places_are.Class bean.now.name ∷ of_attributes None bean.now.attributes
+        ensures { names_left result ≡ TypeIn places_are.Class bean.now.name ∷ of_attributes bean.now.attributes
             ++ of_bindings bean.now.bindings }
     {
         Names {
-            first: Some((TypePlace::Class, bean.name)),
-            place: TypePlace::Listed(None),
+            first: Some((TypePlace::Class, &bean.name)),
+            place: TypePlace::Listed,
             types: listed_types(&bean.attributes),
             qualifiers: bean.attributes.qualifiers.as_slice(),
             stereotypes: bean.attributes.stereotypes.as_slice(),
@@ -205,7 +205,7 @@ impl<'a> Names<'a> {
         }
         if let Some((name, others)) = self.types.split_first() {
             self.types = others;
-            return Some(Mention::Type(self.place, *name));
+            return Some(Mention::Type(self.place, name));
         }
         if let Some((qual, others)) = self.qualifiers.split_first() {
             self.qualifiers = others;
@@ -213,7 +213,7 @@ impl<'a> Names<'a> {
         }
         if let Some((name, others)) = self.stereotypes.split_first() {
             self.stereotypes = others;
-            return Some(Mention::Stereotype(*name));
+            return Some(Mention::Stereotype(name));
         }
         let (binding, others) = self.bindings.split_first()?;
         self.bindings = others;
@@ -262,7 +262,7 @@ impl<'a> Sites<'a> {
     }
 
     fn of(body: Body<'a>) -> Sites<'a>
-        ensures { BodyOf body.entry.place body.entry.name ∷ sites_left result ≡ body_left body.entry }
+        ensures { BodyOf body.entry.place body.entry.name.now ∷ sites_left result ≡ body_left body.entry }
     {
         Sites {
             place: body.place,
@@ -297,7 +297,7 @@ impl<'a> Sites<'a> {
 #[derive(Clone, Copy)]
 pub(crate) struct Body<'a> {
     place: PartPlace,
-    name: Ident,
+    name: &'a Ident,
     /// The parameters of the method whose body it is.
     params: &'a [PointDecl],
     calls: &'a [CallDecl],
@@ -311,7 +311,7 @@ impl<'a> Body<'a> {
     {
         Body {
             place,
-            name: part.body,
+            name: &part.body,
             params,
             calls: part.calls.as_slice(),
             fires: part.fires.as_slice(),
@@ -369,7 +369,7 @@ impl<'a> Parts<'a> {
         let mut parts = Parts::none();
         parts.first = Some(Body {
             place: PartPlace::Disposer(disposer.name),
-            name: disposer.body,
+            name: &disposer.body,
             params: none(),
             calls: none(),
             fires: none(),
@@ -506,7 +506,8 @@ impl<'a> Rest<'a> {
             Decl::Bean(bean) => return Rest::of_bean(bean),
             Decl::Interceptor(decl) => return Rest::of_interceptor(decl),
             Decl::Type(decl) => {
-                let first = decl.extends.map(|extended| (TypePlace::Extends, extended));
+                let extended = decl.extends.as_ref();
+                let first = extended.map(|extended| (TypePlace::Extends, extended));
                 rest.names = Names::of_types(first, decl.implements.as_slice());
             }
             Decl::Qualifier(_) => {}
@@ -533,7 +534,7 @@ impl<'a> Rest<'a> {
             self.points = others;
             self.names = Names::of_type(
                 TypePlace::Required,
-                point.required_type,
+                &point.required_type,
                 point.qualifiers.as_slice(),
             );
             return Some(Mention::Point(self.place, point));
@@ -553,7 +554,7 @@ impl<'a> Rest<'a> {
         if let Some(event) = self.sites.next_event() {
             self.names = Names::of_type(
                 TypePlace::Fired,
-                event.event_type,
+                &event.event_type,
                 event.qualifiers.as_slice(),
             );
             return Some(Mention::Event(event));
@@ -593,14 +594,14 @@ impl<'a> Rest<'a> {
             self.names = Names::of_product(producer);
             self.parts = Parts::of_producer(producer);
             self.begin(producer.params.as_slice());
-            return Some(Mention::Type(TypePlace::Produced, producer.product_type));
+            return Some(Mention::Type(TypePlace::Produced, &producer.product_type));
         }
         if let Some((disposer, others)) = self.disposers.split_first() {
             self.disposers = others;
             self.names = Names::of_uses(disposer.qualifiers.as_slice(), none());
             self.parts = Parts::of_disposer(disposer);
             self.begin(none());
-            return Some(Mention::Type(TypePlace::Disposed, disposer.product_type));
+            return Some(Mention::Type(TypePlace::Disposed, &disposer.product_type));
         }
         let (observer, others) = self.observers.split_first()?;
         self.observers = others;
@@ -609,7 +610,7 @@ impl<'a> Rest<'a> {
         let place = PartPlace::Observer(observer.name);
         self.parts = Parts::of(place, observer.params.as_slice(), &observer.part);
         self.begin(observer.params.as_slice());
-        Some(Mention::Type(TypePlace::Observed, observer.event_type))
+        Some(Mention::Type(TypePlace::Observed, &observer.event_type))
     }
 
     /// Goes through these points before the bodies.

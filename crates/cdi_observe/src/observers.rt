@@ -127,7 +127,7 @@ fn enabled_bean<'a>(decls: &'a Decls, bean: &Effective) -> Option<&'a BeanDecl>
     if bean.id.producer.is_some() || !bean.is_enabled {
         return None;
     }
-    match decls.get(Kind::Bean, bean.id.class) {
+    match decls.get(Kind::Bean, &bean.id.class) {
         Some(Decl::Bean(declared)) => Some(declared),
         _ => None,
     }

@@ -35,8 +35,8 @@ pub trait View {
 
     /// The records of the bean declaration of a class: its managed bean, and behind it its products in order. None where
     /// no such bean is declared.
-    fn records(&self, class: Name) -> &[Effective]
-        ensures { result.now ≡ records_in (list self.now) class };
+    fn records(&self, class: &Name) -> &[Effective]
+        ensures { result.now ≡ records_in (list self.now) class.now };
 
     /// The bean for a type and qualifiers (CDI 4.0, Performing typesafe resolution). Where the answer was not kept, a view
     /// that keeps answers counts one more, and keeps it if a declaration asks for it; an edit that is staged may be
@@ -120,7 +120,7 @@ impl<'a> View for PlainView<'a> {
         self.decls
     }
 
-    fn records(&self, class: Name) -> &[Effective] {
+    fn records(&self, class: &Name) -> &[Effective] {
         self.beans.records(class)
     }
 

@@ -61,8 +61,8 @@ impl BeanList {
 
     /// The records of the bean declaration of a class: its managed bean, and behind it its products in order. None
     /// where no such bean is declared. It takes no memory.
-    pub fn records(&self, class: Name) -> &[Effective]
-        ensures { result.now ≡ records_among self.now class }
+    pub fn records(&self, class: &Name) -> &[Effective]
+        ensures { result.now ≡ records_among self.now class.now }
     {
         match self.place_of(class) {
             Some(place) => with_products(&self.beans[place..]),
@@ -71,10 +71,10 @@ impl BeanList {
     }
 
     /// The place of the first bean of a class.
-    fn place_of(&self, class: Name) -> Option<usize>
-        ensures { result ≡ position (is_of_class class) self.now }
+    fn place_of(&self, class: &Name) -> Option<usize>
+        ensures { result ≡ position (is_of_class class.now) self.now }
     {
-        self.classes.get(&class).copied()
+        self.classes.get(class).copied()
     }
 
     /// The position of a bean in the list, if it is there. It takes no memory, and in the list of some declarations time
@@ -82,7 +82,7 @@ impl BeanList {
     pub fn position(&self, id: BeanId) -> Option<usize>
         ensures { result ≡ position (is_told_by id) self.now }
     {
-        let first = self.place_of(id.class)?;
+        let first = self.place_of(&id.class)?;
         let behind = position_among(&self.beans[first..], &id)?;
         Some(first + behind)
     }

@@ -169,7 +169,7 @@ record AreFree (f : Mention → Option Subject) (bean : BeanDecl) : Type 0 where
 each-part-free : (f : Mention → Option Subject) (bean : BeanDecl) → IsFree f (mentions (decls.Bean bean)) → AreFree f bean
 unfolding mentions
 each-part-free f bean free =
-    let class = TypeIn types_are.Class bean.name ∷ of_attributes None bean.attributes in
+    let class = TypeIn types_are.Class bean.name ∷ of_attributes bean.attributes in
     let bindings = of_bindings bean.bindings in
     let own = flat_map (of_point points_are.Constructor) bean.points in
     let construct = of_parts places.Construct bean.construct in
@@ -396,13 +396,13 @@ method-body f m free =
 producer-body : (f : Mention → Option Subject) (p : ProducerDecl) → IsFree f (of_producer p)
     → IsFree f (of_part (part_place_of p) p.params p.part)
 producer-body f p free =
-    back-free f (TypeIn types_are.Produced p.product_type ∷ of_attributes (Some p.name) p.attributes ++ of_bindings p.bindings
+    back-free f (TypeIn types_are.Produced p.product_type ∷ of_attributes p.attributes ++ of_bindings p.bindings
     ++ flat_map (of_point (points_are.Producer p.name)) p.params) (of_part (part_place_of p) p.params p.part) free
 
 producer-params : (f : Mention → Option Subject) (p : ProducerDecl) → IsFree f (of_producer p)
     → IsFree f (flat_map (of_point (points_are.Producer p.name)) p.params)
 producer-params f p free =
-    let before = TypeIn types_are.Produced p.product_type ∷ of_attributes (Some p.name) p.attributes ++ of_bindings p.bindings in
+    let before = TypeIn types_are.Produced p.product_type ∷ of_attributes p.attributes ++ of_bindings p.bindings in
     let params = flat_map (of_point (points_are.Producer p.name)) p.params in
     back-free f before params (front-free f (before ++ params) (of_part (part_place_of p) p.params p.part) free)
 

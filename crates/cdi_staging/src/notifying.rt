@@ -26,7 +26,7 @@ fn observer_named(observers: &[ObserverDecl], name: Ident) -> Option<usize>
 fn observer_declared(decls: &Decls, class: Name, name: Ident) -> usize
     ensures { result ≡ observer_declared (find_bean class decls.now) name }
 {
-    match decls.get(Kind::Bean, class) {
+    match decls.get(Kind::Bean, &class) {
         Some(Decl::Bean(bean)) => {
             let observers = bean.observers.as_slice();
             observer_named(observers, name).unwrap_or(observers.len())

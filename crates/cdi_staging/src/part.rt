@@ -36,8 +36,8 @@ impl<'a, B: Bodies> Stage<'a, B> {
         ensures { result ≡ part_of (B.promises self.now.book.now) calls fires name }
     {
         Some(Part {
-            body: self.book.position(name)?,
-            promise: self.book.promise(name)?,
+            body: self.book.position(&name)?,
+            promise: self.book.promise(&name)?,
             calls,
             fires,
         })

@@ -46,7 +46,7 @@ fn method_named(methods: &[MethodDecl], name: Ident) -> Option<usize>
 fn method_declared(decls: &Decls, class: Name, name: Ident) -> usize
     ensures { result ≡ method_declared (find_bean class decls.now) name }
 {
-    match decls.get(Kind::Bean, class) {
+    match decls.get(Kind::Bean, &class) {
         Some(Decl::Bean(bean)) => {
             let methods = bean.methods.as_slice();
             method_named(methods, name).unwrap_or(methods.len())

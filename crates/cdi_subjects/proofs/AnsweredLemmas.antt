@@ -84,15 +84,15 @@ types-listed since points place (t ∷ ts) ms none listed =
     subst (λ begins. AreListed (cond begins [] since) points (map (TypeIn place) ts ++ ms)) (sym none)
     (types-listed since points place ts ms none listed)
 
-attributes-listed : (since points : List PointDecl) (producer : Option (List ℕ)) (a : Attributes) (ms : List Mention)
-    → AreListed since points ms → AreListed since points (of_attributes producer a ++ ms)
-attributes-listed since points producer a ms listed =
-    let types = map (TypeIn (types_are.Listed producer)) (listed_types a) in
+attributes-listed : (since points : List PointDecl) (a : Attributes) (ms : List Mention)
+    → AreListed since points ms → AreListed since points (of_attributes a ++ ms)
+attributes-listed since points a ms listed =
+    let types = map (TypeIn types_are.Listed) (listed_types a) in
     let quals = of_qualifiers a.qualifiers in
     let stereotypes = map StereotypeOf a.stereotypes in
     nest since points (types ++ quals) stereotypes ms
     (nest since points types quals (stereotypes ++ ms)
-    (types-listed since points (types_are.Listed producer) (listed_types a) (quals ++ (stereotypes ++ ms)) refl
+    (types-listed since points types_are.Listed (listed_types a) (quals ++ (stereotypes ++ ms)) refl
     (uses-listed since points uses.Qualifier a.qualifiers (stereotypes ++ ms)
     (stereotypes-listed since points a.stereotypes ms listed))))
 
@@ -150,7 +150,7 @@ producers-listed : (since points : List PointDecl) (xs : List ProducerDecl) (ms 
     → AreListed since (params_of xs ++ points) (flat_map of_producer xs ++ ms)
 producers-listed since points [] ms listed = listed since
 producers-listed since points (p ∷ xs) ms listed =
-    let attributes = of_attributes (Some p.name) p.attributes in
+    let attributes = of_attributes p.attributes in
     let bindings = of_bindings p.bindings in
     let params = flat_map (of_point (points_are.Producer p.name)) p.params in
     let body = of_part (part_place_of p) p.params p.part in
@@ -162,7 +162,7 @@ producers-listed since points (p ∷ xs) ms listed =
     (nest [] (p.params ++ left) (attributes ++ bindings ++ params) body (others ++ ms)
     (nest [] (p.params ++ left) (attributes ++ bindings) params (body ++ (others ++ ms))
     (nest [] (p.params ++ left) attributes bindings (params ++ (body ++ (others ++ ms)))
-    (attributes-listed [] (p.params ++ left) (Some p.name) p.attributes (bindings ++ (params ++ (body ++ (others ++ ms))))
+    (attributes-listed [] (p.params ++ left) p.attributes (bindings ++ (params ++ (body ++ (others ++ ms))))
     (uses-listed [] (p.params ++ left) uses.Binding p.bindings (params ++ (body ++ (others ++ ms)))
     (points-listed [] left (points_are.Producer p.name) p.params (body ++ (others ++ ms))
     (part-listed p.params left (part_place_of p) p.params p.part (others ++ ms) ([], sym (append-nil p.params))
@@ -201,7 +201,7 @@ observers-listed since (o ∷ xs) =
 bean-listed : (bean : BeanDecl) → AreListed [] (declared_points (decls.Bean bean)) (mentions (decls.Bean bean))
 unfolding mentions
 bean-listed bean =
-    let attributes = of_attributes None bean.attributes in
+    let attributes = of_attributes bean.attributes in
     let bindings = of_bindings bean.bindings in
     let own = flat_map (of_point points_are.Constructor) bean.points in
     let construct = of_parts parts_are.Construct bean.construct in
@@ -225,7 +225,7 @@ bean-listed bean =
     (nest [] all (attributes ++ bindings ++ own) (construct ++ post ++ pre) members
     (nest [] all (attributes ++ bindings) own (construct ++ post ++ pre ++ members)
     (nest [] all attributes bindings (own ++ (construct ++ post ++ pre ++ members))
-    (attributes-listed [] all None bean.attributes (bindings ++ (own ++ (construct ++ post ++ pre ++ members)))
+    (attributes-listed [] all bean.attributes (bindings ++ (own ++ (construct ++ post ++ pre ++ members)))
     (uses-listed [] all uses.Binding bean.bindings (own ++ (construct ++ post ++ pre ++ members))
     (points-listed [] behind points_are.Constructor bean.points (construct ++ post ++ pre ++ members)
     (nest bean.points behind (construct ++ post) pre members

@@ -41,7 +41,7 @@ use Rattle.cdi_faults.specs.declared.fault.Subject.{Subject}
 use Rattle.cdi_faults.specs.declared.fault.Subject.TheVariants as subjects
 use Rattle.cdi_subjects.specs.Filter.{found_in, is_enabled_in, producer_of_part, producer_of_point, some_if}
 use Rattle.cdi_subjects.specs.Proxies.{is_final_decl, is_unproxyable, needs_subclass}
-use Rattle.cdi_subjects.specs.Records.{conditional_by, conflict_at, conflicts_in, typed_by, with_two, without_product}
+use Rattle.cdi_subjects.specs.Records.{conditional_by, conflict_at, conflicts_in, part_at, typed_by, with_two, without_product}
 use Rattle.cdi_subjects.specs.Rests.{AreAlike, DifferAlike, FaultsRestOn, HasQualifiersAlike, IsAnsweredAlike, IsBeanAlike, IsSeenAlike}
 use Rattle.cdi_subjects.specs.Rests.{named_in}
 use Rattle.cdi_subjects.specs.Sites.{is_lost_among, lacks_method, lost_in, own_points, own_seen, points_seen}
@@ -178,18 +178,16 @@ conflicts-same : (ds es : List Decl) (bean : BeanDecl) → DifferAlike ds es (de
 conflicts-same ds es bean alike =
     let class = class_bindings ds bean in
     let other = class_bindings es bean in
-    let at : (place : BeanPlace) (subject : Subject) → conflict_at ds class bean place subject ≡ conflict_at es other bean place subject =
-    λ place subject. ap (λ b. cond b (subject ∷ []) []) (alike place) in
-    let methods = each-same (λ m. conflict_at ds class bean (spots.Method m.name) (subjects.Part (places.Method m.name)))
-    (λ m. conflict_at es other bean (spots.Method m.name) (subjects.Part (places.Method m.name))) bean.methods
-    (λ m. at (spots.Method m.name) (subjects.Part (places.Method m.name))) in
-    let producers = each-same (λ p. conflict_at ds class bean (spots.Producer p.name) (subjects.Part (places.Producer p.name)))
-    (λ p. conflict_at es other bean (spots.Producer p.name) (subjects.Part (places.Producer p.name)))
-    (filter (λ p. not p.is_static) bean.producers) (λ p. at (spots.Producer p.name) (subjects.Part (places.Producer p.name))) in
-    let observers = each-same (λ o. conflict_at ds class bean (spots.Observer o.name) (subjects.Part (places.Observer o.name)))
-    (λ o. conflict_at es other bean (spots.Observer o.name) (subjects.Part (places.Observer o.name))) bean.observers
-    (λ o. at (spots.Observer o.name) (subjects.Part (places.Observer o.name))) in
-    rw (at spots.Construct subjects.Class, methods, producers, observers) refl
+    let at : (place : BeanPlace) → conflict_at ds class bean place ≡ conflict_at es other bean place =
+    λ place. ap (λ b. cond b (part_at place ∷ []) []) (alike place) in
+    let methods = each-same (λ m. conflict_at ds class bean (spots.Method m.name))
+    (λ m. conflict_at es other bean (spots.Method m.name)) bean.methods (λ m. at (spots.Method m.name)) in
+    let producers = each-same (λ p. conflict_at ds class bean (spots.Producer p.name))
+    (λ p. conflict_at es other bean (spots.Producer p.name)) (filter (λ p. not p.is_static) bean.producers)
+    (λ p. at (spots.Producer p.name)) in
+    let observers = each-same (λ o. conflict_at ds class bean (spots.Observer o.name))
+    (λ o. conflict_at es other bean (spots.Observer o.name)) bean.observers (λ o. at (spots.Observer o.name)) in
+    rw (at spots.Construct, methods, producers, observers) refl
 
 -- ---- injection points
 

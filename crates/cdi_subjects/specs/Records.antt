@@ -66,23 +66,29 @@ conditional_by _ _ = []
 
 -- ---- bindings
 
+-- the part of a bean at a place: its class at the constructor and the callbacks
+abbrev pub part_at : BeanPlace → Subject
+part_at (spots.Method name) = subjects.Part (places.Method name)
+part_at (spots.Producer name) = subjects.Part (places.Producer name)
+part_at (spots.Observer name) = subjects.Part (places.Observer name)
+part_at _ = subjects.Class
+
 -- where two bindings of one type at a place of a bean whose class has these differ
-abbrev pub conflict_at : List Decl → List Qual → BeanDecl → BeanPlace → Subject → List Subject
-conflict_at ds class d place subject = if has_conflict ds (set_by ds class d place) then subject ∷ [] else []
+abbrev pub conflict_at : List Decl → List Qual → BeanDecl → BeanPlace → List Subject
+conflict_at ds class d place = if has_conflict ds (set_by ds class d place) then part_at place ∷ [] else []
 
 -- the producer methods that are not static
 abbrev pub conflicts_at_producers : List Decl → List Qual → BeanDecl → List Subject
 conflicts_at_producers ds class d =
-    flat_map (λ p. conflict_at ds class d (spots.Producer p.name) (subjects.Part (places.Producer p.name)))
-    (filter (λ p. not p.is_static) d.producers)
+    flat_map (λ p. conflict_at ds class d (spots.Producer p.name)) (filter (λ p. not p.is_static) d.producers)
 
 -- the class, and the places with bindings of their own
 abbrev pub conflicts_in : List Decl → List Qual → BeanDecl → List Subject
 conflicts_in ds class d =
-    conflict_at ds class d spots.Construct subjects.Class
-    ++ flat_map (λ m. conflict_at ds class d (spots.Method m.name) (subjects.Part (places.Method m.name))) d.methods
+    conflict_at ds class d spots.Construct
+    ++ flat_map (λ m. conflict_at ds class d (spots.Method m.name)) d.methods
     ++ conflicts_at_producers ds class d
-    ++ flat_map (λ o. conflict_at ds class d (spots.Observer o.name) (subjects.Part (places.Observer o.name))) d.observers
+    ++ flat_map (λ o. conflict_at ds class d (spots.Observer o.name)) d.observers
 
 -- the same by the record of its managed bean
 abbrev pub conflicts_by : List Decl → Decl → List Effective → List Subject

@@ -31,7 +31,7 @@ pub(crate) fn unfit_in<B: Bodies>(book: &B, decl: &Decl, mention: &Mention<'_>) 
     ensures { result ≡ unfit_in (B.promises book.now) decl.now (shown mention.now) }
 {
     match mention {
-        Mention::Body(place, body) if !is_fit(book, allowed_in(decl, place), *body) => {
+        Mention::Body(place, body) if !is_fit(book, allowed_in(decl, place), body) => {
             Some(Subject::Part(*place))
         }
         _ => None,
@@ -39,8 +39,8 @@ pub(crate) fn unfit_in<B: Bodies>(book: &B, decl: &Decl, mention: &Mention<'_>) 
 }
 
 /// Whether a body is in a book, and promises nothing but what is allowed.
-fn is_fit<B: Bodies>(book: &B, allowed: Promise, body: Ident) -> bool
-    ensures { result ≡ is_fit allowed.0 (promise_of (B.promises book.now) body) }
+fn is_fit<B: Bodies>(book: &B, allowed: Promise, body: &Ident) -> bool
+    ensures { result ≡ is_fit allowed.0 (promise_of (B.promises book.now) body.now) }
 {
     match book.promise(body) {
         Some(promise) => promise.is_allowed(allowed),

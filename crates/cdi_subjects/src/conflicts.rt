@@ -1,6 +1,6 @@
 //! Bindings of one type that differ (Interceptors 2.1, Associating an Interceptor using Interceptor Bindings).
 ghost use Rattle.std.specs.Prelude.{◌≡◌, ◌++◌, IfOk, OnOk};
-ghost use Rattle.cdi_subjects.specs.Records.{conflict_at, conflicts_at_producers, conflicts_by, conflicts_in};
+ghost use Rattle.cdi_subjects.specs.Records.{conflict_at, conflicts_at_producers, conflicts_by, conflicts_in, part_at};
 
 use cdi_effective::Effective;
 use cdi_faults::Subject;
@@ -35,18 +35,15 @@ fn push_conflicts(
 ) -> Result<(), AllocError>
     ensures { OnOk result (subjects.new.items ≡ subjects.old.items ++ conflicts_in decls.now class.now bean.now) }
 {
-    let place = BeanPlace::Construct;
-    push_if_opposed(decls, class, bean, place, Subject::Class, subjects)?;
+    push_if_opposed(decls, class, bean, &BeanPlace::Construct, subjects)?;
     for method in bean.methods.as_slice() {
         let place = BeanPlace::Method(method.name);
-        let subject = Subject::Part(PartPlace::Method(method.name));
-        push_if_opposed(decls, class, bean, place, subject, subjects)?;
+        push_if_opposed(decls, class, bean, &place, subjects)?;
     }
     push_of_producers(decls, class, bean, subjects)?;
     for observer in bean.observers.as_slice() {
         let place = BeanPlace::Observer(observer.name);
-        let subject = Subject::Part(PartPlace::Observer(observer.name));
-        push_if_opposed(decls, class, bean, place, subject, subjects)?;
+        push_if_opposed(decls, class, bean, &place, subjects)?;
     }
     Ok(())
 }
@@ -63,26 +60,36 @@ fn push_of_producers(
     for producer in bean.producers.as_slice() {
         if !producer.is_static {
             let place = BeanPlace::Producer(producer.name);
-            let subject = Subject::Part(PartPlace::Producer(producer.name));
-            push_if_opposed(decls, class, bean, place, subject, subjects)?;
+            push_if_opposed(decls, class, bean, &place, subjects)?;
         }
     }
     Ok(())
 }
 
-/// Appends a part, where two bindings at its place differ.
+/// Appends the part at a place, where two bindings there differ.
 fn push_if_opposed(
     decls: &Decls,
     class: &[Qual],
     bean: &BeanDecl,
-    place: BeanPlace,
-    subject: Subject,
+    place: &BeanPlace,
     subjects: &mut Vec<Subject>,
 ) -> Result<(), AllocError>
-    ensures { OnOk result (subjects.new.items ≡ subjects.old.items ++ conflict_at decls.now class.now bean.now place subject) }
+    ensures { OnOk result (subjects.new.items ≡ subjects.old.items ++ conflict_at decls.now class.now bean.now place.now) }
 {
-    if has_conflict_at(decls, class, bean, &place) {
-        subjects.push(subject)?;
+    if has_conflict_at(decls, class, bean, place) {
+        subjects.push(part_at(place))?;
     }
     Ok(())
+}
+
+/// The part of a bean at a place: its class at the constructor and the callbacks.
+fn part_at(place: &BeanPlace) -> Subject
+    ensures { result ≡ part_at place.now }
+{
+    match place {
+        BeanPlace::Construct | BeanPlace::Post | BeanPlace::Pre => Subject::Class,
+        BeanPlace::Method(name) => Subject::Part(PartPlace::Method(*name)),
+        BeanPlace::Producer(name) => Subject::Part(PartPlace::Producer(*name)),
+        BeanPlace::Observer(name) => Subject::Part(PartPlace::Observer(*name)),
+    }
 }

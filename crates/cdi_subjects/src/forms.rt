@@ -28,9 +28,9 @@ fn reaches_itself(decls: &Decls, decl: &Decl) -> bool
     ensures { result ≡ reaches_itself decls.now decl.now }
 {
     match decl {
-        Decl::Type(decl) => extends_itself(decls, decl.name),
-        Decl::Binding(decl) => brings_itself(decls, decl.name),
-        Decl::Stereotype(decl) => inherits_itself(decls, decl.name),
+        Decl::Type(decl) => extends_itself(decls, &decl.name),
+        Decl::Binding(decl) => brings_itself(decls, &decl.name),
+        Decl::Stereotype(decl) => inherits_itself(decls, &decl.name),
         _ => false,
     }
 }
@@ -71,20 +71,20 @@ pub(crate) fn bad_kind_in(decls: &Decls, decl: &Decl, mention: &Mention<'_>) -> 
     ensures { result ≡ bad_kind_in decls.now decl.now (shown mention.now) }
 {
     match mention {
-        Mention::Type(place, name) => bad_kind_at(decls, decl, *place, *name),
+        Mention::Type(place, name) => bad_kind_at(decls, decl, *place, name),
         _ => None,
     }
 }
 
 /// A type that a declaration names in a place, where it is of the wrong form.
-fn bad_kind_at(decls: &Decls, decl: &Decl, place: TypePlace, name: Name) -> Option<Subject>
-    ensures { result ≡ bad_kind_in decls.now decl.now (TypeIn place name) }
+fn bad_kind_at(decls: &Decls, decl: &Decl, place: TypePlace, name: &Name) -> Option<Subject>
+    ensures { result ≡ bad_kind_in decls.now decl.now (TypeIn place name.now) }
 {
     match place {
         TypePlace::Extends if is_interface_decl(decl) || is_interface(decls, name) => {
-            Some(Subject::Extends(name))
+            Some(Subject::Extends(*name))
         }
-        TypePlace::Implements if is_class(decls, name) => Some(Subject::Implements(name)),
+        TypePlace::Implements if is_class(decls, name) => Some(Subject::Implements(*name)),
         TypePlace::Class if is_interface(decls, name) => Some(Subject::Class),
         _ => None,
     }
@@ -99,28 +99,28 @@ fn is_interface_decl(decl: &Decl) -> bool
     }
 }
 
-fn is_interface(decls: &Decls, name: Name) -> bool
-    ensures { result ≡ is_interface decls.now name }
+fn is_interface(decls: &Decls, name: &Name) -> bool
+    ensures { result ≡ is_interface decls.now name.now }
 {
     matches!(form_of(decls, name), Some(Form::Interface))
 }
 
-fn is_class(decls: &Decls, name: Name) -> bool
-    ensures { result ≡ is_class decls.now name }
+fn is_class(decls: &Decls, name: &Name) -> bool
+    ensures { result ≡ is_class decls.now name.now }
 {
     is_object(name) || matches!(form_of(decls, name), Some(Form::Class))
 }
 
 /// Whether the name is that of the class that each type has (CDI 4.0, Bean types).
-pub(crate) fn is_object(name: Name) -> bool
-    ensures { result ≡ bytes_eq name object }
+pub(crate) fn is_object(name: &Name) -> bool
+    ensures { result ≡ bytes_eq name.now object }
 {
     name.as_bytes() == b"Object".as_slice()
 }
 
 /// The form of a declared type.
-fn form_of(decls: &Decls, name: Name) -> Option<Form>
-    ensures { result ≡ form_of (find_decl kinds.Type name decls.now) }
+fn form_of(decls: &Decls, name: &Name) -> Option<Form>
+    ensures { result ≡ form_of (find_decl kinds.Type name.now decls.now) }
 {
     match decls.get(Kind::Type, name) {
         Some(Decl::Type(decl)) => Some(decl.form),

@@ -81,7 +81,7 @@ fn requires_final_in(decls: &Decls, mention: &Mention<'_>) -> bool
     ensures { result ≡ requires_final_in decls.now (shown mention.now) }
 {
     match mention {
-        Mention::Point(_, point) => is_final(decls, point.required_type),
+        Mention::Point(_, point) => is_final(decls, &point.required_type),
         _ => false,
     }
 }

@@ -19,14 +19,14 @@ pub(crate) fn is_unproxyable<V: View>(view: &V, point: &PointDecl, choice: &Choi
     ensures { result ≡ is_unproxyable (V.list view.now) point.now choice.now }
 {
     match choice {
-        Choice::One(id) if is_final(view.decls(), point.required_type) => needs_subclass(view, *id),
+        Choice::One(id) if is_final(view.decls(), &point.required_type) => needs_subclass(view, id),
         _ => false,
     }
 }
 
 /// Whether it is a declared class that may have no subclass.
-pub(crate) fn is_final(decls: &Decls, name: Name) -> bool
-    ensures { result ≡ is_final decls.now name }
+pub(crate) fn is_final(decls: &Decls, name: &Name) -> bool
+    ensures { result ≡ is_final decls.now name.now }
 {
     match decls.get(Kind::Type, name) {
         Some(Decl::Type(decl)) => matches!(decl.form, Form::Class) && decl.is_final,
@@ -35,13 +35,13 @@ pub(crate) fn is_final(decls: &Decls, name: Name) -> bool
 }
 
 #[tactic(auto, unfolding(cdi_effective::specs::Records::records_in))]
-fn needs_subclass<V: View>(view: &V, id: BeanId) -> bool
-    ensures { result ≡ needs_subclass (V.list view.now) id }
+fn needs_subclass<V: View>(view: &V, id: &BeanId) -> bool
+    ensures { result ≡ needs_subclass (V.list view.now) id.now }
 {
     let decls = view.decls();
-    match decls.get(Kind::Bean, id.class) {
+    match decls.get(Kind::Bean, &id.class) {
         Some(Decl::Bean(bean)) => {
-            let records = view.records(id.class);
+            let records = view.records(&id.class);
             needs_subclass_as(decls, bean, records, id.producer)
         }
         _ => false,

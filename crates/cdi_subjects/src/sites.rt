@@ -185,20 +185,20 @@ fn lacks_method(decls: &Decls, method: Ident, choice: &Choice) -> bool
     ensures { result ≡ lacks_method decls.now method choice.now }
 {
     match choice {
-        Choice::One(id) => !has_method(decls, *id, method),
+        Choice::One(id) => !has_method(decls, id, method),
         _ => false,
     }
 }
 
 /// Whether a bean has a method: a managed bean those that it declares, and a product one, named `value` (profile). It
 /// takes no memory.
-pub fn has_method(decls: &Decls, id: BeanId, method: Ident) -> bool
-    ensures { result ≡ has_method decls.now id method }
+pub fn has_method(decls: &Decls, id: &BeanId, method: Ident) -> bool
+    ensures { result ≡ has_method decls.now id.now method }
 {
     if id.producer.is_some() {
         return method.as_bytes() == b"value".as_slice();
     }
-    match decls.get(Kind::Bean, id.class) {
+    match decls.get(Kind::Bean, &id.class) {
         Some(Decl::Bean(bean)) => is_among(bean.methods.as_slice(), method),
         _ => false,
     }

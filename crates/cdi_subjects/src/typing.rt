@@ -42,7 +42,7 @@ fn push_wrongly_listed(
         return Ok(());
     };
     for name in listed.as_slice() {
-        if !bean.has_type(*name) {
+        if !bean.has_type(name) {
             subjects.push(Subject::Typed {
                 producer: bean.id.producer,
                 name: *name,

@@ -35,22 +35,22 @@ pub(crate) fn unknown_in(decls: &Decls, mention: &Mention<'_>) -> Option<Subject
     ensures { result ≡ unknown_in decls.now (shown mention.now) }
 {
     match mention {
-        Mention::Type(place, name) if !is_known_in(decls, *place, *name) => {
-            Some(Subject::Type(*name))
+        Mention::Type(place, name) if !is_known_in(decls, *place, name) => {
+            Some(Subject::Type(**name))
         }
-        Mention::Use(kind, qual) if !is_known_use_of(decls, *kind, qual.name) => {
+        Mention::Use(kind, qual) if !is_known_use_of(decls, *kind, &qual.name) => {
             Some(Subject::Used(*kind, qual.name))
         }
-        Mention::Stereotype(name) if decls.get(Kind::Stereotype, *name).is_none() => {
-            Some(Subject::Stereotype(*name))
+        Mention::Stereotype(name) if decls.get(Kind::Stereotype, name).is_none() => {
+            Some(Subject::Stereotype(**name))
         }
         _ => None,
     }
 }
 
 /// Whether a type that is named in a place is known: the class of a bean is to be declared.
-fn is_known_in(decls: &Decls, place: TypePlace, name: Name) -> bool
-    ensures { result ≡ is_known_in decls.now place name }
+fn is_known_in(decls: &Decls, place: TypePlace, name: &Name) -> bool
+    ensures { result ≡ is_known_in decls.now place name.now }
 {
     match place {
         TypePlace::Class => decls.get(Kind::Type, name).is_some(),
@@ -63,7 +63,7 @@ fn is_known_in(decls: &Decls, place: TypePlace, name: Name) -> bool
 pub fn are_known(decls: &Decls, bean_type: Name, quals: &Quals) -> bool
     ensures { result ≡ are_known decls.now bean_type quals.now }
 {
-    is_known_type(decls, bean_type) && are_known_uses(decls, quals.as_slice())
+    is_known_type(decls, &bean_type) && are_known_uses(decls, quals.as_slice())
 }
 
 fn are_known_uses(decls: &Decls, uses: &[Qual]) -> bool
@@ -75,18 +75,18 @@ fn are_known_uses(decls: &Decls, uses: &[Qual]) -> bool
 fn is_known_use(decls: &Decls, qual: &Qual) -> bool
     ensures { result ≡ is_known_use decls.now qual.now }
 {
-    is_known_qualifier(decls, qual.name) && !is_misused(decls, UseKind::Qualifier, qual)
+    is_known_qualifier(decls, &qual.name) && !is_misused(decls, UseKind::Qualifier, qual)
 }
 
-fn is_known_type(decls: &Decls, name: Name) -> bool
-    ensures { result ≡ is_known_type decls.now name }
+fn is_known_type(decls: &Decls, name: &Name) -> bool
+    ensures { result ≡ is_known_type decls.now name.now }
 {
     is_object(name) || decls.get(Kind::Type, name).is_some()
 }
 
 /// Whether a qualifier or a binding type is known: no binding type is built in.
-fn is_known_use_of(decls: &Decls, kind: UseKind, name: Name) -> bool
-    ensures { result ≡ is_known_use_of decls.now kind name }
+fn is_known_use_of(decls: &Decls, kind: UseKind, name: &Name) -> bool
+    ensures { result ≡ is_known_use_of decls.now kind name.now }
 {
     match kind {
         UseKind::Qualifier => is_known_qualifier(decls, name),
@@ -94,8 +94,8 @@ fn is_known_use_of(decls: &Decls, kind: UseKind, name: Name) -> bool
     }
 }
 
-fn is_known_qualifier(decls: &Decls, name: Name) -> bool
-    ensures { result ≡ is_known_qualifier decls.now name }
+fn is_known_qualifier(decls: &Decls, name: &Name) -> bool
+    ensures { result ≡ is_known_qualifier decls.now name.now }
 {
     is_built_in(name.as_bytes()) || decls.get(Kind::Qualifier, name).is_some()
 }

@@ -18,7 +18,7 @@ static SHOPS: [&[u8]; 5] = [
 
 /// Writes the records of a class, each on a line.
 fn push_records(text: &mut Vec<u8>, list: &BeanList, class: Name) -> Result<(), Fail> {
-    for record in list.records(class) {
+    for record in list.records(&class) {
         writeln!(text, "{}", record.id)?;
     }
     Ok(())
@@ -54,8 +54,8 @@ fn records_of_a_class(rt: HostRuntime) -> Result<(), Fail> {
 
 /// The records of two classes.
 fn candidates(alloc: Global, list: &BeanList) -> Result<Vec<&Effective>, Error> {
-    let corner = list.records(name(b"Corner")?);
-    let market = list.records(name(b"Market")?);
+    let corner = list.records(&name(b"Corner")?);
+    let market = list.records(&name(b"Market")?);
     Ok(corner.iter().chain(market.iter()).collect(alloc)?)
 }
 

@@ -30,8 +30,8 @@ fn puts(decls: &mut Decls, alloc: Global, text: &[u8]) -> Result<(), Error> {
 /// Whether a list has two declarations, and among them the type of one name and not that of another.
 fn has_type(decls: &Decls, there: Name, absent: Name) -> bool {
     decls.len() == 2
-        && decls.get(Kind::Type, there).is_some()
-        && decls.get(Kind::Type, absent).is_none()
+        && decls.get(Kind::Type, &there).is_some()
+        && decls.get(Kind::Type, &absent).is_none()
 }
 
 /// Whether edits of a copy change the copy and leave what was copied.
@@ -144,7 +144,7 @@ fn push_point<T: Display>(text: &mut Vec<u8>, place: PointPlace, point: &T) -> R
 }
 
 /// Writes a stored body, with where it runs.
-fn push_body(text: &mut Vec<u8>, place: PartPlace, body: Ident) -> Result<(), Fail> {
+fn push_body(text: &mut Vec<u8>, place: PartPlace, body: &Ident) -> Result<(), Fail> {
     writeln!(text, "body {place} {body}")?;
     Ok(())
 }
@@ -158,13 +158,13 @@ fn push_call(text: &mut Vec<u8>, place: PartPlace, call: &CallDecl) -> Result<()
 /// Writes what is named in one place.
 fn push_mention(text: &mut Vec<u8>, mention: &Mention<'_>) -> Result<(), Fail> {
     match mention {
-        Mention::Type(_, name) => push_line(text, "type", name),
+        Mention::Type(_, name) => push_line(text, "type", *name),
         Mention::Use(UseKind::Qualifier, qual) => push_line(text, "use", *qual),
         Mention::Use(UseKind::Binding, qual) => push_line(text, "binding", *qual),
         Mention::Method(method) => push_line(text, "method", &method.name),
-        Mention::Stereotype(name) => push_line(text, "stereotype", name),
+        Mention::Stereotype(name) => push_line(text, "stereotype", *name),
         Mention::Point(place, point) => push_point(text, *place, &point.name),
-        Mention::Body(place, body) => push_body(text, *place, *body),
+        Mention::Body(place, body) => push_body(text, *place, body),
         Mention::Call(place, _, call) => push_call(text, *place, call),
         Mention::Event(event) => push_line(text, "event", &event.event_type),
     }
@@ -223,7 +223,7 @@ fn push_keys(text: &mut Vec<u8>, keys: &[DeclKey]) -> Result<(), Fail> {
 
 /// What the records of a bean rest on, each on a line.
 fn read_by(alloc: Global, decls: &Decls, bean: Name) -> Result<Vec<u8>, Fail> {
-    let Some(Decl::Bean(bean)) = decls.get(Kind::Bean, bean) else {
+    let Some(Decl::Bean(bean)) = decls.get(Kind::Bean, &bean) else {
         return Err(Fail::new("no bean"));
     };
     let keys = reads_of(alloc, decls, bean)?;

@@ -137,7 +137,7 @@ fn push_declared(
         faults.push(Fault::Declared {
             code,
             kind: decl.kind(),
-            name: decl.name(),
+            name: *decl.name(),
             subject,
         })?;
     }

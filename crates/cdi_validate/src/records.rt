@@ -11,7 +11,7 @@ pub(crate) fn records_of<'a, V: View>(view: &'a V, decl: &Decl) -> &'a [Effectiv
     ensures { result.now ≡ records_by (V.list view.now) decl.now }
 {
     match decl {
-        Decl::Bean(bean) => view.records(bean.name),
+        Decl::Bean(bean) => view.records(&bean.name),
         _ => &[],
     }
 }

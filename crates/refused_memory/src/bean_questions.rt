@@ -245,7 +245,7 @@ fn are_those(found: &[Rc<Choice>], wanted: &[Answer]) -> bool {
 
 /// The declaration of a bean.
 fn find_bean<'a>(decls: &'a Decls, class: &[u8]) -> Result<Option<&'a BeanDecl>, Error> {
-    match decls.get(Kind::Bean, name(class)?) {
+    match decls.get(Kind::Bean, &name(class)?) {
         Some(Decl::Bean(bean)) => Ok(Some(bean)),
         _ => Ok(None),
     }

@@ -13,8 +13,8 @@ use cdi_stock::Stock;
 pub struct Bound;
 
 /// Whether a name is this text.
-fn is_named(name: Ident, text: &[u8]) -> bool
-    ensures { result ≡ bytes_eq name text.now }
+fn is_named(name: &Ident, text: &[u8]) -> bool
+    ensures { result ≡ bytes_eq name.now text.now }
 {
     name.as_bytes() == text
 }
@@ -22,7 +22,7 @@ fn is_named(name: Ident, text: &[u8]) -> bool
 impl Bodies for Bound {
     ghost promises = { λ _. (codes "echo", promise_of Echo) ∷ (codes "pass", promise_of Pass) ∷ (codes "count", promise_of Count) ∷ [] };
 
-    fn position(&self, name: Ident) -> Option<usize> {
+    fn position(&self, name: &Ident) -> Option<usize> {
         if is_named(name, b"echo") {
             Some(0)
         } else if is_named(name, b"pass") {
@@ -34,7 +34,7 @@ impl Bodies for Bound {
         }
     }
 
-    fn promise(&self, name: Ident) -> Option<Promise> {
+    fn promise(&self, name: &Ident) -> Option<Promise> {
         if is_named(name, b"echo") {
             Some(Stock::Echo.promise())
         } else if is_named(name, b"pass") {
@@ -54,7 +54,7 @@ impl Bodies for Bound {
         }
     }
 
-    fn ask(&self, name: Ident, frame: &Frame) -> Option<Act> {
+    fn ask(&self, name: &Ident, frame: &Frame) -> Option<Act> {
         if is_named(name, b"echo") {
             Some(Stock::Echo.ask(frame))
         } else if is_named(name, b"pass") {

@@ -229,8 +229,8 @@ fn ask(alloc: Global, asked: &Asked, question: Question) -> Result<bool, Error> 
         IsType(text, other, wanted) => {
             Ok(is_type(alloc, decls, name(text)?, name(other)?)? == wanted)
         }
-        ExtendsItself(text, wanted) => Ok(extends_itself(decls, name(text)?) == wanted),
-        InheritsItself(text, wanted) => Ok(inherits_itself(decls, name(text)?) == wanted),
+        ExtendsItself(text, wanted) => Ok(extends_itself(decls, &name(text)?) == wanted),
+        InheritsItself(text, wanted) => Ok(inherits_itself(decls, &name(text)?) == wanted),
         Read(text, wanted, members) => reads(alloc, text, wanted, members),
         BadUse(text, refusal) => refuses(alloc, text, refusal),
         Fill(text, wanted) => fills(alloc, decls, text, wanted),

@@ -16,7 +16,7 @@ returns-then-is_empty-2 c =
     let ws : Values = c.args.want.now in
     let no_have : keys_of hs ≡ [] = none_in hs (eqb-true (length hs) 0 (sym c.is_empty.ensures ∙ c.if-is_empty.true)) in
     let no_want : keys_of ws ≡ [] = none_in ws (eqb-true (length ws) 0 (sym c.is_empty-then-is_empty.ensures ∙ c.if-is_empty-2.true)) in
-    sym (ap (λ ks. list_all (agree_filled (counted c.args.which (declared_of c.args.decls.now c.args.kind c.args.name))
-    (declared_of c.args.decls.now c.args.kind c.args.name) hs ws) (ks ++ keys_of ws)) no_have
-    ∙ ap (list_all (agree_filled (counted c.args.which (declared_of c.args.decls.now c.args.kind c.args.name))
-    (declared_of c.args.decls.now c.args.kind c.args.name) hs ws)) no_want)
+    sym (ap (λ ks. list_all (agree_filled (counted c.args.which (declared_of c.args.decls.now c.args.kind c.args.name.now))
+    (declared_of c.args.decls.now c.args.kind c.args.name.now) hs ws) (ks ++ keys_of ws)) no_have
+    ∙ ap (list_all (agree_filled (counted c.args.which (declared_of c.args.decls.now c.args.kind c.args.name.now))
+    (declared_of c.args.decls.now c.args.kind c.args.name.now) hs ws)) no_want)

@@ -8,7 +8,7 @@ use Rattle.cdi_match.proofs.walk.reaches_itself.Goals as goal
 pub returns-then-not-take_one : goal.returns-then-not-take_one
 returns-then-not-take_one c =
     let ds = c.args.decls.now in
-    let name = c.args.name in
+    let name = c.args.name.now in
     let stands = ap (λ k. position (is_of k name) ds) (sym c.kind.ensures) ∙ sym c.position.ensures.value ∙ c.in-Some.is in
     let declared = ap (λ k. is_some (find_decl k name ds)) (sym c.kind.ensures) ∙ sym c.position.ensures.found ∙ ap is_some c.in-Some.is in
     sym c.taken-test.true ∙ sym (ap (is_marked c.taken.walk.marks) stands)
@@ -18,7 +18,7 @@ returns-then-not-take_one c =
 pub returns : goal.returns
 returns c =
     let ds = c.args.decls.now in
-    let name = c.args.name in
+    let name = c.args.name.now in
     let stands = ap (λ k. position (is_of k name) ds) (sym c.kind.ensures) ∙ sym c.position.ensures.value ∙ c.in-Some.is in
     sym (walk-sound c.args.links ds (next_of c.args.links ds name) c.taken.walk name c.taken.invariant.0
     (ap (is_marked c.taken.walk.marks) stands ∙ c.taken-test.false))

@@ -7,7 +7,7 @@ pub loop-follower-preserved : goal.loop-follower-preserved
 loop-follower-preserved c = λ s more.
     c.loop-follower.invariant s
     (subst (λ names. Finds names c.loop-follower.self s) (sym c.in-Some.ensures.steps)
-    (Adds-then (c.in-Some.follower ∷ []) c.next.new.self (has_found c.loop-follower.self) c.loop-follower.self.left.items
+    (Adds-then (c.in-Some.follower.now ∷ []) c.next.new.self (has_found c.loop-follower.self) c.loop-follower.self.left.items
     (has_found c.add.new.self) c.add.new.self.left.items (has_found s) s.left.items c.in_ok-add.ensures more))
 
 pub returns : goal.returns

@@ -11,6 +11,6 @@ push-requires c =
 
 pub returns-then-not-self-position : goal.returns-then-not-self-position
 returns-then-not-self-position c =
-    Meets-new c.args.links c.args.decls.now c.args.name _ _ c.in-Some.position
-    (ap (λ k. position (is_of k c.args.name) c.args.decls.now) (sym c.kind.ensures) ∙ sym c.position.ensures.value ∙ c.in-Some.is)
+    Meets-new c.args.links c.args.decls.now c.args.name.now _ _ c.in-Some.position
+    (ap (λ k. position (is_of k c.args.name.now) c.args.decls.now) (sym c.kind.ensures) ∙ sym c.position.ensures.value ∙ c.in-Some.is)
     (omega (arith, c.requires.sized, c.in-Some.ensures.bound)) c.if-not-self-position.true refl c.push.ensures.items

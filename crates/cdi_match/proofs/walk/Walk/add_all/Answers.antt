@@ -8,7 +8,7 @@ loop-name-preserved c = (
   HasRoom-met c.args.links c.args.decls.now _ _ _ c.loop-name.invariant.0 c.add.ensures,
   λ w more. c.loop-name.invariant.1 w
       (subst (λ names. Meets c.args.links c.args.decls.now names c.loop-name.self w) (sym c.in-Some.ensures.steps)
-      (Meets-cons c.args.links c.args.decls.now c.in-Some.name _ _ _ _ c.add.ensures more)),
+      (Meets-cons c.args.links c.args.decls.now c.in-Some.name.now _ _ _ _ c.add.ensures more)),
 )
 
 pub returns : goal.returns

@@ -1,4 +1,4 @@
-use Rattle.std.proofs.Common.{rules, ◌∷◌, [], ◌++◌, flat_map, Some}
+use Rattle.std.proofs.Common.{rules, ◌∷◌, [], ◌++◌, flat_map}
 use Rattle.std.proofs.lemmas.List.{nil_from_length}
 use Rattle.cdi_model.specs.declared.mention.PointPlace.TheVariants as points
 use Rattle.cdi_model.specs.declared.place.PartPlace.TheVariants as parts
@@ -19,7 +19,7 @@ returns-in-Some c =
 pub returns-in-Some-split_first : goal.returns-in-Some-split_first
 returns-in-Some-split_first c =
     let p = c.in-Some-split_first.producer.now in
-    let body = of_attributes (Some p.name) p.attributes ++ of_bindings p.bindings ++ flat_map (of_point (points.Producer p.name)) p.params
+    let body = of_attributes p.attributes ++ of_bindings p.bindings ++ flat_map (of_point (points.Producer p.name)) p.params
     ++ of_part (part_place_of p) p.params p.part in
     let methods = none-listed of_method _ (nil_from_length _ c.in_default.ensures.cases) in
     any-first _ _ (left_before c.begin-in-Some-split_first.new.self) _ body _ _ c.requires.through

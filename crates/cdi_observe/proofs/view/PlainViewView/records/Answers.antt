@@ -5,7 +5,7 @@ use Rattle.cdi_observe.proofs.view.PlainViewView.records.Goals as goal
 
 pub returns : goal.returns
 returns c =
-    let class = c.args.class in
+    let class = c.args.class.now in
     c.records.ensures
     ∙ ap (λ list. records_among list class) c.self.invariant
     ∙ records_stand_together c.self.inside.decls.now class
