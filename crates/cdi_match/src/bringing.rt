@@ -7,9 +7,9 @@ ghost use Rattle.cdi_match.specs.Walk.{HasPositions};
 ghost use Rattle.cdi_match.specs.declared.followers.Links.TheVariants.{Bindings};
 
 use crate::followers::{Followers, Links};
-use crate::walk::{DECLS_LIMIT, positions_from};
+use crate::walk::positions_from;
 use arrayvec::ArrayVec;
-use cdi_model::{Decl, Decls, Qual};
+use cdi_model::{DECLS_LIMIT, Decl, Decls, Qual};
 use std::marker::Model;
 
 /// The binding types that some uses bring, by the positions of their declarations.

@@ -7,10 +7,7 @@ ghost use Rattle.cdi_match.specs.Walk.{Meets};
 
 use crate::followers::{Followers, Links, following};
 use arrayvec::ArrayVec;
-use cdi_model::{Decls, Name};
-
-/// How many declarations there are at most.
-pub(crate) const DECLS_LIMIT: usize = 512;
+use cdi_model::{DECLS_LIMIT, Decls, Name};
 
 /// The declarations that were found, and those of them that are left to be taken, by their positions.
 #[derive(Drop)]

@@ -4,6 +4,7 @@
 //! said here: whoever began the run clears it.
 ghost use Rattle.std.specs.Prelude.{◌≡◌, ◌+◌, ◌≤◌, [], IfOk, IsSome, length, true, false};
 ghost use Rattle.cdi_contexts.specs.Rising.{IsOwnerOf};
+ghost use Rattle.cdi_model.specs.Quals.{list_limit};
 ghost use Rattle.cdi_scene.specs.Scene.{bean_at};
 ghost use Rattle.cdi_scene.specs.Sound.{AreBeans};
 ghost use Rattle.cdi_legal.specs.Legal.{obtain, create, setup, inject, supply, produce};
@@ -19,14 +20,14 @@ use arrayvec::ArrayVec;
 use cdi_bodies::Bodies;
 use cdi_contexts::{Actor, InstanceId, Owner};
 use cdi_legal::{Entry, Made, Run};
-use cdi_model::{Failure, Outcome, Val};
+use cdi_model::{Failure, LIST_LIMIT, Outcome, Val};
 use cdi_scene::{Injection, Managed, Place, Product, Seat};
 use std::alloc::AllocError;
 
 /// What was made for the parameters of a method, and the failure that ended it.
 #[derive(Drop)]
 pub(crate) struct Supplied {
-    pub(crate) held: ArrayVec<Option<InstanceId>, 32>,
+    pub(crate) held: ArrayVec<Option<InstanceId>, LIST_LIMIT>,
     pub(crate) failure: Option<Failure>,
 }
 
@@ -315,7 +316,7 @@ impl<'a, B: Bodies> Player<'a, B> {
         params: &[usize],
     ) -> Result<Supplied, AllocError>
         requires beans { AreBeans self.now.stage.scene params.now }
-        requires few { length params.now ≤ 32 }
+        requires few { length params.now ≤ list_limit }
         requires begun { IsBegun run.old.moment.standing.given product }
         requires settled { IsSettled self.now.stage run.old.moment }
         ensures { IfOk result (λ answer.

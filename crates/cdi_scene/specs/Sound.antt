@@ -6,6 +6,7 @@ use Rattle.cdi_bodies.specs.Flags as flags
 use Rattle.cdi_bodies.specs.Within.{Has}
 use Rattle.cdi_contexts.specs.declared.instance.Actor.{Actor}
 use Rattle.cdi_contexts.specs.declared.instance.Actor.TheVariants.{Target, Interceptor as By}
+use Rattle.cdi_model.specs.Quals.{list_limit}
 use Rattle.cdi_scene.specs.declared.place.Place.{Place}
 use Rattle.cdi_scene.specs.declared.place.Place.TheVariants as places
 use Rattle.cdi_scene.specs.declared.place.Seat.{Seat}
@@ -60,8 +61,8 @@ AreObservers s os = (k : ℕ) (o : Notified) → slice_get os k ≡ Some o → I
 
 pub record IsSoundPart (book : Bodies) (s : Scene) (part : Part) : Type 0 where
   pub body : IsInBook book part
-  pub few_calls : length part.calls ≤ 32
-  pub few_fires : length part.fires ≤ 32
+  pub few_calls : length part.calls ≤ list_limit
+  pub few_fires : length part.fires ≤ list_limit
   pub calls : (k : ℕ) (site : CallSite) → slice_get part.calls k ≡ Some site → IsSoundSite s site
   pub fires : (k : ℕ) (os : List Notified) → slice_get part.fires k ≡ Some os → AreObservers s os
 
@@ -165,13 +166,13 @@ pub record IsSoundManaged (s : Scene) (managed : Managed) : Type 0 where
   pub apart : (j k : ℕ) (x y : Injection) → slice_get managed.injections j ≡ Some x → slice_get managed.injections k ≡ Some y
       → x.actor ≡ y.actor → x.point ≡ y.point → j ≡ k
   pub observers : (k : ℕ) (o : Observer) → slice_get managed.observers k ≡ Some o
-      → AreBeans s o.params × (length o.params ≤ 32)
+      → AreBeans s o.params × (length o.params ≤ list_limit)
 
 pub record IsSoundProduct (book : Bodies) (s : Scene) (b : ℕ) (product : Product) : Type 0 where
   pub host : Managed
   pub declared : managed_at s product.declaring ≡ Some host
   pub params : AreBeans s product.params
-  pub few : length product.params ≤ 32
+  pub few : length product.params ≤ list_limit
   -- a static producer method has a body of its own, and so has a disposer method; neither has an instance
   pub producer : product.is_static ≡ true
       → IsSoundAt book s (record { bean = product.declaring; number = None; actor = Target; place = places.Producer b })

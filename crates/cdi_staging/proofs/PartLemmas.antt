@@ -9,6 +9,7 @@ use Rattle.std.proofs.lemmas.Bool.{false≢true}
 use Rattle.std.proofs.lemmas.List.{length-map}
 use Rattle.std.proofs.lemmas.Option.{same_Some, slice_get-map}
 use Rattle.cdi_model.specs.DeclList.{AreDistinct}
+use Rattle.cdi_model.specs.Quals.{list_limit}
 use Rattle.cdi_model.specs.declared.decl.BeanDecl.{BeanDecl}
 use Rattle.cdi_model.specs.declared.decl.CallDecl.{CallDecl}
 use Rattle.cdi_model.specs.declared.decl.Decl.{Decl}
@@ -250,8 +251,8 @@ part-sound ds book allowed points params part made distinct own_points own_param
     record {
       sound = record {
         body = m.body;
-        few_calls = subst (λ n. n ≤ 32) (sym (ap length m.calls_are ∙ length-map part.calls lead)) fine.short.calls;
-        few_fires = subst (λ n. n ≤ 32) (sym (ap length m.fires_are ∙ length-map part.fires notify)) fine.short.fires;
+        few_calls = subst (λ n. n ≤ list_limit) (sym (ap length m.calls_are ∙ length-map part.calls lead)) fine.short.calls;
+        few_fires = subst (λ n. n ≤ list_limit) (sym (ap length m.fires_are ∙ length-map part.fires notify)) fine.short.fires;
         calls = λ k site at. (good k site at).0;
         fires = λ k os at.
             let found = from-map notify part.fires k os (sym (ap (λ fs. slice_get fs k) m.fires_are) ∙ at) in
@@ -270,8 +271,8 @@ disposer-sound ds book allowed name made fit e =
     record {
       sound = record {
         body = m.body;
-        few_calls = subst (λ cs. length cs ≤ 32) (sym m.calls_are) (omega arith);
-        few_fires = subst (λ fs. length fs ≤ 32) (sym m.fires_are) (omega arith);
+        few_calls = subst (λ cs. length cs ≤ list_limit) (sym m.calls_are) (omega arith);
+        few_fires = subst (λ fs. length fs ≤ list_limit) (sym m.fires_are) (omega arith);
         calls = λ k site at.
             let none : None ≡ Some site = sym (ap (λ cs. slice_get cs k) m.calls_are) ∙ at in
             absurd (cc);

@@ -9,6 +9,7 @@ use Rattle.std.proofs.lemmas.Bool.{false≢true}
 use Rattle.std.proofs.lemmas.List.{length-map}
 use Rattle.std.proofs.lemmas.Option.{none-some, option_and_then_some, same_Some, slice_get-map}
 use Rattle.cdi_model.specs.DeclList.{AreDistinct}
+use Rattle.cdi_model.specs.Quals.{list_limit}
 use Rattle.cdi_model.specs.declared.decl.BeanDecl.{BeanDecl}
 use Rattle.cdi_model.specs.declared.decl.Decl.{Decl}
 use Rattle.cdi_model.specs.declared.decl.Decl.TheVariants as decls
@@ -310,21 +311,21 @@ around-stands ds book x distinct fine of =
 
 -- what is chosen for some parameters, of which there are few
 params-sound : (ds : List Decl) (book : List Promised) (params : List PointDecl) → AreDistinct ds → AreSatisfied ds params
-    → length params ≤ 32
+    → length params ≤ list_limit
     → AreBeans (scene_of ds book) (map (λ target. target.bean) (targets ds params))
-    × (length (map (λ target. target.bean) (targets ds params)) ≤ 32)
+    × (length (map (λ target. target.bean) (targets ds params)) ≤ list_limit)
 params-sound ds book params distinct satisfied few = (
   λ j c e.
       let t = from-map (λ target. target.bean) (targets ds params) j c e in
       let bean = target-stands ds book params j t.0 distinct satisfied t.1 in
       (bean.0, ap (bean_at (scene_of ds book)) (sym t.2) ∙ bean.1),
-  subst (λ n. n ≤ 32) (sym (length-map (targets ds params) (λ target. target.bean) ∙ length-targets ds params)) few,
+  subst (λ n. n ≤ list_limit) (sym (length-map (targets ds params) (λ target. target.bean) ∙ length-targets ds params)) few,
 )
 
 observer-sound : (ds : List Decl) (book : List Promised) (d : BeanDecl) (k : ℕ) (observer : ObserverDecl) → AreDistinct ds
     → IsFineManaged ds book d → slice_get d.observers k ≡ Some observer
     → AreBeans (scene_of ds book) (made_observer ds book d observer).params
-    × (length (made_observer ds book d observer).params ≤ 32)
+    × (length (made_observer ds book d observer).params ≤ list_limit)
 unfolding staged_observer
 observer-sound ds book d k observer distinct fine at =
     let own = fine.observers k observer at in
@@ -348,7 +349,7 @@ managed-sound ds book d true distinct around fine =
       apart = apart-own test (around_of ds) (targets ds d.points);
       observers = λ k o at.
           let made = from-map (made_observer ds book d) d.observers k o at in
-          subst (λ x. AreBeans (scene_of ds book) x.params × (length x.params ≤ 32)) made.2
+          subst (λ x. AreBeans (scene_of ds book) x.params × (length x.params ≤ list_limit)) made.2
           (observer-sound ds book d k made.0 distinct (fine refl) made.1);
     }
 managed-sound ds book d false distinct around fine = record {
