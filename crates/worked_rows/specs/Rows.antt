@@ -16,6 +16,7 @@ pub record WantsFurther (answer : List ℕ) (old new : Row) : Type 0 where
   pub commands : new.commands.items ≡ old.commands.items ++ old.last ∷ []
   pub script : string_bytes new.script ≡ string_bytes old.script
   pub last : new.last.now ≡ old.last.now
+  pub quiet : new.quiet ≡ old.quiet
 
 -- a row's script has the line at its end
 pub record RunsFurther (line : List ℕ) (old new : Row) : Type 0 where
@@ -23,6 +24,7 @@ pub record RunsFurther (line : List ℕ) (old new : Row) : Type 0 where
   pub last : new.last.now ≡ line
   pub wanted : string_bytes new.wanted ≡ string_bytes old.wanted
   pub commands : new.commands.items ≡ old.commands.items
+  pub quiet : new.quiet ≡ old.quiet
 
 -- a row takes a line of its block
 abbrev pub TakesLine : BlockLine → Row → Row → Type 0

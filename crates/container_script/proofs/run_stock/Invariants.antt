@@ -1,0 +1,6 @@
+use Rattle.std.proofs.Common.{◌≡◌, ◌++◌, drop, map}
+use Rattle.container_script.specs.Program.{promised, stored}
+use Rattle.container_script.proofs.run_stock.Given as goal
+
+abbrev pub invariant-loop-entry : goal.invariant-loop-entry
+invariant-loop-entry g l = map (λ body. (body.name, body.promise)) l.bodies.items ++ map promised (drop l.entry-index l.table) ≡ stored
