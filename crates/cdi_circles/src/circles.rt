@@ -58,7 +58,7 @@ impl Circles {
         self.add(circle)
     }
 
-    /// Tells of some texts that they are on circles.
+    /// Marks some texts as being on circles.
     fn add(&mut self, nodes: BTreeSet<Node>) -> Result<(), AllocError>
         ensures { OnOk result (Tells nodes self.old self.new) }
     {
@@ -71,7 +71,7 @@ impl Circles {
 }
 
 /// The texts that are on circles. It takes memory for the edges turned round, and for the texts a few times. It takes the time
-/// of a few look-ups of a text for each text and each edge, whether there are circles or none.
+/// of a few lookups of a text for each text and each edge, whether there are circles or none.
 pub fn on_circles(
     alloc: Global,
     edges: &BTreeMap<Node, Vec<Node>>,

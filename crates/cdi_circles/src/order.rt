@@ -27,7 +27,7 @@ struct Walk {
 }
 
 impl Walk {
-    /// Appends those of the texts to which chains lead from a text that have edges still, each behind those that are walked
+    /// Appends those of the texts to which chains lead from a text that have edges still, each after those that are walked
     /// from it.
     fn walk(&mut self, node: Node) -> Result<(), AllocError>
         ensures { OnOk result (Within self.old.order.items self.new.order.items) }

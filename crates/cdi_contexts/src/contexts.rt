@@ -123,7 +123,7 @@ impl Contexts {
         Some(self.live[place])
     }
 
-    /// Where the instance with this number stands, by bisection.
+    /// Where the instance with this number is in the list, by bisection.
     fn place_of(&self, number: u64) -> Option<usize>
         ensures { IsPlace self.now.standing.live number result }
     {
@@ -337,7 +337,7 @@ impl Contexts {
         Ok(())
     }
 
-    /// No instance is live and no request active; numbers go on behind this one. It takes no memory.
+    /// No instance is live and no request active; numbers go on after this one. It takes no memory.
     pub fn clear(&mut self, given: u64)
         ensures standing { self.new.standing ≡ cleared given }
         ensures room { self.old.room ≤ self.new.room }

@@ -61,7 +61,7 @@ impl<T> Counted<T> {
         self.flushed
     }
 
-    /// Whether each read so far came by a `Console`, while all that its writer had taken was flushed, and behind no error.
+    /// Whether each read so far came by a `Console`, while all that its writer had taken was flushed, and after no error.
     pub fn is_settled(&self) -> bool
         ensures { result ≡ is_settled self.now }
     {

@@ -18,7 +18,7 @@ pub const SCRIPT_LIMIT: u64 = 16_777_216;
 /// Why the run of a script ended before its script's end.
 #[derive(Clone, Copy, Debug, PartialEq, Eq, Error)]
 pub enum RunFault {
-    /// The reader answered an error, or gave a byte behind the limit of a script.
+    /// The reader answered an error, or gave a byte past the limit of a script.
     #[error("read failed")]
     Read,
     /// The writer answered an error, or took no byte.

@@ -10,7 +10,7 @@ use cdi_model::{BeanDecl, Decls, Name, Qual, Seq};
 use std::alloc::{AllocError, Global};
 
 /// The bindings of the class of a bean: those that it declares, with what they bring, and those of its stereotypes, with
-/// what these bring, of whose types it has none. One may stand twice. It takes memory for the list and for the searches,
+/// what these bring, of whose types it has none. One may occur twice. It takes memory for the list and for the searches,
 /// and none where neither the bean nor a stereotype of it declares one.
 pub fn class_bindings(
     alloc: Global,
@@ -43,7 +43,7 @@ pub(crate) fn given_bindings<'a>(
     Ok(list)
 }
 
-/// Some uses, and behind them those of others that are of none of their types.
+/// Some uses, and after them those of others that are of none of their types.
 pub fn in_place_of<'a>(
     others: Vec<&'a Qual>,
     own: Vec<&'a Qual>,

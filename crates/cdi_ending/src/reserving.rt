@@ -10,8 +10,8 @@ use cdi_scene::Form;
 use std::alloc::AllocError;
 
 impl<'a, B: Bodies> Stage<'a, B> {
-    /// Makes room for the destruction of all that is live, in time near the number of the live instances. What stands and
-    /// what is told stays as it was, also where memory is wanted.
+    /// Makes room for the destruction of all that is live, in time near the number of the live instances. The contexts and
+    /// the trace stay as they were, also where memory runs out.
     pub fn reserve_ends(&self, run: &mut Run) -> Result<(), AllocError>
         ensures same { run.new.moment ≡ run.old.moment }
         ensures room { OnOk result (cost_from self.now.scene 0 run.old.moment.standing.live ≤ run.new.room) }

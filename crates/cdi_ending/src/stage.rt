@@ -1,4 +1,4 @@
-//! What runs stand on: a scene, and the book that its bodies are in.
+//! What runs are played on: a scene, and the book that its bodies are in.
 ghost use Rattle.std.specs.Prelude.{◌≡◌, IfOk, length};
 ghost use Rattle.cdi_bodies.specs.Shown.{first_shown};
 ghost use Rattle.cdi_scene.specs.Sound.{IsSound, IsSoundPart};

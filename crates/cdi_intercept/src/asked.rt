@@ -38,7 +38,7 @@ pub fn chain_of(
     Ok(names)
 }
 
-/// The same, counted as one evaluation: `Work` rises where the chain is told, and neither where it is refused nor where
+/// The same, counted as one evaluation: `Work` rises where the chain is answered, and neither where it is refused nor where
 /// memory runs out.
 #[tactic(auto, using(crate::proofs::SeenLemmas::of_evaluations))]
 pub fn evaluate_chain(

@@ -37,7 +37,7 @@ fn enabled<'a>(alloc: Global, decls: &'a Decls) -> Result<Vec<&'a InterceptorDec
 }
 
 /// Of the interceptors that are enabled, in order, those around a place with these bindings. It takes memory for those that
-/// stand there.
+/// are there.
 #[tactic(auto, unfolding(crate::specs::Chains::chain_by))]
 pub fn chain_among<'a>(
     alloc: Global,
@@ -59,7 +59,7 @@ pub fn chain_among<'a>(
 }
 
 /// Of the interceptors that are enabled, in order, those around some place of a bean whose class has these bindings, each
-/// once. It takes memory for the bindings at each place, and for those that stand there.
+/// once. It takes memory for the bindings at each place, and for those that are there.
 #[tactic(auto, unfolding(crate::specs::Chains::around_any))]
 pub fn around_any<'a>(
     alloc: Global,
@@ -81,7 +81,7 @@ pub fn around_any<'a>(
     Ok(list)
 }
 
-/// Whether an interceptor is enabled, and stands around some place of a bean. Where it is enabled, it takes memory for the
+/// Whether an interceptor is enabled, and is around some place of a bean. Where it is enabled, it takes memory for the
 /// bindings of the class and for those at each place.
 #[tactic(auto, unfolding(crate::specs::Chains::stands_around))]
 pub fn stands_around(
@@ -100,7 +100,7 @@ pub fn stands_around(
     Ok(surrounds_one(decls, &sets, interceptor))
 }
 
-/// Whether an interceptor stands around one of some places, each with the bindings there, where it is enabled. It takes no
+/// Whether an interceptor is around one of some places, each with the bindings there, where it is enabled. It takes no
 /// memory.
 pub fn surrounds_one(
     decls: &Decls,
@@ -117,7 +117,7 @@ pub fn surrounds_one(
     false
 }
 
-/// Whether an interceptor stands around a place with these bindings, where it is enabled: it has a body for the place, and
+/// Whether an interceptor is around a place with these bindings, where it is enabled: it has a body for the place, and
 /// declares bindings of which each is covered by one of these. It takes no memory.
 pub fn surrounds(
     decls: &Decls,

@@ -1,4 +1,4 @@
-//! Whether some interceptor stands around a bean.
+//! Whether some interceptor is around a bean.
 ghost use Rattle.std.specs.Prelude.{◌≡◌, ◌||◌, length, nat_eq, not};
 ghost use Rattle.std.specs.List.{list_all, list_any};
 ghost use Rattle.cdi_model.specs.declared.place.BeanPlace.TheVariants.{Construct, Post, Pre};
@@ -14,7 +14,7 @@ use crate::set::own_at;
 use cdi_match::{BroughtTypes, covers};
 use cdi_model::{BeanDecl, BeanPlace, Decl, Decls, InterceptorDecl, Qual, UseKind};
 
-/// Whether an interceptor that is enabled stands around some place of a bean whose class has these bindings, so whether
+/// Whether an interceptor that is enabled is around some place of a bean whose class has these bindings, so whether
 /// `around_any` answers one. It takes no memory.
 #[tactic(auto, using(crate::proofs::AroundLemmas::intercepted_by_parts))]
 pub fn is_intercepted(decls: &Decls, class: &[Qual], bean: &BeanDecl) -> bool
@@ -26,7 +26,7 @@ pub fn is_intercepted(decls: &Decls, class: &[Qual], bean: &BeanDecl) -> bool
         || is_at_observers(decls, class, bean)
 }
 
-/// Whether one stands around the constructor or a callback.
+/// Whether one is around the constructor or a callback.
 fn is_at_class(decls: &Decls, class: &[Qual]) -> bool
     ensures { result ≡ (is_surrounded decls.now class.now Construct || (is_surrounded decls.now class.now Post
         || is_surrounded decls.now class.now Pre)) }
@@ -37,7 +37,7 @@ fn is_at_class(decls: &Decls, class: &[Qual]) -> bool
         || is_surrounded(decls, set, &BeanPlace::Pre)
 }
 
-/// Whether one stands around a business method.
+/// Whether one is around a business method.
 fn is_at_methods(decls: &Decls, class: &[Qual], bean: &BeanDecl) -> bool
     ensures { result ≡ list_any (is_around decls.now class.now bean.now) (methods_of bean.now) }
 {
@@ -50,7 +50,7 @@ fn is_at_methods(decls: &Decls, class: &[Qual], bean: &BeanDecl) -> bool
     false
 }
 
-/// Whether one stands around a producer method that is not static.
+/// Whether one is around a producer method that is not static.
 fn is_at_producers(decls: &Decls, class: &[Qual], bean: &BeanDecl) -> bool
     ensures { result ≡ list_any (is_around decls.now class.now bean.now) (producers_of bean.now) }
 {
@@ -63,7 +63,7 @@ fn is_at_producers(decls: &Decls, class: &[Qual], bean: &BeanDecl) -> bool
     false
 }
 
-/// Whether one stands around an observer method.
+/// Whether one is around an observer method.
 fn is_at_observers(decls: &Decls, class: &[Qual], bean: &BeanDecl) -> bool
     ensures { result ≡ list_any (is_around decls.now class.now bean.now) (observers_of bean.now) }
 {
@@ -76,7 +76,7 @@ fn is_at_observers(decls: &Decls, class: &[Qual], bean: &BeanDecl) -> bool
     false
 }
 
-/// Whether one stands around a place.
+/// Whether one is around a place.
 fn is_around(decls: &Decls, class: &[Qual], bean: &BeanDecl, place: &BeanPlace) -> bool
     ensures { result ≡ is_around decls.now class.now bean.now place.now }
 {
@@ -89,7 +89,7 @@ fn is_around(decls: &Decls, class: &[Qual], bean: &BeanDecl, place: &BeanPlace) 
     is_surrounded_with(decls, own, class, place)
 }
 
-/// Whether one stands around a place with some of its own, with what they bring, and those of its class.
+/// Whether one is around a place with some of its own, with what they bring, and those of its class.
 fn is_surrounded_with(decls: &Decls, own: &[Qual], class: &[Qual], place: &BeanPlace) -> bool
     ensures { result ≡ is_surrounded decls.now (in_place_of class.now (with_brought decls.now own.now)) place.now }
 {
@@ -98,7 +98,7 @@ fn is_surrounded_with(decls: &Decls, own: &[Qual], class: &[Qual], place: &BeanP
     is_surrounded(decls, set, place)
 }
 
-/// Whether one stands around a place with these bindings.
+/// Whether one is around a place with these bindings.
 fn is_surrounded(decls: &Decls, set: PlaceSet<'_>, place: &BeanPlace) -> bool
     ensures { result ≡ is_surrounded decls.now (uses_of set.entry) place.now }
 {
@@ -112,7 +112,7 @@ fn is_surrounded(decls: &Decls, set: PlaceSet<'_>, place: &BeanPlace) -> bool
     false
 }
 
-/// Whether an interceptor has a body for a place, and binds where these bindings stand.
+/// Whether an interceptor has a body for a place, and these bindings bind it.
 fn surrounds(
     decls: &Decls,
     set: PlaceSet<'_>,

@@ -1,4 +1,4 @@
-//! Which interceptors stand around which places of a bean, and in which order.
+//! Which interceptors are around which places of a bean, and in which order.
 #![tactic(auto)]
 
 mod asked;

@@ -9,7 +9,7 @@ ghost use Rattle.cdi_intercept.specs.PlaceSets.{own_uses, uses_left, uses_of};
 use cdi_match::DeclaredUses;
 use cdi_model::{Decls, Name, Qual};
 
-/// The bindings that a place declares of its own, those that are declared by the binding types that these bring, and behind
+/// The bindings that a place declares of its own, those that are declared by the binding types that these bring, and after
 /// them those of the class of whose types it has none.
 #[derive(Clone, Copy)]
 pub(crate) struct PlaceSet<'a> {
@@ -38,7 +38,7 @@ impl<'a> PlaceSet<'a> {
         }
     }
 
-    /// Those of the class, which stand at a place that has none of its own.
+    /// Those of the class, which are those at a place that has none of its own.
     pub(crate) fn of_class(decls: &'a Decls, class: &'a [Qual]) -> PlaceSet<'a>
         ensures { uses_of result ≡ class.now }
     {

@@ -15,7 +15,7 @@ use std::alloc::{AllocError, Global};
 
 /// The bindings at a place of a bean whose class has these: those of the class at its constructor and its lifecycle
 /// callbacks; those that a method declares, with what they bring, and those of the class of whose types it has none. None
-/// where the bean has no such method, or a static producer method. One may stand twice. It takes memory for the list and
+/// where the bean has no such method, or a static producer method. One may occur twice. It takes memory for the list and
 /// for the search.
 pub fn set_by<'a>(
     alloc: Global,

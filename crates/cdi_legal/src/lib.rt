@@ -1,4 +1,4 @@
-//! The entries of traces, what stands after them, and which runs are legal. The rules of the standard on how instances are
+//! The entries of traces, the contexts after them, and which runs are legal. The rules of the standard on how instances are
 //! obtained, made, used and destroyed are in `specs/Legal` and `specs/Ends`, one case for each way in which a step may go.
 #![tactic(auto)]
 

@@ -1,4 +1,4 @@
-//! A run under way. Each entry that is pushed does to the contexts what it says, so what stands follows from the trace.
+//! A run under way. Each entry that is pushed does to the contexts what it says, so the contexts follow from the trace.
 ghost use Rattle.std.specs.Prelude.{◌≡◌, ◌+◌, ◌<◌, ◌≤◌, ◌↔◌, false, IsTrue, None, IfSome, IsSome, IsOk, OnOk, OnErr, IfOk};
 ghost use Rattle.cdi_bodies.specs.Shown.{first_shown};
 ghost use Rattle.cdi_contexts.specs.Standing.{IsFull, IsLive, numbered, found, made_for, last_of, last_in, state_of};
@@ -107,7 +107,7 @@ impl Run {
     }
 
     /// Begins an instance, and pushes its entry; none where no further one may be made. It may take memory. What it leaves
-    /// where memory is wanted is not said.
+    /// where memory runs out is not said.
     pub fn begin(&mut self, bean: usize, owner: Owner) -> Result<Option<InstanceId>, AllocError>
         requires owned { IsOwnerOf (self.old.moment.standing.given + 1) owner }
         ensures possible { IfOk result (λ id. IsSome id → IsFull self.old.moment.standing → ⊥) }
@@ -238,7 +238,7 @@ impl Run {
         self.trace.as_slice()
     }
 
-    /// No instance is live, no request active, and the trace is empty; numbers go on behind this one. It takes no memory.
+    /// No instance is live, no request active, and the trace is empty; numbers go on after this one. It takes no memory.
     pub fn clear(&mut self, given: u64)
         ensures { self.new.moment ≡ beginning (cleared given) }
     {
@@ -247,7 +247,7 @@ impl Run {
         self.asked = 0;
     }
 
-    /// The contexts and the entries. What commands leave of what stands keeps the laws of whole commands.
+    /// The contexts and the entries. The contexts that commands leave keep the laws of whole commands.
     pub fn into_parts(self) -> (Contexts, Vec<Entry>)
         ensures standing { result.0.standing ≡ self.moment.standing }
         ensures trace { result.1.items ≡ self.moment.trace }

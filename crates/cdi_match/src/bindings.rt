@@ -11,8 +11,8 @@ use crate::walk::reaches_itself;
 use cdi_model::{Decl, Decls, Kind, Name, Qual};
 use std::alloc::{AllocError, Global};
 
-/// The uses, and behind them those that the declarations of the binding types declare to which a chain of `declares` leads
-/// from one of these: a binding that is declared there stands once for each type that declares it. A binding type that is
+/// The uses, and after them those that the declarations of the binding types declare to which a chain of `declares` leads
+/// from one of these: a binding that is declared there occurs once for each type that declares it. A binding type that is
 /// not declared brings none. It takes memory for the list and for the search, and none where there is no use.
 #[tactic(auto, using(crate::proofs::BindingLemmas::brought_behind, crate::proofs::LocalityLemmas::edits_keep_bindings))]
 pub fn with_brought<'a>(

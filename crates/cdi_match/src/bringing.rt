@@ -51,7 +51,7 @@ fn positions_brought(decls: &Decls, uses: &[Qual]) -> ArrayVec<usize, DECLS_LIMI
     positions_from(decls, Links::Bindings, Followers::of_uses(uses))
 }
 
-/// Some uses, and behind them those that are declared by the binding types at some positions: what is left of them, in
+/// Some uses, and after them those that are declared by the binding types at some positions: what is left of them, in
 /// order.
 #[derive(Drop)]
 pub struct DeclaredUses<'a> {
@@ -102,7 +102,7 @@ impl<'a> Iterator for DeclaredUses<'a> {
     }
 }
 
-/// The uses that the binding type declares which stands at a position: none where another declaration does.
+/// The uses that the binding type at a position declares: none where another declaration is there.
 fn declared_at(decls: &Decls, position: usize) -> &[Qual]
     ensures { result.now ≡ declared_at decls.now position }
 {

@@ -70,7 +70,7 @@ pub fn notified_of(
     Ok(ids)
 }
 
-/// The same, counted as one evaluation: `Work` rises where they are told, and not where memory runs out.
+/// The same, counted as one evaluation: `Work` rises where they are answered, and not where memory runs out.
 #[tactic(auto, using(crate::proofs::SeenLemmas::notified_rest_on_seen))]
 pub fn evaluate_observers(
     alloc: Global,

@@ -33,14 +33,14 @@ pub trait View {
     fn decls(&self) -> &Decls
         ensures { result.now ≡ list self.now };
 
-    /// The records of the bean declaration of a class: its managed bean, and behind it its products in order. None where
+    /// The records of the bean declaration of a class: its managed bean, and after it its products in order. None where
     /// no such bean is declared.
     fn records(&self, class: &Name) -> &[Effective]
         ensures { result.now ≡ records_in (list self.now) class.now };
 
     /// The bean for a type and qualifiers (CDI 4.0, Performing typesafe resolution). Where the answer was not kept, a view
     /// that keeps answers counts one more, and keeps it if a declaration asks for it; an edit that is staged may be
-    /// given up then. Where the call fails for want of memory, the view has kept and counted nothing.
+    /// given up then. Where the call runs out of memory, the view has kept and counted nothing.
     fn choose(
         &mut self,
         alloc: Global,
@@ -56,7 +56,7 @@ pub trait View {
     /// The names of the interceptors around a place of the bean of a class, in order (Interceptors 2.1, Interceptor
     /// Ordering), whether it is enabled or not. It is refused with `UnknownName` where no such bean is declared, and with
     /// `NoMethod` where it has no such place. It counts, and may give an edit up, as `choose` does; where it is refused or
-    /// fails for want of memory, the view has kept and counted nothing.
+    /// runs out of memory, the view has kept and counted nothing.
     fn chain(&mut self, alloc: Global, class: Name, place: &BeanPlace) -> Result<Seq<Name>, Error>
         ensures chain { Answers result (chain_of (list self.old) class place.now) }
         ensures list { list self.new ≡ list self.old }
@@ -66,7 +66,7 @@ pub trait View {
 
     /// The observer methods that are notified of an event of a type with some qualifiers, in order (CDI 4.0, Observer
     /// resolution; Observer ordering). A type or a qualifier that is not declared is taken as it is. It counts, and may give
-    /// an edit up, as `choose` does; where it fails for want of memory, the view has kept and counted nothing.
+    /// an edit up, as `choose` does; where it runs out of memory, the view has kept and counted nothing.
     fn observers(
         &mut self,
         alloc: Global,

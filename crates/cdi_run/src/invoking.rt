@@ -1,5 +1,5 @@
 //! Invocations and what bodies do in them (Interceptors 2.1, Method Interceptors; CDI 4.0, Client proxy invocation), of the
-//! cycle that `making` tells of.
+//! cycle that `making` describes.
 ghost use Rattle.std.specs.Prelude.{◌≡◌, [], IfOk, IsSome, None, false};
 ghost use Rattle.cdi_bodies.specs.declared.act.Act.TheVariants.{Proceed};
 ghost use Rattle.cdi_contexts.specs.declared.instance.Actor.TheVariants.{Target};

@@ -1,5 +1,5 @@
-//! Runs of a deployment: look-ups, calls and events, and the ends of contexts. Each pushes the entries of its trace while it
-//! goes on, and these are those of a legal tree. How an instance is made and used stands in `making`, `invoking` and
+//! Runs of a deployment: lookups, calls and events, and the ends of contexts. Each pushes the entries of its trace while it
+//! goes on, and these are those of a legal tree. How an instance is made and used is in `making`, `invoking` and
 //! `notifying`, whose functions call each other as the cases of a legal tree do.
 #![tactic(auto)]
 

@@ -1,7 +1,7 @@
 //! How instances are made (CDI 4.0, Lifecycle of managed beans; Lifecycle of producer methods). Here, in `invoking` and in
 //! `notifying` each function is a node of `Legal`, or one or two of its cases, and its `ensures` is the tree below it. They call
-//! each other as the cases do. `levels` is how many creations and frames may still be opened. After want of memory nothing is
-//! said here: whoever began the run clears it.
+//! each other as the cases do. `levels` is how many creations and frames may still be opened. After a run is out of memory,
+//! nothing is said here: whoever began it clears it.
 ghost use Rattle.std.specs.Prelude.{◌≡◌, ◌+◌, ◌≤◌, [], IfOk, IsSome, length, true, false};
 ghost use Rattle.cdi_contexts.specs.Rising.{IsOwnerOf};
 ghost use Rattle.cdi_model.specs.Quals.{list_limit};
@@ -199,7 +199,7 @@ impl<'a, B: Bodies> Player<'a, B> {
         }
     }
 
-    /// A product of an instance of its declaring bean that is made for this invocation, and destroyed behind it.
+    /// A product of an instance of its declaring bean that is made for this invocation, and destroyed after it.
     #[cycle(run)]
     fn produce_on_own(
         &self,

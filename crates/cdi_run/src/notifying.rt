@@ -1,4 +1,4 @@
-//! Events (CDI 4.0, Observer notification; Observer ordering), of the cycle that `making` tells of.
+//! Events (CDI 4.0, Observer notification; Observer ordering), of the cycle that `making` describes.
 ghost use Rattle.std.specs.Prelude.{IfOk, true, false};
 ghost use Rattle.cdi_scene.specs.Sound.{IsSoundNotified, AreObservers};
 ghost use Rattle.cdi_legal.specs.Furnished.{HasDependents};
@@ -96,7 +96,7 @@ impl<'a, B: Bodies> Player<'a, B> {
         }
     }
 
-    /// Notifies an observer on an instance of its bean that is made for this notification, and destroyed behind it.
+    /// Notifies an observer on an instance of its bean that is made for this notification, and destroyed after it.
     #[cycle(run)]
     fn notify_own(
         &self,
@@ -125,7 +125,7 @@ impl<'a, B: Bodies> Player<'a, B> {
         }
     }
 
-    /// Notifies an observer on an instance, with what is made for its parameters, which is destroyed behind it.
+    /// Notifies an observer on an instance, with what is made for its parameters, which is destroyed after it.
     #[cycle(run)]
     fn attend(
         &self,

@@ -11,7 +11,7 @@ use cdi_ending::Stage;
 use cdi_model::{Scope, Val};
 use cdi_scene::{Form, Invocable, Managed, Observer, Part, Place, Product, Seat};
 
-/// Plays runs on a stage: look-ups, calls and events, and the ends of contexts.
+/// Plays runs on a stage: lookups, calls and events, and the ends of contexts.
 #[derive(Drop)]
 pub struct Player<'a, B: Bodies> {
     pub stage: Stage<'a, B>,

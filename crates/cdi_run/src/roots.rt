@@ -1,4 +1,4 @@
-//! Where runs begin: look-ups, calls and events, and the ends of contexts.
+//! Where runs begin: lookups, calls and events, and the ends of contexts.
 ghost use Rattle.std.specs.Prelude.{◌≡◌, ◌≤◌, [], IfOk, IsOk, OnOk, OnErr, IsSome};
 ghost use Rattle.cdi_scene.specs.Scene.{bean_at};
 ghost use Rattle.cdi_scene.specs.Sound.{AreObservers};
@@ -35,10 +35,10 @@ pub enum Purpose {
 }
 
 /// Each public call is a whole command: the entries of the command before are cleared, those that it pushes are those of a
-/// legal run, in order, and what stands follows from them. After want of memory no instance is live, no request active and
-/// the trace empty, and numbers go on from where they were; but where contexts were to end, all is as it was.
+/// legal run, in order, and the contexts follow from them. After running out of memory no instance is live, no request is
+/// active and the trace is empty; numbers go on from where they were. But where contexts were to end, all is as it was.
 impl<'a, B: Bodies> Player<'a, B> {
-    /// A look-up or a call: the shared instance of a bean with a normal scope is used, and an instance of a dependent bean is
+    /// A lookup or a call: the shared instance of a bean with a normal scope is used, and an instance of a dependent bean is
     /// made for this use and destroyed before the answer (the latter: profile).
     pub fn use_one(
         &self,
@@ -105,7 +105,7 @@ impl<'a, B: Bodies> Player<'a, B> {
     }
 
     /// Ends the request context, and then no request is active (CDI 4.0, Context management for built-in scopes). Whether
-    /// one was active is the caller's to ask. Memory is taken before the first callback only: where it is wanted, nothing has
+    /// one was active is the caller's to ask. Memory is taken before the first callback only: where it runs out, nothing has
     /// changed.
     pub fn end_request(&self, run: &mut Run) -> Result<(), AllocError>
         ensures legal { let before = run.old.moment.standing in let now = run.new.moment in
@@ -131,7 +131,7 @@ impl<'a, B: Bodies> Player<'a, B> {
     }
 
     /// Ends the request context and then the application context, and then no request is active (CDI 4.0, Context
-    /// management for built-in scopes). Memory is taken before the first callback only: where it is wanted, nothing has
+    /// management for built-in scopes). Memory is taken before the first callback only: where it runs out, nothing has
     /// changed.
     pub fn end_contexts(&self, run: &mut Run) -> Result<(), AllocError>
         ensures legal { let before = run.old.moment.standing in let now = run.new.moment in
@@ -157,7 +157,7 @@ impl<'a, B: Bodies> Player<'a, B> {
         }
     }
 
-    /// A look-up or a call: the bean's instance is obtained; a dependent one is made, and destroyed before the answer.
+    /// A lookup or a call: the bean's instance is obtained; a dependent one is made, and destroyed before the answer.
     fn use_either(
         &self,
         run: &mut Run,

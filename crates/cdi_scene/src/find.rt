@@ -1,4 +1,4 @@
-//! Where things stand in a scene. No call takes memory, and each looks at a few positions.
+//! Finds things in a scene by position. No call takes memory, and each looks at a few positions.
 ghost use Rattle.std.specs.Prelude.{◌≡◌, ◌<◌, Some, length, option_map, slice_get};
 ghost use Rattle.cdi_scene.specs.Scene.{bean_at, managed_at, product_at, interceptor_at, observer_at, disposer_at};
 ghost use Rattle.cdi_scene.specs.Scene.{place_of, invocable_at, part_for, part_at};
@@ -40,7 +40,7 @@ impl Scene {
         self.beans.as_slice().get(position)
     }
 
-    /// The managed bean at a position; none where a product stands there, or nothing.
+    /// The managed bean at a position; none where a product is there, or nothing.
     pub fn managed(&self, position: usize) -> Option<&Managed>
         ensures { option_map (λ managed. managed.now) result ≡ managed_at self.now position }
     {
@@ -50,7 +50,7 @@ impl Scene {
         }
     }
 
-    /// The product at a position; none where a managed bean stands there, or nothing.
+    /// The product at a position; none where a managed bean is there, or nothing.
     pub fn product(&self, position: usize) -> Option<&Product>
         ensures { option_map (λ product. product.now) result ≡ product_at self.now position }
     {
@@ -68,7 +68,7 @@ impl Scene {
     }
 
     /// What is invoked at a place of a bean: interceptors and the bean's own body. A disposer method is not intercepted, so
-    /// none stands for it here (Interceptors 2.1, Method Interceptors).
+    /// it has no interceptors here (Interceptors 2.1, Method Interceptors).
     pub fn invocable(&self, bean: usize, place: Place) -> Option<&Invocable>
         ensures { option_map (λ invocable. invocable.now) result ≡ invocable_at self.now bean place }
     {

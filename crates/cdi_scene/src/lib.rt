@@ -1,5 +1,5 @@
 //! A deployment as its runs see it, once every question about it was answered: what is chosen for each injection point,
-//! which interceptors stand at each place, and who observes each event. Everything is told by its position, so a run looks
+//! which interceptors are at each place, and who observes each event. Everything is named by its position, so a run looks
 //! nothing up by a name and takes no memory for what it finds here.
 #![tactic(auto)]
 

@@ -1,13 +1,13 @@
 //! Where bodies run: at a place of a bean, and there for the bean itself or for an interceptor.
 use cdi_contexts::Actor;
 
-/// A place of a bean at which bodies run. Methods and observer methods are told by their positions in the bean, producer
+/// A place of a bean at which bodies run. Methods and observer methods are named by their positions in the bean, producer
 /// and disposer methods by the position of the product in the bean list.
 #[derive(Clone, Copy, PartialEq, Eq, Debug)]
 pub enum Place {
     /// The constructor (Interceptors 2.1, AroundConstruct).
     Construct,
-    /// Behind the constructor (CDI 4.0, Lifecycle of managed beans).
+    /// After the constructor (CDI 4.0, Lifecycle of managed beans).
     Post,
     /// Before the destruction (CDI 4.0, Lifecycle of managed beans).
     Pre,

@@ -36,13 +36,13 @@ pub struct Notified {
 pub struct Part {
     /// The body, by its position in the book.
     pub body: usize,
-    /// What the body promises, as the book tells it.
+    /// What the body promises, as the book says.
     pub promise: Promise,
     pub calls: Seq<CallSite>,
     pub fires: Seq<Seq<Notified>>,
 }
 
-/// What is invoked at a place: the interceptors of its chain, by their positions, and behind them the bean's own body, if
+/// What is invoked at a place: the interceptors of its chain, by their positions, and after them the bean's own body, if
 /// it has one (Interceptors 2.1, Interceptor Ordering).
 #[derive(Drop)]
 pub struct Invocable {

@@ -11,7 +11,7 @@ use clap::error::ErrorKind;
 use std::io;
 use std::io::Write;
 
-/// Tells a fault.
+/// Writes the message of a fault.
 pub fn tell_fault<E: Write>(fault: RunFault, errors: &mut Counted<E>)
     ensures { Tells E.contents errors.old errors.new (text_of_fault fault) }
 {
@@ -34,7 +34,7 @@ pub fn fault_of_open(error: &io::Error) -> RunFault
     }
 }
 
-/// Shows the help that the words ask for on `output`, or tells what is wrong with them on `errors`, and answers the
+/// Shows the help that the words ask for on `output`, or says what is wrong with them on `errors`, and answers the
 /// status. No clause says what the text of `clap` is, nor that it was written.
 pub fn refuse_line<O: Write, E: Write>(
     error: &Error,
@@ -55,7 +55,7 @@ pub fn refuse_line<O: Write, E: Write>(
     2
 }
 
-/// Tells why the words of the command line could not be had, and answers the status: 4 for want of memory, and else 2.
+/// Says why the words of the command line could not be had, and answers the status: 4 when out of memory, and else 2.
 pub fn refuse_words<E: Write>(error: &io::Error, errors: &mut Counted<E>) -> u8
     ensures status { result ≡ status_of_words (error_kind error.now) }
     ensures text { Tells E.contents errors.old errors.new (text_of_words (error_kind error.now)) }

@@ -1,4 +1,4 @@
-//! What the program does with its words: it runs a script, tells what went wrong, and answers a status.
+//! What the program does with its words: it runs a script, says what went wrong, and answers a status.
 #![tactic(auto)]
 
 mod complaints;

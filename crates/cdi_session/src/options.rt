@@ -57,8 +57,8 @@ fn script_command<'a>(alloc: Global) -> Result<Command<'a>, AllocError>
         .arg(script_argument(alloc))
 }
 
-/// What the words say, the program's name first among them, or `clap`'s error, whose text tells the user: a request for
-/// help, words that are no command line, or want of memory. It takes memory.
+/// What the words say, the program's name first among them, or `clap`'s error, whose text is for the user: a request for
+/// help, words that are no command line, or out of memory. It takes memory.
 pub fn options<'a, S: AsStr>(alloc: Global, words: &'a [S]) -> Result<Arguments<'a>, Error>
     ensures accepted { OnOk result (faults_of (map S.text words.now) ≡ []) }
     ensures means { IfOk result (λ options. Means (matches_of script_app (map S.text words.now)) options) }

@@ -16,7 +16,7 @@ use std::io::{Read, Write};
 
 /// Runs the program on these words, the program's name first among them, with this book of stored bodies, and answers its
 /// status: 0; 1 where `--strict` is given and a command was refused; 2 for words that are no command line; 3 where a device
-/// failed; 4 for want of memory. A status of 2 to 4 comes with a text on `errors`. It takes what `clap` takes for the words
+/// failed; 4 when out of memory. A status of 2 to 4 comes with a text on `errors`. It takes what `clap` takes for the words
 /// and `run` for the script.
 ///
 /// Only tested are the text of help on `output` and that of `clap` on `errors`, since `clap` promises no text and `std`

@@ -1,4 +1,4 @@
-//! The interceptors that are enabled, and where they stand (Interceptors 2.1, Interceptor Ordering).
+//! The interceptors that are enabled, and where they are (Interceptors 2.1, Interceptor Ordering).
 ghost use Rattle.std.specs.Prelude.{◌≡◌, ◌++◌, map, filter, flat_map, IfOk, OnOk};
 ghost use Rattle.cdi_contexts.specs.declared.instance.Actor.TheVariants.{Target as ByTarget};
 ghost use Rattle.cdi_effective.specs.Beans.{beans as beans_of};

@@ -41,7 +41,7 @@ fn disposer_named(bean: &BeanDecl, name: Ident) -> Option<&DisposerDecl>
     None
 }
 
-/// What stands for a managed bean that is not enabled.
+/// The placeholder for a managed bean that is not enabled.
 fn unused_managed(alloc: Global) -> Managed
     ensures { result ≡ unused_managed }
 {
@@ -55,7 +55,7 @@ fn unused_managed(alloc: Global) -> Managed
     }
 }
 
-/// What stands for a product that is not enabled.
+/// The placeholder for a product that is not enabled.
 fn unused_product(alloc: Global, beans: &BeanList, bean: &BeanDecl) -> Product
     ensures { result ≡ unused_product beans.now bean.now }
 {

@@ -1,5 +1,5 @@
 //! The scene of a deployment: what its runs see, made from its declarations, from what is chosen for its injection
-//! points and from the book of stored bodies. What the standard says of a deployment that runs is told here, once.
+//! points and from the book of stored bodies. What the standard says of a deployment that runs is said here, once.
 #![tactic(auto)]
 
 mod around;

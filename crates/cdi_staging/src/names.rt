@@ -1,4 +1,4 @@
-//! The names of what stands in a scene, by position, for those who print a trace.
+//! The names of what is in a scene, by position, for those who print a trace.
 ghost use Rattle.std.specs.Prelude.{◌≡◌, ◌++◌, List, length, map, IfOk, OnOk, option_copied};
 ghost use Rattle.std.specs.List.{flat_map};
 ghost use Rattle.cdi_effective.specs.Beans.{beans as beans_of, product};

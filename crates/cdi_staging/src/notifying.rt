@@ -22,7 +22,7 @@ fn observer_named(observers: &[ObserverDecl], name: Ident) -> Option<usize>
     None
 }
 
-/// The position of an observer method among those that a class declares, or the one behind the last.
+/// The position of an observer method among those that a class declares, or the one after the last.
 fn observer_declared(decls: &Decls, class: Name, name: Ident) -> usize
     ensures { result ≡ observer_declared (find_bean class decls.now) name }
 {
@@ -46,8 +46,8 @@ fn notified_as(decls: &Decls, beans: &BeanList, id: ObserverId) -> Notified
 
 /// The observer methods that are notified of an event of a type with some qualifiers, in order, by their positions in the
 /// scene of the declarations whose bean list this is (CDI 4.0, Observer resolution; Observer ordering). It takes memory for
-/// them, for the types of the event and for the observer methods of these types. The clause behind says that each of them
-/// stands in the scene.
+/// them, for the types of the event and for the observer methods of these types. The last clause says that each of them
+/// is in the scene.
 #[tactic(auto, using(crate::proofs::NotifiedLemmas::notified_stand), unfolding(crate::specs::Notifying::notified_at))]
 pub fn notified_at(
     alloc: Global,

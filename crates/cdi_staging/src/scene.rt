@@ -28,8 +28,8 @@ use std::rc::Rc;
 /// The scene of some declarations whose bean list this is, with what is chosen for their injection points, as
 /// `evaluate` of `cdi_observe` answers, and a book of stored bodies. A part whose body the book has not is left out. It
 /// looks each name of a body, a bean and a method up once for each place that writes it, so its time is near the size
-/// of the declarations; it takes memory for the scene. The clauses behind say that a deployment without faults has a
-/// sound scene, and that a bean which is chosen for a look-up from outside stands there and has its methods.
+/// of the declarations; it takes memory for the scene. The last clauses say that a deployment without faults has a
+/// sound scene, and that a bean which is chosen for a lookup from outside is there and has its methods.
 #[tactic(auto, using(crate::proofs::Laws::of_scenes), unfolding(crate::specs::Staged::scene_of))]
 pub fn scene_of<B: Bodies>(
     alloc: Global,
@@ -69,7 +69,7 @@ pub(crate) fn record_count(decl: &Decl) -> usize
     }
 }
 
-/// Of what is chosen for the parameters of the producer methods of a bean and behind them for those of its observer
+/// Of what is chosen for the parameters of the producer methods of a bean and after them for those of its observer
 /// methods, that for the former and that for the latter.
 fn split_params<'a, T>(producers: &[ProducerDecl], chosen: &'a [T]) -> (&'a [T], &'a [T])
     ensures products { result.0.now ≡ take (length (params_of producers.now)) chosen.now }

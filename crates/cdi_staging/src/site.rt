@@ -42,7 +42,7 @@ fn method_named(methods: &[MethodDecl], name: Ident) -> Option<usize>
     None
 }
 
-/// The position of a method of a managed bean, or the one behind its last.
+/// The position of a method of a managed bean, or the one after its last.
 fn method_declared(decls: &Decls, class: Name, name: Ident) -> usize
     ensures { result ≡ method_declared (find_bean class decls.now) name }
 {
@@ -55,7 +55,7 @@ fn method_declared(decls: &Decls, class: Name, name: Ident) -> usize
     }
 }
 
-/// The position of a method: of a managed bean among those that it declares, or the one behind its last; 0 of a product,
+/// The position of a method: of a managed bean among those that it declares, or the one after its last; 0 of a product,
 /// which has no class here (profile). It takes no memory.
 #[tactic(auto, unfolding(crate::specs::Sites::method_of))]
 pub fn method_of(decls: &Decls, class: Option<Name>, name: Ident) -> usize

@@ -11,20 +11,20 @@ use std::rc::Rc;
 /// The bean that is chosen for an injection point (CDI 4.0, Performing typesafe resolution).
 #[derive(Clone, Copy)]
 pub struct Target {
-    /// Its position in the bean list; where not one bean is chosen, that behind the last.
+    /// Its position in the bean list; where not one bean is chosen, that after the last.
     pub bean: usize,
     /// Its class, where it is a managed bean, so that its methods are those that are declared.
     pub class: Option<Name>,
 }
 
-/// The position of a bean, or the one behind the last.
+/// The position of a bean, or the one after the last.
 fn position_of_bean(beans: &BeanList, id: BeanId) -> usize
     ensures { result ≡ position_of_bean beans.now id }
 {
     beans.position(id).unwrap_or(beans.as_slice().len())
 }
 
-/// The position of the managed bean of a class, or the one behind the last.
+/// The position of the managed bean of a class, or the one after the last.
 pub(crate) fn position_of_class(beans: &BeanList, class: Name) -> usize
     ensures { result ≡ position_of_class beans.now class }
 {
@@ -35,7 +35,7 @@ pub(crate) fn position_of_class(beans: &BeanList, class: Name) -> usize
     position_of_bean(beans, id)
 }
 
-/// No bean: the position behind the last.
+/// No bean: the position after the last.
 pub(crate) fn nowhere(beans: &BeanList) -> Target
     ensures { result ≡ nowhere beans.now }
 {

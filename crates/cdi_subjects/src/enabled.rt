@@ -1,4 +1,4 @@
-//! Whether what stands in a place of a declaration belongs to an enabled bean or interceptor (CDI 4.0, Enabled and disabled
+//! Whether what is at a place of a declaration belongs to an enabled bean or interceptor (CDI 4.0, Enabled and disabled
 //! beans).
 ghost use Rattle.std.specs.Prelude.{◌≡◌};
 ghost use Rattle.cdi_subjects.specs.Filter.{has_enabled, is_enabled_in, producer_of_part, producer_of_point};

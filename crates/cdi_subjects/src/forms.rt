@@ -1,4 +1,4 @@
-//! Types that stand in the wrong places (CDI 4.0, Bean types).
+//! Types that are used in the wrong places (CDI 4.0, Bean types).
 ghost use Rattle.std.specs.Prelude.{◌≡◌, Some, IfOk};
 ghost use Rattle.std.specs.Str.{bytes_eq};
 ghost use Rattle.cdi_model.specs.declared.decl.Kind.TheVariants as kinds;

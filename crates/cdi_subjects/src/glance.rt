@@ -12,7 +12,7 @@ use cdi_bodies::Bodies;
 use cdi_faults::Code;
 use cdi_model::{Decl, Decls, Mention};
 
-/// What one look at all that a declaration names tells: of which codes none of its parts can have a fault.
+/// What one look at all that a declaration names shows: of which codes none of its parts can have a fault.
 #[derive(Clone, Copy, Debug)]
 pub struct Glance {
     /// What is named in some place is at fault by itself.

@@ -1,4 +1,4 @@
-//! Injection points without a bean, or with one for which no class can stand (CDI 4.0, Unsatisfied and ambiguous
+//! Injection points without a bean, or with one that cannot be proxied (CDI 4.0, Unsatisfied and ambiguous
 //! dependencies; Unproxyable bean types).
 ghost use Rattle.std.specs.Prelude.{◌≡◌, ◌&&◌, map, IfOk};
 ghost use Rattle.std.specs.List.{list_any};

@@ -1,4 +1,4 @@
-//! Injection points for which no class can stand between the bean and its callers (CDI 4.0, Unproxyable bean types).
+//! Injection points whose bean needs a proxy or a subclass that its type rules out (CDI 4.0, Unproxyable bean types).
 ghost use Rattle.std.specs.Prelude.{◌≡◌};
 ghost use Rattle.cdi_subjects.specs.Proxies.{is_final, is_normal, is_unproxyable, needs_subclass, needs_subclass_as};
 ghost use Rattle.cdi_subjects.specs.Proxies.{needs_subclass_by};

@@ -129,7 +129,7 @@ fn own_points(decl: &Decl) -> &[PointDecl]
 }
 
 /// Whether a call site names a point that is neither among some points nor among others, or a method that the chosen bean
-/// does not have. The answers stand in the order of the points.
+/// does not have. The answers are in the order of the points.
 fn is_lost(
     decls: &Decls,
     params: &[PointDecl],
@@ -164,7 +164,7 @@ fn is_lost_beside(
     }
 }
 
-/// What is chosen for the point of a name among some points, to which the answers stand in their order.
+/// What is chosen for the point of a name among some points, whose answers are in the same order.
 fn choice_beside<'a>(
     points: &[PointDecl],
     answers: &'a [Rc<Choice>],

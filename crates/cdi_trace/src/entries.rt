@@ -17,7 +17,7 @@ use cdi_staging::Names;
 use std::alloc::{AllocError, Global};
 use std::io::Write;
 
-/// Appends the text of entries, each on a line of its own behind two spaces. It takes memory for the text; at `Err`
+/// Appends the text of entries, each on a line of its own after two spaces. It takes memory for the text; at `Err`
 /// nothing is appended. Each name is found by its position.
 pub fn push_entries(text: &mut Vec<u8>, names: &Names, entries: &[Entry]) -> Result<(), AllocError>
     ensures ok { OnOk result (text.new.items ≡ text.old.items ++ text_of_entries names.now entries.now) }
@@ -141,7 +141,7 @@ fn push_fired(
     push_fire_site(text, names, seat, usize::from(site))
 }
 
-/// An observer method that is not notified, behind its class.
+/// An observer method that is not notified, after its class.
 fn push_skip(text: &mut Vec<u8>, names: &Names, observer: Notified) -> Result<(), AllocError>
     ensures { OnOk result (text.new.items ≡ text.old.items ++ text_of_entry names.now (Skip observer)) }
 {

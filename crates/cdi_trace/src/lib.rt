@@ -1,4 +1,4 @@
-//! The text of a trace: what its entries tell by positions, told by the names of a deployment.
+//! The text of a trace: the positions in its entries are printed as the names of a deployment.
 #![tactic(auto)]
 
 mod entries;

@@ -1,4 +1,4 @@
-//! What stands at the positions that a trace tells.
+//! What is at the positions in a trace.
 ghost use Rattle.std.specs.Prelude.{◌≡◌, ◌++◌, OnOk, option_copied, option_map, unwrap_or, []};
 ghost use Rattle.cdi_trace.specs.Names.{bean_told, class_of_bean, text_of_instance, method_told, observer_told};
 ghost use Rattle.cdi_trace.specs.Names.{name_of_method, name_of_producer, name_of_disposer, interceptor_told, text_of_actor};

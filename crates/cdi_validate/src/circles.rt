@@ -114,7 +114,7 @@ fn is_dependent(bean: &Effective) -> bool
     bean.is_enabled && matches!(bean.scope, Scope::Dependent)
 }
 
-/// The text of what a bean is told by.
+/// The text that identifies a bean.
 fn node_of(alloc: Global, id: BeanId) -> Result<Node, AllocError>
     ensures { IfOk result (λ node. node ≡ text_of_id id) }
 {
@@ -271,7 +271,7 @@ fn first_of(answers: &[Rc<Choice>]) -> &[Rc<Choice>]
     answers.split_at(answers.len().min(1)).0
 }
 
-/// The answers that are left behind what is named in a place.
+/// The answers that are left after what is named in a place.
 fn left_behind<'a>(answers: &'a [Rc<Choice>], mention: &Mention<'_>) -> &'a [Rc<Choice>]
     ensures { map (λ answer. answer.value) result.now ≡ left_behind (map (λ answer. answer.value) answers.now) (shown mention.now) }
 {
@@ -292,7 +292,7 @@ fn bean_of_point(bean: &BeanDecl, place: &PointPlace) -> Option<BeanId>
     }
 }
 
-/// Adds what each managed bean needs for an interceptor that stands around a place of it, by the answers to the
+/// Adds what each managed bean needs for an interceptor that is around a place of it, by the answers to the
 /// interceptor's injection points.
 fn add_needs_around(
     alloc: Global,
@@ -324,7 +324,7 @@ fn add_needs_around(
     Ok(())
 }
 
-/// Adds what a managed bean needs for an interceptor, if it is dependent, and the interceptor stands around a place of it.
+/// Adds what a managed bean needs for an interceptor, if it is dependent, and the interceptor is around a place of it.
 fn add_need_around(
     alloc: Global,
     dependents: &BTreeMap<Node, BeanId>,

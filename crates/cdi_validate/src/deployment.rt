@@ -28,7 +28,7 @@ use std::rc::Rc;
 
 /// All that is wrong with the declarations of a view where the bodies of a book are stored (CDI 4.0, Problems detected
 /// automatically by the container): the declarations in order, each with its faults by code and then by the texts of
-/// their subjects, and then the faults of names and those of circles. Each fault stands once.
+/// their subjects, and then the faults of names and those of circles. Each fault occurs once.
 ///
 /// Each injection point is asked for once for each type and qualifiers. It takes memory for the faults, for the answers
 /// and where the view does. Where none is left, some of the keys from the front on were asked. An edit that is staged

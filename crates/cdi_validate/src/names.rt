@@ -1,4 +1,4 @@
-//! Names of beans that cannot stand beside one another (CDI 4.0, Ambiguous names).
+//! Names of beans that cannot be used side by side (CDI 4.0, Ambiguous names).
 ghost use Rattle.std.specs.Prelude.{◌≡◌, ◌∷◌, ◌++◌, ℕ, List, length, map, filter, flat_map, IfOk, OnOk};
 ghost use Rattle.std.specs.BTreeMap.{get, keys};
 ghost use Rattle.std.specs.List.Sorted.{IsStrictlySortedBy};
@@ -22,7 +22,7 @@ use std::alloc::{AllocError, Global};
 use std::collections::BTreeMap;
 
 /// Appends the faults of names: each that several enabled beans have of which none is chosen, and each pair of which one
-/// goes on behind the other. It goes through the beans once, and takes memory for the names of enabled beans.
+/// continues the other. It goes through the beans once, and takes memory for the names of enabled beans.
 pub(crate) fn push_of_names<V: View>(
     alloc: Global,
     view: &V,
@@ -115,7 +115,7 @@ fn names_of(alloc: Global, leaders: &BTreeMap<Name, Leaders>) -> Result<Vec<Name
     Ok(names)
 }
 
-/// Appends the pairs of which one goes on behind the other, among names in byte order.
+/// Appends the pairs of which one continues the other, among names in byte order.
 fn push_prefixes(names: &[Name], faults: &mut Vec<Fault>) -> Result<(), AllocError>
     requires { IsStrictlySortedBy (slice_cmp nat_cmp) names.now }
     ensures { OnOk result (faults.new.items ≡ faults.old.items ++ prefix_pairs names.now) }
@@ -128,8 +128,8 @@ fn push_prefixes(names: &[Name], faults: &mut Vec<Fault>) -> Result<(), AllocErr
     Ok(())
 }
 
-/// Appends the pairs of a name and those that go on behind it, among the names after it in byte order. The names that
-/// begin with it stand first among these.
+/// Appends the pairs of a name and those that continue it, among the names after it in byte order. The names that
+/// begin with it come first among these.
 fn push_behind(name: Name, later: &[Name], faults: &mut Vec<Fault>) -> Result<(), AllocError>
     requires { IsStrictlySortedBy (slice_cmp nat_cmp) (name ∷ later.now) }
     ensures { OnOk result (faults.new.items ≡ faults.old.items ++ map (faults_are.NamePrefix name) (filter (goes_on name) later.now)) }
@@ -145,7 +145,7 @@ fn push_behind(name: Name, later: &[Name], faults: &mut Vec<Fault>) -> Result<()
     Ok(())
 }
 
-/// Whether the byte behind as many as the first name has is a dot.
+/// Whether the byte after as many as the first name has is a dot.
 fn has_dot_behind(name: Name, other: Name) -> bool
     ensures { result ≡ has_dot_at other (length name) }
 {

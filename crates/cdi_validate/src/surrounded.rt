@@ -18,7 +18,7 @@ use cdi_model::{BeanDecl, BeanPlace, Decls, InterceptorDecl, Name, Qual};
 use std::alloc::{AllocError, Global};
 use std::collections::{BTreeMap, BTreeSet};
 
-/// The beans around which an interceptor may stand, if there are some: those that have a binding of the type of its first
+/// The beans around which an interceptor may be, if there are some: those that have a binding of the type of its first
 /// at some place. It takes no memory.
 pub(crate) fn may_surround<'a, 'b>(
     by_binding: &'b BTreeMap<Name, Vec<&'a BeanDecl>>,
