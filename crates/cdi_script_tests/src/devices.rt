@@ -1,5 +1,5 @@
 //! Runs over readers and writers that fail, that never end, and that watch each other.
-use crate::fixtures::{STORED_SCRIPT, STORED_TEXT, assert_text, empty_page, ending, fault_of};
+use crate::fixtures::{STORED_SCRIPT, STORED_TEXT, assert_text, empty_page, fault_of};
 use cdi_container::{Console, Counted, Options, RunFault, run};
 use cdi_devices::SCRIPT_LIMIT;
 use cdi_fixtures::Echo;
@@ -22,26 +22,6 @@ static CUTS_BY_FAILURE: [Cut; 5] = [
     Cut(77, b"ok\nok\n"),
     Cut(92, b"ok\nok\none Corner\n"),
     Cut(93, STORED_TEXT),
-];
-
-/// What is printed where the script ends after so many bytes. A last line without its line feed counts, and a put block
-/// that is open is refused.
-static CUTS_BY_END: [Cut; 10] = [
-    Cut(0, b""),
-    // `p`, `pu`, and the first put block.
-    Cut(30, b"refused E20 BadCommand\n"),
-    Cut(32, b"ok\n"),
-    Cut(62, b"ok\nrefused E20 BadCommand\n"),
-    Cut(64, b"ok\nok\n"),
-    // `c` to `choose `.
-    Cut(71, b"ok\nok\nrefused E20 BadCommand\n"),
-    // `choose C` to `choose Corne`.
-    Cut(76, b"ok\nok\nunsatisfied\n"),
-    Cut(78, b"ok\nok\none Corner\n"),
-    // `d` to `drop type `.
-    Cut(88, b"ok\nok\none Corner\nrefused E20 BadCommand\n"),
-    // `drop type M` to the end.
-    Cut(93, b"ok\nok\none Corner\nrefused E11 Absent\n"),
 ];
 
 /// What so many bytes print.
@@ -204,7 +184,7 @@ fn a_script_without_end_is_a_failed_read(rt: HostRuntime) -> Result<(), Fail> {
     Ok(())
 }
 
-/// A writer that takes so many bytes in all; then it fails, or takes none.
+/// A writer that takes so many bytes in all; then each write and flush fails, or a write takes none.
 #[derive(Drop)]
 struct Full {
     left: usize,
@@ -224,14 +204,18 @@ impl Write for Full {
     }
 
     fn flush(&mut self) -> io::Result<()> {
+        if self.left == 0 && self.fails {
+            return Err(io::Error::from(ErrorKind::StorageFull));
+        }
         Ok(())
     }
 }
 
 #[test]
 fn writes_that_fail(rt: HostRuntime) -> Result<(), Fail> {
-    for left in 0..STORED_TEXT.len() {
+    for left in 0..=STORED_TEXT.len() {
         for fails in [true, false] {
+            let has_room = left == STORED_TEXT.len() && !fails;
             let mut reader = Counted::new(STORED_SCRIPT);
             let mut writer = Counted::new(Full {
                 left,
@@ -241,21 +225,11 @@ fn writes_that_fail(rt: HostRuntime) -> Result<(), Fail> {
             let mut console = Console::new(&mut reader, &mut writer);
             let ending = run(rt.alloc(), &mut console, OPTIONS, Echo);
             let is_write = fault_of(ending)? == Some(RunFault::Write);
-            let is_right = is_write && writer.has_failed() && writer.count() == left as u64;
-            assert!(rt; is_right, "at {left}");
+            assert!(rt; is_write != has_room, "at {left}");
+            assert!(rt; writer.has_failed() != has_room && writer.count() == left as u64);
             let bytes = writer.into_inner().bytes;
             assert_text(&rt, bytes.as_slice(), &STORED_TEXT[..left], &left);
         }
-    }
-    Ok(())
-}
-
-#[test]
-fn scripts_that_end_early(rt: HostRuntime) -> Result<(), Fail> {
-    for count in 0..=STORED_SCRIPT.len() {
-        let (written, _) = ending(rt.alloc(), &STORED_SCRIPT[..count])?;
-        let text = text_of(&CUTS_BY_END, count).ok_or("no text")?;
-        assert_text(&rt, written.as_slice(), text, &count);
     }
     Ok(())
 }

@@ -5,11 +5,11 @@ use std::io;
 use std::io::Write;
 use std::test::Fail;
 
-/// How many times a text stands, one behind the other.
+/// How many times a text is repeated.
 #[derive(Clone, Copy)]
 struct Piece(usize, &'static [u8]);
 
-/// A script of pieces, one behind the other, and what it prints.
+/// A script of pieces in order, and what it prints.
 #[derive(Clone, Copy)]
 struct LongRow {
     name: &'static str,
@@ -18,7 +18,7 @@ struct LongRow {
     refused: bool,
 }
 
-static LONG_ROWS: [LongRow; 11] = [
+static LONG_ROWS: [LongRow; 12] = [
     LongRow {
         name: "a command line of more than 4,096 bytes",
         script: &[Piece(4097, b"a"), Piece(1, b"\n")],
@@ -118,9 +118,15 @@ static LONG_ROWS: [LongRow; 11] = [
         text: b"refused E20 BadCommand\n",
         refused: true,
     },
+    LongRow {
+        name: "a last line without its line feed",
+        script: &[Piece(1, b"drop type Mall\ndrop type Ma")],
+        text: b"refused E11 Absent\nrefused E11 Absent\n",
+        refused: true,
+    },
 ];
 
-/// The pieces, one behind the other.
+/// The pieces in order, joined.
 fn joined(alloc: Global, pieces: &[Piece]) -> Result<Vec<u8>, AllocError> {
     let mut script = Vec::new(alloc);
     for piece in pieces {

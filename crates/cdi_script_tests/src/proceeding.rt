@@ -1,5 +1,5 @@
-//! Scripts that run closures of the test around others: they proceed with what they like, and again behind a value; others
-//! store without loading, and tell what a store answers.
+//! A script that runs closures of the test around others: they proceed with what they like, also before the destruction, and
+//! again after a value; others store without loading, and return what a store answers.
 ghost use Rattle.cdi_bodies.specs.Within.{IsWithin};
 
 use crate::fixtures::{assert_text, printed};
@@ -13,7 +13,8 @@ const HOLDING: Promise = Promise::LOAD_STORE;
 const PROCEEDING: Promise = Promise::PROCEED_FAIL;
 
 /// A shared bean whose constructor stores its argument, between two interceptors: the first proceeds, twice at the
-/// constructor, and the second stores what it is given and loads that before the destruction.
+/// constructor, and the second stores what it is given and loads that before the destruction. Another shared bean stores its
+/// argument before its destruction, and the interceptor around it proceeds with a number.
 const SCRIPT: &[u8] = br#"put
 kind="binding"
 name="Log"
@@ -47,13 +48,40 @@ bindings=["Log"]
 post={body="keep"}
 pre={body="show"}
 .
+put
+kind="binding"
+name="End"
+.
+put
+kind="type"
+name="T"
+.
+put
+kind="bean"
+name="T"
+scope="application"
+bindings=["End"]
+pre={body="keep"}
+.
+put
+kind="interceptor"
+name="K"
+priority=3
+bindings=["End"]
+pre={body="sevens"}
+.
 call get 5 S
 call set 7 S
 call get null S
+lookup T
 stop
 "#;
 
 const TEXT: &[u8] = br#"ok
+ok
+ok
+ok
+ok
 ok
 ok
 ok
@@ -103,6 +131,18 @@ value null
   got 17
   leave 17
 value 17
+  create T#2
+  ready T#2
+value null
+  destroy T#2
+  enter T#2 pre by K arg null
+  proceed 7
+  enter T#2 pre arg 7
+  store 7
+  leave null
+  got null
+  leave null
+  gone T#2
   destroy S#1
   enter S#1 pre by J arg null
   load 10
@@ -189,6 +229,7 @@ fn bodies(alloc: Global) -> Result<Vec<Body>, AllocError> {
     bodies.push(keeping(alloc, Ident::new(b"keep"))?)?;
     bodies.push(showing(alloc, Ident::new(b"show"))?)?;
     bodies.push(ahead(alloc, Ident::new(b"ahead"), 10)?)?;
+    bodies.push(ahead(alloc, Ident::new(b"sevens"), 7)?)?;
     bodies.push(twice(alloc, Ident::new(b"twice"), 1)?)?;
     Ok(bodies)
 }

@@ -1,5 +1,5 @@
-//! Look-ups, calls, events, requests and stops of a container, with ample memory.
-use cdi_container::{Container, Entry};
+//! Lookups, calls, events, requests and stops of a container, with ample memory.
+use cdi_container::Container;
 use cdi_fixtures::{Echo, name};
 use cdi_model::{Error, Failure, Ident, Name, Outcome, Quals, Refusal, Val};
 use std::alloc::{AllocError, Global};
@@ -16,10 +16,10 @@ enum Asked {
     Stop,
 }
 
-/// What a call answers: an outcome where it is a look-up, the call of a method or an event.
+/// What a call answers: an outcome where it is a lookup, the call of a method or an event.
 type Told = Result<Option<Outcome>, Error>;
 
-/// A call, what it answers, and the trace that is shown behind it.
+/// A call, what it answers, and the trace that is shown after it.
 #[derive(Clone, Copy)]
 struct Step(Asked, Told, &'static [u8]);
 
@@ -42,9 +42,6 @@ methods=[{name="run",body="echo"}]
 observers=[{name="see",type="D",body="echo"}]
 "#,
 ];
-
-/// A point whose type is not declared: two faults.
-const FAULTY: &[u8] = b"kind=\"bean\"\nname=\"A\"\npoints=[{name=\"z\",type=\"Z\"}]\n";
 
 const DONE: Told = Ok(None);
 
@@ -133,24 +130,6 @@ static STEPS: [Step; 19] = [
     Step(End, DONE, b"  destroy R#5\n  gone R#5\n"),
     Step(LookUp(b"R"), NOT_ACTIVE, b""),
     Step(Stop, DONE, b"  destroy S#6\n  gone S#6\n"),
-    Step(Stop, DONE, b""),
-];
-
-/// The steps behind a bean that has faults.
-static FAULTY_STEPS: [Step; 6] = [
-    Step(Begin, DONE, b""),
-    Step(LookUp(b"A"), Err(Error::Refused(Refusal::Faulty(2))), b""),
-    Step(
-        Call(b"go", Val::Null, b"Z"),
-        Err(Error::Refused(Refusal::Faulty(2))),
-        b"",
-    ),
-    Step(
-        Fire(Val::Null, b"Z"),
-        Err(Error::Refused(Refusal::Faulty(2))),
-        b"",
-    ),
-    Step(End, DONE, b""),
     Step(Stop, DONE, b""),
 ];
 
@@ -266,47 +245,10 @@ fn first_other_call(
     Ok(None)
 }
 
-/// Whether the last entry is the end of a method with this outcome.
-fn ends_with_leave(container: &Container<Echo>, outcome: Outcome) -> bool {
-    container.trace().last() == Some(&Entry::Leave { outcome })
-}
-
-/// Asks which bean is right for a type.
-fn ask(container: &mut Container<Echo>, bean_type: Name, quals: &Quals) -> Result<(), AllocError> {
-    let _ = container.choose(bean_type, quals)?;
-    Ok(())
-}
-
-/// Whether the trace of a call ends with the end of its method, and there is none behind a question.
-fn forgets_trace(alloc: Global, container: &mut Container<Echo>) -> Result<bool, Error> {
-    let quals = Quals::new(alloc);
-    let bean_type = name(b"S")?;
-    answer_of(container, bean_type, &quals, method(b"run")?, Val::Int(9))?;
-    let is_last = ends_with_leave(container, Outcome::Value(Val::Int(9)));
-    ask(container, bean_type, &quals)?;
-    Ok(is_last && entries_of(container) == 0)
-}
-
 #[test]
 fn answers_with_ample_memory(rt: HostRuntime) -> Result<(), Fail> {
     let mut container = stored(rt.alloc(), &DECLARED)?;
     let other = first_other_call(rt.alloc(), &mut container, &STEPS)?;
     assert!(rt; other.is_none(), "{other:?}");
-    Ok(())
-}
-
-#[test]
-fn faults_refuse_look_ups_calls_and_events(rt: HostRuntime) -> Result<(), Fail> {
-    let mut container = stored(rt.alloc(), &[DECLARED[0], FAULTY])?;
-    let other = first_other_call(rt.alloc(), &mut container, &FAULTY_STEPS)?;
-    assert!(rt; other.is_none(), "{other:?}");
-    Ok(())
-}
-
-#[test]
-fn a_trace_is_of_the_last_command(rt: HostRuntime) -> Result<(), Fail> {
-    let mut container = stored(rt.alloc(), &DECLARED)?;
-    let right = forgets_trace(rt.alloc(), &mut container)?;
-    assert!(rt; right);
     Ok(())
 }

@@ -27,34 +27,6 @@ impl Files for OneFile {
     }
 }
 
-/// A writer that fails once it has taken so many bytes, and may fail to flush.
-#[derive(Drop)]
-struct Full {
-    left: usize,
-    flushes: bool,
-    bytes: Vec<u8>,
-}
-
-impl Write for Full {
-    fn write(&mut self, buf: &[u8]) -> io::Result<usize> {
-        let n = self.left.min(buf.len());
-        if n == 0 {
-            return Err(io::Error::from(ErrorKind::StorageFull));
-        }
-        self.bytes.extend_from_slice(&buf[..n])?;
-        self.left -= n;
-        Ok(n)
-    }
-
-    fn flush(&mut self) -> io::Result<()> {
-        if self.flushes {
-            Ok(())
-        } else {
-            Err(io::Error::from(ErrorKind::StorageFull))
-        }
-    }
-}
-
 /// A reader that gives a text and then fails.
 #[derive(Drop)]
 struct Broken(&'static [u8]);
@@ -188,14 +160,6 @@ fn fails_to_open(alloc: Global, kind: ErrorKind, status: u8, complaint: &str) ->
     is_run(&ran, status, "", complaint)
 }
 
-#[test]
-fn path_that_cannot_be_opened(rt: HostRuntime) -> Result<(), Fail> {
-    let alloc = rt.alloc();
-    assert!(rt; fails_to_open(alloc, ErrorKind::NotFound, 3, "error: read failed\n"));
-    assert!(rt; fails_to_open(alloc, ErrorKind::OutOfMemory, 4, "error: out of memory\n"));
-    Ok(())
-}
-
 /// Whether words without a script have a status, and a text on the errors where it is 2 and on the output where it is 0.
 fn is_told(alloc: Global, flag: &str, status: u8) -> bool {
     let files = OneFile(REFUSED, ErrorKind::NotFound);
@@ -206,22 +170,11 @@ fn is_told(alloc: Global, flag: &str, status: u8) -> bool {
         && ran.errors.is_empty() == (status == 0)
 }
 
-#[test]
-fn no_script_is_status_2_and_help_is_status_0(rt: HostRuntime) -> Result<(), Fail> {
-    assert!(rt; is_told(rt.alloc(), "--strict", 2));
-    assert!(rt; is_told(rt.alloc(), "--loud", 2));
-    assert!(rt; is_told(rt.alloc(), "--help", 0));
-    Ok(())
-}
-
-/// Whether a run whose writer takes so many bytes has written these and says that a write failed.
-fn writes_front(alloc: Global, count: usize) -> bool {
+/// Whether a run whose output has room for eight bytes writes these, and says that a write failed.
+fn fills_its_output(alloc: Global) -> bool {
+    let mut page = [0u8; 8];
     let mut input = Counted::new(REFUSED);
-    let mut output = Counted::new(Full {
-        left: count,
-        flushes: count < REFUSED_TEXT.len(),
-        bytes: Vec::new(alloc),
-    });
+    let mut output = Counted::new(&mut page[..]);
     let mut errors = Counted::new(Vec::new(alloc));
     let words = ["program", "-"];
     let files = OneFile(b"", ErrorKind::NotFound);
@@ -234,31 +187,21 @@ fn writes_front(alloc: Global, count: usize) -> bool {
         &mut output,
         &mut errors,
     );
-    let ran = Ran {
-        status,
-        output: output.into_inner().bytes,
-        errors: errors.into_inner(),
-    };
-    let front = REFUSED_TEXT.get(..count).unwrap_or("");
-    is_run(&ran, 3, front, "error: write failed\n")
+    let complaint = errors.into_inner();
+    status == 3
+        && complaint.as_slice() == b"error: write failed\n".as_slice()
+        && page.as_slice() == b"ok\nrefus".as_slice()
 }
 
 #[test]
-fn writer_that_fails_has_a_front_part(rt: HostRuntime) -> Result<(), Fail> {
-    for count in 0..=REFUSED_TEXT.len() {
-        assert!(rt; writes_front(rt.alloc(), count), "at {count}");
-    }
-    Ok(())
-}
-
-#[test]
-fn reader_that_fails_leaves_the_complete_lines(rt: HostRuntime) -> Result<(), Fail> {
+fn devices_that_fail(rt: HostRuntime) -> Result<(), Fail> {
     let files = OneFile(b"", ErrorKind::NotFound);
     let words = ["program", "-"];
     let input = Broken(b"drop type A\nchoose A\nchoose B");
     let ran = run_program(&files, rt.alloc(), words.as_slice(), input);
     let complete = "refused E11 Absent\nunsatisfied\n";
     assert!(rt; is_run(&ran, 3, complete, "error: read failed\n"));
+    assert!(rt; fills_its_output(rt.alloc()));
     Ok(())
 }
 
@@ -270,8 +213,13 @@ fn refuses_words(alloc: Global, kind: ErrorKind, status: u8, complaint: &str) ->
 }
 
 #[test]
-fn words_that_cannot_be_had(rt: HostRuntime) -> Result<(), Fail> {
+fn paths_and_words_that_are_refused(rt: HostRuntime) -> Result<(), Fail> {
     let alloc = rt.alloc();
+    assert!(rt; fails_to_open(alloc, ErrorKind::NotFound, 3, "error: read failed\n"));
+    assert!(rt; fails_to_open(alloc, ErrorKind::OutOfMemory, 4, "error: out of memory\n"));
+    assert!(rt; is_told(alloc, "--strict", 2));
+    assert!(rt; is_told(alloc, "--loud", 2));
+    assert!(rt; is_told(alloc, "--help", 0));
     let not_utf8 = "error: an argument is not UTF-8\n";
     assert!(rt; refuses_words(alloc, ErrorKind::OutOfMemory, 4, "error: out of memory\n"));
     assert!(rt; refuses_words(alloc, ErrorKind::InvalidData, 2, not_utf8));

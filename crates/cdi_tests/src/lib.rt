@@ -1,17 +1,10 @@
-//! Tests of the crates below the container, by calls of the libraries.
+//! Tests of calls below the container that no script makes, of the program's bodies by their table, and of the faults of a
+//! plain view.
 #![tactic(auto)]
 
 #[cfg(test)]
-mod chains;
+mod calls;
 #[cfg(test)]
-mod choices;
+mod faulty;
 #[cfg(test)]
-mod lists;
-#[cfg(test)]
-mod observers;
-#[cfg(test)]
-mod parts;
-#[cfg(test)]
-mod seen;
-#[cfg(test)]
-mod views;
+mod stock;

@@ -174,57 +174,6 @@ static CALLS: [(Call, Answer); 41] = [
     (Report, Faults(FAULTS)),
 ];
 
-/// For each call, a look at the state before it, which changes nothing, with its answer.
-static LOOKS: [(Call, Answer); 41] = [
-    (Remove(Kind::Type, CORNER), Refused(Refusal::Absent)),
-    (Remove(Kind::Type, SHOP), Refused(Refusal::Absent)),
-    (Remove(Kind::Qualifier, b"Rank"), Refused(Refusal::Absent)),
-    (Choose(SHOP, PLAIN), Unsatisfied),
-    (Choose(OBJECT, PLAIN), One(CORNER)),
-    (Choose(b"Inn", PLAIN), Unsatisfied),
-    (Choose(b"Inn", PLAIN), Unsatisfied),
-    (Choose(b"Inn", PLAIN), Unsatisfied),
-    (Choose(CORNER, PLAIN), One(CORNER)),
-    (Choose(OBJECT, PLAIN), Ambiguous(BOTH)),
-    (Choose(MALL, RANKED), One(MALL)),
-    (Choose(SHOP, PLAIN), One(CORNER)),
-    (Named(b"mall"), Ambiguous(BOTH)),
-    (Remove(Kind::Stereotype, b"Mock"), Refused(Refusal::Absent)),
-    (
-        Remove(Kind::Stereotype, b"Action"),
-        Refused(Refusal::Absent),
-    ),
-    (Choose(STAND, PLAIN), Unsatisfied),
-    (Choose(STAND, PLAIN), One(STAND)),
-    (Named(b"mall"), Ambiguous(BOTH)),
-    (Choose(OBJECT, PLAIN), One(STAND)),
-    (Choose(STAND, PLAIN), One(STAND)),
-    (Choose(CORNER, PLAIN), One(CORNER)),
-    (Choose(MALL, PLAIN), One(MALL)),
-    (Choose(MALL, PLAIN), One(MALL)),
-    (Choose(OBJECT, RANKED), One(MALL)),
-    (Choose(MALL, PLAIN), One(MALL)),
-    (Remove(Kind::Binding, b"Log"), Refused(Refusal::Absent)),
-    (Remove(Kind::Binding, b"Trail"), Refused(Refusal::Absent)),
-    (Remove(Kind::Type, b"Till"), Refused(Refusal::Absent)),
-    (Chain(b"Till", None), Refused(Refusal::UnknownName)),
-    (Chain(b"Till", Some(b"run")), Around(&[])),
-    (
-        Remove(Kind::Interceptor, b"Clerk"),
-        Refused(Refusal::Absent),
-    ),
-    (Choose(b"Desk", PLAIN), Unsatisfied),
-    (Choose(MALL, PLAIN), One(MALL)),
-    (Choose(MALL, PLAIN), One(MALL)),
-    (Choose(MALL, PLAIN), One(MALL)),
-    (Choose(MALL, PLAIN), One(MALL)),
-    (Observers(SHOP, PLAIN), Observed(&[])),
-    (Observers(OBJECT, PLAIN), Observed(&[b"all"])),
-    (Observers(SHOP, PLAIN), Observed(&[b"all", b"shop"])),
-    (Named(b"mall.x"), Unsatisfied),
-    (Choose(MALL, PLAIN), One(MALL)),
-];
-
 /// Makes a call.
 fn make(alloc: Global, container: &mut Container<Echo>, call: Call) -> Result<Answered, Error> {
     match call {
@@ -291,21 +240,17 @@ fn report(alloc: Global, container: &mut Container<Echo>) -> Result<Answered, Er
     Ok(Answered::Faults(lines_of(alloc, faults.as_slice())?))
 }
 
-/// Makes the calls, and tells whether one got no memory. Where one gets none, the state is as before it, and the call
-/// is made again.
+/// Makes the calls, and tells whether one got no memory. Where one gets none, it is made again.
 pub fn make_calls(alloc: Global) -> Result<bool, Difference> {
     let mut container = Container::new(alloc, Echo);
     let mut refused = false;
-    for (place, ((call, answer), (look, before))) in CALLS.iter().zip(LOOKS.iter()).enumerate() {
+    for (place, (call, answer)) in CALLS.iter().enumerate() {
         let mut answered = make(alloc, &mut container, *call);
         if matches!(answered, Err(Error::OutOfMemory)) {
             if refused {
                 return Err(Difference::RefusedAgain);
             }
             refused = true;
-            if !agrees(&make(alloc, &mut container, *look), *before) {
-                return Err(Difference::Changes(place));
-            }
             answered = make(alloc, &mut container, *call);
         }
         if !agrees(&answered, *answer) {

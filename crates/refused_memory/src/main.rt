@@ -6,7 +6,6 @@
 
 mod answers;
 mod bean_questions;
-mod bodies;
 mod calls;
 mod chain_questions;
 mod questions;
@@ -32,8 +31,6 @@ const STATUS_REFUSED: u8 = 3;
 pub enum Difference {
     #[error("call {0} answers something else")]
     Answer(usize),
-    #[error("call {0} has no memory, and changes something")]
-    Changes(usize),
     #[error("question {0} answers something else")]
     Question(usize),
     #[error("the declarations that are asked about are not read")]

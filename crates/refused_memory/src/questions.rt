@@ -6,8 +6,8 @@ use crate::bean_questions::{BeanQuestion, Compared, Deployed, Recorded, Told};
 use crate::chain_questions::{Audited, ChainQuestion};
 use crate::texts::{are_names, names};
 use cdi_fixtures::name;
-use cdi_match::{closure, extends_itself, fill_members, inherits_itself, is_type, stereotypes};
-use cdi_model::{Arguments, Decls, Error, Ident, Members, Qual, Refusal, Scope, UseKind};
+use cdi_match::{closure, fill_members, is_type, stereotypes};
+use cdi_model::{Decls, Error, Ident, Members, Scope, UseKind};
 use cdi_text::read_qualifier;
 use std::alloc::Global;
 
@@ -18,18 +18,10 @@ enum Question {
     Closure(&'static [u8], &'static [&'static [u8]]),
     /// Whether a type has another.
     IsType(&'static [u8], &'static [u8], bool),
-    /// What a text says that is a use: its name, and the members that it writes.
-    Read(&'static [u8], &'static [u8], &'static [(&'static [u8], i64)]),
-    /// Why a text is no use.
-    BadUse(&'static [u8], Refusal),
     /// The members of a use, with their defaults.
     Fill(&'static [u8], &'static [(&'static [u8], i64)]),
     /// The stereotypes of what declares some.
     Stereotypes(&'static [&'static [u8]], &'static [&'static [u8]]),
-    /// Whether a type reaches itself.
-    ExtendsItself(&'static [u8], bool),
-    /// Whether a stereotype does.
-    InheritsItself(&'static [u8], bool),
     /// What is asked of the beans.
     OfBeans(BeanQuestion),
     /// What is asked of the audited bean.
@@ -38,10 +30,7 @@ enum Question {
 
 use BeanQuestion::{Beans, Choose, ChooseName, Evaluate, Put, Record};
 use ChainQuestion::{Around, Bound, Observed, Touched};
-use Question::{
-    BadUse, Closure, ExtendsItself, Fill, InheritsItself, IsType, OfBeans, OfChains, Read,
-    Stereotypes,
-};
+use Question::{Closure, Fill, IsType, OfBeans, OfChains, Stereotypes};
 
 /// What is declared: types of which two extend each other, a qualifier, stereotypes of which two declare each other,
 /// and beans of which two are alternatives of one priority and one name, one has injection points and a product, and one
@@ -76,7 +65,7 @@ producers=[
 "#,
 ];
 
-static QUESTIONS: [Question; 37] = [
+static QUESTIONS: [Question; 29] = [
     Closure(
         b"Corner",
         &[b"Corner", b"Object", b"Place", b"Shop", b"Stand", b"Stop"],
@@ -85,14 +74,6 @@ static QUESTIONS: [Question; 37] = [
     IsType(b"Corner", b"Stand", true),
     IsType(b"Corner", b"Mall", false),
     IsType(b"Mall", b"Object", true),
-    ExtendsItself(b"Place", true),
-    ExtendsItself(b"Shop", false),
-    InheritsItself(b"Moon", true),
-    InheritsItself(b"Star", false),
-    Read(b"Rank(n=2,m=-1)", b"Rank", &[(b"n", 2), (b"m", -1)]),
-    Read(b"Rank", b"Rank", &[]),
-    BadUse(b"Rank(n=1,m=2,n=1)", Refusal::Twice),
-    BadUse(b"Any(n=1)", Refusal::BadName),
     Fill(b"Rank(m=1)", &[(b"n", 2), (b"m", 1), (b"k", 7)]),
     Fill(b"Rank(n=5,k=6)", &[(b"n", 5), (b"k", 6)]),
     Fill(b"Plain(n=3)", &[(b"n", 3)]),
@@ -229,10 +210,6 @@ fn ask(alloc: Global, asked: &Asked, question: Question) -> Result<bool, Error> 
         IsType(text, other, wanted) => {
             Ok(is_type(alloc, decls, name(text)?, name(other)?)? == wanted)
         }
-        ExtendsItself(text, wanted) => Ok(extends_itself(decls, &name(text)?) == wanted),
-        InheritsItself(text, wanted) => Ok(inherits_itself(decls, &name(text)?) == wanted),
-        Read(text, wanted, members) => reads(alloc, text, wanted, members),
-        BadUse(text, refusal) => refuses(alloc, text, refusal),
         Fill(text, wanted) => fills(alloc, decls, text, wanted),
         Stereotypes(texts, wanted) => has_stereotypes(alloc, decls, texts, wanted),
         OfBeans(question) => asked.deployed.answers(alloc, question),
@@ -243,24 +220,6 @@ fn ask(alloc: Global, asked: &Asked, question: Question) -> Result<bool, Error> 
 fn has_types(alloc: Global, decls: &Decls, text: &[u8], wanted: &[&[u8]]) -> Result<bool, Error> {
     let types = closure(alloc, decls, name(text)?)?;
     Ok(are_names(types.as_slice(), wanted))
-}
-
-fn reads(
-    alloc: Global,
-    text: &[u8],
-    wanted: &[u8],
-    members: &[(&[u8], i64)],
-) -> Result<bool, Error> {
-    let qual = read_qualifier(alloc, text)?;
-    Ok(qual.name.as_bytes() == wanted && writes(&qual, members))
-}
-
-fn refuses(alloc: Global, text: &[u8], refusal: Refusal) -> Result<bool, Error> {
-    match read_qualifier(alloc, text) {
-        Err(Error::OutOfMemory) => Err(Error::OutOfMemory),
-        Err(Error::Refused(found)) => Ok(found == refusal),
-        Ok(_) => Ok(false),
-    }
 }
 
 fn fills(
@@ -283,13 +242,6 @@ fn has_stereotypes(
     let declared = names(alloc, texts)?;
     let found = stereotypes(alloc, decls, declared.as_slice())?;
     Ok(are_names(found.as_slice(), wanted))
-}
-
-fn writes(qual: &Qual, wanted: &[(&[u8], i64)]) -> bool {
-    match &qual.arguments {
-        Arguments::Name(_) => false,
-        Arguments::Members(members) => are_members(members, wanted),
-    }
 }
 
 /// Whether these are the members with their values.

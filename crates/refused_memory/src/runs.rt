@@ -1,10 +1,11 @@
-//! Look-ups, calls, an event, requests, edits and a stop of a container, of which any one allocation may be refused.
+//! Lookups, calls, an event, requests, edits and a stop of a container, of which any one allocation may be refused.
 use crate::Difference;
-use crate::bodies::Bound;
 use Asked::{Begin, Call, End, Fire, LookUp, Put, Remove, Stop};
-use cdi_container::{Container, Entry};
+use cdi_bodies::Book;
+use cdi_container::Container;
 use cdi_fixtures::name;
-use cdi_model::{Error, Ident, Kind, Name, Outcome, Quals, Refusal, Val};
+use cdi_model::{Error, Ident, Kind, Name, Outcome, Quals, Val};
+use cdi_stock::stock_bodies;
 use std::alloc::{AllocError, Global};
 
 /// A call of a container. What is looked up and called, and an event, is meant by its type alone.
@@ -21,14 +22,12 @@ enum Asked {
     Stop,
 }
 
-/// A call, the value that it gives if it gives one, and the trace behind it; and the number that the next instance would
-/// have before it.
+/// A call, the value that it gives if it gives one, and the trace after it.
 #[derive(Clone, Copy)]
 struct Step {
     asked: Asked,
     value: Option<Val>,
     trace: &'static [u8],
-    next: u64,
 }
 
 /// How a step goes.
@@ -36,16 +35,14 @@ enum Going {
     Right,
     /// It answers, shows or leaves something else.
     Wrong,
-    /// It has no memory and changes nothing, and is right when it is made again.
-    Repeated,
-    /// It has no memory, and leaves no instance, no request and no trace.
-    Emptied,
+    /// It has no memory, and goes right when it is made again, or leaves no trace.
+    Refused,
 }
 
 const NULL: Option<Val> = Some(Val::Null);
 
 /// A dependent bean with a point and an observer method, the bean that its point holds, a bean of the request, and one of the
-/// application, which may fire an event and around which an interceptor stands that has a point too.
+/// application, which may fire an event and around which is an interceptor that has a point too.
 static DECLARED: [&[u8]; 10] = [
     b"kind=\"binding\"\nname=\"Log\"\n",
     b"kind=\"type\"\nname=\"A\"\n",
@@ -78,9 +75,6 @@ pre={body="count"}
 "#,
 ];
 
-/// How many entries the look-up of the dependent bean with a point has.
-const ENTRIES: usize = 10;
-
 static STEPS: [Step; 20] = [
     Step {
         asked: LookUp(b"A"),
@@ -96,7 +90,6 @@ static STEPS: [Step; 20] = [
   gone D#2
   gone A#1
 ",
-        next: 1,
     },
     Step {
         asked: Call(7, b"S"),
@@ -126,13 +119,11 @@ static STEPS: [Step; 20] = [
   got 7
   leave 7
 ",
-        next: 3,
     },
     Step {
         asked: Begin,
         value: None,
         trace: b"",
-        next: 6,
     },
     Step {
         asked: Call(8, b"R"),
@@ -142,25 +133,21 @@ static STEPS: [Step; 20] = [
   enter R#6 method run arg 8
   leave 8
 ",
-        next: 6,
     },
     Step {
         asked: End,
         value: None,
         trace: b"  destroy R#6\n  gone R#6\n",
-        next: 7,
     },
     Step {
         asked: Begin,
         value: None,
         trace: b"",
-        next: 7,
     },
     Step {
         asked: LookUp(b"R"),
         value: NULL,
         trace: b"  create R#7\n  ready R#7\n",
-        next: 7,
     },
     Step {
         asked: Put(b"kind=\"type\"\nname=\"E\"\n"),
@@ -178,13 +165,11 @@ static STEPS: [Step; 20] = [
   gone D#4
   gone S#3
 ",
-        next: 8,
     },
     Step {
         asked: LookUp(b"R"),
         value: None,
         trace: b"",
-        next: 8,
     },
     Step {
         asked: Fire(5, b"R"),
@@ -208,7 +193,6 @@ static STEPS: [Step; 20] = [
   gone D#9
   gone A#8
 ",
-        next: 8,
     },
     Step {
         asked: Call(9, b"S"),
@@ -238,7 +222,6 @@ static STEPS: [Step; 20] = [
   got 9
   leave 9
 ",
-        next: 11,
     },
     Step {
         asked: Stop,
@@ -254,13 +237,11 @@ static STEPS: [Step; 20] = [
   gone D#12
   gone S#11
 ",
-        next: 14,
     },
     Step {
         asked: Begin,
         value: None,
         trace: b"",
-        next: 14,
     },
     Step {
         asked: Call(4, b"S"),
@@ -290,13 +271,11 @@ static STEPS: [Step; 20] = [
   got 4
   leave 4
 ",
-        next: 14,
     },
     Step {
         asked: LookUp(b"R"),
         value: NULL,
         trace: b"  create R#17\n  ready R#17\n",
-        next: 17,
     },
     Step {
         asked: Remove(b"E"),
@@ -314,20 +293,17 @@ static STEPS: [Step; 20] = [
   gone D#15
   gone S#14
 ",
-        next: 18,
     },
     // Where nothing was asked since the last edit, one is made in place.
     Step {
         asked: Put(b"kind=\"type\"\nname=\"E\"\n"),
         value: None,
         trace: b"",
-        next: 18,
     },
     Step {
         asked: Remove(b"E"),
         value: None,
         trace: b"",
-        next: 18,
     },
     Step {
         asked: Fire(5, b"R"),
@@ -351,7 +327,6 @@ static STEPS: [Step; 20] = [
   gone D#19
   gone A#18
 ",
-        next: 18,
     },
     // Whom the same event notifies is known by now.
     Step {
@@ -376,7 +351,6 @@ static STEPS: [Step; 20] = [
   gone D#22
   gone A#21
 ",
-        next: 21,
     },
 ];
 
@@ -389,7 +363,7 @@ fn value_of(outcome: Outcome) -> Option<Val> {
 }
 
 fn state_of(
-    container: &mut Container<Bound>,
+    container: &mut Container<Book>,
     bean_type: Name,
     quals: &Quals,
 ) -> Result<Option<Val>, Error> {
@@ -398,7 +372,7 @@ fn state_of(
 
 /// Calls the method that the beans have.
 fn answer_of(
-    container: &mut Container<Bound>,
+    container: &mut Container<Book>,
     bean_type: Name,
     quals: &Quals,
     arg: Val,
@@ -409,7 +383,7 @@ fn answer_of(
 
 /// Fires an event without qualifiers.
 fn outcome_of(
-    container: &mut Container<Bound>,
+    container: &mut Container<Book>,
     event_type: Name,
     quals: &Quals,
     arg: Val,
@@ -417,22 +391,22 @@ fn outcome_of(
     Ok(value_of(container.fire(event_type, quals, arg)?))
 }
 
-fn begin_request(container: &mut Container<Bound>) -> Result<(), Error> {
+fn begin_request(container: &mut Container<Book>) -> Result<(), Error> {
     container.begin_request().map_err(Error::Refused)
 }
 
-fn end_request(container: &mut Container<Bound>) -> Result<(), Error> {
+fn end_request(container: &mut Container<Book>) -> Result<(), Error> {
     container.end_request()
 }
 
-fn end_contexts(container: &mut Container<Bound>) -> Result<(), AllocError> {
+fn end_contexts(container: &mut Container<Book>) -> Result<(), AllocError> {
     container.stop()
 }
 
 /// Makes a call.
 fn make(
     alloc: Global,
-    container: &mut Container<Bound>,
+    container: &mut Container<Book>,
     asked: &Asked,
 ) -> Result<Option<Val>, Error> {
     let quals = Quals::new(alloc);
@@ -449,143 +423,83 @@ fn make(
     Ok(None)
 }
 
-fn trace_text(alloc: Global, container: &Container<Bound>) -> Result<Vec<u8>, AllocError> {
+fn trace_text(alloc: Global, container: &Container<Book>) -> Result<Vec<u8>, AllocError> {
     let mut text = Vec::new(alloc);
     container.push_trace(&mut text)?;
     Ok(text)
 }
 
 /// Whether a container shows this trace.
-fn shows(alloc: Global, container: &Container<Bound>, wanted: &[u8]) -> Result<bool, AllocError> {
+fn shows(alloc: Global, container: &Container<Book>, wanted: &[u8]) -> Result<bool, AllocError> {
     let text = trace_text(alloc, container)?;
     Ok(text.as_slice() == wanted)
 }
 
-/// How many entries a container shows.
-fn entries_of(container: &Container<Bound>) -> usize {
-    container.trace().len()
-}
-
-/// Whether they begin with the creation of the instance of this number.
-fn begins_at(container: &Container<Bound>, number: u64) -> bool {
-    match container.trace().first() {
-        Some(Entry::Create { id, .. }) => id.number == number,
-        _ => false,
-    }
-}
-
-/// Whether no request is active.
-fn is_closed(container: &mut Container<Bound>) -> bool {
-    end_request(container) == Err(Error::Refused(Refusal::NoRequest))
-}
-
-/// Whether no request is active, no instance is live and nothing is shown.
-fn is_bare(container: &mut Container<Bound>) -> Result<bool, Error> {
-    let is_silent = entries_of(container) == 0;
-    let is_closed = is_closed(container);
-    end_contexts(container)?;
-    Ok(is_silent && is_closed && entries_of(container) == 0)
-}
-
-/// Whether that is so, and a look-up answers as the first one did, with this number.
-fn is_emptied(alloc: Global, container: &mut Container<Bound>, next: u64) -> Result<bool, Error> {
-    let is_bare = is_bare(container)?;
-    let found = make(alloc, container, &LookUp(b"A"))?;
-    Ok(is_bare && found == NULL && entries_of(container) == ENTRIES && begins_at(container, next))
-}
-
-/// Whether the type that the edits put and remove is unknown, where an edit would put it, or known, where one would remove it.
-fn is_declared_as_before(alloc: Global, container: &mut Container<Bound>, asked: &Asked) -> bool {
-    let refusal = match asked {
-        Put(_) => Refusal::UnknownName,
-        Remove(_) => Refusal::Unsatisfied,
-        _ => return true,
-    };
-    let quals = Quals::new(alloc);
-    container.lookup(Name::new(b"E"), &quals) == Err(Error::Refused(refusal))
-}
-
-/// Whether a call that found no memory has changed nothing: the trace from before is shown, the declarations are the same,
-/// and the call answers and shows the same when it is made again.
-fn is_unchanged(
-    alloc: Global,
-    container: &mut Container<Bound>,
-    step: &Step,
-    before: &[u8],
-) -> Result<bool, Error> {
-    let is_shown = shows(alloc, container, before)?;
-    let is_declared = is_declared_as_before(alloc, container, &step.asked);
+/// Whether a call that found no memory answers and shows what it is to when it is made again.
+fn repeats(alloc: Global, container: &mut Container<Book>, step: &Step) -> Result<bool, Error> {
     let value = make(alloc, container, &step.asked)?;
-    Ok(is_shown && is_declared && value == step.value && shows(alloc, container, step.trace)?)
+    Ok(value == step.value && shows(alloc, container, step.trace)?)
 }
 
-/// How a step goes that has no memory for its call, behind one that shows this trace.
-fn refused(alloc: Global, container: &mut Container<Bound>, step: &Step, before: &[u8]) -> Going {
-    match step.asked {
-        Put(_) | Remove(_) | End | Stop => match is_unchanged(alloc, container, step, before) {
-            Ok(true) => Going::Repeated,
-            _ => Going::Wrong,
-        },
-        _ => match is_emptied(alloc, container, step.next) {
-            Ok(true) => Going::Emptied,
-            _ => Going::Wrong,
-        },
+/// How a step goes that has no memory for its call. An edit and the end of contexts change nothing then. After any other
+/// call nothing is live, and the numbers of instances go on, so the steps end there.
+fn refused(alloc: Global, container: &mut Container<Book>, step: &Step) -> Going {
+    let is_right = match step.asked {
+        Put(_) | Remove(_) | End | Stop => repeats(alloc, container, step) == Ok(true),
+        _ => container.trace().is_empty(),
+    };
+    if is_right {
+        Going::Refused
+    } else {
+        Going::Wrong
     }
 }
 
 /// How a step goes whose call is right. Where there is no memory for the trace's text, the text is asked for again.
-fn shown(alloc: Global, container: &Container<Bound>, step: &Step) -> Going {
+fn shown(alloc: Global, container: &Container<Book>, step: &Step) -> Going {
     match shows(alloc, container, step.trace) {
         Ok(true) => Going::Right,
         Ok(false) => Going::Wrong,
-        Err(_) => shown_again(alloc, container, step),
+        Err(_) => match shows(alloc, container, step.trace) {
+            Ok(true) => Going::Refused,
+            _ => Going::Wrong,
+        },
     }
 }
 
-fn shown_again(alloc: Global, container: &Container<Bound>, step: &Step) -> Going {
-    match shows(alloc, container, step.trace) {
-        Ok(true) => Going::Repeated,
-        _ => Going::Wrong,
-    }
-}
-
-fn take(alloc: Global, container: &mut Container<Bound>, step: &Step, before: &[u8]) -> Going {
+fn take(alloc: Global, container: &mut Container<Book>, step: &Step) -> Going {
     match make(alloc, container, &step.asked) {
         Ok(value) if value == step.value => shown(alloc, container, step),
-        Err(Error::OutOfMemory) => refused(alloc, container, step, before),
+        Err(Error::OutOfMemory) => refused(alloc, container, step),
         _ => Going::Wrong,
     }
 }
 
-fn declare_one(container: &mut Container<Bound>, text: &[u8]) -> Result<(), Error> {
+fn declare_one(container: &mut Container<Book>, text: &[u8]) -> Result<(), Error> {
     container.put(text)
 }
 
-fn declare(container: &mut Container<Bound>) -> Result<(), Error> {
+fn declare(container: &mut Container<Book>) -> Result<(), Error> {
     for text in &DECLARED {
         declare_one(container, text)?;
     }
     Ok(())
 }
 
-/// Takes the steps, and tells whether one had no memory. One that leaves no instance then ends them.
-fn take_steps(alloc: Global, container: &mut Container<Bound>) -> Result<bool, Difference> {
-    let mut before: &[u8] = b"";
-    let mut is_refused = false;
+/// Takes the steps up to one that has no memory, and says whether there is one.
+fn take_steps(alloc: Global, container: &mut Container<Book>) -> Result<bool, Difference> {
     for (place, step) in STEPS.iter().enumerate() {
-        match take(alloc, container, step, before) {
+        match take(alloc, container, step) {
             Going::Right => {}
-            Going::Repeated => is_refused = true,
             Going::Wrong => return Err(Difference::Step(place)),
-            Going::Emptied => return Ok(true),
+            Going::Refused => return Ok(true),
         }
-        before = step.trace;
     }
-    Ok(is_refused)
+    Ok(false)
 }
 
-/// Declares what the steps need, takes them, and tells whether there was no memory for one of these.
-fn go_through(alloc: Global, container: &mut Container<Bound>) -> Result<bool, Difference> {
+/// Declares what the steps need, takes them, and says whether there was no memory for one of these.
+fn go_through(alloc: Global, container: &mut Container<Book>) -> Result<bool, Difference> {
     match declare(container) {
         Ok(()) => take_steps(alloc, container),
         Err(Error::OutOfMemory) => Ok(true),
@@ -593,17 +507,22 @@ fn go_through(alloc: Global, container: &mut Container<Bound>) -> Result<bool, D
     }
 }
 
-fn empty(alloc: Global) -> Container<Bound> {
-    Container::new(alloc, Bound)
+/// An empty container with the program's bodies.
+fn empty(alloc: Global) -> Result<Container<Book>, Error> {
+    match Book::new(stock_bodies!(alloc)) {
+        Ok(book) => Ok(Container::new(alloc, book)),
+        Err(_) => Err(Error::OutOfMemory),
+    }
 }
 
 fn run_once(alloc: Global) -> Result<bool, Difference> {
-    let mut container = empty(alloc);
-    go_through(alloc, &mut container)
+    match empty(alloc) {
+        Ok(mut container) => go_through(alloc, &mut container),
+        Err(_) => Ok(true),
+    }
 }
 
-/// Takes the steps in a container, and tells whether one had no memory. Where one had none, all steps are taken in a new
-/// container once more.
+/// Takes the steps in a container, and says whether one had no memory. Then all steps are taken in a new container.
 pub fn run_steps(alloc: Global) -> Result<bool, Difference> {
     if !run_once(alloc)? {
         return Ok(false);

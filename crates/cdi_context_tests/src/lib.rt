@@ -1,9 +1,0 @@
-//! Tests of contexts, by calls.
-#![tactic(auto)]
-
-#[cfg(test)]
-mod instances;
-#[cfg(test)]
-mod requests;
-#[cfg(test)]
-mod stored;
