@@ -1,8 +1,6 @@
 //! Scripts with lines, blocks or lists at a limit, or with bytes that no text has, and what they print.
 use crate::fixtures::{assert_text, ending};
 use std::alloc::{AllocError, Global};
-use std::io;
-use std::io::Write;
 use std::test::Fail;
 
 /// How many times a text is repeated.
@@ -145,29 +143,5 @@ fn long_scripts_print_their_texts(rt: HostRuntime) -> Result<(), Fail> {
         assert_text(&rt, written.as_slice(), row.text, &row.name);
         assert!(rt; refused == row.refused, "{}", row.name);
     }
-    Ok(())
-}
-
-/// A script that puts so many types, and then the seventh again.
-fn many_types(alloc: Global, count: u32) -> io::Result<Vec<u8>> {
-    let mut script = Vec::new(alloc);
-    for number in 1..=count {
-        write!(script, "put\nkind=\"type\"\nname=\"A{number}\"\n.\n")?;
-    }
-    script.extend_from_slice(b"put\nkind=\"type\"\nname=\"A7\"\n.\n")?;
-    Ok(script)
-}
-
-#[test]
-fn the_513th_declaration_is_refused(rt: HostRuntime) -> Result<(), Fail> {
-    let script = many_types(rt.alloc(), 513)?;
-    let mut text = Vec::new(rt.alloc());
-    for _ in 0..512 {
-        text.extend_from_slice(b"ok\n")?;
-    }
-    text.extend_from_slice(b"refused E10 TooMany\nok\n")?;
-    let (written, refused) = ending(rt.alloc(), script.as_slice())?;
-    assert_text(&rt, written.as_slice(), text.as_slice(), &"513");
-    assert!(rt; refused);
     Ok(())
 }

@@ -3,7 +3,7 @@ ghost use Rattle.std.specs.Prelude.{Some};
 
 use cdi_container::Counted;
 use cdi_fixtures::Echo;
-use cdi_session::{Files, refuse_words, session};
+use cdi_session::{Files, session};
 use std::alloc::{AllocError, Global};
 use std::io;
 use std::io::{ErrorKind, Read, Write};
@@ -205,13 +205,6 @@ fn devices_that_fail(rt: HostRuntime) -> Result<(), Fail> {
     Ok(())
 }
 
-/// Whether words that cannot be had for such an error end with a status and a text on the errors.
-fn refuses_words(alloc: Global, kind: ErrorKind, status: u8, complaint: &str) -> bool {
-    let mut errors = Counted::new(Vec::new(alloc));
-    let told = refuse_words(&io::Error::from(kind), &mut errors);
-    told == status && errors.into_inner().as_slice() == complaint.as_bytes()
-}
-
 #[test]
 fn paths_and_words_that_are_refused(rt: HostRuntime) -> Result<(), Fail> {
     let alloc = rt.alloc();
@@ -220,8 +213,5 @@ fn paths_and_words_that_are_refused(rt: HostRuntime) -> Result<(), Fail> {
     assert!(rt; is_told(alloc, "--strict", 2));
     assert!(rt; is_told(alloc, "--loud", 2));
     assert!(rt; is_told(alloc, "--help", 0));
-    let not_utf8 = "error: an argument is not UTF-8\n";
-    assert!(rt; refuses_words(alloc, ErrorKind::OutOfMemory, 4, "error: out of memory\n"));
-    assert!(rt; refuses_words(alloc, ErrorKind::InvalidData, 2, not_utf8));
     Ok(())
 }
