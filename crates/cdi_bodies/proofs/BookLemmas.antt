@@ -20,7 +20,7 @@ module _ {X Y : Type 0} (f : X → Y) (p : Y → Bool) where
   first_passing-map (x ∷ xs) = ap (λ n. cond (not (p (f x))) (1 + n) 0) (first_passing-map xs)
 
   -- the place of what passes, seen through a function
-  position-map : (xs : List X) → position p (map f xs) ≡ position (λ x. p (f x)) xs
+  pub position-map : (xs : List X) → position p (map f xs) ≡ position (λ x. p (f x)) xs
   position-map xs = λ i. cond (nat_lt (first_passing-map xs i) (length-map xs f i)) (Some (first_passing-map xs i)) None
 
 module _ {X : Type 0} (p : X → Bool) (xs : List X) where
@@ -44,6 +44,16 @@ module _ {X : Type 0} (p : X → Bool) (xs : List X) where
 -- no body of the name: no promise
 pub no_promise : (bodies : List Promised) (name : List ℕ) → None ≡ position_of bodies name → promise_of bodies name ≡ None
 no_promise bodies name at = ap (option_map (λ body. body.1)) (find_nowhere (is_named name) bodies at)
+
+-- the place of a name among those of names and promises
+pub position_in : (bodies : List Promised) (name : List ℕ)
+    → position (pointwise nat_eq name) (map (λ body. body.0) bodies) ≡ position_of bodies name
+position_in bodies name = position-map (λ body. body.0) (pointwise nat_eq name) bodies
+
+-- and the promise that is there
+pub promise_in_place : (bodies : List Promised) (name : List ℕ) (i : ℕ) → Some i ≡ position_of bodies name
+    → option_map (λ body. body.1) (slice_get bodies i) ≡ promise_of bodies name
+promise_in_place bodies name i at = sym (ap (option_map (λ body. body.1)) (find_there (is_named name) bodies i at))
 
 module _ {B : Type 0} (name_of : B → List ℕ) (promise_in : B → Promise) where
   abbrev seen : List B → List Promised

@@ -1,2 +1,2 @@
 pub mod FlagLemmas
-mod BookLemmas
+pub mod BookLemmas

@@ -5,7 +5,7 @@ use arrayvec::ArrayVec;
 use cdi_model::{Failure, Outcome, Val};
 
 /// What a body is shown each time it is asked for its next act. A frame is one invocation of one body.
-#[derive(Drop)]
+#[derive(Debug, Drop)]
 pub struct Frame {
     /// What the body is invoked with.
     pub argument: Val,
@@ -54,7 +54,7 @@ pub enum Act {
     Call { site: u8, arg: Val },
     /// Fires the event of a site, counted from 0.
     Fire { site: u8, arg: Val },
-    /// Lets the next interceptor run, or behind the last the intercepted body (Jakarta Interceptors 2.1).
+    /// Lets the next interceptor run, or after the last one the intercepted body (Interceptors 2.1, Method Interceptors).
     Proceed(Val),
     /// Ends the frame with a value.
     Return(Val),

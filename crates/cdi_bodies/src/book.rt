@@ -39,7 +39,7 @@ pub trait Bodies {
             IfSome (promise_of (promises self.now) name.now) (λ promise. IsWithin promise frame.now act)) };
 }
 
-/// The bodies of a container, of distinct names. Nothing shows of it but what `Bodies` tells.
+/// The bodies of a container, of distinct names. Contracts see of it what `Bodies` says, and no more.
 #[derive(Drop)]
 pub struct Book {
     bodies: Vec<Body>,

@@ -5,7 +5,9 @@ mod act;
 mod body;
 mod book;
 mod book_error;
+mod display;
 mod promise;
+mod promise_book;
 mod spare_frames;
 
 pub use act::{Act, Frame};
@@ -13,4 +15,5 @@ pub use body::{Asks, Body};
 pub use book::{Bodies, Book};
 pub use book_error::{BookCause, BookError};
 pub use promise::Promise;
+pub use promise_book::PromiseBook;
 pub use spare_frames::SpareFrames;

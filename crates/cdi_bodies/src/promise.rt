@@ -1,5 +1,6 @@
 //! What a body promises.
-ghost use Rattle.std.specs.Prelude.{⊤, [], ◌∷◌, ◌≡◌, ◌↔◌, IsTrue, codes};
+ghost use Rattle.std.specs.Prelude.{⊤, [], ◌∷◌, ◌≡◌, ◌-◌, ◌==◌, ◌↔◌, IsTrue, codes, not};
+ghost use Rattle.std.specs.Int.RustNames.{bit_and};
 ghost use Rattle.cdi_bodies.specs.Flags as flags;
 ghost use Rattle.cdi_bodies.specs.Within.{IsAllowed, CoversNoMore, keeps_to};
 
@@ -49,7 +50,7 @@ impl Promise {
     pub const AROUND_DESTRUCTION: Promise = Promise(Self::AT_DESTRUCTION.0 | Self::PROCEED.0);
 
     /// Whether a body of this promise may stand where these acts are allowed: each of its flags is one of theirs. The
-    /// clauses behind the first three say which flags the sets above have.
+    /// clauses after the first three say which flags the sets above have.
     #[tactic(auto, using(crate::proofs::FlagLemmas::has_each, crate::proofs::FlagLemmas::has_all, crate::proofs::FlagLemmas::covers_each))]
     pub fn is_allowed(self, allowed: Promise) -> bool
         ensures value { result ≡ keeps_to self allowed.0 }
@@ -64,6 +65,20 @@ impl Promise {
         ensures around_destruction { Promise.AROUND_DESTRUCTION.0 ≡ flags.around_destruction }
     {
         allowed.contains(self)
+    }
+
+    /// Whether it has this act.
+    pub(crate) fn has(self, act: Promise) -> bool
+        ensures { result ≡ not (bit_and self.0 act.0 == 0) }
+    {
+        self.0 & act.0 != 0
+    }
+
+    /// Whether it has an act whose flag is smaller.
+    pub(crate) fn has_before(self, act: Promise) -> bool
+        ensures { result ≡ not (bit_and self.0 (act.0 - 1) == 0) }
+    {
+        self.0 & act.0.saturating_sub(1) != 0
     }
 }
 

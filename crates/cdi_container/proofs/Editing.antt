@@ -10,7 +10,8 @@ use Rattle.cdi_bodies.specs.Book.{Promised}
 use Rattle.cdi_effective.specs.Beans.{beans}
 use Rattle.cdi_effective.specs.declared.records.Effective.{Effective}
 use Rattle.cdi_container.specs.LastEvents.{AreFiredOn}
-use Rattle.cdi_container.specs.Wired.{IsShortEdit, IsWiringOf}
+use Rattle.cdi_container.specs.Wired.{IsShortEdit}
+use Rattle.cdi_wiring.specs.Wired.{IsWiringOf}
 use Rattle.cdi_container.specs.declared.last_events.LastEvents.{LastEvents}
 use Rattle.cdi_container.specs.declared.wiring.Wiring.{Wiring}
 

@@ -17,9 +17,8 @@ use Rattle.cdi_staging.specs.Staged.{scene_of}
 use Rattle.cdi_staging.specs.declared.names.Names.{Names}
 use Rattle.cdi_validate.specs.Faults.{faults}
 use Rattle.cdi_container.specs.declared.asked.Aim.{Aim}
-use Rattle.cdi_container.specs.declared.wiring.Wired.{Wired}
-use Rattle.cdi_container.specs.declared.wiring.Wiring.{Wiring}
-use Rattle.cdi_container.specs.declared.wiring.Wiring.TheVariants as wirings
+use Rattle.cdi_wiring.specs.declared.verdict.Wiring.{Wiring}
+use Rattle.cdi_wiring.specs.declared.verdict.Wiring.TheVariants as wirings
 
 -- declarations and bodies, and whether a sound scene of them is there
 pub record Deployed : Type 0 where
@@ -27,26 +26,10 @@ pub record Deployed : Type 0 where
   pub book : List Promised
   pub is_wired : Bool
 
-abbrev pub count_of : Wiring → ℕ
-count_of (wirings.Faulty count) = count
-count_of (wirings.Sound wired) = 0
-
 abbrev pub is_sound : Option Wiring → Bool
 is_sound None = false
 is_sound (Some (wirings.Faulty count)) = false
 is_sound (Some (wirings.Sound wired)) = true
-
--- the scene of a deployment without faults, and what it is told by
-pub record IsWiredOf (ds : List Decl) (book : List Promised) (wired : Wired) : Type 0 where
-  pub faultless : faults ds book ≡ []
-  pub scene : wired.scene ≡ scene_of ds book
-  pub sound : IsSound book (scene_of ds book)
-  pub names : wired.names ≡ names_of ds
-
--- what is kept is right
-abbrev pub IsWiringOf : List Decl → List Promised → Wiring → Type 0
-IsWiringOf ds book (wirings.Faulty count) = (count ≡ length (faults ds book)) × (0 < count)
-IsWiringOf ds book (wirings.Sound wired) = IsWiredOf ds book wired
 
 -- what is put has short lists
 abbrev pub IsShortEdit : Edit → Type 0

@@ -13,11 +13,11 @@ ghost use Rattle.cdi_staging.specs.Staged.{scene_of};
 ghost use Rattle.cdi_validate.specs.Faults.{faults};
 ghost use Rattle.cdi_container.specs.Asked.{aim_of, asked_for, fired_of};
 ghost use Rattle.cdi_scene.specs.Sound.{AreObservers};
-ghost use Rattle.cdi_container.specs.Wired.{StandsIn, IsSameDeployment, IsShortEdit, IsWiredOf, names_if};
+ghost use Rattle.cdi_container.specs.Wired.{StandsIn, IsSameDeployment, IsShortEdit, names_if};
+ghost use Rattle.cdi_wiring.specs.Wired.{IsWiredOf};
 
 use crate::asked::{Aim, Message, aim_for, can_be_fired};
 use crate::last_events::LastEvents;
-use crate::wiring::{Wired, Wiring};
 use cdi_bodies::Bodies;
 use cdi_ending::Stage;
 use cdi_faults::Fault;
@@ -30,6 +30,7 @@ use cdi_scene::Notified;
 use cdi_staging::Names;
 use cdi_subjects::are_known;
 use cdi_validate::faults;
+use cdi_wiring::{Wired, Wiring};
 use std::alloc::{AllocError, Global};
 use std::marker::Model;
 
@@ -52,7 +53,8 @@ impl<B: Bodies> Model for Deployment<B> {
     ghost use Rattle.cdi_effective.specs.Beans.{beans as bean_list};
     ghost use Rattle.cdi_container.specs.Asked.{aim_of, asked_for};
     ghost use Rattle.cdi_container.specs.LastEvents.{AreFiredOn};
-    ghost use Rattle.cdi_container.specs.Wired.{StandsIn, Deployed, IsWiringOf, is_sound};
+    ghost use Rattle.cdi_container.specs.Wired.{StandsIn, Deployed, is_sound};
+    ghost use Rattle.cdi_wiring.specs.Wired.{IsWiringOf};
 
     ghost Value = { Deployed };
 

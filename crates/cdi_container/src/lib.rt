@@ -12,7 +12,6 @@ mod last_events;
 mod printing;
 mod runner;
 mod script;
-mod wiring;
 
 pub use answer::Answer;
 pub use cdi_bodies::{Act, Bodies, Body, Book, BookCause, BookError, Frame, Promise};

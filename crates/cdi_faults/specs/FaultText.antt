@@ -71,6 +71,27 @@ text_of_code fault_codes.NameClash = codes "F24"
 text_of_code fault_codes.NamePrefix = codes "F25"
 text_of_code fault_codes.Circular = codes "F26"
 
+-- the name of the code
+abbrev pub word_of_code : Code → List ℕ
+word_of_code fault_codes.UnknownName = codes "UnknownName"
+word_of_code fault_codes.Cycle = codes "Cycle"
+word_of_code fault_codes.BadKind = codes "BadKind"
+word_of_code fault_codes.Typed = codes "Typed"
+word_of_code fault_codes.ScopeConflict = codes "ScopeConflict"
+word_of_code fault_codes.BindingConflict = codes "BindingConflict"
+word_of_code fault_codes.Member = codes "Member"
+word_of_code fault_codes.Disposer = codes "Disposer"
+word_of_code fault_codes.ConditionalDependent = codes "ConditionalDependent"
+word_of_code fault_codes.Body = codes "Body"
+word_of_code fault_codes.NoBinding = codes "NoBinding"
+word_of_code fault_codes.Unsatisfied = codes "Unsatisfied"
+word_of_code fault_codes.Ambiguous = codes "Ambiguous"
+word_of_code fault_codes.Unproxyable = codes "Unproxyable"
+word_of_code fault_codes.Site = codes "Site"
+word_of_code fault_codes.NameClash = codes "NameClash"
+word_of_code fault_codes.NamePrefix = codes "NamePrefix"
+word_of_code fault_codes.Circular = codes "Circular"
+
 -- behind a space, where it is not empty
 abbrev pub behind_space : List ℕ → List ℕ
 behind_space [] = []

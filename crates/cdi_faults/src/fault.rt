@@ -5,16 +5,16 @@ ghost use Rattle.cdi_faults.specs.Codes.{all_codes, code_of, code_order};
 
 use cdi_model::{Ident, Kind, Name, PartPlace, PointPlace, Qual, UseKind};
 
-/// What is wrong. The order of the codes is that in which faults stand.
-#[derive(Clone, Copy, Debug, PartialEq, Eq, PartialOrd, Ord)]
+/// What is wrong. Faults are listed in the order of the codes.
+#[derive(Clone, Copy, Debug, PartialEq, Eq, PartialOrd, Ord, Hash)]
 pub enum Code {
     /// A name that it names is neither declared nor built in.
     UnknownName,
     /// A type, a binding type or a stereotype reaches itself.
     Cycle,
-    /// A type stands where one of the other form is wanted.
+    /// A class is named where an interface is needed, or the other way round.
     BadKind,
-    /// A type to which a bean is restricted is none of its types (CDI 4.0, Restricting the bean types of a bean).
+    /// A type to which a bean is restricted is not one of its types (CDI 4.0, Restricting the bean types of a bean).
     Typed,
     /// Stereotypes give different default scopes (CDI 4.0, Default scope for a stereotype).
     ScopeConflict,
@@ -26,7 +26,7 @@ pub enum Code {
     Member,
     /// A disposer method matches no producer method, or two match one (CDI 4.0, Disposer method resolution).
     Disposer,
-    /// A conditional observer method stands in a dependent bean (CDI 4.0, Conditional observer methods).
+    /// A dependent bean has a conditional observer method (CDI 4.0, Conditional observer methods).
     ConditionalDependent,
     /// A body that it names is not in the book, or may do more than is allowed in its place (profile).
     Body,
@@ -81,7 +81,7 @@ impl Code {
 }
 
 /// The part of a declaration that has a fault.
-#[derive(Debug, PartialEq, Eq, Drop)]
+#[derive(Debug, PartialEq, Eq, Hash, Drop)]
 pub enum Subject {
     /// The declaration as a whole.
     Whole,
@@ -123,7 +123,7 @@ pub enum Subject {
 }
 
 /// What is wrong with a deployment.
-#[derive(Debug, PartialEq, Eq, Drop)]
+#[derive(Debug, PartialEq, Eq, Hash, Drop)]
 pub enum Fault {
     /// A part of a declaration is at fault.
     Declared {
@@ -136,7 +136,7 @@ pub enum Fault {
     NameClash(Name),
     /// The shorter name and the longer.
     NamePrefix(Name, Name),
-    /// What a dependent bean is told by: its class, and its producer method if it is the product of one.
+    /// A dependent bean: its class, and its producer method if it is the product of one.
     Circular {
         class: Name,
         producer: Option<Ident>,

@@ -3,7 +3,7 @@ ghost use Rattle.std.specs.Prelude.{◌≡◌, [], ◌++◌, Some, IfOk, OnOk, O
 ghost use Rattle.std.specs.BTreeMap.{insert_entry, values};
 ghost use Rattle.cdi_faults.specs.TextTree.{entries_in};
 ghost use Rattle.cdi_model.specs.Bytes.{byte_order};
-ghost use Rattle.cdi_faults.specs.FaultText.{text_of_code, text_of_subject, text_of_fault, by_text, in_text_order};
+ghost use Rattle.cdi_faults.specs.FaultText.{text_of_code, word_of_code, text_of_subject, text_of_fault, by_text, in_text_order};
 ghost use Rattle.cdi_faults.specs.FaultText.{SubjectsInOrder};
 
 use crate::fault::{Code, Fault, Subject};
@@ -38,6 +38,34 @@ impl fmt::Display for Code {
             Code::NamePrefix => "F25",
             Code::Circular => "F26",
         })
+    }
+}
+
+impl Code {
+    /// Its name, such as `UnknownName`.
+    pub fn word(self) -> &'static str
+        ensures { result.now ≡ word_of_code self }
+    {
+        match self {
+            Code::UnknownName => "UnknownName",
+            Code::Cycle => "Cycle",
+            Code::BadKind => "BadKind",
+            Code::Typed => "Typed",
+            Code::ScopeConflict => "ScopeConflict",
+            Code::BindingConflict => "BindingConflict",
+            Code::Member => "Member",
+            Code::Disposer => "Disposer",
+            Code::ConditionalDependent => "ConditionalDependent",
+            Code::Body => "Body",
+            Code::NoBinding => "NoBinding",
+            Code::Unsatisfied => "Unsatisfied",
+            Code::Ambiguous => "Ambiguous",
+            Code::Unproxyable => "Unproxyable",
+            Code::Site => "Site",
+            Code::NameClash => "NameClash",
+            Code::NamePrefix => "NamePrefix",
+            Code::Circular => "Circular",
+        }
     }
 }
 
@@ -125,7 +153,7 @@ impl fmt::Display for Fault {
 
 impl Fault {
     /// Appends the text of the fault: its code, the kind and the name of the declaration, and its subject where it is not
-    /// the declaration as a whole, parted by single spaces. It takes memory for the text; at `Err` nothing is appended.
+    /// the declaration as a whole, separated by single spaces. It takes memory for the text; at `Err` nothing is appended.
     pub fn push_text(&self, text: &mut Vec<u8>) -> Result<(), AllocError>
         ensures ok { OnOk result (text.new.items ≡ text.old.items ++ text_of_fault self.now) }
         ensures err { OnErr result (text.new.items ≡ text.old.items) }

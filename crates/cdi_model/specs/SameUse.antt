@@ -30,6 +30,10 @@ same_arguments a b = false
 abbrev pub same_qual : Qual → Qual → Bool
 same_qual u v = bytes_eq u.name v.name && same_arguments u.arguments v.arguments
 
+-- the same uses, in order
+abbrev pub same_quals : List Qual → List Qual → Bool
+same_quals = pointwise same_qual
+
 -- ---- each comparison decides equality
 
 pub same_member-decides : (m n : List ℕ × ℤ) → Decides (same_member m n) (m ≡ n)
@@ -54,6 +58,9 @@ same_qual-decides u v =
     (Decides-and (bytes_eq u.name v.name) (same_arguments u.arguments v.arguments) (bytes_decides u.name v.name)
     (same_arguments-decides u.arguments v.arguments))
 
+pub same_quals-decides : (us vs : List Qual) → Decides (same_quals us vs) (us ≡ vs)
+same_quals-decides us vs = slice_eq-Decides same_qual-decides us vs (same_quals us vs) refl
+
 pub same_members_equiv : IsEquivalence same_members
 same_members_equiv = decided same_members same_members-decides
 
@@ -62,6 +69,9 @@ same_arguments_equiv = decided same_arguments same_arguments-decides
 
 pub same_qual_equiv : IsEquivalence same_qual
 same_qual_equiv = decided same_qual same_qual-decides
+
+pub same_quals_equiv : IsEquivalence same_quals
+same_quals_equiv = decided same_quals same_quals-decides
 
 -- ---- what a hasher is fed
 
@@ -74,3 +84,6 @@ arguments_fed (arguments.Members members) = fed.u8 1 ++ members_fed members
 
 abbrev pub qual_fed : Qual → List (List ℕ)
 qual_fed u = fed.slice fed.u8 u.name ++ arguments_fed u.arguments
+
+abbrev pub quals_fed : List Qual → List (List ℕ)
+quals_fed = fed.slice qual_fed

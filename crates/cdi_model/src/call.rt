@@ -32,7 +32,7 @@ fn call_of(text: &[u8]) -> Option<CallDecl>
     })
 }
 
-/// What stands before the first dot, and what behind it.
+/// The text before the first dot, and the text after it.
 fn around_dot(text: &[u8]) -> Option<(&[u8], &[u8])>
     ensures { option_map (λ p. (p.0.now, p.1.now)) result ≡ around_dot text.now }
 {

@@ -1,7 +1,7 @@
 //! How names, kinds, uses of qualifiers, values and failures print.
 use crate::decl::{CallDecl, EventDecl, Kind};
 use crate::name::{Ident, Name};
-use crate::outcome::{Failure, Val};
+use crate::outcome::{Failure, Outcome, Val};
 use crate::quals::{Arguments, Members, Qual, Quals};
 use std::fmt;
 
@@ -108,6 +108,33 @@ impl fmt::Debug for Qual {
     }
 }
 
+impl fmt::Debug for Members {
+    fn fmt<W: fmt::Write>(&self, f: &mut fmt::Formatter<W>) -> fmt::Result {
+        write!(f, "{self}")
+    }
+}
+
+impl fmt::Debug for Arguments {
+    fn fmt<W: fmt::Write>(&self, f: &mut fmt::Formatter<W>) -> fmt::Result {
+        write!(f, "{self}")
+    }
+}
+
+/// The uses in the order of their names, separated by spaces, as on a command line.
+impl fmt::Display for Quals {
+    ghost use Rattle.std.specs.Prelude.{Some};
+    ghost use Rattle.cdi_model.specs.EventText.{text_of_quals};
+
+    ghost output = { λ quals. Some (text_of_quals quals) };
+
+    fn fmt<W: fmt::Write>(&self, f: &mut fmt::Formatter<W>) -> fmt::Result {
+        match self.as_slice() {
+            [] => Ok(()),
+            [first, others @ ..] => write!(f, "{first}{}", Listed(others)),
+        }
+    }
+}
+
 impl fmt::Debug for Quals {
     fn fmt<W: fmt::Write>(&self, f: &mut fmt::Formatter<W>) -> fmt::Result {
         fmt::Debug::fmt(self.as_slice(), f)
@@ -125,7 +152,7 @@ impl fmt::Display for CallDecl {
     }
 }
 
-/// Uses, each behind a space.
+/// Uses, each preceded by a space.
 #[derive(Clone, Copy)]
 struct Listed<'a>(&'a [Qual]);
 
@@ -143,7 +170,7 @@ impl fmt::Display for Listed<'_> {
     }
 }
 
-/// A type name, and qualifiers, each behind a space.
+/// The type name and the qualifiers, separated by spaces.
 impl fmt::Display for EventDecl {
     ghost use Rattle.std.specs.Prelude.{Some};
     ghost use Rattle.cdi_model.specs.EventText.{text_of_event};
@@ -193,6 +220,21 @@ impl fmt::Display for Failure {
             Failure::NotConstructed => f.write_str("NotConstructed"),
             Failure::Limit => f.write_str("Limit"),
             Failure::User(number) => write!(f, "User({number})"),
+        }
+    }
+}
+
+/// `value` and the value, or `failed` and the failure, as a script prints it.
+impl fmt::Display for Outcome {
+    ghost use Rattle.std.specs.Prelude.{Some};
+    ghost use Rattle.cdi_model.specs.OutcomeText.{words_of_outcome};
+
+    ghost output = { λ outcome. Some (words_of_outcome outcome) };
+
+    fn fmt<W: fmt::Write>(&self, f: &mut fmt::Formatter<W>) -> fmt::Result {
+        match self {
+            Outcome::Value(value) => write!(f, "value {value}"),
+            Outcome::Failed(failure) => write!(f, "failed {failure}"),
         }
     }
 }

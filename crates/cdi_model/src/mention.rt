@@ -43,7 +43,7 @@ pub enum TypePlace {
 }
 
 /// Of what an injection point is a parameter.
-#[derive(Clone, Copy, Debug, PartialEq, Eq)]
+#[derive(Clone, Copy, Debug, PartialEq, Eq, Hash)]
 pub enum PointPlace {
     /// Of the constructor of a bean or of an interceptor.
     Constructor,
@@ -59,15 +59,15 @@ pub enum Mention<'a> {
     Type(TypePlace, &'a Name),
     Use(UseKind, &'a Qual),
     Stereotype(&'a Name),
-    /// A business method. Its bindings come behind it.
+    /// A business method. Its bindings come after it.
     Method(&'a MethodDecl),
-    /// An injection point. Its type and its uses come behind it.
+    /// An injection point. Its type and its uses come after it.
     Point(PointPlace, &'a PointDecl),
-    /// The stored body that runs in a place. What it may call and fire comes behind it.
+    /// The stored body that runs in a place. What it may call and fire comes after it.
     Body(PartPlace, &'a Ident),
     /// A call site of the body in a place, and the parameters of the method whose body it is.
     Call(PartPlace, &'a [PointDecl], &'a CallDecl),
-    /// An event that a body may fire. Its type and its uses come behind it.
+    /// An event that a body may fire. Its type and its uses come after it.
     Event(&'a EventDecl),
 }
 
@@ -98,7 +98,7 @@ impl<'a> Iterator for Mentions<'a> {
     }
 }
 
-/// Types, uses and stereotypes that stand beside one another.
+/// Types, uses and stereotypes that are written beside one another.
 #[derive(Drop)]
 pub(crate) struct Names<'a> {
     first: Option<(TypePlace, &'a Name)>,
@@ -431,7 +431,7 @@ fn body_in<'a>(place: PartPlace, part: &'a Option<PartDecl>) -> Option<Body<'a>>
     }
 }
 
-/// What is left: the names of what is gone through, and behind them what is not begun.
+/// What is left: the names of what is gone through, and after them what is not begun.
 #[derive(Drop)]
 pub(crate) struct Rest<'a> {
     names: Names<'a>,
@@ -626,7 +626,7 @@ impl<'a> Rest<'a> {
 
 impl Decl {
     /// What it names, in order: each type, use of a qualifier or of a binding, stereotype, business method, injection point,
-    /// stored body, call site and event, with where it stands. It takes no memory.
+    /// stored body, call site and event, each with its place. It takes no memory.
     pub fn mentions(&self) -> Mentions<'_>
         ensures { result ≡ mentions self.now }
     {

@@ -1,4 +1,4 @@
-//! The places of a bean at which interceptors may stand around it, and those at which stored bodies run.
+//! The places of a bean that interceptors may surround, and those at which stored bodies run.
 ghost use Rattle.std.specs.Prelude.{Some};
 ghost use Rattle.cdi_model.specs.PlaceText.{text_of_part_place, text_of_place};
 
@@ -6,7 +6,7 @@ use crate::name::Ident;
 use std::fmt;
 
 /// Where a managed bean is invoked (Interceptors 2.1, Interceptor Programming Contract).
-#[derive(Clone, Copy, Debug, PartialEq, Eq)]
+#[derive(Clone, Copy, Debug, PartialEq, Eq, Hash)]
 pub enum BeanPlace {
     /// Its constructor.
     Construct,
@@ -38,7 +38,7 @@ impl fmt::Display for BeanPlace {
 }
 
 /// Where in a bean or an interceptor a stored body runs (profile).
-#[derive(Clone, Copy, Debug, PartialEq, Eq)]
+#[derive(Clone, Copy, Debug, PartialEq, Eq, Hash)]
 pub enum PartPlace {
     /// Its constructor.
     Construct,

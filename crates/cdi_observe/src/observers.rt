@@ -17,7 +17,7 @@ use std::alloc::{AllocError, Global};
 use std::fmt;
 
 /// An observer method, by the class that declares it.
-#[derive(Clone, Copy, Debug, PartialEq, Eq)]
+#[derive(Clone, Copy, Debug, PartialEq, Eq, Hash)]
 pub struct ObserverId {
     pub class: Name,
     pub observer: Ident,

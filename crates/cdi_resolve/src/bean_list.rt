@@ -17,7 +17,7 @@ use indexmap::IndexMap;
 use std::alloc::{AllocError, Global};
 use std::marker::Model;
 
-/// The beans of a deployment, in order, with look-ups by the class that declares them and by the types that they have.
+/// The beans of a deployment, in order, with lookups by the class that declares them and by the types that they have.
 #[derive(Drop)]
 pub struct BeanList {
     beans: Vec<Effective>,
@@ -59,7 +59,7 @@ impl BeanList {
         self.beans.as_slice()
     }
 
-    /// The records of the bean declaration of a class: its managed bean, and behind it its products in order. None
+    /// The records of the bean declaration of a class: its managed bean, and after it its products in order. None
     /// where no such bean is declared. It takes no memory.
     pub fn records(&self, class: &Name) -> &[Effective]
         ensures { result.now ≡ records_among self.now class.now }
@@ -132,7 +132,7 @@ fn at_places<'a>(
     Ok(list)
 }
 
-/// The first of some beans, with the products that stand behind it.
+/// The first of some beans, with the products that follow it.
 fn with_products(beans: &[Effective]) -> &[Effective]
     ensures { result.now ≡ with_products beans.now }
 {
@@ -142,7 +142,7 @@ fn with_products(beans: &[Effective]) -> &[Effective]
     &beans[..1 + products(behind)]
 }
 
-/// How many products stand before the first managed bean.
+/// The number of products before the first managed bean.
 fn products(beans: &[Effective]) -> usize
     ensures value { result ≡ prefix_len is_product beans.now }
     ensures bound { result ≤ length beans.now }

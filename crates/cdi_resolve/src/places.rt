@@ -1,4 +1,4 @@
-//! Where the beans of a list stand.
+//! The positions of the beans of a list.
 ghost use Rattle.std.specs.Prelude.{◌≡◌, [], ◌∷◌, ◌++◌, All, Some, None, IfOk, OnOk, if◌then◌else◌};
 ghost use Rattle.std.specs.List.Sorted.{IsStrictlySortedBy};
 ghost use Rattle.std.specs.Option.{option_or};

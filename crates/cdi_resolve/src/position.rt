@@ -1,4 +1,4 @@
-//! Where a bean stands among others.
+//! The position of a bean among others.
 ghost use Rattle.std.specs.Prelude.{◌≡◌, ◌<◌, position, length, IfSome};
 ghost use Rattle.cdi_resolve.specs.Position.{is_told_by};
 

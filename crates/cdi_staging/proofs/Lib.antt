@@ -7,5 +7,4 @@ mod SoundLemmas
 mod LinkLemmas
 pub mod LookupLemmas
 pub mod SceneLemmas
-pub mod FaultLemmas
 pub mod Laws

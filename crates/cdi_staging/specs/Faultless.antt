@@ -1,4 +1,4 @@
--- What is known of each declaration of a deployment without faults, and the law that runs rest on.
+-- What is known of each declaration of a deployment without faults.
 use Rattle.std.specs.Prelude.{◌≡◌, ℕ, ◌≤◌, true, List, ◌++◌, length, Some, slice_get, if◌then◌else◌, []}
 use Rattle.std.specs.List.{find}
 use Rattle.std.specs.Int.RustNames.{bit_and}
@@ -26,7 +26,6 @@ use Rattle.cdi_effective.specs.declared.records.BeanId.{BeanId}
 use Rattle.cdi_resolve.specs.declared.choice.Choice.TheVariants.{One}
 use Rattle.cdi_intercept.specs.Chains.{is_enabled}
 use Rattle.cdi_observe.specs.Answers.{answer_to}
-use Rattle.cdi_validate.specs.Faults.{faults}
 use Rattle.cdi_subjects.specs.Sites.{has_method}
 use Rattle.cdi_staging.specs.Sites.{is_point}
 use Rattle.cdi_staging.specs.Staged.{scene_of}
@@ -113,9 +112,3 @@ pub record IsFineAround (ds : List Decl) (book : List Promised) (i : Interceptor
 abbrev pub AreFineAround : List Decl → List Promised → Type 0
 AreFineAround ds book = (k : ℕ) (i : InterceptorDecl) → slice_get ds k ≡ Some (decls.Interceptor i) → is_enabled i ≡ true
     → IsFineAround ds book i
-
--- A deployment without faults has a sound scene, where no two of its declarations have one kind and name and each has
--- short lists, as what is read and put has.
-abbrev pub FaultlessIsSound : Type 0
-FaultlessIsSound = (ds : List Decl) (book : List Promised) → AreDistinct ds → AreShort ds → faults ds book ≡ []
-    → IsSound book (scene_of ds book)

@@ -7,7 +7,6 @@ ghost use Rattle.cdi_observe.specs.Answers.{answers as all_answers, answer_to};
 ghost use Rattle.cdi_observe.specs.Wanted.{points_of};
 ghost use Rattle.cdi_subjects.specs.Sites.{declared_points, params_of};
 ghost use Rattle.cdi_model.specs.declared.decl.Decl.TheVariants as decls;
-ghost use Rattle.cdi_staging.specs.Faultless.{FaultlessIsSound};
 ghost use Rattle.cdi_staging.specs.Lookups.{ChosenHasMethods, ChosenStands};
 ghost use Rattle.cdi_staging.specs.Shown.{around_in, class_in};
 ghost use Rattle.cdi_staging.specs.Sites.{sight_in};
@@ -41,7 +40,6 @@ pub fn scene_of<B: Bodies>(
     requires beans { beans.now ≡ beans_of decls.now }
     requires answers { map (λ list. map (λ answer. answer.value) list.items) answers.now ≡ all_answers decls.now }
     ensures value { IfOk result (λ scene. scene ≡ scene_of decls.now (B.promises book.now)) }
-    ensures sound { FaultlessIsSound }
     ensures stands { ChosenStands }
     ensures methods { ChosenHasMethods }
 {

@@ -1,5 +1,7 @@
 -- The table of the program's bodies: what each is called, what it promises and what it does (profile).
-use Rattle.std.specs.Prelude.{ℕ, List, [], ◌∷◌, codes}
+use Rattle.std.specs.Prelude.{ℕ, Bool, List, [], ◌∷◌, codes, map}
+use Rattle.std.specs.Str.{bytes_eq}
+use Rattle.cdi_bodies.specs.Book.{Promised}
 use Rattle.cdi_bodies.specs.Flags as flags
 use Rattle.cdi_bodies.specs.declared.act.Act.{Act}
 use Rattle.cdi_bodies.specs.declared.act.Frame.{Frame}
@@ -50,6 +52,17 @@ promise_of Short = of_flags []
 promise_of Boom = of_flags (flags.fail ∷ [])
 promise_of Flaky = of_flags (flags.load ∷ flags.store ∷ flags.fail ∷ [])
 promise_of Spin = of_flags (flags.load ∷ [])
+
+abbrev pub has_name : List ℕ → Stock → Bool
+has_name name body = bytes_eq name (name_of body)
+
+-- the name and the promise of a body
+abbrev pub promised : Stock → Promised
+promised stock = (name_of stock, promise_of stock)
+
+-- those of the table, in its order
+abbrev pub stored : List Promised
+stored = map promised table
 
 -- the next act on a frame
 abbrev pub act_of : Stock → Frame → Act

@@ -7,6 +7,7 @@ mod proceeding;
 mod returning;
 mod sites;
 mod stock;
+mod stock_bodies;
 mod store;
 
 pub use cdi_bodies::{Body, Frame, Promise};
@@ -15,3 +16,4 @@ pub use proceeding::{double, guard, pass, retry, swallow};
 pub use returning::{boom, echo, short, unit, zero};
 pub use sites::{notify, relay};
 pub use stock::Stock;
+pub use stock_bodies::StockBodies;

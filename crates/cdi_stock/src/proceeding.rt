@@ -74,7 +74,7 @@ pub fn retry(frame: &Frame) -> Act
     }
 }
 
-/// Proceeds, unless three answers stand; then it fails with this.
+/// Proceeds, unless three answers are there; then it fails with this.
 fn proceed_again(frame: &Frame, failure: Failure) -> Act
     ensures kept { IsWithin Promise.PROCEED_FAIL frame.now result }
     ensures act { result ≡ acts.retrying frame.now (Some (Outcome.Failed failure)) }

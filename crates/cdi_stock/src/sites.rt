@@ -20,7 +20,7 @@ pub fn relay(frame: &Frame) -> Act
     }
 }
 
-/// Calls the next site with this, or returns it behind the last.
+/// Calls the next site with this, or returns it after the last.
 fn call_next(frame: &Frame, given: Val) -> Act
     ensures kept { IsWithin Promise.CALL_FAIL frame.now result }
     ensures act { result ≡ acts.call_next frame.now given }
@@ -47,7 +47,7 @@ pub fn notify(frame: &Frame) -> Act
     }
 }
 
-/// Fires at the next site with the argument, or returns it behind the last.
+/// Fires at the next site with the argument, or returns it after the last.
 fn fire_next(frame: &Frame) -> Act
     ensures kept { IsWithin Promise.FIRE_FAIL frame.now result }
     ensures act { result ≡ acts.fire_next frame.now }

@@ -1,8 +1,8 @@
 //! How the bodies are stored. A function may not make a body and hand it out, since a body has a boxed function: so a
 //! macro stores them where they run.
 
-/// A `Vec` of the program's bodies, in the order of their table, made where the macro stands. The function around it
-/// answers want of memory by `?`.
+/// A `Vec` of the program's bodies, in the order of their table, made where the macro is called. The function around it
+/// answers out of memory by `?`.
 #[macro_export]
 macro_rules! stock_bodies {
     ($alloc:expr) => {{

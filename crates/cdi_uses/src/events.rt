@@ -21,7 +21,7 @@ pub fn is_event_use(text: &[u8]) -> bool
     is_use(text) && text != b"Default".as_slice()
 }
 
-/// Whether a text is an event: the name of a type, and uses of qualifiers other than `Default`, each behind one space
+/// Whether a text is an event: the name of a type, and uses of qualifiers other than `Default`, each after one space
 /// (CDI 4.0, Event types and qualifier types). It takes no memory.
 pub fn is_event(text: &[u8]) -> bool
     ensures value { result ≡ is_event text.now }
@@ -52,7 +52,7 @@ fn are_event_uses(uses: Option<&[u8]>) -> bool
     true
 }
 
-/// How many uses stand in the text of an event.
+/// The number of uses in the text of an event.
 pub fn count_uses(text: &[u8]) -> usize
     ensures { result ≡ length (uses_in text.now) }
 {
@@ -79,7 +79,7 @@ pub fn event_repeats(alloc: Global, text: &[u8]) -> Result<bool, AllocError>
     repeats_some_member(alloc, uses.as_slice())
 }
 
-/// The parts behind the type.
+/// The parts after the type.
 fn uses_in<'a>(alloc: Global, text: &'a [u8]) -> Result<Vec<&'a [u8]>, AllocError>
     ensures { IfOk result (λ uses. map (λ u. u.now) uses.items ≡ uses_in text.now) }
 {
@@ -93,7 +93,7 @@ fn uses_in<'a>(alloc: Global, text: &'a [u8]) -> Result<Vec<&'a [u8]>, AllocErro
     Ok(uses)
 }
 
-/// The event that a text says which is one. Of a qualifier that stands twice the last use counts.
+/// The event that such a text spells. Of a qualifier that is written twice the last use counts.
 ///
 /// It takes memory for the uses.
 pub fn event_of(alloc: Global, text: &[u8]) -> Result<EventDecl, AllocError>

@@ -1,21 +1,11 @@
 -- What a run of the program did: that of a session with the program's bodies.
-use Rattle.std.specs.Prelude.{◌≡◌, ◌≢◌, ◌⊎◌, ℕ, List, [], Option, map}
+use Rattle.std.specs.Prelude.{◌≡◌, ◌≢◌, ◌⊎◌, ℕ, List, [], Option}
 use Rattle.std.specs.declared.io.ErrorKind as opening
 use Rattle.clap.specs.Walk.{Text}
-use Rattle.cdi_bodies.specs.Book.{Promised}
 use Rattle.cdi_devices.specs.declared.counted.Counted.{Counted}
 use Rattle.cdi_session.specs.Options.{faults_of}
 use Rattle.cdi_session.specs.Session.{RunsWords, RefusesWords, LacksMemory}
-use Rattle.cdi_stock.specs.Table.{table, name_of, promise_of}
-use Rattle.cdi_stock.specs.declared.stock.Stock.{Stock}
-
--- the name and the promise of a body
-abbrev pub promised : Stock → Promised
-promised stock = (name_of stock, promise_of stock)
-
--- the bodies that scripts name, in the order of their table
-abbrev pub stored : List Promised
-stored = map promised table
+use Rattle.cdi_stock.specs.Table.{stored}
 
 module _ {I File O E : Type 0} (contents_at : Text → Option (List ℕ)) (refuses : Text → opening.ErrorKind → Type 0)
     (input_left : I → Option (List ℕ)) (file_left : File → Option (List ℕ))

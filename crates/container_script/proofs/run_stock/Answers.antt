@@ -1,6 +1,6 @@
 use Rattle.std.proofs.Common.{◌≡◌, ◌∙◌, ◌++◌, ap, sym, map}
 use Rattle.std.proofs.lemmas.List.{append-nil, drop_all}
-use Rattle.container_script.specs.Program.{promised, stored}
+use Rattle.cdi_stock.specs.Table.{promised, stored}
 use Rattle.container_script.proofs.run_stock.Goals as goal
 
 pub returns-clause-runs : goal.returns-clause-runs

@@ -1,5 +1,5 @@
 use Rattle.std.proofs.Common.{◌≡◌, ◌++◌, drop, map}
-use Rattle.container_script.specs.Program.{promised, stored}
+use Rattle.cdi_stock.specs.Table.{promised, stored}
 use Rattle.container_script.proofs.run_stock.Given as goal
 
 abbrev pub invariant-loop-entry : goal.invariant-loop-entry

@@ -54,10 +54,11 @@ use Rattle.cdi_subjects.specs.Subjects.{is_ambiguous, is_unsatisfied, point_in, 
 use Rattle.cdi_subjects.proofs.RecordLemmas.{managed-producer, product-producer}
 use Rattle.cdi_validate.specs.Faults.{faults, faults_of, faults_of_code}
 use Rattle.cdi_staging.specs.Faultless.{AreFine, AreFineAround, IsFineAround}
-use Rattle.cdi_staging.specs.Faultless.{AreSatisfied, FaultlessIsSound, IsFineManaged, IsFinePart, allowed_to}
+use Rattle.cdi_staging.specs.Faultless.{AreSatisfied, IsFineManaged, IsFinePart, allowed_to}
 use Rattle.cdi_staging.specs.Faultless.{IsFineObserver, IsFineProducer, IsFit, IsLed, seen_by}
 use Rattle.cdi_staging.specs.Sites.{is_point}
 use Rattle.cdi_staging.proofs.SceneLemmas.{fine_is_sound}
+use Rattle.cdi_wiring.specs.Laws.{FaultlessIsSound}
 
 -- ---- lists that are empty
 

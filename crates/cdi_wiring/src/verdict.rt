@@ -1,8 +1,9 @@
-//! What look-ups, calls and events make of a deployment, and keep until the next edit.
+//! What a deployment is found to be.
 ghost use Rattle.std.specs.Prelude.{◌≡◌, IfOk};
 ghost use Rattle.cdi_model.specs.Short.{AreShort};
 ghost use Rattle.cdi_effective.specs.Beans.{beans as beans_of};
-ghost use Rattle.cdi_container.specs.Wired.{IsWiringOf, count_of};
+ghost use Rattle.cdi_wiring.specs.Laws.{FaultlessIsSound};
+ghost use Rattle.cdi_wiring.specs.Wired.{IsWiringOf, count_of};
 
 use cdi_bodies::Bodies;
 use cdi_model::Decls;
@@ -13,17 +14,17 @@ use cdi_staging::{Names, names_of, scene_of};
 use cdi_validate::faults_by;
 use std::alloc::{AllocError, Global};
 
-/// The scene of a deployment without faults, and the names that its traces are told by.
+/// The scene of a deployment without faults, and the names of its traces.
 #[derive(Drop)]
-pub(crate) struct Wired {
-    pub(crate) scene: Scene,
-    pub(crate) names: Names,
+pub struct Wired {
+    pub scene: Scene,
+    pub names: Names,
 }
 
-/// What a deployment was found to be.
+/// What a deployment is found to be.
 #[derive(Drop)]
-pub(crate) enum Wiring {
-    /// It has so many faults, and runs nothing.
+pub enum Wiring {
+    /// The number of its faults. It runs nothing.
     Faulty(usize),
     /// It has none.
     Sound(Wired),
@@ -31,8 +32,9 @@ pub(crate) enum Wiring {
 
 impl Wiring {
     /// What some declarations are whose bean list this is, where the bodies of this book are stored. It takes memory and
-    /// time as a report does, and for the scene.
-    pub(crate) fn of<B: Bodies>(
+    /// time as a report does, and for the scene. The last clause says that a deployment without faults has a sound scene.
+    #[tactic(auto, using(crate::proofs::FaultLemmas::faultless_is_sound))]
+    pub fn of<B: Bodies>(
         alloc: Global,
         decls: &Decls,
         beans: &BeanList,
@@ -40,7 +42,8 @@ impl Wiring {
     ) -> Result<Wiring, AllocError>
         requires beans { beans.now ≡ beans_of decls.now }
         requires short { AreShort decls.now }
-        ensures { IfOk result (λ wiring. IsWiringOf decls.now (B.promises book.now) wiring) }
+        ensures wiring { IfOk result (λ wiring. IsWiringOf decls.now (B.promises book.now) wiring) }
+        ensures sound { FaultlessIsSound }
     {
         let mut view = PlainView::new(decls, beans);
         let answers = evaluate(alloc, &mut view)?;
@@ -58,7 +61,7 @@ impl Wiring {
     }
 
     /// How many faults there are.
-    pub(crate) fn count(&self) -> usize
+    pub fn count(&self) -> usize
         ensures { result ≡ count_of self.now }
     {
         match self {

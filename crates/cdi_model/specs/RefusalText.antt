@@ -1,0 +1,46 @@
+-- What a refusal prints.
+use Rattle.std.specs.Prelude.{ℕ, List, codes}
+use Rattle.cdi_model.specs.declared.refusal.Refusal.{Refusal}
+use Rattle.cdi_model.specs.declared.refusal.Refusal.TheVariants as refusals
+
+abbrev pub code_of_refusal : Refusal → List ℕ
+code_of_refusal refusals.TooLong = codes "E01"
+code_of_refusal refusals.NotToml = codes "E02"
+code_of_refusal refusals.UnknownKind = codes "E03"
+code_of_refusal refusals.UnknownKey = codes "E04"
+code_of_refusal refusals.MissingKey = codes "E05"
+code_of_refusal refusals.WrongKind = codes "E06"
+code_of_refusal refusals.BadName = codes "E07"
+code_of_refusal refusals.Twice = codes "E08"
+code_of_refusal refusals.ListTooLong = codes "E09"
+code_of_refusal refusals.TooMany = codes "E10"
+code_of_refusal refusals.Absent = codes "E11"
+code_of_refusal refusals.BadCommand = codes "E20"
+code_of_refusal refusals.RequestActive = codes "E40"
+code_of_refusal refusals.NoRequest = codes "E41"
+code_of_refusal (refusals.Faulty count) = codes "E50"
+code_of_refusal refusals.UnknownName = codes "E51"
+code_of_refusal refusals.Unsatisfied = codes "E52"
+code_of_refusal refusals.Ambiguous = codes "E53"
+code_of_refusal refusals.NoMethod = codes "E54"
+
+abbrev pub word_of_refusal : Refusal → List ℕ
+word_of_refusal refusals.TooLong = codes "TooLong"
+word_of_refusal refusals.NotToml = codes "NotToml"
+word_of_refusal refusals.UnknownKind = codes "UnknownKind"
+word_of_refusal refusals.UnknownKey = codes "UnknownKey"
+word_of_refusal refusals.MissingKey = codes "MissingKey"
+word_of_refusal refusals.WrongKind = codes "WrongKind"
+word_of_refusal refusals.BadName = codes "BadName"
+word_of_refusal refusals.Twice = codes "Twice"
+word_of_refusal refusals.ListTooLong = codes "ListTooLong"
+word_of_refusal refusals.TooMany = codes "TooMany"
+word_of_refusal refusals.Absent = codes "Absent"
+word_of_refusal refusals.BadCommand = codes "BadCommand"
+word_of_refusal refusals.RequestActive = codes "RequestActive"
+word_of_refusal refusals.NoRequest = codes "NoRequest"
+word_of_refusal (refusals.Faulty count) = codes "Faulty"
+word_of_refusal refusals.UnknownName = codes "UnknownName"
+word_of_refusal refusals.Unsatisfied = codes "Unsatisfied"
+word_of_refusal refusals.Ambiguous = codes "Ambiguous"
+word_of_refusal refusals.NoMethod = codes "NoMethod"
