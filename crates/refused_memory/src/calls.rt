@@ -154,7 +154,7 @@ static CALLS: [(Call, Answer); 41] = [
     (Remove(Kind::Bean, CORNER), Refused(Refusal::Absent)),
     (Choose(CORNER, PLAIN), Unsatisfied),
     (Remove(Kind::Qualifier, b"Rank"), Done),
-    // No default stands for `n`, and `m` counts.
+    // `n` has no default, and `m` counts.
     (Choose(OBJECT, RANKED), Unsatisfied),
     (Put(BINDING), Done),
     (Put(OTHER_BINDING), Done),

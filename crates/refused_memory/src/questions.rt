@@ -147,7 +147,7 @@ static QUESTIONS: [Question; 29] = [
         ],
     )),
     OfChains(Around(b"run", &[b"G"])),
-    // A binding of the method stands in the place of the one of its type that the class is brought.
+    // A binding of the method replaces the one of its type that the class has through another.
     OfChains(Around(b"fast", &[])),
     OfChains(Bound(b"fast", &[b"Audit", b"Log", b"Tx"])),
     OfChains(Observed(b"S", &[b"see"])),
