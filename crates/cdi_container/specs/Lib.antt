@@ -25,3 +25,4 @@ pub use Rattle.cdi_devices.specs.Counted
 pub use Rattle.cdi_validate.specs.Faults
 pub use Rattle.cdi_faults.specs.Codes
 pub use Rattle.cdi_faults.specs.FaultText
+pub mod Named

@@ -1,10 +1,8 @@
 -- The text that steps print.
 use Rattle.std.specs.Prelude.{ℕ, Bool, true, false, List, [], ◌∷◌, ◌++◌, length, codes, decimal, flat_map, Result, Ok, Err, if◌then◌else◌}
 use Rattle.cdi_model.specs.declared.refusal.Refusal.{Refusal}
-use Rattle.cdi_model.specs.declared.refusal.Refusal.TheVariants.{TooLong, NotToml, UnknownKind, UnknownKey, MissingKey, WrongKind, BadName}
-use Rattle.cdi_model.specs.declared.refusal.Refusal.TheVariants.{Twice, ListTooLong, TooMany, Absent, BadCommand}
-use Rattle.cdi_model.specs.declared.refusal.Refusal.TheVariants.{RequestActive, NoRequest, Faulty, UnknownName, NoMethod}
-use Rattle.cdi_model.specs.declared.refusal.Refusal.TheVariants.{Unsatisfied, Ambiguous}
+use Rattle.cdi_model.specs.declared.refusal.Refusal.TheVariants.{Faulty}
+use Rattle.cdi_model.specs.RefusalText.{code_of_refusal, word_of_refusal}
 use Rattle.cdi_observe.specs.declared.observers.ObserverId.{ObserverId}
 use Rattle.cdi_observe.specs.ObserverText.{text_of_observer}
 use Rattle.cdi_resolve.specs.ChoiceText.{text_of_choice}
@@ -15,34 +13,14 @@ use Rattle.cdi_model.specs.Bytes.{feed, space}
 use Rattle.cdi_container.specs.declared.answer.Answer.{Answer}
 use Rattle.cdi_container.specs.declared.answer.Answer.TheVariants.{Done, Chosen, Intercepted, Observed, Reported, Given, Refused}
 use Rattle.cdi_legal.specs.declared.entry.Entry.{Entry}
-use Rattle.cdi_model.specs.OutcomeText.{text_of_val, text_of_failure}
-use Rattle.cdi_model.specs.declared.outcome.Outcome.{Outcome}
-use Rattle.cdi_model.specs.declared.outcome.Outcome.TheVariants.{Value, Failed}
+use Rattle.cdi_model.specs.OutcomeText.{words_of_outcome}
 use Rattle.cdi_staging.specs.declared.names.Names.{Names}
 use Rattle.cdi_trace.specs.TraceText.{text_of_entries}
 use Rattle.cdi_container.specs.History.{Step, History}
 
 -- the code and the word of a refusal
 abbrev pub word_of : Refusal → List ℕ
-word_of TooLong = codes "E01 TooLong"
-word_of NotToml = codes "E02 NotToml"
-word_of UnknownKind = codes "E03 UnknownKind"
-word_of UnknownKey = codes "E04 UnknownKey"
-word_of MissingKey = codes "E05 MissingKey"
-word_of WrongKind = codes "E06 WrongKind"
-word_of BadName = codes "E07 BadName"
-word_of Twice = codes "E08 Twice"
-word_of ListTooLong = codes "E09 ListTooLong"
-word_of TooMany = codes "E10 TooMany"
-word_of Absent = codes "E11 Absent"
-word_of BadCommand = codes "E20 BadCommand"
-word_of RequestActive = codes "E40 RequestActive"
-word_of NoRequest = codes "E41 NoRequest"
-word_of (Faulty count) = codes "E50 Faulty"
-word_of UnknownName = codes "E51 UnknownName"
-word_of Unsatisfied = codes "E52 Unsatisfied"
-word_of Ambiguous = codes "E53 Ambiguous"
-word_of NoMethod = codes "E54 NoMethod"
+word_of refusal = code_of_refusal refusal ++ space ∷ word_of_refusal refusal
 
 -- how many faults there are, where these are the reason
 abbrev pub count_of : Refusal → List ℕ
@@ -56,11 +34,6 @@ text_of_faults list = flat_map (λ fault. feed ∷ text_of_fault fault) list
 -- how many faults there are, and then each
 abbrev pub text_of_report : List Fault → List ℕ
 text_of_report list = codes "faults " ++ decimal (length list) ++ text_of_faults list
-
--- a value, or why there is none
-abbrev pub words_of_outcome : Outcome → List ℕ
-words_of_outcome (Value v) = codes "value " ++ text_of_val v
-words_of_outcome (Failed failure) = codes "failed " ++ text_of_failure failure
 
 -- names, each behind a space
 abbrev pub text_of_names : List (List ℕ) → List ℕ

@@ -1,5 +1,5 @@
 //! The container.
-ghost use Rattle.std.specs.Prelude.{◌≡◌, ◌≢◌, [], AllPairs, OnOk, OnErr, IfOk, IfErr};
+ghost use Rattle.std.specs.Prelude.{◌≡◌, ◌≢◌, [], map, AllPairs, OnOk, OnErr, IfOk, IfErr};
 ghost use Rattle.cdi_model.specs.declared.edit.Edit.TheVariants.{Remove as RemoveEdit};
 ghost use Rattle.cdi_model.specs.Edits.{answer_of_edit as answer_of_removal, answer_of_edit};
 ghost use Rattle.cdi_model.specs.Answering.{Answers};
@@ -10,25 +10,30 @@ ghost use Rattle.cdi_intercept.specs.Chains.{chain_of};
 ghost use Rattle.cdi_observe.specs.Observers.{notified};
 ghost use Rattle.cdi_validate.specs.Faults.{faults};
 ghost use Rattle.cdi_container.specs.Wired.{IsShortEdit};
+ghost use Rattle.cdi_staging.specs.Naming.{names_of};
 ghost use Rattle.cdi_container.specs.History.{EditsFrom, History, PutsFrom, left_by, untold, RestsOnAcceptedEdits, SharesInstances};
+ghost use Rattle.cdi_container.specs.Named.{NamesTrace};
+ghost use Rattle.cdi_container.specs.Told.{IsTold};
 
 use crate::answer::{
     Answer, answer_of_begin, answer_of_chain, answer_of_choice, answer_of_edit,
     answer_of_observers, answer_of_report, answer_of_run, answer_of_stop,
 };
+use crate::beans::Beans;
 use crate::deployment::Deployment;
 use cdi_bodies::Bodies;
 use cdi_contexts::Contexts;
 use cdi_faults::Fault;
 use cdi_legal::{Entry, Run};
 use cdi_lines::Command;
-use cdi_model::{BeanPlace, Edit, Error, Kind, Name, Quals, Refusal, Seq, Work};
+use cdi_model::{BeanPlace, Edit, Error, Iter as DeclIter, Kind, Name, Quals, Refusal, Seq, Work};
 use cdi_observe::ObserverId;
 use cdi_resolve::Choice;
 use cdi_staging::Names;
 use cdi_text::read_decl;
-use cdi_trace::push_entries;
+use cdi_trace::{NamedEntries, NamedInstances, push_entries};
 use std::alloc::{AllocError, Global};
+use std::fmt;
 use std::marker::Model;
 
 /// The present declarations, which are edited while the container runs, and questions about them; the instances that it
@@ -69,24 +74,13 @@ impl<B: Bodies> Model for Container<B> {
 impl<B: Bodies> Container<B> {
     ghost use Rattle.std.specs.Prelude.{◌++◌};
     ghost use Rattle.cdi_container.specs.History.{empty};
-    ghost use Rattle.cdi_container.specs.Told.{IsTold};
     ghost use Rattle.cdi_container.specs.Seen.{answer_of_put, IsStep, PutStep, RemoveStep, ChooseStep, NamedStep};
     ghost use Rattle.cdi_container.specs.Seen.{ChainStep, ObserversStep};
     ghost use Rattle.cdi_container.specs.Seen.{ReportStep};
 
     /// An empty container, which keeps this book of stored bodies. It keeps the allocator, and takes no memory yet.
-    #[tactic(auto, using(crate::proofs::HistoryLemmas::rests_on_accepted_edits, crate::proofs::SharingLemmas::shares_instances))]
     pub fn new(alloc: Global, book: B) -> Container<B>
-        ensures empty { result ≡ empty (B.promises book) }
-
-        // From here on what stands is what the accepted edits make, whatever else was asked between them.
-        ensures edits { (history : History) → RestsOnAcceptedEdits history }
-
-        // And at most one instance of each bean with a normal scope is live at a time.
-        ensures shared { (history : History) → SharesInstances history }
-
-        // What stands is told by what was commanded, answered and traced.
-        ensures told { (history : History) → IsTold history }
+        ensures { result ≡ empty (B.promises book) }
     {
         Container {
             alloc,
@@ -321,14 +315,29 @@ impl<B: Bodies> Container<B> {
         Ok(faults)
     }
 
-    /// The entries of the last command that was answered. It takes no memory.
+    /// The entries of the last command that was answered, by positions. It takes no memory.
     pub fn trace(&self) -> &[Entry]
         ensures { result.now ≡ self.now.trace }
     {
         self.run.trace()
     }
 
-    /// Appends their text, each on a line of its own behind two spaces. It takes memory for it; at `Err` nothing is appended.
+    /// The same entries with names in place of positions. Each prints as its line of the trace, without the two spaces. It
+    /// takes no memory.
+    pub fn entries(&self) -> NamedEntries<'_>
+        ensures { NamesTrace self.now result }
+    {
+        if let Some(names) = &self.told {
+            return NamedEntries::new(names, self.run.trace());
+        }
+        if !self.deployment.is_wired() {
+            return NamedEntries::none();
+        }
+        NamedEntries::new(self.deployment.names(), self.run.trace())
+    }
+
+    /// Appends the text of the trace, each entry on a line of its own after two spaces. It takes memory for it; at `Err`
+    /// nothing is appended.
     pub fn push_trace(&self, text: &mut Vec<u8>) -> Result<(), AllocError>
         ensures ok { OnOk result (text.new.items ≡ text.old.items ++ self.now.text) }
         ensures err { OnErr result (text.new.items ≡ text.old.items) }
@@ -340,5 +349,56 @@ impl<B: Bodies> Container<B> {
             return Ok(());
         }
         push_entries(text, self.deployment.names(), self.run.trace())
+    }
+
+    /// The present declarations, in order. It is no command, and takes no memory.
+    pub fn decls(&self) -> DeclIter<'_>
+        ensures { result ≡ self.now.decls }
+    {
+        self.deployment.decls()
+    }
+
+    /// The records of the bean list, in order. It is no command. It takes memory for the list of all beans.
+    pub fn beans(&self) -> Result<Beans, AllocError>
+        ensures { IfOk result (λ list. list ≡ beans self.now.decls) }
+    {
+        self.deployment.all_beans(self.alloc)
+    }
+
+    /// The live instances, oldest first, those that are being created too. It is no command, and takes no memory.
+    pub fn instances(&self) -> NamedInstances<'_>
+        ensures { result ≡ map (λ instance. record { names = names_of self.now.decls; instance = instance }) self.now.standing.live }
+    {
+        if !self.deployment.is_wired() {
+            return NamedInstances::none();
+        }
+        NamedInstances::new(self.deployment.names(), self.run.instances())
+    }
+
+    /// Whether a request is active. It is no command, and takes no memory.
+    pub fn is_request_active(&self) -> bool
+        ensures { result ≡ self.now.standing.active }
+    {
+        self.run.is_active()
+    }
+}
+
+/// The laws of legal histories, for proofs: a proof that needs one calls this. It does nothing when it runs.
+#[tactic(auto, using(crate::proofs::HistoryLemmas::rests_on_accepted_edits, crate::proofs::SharingLemmas::shares_instances))]
+pub fn history_laws()
+    // The declarations after a legal history are what its accepted edits make of none, whatever else was asked.
+    ensures edits { (history : History) → RestsOnAcceptedEdits history }
+
+    // At most one instance of each bean with a normal scope is live.
+    ensures shared { (history : History) → SharesInstances history }
+
+    // What is live, what it holds and whether a request is active follow from the commands, answers and traces.
+    ensures told { (history : History) → IsTold history }
+{
+}
+
+impl<B: Bodies> fmt::Debug for Container<B> {
+    fn fmt<W: fmt::Write>(&self, f: &mut fmt::Formatter<W>) -> fmt::Result {
+        write!(f, "Container")
     }
 }

@@ -17,12 +17,14 @@ ghost use Rattle.cdi_container.specs.Wired.{StandsIn, IsSameDeployment, IsShortE
 ghost use Rattle.cdi_wiring.specs.Wired.{IsWiredOf};
 
 use crate::asked::{Aim, Message, aim_for, can_be_fired};
+use crate::beans::Beans;
 use crate::last_events::LastEvents;
 use cdi_bodies::Bodies;
+use cdi_effective::beans;
 use cdi_ending::Stage;
 use cdi_faults::Fault;
 use cdi_intercept::chain_of;
-use cdi_model::{BeanPlace, Decls, Edit, Error, Name, Quals, Refusal, Seq, Work};
+use cdi_model::{BeanPlace, Decls, Edit, Error, Iter as DeclIter, Name, Quals, Refusal, Seq, Work};
 use cdi_observe::{ObserverId, PlainView, evaluate_observers};
 use cdi_resolve::{BeanList, Choice, choose_name};
 use cdi_run::Player;
@@ -82,7 +84,21 @@ impl<B: Bodies> Deployment<B> {
         }
     }
 
-    /// The declarations behind an edit. It takes memory for a list of them.
+    /// The present declarations, in order.
+    pub(crate) fn decls(&self) -> DeclIter<'_>
+        ensures { result ≡ self.now.decls }
+    {
+        self.decls.iter()
+    }
+
+    /// The records of all beans, in order. It takes memory for them.
+    pub(crate) fn all_beans(&self, alloc: Global) -> Result<Beans, AllocError>
+        ensures { IfOk result (λ list. list ≡ beans self.now.decls) }
+    {
+        Ok(Beans::new(beans(alloc, &self.decls)?))
+    }
+
+    /// The declarations after an edit. It takes memory for a list of them.
     #[tactic(auto, using(crate::proofs::Editing::edit_short))]
     pub(crate) fn edited(&self, edit: Edit) -> Result<Decls, Error>
         requires { IsShortEdit edit }

@@ -4,6 +4,7 @@
 
 mod answer;
 mod asked;
+mod beans;
 mod container;
 mod deployment;
 mod instances;
@@ -14,19 +15,27 @@ mod runner;
 mod script;
 
 pub use answer::Answer;
-pub use cdi_bodies::{Act, Bodies, Body, Book, BookCause, BookError, Frame, Promise};
+pub use beans::Beans;
+pub use cdi_bodies::{
+    Act, Asks, Bodies, Body, Book, BookCause, BookError, Frame, Promise, PromiseBook,
+};
 pub use cdi_contexts::{Actor, InstanceId, Owner};
 pub use cdi_devices::{Console, Counted, RunFault, SCRIPT_LIMIT};
-pub use cdi_effective::BeanId;
+pub use cdi_effective::{BeanId, Effective};
 pub use cdi_faults::{Code, Fault, Subject};
 pub use cdi_legal::Entry;
-pub use cdi_lines::Command;
+pub use cdi_lines::{Command, Said, read_line, read_quals};
 pub use cdi_model::{
-    BeanPlace, Error, Failure, Ident, Kind, Name, Outcome, Qual, Quals, Refusal, Seq, Val,
+    Arguments, Attributes, BeanDecl, BeanPlace, BindingDecl, CallDecl, Decl, DisposerDecl, Error,
+    EventDecl, Failure, Form, Ident, InterceptorDecl, Iter as DeclIter, Kind, MemberDecl, Members,
+    MethodDecl, Name, Named, ObserverDecl, Outcome, PartDecl, PartPlace, PointDecl, PointPlace,
+    ProducerDecl, Qual, QualifierDecl, Quals, Refusal, Scope, Seq, StereotypeDecl, TypeDecl,
+    UseKind, Val,
 };
 pub use cdi_observe::ObserverId;
 pub use cdi_resolve::Choice;
 pub use cdi_scene::{Notified, Place, Seat};
-pub use cdi_text::read_qualifier;
-pub use container::Container;
+pub use cdi_text::{read_decl, read_qualifier};
+pub use cdi_trace::{NamedEntries, NamedEntry, NamedInstance, NamedInstances};
+pub use container::{Container, history_laws};
 pub use script::{Options, READ_BYTES, Summary, run};

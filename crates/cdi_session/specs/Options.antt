@@ -10,7 +10,7 @@ use Rattle.clap.specs.declared.builder.action.ArgAction.TheVariants.{Set, SetTru
 use Rattle.clap.specs.declared.builder.arg.Arg.{Arg}
 use Rattle.clap.specs.declared.builder.command.Command.{Command}
 use Rattle.clap.specs.declared.parser.matches.ArgMatches.{ArgMatches}
-use Rattle.cdi_session.specs.declared.options.Arguments.{Arguments}
+use Rattle.cdi_session.specs.declared.command_line.CommandLine.{CommandLine}
 
 abbrev pub flag_rule : Text → Rule
 flag_rule name = record (new_rule name) { long = Some name; action = Some SetTrue }
@@ -45,7 +45,7 @@ pub record MeansFlag (text : Option Text) (flag : Bool) : Type 0 where
   pub absent : text ≡ None → flag ≡ false
 
 -- the flags and SCRIPT are those that the words give
-pub record Means (rows : List Row) (options : Arguments) : Type 0 where
+pub record Means (rows : List Row) (options : CommandLine) : Type 0 where
   pub quiet : MeansFlag (one_of (codes "quiet") rows) options.quiet
   pub strict : MeansFlag (one_of (codes "strict") rows) options.strict
   pub script : first_of (codes "script") rows ≡ Some options.script.now

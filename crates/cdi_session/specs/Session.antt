@@ -19,7 +19,7 @@ use Rattle.cdi_devices.specs.declared.counted.Counted.{Counted}
 use Rattle.cdi_devices.specs.declared.devices.RunFault.{RunFault}
 use Rattle.cdi_devices.specs.declared.devices.RunFault.TheVariants.{Read, Write, Memory}
 use Rattle.cdi_session.specs.Options.{script_app, Means}
-use Rattle.cdi_session.specs.declared.options.Arguments.{Arguments}
+use Rattle.cdi_session.specs.declared.command_line.CommandLine.{CommandLine}
 
 -- 1 for a refused command under `--strict`, 3 where a device failed, 4 for want of memory
 abbrev pub status_of : Bool → Result Summary RunFault → ℕ
@@ -125,7 +125,7 @@ module _ {I File O E : Type 0} (contents_at : Text → Option (List ℕ)) (refus
   -- the words mean options, the script that they name came to this, a fault was told, and the status says which
   pub record RunsWords (words : List Text) (input input_after : Counted I) (output output_after : Counted O)
       (errors errors_after : Counted E) (status : ℕ) : Type 0 where
-    pub options : Arguments
+    pub options : CommandLine
     pub means : Means (matches_of script_app words) options
     pub ending : Result Summary RunFault
     pub from_input : IsInput options.script.now

@@ -7,7 +7,7 @@ ghost use Rattle.cdi_session.specs.Session.{IsInput, ComesTo, FileComesTo, statu
 
 use crate::complaints::{fault_of_open, refuse_line, tell_fault};
 use crate::files::Files;
-use crate::options::{Arguments, options};
+use crate::command_line::{CommandLine, options};
 use cdi_bodies::Bodies;
 use cdi_container::{Console, Counted, Options, READ_BYTES, RunFault, SCRIPT_LIMIT, Summary, run};
 use std::alloc::Global;
@@ -64,7 +64,7 @@ fn run_script<F: Files, B: Bodies + Drop, I: Read, O: Write>(
     rt: &F,
     alloc: Global,
     book: B,
-    options: &Arguments<'_>,
+    options: &CommandLine<'_>,
     input: &mut Counted<I>,
     output: &mut Counted<O>,
 ) -> Result<Summary, RunFault>

@@ -1,2 +1,4 @@
 pub mod Names
 pub mod TraceText
+pub mod Entries
+pub mod Instances

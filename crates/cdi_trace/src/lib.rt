@@ -1,7 +1,10 @@
-//! The text of a trace: the positions in its entries are printed as the names of a deployment.
+//! The text of a trace: what its entries say by positions, printed by the names of a deployment.
 #![tactic(auto)]
 
 mod entries;
-mod names;
+mod instances;
+mod lookup;
+mod parts;
 
-pub use entries::push_entries;
+pub use entries::{NamedEntries, NamedEntry, push_entries};
+pub use instances::{NamedInstance, NamedInstances};

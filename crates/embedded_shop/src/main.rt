@@ -7,7 +7,9 @@ use cdi_container::{
     Act, Bodies, Body, Book, Container, Error, Frame, Ident, Name, Outcome, Promise, Quals, Val,
 };
 use std::alloc::Global;
+use std::fmt;
 use std::io::{self, Write};
+use std::process::ExitCode;
 
 const SHOP: &[u8] =
     b"kind='bean'\nname='Shop'\nscope='application'\nmethods=[{name='sell',body='full'}]\n";
@@ -34,12 +36,20 @@ fn sell(frame: &Frame, price: i64) -> Act
     }
 }
 
+/// Appends the trace of the last command, an entry a line.
+fn push_entries<B: Bodies>(shop: &Container<B>, log: &mut Vec<u8>) -> Result<(), Error> {
+    for entry in shop.entries() {
+        writeln!(log, "{entry}").map_err(|_| Error::OutOfMemory)?;
+    }
+    Ok(())
+}
+
 /// Sells three pieces, and appends what the edit before and the sale did.
 fn sale<B: Bodies>(alloc: Global, shop: &mut Container<B>, log: &mut Vec<u8>) -> Result<(), Error> {
-    shop.push_trace(log)?;
+    push_entries(shop, log)?;
     let quals = Quals::new(alloc);
     shop.call(Name::new(b"Shop"), &quals, Ident::new(b"sell"), Val::Int(3))?;
-    Ok(shop.push_trace(log)?)
+    push_entries(shop, log)
 }
 
 /// Declares the shop, sells, declares it anew, sells again, and answers what was done.
@@ -71,9 +81,19 @@ fn trade_at(alloc: Global, full: i64, less: i64) -> Result<Vec<u8>, Error> {
     trade_by(alloc, Book::new(bodies).map_err(|_| Error::OutOfMemory)?)
 }
 
-fn main(rt: HostRuntime) -> io::Result<()> {
-    match trade_at(rt.alloc(), 10, 7) {
-        Ok(log) => io::writer(&rt).write_all(log.as_slice()),
-        Err(error) => println!(&rt; "{error}"),
+fn main(rt: HostRuntime) -> ExitCode {
+    let log = match trade_at(rt.alloc(), 10, 7) {
+        Ok(log) => log,
+        Err(error) => return fail(&rt, &error),
+    };
+    match io::writer(&rt).write_all(log.as_slice()) {
+        Ok(()) => ExitCode::SUCCESS,
+        Err(error) => fail(&rt, &error),
     }
+}
+
+/// Prints an error, and ends with a failure.
+fn fail<E: fmt::Display>(rt: &HostRuntime, error: &E) -> ExitCode {
+    let _ = eprintln!(rt; "error: {error}");
+    ExitCode::FAILURE
 }

@@ -9,7 +9,7 @@ use Rattle.clap.specs.Walk.{rows_of, one_of, first_of}
 use Rattle.clap.specs.Simple.{App, app_of, is_simple, matches_of}
 use Rattle.clap.specs.Faults.{fault_of, is_simple_and_free}
 use Rattle.cdi_session.specs.Options.{script_app}
-use Rattle.cdi_session.proofs.options.options.Goals as goal
+use Rattle.cdi_session.proofs.command_line.options.Goals as goal
 
 script_is_simple : is_simple script_app ≡ true
 unfolding script_app clap_on_literals

@@ -13,7 +13,7 @@ use Rattle.clap.specs.declared.builder.command.Command.TheViews.{out-Command}
 use Rattle.clap.proofs.CallerLemmas.{required_in_chain}
 use Rattle.cdi_session.specs.Options.{script_app}
 use Rattle.cdi_session.proofs.CommandFacts.{fits, distinct}
-use Rattle.cdi_session.proofs.options.script_command.Goals as goal
+use Rattle.cdi_session.proofs.command_line.script_command.Goals as goal
 
 pub returns-clause-app : goal.returns-clause-app
 unfolding script_app

@@ -9,9 +9,9 @@ use clap::{Arg, ArgAction, Command, Error};
 use std::alloc::{AllocError, Global};
 use std::convert::AsStr;
 
-/// What the words of a command line say.
+/// A command line: the flags and the script that it names.
 #[derive(Clone, Copy, Debug)]
-pub struct Arguments<'a> {
+pub struct CommandLine<'a> {
     /// Leaves trace lines out.
     pub quiet: bool,
     /// Has status 1 where a command was refused.
@@ -59,7 +59,7 @@ fn script_command<'a>(alloc: Global) -> Result<Command<'a>, AllocError>
 
 /// What the words say, the program's name first among them, or `clap`'s error, whose text is for the user: a request for
 /// help, words that are no command line, or out of memory. It takes memory.
-pub fn options<'a, S: AsStr>(alloc: Global, words: &'a [S]) -> Result<Arguments<'a>, Error>
+pub fn options<'a, S: AsStr>(alloc: Global, words: &'a [S]) -> Result<CommandLine<'a>, Error>
     ensures accepted { OnOk result (faults_of (map S.text words.now) ≡ []) }
     ensures means { IfOk result (λ options. Means (matches_of script_app (map S.text words.now)) options) }
     ensures refused { IfErr result (λ error. HasKind (faults_of (map S.text words.now)) error) }
@@ -68,7 +68,7 @@ pub fn options<'a, S: AsStr>(alloc: Global, words: &'a [S]) -> Result<Arguments<
     let Some(script) = matches.get_str("script") else {
         unreachable!();
     };
-    Ok(Arguments {
+    Ok(CommandLine {
         quiet: matches.get_flag("quiet"),
         strict: matches.get_flag("strict"),
         script,
