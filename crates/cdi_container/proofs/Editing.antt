@@ -13,7 +13,7 @@ use Rattle.cdi_container.specs.LastEvents.{AreFiredOn}
 use Rattle.cdi_container.specs.Wired.{IsShortEdit}
 use Rattle.cdi_wiring.specs.Wired.{IsWiringOf}
 use Rattle.cdi_container.specs.declared.last_events.LastEvents.{LastEvents}
-use Rattle.cdi_container.specs.declared.wiring.Wiring.{Wiring}
+use Rattle.cdi_wiring.specs.declared.verdict.Wiring.{Wiring}
 
 -- declarations with short lists, behind an edit that puts no other
 pub edit_short : (ds : List Decl) (edit : Edit) → IsShortEdit edit → AreShort ds → AreShort (edited ds edit)

@@ -14,3 +14,4 @@ mod Editing
 mod Playing
 mod LastEventLemmas
 mod RunAnswered
+mod NamingLemmas

@@ -394,8 +394,7 @@ pub fn history_laws()
 
     // What is live, what it holds and whether a request is active follow from the commands, answers and traces.
     ensures told { (history : History) → IsTold history }
-{
-}
+{}
 
 impl<B: Bodies> fmt::Debug for Container<B> {
     fn fmt<W: fmt::Write>(&self, f: &mut fmt::Formatter<W>) -> fmt::Result {

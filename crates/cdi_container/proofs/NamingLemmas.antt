@@ -1,0 +1,27 @@
+-- The entries of a trace, by the names by which its text is printed.
+use Rattle.std.proofs.Common.{◌≡◌, ◌∙◌, List, map, Option, None, ap, refl, sym, subst}
+use Rattle.cdi_legal.specs.Moment.{Moment}
+use Rattle.cdi_legal.specs.declared.entry.Entry.{Entry}
+use Rattle.cdi_staging.specs.Naming.{names_of}
+use Rattle.cdi_staging.specs.declared.names.Names.{Names}
+use Rattle.cdi_trace.specs.Entries.{Shown}
+use Rattle.cdi_container.specs.History.{State}
+use Rattle.cdi_container.specs.Named.{NamesTrace}
+use Rattle.cdi_container.specs.Wired.{Deployed, trace_names}
+use Rattle.cdi_container.proofs.Ending.{standing_at}
+
+abbrev pub by_names : Names → List Entry → List Shown
+by_names names trace = map (λ entry. record { names = names; entry = entry }) trace
+
+pub names_trace : (d : Deployed) (before : Option Names) (state : State) (m : Moment) (list : List Shown)
+    → standing_at d.decls d.book (trace_names d before) m ≡ state → list ≡ by_names (trace_names d before) m.trace → NamesTrace state list
+names_trace d before state m list is all =
+    subst (λ s. NamesTrace s list) is (record { names = trace_names d before; entries = all; text = refl })
+
+-- where the names are those of the present declarations
+pub names_present : (d : Deployed) (before : Option Names) (state : State) (m : Moment) (names : Names) (trace : List Entry) (list : List Shown)
+    → standing_at d.decls d.book (trace_names d before) m ≡ state → before ≡ None → names ≡ names_of d.decls → trace ≡ m.trace
+    → list ≡ by_names names trace → NamesTrace state list
+names_present d before state m names trace list is none present same all =
+    names_trace d before state m list is
+    (all ∙ ap (by_names names) same ∙ ap (λ n. by_names n m.trace) (present ∙ sym (ap (trace_names d) none)))
