@@ -17,7 +17,7 @@ use Rattle.cdi_scene.specs.declared.scene.Notified.{Notified}
 use Rattle.cdi_staging.specs.Notifying.{notified_at}
 use Rattle.cdi_staging.specs.Sites.{managed_class, position_of_bean, method_of}
 use Rattle.cdi_legal.specs.LegalRun.{Command as Run, notify_all, use_bean}
-use Rattle.cdi_run.specs.Known.{use_of}
+use Rattle.cdi_run.specs.Uses.{use_of}
 use Rattle.cdi_run.specs.declared.roots.Purpose.{Purpose}
 use Rattle.cdi_run.specs.declared.roots.Purpose.TheVariants as purposes
 use Rattle.cdi_subjects.specs.Asked.{are_known}

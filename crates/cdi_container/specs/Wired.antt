@@ -1,5 +1,5 @@
 -- What is kept of a deployment between questions.
-use Rattle.std.specs.Prelude.{◌≡◌, ℕ, ◌<◌, Bool, true, false, List, [], length, Option, Some, None, IsSome, unwrap_or, if◌then◌else◌}
+use Rattle.std.specs.Prelude.{◌≡◌, Bool, true, false, List, [], Option, Some, None, IsSome, unwrap_or, if◌then◌else◌}
 use Rattle.cdi_model.specs.declared.decl.Decl.{Decl}
 use Rattle.cdi_model.specs.declared.edit.Edit.{Edit}
 use Rattle.cdi_model.specs.declared.edit.Edit.TheVariants as edits
@@ -9,13 +9,11 @@ use Rattle.cdi_legal.specs.Furnished.{IsFurnished}
 use Rattle.cdi_legal.specs.Moment.{Moment}
 use Rattle.cdi_legal.specs.Rooted.{IsRooted}
 use Rattle.cdi_scene.specs.Scene.{bean_at}
-use Rattle.cdi_scene.specs.Sound.{IsSound}
 use Rattle.cdi_scene.specs.declared.scene.Scene.{Scene}
 use Rattle.cdi_run.specs.Known.{IsUsable}
 use Rattle.cdi_staging.specs.Naming.{names_of}
 use Rattle.cdi_staging.specs.Staged.{scene_of}
 use Rattle.cdi_staging.specs.declared.names.Names.{Names}
-use Rattle.cdi_validate.specs.Faults.{faults}
 use Rattle.cdi_container.specs.declared.asked.Aim.{Aim}
 use Rattle.cdi_wiring.specs.declared.verdict.Wiring.{Wiring}
 use Rattle.cdi_wiring.specs.declared.verdict.Wiring.TheVariants as wirings

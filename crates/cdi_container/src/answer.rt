@@ -9,7 +9,7 @@ use cdi_observe::ObserverId;
 use cdi_resolve::Choice;
 use std::alloc::AllocError;
 
-/// What a command answers for which there was memory.
+/// The answer of a command.
 #[derive(Debug, Drop)]
 pub enum Answer {
     /// An edit, or a change of a context, is done.
@@ -22,7 +22,7 @@ pub enum Answer {
     Observed(Seq<ObserverId>),
     /// The faults of the deployment, in their order.
     Reported(Seq<Fault>),
-    /// What a look-up, a call or an event gave: a value or a failure.
+    /// The outcome of a lookup, a call or an event: a value or a failure.
     Given(Outcome),
     /// The command is refused and has changed nothing.
     Refused(Refusal),
@@ -110,7 +110,7 @@ pub(crate) fn answer_of_report(called: Result<Vec<Fault>, AllocError>) -> Result
     }
 }
 
-/// The answer of a look-up, a call or an event.
+/// The answer of a lookup, a call or an event.
 pub(crate) fn answer_of_run(called: Result<Outcome, Error>) -> Result<Answer, AllocError>
     ensures { result ≡ outcome_answer called }
 {

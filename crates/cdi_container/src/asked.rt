@@ -1,4 +1,4 @@
-//! Where look-ups and calls lead, and which events may be fired.
+//! Where lookups and calls lead, and which events may be fired.
 ghost use Rattle.std.specs.Prelude.{◌≡◌, IfOk, IfErr, OnOk, None, Some};
 ghost use Rattle.cdi_model.specs.Answering.{Answers};
 ghost use Rattle.cdi_effective.specs.Beans.{beans as beans_of};
@@ -93,7 +93,7 @@ fn purpose_of(
     })
 }
 
-/// Whether the type and the qualifiers of an event are known, and `Default` is none of these (profile).
+/// Whether the type and the qualifiers of an event are known, and `Default` is not one of these (profile).
 pub(crate) fn can_be_fired(decls: &Decls, event_type: Name, quals: &Quals) -> bool
     ensures { result ≡ can_be_fired decls.now event_type quals.now }
 {

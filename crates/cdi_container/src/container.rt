@@ -38,17 +38,17 @@ use std::marker::Model;
 
 /// The present declarations, which are edited while the container runs, and questions about them; the instances that it
 /// makes, calls and destroys with the stored bodies. What contracts see of it is its state: the declarations, the names
-/// and promises of the bodies, what stands between runs, and the trace of the last command that was answered.
+/// and promises of the bodies, what is live between runs, and the trace of the last command that was answered.
 ///
 /// Each call is one step of a legal history: a refused call changes nothing. One that runs out of memory changes nothing
-/// either, but that a look-up, a call and an event leave no instance and no request. Beside that step each call says by
+/// either, but that a lookup, a call and an event leave no instance and no request. Beside that step each call says by
 /// itself what it answers and what it leaves.
 #[derive(Drop)]
 pub struct Container<B: Bodies> {
     pub(crate) alloc: Global,
     pub(crate) deployment: Deployment<B>,
     pub(crate) run: Run,
-    /// What the trace of an edit is told by: the names of the declarations before it.
+    /// The names for the trace of an edit: those of the declarations before it.
     pub(crate) told: Option<Names>,
     pub(crate) work: Work,
 }
@@ -132,7 +132,7 @@ impl<B: Bodies> Container<B> {
     /// Puts the declaration that a TOML text spells in the place of the one of its kind and name, or at the end. First the
     /// request context, if a request is active, and the application context end, as they do at a `stop`, on the declarations
     /// from before (profile). It takes memory for the declaration and, where instances may be live, for a list of all
-    /// declarations and for the entries of its trace, all of it before the first callback: where it is wanted, nothing has
+    /// declarations and for the entries of its trace, all of it before the first callback: if memory runs out, nothing has
     /// changed.
     #[tactic(auto, using(crate::proofs::Putting::put_step))]
     pub fn put(&mut self, text: &[u8]) -> Result<(), Error>
@@ -225,7 +225,7 @@ impl<B: Bodies> Container<B> {
         error
     }
 
-    /// A command begins: what was told is told no more.
+    /// A command begins: the trace of the one before it is cleared.
     pub(crate) fn restart(&mut self)
         ensures { self.new ≡ untold self.old }
     {

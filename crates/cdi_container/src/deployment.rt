@@ -43,7 +43,7 @@ pub(crate) struct Deployment<B: Bodies> {
     book: B,
     /// Made by the first question.
     beans: Option<BeanList>,
-    /// Made by the first look-up, call or event.
+    /// Made by the first lookup, call or event.
     wiring: Option<Wiring>,
     /// Whom the last event of each type notified.
     last_events: LastEvents,
@@ -247,7 +247,7 @@ impl<B: Bodies> Deployment<B> {
         Ok(count)
     }
 
-    /// Where a look-up or a call leads. Where it leads somewhere, the scene is there from now on.
+    /// Where a lookup or a call leads. If it is not refused, the scene is there from now on.
     #[tactic(auto, unfolding(crate::specs::Asked::aim_of))]
     pub(crate) fn aim(
         &mut self,
@@ -309,7 +309,7 @@ impl<B: Bodies> Deployment<B> {
         Ok(notified?)
     }
 
-    /// The scene and its names, where they are there.
+    /// The scene and its names, which are there.
     fn wired(&self) -> &Wired
         requires { self.now.is_wired ≡ true }
         ensures { IsWiredOf self.now.decls self.now.book result.now }
@@ -340,7 +340,7 @@ impl<B: Bodies> Deployment<B> {
         }
     }
 
-    /// What traces of this deployment are told by.
+    /// The names for traces of this deployment.
     pub(crate) fn names(&self) -> &Names
         requires { self.now.is_wired ≡ true }
         ensures { result.now ≡ names_of self.now.decls }

@@ -1,4 +1,4 @@
-//! Look-ups, calls and events, requests, and the ends of contexts.
+//! Lookups, calls and events, requests, and the ends of contexts.
 ghost use Rattle.std.specs.Prelude.{◌≡◌, [], Some, IfOk, IfErr, OnOk, OnErr};
 ghost use Rattle.cdi_model.specs.Answering.{Answers};
 ghost use Rattle.cdi_container.specs.Asked.{asked_for, to_look, to_call, run_of_event, run_of_use};
@@ -19,7 +19,7 @@ impl<B: Bodies> Container<B> {
     /// The state of the instance of the bean that is right for a type and qualifiers (CDI 4.0, Normal scopes and pseudo-scopes; the
     /// answer: profile). A dependent bean has its instance made for it, which is destroyed before the answer.
     ///
-    /// It takes memory as `report` does at the first look-up, call or event after an edit, and else for a choice and for
+    /// It takes memory as `report` does at the first lookup, call or event after an edit, and else for a choice and for
     /// the instances and the entries of its trace.
     ///
     /// # Errors
@@ -61,7 +61,7 @@ impl<B: Bodies> Container<B> {
         self.use_bean(bean_type, quals, Some(Message { method, arg }))
     }
 
-    /// A look-up, or a call.
+    /// A lookup, or a call.
     fn use_bean(
         &mut self,
         bean_type: Name,
@@ -87,7 +87,7 @@ impl<B: Bodies> Container<B> {
     }
 
     /// An event with a value, for the observer methods that it notifies, in order, up to the first failure, which is its outcome
-    /// then (CDI 4.0, Observer notification); else the outcome is null. It takes memory as `report` does at the first look-up,
+    /// then (CDI 4.0, Observer notification); else the outcome is null. It takes memory as `report` does at the first lookup,
     /// call or event after an edit, and else for the instances and the entries of
     /// its trace, and as `observers` does where the last event of the type had other qualifiers.
     ///
@@ -157,7 +157,7 @@ impl<B: Bodies> Container<B> {
     }
 
     /// The instances of the request are destroyed, and it is active no more (CDI 4.0, Context management for built-in
-    /// scopes). It takes memory for the entries of its trace, all of it before the first callback: where it is wanted, nothing
+    /// scopes). It takes memory for the entries of its trace, all of it before the first callback: if memory runs out, nothing
     /// has changed.
     ///
     /// # Errors
@@ -185,8 +185,8 @@ impl<B: Bodies> Container<B> {
     }
 
     /// The instances of the request are destroyed, if one is active, and then those of the application, and no request is
-    /// active (CDI 4.0, Context management for built-in scopes). No instance is live behind it. It takes memory for the
-    /// entries of its trace, all of it before the first callback: where it is wanted, nothing has changed.
+    /// active (CDI 4.0, Context management for built-in scopes). No instance is live after it. It takes memory for the
+    /// entries of its trace, all of it before the first callback: if memory runs out, nothing has changed.
     pub fn stop(&mut self) -> Result<(), AllocError>
         ensures ok { OnOk result (EndsContexts self.old Answer.Done self.new) }
         ensures nothing { OnOk result (self.new.standing.live ≡ []) }

@@ -6,8 +6,8 @@ ghost use Rattle.std.specs.Io.KnownBytes.{ReadConsumes};
 ghost use Rattle.cdi_devices.specs.Counted.{inner_of, bytes_of, has_failed, is_flushed, NotesReadBehind};
 
 use crate::counted::Counted;
-use std::io;
 use std::io::{Read, Write};
+use std::{fmt, io};
 
 /// A reader and a writer. Each read notes in the reader how many bytes the writer had taken before it, and whether they
 /// were flushed; a read of the reader alone notes that they were not. It takes no memory.
@@ -61,5 +61,11 @@ impl<R: Read, W> Console<'_, R, W> {
         let sent = self.writer.count();
         let flushed = self.writer.is_flushed();
         self.reader.read_behind(sent, flushed, buf)
+    }
+}
+
+impl<R, W> fmt::Debug for Console<'_, R, W> {
+    fn fmt<O: fmt::Write>(&self, f: &mut fmt::Formatter<O>) -> fmt::Result {
+        write!(f, "Console")
     }
 }

@@ -3,8 +3,8 @@ ghost use Rattle.std.specs.Prelude.{◌≡◌, ◌+◌, ◌-◌, ◌^◌, min, l
 ghost use Rattle.std.specs.Io.{ReadsAtMost, WritesAtMost};
 ghost use Rattle.std.specs.Io.KnownBytes.{Keeps, ReadConsumes, WriteAppends};
 
-use std::io;
 use std::io::{Read, Write};
+use std::{fmt, io};
 
 /// A reader or a writer, with a count of the bytes that went through and notes: whether a call answered an error or a
 /// write of some bytes took none, whether all that was written has been flushed, and of a reader what its `Console` had
@@ -168,5 +168,11 @@ impl<W: Write> Write for Counted<W> {
                 Err(e)
             }
         }
+    }
+}
+
+impl<T> fmt::Debug for Counted<T> {
+    fn fmt<W: fmt::Write>(&self, f: &mut fmt::Formatter<W>) -> fmt::Result {
+        write!(f, "Counted")
     }
 }

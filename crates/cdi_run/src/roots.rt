@@ -10,7 +10,8 @@ ghost use Rattle.cdi_legal.specs.LegalRun.{LegalRun, LegalRequestEnd, LegalEnd, 
 ghost use Rattle.cdi_legal.specs.Moment.{beginning};
 ghost use Rattle.cdi_legal.specs.Rooted.{IsRooted};
 ghost use Rattle.cdi_ending.specs.Room.{cost_from};
-ghost use Rattle.cdi_run.specs.Known.{IsUsable, use_of, EndsAll, IsSettled, StaysFurnished, StaysRooted, StaysSingle};
+ghost use Rattle.cdi_run.specs.Known.{IsUsable, EndsAll, IsSettled, StaysFurnished, StaysRooted, StaysSingle};
+ghost use Rattle.cdi_run.specs.Uses.{use_of};
 
 use crate::invoking::Passed;
 use crate::player::Player;

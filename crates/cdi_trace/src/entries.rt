@@ -7,7 +7,7 @@ ghost use Rattle.cdi_trace.specs.TraceText.{text_of_entries};
 
 use crate::lookup::{bean_in, call_in, fire_in, interceptor_in, method_in, observer_in};
 use crate::parts::{CallText, ClassText, FireText, InstanceText, OutcomeText, PlaceText, SeatText};
-use cdi_contexts::{Actor, InstanceId};
+use cdi_contexts::Actor;
 use cdi_effective::BeanId;
 use cdi_legal::Entry;
 use cdi_model::{CallDecl, EventDecl, Name, PartPlace};
@@ -167,19 +167,6 @@ fn place_of_seat(names: &Names, seat: Seat) -> Option<PartPlace>
     }
 }
 
-/// An instance as it prints.
-fn instance(names: &Names, id: InstanceId) -> InstanceText<'_>
-    ensures names { result.names.now ≡ names.now }
-    ensures bean { result.bean ≡ id.bean }
-    ensures number { result.number ≡ id.number }
-{
-    InstanceText {
-        names,
-        bean: id.bean,
-        number: id.number,
-    }
-}
-
 impl fmt::Display for NamedEntry<'_> {
     ghost use Rattle.std.specs.Prelude.{Some};
     ghost use Rattle.cdi_trace.specs.Entries.{shown};
@@ -190,10 +177,10 @@ impl fmt::Display for NamedEntry<'_> {
     fn fmt<W: fmt::Write>(&self, f: &mut fmt::Formatter<W>) -> fmt::Result {
         let names = self.names;
         match self.entry {
-            Entry::Create { id, .. } => write!(f, "create {}", instance(names, id)),
-            Entry::Ready { id, .. } => write!(f, "ready {}", instance(names, id)),
+            Entry::Create { id, .. } => write!(f, "create {}", InstanceText { names, id }),
+            Entry::Ready { id, .. } => write!(f, "ready {}", InstanceText { names, id }),
             Entry::Broken { id, failure } => {
-                write!(f, "broken {} {failure}", instance(names, id))
+                write!(f, "broken {} {failure}", InstanceText { names, id })
             }
             Entry::Enter { seat, arg } => {
                 write!(f, "enter {} arg {arg}", SeatText { names, seat })
@@ -221,8 +208,8 @@ impl fmt::Display for NamedEntry<'_> {
                 };
                 write!(f, "skip {class} {place}")
             }
-            Entry::Destroy { id } => write!(f, "destroy {}", instance(names, id)),
-            Entry::Gone { id } => write!(f, "gone {}", instance(names, id)),
+            Entry::Destroy { id } => write!(f, "destroy {}", InstanceText { names, id }),
+            Entry::Gone { id } => write!(f, "gone {}", InstanceText { names, id }),
         }
     }
 }

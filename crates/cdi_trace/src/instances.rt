@@ -51,8 +51,7 @@ impl fmt::Display for NamedInstance<'_> {
     fn fmt<W: fmt::Write>(&self, f: &mut fmt::Formatter<W>) -> fmt::Result {
         let text = InstanceText {
             names: self.names,
-            bean: self.instance.id.bean,
-            number: self.instance.id.number,
+            id: self.instance.id,
         };
         write!(f, "{text}")
     }

@@ -1,6 +1,6 @@
 //! How the parts of entries print.
 use crate::lookup::{bean_in, interceptor_in, method_in, observer_in};
-use cdi_contexts::Actor;
+use cdi_contexts::{Actor, InstanceId};
 use cdi_model::{CallDecl, EventDecl, Outcome};
 use cdi_scene::{Place, Seat};
 use cdi_staging::{BeanNames, MethodNames, Names};
@@ -10,20 +10,19 @@ use std::fmt;
 #[derive(Clone, Copy)]
 pub(crate) struct InstanceText<'a> {
     pub(crate) names: &'a Names,
-    pub(crate) bean: usize,
-    pub(crate) number: u64,
+    pub(crate) id: InstanceId,
 }
 
 impl fmt::Display for InstanceText<'_> {
     ghost use Rattle.std.specs.Prelude.{Some};
     ghost use Rattle.cdi_trace.specs.Names.{text_of_instance};
 
-    ghost output = { λ i. Some (text_of_instance i.names.now i.bean i.number) };
+    ghost output = { λ i. Some (text_of_instance i.names.now i.id.bean i.id.number) };
 
     fn fmt<W: fmt::Write>(&self, f: &mut fmt::Formatter<W>) -> fmt::Result {
-        match bean_in(self.names, self.bean) {
-            Some(bean) => write!(f, "{}#{}", bean.id, self.number),
-            None => write!(f, "#{}", self.number),
+        match bean_in(self.names, self.id.bean) {
+            Some(bean) => write!(f, "{}#{}", bean.id, self.id.number),
+            None => write!(f, "#{}", self.id.number),
         }
     }
 }
@@ -156,15 +155,10 @@ impl fmt::Display for HostText<'_> {
     fn fmt<W: fmt::Write>(&self, f: &mut fmt::Formatter<W>) -> fmt::Result {
         let (names, bean) = (self.names, self.bean);
         match self.number {
-            Some(number) => write!(
-                f,
-                "{}",
-                InstanceText {
-                    names,
-                    bean,
-                    number
-                }
-            ),
+            Some(number) => {
+                let id = InstanceId { bean, number };
+                write!(f, "{}", InstanceText { names, id })
+            }
             None => write!(f, "{}", ClassText { names, bean }),
         }
     }

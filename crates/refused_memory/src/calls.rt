@@ -2,10 +2,10 @@
 use crate::Difference;
 use crate::answers::{Answer, Answered, agrees};
 use Answer::{Ambiguous, Around, Done, Faults, Observed, One, Refused, Unsatisfied};
-use Call::{Chain, Choose, Named, Observers, Put, Remove, Report};
-use cdi_container::{Choice, Container};
-use cdi_fixtures::{Echo, lines_of, name, quals};
-use cdi_model::{BeanPlace, Error, Ident, Kind, Refusal};
+use Call::{Beans, Chain, Choose, Named, Observers, Promises, Put, Remove, Report};
+use cdi_container::{Bodies, Choice, Container, Promise, PromiseBook, read_quals};
+use cdi_fixtures::{Echo, lines_of, name};
+use cdi_model::{BeanPlace, Error, Ident, Kind, Refusal, Seq};
 use std::alloc::{AllocError, Global};
 
 /// A call of a container. A type is chosen with uses of qualifiers.
@@ -13,13 +13,17 @@ use std::alloc::{AllocError, Global};
 enum Call {
     Put(&'static [u8]),
     Remove(Kind, &'static [u8]),
-    Choose(&'static [u8], &'static [&'static [u8]]),
+    Choose(&'static [u8], &'static [u8]),
     Named(&'static [u8]),
     /// The interceptors around the constructor of a bean, or around the method of a name.
     Chain(&'static [u8], Option<&'static [u8]>),
     /// The observer methods of an event of a type, with uses of qualifiers.
-    Observers(&'static [u8], &'static [&'static [u8]]),
+    Observers(&'static [u8], &'static [u8]),
     Report,
+    /// The classes of the bean list.
+    Beans,
+    /// Whether a book of promises has the one that was inserted.
+    Promises,
 }
 
 const CORNER: &[u8] = b"Corner";
@@ -34,9 +38,9 @@ const OBJECT: &[u8] = b"Object";
 
 const BOTH: &[&[u8]] = &[CORNER, MALL];
 
-const PLAIN: &[&[u8]] = &[];
+const PLAIN: &[u8] = b"";
 
-const RANKED: &[&[u8]] = &[b"Rank(n=2,m=1)", b"Named(mall)"];
+const RANKED: &[u8] = b"Rank(n=2,m=1) Named(mall)";
 
 const INTERFACE: &[u8] = b"kind=\"type\"\nname=\"Shop\"\nform=\"interface\"\n";
 
@@ -129,7 +133,7 @@ F25 name mall mall.x
 ";
 
 /// Calls, each with its answer.
-static CALLS: [(Call, Answer); 41] = [
+static CALLS: [(Call, Answer); 43] = [
     (Put(TYPE), Done),
     (Put(INTERFACE), Done),
     (Put(QUALIFIER), Done),
@@ -172,6 +176,11 @@ static CALLS: [(Call, Answer); 41] = [
     (Observers(OBJECT, PLAIN), Observed(&[b"all"])),
     (Put(BAD_POINTS), Done),
     (Report, Faults(FAULTS)),
+    (
+        Beans,
+        Around(&[MALL, STAND, b"Till", b"Desk", b"Ear", b"Inn", b"Inn"]),
+    ),
+    (Promises, Done),
 ];
 
 /// Makes a call.
@@ -184,6 +193,26 @@ fn make(alloc: Global, container: &mut Container<Echo>, call: Call) -> Result<An
         Chain(text, method) => chain(container, text, method),
         Observers(text, uses) => observers(alloc, container, text, uses),
         Report => report(alloc, container),
+        Beans => beans(alloc, container),
+        Promises => promises(alloc),
+    }
+}
+
+fn beans(alloc: Global, container: &Container<Echo>) -> Result<Answered, Error> {
+    let mut classes = Seq::new(alloc);
+    for bean in container.beans()? {
+        classes.push(bean.id.class)?;
+    }
+    Ok(Answered::Names(classes))
+}
+
+fn promises(alloc: Global) -> Result<Answered, Error> {
+    let mut book = PromiseBook::new(alloc);
+    book.insert(Ident::new(b"unit"), Promise::NONE)?;
+    book.insert(Ident::new(b"count"), Promise::LOAD_STORE)?;
+    match book.promise(&Ident::new(b"count")) {
+        Some(promise) if promise == Promise::LOAD_STORE => Ok(Answered::Nothing),
+        _ => Err(Error::Refused(Refusal::Absent)),
     }
 }
 
@@ -191,9 +220,9 @@ fn observers(
     alloc: Global,
     container: &mut Container<Echo>,
     text: &[u8],
-    uses: &[&[u8]],
+    uses: &[u8],
 ) -> Result<Answered, Error> {
-    let quals = quals(alloc, uses)?;
+    let quals = read_quals(alloc, uses)?;
     Ok(Answered::Observers(container.observers(name(text)?, &quals)?))
 }
 
@@ -229,9 +258,9 @@ fn choose(
     alloc: Global,
     container: &mut Container<Echo>,
     text: &[u8],
-    uses: &[&[u8]],
+    uses: &[u8],
 ) -> Result<Answered, Error> {
-    let quals = quals(alloc, uses)?;
+    let quals = read_quals(alloc, uses)?;
     chosen(container.choose(name(text)?, &quals))
 }
 
