@@ -1,6 +1,6 @@
 -- What was carried out where memory was wanted.
 use Rattle.std.proofs.Common.{◌≡◌, ℕ, List, [], ◌∷◌, ◌++◌, refl, ap, sym, ◌∙◌, subst, inl, inr, append_assoc}
-use Rattle.std.specs.Prelude.{Result}
+use Rattle.std.specs.Prelude.{Result, Ok, Err, OnErr}
 use Rattle.std.specs.declared.alloc.AllocError.{AllocError}
 use Rattle.cdi_staging.specs.Naming.{names_of}
 use Rattle.cdi_lines.specs.declared.command.Command.{Command}
@@ -12,6 +12,11 @@ use Rattle.cdi_container.specs.History.{State, LegalAnswer, trace_behind}
 use Rattle.cdi_container.specs.Seen.{IsStep}
 use Rattle.cdi_container.specs.Runner.{Tries}
 use Rattle.cdi_container.proofs.Serving.{put_alike}
+
+-- a fact that holds anyway
+pub holds_on_err : {T E P : Type 0} (r : Result T E) → P → OnErr r P
+holds_on_err (Ok value) p = tt
+holds_on_err (Err error) p = p
 
 -- the first of the first ones
 pub first_of_first : (a b c : List Command) → AreFirst a b → AreFirst b c → AreFirst a c

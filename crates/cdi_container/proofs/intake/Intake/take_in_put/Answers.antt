@@ -5,6 +5,7 @@ use Rattle.cdi_container.specs.Intake.{intake_on}
 use Rattle.cdi_container.specs.Runner.{runner_on, RunsStep, Tries}
 use Rattle.cdi_container.specs.declared.intake.Mode.TheVariants as code
 use Rattle.cdi_container.proofs.Taking.{takes_put, takes_text, tries_put}
+use Rattle.cdi_container.proofs.Trying.{holds_on_err}
 use Rattle.cdi_container.proofs.intake.Intake.take_in_put.Goals as goal
 
 pub returns-then-ends_block-clause-ok : goal.returns-then-ends_block-clause-ok
@@ -24,7 +25,7 @@ returns-then-ends_block-clause-tries g c =
     (subst (λ t. Tries [] (Put t ∷ []) c.args.container.now c.execute.new.container) c.into_text.ensures h)) c.execute.ensures.tries
 
 pub returns-in_err-push_line-clause-tries : goal.returns-in_err-push_line-clause-tries
-returns-in_err-push_line-clause-tries g c = λ text line st sl. inl refl
+returns-in_err-push_line-clause-tries g c = holds_on_err c.from_residual.result (λ text line st sl. inl refl)
 
 pub returns-clause-ok : goal.returns-clause-ok
 returns-clause-ok g c = takes_text (intake_on c.args.self.now c.args.container.now)
