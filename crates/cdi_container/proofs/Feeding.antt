@@ -1,6 +1,6 @@
 -- What an intake has printed and sent as it takes bytes.
 use Rattle.std.proofs.Common.{◌≡◌, ℕ, List, [], ◌∷◌, ◌++◌, refl, ap, sym, ◌∙◌, subst, take, drop, inl, inr, Option, append_assoc}
-use Rattle.std.specs.Prelude.{Bool, ◌||◌, ◌==◌}
+use Rattle.std.specs.Prelude.{◌||◌, ◌==◌}
 use Rattle.std.specs.List.{list_any}
 use Rattle.std.specs.Io.KnownBytes.{Appends}
 use Rattle.std.proofs.lemmas.List.{append-nil, map-append, take-append-drop}
@@ -16,7 +16,7 @@ use Rattle.cdi_container.specs.Text.{text_of, text_of_step, is_refused, is_out_o
 use Rattle.cdi_container.specs.Runner.{RunnerOn, runner_on, Runs, Tries}
 use Rattle.cdi_container.specs.Intake.{IntakeOn, intake_on, Keeps, Advances, EndsLastLine, EndsMode, ServesMode, mode_seen, TriesBytes, TriesLastLine, TriesMode}
 use Rattle.cdi_lines.specs.Kept.{ServesLine}
-use Rattle.cdi_container.specs.Run.{Setting, IsHistoryOf, WroteAll, WrotePart, WroteAllBut, WrotePartBut}
+use Rattle.cdi_container.specs.Run.{Setting, WroteAll, WrotePart, WroteAllBut, WrotePartBut}
 use Rattle.cdi_container.specs.Run.{Printed, Stands, Sends, SendsPart, SendsLast, Feeds}
 use Rattle.cdi_container.specs.Run.{FeedsBeforeMemory, FeedsPart, RunsWhole, Ends, EndsBeforeMemory, EndsPart, contents_of, Settles, SettlesPart}
 use Rattle.cdi_devices.specs.declared.counted.Counted.{Counted}

@@ -58,8 +58,7 @@ pub record RunsWhole (setting : Setting) (start now : Option (List ℕ)) (comman
   pub refused_is : refused ≡ list_any (λ step. is_refused step.answer) history
 
 -- what came of a script, and the commands that were answered: all that were complete before the last read, which gave at most so many
--- bytes, and
--- then maybe some of those that the last read or the end of input completed
+-- bytes, and then maybe some of those that the last read or the end of input completed
 module _ {R : Type 0} (remaining : R → Option (List ℕ)) (limit piece : ℕ) where
   pub record AnswersFirst (reader reader_after : Counted R) (first : List Command) : Type 0 where
     pub given : List ℕ
@@ -72,7 +71,7 @@ module _ {R : Type 0} (remaining : R → Option (List ℕ)) (limit piece : ℕ) 
     pub none_behind : AreFirst first (complete_commands (given ++ last))
         ⊎ (IsAtEnd (remaining (inner_of reader_after)) × AreFirst first (commands (given ++ last)))
 
-  -- what is left of the state behind these commands: that very state, or what one legal step of the command that came next makes of
+  -- what is left of the state after these commands: that very state, or what one legal step of the command that came next makes of
   -- it, which wanted memory or whose text was not written
   abbrev pub Leaves : Counted R → Counted R → List Command → State → State → Type 0
   Leaves reader reader_after first state left = (left ≡ state)
@@ -94,7 +93,7 @@ module _ {R W : Type 0} (remaining : R → Option (List ℕ)) (contents : W → 
   RunsScript reader reader_after writer writer_after refused = (left : State)
       × RunsScriptTo reader reader_after writer writer_after refused left
 
-  -- some input came, at most as many bytes as the limit and then at most one behind it, and the text of the commands whose lines were
+  -- some input came, at most as many bytes as the limit and then at most one after it, and the text of the commands whose lines were
   -- complete, which leave this state, was written
   pub record FailsToReadTo (reader reader_after : Counted R) (writer writer_after : Counted W) (left : State) : Type 0 where
     pub given : List ℕ
@@ -109,7 +108,7 @@ module _ {R W : Type 0} (remaining : R → Option (List ℕ)) (contents : W → 
       × FailsToReadTo reader reader_after writer writer_after left
 
 module _ {R W : Type 0} (remaining : R → Option (List ℕ)) (contents : W → Option (List ℕ)) (limit piece : ℕ) (setting : Setting) where
-  -- a command wanted memory that was not given, and the text of those before it was written
+  -- a command wanted memory that was not given, and the text of those before it was written; this state is left
   pub record RunsOutOfMemoryTo (reader reader_after : Counted R) (writer writer_after : Counted W) (left : State) : Type 0 where
     pub first : List Command
     pub state : State
@@ -121,7 +120,8 @@ module _ {R W : Type 0} (remaining : R → Option (List ℕ)) (contents : W → 
   RunsOutOfMemory reader reader_after writer writer_after = (left : State)
       × RunsOutOfMemoryTo reader reader_after writer writer_after left
 
-  -- the writer failed, and a front part of the text of the commands that were answered was written
+  -- the writer failed, and a front part of the text of the commands that were answered was written; this state is left. A step more
+  -- may have been made where the writer failed at what was to be written for want of memory
   pub record FailsToWriteTo (reader reader_after : Counted R) (writer writer_after : Counted W) (left : State) : Type 0 where
     pub first : List Command
     pub state : State

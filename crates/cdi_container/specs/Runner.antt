@@ -18,7 +18,7 @@ pub record RunnerOn : Type 0 where
 abbrev pub runner_on : Runner → State → RunnerOn
 runner_on r state = record { container = state; out = r.out.items; refused = r.refused; quiet = r.quiet }
 
--- one legal step of this command was made, and its text is printed behind the rest
+-- one legal step of this command was made, and its text is printed after the rest
 pub record RunsStep (old new : RunnerOn) (command : Command) : Type 0 where
   pub step : Step
   pub command_is : step.command ≡ command
@@ -28,7 +28,7 @@ pub record RunsStep (old new : RunnerOn) (command : Command) : Type 0 where
   pub refused : new.refused ≡ (old.refused || is_refused step.answer)
   pub quiet : new.quiet ≡ old.quiet
 
--- behind the first of all these commands, no step was made, or a legal one of the command that comes next
+-- after the first of all these commands, no step was made, or a legal one of the command that comes next
 abbrev pub Tries : List Command → List Command → State → State → Type 0
 Tries first all old new = (new ≡ old) ⊎ ((step : Step) × AreFirst (first ++ step.command ∷ []) all × LegalStep old step new)
 
@@ -47,7 +47,7 @@ pub record Prints (state : State) (old new : Runner) (answer : Answer) : Type 0 
   pub refused : new.refused ≡ (old.refused || is_refused (Ok answer))
   pub quiet : new.quiet ≡ old.quiet
 
--- a legal history of these commands was made, and its text is printed behind the rest
+-- a legal history of these commands was made, and its text is printed after the rest
 pub record Runs (old new : RunnerOn) (commands : List Command) : Type 0 where
   pub history : History
   pub commands_are : map (λ step. step.command) history ≡ commands

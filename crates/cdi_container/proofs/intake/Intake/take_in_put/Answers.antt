@@ -2,7 +2,7 @@ use Rattle.std.proofs.Common.{[], ◌∷◌, refl, sym, ◌∙◌, subst, inl}
 use Rattle.std.proofs.lemmas.Result.{on_ok_weaker, on_err_weaker}
 use Rattle.cdi_lines.specs.declared.command.Command.TheVariants.{Put}
 use Rattle.cdi_container.specs.Intake.{intake_on}
-use Rattle.cdi_container.specs.Runner.{runner_on, RunsStep, Tries}
+use Rattle.cdi_container.specs.Runner.{RunsStep, Tries}
 use Rattle.cdi_container.specs.declared.intake.Mode.TheVariants as code
 use Rattle.cdi_container.proofs.Taking.{takes_put, takes_text, tries_put}
 use Rattle.cdi_container.proofs.Trying.{holds_on_err}
