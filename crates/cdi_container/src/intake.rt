@@ -25,7 +25,7 @@ pub(crate) enum Mode {
     InPut(Block),
 }
 
-/// What was taken of a script, whose commands run on the container that each call is given.
+/// What was taken of a script. Its commands run on the container that each call is given.
 #[derive(Drop)]
 pub(crate) struct Intake {
     alloc: Global,

@@ -9,7 +9,7 @@ use cdi_bodies::Bodies;
 use cdi_lines::Command;
 use std::alloc::{AllocError, Global};
 
-/// What commands print, on the container that each call is given.
+/// Runs commands on the container that each call is given, and keeps what they print until it is written.
 #[derive(Drop)]
 pub(crate) struct Runner {
     /// Leaves trace lines out.

@@ -87,12 +87,12 @@ fn take_some<B: Bodies, W: Write>(
     ensures some { IfOk result (λ n. 0 < n) }
     ensures bound { IfOk result (λ n. n ≤ length chunk.now) }
     ensures still { OnOk result (has_failed writer.new ≡ has_failed writer.old) }
-    ensures memory { IsErrOf result RunFault.Memory → FeedsBeforeMemory W.contents (intake_on intake.old container.old) (intake_on intake.new container.new)
-        writer.old writer.new chunk.now }
+    ensures memory { IsErrOf result RunFault.Memory →
+        FeedsBeforeMemory W.contents (intake_on intake.old container.old) (intake_on intake.new container.new) writer.old writer.new chunk.now }
     ensures memory_still { IsErrOf result RunFault.Memory → has_failed writer.new ≡ has_failed writer.old }
     ensures memory_flushed { IsErrOf result RunFault.Memory → is_flushed writer.new ≡ true }
-    ensures write { IsErrOf result RunFault.Write → FeedsPart W.contents (intake_on intake.old container.old) (intake_on intake.new container.new)
-        writer.old writer.new chunk.now }
+    ensures write { IsErrOf result RunFault.Write →
+        FeedsPart W.contents (intake_on intake.old container.old) (intake_on intake.new container.new) writer.old writer.new chunk.now }
     ensures write_cause { IsErrOf result RunFault.Write → has_failed writer.new ≡ true }
     ensures not_read { IfErr result (λ fault. fault ≢ RunFault.Read) }
 {
@@ -121,12 +121,12 @@ fn feed<B: Bodies, W: Write>(
         writer.old writer.new chunk.now) }
     ensures still { OnOk result (has_failed writer.new ≡ has_failed writer.old) }
     ensures flushed { OnOk result (is_flushed writer.new ≡ true) }
-    ensures memory { IsErrOf result RunFault.Memory → FeedsBeforeMemory W.contents (intake_on intake.old container.old) (intake_on intake.new container.new)
-        writer.old writer.new chunk.now }
+    ensures memory { IsErrOf result RunFault.Memory →
+        FeedsBeforeMemory W.contents (intake_on intake.old container.old) (intake_on intake.new container.new) writer.old writer.new chunk.now }
     ensures memory_still { IsErrOf result RunFault.Memory → has_failed writer.new ≡ has_failed writer.old }
     ensures memory_flushed { IsErrOf result RunFault.Memory → is_flushed writer.new ≡ true }
-    ensures write { IsErrOf result RunFault.Write → FeedsPart W.contents (intake_on intake.old container.old) (intake_on intake.new container.new)
-        writer.old writer.new chunk.now }
+    ensures write { IsErrOf result RunFault.Write →
+        FeedsPart W.contents (intake_on intake.old container.old) (intake_on intake.new container.new) writer.old writer.new chunk.now }
     ensures write_cause { IsErrOf result RunFault.Write → has_failed writer.new ≡ true }
     ensures empty { OnOk result (intake.new.runner.out.items ≡ []) }
     ensures not_read { IfErr result (λ fault. fault ≢ RunFault.Read) }
@@ -151,12 +151,12 @@ fn finish<B: Bodies, W: Write>(
         writer.old writer.new summary.refused) }
     ensures still { OnOk result (has_failed writer.new ≡ has_failed writer.old) }
     ensures flushed { OnOk result (is_flushed writer.new ≡ true) }
-    ensures memory { IsErrOf result RunFault.Memory → EndsBeforeMemory W.contents (intake_on intake.old container.old) (intake_on intake.new container.new)
-        writer.old writer.new }
+    ensures memory { IsErrOf result RunFault.Memory →
+        EndsBeforeMemory W.contents (intake_on intake.old container.old) (intake_on intake.new container.new) writer.old writer.new }
     ensures memory_still { IsErrOf result RunFault.Memory → has_failed writer.new ≡ has_failed writer.old }
     ensures memory_flushed { IsErrOf result RunFault.Memory → is_flushed writer.new ≡ true }
-    ensures write { IsErrOf result RunFault.Write → EndsPart W.contents (intake_on intake.old container.old) (intake_on intake.new container.new)
-        writer.old writer.new }
+    ensures write { IsErrOf result RunFault.Write →
+        EndsPart W.contents (intake_on intake.old container.old) (intake_on intake.new container.new) writer.old writer.new }
     ensures write_cause { IsErrOf result RunFault.Write → has_failed writer.new ≡ true }
     ensures not_read { IfErr result (λ fault. fault ≢ RunFault.Read) }
 {
