@@ -1,30 +1,27 @@
 -- A run from one read to the next, and how it ends.
-use Rattle.std.proofs.Common.{◌≡◌, ℕ, List, [], ◌++◌, take, refl, ap, sym, ◌∙◌, subst, Option, Some, None, length, true, false, inl, inr}
+use Rattle.std.proofs.Common.{◌≡◌, ℕ, List, [], ◌∷◌, ◌++◌, take, refl, ap, sym, ◌∙◌, subst, Option, Some, None, length, true, false, inl, inr}
 use Rattle.std.proofs.Common.{append_assoc, arith}
 use Rattle.std.specs.Prelude.{Bool, ◌≤◌, ◌&&◌, not}
 use Rattle.std.proofs.lemmas.Bool.{false≢true, true≢false}
 use Rattle.std.specs.Io.KnownBytes.{Appends, Consumes}
 use Rattle.std.proofs.lemmas.List.{append-nil, length-append, length-take}
 use Rattle.cdi_lines.specs.declared.command.Command.{Command}
-use Rattle.cdi_lines.specs.Lines.{ended_from, begun_line}
-use Rattle.cdi_container.specs.Commands.{Outside, complete_commands, mode_of, commands, commands_of_lines}
+use Rattle.cdi_container.specs.Commands.{Outside, complete_commands, commands, AreFirst}
 use Rattle.cdi_devices.specs.Counted.{inner_of, bytes_of, has_failed, is_flushed, is_settled}
 use Rattle.cdi_devices.specs.Devices.{Gives, ReadFails}
 use Rattle.cdi_lines.specs.Kept.{ServesLine}
-use Rattle.cdi_container.specs.History.{empty}
-use Rattle.cdi_container.specs.Intake.{IsFresh, ServesMode}
-use Rattle.cdi_container.specs.Run.{Setting, WroteAll, AreFirst, AnswersFirst, RunsOutOfMemory}
-use Rattle.cdi_container.specs.Run.{FailsToWrite, FailsToRead, RunsScript, Goes, Feeds}
+use Rattle.cdi_container.specs.History.{State}
+use Rattle.cdi_container.specs.Runner.{Tries}
+use Rattle.cdi_container.specs.Intake.{IntakeOn, intake_on, IsFresh, ServesMode}
+use Rattle.cdi_container.specs.Run.{Setting, WroteAll, AnswersFirst, Leaves, RunsOutOfMemoryTo}
+use Rattle.cdi_container.specs.Run.{FailsToWriteTo, FailsToReadTo, RunsScriptTo, Goes, Feeds}
 use Rattle.cdi_container.specs.Run.{FeedsBeforeMemory, FeedsPart, Ends, EndsBeforeMemory, EndsPart}
 use Rattle.cdi_devices.specs.declared.counted.Counted.{Counted}
 use Rattle.cdi_container.specs.declared.intake.Intake.{Intake}
 use Rattle.cdi_devices.proofs.Known.{Consumes-more}
-use Rattle.cdi_container.proofs.Feeding.{complete_commands-append, printed_all}
+use Rattle.cdi_container.proofs.Feeding.{first_complete, printed_all}
+use Rattle.cdi_container.proofs.Trying.{first_of_first}
 use Rattle.cdi_container.proofs.Serving.{serves_itself}
-
--- the commands that some bytes completed are the first of those that they and further bytes complete
-pub first_complete : (done more : List ℕ) → AreFirst (complete_commands done) (complete_commands (done ++ more))
-first_complete done more = (commands_of_lines (mode_of done) (ended_from (begun_line done) more), complete_commands-append done more)
 
 Appends-none : (known : Option (List ℕ)) → Appends known known []
 Appends-none None = tt
@@ -35,10 +32,9 @@ Consumes-none None = tt
 Consumes-none (Some xs) = refl
 
 -- nothing was run
-pub wrote_nothing : (setting : Setting) (known : Option (List ℕ)) → WroteAll setting known known []
+pub wrote_nothing : (setting : Setting) (known : Option (List ℕ)) → WroteAll setting known known [] setting.begun
 wrote_nothing setting known = record {
   history = [];
-  state = empty setting.book;
   is_history = record { legal = refl; commands_are = refl; memory = refl };
   written = Appends-none known;
 }
@@ -52,19 +48,20 @@ behind_flush noted false failed is still = absurd (false≢true is)
 
 module _ {R W : Type 0} (remaining : R → Option (List ℕ)) (contents : W → Option (List ℕ)) (limit piece : ℕ)
     (setting : Setting) (r0 : Counted R) (w0 : Counted W) where
-  abbrev Goes-here : {B : Type 0} → Counted R → Counted W → Intake B → Type 0
+  abbrev Goes-here : Counted R → Counted W → IntakeOn → Type 0
   Goes-here r w s = Goes remaining contents limit setting r0 w0 r w s
 
-  pub goes_first : {B : Type 0} (s : Intake B) → IsFresh setting.book s → s.runner.quiet ≡ setting.quiet → bytes_of r0 ≡ 0
+  pub goes_first : (s : Intake) → IsFresh s → s.runner.quiet ≡ setting.quiet
+      → bytes_of r0 ≡ 0
       → has_failed r0 ≡ false → has_failed w0 ≡ false
-      → is_flushed w0 ≡ true → Goes remaining contents limit setting r0 w0 r0 w0 s
+      → is_flushed w0 ≡ true → Goes remaining contents limit setting r0 w0 r0 w0 (intake_on s setting.begun)
   goes_first s f quiet_is count r_ok w_ok flushed = record {
     given = [];
     came = Consumes-none _;
     stands = record {
       printed = record {
         history = [];
-        is_history = record { legal = f.state; commands_are = refl; memory = refl };
+        is_history = record { legal = refl; commands_are = refl; memory = refl };
         sent = [];
         text = sym f.out;
         written = Appends-none _;
@@ -86,13 +83,13 @@ module _ {R W : Type 0} (remaining : R → Option (List ℕ)) (contents : W → 
   }
 
   -- a read that comes then is behind a flush, and behind no read that failed
-  pub stays_settled : {B : Type 0} (r r' : Counted R) (w : Counted W) (s : Intake B) → Goes remaining contents limit setting r0 w0 r w s
+  pub stays_settled : (r r' : Counted R) (w : Counted W) (s : IntakeOn) → Goes remaining contents limit setting r0 w0 r w s
       → is_settled r' ≡ (is_settled r && is_flushed w && not (has_failed r)) → is_settled r' ≡ is_settled r0
   stays_settled r r' w s h noted = noted ∙ behind_flush (is_settled r) (is_flushed w) (has_failed r) h.flushed h.reader_still ∙ h.settled
 
-  pub goes_on : {B : Type 0} (r r' : Counted R) (w w' : Counted W) (s s' : Intake B) (n : ℕ) (buffer : List ℕ)
+  pub goes_on : (r r' : Counted R) (w w' : Counted W) (s s' : IntakeOn) (n : ℕ) (buffer : List ℕ)
       → Goes remaining contents limit setting r0 w0 r w s → Gives remaining limit r r' n buffer
-      → Feeds contents s s' w w' (take n buffer) → has_failed w' ≡ has_failed w → is_flushed w' ≡ true → s'.runner.out.items ≡ []
+      → Feeds contents s s' w w' (take n buffer) → has_failed w' ≡ has_failed w → is_flushed w' ≡ true → s'.runner.out ≡ []
       → is_settled r' ≡ (is_settled r && is_flushed w && not (has_failed r)) → Goes remaining contents limit setting r0 w0 r' w' s'
   goes_on r r' w w' s s' n buffer h g f still flushed out noted = record {
     given = h.given ++ take n buffer;
@@ -108,9 +105,9 @@ module _ {R W : Type 0} (remaining : R → Option (List ℕ)) (contents : W → 
     settled = stays_settled r r' w s h noted;
   }
 
-  pub fails_to_read : {B : Type 0} (r r' : Counted R) (w : Counted W) (s : Intake B) → Goes remaining contents limit setting r0 w0 r w s
+  pub fails_to_read : (r r' : Counted R) (w : Counted W) (s : IntakeOn) → Goes remaining contents limit setting r0 w0 r w s
       → ReadFails remaining limit r r'
-      → FailsToRead remaining contents limit setting r0 r' w0 w
+      → FailsToReadTo remaining contents limit setting r0 r' w0 w s.runner.container
   fails_to_read r r' w s h f = record {
     given = h.given;
     extra = f.bytes.0;
@@ -120,8 +117,8 @@ module _ {R W : Type 0} (remaining : R → Option (List ℕ)) (contents : W → 
     wrote = printed_all setting _ _ _ s.runner (complete_commands h.given) [] h.stands.printed (sym h.out) (Appends-none _);
   }
 
-  module _ {B : Type 0} (r r' : Counted R) (w w' : Counted W) (s : Intake B) (h : Goes remaining contents limit setting r0 w0 r w s) (n : ℕ)
-      (buffer : List ℕ) (g : Gives remaining limit r r' n buffer) where
+  module _ (r r' : Counted R) (w w' : Counted W) (s t : IntakeOn) (h : Goes remaining contents limit setting r0 w0 r w s)
+      (n : ℕ) (buffer : List ℕ) (g : Gives remaining limit r r' n buffer) where
     came : Consumes (remaining (inner_of r0)) (remaining (inner_of r')) (h.given ++ take n buffer)
     came = Consumes-more _ _ _ h.given (take n buffer) h.came g.bytes
 
@@ -132,7 +129,8 @@ module _ {R W : Type 0} (remaining : R → Option (List ℕ)) (contents : W → 
     none_came : n ≡ 0 → h.given ++ take n buffer ≡ h.given
     none_came none = ap (λ k. h.given ++ take k buffer) none ∙ append-nil h.given
 
-    pub ends_run : n ≡ 0 → (refused : Bool) → Ends contents s w w' refused → RunsScript remaining contents limit setting r0 r' w0 w' refused
+    pub ends_run : n ≡ 0 → (refused : Bool) → Ends contents s t w w' refused
+        → RunsScriptTo remaining contents limit setting r0 r' w0 w' refused t.runner.container
     ends_run none refused e = record {
       input = h.given;
       came = subst (λ l. Consumes (remaining (inner_of r0)) (remaining (inner_of r')) l) (none_came none) came;
@@ -156,51 +154,104 @@ module _ {R W : Type 0} (remaining : R → Option (List ℕ)) (contents : W → 
       none_behind = inr (g.end none, subst (λ l. AreFirst first (commands l)) (sym (append-nil h.given)) within);
     }
 
-    pub ends_in_memory : n ≡ 0 → EndsBeforeMemory contents s w w' → RunsOutOfMemory remaining contents limit piece setting r0 r' w0 w'
-    ends_in_memory none e = let end = e setting (contents (inner_of w0)) h.given h.stands in
-        record { first = end.0; answers = at_end none end.0 end.1 end.2; wrote = end.3 }
+    -- and at most one more was carried out
+    left_at_end : n ≡ 0 → (first : List Command) (state left : State) → AreFirst (complete_commands h.given) first
+        → Tries first (commands h.given) state left → Leaves remaining limit piece r0 r' first state left
+    left_at_end none first state left before (inl e) = inl e
+    left_at_end none first state left before (inr t) = inr (
+      t.0,
+      at_end none (first ++ t.0.command ∷ []) (first_of_first (complete_commands h.given) first _ before (t.0.command ∷ [], refl)) t.1,
+      t.2,
+    )
 
-    pub ends_in_write : n ≡ 0 → EndsPart contents s w w' → FailsToWrite remaining contents limit piece setting r0 r' w0 w'
-    ends_in_write none e = let end = e setting (contents (inner_of w0)) h.given h.stands in
-        record { first = end.0; answers = at_end none end.0 end.1 end.2; wrote = end.3 }
+    pub ends_in_memory : n ≡ 0 → EndsBeforeMemory contents s t w w'
+        → RunsOutOfMemoryTo remaining contents limit piece setting r0 r' w0 w' t.runner.container
+    ends_in_memory none e =
+        let end = e setting (contents (inner_of w0)) h.given h.stands in
+        record {
+          first = end.0;
+          state = end.3.state;
+          answers = at_end none end.0 end.1 end.2;
+          wrote = end.3.wrote;
+          leaves = left_at_end none end.0 end.3.state t.runner.container end.1 end.3.tries;
+        }
+
+    pub ends_in_write : n ≡ 0 → EndsPart contents s t w w'
+        → FailsToWriteTo remaining contents limit piece setting r0 r' w0 w' t.runner.container
+    ends_in_write none e =
+        let end = e setting (contents (inner_of w0)) h.given h.stands in
+        record {
+          first = end.0;
+          state = end.3.state;
+          answers = at_end none end.0 end.1 end.2;
+          wrote = end.3.wrote;
+          leaves = left_at_end none end.0 end.3.state t.runner.container end.1 end.3.tries;
+        }
 
     module _ (room : length buffer ≤ piece) where
-      -- what a front part of the last bytes completed was answered
-      answered : (done rest : List ℕ) → take n buffer ≡ done ++ rest
-          → AnswersFirst remaining limit piece r0 r' (complete_commands (h.given ++ done))
-      answered done rest cut = record {
+      -- these commands were answered, all that were complete before among them, and none that the last bytes do not complete
+      answered : (first : List Command) → AreFirst (complete_commands h.given) first
+          → AreFirst first (complete_commands (h.given ++ take n buffer)) → AnswersFirst remaining limit piece r0 r' first
+      answered first before within = record {
         given = h.given;
         last = take n buffer;
         came = came;
         count = count;
         within = let a = count in let b = g.within in omega arith;
         last_read = let b = g.bound in omega (arith, length-take n buffer);
-        all_before = first_complete h.given done;
-        none_behind = inl (subst (λ l. AreFirst (complete_commands (h.given ++ done)) (complete_commands l))
-            (append_assoc h.given done rest ∙ ap (λ l. h.given ++ l) (sym cut)) (first_complete (h.given ++ done) rest));
+        all_before = before;
+        none_behind = inl within;
       }
 
-      pub feeds_to_memory : FeedsBeforeMemory contents s w w' (take n buffer)
-          → RunsOutOfMemory remaining contents limit piece setting r0 r' w0 w'
-      feeds_to_memory e = record {
-        first = complete_commands (h.given ++ e.0);
-        answers = answered e.0 e.1 e.2;
-        wrote = e.3 setting
-            (contents (inner_of w0)) h.given h.stands;
-      }
+      -- what a front part of the last bytes completed was answered
+      answered_so_far : (done rest : List ℕ) → take n buffer ≡ done ++ rest
+          → AnswersFirst remaining limit piece r0 r' (complete_commands (h.given ++ done))
+      answered_so_far done rest cut = answered (complete_commands (h.given ++ done)) (first_complete h.given done)
+          (subst (λ l. AreFirst (complete_commands (h.given ++ done)) (complete_commands l))
+          (append_assoc h.given done rest ∙ ap (λ l. h.given ++ l) (sym cut)) (first_complete (h.given ++ done) rest))
 
-      pub feeds_to_write : FeedsPart contents s w w' (take n buffer) → FailsToWrite remaining contents limit piece setting r0 r' w0 w'
-      feeds_to_write e = record {
-        first = complete_commands (h.given ++ e.0);
-        answers = answered e.0 e.1 e.2;
-        wrote = e.3 setting
-            (contents (inner_of w0)) h.given h.stands;
-      }
+      -- and at most one more was carried out
+      left_so_far : (done : List ℕ) (state left : State)
+          → Tries (complete_commands (h.given ++ done)) (complete_commands (h.given ++ take n buffer)) state left
+          → Leaves remaining limit piece r0 r' (complete_commands (h.given ++ done)) state left
+      left_so_far done state left (inl e) = inl e
+      left_so_far done state left (inr t) = inr (
+        t.0,
+        answered (complete_commands (h.given ++ done) ++ t.0.command ∷ [])
+            (first_of_first (complete_commands h.given) (complete_commands (h.given ++ done)) _ (first_complete h.given done)
+            (t.0.command ∷ [], refl)) t.1,
+        t.2,
+      )
+
+      pub feeds_to_memory : FeedsBeforeMemory contents s t w w' (take n buffer)
+          → RunsOutOfMemoryTo remaining contents limit piece setting r0 r' w0 w' t.runner.container
+      feeds_to_memory e =
+          let but = e.3 setting (contents (inner_of w0)) h.given h.stands in
+          record {
+            first = complete_commands (h.given ++ e.0);
+            state = but.state;
+            answers = answered_so_far e.0 e.1 e.2;
+            wrote = but.wrote;
+            leaves = left_so_far e.0 but.state t.runner.container but.tries;
+          }
+
+      pub feeds_to_write : FeedsPart contents s t w w' (take n buffer)
+          → FailsToWriteTo remaining contents limit piece setting r0 r' w0 w' t.runner.container
+      feeds_to_write e =
+          let but = e.3 setting (contents (inner_of w0)) h.given h.stands in
+          record {
+            first = complete_commands (h.given ++ e.0);
+            state = but.state;
+            answers = answered_so_far e.0 e.1 e.2;
+            wrote = but.wrote;
+            leaves = left_so_far e.0 but.state t.runner.container but.tries;
+          }
 
   -- want of memory before anything was read
-  pub out_of_memory_first : bytes_of r0 ≡ 0 → RunsOutOfMemory remaining contents limit piece setting r0 r0 w0 w0
+  pub out_of_memory_first : bytes_of r0 ≡ 0 → RunsOutOfMemoryTo remaining contents limit piece setting r0 r0 w0 w0 setting.begun
   out_of_memory_first none = record {
     first = [];
+    state = setting.begun;
     answers = record {
       given = [];
       last = [];
@@ -212,4 +263,5 @@ module _ {R W : Type 0} (remaining : R → Option (List ℕ)) (contents : W → 
       none_behind = inl ([], refl);
     };
     wrote = wrote_nothing setting _;
+    leaves = inl refl;
   }

@@ -3,6 +3,7 @@ mod Ending
 mod Runs
 mod Ran
 mod Serving
+mod Trying
 mod Taking
 mod Feeding
 mod Going

@@ -15,7 +15,7 @@ use Rattle.cdi_container.specs.declared.answer.Answer.{Answer}
 use Rattle.cdi_container.specs.declared.answer.Answer.TheVariants.{Done, Chosen, Intercepted, Observed, Reported, Given, Refused}
 use Rattle.cdi_container.specs.Seen.{IsStep}
 use Rattle.cdi_container.specs.Text.{text_of_answer}
-use Rattle.cdi_container.specs.Runner.{RunsStep, Prints}
+use Rattle.cdi_container.specs.Runner.{runner_on, RunsStep, Prints}
 use Rattle.cdi_container.specs.History.{State, Acts, EditsFrom, PutsFrom, told_on, untold}
 use Rattle.cdi_container.specs.declared.runner.Runner.{Runner}
 
@@ -58,20 +58,15 @@ step_tells old new command (Reported list) h = acts_tell old new command (Report
 step_tells old new command (Given outcome) h = acts_tell old new command (Given outcome) h.1
 step_tells old new command (Refused refusal) h = untold_tells old new h.1
 
-pub ran : {B : Type 0} (old new : Runner B) (container : State) (command : Command) (answer : Answer)
-    → IsStep old.container command (Ok answer) container → Prints (record old { container = container }) new answer
-    → RunsStep old new command
-ran old new container command answer step prints = record {
-  step = record { command = command; answer = Ok answer; trace = container.trace; names = names_of old.container.decls };
+pub ran : (old new : Runner) (before after : State) (command : Command) (answer : Answer) → IsStep before command (Ok answer) after
+    → Prints after old new answer → RunsStep (runner_on old before) (runner_on new after) command
+ran old new before after command answer step prints = record {
+  step = record { command = command; answer = Ok answer; trace = after.trace; names = names_of before.decls };
   command_is = refl;
   memory = refl;
-  legal = record {
-    answered = subst (IsStep old.container command (Ok answer)) (sym prints.container) step;
-    trace = sym (ap (λ s. s.trace) prints.container);
-    names = refl;
-  };
+  legal = record { answered = step; trace = refl; names = refl };
   text = prints.text ∙ ap (λ t. old.out.items ++ ((if old.quiet then [] else t) ++ text_of_answer (Ok answer)))
-      (step_tells old.container container command answer step);
+      (step_tells before after command answer step);
   refused = prints.refused;
   quiet = prints.quiet;
 }

@@ -19,10 +19,8 @@ use Rattle.std.specs.declared.alloc.AllocError.{AllocError}
 use Rattle.cdi_container.specs.declared.answer.Answer.{Answer}
 use Rattle.cdi_container.specs.declared.answer.Answer.TheVariants.{Done, Chosen, Intercepted, Observed, Reported, Given, Refused}
 use Rattle.cdi_container.specs.History.{State, LegalAnswer, refusal_of, refusal_of_put}
-use Rattle.cdi_container.specs.Text.{is_out_of_memory}
-use Rattle.cdi_container.specs.Runner.{RunsStep}
+use Rattle.cdi_container.specs.Runner.{RunnerOn, RunsStep}
 use Rattle.cdi_container.specs.Intake.{ServesMode}
-use Rattle.cdi_container.specs.declared.runner.Runner.{Runner}
 
 pub serves_outside : (mode : Mode) → ServesMode Outside mode → mode ≡ Outside
 serves_outside Outside h = refl
@@ -58,20 +56,20 @@ too_long state text long =
     ap (refusal_of_put state.decls) refused
 
 -- two texts that are too long are refused alike
-put_alike : (old new : State) (kept text : List ℕ) (answer : Result Answer AllocError) → 65536 < length kept
-    → 65536 < length text → is_out_of_memory answer ≡ false
+pub put_alike : (old new : State) (kept text : List ℕ) (answer : Result Answer AllocError) → 65536 < length kept
+    → 65536 < length text
     → LegalAnswer old (Put kept) answer new → LegalAnswer old (Put text) answer new
-put_alike old new kept text (Ok Done) k t memory h = absurd (let e : Some TooLong ≡ None = sym (too_long old kept k) ∙ h.0 in cc)
-put_alike old new kept text (Ok (Chosen choice)) k t memory h = absurd (let e : Some TooLong ≡ None = sym (too_long old kept k) ∙ h.0 in cc)
-put_alike old new kept text (Ok (Intercepted names)) k t memory h = absurd
+put_alike old new kept text (Ok Done) k t h = absurd (let e : Some TooLong ≡ None = sym (too_long old kept k) ∙ h.0 in cc)
+put_alike old new kept text (Ok (Chosen choice)) k t h = absurd (let e : Some TooLong ≡ None = sym (too_long old kept k) ∙ h.0 in cc)
+put_alike old new kept text (Ok (Intercepted names)) k t h = absurd
     (let e : Some TooLong ≡ None = sym (too_long old kept k) ∙ h.0 in cc)
-put_alike old new kept text (Ok (Observed ids)) k t memory h = absurd (let e : Some TooLong ≡ None = sym (too_long old kept k) ∙ h.0 in cc)
-put_alike old new kept text (Ok (Reported list)) k t memory h = absurd (let e : Some TooLong ≡ None = sym (too_long old kept k) ∙ h.0 in cc)
-put_alike old new kept text (Ok (Given outcome)) k t memory h = absurd (let e : Some TooLong ≡ None = sym (too_long old kept k) ∙ h.0 in cc)
-put_alike old new kept text (Ok (Refused refusal)) k t memory h = (too_long old text t ∙ sym (too_long old kept k) ∙ h.0, h.1)
-put_alike old new kept text (Err error) k t memory h = cc
+put_alike old new kept text (Ok (Observed ids)) k t h = absurd (let e : Some TooLong ≡ None = sym (too_long old kept k) ∙ h.0 in cc)
+put_alike old new kept text (Ok (Reported list)) k t h = absurd (let e : Some TooLong ≡ None = sym (too_long old kept k) ∙ h.0 in cc)
+put_alike old new kept text (Ok (Given outcome)) k t h = absurd (let e : Some TooLong ≡ None = sym (too_long old kept k) ∙ h.0 in cc)
+put_alike old new kept text (Ok (Refused refusal)) k t h = (too_long old text t ∙ sym (too_long old kept k) ∙ h.0, h.1)
+put_alike old new kept text (Err error) k t h = h
 
-pub serves_put : {B : Type 0} (old new : Runner B) (kept text : List ℕ) → ServesText kept text → RunsStep old new (Put kept)
+pub serves_put : (old new : RunnerOn) (kept text : List ℕ) → ServesText kept text → RunsStep old new (Put kept)
     → RunsStep old new (Put text)
 serves_put old new kept text (inl h) r = subst (λ t. RunsStep old new (Put t)) h r
 serves_put old new kept text (inr h) r = record {
@@ -79,7 +77,7 @@ serves_put old new kept text (inr h) r = record {
   command_is = refl;
   memory = r.memory;
   legal = record {
-    answered = put_alike old.container new.container kept text r.step.answer h.0 h.1 r.memory
+    answered = put_alike old.container new.container kept text r.step.answer h.0 h.1
         (subst (λ c. LegalAnswer old.container c r.step.answer new.container) r.command_is r.legal.answered);
     trace = r.legal.trace;
     names = r.legal.names;

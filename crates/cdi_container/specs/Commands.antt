@@ -1,5 +1,5 @@
 -- The commands that the bytes of a script spell.
-use Rattle.std.specs.Prelude.{ℕ, Bool, List, [], ◌∷◌, ◌++◌, codes, Result, Ok, Err, if◌then◌else◌}
+use Rattle.std.specs.Prelude.{◌≡◌, ℕ, Bool, List, [], ◌∷◌, ◌++◌, codes, Result, Ok, Err, if◌then◌else◌}
 use Rattle.std.specs.Str.{bytes_eq}
 use Rattle.cdi_model.specs.declared.refusal.Refusal.{Refusal}
 use Rattle.cdi_lines.specs.declared.command.Command.{Command}
@@ -67,3 +67,7 @@ unclosed (InPut text) = Unreadable ∷ []
 -- the commands that a script's bytes spell
 abbrev pub commands : List ℕ → List Command
 commands bytes = commands_of_lines Outside (lines bytes) ++ unclosed (mode_of_lines Outside (lines bytes))
+
+-- the first commands of a script
+abbrev pub AreFirst : List Command → List Command → Type 0
+AreFirst first all = (later : List Command) × (all ≡ first ++ later)

@@ -3,11 +3,13 @@ ghost use Rattle.std.specs.Prelude.{◌≡◌, ◌<◌, ◌≤◌, ◌++◌, ◌
 ghost use Rattle.cdi_model.specs.Bytes.{feed};
 ghost use Rattle.cdi_lines.specs.Lines.{NoFeed};
 ghost use Rattle.cdi_container.specs.Commands.{Outside};
-ghost use Rattle.cdi_container.specs.History.{empty};
+ghost use Rattle.cdi_container.specs.History.{State};
 ghost use Rattle.cdi_container.specs.Runner.{PrintsNothing};
-ghost use Rattle.cdi_container.specs.Run.{setting_of, setting_with};
-ghost use Rattle.cdi_container.specs.Intake.{mode_seen, TakesLine, TakesSaid, TakesInPut, Advances, EndsLastLine, EndsMode};
+ghost use Rattle.cdi_container.specs.Intake.{intake_on, mode_seen, TakesLine, TakesSaid, TakesInPut, Advances, EndsLastLine};
+ghost use Rattle.cdi_container.specs.Intake.{EndsMode, TriesLine, TriesSaid, TriesInPut, TriesBytes, TriesLastLine, TriesMode};
+ghost use Rattle.cdi_container.specs.Intake.{IsFresh};
 
+use crate::container::Container;
 use crate::runner::Runner;
 use cdi_bodies::Bodies;
 use cdi_lines::{Block, Command, Line, Said, ends_block, find_feed, read_line};
@@ -23,40 +25,41 @@ pub(crate) enum Mode {
     InPut(Block),
 }
 
+/// What was taken of a script. Its commands run on the container that each call is given.
 #[derive(Drop)]
-pub(crate) struct Intake<B: Bodies> {
+pub(crate) struct Intake {
     alloc: Global,
-    pub(crate) runner: Runner<B>,
+    pub(crate) runner: Runner,
     /// What is kept of a line that isn't complete.
     line: Line,
     mode: Mode,
 }
 
-impl<B: Bodies> Intake<B> {
-    pub(crate) fn new(alloc: Global, book: B, quiet: bool) -> Intake<B>
-        ensures state { result.runner.container ≡ empty (B.promises book) }
-        ensures setting { setting_of result ≡ setting_with quiet (B.promises book) }
-        ensures out { result.runner.out.items ≡ [] }
-        ensures refused { result.runner.refused ≡ false }
+impl Intake {
+    pub(crate) fn new(alloc: Global, quiet: bool) -> Intake
+        ensures fresh { IsFresh result }
         ensures quiet { result.runner.quiet ≡ quiet }
-        ensures line { result.line ≡ [] }
-        ensures mode { mode_seen result.mode ≡ Outside }
     {
         Intake {
             alloc,
-            runner: Runner::new(alloc, book, quiet),
+            runner: Runner::new(alloc, quiet),
             line: Line::new(alloc),
             mode: Mode::Outside,
         }
     }
 
     /// Takes bytes up to the end of a line, or all where no line ends, and tells how many.
-    pub(crate) fn advance(&mut self, chunk: &[u8]) -> Result<usize, AllocError>
+    pub(crate) fn advance<B: Bodies>(
+        &mut self,
+        container: &mut Container<B>,
+        chunk: &[u8],
+    ) -> Result<usize, AllocError>
         requires { 0 < length chunk.now }
-        ensures ok { IfOk result (λ n. Advances self.old self.new (take n chunk.now)) }
+        ensures ok { IfOk result (λ n. Advances (intake_on self.old container.old) (intake_on self.new container.new) (take n chunk.now)) }
         ensures some { IfOk result (λ n. 0 < n) }
         ensures bound { IfOk result (λ n. n ≤ length chunk.now) }
         ensures err { OnErr result (PrintsNothing self.old.runner self.new.runner) }
+        ensures tries { OnErr result (TriesBytes (intake_on self.old container.old) (intake_on self.new container.new) chunk.now) }
     {
         match find_feed(chunk) {
             None => {
@@ -64,39 +67,47 @@ impl<B: Bodies> Intake<B> {
                 Ok(chunk.len())
             }
             Some(end) => {
-                self.end_line(&chunk[..end])?;
+                self.end_line(container, &chunk[..end])?;
                 Ok(end + 1)
             }
         }
     }
 
     /// Takes the end of input for the end of a line that has begun.
-    pub(crate) fn end_last_line(&mut self) -> Result<(), AllocError>
-        ensures ok { OnOk result (EndsLastLine self.old self.new) }
+    pub(crate) fn end_last_line<B: Bodies>(
+        &mut self,
+        container: &mut Container<B>,
+    ) -> Result<(), AllocError>
+        ensures ok { OnOk result (EndsLastLine (intake_on self.old container.old) (intake_on self.new container.new)) }
         ensures err { OnErr result (PrintsNothing self.old.runner self.new.runner) }
+        ensures tries { OnErr result (TriesLastLine (intake_on self.old container.old) (intake_on self.new container.new)) }
     {
         if self.line.is_empty() {
             Ok(())
         } else {
-            self.end_line(&[])
+            self.end_line(container, &[])
         }
     }
 
     /// Refuses a put block without its end.
-    pub(crate) fn end_mode(&mut self) -> Result<(), AllocError>
-        ensures ok { OnOk result (EndsMode self.old self.new) }
+    pub(crate) fn end_mode<B: Bodies>(
+        &mut self,
+        container: &mut Container<B>,
+    ) -> Result<(), AllocError>
+        ensures ok { OnOk result (EndsMode (intake_on self.old container.old) (intake_on self.new container.new)) }
         ensures err { OnErr result (PrintsNothing self.old.runner self.new.runner) }
+        ensures tries { OnErr result (TriesMode (intake_on self.old container.old) (intake_on self.new container.new)) }
     {
         match &self.mode {
             Mode::Outside => Ok(()),
-            Mode::InPut(_) => self.runner.execute(Command::Unreadable),
+            Mode::InPut(_) => self.runner.execute(container, Command::Unreadable),
         }
     }
 
     /// Takes bytes that no line feed ends.
     fn begin_line(&mut self, piece: &[u8]) -> Result<(), AllocError>
         requires { NoFeed piece.now }
-        ensures ok { OnOk result (Advances self.old self.new piece.now) }
+        ensures ok { OnOk result ((state : State) → Advances (intake_on self.old state) (intake_on self.new state) piece.now) }
         ensures err { OnErr result (PrintsNothing self.old.runner self.new.runner) }
     {
         self.line.push(piece)?;
@@ -104,47 +115,67 @@ impl<B: Bodies> Intake<B> {
     }
 
     /// Takes the rest of a line.
-    fn end_line(&mut self, piece: &[u8]) -> Result<(), AllocError>
+    fn end_line<B: Bodies>(
+        &mut self,
+        container: &mut Container<B>,
+        piece: &[u8],
+    ) -> Result<(), AllocError>
         requires { NoFeed piece.now }
-        ensures ok { OnOk result (Advances self.old self.new (piece.now ++ feed ∷ [])) }
+        ensures ok { OnOk result (Advances (intake_on self.old container.old) (intake_on self.new container.new) (piece.now ++ feed ∷ [])) }
         ensures err { OnErr result (PrintsNothing self.old.runner self.new.runner) }
+        ensures tries { OnErr result (TriesBytes (intake_on self.old container.old) (intake_on self.new container.new) (piece.now ++ feed ∷ [])) }
     {
         if self.line.is_empty() {
-            return self.take_line(piece);
+            return self.take_line(container, piece);
         }
         self.line.push(piece)?;
         let line = mem::replace(&mut self.line, Line::new(self.alloc));
-        self.take_line(line.as_slice())
+        self.take_line(container, line.as_slice())
     }
 
     /// Takes a whole line.
-    fn take_line(&mut self, line: &[u8]) -> Result<(), AllocError>
-        ensures ok { OnOk result (TakesLine self.old self.new line.now) }
+    fn take_line<B: Bodies>(
+        &mut self,
+        container: &mut Container<B>,
+        line: &[u8],
+    ) -> Result<(), AllocError>
+        ensures ok { OnOk result (TakesLine (intake_on self.old container.old) (intake_on self.new container.new) line.now) }
         ensures err { OnErr result (PrintsNothing self.old.runner self.new.runner) }
+        ensures tries { OnErr result (TriesLine (intake_on self.old container.old) (intake_on self.new container.new) line.now) }
     {
         match mem::replace(&mut self.mode, Mode::Outside) {
-            Mode::Outside => self.take_outside(line),
-            Mode::InPut(block) => self.take_in_put(block, line),
+            Mode::Outside => self.take_outside(container, line),
+            Mode::InPut(block) => self.take_in_put(container, block, line),
         }
     }
 
-    fn take_outside(&mut self, line: &[u8]) -> Result<(), AllocError>
+    fn take_outside<B: Bodies>(
+        &mut self,
+        container: &mut Container<B>,
+        line: &[u8],
+    ) -> Result<(), AllocError>
         requires { mode_seen self.old.mode ≡ Outside }
-        ensures ok { OnOk result (TakesLine self.old self.new line.now) }
+        ensures ok { OnOk result (TakesLine (intake_on self.old container.old) (intake_on self.new container.new) line.now) }
         ensures err { OnErr result (PrintsNothing self.old.runner self.new.runner) }
+        ensures tries { OnErr result (TriesLine (intake_on self.old container.old) (intake_on self.new container.new) line.now) }
     {
         match read_line(self.alloc, line) {
-            Ok(said) => self.take_said(said),
+            Ok(said) => self.take_said(container, said),
             Err(Error::OutOfMemory) => Err(AllocError),
-            Err(Error::Refused(_)) => self.runner.execute(Command::Unreadable),
+            Err(Error::Refused(_)) => self.runner.execute(container, Command::Unreadable),
         }
     }
 
     /// Takes what a line outside a put block says.
-    fn take_said(&mut self, said: Said) -> Result<(), AllocError>
+    fn take_said<B: Bodies>(
+        &mut self,
+        container: &mut Container<B>,
+        said: Said,
+    ) -> Result<(), AllocError>
         requires { mode_seen self.old.mode ≡ Outside }
-        ensures ok { OnOk result (TakesSaid self.old self.new (Ok said)) }
+        ensures ok { OnOk result (TakesSaid (intake_on self.old container.old) (intake_on self.new container.new) (Ok said)) }
         ensures err { OnErr result (PrintsNothing self.old.runner self.new.runner) }
+        ensures tries { OnErr result (TriesSaid (intake_on self.old container.old) (intake_on self.new container.new) (Ok said)) }
     {
         match said {
             Said::Nothing => Ok(()),
@@ -152,19 +183,28 @@ impl<B: Bodies> Intake<B> {
                 self.mode = Mode::InPut(Block::new(self.alloc));
                 Ok(())
             }
-            Said::Command(command) => self.runner.execute(command),
+            Said::Command(command) => self.runner.execute(container, command),
         }
     }
 
-    fn take_in_put(&mut self, mut block: Block, line: &[u8]) -> Result<(), AllocError>
+    fn take_in_put<B: Bodies>(
+        &mut self,
+        container: &mut Container<B>,
+        mut block: Block,
+        line: &[u8],
+    ) -> Result<(), AllocError>
         requires { mode_seen self.old.mode ≡ Outside }
-        ensures ok { OnOk result (TakesInPut self.old self.new block line.now) }
+        ensures ok { OnOk result (TakesInPut (intake_on self.old container.old) (intake_on self.new container.new) block line.now) }
         ensures err { OnErr result (PrintsNothing self.old.runner self.new.runner) }
+        ensures tries { OnErr result (TriesInPut (intake_on self.old container.old) (intake_on self.new container.new) block line.now) }
     {
         if ends_block(line) {
-            return self.runner.execute(Command::Put {
-                text: block.into_text(),
-            });
+            return self.runner.execute(
+                container,
+                Command::Put {
+                    text: block.into_text(),
+                },
+            );
         }
         block.push_line(line)?;
         self.mode = Mode::InPut(block);

@@ -38,4 +38,4 @@ pub use cdi_scene::{Notified, Place, Seat};
 pub use cdi_text::{read_decl, read_qualifier};
 pub use cdi_trace::{NamedEntries, NamedEntry, NamedInstance, NamedInstances};
 pub use container::{Container, history_laws};
-pub use script::{Options, READ_BYTES, Summary, run};
+pub use script::{Options, READ_BYTES, Summary, run, run_on};

@@ -1,7 +1,6 @@
 //! Running one command after another, and printing what each answered.
-ghost use Rattle.std.specs.Prelude.{◌≡◌, [], OnOk, OnErr, false};
-ghost use Rattle.cdi_container.specs.History.{empty};
-ghost use Rattle.cdi_container.specs.Runner.{RunsStep, PrintsNothing, Prints};
+ghost use Rattle.std.specs.Prelude.{◌≡◌, ◌∷◌, [], OnOk, OnErr, false};
+ghost use Rattle.cdi_container.specs.Runner.{runner_on, RunsStep, Tries, PrintsNothing, Prints};
 
 use crate::answer::Answer;
 use crate::container::Container;
@@ -10,9 +9,9 @@ use cdi_bodies::Bodies;
 use cdi_lines::Command;
 use std::alloc::{AllocError, Global};
 
+/// Runs commands on the container that each call is given, and keeps what they print until it is written.
 #[derive(Drop)]
-pub(crate) struct Runner<B: Bodies> {
-    pub(crate) container: Container<B>,
+pub(crate) struct Runner {
     /// Leaves trace lines out.
     pub(crate) quiet: bool,
     /// Whether a command was refused.
@@ -22,15 +21,13 @@ pub(crate) struct Runner<B: Bodies> {
     scratch: Vec<u8>,
 }
 
-impl<B: Bodies> Runner<B> {
-    pub(crate) fn new(alloc: Global, book: B, quiet: bool) -> Runner<B>
-        ensures state { result.container ≡ empty (B.promises book) }
+impl Runner {
+    pub(crate) fn new(alloc: Global, quiet: bool) -> Runner
         ensures out { result.out.items ≡ [] }
         ensures refused { result.refused ≡ false }
         ensures quiet { result.quiet ≡ quiet }
     {
         Runner {
-            container: Container::new(alloc, book),
             quiet,
             refused: false,
             out: Vec::new(alloc),
@@ -39,23 +36,32 @@ impl<B: Bodies> Runner<B> {
     }
 
     /// Carries a command out, and prints its trace and its answer.
-    pub(crate) fn execute(&mut self, command: Command) -> Result<(), AllocError>
-        ensures ok { OnOk result (RunsStep self.old self.new command) }
+    pub(crate) fn execute<B: Bodies>(
+        &mut self,
+        container: &mut Container<B>,
+        command: Command,
+    ) -> Result<(), AllocError>
+        ensures ok { OnOk result (RunsStep (runner_on self.old container.old) (runner_on self.new container.new) command) }
         ensures err { OnErr result (PrintsNothing self.old self.new) }
+        ensures tries { OnErr result (Tries [] (command ∷ []) container.old container.new) }
     {
-        let answer = self.container.execute(command)?;
-        self.print(&answer)
+        let answer = container.execute(command)?;
+        self.print(container, &answer)
     }
 
-    /// Prints the trace that the container shows, and this answer behind it. The text of both is built apart, so that at
+    /// Prints the trace that the container shows, and this answer after it. The text of both is built apart, so that at
     /// `Err` nothing is printed.
-    fn print(&mut self, answer: &Answer) -> Result<(), AllocError>
-        ensures ok { OnOk result (Prints self.old self.new answer.now) }
+    fn print<B: Bodies>(
+        &mut self,
+        container: &Container<B>,
+        answer: &Answer,
+    ) -> Result<(), AllocError>
+        ensures ok { OnOk result (Prints container.now self.old self.new answer.now) }
         ensures err { OnErr result (PrintsNothing self.old self.new) }
     {
         self.scratch.clear();
         if !self.quiet {
-            self.container.push_trace(&mut self.scratch)?;
+            container.push_trace(&mut self.scratch)?;
         }
         push_answer(&mut self.scratch, answer)?;
         self.out.extend_from_slice(self.scratch.as_slice())?;

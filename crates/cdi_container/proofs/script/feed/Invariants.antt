@@ -1,11 +1,12 @@
 use Rattle.std.proofs.Common.{◌≡◌, ℕ, List, ◌++◌, length}
 use Rattle.cdi_devices.specs.Counted.{has_failed}
+use Rattle.cdi_container.specs.Intake.{intake_on}
 use Rattle.cdi_container.specs.Run.{Feeds}
 use Rattle.cdi_container.proofs.script.feed.Given as goal
 
 abbrev pub invariant-loop-rest : goal.invariant-loop-rest
 invariant-loop-rest g l = ((done : List ℕ) × (l.chunk ≡ done ++ l.rest)
-    × Feeds g.W.Write.contents l.fn.intake l.intake l.fn.writer l.writer done)
+    × Feeds g.W.Write.contents (intake_on l.fn.intake l.fn.container) (intake_on l.intake l.container) l.fn.writer l.writer done)
     × (has_failed l.writer ≡ has_failed l.fn.writer)
 
 abbrev pub decreases-loop-rest : goal.decreases-loop-rest

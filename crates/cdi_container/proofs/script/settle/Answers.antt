@@ -1,6 +1,6 @@
-use Rattle.std.proofs.Common.{refl, []}
+use Rattle.std.proofs.Common.{refl}
 use Rattle.std.proofs.lemmas.Result.{on_ok_weaker, on_err_weaker}
-use Rattle.cdi_container.proofs.Feeding.{settles, part_here}
+use Rattle.cdi_container.proofs.Feeding.{settles, part_settles}
 use Rattle.cdi_container.proofs.script.settle.Goals as goal
 
 pub returns-clause-ok : goal.returns-clause-ok
@@ -10,5 +10,5 @@ returns-clause-ok g c = on_ok_weaker c.send.result
 
 pub returns-clause-part : goal.returns-clause-part
 returns-clause-part g c = on_err_weaker c.send.result
-    (part_here g.W.Write.contents c.args.intake.now c.args.intake.now.runner c.args.writer.now c.send.new.writer [] refl)
-    c.send.ensures.part
+    (part_settles g.W.Write.contents c.args.intake.now (record c.args.intake.now { runner = c.send.new.runner }) c.args.writer.now
+    c.send.new.writer) c.send.ensures.part
