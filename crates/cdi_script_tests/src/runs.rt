@@ -1,4 +1,5 @@
 //! Lookups, calls, events, requests and stops of a container, with ample memory.
+use crate::fixtures::{STORED_SCRIPT, STORED_TEXT, assert_text, printed_on};
 use cdi_container::Container;
 use cdi_fixtures::{Echo, name};
 use cdi_model::{Error, Failure, Ident, Name, Outcome, Quals, Refusal, Val};
@@ -250,5 +251,20 @@ fn answers_with_ample_memory(rt: HostRuntime) -> Result<(), Fail> {
     let mut container = stored(rt.alloc(), &DECLARED)?;
     let other = first_other_call(rt.alloc(), &mut container, &STEPS)?;
     assert!(rt; other.is_none(), "{other:?}");
+    Ok(())
+}
+
+#[test]
+fn runs_two_scripts_on_one_container(rt: HostRuntime) -> Result<(), Fail> {
+    let mut container = Container::new(rt.alloc(), Echo);
+    let first = printed_on(rt.alloc(), &mut container, STORED_SCRIPT)?;
+    assert_text(&rt, first.as_slice(), STORED_TEXT, &"the first script");
+    let second = printed_on(rt.alloc(), &mut container, b"choose Object\n")?;
+    assert_text(
+        &rt,
+        second.as_slice(),
+        b"one Corner\n",
+        &"the second script",
+    );
     Ok(())
 }
