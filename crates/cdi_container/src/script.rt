@@ -31,7 +31,7 @@ pub struct Options {
     pub quiet: bool,
 }
 
-/// What a script that ran to its end tells.
+/// What is known of a script that ran to its end.
 #[derive(Clone, Copy, Debug)]
 pub struct Summary {
     /// Whether a command was refused.
@@ -49,7 +49,7 @@ fn send<W: Write>(runner: &mut Runner, writer: &mut Counted<W>) -> Result<(), Ru
     Ok(())
 }
 
-/// Writes what is printed before the run ends for want of memory.
+/// Writes what is printed before the run ends out of memory.
 fn give_up<W: Write>(runner: &Runner, writer: &mut Counted<W>) -> RunFault
     ensures memory { result ≡ RunFault.Memory → SendsLast W.contents runner.now writer.old writer.new }
     ensures write { result ≡ RunFault.Write → SendsPart W.contents runner.now writer.old writer.new }
@@ -223,7 +223,7 @@ fn read_all<B: Bodies, R: Read, W: Write>(
 }
 
 /// Reads a script, runs each command on the container that is there, and writes what the commands print. The container is
-/// left as these commands leave it, so that further calls and scripts go on from there; it isn't stopped at the end. All
+/// left as these commands leave it, so that further calls and scripts go on from there; it is not stopped at the end. All
 /// that it had sent was flushed before each read, and no read comes after an error of the reader; where it answers `Read`,
 /// it sent nothing after its last read. It takes a buffer of 65,536 bytes, what the container takes, and a bounded number
 /// of bytes for the line and the put block that have begun.
@@ -232,10 +232,10 @@ fn read_all<B: Bodies, R: Read, W: Write>(
 /// `Memory`, the text of the first commands was written, and the container is left as they leave it, or as the next one
 /// does: it ran out of memory, or was carried out and its text found none. Where it answers `Write`, only a front part of
 /// the text was written, and the container is left as at `Memory`, since the writer may also fail at what is written
-/// before a run ends for want of memory.
+/// before a run ends out of memory.
 ///
-/// The clauses speak of the bytes of readers and writers that tell their bytes to contracts. Those of `std`'s files and
-/// standard streams are not told; of these they say what was counted, failed and flushed. That a command's lines are sent
+/// The clauses speak of the bytes of readers and writers whose contents contracts see. Those of `std`'s files and
+/// standard streams are not seen; of these they say what was counted, failed and flushed. That a command's lines are sent
 /// before a read that gives more is tested.
 pub fn run_on<B: Bodies, R: Read, W: Write>(
     alloc: Global,
@@ -294,8 +294,8 @@ pub fn run_on<B: Bodies, R: Read, W: Write>(
 /// of the reader; where it answers `Read`, it sent nothing after its last read. It takes a buffer of 65,536 bytes, what
 /// the container takes, and a bounded number of bytes for the line and the put block that have begun.
 ///
-/// The clauses speak of the bytes of readers and writers that tell their bytes to contracts. Those of `std`'s files and
-/// standard streams are not told; of these they say what was counted, failed and flushed. That a command's lines are sent
+/// The clauses speak of the bytes of readers and writers whose contents contracts see. Those of `std`'s files and
+/// standard streams are not seen; of these they say what was counted, failed and flushed. That a command's lines are sent
 /// before a read that gives more is tested.
 pub fn run<B: Bodies + Drop, R: Read, W: Write>(
     alloc: Global,
