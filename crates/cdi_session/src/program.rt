@@ -5,9 +5,9 @@ ghost use Rattle.cdi_container.specs.Run.{setting_with};
 ghost use Rattle.cdi_session.specs.Options.{faults_of};
 ghost use Rattle.cdi_session.specs.Session.{IsInput, ComesTo, FileComesTo, status_of, RunsWords, RefusesWords, LacksMemory};
 
+use crate::command_line::{CommandLine, options};
 use crate::complaints::{fault_of_open, refuse_line, tell_fault};
 use crate::files::Files;
-use crate::command_line::{CommandLine, options};
 use cdi_bodies::Bodies;
 use cdi_container::{Console, Counted, Options, READ_BYTES, RunFault, SCRIPT_LIMIT, Summary, run};
 use std::alloc::Global;
