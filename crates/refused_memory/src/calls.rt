@@ -2,10 +2,11 @@
 use crate::Difference;
 use crate::answers::{Answer, Answered, agrees};
 use Answer::{Ambiguous, Around, Done, Faults, Observed, One, Refused, Unsatisfied};
-use Call::{Beans, Chain, Choose, Named, Observers, Promises, Put, Remove, Report};
-use cdi_container::{Bodies, Choice, Container, Promise, PromiseBook, read_quals};
+use Call::{Beans, Books, Chain, Choose, Named, Observers, Promises, Put, Remove, Report};
+use cdi_container::{Bodies, Book, Choice, Container, Promise, PromiseBook, read_quals};
 use cdi_fixtures::{Echo, lines_of, name};
 use cdi_model::{BeanPlace, Error, Ident, Kind, Refusal, Seq};
+use cdi_stock::stock_bodies;
 use std::alloc::{AllocError, Global};
 
 /// A call of a container. A type is chosen with uses of qualifiers.
@@ -24,6 +25,8 @@ enum Call {
     Beans,
     /// Whether a book of promises has the one that was inserted.
     Promises,
+    /// A book of the program's bodies.
+    Books,
 }
 
 const CORNER: &[u8] = b"Corner";
@@ -133,7 +136,7 @@ F25 name mall mall.x
 ";
 
 /// Calls, each with its answer.
-static CALLS: [(Call, Answer); 43] = [
+static CALLS: [(Call, Answer); 44] = [
     (Put(TYPE), Done),
     (Put(INTERFACE), Done),
     (Put(QUALIFIER), Done),
@@ -181,6 +184,7 @@ static CALLS: [(Call, Answer); 43] = [
         Around(&[MALL, STAND, b"Till", b"Desk", b"Ear", b"Inn", b"Inn"]),
     ),
     (Promises, Done),
+    (Books, Done),
 ];
 
 /// Makes a call.
@@ -195,6 +199,14 @@ fn make(alloc: Global, container: &mut Container<Echo>, call: Call) -> Result<An
         Report => report(alloc, container),
         Beans => beans(alloc, container),
         Promises => promises(alloc),
+        Books => books(alloc),
+    }
+}
+
+fn books(alloc: Global) -> Result<Answered, Error> {
+    match Book::new(stock_bodies!(alloc)) {
+        Ok(_) => Ok(Answered::Nothing),
+        Err(_) => Err(Error::OutOfMemory),
     }
 }
 

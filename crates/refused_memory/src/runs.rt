@@ -1,11 +1,10 @@
 //! Lookups, calls, an event, requests, edits and a stop of a container, of which any one allocation may be refused.
 use crate::Difference;
 use Asked::{Begin, Call, End, Fire, LookUp, Put, Remove, Stop};
-use cdi_bodies::Book;
 use cdi_container::Container;
 use cdi_fixtures::name;
 use cdi_model::{Error, Ident, Kind, Name, Outcome, Quals, Val};
-use cdi_stock::stock_bodies;
+use cdi_stock::StockBodies;
 use std::alloc::{AllocError, Global};
 
 /// A call of a container. What is looked up and called, and an event, is meant by its type alone.
@@ -363,7 +362,7 @@ fn value_of(outcome: Outcome) -> Option<Val> {
 }
 
 fn state_of(
-    container: &mut Container<Book>,
+    container: &mut Container<StockBodies>,
     bean_type: Name,
     quals: &Quals,
 ) -> Result<Option<Val>, Error> {
@@ -372,7 +371,7 @@ fn state_of(
 
 /// Calls the method that the beans have.
 fn answer_of(
-    container: &mut Container<Book>,
+    container: &mut Container<StockBodies>,
     bean_type: Name,
     quals: &Quals,
     arg: Val,
@@ -383,7 +382,7 @@ fn answer_of(
 
 /// Fires an event without qualifiers.
 fn outcome_of(
-    container: &mut Container<Book>,
+    container: &mut Container<StockBodies>,
     event_type: Name,
     quals: &Quals,
     arg: Val,
@@ -391,22 +390,22 @@ fn outcome_of(
     Ok(value_of(container.fire(event_type, quals, arg)?))
 }
 
-fn begin_request(container: &mut Container<Book>) -> Result<(), Error> {
+fn begin_request(container: &mut Container<StockBodies>) -> Result<(), Error> {
     container.begin_request().map_err(Error::Refused)
 }
 
-fn end_request(container: &mut Container<Book>) -> Result<(), Error> {
+fn end_request(container: &mut Container<StockBodies>) -> Result<(), Error> {
     container.end_request()
 }
 
-fn end_contexts(container: &mut Container<Book>) -> Result<(), AllocError> {
+fn end_contexts(container: &mut Container<StockBodies>) -> Result<(), AllocError> {
     container.stop()
 }
 
 /// Makes a call.
 fn make(
     alloc: Global,
-    container: &mut Container<Book>,
+    container: &mut Container<StockBodies>,
     asked: &Asked,
 ) -> Result<Option<Val>, Error> {
     let quals = Quals::new(alloc);
@@ -423,27 +422,35 @@ fn make(
     Ok(None)
 }
 
-fn trace_text(alloc: Global, container: &Container<Book>) -> Result<Vec<u8>, AllocError> {
+fn trace_text(alloc: Global, container: &Container<StockBodies>) -> Result<Vec<u8>, AllocError> {
     let mut text = Vec::new(alloc);
     container.push_trace(&mut text)?;
     Ok(text)
 }
 
 /// Whether a container shows this trace.
-fn shows(alloc: Global, container: &Container<Book>, wanted: &[u8]) -> Result<bool, AllocError> {
+fn shows(
+    alloc: Global,
+    container: &Container<StockBodies>,
+    wanted: &[u8],
+) -> Result<bool, AllocError> {
     let text = trace_text(alloc, container)?;
     Ok(text.as_slice() == wanted)
 }
 
 /// Whether a call that found no memory answers and shows what it is to when it is made again.
-fn repeats(alloc: Global, container: &mut Container<Book>, step: &Step) -> Result<bool, Error> {
+fn repeats(
+    alloc: Global,
+    container: &mut Container<StockBodies>,
+    step: &Step,
+) -> Result<bool, Error> {
     let value = make(alloc, container, &step.asked)?;
     Ok(value == step.value && shows(alloc, container, step.trace)?)
 }
 
 /// How a step goes that has no memory for its call. An edit and the end of contexts change nothing then. After any other
 /// call nothing is live, and the numbers of instances go on, so the steps end there.
-fn refused(alloc: Global, container: &mut Container<Book>, step: &Step) -> Going {
+fn refused(alloc: Global, container: &mut Container<StockBodies>, step: &Step) -> Going {
     let is_right = match step.asked {
         Put(_) | Remove(_) | End | Stop => repeats(alloc, container, step) == Ok(true),
         _ => container.trace().is_empty(),
@@ -456,7 +463,7 @@ fn refused(alloc: Global, container: &mut Container<Book>, step: &Step) -> Going
 }
 
 /// How a step goes whose call is right. Where there is no memory for the trace's text, the text is asked for again.
-fn shown(alloc: Global, container: &Container<Book>, step: &Step) -> Going {
+fn shown(alloc: Global, container: &Container<StockBodies>, step: &Step) -> Going {
     match shows(alloc, container, step.trace) {
         Ok(true) => Going::Right,
         Ok(false) => Going::Wrong,
@@ -467,7 +474,7 @@ fn shown(alloc: Global, container: &Container<Book>, step: &Step) -> Going {
     }
 }
 
-fn take(alloc: Global, container: &mut Container<Book>, step: &Step) -> Going {
+fn take(alloc: Global, container: &mut Container<StockBodies>, step: &Step) -> Going {
     match make(alloc, container, &step.asked) {
         Ok(value) if value == step.value => shown(alloc, container, step),
         Err(Error::OutOfMemory) => refused(alloc, container, step),
@@ -475,11 +482,11 @@ fn take(alloc: Global, container: &mut Container<Book>, step: &Step) -> Going {
     }
 }
 
-fn declare_one(container: &mut Container<Book>, text: &[u8]) -> Result<(), Error> {
+fn declare_one(container: &mut Container<StockBodies>, text: &[u8]) -> Result<(), Error> {
     container.put(text)
 }
 
-fn declare(container: &mut Container<Book>) -> Result<(), Error> {
+fn declare(container: &mut Container<StockBodies>) -> Result<(), Error> {
     for text in &DECLARED {
         declare_one(container, text)?;
     }
@@ -487,7 +494,7 @@ fn declare(container: &mut Container<Book>) -> Result<(), Error> {
 }
 
 /// Takes the steps up to one that has no memory, and says whether there is one.
-fn take_steps(alloc: Global, container: &mut Container<Book>) -> Result<bool, Difference> {
+fn take_steps(alloc: Global, container: &mut Container<StockBodies>) -> Result<bool, Difference> {
     for (place, step) in STEPS.iter().enumerate() {
         match take(alloc, container, step) {
             Going::Right => {}
@@ -499,7 +506,7 @@ fn take_steps(alloc: Global, container: &mut Container<Book>) -> Result<bool, Di
 }
 
 /// Declares what the steps need, takes them, and says whether there was no memory for one of these.
-fn go_through(alloc: Global, container: &mut Container<Book>) -> Result<bool, Difference> {
+fn go_through(alloc: Global, container: &mut Container<StockBodies>) -> Result<bool, Difference> {
     match declare(container) {
         Ok(()) => take_steps(alloc, container),
         Err(Error::OutOfMemory) => Ok(true),
@@ -507,19 +514,9 @@ fn go_through(alloc: Global, container: &mut Container<Book>) -> Result<bool, Di
     }
 }
 
-/// An empty container with the program's bodies.
-fn empty(alloc: Global) -> Result<Container<Book>, Error> {
-    match Book::new(stock_bodies!(alloc)) {
-        Ok(book) => Ok(Container::new(alloc, book)),
-        Err(_) => Err(Error::OutOfMemory),
-    }
-}
-
 fn run_once(alloc: Global) -> Result<bool, Difference> {
-    match empty(alloc) {
-        Ok(mut container) => go_through(alloc, &mut container),
-        Err(_) => Ok(true),
-    }
+    let mut container = Container::new(alloc, StockBodies);
+    go_through(alloc, &mut container)
 }
 
 /// Takes the steps in a container, and says whether one had no memory. Then all steps are taken in a new container.
