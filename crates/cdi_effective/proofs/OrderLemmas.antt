@@ -1,5 +1,5 @@
 -- The types of each bean of the bean list stand in order.
-use Rattle.std.proofs.Common.{ℕ, List, [], ◌∷◌, ◌++◌, map, Option, Some, None}
+use Rattle.std.proofs.Common.{ℕ, not, List, [], ◌∷◌, ◌++◌, map, Option, Some, None}
 use Rattle.std.specs.List.{AllByRecursion, flat_map}
 use Rattle.std.specs.List.Sorted.{IsStrictlySortedBy}
 use Rattle.std.proofs.lemmas.List.Elements.{All-from_recursion}
@@ -16,6 +16,7 @@ use Rattle.cdi_model.specs.declared.quals.Qual.{Qual}
 use Rattle.cdi_effective.specs.Bindings.{class_bindings}
 use Rattle.cdi_effective.specs.Beans.{is_kept, restricted, effective, managed_origin, product_origin, product, managed}
 use Rattle.cdi_effective.specs.Beans.{entries, beans, TypesStandInOrder}
+use Rattle.cdi_effective.specs.Specialized.{is_replaced}
 use Rattle.cdi_effective.specs.declared.records.Effective.{Effective}
 use Rattle.cdi_effective.specs.declared.records.Origin.{Origin}
 
@@ -37,14 +38,14 @@ products-in-order : (ds : List Decl) (bean : BeanDecl) (ps : List ProducerDecl) 
     → AllByRecursion IsInOrder (map (product ds bean) ps ++ rest)
 products-in-order ds bean [] rest all = all
 products-in-order ds bean (p ∷ ps) rest all = (
-  one-in-order ds (product_origin bean (managed ds bean).is_enabled (managed ds bean).is_alternative p) p.attributes [],
+  one-in-order ds (product_origin ds bean (managed ds bean).is_enabled (managed ds bean).is_alternative p) p.attributes [],
   products-in-order ds bean ps rest all,
 )
 
 all-in-order : (ds es : List Decl) → AllByRecursion IsInOrder (flat_map (entries ds) es)
 all-in-order ds [] = tt
 all-in-order ds (decls.Bean bean ∷ es) = (
-  one-in-order ds (managed_origin bean) bean.attributes (class_bindings ds bean),
+  one-in-order ds (managed_origin ds bean (not (is_replaced ds bean.name))) bean.attributes (class_bindings ds bean),
   products-in-order ds bean bean.producers (flat_map (entries ds) es) (all-in-order ds es),
 )
 all-in-order ds (other ∷ es) = all-in-order ds es

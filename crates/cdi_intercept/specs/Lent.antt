@@ -7,7 +7,6 @@ use Rattle.cdi_model.specs.declared.decl.InterceptorDecl.{InterceptorDecl}
 use Rattle.cdi_model.specs.declared.place.BeanPlace.{BeanPlace}
 use Rattle.cdi_model.specs.declared.quals.Qual.{Qual}
 use Rattle.cdi_match.specs.Bindings.{uses_in}
-use Rattle.cdi_intercept.specs.declared.written.Written.{Written}
 
 abbrev pub lent_in : List (Bor InterceptorDecl) → List InterceptorDecl
 lent_in lent = map (λ i. i.now) lent
@@ -15,7 +14,3 @@ lent_in lent = map (λ i. i.now) lent
 -- a place, with the bindings there
 abbrev pub uses_at : BeanPlace × Vec (Bor Qual) Global → BeanPlace × List Qual
 uses_at z = (z.0, uses_in z.1.items)
-
--- the bindings of some that are written out
-abbrev pub written_in : List Written → List Qual
-written_in list = map (λ w. w.binding.now) list

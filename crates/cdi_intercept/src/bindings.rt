@@ -1,16 +1,13 @@
 //! The bindings at a place of a bean, each once, in order.
 ghost use Rattle.std.specs.Prelude.{◌≡◌, IfOk};
 ghost use Rattle.cdi_model.specs.Answering.{Answers};
-ghost use Rattle.cdi_match.specs.Bindings.{uses_in};
 ghost use Rattle.cdi_effective.specs.Bindings.{class_bindings};
-ghost use Rattle.cdi_effective.specs.Qualifiers.{has_use};
-ghost use Rattle.cdi_intercept.specs.Bindings.{bindings_at, BindingsAreThose, each_once, in_text_order, set_at};
-ghost use Rattle.cdi_intercept.specs.Lent.{written_in};
+ghost use Rattle.cdi_effective.specs.TextOrder.{in_text_order};
+ghost use Rattle.cdi_intercept.specs.Bindings.{bindings_at, BindingsAreThose, set_at};
 ghost use Rattle.cdi_intercept.specs.Sets.{set_by};
 
 use crate::set::{has_place, set_by};
-use crate::written::Written;
-use cdi_effective::class_bindings;
+use cdi_effective::{class_bindings, copies, in_text_order};
 use cdi_model::{BeanDecl, BeanPlace, Decl, Decls, Error, Kind, Name, Qual, Refusal, Seq};
 use std::alloc::{AllocError, Global};
 
@@ -37,7 +34,7 @@ pub fn bindings_at(
 
 /// What the chain around a place of the bean of a class sees of bindings: those there, as `bindings_at` tells them, and none
 /// where no such bean is declared or it has no such place. It takes memory as `bindings_at` does.
-#[tactic(auto, unfolding(crate::specs::Bindings::in_text_order))]
+#[tactic(auto, unfolding(cdi_effective::specs::TextOrder::in_text_order))]
 pub fn bindings_seen(
     alloc: Global,
     decls: &Decls,
@@ -66,69 +63,4 @@ fn bindings_of(
     let set = set_by(alloc, decls, class_set.as_slice(), bean, place)?;
     let bindings = in_text_order(alloc, &set)?;
     copies(alloc, &bindings)
-}
-
-/// Uses, each once, in the byte order of their texts. It takes memory for the list and for the texts.
-fn in_text_order<'a>(alloc: Global, uses: &[&'a Qual]) -> Result<Vec<&'a Qual>, AllocError>
-    ensures { IfOk result (λ list. uses_in list.items ≡ in_text_order (uses_in uses.now)) }
-{
-    let once = each_once(alloc, uses)?;
-    let mut list = with_texts(alloc, &once)?;
-    list.sort_by(|first, second| first.text.cmp(&second.text))?;
-    without_texts(alloc, &list)
-}
-
-/// Uses, each where it stands first.
-fn each_once<'a>(alloc: Global, uses: &[&'a Qual]) -> Result<Vec<&'a Qual>, AllocError>
-    ensures { IfOk result (λ list. uses_in list.items ≡ each_once (uses_in uses.now)) }
-{
-    let mut list = Vec::new(alloc);
-    for binding in uses {
-        if !has_use(&list, binding) {
-            list.push(*binding)?;
-        }
-    }
-    Ok(list)
-}
-
-/// Whether a use is among some as it is written.
-fn has_use(uses: &[&Qual], binding: &Qual) -> bool
-    ensures { result ≡ has_use (uses_in uses.now) binding.now }
-{
-    for other in uses {
-        if binding == *other {
-            return true;
-        }
-    }
-    false
-}
-
-fn with_texts<'a>(alloc: Global, uses: &[&'a Qual]) -> Result<Vec<Written<'a>>, AllocError>
-    ensures { IfOk result (λ list. written_in list.items ≡ uses_in uses.now) }
-{
-    let mut list = Vec::with_capacity(alloc, uses.len())?;
-    for binding in uses {
-        list.push(Written::of(alloc, binding)?)?;
-    }
-    Ok(list)
-}
-
-fn without_texts<'a>(alloc: Global, list: &[Written<'a>]) -> Result<Vec<&'a Qual>, AllocError>
-    ensures { IfOk result (λ bindings. uses_in bindings.items ≡ written_in list.now) }
-{
-    let mut bindings = Vec::with_capacity(alloc, list.len())?;
-    for written in list {
-        bindings.push(written.binding)?;
-    }
-    Ok(bindings)
-}
-
-fn copies(alloc: Global, uses: &[&Qual]) -> Result<Seq<Qual>, AllocError>
-    ensures { IfOk result (λ list. list ≡ uses_in uses.now) }
-{
-    let mut list = Seq::new(alloc);
-    for binding in uses {
-        list.push((*binding).clone()?)?;
-    }
-    Ok(list)
 }

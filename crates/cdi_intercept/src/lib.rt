@@ -9,7 +9,6 @@ mod intercepted;
 mod place_set;
 mod seen;
 mod set;
-mod written;
 
 pub use asked::{chain_of, evaluate_chain};
 pub use bindings::{bindings_at, bindings_seen};

@@ -183,7 +183,7 @@ fn has_record(alloc: Global, decls: &Decls, class: &[u8], wanted: Recorded) -> R
     let Some(bean) = find_bean(decls, class)? else {
         return Ok(false);
     };
-    let records = records_of(alloc, decls, bean)?;
+    let records = records_of(alloc, decls, bean, false)?;
     Ok(begins_with(records.as_slice(), wanted))
 }
 

@@ -1,0 +1,192 @@
+-- A stable sort leaves what is put in order one by one.
+use Rattle.std.proofs.Common.{◌≡◌, true, false, Bool, not, ◌&&◌, cond, ◌<◌, ℕ, zero, suc, arith}
+use Rattle.std.proofs.Common.{List, [], ◌∷◌, length, map, refl, sym, ap, subst, ◌∙◌, inl, inr, true≢false}
+use Rattle.std.specs.Prelude.{slice_index_or}
+use Rattle.std.specs.Cmp.{IsStrictWeakOrder}
+use Rattle.std.specs.List.{AllByRecursion, filter}
+use Rattle.std.specs.List.Sorted.{IsSortedBy, IsStableBy, ties}
+use Rattle.std.proofs.lemmas.Bool.{cases_Bool}
+use Rattle.std.proofs.lemmas.List.Sorted.{sorted_far}
+use native.Mathlib.Numerals.{unary_clauses}
+use Rattle.cdi_effective.specs.Sorting.{put, sorted_by}
+
+both-not : (p q : Bool) → (not p && not q) ≡ true → (p ≡ false) × (q ≡ false)
+both-not false false h = (refl, refl)
+both-not false true h = absurd (true≢false (sym h))
+both-not true q h = absurd (true≢false (sym h))
+
+not-both : (p q : Bool) → p ≡ false → q ≡ false → (not p && not q) ≡ true
+not-both false false a b = refl
+not-both false true a b = absurd (true≢false b)
+not-both true q a b = absurd (true≢false a)
+
+module _ {X : Type 0} where
+  abbrev first-or : X → List X → X
+  first-or d [] = d
+  first-or d (x ∷ xs) = x
+
+  abbrev rest-of : List X → List X
+  rest-of [] = []
+  rest-of (x ∷ xs) = xs
+
+  swapped : (p q : Bool) (x y : X) (r : List X) → (p ≡ true → q ≡ false)
+      → cond q (y ∷ cond p (x ∷ r) r) (cond p (x ∷ r) r) ≡ cond p (x ∷ cond q (y ∷ r) r) (cond q (y ∷ r) r)
+  swapped true true x y r h = absurd (true≢false (h refl))
+  swapped true false x y r h = refl
+  swapped false q x y r h = refl
+
+  peeled : (p : Bool) (x : X) (r s : List X) → cond p (x ∷ r) r ≡ cond p (x ∷ s) s → r ≡ s
+  peeled true x r s e = ap rest-of e
+  peeled false x r s e = e
+
+  all-filter : (P : X → Type 0) (p : X → Bool) (ys : List X) → AllByRecursion P ys → AllByRecursion P (filter p ys)
+  all-filter P p [] h = tt
+  all-filter P p (y ∷ ys) h = elim (cases_Bool (p y)) [
+    | inl e ↦ subst (λ (b : Bool). AllByRecursion P (cond b (y ∷ filter p ys) (filter p ys))) (sym e) (h.0, all-filter P p ys h.1)
+    | inr e ↦ subst (λ (b : Bool). AllByRecursion P (cond b (y ∷ filter p ys) (filter p ys))) (sym e) (all-filter P p ys h.1)
+  ]
+
+module _ {X : Type 0} (lt : X → X → Bool) (o : IsStrictWeakOrder lt) where
+  -- none of some comes before this one
+  abbrev NoneBefore : X → List X → Type 0
+  NoneBefore x ys = AllByRecursion (λ y. lt y x ≡ false) ys
+
+  abbrev Rises : List X → Type 0
+  Rises [] = Unit {0}
+  Rises (x ∷ xs) = NoneBefore x xs × Rises xs
+
+  from-index : (x : X) (ys : List X) → ((k : ℕ) (d : X) → k < length ys → lt (slice_index_or ys k d) x ≡ false) → NoneBefore x ys
+  from-index x [] h = tt
+  from-index x (y ∷ ys) h = (h zero y (omega arith), from-index x ys (λ k d less. h (suc k) d (omega (arith, less))))
+
+  rises : (xs : List X) → IsSortedBy lt xs → Rises xs
+  rises [] s = tt
+  rises (x ∷ xs) s = (
+    from-index x xs (λ k d less. sorted_far lt o (x ∷ xs) s zero (suc k) d (omega arith) (omega (arith, less))),
+    rises xs (λ k d low less. simp unary_clauses (simp unary_clauses at s (suc k) d (omega arith) (omega (arith, less)))),
+  )
+
+  -- ---- one by one
+
+  lower : (x y : X) (ys : List X) → lt y x ≡ false → NoneBefore y ys → NoneBefore x ys
+  lower x y [] e h = tt
+  lower x y (w ∷ ws) e h = (o.chain w y x h.0 e, lower x y ws e h.1)
+
+  put-none : (z x : X) (ys : List X) → lt x z ≡ false → NoneBefore z ys → NoneBefore z (put lt x ys)
+  put-none z x [] f h = (f, tt)
+  put-none z x (y ∷ ys) f h = elim (cases_Bool (lt y x)) [
+    | inl e ↦ subst (λ (b : Bool). NoneBefore z (cond b (y ∷ put lt x ys) (x ∷ y ∷ ys))) (sym e) (h.0, put-none z x ys f h.1)
+    | inr e ↦ subst (λ (b : Bool). NoneBefore z (cond b (y ∷ put lt x ys) (x ∷ y ∷ ys))) (sym e) (f, h)
+  ]
+
+  put-rises : (x : X) (ys : List X) → Rises ys → Rises (put lt x ys)
+  put-rises x [] r = (tt, tt)
+  put-rises x (y ∷ ys) r = elim (cases_Bool (lt y x)) [
+    | inl e ↦ subst (λ (b : Bool). Rises (cond b (y ∷ put lt x ys) (x ∷ y ∷ ys))) (sym e)
+        (put-none y x ys (o.one_way y x e) r.0, put-rises x ys r.1)
+    | inr e ↦ subst (λ (b : Bool). Rises (cond b (y ∷ put lt x ys) (x ∷ y ∷ ys))) (sym e) ((e, lower x y ys e r.0), r)
+  ]
+
+  sorted-rises : (xs : List X) → Rises (sorted_by lt xs)
+  sorted-rises [] = tt
+  sorted-rises (x ∷ xs) = put-rises x (sorted_by lt xs) (sorted-rises xs)
+
+  never-both : (a x y : X) → lt y x ≡ true → ties lt a x ≡ true → ties lt a y ≡ false
+  never-both a x y e tx = elim (cases_Bool (ties lt a y)) [
+    | inl ty ↦ absurd (true≢false (sym e ∙ o.chain y a x (both-not (lt a y) (lt y a) ty).1 (both-not (lt a x) (lt x a) tx).0))
+    | inr f ↦ f
+  ]
+
+  put-ties : (a x : X) (ys : List X) → filter (ties lt a) (put lt x ys) ≡ filter (ties lt a) (x ∷ ys)
+  put-ties a x [] = refl
+  put-ties a x (y ∷ ys) = elim (cases_Bool (lt y x)) [
+    | inl e ↦
+        ap (λ (b : Bool). filter (ties lt a) (cond b (y ∷ put lt x ys) (x ∷ y ∷ ys))) e
+        ∙ ap (λ (r : List X). cond (ties lt a y) (y ∷ r) r) (put-ties a x ys)
+        ∙ swapped (ties lt a x) (ties lt a y) x y (filter (ties lt a) ys) (never-both a x y e)
+    | inr e ↦ ap (λ (b : Bool). filter (ties lt a) (cond b (y ∷ put lt x ys) (x ∷ y ∷ ys))) e
+  ]
+
+  sorted-ties : (a : X) (xs : List X) → filter (ties lt a) (sorted_by lt xs) ≡ filter (ties lt a) xs
+  sorted-ties a [] = refl
+  sorted-ties a (x ∷ xs) = put-ties a x (sorted_by lt xs) ∙ ap (λ (r : List X). cond (ties lt a x) (x ∷ r) r) (sorted-ties a xs)
+
+  -- ---- order and ties leave no choice
+
+  not-before-itself : (x : X) → lt x x ≡ false
+  not-before-itself x = elim (cases_Bool (lt x x)) [
+    | inl e ↦ o.one_way x x e
+    | inr f ↦ f
+  ]
+
+  own : (x : X) (xs : List X) → filter (ties lt x) (x ∷ xs) ≡ x ∷ filter (ties lt x) xs
+  own x xs =
+      ap (λ (b : Bool). cond b (x ∷ filter (ties lt x) xs) (filter (ties lt x) xs))
+      (not-both (lt x x) (lt x x) (not-before-itself x) (not-before-itself x))
+
+  head-of : (y z : X) (zs ws : List X) → NoneBefore z zs → filter (ties lt y) (z ∷ zs) ≡ y ∷ ws → lt y z ≡ false
+  head-of y z zs ws h e = elim (cases_Bool (ties lt y z)) [
+    | inl t ↦ (both-not (lt y z) (lt z y) t).0
+    | inr f ↦
+        let stays : filter (ties lt y) zs ≡ y ∷ ws =
+        sym (ap (λ (b : Bool). cond b (z ∷ filter (ties lt y) zs) (filter (ties lt y) zs)) f) ∙ e in
+        let all : NoneBefore z (y ∷ ws) = subst (λ (l : List X). NoneBefore z l) stays
+        (all-filter (λ w. lt w z ≡ false) (ties lt y) zs h) in
+        all.0
+  ]
+
+  unique : (ys zs : List X) → Rises ys → Rises zs → ((x : X) → filter (ties lt x) ys ≡ filter (ties lt x) zs) → ys ≡ zs
+  unique [] [] ry rz same = refl
+  unique [] (z ∷ zs) ry rz same = absurd (omega (arith, ap length (same z ∙ own z zs)))
+  unique (y ∷ ys) [] ry rz same = absurd (omega (arith, ap length (sym (same y) ∙ own y ys)))
+  unique (y ∷ ys) (z ∷ zs) ry rz same =
+      let yz : lt y z ≡ false = head-of y z zs (filter (ties lt y) ys) rz.0 (sym (same y) ∙ own y ys) in
+      let zy : lt z y ≡ false = head-of z y ys (filter (ties lt z) zs) ry.0 (same z ∙ own z zs) in
+      let heads : y ∷ filter (ties lt y) ys ≡ z ∷ filter (ties lt y) zs =
+      sym (own y ys) ∙ same y ∙ ap (λ (b : Bool). cond b (z ∷ filter (ties lt y) zs) (filter (ties lt y) zs))
+      (not-both (lt y z) (lt z y) yz zy) in
+      let eq : y ≡ z = ap (first-or y) heads in
+      let tails : ys ≡ zs = unique ys zs ry.1 rz.1 (λ x.
+      peeled (ties lt x y) y (filter (ties lt x) ys) (filter (ties lt x) zs)
+      (same x ∙ ap (λ (w : X). cond (ties lt x w) (w ∷ filter (ties lt x) zs) (filter (ties lt x) zs)) (sym eq))) in
+      ap (λ (w : X). w ∷ ys) eq ∙ ap (λ (r : List X). z ∷ r) tails
+
+pub sorted_from_sort : {X : Type 0} (lt : X → X → Bool) → IsStrictWeakOrder lt → (xs ys : List X) → IsSortedBy lt ys → IsStableBy lt xs ys
+    → ys ≡ sorted_by lt xs
+sorted_from_sort lt o xs ys sorted stable =
+    unique lt o ys (sorted_by lt xs) (rises lt o ys sorted) (sorted-rises lt o xs) (λ x. stable x ∙ sym (sorted-ties lt o x xs))
+
+-- ---- by what is in them
+
+put-map : {X Y : Type 0} (f : X → Y) (lt : Y → Y → Bool) (x : X) (ys : List X)
+    → map f (put (λ a b. lt (f a) (f b)) x ys) ≡ put lt (f x) (map f ys)
+put-map f lt x [] = refl
+put-map {X = X} {Y = Y} f lt x (y ∷ ys) =
+    let placed : List X = put (λ a b. lt (f a) (f b)) x ys in
+    let behind : Bool → List Y = λ b. cond b (f y ∷ put lt (f x) (map f ys)) (f x ∷ f y ∷ map f ys) in
+    elim (cases_Bool (lt (f y) (f x))) [
+      | inl e ↦
+          ap (λ (b : Bool). map f (cond b (y ∷ placed) (x ∷ y ∷ ys))) e
+          ∙ ap (λ (r : List Y). f y ∷ r) (put-map f lt x ys) ∙ sym (ap behind e)
+      | inr e ↦ ap (λ (b : Bool). map f (cond b (y ∷ placed) (x ∷ y ∷ ys))) e ∙ sym (ap behind e)
+    ]
+
+pub sorted_map : {X Y : Type 0} (f : X → Y) (lt : Y → Y → Bool) (xs : List X)
+    → map f (sorted_by (λ a b. lt (f a) (f b)) xs) ≡ sorted_by lt (map f xs)
+sorted_map f lt [] = refl
+sorted_map f lt (x ∷ xs) = put-map f lt x (sorted_by (λ a b. lt (f a) (f b)) xs) ∙ ap (put lt (f x)) (sorted_map f lt xs)
+
+-- ---- what holds of each
+
+all-put : {X : Type 0} (P : X → Type 0) (lt : X → X → Bool) (x : X) (ys : List X) → P x → AllByRecursion P ys
+    → AllByRecursion P (put lt x ys)
+all-put P lt x [] here all = (here, tt)
+all-put P lt x (y ∷ ys) here all = elim (cases_Bool (lt y x)) [
+  | inl e ↦ subst (λ (b : Bool). AllByRecursion P (cond b (y ∷ put lt x ys) (x ∷ y ∷ ys))) (sym e)
+      (all.0, all-put P lt x ys here all.1)
+  | inr e ↦ subst (λ (b : Bool). AllByRecursion P (cond b (y ∷ put lt x ys) (x ∷ y ∷ ys))) (sym e) (here, all)
+]
+
+pub all_sorted : {X : Type 0} (P : X → Type 0) (lt : X → X → Bool) (xs : List X) → AllByRecursion P xs → AllByRecursion P (sorted_by lt xs)
+all_sorted P lt [] all = tt
+all_sorted P lt (x ∷ xs) all = all-put P lt x (sorted_by lt xs) all.0 (all_sorted P lt xs all.1)

@@ -1,0 +1,124 @@
+-- A chain, step by step.
+use Rattle.std.proofs.Common.{◌≡◌, ℕ, zero, suc, Bool, true, false, cond, ◌||◌, List, [], ◌∷◌, ◌++◌, refl, ap, ◌∙◌}
+use Rattle.std.proofs.Common.{Option, Some, None, append_assoc, append-nil, sym, ◌<◌, length, take, get_or, is_some, true≢false}
+use Rattle.std.proofs.Math.Seq.{take-suc}
+use Rattle.std.proofs.lemmas.Bool.{false≢true}
+use Rattle.std.proofs.lemmas.List.{map-append}
+use Rattle.std.specs.Borrow.{Bor}
+use Rattle.std.specs.Option.{option_or}
+use Rattle.cdi_model.specs.DeclList.{limit}
+use Rattle.cdi_model.specs.declared.decl.BeanDecl.{BeanDecl}
+use Rattle.cdi_model.specs.declared.decl.Decl.{Decl}
+use Rattle.cdi_model.specs.declared.decl.Decl.TheVariants as decls
+use Rattle.cdi_match.specs.Chain.{has}
+use Rattle.cdi_effective.specs.Specialized.{specialized, on_from, chain_behind, behind, class_names, is_offered, last_name, name_alone}
+use Rattle.cdi_effective.specs.Specialized.{replaced_by}
+use Rattle.cdi_effective.specs.Lent.{beans_in}
+
+abbrev Names : Type 0
+Names = List (List ℕ)
+
+pub ends-none : (n : ℕ) (ds : List Decl) (met : Names) (b : BeanDecl) → specialized ds b ≡ None → chain_behind n ds met b ≡ []
+unfolding chain_behind
+ends-none zero ds met b none = refl
+ends-none (suc n) ds met b none = ap (on_from met (λ s. chain_behind n ds (s.name ∷ met) s)) none
+
+pub ends-met : (n : ℕ) (ds : List Decl) (met : Names) (b s : BeanDecl) → specialized ds b ≡ Some s → has met s.name ≡ true
+    → chain_behind n ds met b ≡ []
+unfolding chain_behind
+ends-met zero ds met b s is known = refl
+ends-met (suc n) ds met b s is known =
+    ap (on_from met (λ s. chain_behind n ds (s.name ∷ met) s)) is
+    ∙ ap (λ k. cond {A = List BeanDecl} k [] (s ∷ chain_behind n ds (s.name ∷ met) s)) known
+
+goes-on : (n : ℕ) (ds : List Decl) (met : Names) (b s : BeanDecl) → specialized ds b ≡ Some s → has met s.name ≡ false
+    → chain_behind (suc n) ds met b ≡ s ∷ chain_behind n ds (s.name ∷ met) s
+unfolding chain_behind
+goes-on n ds met b s is new =
+    ap (on_from met (λ s. chain_behind n ds (s.name ∷ met) s)) is
+    ∙ ap (λ k. cond {A = List BeanDecl} k [] (s ∷ chain_behind n ds (s.name ∷ met) s)) new
+
+-- one bean more
+pub one-more : (n m : ℕ) (ds : List Decl) (met : Names) (b s : BeanDecl) (list whole : List BeanDecl) → n ≡ suc m
+    → specialized ds b ≡ Some s → has met s.name ≡ false → list ++ chain_behind n ds met b ≡ whole
+    → (list ++ s ∷ []) ++ chain_behind m ds (s.name ∷ met) s ≡ whole
+one-more n m ds met b s list whole less is new before =
+    append_assoc list (s ∷ []) (chain_behind m ds (s.name ∷ met) s)
+    ∙ ap (λ rest. list ++ rest) (sym (goes-on m ds met b s is new))
+    ∙ ap (λ k. list ++ chain_behind k ds met b) (sym less) ∙ before
+
+pub none-behind : (ds : List Decl) (b : BeanDecl) → b.specializes ≡ false → behind ds b ≡ []
+unfolding behind
+none-behind ds b none = ends-none limit ds (b.name ∷ []) b (rw none refl)
+
+pub all-behind : (ds : List Decl) (b : BeanDecl) → chain_behind limit ds (b.name ∷ []) b ≡ behind ds b
+unfolding behind
+all-behind ds b = refl
+
+pub ended : (list rest whole : List BeanDecl) → rest ≡ [] → list ++ rest ≡ whole → list ≡ whole
+ended list rest whole none all = sym (append-nil list) ∙ ap (λ more. list ++ more) (sym none) ∙ all
+
+pub no-steps : (n : ℕ) (ds : List Decl) (met : Names) (b : BeanDecl) → n ≡ 0 → chain_behind n ds met b ≡ []
+unfolding chain_behind
+no-steps n ds met b none = ap (λ k. chain_behind k ds met b) none
+
+pub either : (b x : Bool) → cond b true x ≡ (b || x)
+either true x = refl
+either false x = refl
+
+pub moved : (e o r : Bool) → (cond e true o || r) ≡ (o || (e || r))
+moved true true r = refl
+moved true false r = refl
+moved false o r = refl
+
+-- ---- what is replaced
+
+pub none-specialized : (ds : List Decl) (b : BeanDecl) → b.specializes ≡ false → replaced_by ds (decls.Bean b) ≡ []
+unfolding replaced_by
+none-specialized ds b none = by (is_offered ds b)
+  where
+    by : (o : Bool) → cond {A = Names} o (class_names (behind ds b)) [] ≡ []
+    by true = ap class_names (none-behind ds b none)
+    by false = refl
+
+pub none-offered : (ds : List Decl) (b : BeanDecl) → is_offered ds b ≡ false → replaced_by ds (decls.Bean b) ≡ []
+unfolding replaced_by
+none-offered ds b none = ap (λ o. cond {A = Names} o (class_names (behind ds b)) []) none
+
+pub is-offered : (ds : List Decl) (b : BeanDecl) → is_offered ds b ≡ true → class_names (behind ds b) ≡ replaced_by ds (decls.Bean b)
+unfolding replaced_by
+is-offered ds b is = sym (ap (λ o. cond {A = Names} o (class_names (behind ds b)) []) is)
+
+-- ---- the name of the last one
+
+or-none : (x : Option (List ℕ)) → x ≡ option_or x None
+or-none None = refl
+or-none (Some n) = refl
+
+or-assoc : (x y z : Option (List ℕ)) → option_or (option_or x y) z ≡ option_or x (option_or y z)
+or-assoc None y z = refl
+or-assoc (Some n) y z = refl
+
+pub last-name : (ds : List Decl) (bs : List BeanDecl) (b : BeanDecl)
+    → last_name ds (bs ++ b ∷ []) ≡ option_or (name_alone ds b) (last_name ds bs)
+last-name ds [] b = or-none (name_alone ds b)
+last-name ds (c ∷ cs) b = ap (λ name. option_or name (name_alone ds c)) (last-name ds cs b)
+    ∙ or-assoc (name_alone ds b) (last_name ds cs) (name_alone ds c)
+
+pub name-step : (ds : List Decl) (b : BeanDecl) (xs : List (Bor BeanDecl)) (left i : ℕ) (x : Bor BeanDecl) → left ≡ suc i → i < length xs
+    → x ≡ get_or xs i x
+    → last_name ds (b ∷ beans_in (take left xs)) ≡ option_or (name_alone ds x.now) (last_name ds (b ∷ beans_in (take i xs)))
+name-step ds b xs left i x next within is =
+    ap (λ k. last_name ds (b ∷ beans_in (take k xs))) next
+    ∙ ap (λ l. last_name ds (b ∷ beans_in l)) (take-suc xs i x within)
+    ∙ ap (λ y. last_name ds (b ∷ beans_in (take i xs ++ y ∷ []))) (sym is)
+    ∙ ap (λ l. last_name ds (b ∷ l)) (map-append (λ (c : Bor BeanDecl). c.now) (take i xs) (x ∷ []))
+    ∙ last-name ds (b ∷ beans_in (take i xs)) x.now
+
+pub or-first : (x y : Option (List ℕ)) → is_some x ≡ true → x ≡ option_or x y
+or-first None y some = absurd (false≢true some)
+or-first (Some n) y some = refl
+
+pub or-second : (x y : Option (List ℕ)) → is_some x ≡ false → y ≡ option_or x y
+or-second None y none = refl
+or-second (Some n) y none = absurd (true≢false none)

@@ -1,0 +1,256 @@
+-- Uses in the byte order of their texts, each once.
+use Rattle.std.proofs.Common.{arith, suc, zero}
+use Rattle.std.proofs.Common.{◌≡◌, ℕ, Bool, true, false, cond, ◌||◌, List, [], ◌∷◌, ◌++◌, map, fold}
+use Rattle.std.proofs.Common.{Ordering, Less, Equal, Greater, refl, sym, ap, subst, ◌∙◌, inl, inr}
+use Rattle.std.proofs.Math.Bool.{or_assoc, or-false, or-true}
+use Rattle.std.specs.Cmp.{IsStrictWeakOrder}
+use Rattle.std.specs.Cmp.Lexicographic.{nat_list_cmp_total}
+use Rattle.std.specs.List.{AllByRecursion, AllPairs, IsDistinct, list_any}
+use Rattle.std.specs.List.Sorted.{IsStrictlySortedBy}
+use Rattle.std.specs.Ordering.{is_lt}
+use Rattle.std.proofs.lemmas.Bool.{false≢true, false_from_ne_true, or_cases, or_left, or_right}
+use Rattle.std.proofs.lemmas.List.Elements.{All-from_recursion}
+use Rattle.std.proofs.lemmas.List.Folds.{list_any-append}
+use Rattle.std.proofs.lemmas.List.Sorted.{ranks_by}
+use Rattle.std.proofs.lemmas.Map.Keys.{IsDistinct-push}
+use Rattle.std.proofs.lemmas.Map.Made.{AllPairs-from_IsDistinct}
+use Rattle.cdi_model.specs.Bytes.{byte_order}
+use Rattle.cdi_model.specs.SameUse.{same_qual, same_qual-decides, same_qual_equiv}
+use Rattle.cdi_model.specs.UseText.{text_of_use}
+use Rattle.cdi_model.specs.declared.quals.Qual.{Qual}
+use Rattle.cdi_model.proofs.QualLemmas.{before-all, same_name, turned_order}
+use Rattle.cdi_match.proofs.OrderLemmas.{or-left_comm}
+use Rattle.cdi_effective.specs.Sorting.{put, sorted_by}
+use Rattle.cdi_effective.specs.TextOrder.{has_use, with_use, each_once, is_before_in_text, in_text_order, TextsTellApart, AreInTextOrder}
+
+-- ---- which uses they are
+
+-- a use among some that passes a test is one of them that does
+absorbed : (p : Qual → Bool) (us : List Qual) (u : Qual) → has_use us u ≡ true → p u ≡ true → list_any p us ≡ true
+absorbed p [] u among is = absurd (false≢true among)
+absorbed p (v ∷ us) u among is =
+    elim (or_cases (same_qual u v) (has_use us u) among) [
+      | inl here ↦ or_left (p v) (list_any p us) (ap p (sym ((same_qual-decides u v).0 here)) ∙ is)
+      | inr there ↦ or_right (p v) (list_any p us) (absorbed p us u there is)
+    ]
+
+any-with_use : (p : Qual → Bool) (us : List Qual) (u : Qual) → list_any p (with_use us u) ≡ (list_any p us || p u)
+any-with_use p us u = by (has_use us u) refl (p u) refl
+  where
+    by : (b : Bool) → has_use us u ≡ b → (c : Bool) → p u ≡ c → list_any p (cond b us (us ++ u ∷ [])) ≡ (list_any p us || p u)
+    by false e c f = list_any-append p us (u ∷ []) ∙ ap (λ b. list_any p us || b) (or-false (p u))
+    by true e true f = absorbed p us u e f ∙ sym (ap (λ b. list_any p us || b) f ∙ or-true (list_any p us))
+    by true e false f = sym (ap (λ b. list_any p us || b) f ∙ or-false (list_any p us))
+
+any-once : (p : Qual → Bool) (us seen : List Qual) → list_any p (fold with_use seen us) ≡ (list_any p seen || list_any p us)
+any-once p [] seen = sym (or-false (list_any p seen))
+any-once p (u ∷ us) seen =
+    any-once p us (with_use seen u) ∙ ap (λ b. b || list_any p us) (any-with_use p seen u)
+    ∙ or_assoc (list_any p seen) (p u) (list_any p us)
+
+module _ {X : Type 0} (before : X → X → Bool) where
+  any-put : (p : X → Bool) (x : X) (ys : List X) → list_any p (put before x ys) ≡ (p x || list_any p ys)
+  any-put p x [] = refl
+  any-put p x (y ∷ ys) = by (before y x) (any-put p x ys)
+    where
+      by : (b : Bool) → list_any p (put before x ys) ≡ (p x || list_any p ys)
+          → list_any p (cond b (y ∷ put before x ys) (x ∷ y ∷ ys)) ≡ (p x || (p y || list_any p ys))
+      by true rest = ap (λ b. p y || b) rest ∙ or-left_comm (p y) (p x) (list_any p ys)
+      by false rest = refl
+
+  any-sorted : (p : X → Bool) (xs : List X) → list_any p (sorted_by before xs) ≡ list_any p xs
+  any-sorted p [] = refl
+  any-sorted p (x ∷ xs) = any-put p x (sorted_by before xs) ∙ ap (λ b. p x || b) (any-sorted p xs)
+
+-- a test passes for one of the uses in order exactly where it does for one of the uses
+pub any-in_text_order : (p : Qual → Bool) (us : List Qual) → list_any p (in_text_order us) ≡ list_any p us
+unfolding in_text_order
+any-in_text_order p us = any-sorted is_before_in_text p (each_once us) ∙ any-once p us []
+
+-- ---- each stands once
+
+distinct-once : (us seen : List Qual) → IsDistinct same_qual seen → IsDistinct same_qual (fold with_use seen us)
+distinct-once [] seen apart = apart
+distinct-once (u ∷ us) seen apart = distinct-once us (with_use seen u) (by (has_use seen u) refl)
+  where
+    by : (b : Bool) → has_use seen u ≡ b → IsDistinct same_qual (cond b seen (seen ++ u ∷ []))
+    by true e = apart
+    by false e = IsDistinct-push same_qual_equiv seen u apart e
+
+all-put : {X : Type 0} (P : X → Type 0) (before : X → X → Bool) (x : X) (ys : List X) → P x → AllByRecursion P ys
+    → AllByRecursion P (put before x ys)
+all-put P before x [] here all = (here, tt)
+all-put P before x (y ∷ ys) here all = by (before y x) (all-put P before x ys here all.1)
+  where
+    by : (b : Bool) → AllByRecursion P (put before x ys) → AllByRecursion P (cond b (y ∷ put before x ys) (x ∷ y ∷ ys))
+    by true rest = (all.0, rest)
+    by false rest = (here, all)
+
+module _ {X Y : Type 0} (f : X → Y) where
+  -- no two have one value
+  abbrev Apart : List X → Type 0
+  Apart [] = Unit {0}
+  Apart (x ∷ xs) = AllByRecursion (λ y. f x ≡ f y → ⊥) xs × Apart xs
+
+  put-apart : (before : X → X → Bool) (x : X) (ys : List X) → AllByRecursion (λ y. f x ≡ f y → ⊥) ys → Apart ys → Apart (put before x ys)
+  put-apart before x [] all apart = (tt, tt)
+  put-apart before x (y ∷ ys) all apart = by (before y x) (put-apart before x ys all.1 apart.1)
+    where
+      by : (b : Bool) → Apart (put before x ys) → Apart (cond b (y ∷ put before x ys) (x ∷ y ∷ ys))
+      by true rest = (all-put (λ z. f y ≡ f z → ⊥) before x ys (λ e. all.0 (sym e)) apart.0, rest)
+      by false rest = (all, apart)
+
+  all-sorted : (P : X → Type 0) (before : X → X → Bool) (xs : List X) → AllByRecursion P xs → AllByRecursion P (sorted_by before xs)
+  all-sorted P before [] all = tt
+  all-sorted P before (x ∷ xs) all = all-put P before x (sorted_by before xs) all.0 (all-sorted P before xs all.1)
+
+  sorted-apart : (before : X → X → Bool) (xs : List X) → Apart xs → Apart (sorted_by before xs)
+  sorted-apart before [] apart = tt
+  sorted-apart before (x ∷ xs) apart = put-apart before x (sorted_by before xs)
+      (all-sorted (λ y. f x ≡ f y → ⊥) before xs apart.0) (sorted-apart before xs apart.1)
+
+none-apart : (u : Qual) (us : List Qual) → AllByRecursion (λ v. same_qual u v ≡ false) us → AllByRecursion (λ v. u ≡ v → ⊥) us
+none-apart u [] all = tt
+none-apart u (v ∷ us) all = (λ e. false≢true (sym all.0 ∙ (same_qual-decides u v).1 e), none-apart u us all.1)
+
+apart-from : (us : List Qual) → IsDistinct same_qual us → Apart (λ (u : Qual). u) us
+unfolding IsDistinct
+apart-from [] distinct = tt
+apart-from (u ∷ us) distinct = (none-apart u us distinct.0, apart-from us distinct.1)
+
+none-same : (u : Qual) (us : List Qual) → AllByRecursion (λ v. u ≡ v → ⊥) us → AllByRecursion (λ v. same_qual u v ≡ false) us
+none-same u [] all = tt
+none-same u (v ∷ us) all = (false_from_ne_true (same_qual u v) (λ h. all.0 ((same_qual-decides u v).0 h)), none-same u us all.1)
+
+distinct-from : (us : List Qual) → Apart (λ (u : Qual). u) us → IsDistinct same_qual us
+unfolding IsDistinct
+distinct-from [] apart = tt
+distinct-from (u ∷ us) apart = (none-same u us apart.0, distinct-from us apart.1)
+
+once-distinct : (us : List Qual) → IsDistinct same_qual (each_once us)
+unfolding IsDistinct
+once-distinct us = distinct-once us [] tt
+
+order-distinct : (us : List Qual) → IsDistinct same_qual (in_text_order us)
+unfolding in_text_order
+order-distinct us = distinct-from (sorted_by is_before_in_text (each_once us))
+    (sorted-apart (λ (u : Qual). u) is_before_in_text (each_once us) (apart-from (each_once us) (once-distinct us)))
+
+-- ---- none comes before an earlier one
+
+module _ {X : Type 0} (before : X → X → Bool) (o : IsStrictWeakOrder before) where
+  -- none comes before this one
+  abbrev NoneBefore : X → List X → Type 0
+  NoneBefore x ys = AllByRecursion (λ y. before y x ≡ false) ys
+
+  abbrev InTurn : List X → Type 0
+  InTurn [] = Unit {0}
+  InTurn (x ∷ xs) = NoneBefore x xs × InTurn xs
+
+  none-lower : (x y : X) (ys : List X) → before y x ≡ false → NoneBefore y ys → NoneBefore x ys
+  none-lower x y [] e none = tt
+  none-lower x y (z ∷ zs) e none = (o.chain z y x none.0 e, none-lower x y zs e none.1)
+
+  put-in_turn : (x : X) (ys : List X) → InTurn ys → InTurn (put before x ys)
+  put-in_turn x [] turn = (tt, tt)
+  put-in_turn x (y ∷ ys) turn = by (before y x) refl (put-in_turn x ys turn.1)
+    where
+      by : (b : Bool) → before y x ≡ b → InTurn (put before x ys) → InTurn (cond b (y ∷ put before x ys) (x ∷ y ∷ ys))
+      by true e rest = (all-put (λ z. before z y ≡ false) before x ys (o.one_way y x e) turn.0, rest)
+      by false e rest = ((e, none-lower x y ys e turn.0), turn)
+
+  sorted-in_turn : (xs : List X) → InTurn (sorted_by before xs)
+  sorted-in_turn [] = tt
+  sorted-in_turn (x ∷ xs) = put-in_turn x (sorted_by before xs) (sorted-in_turn xs)
+
+  pairs-in_turn : (xs : List X) → InTurn xs → AllPairs (λ x y. before y x ≡ false) xs
+  pairs-in_turn [] turn i j d later within = absurd (omega (arith, within))
+  pairs-in_turn (x ∷ xs) turn zero zero d later within = absurd (omega (arith, later))
+  pairs-in_turn (x ∷ xs) turn zero (suc j) d later within =
+      All-from_recursion (λ y. before y x ≡ false) xs turn.0 j d (omega (arith, within))
+  pairs-in_turn (x ∷ xs) turn (suc i) zero d later within = absurd (omega (arith, later))
+  pairs-in_turn (x ∷ xs) turn (suc i) (suc j) d later within =
+      pairs-in_turn xs turn.1 i j d (omega (arith, later)) (omega (arith, within))
+
+order-in_turn : (us : List Qual) → AllPairs (λ u v. is_before_in_text v u ≡ false) (in_text_order us)
+unfolding in_text_order
+order-in_turn us =
+    let order = ranks_by nat_list_cmp_total text_of_use in
+    pairs-in_turn is_before_in_text order (sorted_by is_before_in_text (each_once us))
+    (sorted-in_turn is_before_in_text order (each_once us))
+
+-- ---- their texts rise
+
+module _ {X : Type 0} (text : X → List ℕ) where
+  abbrev earlier : X → X → Bool
+  earlier x y = is_lt (byte_order (text x) (text y))
+
+  below-put : (t : List ℕ) (x : X) (ys : List X) → byte_order t (text x) ≡ Less → AllByRecursion (λ s. byte_order t s ≡ Less) (map text ys)
+      → AllByRecursion (λ s. byte_order t s ≡ Less) (map text (put earlier x ys))
+  below-put t x [] here all = (here, tt)
+  below-put t x (y ∷ ys) here all = by (earlier y x) (below-put t x ys here all.1)
+    where
+      by : (b : Bool) → AllByRecursion (λ s. byte_order t s ≡ Less) (map text (put earlier x ys))
+          → AllByRecursion (λ s. byte_order t s ≡ Less) (map text (cond b (y ∷ put earlier x ys) (x ∷ y ∷ ys)))
+      by true rest = (all.0, rest)
+      by false rest = (here, all)
+
+  put-rises : (x : X) (ys : List X) → AllByRecursion (λ y. text x ≡ text y → ⊥) ys → IsStrictlySortedBy byte_order (map text ys)
+      → IsStrictlySortedBy byte_order (map text (put earlier x ys))
+  unfolding IsStrictlySortedBy
+  put-rises x [] apart rise = (tt, tt)
+  put-rises x (y ∷ ys) apart rise = by (byte_order (text y) (text x)) refl (put-rises x ys apart.1 rise.1)
+    where
+      by : (o : Ordering) → byte_order (text y) (text x) ≡ o → IsStrictlySortedBy byte_order (map text (put earlier x ys))
+          → IsStrictlySortedBy byte_order (map text (cond (is_lt o) (y ∷ put earlier x ys) (x ∷ y ∷ ys)))
+      by Less e rest = (below-put (text y) x ys e rise.0, rest)
+      by Equal e rest = absurd (apart.0 (sym (same_name (text y) (text x) e)))
+      by Greater e rest =
+          let before : byte_order (text x) (text y) ≡ Less = turned_order (text y) (text x) Greater e in
+          ((before, before-all (text x) (text y) (map text ys) before rise.0), rise)
+
+  sorted-rises : (xs : List X) → Apart text xs → IsStrictlySortedBy byte_order (map text (sorted_by earlier xs))
+  unfolding IsStrictlySortedBy
+  sorted-rises [] apart = tt
+  sorted-rises (x ∷ xs) apart = put-rises x (sorted_by earlier xs)
+      (all-sorted text (λ y. text x ≡ text y → ⊥) earlier xs apart.0) (sorted-rises xs apart.1)
+
+-- each of some uses is among others
+abbrev AreAmong : List Qual → List Qual → Type 0
+AreAmong xs us = (u : Qual) → has_use xs u ≡ true → has_use us u ≡ true
+
+itself : (u : Qual) → same_qual u u ≡ true
+itself u = (same_qual-decides u u).1 refl
+
+texts-differ : (us xs : List Qual) (u : Qual) → TextsTellApart us → has_use us u ≡ true → AreAmong xs us
+    → AllByRecursion (λ v. same_qual u v ≡ false) xs → AllByRecursion (λ v. text_of_use u ≡ text_of_use v → ⊥) xs
+texts-differ us [] u tell here among all = tt
+texts-differ us (v ∷ xs) u tell here among all = (
+  λ e. false≢true (sym all.0
+      ∙ (same_qual-decides u v).1 (tell u v here (among v (or_left (same_qual v v) (has_use xs v) (itself v))) e)),
+  texts-differ us xs u tell here (λ w h. among w (or_right (same_qual w v) (has_use xs w) h)) all.1,
+)
+
+texts-apart : (us xs : List Qual) → TextsTellApart us → AreAmong xs us → IsDistinct same_qual xs → Apart text_of_use xs
+unfolding IsDistinct
+texts-apart us [] tell among distinct = tt
+texts-apart us (u ∷ xs) tell among distinct =
+    let rest : AreAmong xs us = λ w h. among w (or_right (same_qual w u) (has_use xs w) h) in (
+      texts-differ us xs u tell (among u (or_left (same_qual u u) (has_use xs u) (itself u))) rest distinct.0,
+      texts-apart us xs tell rest distinct.1,
+    )
+
+order-rises : (us : List Qual) → TextsTellApart us → IsStrictlySortedBy byte_order (map text_of_use (in_text_order us))
+unfolding in_text_order
+order-rises us tell = sorted-rises text_of_use (each_once us)
+    (texts-apart us (each_once us) tell (λ u h. sym (any-once (same_qual u) us []) ∙ h) (once-distinct us))
+
+-- ---- the uses in order
+
+pub are_in_text_order : (us : List Qual) → AreInTextOrder (in_text_order us) us
+are_in_text_order us = record {
+  each = λ u. any-in_text_order (same_qual u) us;
+  once = AllPairs-from_IsDistinct same_qual-decides (in_text_order us) (order-distinct us);
+  in_turn = order-in_turn us;
+  rise = order-rises us;
+}

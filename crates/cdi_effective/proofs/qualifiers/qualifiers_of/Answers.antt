@@ -1,0 +1,15 @@
+use Rattle.std.proofs.Common.{◌≡◌, [], length, ap, sym, ◌∙◌, arith}
+use Rattle.std.proofs.lemmas.Grind.{common_steps}
+use Rattle.std.proofs.lemmas.Result.{IfOk-weaker}
+use Rattle.cdi_match.specs.Bindings.{uses_in}
+use Rattle.cdi_effective.specs.Qualifiers.{qualifiers_of}
+use Rattle.cdi_effective.proofs.QualifierLemmas.{built-in-order, empty}
+use Rattle.cdi_effective.proofs.qualifiers.qualifiers_of.Goals as goal
+
+pub returns-then-is_empty-2 : goal.returns-then-is_empty-2
+returns-then-is_empty-2 c =
+    let none : length c.args.declared.now ≡ 0 = grind (arith, common_steps) in
+    let no_last : length c.args.last.now ≡ 0 = grind (arith, common_steps) in
+    IfOk-weaker c.built_in.result _ _ (λ quals is. is ∙ built-in-order c.args.name
+    ∙ ap (λ list. qualifiers_of (uses_in list) [] c.args.name) (sym (empty c.args.declared.now none))
+    ∙ ap (λ list. qualifiers_of (uses_in c.args.declared.now) list c.args.name) (sym (empty c.args.last.now no_last))) c.built_in.ensures

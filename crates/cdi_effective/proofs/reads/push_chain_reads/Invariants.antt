@@ -1,0 +1,8 @@
+use Rattle.std.proofs.Common.{◌≡◌, ◌++◌, flat_map}
+use Rattle.cdi_effective.specs.Lent.{beans_in}
+use Rattle.cdi_effective.specs.Reads.{chain_reads, link_reads}
+use Rattle.cdi_effective.proofs.reads.push_chain_reads.Given as goal
+
+abbrev pub invariant-loop-other : goal.invariant-loop-other
+invariant-loop-other l =
+    l.keys.items ++ flat_map (link_reads l.decls) (beans_in l.other-iterator.rest.items) ≡ l.fn.keys.items ++ chain_reads l.decls l.bean

@@ -1,0 +1,7 @@
+use Rattle.std.proofs.Common.{◌≡◌, drop}
+use Rattle.cdi_match.specs.Bindings.{uses_in}
+use Rattle.cdi_effective.specs.TextOrder.{has_use}
+use Rattle.cdi_effective.proofs.text_order.has_use.Given as goal
+
+abbrev pub invariant-loop-other : goal.invariant-loop-other
+invariant-loop-other l = has_use (uses_in (drop l.other-index l.uses)) l.binding ≡ has_use (uses_in l.uses) l.binding

@@ -1,0 +1,7 @@
+use Rattle.std.proofs.Common.{◌≡◌, ◌++◌, drop}
+use Rattle.cdi_match.specs.Bindings.{uses_in}
+use Rattle.cdi_effective.specs.TextOrder.{written_in}
+use Rattle.cdi_effective.proofs.text_order.with_texts.Given as goal
+
+abbrev pub invariant-loop-binding : goal.invariant-loop-binding
+invariant-loop-binding l = written_in l.list.items ++ uses_in (drop l.binding-index l.uses) ≡ uses_in l.uses

@@ -1,6 +1,0 @@
-use Rattle.std.proofs.Common.{◌≡◌, ◌++◌, drop}
-use Rattle.cdi_match.specs.Bindings.{uses_in}
-use Rattle.cdi_intercept.proofs.bindings.copies.Given as goal
-
-abbrev pub invariant-loop-binding : goal.invariant-loop-binding
-invariant-loop-binding l = l.list ++ uses_in (drop l.binding-index l.uses) ≡ uses_in l.uses

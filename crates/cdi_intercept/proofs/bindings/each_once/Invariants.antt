@@ -1,7 +1,0 @@
-use Rattle.std.proofs.Common.{◌≡◌, drop, fold}
-use Rattle.cdi_match.specs.Bindings.{uses_in}
-use Rattle.cdi_intercept.specs.Bindings.{each_once, with_use}
-use Rattle.cdi_intercept.proofs.bindings.each_once.Given as goal
-
-abbrev pub invariant-loop-binding : goal.invariant-loop-binding
-invariant-loop-binding l = fold with_use (uses_in l.list.items) (uses_in (drop l.binding-index l.uses)) ≡ each_once (uses_in l.uses)

@@ -1,7 +1,0 @@
-use Rattle.std.proofs.Common.{◌≡◌, ◌++◌, drop}
-use Rattle.cdi_match.specs.Bindings.{uses_in}
-use Rattle.cdi_intercept.specs.Lent.{written_in}
-use Rattle.cdi_intercept.proofs.bindings.without_texts.Given as goal
-
-abbrev pub invariant-loop-written : goal.invariant-loop-written
-invariant-loop-written l = uses_in l.bindings.items ++ written_in (drop l.written-index l.list) ≡ written_in l.list
