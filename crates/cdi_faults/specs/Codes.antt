@@ -18,10 +18,12 @@ all_codes =
     ∷ codes_are.BindingConflict ∷ codes_are.Member ∷ codes_are.Disposer ∷ codes_are.ConditionalDependent
     ∷ codes_are.Body ∷ codes_are.NoBinding
     ∷ codes_are.Unsatisfied ∷ codes_are.Ambiguous ∷ codes_are.Unproxyable ∷ codes_are.Site
-    ∷ codes_are.NameClash ∷ codes_are.NamePrefix ∷ codes_are.Circular ∷ []
+    ∷ codes_are.NameClash ∷ codes_are.NamePrefix ∷ codes_are.Circular
+    ∷ codes_are.NoSpecialized ∷ codes_are.SpecializedType ∷ codes_are.SpecializedName ∷ codes_are.SpecializedTwice ∷ []
 
 abbrev pub code_of : Fault → Code
 code_of (faults_are.Declared code kind name subject) = code
 code_of (faults_are.NameClash name) = codes_are.NameClash
 code_of (faults_are.NamePrefix name longer) = codes_are.NamePrefix
 code_of (faults_are.Circular class producer) = codes_are.Circular
+code_of (faults_are.SpecializedTwice specialized first second) = codes_are.SpecializedTwice

@@ -70,6 +70,10 @@ text_of_code fault_codes.Site = codes "F23"
 text_of_code fault_codes.NameClash = codes "F24"
 text_of_code fault_codes.NamePrefix = codes "F25"
 text_of_code fault_codes.Circular = codes "F26"
+text_of_code fault_codes.NoSpecialized = codes "F27"
+text_of_code fault_codes.SpecializedType = codes "F28"
+text_of_code fault_codes.SpecializedName = codes "F29"
+text_of_code fault_codes.SpecializedTwice = codes "F30"
 
 -- the name of the code
 abbrev pub word_of_code : Code → List ℕ
@@ -91,18 +95,23 @@ word_of_code fault_codes.Site = codes "Site"
 word_of_code fault_codes.NameClash = codes "NameClash"
 word_of_code fault_codes.NamePrefix = codes "NamePrefix"
 word_of_code fault_codes.Circular = codes "Circular"
+word_of_code fault_codes.NoSpecialized = codes "NoSpecialized"
+word_of_code fault_codes.SpecializedType = codes "SpecializedType"
+word_of_code fault_codes.SpecializedName = codes "SpecializedName"
+word_of_code fault_codes.SpecializedTwice = codes "SpecializedTwice"
 
 -- behind a space, where it is not empty
 abbrev pub behind_space : List ℕ → List ℕ
 behind_space [] = []
 behind_space (c ∷ cs) = space ∷ c ∷ cs
 
--- what a fault is about: the kind and the name of the declaration, and the subject; or the names; or a bean by its id
+-- what a fault is about: the kind and the name of the declaration, and the subject; or the names; or a bean by its id; or three beans
 abbrev pub text_behind_code : Fault → List ℕ
 text_behind_code (faults_are.Declared code kind name subject) = about (word_of_kind kind) (name ++ behind_space (text_of_subject subject))
 text_behind_code (faults_are.NameClash name) = about (codes "name") name
 text_behind_code (faults_are.NamePrefix name longer) = about (codes "name") (name ++ space ∷ longer)
 text_behind_code (faults_are.Circular class producer) = about (codes "bean") (text_of_id (record { class = class; producer = producer }))
+text_behind_code (faults_are.SpecializedTwice specialized first second) = about (codes "bean") (specialized ++ space ∷ first ++ space ∷ second)
 
 -- each prints its code first
 abbrev pub text_of_fault : Fault → List ℕ

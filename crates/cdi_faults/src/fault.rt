@@ -47,12 +47,20 @@ pub enum Code {
     NamePrefix,
     /// A dependent bean needs itself before it can be made (profile).
     Circular,
+    /// A bean says that it specializes another, and its class extends none that has a bean (CDI 4.0, Specialization).
+    NoSpecialized,
+    /// A bean lacks a type of the bean that it specializes (CDI 4.0, Specialization).
+    SpecializedType,
+    /// A bean gives itself a name, and the bean that it specializes has one (CDI 4.0, Specialization).
+    SpecializedName,
+    /// Two enabled beans specialize one bean (CDI 4.0, Inconsistent specialization).
+    SpecializedTwice,
 }
 
 impl Code {
     /// All codes, in their order.
     #[tactic(auto, using(crate::proofs::CodeLemmas::codes_rise, crate::proofs::CodeLemmas::has_code))]
-    pub fn all() -> [Code; 18]
+    pub fn all() -> [Code; 22]
         ensures value { result ≡ all_codes }
         ensures order { IsStrictlySortedBy code_order all_codes }
         ensures each { (code : Code) → Contains all_codes code }
@@ -76,6 +84,10 @@ impl Code {
             Code::NameClash,
             Code::NamePrefix,
             Code::Circular,
+            Code::NoSpecialized,
+            Code::SpecializedType,
+            Code::SpecializedName,
+            Code::SpecializedTwice,
         ]
     }
 }
@@ -141,6 +153,12 @@ pub enum Fault {
         class: Name,
         producer: Option<Ident>,
     },
+    /// The class of a bean that two enabled beans specialize, and the classes of these in the order of their declarations.
+    SpecializedTwice {
+        specialized: Name,
+        first: Name,
+        second: Name,
+    },
 }
 
 impl Fault {
@@ -153,6 +171,7 @@ impl Fault {
             Fault::NameClash(_) => Code::NameClash,
             Fault::NamePrefix(..) => Code::NamePrefix,
             Fault::Circular { .. } => Code::Circular,
+            Fault::SpecializedTwice { .. } => Code::SpecializedTwice,
         }
     }
 }

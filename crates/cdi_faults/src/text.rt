@@ -37,6 +37,10 @@ impl fmt::Display for Code {
             Code::NameClash => "F24",
             Code::NamePrefix => "F25",
             Code::Circular => "F26",
+            Code::NoSpecialized => "F27",
+            Code::SpecializedType => "F28",
+            Code::SpecializedName => "F29",
+            Code::SpecializedTwice => "F30",
         })
     }
 }
@@ -65,6 +69,10 @@ impl Code {
             Code::NameClash => "NameClash",
             Code::NamePrefix => "NamePrefix",
             Code::Circular => "Circular",
+            Code::NoSpecialized => "NoSpecialized",
+            Code::SpecializedType => "SpecializedType",
+            Code::SpecializedName => "SpecializedName",
+            Code::SpecializedTwice => "SpecializedTwice",
         }
     }
 }
@@ -147,6 +155,11 @@ impl fmt::Display for Fault {
                 };
                 write!(f, "{code} bean {id}")
             }
+            Fault::SpecializedTwice {
+                specialized,
+                first,
+                second,
+            } => write!(f, "{code} bean {specialized} {first} {second}"),
         }
     }
 }
