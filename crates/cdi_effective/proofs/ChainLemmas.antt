@@ -109,10 +109,16 @@ module _ (ds : List Decl) where
   unfolding IsDistinct
   put-once met s rest true e once = (tt, tt)
   put-once met s rest false e once = (
-    (e, weaker (λ k. has (s.name ∷ met) k ≡ false) (λ k. has met k ≡ false) (λ k h. (or_parts (bytes_eq s.name k) (has met k) h).1)
-        (class_names rest) once.0),
-    (weaker (λ k. has (s.name ∷ met) k ≡ false) (λ k. bytes_eq s.name k ≡ false) (λ k h. (or_parts (bytes_eq s.name k) (has met k) h).0)
-        (class_names rest) once.0, once.1),
+    (
+      e,
+      weaker (λ k. has (s.name ∷ met) k ≡ false) (λ k. has met k ≡ false) (λ k h. (or_parts (bytes_eq s.name k) (has met k) h).1)
+          (class_names rest) once.0,
+    ),
+    (
+      weaker (λ k. has (s.name ∷ met) k ≡ false) (λ k. bytes_eq s.name k ≡ false) (λ k h. (or_parts (bytes_eq s.name k) (has met k) h).0)
+          (class_names rest) once.0,
+      once.1,
+    ),
   )
 
   on-once : (n : ℕ) → ((met : Names) (c : BeanDecl) → IsOnce met (chain_behind n ds met c)) → (met : Names) (o : Option BeanDecl)

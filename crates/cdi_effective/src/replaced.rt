@@ -48,11 +48,7 @@ pub fn replaced_by(alloc: Global, decls: &Decls, decl: &Decl) -> Result<Vec<Name
     }
 }
 
-fn replaced_by_bean(
-    alloc: Global,
-    decls: &Decls,
-    bean: &BeanDecl,
-) -> Result<Vec<Name>, AllocError>
+fn replaced_by_bean(alloc: Global, decls: &Decls, bean: &BeanDecl) -> Result<Vec<Name>, AllocError>
     ensures { IfOk result (λ names. names.items ≡ replaced_by decls.now (decls_are.Bean bean.now)) }
 {
     if !bean.specializes {
