@@ -45,7 +45,7 @@ found-name (d ∷ ds) n s is = elim (cases_Bool (same_key (key_at kinds.Bean n) 
 found-self : (ds : List Decl) (n : List ℕ) (s : BeanDecl) → find_bean n ds ≡ Some s → find_bean s.name ds ≡ Some s
 found-self ds n s is = ap (λ m. find_bean m ds) (found-name ds n s is) ∙ is
 
-specialized-found : (ds : List Decl) (c s : BeanDecl) → specialized ds c ≡ Some s → find_bean s.name ds ≡ Some s
+pub specialized-found : (ds : List Decl) (c s : BeanDecl) → specialized ds c ≡ Some s → find_bean s.name ds ≡ Some s
 specialized-found ds c s is = where_it_says c.specializes (extended (find_decl kinds.Type c.name ds)) is
   where
     where_it_says : (b : Bool) (class : Option (List ℕ)) → cond b (bean_named ds class) None ≡ Some s → find_bean s.name ds ≡ Some s

@@ -1,15 +1,13 @@
 //! The chain of a bean (CDI 4.0, Specialization).
-ghost use Rattle.std.specs.Prelude.{◌≡◌, ◌∷◌, [], IfOk};
+ghost use Rattle.std.specs.Prelude.{◌≡◌, IfOk};
 ghost use Rattle.std.specs.Option.{option_copied};
 ghost use Rattle.cdi_effective.specs.Disposers.{find_bean};
 ghost use Rattle.cdi_effective.specs.Lent.{beans_in};
-ghost use Rattle.cdi_effective.specs.Specialized.{all_declared, behind, class_names, extended, last_declared, specialized};
+ghost use Rattle.cdi_effective.specs.Specialized.{behind, class_names, extended, specialized};
 ghost use Rattle.cdi_model.specs.DeclList.{find_decl};
 ghost use Rattle.cdi_model.specs.declared.decl.Kind.TheVariants as kinds;
-ghost use Rattle.cdi_match.specs.Bindings.{uses_in};
 
-use cdi_match::push_uses;
-use cdi_model::{BeanDecl, DECLS_LIMIT, Decl, Decls, Kind, Name, Qual};
+use cdi_model::{BeanDecl, DECLS_LIMIT, Decl, Decls, Kind, Name};
 use std::alloc::{AllocError, Global};
 use std::collections::BTreeSet;
 
@@ -76,33 +74,6 @@ pub fn behind<'a>(
         last = next;
     }
     Ok(list)
-}
-
-/// The qualifiers that a bean declares and those that beans behind it declare.
-pub(crate) fn all_declared<'a>(
-    alloc: Global,
-    bean: &'a BeanDecl,
-    behind: &[&'a BeanDecl],
-) -> Result<Vec<&'a Qual>, AllocError>
-    ensures { IfOk result (λ list. uses_in list.items ≡ all_declared (bean.now ∷ beans_in behind.now)) }
-{
-    let mut list = Vec::new(alloc);
-    push_uses(&mut list, bean.attributes.qualifiers.as_slice())?;
-    for other in behind {
-        push_uses(&mut list, other.attributes.qualifiers.as_slice())?;
-    }
-    Ok(list)
-}
-
-/// The qualifiers that the last bean of a chain declares.
-pub(crate) fn last_declared<'a>(bean: &'a BeanDecl, behind: &[&'a BeanDecl]) -> &'a [Qual]
-    ensures { result.now ≡ last_declared [] (bean.now ∷ beans_in behind.now) }
-{
-    let mut quals = bean.attributes.qualifiers.as_slice();
-    for other in behind {
-        quals = other.attributes.qualifiers.as_slice();
-    }
-    quals
 }
 
 /// The classes of some beans.

@@ -1,11 +1,14 @@
 //! The chains of all beans of a deployment (CDI 4.0, Direct and indirect specialization).
-ghost use Rattle.std.specs.Prelude.{◌≡◌, ◌||◌, Some, ℕ, length, map, nat_eq, option_map, IfOk, OnOk};
-ghost use Rattle.std.specs.List.{list_any, slice_get};
+ghost use Rattle.std.specs.Prelude.{◌≡◌, ◌||◌, ◌<◌, Some, ℕ, false, slice_index_or, length, map, nat_eq, option_map, IfOk, OnOk};
+ghost use Rattle.std.specs.List.{list_any, slice_get, AllByRecursion};
 ghost use Rattle.std.specs.Option.{option_copied};
+ghost use Rattle.cdi_model.specs.Decl.{kind_of, name_of_decl};
+ghost use Rattle.cdi_model.specs.DeclList.{find_decl};
 ghost use Rattle.cdi_effective.specs.Disposers.{find_bean};
 ghost use Rattle.cdi_effective.specs.Gained.{IsGained};
-ghost use Rattle.cdi_effective.specs.Places.{link_of, place_of_next, ArePlaces, Marks, TellReplaced};
-ghost use Rattle.cdi_effective.specs.Specialized.{behind, chain, is_offered, name_alone, specialized};
+ghost use Rattle.cdi_effective.specs.Places.{is_offered_by, link_of, next_at, place_of_next};
+ghost use Rattle.cdi_effective.specs.Places.{AddsGained, ArePlaces, IsPlace, MarksReplaced, TellReplaced};
+ghost use Rattle.cdi_effective.specs.Specialized.{behind, chain, name_alone, specialized};
 ghost use Rattle.cdi_model.specs.declared.decl.Decl.TheVariants as decls_are;
 
 use crate::chain::specialized;
@@ -16,6 +19,7 @@ use cdi_model::{BeanDecl, DECLS_LIMIT, Decl, Decls, Kind, Name};
 use std::alloc::{AllocError, Global};
 
 /// What chains take from a declaration.
+#[derive(Clone, Copy)]
 pub(crate) struct Link {
     /// The place of the bean that it specializes.
     pub(crate) next: Option<usize>,
@@ -54,7 +58,7 @@ impl Link {
 
 /// The place of the bean that is specialized, if there is one.
 fn place_of_next(decls: &Decls, next: Option<&BeanDecl>) -> Option<usize>
-    ensures { result ≡ place_of_next decls.now (option_copied next) }
+    ensures { result ≡ place_of_next decls.now (option_copied next.entry) }
 {
     match next {
         Some(bean) => decls.position(Kind::Bean, &bean.name),
@@ -159,24 +163,71 @@ impl<'a> Chains<'a> {
         ensures { IfOk result (λ marks. TellReplaced self.now.decls.now marks.items) }
     {
         let mut marks = vec![in alloc; false; self.decls.len()]?;
-        for (place, decl) in self.decls.iter().enumerate() {
+        let mut place = 0;
+        for decl in self.decls.iter() {
             self.mark_replaced(alloc, place, decl, &mut marks)?;
+            place += 1;
         }
         Ok(marks)
     }
 
     /// Marks those that a declaration at a place replaces.
-    fn mark_replaced(&self, alloc: Global, place: usize, decl: &Decl, marks: &mut Vec<bool>) -> Result<(), AllocError>
+    fn mark_replaced(
+        &self,
+        alloc: Global,
+        place: usize,
+        decl: &Decl,
+        marks: &mut Vec<bool>,
+    ) -> Result<(), AllocError>
+        requires there { slice_get self.now.decls.now place ≡ Some decl.now }
+        requires found { find_decl (kind_of decl.now) (name_of_decl decl.now) self.now.decls.now ≡ Some decl.now }
+        requires sized { length marks.old.items ≡ length self.now.decls.now }
+        ensures sized { OnOk result (length marks.new.items ≡ length marks.old.items) }
+        ensures marked { OnOk result (MarksReplaced self.now.decls.now decl.now marks.old.items marks.new.items) }
     {
         let Decl::Bean(bean) = decl else {
             return Ok(());
         };
-        if !bean.specializes {
+        let Some(link) = self.link(place) else {
+            return Ok(());
+        };
+        if !is_offered(bean, link.given) {
             return Ok(());
         }
-        if self.is_offered(place, bean) {
-            mark_all(self.places_behind(alloc, bean)?.as_slice(), marks);
-        }
+        let places = self.places_behind(alloc, bean)?;
+        mark_all(places, marks);
         Ok(())
     }
+}
+
+/// Whether a bean is offered, to which its stereotypes give this.
+fn is_offered(bean: &BeanDecl, given: Given) -> bool
+    ensures { result ≡ is_offered_by bean.now given }
+{
+    is_enabled(
+        bean.attributes.is_alternative || given.is_alternative,
+        bean.priority,
+    )
+}
+
+/// Marks some places.
+fn mark_all(places: Vec<usize>, marks: &mut Vec<bool>)
+    requires { AllByRecursion (λ place. place < length marks.old.items) places.items }
+    ensures sized { length marks.new.items ≡ length marks.old.items }
+    ensures marked { (place : ℕ) → slice_index_or marks.new.items place false
+        ≡ (slice_index_or marks.old.items place false || list_any (nat_eq place) places.items) }
+{
+    for place in places {
+        marks[place] = true;
+    }
+}
+
+fn links_of(alloc: Global, decls: &Decls) -> Result<Vec<Link>, AllocError>
+    ensures { IfOk result (λ links. links.items ≡ map (link_of decls.now) decls.now) }
+{
+    let mut links = Vec::with_capacity(alloc, decls.len())?;
+    for decl in decls.iter() {
+        links.push(Link::of(alloc, decls, decl)?)?;
+    }
+    Ok(links)
 }

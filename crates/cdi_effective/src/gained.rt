@@ -44,11 +44,7 @@ impl<'a> Gained<'a> {
     }
 
     /// Adds what the next bean of the chain gives, which has this name by itself.
-    pub(crate) fn add(
-        &mut self,
-        bean: &'a BeanDecl,
-        name: &Option<Name>,
-    ) -> Result<(), AllocError>
+    pub(crate) fn add(&mut self, bean: &'a BeanDecl, name: &Option<Name>) -> Result<(), AllocError>
         ensures name { OnOk result (self.new.name ≡ option_or name.now self.old.name) }
         ensures declared { OnOk result (uses_in self.new.declared.items
             ≡ uses_in self.old.declared.items ++ bean.now.attributes.qualifiers) }
@@ -93,11 +89,7 @@ pub(crate) fn name_of(attributes: &Attributes, default: Name, given: Given) -> O
 }
 
 /// The name of a bean by itself.
-fn name_alone(
-    alloc: Global,
-    decls: &Decls,
-    bean: &BeanDecl,
-) -> Result<Option<Name>, AllocError>
+fn name_alone(alloc: Global, decls: &Decls, bean: &BeanDecl) -> Result<Option<Name>, AllocError>
     ensures { IfOk result (λ name. name ≡ name_alone decls.now bean.now) }
 {
     let given = given_to(alloc, decls, bean.attributes.stereotypes.as_slice())?;

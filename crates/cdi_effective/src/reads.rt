@@ -6,7 +6,8 @@ ghost use Rattle.cdi_effective.specs.Reads.{specialized_reads};
 
 use crate::bindings::given_bindings;
 use crate::chain::{behind, extended};
-use cdi_match::{closure, push_uses, stereotypes, types_brought};
+use crate::closures::Closures;
+use cdi_match::{push_uses, stereotypes, types_brought};
 use cdi_model::{BeanDecl, DeclKey, Decls, Kind, Name, ProducerDecl};
 use std::alloc::{AllocError, Global};
 
@@ -14,7 +15,13 @@ use std::alloc::{AllocError, Global};
 /// its producer methods declare, the stereotypes of it and of its products, the binding types that the bindings of it and
 /// of its stereotypes bring, the beans of its chain with their stereotypes, and the bean at which the chain would go on. A
 /// key may stand twice. It takes memory for the keys, and for the searches.
-pub fn reads_of(alloc: Global, decls: &Decls, bean: &BeanDecl) -> Result<Vec<DeclKey>, AllocError>
+pub fn reads_of<C: Closures>(
+    alloc: Global,
+    decls: &Decls,
+    types: &C,
+    bean: &BeanDecl,
+) -> Result<Vec<DeclKey>, AllocError>
+    requires { C.list types.now ≡ decls.now }
     ensures { IfOk result (λ keys. keys.items ≡ record_reads decls.now bean.now) }
 {
     let mut keys = Vec::new(alloc);
@@ -22,28 +29,31 @@ pub fn reads_of(alloc: Global, decls: &Decls, bean: &BeanDecl) -> Result<Vec<Dec
     push_bean_reads(
         alloc,
         decls,
+        types,
         bean.name,
         bean.attributes.stereotypes.as_slice(),
         &mut keys,
     )?;
     push_class_reads(alloc, decls, bean, &mut keys)?;
-    push_product_reads(alloc, decls, bean.producers.as_slice(), &mut keys)?;
+    push_product_reads(alloc, decls, types, bean.producers.as_slice(), &mut keys)?;
     push_chain_reads(alloc, decls, bean, &mut keys)?;
     Ok(keys)
 }
 
 /// Appends what the products of some producer methods rest on.
-fn push_product_reads(
+fn push_product_reads<C: Closures>(
     alloc: Global,
     decls: &Decls,
+    types: &C,
     producers: &[ProducerDecl],
     keys: &mut Vec<DeclKey>,
 ) -> Result<(), AllocError>
+    requires { C.list types.now ≡ decls.now }
     ensures { OnOk result (keys.new.items ≡ keys.old.items ++ product_reads decls.now producers.now) }
 {
     for producer in producers {
         let declared = producer.attributes.stereotypes.as_slice();
-        push_bean_reads(alloc, decls, producer.product_type, declared, keys)?;
+        push_bean_reads(alloc, decls, types, producer.product_type, declared, keys)?;
     }
     Ok(())
 }
@@ -97,16 +107,18 @@ fn push_specialized_reads(
 }
 
 /// Appends the types of a type, and the stereotypes of what declares some.
-fn push_bean_reads(
+fn push_bean_reads<C: Closures>(
     alloc: Global,
     decls: &Decls,
+    types: &C,
     bean_type: Name,
     declared: &[Name],
     keys: &mut Vec<DeclKey>,
 ) -> Result<(), AllocError>
+    requires { C.list types.now ≡ decls.now }
     ensures { OnOk result (keys.new.items ≡ keys.old.items ++ bean_reads decls.now bean_type declared.now) }
 {
-    let types = closure(alloc, decls, bean_type)?;
+    let types = types.types_of(alloc, bean_type)?;
     push_keys(Kind::Type, types.as_slice(), keys)?;
     let stereotypes = stereotypes(alloc, decls, declared)?;
     push_keys(Kind::Stereotype, stereotypes.as_slice(), keys)?;

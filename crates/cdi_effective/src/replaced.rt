@@ -1,18 +1,14 @@
 //! Which beans are replaced by others that specialize them (CDI 4.0, Specialization).
-ghost use Rattle.std.specs.Prelude.{◌≡◌, ◌||◌, ℕ, List, IfOk, OnOk};
-ghost use Rattle.std.specs.BTreeSet.{contains};
-ghost use Rattle.cdi_model.specs.Bytes.{byte_order};
-ghost use Rattle.cdi_match.specs.Chain.{has};
+ghost use Rattle.std.specs.Prelude.{◌≡◌, IfOk};
 ghost use Rattle.cdi_effective.specs.Enabled.{is_enabled};
 ghost use Rattle.cdi_model.specs.declared.decl.Decl.TheVariants as decls_are;
 ghost use Rattle.cdi_effective.specs.Locality.{EditsKeepReplaced, SparedStay};
-ghost use Rattle.cdi_effective.specs.Specialized.{is_offered, is_replaced, replaced_by, ChainsAreThese};
+ghost use Rattle.cdi_effective.specs.Specialized.{is_offered, replaced_by, ChainsAreThese};
 
 use crate::chain::{behind, class_names};
 use crate::given::given_to;
 use cdi_model::{BeanDecl, Decl, Decls, Name};
 use std::alloc::{AllocError, Global};
-use std::collections::BTreeSet;
 
 /// Whether a bean is no alternative, or has a priority.
 pub(crate) fn is_enabled(is_alternative: bool, priority: Option<i64>) -> bool
@@ -59,26 +55,4 @@ fn replaced_by_bean(alloc: Global, decls: &Decls, bean: &BeanDecl) -> Result<Vec
     }
     let behind = behind(alloc, decls, bean)?;
     class_names(alloc, &behind)
-}
-
-/// The classes of all beans that are replaced. It takes memory for them and for the searches.
-#[tactic(auto, unfolding(crate::specs::Specialized::is_replaced))]
-pub(crate) fn replaced(alloc: Global, decls: &Decls) -> Result<BTreeSet<Name>, AllocError>
-    ensures { IfOk result (λ names. (class : List ℕ) → contains byte_order names class ≡ is_replaced decls.now class) }
-{
-    let mut names = BTreeSet::new(alloc);
-    for decl in decls.iter() {
-        add_all(&mut names, replaced_by(alloc, decls, decl)?.as_slice())?;
-    }
-    Ok(names)
-}
-
-/// Adds some names.
-fn add_all(names: &mut BTreeSet<Name>, more: &[Name]) -> Result<(), AllocError>
-    ensures { OnOk result ((s : List ℕ) → contains byte_order names.new s ≡ (contains byte_order names.old s || has more.now s)) }
-{
-    for name in more {
-        names.insert(*name)?;
-    }
-    Ok(())
 }

@@ -4,7 +4,7 @@ use Rattle.cdi_effective.proofs.ProductLemmas.{managed_pushed}
 use Rattle.cdi_effective.proofs.records.push_records.Goals as goal
 
 pub loop-producer-init : goal.loop-producer-init
-loop-producer-init c =
+loop-producer-init g c =
     let m = c.in_ok-managed.managed in
     ap (λ producers. c.push.new.self.items ++ map (product_of c.args.decls.now c.args.bean.now m) producers)
     c.as_slice-producer-items.ensures

@@ -1,0 +1,79 @@
+-- The beans that are replaced, by their places.
+use Rattle.std.proofs.Common.{◌≡◌, ◌+◌, ℕ, zero, suc, Bool, true, false, ◌||◌, List, [], ◌∷◌, length, drop, replicate, get_or}
+use Rattle.std.proofs.Common.{Option, Some, None, option_map, slice_get, refl, sym, ap, ◌∙◌, arith}
+use Rattle.std.proofs.Math.Bool.{or_assoc, or-false}
+use Rattle.std.specs.List.{list_any}
+use Rattle.std.proofs.lemmas.List.{get_or-replicate}
+use native.Mathlib.Numerals.{unary_clauses}
+use Rattle.cdi_model.specs.declared.decl.BeanDecl.{BeanDecl}
+use Rattle.cdi_model.specs.declared.decl.Decl.{Decl}
+use Rattle.cdi_model.specs.declared.decl.Decl.TheVariants as decls
+use Rattle.cdi_match.specs.Chain.{has}
+use Rattle.cdi_effective.specs.Places.{link_of, place_of, MarksReplaced}
+use Rattle.cdi_effective.specs.Specialized.{given_of, is_replaced, replaced_by}
+use Rattle.cdi_effective.specs.declared.chains.Link.{Link}
+use Rattle.cdi_effective.proofs.WalkLemmas.{place-within}
+
+pub none-replaced : (ds : List Decl) (d : Decl) → ((bean : BeanDecl) → d ≡ decls.Bean bean → ⊥) → replaced_by ds d ≡ []
+unfolding replaced_by
+none-replaced ds (decls.Bean bean) other = absurd (other bean refl)
+none-replaced ds (decls.Type d) other = refl
+none-replaced ds (decls.Qualifier d) other = refl
+none-replaced ds (decls.Binding d) other = refl
+none-replaced ds (decls.Stereotype d) other = refl
+none-replaced ds (decls.Interceptor d) other = refl
+
+pub marks-none : (ds : List Decl) (d : Decl) (marks : List Bool) → replaced_by ds d ≡ [] → MarksReplaced ds d marks marks
+marks-none ds d marks none class place at =
+    sym (ap (λ names. get_or marks place false || has names class) none ∙ or-false (get_or marks place false))
+
+-- what its stereotypes give a bean, by its link
+pub link-given : (ds : List Decl) (place : ℕ) (d : Decl) (bean : BeanDecl) (link : Link) → slice_get ds place ≡ Some d → d ≡ decls.Bean bean
+    → Some link ≡ option_map (link_of ds) (slice_get ds place) → link.given ≡ given_of ds bean.attributes
+link-given ds place d bean link there is at =
+    let same : Some link ≡ Some (link_of ds (decls.Bean bean)) = at ∙ ap (option_map (link_of ds)) there ∙ ap (λ x. Some (link_of ds x)) is in
+    let one : link ≡ link_of ds (decls.Bean bean) = cc in
+    ap (λ l. l.given) one
+
+-- at first none is marked
+pub marks-begin : (ds : List Decl) (marks : List Bool) → marks ≡ replicate (length ds) false → (class : List ℕ) (place : ℕ)
+    → place_of ds class ≡ Some place
+    → (get_or marks place false || list_any (λ d. has (replaced_by ds d) class) ds) ≡ is_replaced ds class
+unfolding is_replaced
+marks-begin ds marks blank class place at =
+    ap (λ b. b || list_any (λ d. has (replaced_by ds d) class) ds)
+    (ap (λ l. get_or l place false) blank ∙ get_or-replicate (length ds) place false false (place-within ds class place at))
+
+-- what is marked, with what declarations that are left replace
+abbrev pub Marking : List Decl → List Bool → List Decl → Type 0
+Marking ds marks rest = (class : List ℕ) (place : ℕ) → place_of ds class ≡ Some place
+    → (get_or marks place false || list_any (λ d. has (replaced_by ds d) class) rest) ≡ is_replaced ds class
+
+pub marks-go-on : (ds : List Decl) (d : Decl) (left rest : List Decl) (old new : List Bool) → left ≡ d ∷ rest → MarksReplaced ds d old new
+    → Marking ds old left → Marking ds new rest
+marks-go-on ds d left rest old new step marks told class place at =
+    let test : Decl → Bool = λ e. has (replaced_by ds e) class in
+    ap (λ b. b || list_any test rest) (marks class place at)
+    ∙ or_assoc (get_or old place false) (test d) (list_any test rest)
+    ∙ ap (λ l. get_or old place false || list_any test l) (sym step)
+    ∙ told class place at
+
+pub marks-end : (ds rest : List Decl) (marks : List Bool) → rest ≡ [] → Marking ds marks rest → (class : List ℕ) (place : ℕ)
+    → place_of ds class ≡ Some place → get_or marks place false ≡ is_replaced ds class
+marks-end ds rest marks none told class place at =
+    sym (or-false (get_or marks place false))
+    ∙ ap (λ l. get_or marks place false || list_any (λ d. has (replaced_by ds d) class) l) (sym none)
+    ∙ told class place at
+
+-- where one of some is left
+pub drop-there : {X : Type 0} (xs : List X) (k : ℕ) (x : X) (rest : List X) → drop k xs ≡ x ∷ rest
+    → (slice_get xs k ≡ Some x) × (drop (suc k) xs ≡ rest)
+drop-there [] zero x rest is = absurd (cc)
+drop-there [] (suc k) x rest is = absurd (cc)
+drop-there (y ∷ ys) zero x rest is = (let one : y ≡ x = cc in ap Some one, cc)
+drop-there (y ∷ ys) (suc k) x rest is = drop-there ys k x rest is
+
+pub one-dropped : {X : Type 0} (xs : List X) (k : ℕ) (x : X) (rest : List X) → drop k xs ≡ x ∷ rest → drop (k + 1) xs ≡ rest
+one-dropped xs k x rest is =
+    let next : k + 1 ≡ suc k = omega arith in
+    ap (λ n. drop n xs) next ∙ (drop-there xs k x rest is).1

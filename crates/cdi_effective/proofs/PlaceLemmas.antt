@@ -1,0 +1,154 @@
+-- The places of beans among the declarations.
+use Rattle.std.proofs.Common.{◌≡◌, ◌≢◌, ◌<◌, ℕ, zero, suc, nat_eq, Bool, true, false, cond, not, ◌||◌, List, [], ◌∷◌, ◌++◌, length, map}
+use Rattle.std.proofs.Common.{Option, Some, None, is_some, option_map, slice_get, position, get_or, set, refl, sym, ap, subst, ◌∙◌, inl, inr, arith}
+use Rattle.std.specs.List.{AllByRecursion, list_any}
+use Rattle.std.specs.Str.{bytes_eq}
+use Rattle.std.proofs.lemmas.Bool.{cases_Bool, false≢true, true≢false}
+use Rattle.std.proofs.lemmas.Option.{get_or_from_slice_get, slice_get_within}
+use Rattle.std.proofs.lemmas.List.{get_or-set_same, get_or-set_other}
+use Rattle.cdi_model.proofs.EntryLemmas.{key_exact}
+use Rattle.cdi_model.proofs.PositionLemmas.{one_position, position-found, position-there}
+use Rattle.cdi_model.specs.Decl.{key_of, kind_of, name_of_decl}
+use Rattle.cdi_model.specs.DeclKey.{same_key, same_key_equiv}
+use Rattle.cdi_model.specs.DeclList.{find_decl, is_of, AreDistinct}
+use Rattle.cdi_model.specs.declared.decl.BeanDecl.{BeanDecl}
+use Rattle.cdi_model.specs.declared.decl.Decl.{Decl}
+use Rattle.cdi_model.specs.declared.decl.Decl.TheVariants as decls
+use Rattle.cdi_model.specs.declared.decl.Kind.{Kind}
+use Rattle.cdi_model.specs.declared.decl.Kind.TheVariants as kinds
+use Rattle.cdi_match.specs.Chain.{has}
+use Rattle.cdi_match.proofs.Names.{one_name, same_text}
+use Rattle.cdi_effective.specs.Disposers.{as_bean, find_bean}
+use Rattle.cdi_effective.specs.Places.{place_of, place_of_next, ArePlaces, IsPlace}
+use Rattle.cdi_effective.specs.Specialized.{behind, chain_behind, class_names, specialized}
+use Rattle.cdi_effective.proofs.ChainLemmas.{specialized-found}
+use Rattle.cdi_effective.proofs.StepLemmas.{ends-met, ends-none, one-more}
+
+-- ---- a declaration is found at its own place
+
+position-cons : {X : Type 0} (p : X → Bool) (x : X) (xs : List X)
+    → position p (x ∷ xs) ≡ cond (p x) (Some 0) (option_map suc (position p xs))
+position-cons p x xs = grind arith
+
+other-key : (d e : Decl) → key_of e ≢ key_of d → same_key (key_of d) (key_of e) ≡ false
+other-key d e other = by (same_key (key_of d) (key_of e)) refl
+  where
+    by : (b : Bool) → same_key (key_of d) (key_of e) ≡ b → b ≡ false
+    by false same = refl
+    by true same = absurd (other (sym (key_exact (key_of d) (key_of e) same)))
+
+pub own-position : (ds : List Decl) (k : ℕ) (d : Decl) → AreDistinct ds → slice_get ds k ≡ Some d
+    → position (is_of (kind_of d) (name_of_decl d)) ds ≡ Some k
+own-position [] k d distinct at = absurd (cc)
+own-position (e ∷ es) zero d distinct at =
+    let same : e ≡ d = cc in
+    position-cons (is_of (kind_of d) (name_of_decl d)) e es
+    ∙ ap (λ b. cond b (Some 0) (option_map suc (position (is_of (kind_of d) (name_of_decl d)) es)))
+    (subst (λ f. same_key (key_of d) (key_of f) ≡ true) (sym same) (same_key_equiv.refl (key_of d)))
+own-position (e ∷ es) (suc k) d distinct at =
+    let lt : k < length es = slice_get_within es k d at in
+    let apart = distinct zero (suc k) e (omega arith) (omega arith) in
+    let other : key_of e ≢ key_of d = subst (λ f. key_of e ≢ key_of f) (get_or_from_slice_get es k d e at) apart in
+    position-cons (is_of (kind_of d) (name_of_decl d)) e es
+    ∙ ap (λ b. cond b (Some 0) (option_map suc (position (is_of (kind_of d) (name_of_decl d)) es))) (other-key d e other)
+    ∙ ap (option_map suc) (own-position es k d (λ i j f before within. distinct (suc i) (suc j) f (omega arith) (omega arith)) at)
+
+pub own-found : (ds : List Decl) (k : ℕ) (d : Decl) → AreDistinct ds → slice_get ds k ≡ Some d
+    → find_decl (kind_of d) (name_of_decl d) ds ≡ Some d
+own-found ds k d distinct at =
+    sym (position-there (kind_of d) (name_of_decl d) ds k (own-position ds k d distinct at)) ∙ at
+
+pub own-place : (ds : List Decl) (k : ℕ) (bean : BeanDecl) → AreDistinct ds → slice_get ds k ≡ Some (decls.Bean bean) → IsPlace ds k bean
+own-place ds k bean distinct at = (own-position ds k (decls.Bean bean) distinct at, at)
+
+bean-decl : (o : Option Decl) (bean : BeanDecl) → as_bean o ≡ Some bean → o ≡ Some (decls.Bean bean)
+bean-decl (Some (decls.Bean d)) bean is = let same : d ≡ bean = cc in ap (λ x. Some (decls.Bean x)) same
+bean-decl (Some (decls.Type d)) bean is = absurd (let no : None ≡ Some bean = is in cc)
+bean-decl (Some (decls.Qualifier d)) bean is = absurd (let no : None ≡ Some bean = is in cc)
+bean-decl (Some (decls.Binding d)) bean is = absurd (let no : None ≡ Some bean = is in cc)
+bean-decl (Some (decls.Stereotype d)) bean is = absurd (let no : None ≡ Some bean = is in cc)
+bean-decl (Some (decls.Interceptor d)) bean is = absurd (let no : None ≡ Some bean = is in cc)
+bean-decl None bean is = absurd (let no : None ≡ Some bean = is in cc)
+
+-- a bean that is found stands at the place of its class
+pub found-place : (ds : List Decl) (bean : BeanDecl) (place : ℕ) → find_bean bean.name ds ≡ Some bean → place_of ds bean.name ≡ Some place
+    → IsPlace ds place bean
+found-place ds bean place found at =
+    (at, position-there kinds.Bean bean.name ds place at ∙ bean-decl (find_decl kinds.Bean bean.name ds) bean found)
+
+pub place-found : (ds : List Decl) (bean : BeanDecl) (place : ℕ) → IsPlace ds place bean → find_bean bean.name ds ≡ Some bean
+place-found ds bean place is = ap as_bean (sym (position-there kinds.Bean bean.name ds place is.0) ∙ is.1)
+
+-- a bean that is found has a place
+has-place : (ds : List Decl) (bean : BeanDecl) → find_bean bean.name ds ≡ Some bean → place_of ds bean.name ≡ None → ⊥
+has-place ds bean found none =
+    false≢true (sym (ap is_some none) ∙ position-found kinds.Bean bean.name ds
+    ∙ ap is_some (bean-decl (find_decl kinds.Bean bean.name ds) bean found))
+
+-- ---- places tell classes apart
+
+same-nat : (m n : ℕ) → nat_eq m n ≡ true → m ≡ n
+same-nat m n e = grind arith
+
+itself : (n : ℕ) → nat_eq n n ≡ true
+itself n = grind arith
+
+pub apart-by-place : (ds : List Decl) (class other : List ℕ) (p q : ℕ) → place_of ds other ≡ Some p → place_of ds class ≡ Some q
+    → nat_eq q p ≡ bytes_eq other class
+apart-by-place ds class other p q at here = elim (cases_Bool (bytes_eq other class)) [
+  | inl same ↦
+      let one : other ≡ class = one_name other class same in
+      let there : Some p ≡ Some q = sym at ∙ ap (place_of ds) one ∙ here in
+      let equal : p ≡ q = cc in
+      ap (λ n. nat_eq q n) equal ∙ itself q ∙ sym same
+  | inr differ ↦ elim (cases_Bool (nat_eq q p)) [
+    | inl e ↦ absurd (true≢false (sym (same_text other class
+        (one_position kinds.Bean other class ds q (at ∙ ap Some (sym (same-nat q p e))) here)) ∙ differ))
+    | inr e ↦ e ∙ sym differ
+  ]
+]
+
+-- ---- the places of some beans
+
+pub snoc-places : (ds : List Decl) (places : List ℕ) (beans : List BeanDecl) (place : ℕ) (bean : BeanDecl) → ArePlaces ds places beans
+    → IsPlace ds place bean → ArePlaces ds (places ++ place ∷ []) (beans ++ bean ∷ [])
+snoc-places ds [] [] place bean are is = (is, tt)
+snoc-places ds [] (b ∷ bs) place bean are is = absurd are
+snoc-places ds (p ∷ ps) [] place bean are is = absurd are
+snoc-places ds (p ∷ ps) (b ∷ bs) place bean are is = (are.0, snoc-places ds ps bs place bean are.1 is)
+
+pub places-tell : (ds : List Decl) (places : List ℕ) (beans : List BeanDecl) (class : List ℕ) (place : ℕ) → ArePlaces ds places beans
+    → place_of ds class ≡ Some place → list_any (nat_eq place) places ≡ has (class_names beans) class
+places-tell ds [] [] class place are at = refl
+places-tell ds [] (b ∷ bs) class place are at = absurd are
+places-tell ds (p ∷ ps) [] class place are at = absurd are
+places-tell ds (p ∷ ps) (b ∷ bs) class place are at =
+    ap (λ x. x || list_any (nat_eq place) ps) (apart-by-place ds class b.name p place are.0.0 at)
+    ∙ ap (λ x. bytes_eq b.name class || x) (places-tell ds ps bs class place are.1 at)
+
+pub places-within : (ds : List Decl) (places : List ℕ) (beans : List BeanDecl) → ArePlaces ds places beans
+    → AllByRecursion (λ place. place < length ds) places
+places-within ds [] [] are = tt
+places-within ds [] (b ∷ bs) are = absurd are
+places-within ds (p ∷ ps) [] are = absurd are
+places-within ds (p ∷ ps) (b ∷ bs) are = (slice_get_within ds p (decls.Bean b) are.0.1, places-within ds ps bs are.1)
+
+-- ---- the next place
+
+pub no-next : (ds : List Decl) (bean : BeanDecl) → place_of_next ds (specialized ds bean) ≡ None → specialized ds bean ≡ None
+no-next ds bean none = by (specialized ds bean) refl
+  where
+    by : (o : Option BeanDecl) → specialized ds bean ≡ o → o ≡ None
+    by None is = refl
+    by (Some next) is = absurd (has-place ds next (specialized-found ds bean next is) (ap (place_of_next ds) (sym is) ∙ none))
+
+abbrev pub Next : List Decl → BeanDecl → ℕ → Type 0
+Next ds bean place = (next : BeanDecl) × (specialized ds bean ≡ Some next) × IsPlace ds place next
+
+pub the-next : (ds : List Decl) (bean : BeanDecl) (place : ℕ) → place_of_next ds (specialized ds bean) ≡ Some place → Next ds bean place
+the-next ds bean place at = by (specialized ds bean) refl
+  where
+    by : (o : Option BeanDecl) → specialized ds bean ≡ o → Next ds bean place
+    by None is = absurd (let no : None ≡ Some place = ap (place_of_next ds) (sym is) ∙ at in cc)
+    by (Some next) is =
+        (next, is, found-place ds next place (specialized-found ds bean next is) (ap (place_of_next ds) (sym is) ∙ at))

@@ -1,0 +1,11 @@
+use Rattle.std.proofs.Common.{◌≡◌, ◌<◌, ◌||◌, ℕ, false, nat_eq, length, get_or}
+use Rattle.std.specs.List.{AllByRecursion, list_any}
+use Rattle.cdi_effective.proofs.chains.mark_all.Given as goal
+
+abbrev pub invariant-loop-place : goal.invariant-loop-place
+invariant-loop-place l = record {
+  sized : length l.marks.items ≡ length l.fn.marks.items;
+  within : AllByRecursion (λ place. place < length l.fn.marks.items) l.place-iterator.rest.items;
+  marked : (place : ℕ) → (get_or l.marks.items place false || list_any (nat_eq place) l.place-iterator.rest.items)
+      ≡ (get_or l.fn.marks.items place false || list_any (nat_eq place) l.fn.places.items);
+}

@@ -1,0 +1,7 @@
+use Rattle.cdi_effective.specs.Lent.{beans_in}
+use Rattle.cdi_effective.specs.Specialized.{chain}
+use Rattle.cdi_effective.proofs.GainedLemmas.{GivesWith}
+use Rattle.cdi_effective.proofs.gained.Gained.of.Given as goal
+
+abbrev pub invariant-loop-other : goal.invariant-loop-other
+invariant-loop-other l = GivesWith l.decls l.gained (beans_in l.other-iterator.rest.items) (chain l.decls l.bean)
