@@ -1,14 +1,16 @@
 -- The beans that are replaced, by their places.
-use Rattle.std.proofs.Common.{◌≡◌, ◌+◌, ℕ, zero, suc, Bool, true, false, ◌||◌, List, [], ◌∷◌, length, drop, replicate, get_or}
+use Rattle.std.proofs.Common.{◌≡◌, ◌+◌, ℕ, zero, suc, Bool, true, false, ◌||◌, List, [], ◌∷◌, ◌++◌, append_assoc, length, drop, replicate, get_or}
 use Rattle.std.proofs.Common.{Option, Some, None, option_map, slice_get, refl, sym, ap, ◌∙◌, arith}
 use Rattle.std.proofs.Math.Bool.{or_assoc, or-false}
-use Rattle.std.specs.List.{list_any}
+use Rattle.std.specs.List.{flat_map, list_any}
 use Rattle.std.proofs.lemmas.List.{get_or-replicate}
 use native.Mathlib.Numerals.{unary_clauses}
 use Rattle.cdi_model.specs.declared.decl.BeanDecl.{BeanDecl}
 use Rattle.cdi_model.specs.declared.decl.Decl.{Decl}
 use Rattle.cdi_model.specs.declared.decl.Decl.TheVariants as decls
 use Rattle.cdi_match.specs.Chain.{has}
+use Rattle.cdi_effective.specs.Beans.{entries, records}
+use Rattle.cdi_effective.specs.declared.records.Effective.{Effective}
 use Rattle.cdi_effective.specs.Places.{link_of, place_of, MarksReplaced}
 use Rattle.cdi_effective.specs.Specialized.{given_of, is_replaced, replaced_by}
 use Rattle.cdi_effective.specs.declared.chains.Link.{Link}
@@ -64,6 +66,31 @@ marks-end ds rest marks none told class place at =
     sym (or-false (get_or marks place false))
     ∙ ap (λ l. get_or marks place false || list_any (λ d. has (replaced_by ds d) class) l) (sym none)
     ∙ told class place at
+
+-- ---- the records of one declaration after another
+
+pub listed-more : (ds rest left : List Decl) (d : Decl) (bean : BeanDecl) (old new all : List Effective) → d ≡ decls.Bean bean
+    → new ≡ old ++ records ds bean → left ≡ d ∷ rest → old ++ flat_map (entries ds) left ≡ all → new ++ flat_map (entries ds) rest ≡ all
+listed-more ds rest left d bean old new all is pushed step before =
+    ap (λ l. l ++ flat_map (entries ds) rest) pushed
+    ∙ append_assoc old (records ds bean) (flat_map (entries ds) rest)
+    ∙ ap (λ e. old ++ (entries ds e ++ flat_map (entries ds) rest)) (sym is)
+    ∙ ap (λ l. old ++ flat_map (entries ds) l) (sym step) ∙ before
+
+no-entries : (ds : List Decl) (d : Decl) → ((bean : BeanDecl) → d ≡ decls.Bean bean → ⊥) → entries ds d ≡ []
+no-entries ds (decls.Bean bean) other = absurd (other bean refl)
+no-entries ds (decls.Type d) other = refl
+no-entries ds (decls.Qualifier d) other = refl
+no-entries ds (decls.Binding d) other = refl
+no-entries ds (decls.Stereotype d) other = refl
+no-entries ds (decls.Interceptor d) other = refl
+
+pub listed-same : (ds rest left : List Decl) (d : Decl) (old new all : List Effective) → ((bean : BeanDecl) → d ≡ decls.Bean bean → ⊥)
+    → new ≡ old → left ≡ d ∷ rest → old ++ flat_map (entries ds) left ≡ all → new ++ flat_map (entries ds) rest ≡ all
+listed-same ds rest left d old new all other same step before =
+    ap (λ l. l ++ flat_map (entries ds) rest) same
+    ∙ ap (λ l. old ++ (l ++ flat_map (entries ds) rest)) (sym (no-entries ds d other))
+    ∙ ap (λ l. old ++ flat_map (entries ds) l) (sym step) ∙ before
 
 -- where one of some is left
 pub drop-there : {X : Type 0} (xs : List X) (k : ℕ) (x : X) (rest : List X) → drop k xs ≡ x ∷ rest

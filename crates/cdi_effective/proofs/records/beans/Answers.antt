@@ -1,5 +1,6 @@
 use Rattle.std.proofs.Common.{◌≡◌, ◌∷◌, Some, sym, ap, ◌∙◌, rules}
-use Rattle.cdi_effective.proofs.MarkLemmas.{drop-there, one-dropped}
+use Rattle.cdi_effective.specs.Beans.{beans}
+use Rattle.cdi_effective.proofs.MarkLemmas.{drop-there, listed-more, listed-same, one-dropped}
 use Rattle.cdi_effective.proofs.PlaceLemmas.{own-place}
 use Rattle.cdi_effective.proofs.OrderLemmas.{types_stand_in_order}
 use Rattle.cdi_effective.proofs.TogetherLemmas.{records_stand_together}
@@ -43,7 +44,13 @@ loop-decl-preserved c =
     record {
       left = one-dropped c.args.decls.now c.loop-decl.place c.in-Some.decl.now c.next.new.self (c.loop-decl.invariant.left ∙ step);
       listed = elim c.match-decl.branch [
-        | in-Bean+in_ok-push_records_at w ↦ search rules
-        | in_default w ↦ search rules
+        | in-Bean+in_ok-push_records_at w ↦
+            listed-more c.args.decls.now c.next.new.self c.loop-decl.decl-iterator c.in-Some.decl.now w.in-Bean.bean c.loop-decl.beans.items
+            c.match-decl.beans.items (beans c.args.decls.now) w.in-Bean.is
+            (ap (λ b. b.items) w.beans-is ∙ w.in_ok-push_records_at.ensures) c.in-Some.ensures.steps c.loop-decl.invariant.listed
+        | in_default w ↦
+            listed-same c.args.decls.now c.next.new.self c.loop-decl.decl-iterator c.in-Some.decl.now c.loop-decl.beans.items
+            c.match-decl.beans.items (beans c.args.decls.now) w.in_default.not-Bean (ap (λ b. b.items) w.beans-is) c.in-Some.ensures.steps
+            c.loop-decl.invariant.listed
       ];
     }
