@@ -1,5 +1,5 @@
 -- In the chain of a bean are those to which steps of specialization lead from it, each once.
-use Rattle.std.proofs.Common.{◌≡◌, ◌≤◌, ◌<◌, ◌⊎◌, ℕ, zero, suc, Bool, true, false, cond, ◌||◌, List, [], ◌∷◌, length, map, is_some}
+use Rattle.std.proofs.Common.{◌≡◌, ◌≤◌, ◌<◌, ◌⊎◌, ℕ, zero, suc, Bool, true, false, cond, List, [], ◌∷◌, length, is_some}
 use Rattle.std.proofs.Common.{Option, Some, None, refl, sym, ap, ◌∙◌, subst, inl, inr, arith}
 use Rattle.std.specs.Cmp.Lexicographic.{bytes_decides}
 use Rattle.std.specs.List.{AllByRecursion, IsDistinct}
@@ -21,7 +21,7 @@ use Rattle.cdi_match.proofs.Listed.{names_of, length-names_of}
 use Rattle.cdi_match.proofs.Names.{bytes_eq-turned, one_name, same_text}
 use Rattle.cdi_effective.specs.Disposers.{as_bean, find_bean}
 use Rattle.cdi_effective.specs.Specialized.{extended, bean_named, specialized, on_from, chain_behind, behind, chain, class_names, class_after}
-use Rattle.cdi_effective.specs.Specialized.{next_class, specializes, ChainsAreThese, IsChainOf}
+use Rattle.cdi_effective.specs.Specialized.{specializes, ChainsAreThese, IsChainOf}
 
 abbrev Names : Type 0
 Names = List (List ℕ)

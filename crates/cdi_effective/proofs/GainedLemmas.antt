@@ -1,10 +1,9 @@
 -- What a bean gets by its chain, one bean after another.
-use Rattle.std.proofs.Common.{◌≡◌, ℕ, List, [], ◌∷◌, ◌++◌, Option, Some, None, append_assoc, append-nil, refl, sym, ap, subst, ◌∙◌}
+use Rattle.std.proofs.Common.{◌≡◌, ℕ, List, [], ◌∷◌, ◌++◌, Option, Some, None, append_assoc, refl, ap, subst, ◌∙◌}
 use Rattle.std.specs.Option.{option_or}
 use Rattle.cdi_match.specs.Bindings.{uses_in}
 use Rattle.cdi_model.specs.declared.decl.BeanDecl.{BeanDecl}
 use Rattle.cdi_model.specs.declared.decl.Decl.{Decl}
-use Rattle.cdi_effective.specs.Gained.{IsGained}
 use Rattle.cdi_effective.specs.Places.{AddsGained, ArePlaces, IsPlace}
 use Rattle.cdi_effective.specs.Specialized.{all_declared, last_declared, last_name, name_alone}
 use Rattle.cdi_effective.specs.declared.gained.Gained.{Gained}
@@ -20,15 +19,6 @@ pub record GivesWithPlaces (ds : List Decl) (gained : Gained) (places : List ℕ
   pub rest : List BeanDecl
   pub are : ArePlaces ds places rest
   pub gives : GivesWith ds gained rest all
-
-pub first-gives : (ds : List Decl) (gained : Gained) (bean : BeanDecl) (rest : List BeanDecl) → gained.name ≡ name_alone ds bean
-    → uses_in gained.declared.items ≡ bean.attributes.qualifiers → gained.last.now ≡ bean.attributes.qualifiers
-    → GivesWith ds gained rest (bean ∷ rest)
-first-gives ds gained bean rest name declared last = record {
-  name = ap (option_or (last_name ds rest)) name;
-  declared = ap (λ uses. uses ++ all_declared rest) declared;
-  last = ap (λ quals. last_declared quals rest) last;
-}
 
 or-assoc : (x y z : Option (List ℕ)) → option_or x (option_or y z) ≡ option_or (option_or x y) z
 or-assoc None y z = refl
@@ -52,12 +42,3 @@ next-gives-place ds old new place places more all adds is gives = by gives.rest 
     by [] are had = absurd are
     by (bean ∷ rest) are had =
         record { rest = rest; are = are.1; gives = next-gives ds old new bean rest all (adds bean are.0) had }
-
-pub all-gives : (ds : List Decl) (gained : Gained) (rest all : List BeanDecl) → rest ≡ [] → GivesWith ds gained rest all
-    → IsGained ds all gained
-all-gives ds gained rest all none gives = record {
-  name = ap (λ beans. option_or (last_name ds beans) gained.name) (sym none) ∙ gives.name;
-  declared = sym (append-nil (uses_in gained.declared.items)) ∙ ap (λ beans. uses_in gained.declared.items ++ all_declared beans) (sym none)
-      ∙ gives.declared;
-  last = ap (last_declared gained.last.now) (sym none) ∙ gives.last;
-}

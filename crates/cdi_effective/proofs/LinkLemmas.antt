@@ -1,5 +1,5 @@
 -- What a bean gets by its chain rests on the beans of the chain.
-use Rattle.std.proofs.Common.{◌≡◌, ℕ, zero, suc, Bool, true, false, cond, ◌||◌, List, [], ◌∷◌, ◌++◌, map, Option, Some, None, refl, sym, ap, ◌∙◌}
+use Rattle.std.proofs.Common.{◌≡◌, ℕ, zero, suc, Bool, true, false, cond, ◌||◌, List, [], ◌∷◌, ◌++◌, map, Option, Some, None, refl, ap, ◌∙◌}
 use Rattle.std.proofs.Common.{inl, inr}
 use Rattle.std.specs.Cmp.{nat_eq_equiv}
 use Rattle.std.specs.List.{flat_map}
@@ -17,10 +17,9 @@ use Rattle.cdi_model.specs.declared.decl.Decl.{Decl}
 use Rattle.cdi_model.specs.declared.decl.Kind.{Kind}
 use Rattle.cdi_model.specs.declared.decl.Kind.TheVariants as kinds
 use Rattle.cdi_model.specs.declared.edit.Edit.{Edit}
-use Rattle.cdi_model.specs.declared.key.DeclKey.{DeclKey}
 use Rattle.cdi_match.specs.Chain.{has}
 use Rattle.cdi_match.specs.Locality.{stereotype_reads, type_reads}
-use Rattle.cdi_match.specs.Types.{is_type, types_of}
+use Rattle.cdi_match.specs.Types.{types_of}
 use Rattle.cdi_match.proofs.LocalityLemmas.{edits_keep_stereotypes}
 use Rattle.cdi_match.proofs.TypeLemmas.{is_type_decides, types_of-has}
 use Rattle.cdi_effective.specs.Disposers.{as_bean}

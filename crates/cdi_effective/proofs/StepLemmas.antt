@@ -1,19 +1,13 @@
 -- A chain, step by step.
 use Rattle.std.proofs.Common.{◌≡◌, ℕ, zero, suc, Bool, true, false, cond, ◌||◌, List, [], ◌∷◌, ◌++◌, refl, ap, ◌∙◌}
-use Rattle.std.proofs.Common.{Option, Some, None, append_assoc, append-nil, sym, ◌<◌, length, take, get_or, is_some, true≢false}
-use Rattle.std.proofs.Math.Seq.{take-suc}
-use Rattle.std.proofs.lemmas.Bool.{false≢true}
-use Rattle.std.proofs.lemmas.List.{map-append}
-use Rattle.std.specs.Borrow.{Bor}
-use Rattle.std.specs.Option.{option_or}
+use Rattle.std.proofs.Common.{Some, None, append_assoc, append-nil, sym}
 use Rattle.cdi_model.specs.DeclList.{limit}
 use Rattle.cdi_model.specs.declared.decl.BeanDecl.{BeanDecl}
 use Rattle.cdi_model.specs.declared.decl.Decl.{Decl}
 use Rattle.cdi_model.specs.declared.decl.Decl.TheVariants as decls
 use Rattle.cdi_match.specs.Chain.{has}
-use Rattle.cdi_effective.specs.Specialized.{specialized, on_from, chain_behind, behind, class_names, is_offered, last_name, name_alone}
+use Rattle.cdi_effective.specs.Specialized.{specialized, on_from, chain_behind, behind, class_names, is_offered}
 use Rattle.cdi_effective.specs.Specialized.{replaced_by}
-use Rattle.cdi_effective.specs.Lent.{beans_in}
 
 abbrev Names : Type 0
 Names = List (List ℕ)
@@ -66,11 +60,6 @@ pub either : (b x : Bool) → cond b true x ≡ (b || x)
 either true x = refl
 either false x = refl
 
-pub moved : (e o r : Bool) → (cond e true o || r) ≡ (o || (e || r))
-moved true true r = refl
-moved true false r = refl
-moved false o r = refl
-
 -- ---- what is replaced
 
 pub none-specialized : (ds : List Decl) (b : BeanDecl) → b.specializes ≡ false → replaced_by ds (decls.Bean b) ≡ []
@@ -88,37 +77,3 @@ none-offered ds b none = ap (λ o. cond {A = Names} o (class_names (behind ds b)
 pub is-offered : (ds : List Decl) (b : BeanDecl) → is_offered ds b ≡ true → class_names (behind ds b) ≡ replaced_by ds (decls.Bean b)
 unfolding replaced_by
 is-offered ds b is = sym (ap (λ o. cond {A = Names} o (class_names (behind ds b)) []) is)
-
--- ---- the name of the last one
-
-or-none : (x : Option (List ℕ)) → x ≡ option_or x None
-or-none None = refl
-or-none (Some n) = refl
-
-or-assoc : (x y z : Option (List ℕ)) → option_or (option_or x y) z ≡ option_or x (option_or y z)
-or-assoc None y z = refl
-or-assoc (Some n) y z = refl
-
-pub last-name : (ds : List Decl) (bs : List BeanDecl) (b : BeanDecl)
-    → last_name ds (bs ++ b ∷ []) ≡ option_or (name_alone ds b) (last_name ds bs)
-last-name ds [] b = or-none (name_alone ds b)
-last-name ds (c ∷ cs) b = ap (λ name. option_or name (name_alone ds c)) (last-name ds cs b)
-    ∙ or-assoc (name_alone ds b) (last_name ds cs) (name_alone ds c)
-
-pub name-step : (ds : List Decl) (b : BeanDecl) (xs : List (Bor BeanDecl)) (left i : ℕ) (x : Bor BeanDecl) → left ≡ suc i → i < length xs
-    → x ≡ get_or xs i x
-    → last_name ds (b ∷ beans_in (take left xs)) ≡ option_or (name_alone ds x.now) (last_name ds (b ∷ beans_in (take i xs)))
-name-step ds b xs left i x next within is =
-    ap (λ k. last_name ds (b ∷ beans_in (take k xs))) next
-    ∙ ap (λ l. last_name ds (b ∷ beans_in l)) (take-suc xs i x within)
-    ∙ ap (λ y. last_name ds (b ∷ beans_in (take i xs ++ y ∷ []))) (sym is)
-    ∙ ap (λ l. last_name ds (b ∷ l)) (map-append (λ (c : Bor BeanDecl). c.now) (take i xs) (x ∷ []))
-    ∙ last-name ds (b ∷ beans_in (take i xs)) x.now
-
-pub or-first : (x y : Option (List ℕ)) → is_some x ≡ true → x ≡ option_or x y
-or-first None y some = absurd (false≢true some)
-or-first (Some n) y some = refl
-
-pub or-second : (x y : Option (List ℕ)) → is_some x ≡ false → y ≡ option_or x y
-or-second None y none = refl
-or-second (Some n) y none = absurd (true≢false none)

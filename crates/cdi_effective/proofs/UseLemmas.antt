@@ -1,7 +1,7 @@
 -- Uses in the byte order of their texts, each once.
 use Rattle.std.proofs.Common.{arith, suc, zero}
 use Rattle.std.proofs.Common.{◌≡◌, ℕ, Bool, true, false, cond, ◌||◌, List, [], ◌∷◌, ◌++◌, map, fold}
-use Rattle.std.proofs.Common.{Ordering, Less, Equal, Greater, refl, sym, ap, subst, ◌∙◌, inl, inr}
+use Rattle.std.proofs.Common.{Ordering, Less, Equal, Greater, refl, sym, ap, ◌∙◌, inl, inr}
 use Rattle.std.proofs.Math.Bool.{or_assoc, or-false, or-true}
 use Rattle.std.specs.Cmp.{IsStrictWeakOrder}
 use Rattle.std.specs.Cmp.Lexicographic.{nat_list_cmp_total}
@@ -58,7 +58,7 @@ module _ {X : Type 0} (before : X → X → Bool) where
       by true rest = ap (λ b. p y || b) rest ∙ or-left_comm (p y) (p x) (list_any p ys)
       by false rest = refl
 
-  any-sorted : (p : X → Bool) (xs : List X) → list_any p (sorted_by before xs) ≡ list_any p xs
+  pub any-sorted : (p : X → Bool) (xs : List X) → list_any p (sorted_by before xs) ≡ list_any p xs
   any-sorted p [] = refl
   any-sorted p (x ∷ xs) = any-put p x (sorted_by before xs) ∙ ap (λ b. p x || b) (any-sorted p xs)
 
@@ -140,10 +140,10 @@ order-distinct us = distinct-from (sorted_by is_before_in_text (each_once us))
 
 module _ {X : Type 0} (before : X → X → Bool) (o : IsStrictWeakOrder before) where
   -- none comes before this one
-  abbrev NoneBefore : X → List X → Type 0
+  abbrev pub NoneBefore : X → List X → Type 0
   NoneBefore x ys = AllByRecursion (λ y. before y x ≡ false) ys
 
-  abbrev InTurn : List X → Type 0
+  abbrev pub InTurn : List X → Type 0
   InTurn [] = Unit {0}
   InTurn (x ∷ xs) = NoneBefore x xs × InTurn xs
 
@@ -159,7 +159,7 @@ module _ {X : Type 0} (before : X → X → Bool) (o : IsStrictWeakOrder before)
       by true e rest = (all-put (λ z. before z y ≡ false) before x ys (o.one_way y x e) turn.0, rest)
       by false e rest = ((e, none-lower x y ys e turn.0), turn)
 
-  sorted-in_turn : (xs : List X) → InTurn (sorted_by before xs)
+  pub sorted-in_turn : (xs : List X) → InTurn (sorted_by before xs)
   sorted-in_turn [] = tt
   sorted-in_turn (x ∷ xs) = put-in_turn x (sorted_by before xs) (sorted-in_turn xs)
 

@@ -1,6 +1,6 @@
 -- The walk along the places of a chain.
-use Rattle.std.proofs.Common.{◌≡◌, ◌<◌, ℕ, zero, suc, nat_eq, Bool, true, false, cond, ◌||◌, List, [], ◌∷◌, ◌++◌, length, replicate}
-use Rattle.std.proofs.Common.{Option, Some, None, is_some, option_map, slice_get, get_or, set, refl, sym, ap, subst, ◌∙◌, inl, inr, arith}
+use Rattle.std.proofs.Common.{◌≡◌, ◌<◌, ℕ, suc, nat_eq, Bool, true, false, ◌||◌, List, [], ◌∷◌, ◌++◌, length, replicate}
+use Rattle.std.proofs.Common.{Option, Some, None, is_some, get_or, set, refl, sym, ap, subst, ◌∙◌, inl, inr, arith}
 use Rattle.std.specs.Str.{bytes_eq}
 use Rattle.std.proofs.lemmas.Bool.{cases_Bool, false≢true, true≢false}
 use Rattle.std.proofs.lemmas.Option.{slice_get-get_or, slice_get_within}
@@ -12,7 +12,7 @@ use Rattle.cdi_model.specs.declared.decl.Decl.{Decl}
 use Rattle.cdi_model.specs.declared.decl.Decl.TheVariants as decls
 use Rattle.cdi_model.specs.declared.decl.Kind.TheVariants as kinds
 use Rattle.cdi_match.specs.Chain.{has}
-use Rattle.cdi_effective.specs.Places.{link_of, next_at, place_of, place_of_next, ArePlaces, IsPlace}
+use Rattle.cdi_effective.specs.Places.{next_at, place_of, place_of_next, ArePlaces, IsPlace}
 use Rattle.cdi_effective.specs.Specialized.{behind, chain_behind, specialized}
 use Rattle.cdi_effective.proofs.PlaceLemmas.{apart-by-place, no-next, snoc-places, the-next}
 use Rattle.cdi_effective.proofs.StepLemmas.{all-behind, ended, ends-met, ends-none, no-steps, one-more}

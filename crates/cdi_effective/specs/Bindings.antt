@@ -1,5 +1,5 @@
 -- The bindings of the class of a bean (Interceptors 2.1, Binding an Interceptor to a Class; CDI 4.0, Interceptor bindings for stereotypes).
-use Rattle.std.specs.Prelude.{ℕ, Bool, not, List, ◌++◌, filter, flat_map}
+use Rattle.std.specs.Prelude.{not, List, ◌++◌, filter, flat_map}
 use Rattle.cdi_model.specs.declared.decl.BeanDecl.{BeanDecl}
 use Rattle.cdi_model.specs.declared.decl.Decl.{Decl}
 use Rattle.cdi_model.specs.declared.decl.StereotypeDecl.{StereotypeDecl}

@@ -1,4 +1,4 @@
-use Rattle.std.proofs.Common.{◌≡◌, ◌++◌, not, filter, take, length}
+use Rattle.std.proofs.Common.{◌≡◌, ◌++◌, not, filter, take}
 use Rattle.cdi_match.specs.Bindings.{uses_in}
 use Rattle.cdi_effective.specs.Bindings.{in_place_of}
 use Rattle.cdi_effective.specs.Qualifiers.{uses_one}

@@ -1,47 +1,22 @@
-use Rattle.std.proofs.Common.{◌≡◌, Bool, ℕ, List, ap, ◌∙◌, rules}
-use Rattle.std.specs.Cmp.Lexicographic.{nat_list_cmp_total}
-use Rattle.std.specs.Ordering.{is_lt}
-use Rattle.std.proofs.lemmas.Fn.{always_returns_same}
-use Rattle.std.proofs.lemmas.List.Sorted.{ranks_by}
+use Rattle.std.proofs.Common.{ap, sym, ◌∙◌}
 use Rattle.std.proofs.lemmas.Result.{IfOk-weaker}
-use Rattle.cdi_model.specs.Bytes.{byte_order}
-use Rattle.cdi_model.specs.declared.quals.Qual.{Qual}
 use Rattle.cdi_match.specs.Bindings.{uses_in}
-use Rattle.cdi_effective.specs.TextOrder.{in_text_order, is_before_in_text}
-use Rattle.cdi_effective.specs.TextOrder.{written_in}
 use Rattle.cdi_effective.specs.Sorting.{sorted_by}
-use Rattle.cdi_effective.specs.declared.written.Written.{Written}
-use Rattle.cdi_effective.proofs.SortLemmas.{sorted_from_sort, sorted_map}
+use Rattle.cdi_effective.specs.TextOrder.{in_text_order, is_before_in_name, is_before_in_text, tell_order}
+use Rattle.cdi_effective.proofs.NameOrderLemmas.{in-order-by-names}
 use Rattle.cdi_effective.proofs.text_order.in_text_order.Goals as goal
 
-abbrev text : Written → List ℕ
-text w = w.text.items
-
-abbrev binding : Written → Qual
-binding w = w.binding.now
-
--- by the text that stands beside a binding, and by its own
-abbrev by_text : Written → Written → Bool
-by_text x y = is_lt (byte_order (text x) (text y))
-
-abbrev by_binding : Written → Written → Bool
-by_binding x y = is_before_in_text (binding x) (binding y)
-
-same-order : by_text ≡ by_binding
-same-order i x y = is_lt (byte_order (x.spelled i) (y.spelled i))
+pub returns-then-tell_order : goal.returns-then-tell_order
+returns-then-tell_order c =
+    in-order-by-names (uses_in c.args.uses.now) (uses_in c.in_ok-list.list.items)
+    (c.in_ok-list.ensures ∙ ap (λ l. sorted_by is_before_in_name (uses_in l)) c.deref.ensures.value
+    ∙ ap (sorted_by is_before_in_name) c.in_ok-once.ensures)
+    (ap (λ l. tell_order (uses_in l)) (sym c.deref-2.ensures.value) ∙ sym c.tell_order.ensures ∙ c.if-tell_order.true)
 
 pub returns : goal.returns
 unfolding in_text_order
 returns c =
-    let sort = c.in_ok-sort_by.ensures in
-    let order = ranks_by nat_list_cmp_total text in
-    let compares = always_returns_same _ (λ a r. is_lt r ≡ by_text a.0.now a.1.0.now) _ (λ a r q k. search rules) in
-    let before : List Written = c.in_ok-list.list.items in
-    let after : List Written = c.sort_by.new.self.items in
-    let sorted : after ≡ sorted_by by_text before = sorted_from_sort by_text order before after
-    (sort.sorted by_text order compares) (sort.stable by_text order compares) in
-    IfOk-weaker c.without_texts.result _ _ (λ list is. is
-    ∙ ap written_in (c.deref-2.ensures.value ∙ sorted ∙ ap (λ lt. sorted_by lt before) same-order)
-    ∙ sorted_map binding is_before_in_text before
-    ∙ ap (sorted_by is_before_in_text) (c.in_ok-list.ensures ∙ ap uses_in c.deref.ensures.value ∙ c.in_ok-once.ensures))
-    c.without_texts.ensures
+    IfOk-weaker c.by_texts.result _ _ (λ list is. is
+    ∙ ap (λ l. sorted_by is_before_in_text (uses_in l)) c.deref-3.ensures.value
+    ∙ ap (sorted_by is_before_in_text) c.in_ok-once.ensures)
+    c.by_texts.ensures

@@ -1,7 +1,6 @@
-use Rattle.std.proofs.Common.{◌≡◌, ◌<◌, ◌||◌, ℕ, false, get_or, refl, sym, ap, subst, ◌∙◌, rules}
+use Rattle.std.proofs.Common.{◌<◌, ◌||◌, false, get_or, refl, sym, ap, subst, ◌∙◌}
 use Rattle.std.specs.List.{AllByRecursion}
 use Rattle.cdi_match.specs.Chain.{has}
-use Rattle.cdi_model.specs.declared.decl.Decl.TheVariants as decls
 use Rattle.cdi_effective.specs.Places.{is_offered_by}
 use Rattle.cdi_effective.specs.Specialized.{behind, replaced_by}
 use Rattle.cdi_effective.proofs.MarkLemmas.{link-given, marks-none, none-replaced}

@@ -1,5 +1,4 @@
-use Rattle.std.proofs.Common.{◌≡◌, ◌-◌, ◌+◌, suc, true, false, replicate, get_or, set, refl, sym, ap, ◌∙◌, arith, rules}
-use Rattle.std.proofs.lemmas.List.{length-set}
+use Rattle.std.proofs.Common.{◌≡◌, ◌-◌, ◌+◌, suc, true, false, replicate, set, refl, sym, ap, ◌∙◌, arith, rules}
 use Rattle.cdi_model.specs.DeclList.{limit}
 use Rattle.cdi_effective.proofs.PlaceLemmas.{found-place}
 use Rattle.cdi_effective.proofs.StepLemmas.{none-behind}
