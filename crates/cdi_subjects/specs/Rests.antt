@@ -61,7 +61,7 @@ DifferAlike ds es d = ⊤
 
 -- ---- the bean that it specializes
 
--- what is seen of this bean, if there is one: its types and its name
+-- what is seen of it, if there is one: its types and its name
 abbrev pub specialized_seen : List Decl → Decl → Option (List (List ℕ) × Option (List ℕ))
 specialized_seen ds (decls.Bean d) = option_map (λ b. (b.types, b.name)) (specialized_bean ds d)
 specialized_seen ds d = None

@@ -15,7 +15,7 @@ abbrev pub is_specializing : Decl → Bool
 is_specializing (decls.Bean d) = d.specializes
 is_specializing d = false
 
--- the managed bean that the managed bean of a declaration specializes, if there is one
+-- the record of the bean that a bean specializes, if there is one
 abbrev pub specialized_bean : List Decl → BeanDecl → Option Effective
 specialized_bean ds d = option_map (managed ds) (specialized ds d)
 
@@ -25,7 +25,7 @@ abbrev pub lacks_specialized : List Decl → Decl → Bool
 lacks_specialized ds (decls.Bean d) = d.specializes && not (is_some (specialized ds d))
 lacks_specialized ds d = false
 
--- ---- types that the specialized bean has, and the bean that specializes it has not
+-- ---- types of the specialized bean that the bean itself does not have
 
 -- those of a bean that are not among these
 abbrev pub types_beyond : List (List ℕ) → Option Effective → List Subject

@@ -46,8 +46,8 @@ fn lacks_specialized(decls: &Decls, decl: &Decl) -> bool
     }
 }
 
-/// The types of the bean that the first of some beans specializes and that this one does not have, of a declaration that
-/// has these beans.
+/// The types of the bean that the first of these specializes and that it does not have itself, of a declaration that has
+/// these beans.
 pub(crate) fn lacked_types<V: View>(
     alloc: Global,
     view: &V,
@@ -105,7 +105,7 @@ fn has_named_bean<V: View>(view: &V, bean: &BeanDecl) -> bool
     }
 }
 
-/// The managed bean that the managed bean of a declaration specializes, if there is one. It takes no memory.
+/// The record of the bean that a bean specializes, if there is one. It takes no memory.
 fn specialized_bean<'a, V: View>(view: &'a V, bean: &BeanDecl) -> Option<&'a Effective>
     ensures { option_copied result ≡ specialized_bean (V.list view.now) bean.now }
 {
