@@ -6,6 +6,9 @@ is made. A product stands before the bean that declares it. Half of the deployme
 proceed more often than not. The points of an interceptor are of beans of the other scopes, and of a helper: a dependent bean
 around which no interceptor stands, and which has no points.
 
+In half of the deployments some managed beans are specialized: by a bean of a type that extends theirs, which has their scope
+and makes the same products, and this one maybe by a further one. The last of them is enabled, and stands for all.
+
 Two thirds have observer methods and events, where runs notify them. The parameters of an observer method are of any
 beans, since they are made at a notification; so a bean may be made for an event that is fired while it is made, until
 the run is too deep.
@@ -62,9 +65,34 @@ class Planner:
         self.interceptors = [f"shop.I{number}" for number in range(self.chance.randint(1, 4))] if self.maybe(0.5) else []
         self.helped = bool(self.interceptors) and self.maybe(0.7)
         self.has_events = NOTIFIES and self.maybe(0.67)
+        # Each specializing bean with the one that it specializes.
+        self.specialized = {}
+        if self.maybe(0.5):
+            for name in self.names:
+                if name not in self.products and self.maybe(0.4):
+                    self.specialize(name)
 
     def maybe(self, chance):
         return self.chance.random() < chance
+
+    def specialize(self, name):
+        """Plans one or two beans behind each other that specialize this one."""
+        for letter in "ab"[: self.chance.randint(1, 2)]:
+            above = f"{name}{letter}"
+            self.specialized[above] = name
+            self.scopes[above] = self.scopes[name]
+            name = above
+
+    def first(self, name):
+        """The bean that stands in the order of names for one that specializes it."""
+        while name in self.specialized:
+            name = self.specialized[name]
+        return name
+
+    def types_of(self, name):
+        """The types by which the bean of a name is asked for, most often its own."""
+        above = [other for other in self.specialized if self.first(other) == name]
+        return [name] * (1 + 3 * len(above)) + above
 
     def owner(self, product):
         behind = self.names[self.names.index(product) + 1 :]
@@ -73,7 +101,8 @@ class Planner:
     def declarations(self):
         """The types and bindings, and then the beans and interceptors in any order."""
         types = [{"kind": "type", "name": name} for name in self.names + [HELPER] * self.helped]
-        found = [self.bean(name) for name in self.names if name not in self.products]
+        types += [{"kind": "type", "name": name, "extends": other} for name, other in self.specialized.items()]
+        found = [self.bean(name) for name in [*self.names, *self.specialized] if name not in self.products]
         found += [self.interceptor(name) for name in self.interceptors] + [self.helper()] * self.helped
         self.chance.shuffle(found)
         return types + EVENTS * self.has_events + (BINDINGS if self.interceptors else []) + found
@@ -136,8 +165,12 @@ class Planner:
         return declaration
 
     def bean(self, name):
-        points = self.points(name, "at", 3)
+        points = self.points(self.first(name), "at", 3)
         declaration = {"kind": "bean", "name": name, "scope": self.scopes[name], "points": points, **self.bindings(0.8)}
+        if name in self.specialized:
+            declaration["specializes"] = True
+        elif self.specialized and self.maybe(0.3):
+            declaration["named"] = ""
         for place, chance, bodies in [
             ("construct", 0.3, PLAIN),
             ("post", 0.3, PLAIN),
@@ -148,7 +181,7 @@ class Planner:
         declaration["methods"] = [
             {"name": method, **self.part(points, PLAIN), **self.bindings(0.3)} for method in METHODS
         ]
-        made = [product for product in sorted(self.products) if self.owner(product) == name]
+        made = [product for product in sorted(self.products) if self.owner(product) == self.first(name)]
         declaration["producers"] = [self.producer(product, points) for product in made]
         declaration["disposers"] = [
             {"name": "drop_" + product[-2:], "type": product, "body": self.chance.choice(DISPOSING)}
@@ -177,7 +210,8 @@ class Planner:
             if self.scopes[other] != "dependent" or self.names.index(other) > (place if word == "in" else first)
         ]
         chosen = [self.chance.choice(allowed) for _ in range(self.chance.randint(0, most))] if allowed else []
-        points = [{"name": f"{word}{number}", "type": other} for number, other in enumerate(chosen)]
+        types = [self.chance.choice(self.types_of(other)) for other in chosen]
+        points = [{"name": f"{word}{number}", "type": other} for number, other in enumerate(types)]
         for point in points:
             if self.maybe(0.2):
                 point["qualifiers"] = [("Any", ())]
@@ -271,7 +305,7 @@ class Commander:
 
     def asked(self):
         """A type and qualifiers, most often those of one bean."""
-        name = self.chance.choice(self.planner.names)
+        name = self.chance.choice([*self.planner.names, *self.planner.specialized])
         draw = self.chance.random()
         if draw < 0.04:
             return "Object", [], ""
@@ -279,6 +313,9 @@ class Commander:
             return "shop.Nowhere", [], ""
         if draw < 0.08:
             return name, [("Lost", ())], " Lost"
+        if draw < 0.09:
+            default = self.planner.first(name).removeprefix("shop.").lower()
+            return name, [("Named", default)], f" Named({default})"
         if draw < 0.1:
             return name, [("Named", "nobody")], " Named(nobody)"
         return (name, [("Any", ())], " Any") if draw < 0.2 else (name, [], "")
@@ -296,6 +333,8 @@ class Commander:
             return [self.refused()]
         if draw < 0.75 and present["kind"] == "interceptor":
             wrong = self.drop("interceptor", present["name"])
+        elif draw < 0.9 and "specializes" in present:
+            wrong = self.specializing_nothing(present)
         else:
             wrong = self.put(self.planner.faulty(present))
         return [wrong, *(self.command() for _ in range(self.chance.randint(0, 2))), self.put(present)]
@@ -306,6 +345,13 @@ class Commander:
         if present["kind"] == "interceptor":
             return self.planner.interceptor(name)
         return self.planner.helper() if name == HELPER else self.planner.bean(name)
+
+    def specializing_nothing(self, present):
+        """Takes from a bean that it specializes another: it is gone, or disabled, or does not say so."""
+        draw = self.chance.random()
+        if draw < 0.3:
+            return self.drop("bean", present["name"])
+        return self.put({**present, **({"alternative": True} if draw < 0.8 else {"specializes": False})})
 
     def drop(self, kind, name):
         return f"drop {kind} {name}\n", self.model.drop(kind, name)

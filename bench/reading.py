@@ -40,6 +40,7 @@ KEYS = {
     "bean": {
         **ATTRIBUTES,
         "priority": "number",
+        "specializes": "boolean",
         "bindings": "uses",
         "points": "point tables",
         "construct": "part",

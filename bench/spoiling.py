@@ -9,7 +9,7 @@ import copy
 from texts import ANY, DEFAULT, Event
 
 LISTS = ["qualifiers", "bindings", "params", "points", "methods", "producers", "disposers", "observers", "calls", "fires", "types"]
-FURTHER = ["conditional", "fires", "params", "colour", "priority", "observers", "calls", "static"]
+FURTHER = ["conditional", "fires", "params", "colour", "priority", "observers", "calls", "static", "specializes"]
 VALUES = [1, True, "text", [], [1], {}, ["A", 1], [[]], "dependent", "", -0]
 BAD_EVENTS = ["", "1", "A Q Q", "A  Q", " A", "A ", "A Default", "A Named", "A Any(m=1)", "A Q(m=1,m=2)", "A Q(m=)", "A.", "A\\tQ"]
 GOOD_EVENTS = ["A", "Object Any", "A Named(a) Q(m=01,n=-0)", "x.Y a.R", "A Q(m=1) P Any"]

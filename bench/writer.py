@@ -38,6 +38,8 @@ class Writer:
         self.random = random.Random(seed)
         self.new_model = new_model
         self.length = length
+        # Whether most types extend another, and most beans specialize.
+        self.specializes = False
 
     def maybe(self, chance):
         return self.random.random() < chance
@@ -145,18 +147,22 @@ class Writer:
     def priority(self):
         return self.random.choice([-3, 0, 1, 2])
 
-    def declaration(self, kind):
-        declaration = {"kind": kind, "name": self.random.choice(NAMES[kind])}
+    def declaration(self, kind, name=None):
+        declaration = {"kind": kind, "name": name or self.random.choice(NAMES[kind])}
         if kind == "bean":
             self.attributes(declaration)
         return self.with_keys(declaration, self.keys_of_bean() if kind == "bean" else self.keys(kind))
+
+    def extended(self):
+        """The type that another extends: often one of three, where many beans are to specialize the same ones."""
+        return self.random.choice(TYPES[:3] if self.specializes and self.maybe(0.6) else TYPES)
 
     def keys(self, kind):
         """The keys of a declaration that is no bean, each with how likely it is and what makes its value."""
         return {
             "type": {
                 "implements": (0.5, lambda: self.some(TYPES, 2)),
-                "extends": (0.3, lambda: self.random.choice(TYPES)),
+                "extends": (0.7 if self.specializes else 0.3, self.extended),
                 "form": (0.3, lambda: self.random.choice(["class", "interface"])),
                 "final": (0.4, lambda: self.maybe(0.8)),
             },
@@ -183,6 +189,7 @@ class Writer:
     def keys_of_bean(self):
         return {
             "priority": (0.5, self.priority),
+            "specializes": (0.8 if self.specializes else 0.2, lambda: self.maybe(0.9)),
             "bindings": (0.7, self.bindings),
             "producers": (0.5, lambda: [self.producer(name) for name in self.some(PRODUCERS, 2)]),
             "points": (0.4, self.points),
@@ -202,8 +209,8 @@ class Writer:
             return self.spoiled_put(model)
         return self.put(model, self.random.choice(KINDS))
 
-    def put(self, model, kind):
-        declaration = self.declaration(kind)
+    def put(self, model, kind, name=None):
+        declaration = self.declaration(kind, name)
         return text_of_put(declaration), model.put(declaration)
 
     def spoiled_put(self, model):
@@ -262,13 +269,18 @@ class Writer:
     def script(self):
         """The lines and put blocks of a script, and their answers; half of the scripts are of a sound deployment.
 
-        Half of the others begin with bindings and interceptors, so that their chains are seldom empty.
+        Half of the others begin with bindings and interceptors, so that their chains are seldom empty. A third begin with
+        types that extend one another, often in circles, and with beans of these that specialize.
         """
-        model, steps = self.new_model(), []
+        model, begun = self.new_model(), []
         if self.maybe(0.5):
             return Commander(self.random, model, text_of_put).script(self.length)
+        self.specializes = self.maybe(0.33)
         if self.maybe(0.5):
-            steps = [self.put(model, kind) for kind in ["binding"] * 2 + ["interceptor"] * 3]
+            begun += [(kind, None) for kind in ["binding"] * 2 + ["interceptor"] * 3]
+        if self.specializes:
+            begun += [(kind, name) for kind in ["type", "bean"] for name in self.random.sample(TYPES, len(TYPES))]
+        steps = [self.put(model, kind, name) for kind, name in begun]
         for _ in range(self.length * self.random.randint(5, 25)):
             steps.append(self.edit(model))
             steps.extend(self.question(model) for _ in range(self.random.randint(0, 4)))

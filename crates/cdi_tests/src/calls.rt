@@ -52,7 +52,7 @@ fn read_by(alloc: Global, decls: &Decls, class: Name) -> Result<Vec<u8>, Fail> {
     let Some(Decl::Bean(bean)) = decls.get(Kind::Bean, &class) else {
         return Err(Fail::new("no bean"));
     };
-    let keys = reads_of(alloc, decls, bean)?;
+    let keys = reads_of(alloc, decls, decls, bean)?;
     let mut text = Vec::new(alloc);
     push_keys(&mut text, keys.as_slice())?;
     Ok(text)

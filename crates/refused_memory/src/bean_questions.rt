@@ -183,7 +183,7 @@ fn has_record(alloc: Global, decls: &Decls, class: &[u8], wanted: Recorded) -> R
     let Some(bean) = find_bean(decls, class)? else {
         return Ok(false);
     };
-    let records = records_of(alloc, decls, bean, false)?;
+    let records = records_of(alloc, decls, decls, bean, false)?;
     Ok(begins_with(records.as_slice(), wanted))
 }
 
@@ -194,7 +194,7 @@ fn begins_with(records: &[Effective], wanted: Recorded) -> bool {
     }
 }
 
-fn is_record(found: &Effective, wanted: Recorded) -> bool {
+pub fn is_record(found: &Effective, wanted: Recorded) -> bool {
     let Recorded(types, qualifiers, scope, is_enabled) = wanted;
     let has_types = are_names(found.types.as_slice(), types);
     let has_qualifiers = are_uses_of(found.qualifiers.as_slice(), qualifiers);
@@ -244,7 +244,7 @@ fn are_those(found: &[Rc<Choice>], wanted: &[Answer]) -> bool {
 }
 
 /// The declaration of a bean.
-fn find_bean<'a>(decls: &'a Decls, class: &[u8]) -> Result<Option<&'a BeanDecl>, Error> {
+pub fn find_bean<'a>(decls: &'a Decls, class: &[u8]) -> Result<Option<&'a BeanDecl>, Error> {
     match decls.get(Kind::Bean, &name(class)?) {
         Some(Decl::Bean(bean)) => Ok(Some(bean)),
         _ => Ok(None),

@@ -39,9 +39,15 @@ const SHOP: &[u8] = b"Shop";
 
 const OBJECT: &[u8] = b"Object";
 
+const PLACE: &[u8] = b"Place";
+
+const HUT: &[u8] = b"Hut";
+
 const BOTH: &[&[u8]] = &[CORNER, MALL];
 
 const PLAIN: &[u8] = b"";
+
+const ANY: &[u8] = b"Any";
 
 const RANKED: &[u8] = b"Rank(n=2,m=1) Named(mall)";
 
@@ -108,6 +114,18 @@ producers=[{name="make",type="Beer",body="echo",params=[{name="r",type="Rum"}]}]
 disposers=[{name="drop",type="Wine",body="echo"}]
 "#;
 
+const FURTHER_TYPE: &[u8] = b"kind=\"type\"\nname=\"Hut\"\nextends=\"Place\"\n";
+
+const SPECIALIZED: &[u8] =
+    b"kind=\"bean\"\nname=\"Place\"\nqualifiers=[\"Rank(n=1)\"]\nnamed=\"\"\n";
+
+const SPECIALIZING: &[u8] =
+    b"kind=\"bean\"\nname=\"Corner\"\nspecializes=true\ntypes=[\"Shop\"]\nnamed=\"\"\nqualifiers=[\"Rank(n=2)\"]\n";
+
+const ALSO_SPECIALIZING: &[u8] = b"kind=\"bean\"\nname=\"Hut\"\nspecializes=true\n";
+
+const SPECIALIZING_NONE: &[u8] = b"kind=\"bean\"\nname=\"Lone\"\nspecializes=true\n";
+
 /// The faults of what is declared at the end.
 const FAULTS: &[u8] = b"F01 type Corner type Place
 F01 type Corner type Stop
@@ -132,11 +150,21 @@ F08 bean Inn disposer drop
 F20 bean Inn point p
 F20 bean Inn producer make param r
 F21 bean Inn point q
+F01 type Hut type Place
+F01 bean Place qualifier Rank
+F01 bean Place type Place
+F01 bean Corner qualifier Rank
+F28 bean Corner type Place
+F29 bean Corner
+F01 bean Lone type Lone
+F27 bean Lone
+F24 name place
 F25 name mall mall.x
+F30 bean Place Corner Hut
 ";
 
 /// Calls, each with its answer.
-static CALLS: [(Call, Answer); 44] = [
+static CALLS: [(Call, Answer); 51] = [
     (Put(TYPE), Done),
     (Put(INTERFACE), Done),
     (Put(QUALIFIER), Done),
@@ -178,10 +206,19 @@ static CALLS: [(Call, Answer); 44] = [
     (Observers(SHOP, RANKED), Observed(&[b"all", b"shop"])),
     (Observers(OBJECT, PLAIN), Observed(&[b"all"])),
     (Put(BAD_POINTS), Done),
+    (Put(FURTHER_TYPE), Done),
+    (Put(SPECIALIZED), Done),
+    (Put(SPECIALIZING), Done),
+    (Choose(SHOP, b"Rank(n=1)"), One(CORNER)),
+    (Put(ALSO_SPECIALIZING), Done),
+    (Choose(PLACE, ANY), One(HUT)),
+    (Put(SPECIALIZING_NONE), Done),
     (Report, Faults(FAULTS)),
     (
         Beans,
-        Around(&[MALL, STAND, b"Till", b"Desk", b"Ear", b"Inn", b"Inn"]),
+        Around(&[
+            MALL, STAND, b"Till", b"Desk", b"Ear", b"Inn", b"Inn", PLACE, CORNER, HUT, b"Lone",
+        ]),
     ),
     (Promises, Done),
     (Books, Done),

@@ -11,6 +11,7 @@ mod chain_questions;
 mod questions;
 mod runs;
 mod scripts;
+mod specializing_questions;
 mod texts;
 
 use calls::make_calls;

@@ -1,13 +1,14 @@
-//! Questions about types, qualifiers, stereotypes, beans and chains, of which any one allocation may be refused. They change
-//! nothing.
+//! Questions about types, qualifiers, stereotypes, beans, chains and specialization, of which any one allocation may be
+//! refused. They change nothing.
 use crate::Difference;
 use crate::answers::Answer;
 use crate::bean_questions::{BeanQuestion, Compared, Deployed, Recorded, Told};
 use crate::chain_questions::{Audited, ChainQuestion};
+use crate::specializing_questions::{ReadKey, Specializing, SpecializingQuestion};
 use crate::texts::{are_names, names};
 use cdi_fixtures::name;
 use cdi_match::{closure, fill_members, is_type, stereotypes};
-use cdi_model::{Decls, Error, Ident, Members, Scope, UseKind};
+use cdi_model::{Decls, Error, Ident, Kind, Members, Scope, UseKind};
 use cdi_text::read_qualifier;
 use std::alloc::Global;
 
@@ -26,11 +27,14 @@ enum Question {
     OfBeans(BeanQuestion),
     /// What is asked of the audited bean.
     OfChains(ChainQuestion),
+    /// What is asked of the bean that specializes others.
+    OfSpecializing(SpecializingQuestion),
 }
 
 use BeanQuestion::{Beans, Choose, ChooseName, Evaluate, Put, Record};
 use ChainQuestion::{Around, Bound, Observed, Touched};
-use Question::{Closure, Fill, IsType, OfBeans, OfChains, Stereotypes};
+use Question::{Closure, Fill, IsType, OfBeans, OfChains, OfSpecializing, Stereotypes};
+use SpecializingQuestion::{Behind, Own, Reads, Replaced};
 
 /// What is declared: types of which two extend each other, a qualifier, stereotypes of which two declare each other,
 /// and beans of which two are alternatives of one priority and one name, one has injection points and a product, and one
@@ -65,7 +69,7 @@ producers=[
 "#,
 ];
 
-static QUESTIONS: [Question; 29] = [
+static QUESTIONS: [Question; 34] = [
     Closure(
         b"Corner",
         &[b"Corner", b"Object", b"Place", b"Shop", b"Stand", b"Stop"],
@@ -161,6 +165,37 @@ static QUESTIONS: [Question; 29] = [
         b"run",
         false,
     )),
+    OfSpecializing(Behind(&[b"Wide", b"Corner"])),
+    OfSpecializing(Replaced(&[b"Wide", b"Corner"])),
+    OfSpecializing(Own(
+        false,
+        Recorded(
+            &[b"Big", b"Corner", b"Object", b"Wide"],
+            &[b"Any", b"Named", b"Rank", b"Rank"],
+            Scope::Dependent,
+            true,
+        ),
+    )),
+    OfSpecializing(Own(
+        true,
+        Recorded(
+            &[b"Big", b"Corner", b"Object", b"Wide"],
+            &[b"Any", b"Named", b"Rank", b"Rank"],
+            Scope::Dependent,
+            false,
+        ),
+    )),
+    OfSpecializing(Reads(&[
+        ReadKey(Kind::Bean, b"Big"),
+        ReadKey(Kind::Bean, b"Wide"),
+        ReadKey(Kind::Bean, b"Corner"),
+        ReadKey(Kind::Type, b"Big"),
+        ReadKey(Kind::Type, b"Wide"),
+        ReadKey(Kind::Type, b"Corner"),
+        ReadKey(Kind::Type, b"Object"),
+        ReadKey(Kind::Stereotype, b"Mock"),
+        ReadKey(Kind::Stereotype, b"Model"),
+    ])),
 ];
 
 /// What the questions are about.
@@ -168,13 +203,19 @@ static QUESTIONS: [Question; 29] = [
 struct Asked {
     deployed: Deployed,
     audited: Audited,
+    specializing: Specializing,
 }
 
 impl Asked {
     fn new(alloc: Global) -> Result<Asked, Error> {
         let deployed = Deployed::new(alloc, &TEXTS)?;
         let audited = Audited::new(alloc)?;
-        Ok(Asked { deployed, audited })
+        let specializing = Specializing::new(alloc)?;
+        Ok(Asked {
+            deployed,
+            audited,
+            specializing,
+        })
     }
 }
 
@@ -214,6 +255,7 @@ fn ask(alloc: Global, asked: &Asked, question: Question) -> Result<bool, Error> 
         Stereotypes(texts, wanted) => has_stereotypes(alloc, decls, texts, wanted),
         OfBeans(question) => asked.deployed.answers(alloc, question),
         OfChains(question) => asked.audited.answers(alloc, question),
+        OfSpecializing(question) => asked.specializing.answers(alloc, question),
     }
 }
 
