@@ -40,7 +40,7 @@ link_reads ds bean =
     ∷ specialized_reads ds bean
     ++ stereotype_reads ds bean.attributes.stereotypes
 
--- what a bean gets by its chain rests on the bean that it specializes, and on those behind it
+-- what a bean gets by its chain rests on the bean that it specializes, and on those after it
 abbrev pub chain_reads : List Decl → BeanDecl → List DeclKey
 chain_reads ds bean = specialized_reads ds bean ++ flat_map (link_reads ds) (behind ds bean)
 

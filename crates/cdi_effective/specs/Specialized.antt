@@ -39,16 +39,16 @@ abbrev pub on_from : List (List ℕ) → (BeanDecl → List BeanDecl) → Option
 on_from met more None = []
 on_from met more (Some s) = if has met s.name then [] else s ∷ more s
 
--- the beans behind b, of whose names none was met, at most so many
+-- the beans after b, of whose names none was met, at most so many
 unfoldable pub chain_behind : ℕ → List Decl → List (List ℕ) → BeanDecl → List BeanDecl
 chain_behind zero ds met b = []
 chain_behind (suc n) ds met b = on_from met (λ s. chain_behind n ds (s.name ∷ met) s) (specialized ds b)
 
--- those behind a bean: the one that it specializes, the one that this specializes, and so on, ending before a repeat
+-- those after a bean: the one that it specializes, the one that this specializes, and so on, ending before a repeat
 unfoldable pub behind : List Decl → BeanDecl → List BeanDecl
 behind ds b = chain_behind limit ds (b.name ∷ []) b
 
--- the chain of a bean: it, and those behind it
+-- the chain of a bean: it, and those after it
 abbrev pub chain : List Decl → BeanDecl → List BeanDecl
 chain ds b = b ∷ behind ds b
 
@@ -110,11 +110,11 @@ last_declared quals (b ∷ bs) = last_declared b.attributes.qualifiers bs
 abbrev pub is_offered : List Decl → BeanDecl → Bool
 is_offered ds b = is_enabled (b.attributes.is_alternative || (given_of ds b.attributes).is_alternative) b.priority
 
--- the classes of the beans that an offered bean replaces: those behind it in its chain
+-- the classes of the beans that an offered bean replaces: those after it in its chain
 unfoldable pub replaced_by : List Decl → Decl → List (List ℕ)
 replaced_by ds (decls.Bean b) = if is_offered ds b then class_names (behind ds b) else []
 replaced_by ds other = []
 
--- an offered bean has the bean of the class behind it in its chain
+-- an offered bean has the bean of the class after itself in its chain
 unfoldable pub is_replaced : List Decl → List ℕ → Bool
 is_replaced ds class = list_any (λ d. has (replaced_by ds d) class) ds

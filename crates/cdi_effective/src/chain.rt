@@ -45,7 +45,7 @@ pub fn specialized<'a>(decls: &'a Decls, bean: &BeanDecl) -> Option<&'a BeanDecl
     }
 }
 
-/// The beans behind a bean in its chain: the one that it specializes, the one that this specializes, and so on, ending
+/// The beans after a bean in its chain: the one that it specializes, the one that this specializes, and so on, ending
 /// before a repeat. It takes memory for the list and for the names that are met, and none for a bean that specializes
 /// none.
 #[tactic(auto, unfolding(crate::specs::Specialized::behind))]

@@ -29,7 +29,7 @@ fn is_offered(alloc: Global, decls: &Decls, bean: &BeanDecl) -> Result<bool, All
     ))
 }
 
-/// The classes of the beans that a declaration replaces: where it is that of an offered bean, those of the beans behind it
+/// The classes of the beans that a declaration replaces: where it is that of an offered bean, those of the beans after it
 /// in its chain. It takes memory for the list and for the searches, and none for a bean that specializes none.
 #[tactic(auto, unfolding(crate::specs::Specialized::replaced_by))]
 pub fn replaced_by(alloc: Global, decls: &Decls, decl: &Decl) -> Result<Vec<Name>, AllocError>
