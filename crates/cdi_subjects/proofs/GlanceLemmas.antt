@@ -1,13 +1,16 @@
 -- What one look at all that a declaration names tells of its faults.
-use Rattle.std.proofs.Common.{◌≡◌, Bool, true, false, ◌||◌, ◌&&◌, List, [], ◌∷◌, ◌++◌, Option, Some, None, refl, sym, ap, ◌∙◌}
+use Rattle.std.proofs.Common.{◌≡◌, Bool, true, false, not, ◌||◌, ◌&&◌, List, [], ◌∷◌, ◌++◌, Option, Some, None, option_map, refl, sym, ap}
+use Rattle.std.proofs.Common.{◌∙◌}
 use Rattle.std.specs.List.{list_any}
 use Rattle.std.specs.Option.{is_some, option_to_list}
 use Rattle.std.proofs.Math.Bool.{or_assoc}
 use Rattle.std.proofs.lemmas.Bool.{false≢true, or_parts}
 use Rattle.cdi_bodies.specs.Book.{Promised}
 use Rattle.cdi_model.specs.declared.decl.Decl.{Decl}
+use Rattle.cdi_model.specs.declared.decl.Decl.TheVariants as decls
 use Rattle.cdi_model.specs.Mentions.{Mention, CallOf, PointOf, mentions}
-use Rattle.cdi_effective.specs.Beans.{entries}
+use Rattle.cdi_effective.specs.Beans.{entries, managed}
+use Rattle.cdi_effective.specs.Specialized.{specialized}
 use Rattle.cdi_effective.specs.declared.records.Effective.{Effective}
 use Rattle.cdi_resolve.specs.declared.choice.Choice.{Choice}
 use Rattle.cdi_resolve.specs.declared.choice.Choice.TheVariants as choices_are
@@ -22,7 +25,9 @@ use Rattle.cdi_subjects.specs.Glance.{is_call, is_wrong_in, requires_final_in, w
 use Rattle.cdi_subjects.specs.Parts.{unfit_in}
 use Rattle.cdi_subjects.specs.Proxies.{needs_subclass}
 use Rattle.cdi_subjects.specs.Sites.{lost_in}
-use Rattle.cdi_subjects.specs.Subjects.{bad_kind_in, bad_use_in, has_verdict, point_in, unknown_in}
+use Rattle.cdi_subjects.specs.Specializing.{has_name, is_specializing, lacked_types, lacks_specialized, renames_specialized, types_beyond}
+use Rattle.cdi_subjects.specs.Subjects.{bad_kind_in, bad_use_in, has_verdict, point_in, unknown_in, whole_if}
+use Rattle.cdi_subjects.proofs.SpecializedLemmas.{none-specialized}
 
 -- ---- a look that has come to some places
 
@@ -32,6 +37,7 @@ behind ds book d glance ms = record {
   is_wrong = glance.is_wrong || list_any (is_wrong_in ds book d) ms;
   requires_final = glance.requires_final || list_any (requires_final_in ds) ms;
   calls = glance.calls || list_any is_call ms;
+  specializes = glance.specializes;
 }
 
 pub behind-next : (ds : List Decl) (book : List Promised) (d : Decl) (glance : Glance) (m : Mention) (ms : List Mention)
@@ -96,6 +102,26 @@ no-call : (ds : List Decl) (bs : List Effective) (d : Decl) (m : Mention) → is
 no-call ds bs d (CallOf place params call) none = absurd (false≢true (sym none))
 no-call ds bs d other none = refl
 
+-- what does not say that it specializes another has no fault of doing so
+none-lacked : (ds : List Decl) (d : Decl) → is_specializing d ≡ false → whole_if (lacks_specialized ds d) ≡ []
+none-lacked ds (decls.Bean d) says = ap (λ t. whole_if (t && not (is_some (specialized ds d)))) says
+none-lacked ds other says = refl
+
+no-types : (ds : List Decl) (d : Decl) → is_specializing d ≡ false → lacked_types ds d ≡ []
+no-types ds (decls.Bean d) says =
+    ap (λ o. types_beyond (managed ds d).types (option_map (managed ds) o)) (none-specialized ds d says)
+no-types ds other says = refl
+
+no-name : (ds : List Decl) (d : Decl) → is_specializing d ≡ false → whole_if (renames_specialized ds d) ≡ []
+no-name ds (decls.Bean d) says =
+    let named = is_some d.attributes.named in
+    ap (λ o. whole_if (named && has_name (option_map (managed ds) o))) (none-specialized ds d says) ∙ apart named
+  where
+    apart : (b : Bool) → whole_if (b && false) ≡ []
+    apart true = refl
+    apart false = refl
+no-name ds other says = refl
+
 pub misses_nothing : MissesNothing
 misses_nothing ds book d codes_of.UnknownName none = found-none (unknown_in ds) _ (not-unknown ds book d) (mentions d) none
 misses_nothing ds book d codes_of.BadKind none = found-none (bad_kind_in ds d) _ (right-form ds book d) (mentions d) none
@@ -106,4 +132,8 @@ misses_nothing ds book d codes_of.Site none = found-none _ _ (no-call ds (entrie
 misses_nothing ds book d codes_of.NameClash none = refl
 misses_nothing ds book d codes_of.NamePrefix none = refl
 misses_nothing ds book d codes_of.Circular none = refl
+misses_nothing ds book d codes_of.NoSpecialized none = none-lacked ds d none
+misses_nothing ds book d codes_of.SpecializedType none = no-types ds d none
+misses_nothing ds book d codes_of.SpecializedName none = no-name ds d none
+misses_nothing ds book d codes_of.SpecializedTwice none = refl
 misses_nothing ds book d other none = absurd (false≢true (sym none))

@@ -4,3 +4,4 @@ pub mod Laws
 pub mod PushLemmas
 pub mod RecordLemmas
 pub mod RestLemmas
+pub mod SpecializedLemmas

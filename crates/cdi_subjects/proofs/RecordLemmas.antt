@@ -18,7 +18,9 @@ use Rattle.cdi_effective.specs.Bindings.{class_bindings}
 use Rattle.cdi_effective.specs.Disposers.{disposes}
 use Rattle.cdi_effective.specs.declared.records.Effective.{Effective}
 use Rattle.cdi_subjects.specs.Subjects.{binding_conflicts, conditional_dependents, disposers_at_fault, typed, wrongly_listed}
-use Rattle.cdi_subjects.specs.Records.{conditional_by, conflicts_by, conflicts_in, not_had, not_had_by, typed_by, with_two, without_product}
+use Rattle.cdi_subjects.specs.Records.{conditional_by, conflicts_by, conflicts_in, lacked_by, not_had, not_had_by, typed_by, with_two}
+use Rattle.cdi_subjects.specs.Records.{without_product}
+use Rattle.cdi_subjects.specs.Specializing.{lacked_types}
 use Rattle.cdi_faults.specs.declared.fault.Subject.TheVariants as parts
 
 -- ---- what a record is told by
@@ -136,3 +138,7 @@ conflicts_by_entries ds other = refl
 pub conditional_by_entries : (ds : List Decl) (d : Decl) → conditional_by d (entries ds d) ≡ conditional_dependents ds d
 conditional_by_entries ds (decls.Bean bean) = refl
 conditional_by_entries ds other = refl
+
+pub lacked_by_entries : (ds : List Decl) (d : Decl) → lacked_by ds d (entries ds d) ≡ lacked_types ds d
+lacked_by_entries ds (decls.Bean bean) = refl
+lacked_by_entries ds other = refl

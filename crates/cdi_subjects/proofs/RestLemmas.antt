@@ -1,6 +1,7 @@
--- The faults of a declaration rest on its records, the answers to its points and what the names that it writes are declared as.
+-- The faults of a declaration rest on its records, the answers to its points, what the names that it writes are declared as, and the bean
+-- that it specializes.
 use Rattle.std.proofs.Common.{◌≡◌, ℕ, Bool, true, false, not, cond, ◌&&◌, ◌||◌, List, [], ◌∷◌, ◌++◌, map, filter, length, nat_lt, codes}
-use Rattle.std.proofs.Common.{Option, Some, is_some, option_map, refl, sym, ap, subst, ◌∙◌}
+use Rattle.std.proofs.Common.{Option, Some, None, is_some, option_map, refl, sym, ap, subst, ◌∙◌}
 use Rattle.std.specs.List.{AllByRecursion, find, flat_map, list_any}
 use Rattle.std.specs.Option.{option_to_list, unwrap_or}
 use Rattle.std.specs.Str.{bytes_eq}
@@ -26,10 +27,11 @@ use Rattle.cdi_match.specs.Covering.{covers, covers_by}
 use Rattle.cdi_match.specs.Filling.{as_binding, as_qualifier}
 use Rattle.cdi_match.specs.Misuse.{misuses}
 use Rattle.cdi_match.specs.Types.{object}
-use Rattle.cdi_effective.specs.Beans.{entries, managed, product}
+use Rattle.cdi_effective.specs.Beans.{entries, managed, product, records}
 use Rattle.cdi_effective.specs.Bindings.{class_bindings}
 use Rattle.cdi_effective.specs.Disposers.{disposes}
 use Rattle.cdi_effective.specs.Qualifiers.{cover_all, required, some_covers}
+use Rattle.cdi_effective.specs.Specialized.{specialized}
 use Rattle.cdi_effective.specs.declared.records.BeanId.{BeanId}
 use Rattle.cdi_effective.specs.declared.records.Effective.{Effective}
 use Rattle.cdi_resolve.specs.declared.choice.Choice.{Choice}
@@ -43,8 +45,9 @@ use Rattle.cdi_subjects.specs.Filter.{found_in, is_enabled_in, producer_of_part,
 use Rattle.cdi_subjects.specs.Proxies.{is_final_decl, is_unproxyable, needs_subclass}
 use Rattle.cdi_subjects.specs.Records.{conditional_by, conflict_at, conflicts_in, part_at, typed_by, with_two, without_product}
 use Rattle.cdi_subjects.specs.Rests.{AreAlike, DifferAlike, FaultsRestOn, HasQualifiersAlike, IsAnsweredAlike, IsBeanAlike, IsSeenAlike}
-use Rattle.cdi_subjects.specs.Rests.{named_in}
+use Rattle.cdi_subjects.specs.Rests.{AreProductsAlike, named_in, specialized_seen}
 use Rattle.cdi_subjects.specs.Sites.{is_lost_among, lacks_method, lost_in, own_points, own_seen, points_seen}
+use Rattle.cdi_subjects.specs.Specializing.{has_name, lacked_types, lacks_specialized, renames_specialized, specialized_bean, types_beyond}
 use Rattle.cdi_subjects.specs.Subjects.{bad_kind_in, bad_use_in, disposers_at_fault, form_of, has_verdict, is_class_form, is_interface_form}
 use Rattle.cdi_subjects.specs.Subjects.{is_known_in, point_in, scope_conflicts, subjects_at_fault, unknown_in, whole_if}
 use Rattle.cdi_subjects.specs.declared.points.Verdict.{Verdict}
@@ -162,14 +165,14 @@ two-same ds es bs disposers alike =
     (λ b own. ap (λ xs. nat_lt 1 (length xs))
     (each-filter (disposes ds b) (disposes es b) disposers (λ s. disposes-same ds es s b own))) alike))
 
-disposers-same : (ds es : List Decl) (d : Decl) → entries ds d ≡ entries es d → AllByRecursion (HasQualifiersAlike ds es) (entries ds d)
+disposers-same : (ds es : List Decl) (d : Decl) → entries ds d ≡ entries es d → AreProductsAlike ds es d
     → disposers_at_fault ds d ≡ disposers_at_fault es d
 disposers-same ds es (decls.Bean bean) same alike =
     let b = managed ds bean in
     let bs = map (product ds bean) bean.producers in
     sym (disposers_of_records ds bean b bs refl)
-    ∙ ap (λ l. l ++ with_two ds bs bean.disposers) (without-same ds es bs bean.disposers alike.1)
-    ∙ ap (λ l. without_product es bs bean.disposers ++ l) (two-same ds es bs bean.disposers alike.1)
+    ∙ ap (λ l. l ++ with_two ds bs bean.disposers) (without-same ds es bs bean.disposers alike)
+    ∙ ap (λ l. without_product es bs bean.disposers ++ l) (two-same ds es bs bean.disposers alike)
     ∙ disposers_of_records es bean b bs same
 disposers-same ds es other same alike = refl
 
@@ -188,6 +191,53 @@ conflicts-same ds es bean alike =
     let observers = each-same (λ o. conflict_at ds class bean (spots.Observer o.name))
     (λ o. conflict_at es other bean (spots.Observer o.name)) bean.observers (λ o. at (spots.Observer o.name)) in
     rw (at spots.Construct, methods, producers, observers) refl
+
+-- ---- a specialized bean
+
+is-seen : (ds : List Decl) (bean : BeanDecl) → is_some (specialized_seen ds (decls.Bean bean)) ≡ is_some (specialized ds bean)
+is-seen ds bean = by (specialized ds bean)
+  where
+    by : (o : Option BeanDecl) → is_some (option_map (λ b. (b.types, b.name)) (option_map (managed ds) o)) ≡ is_some o
+    by None = refl
+    by (Some s) = refl
+
+lacks-same : (ds es : List Decl) (d : Decl) → specialized_seen ds d ≡ specialized_seen es d → lacks_specialized ds d ≡ lacks_specialized es d
+lacks-same ds es (decls.Bean bean) seen =
+    ap (λ there. bean.specializes && not there) (sym (is-seen ds bean) ∙ ap is_some seen ∙ is-seen es bean)
+lacks-same ds es other seen = refl
+
+-- what is seen of two beans is the same
+abbrev IsSeen : Option Effective → Option Effective → Type 0
+IsSeen o p = option_map (λ b. (b.types, b.name)) o ≡ option_map (λ b. (b.types, b.name)) p
+
+beyond-same : (types : List (List ℕ)) (o p : Option Effective) → IsSeen o p → types_beyond types o ≡ types_beyond types p
+beyond-same types None None seen = refl
+beyond-same types None (Some c) seen = cc
+beyond-same types (Some b) None seen = cc
+beyond-same types (Some b) (Some c) seen =
+    let same : b.types ≡ c.types = cc in
+    ap (λ ts. map subjects.Type (filter (λ t. not (has types t)) ts)) same
+
+name-same : (o p : Option Effective) → IsSeen o p → has_name o ≡ has_name p
+name-same None None seen = refl
+name-same None (Some c) seen = cc
+name-same (Some b) None seen = cc
+name-same (Some b) (Some c) seen = let same : b.name ≡ c.name = cc in ap is_some same
+
+types-same : (ds es : List Decl) (d : Decl) → entries ds d ≡ entries es d → specialized_seen ds d ≡ specialized_seen es d
+    → lacked_types ds d ≡ lacked_types es d
+types-same ds es (decls.Bean bean) same seen =
+    let all : records ds bean ≡ records es bean = same in
+    let own : managed ds bean ≡ managed es bean = cc in
+    ap (λ b. types_beyond b.types (specialized_bean ds bean)) own
+    ∙ beyond-same (managed es bean).types (specialized_bean ds bean) (specialized_bean es bean) seen
+types-same ds es other same seen = refl
+
+renames-same : (ds es : List Decl) (d : Decl) → specialized_seen ds d ≡ specialized_seen es d
+    → renames_specialized ds d ≡ renames_specialized es d
+renames-same ds es (decls.Bean bean) seen =
+    ap (λ b. is_some bean.attributes.named && b) (name-same (specialized_bean ds bean) (specialized_bean es bean) seen)
+renames-same ds es other seen = refl
 
 -- ---- injection points
 
@@ -326,4 +376,7 @@ faults_rest_on codes_of.Site ds es book d alike =
     (subst (AllByRecursion (IsAnsweredAlike ds es)) first.1 alike.answers) in
     calls-same ds es (entries ds d) d own [] (points_of d) (mentions d) (all-listed d) tt alike.answers
     ∙ ap (λ bs. found_in (lost_in es (answer_to es) bs d) (mentions d)) alike.records
+faults_rest_on codes_of.NoSpecialized ds es book d alike = ap whole_if (lacks-same ds es d alike.specialized)
+faults_rest_on codes_of.SpecializedType ds es book d alike = types-same ds es d alike.records alike.specialized
+faults_rest_on codes_of.SpecializedName ds es book d alike = ap whole_if (renames-same ds es d alike.specialized)
 faults_rest_on other ds es book d alike = refl

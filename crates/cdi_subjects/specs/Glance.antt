@@ -9,6 +9,7 @@ use Rattle.cdi_faults.specs.declared.fault.Code.TheVariants as codes_of
 use Rattle.cdi_subjects.specs.declared.glance.Glance.{Glance}
 use Rattle.cdi_subjects.specs.Parts.{unfit_in}
 use Rattle.cdi_subjects.specs.Proxies.{is_final}
+use Rattle.cdi_subjects.specs.Specializing.{is_specializing}
 use Rattle.cdi_subjects.specs.Subjects.{bad_kind_in, bad_use_in, subjects_at_fault, unknown_in}
 
 -- what is named in a place is unknown, of the wrong form, a use that does not fit, or a body that is not fit
@@ -25,12 +26,14 @@ abbrev pub is_call : Mention → Bool
 is_call (CallOf place params call) = true
 is_call _ = false
 
--- whether there is such a place among all that the declaration names, for each of the three
+-- whether there is such a place among all that the declaration names, for each of the three, and whether it is of a bean that says that it
+-- specializes another
 abbrev pub glance_at : List Decl → List Promised → Decl → Glance
 glance_at ds book d = record {
   is_wrong = list_any (is_wrong_in ds book d) (mentions d);
   requires_final = list_any (requires_final_in ds) (mentions d);
   calls = list_any is_call (mentions d);
+  specializes = is_specializing d;
 }
 
 -- a look that has come to one more place
@@ -39,6 +42,7 @@ with_mention ds book d glance m = record {
   is_wrong = glance.is_wrong || is_wrong_in ds book d m;
   requires_final = glance.requires_final || requires_final_in ds m;
   calls = glance.calls || is_call m;
+  specializes = glance.specializes;
 }
 
 -- some part may have a fault of the code, by a look at the declaration
@@ -52,6 +56,10 @@ may_find glance codes_of.Site = glance.calls
 may_find glance codes_of.NameClash = false
 may_find glance codes_of.NamePrefix = false
 may_find glance codes_of.Circular = false
+may_find glance codes_of.NoSpecialized = glance.specializes
+may_find glance codes_of.SpecializedType = glance.specializes
+may_find glance codes_of.SpecializedName = glance.specializes
+may_find glance codes_of.SpecializedTwice = false
 may_find glance _ = true
 
 -- No part has a fault of a code of which none may have one by a look at the declaration.

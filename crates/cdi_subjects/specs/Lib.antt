@@ -7,4 +7,5 @@ pub mod Proxies
 pub mod Records
 pub mod Rests
 pub mod Sites
+pub mod Specializing
 pub mod Subjects

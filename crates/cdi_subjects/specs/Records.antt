@@ -22,6 +22,7 @@ use Rattle.cdi_model.specs.declared.place.PartPlace.TheVariants as places
 use Rattle.cdi_faults.specs.declared.fault.Subject.{Subject}
 use Rattle.cdi_faults.specs.declared.fault.Subject.TheVariants as subjects
 use Rattle.cdi_model.specs.Mentions.{listed_types}
+use Rattle.cdi_subjects.specs.Specializing.{specialized_bean, types_beyond}
 
 -- ---- listed types
 
@@ -48,6 +49,13 @@ without_product ds bs disposers = map (λ s. subjects.Disposer s.name) (filter (
 abbrev pub with_two : List Decl → List Effective → List DisposerDecl → List Subject
 with_two ds bs disposers = map subjects.Producer
     (flat_map (λ b. option_to_list b.id.producer) (filter (λ b. nat_lt 1 (length (filter (disposes ds b) disposers))) bs))
+
+-- ---- types of a specialized bean
+
+-- those that the record of the bean that specializes it does not have
+abbrev pub lacked_by : List Decl → Decl → List Effective → List Subject
+lacked_by ds (decls.Bean d) (b ∷ bs) = types_beyond b.types (specialized_bean ds d)
+lacked_by ds _ _ = []
 
 -- ---- conditional observer methods
 

@@ -1,6 +1,6 @@
--- What the faults of a declaration rest on: its records, the answers to its injection points, and what the names that it writes are
--- declared as.
-use Rattle.std.specs.Prelude.{◌≡◌, ⊤, ℕ, List, Option, Some, None}
+-- What the faults of a declaration rest on: its records, the answers to its injection points, what the names that it writes are declared as,
+-- and the bean that it specializes.
+use Rattle.std.specs.Prelude.{◌≡◌, ⊤, ℕ, List, Option, Some, None, option_map}
 use Rattle.std.specs.List.{AllByRecursion}
 use Rattle.cdi_bodies.specs.Book.{Promised}
 use Rattle.cdi_model.specs.Decl.{declared_as}
@@ -24,7 +24,8 @@ use Rattle.cdi_observe.specs.Wanted.{points_of}
 use Rattle.cdi_faults.specs.declared.fault.Code.{Code}
 use Rattle.cdi_subjects.specs.Proxies.{needs_subclass}
 use Rattle.cdi_subjects.specs.Sites.{has_method}
-use Rattle.cdi_subjects.specs.Subjects.{reaches_itself, subjects_at_fault}
+use Rattle.cdi_subjects.specs.Specializing.{specialized_bean}
+use Rattle.cdi_subjects.specs.Subjects.{products, reaches_itself, subjects_at_fault}
 
 -- ---- what a declaration writes
 
@@ -47,11 +48,23 @@ AreAlike ds es (Some key) = find_decl key.0 key.1 ds ≡ find_decl key.0 key.1 e
 abbrev pub HasQualifiersAlike : List Decl → List Decl → Effective → Type 0
 HasQualifiersAlike ds es b = AllByRecursion (λ u. find_decl kinds.Qualifier u.name ds ≡ find_decl kinds.Qualifier u.name es) b.qualifiers
 
+-- so are those that its products have
+abbrev pub AreProductsAlike : List Decl → List Decl → Decl → Type 0
+AreProductsAlike ds es (decls.Bean d) = AllByRecursion (HasQualifiersAlike ds es) (products ds d)
+AreProductsAlike ds es d = ⊤
+
 -- the bindings at each place of a bean differ by both lists or by neither
 abbrev pub DifferAlike : List Decl → List Decl → Decl → Type 0
 DifferAlike ds es (decls.Bean d) = (place : BeanPlace)
     → has_conflict ds (set_by ds (class_bindings ds d) d place) ≡ has_conflict es (set_by es (class_bindings es d) d place)
 DifferAlike ds es d = ⊤
+
+-- ---- the bean that it specializes
+
+-- what is seen of it, if there is one: its types and its name
+abbrev pub specialized_seen : List Decl → Decl → Option (List (List ℕ) × Option (List ℕ))
+specialized_seen ds (decls.Bean d) = option_map (λ b. (b.types, b.name)) (specialized_bean ds d)
+specialized_seen ds d = None
 
 -- ---- the answers to its injection points
 
@@ -71,9 +84,11 @@ pub record IsAnsweredAlike (ds es : List Decl) (p : PointDecl) : Type 0 where
 pub record IsSeenAlike (ds es : List Decl) (d : Decl) : Type 0 where
   -- what the names that it writes are declared as
   pub names : AllByRecursion (λ m. AreAlike ds es (named_in m)) (mentions d)
-  -- its records, and what their qualifiers are declared as
+  -- its records, and what the qualifiers of its products are declared as
   pub records : entries ds d ≡ entries es d
-  pub qualifiers : AllByRecursion (HasQualifiersAlike ds es) (entries ds d)
+  pub qualifiers : AreProductsAlike ds es d
+  -- what is seen of the bean that it specializes
+  pub specialized : specialized_seen ds d ≡ specialized_seen es d
   -- the answers to its points
   pub answers : AllByRecursion (IsAnsweredAlike ds es) (points_of d)
   -- what its name and its bindings lead to

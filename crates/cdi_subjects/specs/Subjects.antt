@@ -43,6 +43,7 @@ use Rattle.cdi_subjects.specs.Parts.{unfit_parts}
 use Rattle.cdi_subjects.specs.Proxies.{is_unproxyable}
 use Rattle.cdi_subjects.specs.Records.{conditional_of, conflicts_in}
 use Rattle.cdi_subjects.specs.Sites.{lost_sites}
+use Rattle.cdi_subjects.specs.Specializing.{lacked_types, lacks_specialized, renames_specialized}
 
 -- ---- names that are neither declared nor built in
 
@@ -214,7 +215,8 @@ points_at_fault test answer bs d = subjects_in (point_in test answer bs d) d
 
 -- ---- by code
 
--- the parts of a declaration that have a fault of a code, where these bodies are stored; those of names and circles are no declaration's
+-- the parts of a declaration that have a fault of a code, where these bodies are stored; those of names, of circles and of two beans are no
+-- declaration's
 abbrev pub subjects_at_fault : Code → List Decl → List Promised → Decl → List Subject
 subjects_at_fault codes_of.UnknownName ds book d = unknown_names ds d
 subjects_at_fault codes_of.Cycle ds book d = whole_if (reaches_itself ds d)
@@ -234,3 +236,7 @@ subjects_at_fault codes_of.Site ds book d = lost_sites ds (answer_to ds) (entrie
 subjects_at_fault codes_of.NameClash ds book d = []
 subjects_at_fault codes_of.NamePrefix ds book d = []
 subjects_at_fault codes_of.Circular ds book d = []
+subjects_at_fault codes_of.NoSpecialized ds book d = whole_if (lacks_specialized ds d)
+subjects_at_fault codes_of.SpecializedType ds book d = lacked_types ds d
+subjects_at_fault codes_of.SpecializedName ds book d = whole_if (renames_specialized ds d)
+subjects_at_fault codes_of.SpecializedTwice ds book d = []

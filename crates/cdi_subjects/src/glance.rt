@@ -6,6 +6,7 @@ ghost use Rattle.cdi_subjects.specs.Glance.{glance_at, is_call, is_wrong_in, may
 use crate::bodies::unfit_in;
 use crate::forms::bad_kind_in;
 use crate::proxies::is_final;
+use crate::specializing::is_specializing;
 use crate::unknown::unknown_in;
 use crate::used::is_bad_use;
 use cdi_bodies::Bodies;
@@ -21,6 +22,8 @@ pub struct Glance {
     pub requires_final: bool,
     /// Some body has a call site.
     pub calls: bool,
+    /// It is of a bean that says that it specializes another.
+    pub specializes: bool,
 }
 
 impl Glance {
@@ -35,6 +38,7 @@ impl Glance {
             is_wrong: false,
             requires_final: false,
             calls: false,
+            specializes: is_specializing(decl),
         };
         for mention in decl.mentions() {
             glance = glance.with(decls, book, decl, &mention);
@@ -50,6 +54,7 @@ impl Glance {
             is_wrong: self.is_wrong || is_wrong_in(decls, book, decl, mention),
             requires_final: self.requires_final || requires_final_in(decls, mention),
             calls: self.calls || is_call(mention),
+            specializes: self.specializes,
         }
     }
 
@@ -61,7 +66,8 @@ impl Glance {
             Code::UnknownName | Code::BadKind | Code::Member | Code::Body => self.is_wrong,
             Code::Unproxyable => self.requires_final,
             Code::Site => self.calls,
-            Code::NameClash | Code::NamePrefix | Code::Circular => false,
+            Code::NoSpecialized | Code::SpecializedType | Code::SpecializedName => self.specializes,
+            Code::NameClash | Code::NamePrefix | Code::Circular | Code::SpecializedTwice => false,
             _ => true,
         }
     }

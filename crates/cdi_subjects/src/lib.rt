@@ -11,6 +11,7 @@ mod glance;
 mod points;
 mod proxies;
 mod sites;
+mod specializing;
 mod stereotyped;
 mod subjects;
 mod typing;

@@ -13,6 +13,7 @@ use crate::disposing::disposers_at_fault;
 use crate::forms::{bad_kinds, cycles, unbound};
 use crate::points::{Verdict, points_at_fault};
 use crate::sites::lost_sites;
+use crate::specializing::{lacked_types, renamed, without_specialized};
 use crate::stereotyped::scope_conflicts;
 use crate::typing::typed;
 use crate::unknown::unknown_names;
@@ -28,8 +29,8 @@ use std::rc::Rc;
 
 /// The parts of a declaration that have a fault of a code (CDI 4.0, Problems detected automatically by the container),
 /// in the order in which they are declared. Its records and the answers to its injection points are given in their
-/// order; no part has a fault of a name or a circle, which are no declaration's. It takes memory for the parts that have
-/// one.
+/// order; no part has a fault of a name, of a circle or of two beans, which are no declaration's. It takes memory for the
+/// parts that have one.
 #[tactic(auto, using(crate::proofs::Laws::by_entries, crate::proofs::RestLemmas::faults_rest_on))]
 pub fn subjects_at_fault<V: View, B: Bodies>(
     alloc: Global,
@@ -68,6 +69,11 @@ pub fn subjects_at_fault<V: View, B: Bodies>(
             points_at_fault(alloc, view, decl, beans, answers, Verdict::Unproxyable)
         }
         Code::Site => lost_sites(alloc, decls, decl, beans, answers),
-        Code::NameClash | Code::NamePrefix | Code::Circular => Ok(Vec::new(alloc)),
+        Code::NoSpecialized => without_specialized(alloc, decls, decl),
+        Code::SpecializedType => lacked_types(alloc, view, decl, beans),
+        Code::SpecializedName => renamed(alloc, view, decl),
+        Code::NameClash | Code::NamePrefix | Code::Circular | Code::SpecializedTwice => {
+            Ok(Vec::new(alloc))
+        }
     }
 }
