@@ -1,6 +1,6 @@
 -- Enabled beans whose chains share a bean.
 use Rattle.std.proofs.Common.{◌≡◌, ◌≢◌, ℕ, zero, suc, Bool, true, false, not, cond, ◌&&◌, ◌||◌, List, [], ◌∷◌, ◌++◌, map, filter, fold}
-use Rattle.std.proofs.Common.{Option, Some, None, Ordering, Less, Equal, Greater, refl, sym, subst, ap, ◌∙◌}
+use Rattle.std.proofs.Common.{Option, Some, None, Ordering, Less, Equal, Greater, refl, sym, subst, ap, ◌∙◌, inl, inr}
 use Rattle.std.specs.BTreeMap.{insert_entry}
 use Rattle.std.specs.BTreeSet.{insert_key}
 use Rattle.std.specs.List.{AllByRecursion, find, flat_map, list_any}
@@ -8,7 +8,8 @@ use Rattle.std.specs.List.Sorted.{IsStrictlySortedBy}
 use Rattle.std.specs.Map.{keys_of}
 use Rattle.std.specs.Option.{option_to_list}
 use Rattle.std.specs.Str.{bytes_eq}
-use Rattle.std.proofs.lemmas.Bool.{and_parts, false≢true, not-true, or_left, or_parts, or_right}
+use Rattle.std.proofs.Math.Bool.{or_assoc, or_comm}
+use Rattle.std.proofs.lemmas.Bool.{and_parts, false≢true, not-true, or_cases, or_left, or_parts, or_right}
 use Rattle.cdi_model.proofs.QualLemmas.{same_name}
 use Rattle.cdi_model.specs.Bytes.{byte_order}
 use Rattle.cdi_model.specs.Decl.{key_of}
@@ -20,16 +21,16 @@ use Rattle.cdi_model.specs.declared.decl.Decl.TheVariants as decls
 use Rattle.cdi_model.specs.declared.decl.Kind.TheVariants as kinds
 use Rattle.cdi_match.specs.Chain.{has}
 use Rattle.cdi_match.specs.Order.{in_order}
-use Rattle.cdi_match.proofs.Names.{bytes_eq-turned, other_name}
-use Rattle.cdi_match.proofs.OrderLemmas.{in_order-rises}
+use Rattle.cdi_match.proofs.Names.{bytes_eq-turned, one_name, other_name, same_text}
+use Rattle.cdi_match.proofs.OrderLemmas.{has-insert, in_order-rises}
 use Rattle.cdi_effective.specs.Beans.{effective, managed}
-use Rattle.cdi_effective.specs.Specialized.{behind, chain_behind, class_names, is_offered, is_replaced, replaced_by, specialized}
+use Rattle.cdi_effective.specs.Specialized.{behind, chain, chain_behind, class_names, is_offered, is_replaced, replaced_by, specialized}
 use Rattle.cdi_faults.specs.FaultText.{text_of_fault}
 use Rattle.cdi_faults.specs.declared.fault.Fault.{Fault}
 use Rattle.cdi_validate.specs.Linked.{specializing}
 use Rattle.cdi_validate.specs.Twice.{are_apart, by_line, enabled_bean, enabled_beans, faults_of_pairs, faults_of_two, first_shared}
-use Rattle.cdi_validate.specs.Twice.{in_line_order, is_in_chain, of_pairs, specialized_twice, twice, with_line}
-use Rattle.cdi_validate.proofs.ApartLemmas.{Apart, all-append, all-more, pairs-apart}
+use Rattle.cdi_validate.specs.Twice.{in_line_order, is_in_chain, of_pairs, specialized_twice, twice, with_line, AreTold, SharersAreTold}
+use Rattle.cdi_validate.proofs.ApartLemmas.{Apart, all-append, all-more, apart-pairs, pairs-apart}
 
 -- ---- pairs
 
@@ -133,6 +134,9 @@ names-apart ds (decls.Bean b ∷ es) apart = by (managed ds b).is_enabled (names
     by false rest = rest
 names-apart ds (other ∷ es) apart = names-apart ds es apart.1
 
+enabled-others : (ds : List Decl) → AreDistinct ds → Apart HaveOthers (enabled_beans ds)
+enabled-others ds distinct = names-apart ds ds (pairs-apart (λ d e. key_of d ≢ key_of e) ds distinct)
+
 -- ---- an enabled bean is behind no other
 
 enabled-parts : (ds : List Decl) (b : BeanDecl) → (managed ds b).is_enabled ≡ true
@@ -155,7 +159,7 @@ not-behind ds a b of_a of_b = by (has (class_names (behind ds b)) a.name) refl
         ∙ of_b.0 (λ d. has (replaced_by ds d) a.name) replaces))
     by false e = refl
 
--- ---- so it is enough to look behind the beans
+-- ---- so it is enough to look behind two enabled beans
 
 -- the fault of two beans, where one is behind both
 abbrev pub behind_two : List Decl → BeanDecl → BeanDecl → List Fault
@@ -166,22 +170,32 @@ other-names name [] none = tt
 other-names name (c ∷ cs) none =
     let (here, rest) = or_parts (bytes_eq c name) (has cs name) none in (bytes_eq-turned name c ∙ here, other-names name cs rest)
 
+-- neither is in the chain of the other
+not-in_chain : (ds : List Decl) (a b : BeanDecl) → IsEnabled ds a → IsEnabled ds b → HaveOthers a b → is_in_chain ds b a.name ≡ false
+not-in_chain ds a b of_a of_b other = ap (λ t. t || has (class_names (behind ds b)) a.name) other ∙ not-behind ds a b of_a of_b
+
+two-apart : (ds : List Decl) (a b : BeanDecl) → IsEnabled ds a → IsEnabled ds b → HaveOthers a b → are_apart ds a b ≡ true
+two-apart ds a b of_a of_b other =
+    ap (λ t. not t && not (is_in_chain ds a b.name)) (not-in_chain ds a b of_a of_b other)
+    ∙ ap not (not-in_chain ds b a of_b of_a (bytes_eq-turned a.name b.name ∙ other))
+
+-- so their fault is that of the first shared class
+two-shared : (ds : List Decl) (a b : BeanDecl) → IsEnabled ds a → IsEnabled ds b → HaveOthers a b
+    → faults_of_two ds a b ≡ map (twice a.name b.name) (option_to_list (first_shared ds a b))
+two-shared ds a b of_a of_b other = ap (λ t. cond t (map (twice a.name b.name) (option_to_list (first_shared ds a b))) [])
+    (two-apart ds a b of_a of_b other)
+
 two-behind : (ds : List Decl) (a b : BeanDecl) → IsEnabled ds a → IsEnabled ds b → HaveOthers a b → faults_of_two ds a b ≡ behind_two ds a b
 two-behind ds a b of_a of_b other =
     let behind_a = class_names (behind ds a) in
     let behind_b = class_names (behind ds b) in
-    let not_in_b : is_in_chain ds b a.name ≡ false = ap (λ t. t || has behind_b a.name) other ∙ not-behind ds a b of_a of_b in
-    let not_in_a : is_in_chain ds a b.name ≡ false =
-    ap (λ t. t || has behind_a b.name) (bytes_eq-turned a.name b.name ∙ other) ∙ not-behind ds b a of_b of_a in
     let same : AllByRecursion (λ c. is_in_chain ds b c ≡ has behind_b c) behind_a =
     all-more (λ c. bytes_eq b.name c ≡ false) (λ c. is_in_chain ds b c ≡ has behind_b c) (λ c e. ap (λ t. t || has behind_b c) e) behind_a
     (other-names b.name behind_a (not-behind ds b a of_b of_a)) in
     let shared : first_shared ds a b ≡ find (has behind_b) behind_a =
-    ap (λ t. cond t (Some a.name) (find (is_in_chain ds b) behind_a)) not_in_b
+    ap (λ t. cond t (Some a.name) (find (is_in_chain ds b) behind_a)) (not-in_chain ds a b of_a of_b other)
     ∙ find-same (is_in_chain ds b) (has behind_b) behind_a same in
-    ap (λ t. cond t (map (twice a.name b.name) (option_to_list (first_shared ds a b))) [])
-    (ap (λ t. not t && not (is_in_chain ds a b.name)) not_in_b ∙ ap not not_in_a)
-    ∙ ap (λ o. map (twice a.name b.name) (option_to_list o)) shared
+    two-shared ds a b of_a of_b other ∙ ap (λ o. map (twice a.name b.name) (option_to_list o)) shared
 
 -- ---- and at those that say that they specialize others
 
@@ -211,7 +225,7 @@ pairs-behind ds distinct =
     pairs-filter (behind_two ds) (λ b. b.specializes) (first-none ds) (second-none ds) (enabled_beans ds)
     ∙ sym (pairs-same (faults_of_two ds) (behind_two ds) (enabled_beans ds)
     (apart-by HaveOthers (λ a b. faults_of_two ds a b ≡ behind_two ds a b) (IsEnabled ds) (two-behind ds) (enabled_beans ds)
-    (all-enabled ds) (names-apart ds ds (pairs-apart (λ d e. key_of d ≢ key_of e) ds distinct))))
+    (all-enabled ds) (enabled-others ds distinct)))
 
 -- ---- lines
 
@@ -229,6 +243,18 @@ keys-insert line f (e ∷ es) = by (byte_order line e.0) refl (keys-insert line 
     by Less is rest = rw is refl
     by Equal is rest = rw is refl
     by Greater is rest = rw is (ap (λ ks. e.0 ∷ ks) rest)
+
+-- the lines are those of the faults
+all-has : (fs : List Fault) (es : Entries) (line : List ℕ)
+    → has (keys_of (fold with_line es fs)) line ≡ (has (map text_of_fault fs) line || has (keys_of es) line)
+all-has [] es line = refl
+all-has (f ∷ fs) es line =
+    let own = bytes_eq (text_of_fault f) line in
+    let others = has (map text_of_fault fs) line in
+    all-has fs (with_line es f) line
+    ∙ ap (λ t. others || t) (ap (λ ks. has ks line) (keys-insert (text_of_fault f) f es) ∙ has-insert (text_of_fault f) (keys_of es) line)
+    ∙ sym (or_assoc others own (has (keys_of es) line))
+    ∙ ap (λ t. t || has (keys_of es) line) (or_comm others own)
 
 -- they are texts in order
 keys-rise : (fs : List Fault) (es : Entries) (lines : List (List ℕ)) → keys_of es ≡ in_order lines
@@ -310,3 +336,98 @@ unfolding specialized_twice
 twice-each P each ds =
     let fs = faults_of_pairs ds in
     faults-in P (by_line fs) (fold-all P fs [] (pairs-all P (faults_of_two ds) (two-all P each ds) (enabled_beans ds)) tt)
+
+-- ---- two enabled beans whose chains share a class
+
+-- one that is among some texts and passes a test is found, or one before it
+find-some : (p : List ℕ → Bool) (cs : List (List ℕ)) (class : List ℕ) → has cs class ≡ true → p class ≡ true
+    → (s : List ℕ) × (find p cs ≡ Some s) × (has cs s ≡ true) × (p s ≡ true)
+find-some p [] class among passes = absurd (false≢true among)
+find-some p (c ∷ cs) class among passes = by (p c) refl (find-some p cs class)
+  where
+    by : (t : Bool) → p c ≡ t → (has cs class ≡ true → p class ≡ true → (s : List ℕ) × (find p cs ≡ Some s) × (has cs s ≡ true) × (p s ≡ true))
+        → (s : List ℕ) × (cond t (Some c) (find p cs) ≡ Some s) × (has (c ∷ cs) s ≡ true) × (p s ≡ true)
+    by true e later = (c, refl, or_left (bytes_eq c c) (has cs c) (same_text c c refl), e)
+    by false e later = elim (or_cases (bytes_eq c class) (has cs class) among) [
+      | inl here ↦ absurd (false≢true (sym e ∙ ap p (one_name c class here) ∙ passes))
+      | inr there ↦ let found = later there passes in (found.0, found.1, or_right (bytes_eq c found.0) (has cs found.0) found.2, found.3)
+    ]
+
+abbrev lines_of : List Fault → List (List ℕ)
+lines_of fs = map text_of_fault fs
+
+lines-append : (fs gs : List Fault) (line : List ℕ) → has (lines_of (fs ++ gs)) line ≡ (has (lines_of fs) line || has (lines_of gs) line)
+lines-append [] gs line = refl
+lines-append (f ∷ fs) gs line =
+    ap (λ t. bytes_eq (text_of_fault f) line || t) (lines-append fs gs line)
+    ∙ sym (or_assoc (bytes_eq (text_of_fault f) line) (has (lines_of fs) line) (has (lines_of gs) line))
+
+-- what two give is among what all pairs give
+module _ {X : Type 0} (f : X → X → List Fault) (all : List (List ℕ)) where
+  abbrev IsWithin : List Fault → Type 0
+  IsWithin fs = (line : List ℕ) → has (lines_of fs) line ≡ true → has all line ≡ true
+
+  front-within : (fs gs : List Fault) → IsWithin (fs ++ gs) → IsWithin fs
+  front-within fs gs within line among =
+      within line (lines-append fs gs line ∙ or_left (has (lines_of fs) line) (has (lines_of gs) line) among)
+
+  back-within : (fs gs : List Fault) → IsWithin (fs ++ gs) → IsWithin gs
+  back-within fs gs within line among =
+      within line (lines-append fs gs line ∙ or_right (has (lines_of fs) line) (has (lines_of gs) line) among)
+
+  later-within : (x : X) (ys : List X) → IsWithin (flat_map (f x) ys) → AllByRecursion (λ y. IsWithin (f x y)) ys
+  later-within x [] within = tt
+  later-within x (y ∷ ys) within = (
+    front-within (f x y) (flat_map (f x) ys) within,
+    later-within x ys (back-within (f x y) (flat_map (f x) ys) within),
+  )
+
+  pairs-within : (xs : List X) → IsWithin (of_pairs f xs) → Apart (λ x y. IsWithin (f x y)) xs
+  pairs-within [] within = tt
+  pairs-within (x ∷ xs) within = (
+    later-within x xs (front-within (flat_map (f x) xs) (of_pairs f xs) within),
+    pairs-within xs (back-within (flat_map (f x) xs) (of_pairs f xs) within),
+  )
+
+lines-told : (ds : List Decl) (line : List ℕ) → has (lines_of (faults_of_pairs ds)) line ≡ true → has (lines_of (specialized_twice ds)) line ≡ true
+unfolding specialized_twice
+lines-told ds line among =
+    let fs = faults_of_pairs ds in
+    ap (λ ks. has ks line) (lines-keys (by_line fs) (all-stand fs [] tt)) ∙ all-has fs [] line
+    ∙ or_left (has (lines_of fs) line) false among
+
+two-told : (ds : List Decl) (a b : BeanDecl) → IsEnabled ds a → IsEnabled ds b → HaveOthers a b
+    → ((line : List ℕ) → has (lines_of (faults_of_two ds a b)) line ≡ true → has (lines_of (specialized_twice ds)) line ≡ true)
+    → (class : List ℕ) → is_in_chain ds a class ≡ true → is_in_chain ds b class ≡ true → AreTold ds a b
+two-told ds a b of_a of_b other within class in_a in_b =
+    let found = find-some (is_in_chain ds b) (class_names (chain ds a)) class in_a in_b in
+    let line = text_of_fault (twice a.name b.name found.0) in
+    let one : faults_of_two ds a b ≡ twice a.name b.name found.0 ∷ [] = two-shared ds a b of_a of_b other
+    ∙ ap (λ o. map (twice a.name b.name) (option_to_list o)) found.1 in
+    record {
+      class = found.0;
+      first = found.2;
+      second = found.3;
+      alone = one;
+      line = within line (ap (λ fs. has (lines_of fs) line) one ∙ or_left (bytes_eq line line) false (same_text line line refl));
+    }
+
+both-apart : {X : Type 0} (R S : X → X → Type 0) (xs : List X) → Apart R xs → Apart S xs → Apart (λ x y. R x y × S x y) xs
+both-apart R S [] r s = tt
+both-apart R S (x ∷ xs) r s = (behind xs r.0 s.0, both-apart R S xs r.1 s.1)
+  where
+    behind : (ys : List _) → AllByRecursion (R x) ys → AllByRecursion (S x) ys → AllByRecursion (λ y. R x y × S x y) ys
+    behind [] rs ss = tt
+    behind (y ∷ ys) rs ss = ((rs.0, ss.0), behind ys rs.1 ss.1)
+
+pub sharers_are_told : SharersAreTold
+sharers_are_told ds distinct =
+    let Within : BeanDecl → BeanDecl → Type 0 = λ a b. (line : List ℕ) → has (lines_of (faults_of_two ds a b)) line ≡ true
+    → has (lines_of (specialized_twice ds)) line ≡ true in
+    let Told : BeanDecl → BeanDecl → Type 0 = λ a b. (class : List ℕ) → is_in_chain ds a class ≡ true → is_in_chain ds b class ≡ true
+    → AreTold ds a b in
+    apart-pairs Told (enabled_beans ds)
+    (apart-by (λ a b. HaveOthers a b × Within a b) Told (IsEnabled ds)
+    (λ a b of_a of_b both. two-told ds a b of_a of_b both.0 both.1) (enabled_beans ds) (all-enabled ds)
+    (both-apart HaveOthers Within (enabled_beans ds) (enabled-others ds distinct)
+    (pairs-within (faults_of_two ds) (lines_of (specialized_twice ds)) (enabled_beans ds) (lines-told ds))))

@@ -1,9 +1,10 @@
 -- Two enabled beans that specialize one bean (CDI 4.0, Inconsistent specialization).
-use Rattle.std.specs.Prelude.{ℕ, Bool, not, ◌&&◌, List, [], ◌∷◌, ◌++◌, map, filter, fold, Option, if◌then◌else◌}
+use Rattle.std.specs.Prelude.{◌≡◌, AllPairs, ℕ, Bool, true, not, ◌&&◌, List, [], ◌∷◌, ◌++◌, map, filter, fold, Option, if◌then◌else◌}
 use Rattle.std.specs.BTreeMap.{insert_entry}
 use Rattle.std.specs.List.{find, flat_map}
 use Rattle.std.specs.Option.{option_to_list}
 use Rattle.cdi_model.specs.Bytes.{byte_order}
+use Rattle.cdi_model.specs.DeclList.{AreDistinct}
 use Rattle.cdi_model.specs.declared.decl.BeanDecl.{BeanDecl}
 use Rattle.cdi_model.specs.declared.decl.Decl.{Decl}
 use Rattle.cdi_model.specs.declared.decl.Decl.TheVariants as decls
@@ -72,3 +73,18 @@ in_line_order fs = map (λ entry. entry.1) (by_line fs)
 -- the faults of the enabled beans, in the byte order of their lines (the order: profile)
 unfoldable pub specialized_twice : List Decl → List Fault
 specialized_twice ds = in_line_order (faults_of_pairs ds)
+
+-- ---- two enabled beans whose chains share a class
+
+-- They have one fault, about a class that is in both chains, and its line is one of those of the faults.
+pub record AreTold (ds : List Decl) (a b : BeanDecl) : Type 0 where
+  pub class : List ℕ
+  pub first : is_in_chain ds a class ≡ true
+  pub second : is_in_chain ds b class ≡ true
+  pub alone : faults_of_two ds a b ≡ twice a.name b.name class ∷ []
+  pub line : has (map text_of_fault (specialized_twice ds)) (text_of_fault (twice a.name b.name class)) ≡ true
+
+-- Each two of them are told.
+abbrev pub SharersAreTold : Type 0
+SharersAreTold = (ds : List Decl) → AreDistinct ds
+    → AllPairs (λ a b. (class : List ℕ) → is_in_chain ds a class ≡ true → is_in_chain ds b class ≡ true → AreTold ds a b) (enabled_beans ds)

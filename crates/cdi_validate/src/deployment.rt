@@ -11,7 +11,7 @@ ghost use Rattle.cdi_faults.specs.FaultText.{SubjectsInOrder};
 ghost use Rattle.cdi_validate.specs.Circles.{NeedsItselfOnCircle};
 ghost use Rattle.cdi_validate.specs.Faults.{circles, faults, faults_of, name_clashes, name_prefixes};
 ghost use Rattle.cdi_validate.specs.Faults.{LinesRise, PrefixesGoOn};
-ghost use Rattle.cdi_validate.specs.Twice.{specialized_twice};
+ghost use Rattle.cdi_validate.specs.Twice.{specialized_twice, SharersAreTold};
 ghost use Rattle.cdi_faults.specs.declared.fault.Fault.TheVariants as the_faults;
 
 use crate::circles::push_of_circles;
@@ -57,6 +57,7 @@ pub fn faults<V: View, B: Bodies>(
     ensures circles { NeedsItselfOnCircle }
     ensures circle_lines { LinesRise (circles (V.list view.old)) }
     ensures twice_lines { LinesRise (specialized_twice (V.list view.old)) }
+    ensures sharers { SharersAreTold }
 {
     let answers = evaluate(alloc, view)?;
     faults_by(alloc, view, book, answers.as_slice())
