@@ -45,7 +45,7 @@ use Rattle.cdi_subjects.specs.Filter.{found_in, is_enabled_in, producer_of_part,
 use Rattle.cdi_subjects.specs.Proxies.{is_final_decl, is_unproxyable, needs_subclass}
 use Rattle.cdi_subjects.specs.Records.{conditional_by, conflict_at, conflicts_in, part_at, typed_by, with_two, without_product}
 use Rattle.cdi_subjects.specs.Rests.{AreAlike, DifferAlike, FaultsRestOn, HasQualifiersAlike, IsAnsweredAlike, IsBeanAlike, IsSeenAlike}
-use Rattle.cdi_subjects.specs.Rests.{AreProductsAlike, named_in, specialized_seen}
+use Rattle.cdi_subjects.specs.Rests.{AreProductsAlike, named_in, specialized_seen, types_and_name}
 use Rattle.cdi_subjects.specs.Sites.{is_lost_among, lacks_method, lost_in, own_points, own_seen, points_seen}
 use Rattle.cdi_subjects.specs.Specializing.{has_name, lacked_types, lacks_specialized, renames_specialized, specialized_bean, types_beyond}
 use Rattle.cdi_subjects.specs.Subjects.{bad_kind_in, bad_use_in, disposers_at_fault, form_of, has_verdict, is_class_form, is_interface_form}
@@ -197,32 +197,32 @@ conflicts-same ds es bean alike =
 is-seen : (ds : List Decl) (bean : BeanDecl) → is_some (specialized_seen ds (decls.Bean bean)) ≡ is_some (specialized ds bean)
 is-seen ds bean = by (specialized ds bean)
   where
-    by : (o : Option BeanDecl) → is_some (option_map (λ b. (b.types, b.name)) (option_map (managed ds) o)) ≡ is_some o
+    by : (o : Option BeanDecl) → is_some (option_map types_and_name (option_map (managed ds) o)) ≡ is_some o
     by None = refl
     by (Some s) = refl
 
-lacks-same : (ds es : List Decl) (d : Decl) → specialized_seen ds d ≡ specialized_seen es d → lacks_specialized ds d ≡ lacks_specialized es d
-lacks-same ds es (decls.Bean bean) seen =
+none-same : (ds es : List Decl) (d : Decl) → specialized_seen ds d ≡ specialized_seen es d → lacks_specialized ds d ≡ lacks_specialized es d
+none-same ds es (decls.Bean bean) seen =
     ap (λ there. bean.specializes && not there) (sym (is-seen ds bean) ∙ ap is_some seen ∙ is-seen es bean)
-lacks-same ds es other seen = refl
+none-same ds es other seen = refl
 
 -- what is seen of two beans is the same
-abbrev IsSeen : Option Effective → Option Effective → Type 0
-IsSeen o p = option_map (λ b. (b.types, b.name)) o ≡ option_map (λ b. (b.types, b.name)) p
+abbrev AreSeenAlike : Option Effective → Option Effective → Type 0
+AreSeenAlike o p = option_map types_and_name o ≡ option_map types_and_name p
 
-beyond-same : (types : List (List ℕ)) (o p : Option Effective) → IsSeen o p → types_beyond types o ≡ types_beyond types p
+beyond-same : (types : List (List ℕ)) (o p : Option Effective) → AreSeenAlike o p → types_beyond types o ≡ types_beyond types p
 beyond-same types None None seen = refl
 beyond-same types None (Some c) seen = cc
 beyond-same types (Some b) None seen = cc
 beyond-same types (Some b) (Some c) seen =
-    let same : b.types ≡ c.types = cc in
-    ap (λ ts. map subjects.Type (filter (λ t. not (has types t)) ts)) same
+    let same : types_and_name b ≡ types_and_name c = cc in
+    ap (λ s. map subjects.Type (filter (λ t. not (has types t)) s.0)) same
 
-name-same : (o p : Option Effective) → IsSeen o p → has_name o ≡ has_name p
+name-same : (o p : Option Effective) → AreSeenAlike o p → has_name o ≡ has_name p
 name-same None None seen = refl
 name-same None (Some c) seen = cc
 name-same (Some b) None seen = cc
-name-same (Some b) (Some c) seen = let same : b.name ≡ c.name = cc in ap is_some same
+name-same (Some b) (Some c) seen = let same : types_and_name b ≡ types_and_name c = cc in ap (λ s. is_some s.1) same
 
 types-same : (ds es : List Decl) (d : Decl) → entries ds d ≡ entries es d → specialized_seen ds d ≡ specialized_seen es d
     → lacked_types ds d ≡ lacked_types es d
@@ -376,7 +376,7 @@ faults_rest_on codes_of.Site ds es book d alike =
     (subst (AllByRecursion (IsAnsweredAlike ds es)) first.1 alike.answers) in
     calls-same ds es (entries ds d) d own [] (points_of d) (mentions d) (all-listed d) tt alike.answers
     ∙ ap (λ bs. found_in (lost_in es (answer_to es) bs d) (mentions d)) alike.records
-faults_rest_on codes_of.NoSpecialized ds es book d alike = ap whole_if (lacks-same ds es d alike.specialized)
+faults_rest_on codes_of.NoSpecialized ds es book d alike = ap whole_if (none-same ds es d alike.specialized)
 faults_rest_on codes_of.SpecializedType ds es book d alike = types-same ds es d alike.records alike.specialized
 faults_rest_on codes_of.SpecializedName ds es book d alike = ap whole_if (renames-same ds es d alike.specialized)
 faults_rest_on other ds es book d alike = refl

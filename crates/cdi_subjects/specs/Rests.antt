@@ -61,9 +61,12 @@ DifferAlike ds es d = ⊤
 
 -- ---- the bean that it specializes
 
--- what is seen of it, if there is one: its types and its name
+abbrev pub types_and_name : Effective → List (List ℕ) × Option (List ℕ)
+types_and_name b = (b.types, b.name)
+
+-- what is seen of it, if there is one
 abbrev pub specialized_seen : List Decl → Decl → Option (List (List ℕ) × Option (List ℕ))
-specialized_seen ds (decls.Bean d) = option_map (λ b. (b.types, b.name)) (specialized_bean ds d)
+specialized_seen ds (decls.Bean d) = option_map types_and_name (specialized_bean ds d)
 specialized_seen ds d = None
 
 -- ---- the answers to its injection points
