@@ -1,12 +1,9 @@
 -- No fault stands twice.
-use Rattle.std.proofs.Common.{◌≡◌, ◌≢◌, ◌<◌, ℕ, zero, suc, Bool, true, false, cond, List, [], ◌∷◌, ◌++◌, Option, Some, None, length}
-use Rattle.std.proofs.Common.{map, filter, Ordering, Less, Equal, refl, sym, ap, ◌∙◌, append_assoc, subst, arith}
-use Rattle.std.specs.List.{AllByRecursion, AllPairs, flat_map, slice_index_or}
-use Rattle.std.specs.List.Sorted.{IsStrictlySortedBy}
-use Rattle.std.specs.Cmp.{IsTotalOrder}
+use Rattle.std.proofs.Common.{◌≡◌, ◌≢◌, ℕ, Bool, true, false, List, [], ◌∷◌, ◌++◌, Option, Some, None}
+use Rattle.std.proofs.Common.{map, filter, refl, sym, ap, ◌∙◌, append_assoc, subst, arith}
+use Rattle.std.specs.List.{AllByRecursion, AllPairs, flat_map}
 use Rattle.std.specs.Cmp.Lexicographic.{nat_list_cmp_total}
 use Rattle.std.proofs.lemmas.Bool.{false≢true}
-use Rattle.std.proofs.lemmas.Cmp.{tied_itself}
 use Rattle.cdi_bodies.specs.Book.{Promised}
 use Rattle.cdi_model.specs.Decl.{key_of, kind_of, name_of_decl}
 use Rattle.cdi_model.specs.DeclList.{AreDistinct}
@@ -28,8 +25,8 @@ use Rattle.cdi_subjects.specs.Subjects.{subjects_at_fault}
 use Rattle.cdi_validate.specs.Faults.{faults_of_code, faults_of, name_clashes, name_prefixes}
 use Rattle.cdi_validate.specs.Circles.{circular}
 use Rattle.cdi_validate.specs.Faults.{circle, circles, enabled_name, enabled_names, goes_on, faults, FaultsStandOnce}
-use Rattle.cdi_validate.specs.Twice.{specialized_twice, twice}
-use Rattle.cdi_validate.proofs.ApartLemmas.{Apart, Differ, Tagged, all-append, all-each, all-map, all-more, apart-filter, apart-more}
+use Rattle.cdi_validate.specs.Twice.{specialized_twice}
+use Rattle.cdi_validate.proofs.ApartLemmas.{Differ, Tagged, all-append, all-each, all-map, all-more, apart-filter, apart-more}
 use Rattle.cdi_validate.proofs.ApartLemmas.{apart-pairs, differ-append, differ-by, differ-flat_map, differ-map, pairs-apart, rising-differ}
 use Rattle.cdi_validate.proofs.NeedLemmas.{circular-rise}
 use Rattle.cdi_validate.proofs.TwiceLemmas.{twice-each, twice_rise}

@@ -29,7 +29,7 @@ use Rattle.cdi_faults.specs.FaultText.{text_of_fault}
 use Rattle.cdi_faults.specs.declared.fault.Fault.{Fault}
 use Rattle.cdi_validate.specs.Linked.{specializing}
 use Rattle.cdi_validate.specs.Twice.{are_apart, by_line, enabled_bean, enabled_beans, faults_of_pairs, faults_of_two, first_shared}
-use Rattle.cdi_validate.specs.Twice.{in_line_order, is_in_chain, of_pairs, specialized_twice, twice, with_line, AreTold, SharersAreTold}
+use Rattle.cdi_validate.specs.Twice.{is_in_chain, of_pairs, specialized_twice, twice, with_line, AreTold, SharersAreTold}
 use Rattle.cdi_validate.proofs.ApartLemmas.{Apart, all-append, all-more, apart-pairs, pairs-apart}
 
 -- ---- pairs

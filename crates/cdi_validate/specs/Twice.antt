@@ -1,5 +1,5 @@
 -- Two enabled beans that specialize one bean (CDI 4.0, Inconsistent specialization).
-use Rattle.std.specs.Prelude.{◌≡◌, AllPairs, ℕ, Bool, true, not, ◌&&◌, List, [], ◌∷◌, ◌++◌, map, filter, fold, Option, if◌then◌else◌}
+use Rattle.std.specs.Prelude.{◌≡◌, AllPairs, ℕ, Bool, true, not, ◌&&◌, List, [], ◌∷◌, ◌++◌, map, fold, Option, if◌then◌else◌}
 use Rattle.std.specs.BTreeMap.{insert_entry}
 use Rattle.std.specs.List.{find, flat_map}
 use Rattle.std.specs.Option.{option_to_list}

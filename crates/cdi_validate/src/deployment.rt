@@ -36,8 +36,7 @@ use std::rc::Rc;
 /// Each injection point is asked for once for each type and qualifiers. It takes memory for the faults, for the answers
 /// and where the view does. Where none is left, some of the keys from the front on were asked. An edit that is staged
 /// stays where each of the keys is known.
-#[tactic(auto, using(crate::proofs::LineLemmas::clashes_rise, crate::proofs::LineLemmas::circles_rise,
-    crate::proofs::TwiceLemmas::twice_rise))]
+#[tactic(auto, using(crate::proofs::LineLemmas::clashes_rise, crate::proofs::LineLemmas::circles_rise, crate::proofs::TwiceLemmas::twice_rise))]
 pub fn faults<V: View, B: Bodies>(
     alloc: Global,
     view: &mut V,

@@ -153,10 +153,7 @@ fn mark(marks: &mut Vec<bool>, position: usize)
 }
 
 /// The faults between each two of some chains, by their lines.
-fn lines_between(
-    alloc: Global,
-    chains: &[BeanChain],
-) -> Result<BTreeMap<Node, Fault>, AllocError>
+fn lines_between(alloc: Global, chains: &[BeanChain]) -> Result<BTreeMap<Node, Fault>, AllocError>
     ensures { IfOk result (λ lines. lines.entries ≡ by_line (faults_between chains.now)) }
 {
     let mut lines = BTreeMap::new(alloc);
