@@ -11,7 +11,10 @@ use Rattle.cdi_faults.specs.declared.fault.Fault.{Fault}
 use Rattle.cdi_faults.specs.declared.fault.Fault.TheVariants as faults_are
 use Rattle.cdi_validate.specs.Faults.{circles, enabled_names, faults, faults_of, goes_on, name_clashes, name_prefixes}
 use Rattle.cdi_validate.specs.Faults.{IsNameBehind, PrefixesGoOn}
-use Rattle.cdi_validate.proofs.OnceLemmas.{all-append, all-map, all-more, circles-each, clashes-tagged, declared-tagged, is-declared}
+use Rattle.cdi_validate.specs.Twice.{specialized_twice}
+use Rattle.cdi_validate.proofs.ApartLemmas.{all-append, all-map, all-more}
+use Rattle.cdi_validate.proofs.OnceLemmas.{circles-each, clashes-tagged, declared-tagged, is-declared}
+use Rattle.cdi_validate.proofs.TwiceLemmas.{twice-each}
 
 -- ---- names
 
@@ -58,18 +61,21 @@ GoesOn (faults_are.Declared code kind name subject) = Unit {0}
 GoesOn (faults_are.NameClash name) = Unit {0}
 GoesOn (faults_are.NamePrefix x y) = goes_on x y ≡ true
 GoesOn (faults_are.Circular class producer) = Unit {0}
+GoesOn (faults_are.SpecializedTwice specialized first second) = Unit {0}
 
 of_declared : (f : Fault) → is-declared f ≡ 0 → GoesOn f
 of_declared (faults_are.Declared code kind name subject) is = tt
 of_declared (faults_are.NameClash name) is = tt
 of_declared (faults_are.NamePrefix x y) is = absurd (omega (arith, is))
 of_declared (faults_are.Circular class producer) is = tt
+of_declared (faults_are.SpecializedTwice specialized first second) is = tt
 
 of_clash : (f : Fault) → is-declared f ≡ 1 → GoesOn f
 of_clash (faults_are.Declared code kind name subject) is = tt
 of_clash (faults_are.NameClash name) is = tt
 of_clash (faults_are.NamePrefix x y) is = absurd (omega (arith, is))
 of_clash (faults_are.Circular class producer) is = tt
+of_clash (faults_are.SpecializedTwice specialized first second) is = tt
 
 pairs-go_on : (all xs : List (List ℕ)) → AllByRecursion GoesOn (flat_map (λ x. map (faults_are.NamePrefix x) (filter (goes_on x) all)) xs)
 pairs-go_on all [] = tt
@@ -85,11 +91,13 @@ prefixes_go_on ds book x y among =
     let bs = beans ds in
     let declared = flat_map (faults_of ds book) ds in
     let all : AllByRecursion GoesOn (faults ds book) =
-    all-append GoesOn (declared ++ name_clashes bs ++ name_prefixes bs) (circles ds)
+    all-append GoesOn (declared ++ name_clashes bs ++ name_prefixes bs ++ circles ds) (specialized_twice ds)
+    (all-append GoesOn (declared ++ name_clashes bs ++ name_prefixes bs) (circles ds)
     (all-append GoesOn (declared ++ name_clashes bs) (name_prefixes bs)
     (all-append GoesOn declared (name_clashes bs)
     (all-more (λ f. is-declared f ≡ 0) GoesOn of_declared declared (declared-tagged ds book ds))
     (all-more (λ f. is-declared f ≡ 1) GoesOn of_clash (name_clashes bs) (clashes-tagged _)))
     (pairs-go_on (enabled_names bs) (enabled_names bs)))
-    (circles-each GoesOn (λ id. tt) ds) in
+    (circles-each GoesOn (λ id. tt) ds))
+    (twice-each GoesOn (λ a b class. tt) ds) in
     is_behind x y (All-contains GoesOn (faults ds book) (faults_are.NamePrefix x y) (All-from_recursion GoesOn (faults ds book) all) among)

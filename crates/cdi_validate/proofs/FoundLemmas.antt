@@ -18,7 +18,7 @@ use Rattle.cdi_effective.specs.Records.{records_declared, records_in}
 use Rattle.cdi_resolve.specs.declared.choice.Choice.{Choice}
 use Rattle.cdi_observe.specs.Answers.{answers_of}
 use Rattle.cdi_validate.specs.Records.{records_by}
-use Rattle.cdi_validate.proofs.OnceLemmas.{Apart, pairs-apart}
+use Rattle.cdi_validate.proofs.ApartLemmas.{Apart, pairs-apart}
 
 at-middle : (P : Decl → Type 0) (es rest : List Decl) (d : Decl) → AllByRecursion P (es ++ d ∷ rest) → P d
 at-middle P [] rest d all = all.0

@@ -1,6 +1,7 @@
 pub mod PushLemmas
 pub mod NameLemmas
 pub mod ClashLemmas
+pub mod ApartLemmas
 pub mod OnceLemmas
 pub mod LineLemmas
 pub mod BehindLemmas
@@ -8,3 +9,5 @@ pub mod FoundLemmas
 pub mod NeedLemmas
 pub mod SurroundLemmas
 pub mod CircleLemmas
+pub mod TwiceLemmas
+pub mod LinkLemmas

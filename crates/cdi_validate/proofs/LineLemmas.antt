@@ -29,7 +29,7 @@ use Rattle.cdi_validate.specs.Circles.{circular}
 use Rattle.cdi_resolve.specs.Choices.{chosen_by_name}
 use Rattle.cdi_validate.specs.Names.{AreNames}
 use Rattle.cdi_validate.proofs.NeedLemmas.{circular-rise}
-use Rattle.cdi_validate.proofs.OnceLemmas.{all-append, all-each, all-map, all-more}
+use Rattle.cdi_validate.proofs.ApartLemmas.{all-append, all-each, all-map, all-more}
 
 -- ---- lists that rise
 

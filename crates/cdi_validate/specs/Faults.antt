@@ -22,6 +22,7 @@ use Rattle.cdi_faults.specs.declared.fault.Fault.TheVariants as faults_are
 use Rattle.cdi_faults.specs.FaultText.{in_text_order, text_of_fault}
 use Rattle.cdi_subjects.specs.Subjects.{is_ambiguous, subjects_at_fault}
 use Rattle.cdi_validate.specs.Circles.{circular}
+use Rattle.cdi_validate.specs.Twice.{specialized_twice}
 
 -- the faults of a declaration of one code, by the texts of its subjects
 abbrev pub faults_of_code : List Decl → List Promised → Decl → Code → List Fault
@@ -58,16 +59,17 @@ circle id = faults_are.Circular id.class id.producer
 abbrev pub circles : List Decl → List Fault
 circles ds = map circle (circular ds)
 
--- where these bodies are stored: the declarations in order, each with its faults by code and then by text; then the names and
--- then the circles (profile)
+-- where these bodies are stored: the declarations in order, each with its faults by code and then by text; then the names, then
+-- the circles, and then those of two beans that specialize one (profile)
 unfoldable pub faults : List Decl → List Promised → List Fault
 faults ds book = flat_map (faults_of ds book) ds ++ name_clashes (beans ds) ++ name_prefixes (beans ds) ++ circles ds
+    ++ specialized_twice ds
 
 -- Where no two declarations have one kind and name, no fault stands twice.
 abbrev pub FaultsStandOnce : Type 0
 FaultsStandOnce = (ds : List Decl) (book : List Promised) → AreDistinct ds → AllPairs (λ f g. f ≢ g) (faults ds book)
 
--- ---- the faults of names and circles
+-- ---- the faults of several beans
 
 -- the lines that some faults print rise in byte order
 abbrev pub LinesRise : List Fault → Type 0

@@ -4,3 +4,5 @@ pub mod Records
 pub mod Circles
 pub mod Needed
 pub mod Surrounded
+pub mod Twice
+pub mod Linked

@@ -11,11 +11,13 @@ ghost use Rattle.cdi_faults.specs.FaultText.{SubjectsInOrder};
 ghost use Rattle.cdi_validate.specs.Circles.{NeedsItselfOnCircle};
 ghost use Rattle.cdi_validate.specs.Faults.{circles, faults, faults_of, name_clashes, name_prefixes};
 ghost use Rattle.cdi_validate.specs.Faults.{LinesRise, PrefixesGoOn};
+ghost use Rattle.cdi_validate.specs.Twice.{specialized_twice, SharersAreTold};
 ghost use Rattle.cdi_faults.specs.declared.fault.Fault.TheVariants as the_faults;
 
 use crate::circles::push_of_circles;
 use crate::names::push_of_names;
 use crate::records::records_of;
+use crate::twice::push_of_twice;
 use cdi_bodies::Bodies;
 use cdi_effective::Effective;
 use cdi_faults::{Code, Fault, Subject, in_text_order};
@@ -28,12 +30,13 @@ use std::rc::Rc;
 
 /// All that is wrong with the declarations of a view where the bodies of a book are stored (CDI 4.0, Problems detected
 /// automatically by the container): the declarations in order, each with its faults by code and then by the texts of
-/// their subjects, and then the faults of names and those of circles. Each fault occurs once.
+/// their subjects, and then the faults of names, those of circles, and those of two beans that specialize one. Each fault
+/// occurs once.
 ///
 /// Each injection point is asked for once for each type and qualifiers. It takes memory for the faults, for the answers
 /// and where the view does. Where none is left, some of the keys from the front on were asked. An edit that is staged
 /// stays where each of the keys is known.
-#[tactic(auto, using(crate::proofs::LineLemmas::clashes_rise, crate::proofs::LineLemmas::circles_rise))]
+#[tactic(auto, using(crate::proofs::LineLemmas::clashes_rise, crate::proofs::LineLemmas::circles_rise, crate::proofs::TwiceLemmas::twice_rise))]
 pub fn faults<V: View, B: Bodies>(
     alloc: Global,
     view: &mut V,
@@ -52,6 +55,8 @@ pub fn faults<V: View, B: Bodies>(
     ensures longer { PrefixesGoOn }
     ensures circles { NeedsItselfOnCircle }
     ensures circle_lines { LinesRise (circles (V.list view.old)) }
+    ensures twice_lines { LinesRise (specialized_twice (V.list view.old)) }
+    ensures sharers { SharersAreTold }
 {
     let answers = evaluate(alloc, view)?;
     faults_by(alloc, view, book, answers.as_slice())
@@ -73,6 +78,7 @@ pub fn faults_by<V: View, B: Bodies>(
     push_of_decls(alloc, view, book, answers, &mut faults)?;
     push_of_names(alloc, view, &mut faults)?;
     push_of_circles(alloc, view, answers, &mut faults)?;
+    push_of_twice(alloc, view, &mut faults)?;
     Ok(faults)
 }
 

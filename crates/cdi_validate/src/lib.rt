@@ -6,5 +6,6 @@ mod deployment;
 mod names;
 mod records;
 mod surrounded;
+mod twice;
 
 pub use deployment::{faults, faults_by};

@@ -11,6 +11,7 @@ use Rattle.cdi_faults.proofs.OrderLemmas.{subjects_in_order}
 use Rattle.cdi_validate.specs.Faults.{faults, name_prefixes, LinesRise}
 use Rattle.cdi_validate.proofs.BehindLemmas.{prefixes_go_on}
 use Rattle.cdi_validate.proofs.CircleLemmas.{needs_itself_on_circle}
+use Rattle.cdi_validate.proofs.TwiceLemmas.{sharers_are_told}
 use Rattle.cdi_validate.proofs.deployment.faults.Goals as goal
 
 -- where all keys were asked, those from the front on were, up to the last
@@ -59,3 +60,9 @@ returns-in_err-answers-clause-longer g c = prefixes_go_on
 
 pub returns-clause-longer : goal.returns-clause-longer
 returns-clause-longer g c = prefixes_go_on
+
+pub returns-in_err-answers-clause-sharers : goal.returns-in_err-answers-clause-sharers
+returns-in_err-answers-clause-sharers g c = sharers_are_told
+
+pub returns-clause-sharers : goal.returns-clause-sharers
+returns-clause-sharers g c = sharers_are_told

@@ -1,0 +1,136 @@
+-- Lists of which each is apart from the later ones.
+use Rattle.std.proofs.Common.{◌≡◌, ◌≢◌, ◌<◌, ℕ, zero, suc, Bool, true, false, cond, List, [], ◌∷◌, ◌++◌, length, map, filter}
+use Rattle.std.proofs.Common.{Ordering, Less, Equal, sym, ap, ◌∙◌, arith}
+use Rattle.std.specs.List.{AllByRecursion, AllPairs, flat_map, slice_index_or}
+use Rattle.std.specs.List.Sorted.{IsStrictlySortedBy}
+use Rattle.std.specs.Cmp.{IsTotalOrder}
+use Rattle.std.proofs.lemmas.Cmp.{tied_itself}
+
+-- ---- each apart from the later ones
+
+abbrev pub Apart : {X : Type 0} → (X → X → Type 0) → List X → Type 0
+Apart R [] = Unit {0}
+Apart R (x ∷ xs) = AllByRecursion (R x) xs × Apart R xs
+
+all-at : {X : Type 0} (P : X → Type 0) (xs : List X) → AllByRecursion P xs → (j : ℕ) (d : X) → j < length xs → P (slice_index_or xs j d)
+all-at P [] all j d lt = absurd (omega (arith, lt))
+all-at P (x ∷ xs) all zero d lt = all.0
+all-at P (x ∷ xs) all (suc j) d lt = all-at P xs all.1 j d (omega (arith, lt))
+
+all-from : {X : Type 0} (P : X → Type 0) (xs : List X) → ((j : ℕ) (d : X) → j < length xs → P (slice_index_or xs j d)) → AllByRecursion P xs
+all-from P [] each = tt
+all-from P (x ∷ xs) each = (each zero x (omega arith), all-from P xs (λ j d lt. each (suc j) d (omega (arith, lt))))
+
+pub apart-pairs : {X : Type 0} (R : X → X → Type 0) (xs : List X) → Apart R xs → AllPairs R xs
+apart-pairs R [] apart i j d lt within = absurd (omega (arith, within))
+apart-pairs R (x ∷ xs) apart i zero d lt within = absurd (omega (arith, lt))
+apart-pairs R (x ∷ xs) apart zero (suc j) d lt within = all-at (R x) xs apart.0 j d (omega (arith, within))
+apart-pairs R (x ∷ xs) apart (suc i) (suc j) d lt within = apart-pairs R xs apart.1 i j d (omega (arith, lt)) (omega (arith, within))
+
+pub pairs-apart : {X : Type 0} (R : X → X → Type 0) (xs : List X) → AllPairs R xs → Apart R xs
+pairs-apart R [] all = tt
+pairs-apart R (x ∷ xs) all = (
+  all-from (R x) xs (λ j d lt. all zero (suc j) d (omega arith) (omega (arith, lt))),
+  pairs-apart R xs (λ i j d lt within. all (suc i) (suc j) d (omega (arith, lt)) (omega (arith, within))),
+)
+
+-- ---- lists put together
+
+pub all-more : {X : Type 0} (P Q : X → Type 0) → ((x : X) → P x → Q x) → (xs : List X) → AllByRecursion P xs → AllByRecursion Q xs
+all-more P Q more [] all = tt
+all-more P Q more (x ∷ xs) all = (more x all.0, all-more P Q more xs all.1)
+
+pub all-append : {X : Type 0} (P : X → Type 0) (xs ys : List X) → AllByRecursion P xs → AllByRecursion P ys → AllByRecursion P (xs ++ ys)
+all-append P [] ys all others = others
+all-append P (x ∷ xs) ys all others = (all.0, all-append P xs ys all.1 others)
+
+pub apart-more : {X : Type 0} (R S : X → X → Type 0) → ((x y : X) → R x y → S x y) → (xs : List X) → Apart R xs → Apart S xs
+apart-more R S more [] apart = tt
+apart-more R S more (x ∷ xs) apart = (all-more (R x) (S x) (more x) xs apart.0, apart-more R S more xs apart.1)
+
+all-filter : {X : Type 0} (P : X → Type 0) (test : X → Bool) (xs : List X) → AllByRecursion P xs → AllByRecursion P (filter test xs)
+all-filter P test [] all = tt
+all-filter P test (x ∷ xs) all = by (test x) (all-filter P test xs all.1)
+  where
+    by : (b : Bool) → AllByRecursion P (filter test xs) → AllByRecursion P (cond b (x ∷ filter test xs) (filter test xs))
+    by true rest = (all.0, rest)
+    by false rest = rest
+
+pub apart-filter : {X : Type 0} (R : X → X → Type 0) (test : X → Bool) (xs : List X) → Apart R xs → Apart R (filter test xs)
+apart-filter R test [] apart = tt
+apart-filter R test (x ∷ xs) apart = by (test x) (apart-filter R test xs apart.1)
+  where
+    by : (b : Bool) → Apart R (filter test xs) → Apart R (cond b (x ∷ filter test xs) (filter test xs))
+    by true rest = (all-filter (R x) test xs apart.0, rest)
+    by false rest = rest
+
+pub all-map : {X Y : Type 0} (P : Y → Type 0) (f : X → Y) (xs : List X) → AllByRecursion (λ x. P (f x)) xs → AllByRecursion P (map f xs)
+all-map P f [] all = tt
+all-map P f (x ∷ xs) all = (all.0, all-map P f xs all.1)
+
+pub all-each : {X : Type 0} (P : X → Type 0) → ((x : X) → P x) → (xs : List X) → AllByRecursion P xs
+all-each P each [] = tt
+all-each P each (x ∷ xs) = (each x, all-each P each xs)
+
+abbrev pub Differ : {X : Type 0} → List X → Type 0
+Differ xs = Apart (λ x y. x ≢ y) xs
+
+pub differ-map : {X Y : Type 0} (f : X → Y) → ((x y : X) → f x ≡ f y → x ≡ y) → (xs : List X) → Differ xs → Differ (map f xs)
+differ-map f one [] differ = tt
+differ-map f one (x ∷ xs) differ = (
+  all-map (λ y. f x ≢ y) f xs (all-more (λ y. x ≢ y) (λ y. f x ≢ f y) (λ y other e. other (one x y e)) xs differ.0),
+  differ-map f one xs differ.1,
+)
+
+-- what has one tag differs from what has another
+module _ {X T : Type 0} (tag : X → T) where
+  abbrev pub Tagged : T → List X → Type 0
+  Tagged t xs = AllByRecursion (λ x. tag x ≡ t) xs
+
+  other-tag : (t u : T) (x y : X) → t ≢ u → tag x ≡ t → tag y ≡ u → x ≢ y
+  other-tag t u x y differ of_x of_y e = differ (sym of_x ∙ ap tag e ∙ of_y)
+
+  pub differ-append : (t : T) (xs ys : List X) → Tagged t xs → AllByRecursion (λ y. tag y ≢ t) ys → Differ xs → Differ ys → Differ (xs ++ ys)
+  differ-append t [] ys tagged others apart rest = rest
+  differ-append t (x ∷ xs) ys tagged others apart rest = (
+    all-append (λ y. x ≢ y) xs ys apart.0 (all-more (λ y. tag y ≢ t) (λ y. x ≢ y) (λ y other e. other (sym (ap tag e) ∙ tagged.0)) ys
+        others),
+    differ-append t xs ys tagged.1 others apart.1 rest,
+  )
+
+  module _ {D : Type 0} (f : D → List X) (key : D → T) (tagged : (d : D) → Tagged (key d) (f d)) where
+    -- none of these has the tag
+    none-tagged : (t : T) (ds : List D) → AllByRecursion (λ d. t ≢ key d) ds → AllByRecursion (λ y. tag y ≢ t) (flat_map f ds)
+    none-tagged t [] others = tt
+    none-tagged t (d ∷ ds) others =
+        all-append (λ y. tag y ≢ t) (f d) (flat_map f ds)
+        (all-more (λ y. tag y ≡ key d) (λ y. tag y ≢ t) (λ y of_y e. others.0 (sym e ∙ of_y)) (f d) (tagged d))
+        (none-tagged t ds others.1)
+
+    pub differ-flat_map : ((d : D) → Differ (f d)) → (ds : List D) → Apart (λ d e. key d ≢ key e) ds → Differ (flat_map f ds)
+    differ-flat_map each [] apart = tt
+    differ-flat_map each (d ∷ ds) apart =
+        differ-append (key d) (f d) (flat_map f ds) (tagged d) (none-tagged (key d) ds apart.0) (each d) (differ-flat_map each ds apart.1)
+
+-- ---- what rises
+
+-- what rises in an order has nothing twice
+pub rising-differ : {X : Type 0} {order : X → X → Ordering} → IsTotalOrder order → (xs : List X) → IsStrictlySortedBy order xs → Differ xs
+unfolding IsStrictlySortedBy
+rising-differ total [] rise = tt
+rising-differ {order = order} total (x ∷ xs) rise = (
+  all-more (λ y. order x y ≡ Less) (λ y. x ≢ y) (λ y less e. not_before (ap (order x) e ∙ less)) xs rise.0,
+  rising-differ total xs rise.1,
+)
+  where
+    not_before : order x x ≡ Less → ⊥
+    not_before less = let no : Less ≡ Equal = sym less ∙ tied_itself total x in absurd (cc)
+
+-- what differs by its texts differs
+pub differ-by : {X Y : Type 0} (f : X → Y) (xs : List X) → Differ (map f xs) → Differ xs
+differ-by f [] differ = tt
+differ-by f (x ∷ xs) differ = (from_map xs differ.0, differ-by f xs differ.1)
+  where
+    from_map : (ys : List _) → AllByRecursion (λ y. f x ≢ y) (map f ys) → AllByRecursion (λ y. x ≢ y) ys
+    from_map [] all = tt
+    from_map (y ∷ ys) all = ((λ e. all.0 (ap f e)), from_map ys all.1)

@@ -1,0 +1,22 @@
+use Rattle.std.proofs.Common.{◌≡◌, ◌++◌, [], ◌∷◌, filter, sym, subst, ap, ◌∙◌, append_assoc}
+use Rattle.std.specs.List.{AllZip, flat_map}
+use Rattle.cdi_model.specs.DeclList.{AreDistinct}
+use Rattle.cdi_validate.specs.Linked.{KeepsChain}
+use Rattle.cdi_validate.specs.Twice.{enabled_bean}
+use Rattle.cdi_validate.proofs.LinkLemmas.{specializing-next}
+use Rattle.cdi_validate.proofs.twice.chains_of.Goals as goal
+
+pub loop-decl-preserved : goal.loop-decl-preserved
+loop-decl-preserved g c =
+    let ds = g.V.View.list c.args.view.now in
+    let gone = c.loop-decl.invariant in
+    let es = gone.0 in
+    let d = c.in-Some.decl.now in
+    let rest = c.next.new.self in
+    let split : es ++ d ∷ rest ≡ ds = ap (λ left. es ++ left) (sym c.in-Some.ensures.steps) ∙ gone.1 in (
+      es ++ d ∷ [],
+      append_assoc es (d ∷ []) rest ∙ split,
+      subst (AllZip (KeepsChain ds) c.push_of_decl.new.chains.items)
+          (specializing-next ds es rest d (subst AreDistinct c.decls.ensures c.iter-decl-items.ensures.distinct) split)
+          (c.in_ok-push_of_decl.ensures (filter (λ b. b.specializes) (flat_map (enabled_bean ds) es)) gone.2),
+    )

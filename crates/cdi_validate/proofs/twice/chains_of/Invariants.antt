@@ -1,0 +1,11 @@
+use Rattle.std.proofs.Common.{◌≡◌, ◌++◌, List, filter}
+use Rattle.std.specs.List.{AllZip, flat_map}
+use Rattle.cdi_model.specs.declared.decl.Decl.{Decl}
+use Rattle.cdi_validate.specs.Linked.{KeepsChain}
+use Rattle.cdi_validate.specs.Twice.{enabled_bean}
+use Rattle.cdi_validate.proofs.twice.chains_of.Given as goal
+
+abbrev pub invariant-loop-decl : goal.invariant-loop-decl
+invariant-loop-decl g l = (es : List Decl) × (es ++ l.decl-iterator ≡ g.V.View.list l.view)
+    × AllZip (KeepsChain (g.V.View.list l.view)) l.chains.items
+    (filter (λ b. b.specializes) (flat_map (enabled_bean (g.V.View.list l.view)) es))
