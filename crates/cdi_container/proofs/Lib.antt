@@ -1,12 +1,6 @@
 mod Aiming
 mod Ending
-mod Runs
-mod Ran
-mod Serving
-mod Trying
-mod Taking
-mod Feeding
-mod Going
+pub mod Telling
 mod Putting
 mod HistoryLemmas
 mod SharingLemmas

@@ -24,7 +24,7 @@ use Rattle.cdi_container.specs.History.{State, Acts, EditsFrom, PutsFrom, LegalA
 use Rattle.cdi_container.specs.History.{refusal_of, trace_behind}
 use Rattle.cdi_container.specs.Told.{standing_behind, carried_out, told_behind, told_by, IsTold}
 use Rattle.cdi_container.proofs.HistoryLemmas.{acts_edits}
-use Rattle.cdi_container.proofs.Ran.{acts_tell}
+use Rattle.cdi_container.proofs.Telling.{acts_tell}
 
 same_state : (a b : State) → a.decls ≡ b.decls → a.book ≡ b.book → a.standing ≡ b.standing → a.trace ≡ b.trace → a.text ≡ b.text
     → a ≡ b

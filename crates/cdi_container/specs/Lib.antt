@@ -1,14 +1,10 @@
-pub mod Commands
 pub mod Asked
 pub mod History
 pub mod Told
 pub mod Wired
 pub mod LastEvents
 pub mod Seen
-pub mod Text
-pub mod Runner
-pub mod Intake
-pub mod Run
+pub mod AnswerText
 pub use Rattle.cdi_bodies.specs.Within
 pub use Rattle.cdi_model.specs.Bytes
 pub use Rattle.cdi_model.specs.Edits
@@ -20,8 +16,6 @@ pub use Rattle.cdi_text.specs.Reading
 pub use Rattle.cdi_effective.specs.Beans
 pub use Rattle.cdi_resolve.specs.Choices
 pub use Rattle.cdi_resolve.specs.ChoiceText
-pub use Rattle.cdi_devices.specs.Console
-pub use Rattle.cdi_devices.specs.Counted
 pub use Rattle.cdi_validate.specs.Faults
 pub use Rattle.cdi_faults.specs.Codes
 pub use Rattle.cdi_faults.specs.FaultText

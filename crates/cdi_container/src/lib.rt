@@ -1,5 +1,5 @@
-//! The container: present declarations that are edited while it runs, questions about them, the instances that it makes,
-//! calls and destroys, and the run of a script.
+//! The container: present declarations that are edited while it runs, questions about them, and the instances that it
+//! makes, calls and destroys.
 #![tactic(auto)]
 
 mod answer;
@@ -8,11 +8,8 @@ mod beans;
 mod container;
 mod deployment;
 mod instances;
-mod intake;
 mod last_events;
 mod printing;
-mod runner;
-mod script;
 
 pub use answer::Answer;
 pub use beans::Beans;
@@ -20,7 +17,6 @@ pub use cdi_bodies::{
     Act, Asks, Bodies, Body, Book, BookCause, BookError, Frame, Promise, PromiseBook,
 };
 pub use cdi_contexts::{Actor, InstanceId, Owner};
-pub use cdi_devices::{Console, Counted, RunFault, SCRIPT_LIMIT};
 pub use cdi_effective::{BeanId, Effective};
 pub use cdi_faults::{Code, Fault, Subject};
 pub use cdi_legal::Entry;
@@ -38,4 +34,3 @@ pub use cdi_scene::{Notified, Place, Seat};
 pub use cdi_text::{read_decl, read_qualifier};
 pub use cdi_trace::{NamedEntries, NamedEntry, NamedInstance, NamedInstances};
 pub use container::{Container, history_laws};
-pub use script::{Options, READ_BYTES, Summary, run, run_on};

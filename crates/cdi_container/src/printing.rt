@@ -1,14 +1,10 @@
 //! How answers print.
-ghost use Rattle.std.specs.Prelude.{◌≡◌, ◌++◌, OnOk, Ok};
-ghost use Rattle.cdi_container.specs.Text.{text_of_answer};
 
 use crate::answer::Answer;
 use cdi_faults::Fault;
 use cdi_model::{Name, Refusal};
 use cdi_observe::ObserverId;
-use std::alloc::AllocError;
 use std::fmt;
-use std::io::Write;
 
 /// Names, each after a space.
 #[derive(Clone, Copy)]
@@ -16,7 +12,7 @@ struct NamesText<'a>(&'a [Name]);
 
 impl fmt::Display for NamesText<'_> {
     ghost use Rattle.std.specs.Prelude.{Some};
-    ghost use Rattle.cdi_container.specs.Text.{text_of_names};
+    ghost use Rattle.cdi_container.specs.AnswerText.{text_of_names};
 
     ghost output = { λ names. Some (text_of_names names.0.now) };
 
@@ -34,7 +30,7 @@ struct ObserversText<'a>(&'a [ObserverId]);
 
 impl fmt::Display for ObserversText<'_> {
     ghost use Rattle.std.specs.Prelude.{Some};
-    ghost use Rattle.cdi_container.specs.Text.{text_of_observer_ids};
+    ghost use Rattle.cdi_container.specs.AnswerText.{text_of_observer_ids};
 
     ghost output = { λ ids. Some (text_of_observer_ids ids.0.now) };
 
@@ -52,7 +48,7 @@ struct FaultsText<'a>(&'a [Fault]);
 
 impl fmt::Display for FaultsText<'_> {
     ghost use Rattle.std.specs.Prelude.{Some};
-    ghost use Rattle.cdi_container.specs.Text.{text_of_faults};
+    ghost use Rattle.cdi_container.specs.AnswerText.{text_of_faults};
 
     ghost output = { λ faults. Some (text_of_faults faults.0.now) };
 
@@ -70,7 +66,7 @@ struct RefusalText(Refusal);
 
 impl fmt::Display for RefusalText {
     ghost use Rattle.std.specs.Prelude.{Some, ◌++◌};
-    ghost use Rattle.cdi_container.specs.Text.{count_of, word_of};
+    ghost use Rattle.cdi_container.specs.AnswerText.{count_of, word_of};
 
     ghost output = { λ refusal. Some (word_of refusal.0 ++ count_of refusal.0) };
 
@@ -86,7 +82,7 @@ impl fmt::Display for RefusalText {
 /// What a script prints of it, without the end of its line.
 impl fmt::Display for Answer {
     ghost use Rattle.std.specs.Prelude.{Some};
-    ghost use Rattle.cdi_container.specs.Text.{words_of_answer};
+    ghost use Rattle.cdi_container.specs.AnswerText.{words_of_answer};
 
     ghost output = { λ answer. Some (words_of_answer answer) };
 
@@ -104,11 +100,4 @@ impl fmt::Display for Answer {
             Answer::Refused(refusal) => write!(f, "refused {}", RefusalText(*refusal)),
         }
     }
-}
-
-/// An answer and the end of its line.
-pub(crate) fn push_answer(text: &mut Vec<u8>, answer: &Answer) -> Result<(), AllocError>
-    ensures { OnOk result (text.new.items ≡ text.old.items ++ text_of_answer (Ok answer.now)) }
-{
-    writeln!(text, "{answer}").map_err(|_| AllocError)
 }

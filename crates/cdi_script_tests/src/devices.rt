@@ -1,6 +1,6 @@
 //! Runs over readers and writers that fail, that never end, and that watch each other.
 use crate::fixtures::{STORED_SCRIPT, STORED_TEXT, assert_text, empty_page, fault_of};
-use cdi_container::{Console, Counted, Options, RunFault, run};
+use cdi_script::{Console, Counted, Options, RunFault, run};
 use cdi_devices::SCRIPT_LIMIT;
 use cdi_fixtures::Echo;
 use std::cell::Cell;

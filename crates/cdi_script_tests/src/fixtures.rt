@@ -1,6 +1,6 @@
 //! What several tests share.
 use cdi_bodies::{Body, Book};
-use cdi_container::{Console, Container, Counted, Options, RunFault, Summary, run, run_on};
+use cdi_script::{Console, Container, Counted, Options, RunFault, Summary, run, run_on};
 use cdi_fixtures::Echo;
 use std::alloc::{AllocError, Global};
 use std::fmt::Display;

@@ -1,7 +1,7 @@
 //! The program over files and streams in memory: its statuses, and what it writes where.
 ghost use Rattle.std.specs.Prelude.{Some};
 
-use cdi_container::Counted;
+use cdi_script::Counted;
 use cdi_fixtures::Echo;
 use cdi_session::{Files, session};
 use std::alloc::{AllocError, Global};

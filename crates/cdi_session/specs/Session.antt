@@ -4,15 +4,15 @@ use Rattle.std.specs.Prelude.{codes, if◌then◌else◌}
 use Rattle.std.specs.Io.KnownBytes.{Appends}
 use Rattle.std.specs.declared.io.ErrorKind as opening
 use Rattle.std.specs.declared.io.ErrorKind.TheVariants as kind
-use Rattle.cdi_container.specs.Bytes.{feed}
+use Rattle.cdi_script.specs.Bytes.{feed}
 use Rattle.clap.specs.Kinds.{Kinds, IsAmong}
 use Rattle.clap.specs.Simple.{matches_of}
 use Rattle.clap.specs.Walk.{Text}
 use Rattle.clap.specs.declared.error.kind.ErrorKind.{ErrorKind}
 use Rattle.clap.specs.declared.error.kind.ErrorKind.TheVariants.{DisplayHelp, OutOfMemory}
 use Rattle.cdi_bodies.specs.Book.{Promised}
-use Rattle.cdi_container.specs.Run.{Setting, setting_with, RunsScript, FailsToRead, FailsToWrite, RunsOutOfMemory}
-use Rattle.cdi_container.specs.declared.script.Summary.{Summary}
+use Rattle.cdi_script.specs.Run.{Setting, setting_with, RunsScript, FailsToRead, FailsToWrite, RunsOutOfMemory}
+use Rattle.cdi_script.specs.declared.script.Summary.{Summary}
 use Rattle.cdi_devices.specs.Counted.{inner_of, bytes_of, has_failed, is_flushed, is_settled, sent_before}
 use Rattle.cdi_devices.specs.Devices.{WritesPart}
 use Rattle.cdi_devices.specs.declared.counted.Counted.{Counted}

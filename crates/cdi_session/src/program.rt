@@ -1,7 +1,7 @@
 //! A run of the program, over any files and streams.
 ghost use Rattle.std.specs.Prelude.{◌≡◌, ◌≢◌, ◌≤◌, ◌⊎◌, [], map, codes, true, false};
 ghost use Rattle.cdi_devices.specs.Counted.{bytes_of, has_failed, is_flushed};
-ghost use Rattle.cdi_container.specs.Run.{setting_with};
+ghost use Rattle.cdi_script.specs.Run.{setting_with};
 ghost use Rattle.cdi_session.specs.Options.{faults_of};
 ghost use Rattle.cdi_session.specs.Session.{IsInput, ComesTo, FileComesTo, status_of, RunsWords, RefusesWords, LacksMemory};
 
@@ -9,7 +9,7 @@ use crate::command_line::{CommandLine, options};
 use crate::complaints::{fault_of_open, refuse_line, tell_fault};
 use crate::files::Files;
 use cdi_bodies::Bodies;
-use cdi_container::{Console, Counted, Options, READ_BYTES, RunFault, SCRIPT_LIMIT, Summary, run};
+use cdi_script::{Console, Counted, Options, READ_BYTES, RunFault, SCRIPT_LIMIT, Summary, run};
 use std::alloc::Global;
 use std::convert::AsStr;
 use std::io::{Read, Write};

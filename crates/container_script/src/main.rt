@@ -7,7 +7,7 @@ ghost use Rattle.cdi_devices.specs.Counted.{bytes_of, has_failed, is_flushed};
 ghost use Rattle.container_script.specs.Program.{RunsProgram};
 
 use cdi_bodies::Book;
-use cdi_container::{Counted, READ_BYTES, RunFault, SCRIPT_LIMIT};
+use cdi_script::{Counted, READ_BYTES, RunFault, SCRIPT_LIMIT};
 use cdi_session::{Files, refuse_words, session, tell_fault};
 use cdi_stock::{Body, Frame, Stock};
 use std::alloc::{AllocError, Global};

@@ -1,6 +1,6 @@
 //! The run of a script, of which any one allocation may be refused.
 use crate::Difference;
-use cdi_container::{Console, Counted, Options, RunFault, run};
+use cdi_script::{Console, Counted, Options, RunFault, run};
 use cdi_fixtures::Echo;
 use std::alloc::Global;
 

@@ -1,6 +1,6 @@
 -- The lines of a row's block.
 use Rattle.std.specs.Prelude.{◌≡◌, ◌≢◌, ℕ, List, [], ◌∷◌, ◌++◌, codes, string_bytes}
-use Rattle.cdi_container.specs.Bytes.{feed}
+use Rattle.cdi_script.specs.Bytes.{feed}
 use Rattle.worked_rows.specs.declared.rows.BlockLine.{BlockLine}
 use Rattle.worked_rows.specs.declared.rows.BlockLine.TheVariants.{Answer, Script}
 use Rattle.worked_rows.specs.declared.rows.Row.{Row}

@@ -4,7 +4,7 @@ ghost use Rattle.std.specs.Prelude.{◌≡◌, ◌≢◌, ◌<◌, ◌↔◌, If
 use crate::difference::Difference;
 use crate::rows::{Row, rows_of};
 use cdi_bodies::Book;
-use cdi_container::{Console, Counted, Options, run};
+use cdi_script::{Console, Counted, Options, run};
 use cdi_stock::stock_bodies;
 use std::alloc::{AllocError, Global};
 

@@ -1,5 +1,5 @@
 //! What a page has that is not as it is to be.
-use cdi_container::RunFault;
+use cdi_script::RunFault;
 use std::alloc::{AllocError, AllocFailed};
 use thiserror::Error;
 

@@ -1,6 +1,6 @@
 //! The rows of a page.
 ghost use Rattle.std.specs.Prelude.{◌≡◌, ◌<◌, ◌++◌, ◌∷◌, [], IfOk, OnOk, string_bytes, vec_len};
-ghost use Rattle.cdi_container.specs.Bytes.{feed};
+ghost use Rattle.cdi_script.specs.Bytes.{feed};
 ghost use Rattle.worked_rows.specs.Rows.{IsBlockLine, TakesLine};
 
 use crate::difference::Difference;

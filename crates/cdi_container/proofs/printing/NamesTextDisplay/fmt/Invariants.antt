@@ -1,6 +1,6 @@
 use Rattle.std.proofs.Common.{take}
 use Rattle.std.specs.Fmt.{HasWritten, IsPlainFormatter}
-use Rattle.cdi_container.specs.Text.{text_of_names}
+use Rattle.cdi_container.specs.AnswerText.{text_of_names}
 use Rattle.cdi_container.proofs.printing.NamesTextDisplay.fmt.Given as goal
 
 abbrev pub invariant-loop-name : goal.invariant-loop-name

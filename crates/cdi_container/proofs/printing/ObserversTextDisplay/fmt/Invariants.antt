@@ -1,6 +1,6 @@
 use Rattle.std.proofs.Common.{take}
 use Rattle.std.specs.Fmt.{HasWritten, IsPlainFormatter}
-use Rattle.cdi_container.specs.Text.{text_of_observer_ids}
+use Rattle.cdi_container.specs.AnswerText.{text_of_observer_ids}
 use Rattle.cdi_container.proofs.printing.ObserversTextDisplay.fmt.Given as goal
 
 abbrev pub invariant-loop-id : goal.invariant-loop-id

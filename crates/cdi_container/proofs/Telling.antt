@@ -1,0 +1,55 @@
+-- The entries of a command are told by the names of the declarations before it.
+use Rattle.std.proofs.Common.{◌≡◌, [], ◌++◌, refl, subst, sym, ap, ◌∙◌}
+use Rattle.std.specs.Prelude.{Result, Ok, Err, if◌then◌else◌}
+use Rattle.cdi_model.specs.declared.decl.Decl.{Decl}
+use Rattle.cdi_model.specs.declared.edit.Edit.{Edit}
+use Rattle.cdi_model.specs.declared.edit.Edit.TheVariants.{Put as PutEdit, Remove as RemoveEdit}
+use Rattle.cdi_model.specs.declared.refusal.Refusal.{Refusal}
+use Rattle.cdi_text.specs.Reading.{decl_of}
+use Rattle.cdi_lines.specs.declared.command.Command.{Command}
+use Rattle.cdi_lines.specs.declared.command.Command.TheVariants.{Put, Remove, Choose, Named, Chain, Observers, Report, LookUp, Call, Fire}
+use Rattle.cdi_lines.specs.declared.command.Command.TheVariants.{BeginRequest, EndRequest}
+use Rattle.cdi_lines.specs.declared.command.Command.TheVariants.{Stop, Unreadable}
+use Rattle.cdi_container.specs.declared.answer.Answer.{Answer}
+use Rattle.cdi_container.specs.declared.answer.Answer.TheVariants.{Done, Chosen, Intercepted, Observed, Reported, Given, Refused}
+use Rattle.cdi_container.specs.Seen.{IsStep}
+use Rattle.cdi_container.specs.History.{State, Acts, EditsFrom, PutsFrom, told_on, untold}
+
+-- the entries of a command are told by the declarations before it
+abbrev pub Tells : State → State → Type 0
+Tells old new = new.text ≡ told_on old new.trace
+
+untold_tells : (old new : State) → new ≡ untold old → Tells old new
+untold_tells old new h = subst (Tells old) (sym h) refl
+
+edit_tells : (old new : State) (edit : Edit) → EditsFrom old edit new → Tells old new
+edit_tells old new edit h = subst (Tells old) (sym h.rest) (ap (λ s. s.text) h.ends.rest)
+
+put_tells : (old new : State) (read : Result Decl Refusal) → PutsFrom old read new → Tells old new
+put_tells old new (Ok d) h = edit_tells old new (PutEdit d) h
+put_tells old new (Err refusal) h = absurd h
+
+pub acts_tell : (old new : State) (command : Command) (answer : Answer) → Acts old command answer new → Tells old new
+acts_tell old new (Put text) answer h = put_tells old new (decl_of text) h.1
+acts_tell old new (Remove kind name) answer h = edit_tells old new (RemoveEdit kind name) h.1
+acts_tell old new (Choose t quals) answer h = untold_tells old new h.1
+acts_tell old new (Named name) answer h = untold_tells old new h.1
+acts_tell old new (Chain bean place) answer h = untold_tells old new h.rest
+acts_tell old new (Observers t quals) answer h = untold_tells old new h.1
+acts_tell old new Report answer h = untold_tells old new h.1
+acts_tell old new (LookUp t quals) answer h = ap (λ s. s.text) h.rest
+acts_tell old new (Call method arg t quals) answer h = ap (λ s. s.text) h.rest
+acts_tell old new (Fire arg t quals) answer h = ap (λ s. s.text) h.rest
+acts_tell old new BeginRequest answer h = subst (Tells old) (sym h.1) refl
+acts_tell old new EndRequest answer h = ap (λ s. s.text) h.rest
+acts_tell old new Stop answer h = ap (λ s. s.text) h.rest
+acts_tell old new Unreadable answer h = absurd h
+
+pub step_tells : (old new : State) (command : Command) (answer : Answer) → IsStep old command (Ok answer) new → Tells old new
+step_tells old new command Done h = acts_tell old new command Done h.1
+step_tells old new command (Chosen choice) h = acts_tell old new command (Chosen choice) h.1
+step_tells old new command (Intercepted names) h = acts_tell old new command (Intercepted names) h.1
+step_tells old new command (Observed ids) h = acts_tell old new command (Observed ids) h.1
+step_tells old new command (Reported list) h = acts_tell old new command (Reported list) h.1
+step_tells old new command (Given outcome) h = acts_tell old new command (Given outcome) h.1
+step_tells old new command (Refused refusal) h = untold_tells old new h.1

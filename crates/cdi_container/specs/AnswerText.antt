@@ -1,0 +1,57 @@
+-- The text of an answer.
+use Rattle.std.specs.Prelude.{ℕ, List, [], ◌∷◌, ◌++◌, length, codes, decimal, flat_map}
+use Rattle.cdi_model.specs.declared.refusal.Refusal.{Refusal}
+use Rattle.cdi_model.specs.declared.refusal.Refusal.TheVariants.{Faulty}
+use Rattle.cdi_model.specs.RefusalText.{code_of_refusal, word_of_refusal}
+use Rattle.cdi_observe.specs.declared.observers.ObserverId.{ObserverId}
+use Rattle.cdi_observe.specs.ObserverText.{text_of_observer}
+use Rattle.cdi_resolve.specs.ChoiceText.{text_of_choice}
+use Rattle.cdi_faults.specs.declared.fault.Fault.{Fault}
+use Rattle.cdi_faults.specs.FaultText.{text_of_fault}
+use Rattle.cdi_model.specs.Bytes.{feed, space}
+use Rattle.cdi_container.specs.declared.answer.Answer.{Answer}
+use Rattle.cdi_container.specs.declared.answer.Answer.TheVariants.{Done, Chosen, Intercepted, Observed, Reported, Given, Refused}
+use Rattle.cdi_model.specs.OutcomeText.{words_of_outcome}
+
+-- the code and the word of a refusal
+abbrev pub word_of : Refusal → List ℕ
+word_of refusal = code_of_refusal refusal ++ space ∷ word_of_refusal refusal
+
+-- how many faults there are, where these are the reason
+abbrev pub count_of : Refusal → List ℕ
+count_of (Faulty count) = codes " " ++ decimal count
+count_of refusal = []
+
+-- each fault on a line of its own
+abbrev pub text_of_faults : List Fault → List ℕ
+text_of_faults list = flat_map (λ fault. feed ∷ text_of_fault fault) list
+
+-- how many faults there are, and then each
+abbrev pub text_of_report : List Fault → List ℕ
+text_of_report list = codes "faults " ++ decimal (length list) ++ text_of_faults list
+
+-- names, each behind a space
+abbrev pub text_of_names : List (List ℕ) → List ℕ
+text_of_names names = flat_map (λ name. space ∷ name) names
+
+-- the interceptors around a place
+abbrev pub text_of_chain : List (List ℕ) → List ℕ
+text_of_chain names = codes "chain" ++ text_of_names names
+
+-- observer methods, each behind a space
+abbrev pub text_of_observer_ids : List ObserverId → List ℕ
+text_of_observer_ids ids = flat_map (λ id. space ∷ text_of_observer id) ids
+
+-- those of an event
+abbrev pub text_of_observers : List ObserverId → List ℕ
+text_of_observers ids = codes "observers" ++ text_of_observer_ids ids
+
+-- what an answer prints before the end of its line
+abbrev pub words_of_answer : Answer → List ℕ
+words_of_answer Done = codes "ok"
+words_of_answer (Chosen choice) = text_of_choice choice
+words_of_answer (Intercepted names) = text_of_chain names
+words_of_answer (Observed ids) = text_of_observers ids
+words_of_answer (Reported list) = text_of_report list
+words_of_answer (Given outcome) = words_of_outcome outcome
+words_of_answer (Refused refusal) = codes "refused " ++ word_of refusal ++ count_of refusal

@@ -1,0 +1,267 @@
+-- A run from one read to the next, and how it ends.
+use Rattle.std.proofs.Common.{◌≡◌, ℕ, List, [], ◌∷◌, ◌++◌, take, refl, ap, sym, ◌∙◌, subst, Option, Some, None, length, true, false, inl, inr}
+use Rattle.std.proofs.Common.{append_assoc, arith}
+use Rattle.std.specs.Prelude.{Bool, ◌≤◌, ◌&&◌, not}
+use Rattle.std.proofs.lemmas.Bool.{false≢true, true≢false}
+use Rattle.std.specs.Io.KnownBytes.{Appends, Consumes}
+use Rattle.std.proofs.lemmas.List.{append-nil, length-append, length-take}
+use Rattle.cdi_lines.specs.declared.command.Command.{Command}
+use Rattle.cdi_script.specs.Commands.{Outside, complete_commands, commands, AreFirst}
+use Rattle.cdi_devices.specs.Counted.{inner_of, bytes_of, has_failed, is_flushed, is_settled}
+use Rattle.cdi_devices.specs.Devices.{Gives, ReadFails}
+use Rattle.cdi_lines.specs.Kept.{ServesLine}
+use Rattle.cdi_container.specs.History.{State}
+use Rattle.cdi_script.specs.Runner.{Tries}
+use Rattle.cdi_script.specs.Intake.{IntakeOn, intake_on, IsFresh, ServesMode}
+use Rattle.cdi_script.specs.Run.{Setting, WroteAll, AnswersFirst, Leaves, RunsOutOfMemoryTo}
+use Rattle.cdi_script.specs.Run.{FailsToWriteTo, FailsToReadTo, RunsScriptTo, Goes, Feeds}
+use Rattle.cdi_script.specs.Run.{FeedsBeforeMemory, FeedsPart, Ends, EndsBeforeMemory, EndsPart}
+use Rattle.cdi_devices.specs.declared.counted.Counted.{Counted}
+use Rattle.cdi_script.specs.declared.intake.Intake.{Intake}
+use Rattle.cdi_devices.proofs.Known.{Consumes-more}
+use Rattle.cdi_script.proofs.Feeding.{first_complete, printed_all}
+use Rattle.cdi_script.proofs.Trying.{first_of_first}
+use Rattle.cdi_script.proofs.Serving.{serves_itself}
+
+Appends-none : (known : Option (List ℕ)) → Appends known known []
+Appends-none None = tt
+Appends-none (Some xs) = sym (append-nil xs)
+
+Consumes-none : (known : Option (List ℕ)) → Consumes known known []
+Consumes-none None = tt
+Consumes-none (Some xs) = refl
+
+-- nothing was run
+pub wrote_nothing : (setting : Setting) (known : Option (List ℕ)) → WroteAll setting known known [] setting.begun
+wrote_nothing setting known = record {
+  history = [];
+  is_history = record { legal = refl; commands_are = refl; memory = refl };
+  written = Appends-none known;
+}
+
+-- behind a flush, and behind no error, a note stays as it is
+behind_flush : (noted flushed failed : Bool) → flushed ≡ true → failed ≡ false → (noted && flushed && not failed) ≡ noted
+behind_flush true true false is still = refl
+behind_flush false true false is still = refl
+behind_flush noted true true is still = absurd (true≢false still)
+behind_flush noted false failed is still = absurd (false≢true is)
+
+module _ {R W : Type 0} (remaining : R → Option (List ℕ)) (contents : W → Option (List ℕ)) (limit piece : ℕ)
+    (setting : Setting) (r0 : Counted R) (w0 : Counted W) where
+  abbrev Goes-here : Counted R → Counted W → IntakeOn → Type 0
+  Goes-here r w s = Goes remaining contents limit setting r0 w0 r w s
+
+  pub goes_first : (s : Intake) → IsFresh s → s.runner.quiet ≡ setting.quiet
+      → bytes_of r0 ≡ 0
+      → has_failed r0 ≡ false → has_failed w0 ≡ false
+      → is_flushed w0 ≡ true → Goes remaining contents limit setting r0 w0 r0 w0 (intake_on s setting.begun)
+  goes_first s f quiet_is count r_ok w_ok flushed = record {
+    given = [];
+    came = Consumes-none _;
+    stands = record {
+      printed = record {
+        history = [];
+        is_history = record { legal = refl; commands_are = refl; memory = refl };
+        sent = [];
+        text = sym f.out;
+        written = Appends-none _;
+        refused_is = f.refused;
+        quiet_is = quiet_is;
+      };
+      keeps = record {
+        line_serves = subst (λ l. ServesLine l []) (sym f.line) (serves_itself []);
+        mode_serves = subst (λ m. ServesMode m Outside) (sym f.mode) tt;
+      };
+    };
+    out = f.out;
+    count = count;
+    within = omega arith;
+    reader_still = r_ok;
+    writer_still = w_ok;
+    flushed = flushed;
+    settled = refl;
+  }
+
+  -- a read that comes then is behind a flush, and behind no read that failed
+  pub stays_settled : (r r' : Counted R) (w : Counted W) (s : IntakeOn) → Goes remaining contents limit setting r0 w0 r w s
+      → is_settled r' ≡ (is_settled r && is_flushed w && not (has_failed r)) → is_settled r' ≡ is_settled r0
+  stays_settled r r' w s h noted = noted ∙ behind_flush (is_settled r) (is_flushed w) (has_failed r) h.flushed h.reader_still ∙ h.settled
+
+  pub goes_on : (r r' : Counted R) (w w' : Counted W) (s s' : IntakeOn) (n : ℕ) (buffer : List ℕ)
+      → Goes remaining contents limit setting r0 w0 r w s → Gives remaining limit r r' n buffer
+      → Feeds contents s s' w w' (take n buffer) → has_failed w' ≡ has_failed w → is_flushed w' ≡ true → s'.runner.out ≡ []
+      → is_settled r' ≡ (is_settled r && is_flushed w && not (has_failed r)) → Goes remaining contents limit setting r0 w0 r' w' s'
+  goes_on r r' w w' s s' n buffer h g f still flushed out noted = record {
+    given = h.given ++ take n buffer;
+    came = Consumes-more _ _ _ h.given (take n buffer) h.came g.bytes;
+    stands = f setting (contents (inner_of w0)) h.given h.stands;
+    out = out;
+    count = let e = h.count in let f = g.count in let b = g.bound in omega
+        (arith, length-append h.given (take n buffer), length-take n buffer);
+    within = g.within;
+    reader_still = g.still ∙ h.reader_still;
+    writer_still = still ∙ h.writer_still;
+    flushed = flushed;
+    settled = stays_settled r r' w s h noted;
+  }
+
+  pub fails_to_read : (r r' : Counted R) (w : Counted W) (s : IntakeOn) → Goes remaining contents limit setting r0 w0 r w s
+      → ReadFails remaining limit r r'
+      → FailsToReadTo remaining contents limit setting r0 r' w0 w s.runner.container
+  fails_to_read r r' w s h f = record {
+    given = h.given;
+    extra = f.bytes.0;
+    came = Consumes-more _ _ _ h.given f.bytes.0 h.came f.bytes.1;
+    within = let e = h.count in let b = h.within in omega arith;
+    behind = λ some. (sym h.count ∙ f.bytes.2 some, let one = f.bytes.3 in omega arith);
+    wrote = printed_all setting _ _ _ s.runner (complete_commands h.given) [] h.stands.printed (sym h.out) (Appends-none _);
+  }
+
+  module _ (r r' : Counted R) (w w' : Counted W) (s t : IntakeOn) (h : Goes remaining contents limit setting r0 w0 r w s)
+      (n : ℕ) (buffer : List ℕ) (g : Gives remaining limit r r' n buffer) where
+    came : Consumes (remaining (inner_of r0)) (remaining (inner_of r')) (h.given ++ take n buffer)
+    came = Consumes-more _ _ _ h.given (take n buffer) h.came g.bytes
+
+    count : bytes_of r' ≡ length (h.given ++ take n buffer)
+    count = let e = h.count in let f = g.count in let b = g.bound in omega
+        (arith, length-append h.given (take n buffer), length-take n buffer)
+
+    none_came : n ≡ 0 → h.given ++ take n buffer ≡ h.given
+    none_came none = ap (λ k. h.given ++ take k buffer) none ∙ append-nil h.given
+
+    pub ends_run : n ≡ 0 → (refused : Bool) → Ends contents s t w w' refused
+        → RunsScriptTo remaining contents limit setting r0 r' w0 w' refused t.runner.container
+    ends_run none refused e = record {
+      input = h.given;
+      came = subst (λ l. Consumes (remaining (inner_of r0)) (remaining (inner_of r')) l) (none_came none) came;
+      end = g.end none;
+      count = let a = h.count in let b = g.count in omega arith;
+      within = let a = h.count in let b = h.within in omega arith;
+      runs = e setting (contents (inner_of w0)) h.given h.stands;
+    }
+
+    -- at the end these commands were answered, all that were complete before among them
+    at_end : n ≡ 0 → (first : List Command) → AreFirst (complete_commands h.given) first → AreFirst first (commands h.given)
+        → AnswersFirst remaining limit piece r0 r' first
+    at_end none first before within = record {
+      given = h.given;
+      last = [];
+      came = subst (λ l. Consumes (remaining (inner_of r0)) (remaining (inner_of r')) l) (none_came none ∙ sym (append-nil h.given)) came;
+      count = count ∙ ap length (none_came none ∙ sym (append-nil h.given));
+      within = let a = h.count in let b = h.within in omega (arith, length-append h.given []);
+      last_read = omega arith;
+      all_before = before;
+      none_behind = inr (g.end none, subst (λ l. AreFirst first (commands l)) (sym (append-nil h.given)) within);
+    }
+
+    -- and at most one more was carried out
+    left_at_end : n ≡ 0 → (first : List Command) (state left : State) → AreFirst (complete_commands h.given) first
+        → Tries first (commands h.given) state left → Leaves remaining limit piece r0 r' first state left
+    left_at_end none first state left before (inl e) = inl e
+    left_at_end none first state left before (inr t) = inr (
+      t.0,
+      at_end none (first ++ t.0.command ∷ []) (first_of_first (complete_commands h.given) first _ before (t.0.command ∷ [], refl)) t.1,
+      t.2,
+    )
+
+    pub ends_in_memory : n ≡ 0 → EndsBeforeMemory contents s t w w'
+        → RunsOutOfMemoryTo remaining contents limit piece setting r0 r' w0 w' t.runner.container
+    ends_in_memory none e =
+        let end = e setting (contents (inner_of w0)) h.given h.stands in
+        record {
+          first = end.0;
+          state = end.3.state;
+          answers = at_end none end.0 end.1 end.2;
+          wrote = end.3.wrote;
+          leaves = left_at_end none end.0 end.3.state t.runner.container end.1 end.3.tries;
+        }
+
+    pub ends_in_write : n ≡ 0 → EndsPart contents s t w w'
+        → FailsToWriteTo remaining contents limit piece setting r0 r' w0 w' t.runner.container
+    ends_in_write none e =
+        let end = e setting (contents (inner_of w0)) h.given h.stands in
+        record {
+          first = end.0;
+          state = end.3.state;
+          answers = at_end none end.0 end.1 end.2;
+          wrote = end.3.wrote;
+          leaves = left_at_end none end.0 end.3.state t.runner.container end.1 end.3.tries;
+        }
+
+    module _ (room : length buffer ≤ piece) where
+      -- these commands were answered, all that were complete before among them, and none that the last bytes do not complete
+      answered : (first : List Command) → AreFirst (complete_commands h.given) first
+          → AreFirst first (complete_commands (h.given ++ take n buffer)) → AnswersFirst remaining limit piece r0 r' first
+      answered first before within = record {
+        given = h.given;
+        last = take n buffer;
+        came = came;
+        count = count;
+        within = let a = count in let b = g.within in omega arith;
+        last_read = let b = g.bound in omega (arith, length-take n buffer);
+        all_before = before;
+        none_behind = inl within;
+      }
+
+      -- what a front part of the last bytes completed was answered
+      answered_so_far : (done rest : List ℕ) → take n buffer ≡ done ++ rest
+          → AnswersFirst remaining limit piece r0 r' (complete_commands (h.given ++ done))
+      answered_so_far done rest cut = answered (complete_commands (h.given ++ done)) (first_complete h.given done)
+          (subst (λ l. AreFirst (complete_commands (h.given ++ done)) (complete_commands l))
+          (append_assoc h.given done rest ∙ ap (λ l. h.given ++ l) (sym cut)) (first_complete (h.given ++ done) rest))
+
+      -- and at most one more was carried out
+      left_so_far : (done : List ℕ) (state left : State)
+          → Tries (complete_commands (h.given ++ done)) (complete_commands (h.given ++ take n buffer)) state left
+          → Leaves remaining limit piece r0 r' (complete_commands (h.given ++ done)) state left
+      left_so_far done state left (inl e) = inl e
+      left_so_far done state left (inr t) = inr (
+        t.0,
+        answered (complete_commands (h.given ++ done) ++ t.0.command ∷ [])
+            (first_of_first (complete_commands h.given) (complete_commands (h.given ++ done)) _ (first_complete h.given done)
+            (t.0.command ∷ [], refl)) t.1,
+        t.2,
+      )
+
+      pub feeds_to_memory : FeedsBeforeMemory contents s t w w' (take n buffer)
+          → RunsOutOfMemoryTo remaining contents limit piece setting r0 r' w0 w' t.runner.container
+      feeds_to_memory e =
+          let but = e.3 setting (contents (inner_of w0)) h.given h.stands in
+          record {
+            first = complete_commands (h.given ++ e.0);
+            state = but.state;
+            answers = answered_so_far e.0 e.1 e.2;
+            wrote = but.wrote;
+            leaves = left_so_far e.0 but.state t.runner.container but.tries;
+          }
+
+      pub feeds_to_write : FeedsPart contents s t w w' (take n buffer)
+          → FailsToWriteTo remaining contents limit piece setting r0 r' w0 w' t.runner.container
+      feeds_to_write e =
+          let but = e.3 setting (contents (inner_of w0)) h.given h.stands in
+          record {
+            first = complete_commands (h.given ++ e.0);
+            state = but.state;
+            answers = answered_so_far e.0 e.1 e.2;
+            wrote = but.wrote;
+            leaves = left_so_far e.0 but.state t.runner.container but.tries;
+          }
+
+  -- want of memory before anything was read
+  pub out_of_memory_first : bytes_of r0 ≡ 0 → RunsOutOfMemoryTo remaining contents limit piece setting r0 r0 w0 w0 setting.begun
+  out_of_memory_first none = record {
+    first = [];
+    state = setting.begun;
+    answers = record {
+      given = [];
+      last = [];
+      came = Consumes-none _;
+      count = none;
+      within = omega arith;
+      last_read = omega arith;
+      all_before = ([], refl);
+      none_behind = inl ([], refl);
+    };
+    wrote = wrote_nothing setting _;
+    leaves = inl refl;
+  }

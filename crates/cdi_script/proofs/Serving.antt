@@ -1,0 +1,137 @@
+-- What is kept of a line or a put block does what all of it would do.
+use Rattle.std.proofs.Common.{◌≡◌, ℕ, ◌+◌, ◌<◌, ◌≤◌, List, [], ◌∷◌, ◌++◌, length, refl, ap, sym, ◌∙◌, subst, Some, None, false, inl, inr}
+use Rattle.std.proofs.Common.{append_assoc, arith}
+use Rattle.std.proofs.Math.Bool.{and-false}
+use Rattle.std.specs.Prelude.{◌==◌, codes, Result, Ok, Err}
+use Rattle.std.specs.Str.{bytes_eq}
+use Rattle.std.proofs.lemmas.List.{append-nil, length-append}
+use Rattle.std.proofs.lemmas.Bool.{lt-ltb}
+use Rattle.cdi_model.specs.Bytes.{dot, feed}
+use Rattle.cdi_model.specs.declared.refusal.Refusal.TheVariants.{TooLong}
+use Rattle.cdi_text.specs.Reading.{decl_of}
+use Rattle.cdi_lines.specs.Words.{without_return}
+use Rattle.cdi_lines.specs.Command.{said_of_line}
+use Rattle.cdi_lines.specs.Kept.{ServesLine, ServesText, with_line}
+use Rattle.cdi_lines.proofs.LongLemmas.{length-without_return}
+use Rattle.cdi_lines.specs.declared.command.Command.TheVariants.{Put}
+use Rattle.cdi_script.specs.Commands.{Mode, Outside, InPut, is_dot}
+use Rattle.std.specs.declared.alloc.AllocError.{AllocError}
+use Rattle.cdi_container.specs.declared.answer.Answer.{Answer}
+use Rattle.cdi_container.specs.declared.answer.Answer.TheVariants.{Done, Chosen, Intercepted, Observed, Reported, Given, Refused}
+use Rattle.cdi_container.specs.History.{State, LegalAnswer, refusal_of, refusal_of_put}
+use Rattle.cdi_script.specs.Runner.{RunnerOn, RunsStep}
+use Rattle.cdi_script.specs.Intake.{ServesMode}
+
+pub serves_outside : (mode : Mode) → ServesMode Outside mode → mode ≡ Outside
+serves_outside Outside h = refl
+serves_outside (InPut text) h = absurd h
+
+pub serves_in_put : (kept : List ℕ) (mode : Mode) → ServesMode (InPut kept) mode
+    → (text : List ℕ) × (mode ≡ InPut text) × ServesText kept text
+serves_in_put kept Outside h = absurd h
+serves_in_put kept (InPut text) h = (text, refl, h)
+
+pub serves_mode_itself : (mode : Mode) → ServesMode mode mode
+serves_mode_itself Outside = tt
+serves_mode_itself (InPut text) = inl refl
+
+pub serves_command : (kept line : List ℕ) → ServesLine kept line → said_of_line kept ≡ said_of_line line
+serves_command kept line (inl h) = ap said_of_line h
+serves_command kept line (inr h) = ap said_of_line (sym (append-nil kept)) ∙ h.alike [] ∙ ap said_of_line (append-nil line)
+
+long_no_dot : (t : List ℕ) → 1 < length t → bytes_eq t (codes ".") ≡ false
+long_no_dot [] h = absurd (omega arith)
+long_no_dot (b ∷ []) h = absurd (omega arith)
+long_no_dot (b ∷ c ∷ bs) h = and-false (b == dot)
+
+pub serves_dot : (kept line : List ℕ) → ServesLine kept line → is_dot kept ≡ is_dot line
+serves_dot kept line (inl h) = ap is_dot h
+serves_dot kept line (inr h) =
+    long_no_dot (without_return kept) (let a = length-without_return kept in let b = h.kept_long in omega arith)
+    ∙ sym (long_no_dot (without_return line) (let a = length-without_return line in let b = h.line_long in omega arith))
+
+too_long : (state : State) (text : List ℕ) → 65536 < length text → refusal_of state (Put text) ≡ Some TooLong
+too_long state text long =
+    let refused : decl_of text ≡ Err TooLong = rw (lt-ltb 65536 (length text) long) refl in
+    ap (refusal_of_put state.decls) refused
+
+-- two texts that are too long are refused alike
+pub put_alike : (old new : State) (kept text : List ℕ) (answer : Result Answer AllocError) → 65536 < length kept
+    → 65536 < length text
+    → LegalAnswer old (Put kept) answer new → LegalAnswer old (Put text) answer new
+put_alike old new kept text (Ok Done) k t h = absurd (let e : Some TooLong ≡ None = sym (too_long old kept k) ∙ h.0 in cc)
+put_alike old new kept text (Ok (Chosen choice)) k t h = absurd (let e : Some TooLong ≡ None = sym (too_long old kept k) ∙ h.0 in cc)
+put_alike old new kept text (Ok (Intercepted names)) k t h = absurd
+    (let e : Some TooLong ≡ None = sym (too_long old kept k) ∙ h.0 in cc)
+put_alike old new kept text (Ok (Observed ids)) k t h = absurd (let e : Some TooLong ≡ None = sym (too_long old kept k) ∙ h.0 in cc)
+put_alike old new kept text (Ok (Reported list)) k t h = absurd (let e : Some TooLong ≡ None = sym (too_long old kept k) ∙ h.0 in cc)
+put_alike old new kept text (Ok (Given outcome)) k t h = absurd (let e : Some TooLong ≡ None = sym (too_long old kept k) ∙ h.0 in cc)
+put_alike old new kept text (Ok (Refused refusal)) k t h = (too_long old text t ∙ sym (too_long old kept k) ∙ h.0, h.1)
+put_alike old new kept text (Err error) k t h = h
+
+pub serves_put : (old new : RunnerOn) (kept text : List ℕ) → ServesText kept text → RunsStep old new (Put kept)
+    → RunsStep old new (Put text)
+serves_put old new kept text (inl h) r = subst (λ t. RunsStep old new (Put t)) h r
+serves_put old new kept text (inr h) r = record {
+  step = record r.step { command = Put text };
+  command_is = refl;
+  memory = r.memory;
+  legal = record {
+    answered = put_alike old.container new.container kept text r.step.answer h.0 h.1
+        (subst (λ c. LegalAnswer old.container c r.step.answer new.container) r.command_is r.legal.answered);
+    trace = r.legal.trace;
+    names = r.legal.names;
+  };
+  text = r.text;
+  refused = r.refused;
+  quiet = r.quiet;
+}
+
+longer : (text line : List ℕ) → 65536 < length line + 1 → 65536 < length (text ++ line ++ feed ∷ [])
+longer text line h = let a = length-append (text ++ line) (feed ∷ []) in let b = length-append text line in omega arith
+
+still_longer : (text line end : List ℕ) → 65536 < length text → 65536 < length (text ++ line ++ end)
+still_longer text line end h = let a = length-append (text ++ line) end in let b = length-append text line in omega arith
+
+-- a line more on both sides
+pub serves_with_line : (kept_text text kept line : List ℕ) → ServesText kept_text text → ServesLine kept line
+    → ServesText (with_line kept_text kept) (with_line text line)
+serves_with_line kept_text text kept line (inl h) (inl k) = inl (let e : with_line kept_text kept ≡ with_line text line = cc in e)
+serves_with_line kept_text text kept line (inl h) (inr k) = inr (
+  longer kept_text (without_return kept) (let a = length-without_return kept in let b = k.kept_long in omega arith),
+  longer text (without_return line) (let a = length-without_return line in let b = k.line_long in omega arith),
+)
+serves_with_line kept_text text kept line (inr h) k = inr (still_longer kept_text _ _ h.0, still_longer text _ _ h.1)
+
+-- what serves for what serves
+pub serves_serving_text : (a b c : List ℕ) → ServesText a b → ServesText b c → ServesText a c
+serves_serving_text a b c h (inl k) = subst (ServesText a) k h
+serves_serving_text a b c (inl h) (inr k) = inr (subst (λ l. 65536 < length l) (sym h) k.0, k.1)
+serves_serving_text a b c (inr h) (inr k) = inr (h.0, k.1)
+
+pub serves_more : (kept line piece : List ℕ) → ServesLine kept line → ServesLine (kept ++ piece) (line ++ piece)
+serves_more kept line piece (inl h) = inl (ap (λ l. l ++ piece) h)
+serves_more kept line piece (inr h) = inr (record {
+  kept_long = let a = length-append kept piece in let b = h.kept_long in omega arith;
+  line_long = let a = length-append line piece in let b = h.line_long in omega arith;
+  alike = λ more. ap said_of_line (append_assoc kept piece more) ∙ h.alike (piece ++ more)
+      ∙ ap said_of_line (sym (append_assoc line piece more));
+})
+
+pub serves_serving : (a b c : List ℕ) → ServesLine a b → ServesLine b c → ServesLine a c
+serves_serving a b c h (inl k) = subst (ServesLine a) k h
+serves_serving a b c (inl h) (inr k) = subst (λ l. ServesLine l c) (sym h) (inr k)
+serves_serving a b c (inr h) (inr k) = inr
+    (record { kept_long = h.kept_long; line_long = k.line_long; alike = λ more. h.alike more ∙ k.alike more })
+
+pub serves_itself : (line : List ℕ) → ServesLine line line
+serves_itself line = inl refl
+
+pub serves_nothing : (line : List ℕ) → ServesLine [] line → line ≡ []
+serves_nothing line (inl h) = sym h
+serves_nothing line (inr h) = let b = h.kept_long in absurd (omega arith)
+
+pub serves_started : (kept line : List ℕ) → ServesLine kept line → (kept ≡ [] → ⊥) → line ≡ [] → ⊥
+serves_started kept line (inl h) some none = some (h ∙ none)
+serves_started kept line (inr h) some none = let b : 65540 ≤ length line = h.line_long in let z : length line
+    ≡ 0 = ap length none in omega arith

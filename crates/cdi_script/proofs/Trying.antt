@@ -1,0 +1,64 @@
+-- What was carried out where memory was wanted.
+use Rattle.std.proofs.Common.{◌≡◌, ℕ, List, [], ◌∷◌, ◌++◌, refl, ap, sym, ◌∙◌, subst, inl, inr, append_assoc}
+use Rattle.std.specs.Prelude.{Result, Ok, Err, OnErr}
+use Rattle.std.specs.declared.alloc.AllocError.{AllocError}
+use Rattle.cdi_staging.specs.Naming.{names_of}
+use Rattle.cdi_lines.specs.declared.command.Command.{Command}
+use Rattle.cdi_lines.specs.declared.command.Command.TheVariants.{Put}
+use Rattle.cdi_lines.specs.Kept.{ServesText}
+use Rattle.cdi_container.specs.declared.answer.Answer.{Answer}
+use Rattle.cdi_script.specs.Commands.{AreFirst}
+use Rattle.cdi_container.specs.History.{State, LegalAnswer, trace_behind}
+use Rattle.cdi_container.specs.Seen.{IsStep}
+use Rattle.cdi_script.specs.Runner.{Tries}
+use Rattle.cdi_script.proofs.Serving.{put_alike}
+
+-- a fact that holds anyway
+pub holds_on_err : {T E P : Type 0} (r : Result T E) → P → OnErr r P
+holds_on_err (Ok value) p = tt
+holds_on_err (Err error) p = p
+
+-- the first of the first ones
+pub first_of_first : (a b c : List Command) → AreFirst a b → AreFirst b c → AreFirst a c
+first_of_first a b c m n = (m.0 ++ n.0, n.1 ∙ ap (λ l. l ++ n.0) m.1 ∙ append_assoc a m.0 n.0)
+
+-- of more commands
+pub tries_among : (first all more : List Command) (old new : State) → AreFirst all more → Tries first all old new
+    → Tries first more old new
+tries_among first all more old new m (inl e) = inl e
+tries_among first all more old new m (inr t) = inr (t.0, first_of_first (first ++ t.0.command ∷ []) all more t.1 m, t.2)
+
+-- the first of what comes after some commands
+pub tries_behind : (front ds : List Command) (old new : State) → Tries [] ds old new → Tries front (front ++ ds) old new
+tries_behind front ds old new (inl e) = inl e
+tries_behind front ds old new (inr t) = inr (
+  t.0,
+  (t.1.0, ap (λ l. front ++ l) t.1.1 ∙ sym (append_assoc front (t.0.command ∷ []) t.1.0)),
+  t.2,
+)
+
+-- a call of the container
+pub tried_step : (old new : State) (command : Command) (answer : Result Answer AllocError) → IsStep old command answer new
+    → Tries [] (command ∷ []) old new
+tried_step old new command answer h = inr (
+  record { command = command; answer = answer; trace = trace_behind answer new; names = names_of old.decls },
+  ([], refl),
+  record { answered = h; trace = refl; names = refl },
+)
+
+-- what is kept of a put block serves for all of it
+pub tried_put : (old new : State) (kept text : List ℕ) → ServesText kept text → Tries [] (Put kept ∷ []) old new
+    → Tries [] (Put text ∷ []) old new
+tried_put old new kept text h (inl e) = inl e
+tried_put old new kept text (inl h) (inr t) = subst (λ k. Tries [] (Put k ∷ []) old new) h (inr t)
+tried_put old new kept text (inr h) (inr t) = inr (
+  record t.0 { command = Put text },
+  ([], refl),
+  record {
+    answered = put_alike old new kept text t.0.answer h.0 h.1
+        (let k = t.1.1 in let head : t.0.command ≡ Put kept = cc in
+        subst (λ c. LegalAnswer old c t.0.answer new) head t.2.answered);
+    trace = t.2.trace;
+    names = t.2.names;
+  },
+)

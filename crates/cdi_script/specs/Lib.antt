@@ -1,0 +1,11 @@
+pub mod Commands
+pub mod Text
+pub mod Runner
+pub mod Intake
+pub mod Run
+pub use Rattle.cdi_model.specs.Bytes
+pub use Rattle.cdi_lines.specs.Lines
+pub use Rattle.cdi_lines.specs.Words
+pub use Rattle.cdi_lines.specs.Command
+pub use Rattle.cdi_devices.specs.Console
+pub use Rattle.cdi_devices.specs.Counted

@@ -1,0 +1,11 @@
+//! The run of a script: the commands that its bytes spell, carried out on a container one after another, and what they print.
+#![tactic(auto)]
+
+mod intake;
+mod runner;
+mod script;
+
+pub use cdi_bodies::{Bodies, Book, PromiseBook};
+pub use cdi_container::Container;
+pub use cdi_devices::{Console, Counted, RunFault, SCRIPT_LIMIT};
+pub use script::{Options, READ_BYTES, Summary, run, run_on};
