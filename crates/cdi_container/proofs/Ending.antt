@@ -1,8 +1,6 @@
 -- Where no instance is live, the end of a request and a stop are legal with no entry.
 use Rattle.std.proofs.Common.{◌≡◌, List, [], true, None, refl, sym, subst}
-use Rattle.cdi_model.specs.Edits.{edited}
 use Rattle.cdi_model.specs.declared.decl.Decl.{Decl}
-use Rattle.cdi_model.specs.declared.edit.Edit.{Edit}
 use Rattle.cdi_bodies.specs.Book.{Promised}
 use Rattle.cdi_contexts.specs.Standing.{closed}
 use Rattle.cdi_legal.specs.Moment.{Moment, beginning}
@@ -11,7 +9,7 @@ use Rattle.cdi_staging.specs.Naming.{names_of}
 use Rattle.cdi_staging.specs.declared.names.Names.{Names}
 use Rattle.cdi_trace.specs.TraceText.{text_of_entries}
 use Rattle.cdi_container.specs.declared.answer.Answer.TheVariants.{Done}
-use Rattle.cdi_container.specs.History.{State, EditsFrom, EndsRequest, EndsContexts, refusal_of_end, scene}
+use Rattle.cdi_container.specs.History.{State, EndsRequest, EndsContexts, refusal_of_end, scene}
 
 -- the state where a run stands so, and its trace is told by these names
 abbrev pub standing_at : List Decl → List Promised → Names → Moment → State
@@ -50,17 +48,3 @@ pub has_request : (ds : List Decl) (book : List Promised) (names : Names) (old :
 has_request ds book names old m is active =
     let here : refusal_of_end m.standing ≡ None = rw active refl in
     subst (λ s. refusal_of_end s.standing ≡ None) is here
-
--- and so is an edit
-pub edits_nothing : (ds : List Decl) (book : List Promised) (names : Names) (old : State) (edit : Edit) (m n : Moment)
-    → standing_at ds book names m ≡ old → m.standing.live ≡ [] → IsClosed m n
-    → EditsFrom old edit (standing_at (edited ds edit) book (names_of (edited ds edit)) n)
-edits_nothing ds book names old edit m n is none shut =
-    subst (λ s. EditsFrom s edit (standing_at (edited ds edit) book (names_of (edited ds edit)) n)) is
-    (subst (λ x. EditsFrom (standing_at ds book names m) edit (standing_at (edited ds edit) book (names_of (edited ds edit)) x)) (sym shut)
-    (record {
-      stopped = standing_at ds book (names_of ds) (record (beginning m.standing) { standing = closed m.standing });
-      ends = ends_nothing ds book names (standing_at ds book names m) m (record (beginning m.standing) { standing = closed m.standing })
-          refl none refl;
-      rest = refl;
-    }))

@@ -159,7 +159,7 @@ impl<B: Bodies> Container<B> {
         self.edit(Edit::Remove(kind, name))
     }
 
-    /// An edit, with the end of both contexts before it. Where no scene is there, nothing lives.
+    /// An edit. It is staged, which may be refused or run out of memory; both contexts end; and it is committed.
     fn edit(&mut self, edit: Edit) -> Result<(), Error>
         requires { IsShortEdit edit }
         ensures answer { Answers result (answer_of_edit self.old.decls edit) }
@@ -167,45 +167,10 @@ impl<B: Bodies> Container<B> {
         ensures nothing { OnOk result (self.new.standing.live ≡ []) }
         ensures err { IfErr result (λ error. self.new ≡ left_by error self.old) }
     {
-        if self.deployment.is_wired() {
-            self.edit_behind_ends(edit)
-        } else {
-            self.edit_in_place(edit)
-        }
-    }
-
-    /// An edit where nothing lives. It takes memory for what is put alone.
-    fn edit_in_place(&mut self, edit: Edit) -> Result<(), Error>
-        requires short { IsShortEdit edit }
-        requires nothing { self.old.standing.live ≡ [] }
-        ensures answer { Answers result (answer_of_edit self.old.decls edit) }
-        ensures ok { OnOk result (EditsFrom self.old edit self.new) }
-        ensures nothing { OnOk result (self.new.standing.live ≡ []) }
-        ensures err { IfErr result (λ error. self.new ≡ left_by error self.old) }
-    {
-        match self.deployment.apply(edit) {
-            Ok(()) => {
-                self.run.restart();
-                self.run.close();
-                self.told = None;
-                Ok(())
-            }
-            Err(error) => Err(self.leave(error)),
-        }
-    }
-
-    /// An edit of a list of its own, which takes the place of the declarations once both contexts have ended.
-    fn edit_behind_ends(&mut self, edit: Edit) -> Result<(), Error>
-        requires { IsShortEdit edit }
-        ensures answer { Answers result (answer_of_edit self.old.decls edit) }
-        ensures ok { OnOk result (EditsFrom self.old edit self.new) }
-        ensures nothing { OnOk result (self.new.standing.live ≡ []) }
-        ensures err { IfErr result (λ error. self.new ≡ left_by error self.old) }
-    {
-        match self.deployment.edited(edit) {
+        match self.deployment.stage(edit) {
             Ok(next) => {
                 self.stop()?;
-                let names = self.deployment.replace(next);
+                let names = self.deployment.commit(next);
                 let before = self.told.take();
                 self.told = names.or(before);
                 Ok(())

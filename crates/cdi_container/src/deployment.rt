@@ -98,9 +98,9 @@ impl<B: Bodies> Deployment<B> {
         Ok(Beans::new(beans(alloc, &self.decls)?))
     }
 
-    /// The declarations after an edit. It takes memory for a list of them.
+    /// The declarations after an edit, which are to be committed. It takes memory for what is put, and for a copy of the list.
     #[tactic(auto, using(crate::proofs::Editing::edit_short))]
-    pub(crate) fn edited(&self, edit: Edit) -> Result<Decls, Error>
+    pub(crate) fn stage(&self, edit: Edit) -> Result<Decls, Error>
         requires { IsShortEdit edit }
         ensures accepted { OnOk result (answer_of_edit self.now.decls edit ≡ Ok tt) }
         ensures refused { IfErr result (λ error. Answers (Err error) (answer_of_edit self.now.decls edit)) }
@@ -112,28 +112,9 @@ impl<B: Bodies> Deployment<B> {
         Ok(next)
     }
 
-    /// Makes an edit in place, after which the scene is not there. It takes memory for what is put alone.
-    #[tactic(auto, using(crate::proofs::Editing::edit_short))]
-    pub(crate) fn apply(&mut self, edit: Edit) -> Result<(), Error>
-        requires { IsShortEdit edit }
-        ensures answer { Answers result (answer_of_edit self.old.decls edit) }
-        ensures ok { OnOk result (self.new ≡ record self.old { decls = edited self.old.decls edit; is_wired = false }) }
-        ensures err { OnErr result (self.new ≡ self.old) }
-    {
-        match self.decls.apply(edit) {
-            Ok(()) => {
-                self.beans = None;
-                self.wiring = None;
-                self.last_events.clear();
-                Ok(())
-            }
-            Err(error) => Err(error),
-        }
-    }
-
-    /// These declarations are present from now on; the names of those from before, where the scene was there. It takes no
+    /// These declarations are present from now on. The names of those from before, where the scene was there. It takes no
     /// memory.
-    pub(crate) fn replace(&mut self, next: Decls) -> Option<Names>
+    pub(crate) fn commit(&mut self, next: Decls) -> Option<Names>
         requires { AreShort next }
         ensures names { result ≡ names_if self.old }
         ensures new { self.new ≡ record self.old { decls = next; is_wired = false } }
