@@ -1,46 +1,60 @@
--- A put of the declaration that a text spells is a put of that text.
-use Rattle.std.proofs.Common.{◌≡◌, ℕ, List, Option, None, Some, refl, ◌∙◌}
+-- A put of the declaration that a text spells is a put of that text, and what is made of a batch is that batch.
+use Rattle.std.proofs.Common.{◌≡◌, ℕ, List, Option, None, Some, refl, ap, ◌∙◌}
 use Rattle.std.specs.Prelude.{Result, Ok, Err, OnOk, IfErr}
 use Rattle.cdi_model.specs.declared.decl.Decl.{Decl}
 use Rattle.cdi_model.specs.declared.refusal.Error.{Error}
 use Rattle.cdi_model.specs.declared.refusal.Error.TheVariants as errors
 use Rattle.cdi_model.specs.declared.refusal.Refusal.{Refusal}
-use Rattle.cdi_model.specs.declared.edit.Edit.{Edit}
-use Rattle.cdi_model.specs.declared.edit.Edit.TheVariants.{Put as PutEdit}
+use Rattle.cdi_model.specs.declared.edit.Edit.{Edit as Change}
 use Rattle.cdi_model.specs.Edits.{refusal_of_edit, answer_of_edit}
 use Rattle.cdi_model.specs.Answering.{Answers}
 use Rattle.cdi_text.specs.Reading.{decl_of}
-use Rattle.cdi_container.specs.History.{State, PutsFrom, refusal_of_put, left_by}
-use Rattle.cdi_container.specs.Seen.{PutStep, answer_of_put}
+use Rattle.cdi_lines.specs.declared.edit.Edit.{Edit}
+use Rattle.cdi_container.specs.Editing.{alone, changes_in, changes_of_all, put_of, refusal_of_batch, refusal_of_change}
+use Rattle.cdi_container.specs.History.{State, EditsFrom, left_by}
+use Rattle.cdi_container.specs.Seen.{PutStep, BatchStep, AnswersBatch, answer_of_change, left_by_batch}
+use Rattle.cdi_container.specs.declared.batch.BatchError.{BatchError}
+use Rattle.cdi_container.specs.declared.batch.BatchError.TheVariants as batch_errors
 
--- an edit that is accepted has no refusal
-accepted : (ds : List Decl) (edit : Edit) (u : Unit {0}) → answer_of_edit ds edit ≡ Ok u → refusal_of_edit ds edit ≡ None
-accepted ds edit u h = by (refusal_of_edit ds edit) refl
+-- a change that is accepted has no refusal
+accepted : (ds : List Decl) (change : Change) (u : Unit {0}) → answer_of_edit ds change ≡ Ok u → refusal_of_edit ds change ≡ None
+accepted ds change u h = by (refusal_of_edit ds change) refl
   where
-    by : (o : Option Refusal) → refusal_of_edit ds edit ≡ o → refusal_of_edit ds edit ≡ None
+    by : (o : Option Refusal) → refusal_of_edit ds change ≡ o → refusal_of_edit ds change ≡ None
     by None e = e
     by (Some r) e = absurd (let no : Err r ≡ Ok u = rw e at h in cc)
 
--- the refusal of an edit that is refused
-refused : (ds : List Decl) (edit : Edit) (r : Refusal) → answer_of_edit ds edit ≡ Err r → refusal_of_edit ds edit ≡ Some r
-refused ds edit r h = by (refusal_of_edit ds edit) refl
+-- the refusal of a change that is refused
+refused : (ds : List Decl) (change : Change) (r : Refusal) → answer_of_edit ds change ≡ Err r → refusal_of_edit ds change ≡ Some r
+refused ds change r h = by (refusal_of_edit ds change) refl
   where
-    by : (o : Option Refusal) → refusal_of_edit ds edit ≡ o → refusal_of_edit ds edit ≡ Some r
+    by : (o : Option Refusal) → refusal_of_edit ds change ≡ o → refusal_of_edit ds change ≡ Some r
     by None e = absurd (let no : Ok tt ≡ Err r = rw e at h in cc)
     by (Some s) e = e ∙ (let same : Err s ≡ Err r = rw e at h in cc)
 
--- the same of a put of what was read
-accepted_put : (ds : List Decl) (read : Result Decl Refusal) (u : Unit {0}) → answer_of_put ds read ≡ Ok u → refusal_of_put ds read ≡ None
-accepted_put ds (Ok d) u h = accepted ds (PutEdit d) u h
-accepted_put ds (Err r) u h = cc
+-- the same of what asks for a change, or for none
+pub accepted_change : (ds : List Decl) (asked : Result Change Refusal) (u : Unit {0}) → answer_of_change ds asked ≡ Ok u
+    → refusal_of_change ds asked ≡ None
+accepted_change ds (Ok change) u h = accepted ds change u h
+accepted_change ds (Err r) u h = cc
 
-refused_put : (ds : List Decl) (read : Result Decl Refusal) (r : Refusal) → answer_of_put ds read ≡ Err r → refusal_of_put ds read ≡ Some r
-refused_put ds (Ok d) r h = refused ds (PutEdit d) r h
-refused_put ds (Err s) r h = cc
+pub refused_change : (ds : List Decl) (asked : Result Change Refusal) (r : Refusal) → answer_of_change ds asked ≡ Err r
+    → refusal_of_change ds asked ≡ Some r
+refused_change ds (Ok change) r h = refused ds change r h
+refused_change ds (Err s) r h = cc
 
 pub put_step : (old new : State) (text : List ℕ) (result : Result (Unit {0}) Error)
-    → Answers result (answer_of_put old.decls (decl_of text)) → OnOk result (PutsFrom old (decl_of text) new)
+    → Answers result (answer_of_change old.decls (put_of (decl_of text)))
+    → OnOk result (EditsFrom old (changes_in (put_of (decl_of text))) new)
     → IfErr result (λ error. new ≡ left_by error old) → PutStep old text result new
-put_step old new text (Ok u) answer ok err = (accepted_put old.decls (decl_of text) u answer, (refl, ok))
+put_step old new text (Ok u) answer ok err = (ap alone (accepted_change old.decls (put_of (decl_of text)) u answer), (refl, ok))
 put_step old new text (Err errors.OutOfMemory) answer ok err = err
-put_step old new text (Err (errors.Refused r)) answer ok err = (refused_put old.decls (decl_of text) r answer, err)
+put_step old new text (Err (errors.Refused r)) answer ok err = (ap alone (refused_change old.decls (put_of (decl_of text)) r answer), err)
+
+pub batch_step : (old new : State) (edits : List Edit) (result : Result (Unit {0}) BatchError)
+    → AnswersBatch result (refusal_of_batch old.decls edits)
+    → OnOk result (EditsFrom old (changes_of_all edits) new)
+    → IfErr result (λ error. new ≡ left_by_batch error old) → BatchStep old edits result new
+batch_step old new edits (Ok u) answer ok err = (answer, (refl, ok))
+batch_step old new edits (Err batch_errors.OutOfMemory) answer ok err = err
+batch_step old new edits (Err (batch_errors.Refused refusal edit)) answer ok err = (answer, err)

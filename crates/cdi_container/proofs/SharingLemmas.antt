@@ -2,13 +2,10 @@
 use Rattle.std.proofs.Common.{◌≡◌, List, [], ◌∷◌, refl, ap, sym, ◌∙◌, subst, Bool, true, false, arith}
 use Rattle.std.specs.Prelude.{Result, Ok, Err, if◌then◌else◌}
 use Rattle.std.specs.declared.alloc.AllocError.{AllocError}
-use Rattle.cdi_model.specs.declared.decl.Decl.{Decl}
-use Rattle.cdi_model.specs.declared.edit.Edit.{Edit}
-use Rattle.cdi_model.specs.declared.edit.Edit.TheVariants.{Put as PutEdit, Remove as RemoveEdit}
+use Rattle.cdi_model.specs.declared.edit.Edit.{Edit as Change}
 use Rattle.cdi_model.specs.declared.refusal.Refusal.{Refusal}
 use Rattle.cdi_contexts.specs.Rising.{IsRising}
 use Rattle.cdi_contexts.specs.declared.instance.Instance.{Instance}
-use Rattle.cdi_text.specs.Reading.{decl_of}
 use Rattle.cdi_scene.specs.declared.scene.Scene.{Scene}
 use Rattle.cdi_legal.specs.LegalRun.{Command as Run}
 use Rattle.cdi_legal.specs.Rooted.{IsRooted}
@@ -17,14 +14,15 @@ use Rattle.cdi_legal.proofs.Commands.{run_single, request_end_single, end_single
 use Rattle.cdi_legal.proofs.Housing.{run_rises, run_rooted, request_end_rises, request_end_rooted, end_rises, end_rooted}
 use Rattle.cdi_legal.proofs.Housing.{both_ends_leave_nothing}
 use Rattle.cdi_lines.specs.declared.command.Command.{Command}
-use Rattle.cdi_lines.specs.declared.command.Command.TheVariants.{Put, Remove, Choose, Named, Chain, Observers, Report, LookUp, Call, Fire}
+use Rattle.cdi_lines.specs.declared.command.Command.TheVariants.{Edit, Batch, Choose, Named, Chain, Observers, Report, LookUp, Call, Fire}
 use Rattle.cdi_lines.specs.declared.command.Command.TheVariants.{BeginRequest, EndRequest}
 use Rattle.cdi_lines.specs.declared.command.Command.TheVariants.{Stop, Unreadable}
 use Rattle.cdi_container.specs.declared.answer.Answer.{Answer}
 use Rattle.cdi_container.specs.declared.answer.Answer.TheVariants.{Done, Chosen, Intercepted, Observed, Reported, Given, Refused}
-use Rattle.cdi_container.specs.History.{State, empty, emptied, untold, scene, Acts, EditsFrom, EndsContexts, IsRunFrom, PutsFrom, RunsFrom}
+use Rattle.cdi_container.specs.History.{State, empty, emptied, untold, scene, Acts, EditsFrom, EndsContexts, IsRunFrom, RunsFrom}
 use Rattle.cdi_container.specs.History.{LegalAnswer, History, LegalHistory, runs}
 use Rattle.cdi_container.specs.History.{SharesInstances}
+use Rattle.cdi_container.specs.Editing.{changes_of, changes_of_all}
 
 -- what holds of a state: at most one instance of each bean with a normal scope is live, numbers rise along the live instances, and
 -- each stands in a context or was made for a point of a live one
@@ -63,15 +61,11 @@ stop_holds old new answer h q =
     behind old new h.rest (end_single h.legal q.single) (end_rises h.legal q.rises q.rooted, end_rooted h.legal q.rises q.rooted)
 
 -- nothing is live behind an edit
-edit_holds : (old new : State) (edit : Edit) → EditsFrom old edit new → Holds old → Holds new
-edit_holds old new edit h q =
+edit_holds : (old new : State) (changes : List Change) → EditsFrom old changes new → Holds old → Holds new
+edit_holds old new changes h q =
     nothing_holds new
     (ap (λ (s : State). s.standing.live) h.rest
     ∙ both_ends_leave_nothing (scene old) old.standing h.stopped.trace h.stopped.standing q.rises q.rooted h.ends.legal)
-
-put_holds : (old new : State) (read : Result Decl Refusal) → PutsFrom old read new → Holds old → Holds new
-put_holds old new (Ok d) h q = edit_holds old new (PutEdit d) h q
-put_holds old new (Err refusal) h q = absurd h
 
 -- the same but for the trace
 untold_holds : (old new : State) → new ≡ untold old → Holds old → Holds new
@@ -79,8 +73,8 @@ untold_holds old new h q =
     subst Holds (sym h) (record { single = q.single; rises = q.rises; rooted = q.rooted })
 
 acts_hold : (old new : State) (command : Command) (answer : Answer) → Acts old command answer new → Holds old → Holds new
-acts_hold old new (Put text) answer h q = put_holds old new (decl_of text) h.1 q
-acts_hold old new (Remove kind name) answer h q = edit_holds old new (RemoveEdit kind name) h.1 q
+acts_hold old new (Edit edit) answer h q = edit_holds old new (changes_of edit) h.1 q
+acts_hold old new (Batch edits) answer h q = edit_holds old new (changes_of_all edits) h.1 q
 acts_hold old new (Choose t quals) answer h q = untold_holds old new h.1 q
 acts_hold old new (Named name) answer h q = untold_holds old new h.1 q
 acts_hold old new (Chain bean place) answer h q = untold_holds old new h.rest q
@@ -109,7 +103,7 @@ step_holds old new command (Ok (Intercepted names)) h q = acts_hold old new comm
 step_holds old new command (Ok (Observed ids)) h q = acts_hold old new command (Observed ids) h.1 q
 step_holds old new command (Ok (Reported list)) h q = acts_hold old new command (Reported list) h.1 q
 step_holds old new command (Ok (Given outcome)) h q = acts_hold old new command (Given outcome) h.1 q
-step_holds old new command (Ok (Refused refusal)) h q = untold_holds old new h.1 q
+step_holds old new command (Ok (Refused refusal edit)) h q = untold_holds old new h.1 q
 step_holds old new command (Err error) h q = subst Holds (sym h) (unserved_holds old (runs command) q)
 
 history_holds : (old new : State) (history : History) → LegalHistory old history new → Holds old → Holds new

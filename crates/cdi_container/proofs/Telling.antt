@@ -1,19 +1,16 @@
 -- The entries of a command are told by the names of the declarations before it.
 use Rattle.std.proofs.Common.{◌≡◌, [], ◌++◌, refl, subst, sym, ap, ◌∙◌}
-use Rattle.std.specs.Prelude.{Result, Ok, Err, if◌then◌else◌}
-use Rattle.cdi_model.specs.declared.decl.Decl.{Decl}
-use Rattle.cdi_model.specs.declared.edit.Edit.{Edit}
-use Rattle.cdi_model.specs.declared.edit.Edit.TheVariants.{Put as PutEdit, Remove as RemoveEdit}
-use Rattle.cdi_model.specs.declared.refusal.Refusal.{Refusal}
-use Rattle.cdi_text.specs.Reading.{decl_of}
+use Rattle.std.specs.Prelude.{List, Ok}
+use Rattle.cdi_model.specs.declared.edit.Edit.{Edit as Change}
 use Rattle.cdi_lines.specs.declared.command.Command.{Command}
-use Rattle.cdi_lines.specs.declared.command.Command.TheVariants.{Put, Remove, Choose, Named, Chain, Observers, Report, LookUp, Call, Fire}
+use Rattle.cdi_lines.specs.declared.command.Command.TheVariants.{Edit, Batch, Choose, Named, Chain, Observers, Report, LookUp, Call, Fire}
 use Rattle.cdi_lines.specs.declared.command.Command.TheVariants.{BeginRequest, EndRequest}
 use Rattle.cdi_lines.specs.declared.command.Command.TheVariants.{Stop, Unreadable}
 use Rattle.cdi_container.specs.declared.answer.Answer.{Answer}
 use Rattle.cdi_container.specs.declared.answer.Answer.TheVariants.{Done, Chosen, Intercepted, Observed, Reported, Given, Refused}
 use Rattle.cdi_container.specs.Seen.{IsStep}
-use Rattle.cdi_container.specs.History.{State, Acts, EditsFrom, PutsFrom, told_on, untold}
+use Rattle.cdi_container.specs.History.{State, Acts, EditsFrom, told_on, untold}
+use Rattle.cdi_container.specs.Editing.{changes_of, changes_of_all}
 
 -- the entries of a command are told by the declarations before it
 abbrev pub Tells : State → State → Type 0
@@ -22,16 +19,12 @@ Tells old new = new.text ≡ told_on old new.trace
 untold_tells : (old new : State) → new ≡ untold old → Tells old new
 untold_tells old new h = subst (Tells old) (sym h) refl
 
-edit_tells : (old new : State) (edit : Edit) → EditsFrom old edit new → Tells old new
-edit_tells old new edit h = subst (Tells old) (sym h.rest) (ap (λ s. s.text) h.ends.rest)
-
-put_tells : (old new : State) (read : Result Decl Refusal) → PutsFrom old read new → Tells old new
-put_tells old new (Ok d) h = edit_tells old new (PutEdit d) h
-put_tells old new (Err refusal) h = absurd h
+edit_tells : (old new : State) (changes : List Change) → EditsFrom old changes new → Tells old new
+edit_tells old new changes h = subst (Tells old) (sym h.rest) (ap (λ s. s.text) h.ends.rest)
 
 pub acts_tell : (old new : State) (command : Command) (answer : Answer) → Acts old command answer new → Tells old new
-acts_tell old new (Put text) answer h = put_tells old new (decl_of text) h.1
-acts_tell old new (Remove kind name) answer h = edit_tells old new (RemoveEdit kind name) h.1
+acts_tell old new (Edit edit) answer h = edit_tells old new (changes_of edit) h.1
+acts_tell old new (Batch edits) answer h = edit_tells old new (changes_of_all edits) h.1
 acts_tell old new (Choose t quals) answer h = untold_tells old new h.1
 acts_tell old new (Named name) answer h = untold_tells old new h.1
 acts_tell old new (Chain bean place) answer h = untold_tells old new h.rest
@@ -52,4 +45,4 @@ step_tells old new command (Intercepted names) h = acts_tell old new command (In
 step_tells old new command (Observed ids) h = acts_tell old new command (Observed ids) h.1
 step_tells old new command (Reported list) h = acts_tell old new command (Reported list) h.1
 step_tells old new command (Given outcome) h = acts_tell old new command (Given outcome) h.1
-step_tells old new command (Refused refusal) h = untold_tells old new h.1
+step_tells old new command (Refused refusal edit) h = untold_tells old new h.1

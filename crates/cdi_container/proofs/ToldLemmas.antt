@@ -3,25 +3,23 @@ use Rattle.std.proofs.Common.{◌≡◌, ℕ, List, [], ◌∷◌, refl, ap, sym
 use Rattle.std.specs.Prelude.{Result, Ok, Err}
 use Rattle.std.specs.declared.alloc.AllocError.{AllocError}
 use Rattle.cdi_model.specs.declared.decl.Decl.{Decl}
-use Rattle.cdi_model.specs.declared.edit.Edit.{Edit}
-use Rattle.cdi_model.specs.declared.edit.Edit.TheVariants.{Put as PutEdit, Remove as RemoveEdit}
-use Rattle.cdi_model.specs.declared.refusal.Refusal.{Refusal}
+use Rattle.cdi_model.specs.declared.edit.Edit.{Edit as Change}
 use Rattle.cdi_bodies.specs.Book.{Promised}
 use Rattle.cdi_contexts.specs.Standing.{Standing, closed}
-use Rattle.cdi_text.specs.Reading.{decl_of}
 use Rattle.cdi_legal.specs.Follows.{after}
 use Rattle.cdi_legal.specs.declared.entry.Entry.{Entry}
 use Rattle.cdi_legal.proofs.Commands.{run_follows, request_end_follows, end_follows}
 use Rattle.cdi_staging.specs.Naming.{names_of}
 use Rattle.cdi_staging.specs.declared.names.Names.{Names}
 use Rattle.cdi_lines.specs.declared.command.Command.{Command}
-use Rattle.cdi_lines.specs.declared.command.Command.TheVariants.{Put, Remove, Choose, Named, Chain, Observers, Report, LookUp, Call, Fire}
+use Rattle.cdi_lines.specs.declared.command.Command.TheVariants.{Edit, Batch, Choose, Named, Chain, Observers, Report, LookUp, Call, Fire}
 use Rattle.cdi_lines.specs.declared.command.Command.TheVariants.{BeginRequest, EndRequest}
 use Rattle.cdi_lines.specs.declared.command.Command.TheVariants.{Stop, Unreadable}
 use Rattle.cdi_container.specs.declared.answer.Answer.{Answer}
 use Rattle.cdi_container.specs.declared.answer.Answer.TheVariants.{Done, Chosen, Intercepted, Observed, Reported, Given, Refused}
-use Rattle.cdi_container.specs.History.{State, Acts, EditsFrom, PutsFrom, LegalAnswer, LegalHistory, History, Step, LegalStep, empty}
+use Rattle.cdi_container.specs.History.{State, Acts, EditsFrom, LegalAnswer, LegalHistory, History, Step, LegalStep, empty}
 use Rattle.cdi_container.specs.History.{refusal_of, trace_behind}
+use Rattle.cdi_container.specs.Editing.{changes_of, changes_of_all}
 use Rattle.cdi_container.specs.Told.{standing_behind, carried_out, told_behind, told_by, IsTold}
 use Rattle.cdi_container.proofs.HistoryLemmas.{acts_edits}
 use Rattle.cdi_container.proofs.Telling.{acts_tell}
@@ -37,16 +35,12 @@ same_state a b d k s t x =
 
 -- ---- bodies never change
 
-edit_book : (old new : State) (edit : Edit) → EditsFrom old edit new → new.book ≡ old.book
-edit_book old new edit h = ap (λ s. s.book) h.rest ∙ ap (λ s. s.book) h.ends.rest
-
-put_book : (old new : State) (read : Result Decl Refusal) → PutsFrom old read new → new.book ≡ old.book
-put_book old new (Ok d) h = edit_book old new (PutEdit d) h
-put_book old new (Err refusal) h = absurd h
+edit_book : (old new : State) (changes : List Change) → EditsFrom old changes new → new.book ≡ old.book
+edit_book old new changes h = ap (λ s. s.book) h.rest ∙ ap (λ s. s.book) h.ends.rest
 
 acts_book : (old new : State) (command : Command) (answer : Answer) → Acts old command answer new → new.book ≡ old.book
-acts_book old new (Put text) answer h = put_book old new (decl_of text) h.1
-acts_book old new (Remove kind name) answer h = edit_book old new (RemoveEdit kind name) h.1
+acts_book old new (Edit edit) answer h = edit_book old new (changes_of edit) h.1
+acts_book old new (Batch edits) answer h = edit_book old new (changes_of_all edits) h.1
 acts_book old new (Choose t quals) answer h = ap (λ s. s.book) h.1
 acts_book old new (Named name) answer h = ap (λ s. s.book) h.1
 acts_book old new (Chain bean place) answer h = ap (λ s. s.book) h.rest
@@ -62,19 +56,15 @@ acts_book old new Unreadable answer h = absurd h
 
 -- ---- what stands is the fold of the entries
 
-edit_standing : (old new : State) (edit : Edit) → EditsFrom old edit new → new.standing ≡ closed (after old.standing new.trace)
-edit_standing old new edit h =
-    subst (λ (s : State). s.standing ≡ closed (after old.standing s.trace)) (sym h.rest) (end_follows h.ends.legal)
-
-put_standing : (old new : State) (read : Result Decl Refusal) → PutsFrom old read new
+edit_standing : (old new : State) (changes : List Change) → EditsFrom old changes new
     → new.standing ≡ closed (after old.standing new.trace)
-put_standing old new (Ok d) h = edit_standing old new (PutEdit d) h
-put_standing old new (Err refusal) h = absurd h
+edit_standing old new changes h =
+    subst (λ (s : State). s.standing ≡ closed (after old.standing s.trace)) (sym h.rest) (end_follows h.ends.legal)
 
 acts_standing : (old new : State) (command : Command) (answer : Answer) → Acts old command answer new
     → new.standing ≡ standing_behind command old.standing new.trace
-acts_standing old new (Put text) answer h = put_standing old new (decl_of text) h.1
-acts_standing old new (Remove kind name) answer h = edit_standing old new (RemoveEdit kind name) h.1
+acts_standing old new (Edit edit) answer h = edit_standing old new (changes_of edit) h.1
+acts_standing old new (Batch edits) answer h = edit_standing old new (changes_of_all edits) h.1
 acts_standing old new (Choose t quals) answer h = ap (λ s. s.standing) h.1
 acts_standing old new (Named name) answer h = ap (λ s. s.standing) h.1
 acts_standing old new (Chain bean place) answer h = ap (λ s. s.standing) h.rest
@@ -104,7 +94,7 @@ answer_told old new command (Ok (Intercepted names)) h = acts_told old new comma
 answer_told old new command (Ok (Observed ids)) h = acts_told old new command (Observed ids) h.0 h.1
 answer_told old new command (Ok (Reported list)) h = acts_told old new command (Reported list) h.0 h.1
 answer_told old new command (Ok (Given outcome)) h = acts_told old new command (Given outcome) h.0 h.1
-answer_told old new command (Ok (Refused refusal)) h = h.1
+answer_told old new command (Ok (Refused refusal edit)) h = h.1
 answer_told old new command (Err error) h = h
 
 step_told : (old new : State) (step : Step) → LegalStep old step new

@@ -1,5 +1,5 @@
 -- The text of an answer.
-use Rattle.std.specs.Prelude.{ℕ, List, [], ◌∷◌, ◌++◌, length, codes, decimal, flat_map}
+use Rattle.std.specs.Prelude.{ℕ, List, [], ◌∷◌, ◌++◌, length, codes, decimal, flat_map, Option, Some, None}
 use Rattle.cdi_model.specs.declared.refusal.Refusal.{Refusal}
 use Rattle.cdi_model.specs.declared.refusal.Refusal.TheVariants.{Faulty}
 use Rattle.cdi_model.specs.RefusalText.{code_of_refusal, word_of_refusal}
@@ -21,6 +21,11 @@ word_of refusal = code_of_refusal refusal ++ space ∷ word_of_refusal refusal
 abbrev pub count_of : Refusal → List ℕ
 count_of (Faulty count) = codes " " ++ decimal count
 count_of refusal = []
+
+-- the number of an edit of a batch, where there is one
+abbrev pub text_of_number : Option ℕ → List ℕ
+text_of_number None = []
+text_of_number (Some number) = codes " " ++ decimal number
 
 -- each fault on a line of its own
 abbrev pub text_of_faults : List Fault → List ℕ
@@ -54,4 +59,4 @@ words_of_answer (Intercepted names) = text_of_chain names
 words_of_answer (Observed ids) = text_of_observers ids
 words_of_answer (Reported list) = text_of_report list
 words_of_answer (Given outcome) = words_of_outcome outcome
-words_of_answer (Refused refusal) = codes "refused " ++ word_of refusal ++ count_of refusal
+words_of_answer (Refused refusal edit) = codes "refused " ++ word_of refusal ++ count_of refusal ++ text_of_number edit

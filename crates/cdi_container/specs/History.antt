@@ -8,16 +8,14 @@ use Rattle.cdi_model.specs.declared.refusal.Error.{Error}
 use Rattle.cdi_model.specs.declared.refusal.Error.TheVariants as errors
 use Rattle.cdi_model.specs.declared.refusal.Refusal.{Refusal}
 use Rattle.cdi_model.specs.declared.refusal.Refusal.TheVariants.{BadCommand, RequestActive, NoRequest}
-use Rattle.cdi_model.specs.declared.edit.Edit.{Edit}
-use Rattle.cdi_model.specs.declared.edit.Edit.TheVariants.{Put as PutEdit, Remove as RemoveEdit}
-use Rattle.cdi_model.specs.Edits.{edited, edited_all, refusal_of_edit}
+use Rattle.cdi_model.specs.declared.edit.Edit.{Edit as Change}
+use Rattle.cdi_model.specs.Edits.{edited_all}
 use Rattle.cdi_bodies.specs.Book.{Promised}
 use Rattle.cdi_contexts.specs.Standing.{Standing, opened, cleared}
 use Rattle.cdi_scene.specs.declared.scene.Scene.{Scene}
 use Rattle.cdi_legal.specs.LegalRun.{Command as Run, LegalRun, LegalRequestEnd, LegalEnd}
 use Rattle.cdi_legal.specs.Single.{IsSingle}
 use Rattle.cdi_legal.specs.declared.entry.Entry.{Entry}
-use Rattle.cdi_text.specs.Reading.{decl_of}
 use Rattle.cdi_effective.specs.Beans.{beans}
 use Rattle.cdi_resolve.specs.Choices.{chosen, chosen_by_name}
 use Rattle.cdi_intercept.specs.Chains.{chain_of}
@@ -28,9 +26,10 @@ use Rattle.cdi_staging.specs.declared.names.Names.{Names}
 use Rattle.cdi_trace.specs.TraceText.{text_of_entries}
 use Rattle.cdi_validate.specs.Faults.{faults}
 use Rattle.cdi_lines.specs.declared.command.Command.{Command}
-use Rattle.cdi_lines.specs.declared.command.Command.TheVariants.{Put, Remove, Choose, Named, Chain, Observers, Report, LookUp, Call, Fire}
+use Rattle.cdi_lines.specs.declared.command.Command.TheVariants.{Edit, Batch, Choose, Named, Chain, Observers, Report, LookUp, Call, Fire}
 use Rattle.cdi_lines.specs.declared.command.Command.TheVariants.{BeginRequest, EndRequest}
 use Rattle.cdi_lines.specs.declared.command.Command.TheVariants.{Stop, Unreadable}
+use Rattle.cdi_container.specs.Editing.{Reason, alone, change_of, changes_of, changes_of_all, refusal_of_batch, refusal_of_change}
 use Rattle.cdi_container.specs.declared.answer.Answer.{Answer}
 use Rattle.cdi_container.specs.declared.answer.Answer.TheVariants.{Done, Chosen, Intercepted, Observed, Reported, Given, Refused}
 use Rattle.cdi_container.specs.Asked.{to_look, to_call, run_of_event, run_of_use}
@@ -71,11 +70,6 @@ with_request state = record state { standing = opened state.standing; trace = []
 
 -- ---- refusals
 
--- the refusal of a put of what a text spells
-abbrev pub refusal_of_put : List Decl → Result Decl Refusal → Option Refusal
-refusal_of_put ds (Ok d) = refusal_of_edit ds (PutEdit d)
-refusal_of_put ds (Err refusal) = Some refusal
-
 abbrev pub refusal_of_begin : Standing → Option Refusal
 refusal_of_begin standing = if standing.active then Some RequestActive else None
 
@@ -86,22 +80,22 @@ abbrev pub refusal_in : {X : Type 0} → Result X Refusal → Option Refusal
 refusal_in (Ok x) = None
 refusal_in (Err refusal) = Some refusal
 
--- the first refusal whose condition holds
-abbrev pub refusal_of : State → Command → Option Refusal
-refusal_of state (Put text) = refusal_of_put state.decls (decl_of text)
-refusal_of state (Remove kind name) = refusal_of_edit state.decls (RemoveEdit kind name)
+-- the first refusal whose condition holds, and of a batch the number of the edit for which it does
+abbrev pub refusal_of : State → Command → Option Reason
+refusal_of state (Edit edit) = alone (refusal_of_change state.decls (change_of edit))
+refusal_of state (Batch edits) = refusal_of_batch state.decls edits
 refusal_of state (Choose t quals) = None
 refusal_of state (Named name) = None
-refusal_of state (Chain bean place) = refusal_in (chain_of state.decls bean place)
+refusal_of state (Chain bean place) = alone (refusal_in (chain_of state.decls bean place))
 refusal_of state (Observers t quals) = None
 refusal_of state Report = None
-refusal_of state (LookUp t quals) = refusal_in (run_of_use state.decls state.book (to_look t quals))
-refusal_of state (Call method arg t quals) = refusal_in (run_of_use state.decls state.book (to_call method arg t quals))
-refusal_of state (Fire arg t quals) = refusal_in (run_of_event state.decls state.book arg t quals)
-refusal_of state BeginRequest = refusal_of_begin state.standing
-refusal_of state EndRequest = refusal_of_end state.standing
+refusal_of state (LookUp t quals) = alone (refusal_in (run_of_use state.decls state.book (to_look t quals)))
+refusal_of state (Call method arg t quals) = alone (refusal_in (run_of_use state.decls state.book (to_call method arg t quals)))
+refusal_of state (Fire arg t quals) = alone (refusal_in (run_of_event state.decls state.book arg t quals))
+refusal_of state BeginRequest = alone (refusal_of_begin state.standing)
+refusal_of state EndRequest = alone (refusal_of_end state.standing)
 refusal_of state Stop = None
-refusal_of state Unreadable = Some BadCommand
+refusal_of state Unreadable = Some (BadCommand, None)
 
 -- ---- what commands do
 
@@ -130,17 +124,15 @@ pub record EndsContexts (old : State) (answer : Answer) (new : State) : Type 0 w
   pub legal : LegalEnd (scene old) old.standing new.trace new.standing
   pub rest : IsRunFrom old new
 
--- an accepted edit first ends both contexts, as a stop does, on the declarations before it; then it changes the declarations
--- and nothing else (profile)
-pub record EditsFrom (old : State) (edit : Edit) (new : State) : Type 0 where
+-- first both contexts end, as at a stop, on the declarations before; then these declarations are present, and nothing else is changed
+pub record Redeploys (old : State) (ds : List Decl) (new : State) : Type 0 where
   pub stopped : State
   pub ends : EndsContexts old Done stopped
-  pub rest : new ≡ record stopped { decls = edited old.decls edit }
+  pub rest : new ≡ record stopped { decls = ds }
 
--- so does an accepted put of what a text spells
-abbrev pub PutsFrom : State → Result Decl Refusal → State → Type 0
-PutsFrom old (Ok d) new = EditsFrom old (PutEdit d) new
-PutsFrom old (Err refusal) new = ⊥
+-- so it is at an accepted edit, and once at an accepted batch (profile)
+abbrev pub EditsFrom : State → List Change → State → Type 0
+EditsFrom old changes new = Redeploys old (edited_all old.decls changes) new
 
 -- the interceptors around a place of a bean are told
 pub record TellsChain (old : State) (bean : List ℕ) (place : BeanPlace) (answer : Answer) (new : State) : Type 0 where
@@ -151,8 +143,8 @@ pub record TellsChain (old : State) (bean : List ℕ) (place : BeanPlace) (answe
 
 -- what a command that isn't refused answers, and the state that it leaves
 abbrev pub Acts : State → Command → Answer → State → Type 0
-Acts old (Put text) answer new = (answer ≡ Done) × PutsFrom old (decl_of text) new
-Acts old (Remove kind name) answer new = (answer ≡ Done) × EditsFrom old (RemoveEdit kind name) new
+Acts old (Edit edit) answer new = (answer ≡ Done) × EditsFrom old (changes_of edit) new
+Acts old (Batch edits) answer new = (answer ≡ Done) × EditsFrom old (changes_of_all edits) new
 Acts old (Choose t quals) answer new = (answer ≡ Chosen (chosen old.decls (beans old.decls) t quals)) × (new ≡ untold old)
 Acts old (Named name) answer new = (answer ≡ Chosen (chosen_by_name (beans old.decls) name)) × (new ≡ untold old)
 Acts old (Chain bean place) answer new = TellsChain old bean place answer new
@@ -201,7 +193,7 @@ left_unserved old command = if runs command then emptied old else old
 
 -- A refusal is the first whose condition holds, and changes nothing.
 abbrev pub LegalAnswer : State → Command → Result Answer AllocError → State → Type 0
-LegalAnswer old command (Ok (Refused refusal)) new = (refusal_of old command ≡ Some refusal) × (new ≡ untold old)
+LegalAnswer old command (Ok (Refused refusal edit)) new = (refusal_of old command ≡ Some (refusal, edit)) × (new ≡ untold old)
 LegalAnswer old command (Ok answer) new = (refusal_of old command ≡ None) × Acts old command answer new
 LegalAnswer old command (Err error) new = new ≡ left_unserved old command
 
@@ -234,25 +226,21 @@ LegalHistory old (step ∷ steps) new = (mid : State) × LegalStep old step mid 
 
 -- ---- what declarations rest on
 
-abbrev pub accepted_put : Result Decl Refusal → List Edit
-accepted_put (Ok d) = PutEdit d ∷ []
-accepted_put (Err refusal) = []
+-- the changes that a command makes where it is accepted
+abbrev pub changes_by : Command → List Change
+changes_by (Edit edit) = changes_of edit
+changes_by (Batch edits) = changes_of_all edits
+changes_by command = []
 
--- the edit that a command makes where it is accepted
-abbrev pub edits_of : Command → List Edit
-edits_of (Put text) = accepted_put (decl_of text)
-edits_of (Remove kind name) = RemoveEdit kind name ∷ []
-edits_of command = []
+-- the changes that a step makes, if its command was accepted
+abbrev pub accepted_changes : Command → Result Answer AllocError → List Change
+accepted_changes command (Ok Done) = changes_by command
+accepted_changes command answer = []
 
--- the edit that a step makes, if it is an accepted one
-abbrev pub accepted_edit : Command → Result Answer AllocError → List Edit
-accepted_edit command (Ok Done) = edits_of command
-accepted_edit command answer = []
-
--- the accepted edits of a history, in order
-abbrev pub accepted_edits : History → List Edit
+-- those of the accepted edits and batches of a history, in order
+abbrev pub accepted_edits : History → List Change
 accepted_edits [] = []
-accepted_edits (step ∷ steps) = accepted_edit step.command step.answer ++ accepted_edits steps
+accepted_edits (step ∷ steps) = accepted_changes step.command step.answer ++ accepted_edits steps
 
 -- the declarations behind a legal history rest on its accepted edits alone: they are what these make of the empty list
 abbrev pub RestsOnAcceptedEdits : History → Type 0

@@ -1,4 +1,5 @@
 pub mod Asked
+pub mod Editing
 pub mod History
 pub mod Told
 pub mod Wired

@@ -1,5 +1,5 @@
 -- The steps of the calls of a container.
-use Rattle.std.specs.Prelude.{ℕ, List, Option, None, Some, Result, Ok, Err, alloc_error}
+use Rattle.std.specs.Prelude.{◌≡◌, ℕ, List, Option, None, Some, Result, Ok, Err, alloc_error}
 use Rattle.std.specs.declared.alloc.AllocError.{AllocError}
 use Rattle.std.specs.declared.alloc.Global.{Global}
 use Rattle.std.specs.declared.vec.Vec.{Vec}
@@ -12,23 +12,28 @@ use Rattle.cdi_model.specs.declared.quals.Qual.{Qual}
 use Rattle.cdi_model.specs.declared.refusal.Error.{Error}
 use Rattle.cdi_model.specs.declared.refusal.Error.TheVariants as errors
 use Rattle.cdi_model.specs.declared.refusal.Refusal.{Refusal}
-use Rattle.cdi_model.specs.declared.edit.Edit.TheVariants.{Put as PutEdit}
+use Rattle.cdi_model.specs.declared.edit.Edit.{Edit as Change}
 use Rattle.cdi_model.specs.Edits.{answer_of_edit}
 use Rattle.cdi_observe.specs.declared.observers.ObserverId.{ObserverId}
 use Rattle.cdi_resolve.specs.declared.choice.Choice.{Choice}
 use Rattle.cdi_faults.specs.declared.fault.Fault.{Fault}
 use Rattle.cdi_lines.specs.declared.command.Command.{Command}
-use Rattle.cdi_lines.specs.declared.command.Command.TheVariants.{Put, Remove, Choose, Named, Chain, Observers, Report, LookUp, Call, Fire}
+use Rattle.cdi_lines.specs.declared.command.Command.TheVariants.{Edit, Batch, Choose, Named, Chain, Observers, Report, LookUp, Call, Fire}
 use Rattle.cdi_lines.specs.declared.command.Command.TheVariants.{BeginRequest, EndRequest}
 use Rattle.cdi_lines.specs.declared.command.Command.TheVariants.{Stop}
+use Rattle.cdi_lines.specs.declared.edit.Edit.{Edit as AnyEdit}
+use Rattle.cdi_lines.specs.declared.edit.Edit.TheVariants as edits
+use Rattle.cdi_container.specs.Editing.{Reason}
 use Rattle.cdi_container.specs.declared.answer.Answer.{Answer}
+use Rattle.cdi_container.specs.declared.batch.BatchError.{BatchError}
+use Rattle.cdi_container.specs.declared.batch.BatchError.TheVariants as batch_errors
 use Rattle.cdi_container.specs.declared.answer.Answer.TheVariants.{Done, Chosen, Intercepted, Observed, Reported, Given, Refused}
-use Rattle.cdi_container.specs.History.{State, LegalAnswer}
+use Rattle.cdi_container.specs.History.{State, LegalAnswer, untold}
 
--- what a put of what a text spells answers
-abbrev pub answer_of_put : List Decl → Result Decl Refusal → Result (Unit {0}) Refusal
-answer_of_put ds (Ok d) = answer_of_edit ds (PutEdit d)
-answer_of_put ds (Err refusal) = Err refusal
+-- what an edit answers that asks for a change, or for none
+abbrev pub answer_of_change : List Decl → Result Change Refusal → Result (Unit {0}) Refusal
+answer_of_change ds (Ok change) = answer_of_edit ds change
+answer_of_change ds (Err refusal) = Err refusal
 
 -- what a call that is refused for this reason, if for one, answers, where it gives no value
 abbrev pub done_or : Option Refusal → Result (Unit {0}) Refusal
@@ -38,17 +43,39 @@ done_or (Some refusal) = Err refusal
 -- the answer of a call that was refused or found no memory
 abbrev pub failed_answer : Error → Result Answer AllocError
 failed_answer errors.OutOfMemory = Err alloc_error
-failed_answer (errors.Refused refusal) = Ok (Refused refusal)
+failed_answer (errors.Refused refusal) = Ok (Refused refusal None)
 
 -- the answer of a call that gives no value
 abbrev pub edit_answer : Result (Unit {0}) Error → Result Answer AllocError
 edit_answer (Ok u) = Ok Done
 edit_answer (Err error) = failed_answer error
 
+-- the answer of a batch
+abbrev pub batch_answer : Result (Unit {0}) BatchError → Result Answer AllocError
+batch_answer (Ok u) = Ok Done
+batch_answer (Err batch_errors.OutOfMemory) = Err alloc_error
+batch_answer (Err (batch_errors.Refused refusal edit)) = Ok (Refused refusal edit)
+
+-- the edit of a number was refused or found no memory
+abbrev pub refused_at : ℕ → Error → BatchError
+refused_at number errors.OutOfMemory = batch_errors.OutOfMemory
+refused_at number (errors.Refused refusal) = batch_errors.Refused refusal (Some number)
+
+-- a batch answers that it is refused for this reason, if for one; where memory ran out, this says nothing
+abbrev pub AnswersBatch : {X : Type 0} → Result X BatchError → Option Reason → Type 0
+AnswersBatch (Ok value) reason = reason ≡ None
+AnswersBatch (Err batch_errors.OutOfMemory) reason = Unit {0}
+AnswersBatch (Err (batch_errors.Refused refusal edit)) reason = reason ≡ Some (refusal, edit)
+
+-- what a batch leaves that was refused or found no memory
+abbrev pub left_by_batch : BatchError → State → State
+left_by_batch batch_errors.OutOfMemory old = old
+left_by_batch (batch_errors.Refused refusal edit) old = untold old
+
 -- the answer of a call that gives no value and takes no memory
 abbrev pub plain_answer : Result (Unit {0}) Refusal → Result Answer AllocError
 plain_answer (Ok u) = Ok Done
-plain_answer (Err refusal) = Ok (Refused refusal)
+plain_answer (Err refusal) = Ok (Refused refusal None)
 
 -- the answer of a call that gives no value and is never refused
 abbrev pub end_answer : Result (Unit {0}) AllocError → Result Answer AllocError
@@ -85,10 +112,16 @@ abbrev pub IsStep : State → Command → Result Answer AllocError → State →
 IsStep old command answer new = LegalAnswer old command answer new
 
 abbrev pub PutStep : State → List ℕ → Result (Unit {0}) Error → State → Type 0
-PutStep old text result new = IsStep old (Put text) (edit_answer result) new
+PutStep old text result new = IsStep old (Edit (edits.Put text)) (edit_answer result) new
 
 abbrev pub RemoveStep : State → Kind → List ℕ → Result (Unit {0}) Error → State → Type 0
-RemoveStep old kind name result new = IsStep old (Remove kind name) (edit_answer result) new
+RemoveStep old kind name result new = IsStep old (Edit (edits.Remove kind name)) (edit_answer result) new
+
+abbrev pub EditStep : State → AnyEdit → Result (Unit {0}) Error → State → Type 0
+EditStep old edit result new = IsStep old (Edit edit) (edit_answer result) new
+
+abbrev pub BatchStep : State → List AnyEdit → Result (Unit {0}) BatchError → State → Type 0
+BatchStep old edits result new = IsStep old (Batch edits) (batch_answer result) new
 
 abbrev pub ChooseStep : State → List ℕ → List Qual → Result Choice AllocError → State → Type 0
 ChooseStep old t quals result new = IsStep old (Choose t quals) (choice_answer result) new

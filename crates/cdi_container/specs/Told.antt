@@ -9,16 +9,16 @@ use Rattle.cdi_legal.specs.declared.entry.Entry.{Entry}
 use Rattle.cdi_staging.specs.declared.names.Names.{Names}
 use Rattle.cdi_trace.specs.TraceText.{text_of_entries}
 use Rattle.cdi_lines.specs.declared.command.Command.{Command}
-use Rattle.cdi_lines.specs.declared.command.Command.TheVariants.{Put, Remove, LookUp, Call, Fire, BeginRequest, EndRequest, Stop}
+use Rattle.cdi_lines.specs.declared.command.Command.TheVariants.{Edit, Batch, LookUp, Call, Fire, BeginRequest, EndRequest, Stop}
 use Rattle.cdi_container.specs.declared.answer.Answer.{Answer}
 use Rattle.cdi_container.specs.declared.answer.Answer.TheVariants.{Refused}
-use Rattle.cdi_container.specs.History.{State, History, LegalHistory, empty, untold, left_unserved, accepted_edit}
+use Rattle.cdi_container.specs.History.{State, History, LegalHistory, empty, untold, left_unserved, accepted_changes}
 
 -- what stands behind a command that was carried out with this trace: the fold of its entries; and a request begins only by its
 -- own command, and is active no more behind the end of its context
 abbrev pub standing_behind : Command → Standing → List Entry → Standing
-standing_behind (Put text) s trace = closed (after s trace)
-standing_behind (Remove kind name) s trace = closed (after s trace)
+standing_behind (Edit edit) s trace = closed (after s trace)
+standing_behind (Batch edits) s trace = closed (after s trace)
 standing_behind (LookUp t quals) s trace = after s trace
 standing_behind (Call method arg t quals) s trace = after s trace
 standing_behind (Fire arg t quals) s trace = after s trace
@@ -30,7 +30,7 @@ standing_behind command s trace = s
 -- the state behind a command that was carried out
 abbrev pub carried_out : State → Command → Answer → List Entry → Names → State
 carried_out old command answer trace names = record {
-  decls = edited_all old.decls (accepted_edit command (Ok answer));
+  decls = edited_all old.decls (accepted_changes command (Ok answer));
   book = old.book;
   standing = standing_behind command old.standing trace;
   trace = trace;
@@ -39,7 +39,7 @@ carried_out old command answer trace names = record {
 
 -- the state behind a command that was answered so
 abbrev pub told_behind : State → Command → Result Answer AllocError → List Entry → Names → State
-told_behind old command (Ok (Refused refusal)) trace names = untold old
+told_behind old command (Ok (Refused refusal edit)) trace names = untold old
 told_behind old command (Ok answer) trace names = carried_out old command answer trace names
 told_behind old command (Err error) trace names = left_unserved old command
 

@@ -1,8 +1,10 @@
 //! What a command answers.
-ghost use Rattle.std.specs.Prelude.{◌≡◌};
-ghost use Rattle.cdi_container.specs.Seen.{failed_answer, edit_answer, plain_answer, end_answer};
+ghost use Rattle.std.specs.Prelude.{◌≡◌, None};
+ghost use Rattle.cdi_container.specs.Seen.{failed_answer, edit_answer, batch_answer, plain_answer, end_answer};
+ghost use Rattle.cdi_container.specs.declared.answer.Answer.TheVariants.{Refused};
 ghost use Rattle.cdi_container.specs.Seen.{chain_answer, choice_answer, observers_answer, outcome_answer, report_answer};
 
+use crate::batch::BatchError;
 use cdi_faults::Fault;
 use cdi_model::{Error, Name, Outcome, Refusal, Seq};
 use cdi_observe::ObserverId;
@@ -25,7 +27,21 @@ pub enum Answer {
     /// The outcome of a lookup, a call or an event: a value or a failure.
     Given(Outcome),
     /// The command is refused and has changed nothing.
-    Refused(Refusal),
+    Refused {
+        refusal: Refusal,
+        /// The edit of a batch that is refused, counted from 1.
+        edit: Option<usize>,
+    },
+}
+
+/// The answer of a call that was refused and is no batch.
+pub(crate) fn refused(refusal: Refusal) -> Answer
+    ensures { result ≡ Refused refusal None }
+{
+    Answer::Refused {
+        refusal,
+        edit: None,
+    }
 }
 
 /// The answer of a call that was refused or found no memory.
@@ -34,7 +50,7 @@ fn answer_of_failure(error: Error) -> Result<Answer, AllocError>
 {
     match error {
         Error::OutOfMemory => Err(AllocError),
-        Error::Refused(refusal) => Ok(Answer::Refused(refusal)),
+        Error::Refused(refusal) => Ok(refused(refusal)),
     }
 }
 
@@ -48,13 +64,24 @@ pub(crate) fn answer_of_edit(called: Result<(), Error>) -> Result<Answer, AllocE
     }
 }
 
+/// The answer of a batch.
+pub(crate) fn answer_of_batch(called: Result<(), BatchError>) -> Result<Answer, AllocError>
+    ensures { result ≡ batch_answer called }
+{
+    match called {
+        Ok(()) => Ok(Answer::Done),
+        Err(BatchError::OutOfMemory) => Err(AllocError),
+        Err(BatchError::Refused { refusal, edit }) => Ok(Answer::Refused { refusal, edit }),
+    }
+}
+
 /// The answer of a call that gives no value and takes no memory.
 pub(crate) fn answer_of_begin(called: Result<(), Refusal>) -> Result<Answer, AllocError>
     ensures { result ≡ plain_answer called }
 {
     match called {
         Ok(()) => Ok(Answer::Done),
-        Err(refusal) => Ok(Answer::Refused(refusal)),
+        Err(refusal) => Ok(refused(refusal)),
     }
 }
 

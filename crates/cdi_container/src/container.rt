@@ -1,8 +1,9 @@
 //! The container.
-ghost use Rattle.std.specs.Prelude.{◌≡◌, ◌≢◌, [], map, AllPairs, OnOk, OnErr, IfOk, IfErr};
+ghost use Rattle.std.specs.Prelude.{◌≡◌, ◌≢◌, [], ◌∷◌, map, AllPairs, OnOk, OnErr, IfOk, IfErr};
 ghost use Rattle.cdi_model.specs.declared.edit.Edit.TheVariants.{Remove as RemoveEdit};
 ghost use Rattle.cdi_model.specs.Edits.{answer_of_edit as answer_of_removal, answer_of_edit};
 ghost use Rattle.cdi_model.specs.Answering.{Answers};
+ghost use Rattle.cdi_model.specs.Short.{AreShort};
 ghost use Rattle.cdi_text.specs.Reading.{decl_of};
 ghost use Rattle.cdi_effective.specs.Beans.{beans};
 ghost use Rattle.cdi_resolve.specs.Choices.{chosen, chosen_by_name};
@@ -11,22 +12,26 @@ ghost use Rattle.cdi_observe.specs.Observers.{notified};
 ghost use Rattle.cdi_validate.specs.Faults.{faults};
 ghost use Rattle.cdi_container.specs.Wired.{IsShortEdit};
 ghost use Rattle.cdi_staging.specs.Naming.{names_of};
-ghost use Rattle.cdi_container.specs.History.{EditsFrom, History, PutsFrom, left_by, untold, RestsOnAcceptedEdits, SharesInstances};
+ghost use Rattle.cdi_container.specs.History.{EditsFrom, Redeploys, History, left_by, untold, RestsOnAcceptedEdits, SharesInstances};
 ghost use Rattle.cdi_container.specs.Named.{NamesTrace};
 ghost use Rattle.cdi_container.specs.Told.{IsTold};
 
 use crate::answer::{
-    Answer, answer_of_begin, answer_of_chain, answer_of_choice, answer_of_edit,
-    answer_of_observers, answer_of_report, answer_of_run, answer_of_stop,
+    Answer, answer_of_batch, answer_of_begin, answer_of_chain, answer_of_choice, answer_of_edit,
+    answer_of_observers, answer_of_report, answer_of_run, answer_of_stop, refused,
 };
+use crate::batch::BatchError;
 use crate::beans::Beans;
 use crate::deployment::Deployment;
 use cdi_bodies::Bodies;
 use cdi_contexts::Contexts;
 use cdi_faults::Fault;
 use cdi_legal::{Entry, Run};
-use cdi_lines::Command;
-use cdi_model::{BeanPlace, Edit, Error, Iter as DeclIter, Kind, Name, Quals, Refusal, Seq, Work};
+use cdi_lines::{Command, Edit};
+use cdi_model::{
+    BeanPlace, Decls, Edit as Change, Error, Iter as DeclIter, Kind, Name, Quals, Refusal, Seq,
+    Work,
+};
 use cdi_observe::ObserverId;
 use cdi_resolve::Choice;
 use cdi_staging::Names;
@@ -74,7 +79,9 @@ impl<B: Bodies> Model for Container<B> {
 impl<B: Bodies> Container<B> {
     ghost use Rattle.std.specs.Prelude.{◌++◌};
     ghost use Rattle.cdi_container.specs.History.{empty};
-    ghost use Rattle.cdi_container.specs.Seen.{answer_of_put, IsStep, PutStep, RemoveStep, ChooseStep, NamedStep};
+    ghost use Rattle.cdi_container.specs.Seen.{answer_of_change, IsStep, EditStep, PutStep, RemoveStep, ChooseStep, NamedStep};
+    ghost use Rattle.cdi_container.specs.Seen.{left_by_batch, AnswersBatch, BatchStep};
+    ghost use Rattle.cdi_container.specs.Editing.{put_of, changes_in, changes_of_all, refusal_of_batch};
     ghost use Rattle.cdi_container.specs.Seen.{ChainStep, ObserversStep};
     ghost use Rattle.cdi_container.specs.Seen.{ReportStep};
 
@@ -96,8 +103,8 @@ impl<B: Bodies> Container<B> {
         ensures { IsStep self.old command result self.new }
     {
         match command {
-            Command::Put { text } => answer_of_edit(self.put(text.as_slice())),
-            Command::Remove { kind, name } => answer_of_edit(self.remove(kind, name)),
+            Command::Edit(edit) => answer_of_edit(self.make(edit)),
+            Command::Batch(edits) => answer_of_batch(self.batch(edits.into_vec())),
             Command::Choose { bean_type, quals } => {
                 answer_of_choice(self.choose(bean_type, &quals))
             }
@@ -124,26 +131,36 @@ impl<B: Bodies> Container<B> {
             Command::Stop => answer_of_stop(self.stop()),
             Command::Unreadable => {
                 self.restart();
-                Ok(Answer::Refused(Refusal::BadCommand))
+                Ok(refused(Refusal::BadCommand))
             }
+        }
+    }
+
+    /// An edit, as `put` and `remove` make it.
+    fn make(&mut self, edit: Edit) -> Result<(), Error>
+        ensures { EditStep self.old edit result self.new }
+    {
+        match edit {
+            Edit::Put { text } => self.put(text.as_slice()),
+            Edit::Remove { kind, name } => self.remove(kind, name),
         }
     }
 
     /// Puts the declaration that a TOML text spells in the place of the one of its kind and name, or at the end. First the
     /// request context, if a request is active, and the application context end, as they do at a `stop`, on the declarations
-    /// from before (profile). It takes memory for the declaration and, where instances may be live, for a list of all
-    /// declarations and for the entries of its trace, all of it before the first callback: if memory runs out, nothing has
-    /// changed.
+    /// from before (profile). It takes memory for the declaration, for a copy of the list, whose size does not grow with the
+    /// number of declarations, and for the entries of its trace, all of it before the first callback: if memory runs out,
+    /// nothing has changed.
     #[tactic(auto, using(crate::proofs::Putting::put_step))]
     pub fn put(&mut self, text: &[u8]) -> Result<(), Error>
-        ensures answer { Answers result (answer_of_put self.old.decls (decl_of text.now)) }
-        ensures ok { OnOk result (PutsFrom self.old (decl_of text.now) self.new) }
+        ensures answer { Answers result (answer_of_change self.old.decls (put_of (decl_of text.now))) }
+        ensures ok { OnOk result (EditsFrom self.old (changes_in (put_of (decl_of text.now))) self.new) }
         ensures nothing { OnOk result (self.new.standing.live ≡ []) }
         ensures err { IfErr result (λ error. self.new ≡ left_by error self.old) }
         ensures step { PutStep self.old text.now result self.new }
     {
         match read_decl(self.alloc, text) {
-            Ok(decl) => self.edit(Edit::Put(decl)),
+            Ok(decl) => self.edit(Change::Put(decl)),
             Err(error) => Err(self.leave(error)),
         }
     }
@@ -151,32 +168,70 @@ impl<B: Bodies> Container<B> {
     /// Removes the declaration of a kind and name. Contexts end first, as `put` says. It takes memory as that does.
     pub fn remove(&mut self, kind: Kind, name: Name) -> Result<(), Error>
         ensures answer { Answers result (answer_of_removal self.old.decls (RemoveEdit kind name)) }
-        ensures ok { OnOk result (EditsFrom self.old (RemoveEdit kind name) self.new) }
+        ensures ok { OnOk result (EditsFrom self.old (RemoveEdit kind name ∷ []) self.new) }
         ensures nothing { OnOk result (self.new.standing.live ≡ []) }
         ensures err { IfErr result (λ error. self.new ≡ left_by error self.old) }
         ensures step { RemoveStep self.old kind name result self.new }
     {
-        self.edit(Edit::Remove(kind, name))
+        self.edit(Change::Remove(kind, name))
     }
 
-    /// An edit. It is staged, which may be refused or run out of memory; both contexts end; and it is committed.
-    fn edit(&mut self, edit: Edit) -> Result<(), Error>
-        requires { IsShortEdit edit }
-        ensures answer { Answers result (answer_of_edit self.old.decls edit) }
-        ensures ok { OnOk result (EditsFrom self.old edit self.new) }
+    /// Makes some edits as one: all of them or none (profile). Each is judged on the declarations that those before it leave.
+    /// If none is refused, both contexts end once, as `put` says, on the declarations before the batch. A batch without edits
+    /// ends them too. It takes memory for what is put, for a copy of the list and for the entries of its trace, all of it
+    /// before the first callback.
+    ///
+    /// # Errors
+    ///
+    /// `OutOfMemory`; `BatchTooLong` of more than 256 edits; or the refusal of the first edit that is refused, with its
+    /// number.
+    #[tactic(auto, using(crate::proofs::Putting::batch_step))]
+    pub fn batch(&mut self, edits: Vec<Edit>) -> Result<(), BatchError>
+        ensures answer { AnswersBatch result (refusal_of_batch self.old.decls edits.items) }
+        ensures ok { OnOk result (EditsFrom self.old (changes_of_all edits.items) self.new) }
+        ensures nothing { OnOk result (self.new.standing.live ≡ []) }
+        ensures err { IfErr result (λ error. self.new ≡ left_by_batch error self.old) }
+        ensures step { BatchStep self.old edits.items result self.new }
+    {
+        match self.deployment.stage_batch(self.alloc, edits) {
+            Ok(next) => {
+                self.commit(next)?;
+                Ok(())
+            }
+            Err(error) => Err(self.leave_batch(error)),
+        }
+    }
+
+    /// A change of the declarations. It is staged, which may be refused or run out of memory; both contexts end; and it is
+    /// committed.
+    fn edit(&mut self, change: Change) -> Result<(), Error>
+        requires { IsShortEdit change }
+        ensures answer { Answers result (answer_of_edit self.old.decls change) }
+        ensures ok { OnOk result (EditsFrom self.old (change ∷ []) self.new) }
         ensures nothing { OnOk result (self.new.standing.live ≡ []) }
         ensures err { IfErr result (λ error. self.new ≡ left_by error self.old) }
     {
-        match self.deployment.stage(edit) {
+        match self.deployment.stage(change) {
             Ok(next) => {
-                self.stop()?;
-                let names = self.deployment.commit(next);
-                let before = self.told.take();
-                self.told = names.or(before);
+                self.commit(next)?;
                 Ok(())
             }
             Err(error) => Err(self.leave(error)),
         }
+    }
+
+    /// Both contexts end, and then these declarations are present. At `Err` nothing has changed.
+    fn commit(&mut self, next: Decls) -> Result<(), AllocError>
+        requires { AreShort next }
+        ensures ok { OnOk result (Redeploys self.old next self.new) }
+        ensures nothing { OnOk result (self.new.standing.live ≡ []) }
+        ensures err { OnErr result (self.new ≡ self.old) }
+    {
+        self.stop()?;
+        let names = self.deployment.commit(next);
+        let before = self.told.take();
+        self.told = names.or(before);
+        Ok(())
     }
 
     /// What is left of the trace where a command that is no run is refused, or finds no memory.
@@ -185,6 +240,17 @@ impl<B: Bodies> Container<B> {
         ensures left { self.new ≡ left_by error self.old }
     {
         if let Error::Refused(_) = error {
+            self.restart();
+        }
+        error
+    }
+
+    /// The same of a batch.
+    fn leave_batch(&mut self, error: BatchError) -> BatchError
+        ensures same { result ≡ error }
+        ensures left { self.new ≡ left_by_batch error self.old }
+    {
+        if let BatchError::Refused { .. } = error {
             self.restart();
         }
         error

@@ -1,6 +1,8 @@
 //! The present declarations and the stored bodies, and what questions have made of them.
 ghost use Rattle.std.specs.Prelude.{◌≡◌, ◌≢◌, AllPairs, IsSome, None, [], length, true, false, Ok, Err, OnOk, OnErr, IfOk, IfErr};
-ghost use Rattle.cdi_model.specs.Edits.{answer_of_edit, edited};
+ghost use Rattle.cdi_model.specs.Edits.{answer_of_edit, edited, edited_all};
+ghost use Rattle.cdi_container.specs.Editing.{changes_of_all, refusal_of_batch};
+ghost use Rattle.cdi_container.specs.Seen.{AnswersBatch};
 ghost use Rattle.cdi_model.specs.Answering.{Answers};
 ghost use Rattle.cdi_model.specs.Short.{AreShort};
 ghost use Rattle.cdi_model.specs.Work.{with_one};
@@ -17,6 +19,7 @@ ghost use Rattle.cdi_container.specs.Wired.{StandsIn, IsSameDeployment, IsShortE
 ghost use Rattle.cdi_wiring.specs.Wired.{IsWiredOf};
 
 use crate::asked::{Aim, Message, aim_for, can_be_fired};
+use crate::batch::{BatchError, stage_batch};
 use crate::beans::Beans;
 use crate::last_events::LastEvents;
 use cdi_bodies::Bodies;
@@ -24,7 +27,10 @@ use cdi_effective::beans;
 use cdi_ending::Stage;
 use cdi_faults::Fault;
 use cdi_intercept::chain_of;
-use cdi_model::{BeanPlace, Decls, Edit, Error, Iter as DeclIter, Name, Quals, Refusal, Seq, Work};
+use cdi_lines::Edit;
+use cdi_model::{
+    BeanPlace, Decls, Edit as Change, Error, Iter as DeclIter, Name, Quals, Refusal, Seq, Work,
+};
 use cdi_observe::{ObserverId, PlainView, evaluate_observers};
 use cdi_resolve::{BeanList, Choice, choose_name};
 use cdi_run::Player;
@@ -98,18 +104,29 @@ impl<B: Bodies> Deployment<B> {
         Ok(Beans::new(beans(alloc, &self.decls)?))
     }
 
-    /// The declarations after an edit, which are to be committed. It takes memory for what is put, and for a copy of the list.
+    /// The declarations after a change, which are to be committed. It takes memory for what is put, and for a copy of the
+    /// list.
     #[tactic(auto, using(crate::proofs::Editing::edit_short))]
-    pub(crate) fn stage(&self, edit: Edit) -> Result<Decls, Error>
-        requires { IsShortEdit edit }
-        ensures accepted { OnOk result (answer_of_edit self.now.decls edit ≡ Ok tt) }
-        ensures refused { IfErr result (λ error. Answers (Err error) (answer_of_edit self.now.decls edit)) }
-        ensures value { IfOk result (λ next. next ≡ edited self.now.decls edit) }
+    pub(crate) fn stage(&self, change: Change) -> Result<Decls, Error>
+        requires { IsShortEdit change }
+        ensures accepted { OnOk result (answer_of_edit self.now.decls change ≡ Ok tt) }
+        ensures refused { IfErr result (λ error. Answers (Err error) (answer_of_edit self.now.decls change)) }
+        ensures value { IfOk result (λ next. next ≡ edited self.now.decls change) }
         ensures short { IfOk result (λ next. AreShort next) }
     {
         let mut next = self.decls.copy()?;
-        next.apply(edit)?;
+        next.apply(change)?;
         Ok(next)
+    }
+
+    /// The declarations after a batch, which are to be committed. It takes memory as `stage` does.
+    pub(crate) fn stage_batch(&self, alloc: Global, edits: Vec<Edit>) -> Result<Decls, BatchError>
+        ensures ok { IfOk result (λ next. next ≡ edited_all self.now.decls (changes_of_all edits.items)) }
+        ensures short { IfOk result (λ next. AreShort next) }
+        ensures accepted { OnOk result (refusal_of_batch self.now.decls edits.items ≡ None) }
+        ensures refused { IfErr result (λ error. AnswersBatch (Err error) (refusal_of_batch self.now.decls edits.items)) }
+    {
+        stage_batch(alloc, &self.decls, edits)
     }
 
     /// These declarations are present from now on. The names of those from before, where the scene was there. It takes no

@@ -4,6 +4,7 @@
 
 mod answer;
 mod asked;
+mod batch;
 mod beans;
 mod container;
 mod deployment;
@@ -12,6 +13,7 @@ mod last_events;
 mod printing;
 
 pub use answer::Answer;
+pub use batch::{BATCH_LIMIT, BatchError};
 pub use beans::Beans;
 pub use cdi_bodies::{
     Act, Asks, Bodies, Body, Book, BookCause, BookError, Frame, Promise, PromiseBook,
@@ -20,7 +22,7 @@ pub use cdi_contexts::{Actor, InstanceId, Owner};
 pub use cdi_effective::{BeanId, Effective};
 pub use cdi_faults::{Code, Fault, Subject};
 pub use cdi_legal::Entry;
-pub use cdi_lines::{Command, Said, read_line, read_quals};
+pub use cdi_lines::{Command, Edit, Said, read_line, read_quals};
 pub use cdi_model::{
     Arguments, Attributes, BeanDecl, BeanPlace, BindingDecl, CallDecl, Decl, DisposerDecl, Error,
     EventDecl, Failure, Form, Ident, InterceptorDecl, Iter as DeclIter, Kind, MemberDecl, Members,

@@ -97,7 +97,14 @@ impl fmt::Display for Answer {
                 write!(f, "faults {}{list}", faults.len())
             }
             Answer::Given(outcome) => write!(f, "{outcome}"),
-            Answer::Refused(refusal) => write!(f, "refused {}", RefusalText(*refusal)),
+            Answer::Refused {
+                refusal,
+                edit: None,
+            } => write!(f, "refused {}", RefusalText(*refusal)),
+            Answer::Refused {
+                refusal,
+                edit: Some(number),
+            } => write!(f, "refused {} {number}", RefusalText(*refusal)),
         }
     }
 }

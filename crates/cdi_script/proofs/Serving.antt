@@ -13,12 +13,12 @@ use Rattle.cdi_lines.specs.Words.{without_return}
 use Rattle.cdi_lines.specs.Command.{said_of_line}
 use Rattle.cdi_lines.specs.Kept.{ServesLine, ServesText, with_line}
 use Rattle.cdi_lines.proofs.LongLemmas.{length-without_return}
-use Rattle.cdi_lines.specs.declared.command.Command.TheVariants.{Put}
-use Rattle.cdi_script.specs.Commands.{Mode, Outside, InPut, is_dot}
+use Rattle.cdi_script.specs.Commands.{Mode, Outside, InPut, is_dot, put}
 use Rattle.std.specs.declared.alloc.AllocError.{AllocError}
 use Rattle.cdi_container.specs.declared.answer.Answer.{Answer}
 use Rattle.cdi_container.specs.declared.answer.Answer.TheVariants.{Done, Chosen, Intercepted, Observed, Reported, Given, Refused}
-use Rattle.cdi_container.specs.History.{State, LegalAnswer, refusal_of, refusal_of_put}
+use Rattle.cdi_container.specs.History.{State, LegalAnswer, refusal_of}
+use Rattle.cdi_container.specs.Editing.{Reason, alone, put_of, refusal_of_change}
 use Rattle.cdi_script.specs.Runner.{RunnerOn, RunsStep}
 use Rattle.cdi_script.specs.Intake.{ServesMode}
 
@@ -50,30 +50,34 @@ serves_dot kept line (inr h) =
     long_no_dot (without_return kept) (let a = length-without_return kept in let b = h.kept_long in omega arith)
     ∙ sym (long_no_dot (without_return line) (let a = length-without_return line in let b = h.line_long in omega arith))
 
-too_long : (state : State) (text : List ℕ) → 65536 < length text → refusal_of state (Put text) ≡ Some TooLong
-too_long state text long =
-    let refused : decl_of text ≡ Err TooLong = rw (lt-ltb 65536 (length text) long) refl in
-    ap (refusal_of_put state.decls) refused
+-- what a text that is too long is refused for
+long : Reason
+long = (TooLong, None)
+
+too_long : (state : State) (text : List ℕ) → 65536 < length text → refusal_of state (put text) ≡ Some long
+too_long state text much =
+    let refused : decl_of text ≡ Err TooLong = rw (lt-ltb 65536 (length text) much) refl in
+    ap (λ read. alone (refusal_of_change state.decls (put_of read))) refused
 
 -- two texts that are too long are refused alike
 pub put_alike : (old new : State) (kept text : List ℕ) (answer : Result Answer AllocError) → 65536 < length kept
     → 65536 < length text
-    → LegalAnswer old (Put kept) answer new → LegalAnswer old (Put text) answer new
-put_alike old new kept text (Ok Done) k t h = absurd (let e : Some TooLong ≡ None = sym (too_long old kept k) ∙ h.0 in cc)
-put_alike old new kept text (Ok (Chosen choice)) k t h = absurd (let e : Some TooLong ≡ None = sym (too_long old kept k) ∙ h.0 in cc)
+    → LegalAnswer old (put kept) answer new → LegalAnswer old (put text) answer new
+put_alike old new kept text (Ok Done) k t h = absurd (let e : Some long ≡ None = sym (too_long old kept k) ∙ h.0 in cc)
+put_alike old new kept text (Ok (Chosen choice)) k t h = absurd (let e : Some long ≡ None = sym (too_long old kept k) ∙ h.0 in cc)
 put_alike old new kept text (Ok (Intercepted names)) k t h = absurd
-    (let e : Some TooLong ≡ None = sym (too_long old kept k) ∙ h.0 in cc)
-put_alike old new kept text (Ok (Observed ids)) k t h = absurd (let e : Some TooLong ≡ None = sym (too_long old kept k) ∙ h.0 in cc)
-put_alike old new kept text (Ok (Reported list)) k t h = absurd (let e : Some TooLong ≡ None = sym (too_long old kept k) ∙ h.0 in cc)
-put_alike old new kept text (Ok (Given outcome)) k t h = absurd (let e : Some TooLong ≡ None = sym (too_long old kept k) ∙ h.0 in cc)
-put_alike old new kept text (Ok (Refused refusal)) k t h = (too_long old text t ∙ sym (too_long old kept k) ∙ h.0, h.1)
+    (let e : Some long ≡ None = sym (too_long old kept k) ∙ h.0 in cc)
+put_alike old new kept text (Ok (Observed ids)) k t h = absurd (let e : Some long ≡ None = sym (too_long old kept k) ∙ h.0 in cc)
+put_alike old new kept text (Ok (Reported list)) k t h = absurd (let e : Some long ≡ None = sym (too_long old kept k) ∙ h.0 in cc)
+put_alike old new kept text (Ok (Given outcome)) k t h = absurd (let e : Some long ≡ None = sym (too_long old kept k) ∙ h.0 in cc)
+put_alike old new kept text (Ok (Refused refusal edit)) k t h = (too_long old text t ∙ sym (too_long old kept k) ∙ h.0, h.1)
 put_alike old new kept text (Err error) k t h = h
 
-pub serves_put : (old new : RunnerOn) (kept text : List ℕ) → ServesText kept text → RunsStep old new (Put kept)
-    → RunsStep old new (Put text)
-serves_put old new kept text (inl h) r = subst (λ t. RunsStep old new (Put t)) h r
+pub serves_put : (old new : RunnerOn) (kept text : List ℕ) → ServesText kept text → RunsStep old new (put kept)
+    → RunsStep old new (put text)
+serves_put old new kept text (inl h) r = subst (λ t. RunsStep old new (put t)) h r
 serves_put old new kept text (inr h) r = record {
-  step = record r.step { command = Put text };
+  step = record r.step { command = put text };
   command_is = refl;
   memory = r.memory;
   legal = record {

@@ -5,13 +5,13 @@ use Rattle.std.proofs.lemmas.List.{append-nil}
 use Rattle.cdi_model.specs.Bytes.{feed}
 use Rattle.cdi_model.specs.declared.refusal.Refusal.{Refusal}
 use Rattle.cdi_lines.specs.declared.command.Command.{Command}
-use Rattle.cdi_lines.specs.declared.command.Command.TheVariants.{Put, Unreadable}
+use Rattle.cdi_lines.specs.declared.command.Command.TheVariants.{Unreadable}
 use Rattle.cdi_lines.specs.declared.command.Said.{Said}
 use Rattle.cdi_lines.specs.Lines.{NoFeed, ended_from, begun_from, last_line}
 use Rattle.cdi_lines.specs.Command.{said_of_line}
 use Rattle.cdi_lines.specs.Kept.{ServesLine, ServesText, with_line}
 use Rattle.cdi_script.specs.Commands.{Mode, Outside, InPut, commands_said, mode_said, is_dot, commands_of_line, mode_after}
-use Rattle.cdi_script.specs.Commands.{commands_of_lines, mode_of_lines}
+use Rattle.cdi_script.specs.Commands.{commands_of_lines, mode_of_lines, put}
 use Rattle.cdi_container.specs.History.{State}
 use Rattle.cdi_script.specs.Runner.{Runs, RunsStep, Tries}
 use Rattle.cdi_script.specs.Intake.{IntakeOn, ServesMode, TakesLine, TakesSaid, TakesInPut, Advances, EndsLastLine, EndsMode, mode_seen}
@@ -62,14 +62,14 @@ takes_one old new command said is e outside line mode commands stays step = reco
 -- ---- in a put block
 
 module _ (old new : IntakeOn) (kept_text kept : List ℕ) (line : new.line ≡ old.line) where
-  pub takes_put : mode_seen new.mode ≡ Outside → is_dot kept ≡ true → RunsStep old.runner new.runner (Put kept_text)
+  pub takes_put : mode_seen new.mode ≡ Outside → is_dot kept ≡ true → RunsStep old.runner new.runner (put kept_text)
       → TakesInPut old new kept_text kept
   takes_put closed dot step = record {
     line = line;
     runs = λ text whole st sl.
-        let says : commands_of_line (InPut text) whole ≡ Put text ∷ [] = rw (← serves_dot kept whole sl, dot) refl in
+        let says : commands_of_line (InPut text) whole ≡ put text ∷ [] = rw (← serves_dot kept whole sl, dot) refl in
         subst (Runs old.runner new.runner) (sym says)
-        (runs_one old.runner new.runner (Put text) (serves_put old.runner new.runner kept_text text st step));
+        (runs_one old.runner new.runner (put text) (serves_put old.runner new.runner kept_text text st step));
     mode = λ text whole st sl.
         let says : mode_after (InPut text) whole ≡ Outside = rw (← serves_dot kept whole sl, dot) refl in
         serves_as (mode_seen new.mode) Outside (mode_after (InPut text) whole) Outside closed says tt;
@@ -215,10 +215,10 @@ tries_said old new kept said outside is h was whole sm sl =
     subst (Tried old new) (sym says) h
 
 -- the put of a block
-pub tries_put : (old new : IntakeOn) (kept_text kept : List ℕ) → is_dot kept ≡ true → Tried old new (Put kept_text ∷ [])
+pub tries_put : (old new : IntakeOn) (kept_text kept : List ℕ) → is_dot kept ≡ true → Tried old new (put kept_text ∷ [])
     → TriesInPut old new kept_text kept
 tries_put old new kept_text kept dot h text whole st sl =
-    let says : commands_of_line (InPut text) whole ≡ Put text ∷ [] = rw (← serves_dot kept whole sl, dot) refl in
+    let says : commands_of_line (InPut text) whole ≡ put text ∷ [] = rw (← serves_dot kept whole sl, dot) refl in
     subst (Tried old new) (sym says) (tried_put old.runner.container new.runner.container kept_text text st h)
 
 -- a line of the put block that was open

@@ -4,10 +4,9 @@ use Rattle.std.specs.Prelude.{Result, Ok, Err, OnErr}
 use Rattle.std.specs.declared.alloc.AllocError.{AllocError}
 use Rattle.cdi_staging.specs.Naming.{names_of}
 use Rattle.cdi_lines.specs.declared.command.Command.{Command}
-use Rattle.cdi_lines.specs.declared.command.Command.TheVariants.{Put}
 use Rattle.cdi_lines.specs.Kept.{ServesText}
 use Rattle.cdi_container.specs.declared.answer.Answer.{Answer}
-use Rattle.cdi_script.specs.Commands.{AreFirst}
+use Rattle.cdi_script.specs.Commands.{AreFirst, put}
 use Rattle.cdi_container.specs.History.{State, LegalAnswer, trace_behind}
 use Rattle.cdi_container.specs.Seen.{IsStep}
 use Rattle.cdi_script.specs.Runner.{Tries}
@@ -47,16 +46,16 @@ tried_step old new command answer h = inr (
 )
 
 -- what is kept of a put block serves for all of it
-pub tried_put : (old new : State) (kept text : List ℕ) → ServesText kept text → Tries [] (Put kept ∷ []) old new
-    → Tries [] (Put text ∷ []) old new
+pub tried_put : (old new : State) (kept text : List ℕ) → ServesText kept text → Tries [] (put kept ∷ []) old new
+    → Tries [] (put text ∷ []) old new
 tried_put old new kept text h (inl e) = inl e
-tried_put old new kept text (inl h) (inr t) = subst (λ k. Tries [] (Put k ∷ []) old new) h (inr t)
+tried_put old new kept text (inl h) (inr t) = subst (λ k. Tries [] (put k ∷ []) old new) h (inr t)
 tried_put old new kept text (inr h) (inr t) = inr (
-  record t.0 { command = Put text },
+  record t.0 { command = put text },
   ([], refl),
   record {
     answered = put_alike old new kept text t.0.answer h.0 h.1
-        (let k = t.1.1 in let head : t.0.command ≡ Put kept = cc in
+        (let k = t.1.1 in let head : t.0.command ≡ put kept = cc in
         subst (λ c. LegalAnswer old c t.0.answer new) head t.2.answered);
     trace = t.2.trace;
     names = t.2.names;

@@ -3,7 +3,8 @@ use Rattle.std.specs.Prelude.{◌≡◌, ℕ, Bool, List, [], ◌∷◌, ◌++�
 use Rattle.std.specs.Str.{bytes_eq}
 use Rattle.cdi_model.specs.declared.refusal.Refusal.{Refusal}
 use Rattle.cdi_lines.specs.declared.command.Command.{Command}
-use Rattle.cdi_lines.specs.declared.command.Command.TheVariants.{Put, Unreadable}
+use Rattle.cdi_lines.specs.declared.command.Command.TheVariants.{Edit, Unreadable}
+use Rattle.cdi_lines.specs.declared.edit.Edit.TheVariants as edits
 use Rattle.cdi_lines.specs.declared.command.Said.{Said}
 use Rattle.cdi_lines.specs.declared.command.Said.TheVariants as said
 use Rattle.cdi_lines.specs.Lines.{ended_lines, lines}
@@ -15,6 +16,10 @@ use Rattle.cdi_lines.specs.Kept.{with_line}
 pub data Mode : Type 0 where
   Outside : Mode
   InPut : List ℕ → Mode
+
+-- the put of a text
+abbrev pub put : List ℕ → Command
+put text = Edit (edits.Put text)
 
 -- the command that a line outside a put block completes, if it does
 abbrev pub commands_said : Result Said Refusal → List Command
@@ -36,7 +41,7 @@ is_dot line = bytes_eq (without_return line) (codes ".")
 -- the command that a line completes, if it does
 abbrev pub commands_of_line : Mode → List ℕ → List Command
 commands_of_line Outside line = commands_said (said_of_line line)
-commands_of_line (InPut text) line = if is_dot line then Put text ∷ [] else []
+commands_of_line (InPut text) line = if is_dot line then put text ∷ [] else []
 
 -- where the next line stands
 abbrev pub mode_after : Mode → List ℕ → Mode

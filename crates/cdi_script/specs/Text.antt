@@ -27,7 +27,7 @@ abbrev pub text_of : Bool → History → List ℕ
 text_of quiet history = flat_map (text_of_step quiet) history
 
 abbrev pub is_refused : Result Answer AllocError → Bool
-is_refused (Ok (Refused refusal)) = true
+is_refused (Ok (Refused refusal edit)) = true
 is_refused answer = false
 
 abbrev pub is_out_of_memory : Result Answer AllocError → Bool

@@ -12,7 +12,7 @@ ghost use Rattle.cdi_script.specs.Intake.{IsFresh};
 use crate::runner::Runner;
 use cdi_bodies::Bodies;
 use cdi_container::Container;
-use cdi_lines::{Block, Command, Line, Said, ends_block, find_feed, read_line};
+use cdi_lines::{Block, Command, Edit, Line, Said, ends_block, find_feed, read_line};
 use cdi_model::Error;
 use std::alloc::{AllocError, Global};
 use std::mem;
@@ -199,12 +199,9 @@ impl Intake {
         ensures tries { OnErr result (TriesInPut (intake_on self.old container.old) (intake_on self.new container.new) block line.now) }
     {
         if ends_block(line) {
-            return self.runner.execute(
-                container,
-                Command::Put {
-                    text: block.into_text(),
-                },
-            );
+            let text = block.into_text();
+            let command = Command::Edit(Edit::Put { text });
+            return self.runner.execute(container, command);
         }
         block.push_line(line)?;
         self.mode = Mode::InPut(block);

@@ -65,7 +65,7 @@ impl Runner {
         }
         push_answer(&mut self.scratch, answer)?;
         self.out.extend_from_slice(self.scratch.as_slice())?;
-        if let Answer::Refused(_) = answer {
+        if let Answer::Refused { .. } = answer {
             self.refused = true;
         }
         Ok(())

@@ -1,0 +1,66 @@
+-- What an edit changes, and why one is refused: by itself, and in a batch.
+use Rattle.std.specs.Prelude.{ℕ, ◌+◌, nat_lt, List, [], ◌∷◌, length, flat_map, Option, Some, None, Result, Ok, Err, if◌then◌else◌}
+use Rattle.cdi_model.specs.declared.decl.Decl.{Decl}
+use Rattle.cdi_model.specs.declared.edit.Edit.{Edit as Change}
+use Rattle.cdi_model.specs.declared.edit.Edit.TheVariants as changes
+use Rattle.cdi_model.specs.declared.refusal.Refusal.{Refusal}
+use Rattle.cdi_model.specs.declared.refusal.Refusal.TheVariants.{BatchTooLong}
+use Rattle.cdi_model.specs.Edits.{edited_all, refusal_of_edit}
+use Rattle.cdi_text.specs.Reading.{decl_of}
+use Rattle.cdi_lines.specs.declared.edit.Edit.{Edit}
+use Rattle.cdi_lines.specs.declared.edit.Edit.TheVariants as edits
+
+-- ---- one edit
+
+-- a put of what a text spells
+abbrev pub put_of : Result Decl Refusal → Result Change Refusal
+put_of (Ok d) = Ok (changes.Put d)
+put_of (Err refusal) = Err refusal
+
+-- the change of the list of declarations that an edit asks for, or why it asks for none
+abbrev pub change_of : Edit → Result Change Refusal
+change_of (edits.Put text) = put_of (decl_of text)
+change_of (edits.Remove kind name) = Ok (changes.Remove kind name)
+
+-- it, if there is one
+abbrev pub changes_in : Result Change Refusal → List Change
+changes_in (Ok change) = change ∷ []
+changes_in (Err refusal) = []
+
+abbrev pub changes_of : Edit → List Change
+changes_of edit = changes_in (change_of edit)
+
+-- why it is refused on some declarations, if it is
+abbrev pub refusal_of_change : List Decl → Result Change Refusal → Option Refusal
+refusal_of_change ds (Ok change) = refusal_of_edit ds change
+refusal_of_change ds (Err refusal) = Some refusal
+
+-- ---- a batch
+
+-- why a command is refused, and the number of the edit of a batch for which it is
+abbrev pub Reason : Type 0
+Reason = Refusal × Option ℕ
+
+-- the number of no edit
+abbrev pub alone : Option Refusal → Option Reason
+alone None = None
+alone (Some refusal) = Some (refusal, None)
+
+-- the edit of a number is refused, or else what is refused later
+abbrev pub refused_first : ℕ → Option Refusal → Option Reason → Option Reason
+refused_first number (Some refusal) later = Some (refusal, Some number)
+refused_first number None later = later
+
+-- the first of some edits that is refused on the declarations that those before it leave, where they are counted from this number
+abbrev pub first_refusal : ℕ → List Decl → List Edit → Option Reason
+first_refusal number ds [] = None
+first_refusal number ds (e ∷ es) = refused_first number (refusal_of_change ds (change_of e))
+    (first_refusal (number + 1) (edited_all ds (changes_of e)) es)
+
+-- why a batch is refused, if it is: more than 256 edits (profile), or the first of them that is refused
+abbrev pub refusal_of_batch : List Decl → List Edit → Option Reason
+refusal_of_batch ds es = if nat_lt 256 (length es) then Some (BatchTooLong, None) else first_refusal 1 ds es
+
+-- the changes of all its edits, in order
+abbrev pub changes_of_all : List Edit → List Change
+changes_of_all es = flat_map changes_of es

@@ -1,0 +1,136 @@
+//! Batches of edits: each edit is made on a list of its own, and judged on what those before it leave.
+ghost use Rattle.std.specs.Prelude.{◌≡◌, ◌≤◌, ◌+◌, ◌∷◌, [], length, Err, OnOk, OnErr, IfOk, IfErr};
+ghost use Rattle.cdi_model.specs.Answering.{Answers};
+ghost use Rattle.cdi_model.specs.Edits.{edited_all};
+ghost use Rattle.cdi_model.specs.Short.{AreShort};
+ghost use Rattle.cdi_container.specs.Editing.{change_of, changes_of, changes_of_all, first_refusal, refusal_of_batch};
+ghost use Rattle.cdi_container.specs.Seen.{answer_of_change, AnswersBatch, refused_at};
+ghost use Rattle.cdi_container.specs.Wired.{IsShortEdit};
+
+use cdi_lines::Edit;
+use cdi_model::{Decls, Edit as Change, Error, Refusal};
+use cdi_text::read_decl;
+use std::alloc::{AllocError, Global};
+use std::fmt;
+
+/// How many edits a batch has at most.
+pub const BATCH_LIMIT: usize = 256;
+
+/// Why a batch is not made. It has changed nothing.
+#[derive(Clone, Copy, Debug, PartialEq, Eq)]
+pub enum BatchError {
+    OutOfMemory,
+    /// An edit is refused.
+    Refused {
+        refusal: Refusal,
+        /// Which one, counted from 1; none where the batch is too long.
+        edit: Option<usize>,
+    },
+}
+
+impl BatchError {
+    /// The edit of a number was refused, or found no memory.
+    fn of(error: Error, number: usize) -> BatchError
+        ensures { result ≡ refused_at number error }
+    {
+        match error {
+            Error::OutOfMemory => BatchError::OutOfMemory,
+            Error::Refused(refusal) => BatchError::Refused {
+                refusal,
+                edit: Some(number),
+            },
+        }
+    }
+}
+
+impl From<AllocError> for BatchError {
+    ghost use Rattle.std.specs.Prelude.{◌≡◌};
+    ghost use Rattle.cdi_container.specs.declared.batch.BatchError.TheVariants.{OutOfMemory};
+
+    ghost from_gives = { λ _ e. e ≡ OutOfMemory };
+
+    fn from(_error: AllocError) -> BatchError {
+        BatchError::OutOfMemory
+    }
+}
+
+impl fmt::Display for BatchError {
+    fn fmt<W: fmt::Write>(&self, f: &mut fmt::Formatter<W>) -> fmt::Result {
+        match self {
+            BatchError::OutOfMemory => write!(f, "out of memory"),
+            BatchError::Refused {
+                refusal,
+                edit: Some(number),
+            } => write!(f, "edit {number}: {refusal}"),
+            BatchError::Refused {
+                refusal,
+                edit: None,
+            } => write!(f, "{refusal}"),
+        }
+    }
+}
+
+/// The declarations after a batch. It takes memory for a copy of the list and for what is put.
+pub(crate) fn stage_batch(
+    alloc: Global,
+    decls: &Decls,
+    edits: Vec<Edit>,
+) -> Result<Decls, BatchError>
+    requires { AreShort decls.now }
+    ensures ok { IfOk result (λ next. next ≡ edited_all decls.now (changes_of_all edits.items)) }
+    ensures short { IfOk result (λ next. AreShort next) }
+    ensures accepted { OnOk result (refusal_of_batch decls.now edits.items ≡ None) }
+    ensures refused { IfErr result (λ error. AnswersBatch (Err error) (refusal_of_batch decls.now edits.items)) }
+{
+    if edits.len() > BATCH_LIMIT {
+        return Err(BatchError::Refused {
+            refusal: Refusal::BatchTooLong,
+            edit: None,
+        });
+    }
+    let mut next = decls.copy()?;
+    make_all(alloc, &mut next, edits)?;
+    Ok(next)
+}
+
+/// Makes some edits, in order, up to the first that is refused.
+fn make_all(alloc: Global, decls: &mut Decls, edits: Vec<Edit>) -> Result<(), BatchError>
+    requires few { length edits.items ≤ 256 }
+    requires short { AreShort decls.old }
+    ensures ok { OnOk result (decls.new ≡ edited_all decls.old (changes_of_all edits.items)) }
+    ensures short { OnOk result (AreShort decls.new) }
+    ensures answer { AnswersBatch result (first_refusal 1 decls.old edits.items) }
+{
+    let mut number = 0;
+    for edit in edits {
+        number += 1;
+        match make(alloc, decls, edit) {
+            Ok(()) => {}
+            Err(error) => return Err(BatchError::of(error, number)),
+        }
+    }
+    Ok(())
+}
+
+/// Makes an edit.
+#[tactic(auto, using(crate::proofs::Editing::edit_short))]
+pub(crate) fn make(alloc: Global, decls: &mut Decls, edit: Edit) -> Result<(), Error>
+    requires { AreShort decls.old }
+    ensures answer { Answers result (answer_of_change decls.old (change_of edit)) }
+    ensures ok { OnOk result (decls.new ≡ edited_all decls.old (changes_of edit)) }
+    ensures short { OnOk result (AreShort decls.new) }
+{
+    let change = read_change(alloc, edit)?;
+    decls.apply(change)
+}
+
+/// The change that an edit asks for.
+fn read_change(alloc: Global, edit: Edit) -> Result<Change, Error>
+    ensures answer { Answers result (change_of edit) }
+    ensures short { IfOk result (λ change. IsShortEdit change) }
+{
+    match edit {
+        Edit::Put { text } => Ok(Change::Put(read_decl(alloc, text.as_slice())?)),
+        Edit::Remove { kind, name } => Ok(Change::Remove(kind, name)),
+    }
+}
