@@ -8,9 +8,10 @@ ghost use Rattle.cdi_container.specs.Seen.{answer_of_change, AnswersBatch, refus
 ghost use Rattle.cdi_container.specs.Wired.{IsShortEdit};
 
 use cdi_lines::Edit;
-use cdi_model::{Decls, Edit as Change, Error, Refusal};
+use cdi_model::{Decls, Edit as Change, Error as CallError, Refusal};
 use cdi_text::read_decl;
 use std::alloc::{AllocError, Global};
+use std::error::Error;
 use std::fmt;
 
 /// How many edits a batch has at most.
@@ -30,12 +31,12 @@ pub enum BatchError {
 
 impl BatchError {
     /// The edit of a number was refused, or found no memory.
-    fn of(error: Error, number: usize) -> BatchError
+    fn of(error: CallError, number: usize) -> BatchError
         ensures { result ≡ refused_at number error }
     {
         match error {
-            Error::OutOfMemory => BatchError::OutOfMemory,
-            Error::Refused(refusal) => BatchError::Refused {
+            CallError::OutOfMemory => BatchError::OutOfMemory,
+            CallError::Refused(refusal) => BatchError::Refused {
                 refusal,
                 edit: Some(number),
             },
@@ -69,6 +70,8 @@ impl fmt::Display for BatchError {
         }
     }
 }
+
+impl Error for BatchError {}
 
 /// The declarations after a batch. It takes memory for a copy of the list and for what is put.
 pub(crate) fn stage_batch(
@@ -114,7 +117,7 @@ fn make_all(alloc: Global, decls: &mut Decls, edits: Vec<Edit>) -> Result<(), Ba
 
 /// Makes an edit.
 #[tactic(auto, using(crate::proofs::Editing::edit_short))]
-pub(crate) fn make(alloc: Global, decls: &mut Decls, edit: Edit) -> Result<(), Error>
+pub(crate) fn make(alloc: Global, decls: &mut Decls, edit: Edit) -> Result<(), CallError>
     requires { AreShort decls.old }
     ensures answer { Answers result (answer_of_change decls.old (change_of edit)) }
     ensures ok { OnOk result (decls.new ≡ edited_all decls.old (changes_of edit)) }
@@ -125,7 +128,7 @@ pub(crate) fn make(alloc: Global, decls: &mut Decls, edit: Edit) -> Result<(), E
 }
 
 /// The change that an edit asks for.
-fn read_change(alloc: Global, edit: Edit) -> Result<Change, Error>
+fn read_change(alloc: Global, edit: Edit) -> Result<Change, CallError>
     ensures answer { Answers result (change_of edit) }
     ensures short { IfOk result (λ change. IsShortEdit change) }
 {

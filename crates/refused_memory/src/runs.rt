@@ -1,9 +1,9 @@
 //! Lookups, calls, an event, requests, edits and a stop of a container, of which any one allocation may be refused.
 use crate::Difference;
-use Asked::{Begin, Call, End, Fire, LookUp, Put, Remove, Stop};
-use cdi_container::Container;
+use Asked::{Batch, Begin, Call, End, Fire, LookUp, Put, Remove, Stop};
+use cdi_container::{BatchError, Container, Edit};
 use cdi_fixtures::name;
-use cdi_model::{Error, Ident, Kind, Name, Outcome, Quals, Val};
+use cdi_model::{Error, Ident, Kind, Name, Outcome, Quals, Seq, Val};
 use cdi_stock::StockBodies;
 use std::alloc::{AllocError, Global};
 
@@ -14,6 +14,8 @@ enum Asked {
     Call(i64, &'static [u8]),
     Fire(i64, &'static [u8]),
     Put(&'static [u8]),
+    /// Of these texts.
+    Batch(&'static [&'static [u8]]),
     /// Of a type.
     Remove(&'static [u8]),
     Begin,
@@ -39,6 +41,12 @@ enum Going {
 }
 
 const NULL: Option<Val> = Some(Val::Null);
+
+/// What a batch puts.
+const PUTS: &[&[u8]] = &[
+    b"kind=\"type\"\nname=\"E\"\n",
+    b"kind=\"type\"\nname=\"F\"\n",
+];
 
 /// A dependent bean with a point and an observer method, the bean that its point holds, a bean of the request, and one of the
 /// application, which may fire an event and around which is an interceptor that has a point too.
@@ -149,7 +157,7 @@ static STEPS: [Step; 20] = [
         trace: b"  create R#7\n  ready R#7\n",
     },
     Step {
-        asked: Put(b"kind=\"type\"\nname=\"E\"\n"),
+        asked: Batch(PUTS),
         value: None,
         trace: b"  destroy R#7
   gone R#7
@@ -293,7 +301,7 @@ static STEPS: [Step; 20] = [
   gone S#14
 ",
     },
-    // Where nothing was asked since the last edit, one is made in place.
+    // Where nothing was asked since the last edit, nothing ends.
     Step {
         asked: Put(b"kind=\"type\"\nname=\"E\"\n"),
         value: None,
@@ -414,6 +422,7 @@ fn make(
         Call(arg, text) => return answer_of(container, name(text)?, &quals, Val::Int(*arg)),
         Fire(arg, text) => return outcome_of(container, name(text)?, &quals, Val::Int(*arg)),
         Put(text) => declare_one(container, text)?,
+        Batch(texts) => declare_all(container, puts_of(alloc, texts)?)?,
         Remove(text) => container.remove(Kind::Type, name(text)?)?,
         Begin => begin_request(container)?,
         End => end_request(container)?,
@@ -452,7 +461,7 @@ fn repeats(
 /// call nothing is live, and the numbers of instances go on, so the steps end there.
 fn refused(alloc: Global, container: &mut Container<StockBodies>, step: &Step) -> Going {
     let is_right = match step.asked {
-        Put(_) | Remove(_) | End | Stop => repeats(alloc, container, step) == Ok(true),
+        Put(_) | Batch(_) | Remove(_) | End | Stop => repeats(alloc, container, step) == Ok(true),
         _ => container.trace().is_empty(),
     };
     if is_right {
@@ -484,6 +493,26 @@ fn take(alloc: Global, container: &mut Container<StockBodies>, step: &Step) -> G
 
 fn declare_one(container: &mut Container<StockBodies>, text: &[u8]) -> Result<(), Error> {
     container.put(text)
+}
+
+fn puts_of(alloc: Global, texts: &[&[u8]]) -> Result<Vec<Edit>, AllocError> {
+    let mut edits = Vec::with_capacity(alloc, texts.len())?;
+    for text in texts {
+        let mut copy = Vec::with_capacity(alloc, text.len())?;
+        copy.extend_from_slice(text)?;
+        let text = Seq::from_vec(copy);
+        edits.push(Edit::Put { text })?;
+    }
+    Ok(edits)
+}
+
+/// Makes a batch.
+fn declare_all(container: &mut Container<StockBodies>, edits: Vec<Edit>) -> Result<(), Error> {
+    match container.batch(edits) {
+        Ok(()) => Ok(()),
+        Err(BatchError::OutOfMemory) => Err(Error::OutOfMemory),
+        Err(BatchError::Refused { refusal, .. }) => Err(Error::Refused(refusal)),
+    }
 }
 
 fn declare(container: &mut Container<StockBodies>) -> Result<(), Error> {
