@@ -193,13 +193,12 @@ impl<B: Bodies> Container<B> {
         ensures err { IfErr result (λ error. self.new ≡ left_by_batch error self.old) }
         ensures step { BatchStep self.old edits.items result self.new }
     {
-        match self.deployment.stage_batch(self.alloc, edits) {
-            Ok(next) => {
-                self.commit(next)?;
-                Ok(())
-            }
-            Err(error) => Err(self.leave_batch(error)),
-        }
+        let next = match self.deployment.stage_batch(self.alloc, edits) {
+            Ok(next) => next,
+            Err(error) => return Err(self.leave_batch(error)),
+        };
+        self.commit(next)?;
+        Ok(())
     }
 
     /// A change of the declarations. It is staged, which may be refused or run out of memory; both contexts end; and it is
