@@ -2,9 +2,8 @@
 use Rattle.std.proofs.Common.{◌≡◌, List, [], ◌∷◌, ◌++◌, refl, ap, sym, ◌∙◌, subst, Bool, true, false, None}
 use Rattle.std.specs.Prelude.{Result, Ok, Err, if◌then◌else◌}
 use Rattle.std.specs.declared.alloc.AllocError.{AllocError}
-use Rattle.cdi_model.specs.declared.decl.Decl.{Decl}
 use Rattle.cdi_model.specs.declared.edit.Edit.{Edit as Change}
-use Rattle.cdi_model.specs.Edits.{edited, edited_all}
+use Rattle.cdi_model.specs.Edits.{edited_all}
 use Rattle.cdi_lines.specs.declared.command.Command.{Command}
 use Rattle.cdi_lines.specs.declared.command.Command.TheVariants.{Edit, Batch, Choose, Named, Chain, Observers, Report, LookUp, Call, Fire}
 use Rattle.cdi_lines.specs.declared.command.Command.TheVariants.{BeginRequest, EndRequest}
@@ -12,12 +11,9 @@ use Rattle.cdi_lines.specs.declared.command.Command.TheVariants.{Stop, Unreadabl
 use Rattle.cdi_container.specs.declared.answer.Answer.{Answer}
 use Rattle.cdi_container.specs.declared.answer.Answer.TheVariants.{Done, Chosen, Intercepted, Observed, Reported, Given, Refused}
 use Rattle.cdi_container.specs.Editing.{changes_of, changes_of_all}
+use Rattle.cdi_container.proofs.BatchLemmas.{edited_all-append}
 use Rattle.cdi_container.specs.History.{State, empty, emptied, History, Acts, EditsFrom, LegalAnswer, LegalHistory, refusal_of}
 use Rattle.cdi_container.specs.History.{accepted_changes, accepted_edits, RestsOnAcceptedEdits, runs}
-
-edited_all-append : (ds : List Decl) (es fs : List Change) → edited_all ds (es ++ fs) ≡ edited_all (edited_all ds es) fs
-edited_all-append ds [] fs = refl
-edited_all-append ds (e ∷ es) fs = edited_all-append (edited ds e) es fs
 
 decls_of_edit : (old new : State) (changes : List Change) → EditsFrom old changes new → new.decls ≡ edited_all old.decls changes
 decls_of_edit old new changes h = ap (λ s. s.decls) h.rest

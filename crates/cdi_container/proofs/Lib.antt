@@ -2,6 +2,7 @@ mod Aiming
 mod Ending
 pub mod Telling
 mod Putting
+mod BatchLemmas
 mod HistoryLemmas
 mod SharingLemmas
 mod ToldLemmas

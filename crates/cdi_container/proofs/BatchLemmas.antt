@@ -1,0 +1,40 @@
+-- The edits of a batch, one after another.
+use Rattle.std.proofs.Common.{◌≡◌, ℕ, ◌+◌, List, [], ◌∷◌, ◌++◌, Option, None, Some, refl, ap, ◌∙◌}
+use Rattle.std.specs.Prelude.{Result, Ok, Err}
+use Rattle.cdi_model.specs.declared.decl.Decl.{Decl}
+use Rattle.cdi_model.specs.declared.edit.Edit.{Edit as Change}
+use Rattle.cdi_model.specs.declared.refusal.Error.{Error}
+use Rattle.cdi_model.specs.declared.refusal.Error.TheVariants as errors
+use Rattle.cdi_model.specs.declared.refusal.Refusal.{Refusal}
+use Rattle.cdi_model.specs.Answering.{Answers}
+use Rattle.cdi_model.specs.Edits.{edited, edited_all}
+use Rattle.cdi_lines.specs.declared.edit.Edit.{Edit}
+use Rattle.cdi_container.specs.Editing.{Reason, change_of, changes_of, changes_of_all, first_refusal, refusal_of_change, refused_first}
+use Rattle.cdi_container.specs.Seen.{AnswersBatch, answer_of_change, refused_at}
+use Rattle.cdi_container.proofs.Putting.{accepted_change, refused_change}
+
+pub edited_all-append : (ds : List Decl) (es fs : List Change) → edited_all ds (es ++ fs) ≡ edited_all (edited_all ds es) fs
+edited_all-append ds [] fs = refl
+edited_all-append ds (e ∷ es) fs = edited_all-append (edited ds e) es fs
+
+-- what an edit and further ones leave
+pub left_by_first : (ds next : List Decl) (e : Edit) (es : List Edit) → next ≡ edited_all ds (changes_of e)
+    → edited_all ds (changes_of_all (e ∷ es)) ≡ edited_all next (changes_of_all es)
+left_by_first ds next e es h = rw h (edited_all-append ds (changes_of e) (changes_of_all es))
+
+-- an edit is not refused, but a further one may be
+pub first_accepted : (number : ℕ) (ds next : List Decl) (e : Edit) (es : List Edit) (u : Unit {0})
+    → answer_of_change ds (change_of e) ≡ Ok u → next ≡ edited_all ds (changes_of e)
+    → first_refusal number ds (e ∷ es) ≡ first_refusal (number + 1) next es
+first_accepted number ds next e es u accepted h = rw h
+    (ap (λ (r : Option Refusal). refused_first number r (first_refusal (number + 1) (edited_all ds (changes_of e)) es))
+    (accepted_change ds (change_of e) u accepted))
+
+-- an edit is refused, or found no memory
+pub first_refused : (number : ℕ) (ds : List Decl) (e : Edit) (es : List Edit) (error : Error)
+    → Answers {Unit {0}} (Err error) (answer_of_change ds (change_of e))
+    → AnswersBatch {Unit {0}} (Err (refused_at number error)) (first_refusal number ds (e ∷ es))
+first_refused number ds e es errors.OutOfMemory h = tt
+first_refused number ds e es (errors.Refused refusal) h =
+    ap (λ (r : Option Refusal). refused_first number r (first_refusal (number + 1) (edited_all ds (changes_of e)) es))
+    (refused_change ds (change_of e) refusal h)
