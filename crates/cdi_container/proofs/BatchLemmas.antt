@@ -9,7 +9,7 @@ use Rattle.cdi_model.specs.declared.refusal.Refusal.{Refusal}
 use Rattle.cdi_model.specs.Answering.{Answers}
 use Rattle.cdi_model.specs.Edits.{edited, edited_all}
 use Rattle.cdi_lines.specs.declared.edit.Edit.{Edit}
-use Rattle.cdi_container.specs.Editing.{Reason, change_of, changes_of, changes_of_all, first_refusal, refusal_of_change, refused_first}
+use Rattle.cdi_container.specs.Editing.{asked_by, change_of, changes_of, changes_of_all, first_refusal, refusal_of_change, refused_first}
 use Rattle.cdi_container.specs.Seen.{AnswersBatch, answer_of_change, refused_at}
 use Rattle.cdi_container.proofs.Putting.{accepted_change, refused_change}
 
@@ -25,16 +25,16 @@ left_by_first ds next e es h = rw h (edited_all-append ds (changes_of e) (change
 -- an edit is not refused, but a further one may be
 pub first_accepted : (number : ℕ) (ds next : List Decl) (e : Edit) (es : List Edit) (u : Unit {0})
     → answer_of_change ds (change_of e) ≡ Ok u → next ≡ edited_all ds (changes_of e)
-    → first_refusal number ds (e ∷ es) ≡ first_refusal (number + 1) next es
+    → first_refusal number ds (asked_by (e ∷ es)) ≡ first_refusal (number + 1) next (asked_by es)
 first_accepted number ds next e es u accepted h = rw h
-    (ap (λ (r : Option Refusal). refused_first number r (first_refusal (number + 1) (edited_all ds (changes_of e)) es))
+    (ap (λ (r : Option Refusal). refused_first number r (first_refusal (number + 1) (edited_all ds (changes_of e)) (asked_by es)))
     (accepted_change ds (change_of e) u accepted))
 
 -- an edit is refused, or found no memory
 pub first_refused : (number : ℕ) (ds : List Decl) (e : Edit) (es : List Edit) (error : Error)
     → Answers {Unit {0}} (Err error) (answer_of_change ds (change_of e))
-    → AnswersBatch {Unit {0}} (Err (refused_at number error)) (first_refusal number ds (e ∷ es))
+    → AnswersBatch {Unit {0}} (Err (refused_at number error)) (first_refusal number ds (asked_by (e ∷ es)))
 first_refused number ds e es errors.OutOfMemory h = tt
 first_refused number ds e es (errors.Refused refusal) h =
-    ap (λ (r : Option Refusal). refused_first number r (first_refusal (number + 1) (edited_all ds (changes_of e)) es))
+    ap (λ (r : Option Refusal). refused_first number r (first_refusal (number + 1) (edited_all ds (changes_of e)) (asked_by es)))
     (refused_change ds (change_of e) refusal h)

@@ -1,5 +1,5 @@
 -- What an edit changes, and why one is refused: by itself, and in a batch.
-use Rattle.std.specs.Prelude.{ℕ, ◌+◌, nat_lt, List, [], ◌∷◌, length, flat_map, Option, Some, None, Result, Ok, Err, if◌then◌else◌}
+use Rattle.std.specs.Prelude.{ℕ, ◌+◌, nat_lt, List, [], ◌∷◌, length, map, flat_map, Option, Some, None, Result, Ok, Err, if◌then◌else◌}
 use Rattle.cdi_model.specs.declared.decl.Decl.{Decl}
 use Rattle.cdi_model.specs.declared.edit.Edit.{Edit as Change}
 use Rattle.cdi_model.specs.declared.edit.Edit.TheVariants as changes
@@ -51,16 +51,20 @@ abbrev pub refused_first : ℕ → Option Refusal → Option Reason → Option R
 refused_first number (Some refusal) later = Some (refusal, Some number)
 refused_first number None later = later
 
--- the first of some edits that is refused on the declarations that those before it leave, where they are counted from this number
-abbrev pub first_refusal : ℕ → List Decl → List Edit → Option Reason
+-- what its edits ask for, in order
+abbrev pub asked_by : List Edit → List (Result Change Refusal)
+asked_by es = map change_of es
+
+-- the first of what is asked for that is refused on the declarations that the changes before it leave, counted from this number
+abbrev pub first_refusal : ℕ → List Decl → List (Result Change Refusal) → Option Reason
 first_refusal number ds [] = None
-first_refusal number ds (e ∷ es) = refused_first number (refusal_of_change ds (change_of e))
-    (first_refusal (number + 1) (edited_all ds (changes_of e)) es)
+first_refusal number ds (asked ∷ later) = refused_first number (refusal_of_change ds asked)
+    (first_refusal (number + 1) (edited_all ds (changes_in asked)) later)
 
 -- why a batch is refused, if it is: more than 256 edits (profile), or the first of them that is refused
 abbrev pub refusal_of_batch : List Decl → List Edit → Option Reason
-refusal_of_batch ds es = if nat_lt 256 (length es) then Some (BatchTooLong, None) else first_refusal 1 ds es
+refusal_of_batch ds es = if nat_lt 256 (length es) then Some (BatchTooLong, None) else first_refusal 1 ds (asked_by es)
 
 -- the changes of all its edits, in order
 abbrev pub changes_of_all : List Edit → List Change
-changes_of_all es = flat_map changes_of es
+changes_of_all es = flat_map changes_in (asked_by es)

@@ -3,7 +3,7 @@ ghost use Rattle.std.specs.Prelude.{◌≡◌, ◌≤◌, ◌+◌, ◌∷◌, []
 ghost use Rattle.cdi_model.specs.Answering.{Answers};
 ghost use Rattle.cdi_model.specs.Edits.{edited_all};
 ghost use Rattle.cdi_model.specs.Short.{AreShort};
-ghost use Rattle.cdi_container.specs.Editing.{change_of, changes_of, changes_of_all, first_refusal, refusal_of_batch};
+ghost use Rattle.cdi_container.specs.Editing.{asked_by, change_of, changes_of, changes_of_all, first_refusal, refusal_of_batch};
 ghost use Rattle.cdi_container.specs.Seen.{answer_of_change, AnswersBatch, refused_at};
 ghost use Rattle.cdi_container.specs.Wired.{IsShortEdit};
 
@@ -102,7 +102,7 @@ fn make_all(alloc: Global, decls: &mut Decls, edits: Vec<Edit>) -> Result<(), Ba
     requires short { AreShort decls.old }
     ensures ok { OnOk result (decls.new ≡ edited_all decls.old (changes_of_all edits.items)) }
     ensures short { OnOk result (AreShort decls.new) }
-    ensures answer { AnswersBatch result (first_refusal 1 decls.old edits.items) }
+    ensures answer { AnswersBatch result (first_refusal 1 decls.old (asked_by edits.items)) }
 {
     let mut number = 0;
     for edit in edits {
