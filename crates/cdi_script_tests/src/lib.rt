@@ -11,6 +11,8 @@ mod devices;
 #[cfg(test)]
 mod fixtures;
 #[cfg(test)]
+mod full_list;
+#[cfg(test)]
 mod long_rows;
 #[cfg(test)]
 mod proceeding;
