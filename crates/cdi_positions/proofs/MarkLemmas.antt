@@ -3,7 +3,9 @@ use Rattle.std.proofs.Common.{◌≡◌, ℕ, zero, suc, ◌+◌, ◌*◌, ◌<�
 use Rattle.std.specs.List.{filter, flat_map}
 use Rattle.std.proofs.lemmas.List.{length-take, take_all, take-append-le, get_or_append_left, get_or-append-add, set-append_left}
 use Rattle.std.proofs.lemmas.List.Elements.{filter-append}
-use Rattle.cdi_positions.specs.Marks.{count_below, is_marked, marked_count, IsOutside}
+use Rattle.std.specs.Prelude.{if◌then◌else◌}
+use Rattle.std.proofs.lemmas.Bool.{false≢true}
+use Rattle.cdi_positions.specs.Marks.{count_below, is_marked, marked_count, marked_from, IsOutside}
 
 pub marked_count-append : (a b : List Bool) → marked_count (a ++ b) ≡ marked_count a + marked_count b
 marked_count-append a b = ap length (filter-append (λ m. m) a b) ∙ length-append (filter (λ m. m) a) (filter (λ m. m) b)
@@ -75,15 +77,15 @@ module _ (f : ℕ → List Bool) (k : ℕ) (long : (w : ℕ) → length (f w) �
       ap (is_marked (f w ++ flat_map f ws)) (later i j w) ∙ get_or-append-add (f w) (flat_map f ws) (i * k + j) false
       ∙ at-row ws i j (omega arith) q
 
-  pub set-row : (ws : List ℕ) (i j v : ℕ) → i < length ws → j < k → f v ≡ set (f (get_or ws i 0)) j true
-      → flat_map f (set ws i v) ≡ set (flat_map f ws) (i * k + j) true
-  set-row [] i j v p q e = absurd (omega arith)
-  set-row (w ∷ ws) zero j v p q e =
-      ap (λ ms. ms ++ flat_map f ws) e ∙ sym (set-append_left (f w) (flat_map f ws) j true (omega (arith, long w)))
-      ∙ same_set j (zero * k + j) (f w ++ flat_map f ws) true (sym (first j))
-  set-row (w ∷ ws) (suc i) j v p q e =
-      ap (λ ms. f w ++ ms) (set-row ws i j v (omega arith) q e) ∙ sym (set-append-add (f w) (flat_map f ws) (i * k + j) true)
-      ∙ ap (λ n. set (f w ++ flat_map f ws) n true) (sym (later i j w))
+  pub set-row : (ws : List ℕ) (i j v : ℕ) (b : Bool) → i < length ws → j < k → f v ≡ set (f (get_or ws i 0)) j b
+      → flat_map f (set ws i v) ≡ set (flat_map f ws) (i * k + j) b
+  set-row [] i j v b p q e = absurd (omega arith)
+  set-row (w ∷ ws) zero j v b p q e =
+      ap (λ ms. ms ++ flat_map f ws) e ∙ sym (set-append_left (f w) (flat_map f ws) j b (omega (arith, long w)))
+      ∙ same_set j (zero * k + j) (f w ++ flat_map f ws) b (sym (first j))
+  set-row (w ∷ ws) (suc i) j v b p q e =
+      ap (λ ms. f w ++ ms) (set-row ws i j v b (omega arith) q e) ∙ sym (set-append-add (f w) (flat_map f ws) (i * k + j) b)
+      ∙ ap (λ n. set (f w ++ flat_map f ws) n b) (sym (later i j w))
 
   pub take-rows : (ws : List ℕ) (i : ℕ) → take (i * k) (flat_map f ws) ≡ flat_map f (take i ws)
   take-rows ws zero = same_take (zero * k) zero (flat_map f ws) none
@@ -140,3 +142,51 @@ module _ (f : ℕ → List Bool) (k : ℕ) (long : (w : ℕ) → length (f w) �
     where
       mul-step : (i m : ℕ) → i < m → i * k + k ≤ m * k
       mul-step i m h = grind arith
+
+-- ---- one mark more
+
+-- the second list is the first with one more in it
+abbrev pub HasOneMore : ℕ → List ℕ → List ℕ → Type 0
+HasOneMore x xs ys = (before : List ℕ) × (after : List ℕ) × (xs ≡ before ++ after) × (ys ≡ before ++ x ∷ after)
+
+one_later : (n : ℕ) (m : Bool) (x y : ℕ) (xs ys : List ℕ) → x ≡ y → HasOneMore x xs ys
+    → HasOneMore y (if m then n ∷ xs else xs) (if m then n ∷ ys else ys)
+one_later n true x y xs ys e h = (n ∷ h.0, h.1, ap (λ zs. n ∷ zs) h.2, ap (λ zs. n ∷ zs) h.3 ∙ ap (λ z. n ∷ (h.0 ++ z ∷ h.1)) e)
+one_later n false x y xs ys e h = (h.0, h.1, h.2, h.3 ∙ ap (λ z. h.0 ++ z ∷ h.1) e)
+
+pub marked_from-set : (n : ℕ) (marks : List Bool) (i : ℕ) → i < length marks → is_marked marks i ≡ false
+    → HasOneMore (n + i) (marked_from n marks) (marked_from n (set marks i true))
+marked_from-set n [] i p h = absurd (omega arith)
+marked_from-set n (true ∷ ms) zero p h = absurd (false≢true (sym h))
+marked_from-set n (false ∷ ms) zero p h =
+    ([], marked_from (n + 1) ms, refl, ap (λ x. x ∷ marked_from (n + 1) ms) (let e : n ≡ n + zero = omega arith in e))
+marked_from-set n (m ∷ ms) (suc i) p h =
+    one_later n m (n + 1 + i) (n + suc i) (marked_from (n + 1) ms) (marked_from (n + 1) (set ms i true)) (omega arith)
+    (marked_from-set (n + 1) ms i (omega arith) h)
+
+pub marked_from-unset : (n : ℕ) (marks : List Bool) (i : ℕ) → is_marked marks i ≡ true
+    → HasOneMore (n + i) (marked_from n (set marks i false)) (marked_from n marks)
+marked_from-unset n [] i h = absurd (false≢true h)
+marked_from-unset n (false ∷ ms) zero h = absurd (false≢true h)
+marked_from-unset n (true ∷ ms) zero h =
+    ([], marked_from (n + 1) ms, refl, ap (λ x. x ∷ marked_from (n + 1) ms) (let e : n ≡ n + zero = omega arith in e))
+marked_from-unset n (m ∷ ms) (suc i) h =
+    one_later n m (n + 1 + i) (n + suc i) (marked_from (n + 1) (set ms i false)) (marked_from (n + 1) ms) (omega arith)
+    (marked_from-unset (n + 1) ms i h)
+
+-- none is marked where each mark is false
+pub marked_count-none : (marks : List Bool) → ((i : ℕ) → is_marked marks i ≡ false) → marked_count marks ≡ 0
+marked_count-none [] blank = refl
+marked_count-none (true ∷ ms) blank = absurd (false≢true (sym (blank 0)))
+marked_count-none (false ∷ ms) blank = marked_count-none ms (λ i. blank (suc i))
+
+-- where none is marked, there is no position
+pub marked_from-none : (n : ℕ) (marks : List Bool) → marked_count marks ≡ 0 → marked_from n marks ≡ []
+marked_from-none n [] h = refl
+marked_from-none n (true ∷ ms) h = absurd (omega arith)
+marked_from-none n (false ∷ ms) h = marked_from-none (n + 1) ms h
+
+pub length-marked_from : (n : ℕ) (marks : List Bool) → length (marked_from n marks) ≡ marked_count marks
+length-marked_from n [] = refl
+length-marked_from n (true ∷ ms) = ap suc (length-marked_from (n + 1) ms)
+length-marked_from n (false ∷ ms) = length-marked_from (n + 1) ms

@@ -1,14 +1,14 @@
 -- The marks of a set by its words.
-use Rattle.std.proofs.Common.{◌≡◌, ℕ, zero, suc, ◌+◌, ◌-◌, ◌*◌, ◌/◌, ◌%◌, ◌^◌, ◌<◌, ◌≤◌, Bool, true, false, not, eqb, List, [], ◌∷◌, ◌++◌, ◌⊎◌, inl, inr, length, take, drop, set, get_or, replicate, refl, sym, ap, ap₂, ◌∙◌, arith}
+use Rattle.std.proofs.Common.{◌≡◌, ◌≢◌, ℕ, zero, suc, ◌+◌, ◌-◌, ◌*◌, ◌/◌, ◌%◌, ◌^◌, ◌<◌, ◌≤◌, Bool, true, false, not, eqb, List, [], ◌∷◌, ◌++◌, ◌⊎◌, inl, inr, length, take, drop, set, get_or, replicate, refl, sym, ap, ap₂, ◌∙◌, arith}
 use Rattle.std.specs.Prelude.{count_ones, bit_and, bit_or}
 use Rattle.std.specs.Int.Count.{count_trailing_zeros}
-use Rattle.std.proofs.lemmas.List.{get_or-append_right, get_or_append_left, drop_more, drop_all, length-take}
+use Rattle.std.proofs.lemmas.List.{get_or-append_right, get_or_append_left, drop_more, drop_all, get_or-set_other, get_or_past, length-set, length-take}
 use Rattle.std.proofs.lemmas.Nat.Bits.{bit_at-zero}
 use Rattle.std.proofs.Math.Decide.{dec_le}
 use Rattle.cdi_positions.specs.Marks.{count_below, is_marked, marked_count, marked_from}
-use Rattle.cdi_positions.specs.Words.{marks_in, marks_of, positions_left}
+use Rattle.cdi_positions.specs.Words.{marks_in, marks_of, positions_left, BeginsAt}
 use Rattle.cdi_positions.proofs.MarkLemmas.{at-row, count-row, count-whole, marked_count-le, length-rows, set-row, take-rows}
-use Rattle.cdi_positions.proofs.WordLemmas.{at-marks_in, count-marks_in, first-marks_in, length-marks_in, none-marks_in, set-marks_in, test-bit, test-fresh}
+use Rattle.cdi_positions.proofs.WordLemmas.{at-marks_in, clear-marks_in, count-marks_in, lowest-bit, first-marks_in, length-marks_in, none-marks_in, set-marks_in, test-bit, test-fresh}
 
 pub length-marks_of : (ws : List ℕ) → length (marks_of ws) ≡ length ws * 64
 length-marks_of ws = length-rows marks_in 64 length-marks_in ws
@@ -32,7 +32,7 @@ module _ (ws : List ℕ) (p : ℕ) (within : p / 64 < length ws) where
 
   pub set-mark : marks_of (set ws (p / 64) (bit_or (get_or ws (p / 64) 0) (1 * 2 ^ (p % 64) % 2 ^ 64))) ≡ set (marks_of ws) p true
   set-mark =
-      set-row marks_in 64 length-marks_in ws (p / 64) (p % 64) (bit_or (get_or ws (p / 64) 0) (1 * 2 ^ (p % 64) % 2 ^ 64)) within low
+      set-row marks_in 64 length-marks_in ws (p / 64) (p % 64) (bit_or (get_or ws (p / 64) 0) (1 * 2 ^ (p % 64) % 2 ^ 64)) true within low
       (set-marks_in (get_or ws (p / 64) 0) (p % 64) low)
       ∙ ap (λ n. set (marks_of ws) n true) (sym (place p))
 
@@ -92,3 +92,57 @@ count-more ws i p q =
 -- no more than there are bits
 pub count-room : (ws : List ℕ) (i : ℕ) → i < length ws → marked_count (marks_of (take (i + 1) ws)) ≤ length ws * 64
 count-room ws i p = omega (arith, marked_count-le (marks_of (take (i + 1) ws)), length-marks_of (take (i + 1) ws), length-take (i + 1) ws)
+
+-- ---- the positions that wait
+
+-- where each word is zero none is marked
+pub unmarked-zeros : (ws : List ℕ) → ((i : ℕ) → i < length ws → get_or ws i 0 ≡ 0) → (p : ℕ) → is_marked (marks_of ws) p ≡ false
+unmarked-zeros ws zeros p = elim (dec_le (length ws) (p / 64)) [
+  | yes past ↦ get_or_past (marks_of ws) p false (omega (arith, past, length-marks_of ws))
+  | no gt ↦
+      let within : p / 64 < length ws = omega arith in
+      at-mark ws p within ∙ ap (λ w. is_marked (marks_in w) (p % 64)) (zeros (p / 64) within)
+      ∙ at-marks_in 0 (p % 64) (low ws p within) ∙ ap (λ d. eqb d 1) (bit_at-zero (p % 64))
+]
+
+-- each word is zero up to the last
+pub zeros-all : (ws : List ℕ) (first : ℕ) → BeginsAt first ws → get_or ws first 0 ≡ 0 → 32 ≤ first + 1
+    → (i : ℕ) → i < length ws → get_or ws i 0 ≡ 0
+zeros-all ws first begins blank last i p = elim (dec_le first i) [
+  | yes le ↦ ap (λ k. get_or ws k 0) (let e : i ≡ first = omega (arith, begins.sized, p, le, last) in e) ∙ blank
+  | no gt ↦ begins.before i (omega arith)
+]
+
+pub BeginsAt-next : (ws : List ℕ) (first : ℕ) → BeginsAt first ws → get_or ws first 0 ≡ 0 → first + 1 < 32 → BeginsAt (first + 1) ws
+BeginsAt-next ws first begins blank more = record {
+  sized = begins.sized;
+  within = more;
+  before = λ i p. at i p (dec_le first i);
+}
+  where
+    at : (i : ℕ) → i < first + 1 → Dec (first ≤ i) → get_or ws i 0 ≡ 0
+    at i p (yes le) = ap (λ k. get_or ws k 0) (let e : i ≡ first = omega (arith, p, le) in e) ∙ blank
+    at i p (no gt) = begins.before i (omega (arith, gt))
+
+-- another word at an index that is not before
+pub BeginsAt-set : (ws : List ℕ) (first index v least : ℕ) → BeginsAt first ws → least ≤ first → least ≤ index
+    → BeginsAt least (set ws index v)
+BeginsAt-set ws first index v least begins le before = record {
+  sized = length-set ws index v ∙ begins.sized;
+  within = omega (arith, begins.within);
+  before = λ i p. (
+      let other : i ≢ index = omega arith in
+      get_or-set_other ws index i v 0 other ∙ begins.before i (omega arith));
+}
+
+module _ (ws : List ℕ) (i : ℕ) (within : i < length ws) (some : 0 < get_or ws i 0) (fits : get_or ws i 0 < 2 ^ 64) where
+  pub lowest-marked : is_marked (marks_of ws) (i * 64 + count_trailing_zeros 64 (get_or ws i 0)) ≡ true
+  lowest-marked =
+      let is = lowest-bit (get_or ws i 0) some fits in
+      at-row marks_in 64 length-marks_in ws i (count_trailing_zeros 64 (get_or ws i 0)) within is.0 ∙ is.1
+
+  pub lowest-taken : marks_of (set ws i (bit_and (get_or ws i 0) (get_or ws i 0 - 1)))
+      ≡ set (marks_of ws) (i * 64 + count_trailing_zeros 64 (get_or ws i 0)) false
+  lowest-taken =
+      set-row marks_in 64 length-marks_in ws i (count_trailing_zeros 64 (get_or ws i 0)) (bit_and (get_or ws i 0) (get_or ws i 0 - 1)) false
+      within (lowest-bit (get_or ws i 0) some fits).0 (clear-marks_in (get_or ws i 0) some fits)

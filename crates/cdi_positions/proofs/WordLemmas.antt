@@ -4,7 +4,7 @@ use Rattle.std.specs.Prelude.{count_ones, bit_and, bit_or}
 use Rattle.std.specs.Int.{bit_at, w64}
 use Rattle.std.specs.Int.Count.{ones_step, ones-le, count_trailing_zeros, under}
 use Rattle.std.specs.Int.Bits.{and_step, and_self, mask_lt}
-use Rattle.std.proofs.lemmas.Nat.Bits.{bit_at_lowest, bit_at-suc, bit_at-lt, bit_at_and, bit_at_ones, bit_at_set_same, bit_at_set_other, shr_and_one, and_pow}
+use Rattle.std.proofs.lemmas.Nat.Bits.{bit_at_lowest, bit_at-suc, bit_at-lt, bit_at_and, bit_at_ones, bit_at_set_same, bit_at_set_other, bit_at-trailing_zeros, shr_and_one, and_pow}
 use Rattle.std.proofs.lemmas.Nat.{one_shl}
 use Rattle.std.proofs.lemmas.List.{ext_get_or}
 use Rattle.std.proofs.lemmas.Bool.{false≢true}
@@ -129,6 +129,26 @@ unfolding low_marks
 none-low zero at rest = ap (λ n. marked_from n rest) (let e : at ≡ at + 0 = omega arith in e)
 none-low (suc k) at rest = none-low k (at + 1) rest ∙ ap (λ n. marked_from n rest) (let e : at + 1 + k ≡ at + suc k = omega arith in e)
 
+parity : (n : ℕ) → (n % 2 ≡ 0) ⊎ (n % 2 ≡ 1)
+parity n = by (n % 2) (omega arith)
+  where
+    by : (d : ℕ) → d < 2 → (d ≡ 0) ⊎ (d ≡ 1)
+    by zero p = inl refl
+    by (suc zero) p = inr refl
+    by (suc (suc d)) p = absurd (omega arith)
+
+odd-and : (n : ℕ) → n % 2 ≡ 1 → (bit_and n (n - 1) % 2 ≡ 0) × (bit_and n (n - 1) / 2 ≡ n / 2)
+odd-and n h =
+    let half : (n - 1) / 2 ≡ n / 2 = omega arith in
+    let high = ap (bit_and (n / 2)) half ∙ and_self (n / 2) in
+    (omega (arith, and_step n (n - 1)), omega (arith, and_step n (n - 1), high))
+
+even-and : (n : ℕ) → 0 < n → n % 2 ≡ 0 → (bit_and n (n - 1) % 2 ≡ 0) × (bit_and n (n - 1) / 2 ≡ bit_and (n / 2) (n / 2 - 1))
+even-and n p h =
+    let half : (n - 1) / 2 ≡ n / 2 - 1 = omega arith in
+    let high = ap (bit_and (n / 2)) half in
+    (omega (arith, and_step n (n - 1)), omega (arith, and_step n (n - 1), high))
+
 module _ (rest : List Bool) where
   odd-step : (a d t e : ℕ) (xs ys : List Bool) → d ≡ 1 → e ≡ 0 → ys ≡ xs
       → marked_from a (eqb d 1 ∷ xs) ≡ (a + under d t) ∷ marked_from a (eqb e 1 ∷ ys)
@@ -142,26 +162,6 @@ module _ (rest : List Bool) where
   even-step a d t e xs ys p q r =
       ap (λ d. marked_from a (eqb d 1 ∷ xs)) p ∙ r ∙ ap (λ x. x ∷ marked_from (a + 1) ys) (let z : a + 1 + t ≡ a + suc t = omega arith in z)
       ∙ sym (ap₂ (λ d e. (a + under d t) ∷ marked_from a (eqb e 1 ∷ ys)) p q)
-
-  parity : (n : ℕ) → (n % 2 ≡ 0) ⊎ (n % 2 ≡ 1)
-  parity n = by (n % 2) (omega arith)
-    where
-      by : (d : ℕ) → d < 2 → (d ≡ 0) ⊎ (d ≡ 1)
-      by zero p = inl refl
-      by (suc zero) p = inr refl
-      by (suc (suc d)) p = absurd (omega arith)
-
-  odd-and : (n : ℕ) → n % 2 ≡ 1 → (bit_and n (n - 1) % 2 ≡ 0) × (bit_and n (n - 1) / 2 ≡ n / 2)
-  odd-and n h =
-      let half : (n - 1) / 2 ≡ n / 2 = omega arith in
-      let high = ap (bit_and (n / 2)) half ∙ and_self (n / 2) in
-      (omega (arith, and_step n (n - 1)), omega (arith, and_step n (n - 1), high))
-
-  even-and : (n : ℕ) → 0 < n → n % 2 ≡ 0 → (bit_and n (n - 1) % 2 ≡ 0) × (bit_and n (n - 1) / 2 ≡ bit_and (n / 2) (n / 2 - 1))
-  even-and n p h =
-      let half : (n - 1) / 2 ≡ n / 2 - 1 = omega arith in
-      let high = ap (bit_and (n / 2)) half in
-      (omega (arith, and_step n (n - 1)), omega (arith, and_step n (n - 1), high))
 
   -- the lowest bit, and the others
   first-low : (k n a : ℕ) → 0 < n → n < 2 ^ k
@@ -185,6 +185,41 @@ module _ (rest : List Bool) where
       → marked_from a (marks_in n ++ rest) ≡ (a + count_trailing_zeros 64 n) ∷ marked_from a (marks_in (bit_and n (n - 1)) ++ rest)
   unfolding marks_in
   first-marks_in n a p q = first-low 64 n a p q
+
+-- the lowest bit is set
+pub lowest-bit : (n : ℕ) → 0 < n → n < 2 ^ 64
+    → (count_trailing_zeros 64 n < 64) × (is_marked (marks_in n) (count_trailing_zeros 64 n) ≡ true)
+lowest-bit n p q =
+    let is = bit_at-trailing_zeros w64 n p q in
+    (is.0, at-marks_in n (count_trailing_zeros 64 n) is.0 ∙ ap (λ d. eqb d 1) is.1)
+
+odd-clear : (d t e : ℕ) (xs ys : List Bool) → d ≡ 1 → e ≡ 0 → ys ≡ xs → eqb e 1 ∷ ys ≡ set (eqb d 1 ∷ xs) (under d t) false
+odd-clear d t e xs ys p q r =
+    ap₂ (λ e ys. eqb e 1 ∷ ys) q r ∙ sym (ap (λ d. set (eqb d 1 ∷ xs) (under d t) false) p)
+
+even-clear : (d t e : ℕ) (xs ys : List Bool) → d ≡ 0 → e ≡ 0 → ys ≡ set xs t false
+    → eqb e 1 ∷ ys ≡ set (eqb d 1 ∷ xs) (under d t) false
+even-clear d t e xs ys p q r =
+    ap₂ (λ e ys. eqb e 1 ∷ ys) q r ∙ sym (ap (λ d. set (eqb d 1 ∷ xs) (under d t) false) p)
+
+-- the others are left of them
+clear-low : (k n : ℕ) → 0 < n → n < 2 ^ k → low_marks k (bit_and n (n - 1)) ≡ set (low_marks k n) (count_trailing_zeros k n) false
+unfolding low_marks count_trailing_zeros
+clear-low zero n p q = absurd (omega arith)
+clear-low (suc k) n p q = elim (parity n) [
+  | inr odd ↦
+      let is = odd-and n odd in
+      odd-clear (n % 2) (count_trailing_zeros k (n / 2)) (bit_and n (n - 1) % 2) (low_marks k (n / 2)) (low_marks k (bit_and n (n - 1) / 2))
+      odd is.0 (ap (low_marks k) is.1)
+  | inl even ↦
+      let is = even-and n p even in
+      even-clear (n % 2) (count_trailing_zeros k (n / 2)) (bit_and n (n - 1) % 2) (low_marks k (n / 2)) (low_marks k (bit_and n (n - 1) / 2))
+      even is.0 (ap (low_marks k) is.1 ∙ clear-low k (n / 2) (omega arith) (omega arith))
+]
+
+pub clear-marks_in : (n : ℕ) → 0 < n → n < 2 ^ 64 → marks_in (bit_and n (n - 1)) ≡ set (marks_in n) (count_trailing_zeros 64 n) false
+unfolding marks_in
+clear-marks_in n p q = clear-low 64 n p q
 
 pub none-marks_in : (at : ℕ) (rest : List Bool) → marked_from at (marks_in 0 ++ rest) ≡ marked_from (at + 64) rest
 unfolding marks_in

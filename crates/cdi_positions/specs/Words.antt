@@ -1,5 +1,5 @@
 -- How words hold a mark for each position.
-use Rattle.std.specs.Prelude.{◌+◌, ◌*◌, ◌/◌, ◌%◌, ◌==◌, ℕ, zero, suc, Bool, List, [], ◌∷◌, ◌++◌, drop, flat_map}
+use Rattle.std.specs.Prelude.{◌+◌, ◌*◌, ◌/◌, ◌%◌, ◌==◌, ℕ, zero, suc, Bool, List, [], ◌∷◌, ◌++◌, drop, flat_map, length, ◌<◌, ◌≡◌, slice_index}
 use Rattle.cdi_positions.specs.Marks.{marked_from}
 
 -- how many words there are
@@ -21,3 +21,9 @@ marks_of words = flat_map marks_in words
 -- the positions that are left of some words, of the one at an index those of this word
 abbrev pub positions_left : List ℕ → ℕ → ℕ → List ℕ
 positions_left words index word = marked_from (index * 64) (marks_in word ++ marks_of (drop (index + 1) words))
+
+-- there are all words, and each before an index is zero
+pub record BeginsAt (index : ℕ) (words : List ℕ) : Type 0 where
+  pub sized : length words ≡ word_count
+  pub within : index < word_count
+  pub before : (i : ℕ) → i < index → slice_index words i ≡ 0

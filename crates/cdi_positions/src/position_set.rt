@@ -1,5 +1,5 @@
 //! A set of positions.
-ghost use Rattle.std.specs.Prelude.{◌≡◌, ◌+◌, ◌<◌, ◌≤◌, ◌==◌, ℕ, length, not, true, false, IfSome, IfNone, slice_set};
+ghost use Rattle.std.specs.Prelude.{◌≡◌, ◌+◌, ◌<◌, ◌≤◌, ◌==◌, ℕ, [], length, not, true, false, IfSome, IfNone, slice_set};
 ghost use Rattle.cdi_positions.specs.Marks.{limit, is_marked, marked_count, marked_from, count_below, IsOutside};
 ghost use Rattle.std.specs.Iterator.{YieldsFirst, item_count};
 ghost use Rattle.cdi_positions.specs.Words.{marks_in, marks_of, word_count};
@@ -10,7 +10,7 @@ use std::marker::Model;
 pub const POSITIONS_LIMIT: usize = 2048;
 
 /// How many words have a bit for each position.
-const WORDS: usize = 32;
+pub(crate) const WORDS: usize = 32;
 
 /// Which positions below the limit are in it: a bit for each, 256 bytes in all. No call of it takes memory.
 #[derive(Drop)]
@@ -166,6 +166,19 @@ impl<'a> Model for Positions<'a> {
     ghost view = { λ p. positions_left p.words.now p.index p.word };
 
     ghost invariant = { λ p. (length p.words.now ≡ word_count) × (p.index < word_count) };
+}
+
+impl<'a> Positions<'a> {
+    /// Those of a set that has none.
+    pub fn none() -> Positions<'a>
+        ensures { result ≡ [] }
+    {
+        Positions {
+            words: &[0; WORDS],
+            index: WORDS - 1,
+            word: 0,
+        }
+    }
 }
 
 impl<'a> Iterator for Positions<'a> {
