@@ -1,6 +1,8 @@
 //! A set of positions.
-ghost use Rattle.std.specs.Prelude.{◌≡◌, ◌+◌, ◌<◌, ◌≤◌, ◌==◌, ℕ, length, not, true, false, IfSome, IfNone, slice_set};
+ghost use Rattle.std.specs.Prelude.{◌≡◌, ◌+◌, ◌<◌, ◌≤◌, ◌==◌, ℕ, [], length, not, true, false, IfSome, IfNone, slice_set};
 ghost use Rattle.cdi_positions.specs.Marks.{limit, is_marked, marked_count, marked_from, count_below, IsOutside};
+ghost use Rattle.std.specs.Iterator.{YieldsFirst, item_count};
+ghost use Rattle.cdi_positions.specs.Words.{marks_in, marks_of, word_count};
 
 use std::marker::Model;
 
@@ -8,21 +10,23 @@ use std::marker::Model;
 pub const POSITIONS_LIMIT: usize = 2048;
 
 /// How many words have a bit for each position.
-const WORDS: usize = 32;
+pub(crate) const WORDS: usize = 32;
 
 /// Which positions below the limit are in it: a bit for each, 256 bytes in all. No call of it takes memory.
-#[derive(Clone, Copy)]
+#[derive(Drop)]
 pub struct PositionSet {
     words: [u64; WORDS],
 }
 
 impl Model for PositionSet {
-    ghost use Rattle.std.specs.Prelude.{List, Bool};
-    ghost use Rattle.cdi_positions.specs.Words.{marks_of};
+    ghost use Rattle.std.specs.Prelude.{◌≡◌, List, Bool, length};
+    ghost use Rattle.cdi_positions.specs.Words.{marks_of, word_count};
 
     ghost Value = { List Bool };
 
     ghost view = { λ s. marks_of s.words };
+
+    ghost invariant = { λ s. length s.words ≡ word_count };
 }
 
 impl PositionSet {
@@ -39,10 +43,10 @@ impl PositionSet {
     pub fn contains(&self, position: usize) -> bool
         ensures { result ≡ is_marked self.now position }
     {
-        if position >= POSITIONS_LIMIT {
-            return false;
+        match self.words.get(position / 64) {
+            Some(word) => (word >> (position % 64)) & 1 == 1,
+            None => false,
         }
-        self.words[position / 64] >> (position % 64) & 1 == 1
     }
 
     /// Puts a position into it. Whether it was not there.
@@ -52,7 +56,7 @@ impl PositionSet {
         ensures fresh { result ≡ not (is_marked self.old position) }
     {
         let word = self.words[position / 64];
-        let bit = 1 << (position % 64);
+        let bit = 1u64 << (position % 64);
         self.words[position / 64] = word | bit;
         word & bit == 0
     }
@@ -61,7 +65,7 @@ impl PositionSet {
     pub fn len(&self) -> usize
         ensures { result ≡ marked_count self.now }
     {
-        self.count_below(POSITIONS_LIMIT)
+        count_in(&self.words)
     }
 
     /// Whether none is in it.
@@ -76,15 +80,14 @@ impl PositionSet {
         requires { position ≤ limit }
         ensures { result ≡ count_below position self.now }
     {
-        let mut count = 0;
-        for index in 0..position / 64 {
-            count += self.words[index].count_ones() as usize;
+        let whole = count_in(&self.words[..position / 64]);
+        match self.words.get(position / 64) {
+            Some(word) => {
+                let below = (1u64 << (position % 64)) - 1;
+                whole + (word & below).count_ones() as usize
+            }
+            None => whole,
         }
-        if position % 64 == 0 {
-            return count;
-        }
-        let below = (1 << (position % 64)) - 1;
-        count + (self.words[position / 64] & below).count_ones() as usize
     }
 
     /// The position that is not in it, and below which just this many are not.
@@ -94,9 +97,10 @@ impl PositionSet {
     {
         let mut left = n;
         for index in 0..WORDS {
-            let outside = self.words[index].count_zeros() as usize;
+            let word = self.words[index];
+            let outside = 64 - word.count_ones() as usize;
             if left < outside {
-                return Some(index * 64 + nth_zero(self.words[index], left));
+                return Some(index * 64 + nth_zero(word, left));
             }
             left -= outside;
         }
@@ -115,17 +119,37 @@ impl PositionSet {
     }
 }
 
-/// The bit of a word that is zero, and below which just this many are.
-fn nth_zero(word: u64, n: usize) -> usize {
-    let mut ones = word;
-    for _ in 0..n {
-        ones |= ones + 1;
+/// How many bits of some words are set.
+fn count_in(words: &[u64]) -> usize
+    requires { length words.now ≤ word_count }
+    ensures { result ≡ marked_count (marks_of words.now) }
+{
+    let mut count = 0;
+    for word in words {
+        count += word.count_ones() as usize;
     }
-    ones.trailing_ones() as usize
+    count
+}
+
+/// The bit of a word that is not set, and below which just this many are not.
+fn nth_zero(word: u64, n: usize) -> usize
+    requires { n + marked_count (marks_in word) < 64 }
+    ensures { IsOutside n (marks_in word) result }
+{
+    let mut left = n;
+    for bit in 0..63 {
+        if (word >> bit) & 1 == 0 {
+            if left == 0 {
+                return bit;
+            }
+            left -= 1;
+        }
+    }
+    63
 }
 
 /// What is left of the positions in a set, rising.
-#[derive(Clone, Copy)]
+#[derive(Drop)]
 pub struct Positions<'a> {
     words: &'a [u64; WORDS],
     index: usize,
@@ -134,33 +158,46 @@ pub struct Positions<'a> {
 }
 
 impl<'a> Model for Positions<'a> {
-    ghost use Rattle.std.specs.Prelude.{List, ℕ};
-    ghost use Rattle.cdi_positions.specs.Words.{positions_left};
+    ghost use Rattle.std.specs.Prelude.{◌≡◌, ◌<◌, List, ℕ, length};
+    ghost use Rattle.cdi_positions.specs.Words.{positions_left, word_count};
 
     ghost Value = { List ℕ };
 
     ghost view = { λ p. positions_left p.words.now p.index p.word };
+
+    ghost invariant = { λ p. (length p.words.now ≡ word_count) × (p.index < word_count) };
 }
 
-impl Iterator for Positions<'_> {
-    type Item = usize;
+impl<'a> Positions<'a> {
+    /// Those of a set that has none.
+    pub fn none() -> Positions<'a>
+        ensures { result ≡ [] }
+    {
+        Positions {
+            words: &[0; WORDS],
+            index: WORDS - 1,
+            word: 0,
+        }
+    }
+}
 
-    ghost use Rattle.std.specs.Iterator.{YieldsFirst, item_count};
+impl<'a> Iterator for Positions<'a> {
+    type Item = usize;
 
     ghost next_gives = { YieldsFirst (λ s. s) };
 
     ghost remaining = { item_count (λ s. s) };
 
     fn next(&mut self) -> Option<usize> {
-        while self.word == 0 {
+        'filled: while self.word == 0 {
             if self.index + 1 >= WORDS {
                 return None;
             }
             self.index += 1;
             self.word = self.words[self.index];
         }
-        let bit = self.word.trailing_zeros() as usize;
-        self.word &= self.word - 1;
-        Some(self.index * 64 + bit)
+        let word = self.word;
+        self.word = word & (word - 1);
+        Some(self.index * 64 + word.trailing_zeros() as usize)
     }
 }

@@ -1,0 +1,30 @@
+use Rattle.std.proofs.Common.{◌≡◌, ◌+◌, ◌*◌, ◌<◌, ◌^◌, true, false, ap, sym, ◌∙◌, get_or, length, set, arith}
+use Rattle.std.specs.Int.Count.{count_trailing_zeros}
+use Rattle.cdi_positions.specs.Marks.{is_marked, marked_count}
+use Rattle.cdi_positions.specs.Words.{marks_of}
+use Rattle.cdi_positions.proofs.MarkLemmas.{marked_count-none}
+use Rattle.cdi_positions.proofs.SetLemmas.{lowest-marked, lowest-taken, unmarked-zeros, zeros-all}
+use Rattle.cdi_positions.proofs.position_queue.PositionQueue.take.Goals as goal
+
+pub returns-then-self-ge-WORDS-clause-none : goal.returns-then-self-ge-WORDS-clause-none
+returns-then-self-ge-WORDS-clause-none c =
+    let words = c.filled.self-inside.words in
+    ap marked_count (sym c.self.view_is ∙ ap marks_of (sym c.filled.invariant.same))
+    ∙ marked_count-none (marks_of words)
+    (unmarked-zeros words (zeros-all words c.filled.self-inside.first c.filled.invariant.begins c.filled-test.true (omega arith)))
+
+pub returns-clause-was : goal.returns-clause-was
+returns-clause-was c =
+    let words = c.filled.self-inside.words in
+    let first = c.filled.self-inside.first in
+    ap (λ marks. is_marked marks (first * 64 + count_trailing_zeros 64 (get_or words first 0)))
+    (sym c.self.view_is ∙ ap marks_of (sym c.filled.invariant.same))
+    ∙ lowest-marked words first (omega (arith, c.filled.invariant.begins.sized, c.filled.invariant.begins.within)) (omega arith) (omega arith)
+
+pub returns-clause-taken : goal.returns-clause-taken
+returns-clause-taken c =
+    let words = c.filled.self-inside.words in
+    let first = c.filled.self-inside.first in
+    lowest-taken words first (omega (arith, c.filled.invariant.begins.sized, c.filled.invariant.begins.within)) (omega arith) (omega arith)
+    ∙ ap (λ marks. set marks (first * 64 + count_trailing_zeros 64 (get_or words first 0)) false)
+    (ap marks_of c.filled.invariant.same ∙ c.self.view_is)

@@ -1,0 +1,7 @@
+use Rattle.std.proofs.Common.{◌≡◌, ◌+◌}
+use Rattle.cdi_positions.specs.Marks.{count_below}
+use Rattle.cdi_positions.specs.Words.{marks_in}
+use Rattle.cdi_positions.proofs.position_set.nth_zero.Given as goal
+
+abbrev pub invariant-loop-bit : goal.invariant-loop-bit
+invariant-loop-bit l = l.left + l.bit ≡ l.n + count_below l.bit (marks_in l.word)
