@@ -1,7 +1,7 @@
 -- The search that keeps positions: what one more found declaration changes, and what is found when none is left.
 use Rattle.std.proofs.Common.{◌≡◌, ◌≢◌, ◌<◌, ◌+◌, ◌↔◌, ℕ, zero, suc, Bool, true, false, not, cond, List, [], ◌∷◌, ◌++◌, length}
-use Rattle.std.proofs.Common.{Option, Some, None, is_some, option_map, refl, sym, ◌∙◌, subst, inl, inr, ap, arith, position, slice_get}
-use Rattle.std.proofs.Common.{slice_index_or, slice_set, replicate}
+use Rattle.std.proofs.Common.{Option, Some, None, is_some, option_map, refl, sym, ◌∙◌, subst, inl, inr, ap, arith, length-append, zero-add, ◌⊎◌, position, slice_get}
+use Rattle.std.proofs.Common.{slice_index_or, slice_set}
 use Rattle.std.specs.List.{Contains, filter}
 use Rattle.std.specs.Option.{option_to_list}
 use Rattle.std.specs.Str.{bytes_eq}
@@ -10,8 +10,11 @@ use Rattle.std.proofs.lemmas.Bool.Decides.{same_from_decides}
 use Rattle.std.proofs.lemmas.List.{get_or-set_same, get_or-set_other, length-set}
 use Rattle.std.proofs.lemmas.List.Elements.{Contains-append_cases, Contains-append_left, Contains-append_right, Contains-push}
 use Rattle.std.proofs.lemmas.List.Elements.{Contains-push_cases}
+use Rattle.std.proofs.lemmas.List.Concat.{flat_map-append}
+use Rattle.cdi_positions.specs.Marks.{marked_count, marked_from}
+use Rattle.cdi_positions.proofs.MarkLemmas.{length-marked_from, marked_from-none, marked_from-set, marked_from-unset, HasOneMore}
 use Rattle.cdi_model.specs.Decl.{name_of_decl}
-use Rattle.cdi_model.specs.DeclList.{find_decl, is_of}
+use Rattle.cdi_model.specs.DeclList.{find_decl, is_of, limit}
 use Rattle.cdi_model.specs.declared.decl.Decl.{Decl}
 use Rattle.cdi_model.specs.declared.decl.Kind.{Kind}
 use Rattle.cdi_model.proofs.PositionLemmas.{name-found, one_position, position-found, position-there}
@@ -20,8 +23,8 @@ use Rattle.cdi_match.specs.declared.followers.Links.TheVariants as links
 use Rattle.cdi_match.specs.declared.walk.Walk.{Walk}
 use Rattle.cdi_match.specs.Chain.{ChainFromOne, Steps, has, leads}
 use Rattle.cdi_match.specs.Search.{Adds, Closing, is_led_to, kind_of, listed_by, next_of}
-use Rattle.cdi_match.specs.Walk.{declared_among, has_met, is_marked, marked_from, HasPositions, IsPlaced, IsWalking, Meets}
-use Rattle.cdi_match.specs.Walk.{HasRoom, names_at, next_declared}
+use Rattle.cdi_match.specs.Walk.{declared_among, has_met, has_mark, HasPositions, IsPlaced, IsWalking, Meets}
+use Rattle.cdi_match.specs.Walk.{HasMarks, names_at, names_left, next_declared, tasks}
 use Rattle.cdi_match.proofs.Names.{one_name, same_text}
 use Rattle.cdi_match.proofs.SearchLemmas.{Adds-again, Adds-new, Adds-none, Adds-then, Closing-all, Closing-start, Closing-step}
 use Rattle.cdi_match.proofs.SearchLemmas.{is_led_to_decides}
@@ -37,29 +40,19 @@ marking (false ∷ ms) zero within unmarked = omega arith
 marking (true ∷ ms) (suc i) within unmarked = marking ms i (omega (arith, within)) unmarked
 marking (false ∷ ms) (suc i) within unmarked = let more = marking ms i (omega (arith, within)) unmarked in omega (arith, more)
 
-unmarked_at : (n i : ℕ) → slice_index_or (replicate n false) i false ≡ false
-unmarked_at zero i = refl
-unmarked_at (suc n) zero = refl
-unmarked_at (suc n) (suc i) = unmarked_at n i
-
--- none is marked at first
-pub none_marked : (n : ℕ) (o : Option ℕ) → is_marked (replicate n false) o ≡ false
-none_marked n None = refl
-none_marked n (Some i) = unmarked_at n i
-
 marked_at : (ms : List Bool) (i j : ℕ) → j ≢ i → slice_index_or (slice_set ms i true) j false ≡ slice_index_or ms j false
 marked_at ms i j other = get_or-set_other ms i j true false other
 
 -- a mark at the place of a name
 marked-more : (kind : Kind) (ds : List Decl) (marks : List Bool) (name : List ℕ) (i : ℕ) → position (is_of kind name) ds ≡ Some i
     → i < length marks → (s : List ℕ)
-    → is_marked (slice_set marks i true) (position (is_of kind s) ds)
-    ≡ cond (bytes_eq name s) true (is_marked marks (position (is_of kind s) ds))
+    → has_mark (slice_set marks i true) (position (is_of kind s) ds)
+    ≡ cond (bytes_eq name s) true (has_mark marks (position (is_of kind s) ds))
 marked-more kind ds marks name i at within s = by (bytes_eq name s) refl (position (is_of kind s) ds) refl
   where
     by : (b : Bool) → bytes_eq name s ≡ b → (o : Option ℕ) → position (is_of kind s) ds ≡ o
-        → is_marked (slice_set marks i true) (position (is_of kind s) ds)
-        ≡ cond (bytes_eq name s) true (is_marked marks (position (is_of kind s) ds))
+        → has_mark (slice_set marks i true) (position (is_of kind s) ds)
+        ≡ cond (bytes_eq name s) true (has_mark marks (position (is_of kind s) ds))
     by true e o f =
         let there : position (is_of kind s) ds ≡ Some i = ap (λ n. position (is_of kind n) ds) (sym (one_name name s e)) ∙ at in
         rw (e, there) (get_or-set_same marks i true false within)
@@ -68,14 +61,14 @@ marked-more kind ds marks name i at within s = by (bytes_eq name s) refl (positi
         both_ways (bytes_eq name s) e (same_text name s (one_position kind name s ds i at (f ∙ ap Some same)))))
 
 -- a name that is marked already
-marked-again : (kind : Kind) (ds : List Decl) (marks : List Bool) (name : List ℕ) → is_marked marks (position (is_of kind name) ds) ≡ true
+marked-again : (kind : Kind) (ds : List Decl) (marks : List Bool) (name : List ℕ) → has_mark marks (position (is_of kind name) ds) ≡ true
     → (s : List ℕ)
-    → is_marked marks (position (is_of kind s) ds) ≡ cond (bytes_eq name s) true (is_marked marks (position (is_of kind s) ds))
+    → has_mark marks (position (is_of kind s) ds) ≡ cond (bytes_eq name s) true (has_mark marks (position (is_of kind s) ds))
 marked-again kind ds marks name was s = by (bytes_eq name s) refl
   where
     by : (b : Bool) → bytes_eq name s ≡ b
-        → is_marked marks (position (is_of kind s) ds) ≡ cond (bytes_eq name s) true (is_marked marks (position (is_of kind s) ds))
-    by true e = rw e (ap (λ n. is_marked marks (position (is_of kind n) ds)) (sym (one_name name s e)) ∙ was)
+        → has_mark marks (position (is_of kind s) ds) ≡ cond (bytes_eq name s) true (has_mark marks (position (is_of kind s) ds))
+    by true e = rw e (ap (λ n. has_mark marks (position (is_of kind n) ds)) (sym (one_name name s e)) ∙ was)
     by false e = rw e refl
 
 -- ---- names that are declared
@@ -97,21 +90,23 @@ declared-cons which ds name names = by (is_some (find_decl (kind_of which) name 
     by true e = rw e refl
     by false e = rw e refl
 
-names-append : (ds : List Decl) (ps : List ℕ) (p : ℕ)
-    → names_at ds (ps ++ p ∷ []) ≡ names_at ds ps ++ option_to_list (option_map name_of_decl (slice_get ds p))
-names-append ds [] p = by (slice_get ds p)
-  where
-    by : (o : Option Decl) → option_to_list (option_map name_of_decl o) ++ [] ≡ option_to_list (option_map name_of_decl o)
-    by None = refl
-    by (Some d) = refl
-names-append ds (q ∷ ps) p = by (slice_get ds q) (names-append ds ps p)
-  where
-    by : (o : Option Decl)
-        → names_at ds (ps ++ p ∷ []) ≡ names_at ds ps ++ option_to_list (option_map name_of_decl (slice_get ds p))
-        → option_to_list (option_map name_of_decl o) ++ names_at ds (ps ++ p ∷ [])
-        ≡ (option_to_list (option_map name_of_decl o) ++ names_at ds ps) ++ option_to_list (option_map name_of_decl (slice_get ds p))
-    by None more = more
-    by (Some d) more = ap (λ ns. name_of_decl d ∷ ns) more
+-- one position more gives its name
+names-one : (ds : List Decl) (name : List ℕ) (i : ℕ) (xs ys : List ℕ) → option_to_list (option_map name_of_decl (slice_get ds i)) ≡ name ∷ []
+    → HasOneMore i xs ys → HasOneMore name (names_at ds xs) (names_at ds ys)
+names-one ds name i xs ys at more = (
+  names_at ds more.0,
+  names_at ds more.1,
+  ap (names_at ds) more.2 ∙ flat_map-append (λ p. option_to_list (option_map name_of_decl (slice_get ds p))) more.0 more.1,
+  ap (names_at ds) more.3 ∙ flat_map-append (λ p. option_to_list (option_map name_of_decl (slice_get ds p))) more.0 (i ∷ more.1)
+      ∙ ap (λ ns. names_at ds more.0 ++ (ns ++ names_at ds more.1)) at,
+)
+
+-- one position more where nothing is declared gives none
+names-same : (ds : List Decl) (i : ℕ) (xs ys : List ℕ) → slice_get ds i ≡ None → HasOneMore i xs ys → names_at ds ys ≡ names_at ds xs
+names-same ds i xs ys none more =
+    ap (names_at ds) more.3 ∙ flat_map-append (λ p. option_to_list (option_map name_of_decl (slice_get ds p))) more.0 (i ∷ more.1)
+    ∙ ap (λ o. names_at ds more.0 ++ (option_to_list (option_map name_of_decl o) ++ names_at ds more.1)) none
+    ∙ sym (flat_map-append (λ p. option_to_list (option_map name_of_decl (slice_get ds p))) more.0 more.1) ∙ sym (ap (names_at ds) more.2)
 
 -- the name that stands at the place of a name is that name
 name-at : (kind : Kind) (ds : List Decl) (name : List ℕ) (i : ℕ) → position (is_of kind name) ds ≡ Some i
@@ -126,67 +121,95 @@ name-at kind ds name i at = by (find_decl kind name ds) refl
 
 -- ---- finding
 
+-- where a position is marked, one is left that is not
+one_left : (marks : List Bool) (i : ℕ) → i < length marks → has_mark marks (Some i) ≡ false
+    → HasOneMore i (marked_from 0 marks) (marked_from 0 (slice_set marks i true))
+one_left marks i within unmarked =
+    subst (λ k. HasOneMore k (marked_from 0 marks) (marked_from 0 (slice_set marks i true))) (zero-add i) (marked_from-set 0 marks i within unmarked)
+
+longer : (i : ℕ) (marks marks' : List Bool) → HasOneMore i (marked_from 0 marks) (marked_from 0 marks')
+    → marked_count marks' ≡ marked_count marks + 1
+longer i marks marks' more =
+    omega (
+      arith,
+      length-marked_from 0 marks,
+      length-marked_from 0 marks',
+      ap length more.2,
+      ap length more.3,
+      length-append more.0 more.1,
+      length-append more.0 (i ∷ more.1),
+    )
+
+HasMarks-set : (old new : Walk) (i : ℕ) → new.marks ≡ slice_set old.marks i true → new.left ≡ slice_set old.left i true → i < limit
+    → HasMarks old → HasMarks new
+HasMarks-set old new i marked put bound has = record {
+  sized = ap length marked ∙ length-set old.marks i true ∙ has.sized;
+  left_sized = ap length put ∙ length-set old.left i true ∙ has.left_sized;
+  within = λ j is. at j is (cases_eq j i);
+}
+  where
+    at : (j : ℕ) → slice_index_or new.left j false ≡ true → ((j ≡ i) ⊎ (j ≢ i)) → slice_index_or new.marks j false ≡ true
+    at j is (inl same) =
+        ap (λ ms. slice_index_or ms j false) marked ∙ ap (λ k. slice_index_or (slice_set old.marks i true) k false) same
+        ∙ get_or-set_same old.marks i true false (omega (arith, bound, has.sized))
+    at j is (inr other) =
+        ap (λ ms. slice_index_or ms j false) marked ∙ marked_at old.marks i j other
+        ∙ has.within j (sym (marked_at old.left i j other) ∙ sym (ap (λ ms. slice_index_or ms j false) put) ∙ is)
+
 pub Meets-new : (which : Links) (ds : List Decl) (name : List ℕ) (old new : Walk) (i : ℕ)
-    → position (is_of (kind_of which) name) ds ≡ Some i → i < length old.marks → slice_index_or old.marks i false ≡ false
-    → new.marks ≡ slice_set old.marks i true → new.left.items ≡ old.left.items ++ i ∷ [] → Meets which ds (name ∷ []) old new
-Meets-new which ds name old new i at within unmarked marked pushed =
+    → position (is_of (kind_of which) name) ds ≡ Some i → i < limit → HasMarks old → slice_index_or old.marks i false ≡ false
+    → new.marks ≡ slice_set old.marks i true → new.left ≡ slice_set old.left i true → Meets which ds (name ∷ []) old new
+Meets-new which ds name old new i at bound has unmarked marked put =
     let kind = kind_of which in
     let is : is_some (find_decl kind name ds) ≡ true = sym (position-found kind name ds) ∙ ap is_some at in
+    let within : i < length old.marks = omega (arith, has.sized) in
+    let waits : slice_index_or old.left i false ≡ false = not_left (slice_index_or old.left i false) refl in
+    let one : HasOneMore i (marked_from 0 old.left) (marked_from 0 new.left) =
+    subst (λ ms. HasOneMore i (marked_from 0 old.left) (marked_from 0 ms)) (sym put)
+    (one_left old.left i (omega (arith, has.left_sized)) waits) in
     record {
-      adds = subst (λ names. Adds names (has_met which ds old) (names_at ds old.left.items) (has_met which ds new)
-          (names_at ds new.left.items)) (sym (declared-one which ds name is))
-          (Adds-new name (has_met which ds old) (names_at ds old.left.items) (has_met which ds new) (names_at ds new.left.items)
-          (λ s. ap (λ ms. is_marked ms (position (is_of kind s) ds)) marked ∙ marked-more kind ds old.marks name i at within s)
-          (ap (is_marked old.marks) at ∙ unmarked)
-          (ap (names_at ds) pushed ∙ names-append ds old.left.items i ∙ ap (λ ns. names_at ds old.left.items ++ ns)
-          (name-at kind ds name i at)));
-      same_size = ap length marked ∙ length-set old.marks i true;
+      adds = subst (λ names. Adds names (has_met which ds old) (names_left ds old) (has_met which ds new)
+          (names_left ds new)) (sym (declared-one which ds name is))
+          (Adds-new name (has_met which ds old) (names_left ds old) (has_met which ds new) (names_left ds new)
+          (λ s. ap (λ ms. has_mark ms (position (is_of kind s) ds)) marked ∙ marked-more kind ds old.marks name i at within s)
+          (ap (has_mark old.marks) at ∙ unmarked)
+          (names-one ds name i (marked_from 0 old.left) (marked_from 0 new.left) (name-at kind ds name i at) one));
+      kept = HasMarks-set old new i marked put bound;
       same_tasks =
           let fewer = marking old.marks i within unmarked in
           let marks : length (filter not new.marks) ≡ length (filter not (slice_set old.marks i true)) =
           ap (λ ms. length (filter not ms)) marked in
-          let left : length new.left.items ≡ length old.left.items + 1 = ap length pushed ∙ one_longer old.left.items i in
-          omega (arith, fewer, marks, left);
+          omega (arith, fewer, marks, longer i old.left new.left one);
       placed = λ were j is. elim (cases_eq j i) [
         | inl same ↦ (name, at ∙ ap Some (sym same))
         | inr other ↦ were j (sym (marked_at old.marks i j other) ∙ sym (ap (λ ms. slice_index_or ms j false) marked) ∙ is)
       ];
     }
   where
-    one_longer : (ps : List ℕ) (p : ℕ) → length (ps ++ p ∷ []) ≡ length ps + 1
-    one_longer [] p = refl
-    one_longer (q ∷ ps) p = let more = one_longer ps p in omega (arith, more)
+    not_left : (b : Bool) → slice_index_or old.left i false ≡ b → slice_index_or old.left i false ≡ false
+    not_left false e = e
+    not_left true e = absurd (false≢true (sym unmarked ∙ has.within i e))
 
 pub Meets-again : (which : Links) (ds : List Decl) (name : List ℕ) (w : Walk) (i : ℕ)
     → position (is_of (kind_of which) name) ds ≡ Some i → slice_index_or w.marks i false ≡ true → Meets which ds (name ∷ []) w w
 Meets-again which ds name w i at was =
     let kind = kind_of which in
     let is : is_some (find_decl kind name ds) ≡ true = sym (position-found kind name ds) ∙ ap is_some at in
-    let found : has_met which ds w name ≡ true = ap (is_marked w.marks) at ∙ was in
+    let found : has_met which ds w name ≡ true = ap (has_mark w.marks) at ∙ was in
     record {
-      adds = subst (λ names. Adds names (has_met which ds w) (names_at ds w.left.items) (has_met which ds w)
-          (names_at ds w.left.items)) (sym (declared-one which ds name is))
-          (Adds-again name (has_met which ds w) (names_at ds w.left.items) (has_met which ds w) (names_at ds w.left.items)
+      adds = subst (λ names. Adds names (has_met which ds w) (names_left ds w) (has_met which ds w)
+          (names_left ds w)) (sym (declared-one which ds name is))
+          (Adds-again name (has_met which ds w) (names_left ds w) (has_met which ds w) (names_left ds w)
           (marked-again kind ds w.marks name found) found refl);
-      same_size = refl;
+      kept = λ has. has;
       same_tasks = refl;
       placed = λ were. were;
     }
 
-pub Meets-undeclared : (which : Links) (ds : List Decl) (name : List ℕ) (w : Walk)
-    → is_some (find_decl (kind_of which) name ds) ≡ false → Meets which ds (name ∷ []) w w
-Meets-undeclared which ds name w none = record {
-  adds = subst (λ names. Adds names (has_met which ds w) (names_at ds w.left.items) (has_met which ds w)
-      (names_at ds w.left.items)) (sym (declared-none which ds name none)) (Adds-none (has_met which ds w) (names_at ds w.left.items));
-  same_size = refl;
-  same_tasks = refl;
-  placed = λ were. were;
-}
-
 pub Meets-none : (which : Links) (ds : List Decl) (w : Walk) → Meets which ds [] w w
 Meets-none which ds w = record {
-  adds = Adds-none (has_met which ds w) (names_at ds w.left.items);
-  same_size = refl;
+  adds = Adds-none (has_met which ds w) (names_left ds w);
+  kept = λ has. has;
   same_tasks = refl;
   placed = λ were. were;
 }
@@ -195,51 +218,66 @@ Meets-none which ds w = record {
 pub Meets-cons : (which : Links) (ds : List Decl) (name : List ℕ) (names : List (List ℕ)) (a b c : Walk)
     → Meets which ds (name ∷ []) a b → Meets which ds names b c → Meets which ds (name ∷ names) a c
 Meets-cons which ds name names a b c m n = record {
-  adds = subst (λ all. Adds all (has_met which ds a) (names_at ds a.left.items) (has_met which ds c)
-      (names_at ds c.left.items)) (declared-cons which ds name names)
-      (Adds-then (declared_among which ds (name ∷ [])) (declared_among which ds names) (has_met which ds a) (names_at ds a.left.items)
-      (has_met which ds b) (names_at ds b.left.items) (has_met which ds c) (names_at ds c.left.items) m.adds n.adds);
-  same_size = n.same_size ∙ m.same_size;
+  adds = subst (λ all. Adds all (has_met which ds a) (names_left ds a) (has_met which ds c)
+      (names_left ds c)) (declared-cons which ds name names)
+      (Adds-then (declared_among which ds (name ∷ [])) (declared_among which ds names) (has_met which ds a) (names_left ds a)
+      (has_met which ds b) (names_left ds b) (has_met which ds c) (names_left ds c) m.adds n.adds);
+  kept = λ has. n.kept (m.kept has);
   same_tasks = n.same_tasks ∙ m.same_tasks;
   placed = λ were. n.placed (m.placed were);
 }
-
--- there is still room behind it
-pub HasRoom-met : (which : Links) (ds : List Decl) (names : List (List ℕ)) (old new : Walk) → HasRoom old → Meets which ds names old new
-    → HasRoom new
-HasRoom-met which ds names old new room m =
-    record { sized = m.same_size ∙ room.sized; fits = omega (arith, m.same_tasks, room.fits) }
 
 -- ---- a walk
 
 -- it starts with some names
 pub walk-start : (which : Links) (ds : List Decl) (starts : List (List ℕ)) (old new : Walk)
-    → ((o : Option ℕ) → is_marked old.marks o ≡ false) → old.left.items ≡ [] → Meets which ds starts old new
+    → ((o : Option ℕ) → has_mark old.marks o ≡ false) → marked_count old.left ≡ 0 → Meets which ds starts old new
     → IsWalking which ds starts new
 walk-start which ds starts old new none empty m =
-    Closing-start (next_declared which ds) (declared_among which ds starts) (has_met which ds old) (names_at ds old.left.items)
-    (has_met which ds new) (names_at ds new.left.items)
-    (λ s. none (position (is_of (kind_of which) s) ds)) (ap (names_at ds) empty) m.adds
+    Closing-start (next_declared which ds) (declared_among which ds starts) (has_met which ds old) (names_left ds old)
+    (has_met which ds new) (names_left ds new)
+    (λ s. none (position (is_of (kind_of which) s) ds)) (ap (names_at ds) (marked_from-none 0 old.left empty)) m.adds
 
--- what follows one that was left is found
+-- one that was left is taken
+one_taken : (old new : Walk) (p : ℕ) → slice_index_or old.left p false ≡ true → new.left ≡ slice_set old.left p false
+    → HasOneMore p (marked_from 0 new.left) (marked_from 0 old.left)
+one_taken old new p was taken =
+    subst (λ ms. HasOneMore p (marked_from 0 ms) (marked_from 0 old.left)) (sym taken)
+    (subst (λ k. HasOneMore k (marked_from 0 (slice_set old.left p false)) (marked_from 0 old.left)) (zero-add p) (marked_from-unset 0 old.left p was))
+
+pub fewer-tasks : (old new : Walk) (p : ℕ) → new.marks ≡ old.marks → slice_index_or old.left p false ≡ true
+    → new.left ≡ slice_set old.left p false → tasks new + 1 ≡ tasks old
+fewer-tasks old new p same was taken =
+    omega (arith, longer p new.left old.left (one_taken old new p was taken), ap (λ ms. length (filter not ms)) same)
+
+still : (which : Links) (ds : List Decl) (starts : List (List ℕ)) (w popped : Walk) → popped.marks ≡ w.marks → IsWalking which ds starts w
+    → Closing (next_declared which ds) (declared_among which ds starts) (has_met which ds popped) (names_left ds w)
+still which ds starts w popped same walking =
+    subst (λ ms. Closing (next_declared which ds) (declared_among which ds starts) (λ s. has_mark ms (position (is_of (kind_of which) s) ds))
+    (names_left ds w)) (sym same) walking
+
+-- what follows it is found
 pub walk-step : (which : Links) (ds : List Decl) (starts : List (List ℕ)) (w popped new : Walk) (p : ℕ) (d : Decl)
-    (names : List (List ℕ)) → IsWalking which ds starts w → popped.marks ≡ w.marks → w.left.items ≡ popped.left.items ++ p ∷ []
-    → slice_get ds p ≡ Some d
+    (names : List (List ℕ)) → IsWalking which ds starts w → popped.marks ≡ w.marks → slice_index_or w.left p false ≡ true
+    → popped.left ≡ slice_set w.left p false → slice_get ds p ≡ Some d
     → names ≡ next_of which ds (name_of_decl d) → Meets which ds names popped new → IsWalking which ds starts new
-walk-step which ds starts w popped new p d names walking same left is follow m =
-    let taken : names_at ds w.left.items ≡ names_at ds popped.left.items ++ name_of_decl d ∷ [] =
-    ap (names_at ds) left ∙ names-append ds popped.left.items p
-    ∙ ap (λ o. names_at ds popped.left.items ++ option_to_list (option_map name_of_decl o)) is in
-    let before : IsWalkingBy (has_met which ds popped) =
-    subst (λ ms. IsWalkingBy (λ s. is_marked ms (position (is_of (kind_of which) s) ds)))
-    (sym same) walking in
+walk-step which ds starts w popped new p d names walking same was taken is follow m =
+    let one : HasOneMore (name_of_decl d) (names_left ds popped) (names_left ds w) =
+    names-one ds (name_of_decl d) p (marked_from 0 popped.left) (marked_from 0 w.left)
+    (ap (λ o. option_to_list (option_map name_of_decl o)) is) (one_taken w popped p was taken) in
     Closing-step (next_declared which ds) (declared_among which ds starts) (name_of_decl d) (has_met which ds popped)
-    (names_at ds w.left.items) (names_at ds popped.left.items) (has_met which ds new) (names_at ds new.left.items) before taken
-    (subst (λ ns. Adds (declared_among which ds ns) (has_met which ds popped) (names_at ds popped.left.items) (has_met which ds new)
-    (names_at ds new.left.items)) follow m.adds)
-  where
-    IsWalkingBy : (List ℕ → Bool) → Type 0
-    IsWalkingBy f = Closing (next_declared which ds) (declared_among which ds starts) f (names_at ds w.left.items)
+    (names_left ds w) (names_left ds popped) (has_met which ds new) (names_left ds new) (still which ds starts w popped same walking) one
+    (subst (λ ns. Adds (declared_among which ds ns) (has_met which ds popped) (names_left ds popped) (has_met which ds new)
+    (names_left ds new)) follow m.adds)
+
+-- nothing is declared there
+pub walk-gone : (which : Links) (ds : List Decl) (starts : List (List ℕ)) (w popped : Walk) (p : ℕ) → IsWalking which ds starts w
+    → popped.marks ≡ w.marks → slice_index_or w.left p false ≡ true → popped.left ≡ slice_set w.left p false → slice_get ds p ≡ None
+    → IsWalking which ds starts popped
+walk-gone which ds starts w popped p walking same was taken none =
+    subst (Closing (next_declared which ds) (declared_among which ds starts) (has_met which ds popped))
+    (names-same ds p (marked_from 0 popped.left) (marked_from 0 w.left) none (one_taken w popped p was taken))
+    (still which ds starts w popped same walking)
 
 -- ---- chains to what is declared
 
@@ -325,7 +363,7 @@ walk-sound which ds starts w s walking h =
 
 -- where none is left, what is declared was found just where a chain leads to it
 pub walk-all : (which : Links) (ds : List Decl) (starts : List (List ℕ)) (w : Walk) (s : List ℕ) → IsWalking which ds starts w
-    → w.left.items ≡ [] → is_some (find_decl (kind_of which) s ds) ≡ true → has_met which ds w s ≡ is_led_to which ds starts s
+    → marked_count w.left ≡ 0 → is_some (find_decl (kind_of which) s ds) ≡ true → has_met which ds w s ≡ is_led_to which ds starts s
 walk-all which ds starts w s walking empty is =
     same_from_decides (has_met which ds w s) (is_led_to which ds starts s) (
       λ h. (is_led_to_decides which ds starts s).0 (walk-sound which ds starts w s walking h),
@@ -334,7 +372,7 @@ walk-all which ds starts w s walking empty is =
           let chain : ChainFromOne (leads (next_declared which ds)) (declared_among which ds starts) s =
           (c.0, among-has which ds starts c.0 steps.1 c.1, ((c.2).0, steps.0)) in
           Closing-all (next_declared which ds) (declared_among which ds starts) (has_met which ds w)
-          (subst (λ ns. Closing (next_declared which ds) (declared_among which ds starts) (has_met which ds w) ns) (ap (names_at ds) empty)
+          (subst (λ ns. Closing (next_declared which ds) (declared_among which ds starts) (has_met which ds w) ns) (ap (names_at ds) (marked_from-none 0 w.left empty))
           walking) s chain,
     )
     (is_led_to_decides which ds starts s)
@@ -380,21 +418,76 @@ marked_from-has n (false ∷ ms) i =
     at more (suc k) e is = more (k, omega (arith, e), is)
 
 -- where none is left, those that are marked are the declarations to which chains lead
-pub walk-positions : (which : Links) (ds : List Decl) (starts : List (List ℕ)) (w : Walk) → IsPlaced which ds w
-    → ((s : List ℕ) → is_some (find_decl (kind_of which) s ds) ≡ true → has_met which ds w s ≡ is_led_to which ds starts s)
-    → HasPositions which ds starts (marked_from 0 w.marks)
-walk-positions which ds starts w placed found i =
-    let marked = marked_from-has 0 w.marks i in (
+pub walk-positions : (which : Links) (ds : List Decl) (starts : List (List ℕ)) (marks : List Bool) → IsPlaced which ds marks
+    → ((s : List ℕ) → is_some (find_decl (kind_of which) s ds) ≡ true
+    → has_mark marks (position (is_of (kind_of which) s) ds) ≡ is_led_to which ds starts s)
+    → HasPositions which ds starts (marked_from 0 marks)
+walk-positions which ds starts marks placed found i =
+    let marked = marked_from-has 0 marks i in (
       λ c.
           let at = marked.0 c in
-          let is : slice_index_or w.marks i false ≡ true = same_mark (omega (arith, at.1)) at.2 in
+          let is : slice_index_or marks i false ≡ true = same_mark (omega (arith, at.1)) at.2 in
           let named = placed i is in
-          (named.0, named.1, sym (found named.0 (declared named.0 named.1)) ∙ ap (is_marked w.marks) named.1 ∙ is),
-      λ led. marked.1 (i, omega arith, sym (ap (is_marked w.marks) led.1) ∙ found led.0 (declared led.0 led.1) ∙ led.2),
+          (named.0, named.1, sym (found named.0 (declared named.0 named.1)) ∙ ap (has_mark marks) named.1 ∙ is),
+      λ led. marked.1 (i, omega arith, sym (ap (has_mark marks) led.1) ∙ found led.0 (declared led.0 led.1) ∙ led.2),
     )
   where
-    same_mark : {k : ℕ} → i ≡ k → slice_index_or w.marks k false ≡ true → slice_index_or w.marks i false ≡ true
-    same_mark same is = ap (λ k. slice_index_or w.marks k false) same ∙ is
+    same_mark : {k : ℕ} → i ≡ k → slice_index_or marks k false ≡ true → slice_index_or marks i false ≡ true
+    same_mark same is = ap (λ k. slice_index_or marks k false) same ∙ is
 
     declared : (s : List ℕ) → position (is_of (kind_of which) s) ds ≡ Some i → is_some (find_decl (kind_of which) s ds) ≡ true
     declared s at = sym (position-found (kind_of which) s ds) ∙ ap is_some at
+
+-- ---- where no start is declared
+
+-- no chain leads to what is declared
+led-none : (which : Links) (ds : List Decl) (starts : List (List ℕ)) (s : List ℕ) → declared_among which ds starts ≡ []
+    → is_some (find_decl (kind_of which) s ds) ≡ true → is_led_to which ds starts s ≡ false
+led-none which ds starts s none is = by (is_led_to which ds starts s) refl
+  where
+    by : (b : Bool) → is_led_to which ds starts s ≡ b → is_led_to which ds starts s ≡ false
+    by false e = e
+    by true e =
+        let c = (is_led_to_decides which ds starts s).0 e in
+        let begins = (steps-declared which ds (c.2).0 c.0 s is (c.2).1).1 in
+        absurd (false≢true (sym (ap (λ names. has names c.0) none) ∙ among-has which ds starts c.0 begins c.1))
+
+-- no chain leads back
+pub back-none : (which : Links) (ds : List Decl) (s : List ℕ) → next_declared which ds s ≡ []
+    → is_led_to which ds (next_of which ds s) s ≡ false
+back-none which ds s none = elim (cases_Bool (is_some (find_decl (kind_of which) s ds))) [
+  | inl is ↦ led-none which ds (next_of which ds s) s none is
+  | inr is ↦ ap (λ names. is_led_to which ds names s) (next-undeclared which ds s is)
+]
+
+-- where nothing is declared, no position is marked
+pub unmarked-positions : (which : Links) (ds : List Decl) (starts : List (List ℕ)) (marks : List Bool) → declared_among which ds starts ≡ []
+    → ((i : ℕ) → slice_index_or marks i false ≡ false) → HasPositions which ds starts (marked_from 0 marks)
+unmarked-positions which ds starts marks none blank =
+    walk-positions which ds starts marks (λ i is. absurd (false≢true (sym (blank i) ∙ is)))
+    (λ s is. unmarked (position (is_of (kind_of which) s) ds) ∙ sym (led-none which ds starts s none is))
+  where
+    unmarked : (o : Option ℕ) → has_mark marks o ≡ false
+    unmarked None = refl
+    unmarked (Some i) = blank i
+
+-- ---- the first that is declared
+
+among-one : (which : Links) (ds : List Decl) (name : List ℕ) (names : List (List ℕ))
+    → is_some (find_decl (kind_of which) name ds) ≡ true → declared_among which ds (name ∷ names) ≡ name ∷ declared_among which ds names
+among-one which ds name names is = rw is refl
+
+-- the names are found with the first that is declared
+pub Meets-first : (which : Links) (ds : List Decl) (name : List ℕ) (names all : List (List ℕ)) (i : ℕ) (a b c : Walk)
+    → position (is_of (kind_of which) name) ds ≡ Some i → declared_among which ds all ≡ name ∷ declared_among which ds names
+    → Meets which ds (name ∷ []) a b → Meets which ds names b c → Meets which ds all a c
+Meets-first which ds name names all i a b c at first m n =
+    let is = sym (position-found (kind_of which) name ds) ∙ ap is_some at in
+    let both = Meets-cons which ds name names a b c m n in
+    record {
+      adds = subst (λ declared. Adds declared (has_met which ds a) (names_left ds a) (has_met which ds c) (names_left ds c))
+          (among-one which ds name names is ∙ sym first) both.adds;
+      kept = both.kept;
+      same_tasks = both.same_tasks;
+      placed = both.placed;
+    }

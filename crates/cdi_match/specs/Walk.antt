@@ -1,9 +1,10 @@
 -- The search for declared names that chains lead to, which keeps positions of declarations.
-use Rattle.std.specs.Prelude.{◌≡◌, ◌≤◌, ◌+◌, ◌↔◌, ℕ, Bool, true, false, not, if◌then◌else◌, List, [], ◌∷◌, length, flat_map, Contains}
+use Rattle.std.specs.Prelude.{◌≡◌, ◌+◌, ◌↔◌, ℕ, Bool, true, false, not, List, length, flat_map, Contains}
 use Rattle.std.specs.Prelude.{Option, Some, None, is_some, option_map}
-use Rattle.std.specs.Prelude.{position, slice_get, slice_index_or}
+use Rattle.std.specs.Prelude.{position, slice_get}
 use Rattle.std.specs.List.{filter}
 use Rattle.std.specs.Option.{option_to_list}
+use Rattle.cdi_positions.specs.Marks.{is_marked, marked_count, marked_from}
 use Rattle.cdi_model.specs.Decl.{name_of_decl}
 use Rattle.cdi_model.specs.DeclList.{find_decl, is_of, limit}
 use Rattle.cdi_model.specs.declared.decl.Decl.{Decl}
@@ -11,18 +12,22 @@ use Rattle.cdi_match.specs.declared.followers.Links.{Links}
 use Rattle.cdi_match.specs.declared.walk.Walk.{Walk}
 use Rattle.cdi_match.specs.Search.{Adds, Closing, is_led_to, kind_of, next_of}
 
--- what stands at the position is marked, if there is one
-abbrev pub is_marked : List Bool → Option ℕ → Bool
-is_marked marks None = false
-is_marked marks (Some i) = slice_index_or marks i false
+-- the position is marked, if there is one
+abbrev pub has_mark : List Bool → Option ℕ → Bool
+has_mark marks None = false
+has_mark marks (Some i) = is_marked marks i
 
 -- a walk has found the declaration of a name
 abbrev pub has_met : Links → List Decl → Walk → List ℕ → Bool
-has_met which ds w name = is_marked w.marks (position (is_of (kind_of which) name) ds)
+has_met which ds w name = has_mark w.marks (position (is_of (kind_of which) name) ds)
 
 -- the names of the declarations at some positions
 abbrev pub names_at : List Decl → List ℕ → List (List ℕ)
 names_at ds positions = flat_map (λ p. option_to_list (option_map name_of_decl (slice_get ds p))) positions
+
+-- the names of those that are left to be taken
+abbrev pub names_left : List Decl → Walk → List (List ℕ)
+names_left ds w = names_at ds (marked_from 0 w.left)
 
 -- of some names those that are declared
 abbrev pub declared_among : Links → List Decl → List (List ℕ) → List (List ℕ)
@@ -35,37 +40,33 @@ next_declared which ds name = declared_among which ds (next_of which ds name)
 -- a walk from these names, as far as they are declared
 abbrev pub IsWalking : Links → List Decl → List (List ℕ) → Walk → Type 0
 IsWalking which ds starts w =
-    Closing (next_declared which ds) (declared_among which ds starts) (has_met which ds w) (names_at ds w.left.items)
+    Closing (next_declared which ds) (declared_among which ds starts) (has_met which ds w) (names_left ds w)
 
 -- how many declarations are left to be taken, or not found
 abbrev pub tasks : Walk → ℕ
-tasks w = length w.left.items + length (filter not w.marks)
+tasks w = marked_count w.left + length (filter not w.marks)
 
--- there is a mark for each position, and room for all that may still be found
-pub record HasRoom (w : Walk) : Type 0 where
+-- there is a mark for each position, and only what was found is left
+pub record HasMarks (w : Walk) : Type 0 where
   pub sized : length w.marks ≡ limit
-  pub fits : tasks w ≤ limit
+  pub left_sized : length w.left ≡ limit
+  pub within : (i : ℕ) → is_marked w.left i ≡ true → is_marked w.marks i ≡ true
 
 -- none is left to be taken
 abbrev pub has_none_left : Walk → Type 0
-has_none_left w = w.left.items ≡ []
+has_none_left w = marked_count w.left ≡ 0
 
 -- each position that is marked is that of the declaration of a name
-abbrev pub IsPlaced : Links → List Decl → Walk → Type 0
-IsPlaced which ds w = (i : ℕ) → slice_index_or w.marks i false ≡ true → (s : List ℕ) × (position (is_of (kind_of which) s) ds ≡ Some i)
+abbrev pub IsPlaced : Links → List Decl → List Bool → Type 0
+IsPlaced which ds marks = (i : ℕ) → is_marked marks i ≡ true → (s : List ℕ) × (position (is_of (kind_of which) s) ds ≡ Some i)
 
 -- the declarations of some names were found, and those that are new are left to be taken
 pub record Meets (which : Links) (ds : List Decl) (names : List (List ℕ)) (old new : Walk) : Type 0 where
-  pub adds : Adds (declared_among which ds names) (has_met which ds old) (names_at ds old.left.items) (has_met which ds new)
-      (names_at ds new.left.items)
-  pub same_size : length new.marks ≡ length old.marks
+  pub adds : Adds (declared_among which ds names) (has_met which ds old) (names_left ds old) (has_met which ds new)
+      (names_left ds new)
+  pub kept : HasMarks old → HasMarks new
   pub same_tasks : tasks new ≡ tasks old
-  pub placed : IsPlaced which ds old → IsPlaced which ds new
-
--- the positions of what is marked, where the first mark is that of a position
-abbrev pub marked_from : ℕ → List Bool → List ℕ
-marked_from n [] = []
-marked_from n (m ∷ ms) = if m then n ∷ marked_from (n + 1) ms else marked_from (n + 1) ms
+  pub placed : IsPlaced which ds old.marks → IsPlaced which ds new.marks
 
 -- The positions are just those of the declarations of the names to which chains lead from the starts.
 abbrev pub HasPositions : Links → List Decl → List (List ℕ) → List ℕ → Type 0

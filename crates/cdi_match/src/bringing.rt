@@ -1,29 +1,32 @@
 //! The bindings that uses of binding types bring with them, without memory (Interceptors 2.1, Interceptor Binding Types).
-ghost use Rattle.std.specs.Prelude.{◌≡◌, map};
+ghost use Rattle.std.specs.Prelude.{◌≡◌, [], map};
 ghost use Rattle.std.specs.Iterator.{YieldsFirstRef, item_count};
+ghost use Rattle.std.specs.Option.{option_copied, unwrap_or};
 ghost use Rattle.cdi_model.specs.Quals.{name_of_use};
 ghost use Rattle.cdi_match.specs.Bindings.{declared_at, with_brought, with_declared, HaveTheSame};
 ghost use Rattle.cdi_match.specs.Walk.{HasPositions};
+ghost use Rattle.cdi_positions.specs.Marks.{marked_from};
 ghost use Rattle.cdi_match.specs.declared.followers.Links.TheVariants.{Bindings};
 
 use crate::followers::{Followers, Links};
 use crate::walk::positions_from;
-use arrayvec::ArrayVec;
-use cdi_model::{DECLS_LIMIT, Decl, Decls, Qual};
+use cdi_model::{Decl, Decls, Qual};
+use cdi_positions::{PositionSet, Positions};
 use std::marker::Model;
 
 /// The binding types that some uses bring, by the positions of their declarations.
 #[derive(Drop)]
 pub struct BroughtTypes {
-    positions: ArrayVec<usize, DECLS_LIMIT>,
+    positions: PositionSet,
 }
 
 impl Model for BroughtTypes {
     ghost use Rattle.std.specs.Prelude.{List, ℕ};
+    ghost use Rattle.cdi_positions.specs.Marks.{marked_from};
 
     ghost Value = { List ℕ };
 
-    ghost view = { λ t. t.positions.items };
+    ghost view = { λ t. marked_from 0 t.positions };
 }
 
 impl BroughtTypes {
@@ -37,16 +40,16 @@ impl BroughtTypes {
         }
     }
 
-    /// The positions in order.
-    pub fn as_slice(&self) -> &[usize]
-        ensures { result.now ≡ self.now }
+    /// The positions, rising.
+    pub fn iter(&self) -> Positions<'_>
+        ensures { result ≡ self.now }
     {
-        self.positions.as_slice()
+        self.positions.iter()
     }
 }
 
-fn positions_brought(decls: &Decls, uses: &[Qual]) -> ArrayVec<usize, DECLS_LIMIT>
-    ensures { HasPositions Bindings decls.now (map name_of_use uses.now) result.items }
+fn positions_brought(decls: &Decls, uses: &[Qual]) -> PositionSet
+    ensures { HasPositions Bindings decls.now (map name_of_use uses.now) (marked_from 0 result) }
 {
     positions_from(decls, Links::Bindings, Followers::of_uses(uses))
 }
@@ -57,7 +60,7 @@ fn positions_brought(decls: &Decls, uses: &[Qual]) -> ArrayVec<usize, DECLS_LIMI
 pub struct DeclaredUses<'a> {
     decls: &'a Decls,
     uses: &'a [Qual],
-    positions: &'a [usize],
+    positions: Positions<'a>,
 }
 
 impl<'a> Model for DeclaredUses<'a> {
@@ -67,14 +70,22 @@ impl<'a> Model for DeclaredUses<'a> {
 
     ghost Value = { List AnyQual };
 
-    ghost view = { λ s. with_declared s.decls.now s.uses.now s.positions.now };
+    ghost view = { λ s. with_declared s.decls.now s.uses.now s.positions };
 }
 
 impl<'a> DeclaredUses<'a> {
-    /// All of them.
-    pub fn new(decls: &'a Decls, uses: &'a [Qual], positions: &'a [usize]) -> DeclaredUses<'a>
-        ensures { result ≡ with_declared decls.now uses.now positions.now }
+    /// Those of some uses, and what these binding types declare, if there are some.
+    pub fn new(
+        decls: &'a Decls,
+        uses: &'a [Qual],
+        types: Option<&'a BroughtTypes>,
+    ) -> DeclaredUses<'a>
+        ensures { result ≡ with_declared decls.now uses.now (unwrap_or (option_copied types.entry) []) }
     {
+        let positions = match types {
+            Some(types) => types.iter(),
+            None => Positions::none(),
+        };
         DeclaredUses {
             decls,
             uses,
@@ -92,9 +103,8 @@ impl<'a> Iterator for DeclaredUses<'a> {
 
     fn next(&mut self) -> Option<&'a Qual> {
         'declared: while self.uses.is_empty() {
-            let (position, others) = self.positions.split_first()?;
-            self.uses = declared_at(self.decls, *position);
-            self.positions = others;
+            let position = self.positions.next()?;
+            self.uses = declared_at(self.decls, position);
         }
         let (binding, others) = self.uses.split_first()?;
         self.uses = others;

@@ -146,8 +146,8 @@ module _ (f : ℕ → List Bool) (k : ℕ) (long : (w : ℕ) → length (f w) �
 -- ---- one mark more
 
 -- the second list is the first with one more in it
-abbrev pub HasOneMore : ℕ → List ℕ → List ℕ → Type 0
-HasOneMore x xs ys = (before : List ℕ) × (after : List ℕ) × (xs ≡ before ++ after) × (ys ≡ before ++ x ∷ after)
+abbrev pub HasOneMore : {A : Type 0} → A → List A → List A → Type 0
+HasOneMore {A} x xs ys = (before : List A) × (after : List A) × (xs ≡ before ++ after) × (ys ≡ before ++ x ∷ after)
 
 one_later : (n : ℕ) (m : Bool) (x y : ℕ) (xs ys : List ℕ) → x ≡ y → HasOneMore x xs ys
     → HasOneMore y (if m then n ∷ xs else xs) (if m then n ∷ ys else ys)

@@ -1,11 +1,11 @@
 use Rattle.std.proofs.Common.{subst, sym}
 use Rattle.cdi_match.specs.Walk.{Meets}
-use Rattle.cdi_match.proofs.WalkLemmas.{HasRoom-met, Meets-cons, Meets-none}
+use Rattle.cdi_match.proofs.WalkLemmas.{Meets-cons, Meets-none}
 use Rattle.cdi_match.proofs.walk.Walk.add_all.Goals as goal
 
 pub loop-name-preserved : goal.loop-name-preserved
 loop-name-preserved c = (
-  HasRoom-met c.args.links c.args.decls.now _ _ _ c.loop-name.invariant.0 c.add.ensures,
+  c.add.ensures.kept c.loop-name.invariant.0,
   λ w more. c.loop-name.invariant.1 w
       (subst (λ names. Meets c.args.links c.args.decls.now names c.loop-name.self w) (sym c.in-Some.ensures.steps)
       (Meets-cons c.args.links c.args.decls.now c.in-Some.name.now _ _ _ _ c.add.ensures more)),

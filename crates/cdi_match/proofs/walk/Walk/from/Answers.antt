@@ -1,18 +1,18 @@
-use Rattle.std.proofs.Common.{Some, ap, sym, ◌∙◌}
+use Rattle.std.proofs.Common.{Some, ◌∙◌, sym}
 use Rattle.std.proofs.lemmas.Bool.{false≢true}
-use Rattle.cdi_match.specs.Walk.{has_met}
-use Rattle.cdi_match.proofs.WalkLemmas.{HasRoom-met, walk-all, walk-start}
+use Rattle.cdi_match.proofs.WalkLemmas.{walk-start, Meets-first}
 use Rattle.cdi_match.proofs.walk.Walk.from.Goals as goal
 
-pub taken-init : goal.taken-init
-taken-init c = (
-  walk-start c.args.links c.args.decls.now c.args.names _ _ c.new-walk.ensures.marks c.new-walk.ensures.left c.add_all.ensures,
-  c.add_all.ensures.placed (λ i is. absurd (false≢true (sym (c.new-walk.ensures.marks (Some i)) ∙ is))),
-  HasRoom-met c.args.links c.args.decls.now _ _ _ c.new-walk.ensures.room c.add_all.ensures,
-)
+pub returns-clause-walking : goal.returns-clause-walking
+returns-clause-walking c =
+    let ds = c.args.decls.now in
+    let first = c.in_ok-first.ensures.some in
+    walk-start c.args.links ds c.args.names c.new-walk.result c.add_all.new.self c.new-walk.ensures.marks c.new-walk.ensures.left
+    (Meets-first c.args.links ds first.0 c.first_declared.new.names c.args.names c.in_ok-first.first c.new-walk.result c.find.new.self
+    c.add_all.new.self first.1 first.2 (c.find.ensures c.args.links ds first.0 first.1) c.add_all.ensures)
 
-pub returns-then-not-take_one-clause-found : goal.returns-then-not-take_one-clause-found
-returns-then-not-take_one-clause-found c = λ s declared.
-    ap (λ w. has_met c.args.links c.args.decls.now w s) (c.take_one.ensures.same c.if-not-take_one.true)
-    ∙ walk-all c.args.links c.args.decls.now c.args.names c.taken.walk s c.taken.invariant.0
-    (c.take_one.ensures.end c.if-not-take_one.true) declared
+pub returns-clause-placed : goal.returns-clause-placed
+returns-clause-placed c =
+    let first = c.in_ok-first.ensures.some in
+    c.add_all.ensures.placed ((c.find.ensures c.args.links c.args.decls.now first.0 first.1).placed (λ i is.
+    absurd (false≢true (sym (c.new-walk.ensures.marks (Some i)) ∙ is))))

@@ -1,6 +1,5 @@
-use Rattle.cdi_match.proofs.WalkLemmas.{none_marked}
-use Rattle.cdi_model.specs.DeclList.{limit}
+use Rattle.cdi_positions.proofs.MarkLemmas.{marked_count-none}
 use Rattle.cdi_match.proofs.walk.Walk.new.Goals as goal
 
-pub returns-clause-marks : goal.returns-clause-marks
-returns-clause-marks c = λ o. none_marked limit o
+pub returns-clause-left : goal.returns-clause-left
+returns-clause-left c = marked_count-none c.new-2.result c.new-2.ensures.none

@@ -1,4 +1,4 @@
-use Rattle.std.proofs.Common.{◌≡◌, ◌+◌, ◌*◌, ◌<◌, ◌^◌, true, false, ap, sym, ◌∙◌, get_or, length, set, arith}
+use Rattle.std.proofs.Common.{◌+◌, ◌*◌, false, ap, sym, ◌∙◌, get_or, set, arith}
 use Rattle.std.specs.Int.Count.{count_trailing_zeros}
 use Rattle.cdi_positions.specs.Marks.{is_marked, marked_count}
 use Rattle.cdi_positions.specs.Words.{marks_of}
