@@ -32,7 +32,8 @@ use Rattle.cdi_text.specs.Schema.{shape_of}
 use Rattle.cdi_text.specs.Spelled.{with_front, items_at, calls_in, calls_at, events_in, events_at, one_at, each, each_at}
 use Rattle.cdi_text.specs.Spelled.{part_decl, method_decl, point_decl, producer_decl, observer_decl, bean_decl}
 use Rattle.cdi_text.specs.Spelled.{interceptor_decl}
-use Rattle.cdi_text.proofs.Soundness.{count_at, table_at, tables_at}
+use Rattle.cdi_text.proofs.FromTables.{from-one, from-each_at, from-text}
+use Rattle.cdi_text.proofs.Soundness.{count_at}
 
 -- ---- lists
 
@@ -40,7 +41,7 @@ length-front : {A : Type 0} (o : Option A) (xs : List A) (n : ℕ) → length xs
 length-front None xs n few = omega (arith, few)
 length-front (Some x) xs n few = omega (arith, few)
 
-length-calls : (ds : Items) → length (calls_in ds) ≤ count_of ds
+pub length-calls : (ds : Items) → length (calls_in ds) ≤ count_of ds
 length-calls no_items = omega arith
 length-calls (item d ds) =
     length-front (option_and_then call_of (as_str d)) (calls_in ds) (count_of ds) (length-calls ds)
@@ -50,12 +51,12 @@ length-events no_items = omega arith
 length-events (item d ds) =
     length-front (option_map event_of (as_str d)) (events_in ds) (count_of ds) (length-events ds)
 
-length-each : {A : Type 0} (f : Members → A) (ds : Items) → length (each f ds) ≤ count_of ds
+pub length-each : {A : Type 0} (f : Members → A) (ds : Items) → length (each f ds) ≤ count_of ds
 length-each f no_items = omega arith
 length-each f (item d ds) = length-front (option_map f (as_table d)) (each f ds) (count_of ds) (length-each f ds)
 
 -- the list at a key of a sound table has few entries
-few-items : (schema : Schema) (ms : Members) (k : List ℕ)
+pub few-items : (schema : Schema) (ms : Members) (k : List ℕ)
     → ((ds : Items) → option_and_then as_array (get_member k ms) ≡ Some ds
     → count_of ds ≤ list_limit) → count_of (items_at k ms) ≤ list_limit
 few-items schema ms k few = by (option_and_then as_array (get_member k ms)) few
@@ -91,60 +92,13 @@ few-params schema ms sound shape =
     omega (arith, few, params)
 
 -- the part of a sound table that has the keys of a part
-short-part : (schema : Schema) (ms : Members) → is_sound schema ms ≡ true
+pub short-part : (schema : Schema) (ms : Members) → is_sound schema ms ≡ true
     → shape_of schema (codes "calls") ≡ Some (Many Call) → shape_of schema (codes "fires") ≡ Some (Many Event)
     → IsShortPart (part_decl ms)
 short-part schema ms sound calls fires = record {
   calls = few-calls schema ms sound calls;
   fires = few-fires schema ms sound fires;
 }
-
--- ---- tables inside a table
-
--- what a sound table spells
-record IsOfSound {A : Type 0} (f : Members → A) (schema : Schema) (x : A) : Type 0 where
-  pub ms : Members
-  pub sound : is_sound schema ms ≡ true
-  pub spells : f ms ≡ x
-
-from-one : {A : Type 0} (f : Members → A) (schema inner : Schema) (k : List ℕ) (ms : Members) (x : A)
-    → is_sound schema ms ≡ true
-    → shape_of schema k ≡ Some (One (Table inner)) → one_at f k ms ≡ Some x → IsOfSound f inner x
-from-one {A = A} f schema inner k ms x sound shape e =
-    by (get_member k ms) (λ d at. table_at schema inner k d ms sound shape at) e
-  where
-    by : (o : Option Data) → ((d : Data) → o ≡ Some d → is_sound_value inner d ≡ true)
-        → option_map f (option_and_then as_table o) ≡ Some x
-        → IsOfSound f inner x
-    by None each_sound e = absurd (none-some x e)
-    by (Some (table nested)) each_sound e = record {
-      ms = nested;
-      sound = each_sound (table nested) refl;
-      spells = same_Some (f nested) x e;
-    }
-    by (Some _) each_sound e = absurd (none-some x e)
-
-from-each : {A : Type 0} (f : Members → A) (schema : Schema) (ds : Items) (k : ℕ) (x : A) → are_sound schema ds ≡ true
-    → slice_get (each f ds) k ≡ Some x → IsOfSound f schema x
-from-each f schema no_items k x sound e = absurd (cc)
-from-each f schema (item (table ms) ds) zero x sound e =
-    let both = and_parts (is_sound schema ms) (are_sound schema ds) sound in
-    record { ms = ms; sound = both.0; spells = same_Some (f ms) x e }
-from-each f schema (item (table ms) ds) (suc k) x sound e =
-    from-each f schema ds k x (and_parts (is_sound schema ms) (are_sound schema ds) sound).1 e
-from-each f schema (item _ ds) k x sound e = from-each f schema ds k x sound e
-
-from-each_at : {A : Type 0} (f : Members → A) (schema inner : Schema) (key : List ℕ) (ms : Members) (k : ℕ) (x : A)
-    → is_sound schema ms ≡ true → shape_of schema key ≡ Some (Many (Table inner))
-    → slice_get (each_at f key ms) k ≡ Some x
-    → IsOfSound f inner x
-from-each_at {A = A} f schema inner key ms k x sound shape e =
-    by (option_and_then as_array (get_member key ms)) (λ ds at. tables_at schema inner key ds ms sound shape at) e
-  where
-    by : (o : Option Items) → ((ds : Items) → o ≡ Some ds → are_sound inner ds ≡ true)
-        → slice_get (each f (unwrap_or o no_items)) k ≡ Some x → IsOfSound f inner x
-    by None each_sound e = absurd (cc)
-    by (Some ds) each_sound e = from-each f inner ds k x (each_sound ds refl) e
 
 -- ---- a bean, and an interceptor
 
@@ -187,46 +141,15 @@ short-interceptor ms sound = record {
   pre = λ part e. short-one schemas.Interceptor (codes "pre") ms part sound refl e;
 }
 
-short-spelled : (kind : Kind) (ms : Members) → is_sound (schema_of kind) ms ≡ true → HasShortLists (spelled kind ms)
+pub short-spelled : (kind : Kind) (ms : Members) → is_sound (schema_of kind) ms ≡ true → HasShortLists (spelled kind ms)
 short-spelled kinds.Bean ms sound = short-bean ms sound
 short-spelled kinds.Interceptor ms sound = short-interceptor ms sound
 short-spelled other ms sound = tt
 
 -- ---- a text
 
-no-refusal : {X : Type 0} (refusal : Refusal) (x : X) → ◌≡◌ {A = Result X Refusal} (Err refusal) (Ok x) → ⊥
-no-refusal refusal x e = false≢true (ap is_ok e)
-
-short-of-kind : (kind : Kind) (ms : Members) (d : Decl) → decl_of_kind kind ms ≡ Ok d → HasShortLists d
-unfolding is_sound
-short-of-kind kind ms d e = by (first_condition (schema_of kind) ms) refl e
-  where
-    by : (o : Option Condition) → first_condition (schema_of kind) ms ≡ o → refused_or o (spelled kind ms) ≡ Ok d
-        → HasShortLists d
-    by None none is = subst HasShortLists (same_Some (spelled kind ms) d (ap result_ok is))
-        (short-spelled kind ms (ap (λ c. not (is_some c)) none))
-    by (Some condition) first is = absurd (no-refusal _ d is)
-
-short-of-members : (ms : Members) (d : Decl) → decl_of_members ms ≡ Ok d → HasShortLists d
-short-of-members ms d e = by (kind_in ms) refl e
-  where
-    by : (o : Option Kind) → kind_in ms ≡ o → decl_of_members ms ≡ Ok d → HasShortLists d
-    by None none is = absurd (no-refusal _ d (rw none at is))
-    by (Some kind) of is = short-of-kind kind ms d (rw of at is)
-
-short-of-tree : (o : Option Members) (d : Decl) → decl_of_tree o ≡ Ok d → HasShortLists d
-short-of-tree None d e = absurd (no-refusal _ d e)
-short-of-tree (Some ms) d e = short-of-members ms d e
-
-short-of : (text : List ℕ) (d : Decl) → decl_of text ≡ Ok d → HasShortLists d
-short-of text d e = by (nat_lt 65536 (length text)) e
-  where
-    by : (b : Bool) → cond b (Err TooLong) (decl_of_tree (tree_of text)) ≡ Ok d → HasShortLists d
-    by true is = absurd (no-refusal _ d is)
-    by false is = short-of-tree (tree_of text) d is
-
 -- what a text was read as
 pub short_answer : (text : List ℕ) (result : Result Decl Error) → Answers result (decl_of text)
     → IfOk result HasShortLists
-short_answer text (Ok d) said = short-of text d said
+short_answer text (Ok d) said = from-text HasShortLists short-spelled text d said
 short_answer text (Err e) said = tt

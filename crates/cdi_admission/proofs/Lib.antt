@@ -1,0 +1,5 @@
+pub mod AnyLemmas
+mod ListLemmas
+pub mod SetLemmas
+pub mod UseLemmas
+mod ShortLemmas

@@ -1,0 +1,2 @@
+pub mod TextSets
+pub mod Admission
