@@ -1,4 +1,4 @@
--- A put of the declaration that a text spells is a put of that text, and what is made of a batch is that batch.
+-- What an edit and a batch answer and leave makes a step.
 use Rattle.std.proofs.Common.{◌≡◌, ℕ, List, Option, None, Some, refl, ap, ◌∙◌}
 use Rattle.std.specs.Prelude.{Result, Ok, Err, OnOk, IfErr}
 use Rattle.cdi_model.specs.declared.decl.Decl.{Decl}
@@ -8,11 +8,13 @@ use Rattle.cdi_model.specs.declared.refusal.Refusal.{Refusal}
 use Rattle.cdi_model.specs.declared.edit.Edit.{Edit as Change}
 use Rattle.cdi_model.specs.Edits.{refusal_of_edit, answer_of_edit}
 use Rattle.cdi_model.specs.Answering.{Answers}
+use Rattle.cdi_admission.specs.Admission.{refusal_of_decl}
 use Rattle.cdi_text.specs.Reading.{decl_of}
 use Rattle.cdi_lines.specs.declared.edit.Edit.{Edit}
-use Rattle.cdi_container.specs.Editing.{alone, changes_in, changes_of_all, put_of, refusal_of_batch, refusal_of_change}
+use Rattle.cdi_lines.specs.declared.edit.Edit.TheVariants as edits
+use Rattle.cdi_container.specs.Editing.{admitted, alone, change_of, changes_in, changes_of, changes_of_all, put_of, refusal_of_batch, refusal_of_change}
 use Rattle.cdi_container.specs.History.{State, EditsFrom, left_by}
-use Rattle.cdi_container.specs.Seen.{PutStep, BatchStep, AnswersBatch, answer_of_change, left_by_batch}
+use Rattle.cdi_container.specs.Seen.{EditStep, PutStep, PutDeclStep, BatchStep, AnswersBatch, answer_of_change, left_by_batch}
 use Rattle.cdi_container.specs.declared.batch.BatchError.{BatchError}
 use Rattle.cdi_container.specs.declared.batch.BatchError.TheVariants as batch_errors
 
@@ -43,13 +45,26 @@ pub refused_change : (ds : List Decl) (asked : Result Change Refusal) (r : Refus
 refused_change ds (Ok change) r h = refused ds change r h
 refused_change ds (Err s) r h = cc
 
+-- what asks for a change answers as the edit that asks for it
+edit_step : (old new : State) (edit : Edit) (result : Result (Unit {0}) Error)
+    → Answers result (answer_of_change old.decls (change_of edit))
+    → OnOk result (EditsFrom old (changes_of edit) new)
+    → IfErr result (λ error. new ≡ left_by error old) → EditStep old edit result new
+edit_step old new edit (Ok u) answer ok err = (ap alone (accepted_change old.decls (change_of edit) u answer), (refl, ok))
+edit_step old new edit (Err errors.OutOfMemory) answer ok err = err
+edit_step old new edit (Err (errors.Refused r)) answer ok err = (ap alone (refused_change old.decls (change_of edit) r answer), err)
+
 pub put_step : (old new : State) (text : List ℕ) (result : Result (Unit {0}) Error)
     → Answers result (answer_of_change old.decls (put_of (decl_of text)))
     → OnOk result (EditsFrom old (changes_in (put_of (decl_of text))) new)
     → IfErr result (λ error. new ≡ left_by error old) → PutStep old text result new
-put_step old new text (Ok u) answer ok err = (ap alone (accepted_change old.decls (put_of (decl_of text)) u answer), (refl, ok))
-put_step old new text (Err errors.OutOfMemory) answer ok err = err
-put_step old new text (Err (errors.Refused r)) answer ok err = (ap alone (refused_change old.decls (put_of (decl_of text)) r answer), err)
+put_step old new text result answer ok err = edit_step old new (edits.Put text) result answer ok err
+
+pub put_decl_step : (old new : State) (d : Decl) (result : Result (Unit {0}) Error)
+    → Answers result (answer_of_change old.decls (put_of (admitted (refusal_of_decl d) d)))
+    → OnOk result (EditsFrom old (changes_in (put_of (admitted (refusal_of_decl d) d))) new)
+    → IfErr result (λ error. new ≡ left_by error old) → PutDeclStep old d result new
+put_decl_step old new d result answer ok err = edit_step old new (edits.PutDecl d) result answer ok err
 
 pub batch_step : (old new : State) (edits : List Edit) (result : Result (Unit {0}) BatchError)
     → AnswersBatch result (refusal_of_batch old.decls edits)

@@ -6,20 +6,27 @@ use Rattle.cdi_model.specs.declared.edit.Edit.TheVariants as changes
 use Rattle.cdi_model.specs.declared.refusal.Refusal.{Refusal}
 use Rattle.cdi_model.specs.declared.refusal.Refusal.TheVariants.{BatchTooLong}
 use Rattle.cdi_model.specs.Edits.{edited_all, refusal_of_edit}
+use Rattle.cdi_admission.specs.Admission.{refusal_of_decl}
 use Rattle.cdi_text.specs.Reading.{decl_of}
 use Rattle.cdi_lines.specs.declared.edit.Edit.{Edit}
 use Rattle.cdi_lines.specs.declared.edit.Edit.TheVariants as edits
 
 -- ---- one edit
 
--- a put of what a text spells
+-- a put of a declaration, or why there is none
 abbrev pub put_of : Result Decl Refusal → Result Change Refusal
 put_of (Ok d) = Ok (changes.Put d)
 put_of (Err refusal) = Err refusal
 
+-- a declaration that a program made, unless it is refused
+abbrev pub admitted : Option Refusal → Decl → Result Decl Refusal
+admitted None d = Ok d
+admitted (Some refusal) d = Err refusal
+
 -- the change of the list of declarations that an edit asks for, or why it asks for none
 abbrev pub change_of : Edit → Result Change Refusal
 change_of (edits.Put text) = put_of (decl_of text)
+change_of (edits.PutDecl d) = put_of (admitted (refusal_of_decl d) d)
 change_of (edits.Remove kind name) = Ok (changes.Remove kind name)
 
 -- it, if there is one

@@ -114,6 +114,9 @@ IsStep old command answer new = LegalAnswer old command answer new
 abbrev pub PutStep : State → List ℕ → Result (Unit {0}) Error → State → Type 0
 PutStep old text result new = IsStep old (Edit (edits.Put text)) (edit_answer result) new
 
+abbrev pub PutDeclStep : State → Decl → Result (Unit {0}) Error → State → Type 0
+PutDeclStep old decl result new = IsStep old (Edit (edits.PutDecl decl)) (edit_answer result) new
+
 abbrev pub RemoveStep : State → Kind → List ℕ → Result (Unit {0}) Error → State → Type 0
 RemoveStep old kind name result new = IsStep old (Edit (edits.Remove kind name)) (edit_answer result) new
 

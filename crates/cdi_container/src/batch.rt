@@ -7,6 +7,7 @@ ghost use Rattle.cdi_container.specs.Editing.{asked_by, change_of, changes_of, c
 ghost use Rattle.cdi_container.specs.Seen.{answer_of_change, AnswersBatch, refused_at};
 ghost use Rattle.cdi_container.specs.Wired.{IsShortEdit};
 
+use cdi_admission::check_decl;
 use cdi_lines::Edit;
 use cdi_model::{Decls, Edit as Change, Error as CallError, Refusal};
 use cdi_text::read_decl;
@@ -134,6 +135,10 @@ fn read_change(alloc: Global, edit: Edit) -> Result<Change, CallError>
 {
     match edit {
         Edit::Put { text } => Ok(Change::Put(read_decl(alloc, text.as_slice())?)),
+        Edit::PutDecl { decl } => {
+            check_decl(alloc, &decl)?;
+            Ok(Change::Put(decl))
+        }
         Edit::Remove { kind, name } => Ok(Change::Remove(kind, name)),
     }
 }

@@ -4,6 +4,7 @@ ghost use Rattle.cdi_model.specs.declared.edit.Edit.TheVariants.{Remove as Remov
 ghost use Rattle.cdi_model.specs.Edits.{answer_of_edit as answer_of_removal, answer_of_edit};
 ghost use Rattle.cdi_model.specs.Answering.{Answers};
 ghost use Rattle.cdi_model.specs.Short.{AreShort};
+ghost use Rattle.cdi_admission.specs.Admission.{refusal_of_decl};
 ghost use Rattle.cdi_text.specs.Reading.{decl_of};
 ghost use Rattle.cdi_effective.specs.Beans.{beans};
 ghost use Rattle.cdi_resolve.specs.Choices.{chosen, chosen_by_name};
@@ -23,13 +24,14 @@ use crate::answer::{
 use crate::batch::BatchError;
 use crate::beans::Beans;
 use crate::deployment::Deployment;
+use cdi_admission::check_decl;
 use cdi_bodies::Bodies;
 use cdi_contexts::Contexts;
 use cdi_faults::Fault;
 use cdi_legal::{Entry, Run};
 use cdi_lines::{Command, Edit};
 use cdi_model::{
-    BeanPlace, Decls, Edit as Change, Error, Iter as DeclIter, Kind, Name, Quals, Refusal, Seq,
+    BeanPlace, Decl, Decls, Edit as Change, Error, Iter as DeclIter, Kind, Name, Quals, Refusal, Seq,
     Work,
 };
 use cdi_observe::ObserverId;
@@ -79,9 +81,9 @@ impl<B: Bodies> Model for Container<B> {
 impl<B: Bodies> Container<B> {
     ghost use Rattle.std.specs.Prelude.{◌++◌};
     ghost use Rattle.cdi_container.specs.History.{empty};
-    ghost use Rattle.cdi_container.specs.Seen.{answer_of_change, IsStep, EditStep, PutStep, RemoveStep, ChooseStep, NamedStep};
+    ghost use Rattle.cdi_container.specs.Seen.{answer_of_change, IsStep, EditStep, PutStep, PutDeclStep, RemoveStep, ChooseStep, NamedStep};
     ghost use Rattle.cdi_container.specs.Seen.{left_by_batch, AnswersBatch, BatchStep};
-    ghost use Rattle.cdi_container.specs.Editing.{put_of, changes_in, changes_of_all, refusal_of_batch};
+    ghost use Rattle.cdi_container.specs.Editing.{admitted, put_of, changes_in, changes_of_all, refusal_of_batch};
     ghost use Rattle.cdi_container.specs.Seen.{ChainStep, ObserversStep};
     ghost use Rattle.cdi_container.specs.Seen.{ReportStep};
 
@@ -142,6 +144,7 @@ impl<B: Bodies> Container<B> {
     {
         match edit {
             Edit::Put { text } => self.put(text.as_slice()),
+            Edit::PutDecl { decl } => self.put_decl(decl),
             Edit::Remove { kind, name } => self.remove(kind, name),
         }
     }
@@ -161,6 +164,26 @@ impl<B: Bodies> Container<B> {
     {
         match read_decl(self.alloc, text) {
             Ok(decl) => self.edit(Change::Put(decl)),
+            Err(error) => Err(self.leave(error)),
+        }
+    }
+
+    /// Puts a declaration that a program made, as `put` puts one that a text spells.
+    ///
+    /// # Errors
+    ///
+    /// `OutOfMemory`, or the first of these refusals that applies: `BadName`, `Twice` and `ListTooLong`, of what a text could
+    /// not spell either; `TooMany`.
+    #[tactic(auto, using(crate::proofs::Putting::put_decl_step))]
+    pub fn put_decl(&mut self, decl: Decl) -> Result<(), Error>
+        ensures answer { Answers result (answer_of_change self.old.decls (put_of (admitted (refusal_of_decl decl) decl))) }
+        ensures ok { OnOk result (EditsFrom self.old (changes_in (put_of (admitted (refusal_of_decl decl) decl))) self.new) }
+        ensures nothing { OnOk result (self.new.standing.live ≡ []) }
+        ensures err { IfErr result (λ error. self.new ≡ left_by error self.old) }
+        ensures step { PutDeclStep self.old decl result self.new }
+    {
+        match check_decl(self.alloc, &decl) {
+            Ok(()) => self.edit(Change::Put(decl)),
             Err(error) => Err(self.leave(error)),
         }
     }
