@@ -1,7 +1,7 @@
-//! Batches as a typed call, with ample memory.
-use cdi_container::{BatchError, Container, Edit};
+//! Batches, and puts of declarations that a program made, with ample memory.
+use cdi_container::{BatchError, Container, Edit, read_decl};
 use cdi_fixtures::{Echo, name};
-use cdi_model::{Error, Kind, Quals, Refusal, Seq};
+use cdi_model::{Decl, Error, Form, Kind, Name, QualifierDecl, Quals, Refusal, Seq, TypeDecl};
 use std::alloc::{AllocError, Global};
 use std::io::Write;
 use std::test::Fail;
@@ -89,6 +89,51 @@ fn a_refused_batch_tells_the_number_of_its_edit(rt: HostRuntime) -> Result<(), F
         edit: Some(4),
     };
     assert!(rt; container.batch(edits) == Err(refused));
+    assert!(rt; is_live(&container));
+    assert!(rt; container.decls().count() == 2);
+    Ok(())
+}
+
+/// A class `E` that implements `I` and further `I`s, as many as this.
+fn class(alloc: Global, further: usize) -> Result<Decl, AllocError> {
+    let mut implements = Seq::new(alloc);
+    for _ in 0..further + 1 {
+        implements.push(Name::new(b"I"))?;
+    }
+    Ok(Decl::Type(TypeDecl {
+        name: Name::new(b"E"),
+        form: Form::Class,
+        is_final: false,
+        extends: None,
+        implements,
+    }))
+}
+
+fn qualifier(alloc: Global, name: Name) -> Decl {
+    let members = Seq::new(alloc);
+    Decl::Qualifier(QualifierDecl { name, members })
+}
+
+#[test]
+fn a_declaration_of_a_program_is_put(rt: HostRuntime) -> Result<(), Fail> {
+    let mut container = started(rt.alloc())?;
+    container.put_decl(class(rt.alloc(), 0)?)?;
+    assert!(rt; !is_live(&container));
+    let read = read_decl(rt.alloc(), b"kind=\"type\"\nname=\"I\"\nform=\"interface\"\n")?;
+    let mut edits = puts_of_types(rt.alloc(), 1)?;
+    edits.push(Edit::PutDecl { decl: read })?;
+    container.batch(edits)?;
+    assert!(rt; container.decls().count() == 5);
+    Ok(())
+}
+
+#[test]
+fn a_declaration_that_no_text_spells_is_refused(rt: HostRuntime) -> Result<(), Fail> {
+    let mut container = started(rt.alloc())?;
+    let built_in = container.put_decl(qualifier(rt.alloc(), Name::new(b"Any")));
+    assert!(rt; built_in == Err(Error::Refused(Refusal::BadName)));
+    let twice = container.put_decl(class(rt.alloc(), 32)?);
+    assert!(rt; twice == Err(Error::Refused(Refusal::Twice)));
     assert!(rt; is_live(&container));
     assert!(rt; container.decls().count() == 2);
     Ok(())
