@@ -3,8 +3,6 @@
 #![tactic(auto)]
 
 #[cfg(test)]
-mod batches;
-#[cfg(test)]
 mod closures;
 #[cfg(test)]
 mod devices;
@@ -20,3 +18,5 @@ mod proceeding;
 mod runs;
 #[cfg(test)]
 mod session;
+#[cfg(test)]
+mod typed_edits;

@@ -1,4 +1,4 @@
-//! Batches, and puts of declarations that a program made, with ample memory.
+//! Edits that no script makes: batches by a call, and puts of declarations that a program made.
 use cdi_container::{BatchError, Container, Edit, read_decl};
 use cdi_fixtures::{Echo, name};
 use cdi_model::{Decl, Error, Form, Kind, Name, QualifierDecl, Quals, Refusal, Seq, TypeDecl};
