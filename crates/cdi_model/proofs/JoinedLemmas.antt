@@ -73,3 +73,61 @@ pub get-joined_second : {X : Type 0} (xs ys : List X) (i : ℕ) → length xs �
 get-joined_second [] ys i past = ap (slice_get ys) (omega arith)
 get-joined_second (x ∷ xs) ys zero past = absurd (omega arith)
 get-joined_second (x ∷ xs) ys (suc i) past = get-joined_second xs ys i (omega arith) ∙ ap (slice_get ys) (omega arith)
+
+-- ---- what is found among them
+
+pub found-first : (kind : Kind) (name : List ℕ) (xs ys : List Decl) (d : Decl) → Some d ≡ find_decl kind name xs
+    → Some d ≡ find_decl kind name (xs ++ ys)
+found-first kind name xs ys d h = ap (λ o. option_or o (find_decl kind name ys)) h ∙ sym (find-joined kind name xs ys)
+
+pub found-second : (kind : Kind) (name : List ℕ) (xs ys : List Decl) (o : Option Decl) → None ≡ find_decl kind name xs
+    → o ≡ find_decl kind name ys → o ≡ find_decl kind name (xs ++ ys)
+found-second kind name xs ys o none h = h ∙ ap (λ p. option_or p (find_decl kind name ys)) none ∙ sym (find-joined kind name xs ys)
+
+pub place-first : (kind : Kind) (name : List ℕ) (xs ys : List Decl) (i : ℕ) → Some i ≡ position (is_of kind name) xs
+    → Some i ≡ position (is_of kind name) (xs ++ ys)
+place-first kind name xs ys i h =
+    ap (λ o. option_or o (option_map (λ i. length xs + i) (position (is_of kind name) ys))) h ∙ sym (position-joined (is_of kind name) xs ys)
+
+pub place-second : (kind : Kind) (name : List ℕ) (xs ys : List Decl) (o : Option ℕ) → None ≡ position (is_of kind name) xs
+    → o ≡ position (is_of kind name) ys → option_map (λ i. length xs + i) o ≡ position (is_of kind name) (xs ++ ys)
+place-second kind name xs ys o none h =
+    ap (option_map (λ i. length xs + i)) h
+    ∙ ap (λ p. option_or p (option_map (λ i. length xs + i) (position (is_of kind name) ys))) none
+    ∙ sym (position-joined (is_of kind name) xs ys)
+
+-- ---- edits of one of them
+
+pub removed-first : (kind : Kind) (name : List ℕ) (xs ys : List Decl) → is_some (find_decl kind name xs) ≡ true
+    → remove_from kind name (xs ++ ys) ≡ remove_from kind name xs ++ ys
+removed-first kind name xs ys h =
+    remove-joined kind name xs ys ∙ ap (λ b. cond b (remove_from kind name xs ++ ys) (xs ++ remove_from kind name ys)) h
+
+pub removed-second : (kind : Kind) (name : List ℕ) (xs ys : List Decl) → is_some (find_decl kind name xs) ≡ false
+    → remove_from kind name (xs ++ ys) ≡ xs ++ remove_from kind name ys
+removed-second kind name xs ys h =
+    remove-joined kind name xs ys ∙ ap (λ b. cond b (remove_from kind name xs ++ ys) (xs ++ remove_from kind name ys)) h
+
+pub found-joined_first : (kind : Kind) (name : List ℕ) (xs ys : List Decl) → is_some (find_decl kind name xs) ≡ true
+    → is_some (find_decl kind name (xs ++ ys)) ≡ true
+found-joined_first kind name xs ys h = ap is_some (find-joined kind name xs ys) ∙ by (find_decl kind name xs) h
+  where
+    by : (o : Option Decl) → is_some o ≡ true → is_some (option_or o (find_decl kind name ys)) ≡ true
+    by None h = absurd (cc)
+    by (Some d) h = refl
+
+pub found-joined_second : (kind : Kind) (name : List ℕ) (xs ys : List Decl) → is_some (find_decl kind name xs) ≡ false
+    → is_some (find_decl kind name (xs ++ ys)) ≡ is_some (find_decl kind name ys)
+found-joined_second kind name xs ys h = ap is_some (find-joined kind name xs ys) ∙ by (find_decl kind name xs) h
+  where
+    by : (o : Option Decl) → is_some o ≡ false → is_some (option_or o (find_decl kind name ys)) ≡ is_some (find_decl kind name ys)
+    by None h = refl
+    by (Some d) h = absurd (cc)
+
+pub put-first : (d : Decl) (xs ys : List Decl) → is_some (find_decl (kind_of d) (name_of_decl d) xs) ≡ true
+    → put_in (xs ++ ys) d ≡ put_in xs d ++ ys
+put-first d xs ys h = put-joined d xs ys ∙ ap (λ b. cond b (put_in xs d ++ ys) (xs ++ put_in ys d)) h
+
+pub put-second : (d : Decl) (xs ys : List Decl) → is_some (find_decl (kind_of d) (name_of_decl d) xs) ≡ false
+    → put_in (xs ++ ys) d ≡ xs ++ put_in ys d
+put-second d xs ys h = put-joined d xs ys ∙ ap (λ b. cond b (put_in xs d ++ ys) (xs ++ put_in ys d)) h

@@ -133,3 +133,7 @@ put-last d (e ∷ es) rest distinct = elim (cases_Bool (same_key (key_of d) (key
         → same_key (key_of e) (key_of d) ≡ false
     other [] all = all.0
     other (f ∷ fs) all = other fs all.1
+
+pub listed-nil : AreListed []
+unfolding IsDistinct
+listed-nil = record { distinct = tt; count = omega arith }

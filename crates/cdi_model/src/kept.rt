@@ -1,5 +1,5 @@
 //! What is kept of a base of declarations, some of it replaced.
-ghost use Rattle.std.specs.Prelude.{◌≡◌, [], ◌∷◌, true, if◌then◌else◌, IfOk, OnOk, OnErr, MatchOption, List, Bool, length, is_some, option_map, position, slice_get, slice_set};
+ghost use Rattle.std.specs.Prelude.{◌≡◌, ◌<◌, ◌≤◌, ℕ, [], ◌∷◌, true, false, if◌then◌else◌, IfOk, OnOk, OnErr, MatchOption, List, Bool, length, is_some, option_map, position, slice_get, slice_set};
 ghost use Rattle.cdi_positions.specs.Marks.{is_marked};
 ghost use Rattle.cdi_model.specs.Decl.{kind_of, name_of_decl};
 ghost use Rattle.cdi_model.specs.DeclList.{find_decl, is_of, put_in, remove_from};
@@ -251,12 +251,27 @@ impl<'a> KeptIter<'a> {
     pub(crate) fn next(&mut self) -> Option<&'a Rc<Decl>>
         ensures { MatchOption result ((self.old ≡ []) × (self.new ≡ [])) (λ d. self.old ≡ d.now.value ∷ self.new) }
     {
-        for place in self.place..self.base.len() {
-            self.place = place + 1;
-            if !self.gone.contains(place) {
-                return standing(self.base, self.changed, self.replaced, place);
-            }
+        let end = self.base.len();
+        let place = first_outside(self.gone, self.place, end);
+        if place >= end {
+            self.place = end;
+            return None;
         }
-        None
+        self.place = place + 1;
+        standing(self.base, self.changed, self.replaced, place)
     }
+}
+
+/// The first place from one on that is not in a set, or the end.
+fn first_outside(set: &PositionSet, from: usize, end: usize) -> usize
+    ensures skipped { (place : ℕ) → from ≤ place → place < result → is_marked set.now place ≡ true }
+    ensures outside { result < end → is_marked set.now result ≡ false }
+    ensures bound { result ≤ end }
+{
+    for place in from..end {
+        if !set.contains(place) {
+            return place;
+        }
+    }
+    end
 }
