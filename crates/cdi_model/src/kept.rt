@@ -266,7 +266,7 @@ impl<'a> KeptIter<'a> {
 fn first_outside(set: &PositionSet, from: usize, end: usize) -> usize
     ensures skipped { (place : ℕ) → from ≤ place → place < result → is_marked set.now place ≡ true }
     ensures outside { result < end → is_marked set.now result ≡ false }
-    ensures bound { result ≤ end }
+    ensures low { result < end → from ≤ result }
 {
     for place in from..end {
         if !set.contains(place) {
