@@ -12,7 +12,7 @@ use Rattle.cdi_model.specs.Entries.{Entry, decls_of, AreKeyed}
 use Rattle.cdi_model.proofs.EntryLemmas.{key_exact}
 
 -- the first place in a longer list
-position-cons : {X : Type 0} (p : X → Bool) (x : X) (xs : List X)
+pub position-cons : {X : Type 0} (p : X → Bool) (x : X) (xs : List X)
     → position p (x ∷ xs) ≡ cond (p x) (Some 0) (option_map suc (position p xs))
 position-cons p x xs = grind arith
 
@@ -80,3 +80,11 @@ one_position kind name other ds i p q = by (find_decl kind name ds) refl
     by (Some d) e =
         let same : find_decl kind other ds ≡ Some d = sym (position-there kind other ds i q) ∙ position-there kind name ds i p ∙ e in
         sym (name-found kind name ds d e) ∙ name-found kind other ds d same
+
+-- none is found where there is no place
+pub position-absent : (kind : Kind) (name : List ℕ) (ds : List Decl) → position (is_of kind name) ds ≡ None → find_decl kind name ds ≡ None
+position-absent kind name ds h = by (find_decl kind name ds) refl
+  where
+    by : (o : Option Decl) → find_decl kind name ds ≡ o → find_decl kind name ds ≡ None
+    by None e = e
+    by (Some d) e = absurd (let bad : true ≡ false = sym (ap is_some e) ∙ sym (position-found kind name ds) ∙ ap is_some h in cc)

@@ -39,6 +39,13 @@ impl PositionSet {
         PositionSet { words: [0; WORDS] }
     }
 
+    /// An equal set.
+    pub fn copy(&self) -> PositionSet
+        ensures { result ≡ self.now }
+    {
+        PositionSet { words: self.words }
+    }
+
     /// Whether a position is in it.
     pub fn contains(&self, position: usize) -> bool
         ensures { result ≡ is_marked self.now position }

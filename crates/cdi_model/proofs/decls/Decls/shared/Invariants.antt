@@ -1,6 +1,8 @@
-use Rattle.std.proofs.Common.{◌≡◌, ◌++◌, map}
-use Rattle.cdi_model.specs.Entries.{decls_of}
+use Rattle.std.proofs.Common.{◌≡◌, ◌++◌, length, map}
 use Rattle.cdi_model.proofs.decls.Decls.shared.Given as goal
 
 abbrev pub invariant-loop-decl : goal.invariant-loop-decl
-invariant-loop-decl l = map (λ decl. decl.value) l.list.items ++ decls_of l.decl-iterator ≡ l.self
+invariant-loop-decl l = map (λ decl. decl.value) l.list.items ++ l.left ≡ l.self
+
+abbrev pub decreases-loop-decl : goal.decreases-loop-decl
+decreases-loop-decl l = length l.left

@@ -1,0 +1,34 @@
+-- A map of declarations that are put into it one after another.
+use Rattle.std.proofs.Common.{◌≡◌, List, [], ◌∷◌, ◌++◌, Global}
+use Rattle.std.proofs.Common.{refl, sym, ap, ◌∙◌, subst, append_assoc}
+use Rattle.std.specs.List.{IsDistinct}
+use Rattle.std.specs.declared.rc.Rc.{Rc}
+use Rattle.indexmap.specs.IndexMap.{insert_entry}
+use Rattle.cdi_model.specs.Decl.{key_of}
+use Rattle.cdi_model.specs.DeclKey.{same_key}
+use Rattle.cdi_model.specs.Entries.{Entry, decls_of, AreKeyed}
+use Rattle.cdi_model.specs.Layers.{keys_in, AreListed}
+use Rattle.cdi_model.specs.declared.decl.Decl.{Decl}
+use Rattle.cdi_model.specs.declared.key.DeclKey.{DeclKey}
+use Rattle.cdi_model.proofs.EntryLemmas.{put-insert, AreKeyed-insert}
+use Rattle.cdi_model.proofs.ListedLemmas.{put-last}
+
+-- what was put, and what is left
+pub record IsPut (all : List Decl) (es : List Entry) (left : List Decl) : Type 0 where
+  pub keyed : AreKeyed es
+  pub whole : decls_of es ++ left ≡ all
+
+-- one more
+pub put-more : (all left more : List Decl) (es news : List Entry) (k : DeclKey) (v : Rc Decl Global) (d : Decl)
+    → IsDistinct same_key (keys_in all) → IsPut all es left → left ≡ d ∷ more → v.value ≡ d → k ≡ key_of d
+    → news ≡ insert_entry same_key es k v → IsPut all news more
+put-more all left more es news k v d distinct so_far next same key inserted =
+    let whole : decls_of es ++ d ∷ more ≡ all = ap (λ l. decls_of es ++ l) (sym next) ∙ so_far.whole in
+    let entries : news ≡ insert_entry same_key es (key_of d) v = inserted ∙ ap (λ k. insert_entry same_key es k v) key in
+    record {
+      keyed = subst AreKeyed (sym entries) (AreKeyed-insert d v es same so_far.keyed);
+      whole =
+          ap (λ es. decls_of es ++ more) entries ∙ ap (λ ds. ds ++ more) (put-insert d v es same so_far.keyed)
+          ∙ ap (λ ds. ds ++ more) (put-last d (decls_of es) more (subst (λ ds. IsDistinct same_key (keys_in ds)) (sym whole) distinct))
+          ∙ append_assoc (decls_of es) (d ∷ []) more ∙ whole;
+    }

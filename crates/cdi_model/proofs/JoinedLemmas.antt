@@ -1,0 +1,133 @@
+-- Lists of declarations of which one stands after another.
+use Rattle.std.proofs.Common.{◌≡◌, ◌+◌, ◌-◌, ◌<◌, ◌≤◌, ℕ, zero, suc, Bool, true, false, cond, List, [], ◌∷◌, ◌++◌, length, map, Option, Some, None, is_some}
+use Rattle.std.proofs.Common.{refl, sym, ap, ◌∙◌, position, slice_get, arith, option_map, inl, inr}
+use Rattle.std.specs.List.{AllByRecursion}
+use Rattle.std.specs.Option.{option_or}
+use Rattle.std.proofs.lemmas.Bool.{cases_Bool}
+use Rattle.cdi_model.specs.Decl.{key_of, kind_of, name_of_decl}
+use Rattle.cdi_model.specs.DeclKey.{same_key, key_at}
+use Rattle.cdi_model.specs.DeclList.{find_decl, is_of, put_in, remove_from}
+use Rattle.cdi_model.specs.declared.decl.Decl.{Decl}
+use Rattle.cdi_model.specs.declared.decl.Kind.{Kind}
+use Rattle.cdi_model.proofs.PositionLemmas.{position-cons}
+
+pub find-joined : (kind : Kind) (name : List ℕ) (xs ys : List Decl)
+    → find_decl kind name (xs ++ ys) ≡ option_or (find_decl kind name xs) (find_decl kind name ys)
+find-joined kind name [] ys = refl
+find-joined kind name (x ∷ xs) ys = elim (cases_Bool (is_of kind name x)) [
+  | inl same ↦ rw same refl
+  | inr other ↦ rw other (find-joined kind name xs ys)
+]
+
+-- it is put among those among which one is found
+pub put-joined : (d : Decl) (xs ys : List Decl)
+    → put_in (xs ++ ys) d ≡ cond (is_some (find_decl (kind_of d) (name_of_decl d) xs)) (put_in xs d ++ ys) (xs ++ put_in ys d)
+put-joined d [] ys = refl
+put-joined d (x ∷ xs) ys = elim (cases_Bool (same_key (key_of d) (key_of x))) [
+  | inl same ↦ rw same refl
+  | inr other ↦ rw other (ap (λ l. x ∷ l) (put-joined d xs ys)
+      ∙ behind (is_some (find_decl (kind_of d) (name_of_decl d) xs)) (put_in xs d ++ ys) (xs ++ put_in ys d))
+]
+  where
+    behind : (b : Bool) (l m : List Decl) → x ∷ cond b l m ≡ cond b (x ∷ l) (x ∷ m)
+    behind true l m = refl
+    behind false l m = refl
+
+pub remove-joined : (kind : Kind) (name : List ℕ) (xs ys : List Decl)
+    → remove_from kind name (xs ++ ys) ≡ cond (is_some (find_decl kind name xs)) (remove_from kind name xs ++ ys) (xs ++ remove_from kind name ys)
+remove-joined kind name [] ys = refl
+remove-joined kind name (x ∷ xs) ys = elim (cases_Bool (is_of kind name x)) [
+  | inl same ↦ rw same refl
+  | inr other ↦ rw other (ap (λ l. x ∷ l) (remove-joined kind name xs ys)
+      ∙ behind (is_some (find_decl kind name xs)) (remove_from kind name xs ++ ys) (xs ++ remove_from kind name ys))
+]
+  where
+    behind : (b : Bool) (l m : List Decl) → x ∷ cond b l m ≡ cond b (x ∷ l) (x ∷ m)
+    behind true l m = refl
+    behind false l m = refl
+
+pub position-joined : {X : Type 0} (p : X → Bool) (xs ys : List X)
+    → position p (xs ++ ys) ≡ option_or (position p xs) (option_map (λ i. length xs + i) (position p ys))
+position-joined p [] ys = by (position p ys)
+  where
+    by : (o : Option ℕ) → o ≡ option_map (λ i. 0 + i) o
+    by None = refl
+    by (Some i) = ap Some (omega arith)
+position-joined p (x ∷ xs) ys = rw (position-cons p x (xs ++ ys), position-cons p x xs, position-joined p xs ys)
+    (by (p x) (position p xs) (position p ys))
+  where
+    by : (b : Bool) (o q : Option ℕ)
+        → cond b (Some 0) (option_map suc (option_or o (option_map (λ i. length xs + i) q)))
+        ≡ option_or (cond b (Some 0) (option_map suc o)) (option_map (λ i. suc (length xs) + i) q)
+    by true o q = refl
+    by false (Some i) q = refl
+    by false None None = refl
+    by false None (Some i) = ap Some (omega arith)
+
+pub get-joined_first : {X : Type 0} (xs ys : List X) (i : ℕ) → i < length xs → slice_get (xs ++ ys) i ≡ slice_get xs i
+get-joined_first [] ys i within = absurd (omega arith)
+get-joined_first (x ∷ xs) ys zero within = refl
+get-joined_first (x ∷ xs) ys (suc i) within = get-joined_first xs ys i (omega arith)
+
+pub get-joined_second : {X : Type 0} (xs ys : List X) (i : ℕ) → length xs ≤ i → slice_get (xs ++ ys) i ≡ slice_get ys (i - length xs)
+get-joined_second [] ys i past = ap (slice_get ys) (omega arith)
+get-joined_second (x ∷ xs) ys zero past = absurd (omega arith)
+get-joined_second (x ∷ xs) ys (suc i) past = get-joined_second xs ys i (omega arith) ∙ ap (slice_get ys) (omega arith)
+
+-- ---- what is found among them
+
+pub found-first : (kind : Kind) (name : List ℕ) (xs ys : List Decl) (d : Decl) → Some d ≡ find_decl kind name xs
+    → Some d ≡ find_decl kind name (xs ++ ys)
+found-first kind name xs ys d h = ap (λ o. option_or o (find_decl kind name ys)) h ∙ sym (find-joined kind name xs ys)
+
+pub found-second : (kind : Kind) (name : List ℕ) (xs ys : List Decl) (o : Option Decl) → None ≡ find_decl kind name xs
+    → o ≡ find_decl kind name ys → o ≡ find_decl kind name (xs ++ ys)
+found-second kind name xs ys o none h = h ∙ ap (λ p. option_or p (find_decl kind name ys)) none ∙ sym (find-joined kind name xs ys)
+
+pub place-first : (kind : Kind) (name : List ℕ) (xs ys : List Decl) (i : ℕ) → Some i ≡ position (is_of kind name) xs
+    → Some i ≡ position (is_of kind name) (xs ++ ys)
+place-first kind name xs ys i h =
+    ap (λ o. option_or o (option_map (λ i. length xs + i) (position (is_of kind name) ys))) h ∙ sym (position-joined (is_of kind name) xs ys)
+
+pub place-second : (kind : Kind) (name : List ℕ) (xs ys : List Decl) (o : Option ℕ) → None ≡ position (is_of kind name) xs
+    → o ≡ position (is_of kind name) ys → option_map (λ i. length xs + i) o ≡ position (is_of kind name) (xs ++ ys)
+place-second kind name xs ys o none h =
+    ap (option_map (λ i. length xs + i)) h
+    ∙ ap (λ p. option_or p (option_map (λ i. length xs + i) (position (is_of kind name) ys))) none
+    ∙ sym (position-joined (is_of kind name) xs ys)
+
+-- ---- edits of one of them
+
+pub removed-first : (kind : Kind) (name : List ℕ) (xs ys : List Decl) → is_some (find_decl kind name xs) ≡ true
+    → remove_from kind name (xs ++ ys) ≡ remove_from kind name xs ++ ys
+removed-first kind name xs ys h =
+    remove-joined kind name xs ys ∙ ap (λ b. cond b (remove_from kind name xs ++ ys) (xs ++ remove_from kind name ys)) h
+
+pub removed-second : (kind : Kind) (name : List ℕ) (xs ys : List Decl) → is_some (find_decl kind name xs) ≡ false
+    → remove_from kind name (xs ++ ys) ≡ xs ++ remove_from kind name ys
+removed-second kind name xs ys h =
+    remove-joined kind name xs ys ∙ ap (λ b. cond b (remove_from kind name xs ++ ys) (xs ++ remove_from kind name ys)) h
+
+pub found-joined_first : (kind : Kind) (name : List ℕ) (xs ys : List Decl) → is_some (find_decl kind name xs) ≡ true
+    → is_some (find_decl kind name (xs ++ ys)) ≡ true
+found-joined_first kind name xs ys h = ap is_some (find-joined kind name xs ys) ∙ by (find_decl kind name xs) h
+  where
+    by : (o : Option Decl) → is_some o ≡ true → is_some (option_or o (find_decl kind name ys)) ≡ true
+    by None h = absurd (cc)
+    by (Some d) h = refl
+
+pub found-joined_second : (kind : Kind) (name : List ℕ) (xs ys : List Decl) → is_some (find_decl kind name xs) ≡ false
+    → is_some (find_decl kind name (xs ++ ys)) ≡ is_some (find_decl kind name ys)
+found-joined_second kind name xs ys h = ap is_some (find-joined kind name xs ys) ∙ by (find_decl kind name xs) h
+  where
+    by : (o : Option Decl) → is_some o ≡ false → is_some (option_or o (find_decl kind name ys)) ≡ is_some (find_decl kind name ys)
+    by None h = refl
+    by (Some d) h = absurd (cc)
+
+pub put-first : (d : Decl) (xs ys : List Decl) → is_some (find_decl (kind_of d) (name_of_decl d) xs) ≡ true
+    → put_in (xs ++ ys) d ≡ put_in xs d ++ ys
+put-first d xs ys h = put-joined d xs ys ∙ ap (λ b. cond b (put_in xs d ++ ys) (xs ++ put_in ys d)) h
+
+pub put-second : (d : Decl) (xs ys : List Decl) → is_some (find_decl (kind_of d) (name_of_decl d) xs) ≡ false
+    → put_in (xs ++ ys) d ≡ xs ++ put_in ys d
+put-second d xs ys h = put-joined d xs ys ∙ ap (λ b. cond b (put_in xs d ++ ys) (xs ++ put_in ys d)) h
