@@ -1,5 +1,6 @@
 -- The bindings at a place that are gone through one by one.
-use Rattle.std.specs.Prelude.{List, ◌++◌, filter, not}
+use Rattle.std.specs.Prelude.{List, [], ◌++◌, filter, not}
+use Rattle.std.specs.Option.{option_copied, unwrap_or}
 use Rattle.cdi_model.specs.declared.quals.Qual.{Qual}
 use Rattle.cdi_match.specs.Bindings.{with_declared}
 use Rattle.cdi_effective.specs.Bindings.{in_place_of}
@@ -9,7 +10,7 @@ use Rattle.cdi_intercept.specs.declared.place_set.PlaceUses.{PlaceUses}
 
 -- those that the place declares of its own, with those that are declared by the binding types that these bring
 abbrev pub own_uses : PlaceSet → List Qual
-own_uses s = with_declared s.decls.now s.own.now s.types.now
+own_uses s = with_declared s.decls.now s.own.now (unwrap_or (option_copied s.types) [])
 
 -- those, and behind them those of the class of whose types there is none among them
 abbrev pub uses_of : PlaceSet → List Qual

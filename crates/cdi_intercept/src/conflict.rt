@@ -32,7 +32,7 @@ fn has_conflict_with(decls: &Decls, own: &[Qual], class: &[Qual]) -> bool
     ensures { result ≡ has_conflict decls.now (in_place_of class.now (with_brought decls.now own.now)) }
 {
     let types = BroughtTypes::of(decls, own);
-    has_conflict(decls, PlaceSet::new(decls, own, types.as_slice(), class))
+    has_conflict(decls, PlaceSet::new(decls, own, &types, class))
 }
 
 /// Whether two of some bindings are of one type, and not alike.

@@ -94,7 +94,7 @@ fn is_surrounded_with(decls: &Decls, own: &[Qual], class: &[Qual], place: &BeanP
     ensures { result ≡ is_surrounded decls.now (in_place_of class.now (with_brought decls.now own.now)) place.now }
 {
     let types = BroughtTypes::of(decls, own);
-    let set = PlaceSet::new(decls, own, types.as_slice(), class);
+    let set = PlaceSet::new(decls, own, &types, class);
     is_surrounded(decls, set, place)
 }
 

@@ -6,7 +6,7 @@ ghost use Rattle.cdi_effective.specs.Bindings.{in_place_of};
 ghost use Rattle.cdi_effective.specs.Qualifiers.{uses_one};
 ghost use Rattle.cdi_intercept.specs.PlaceSets.{own_uses, uses_left, uses_of};
 
-use cdi_match::DeclaredUses;
+use cdi_match::{BroughtTypes, DeclaredUses};
 use cdi_model::{Decls, Name, Qual};
 
 /// The bindings that a place declares of its own, those that are declared by the binding types that these bring, and after
@@ -15,8 +15,8 @@ use cdi_model::{Decls, Name, Qual};
 pub(crate) struct PlaceSet<'a> {
     decls: &'a Decls,
     own: &'a [Qual],
-    /// Where the binding types are declared that the own ones bring.
-    types: &'a [usize],
+    /// The binding types that the own ones bring, if there are some.
+    types: Option<&'a BroughtTypes>,
     class: &'a [Qual],
 }
 
@@ -25,7 +25,7 @@ impl<'a> PlaceSet<'a> {
     pub(crate) fn new(
         decls: &'a Decls,
         own: &'a [Qual],
-        types: &'a [usize],
+        types: &'a BroughtTypes,
         class: &'a [Qual],
     ) -> PlaceSet<'a>
         ensures { uses_of result ≡ in_place_of class.now (with_declared decls.now own.now types.now) }
@@ -33,7 +33,7 @@ impl<'a> PlaceSet<'a> {
         PlaceSet {
             decls,
             own,
-            types,
+            types: Some(types),
             class,
         }
     }
@@ -45,7 +45,7 @@ impl<'a> PlaceSet<'a> {
         PlaceSet {
             decls,
             own: &[],
-            types: &[],
+            types: None,
             class,
         }
     }

@@ -2,7 +2,7 @@ use Rattle.std.proofs.Common.{arith}
 use Rattle.std.specs.BTreeSet.{contains}
 use Rattle.std.proofs.lemmas.List.{nil_from_length}
 use Rattle.cdi_model.specs.Bytes.{byte_order}
-use Rattle.cdi_match.proofs.SearchLemmas.{Closing-step, work_less}
+use Rattle.cdi_match.proofs.SearchLemmas.{at_end, Closing-step, work_less}
 use Rattle.cdi_circles.specs.Edges.{among, next_in}
 use Rattle.cdi_circles.specs.Search.{all_next}
 use Rattle.cdi_circles.proofs.EdgeLemmas.{Closing-begin, among_within, found-all}
@@ -18,10 +18,10 @@ taken-smaller c =
     let edges = c.args.edges.now in
     let within = contains byte_order c.args.within.now in
     work_less (all_next edges) (among within (next_in edges) c.in-Some.taken) c.in-Some.taken _ _ _ _ _
-    (among_within within edges c.in-Some.taken) c.in-Some.ensures.items c.in_ok-add_next-2.ensures
+    (among_within within edges c.in-Some.taken) (at_end _ _ _ c.in-Some.ensures.items) c.in_ok-add_next-2.ensures
 
 pub taken-preserved : goal.taken-preserved
-taken-preserved c = Closing-step _ _ c.in-Some.taken _ _ _ _ _ c.taken.invariant c.in-Some.ensures.items c.in_ok-add_next-2.ensures
+taken-preserved c = Closing-step _ _ c.in-Some.taken _ _ _ _ _ c.taken.invariant (at_end _ _ _ c.in-Some.ensures.items) c.in_ok-add_next-2.ensures
 
 pub returns : goal.returns
 returns c =

@@ -2,7 +2,7 @@ use Rattle.std.proofs.Common.{ℕ, Bool, List, [], ◌∷◌, ◌++◌, true, no
 use Rattle.std.specs.BTreeSet.{contains}
 use Rattle.std.specs.Str.{bytes_eq}
 use Rattle.std.proofs.lemmas.Bool.{not-true, not-false}
-use Rattle.cdi_match.proofs.SearchLemmas.{Adds-new, Adds-again}
+use Rattle.cdi_match.proofs.SearchLemmas.{at_end, Adds-new, Adds-again}
 use Rattle.cdi_match.proofs.Names.{at_name}
 use Rattle.cdi_circles.proofs.search.Search.add.Goals as goal
 use Rattle.cdi_model.specs.Bytes.{byte_order}
@@ -16,7 +16,7 @@ returns-in_ok-push c =
     (λ s. c.in_ok-insert.ensures.updates.0 s
     ∙ ap (λ b. cond b true (found s)) (at_name c.in_ok-copy.field-0 s ∙ ap (λ k. bytes_eq k s) c.in_ok-copy.ensures))
     (not-true (found name) (ap (λ k. not (found k)) (sym c.in_ok-copy.ensures) ∙ sym c.in_ok-insert.ensures.added ∙ c.if-branch.true))
-    (c.in_ok-push.ensures.items ∙ ap (λ n. left ++ n ∷ []) c.in_ok-copy-2.ensures)
+    (at_end name left _ (c.in_ok-push.ensures.items ∙ ap (λ n. left ++ n ∷ []) c.in_ok-copy-2.ensures))
 
 pub returns-else-branch : goal.returns-else-branch
 returns-else-branch c =
