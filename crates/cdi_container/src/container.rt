@@ -31,8 +31,8 @@ use cdi_faults::Fault;
 use cdi_legal::{Entry, Run};
 use cdi_lines::{Command, Edit};
 use cdi_model::{
-    BeanPlace, Decl, Decls, Edit as Change, Error, Iter as DeclIter, Kind, Name, Quals, Refusal, Seq,
-    Work,
+    BeanPlace, Decl, Decls, Edit as Change, Error, Iter as DeclIter, Kind, Name, Quals, Refusal,
+    Seq, Work,
 };
 use cdi_observe::ObserverId;
 use cdi_resolve::Choice;

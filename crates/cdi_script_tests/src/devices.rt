@@ -1,8 +1,8 @@
 //! Runs over readers and writers that fail, that never end, and that watch each other.
 use crate::fixtures::{STORED_SCRIPT, STORED_TEXT, assert_text, empty_page, fault_of};
-use cdi_script::{Console, Counted, Options, RunFault, run};
 use cdi_devices::SCRIPT_LIMIT;
 use cdi_fixtures::Echo;
+use cdi_script::{Console, Counted, Options, RunFault, run};
 use std::cell::Cell;
 use std::io;
 use std::io::{ErrorKind, Read, Write};

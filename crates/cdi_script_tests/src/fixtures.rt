@@ -1,7 +1,7 @@
 //! What several tests share.
 use cdi_bodies::{Body, Book};
-use cdi_script::{Console, Container, Counted, Options, RunFault, Summary, run, run_on};
 use cdi_fixtures::Echo;
+use cdi_script::{Console, Container, Counted, Options, RunFault, Summary, run, run_on};
 use std::alloc::{AllocError, Global};
 use std::fmt::Display;
 use std::process::Abort;

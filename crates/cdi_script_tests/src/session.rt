@@ -1,8 +1,8 @@
 //! The program over files and streams in memory: its statuses, and what it writes where.
 ghost use Rattle.std.specs.Prelude.{Some};
 
-use cdi_script::Counted;
 use cdi_fixtures::Echo;
+use cdi_script::Counted;
 use cdi_session::{Files, session};
 use std::alloc::{AllocError, Global};
 use std::io;

@@ -119,7 +119,10 @@ fn a_declaration_of_a_program_is_put(rt: HostRuntime) -> Result<(), Fail> {
     let mut container = started(rt.alloc())?;
     container.put_decl(class(rt.alloc(), 0)?)?;
     assert!(rt; !is_live(&container));
-    let read = read_decl(rt.alloc(), b"kind=\"type\"\nname=\"I\"\nform=\"interface\"\n")?;
+    let read = read_decl(
+        rt.alloc(),
+        b"kind=\"type\"\nname=\"I\"\nform=\"interface\"\n",
+    )?;
     let mut edits = puts_of_types(rt.alloc(), 1)?;
     edits.push(Edit::PutDecl { decl: read })?;
     container.batch(edits)?;

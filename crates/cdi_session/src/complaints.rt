@@ -4,8 +4,8 @@ ghost use Rattle.std.specs.IoError.{error_kind};
 ghost use Rattle.clap.specs.Values.{kind_of};
 ghost use Rattle.cdi_session.specs.Session.{line, text_of_fault, fault_of_open, status_of_words, text_of_words, Tells, RefusesWords};
 
-use cdi_script::{Counted, RunFault};
 use cdi_devices::write_out;
+use cdi_script::{Counted, RunFault};
 use clap::Error;
 use clap::error::ErrorKind;
 use std::io;

@@ -1,7 +1,7 @@
 //! The run of a script, of which any one allocation may be refused.
 use crate::Difference;
-use cdi_script::{Console, Counted, Options, RunFault, run};
 use cdi_fixtures::Echo;
+use cdi_script::{Console, Counted, Options, RunFault, run};
 use std::alloc::Global;
 
 /// A script in which a qualifier, a type, a stereotype and two beans are put, a bean is chosen by its qualifier, by its
