@@ -32,8 +32,8 @@ first_accepted number ds next e es u accepted h = rw h
 
 -- an edit is refused, or found no memory
 pub first_refused : (number : ℕ) (ds : List Decl) (e : Edit) (es : List Edit) (error : Error)
-    → Answers {Unit {0}} (Err error) (answer_of_change ds (change_of e))
-    → AnswersBatch {Unit {0}} (Err (refused_at number error)) (first_refusal number ds (asked_by (e ∷ es)))
+    → Answers {X = Unit {0}} (Err error) (answer_of_change ds (change_of e))
+    → AnswersBatch {X = Unit {0}} (Err (refused_at number error)) (first_refusal number ds (asked_by (e ∷ es)))
 first_refused number ds e es errors.OutOfMemory h = tt
 first_refused number ds e es (errors.Refused refusal) h =
     ap (λ (r : Option Refusal). refused_first number r (first_refusal (number + 1) (edited_all ds (changes_of e)) (asked_by es)))
