@@ -39,10 +39,7 @@ impl Base {
     }
 
     /// The base of what a map holds.
-    pub(crate) fn of(
-        alloc: Global,
-        map: IndexMap<DeclKey, Rc<Decl>>,
-    ) -> Result<Base, AllocError>
+    pub(crate) fn of(alloc: Global, map: IndexMap<DeclKey, Rc<Decl>>) -> Result<Base, AllocError>
         requires { AreKeyed map.entries }
         ensures { IfOk result (λ base. base ≡ decls_of map.entries) }
     {

@@ -9,7 +9,7 @@ pub returns-in_default : goal.returns-in_default
 returns-in_default c =
     let most = few c.self.inside.base c.self.inside.gone c.self.inside.changed c.self.inside.replaced.items c.self.invariant in
     let past : length (kept c.self.inside.gone (changed_by c.self.inside.replaced.items c.self.inside.base)) ≤ c.args.position =
-      omega (arith, most, c.in_default.ensures.none) in
+    omega (arith, most, c.in_default.ensures.none) in
     sym (slice_get_past (kept c.self.inside.gone (changed_by c.self.inside.replaced.items c.self.inside.base)) c.args.position past)
     ∙ ap (λ ds. slice_get ds c.args.position) c.self.view_is
 

@@ -1,4 +1,4 @@
-use Rattle.std.proofs.Common.{◌≡◌, ◌+◌, ◌-◌, Some, position, arith, ap, sym, ◌∙◌}
+use Rattle.std.proofs.Common.{◌≡◌, ◌+◌, ◌-◌, position, arith, ap, sym, ◌∙◌}
 use Rattle.cdi_positions.specs.Marks.{count_below}
 use Rattle.cdi_model.specs.DeclList.{is_of}
 use Rattle.cdi_model.proofs.KeptLemmas.{count-le}
@@ -18,7 +18,7 @@ pub returns : goal.returns
 returns c =
     let low = count-le c.self.inside.gone c.in-Some.place in
     let all : count_below c.in-Some.place c.self.inside.gone + (c.in-Some.place - c.count_below.result) ≡ c.in-Some.place =
-      omega (arith, low, c.count_below.ensures) in
+    omega (arith, low, c.count_below.ensures) in
     sym (rank c.self.inside.base c.self.inside.gone c.self.inside.changed c.self.inside.replaced.items c.self.invariant
     c.args.kind c.args.name.now c.in-Some.place (c.in-Some.place - c.count_below.result) (sym c.in-Some.ensures) all)
     ∙ ap (position (is_of c.args.kind c.args.name.now)) c.self.view_is

@@ -1,4 +1,4 @@
-use Rattle.std.proofs.Common.{◌≡◌, ◌<◌, Some, None, true, false, List, Bool, length, is_some, slice_set, arith, subst, ap, sym, ◌∙◌}
+use Rattle.std.proofs.Common.{◌<◌, Some, None, true, false, length, is_some, slice_set, arith, subst, ap, sym, ◌∙◌}
 use Rattle.std.proofs.lemmas.List.{get_or-set_same}
 use Rattle.cdi_model.specs.Decl.{kind_of, name_of_decl}
 use Rattle.cdi_model.specs.DeclList.{find_decl, put_in}
@@ -19,11 +19,11 @@ pub invariant_of-self-2 : goal.invariant_of-self-2
 invariant_of-self-2 c =
     let d = c.args.decl.now.value in
     let place = same-unmarked c.kind.result (kind_of d) c.name.result.now (name_of_decl d) c.self.inside.base c.self.inside.gone
-      (Some c.in-Some.place) (c.kind.ensures ∙ ap kind_of c.deref.ensures) (c.name.ensures ∙ ap name_of_decl c.deref-2.ensures) c.in-Some.ensures in
+    (Some c.in-Some.place) (c.kind.ensures ∙ ap kind_of c.deref.ensures) (c.name.ensures ∙ ap name_of_decl c.deref-2.ensures) c.in-Some.ensures in
     let s = stands c.self.inside.base c.self.inside.gone c.self.inside.changed c.self.inside.replaced.items c.self.invariant
-      (kind_of d) (name_of_decl d) c.in-Some.place place in
+    (kind_of d) (name_of_decl d) c.in-Some.place place in
     let within : c.in-Some.place < length c.self.inside.changed =
-      omega (arith, s.within, c.self.invariant.gone_size, c.self.invariant.changed_size) in
+    omega (arith, s.within, c.self.invariant.gone_size, c.self.invariant.changed_size) in
     subst (λ marks. AreKept c.self.inside.base c.self.inside.gone marks c.put_at.new.replaced.items) (sym c.insert.ensures.set)
     (still-kept c.self.inside.base c.self.inside.gone c.self.inside.changed c.self.inside.replaced.items c.self.invariant
     d c.in-Some.place c.put_at.new.replaced.items place

@@ -9,10 +9,9 @@ returns-then-place-end c =
     let ds = changed_by c.self.inside.replaced.now c.self.inside.base.now in
     let size = length-changed c.self.inside.replaced.now c.self.inside.base.now in
     let end : length ds ≤ c.len-end.result = omega (arith, size, c.len-end.ensures) in
-    let past : length ds ≤ c.first_outside-place.result = omega (arith, end, c.if-place-end.true) in
-    (
+    let past : length ds ≤ c.first_outside-place.result = omega (arith, end, c.if-place-end.true) in (
       sym c.self.view_is
-      ∙ none-after c.self.inside.place c.first_outside-place.result c.self.inside.gone.now ds past c.first_outside-place.ensures.skipped,
+          ∙ none-after c.self.inside.place c.first_outside-place.result c.self.inside.gone.now ds past c.first_outside-place.ensures.skipped,
       none-left c.len-end.result c.self.inside.gone.now ds end,
     )
 
@@ -23,7 +22,7 @@ returns c =
     let size = length-changed c.self.inside.replaced.now c.self.inside.base.now in
     let within : place < length ds = omega (arith, size, c.len-end.ensures, c.if-place-end.false) in
     subst (λ left. MatchOption c.standing.result ((left ≡ []) × (kept_from (place + 1) c.self.inside.gone.now ds ≡ []))
-        (λ d. left ≡ d.now.value ∷ kept_from (place + 1) c.self.inside.gone.now ds))
+    (λ d. left ≡ d.now.value ∷ kept_from (place + 1) c.self.inside.gone.now ds))
     c.self.view_is
     (next-kept c.standing.result c.self.inside.place place c.self.inside.gone.now ds c.standing.ensures within
     (c.first_outside-place.ensures.low c.if-place-end.false) c.first_outside-place.ensures.skipped
