@@ -1,17 +1,16 @@
 -- What is kept of a list of declarations of which some places are marked.
-use Rattle.std.proofs.Common.{◌≡◌, ◌+◌, ◌-◌, ◌<◌, ◌≤◌, ℕ, zero, suc, Bool, true, false, cond, List, [], ◌∷◌, ◌++◌, length, map, take, filter, Option, Some, None, is_some}
-use Rattle.std.proofs.Common.{refl, sym, ap, ◌∙◌, subst, position, slice_get, slice_set, arith, option_map}
+use Rattle.std.proofs.Common.{◌≡◌, ◌+◌, ◌<◌, ◌≤◌, ℕ, zero, suc, Bool, true, false, List, [], ◌∷◌, ◌++◌, length, None}
+use Rattle.std.proofs.Common.{refl, sym, ap, subst, slice_get, slice_set, arith}
 use Rattle.std.specs.List.{AllByRecursion, IsDistinct, remove}
 use Rattle.cdi_positions.specs.Marks.{is_marked, marked_count, count_below}
-use Rattle.cdi_model.specs.Decl.{key_of, kind_of, name_of_decl}
-use Rattle.cdi_model.specs.DeclKey.{same_key, same_key_equiv}
-use Rattle.cdi_model.specs.DeclList.{find_decl, is_of, put_in, remove_from}
+use Rattle.cdi_model.specs.Decl.{key_of}
+use Rattle.cdi_model.specs.DeclKey.{same_key}
+use Rattle.cdi_model.specs.DeclList.{find_decl, put_in, remove_from}
 use Rattle.cdi_model.specs.Layers.{kept, keys_in}
 use Rattle.cdi_model.specs.declared.decl.Decl.{Decl}
 use Rattle.cdi_model.specs.declared.key.DeclKey.{DeclKey}
 use Rattle.cdi_model.proofs.EntryLemmas.{key_exact}
 use Rattle.cdi_model.proofs.PlaceLemmas.{First, Nowhere}
-use Rattle.cdi_model.proofs.PositionLemmas.{position-cons}
 
 -- it has the key
 abbrev pub has_key : DeclKey → Decl → Bool

@@ -1,6 +1,6 @@
-use Rattle.std.proofs.Common.{◌≡◌, ◌<◌, Some, None, position, slice_get, slice_index_or, length, sym, ap, ◌∙◌}
+use Rattle.std.proofs.Common.{slice_index_or, sym, ◌∙◌}
 use Rattle.std.proofs.lemmas.Option.{slice_get_within}
-use Rattle.cdi_model.specs.Layers.{changed_by, is_at}
+use Rattle.cdi_model.specs.Layers.{is_at}
 use Rattle.cdi_model.proofs.PlaceLemmas.{First-position, First-get, Nowhere-position}
 use Rattle.cdi_model.proofs.ReplacedLemmas.{replaced_first, replaced_nowhere, replaced_past, unmarked-nowhere}
 use Rattle.cdi_model.proofs.kept.standing.Goals as goal

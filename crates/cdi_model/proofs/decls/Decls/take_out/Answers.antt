@@ -1,4 +1,4 @@
-use Rattle.std.proofs.Common.{◌≡◌, ◌++◌, is_some, sym, subst, ap, ◌∙◌}
+use Rattle.std.proofs.Common.{◌++◌, is_some, sym, subst, ap, ◌∙◌}
 use Rattle.cdi_model.specs.DeclList.{find_decl, remove_from}
 use Rattle.cdi_model.specs.Layers.{AreListed}
 use Rattle.cdi_model.proofs.EditLemmas.{remove_from-absent}

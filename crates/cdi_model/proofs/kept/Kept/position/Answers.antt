@@ -1,4 +1,4 @@
-use Rattle.std.proofs.Common.{◌≡◌, ◌+◌, ◌-◌, Some, position, arith, ap, sym, ◌∙◌}
+use Rattle.std.proofs.Common.{◌≡◌, ◌+◌, ◌-◌, position, arith, ap, sym, ◌∙◌}
 use Rattle.cdi_positions.specs.Marks.{count_below}
 use Rattle.cdi_model.specs.DeclList.{is_of}
 use Rattle.cdi_model.proofs.KeptLemmas.{count-le}

@@ -1,4 +1,4 @@
-use Rattle.std.proofs.Common.{◌≡◌, ◌<◌, Some, None, true, false, List, Bool, length, is_some, slice_set, arith, subst, ap, sym, ◌∙◌}
+use Rattle.std.proofs.Common.{◌<◌, Some, None, true, false, length, is_some, slice_set, arith, subst, ap, sym, ◌∙◌}
 use Rattle.std.proofs.lemmas.List.{get_or-set_same}
 use Rattle.cdi_model.specs.Decl.{kind_of, name_of_decl}
 use Rattle.cdi_model.specs.DeclList.{find_decl, put_in}
