@@ -1,5 +1,5 @@
 -- The uses and the events that texts spell are of a form that they have.
-use Rattle.std.proofs.Common.{◌≡◌, ℕ, Bool, true, false, cond, not, ◌||◌, ◌&&◌, List, [], ◌∷◌, codes, Option, Some, None, unwrap_or, refl, ap, sym, ◌∙◌, inl, inr}
+use Rattle.std.proofs.Common.{◌≡◌, ℕ, Bool, true, false, cond, not, ◌||◌, List, [], ◌∷◌, codes, Option, Some, None, unwrap_or, refl, ap, sym, ◌∙◌, inl, inr}
 use Rattle.std.proofs.Common.{Ordering, Less, Equal, Greater}
 use Rattle.std.proofs.lemmas.Bool.{and_parts, cases_Bool, false≢true, not-true, not_from_true, or_from, or_parts}
 use Rattle.std.proofs.lemmas.Option.{none-some}

@@ -1,5 +1,4 @@
--- Which declarations that a program makes may be put: those that are refused for nothing for which a text is refused. What no value of
--- these types has is not tested.
+-- What a declaration that a program makes is refused for: what a text is refused for, as far as the types of a declaration leave it open.
 use Rattle.std.specs.Prelude.{ℕ, Bool, false, not, ◌||◌, nat_lt, List, [], ◌∷◌, ◌++◌, length, map, flat_map, codes, if◌then◌else◌}
 use Rattle.std.specs.Prelude.{Option, Some, None, Result, Ok, Err}
 use Rattle.std.specs.List.{list_any}

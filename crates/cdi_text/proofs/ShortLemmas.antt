@@ -1,12 +1,9 @@
 -- The lists of a declaration that was read are short.
-use Rattle.std.proofs.Common.{◌≡◌, ◌≤◌, ◌+◌, ℕ, zero, suc, Bool, true, false, not, cond, List, codes, length}
-use Rattle.std.proofs.Common.{Option, Some, None, unwrap_or, option_map, option_and_then, is_some, Result, Ok, Err}
-use Rattle.std.proofs.Common.{refl, subst, ap, arith, nat_lt}
-use Rattle.std.specs.List.{slice_get}
-use Rattle.std.specs.Result.{IfOk, is_ok, result_ok}
-use Rattle.std.proofs.lemmas.Bool.{and_parts, false≢true}
-use Rattle.std.proofs.lemmas.Option.{none-some, same_Some}
-use Rattle.toml.specs.Data.{Data, table, Items, no_items, item, Members, get_member, as_str, as_table, as_array}
+use Rattle.std.proofs.Common.{◌≡◌, ◌≤◌, ◌+◌, ℕ, true, List, codes, length}
+use Rattle.std.proofs.Common.{Option, Some, None, unwrap_or, option_map, option_and_then, Result, Ok, Err}
+use Rattle.std.proofs.Common.{refl, subst, arith}
+use Rattle.std.specs.Result.{IfOk}
+use Rattle.toml.specs.Data.{Items, no_items, item, Members, get_member, as_str, as_table, as_array}
 use Rattle.cdi_model.specs.Answering.{Answers}
 use Rattle.cdi_model.specs.CallText.{call_of}
 use Rattle.cdi_model.specs.Quals.{list_limit}
@@ -16,18 +13,15 @@ use Rattle.cdi_model.specs.declared.decl.Kind.{Kind}
 use Rattle.cdi_model.specs.declared.decl.Kind.TheVariants as kinds
 use Rattle.cdi_model.specs.declared.decl.PartDecl.{PartDecl}
 use Rattle.cdi_model.specs.declared.refusal.Error.{Error}
-use Rattle.cdi_model.specs.declared.refusal.Refusal.{Refusal}
-use Rattle.cdi_model.specs.declared.refusal.Refusal.TheVariants.{TooLong}
 use Rattle.cdi_uses.specs.Events.{event_of}
-use Rattle.cdi_text.specs.declared.conditions.Condition.{Condition}
 use Rattle.cdi_text.specs.declared.schema.Item.TheVariants.{Call, Event, Table}
 use Rattle.cdi_text.specs.declared.schema.Schema.{Schema}
 use Rattle.cdi_text.specs.declared.schema.Schema.TheVariants as schemas
 use Rattle.cdi_text.specs.declared.schema.Shape.TheVariants.{One, Many}
-use Rattle.cdi_text.specs.Conditions.{first_condition, is_sound, is_sound_value, are_sound}
+use Rattle.cdi_text.specs.Conditions.{is_sound}
 use Rattle.cdi_text.specs.Lists.{count_of}
-use Rattle.cdi_text.specs.Reading.{decl_of, decl_of_kind, decl_of_members, decl_of_tree, kind_in, refused_or}
-use Rattle.cdi_text.specs.Reading.{schema_of, spelled, tree_of}
+use Rattle.cdi_text.specs.Reading.{decl_of}
+use Rattle.cdi_text.specs.Reading.{schema_of, spelled}
 use Rattle.cdi_text.specs.Schema.{shape_of}
 use Rattle.cdi_text.specs.Spelled.{with_front, items_at, calls_in, calls_at, events_in, events_at, one_at, each, each_at}
 use Rattle.cdi_text.specs.Spelled.{part_decl, method_decl, point_decl, producer_decl, observer_decl, bean_decl}
