@@ -10,7 +10,7 @@ use Rattle.cdi_model.specs.Answering.{Answers}
 use Rattle.cdi_model.specs.Edits.{edited, edited_all}
 use Rattle.cdi_lines.specs.declared.edit.Edit.{Edit}
 use Rattle.cdi_container.specs.Editing.{asked_by, change_of, changes_of, changes_of_all, first_refusal, refusal_of_change, refused_first}
-use Rattle.cdi_container.specs.Seen.{AnswersBatch, answer_of_change, refused_at}
+use Rattle.cdi_container.specs.Seen.{SaysReason, answer_of_change, refused_at}
 use Rattle.cdi_container.proofs.Putting.{accepted_change, refused_change}
 
 pub edited_all-append : (ds : List Decl) (es fs : List Change) → edited_all ds (es ++ fs) ≡ edited_all (edited_all ds es) fs
@@ -33,7 +33,7 @@ first_accepted number ds next e es u accepted h = rw h
 -- an edit is refused, or found no memory
 pub first_refused : (number : ℕ) (ds : List Decl) (e : Edit) (es : List Edit) (error : Error)
     → Answers {X = Unit {0}} (Err error) (answer_of_change ds (change_of e))
-    → AnswersBatch {X = Unit {0}} (Err (refused_at number error)) (first_refusal number ds (asked_by (e ∷ es)))
+    → SaysReason (refused_at number error) (first_refusal number ds (asked_by (e ∷ es)))
 first_refused number ds e es errors.OutOfMemory h = tt
 first_refused number ds e es (errors.Refused refusal) h =
     ap (λ (r : Option Refusal). refused_first number r (first_refusal (number + 1) (edited_all ds (changes_of e)) (asked_by es)))

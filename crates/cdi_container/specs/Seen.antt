@@ -61,11 +61,15 @@ abbrev pub refused_at : ℕ → Error → BatchError
 refused_at number errors.OutOfMemory = batch_errors.OutOfMemory
 refused_at number (errors.Refused refusal) = batch_errors.Refused refusal (Some number)
 
--- a batch answers that it is refused for this reason, if for one; where memory ran out, this says nothing
+-- an error says that this is the reason; where memory ran out, it says nothing
+abbrev pub SaysReason : BatchError → Option Reason → Type 0
+SaysReason batch_errors.OutOfMemory reason = Unit {0}
+SaysReason (batch_errors.Refused refusal edit) reason = reason ≡ Some (refusal, edit)
+
+-- what a batch answers that is refused for this reason, if for one
 abbrev pub AnswersBatch : {X : Type 0} → Result X BatchError → Option Reason → Type 0
 AnswersBatch (Ok value) reason = reason ≡ None
-AnswersBatch (Err batch_errors.OutOfMemory) reason = Unit {0}
-AnswersBatch (Err (batch_errors.Refused refusal edit)) reason = reason ≡ Some (refusal, edit)
+AnswersBatch (Err error) reason = SaysReason error reason
 
 -- what a batch leaves that was refused or found no memory
 abbrev pub left_by_batch : BatchError → State → State

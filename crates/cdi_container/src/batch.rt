@@ -83,8 +83,7 @@ pub(crate) fn stage_batch(
     requires { AreShort decls.now }
     ensures ok { IfOk result (λ next. next ≡ edited_all decls.now (changes_of_all edits.items)) }
     ensures short { IfOk result (λ next. AreShort next) }
-    ensures accepted { OnOk result (refusal_of_batch decls.now edits.items ≡ None) }
-    ensures refused { IfErr result (λ error. AnswersBatch (Err error) (refusal_of_batch decls.now edits.items)) }
+    ensures answer { AnswersBatch result (refusal_of_batch decls.now edits.items) }
 {
     if edits.len() > BATCH_LIMIT {
         return Err(BatchError::Refused {

@@ -123,8 +123,7 @@ impl<B: Bodies> Deployment<B> {
     pub(crate) fn stage_batch(&self, alloc: Global, edits: Vec<Edit>) -> Result<Decls, BatchError>
         ensures ok { IfOk result (λ next. next ≡ edited_all self.now.decls (changes_of_all edits.items)) }
         ensures short { IfOk result (λ next. AreShort next) }
-        ensures accepted { OnOk result (refusal_of_batch self.now.decls edits.items ≡ None) }
-        ensures refused { IfErr result (λ error. AnswersBatch (Err error) (refusal_of_batch self.now.decls edits.items)) }
+        ensures answer { AnswersBatch result (refusal_of_batch self.now.decls edits.items) }
     {
         stage_batch(alloc, &self.decls, edits)
     }
