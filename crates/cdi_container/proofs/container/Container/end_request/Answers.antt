@@ -1,4 +1,5 @@
-use Rattle.std.proofs.Common.{sym, ◌∙◌}
+use Rattle.std.proofs.Common.{ap, sym, ◌∙◌}
+use Rattle.cdi_container.specs.Editing.{alone}
 use Rattle.cdi_container.specs.Wired.{trace_names}
 use Rattle.cdi_container.proofs.Ending.{ends_no_request, has_request, is_closed}
 use Rattle.cdi_container.proofs.container.Container.end_request.Goals as goal
@@ -14,7 +15,7 @@ returns-clause-ok g c =
 pub returns-clause-step : goal.returns-clause-step
 returns-clause-step g c =
     let d = c.self.inside.deployment in (
-      has_request d.decls d.book (trace_names d c.self.inside.told) c.args.self.now c.self.inside.run.moment c.self.view_is
-          (sym c.is_active.ensures ∙ c.if-not-is_active.false),
+      ap alone (has_request d.decls d.book (trace_names d c.self.inside.told) c.args.self.now c.self.inside.run.moment c.self.view_is
+          (sym c.is_active.ensures ∙ c.if-not-is_active.false)),
       returns-clause-ok g c,
     )
