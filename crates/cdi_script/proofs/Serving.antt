@@ -51,7 +51,7 @@ serves_dot kept line (inr h) =
     ∙ sym (long_no_dot (without_return line) (let a = length-without_return line in let b = h.line_long in omega arith))
 
 -- what a text that is too long is refused for
-long : Reason
+abbrev long : Reason
 long = (TooLong, None)
 
 too_long : (state : State) (text : List ℕ) → 65536 < length text → refusal_of state (put text) ≡ Some long
