@@ -14,7 +14,7 @@ returns-then-ends_block-clause-ok g c =
     let new = intake_on (record c.args.self.now { runner = c.execute.new.self }) c.execute.new.container in
     on_ok_weaker c.execute.result
     (λ step. takes_put old new c.args.block c.args.line.now refl c.requires (sym c.ends_block.ensures ∙ c.if-ends_block.true)
-    (subst (λ t. RunsStep old.runner new.runner (put t)) c.into_text.ensures step)) c.execute.ensures.ok
+    (subst (λ t. RunsStep old.runner new.runner (put t)) c.into_text-text.ensures step)) c.execute.ensures.ok
 
 pub returns-then-ends_block-clause-tries : goal.returns-then-ends_block-clause-tries
 returns-then-ends_block-clause-tries g c =
@@ -22,7 +22,7 @@ returns-then-ends_block-clause-tries g c =
     let new = intake_on (record c.args.self.now { runner = c.execute.new.self }) c.execute.new.container in
     on_err_weaker c.execute.result
     (λ h. tries_put old new c.args.block c.args.line.now (sym c.ends_block.ensures ∙ c.if-ends_block.true)
-    (subst (λ t. Tries [] (put t ∷ []) c.args.container.now c.execute.new.container) c.into_text.ensures h)) c.execute.ensures.tries
+    (subst (λ t. Tries [] (put t ∷ []) c.args.container.now c.execute.new.container) c.into_text-text.ensures h)) c.execute.ensures.tries
 
 pub returns-in_err-push_line-clause-tries : goal.returns-in_err-push_line-clause-tries
 returns-in_err-push_line-clause-tries g c = holds_on_err c.from_residual.result (λ text line st sl. inl refl)
