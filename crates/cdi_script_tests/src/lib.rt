@@ -18,5 +18,3 @@ mod proceeding;
 mod runs;
 #[cfg(test)]
 mod session;
-#[cfg(test)]
-mod typed_edits;
