@@ -136,7 +136,7 @@ fn read_change(alloc: Global, edit: Edit) -> Result<Change, CallError>
         Edit::Put { text } => Ok(Change::Put(read_decl(alloc, text.as_slice())?)),
         Edit::PutDecl { decl } => {
             check_decl(alloc, &decl)?;
-            Ok(Change::Put(decl))
+            Ok(Change::Put(Box::into_inner(decl)))
         }
         Edit::Remove { kind, name } => Ok(Change::Remove(kind, name)),
     }

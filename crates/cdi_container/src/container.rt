@@ -144,7 +144,7 @@ impl<B: Bodies> Container<B> {
     {
         match edit {
             Edit::Put { text } => self.put(text.as_slice()),
-            Edit::PutDecl { decl } => self.put_decl(decl),
+            Edit::PutDecl { decl } => self.put_decl(Box::into_inner(decl)),
             Edit::Remove { kind, name } => self.remove(kind, name),
         }
     }
@@ -152,8 +152,8 @@ impl<B: Bodies> Container<B> {
     /// Puts the declaration that a TOML text spells in the place of the one of its kind and name, or at the end. First the
     /// request context, if a request is active, and the application context end, as they do at a `stop`, on the declarations
     /// from before (profile). It takes memory for the declaration, for a copy of the list, whose size does not grow with the
-    /// number of declarations, and for the entries of its trace, all of it before the first callback: if memory runs out,
-    /// nothing has changed.
+    /// number of declarations, after 64 changes for an entry a declaration, and for the entries of its trace, all of it
+    /// before the first callback: if memory runs out, nothing has changed.
     #[tactic(auto, using(crate::proofs::Putting::put_step))]
     pub fn put(&mut self, text: &[u8]) -> Result<(), Error>
         ensures answer { Answers result (answer_of_change self.old.decls (put_of (decl_of text.now))) }

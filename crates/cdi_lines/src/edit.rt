@@ -7,7 +7,7 @@ pub enum Edit {
     /// Puts the declaration that a TOML text spells.
     Put { text: Seq<u8> },
     /// Puts a declaration that a program made. No line of a script spells it.
-    PutDecl { decl: Decl },
+    PutDecl { decl: Box<Decl> },
     /// Removes the declaration of a kind and name.
     Remove { kind: Kind, name: Name },
 }

@@ -9,12 +9,12 @@ use Rattle.std.proofs.lemmas.Grind.{flat_map-append}
 use Rattle.cdi_model.specs.Bytes.{feed}
 use Rattle.cdi_lines.specs.Lines.{ended_from, begun_from, ended_lines, begun_line, last_line}
 use Rattle.cdi_lines.specs.declared.command.Command.{Command}
-use Rattle.cdi_script.specs.Commands.{Mode, Outside, commands_of_line, mode_after, commands_of_lines, mode_of_lines, complete_commands}
+use Rattle.cdi_script.specs.Commands.{Mode, outside, commands_of_line, mode_after, commands_of_lines, mode_of_lines, complete_commands}
 use Rattle.cdi_script.specs.Commands.{mode_of, commands, unclosed, AreFirst}
 use Rattle.cdi_container.specs.History.{State}
 use Rattle.cdi_script.specs.Text.{text_of, text_of_step, is_refused, is_out_of_memory}
 use Rattle.cdi_script.specs.Runner.{RunnerOn, runner_on, Runs, Tries}
-use Rattle.cdi_script.specs.Intake.{IntakeOn, intake_on, Keeps, Advances, EndsLastLine, EndsMode, ServesMode, mode_seen, TriesBytes, TriesLastLine, TriesMode}
+use Rattle.cdi_script.specs.Intake.{IntakeOn, intake_on, Keeps, Advances, EndsLastLine, EndsMode, TriesBytes, TriesLastLine, TriesMode}
 use Rattle.cdi_lines.specs.Kept.{ServesLine}
 use Rattle.cdi_script.specs.Run.{Setting, WroteAll, WrotePart, WroteAllBut, WrotePartBut}
 use Rattle.cdi_script.specs.Run.{Printed, Stands, Sends, SendsPart, SendsLast, Feeds}
@@ -54,16 +54,16 @@ mode_of_lines-append mode (l ∷ ls) ms = mode_of_lines-append (mode_after mode 
 pub complete_commands-append : (given bytes : List ℕ)
     → complete_commands (given ++ bytes) ≡ complete_commands given
     ++ commands_of_lines (mode_of given) (ended_from (begun_line given) bytes)
-complete_commands-append given bytes = ap (commands_of_lines Outside) (ended_from-append [] given bytes)
-    ∙ commands_of_lines-append Outside (ended_lines given) (ended_from (begun_line given) bytes)
+complete_commands-append given bytes = ap (commands_of_lines outside) (ended_from-append [] given bytes)
+    ∙ commands_of_lines-append outside (ended_lines given) (ended_from (begun_line given) bytes)
 
 -- the commands that some bytes completed are the first of those that they and further bytes complete
 pub first_complete : (done more : List ℕ) → AreFirst (complete_commands done) (complete_commands (done ++ more))
 first_complete done more = (commands_of_lines (mode_of done) (ended_from (begun_line done) more), complete_commands-append done more)
 
 pub mode_of-append : (given bytes : List ℕ) → mode_of (given ++ bytes) ≡ mode_of_lines (mode_of given) (ended_from (begun_line given) bytes)
-mode_of-append given bytes = ap (mode_of_lines Outside) (ended_from-append [] given bytes)
-    ∙ mode_of_lines-append Outside (ended_lines given) (ended_from (begun_line given) bytes)
+mode_of-append given bytes = ap (mode_of_lines outside) (ended_from-append [] given bytes)
+    ∙ mode_of_lines-append outside (ended_lines given) (ended_from (begun_line given) bytes)
 
 pub printed_runs : (setting : Setting) (start now : Option (List ℕ)) (r s : RunnerOn) (cs ds : List Command)
     → Printed setting start now r cs
@@ -139,7 +139,7 @@ keeps_same : (s t : IntakeOn) → t.line ≡ s.line → t.mode ≡ s.mode → (m
     → Keeps t mode line
 keeps_same s t line mode b l k = record {
   line_serves = subst (λ v. ServesLine v l) (sym line) k.line_serves;
-  mode_serves = subst (λ v. ServesMode (mode_seen v) b) (sym mode) k.mode_serves;
+  mode_serves = subst (λ v. ServesMode v b) (sym mode) k.mode_serves;
 }
 
 module _ {W : Type 0} (contents : W → Option (List ℕ)) where
@@ -299,8 +299,8 @@ feeds_rest done n rest bytes behind e f = e ∙ ap (λ l. done ++ l) (sym (take-
 pub commands-parts : (given : List ℕ) → commands given
     ≡ (complete_commands given ++ commands_of_lines (mode_of given) (last_line (begun_line given)))
     ++ unclosed (mode_of_lines (mode_of given) (last_line (begun_line given)))
-commands-parts given = cc_append _ _ _ _ (commands_of_lines-append Outside (ended_lines given) (last_line (begun_line given)))
-    (ap unclosed (mode_of_lines-append Outside (ended_lines given) (last_line (begun_line given))))
+commands-parts given = cc_append _ _ _ _ (commands_of_lines-append outside (ended_lines given) (last_line (begun_line given)))
+    (ap unclosed (mode_of_lines-append outside (ended_lines given) (last_line (begun_line given))))
 
 pub printed_whole : (setting : Setting) (start now then : Option (List ℕ)) (r : RunnerOn) (cs : List Command)
     → Printed setting start now r cs

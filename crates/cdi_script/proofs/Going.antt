@@ -6,13 +6,13 @@ use Rattle.std.proofs.lemmas.Bool.{false≢true, true≢false}
 use Rattle.std.specs.Io.KnownBytes.{Appends, Consumes}
 use Rattle.std.proofs.lemmas.List.{append-nil, length-append, length-take}
 use Rattle.cdi_lines.specs.declared.command.Command.{Command}
-use Rattle.cdi_script.specs.Commands.{Outside, complete_commands, commands, AreFirst}
+use Rattle.cdi_script.specs.Commands.{outside, complete_commands, commands, AreFirst}
 use Rattle.cdi_devices.specs.Counted.{inner_of, bytes_of, has_failed, is_flushed, is_settled}
 use Rattle.cdi_devices.specs.Devices.{Gives, ReadFails}
 use Rattle.cdi_lines.specs.Kept.{ServesLine}
 use Rattle.cdi_container.specs.History.{State}
 use Rattle.cdi_script.specs.Runner.{Tries}
-use Rattle.cdi_script.specs.Intake.{IntakeOn, intake_on, IsFresh, ServesMode}
+use Rattle.cdi_script.specs.Intake.{IntakeOn, intake_on, IsFresh}
 use Rattle.cdi_script.specs.Run.{Setting, WroteAll, AnswersFirst, Leaves, RunsOutOfMemoryTo}
 use Rattle.cdi_script.specs.Run.{FailsToWriteTo, FailsToReadTo, RunsScriptTo, Goes, Feeds}
 use Rattle.cdi_script.specs.Run.{FeedsBeforeMemory, FeedsPart, Ends, EndsBeforeMemory, EndsPart}

@@ -1,39 +1,16 @@
--- What is kept of a line or a put block does what all of it would do.
-use Rattle.std.proofs.Common.{◌≡◌, ℕ, ◌+◌, ◌<◌, ◌≤◌, List, [], ◌∷◌, ◌++◌, length, refl, ap, sym, ◌∙◌, subst, Some, None, false, inl, inr}
+-- What is kept of a line or a put block serves for all of it.
+use Rattle.std.proofs.Common.{◌≡◌, ℕ, ◌+◌, ◌<◌, ◌≤◌, List, [], ◌∷◌, ◌++◌, length, refl, ap, sym, ◌∙◌, subst, false, inl, inr}
 use Rattle.std.proofs.Common.{append_assoc, arith}
 use Rattle.std.proofs.Math.Bool.{and-false}
-use Rattle.std.specs.Prelude.{◌==◌, codes, Result, Ok, Err}
+use Rattle.std.specs.Prelude.{◌==◌, codes}
 use Rattle.std.specs.Str.{bytes_eq}
 use Rattle.std.proofs.lemmas.List.{append-nil, length-append}
-use Rattle.std.proofs.lemmas.Bool.{lt-ltb}
 use Rattle.cdi_model.specs.Bytes.{dot, feed}
-use Rattle.cdi_model.specs.declared.refusal.Refusal.TheVariants.{TooLong}
-use Rattle.cdi_text.specs.Reading.{decl_of}
 use Rattle.cdi_lines.specs.Words.{without_return}
 use Rattle.cdi_lines.specs.Command.{said_of_line}
 use Rattle.cdi_lines.specs.Kept.{ServesLine, ServesText, with_line}
 use Rattle.cdi_lines.proofs.LongLemmas.{length-without_return}
-use Rattle.cdi_script.specs.Commands.{Mode, Outside, InPut, is_dot, put}
-use Rattle.std.specs.declared.alloc.AllocError.{AllocError}
-use Rattle.cdi_container.specs.declared.answer.Answer.{Answer}
-use Rattle.cdi_container.specs.declared.answer.Answer.TheVariants.{Done, Chosen, Intercepted, Observed, Reported, Given, Refused}
-use Rattle.cdi_container.specs.History.{State, LegalAnswer, refusal_of}
-use Rattle.cdi_container.specs.Editing.{Reason, alone, put_of, refusal_of_change}
-use Rattle.cdi_script.specs.Runner.{RunnerOn, RunsStep}
-use Rattle.cdi_script.specs.Intake.{ServesMode}
-
-pub serves_outside : (mode : Mode) → ServesMode Outside mode → mode ≡ Outside
-serves_outside Outside h = refl
-serves_outside (InPut text) h = absurd h
-
-pub serves_in_put : (kept : List ℕ) (mode : Mode) → ServesMode (InPut kept) mode
-    → (text : List ℕ) × (mode ≡ InPut text) × ServesText kept text
-serves_in_put kept Outside h = absurd h
-serves_in_put kept (InPut text) h = (text, refl, h)
-
-pub serves_mode_itself : (mode : Mode) → ServesMode mode mode
-serves_mode_itself Outside = tt
-serves_mode_itself (InPut text) = inl refl
+use Rattle.cdi_script.specs.Commands.{is_dot}
 
 pub serves_command : (kept line : List ℕ) → ServesLine kept line → said_of_line kept ≡ said_of_line line
 serves_command kept line (inl h) = ap said_of_line h
@@ -49,47 +26,6 @@ serves_dot kept line (inl h) = ap is_dot h
 serves_dot kept line (inr h) =
     long_no_dot (without_return kept) (let a = length-without_return kept in let b = h.kept_long in omega arith)
     ∙ sym (long_no_dot (without_return line) (let a = length-without_return line in let b = h.line_long in omega arith))
-
--- what a text that is too long is refused for
-abbrev long : Reason
-long = (TooLong, None)
-
-too_long : (state : State) (text : List ℕ) → 65536 < length text → refusal_of state (put text) ≡ Some long
-too_long state text much =
-    let refused : decl_of text ≡ Err TooLong = rw (lt-ltb 65536 (length text) much) refl in
-    ap (λ read. alone (refusal_of_change state.decls (put_of read))) refused
-
--- two texts that are too long are refused alike
-pub put_alike : (old new : State) (kept text : List ℕ) (answer : Result Answer AllocError) → 65536 < length kept
-    → 65536 < length text
-    → LegalAnswer old (put kept) answer new → LegalAnswer old (put text) answer new
-put_alike old new kept text (Ok Done) k t h = absurd (let e : Some long ≡ None = sym (too_long old kept k) ∙ h.0 in cc)
-put_alike old new kept text (Ok (Chosen choice)) k t h = absurd (let e : Some long ≡ None = sym (too_long old kept k) ∙ h.0 in cc)
-put_alike old new kept text (Ok (Intercepted names)) k t h = absurd
-    (let e : Some long ≡ None = sym (too_long old kept k) ∙ h.0 in cc)
-put_alike old new kept text (Ok (Observed ids)) k t h = absurd (let e : Some long ≡ None = sym (too_long old kept k) ∙ h.0 in cc)
-put_alike old new kept text (Ok (Reported list)) k t h = absurd (let e : Some long ≡ None = sym (too_long old kept k) ∙ h.0 in cc)
-put_alike old new kept text (Ok (Given outcome)) k t h = absurd (let e : Some long ≡ None = sym (too_long old kept k) ∙ h.0 in cc)
-put_alike old new kept text (Ok (Refused refusal edit)) k t h = (too_long old text t ∙ sym (too_long old kept k) ∙ h.0, h.1)
-put_alike old new kept text (Err error) k t h = h
-
-pub serves_put : (old new : RunnerOn) (kept text : List ℕ) → ServesText kept text → RunsStep old new (put kept)
-    → RunsStep old new (put text)
-serves_put old new kept text (inl h) r = subst (λ t. RunsStep old new (put t)) h r
-serves_put old new kept text (inr h) r = record {
-  step = record r.step { command = put text };
-  command_is = refl;
-  memory = r.memory;
-  legal = record {
-    answered = put_alike old.container new.container kept text r.step.answer h.0 h.1
-        (subst (λ c. LegalAnswer old.container c r.step.answer new.container) r.command_is r.legal.answered);
-    trace = r.legal.trace;
-    names = r.legal.names;
-  };
-  text = r.text;
-  refused = r.refused;
-  quiet = r.quiet;
-}
 
 longer : (text line : List ℕ) → 65536 < length line + 1 → 65536 < length (text ++ line ++ feed ∷ [])
 longer text line h = let a = length-append (text ++ line) (feed ∷ []) in let b = length-append text line in omega arith

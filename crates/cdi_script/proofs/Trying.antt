@@ -1,16 +1,14 @@
 -- What was carried out where memory was wanted.
-use Rattle.std.proofs.Common.{◌≡◌, ℕ, List, [], ◌∷◌, ◌++◌, refl, ap, sym, ◌∙◌, subst, inl, inr, append_assoc}
+use Rattle.std.proofs.Common.{◌≡◌, ℕ, List, [], ◌∷◌, ◌++◌, refl, ap, sym, ◌∙◌, inl, inr, append_assoc}
 use Rattle.std.specs.Prelude.{Result, Ok, Err, OnErr}
 use Rattle.std.specs.declared.alloc.AllocError.{AllocError}
 use Rattle.cdi_staging.specs.Naming.{names_of}
 use Rattle.cdi_lines.specs.declared.command.Command.{Command}
-use Rattle.cdi_lines.specs.Kept.{ServesText}
 use Rattle.cdi_container.specs.declared.answer.Answer.{Answer}
-use Rattle.cdi_script.specs.Commands.{AreFirst, put}
-use Rattle.cdi_container.specs.History.{State, LegalAnswer, trace_behind}
+use Rattle.cdi_script.specs.Commands.{AreFirst}
+use Rattle.cdi_container.specs.History.{State, trace_behind}
 use Rattle.cdi_container.specs.Seen.{IsStep}
 use Rattle.cdi_script.specs.Runner.{Tries}
-use Rattle.cdi_script.proofs.Serving.{put_alike}
 
 -- a fact that holds anyway
 pub holds_on_err : {T E P : Type 0} (r : Result T E) → P → OnErr r P
@@ -43,21 +41,4 @@ tried_step old new command answer h = inr (
   record { command = command; answer = answer; trace = trace_behind answer new; names = names_of old.decls },
   ([], refl),
   record { answered = h; trace = refl; names = refl },
-)
-
--- what is kept of a put block serves for all of it
-pub tried_put : (old new : State) (kept text : List ℕ) → ServesText kept text → Tries [] (put kept ∷ []) old new
-    → Tries [] (put text ∷ []) old new
-tried_put old new kept text h (inl e) = inl e
-tried_put old new kept text (inl h) (inr t) = subst (λ k. Tries [] (put k ∷ []) old new) h (inr t)
-tried_put old new kept text (inr h) (inr t) = inr (
-  record t.0 { command = put text },
-  ([], refl),
-  record {
-    answered = put_alike old new kept text t.0.answer h.0 h.1
-        (let k = t.1.1 in let head : t.0.command ≡ put kept = cc in
-        subst (λ c. LegalAnswer old c t.0.answer new) head t.2.answered);
-    trace = t.2.trace;
-    names = t.2.names;
-  },
 )

@@ -1,56 +1,35 @@
 -- What an intake keeps of the bytes so far, and what it does with further ones.
-use Rattle.std.specs.Prelude.{◌≡◌, ℕ, List, [], Result, false}
-use Rattle.cdi_model.specs.declared.refusal.Refusal.{Refusal}
+use Rattle.std.specs.Prelude.{◌≡◌, ℕ, List, [], false}
 use Rattle.cdi_lines.specs.declared.command.Command.{Command}
-use Rattle.cdi_lines.specs.declared.command.Said.{Said}
 use Rattle.cdi_lines.specs.Lines.{ended_from, begun_from, last_line}
-use Rattle.cdi_lines.specs.Kept.{ServesLine, ServesText}
-use Rattle.cdi_script.specs.Commands.{Mode, Outside, InPut, commands_said, mode_said, commands_of_line, mode_after, commands_of_lines}
-use Rattle.cdi_script.specs.Commands.{mode_of_lines, unclosed}
+use Rattle.cdi_lines.specs.Kept.{ServesLine}
+use Rattle.cdi_script.specs.Commands.{Mode, outside, commands_of_line, mode_after, commands_of_lines, mode_of_lines, unclosed}
+use Rattle.cdi_script.specs.Begun.{ServesMode}
 use Rattle.cdi_container.specs.History.{State}
 use Rattle.cdi_script.specs.Runner.{RunnerOn, runner_on, Runs, Tries}
 use Rattle.cdi_script.specs.declared.intake.Intake.{Intake}
-use Rattle.cdi_script.specs.declared.intake.Mode.{Mode as CodeMode}
-use Rattle.cdi_script.specs.declared.intake.Mode.TheVariants as code
 
 -- what takes a script, and the state of the container on which its commands run
 pub record IntakeOn : Type 0 where
   pub runner : RunnerOn
   pub line : List ℕ
-  pub mode : CodeMode
+  pub mode : Mode
 
 abbrev pub intake_on : Intake → State → IntakeOn
 intake_on s state = record { runner = runner_on s.runner state; line = s.line; mode = s.mode }
 
-abbrev pub mode_seen : CodeMode → Mode
-mode_seen code.Outside = Outside
-mode_seen (code.InPut text) = InPut text
-
--- what is kept of a put block that is open serves for all of it
-abbrev pub ServesMode : Mode → Mode → Type 0
-ServesMode Outside Outside = Unit {0}
-ServesMode (InPut kept) (InPut text) = ServesText kept text
-ServesMode (InPut kept) Outside = ⊥
-ServesMode Outside (InPut text) = ⊥
-
 -- the intake stands in this mode, behind this line that has begun
 pub record Keeps (s : IntakeOn) (mode : Mode) (line : List ℕ) : Type 0 where
   pub line_serves : ServesLine s.line line
-  pub mode_serves : ServesMode (mode_seen s.mode) mode
+  pub mode_serves : ServesMode s.mode mode
 
 -- a complete line was taken
 pub record TakesLine (old new : IntakeOn) (kept : List ℕ) : Type 0 where
   pub line : new.line ≡ old.line
-  pub runs : (mode : Mode) (line : List ℕ) → ServesMode (mode_seen old.mode) mode → ServesLine kept line
+  pub runs : (mode : Mode) (line : List ℕ) → ServesMode old.mode mode → ServesLine kept line
       → Runs old.runner new.runner (commands_of_line mode line)
-  pub mode : (mode : Mode) (line : List ℕ) → ServesMode (mode_seen old.mode) mode → ServesLine kept line
-      → ServesMode (mode_seen new.mode) (mode_after mode line)
-
--- what a line outside a put block says was taken
-pub record TakesSaid (old new : IntakeOn) (said : Result Said Refusal) : Type 0 where
-  pub line : new.line ≡ old.line
-  pub runs : Runs old.runner new.runner (commands_said said)
-  pub mode : mode_seen new.mode ≡ mode_said said
+  pub mode : (mode : Mode) (line : List ℕ) → ServesMode old.mode mode → ServesLine kept line
+      → ServesMode new.mode (mode_after mode line)
 
 -- these bytes were taken
 pub record Advances (old new : IntakeOn) (bytes : List ℕ) : Type 0 where
@@ -62,19 +41,11 @@ pub record Advances (old new : IntakeOn) (bytes : List ℕ) : Type 0 where
 -- the end of input was taken for the end of a line
 pub record EndsLastLine (old new : IntakeOn) : Type 0 where
   pub runs : (mode : Mode) (line : List ℕ) → Keeps old mode line → Runs old.runner new.runner (commands_of_lines mode (last_line line))
-  pub mode : (mode : Mode) (line : List ℕ) → Keeps old mode line → ServesMode (mode_seen new.mode) (mode_of_lines mode (last_line line))
+  pub mode : (mode : Mode) (line : List ℕ) → Keeps old mode line → ServesMode new.mode (mode_of_lines mode (last_line line))
 
--- a put block that is open was refused
+-- a put block or a batch that is open was refused
 abbrev pub EndsMode : IntakeOn → IntakeOn → Type 0
-EndsMode old new = (mode : Mode) → ServesMode (mode_seen old.mode) mode → Runs old.runner new.runner (unclosed mode)
-
--- a complete line of a put block with this text was taken
-pub record TakesInPut (old new : IntakeOn) (kept_text kept : List ℕ) : Type 0 where
-  pub line : new.line ≡ old.line
-  pub runs : (text line : List ℕ) → ServesText kept_text text → ServesLine kept line
-      → Runs old.runner new.runner (commands_of_line (InPut text) line)
-  pub mode : (text line : List ℕ) → ServesText kept_text text → ServesLine kept line
-      → ServesMode (mode_seen new.mode) (mode_after (InPut text) line)
+EndsMode old new = (mode : Mode) → ServesMode old.mode mode → Runs old.runner new.runner (unclosed mode)
 
 -- ---- what was carried out where memory was wanted
 
@@ -84,17 +55,8 @@ Tried old new commands = Tries [] commands old.runner.container new.runner.conta
 
 -- of a complete line
 abbrev pub TriesLine : IntakeOn → IntakeOn → List ℕ → Type 0
-TriesLine old new kept = (mode : Mode) (line : List ℕ) → ServesMode (mode_seen old.mode) mode → ServesLine kept line
+TriesLine old new kept = (mode : Mode) (line : List ℕ) → ServesMode old.mode mode → ServesLine kept line
     → Tried old new (commands_of_line mode line)
-
--- of what a line outside a put block says
-abbrev pub TriesSaid : IntakeOn → IntakeOn → Result Said Refusal → Type 0
-TriesSaid old new said = Tried old new (commands_said said)
-
--- of a complete line of a put block with this text
-abbrev pub TriesInPut : IntakeOn → IntakeOn → List ℕ → List ℕ → Type 0
-TriesInPut old new kept_text kept = (text line : List ℕ) → ServesText kept_text text → ServesLine kept line
-    → Tried old new (commands_of_line (InPut text) line)
 
 -- of the lines that these bytes complete
 abbrev pub TriesBytes : IntakeOn → IntakeOn → List ℕ → Type 0
@@ -105,9 +67,9 @@ TriesBytes old new bytes = (mode : Mode) (line : List ℕ) → Keeps old mode li
 abbrev pub TriesLastLine : IntakeOn → IntakeOn → Type 0
 TriesLastLine old new = (mode : Mode) (line : List ℕ) → Keeps old mode line → Tried old new (commands_of_lines mode (last_line line))
 
--- of the refusal of a put block that is open
+-- of the refusal of a put block or a batch that is open
 abbrev pub TriesMode : IntakeOn → IntakeOn → Type 0
-TriesMode old new = (mode : Mode) → ServesMode (mode_seen old.mode) mode → Tried old new (unclosed mode)
+TriesMode old new = (mode : Mode) → ServesMode old.mode mode → Tried old new (unclosed mode)
 
 -- ---- the start
 
@@ -116,4 +78,4 @@ pub record IsFresh (s : Intake) : Type 0 where
   pub out : s.runner.out.items ≡ []
   pub refused : s.runner.refused ≡ false
   pub line : s.line ≡ []
-  pub mode : mode_seen s.mode ≡ Outside
+  pub mode : s.mode ≡ outside

@@ -1,6 +1,7 @@
 pub mod Commands
 pub mod Text
 pub mod Runner
+pub mod Begun
 pub mod Intake
 pub mod Run
 pub use Rattle.cdi_model.specs.Bytes

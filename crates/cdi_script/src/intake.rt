@@ -1,29 +1,19 @@
 //! Taking a script's bytes piece by piece.
-ghost use Rattle.std.specs.Prelude.{◌≡◌, ◌<◌, ◌≤◌, ◌++◌, ◌∷◌, [], take, length, OnOk, OnErr, IfOk, false, Ok};
+ghost use Rattle.std.specs.Prelude.{◌≡◌, ◌<◌, ◌≤◌, ◌++◌, ◌∷◌, [], take, length, OnOk, OnErr, IfOk};
 ghost use Rattle.cdi_model.specs.Bytes.{feed};
 ghost use Rattle.cdi_lines.specs.Lines.{NoFeed};
-ghost use Rattle.cdi_script.specs.Commands.{Outside};
 ghost use Rattle.cdi_container.specs.History.{State};
 ghost use Rattle.cdi_script.specs.Runner.{PrintsNothing};
-ghost use Rattle.cdi_script.specs.Intake.{intake_on, mode_seen, TakesLine, TakesSaid, TakesInPut, Advances, EndsLastLine};
-ghost use Rattle.cdi_script.specs.Intake.{EndsMode, TriesLine, TriesSaid, TriesInPut, TriesBytes, TriesLastLine, TriesMode};
-ghost use Rattle.cdi_script.specs.Intake.{IsFresh};
+ghost use Rattle.cdi_script.specs.Intake.{intake_on, TakesLine, Advances, EndsLastLine, EndsMode};
+ghost use Rattle.cdi_script.specs.Intake.{TriesLine, TriesBytes, TriesLastLine, TriesMode, IsFresh};
 
+use crate::mode::Mode;
 use crate::runner::Runner;
 use cdi_bodies::Bodies;
 use cdi_container::Container;
-use cdi_lines::{Block, Command, Edit, Line, Said, ends_block, find_feed, read_line};
-use cdi_model::Error;
+use cdi_lines::{Command, Line, find_feed};
 use std::alloc::{AllocError, Global};
 use std::mem;
-
-/// Where a line stands.
-#[derive(Drop)]
-pub(crate) enum Mode {
-    Outside,
-    /// In a put block, of which this is kept.
-    InPut(Block),
-}
 
 /// What was taken of a script. Its commands run on the container that each call is given.
 #[derive(Drop)]
@@ -44,7 +34,7 @@ impl Intake {
             alloc,
             runner: Runner::new(alloc, quiet),
             line: Line::new(alloc),
-            mode: Mode::Outside,
+            mode: Mode::new(),
         }
     }
 
@@ -89,7 +79,7 @@ impl Intake {
         }
     }
 
-    /// Refuses a put block without its end.
+    /// Refuses a put block or a batch without its end.
     pub(crate) fn end_mode<B: Bodies>(
         &mut self,
         container: &mut Container<B>,
@@ -98,9 +88,10 @@ impl Intake {
         ensures err { OnErr result (PrintsNothing self.old.runner self.new.runner) }
         ensures tries { OnErr result (TriesMode (intake_on self.old container.old) (intake_on self.new container.new)) }
     {
-        match &self.mode {
-            Mode::Outside => Ok(()),
-            Mode::InPut(_) => self.runner.execute(container, Command::Unreadable),
+        if self.mode.is_open() {
+            self.runner.execute(container, Command::Unreadable)
+        } else {
+            Ok(())
         }
     }
 
@@ -143,68 +134,9 @@ impl Intake {
         ensures err { OnErr result (PrintsNothing self.old.runner self.new.runner) }
         ensures tries { OnErr result (TriesLine (intake_on self.old container.old) (intake_on self.new container.new) line.now) }
     {
-        match mem::replace(&mut self.mode, Mode::Outside) {
-            Mode::Outside => self.take_outside(container, line),
-            Mode::InPut(block) => self.take_in_put(container, block, line),
+        match self.mode.take_line(self.alloc, line)? {
+            None => Ok(()),
+            Some(command) => self.runner.execute(container, command),
         }
-    }
-
-    fn take_outside<B: Bodies>(
-        &mut self,
-        container: &mut Container<B>,
-        line: &[u8],
-    ) -> Result<(), AllocError>
-        requires { mode_seen self.old.mode ≡ Outside }
-        ensures ok { OnOk result (TakesLine (intake_on self.old container.old) (intake_on self.new container.new) line.now) }
-        ensures err { OnErr result (PrintsNothing self.old.runner self.new.runner) }
-        ensures tries { OnErr result (TriesLine (intake_on self.old container.old) (intake_on self.new container.new) line.now) }
-    {
-        match read_line(self.alloc, line) {
-            Ok(said) => self.take_said(container, said),
-            Err(Error::OutOfMemory) => Err(AllocError),
-            Err(Error::Refused(_)) => self.runner.execute(container, Command::Unreadable),
-        }
-    }
-
-    /// Takes what a line outside a put block says.
-    fn take_said<B: Bodies>(
-        &mut self,
-        container: &mut Container<B>,
-        said: Said,
-    ) -> Result<(), AllocError>
-        requires { mode_seen self.old.mode ≡ Outside }
-        ensures ok { OnOk result (TakesSaid (intake_on self.old container.old) (intake_on self.new container.new) (Ok said)) }
-        ensures err { OnErr result (PrintsNothing self.old.runner self.new.runner) }
-        ensures tries { OnErr result (TriesSaid (intake_on self.old container.old) (intake_on self.new container.new) (Ok said)) }
-    {
-        match said {
-            Said::Nothing => Ok(()),
-            Said::PutBegins => {
-                self.mode = Mode::InPut(Block::new(self.alloc));
-                Ok(())
-            }
-            Said::Command(command) => self.runner.execute(container, command),
-        }
-    }
-
-    fn take_in_put<B: Bodies>(
-        &mut self,
-        container: &mut Container<B>,
-        mut block: Block,
-        line: &[u8],
-    ) -> Result<(), AllocError>
-        requires { mode_seen self.old.mode ≡ Outside }
-        ensures ok { OnOk result (TakesInPut (intake_on self.old container.old) (intake_on self.new container.new) block line.now) }
-        ensures err { OnErr result (PrintsNothing self.old.runner self.new.runner) }
-        ensures tries { OnErr result (TriesInPut (intake_on self.old container.old) (intake_on self.new container.new) block line.now) }
-    {
-        if ends_block(line) {
-            let text = block.into_text();
-            let command = Command::Edit(Edit::Put { text });
-            return self.runner.execute(container, command);
-        }
-        block.push_line(line)?;
-        self.mode = Mode::InPut(block);
-        Ok(())
     }
 }

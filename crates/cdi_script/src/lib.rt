@@ -2,6 +2,7 @@
 #![tactic(auto)]
 
 mod intake;
+mod mode;
 mod runner;
 mod script;
 

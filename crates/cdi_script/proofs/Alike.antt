@@ -1,0 +1,118 @@
+-- Commands that are answered alike.
+use Rattle.std.proofs.Common.{◌≡◌, ℕ, ◌<◌, List, [], ◌∷◌, length, refl, ap, ap₂, sym, ◌∙◌, subst, inl, inr}
+use Rattle.std.specs.Prelude.{nat_lt, flat_map, Option, Some, None, option_to_list, Result, Ok, Err, if◌then◌else◌}
+use Rattle.std.proofs.lemmas.List.{length-map}
+use Rattle.std.proofs.lemmas.Bool.{lt-ltb}
+use Rattle.std.specs.declared.alloc.AllocError.{AllocError}
+use Rattle.cdi_model.specs.declared.decl.Decl.{Decl}
+use Rattle.cdi_model.specs.declared.refusal.Refusal.TheVariants.{TooLong, BatchTooLong}
+use Rattle.cdi_text.specs.Reading.{decl_of}
+use Rattle.cdi_lines.specs.declared.command.Command.{Command}
+use Rattle.cdi_lines.specs.declared.command.Command.TheVariants.{Edit as EditCommand, Batch as BatchCommand}
+use Rattle.cdi_lines.specs.declared.edit.Edit.{Edit}
+use Rattle.cdi_lines.specs.declared.edit.Edit.TheVariants as edits
+use Rattle.cdi_lines.specs.Kept.{ServesText}
+use Rattle.cdi_container.specs.declared.answer.Answer.{Answer}
+use Rattle.cdi_container.specs.declared.answer.Answer.TheVariants.{Done, Chosen, Intercepted, Observed, Reported, Given, Refused}
+use Rattle.cdi_container.specs.Editing.{Reason, alone, put_of, change_of, changes_in, asked_by, refusal_of_change, first_refusal, refusal_of_batch}
+use Rattle.cdi_container.specs.History.{State, Acts, EditsFrom, LegalAnswer, refusal_of, runs, emptied}
+use Rattle.cdi_script.specs.Runner.{RunnerOn, Runs, RunsStep, Tries}
+use Rattle.cdi_script.specs.Begun.{ServesEdits, ServesCommand, ServesCompleted}
+use Rattle.cdi_script.proofs.Runs.{runs_none, runs_one}
+
+-- two commands that are refused alike, and do the same, are answered alike
+alike : (old new : State) (kept command : Command) (answer : Result Answer AllocError) → refusal_of old kept ≡ refusal_of old command
+    → ((given : Answer) → refusal_of old kept ≡ None → Acts old kept given new → Acts old command given new)
+    → runs kept ≡ runs command → LegalAnswer old kept answer new → LegalAnswer old command answer new
+alike old new kept command (Ok Done) refused acts same h = (sym refused ∙ h.0, acts Done h.0 h.1)
+alike old new kept command (Ok (Chosen choice)) refused acts same h = (sym refused ∙ h.0, acts (Chosen choice) h.0 h.1)
+alike old new kept command (Ok (Intercepted names)) refused acts same h = (sym refused ∙ h.0, acts (Intercepted names) h.0 h.1)
+alike old new kept command (Ok (Observed ids)) refused acts same h = (sym refused ∙ h.0, acts (Observed ids) h.0 h.1)
+alike old new kept command (Ok (Reported list)) refused acts same h = (sym refused ∙ h.0, acts (Reported list) h.0 h.1)
+alike old new kept command (Ok (Given outcome)) refused acts same h = (sym refused ∙ h.0, acts (Given outcome) h.0 h.1)
+alike old new kept command (Ok (Refused refusal edit)) refused acts same h = (sym refused ∙ h.0, h.1)
+alike old new kept command (Err error) refused acts same h = h ∙ ap (λ r. if r then emptied old else old) same
+
+-- edits that ask for the same
+pub serves_edit : (kept edit : Edit) → change_of kept ≡ change_of edit → ServesCommand (EditCommand kept) (EditCommand edit)
+serves_edit kept edit same old new answer h = alike old new (EditCommand kept) (EditCommand edit) answer
+    (ap (λ asked. alone (refusal_of_change old.decls asked)) same)
+    (λ given none acts. (acts.0, subst (λ asked. EditsFrom old (changes_in asked) new) same acts.1)) refl h
+
+-- batches whose edits ask for the same
+judged_alike : (ds : List Decl) (kept es : List Edit) → asked_by kept ≡ asked_by es → refusal_of_batch ds kept ≡ refusal_of_batch ds es
+judged_alike ds kept es same =
+    let count : length kept ≡ length es = sym (length-map change_of kept) ∙ ap length same ∙ length-map change_of es in
+    ap₂ (λ n asked. if nat_lt 256 n then Some (BatchTooLong, None) else first_refusal 1 ds asked) count same
+
+abbrev too_many : Option Reason
+too_many = Some (BatchTooLong, None)
+
+refused_many : (ds : List Decl) (es : List Edit) → 256 < length es → refusal_of_batch ds es ≡ too_many
+refused_many ds es many = rw (lt-ltb 256 (length es) many) refl
+
+pub serves_batch : (kept es : List Edit) → ServesEdits kept es → ServesCommand (BatchCommand kept) (BatchCommand es)
+serves_batch kept es (inl same) old new answer h = alike old new (BatchCommand kept) (BatchCommand es) answer
+    (judged_alike old.decls kept es same)
+    (λ given none acts. (acts.0, subst (λ asked. EditsFrom old (flat_map changes_in asked) new) same acts.1)) refl h
+serves_batch kept es (inr many) old new answer h = alike old new (BatchCommand kept) (BatchCommand es) answer
+    (refused_many old.decls kept many.0 ∙ sym (refused_many old.decls es many.1))
+    (λ given none acts. absurd (let e : too_many ≡ None = sym (refused_many old.decls kept many.0) ∙ none in cc)) refl h
+
+-- what is kept of the text of a put block asks for what all of it does
+too_long : (text : List ℕ) → 65536 < length text → decl_of text ≡ Err TooLong
+too_long text much = rw (lt-ltb 65536 (length text) much) refl
+
+pub asks_alike : (kept text : List ℕ) → ServesText kept text → change_of (edits.Put kept) ≡ change_of (edits.Put text)
+asks_alike kept text (inl same) = ap (λ t. put_of (decl_of t)) same
+asks_alike kept text (inr long) = ap put_of (too_long kept long.0 ∙ sym (too_long text long.1))
+
+-- ---- steps
+
+pub serves_step : (old new : RunnerOn) (kept command : Command) → ServesCommand kept command → RunsStep old new kept
+    → RunsStep old new command
+serves_step old new kept command serves r = record {
+  step = record r.step { command = command };
+  command_is = refl;
+  memory = r.memory;
+  legal = record {
+    answered = serves old.container new.container r.step.answer
+        (subst (λ c. LegalAnswer old.container c r.step.answer new.container) r.command_is r.legal.answered);
+    trace = r.legal.trace;
+    names = r.legal.names;
+  };
+  text = r.text;
+  refused = r.refused;
+  quiet = r.quiet;
+}
+
+pub serves_tried : (old new : State) (kept command : Command) → ServesCommand kept command → Tries [] (kept ∷ []) old new
+    → Tries [] (command ∷ []) old new
+serves_tried old new kept command serves (inl e) = inl e
+serves_tried old new kept command serves (inr t) = inr (
+  record t.0 { command = command },
+  ([], refl),
+  record {
+    answered = serves old new t.0.answer
+        (let k = t.1.1 in let head : t.0.command ≡ kept = cc in subst (λ c. LegalAnswer old c t.0.answer new) head t.2.answered);
+    trace = t.2.trace;
+    names = t.2.names;
+  },
+)
+
+-- ---- what a line completes
+
+pub runs_no_command : (r : RunnerOn) (completed : Option Command) → ServesCompleted None completed
+    → Runs r r (option_to_list completed)
+runs_no_command r None h = runs_none r
+runs_no_command r (Some command) h = absurd h
+
+pub runs_command : (old new : RunnerOn) (kept : Command) (completed : Option Command) → ServesCompleted (Some kept) completed
+    → RunsStep old new kept → Runs old new (option_to_list completed)
+runs_command old new kept None h step = absurd h
+runs_command old new kept (Some command) h step = runs_one old new command (serves_step old new kept command h step)
+
+pub tries_command : (old new : State) (kept : Command) (completed : Option Command) → ServesCompleted (Some kept) completed
+    → Tries [] (kept ∷ []) old new → Tries [] (option_to_list completed) old new
+tries_command old new kept None h tries = absurd h
+tries_command old new kept (Some command) h tries = serves_tried old new kept command h tries
