@@ -31,6 +31,18 @@ suc-same zero (m ∷ ms) h = ap (λ b. marked_count (b ∷ [])) h
 suc-same (suc n) (true ∷ ms) h = ap suc (suc-same n ms h)
 suc-same (suc n) (false ∷ ms) h = suc-same n ms h
 
+-- where all are below a position, all are below a later one
+pub count_below-past : (m n : ℕ) (marks : List Bool) → m ≤ n → count_below m marks ≡ marked_count marks
+    → count_below n marks ≡ marked_count marks
+count_below-past zero zero marks p h = h
+count_below-past zero (suc n) [] p h = refl
+count_below-past zero (suc n) (true ∷ ms) p h = absurd (omega (arith, h))
+count_below-past zero (suc n) (false ∷ ms) p h = count_below-past zero n ms (omega arith) h
+count_below-past (suc m) zero marks p h = absurd (omega arith)
+count_below-past (suc m) (suc n) [] p h = refl
+count_below-past (suc m) (suc n) (true ∷ ms) p h = ap suc (count_below-past m n ms (omega arith) (omega (arith, h)))
+count_below-past (suc m) (suc n) (false ∷ ms) p h = count_below-past m n ms (omega arith) h
+
 -- one position more, which is marked, or not
 pub count_below_more : (n : ℕ) (marks : List Bool) → is_marked marks n ≡ true → count_below (n + 1) marks ≡ count_below n marks + 1
 count_below_more n marks h = ap (λ k. count_below k marks) (add-one n) ∙ suc-more n marks h
@@ -126,9 +138,6 @@ module _ (f : ℕ → List Bool) (k : ℕ) (long : (w : ℕ) → length (f w) �
     where
       next : (i : ℕ) → (i + 1) * k ≡ i * k + k
       next i = omega arith
-
-  pub count-all : (ws : List ℕ) (n : ℕ) → length ws * k ≤ n → count_below n (flat_map f ws) ≡ marked_count (flat_map f ws)
-  count-all ws n p = ap marked_count (take_all n (flat_map f ws) (omega (arith, length-rows ws)))
 
   -- what is outside in the word i
   pub outside-row : (ws : List ℕ) (i j n left : ℕ) → i < length ws → left + i * k ≡ n + count_below (i * k) (flat_map f ws)

@@ -1,13 +1,14 @@
 -- The marks of a set by its words.
-use Rattle.std.proofs.Common.{◌≡◌, ◌≢◌, ℕ, zero, suc, ◌+◌, ◌-◌, ◌*◌, ◌/◌, ◌%◌, ◌^◌, ◌<◌, ◌≤◌, Bool, true, false, not, eqb, List, [], ◌∷◌, ◌++◌, ◌⊎◌, inl, inr, length, take, drop, set, get_or, replicate, refl, sym, ap, ap₂, ◌∙◌, arith}
+use Rattle.std.proofs.Common.{◌≡◌, ◌≢◌, ℕ, ◌+◌, ◌-◌, ◌*◌, ◌/◌, ◌%◌, ◌^◌, ◌<◌, ◌≤◌, Bool, true, false, not, eqb, List, [], ◌∷◌, ◌++◌, length, take, drop, set, get_or, replicate, sym, ap, ap₂, ◌∙◌, arith}
 use Rattle.std.specs.Prelude.{count_ones, bit_and, bit_or}
 use Rattle.std.specs.Int.Count.{count_trailing_zeros}
-use Rattle.std.proofs.lemmas.List.{get_or-append_right, get_or_append_left, drop_more, drop_all, get_or-set_other, get_or_past, length-set, length-take}
+use Rattle.std.proofs.lemmas.List.{get_or-drop, get_or-replicate, drop_more, get_or-set_other, get_or_past, length-replicate, length-set, length-take, take-append-drop}
+use Rattle.std.proofs.lemmas.Grind.{flat_map-append}
 use Rattle.std.proofs.lemmas.Nat.Bits.{bit_at-zero}
 use Rattle.std.proofs.Math.Decide.{dec_le}
-use Rattle.cdi_positions.specs.Marks.{count_below, is_marked, marked_count, marked_from}
-use Rattle.cdi_positions.specs.Words.{marks_in, marks_of, positions_left, BeginsAt}
-use Rattle.cdi_positions.proofs.MarkLemmas.{at-row, count-row, count-whole, marked_count-le, length-rows, set-row, take-rows}
+use Rattle.cdi_positions.specs.Marks.{count_below, is_marked, marked_count, marked_from, IsOutside}
+use Rattle.cdi_positions.specs.Words.{marks_in, marks_of, positions_left, BeginsAt, EndsAt}
+use Rattle.cdi_positions.proofs.MarkLemmas.{at-row, count-row, count-whole, count_below-past, marked_count-append, marked_count-le, marked_count-none, marked_from-none, length-rows, set-row, take-rows}
 use Rattle.cdi_positions.proofs.WordLemmas.{at-marks_in, clear-marks_in, count-marks_in, lowest-bit, first-marks_in, length-marks_in, none-marks_in, set-marks_in, test-bit, test-fresh}
 
 pub length-marks_of : (ws : List ℕ) → length (marks_of ws) ≡ length ws * 64
@@ -43,28 +44,76 @@ module _ (ws : List ℕ) (p : ℕ) (within : p / 64 < length ws) where
       ∙ sym (count-row marks_in 64 length-marks_in ws (p / 64) (p % 64) within rest)
       ∙ ap (λ n. count_below n (marks_of ws)) (sym (place p))
 
--- in words that are zero none is marked
-pub none-marked : (n p : ℕ) → is_marked (marks_of (replicate n 0)) p ≡ false
-none-marked zero p = refl
-none-marked (suc n) p = elim (below p 64) [
-  | inl le ↦ get_or-append_right (marks_in 0) (marks_of (replicate n 0)) 64 p false (length-marks_in 0) le ∙ none-marked n (p - 64)
-  | inr lt ↦
-      get_or_append_left (marks_in 0) (marks_of (replicate n 0)) false p (omega (arith, lt, length-marks_in 0))
-      ∙ at-marks_in 0 p lt ∙ ap (λ d. eqb d 1) (bit_at-zero p)
+-- in a word that is zero none is marked
+pub unmarked-zero : (ws : List ℕ) (p : ℕ) → get_or ws (p / 64) 0 ≡ 0 → is_marked (marks_of ws) p ≡ false
+unmarked-zero ws p blank = elim (dec_le (length ws) (p / 64)) [
+  | yes past ↦ get_or_past (marks_of ws) p false (omega (arith, past, length-marks_of ws))
+  | no gt ↦
+      at-mark ws p (omega arith) ∙ ap (λ w. is_marked (marks_in w) (p % 64)) blank
+      ∙ at-marks_in 0 (p % 64) (omega arith) ∙ ap (λ d. eqb d 1) (bit_at-zero (p % 64))
 ]
+
+-- ---- the words in use
+
+pub EndsAt-none : EndsAt 0 (replicate 32 0)
+EndsAt-none = record { sized = length-replicate {A = ℕ} 32 0; within = omega arith; after = λ i p. at i (dec_le 32 i) }
   where
-    below : (m n : ℕ) → (n ≤ m) ⊎ (m < n)
-    below m n = elim (dec_le n m) [ yes le ↦ inl le | no gt ↦ inr (omega arith) ]
+    at : (i : ℕ) → Dec (32 ≤ i) → get_or {A = ℕ} (replicate 32 0) i 0 ≡ 0
+    at i (yes past) = get_or_past (replicate 32 0) i 0 past
+    at i (no gt) = get_or-replicate 32 i 0 0 (omega (arith, gt))
+
+-- another word at an index before the new end
+pub EndsAt-set : (ws : List ℕ) (used index v most : ℕ) → EndsAt used ws → used ≤ most → index < most → most ≤ 32
+    → EndsAt most (set ws index v)
+EndsAt-set ws used index v most ends le before room = record {
+  sized = length-set ws index v ∙ ends.sized;
+  within = room;
+  after = λ i p. (
+      let other : i ≢ index = omega (arith, p, before) in
+      get_or-set_other ws index i v 0 other ∙ ends.after i (omega (arith, p, le)));
+}
+
+module _ (ws : List ℕ) (used : ℕ) (ends : EndsAt used ws) where
+  pub unmarked-past : (p : ℕ) → used * 64 ≤ p → is_marked (marks_of ws) p ≡ false
+  unmarked-past p past = unmarked-zero ws p (ends.after (p / 64) (omega arith))
+
+  -- none is marked from there on
+  pub none-after : (i : ℕ) → used ≤ i → marked_count (marks_of (drop i ws)) ≡ 0
+  none-after i p =
+      marked_count-none (marks_of (drop i ws))
+      (λ q. unmarked-zero (drop i ws) q (get_or-drop i ws (q / 64) 0 ∙ ends.after (i + q / 64) (omega (arith, p))))
+
+  -- the words in use have all
+  pub count-used : marked_count (marks_of (take used ws)) ≡ marked_count (marks_of ws)
+  count-used =
+      let both = ap (λ ws. marked_count (marks_of ws)) (sym (take-append-drop used ws))
+      ∙ ap marked_count (flat_map-append marks_in (take used ws) (drop used ws))
+      ∙ marked_count-append (marks_of (take used ws)) (marks_of (drop used ws)) in
+      omega (arith, both, none-after used (omega arith))
+
+  -- no more are below a position past them
+  pub count-past : (p : ℕ) → used * 64 ≤ p → count_below p (marks_of ws) ≡ marked_count (marks_of ws)
+  count-past p past =
+      count_below-past (used * 64) p (marks_of ws) past (ap marked_count (take-rows marks_in 64 length-marks_in ws used) ∙ count-used)
+
+  -- so many past them
+  pub outside-past : (n left : ℕ) → left + used * 64 ≡ n + marked_count (marks_of ws) → used * 64 + left < 2048
+      → IsOutside n (marks_of ws) (used * 64 + left)
+  outside-past n left e p = record {
+    within = omega (arith, length-marks_of ws, ends.sized);
+    unmarked = unmarked-past (used * 64 + left) (omega arith);
+    before = omega (arith, count-past (used * 64 + left) (omega arith));
+  }
+
+  pub none-left : (i w : ℕ) → w ≡ 0 → used ≤ i + 1 → positions_left ws i w ≡ []
+  none-left i w e p =
+      ap (positions_left ws i) e ∙ none-marks_in (i * 64) (marks_of (drop (i + 1) ws))
+      ∙ marked_from-none (i * 64 + 64) (marks_of (drop (i + 1) ws)) (none-after (i + 1) p)
 
 -- ---- the positions that are left
 
 same_marked : (m n : ℕ) (marks : List Bool) → m ≡ n → marked_from m marks ≡ marked_from n marks
 same_marked m n marks e = ap (λ k. marked_from k marks) e
-
-pub none-left : (ws : List ℕ) (i w : ℕ) → w ≡ 0 → length ws ≤ i + 1 → positions_left ws i w ≡ []
-none-left ws i w e p =
-    ap (positions_left ws i) e ∙ none-marks_in (i * 64) (marks_of (drop (i + 1) ws))
-    ∙ ap (λ rest. marked_from (i * 64 + 64) (marks_of rest)) (drop_all (i + 1) ws p)
 
 pub left-next : (ws : List ℕ) (i w : ℕ) → w ≡ 0 → i + 1 < length ws → positions_left ws (i + 1) (get_or ws (i + 1) 0) ≡ positions_left ws i w
 left-next ws i w e p =
@@ -95,23 +144,18 @@ count-room ws i p = omega (arith, marked_count-le (marks_of (take (i + 1) ws)), 
 
 -- ---- the positions that wait
 
--- where each word is zero none is marked
-pub unmarked-zeros : (ws : List ℕ) → ((i : ℕ) → i < length ws → get_or ws i 0 ≡ 0) → (p : ℕ) → is_marked (marks_of ws) p ≡ false
-unmarked-zeros ws zeros p = elim (dec_le (length ws) (p / 64)) [
-  | yes past ↦ get_or_past (marks_of ws) p false (omega (arith, past, length-marks_of ws))
-  | no gt ↦
-      let within : p / 64 < length ws = omega arith in
-      at-mark ws p within ∙ ap (λ w. is_marked (marks_in w) (p % 64)) (zeros (p / 64) within)
-      ∙ at-marks_in 0 (p % 64) (low ws p within) ∙ ap (λ d. eqb d 1) (bit_at-zero (p % 64))
-]
-
 -- each word is zero up to the last
-pub zeros-all : (ws : List ℕ) (first : ℕ) → BeginsAt first ws → get_or ws first 0 ≡ 0 → 32 ≤ first + 1
-    → (i : ℕ) → i < length ws → get_or ws i 0 ≡ 0
-zeros-all ws first begins blank last i p = elim (dec_le first i) [
-  | yes le ↦ ap (λ k. get_or ws k 0) (let e : i ≡ first = omega (arith, begins.sized, p, le, last) in e) ∙ blank
-  | no gt ↦ begins.before i (omega arith)
-]
+pub zeros-all : (ws : List ℕ) (first used : ℕ) → BeginsAt first ws → EndsAt used ws → get_or ws first 0 ≡ 0 → used ≤ first + 1
+    → (i : ℕ) → get_or ws i 0 ≡ 0
+zeros-all ws first used begins ends blank last i = at (dec_le used i) (dec_le first i)
+  where
+    at : Dec (used ≤ i) → Dec (first ≤ i) → get_or ws i 0 ≡ 0
+    at (yes past) d = ends.after i past
+    at (no gt) (yes le) = ap (λ k. get_or ws k 0) (let e : i ≡ first = omega (arith, gt, le, last) in e) ∙ blank
+    at (no gt) (no before) = begins.before i (omega (arith, before))
+
+pub BeginsAt-first : (ws : List ℕ) → length ws ≡ 32 → BeginsAt 0 ws
+BeginsAt-first ws sized = record { sized = sized; within = omega arith; before = λ i p. absurd (omega (arith, p)) }
 
 pub BeginsAt-next : (ws : List ℕ) (first : ℕ) → BeginsAt first ws → get_or ws first 0 ≡ 0 → first + 1 < 32 → BeginsAt (first + 1) ws
 BeginsAt-next ws first begins blank more = record {

@@ -1,5 +1,5 @@
 -- How words hold a mark for each position.
-use Rattle.std.specs.Prelude.{◌+◌, ◌*◌, ◌/◌, ◌%◌, ◌==◌, ℕ, zero, suc, Bool, List, [], ◌∷◌, ◌++◌, drop, flat_map, length, ◌<◌, ◌≡◌, slice_index}
+use Rattle.std.specs.Prelude.{◌+◌, ◌*◌, ◌/◌, ◌%◌, ◌==◌, ℕ, zero, suc, Bool, List, [], ◌∷◌, ◌++◌, drop, flat_map, length, ◌<◌, ◌≤◌, ◌≡◌, slice_index}
 use Rattle.cdi_positions.specs.Marks.{marked_from}
 
 -- how many words there are
@@ -27,3 +27,9 @@ pub record BeginsAt (index : ℕ) (words : List ℕ) : Type 0 where
   pub sized : length words ≡ word_count
   pub within : index < word_count
   pub before : (i : ℕ) → i < index → slice_index words i ≡ 0
+
+-- there are all words, and each from an index on is zero
+pub record EndsAt (used : ℕ) (words : List ℕ) : Type 0 where
+  pub sized : length words ≡ word_count
+  pub within : used ≤ word_count
+  pub after : (i : ℕ) → used ≤ i → slice_index words i ≡ 0

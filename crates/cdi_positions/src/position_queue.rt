@@ -11,17 +11,19 @@ pub struct PositionQueue {
     words: [u64; WORDS],
     /// No word before this one has a bit that is set.
     first: usize,
+    /// No word from this one on has a bit that is set.
+    end: usize,
 }
 
 impl Model for PositionQueue {
     ghost use Rattle.std.specs.Prelude.{List, Bool};
-    ghost use Rattle.cdi_positions.specs.Words.{marks_of, BeginsAt};
+    ghost use Rattle.cdi_positions.specs.Words.{marks_of, BeginsAt, EndsAt};
 
     ghost Value = { List Bool };
 
     ghost view = { λ q. marks_of q.words };
 
-    ghost invariant = { λ q. BeginsAt q.first q.words };
+    ghost invariant = { λ q. BeginsAt q.first q.words × EndsAt q.end q.words };
 }
 
 impl PositionQueue {
@@ -33,6 +35,7 @@ impl PositionQueue {
         PositionQueue {
             words: [0; WORDS],
             first: 0,
+            end: 0,
         }
     }
 
@@ -45,6 +48,7 @@ impl PositionQueue {
         let word = self.words[index];
         self.words[index] = word | (1u64 << (position % 64));
         self.first = self.first.min(index);
+        self.end = self.end.max(index + 1);
     }
 
     /// Takes one of them out, if there is one.
@@ -55,7 +59,7 @@ impl PositionQueue {
         ensures same { IfNone result (self.new ≡ self.old) }
     {
         'filled: while self.words[self.first] == 0 {
-            if self.first + 1 >= WORDS {
+            if self.first + 1 >= self.end {
                 return None;
             }
             self.first += 1;

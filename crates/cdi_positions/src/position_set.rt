@@ -12,21 +12,24 @@ pub const POSITIONS_LIMIT: usize = 2048;
 /// How many words have a bit for each position.
 pub(crate) const WORDS: usize = 32;
 
-/// Which positions below the limit are in it: a bit for each, 256 bytes in all. No call of it takes memory.
+/// Which positions below the limit are in it: a bit for each. No call of it takes memory. A question goes only
+/// through the words in use.
 #[derive(Drop)]
 pub struct PositionSet {
     words: [u64; WORDS],
+    /// No word from this one on has a bit that is set.
+    used: usize,
 }
 
 impl Model for PositionSet {
-    ghost use Rattle.std.specs.Prelude.{◌≡◌, List, Bool, length};
-    ghost use Rattle.cdi_positions.specs.Words.{marks_of, word_count};
+    ghost use Rattle.std.specs.Prelude.{List, Bool};
+    ghost use Rattle.cdi_positions.specs.Words.{marks_of, EndsAt};
 
     ghost Value = { List Bool };
 
     ghost view = { λ s. marks_of s.words };
 
-    ghost invariant = { λ s. length s.words ≡ word_count };
+    ghost invariant = { λ s. EndsAt s.used s.words };
 }
 
 impl PositionSet {
@@ -36,14 +39,20 @@ impl PositionSet {
         ensures size { length result ≡ limit }
         ensures limit { POSITIONS_LIMIT ≡ limit }
     {
-        PositionSet { words: [0; WORDS] }
+        PositionSet {
+            words: [0; WORDS],
+            used: 0,
+        }
     }
 
     /// An equal set.
     pub fn copy(&self) -> PositionSet
         ensures { result ≡ self.now }
     {
-        PositionSet { words: self.words }
+        PositionSet {
+            words: self.words,
+            used: self.used,
+        }
     }
 
     /// Whether a position is in it.
@@ -62,9 +71,11 @@ impl PositionSet {
         ensures set { self.new ≡ slice_set self.old position true }
         ensures fresh { result ≡ not (is_marked self.old position) }
     {
-        let word = self.words[position / 64];
+        let index = position / 64;
+        let word = self.words[index];
         let bit = 1u64 << (position % 64);
-        self.words[position / 64] = word | bit;
+        self.words[index] = word | bit;
+        self.used = self.used.max(index + 1);
         word & bit == 0
     }
 
@@ -72,7 +83,7 @@ impl PositionSet {
     pub fn len(&self) -> usize
         ensures { result ≡ marked_count self.now }
     {
-        count_in(&self.words)
+        count_in(&self.words[..self.used])
     }
 
     /// Whether none is in it.
@@ -87,14 +98,12 @@ impl PositionSet {
         requires { position ≤ limit }
         ensures { result ≡ count_below position self.now }
     {
-        let whole = count_in(&self.words[..position / 64]);
-        match self.words.get(position / 64) {
-            Some(word) => {
-                let below = (1u64 << (position % 64)) - 1;
-                whole + (word & below).count_ones() as usize
-            }
-            None => whole,
+        let index = position / 64;
+        if self.used <= index {
+            return self.len();
         }
+        let below = (1u64 << (position % 64)) - 1;
+        count_in(&self.words[..index]) + (self.words[index] & below).count_ones() as usize
     }
 
     /// The position that is not in it, and below which just this many are not.
@@ -103,13 +112,16 @@ impl PositionSet {
         ensures none { IfNone result (limit ≤ n + marked_count self.now) }
     {
         let mut left = n;
-        for index in 0..WORDS {
+        for index in 0..self.used {
             let word = self.words[index];
             let outside = 64 - word.count_ones() as usize;
             if left < outside {
                 return Some(index * 64 + nth_zero(word, left));
             }
             left -= outside;
+        }
+        if left < POSITIONS_LIMIT - self.used * 64 {
+            return Some(self.used * 64 + left);
         }
         None
     }
@@ -120,6 +132,7 @@ impl PositionSet {
     {
         Positions {
             words: &self.words,
+            end: self.used,
             index: 0,
             word: self.words[0],
         }
@@ -159,20 +172,22 @@ fn nth_zero(word: u64, n: usize) -> usize
 #[derive(Drop)]
 pub struct Positions<'a> {
     words: &'a [u64; WORDS],
+    /// No word from this one on has a bit that is set.
+    end: usize,
     index: usize,
     /// What is left of the word at the index.
     word: u64,
 }
 
 impl<'a> Model for Positions<'a> {
-    ghost use Rattle.std.specs.Prelude.{◌≡◌, ◌<◌, List, ℕ, length};
-    ghost use Rattle.cdi_positions.specs.Words.{positions_left, word_count};
+    ghost use Rattle.std.specs.Prelude.{◌<◌, List, ℕ};
+    ghost use Rattle.cdi_positions.specs.Words.{positions_left, word_count, EndsAt};
 
     ghost Value = { List ℕ };
 
     ghost view = { λ p. positions_left p.words.now p.index p.word };
 
-    ghost invariant = { λ p. (length p.words.now ≡ word_count) × (p.index < word_count) };
+    ghost invariant = { λ p. EndsAt p.end p.words.now × (p.index < word_count) };
 }
 
 impl<'a> Positions<'a> {
@@ -182,7 +197,8 @@ impl<'a> Positions<'a> {
     {
         Positions {
             words: &[0; WORDS],
-            index: WORDS - 1,
+            end: 0,
+            index: 0,
             word: 0,
         }
     }
@@ -197,7 +213,7 @@ impl<'a> Iterator for Positions<'a> {
 
     fn next(&mut self) -> Option<usize> {
         'filled: while self.word == 0 {
-            if self.index + 1 >= WORDS {
+            if self.index + 1 >= self.end {
                 return None;
             }
             self.index += 1;

@@ -1,17 +1,19 @@
-use Rattle.std.proofs.Common.{◌+◌, ◌*◌, false, ap, sym, ◌∙◌, get_or, set, arith}
+use Rattle.std.proofs.Common.{◌+◌, ◌*◌, ◌/◌, false, ap, sym, ◌∙◌, get_or, set, arith}
 use Rattle.std.specs.Int.Count.{count_trailing_zeros}
 use Rattle.cdi_positions.specs.Marks.{is_marked, marked_count}
 use Rattle.cdi_positions.specs.Words.{marks_of}
 use Rattle.cdi_positions.proofs.MarkLemmas.{marked_count-none}
-use Rattle.cdi_positions.proofs.SetLemmas.{lowest-marked, lowest-taken, unmarked-zeros, zeros-all}
+use Rattle.cdi_positions.proofs.SetLemmas.{lowest-marked, lowest-taken, unmarked-zero, zeros-all}
 use Rattle.cdi_positions.proofs.position_queue.PositionQueue.take.Goals as goal
 
-pub returns-then-self-ge-WORDS-clause-none : goal.returns-then-self-ge-WORDS-clause-none
-returns-then-self-ge-WORDS-clause-none c =
+pub returns-then-self-clause-none : goal.returns-then-self-clause-none
+returns-then-self-clause-none c =
     let words = c.filled.self-inside.words in
     ap marked_count (sym c.self.view_is ∙ ap marks_of (sym c.filled.invariant.same))
     ∙ marked_count-none (marks_of words)
-    (unmarked-zeros words (zeros-all words c.filled.self-inside.first c.filled.invariant.begins c.filled-test.true (omega arith)))
+    (λ p. unmarked-zero words p
+    (zeros-all words c.filled.self-inside.first c.filled.self-inside.end c.filled.invariant.begins c.filled.invariant.ends
+    c.filled-test.true (omega arith) (p / 64)))
 
 pub returns-clause-was : goal.returns-clause-was
 returns-clause-was c =

@@ -2,7 +2,8 @@ use Rattle.std.proofs.Common.{◌+◌, ◌*◌, get_or, subst, ap, arith}
 use Rattle.std.specs.Int.Count.{ones-le}
 use Rattle.cdi_positions.specs.Marks.{marked_count, IsOutside}
 use Rattle.cdi_positions.specs.Words.{marks_in}
-use Rattle.cdi_positions.proofs.MarkLemmas.{count-all, count-whole, outside-row}
+use Rattle.cdi_positions.proofs.MarkLemmas.{count-whole, outside-row}
+use Rattle.cdi_positions.proofs.SetLemmas.{count-past, outside-past}
 use Rattle.cdi_positions.proofs.WordLemmas.{count-marks_in, length-marks_in}
 use Rattle.cdi_positions.proofs.position_set.PositionSet.nth_outside.Goals as goal
 
@@ -25,6 +26,18 @@ loop-index-preserved c =
     let word = get_or c.self.inside.words c.loop-index.index 0 in
     omega (arith, c.loop-index.invariant, c.if-left-outside.false, ones-le 64 word (omega arith), count-marks_in word (omega arith), count-whole marks_in 64 length-marks_in c.self.inside.words c.loop-index.index (omega arith))
 
+pub returns-then-left-self-clause-found : goal.returns-then-left-self-clause-found
+returns-then-left-self-clause-found c =
+    let words = c.self.inside.words in
+    let used = c.self.inside.used in
+    subst (λ marks. IsOutside c.args.n marks (used * 64 + c.loop-index.left)) c.self.view_is
+    (outside-past words used c.self.invariant c.args.n c.loop-index.left
+    (omega (arith, count-past words used c.self.invariant (c.loop-index.index * 64) (omega arith))) (omega arith))
+
 pub returns-clause-none : goal.returns-clause-none
 returns-clause-none c =
-    omega (arith, count-all marks_in 64 length-marks_in c.self.inside.words (c.loop-index.index * 64) (omega arith), ap marked_count c.self.view_is)
+    omega (
+      arith,
+      count-past c.self.inside.words c.self.inside.used c.self.invariant (c.loop-index.index * 64) (omega arith),
+      ap marked_count c.self.view_is,
+    )

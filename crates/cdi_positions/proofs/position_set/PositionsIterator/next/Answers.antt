@@ -2,18 +2,20 @@ use Rattle.std.proofs.Common.{sym, ◌∙◌, arith, rules}
 use Rattle.cdi_positions.proofs.SetLemmas.{left-first, left-next, none-left}
 use Rattle.cdi_positions.proofs.position_set.PositionsIterator.next.Goals as goal
 
-pub returns-then-self-ge-WORDS-clause-steps : goal.returns-then-self-ge-WORDS-clause-steps
-returns-then-self-ge-WORDS-clause-steps c =
-    let none = none-left c.filled.self-inside.words.now c.filled.self-inside.index c.filled.self-inside.word c.filled-test.true (omega arith) in
+pub returns-then-self-clause-steps : goal.returns-then-self-clause-steps
+returns-then-self-clause-steps c =
+    let none = none-left c.filled.self-inside.words.now c.filled.self-inside.end c.filled.invariant.ends
+    c.filled.self-inside.index c.filled.self-inside.word c.filled-test.true (omega arith) in
     (sym c.self.view_is ∙ sym c.filled.invariant.same ∙ none, none)
 
 pub filled-preserved : goal.filled-preserved
 filled-preserved c = record {
   same =
-      left-next c.filled.self-inside.words.now c.filled.self-inside.index c.filled.self-inside.word c.filled-test.true (omega arith)
+      left-next c.filled.self-inside.words.now c.filled.self-inside.index c.filled.self-inside.word c.filled-test.true
+      (omega (arith, c.filled.invariant.ends.sized, c.filled.invariant.ends.within))
       ∙ c.filled.invariant.same;
-  words = c.filled.invariant.words;
-  within = omega arith;
+  ends = c.filled.invariant.ends;
+  within = omega (arith, c.filled.invariant.ends.within);
 }
 
 pub returns-clause-steps : goal.returns-clause-steps
