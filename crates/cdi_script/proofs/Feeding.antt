@@ -16,6 +16,7 @@ use Rattle.cdi_script.specs.Text.{text_of, text_of_step, is_refused, is_out_of_m
 use Rattle.cdi_script.specs.Runner.{RunnerOn, runner_on, Runs, Tries}
 use Rattle.cdi_script.specs.Intake.{IntakeOn, intake_on, Keeps, Advances, EndsLastLine, EndsMode, TriesBytes, TriesLastLine, TriesMode}
 use Rattle.cdi_lines.specs.Kept.{ServesLine}
+use Rattle.cdi_script.specs.Begun.{ServesMode}
 use Rattle.cdi_script.specs.Run.{Setting, WroteAll, WrotePart, WroteAllBut, WrotePartBut}
 use Rattle.cdi_script.specs.Run.{Printed, Stands, Sends, SendsPart, SendsLast, Feeds}
 use Rattle.cdi_script.specs.Run.{FeedsBeforeMemory, FeedsPart, RunsWhole, Ends, EndsBeforeMemory, EndsPart, contents_of, Settles, SettlesPart}

@@ -1,7 +1,7 @@
 -- A run from one read to the next, and how it ends.
 use Rattle.std.proofs.Common.{◌≡◌, ℕ, List, [], ◌∷◌, ◌++◌, take, refl, ap, sym, ◌∙◌, subst, Option, Some, None, length, true, false, inl, inr}
 use Rattle.std.proofs.Common.{append_assoc, arith}
-use Rattle.std.specs.Prelude.{Bool, ◌≤◌, ◌&&◌, not}
+use Rattle.std.specs.Prelude.{Bool, Err, ◌≤◌, ◌&&◌, not}
 use Rattle.std.proofs.lemmas.Bool.{false≢true, true≢false}
 use Rattle.std.specs.Io.KnownBytes.{Appends, Consumes}
 use Rattle.std.proofs.lemmas.List.{append-nil, length-append, length-take}
@@ -10,8 +10,11 @@ use Rattle.cdi_script.specs.Commands.{outside, complete_commands, commands, AreF
 use Rattle.cdi_devices.specs.Counted.{inner_of, bytes_of, has_failed, is_flushed, is_settled}
 use Rattle.cdi_devices.specs.Devices.{Gives, ReadFails}
 use Rattle.cdi_lines.specs.Kept.{ServesLine}
-use Rattle.cdi_container.specs.History.{State}
+use Rattle.cdi_staging.specs.Naming.{names_of}
+use Rattle.cdi_container.specs.History.{State, runs}
+use Rattle.std.specs.Prelude.{alloc_error}
 use Rattle.cdi_script.specs.Runner.{Tries}
+use Rattle.cdi_script.specs.Begun.{ServesMode}
 use Rattle.cdi_script.specs.Intake.{IntakeOn, intake_on, IsFresh}
 use Rattle.cdi_script.specs.Run.{Setting, WroteAll, AnswersFirst, Leaves, RunsOutOfMemoryTo}
 use Rattle.cdi_script.specs.Run.{FailsToWriteTo, FailsToReadTo, RunsScriptTo, Goes, Feeds}
@@ -20,7 +23,6 @@ use Rattle.cdi_devices.specs.declared.counted.Counted.{Counted}
 use Rattle.cdi_script.specs.declared.intake.Intake.{Intake}
 use Rattle.cdi_devices.proofs.Known.{Consumes-more}
 use Rattle.cdi_script.proofs.Feeding.{first_complete, printed_all}
-use Rattle.cdi_script.proofs.Trying.{first_of_first}
 use Rattle.cdi_script.proofs.Serving.{serves_itself}
 
 Appends-none : (known : Option (List ℕ)) → Appends known known []
@@ -38,6 +40,28 @@ wrote_nothing setting known = record {
   is_history = record { legal = refl; commands_are = refl; memory = refl };
   written = Appends-none known;
 }
+
+-- a command that is no run and found no memory has changed nothing
+left_unread : (command : Command) (rest first all : List Command) (state : State) → all ≡ first ++ command ∷ rest
+    → (is_run : Bool) → runs command ≡ is_run → Leaves first all state state
+left_unread command rest first all state cut true is =
+    inr (inl (command, (rest, cut ∙ sym (append_assoc first (command ∷ []) rest)), is, refl))
+left_unread command rest first all state cut false is = inl (
+  record { command = command; answer = Err alloc_error; trace = []; names = names_of state.decls },
+  (rest, cut ∙ sym (append_assoc first (command ∷ []) rest)),
+  record { answered = rw is refl; trace = refl; names = refl },
+)
+
+left_as_it_was : (later first all : List Command) (state : State) → all ≡ first ++ later → Leaves first all state state
+left_as_it_was [] first all state cut = inr (inr (sym (cut ∙ append-nil first), refl))
+left_as_it_was (command ∷ rest) first all state cut = left_unread command rest first all state cut (runs command) refl
+
+-- what is left where at most one command more was carried out
+left_after : (first all : List Command) (state left : State) → AreFirst first all → Tries first all state left
+    → Leaves first all state left
+left_after first all state left later (inl same) =
+    subst (Leaves first all state) (sym same) (left_as_it_was later.0 first all state later.1)
+left_after first all state left later (inr step) = inl step
 
 -- behind a flush, and behind no error, a note stays as it is
 behind_flush : (noted flushed failed : Bool) → flushed ≡ true → failed ≡ false → (noted && flushed && not failed) ≡ noted
@@ -70,7 +94,7 @@ module _ {R W : Type 0} (remaining : R → Option (List ℕ)) (contents : W → 
       };
       keeps = record {
         line_serves = subst (λ l. ServesLine l []) (sym f.line) (serves_itself []);
-        mode_serves = subst (λ m. ServesMode m Outside) (sym f.mode) tt;
+        mode_serves = subst (λ m. ServesMode m outside) (sym f.mode) (record { batch = tt; text = tt });
       };
     };
     out = f.out;
@@ -142,7 +166,7 @@ module _ {R W : Type 0} (remaining : R → Option (List ℕ)) (contents : W → 
 
     -- at the end these commands were answered, all that were complete before among them
     at_end : n ≡ 0 → (first : List Command) → AreFirst (complete_commands h.given) first → AreFirst first (commands h.given)
-        → AnswersFirst remaining limit piece r0 r' first
+        → AnswersFirst remaining limit piece r0 r' first (commands h.given)
     at_end none first before within = record {
       given = h.given;
       last = [];
@@ -151,18 +175,9 @@ module _ {R W : Type 0} (remaining : R → Option (List ℕ)) (contents : W → 
       within = let a = h.count in let b = h.within in omega (arith, length-append h.given []);
       last_read = omega arith;
       all_before = before;
-      none_behind = inr (g.end none, subst (λ l. AreFirst first (commands l)) (sym (append-nil h.given)) within);
+      among = within;
+      complete = inr (g.end none, ap commands (sym (append-nil h.given)));
     }
-
-    -- and at most one more was carried out
-    left_at_end : n ≡ 0 → (first : List Command) (state left : State) → AreFirst (complete_commands h.given) first
-        → Tries first (commands h.given) state left → Leaves remaining limit piece r0 r' first state left
-    left_at_end none first state left before (inl e) = inl e
-    left_at_end none first state left before (inr t) = inr (
-      t.0,
-      at_end none (first ++ t.0.command ∷ []) (first_of_first (complete_commands h.given) first _ before (t.0.command ∷ [], refl)) t.1,
-      t.2,
-    )
 
     pub ends_in_memory : n ≡ 0 → EndsBeforeMemory contents s t w w'
         → RunsOutOfMemoryTo remaining contents limit piece setting r0 r' w0 w' t.runner.container
@@ -170,10 +185,11 @@ module _ {R W : Type 0} (remaining : R → Option (List ℕ)) (contents : W → 
         let end = e setting (contents (inner_of w0)) h.given h.stands in
         record {
           first = end.0;
+          all = commands h.given;
           state = end.3.state;
           answers = at_end none end.0 end.1 end.2;
           wrote = end.3.wrote;
-          leaves = left_at_end none end.0 end.3.state t.runner.container end.1 end.3.tries;
+          leaves = left_after end.0 (commands h.given) end.3.state t.runner.container end.2 end.3.tries;
         }
 
     pub ends_in_write : n ≡ 0 → EndsPart contents s t w w'
@@ -182,46 +198,33 @@ module _ {R W : Type 0} (remaining : R → Option (List ℕ)) (contents : W → 
         let end = e setting (contents (inner_of w0)) h.given h.stands in
         record {
           first = end.0;
+          all = commands h.given;
           state = end.3.state;
           answers = at_end none end.0 end.1 end.2;
           wrote = end.3.wrote;
-          leaves = left_at_end none end.0 end.3.state t.runner.container end.1 end.3.tries;
+          leaves = left_after end.0 (commands h.given) end.3.state t.runner.container end.2 end.3.tries;
         }
 
     module _ (room : length buffer ≤ piece) where
-      -- these commands were answered, all that were complete before among them, and none that the last bytes do not complete
-      answered : (first : List Command) → AreFirst (complete_commands h.given) first
-          → AreFirst first (complete_commands (h.given ++ take n buffer)) → AnswersFirst remaining limit piece r0 r' first
-      answered first before within = record {
+      -- what a front part of the last bytes completed was answered
+      among_so_far : (done rest : List ℕ) → take n buffer ≡ done ++ rest
+          → AreFirst (complete_commands (h.given ++ done)) (complete_commands (h.given ++ take n buffer))
+      among_so_far done rest cut = subst (λ l. AreFirst (complete_commands (h.given ++ done)) (complete_commands l))
+          (append_assoc h.given done rest ∙ ap (λ l. h.given ++ l) (sym cut)) (first_complete (h.given ++ done) rest)
+
+      answered_so_far : (done rest : List ℕ) → take n buffer ≡ done ++ rest → AnswersFirst remaining limit piece r0 r'
+          (complete_commands (h.given ++ done)) (complete_commands (h.given ++ take n buffer))
+      answered_so_far done rest cut = record {
         given = h.given;
         last = take n buffer;
         came = came;
         count = count;
         within = let a = count in let b = g.within in omega arith;
         last_read = let b = g.bound in omega (arith, length-take n buffer);
-        all_before = before;
-        none_behind = inl within;
+        all_before = first_complete h.given done;
+        among = among_so_far done rest cut;
+        complete = inl refl;
       }
-
-      -- what a front part of the last bytes completed was answered
-      answered_so_far : (done rest : List ℕ) → take n buffer ≡ done ++ rest
-          → AnswersFirst remaining limit piece r0 r' (complete_commands (h.given ++ done))
-      answered_so_far done rest cut = answered (complete_commands (h.given ++ done)) (first_complete h.given done)
-          (subst (λ l. AreFirst (complete_commands (h.given ++ done)) (complete_commands l))
-          (append_assoc h.given done rest ∙ ap (λ l. h.given ++ l) (sym cut)) (first_complete (h.given ++ done) rest))
-
-      -- and at most one more was carried out
-      left_so_far : (done : List ℕ) (state left : State)
-          → Tries (complete_commands (h.given ++ done)) (complete_commands (h.given ++ take n buffer)) state left
-          → Leaves remaining limit piece r0 r' (complete_commands (h.given ++ done)) state left
-      left_so_far done state left (inl e) = inl e
-      left_so_far done state left (inr t) = inr (
-        t.0,
-        answered (complete_commands (h.given ++ done) ++ t.0.command ∷ [])
-            (first_of_first (complete_commands h.given) (complete_commands (h.given ++ done)) _ (first_complete h.given done)
-            (t.0.command ∷ [], refl)) t.1,
-        t.2,
-      )
 
       pub feeds_to_memory : FeedsBeforeMemory contents s t w w' (take n buffer)
           → RunsOutOfMemoryTo remaining contents limit piece setting r0 r' w0 w' t.runner.container
@@ -229,10 +232,12 @@ module _ {R W : Type 0} (remaining : R → Option (List ℕ)) (contents : W → 
           let but = e.3 setting (contents (inner_of w0)) h.given h.stands in
           record {
             first = complete_commands (h.given ++ e.0);
+            all = complete_commands (h.given ++ take n buffer);
             state = but.state;
             answers = answered_so_far e.0 e.1 e.2;
             wrote = but.wrote;
-            leaves = left_so_far e.0 but.state t.runner.container but.tries;
+            leaves = left_after (complete_commands (h.given ++ e.0)) (complete_commands (h.given ++ take n buffer)) but.state
+                t.runner.container (among_so_far e.0 e.1 e.2) but.tries;
           }
 
       pub feeds_to_write : FeedsPart contents s t w w' (take n buffer)
@@ -241,16 +246,19 @@ module _ {R W : Type 0} (remaining : R → Option (List ℕ)) (contents : W → 
           let but = e.3 setting (contents (inner_of w0)) h.given h.stands in
           record {
             first = complete_commands (h.given ++ e.0);
+            all = complete_commands (h.given ++ take n buffer);
             state = but.state;
             answers = answered_so_far e.0 e.1 e.2;
             wrote = but.wrote;
-            leaves = left_so_far e.0 but.state t.runner.container but.tries;
+            leaves = left_after (complete_commands (h.given ++ e.0)) (complete_commands (h.given ++ take n buffer)) but.state
+                t.runner.container (among_so_far e.0 e.1 e.2) but.tries;
           }
 
   -- want of memory before anything was read
   pub out_of_memory_first : bytes_of r0 ≡ 0 → RunsOutOfMemoryTo remaining contents limit piece setting r0 r0 w0 w0 setting.begun
   out_of_memory_first none = record {
     first = [];
+    all = [];
     state = setting.begun;
     answers = record {
       given = [];
@@ -260,8 +268,9 @@ module _ {R W : Type 0} (remaining : R → Option (List ℕ)) (contents : W → 
       within = omega arith;
       last_read = omega arith;
       all_before = ([], refl);
-      none_behind = inl ([], refl);
+      among = ([], refl);
+      complete = inl refl;
     };
     wrote = wrote_nothing setting _;
-    leaves = inl refl;
+    leaves = inr (inr (refl, refl));
   }

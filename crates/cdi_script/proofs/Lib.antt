@@ -1,6 +1,8 @@
 mod Runs
 mod Ran
 mod Serving
+mod Alike
+mod Open
 mod Trying
 mod Taking
 mod Feeding

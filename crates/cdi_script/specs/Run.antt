@@ -6,7 +6,7 @@ use Rattle.cdi_bodies.specs.Book.{Promised}
 use Rattle.cdi_lines.specs.declared.command.Command.{Command}
 use Rattle.cdi_script.specs.Commands.{commands, complete_commands, mode_of, AreFirst}
 use Rattle.cdi_lines.specs.Lines.{begun_line}
-use Rattle.cdi_container.specs.History.{State, empty, Step, LegalStep, History, LegalHistory}
+use Rattle.cdi_container.specs.History.{State, empty, runs, Step, LegalStep, History, LegalHistory}
 use Rattle.cdi_script.specs.Runner.{RunnerOn, Tries}
 use Rattle.cdi_script.specs.Text.{text_of, is_refused, is_out_of_memory}
 use Rattle.cdi_devices.specs.Counted.{inner_of, bytes_of, has_failed, is_flushed, is_settled}
@@ -57,10 +57,10 @@ pub record RunsWhole (setting : Setting) (start now : Option (List ℕ)) (comman
   pub written : Appends start now (text_of setting.quiet history)
   pub refused_is : refused ≡ list_any (λ step. is_refused step.answer) history
 
--- what came of a script, and the commands that were answered: all that were complete before the last read, which gave at most so many
--- bytes, and then maybe some of those that the last read or the end of input completed
+-- what came of a script, the commands that it made complete, and the first of them, which were answered: all that were complete
+-- before the last read, which gave at most so many bytes, and then maybe some of those that the last read or the end of input completed
 module _ {R : Type 0} (remaining : R → Option (List ℕ)) (limit piece : ℕ) where
-  pub record AnswersFirst (reader reader_after : Counted R) (first : List Command) : Type 0 where
+  pub record AnswersFirst (reader reader_after : Counted R) (first all : List Command) : Type 0 where
     pub given : List ℕ
     pub last : List ℕ
     pub came : Consumes (remaining (inner_of reader)) (remaining (inner_of reader_after)) (given ++ last)
@@ -68,14 +68,23 @@ module _ {R : Type 0} (remaining : R → Option (List ℕ)) (limit piece : ℕ) 
     pub within : length (given ++ last) ≤ limit
     pub last_read : length last ≤ piece
     pub all_before : AreFirst (complete_commands given) first
-    pub none_behind : AreFirst first (complete_commands (given ++ last))
-        ⊎ (IsAtEnd (remaining (inner_of reader_after)) × AreFirst first (commands (given ++ last)))
+    pub among : AreFirst first all
+    pub complete : (all ≡ complete_commands (given ++ last))
+        ⊎ (IsAtEnd (remaining (inner_of reader_after)) × (all ≡ commands (given ++ last)))
 
-  -- what is left of the state after these commands: that very state, or what one legal step of the command that came next makes of
-  -- it, which wanted memory or whose text was not written
-  abbrev pub Leaves : Counted R → Counted R → List Command → State → State → Type 0
-  Leaves reader reader_after first state left = (left ≡ state)
-      ⊎ ((step : Step) × AnswersFirst reader reader_after (first ++ step.command ∷ []) × LegalStep state step left)
+-- a legal step of the command that comes next was made
+abbrev pub CarriesOutNext : List Command → List Command → State → State → Type 0
+CarriesOutNext first all state left = (step : Step) × AreFirst (first ++ step.command ∷ []) all × LegalStep state step left
+
+-- a run comes next, and did not begin
+abbrev pub LeavesNextRun : List Command → List Command → State → State → Type 0
+LeavesNextRun first all state left = (command : Command) × AreFirst (first ++ command ∷ []) all × (runs command ≡ true) × (left ≡ state)
+
+-- What is left where the first of all complete commands were answered and left a state. The next one was carried out: it found no
+-- memory, or its text was not written. Or it is a run whose line found no memory to be read. Or no other was complete.
+abbrev pub Leaves : List Command → List Command → State → State → Type 0
+Leaves first all state left =
+    CarriesOutNext first all state left ⊎ (LeavesNextRun first all state left ⊎ ((first ≡ all) × (left ≡ state)))
 
 module _ {R W : Type 0} (remaining : R → Option (List ℕ)) (contents : W → Option (List ℕ)) (limit : ℕ) (setting : Setting) where
   -- some input came to its end, at most as many bytes as the limit, and the text of a legal history of its commands, which leaves
@@ -108,26 +117,28 @@ module _ {R W : Type 0} (remaining : R → Option (List ℕ)) (contents : W → 
       × FailsToReadTo reader reader_after writer writer_after left
 
 module _ {R W : Type 0} (remaining : R → Option (List ℕ)) (contents : W → Option (List ℕ)) (limit piece : ℕ) (setting : Setting) where
-  -- a command wanted memory that was not given, and the text of those before it was written; this state is left
+  -- the text of the commands before one that found no memory was written, and this state is left
   pub record RunsOutOfMemoryTo (reader reader_after : Counted R) (writer writer_after : Counted W) (left : State) : Type 0 where
     pub first : List Command
+    pub all : List Command
     pub state : State
-    pub answers : AnswersFirst remaining limit piece reader reader_after first
+    pub answers : AnswersFirst remaining limit piece reader reader_after first all
     pub wrote : WroteAll setting (contents (inner_of writer)) (contents (inner_of writer_after)) first state
-    pub leaves : Leaves remaining limit piece reader reader_after first state left
+    pub leaves : Leaves first all state left
 
   abbrev pub RunsOutOfMemory : Counted R → Counted R → Counted W → Counted W → Type 0
   RunsOutOfMemory reader reader_after writer writer_after = (left : State)
       × RunsOutOfMemoryTo reader reader_after writer writer_after left
 
-  -- the writer failed, and a front part of the text of the commands that were answered was written; this state is left. A step more
-  -- may have been made where the writer failed at what was to be written for want of memory
+  -- the writer failed, and a front part of the text of the commands that were answered was written; this state is left. It may have
+  -- failed at what was to be written before a run ended out of memory
   pub record FailsToWriteTo (reader reader_after : Counted R) (writer writer_after : Counted W) (left : State) : Type 0 where
     pub first : List Command
+    pub all : List Command
     pub state : State
-    pub answers : AnswersFirst remaining limit piece reader reader_after first
+    pub answers : AnswersFirst remaining limit piece reader reader_after first all
     pub wrote : WrotePart setting (contents (inner_of writer)) (contents (inner_of writer_after)) first state
-    pub leaves : Leaves remaining limit piece reader reader_after first state left
+    pub leaves : Leaves first all state left
 
   abbrev pub FailsToWrite : Counted R → Counted R → Counted W → Counted W → Type 0
   FailsToWrite reader reader_after writer writer_after = (left : State)
