@@ -1,5 +1,5 @@
 -- What an edit and a batch answer and leave makes a step.
-use Rattle.std.proofs.Common.{◌≡◌, ℕ, List, Option, None, Some, refl, ap, ◌∙◌}
+use Rattle.std.proofs.Common.{◌≡◌, ℕ, List, Option, None, Some, refl, ap, sym, subst, ◌∙◌}
 use Rattle.std.specs.Prelude.{Result, Ok, Err, OnOk, IfErr}
 use Rattle.cdi_model.specs.declared.decl.Decl.{Decl}
 use Rattle.cdi_model.specs.declared.refusal.Error.{Error}
@@ -64,7 +64,9 @@ pub put_decl_step : (old new : State) (d : Decl) (result : Result (Unit {0}) Err
     → Answers result (answer_of_change old.decls (put_of (admitted (refusal_of_decl d) d)))
     → OnOk result (EditsFrom old (changes_in (put_of (admitted (refusal_of_decl d) d))) new)
     → IfErr result (λ error. new ≡ left_by error old) → PutDeclStep old d result new
-put_decl_step old new d result answer ok err = edit_step old new (edits.PutDecl d) result answer ok err
+put_decl_step old new d result answer ok err boxed is = edit_step old new (edits.PutDecl boxed) result
+    (subst (λ x. Answers result (answer_of_change old.decls (put_of (admitted (refusal_of_decl x) x)))) (sym is) answer)
+    (subst (λ x. OnOk result (EditsFrom old (changes_in (put_of (admitted (refusal_of_decl x) x))) new)) (sym is) ok) err
 
 pub batch_step : (old new : State) (edits : List Edit) (result : Result (Unit {0}) BatchError)
     → AnswersBatch result (refusal_of_batch old.decls edits)

@@ -26,7 +26,7 @@ admitted (Some refusal) d = Err refusal
 -- the change of the list of declarations that an edit asks for, or why it asks for none
 abbrev pub change_of : Edit → Result Change Refusal
 change_of (edits.Put text) = put_of (decl_of text)
-change_of (edits.PutDecl d) = put_of (admitted (refusal_of_decl d) d)
+change_of (edits.PutDecl boxed) = put_of (admitted (refusal_of_decl boxed.value) boxed.value)
 change_of (edits.Remove kind name) = Ok (changes.Remove kind name)
 
 -- it, if there is one

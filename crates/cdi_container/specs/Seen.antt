@@ -1,5 +1,5 @@
 -- The steps of the calls of a container.
-use Rattle.std.specs.Prelude.{◌≡◌, ℕ, List, Option, None, Some, Result, Ok, Err, alloc_error}
+use Rattle.std.specs.Prelude.{◌≡◌, ℕ, List, Option, None, Some, Result, Ok, Err, Box, alloc_error}
 use Rattle.std.specs.declared.alloc.AllocError.{AllocError}
 use Rattle.std.specs.declared.alloc.Global.{Global}
 use Rattle.std.specs.declared.vec.Vec.{Vec}
@@ -118,8 +118,10 @@ IsStep old command answer new = LegalAnswer old command answer new
 abbrev pub PutStep : State → List ℕ → Result (Unit {0}) Error → State → Type 0
 PutStep old text result new = IsStep old (Edit (edits.Put text)) (edit_answer result) new
 
+-- whatever box the declaration is in
 abbrev pub PutDeclStep : State → Decl → Result (Unit {0}) Error → State → Type 0
-PutDeclStep old decl result new = IsStep old (Edit (edits.PutDecl decl)) (edit_answer result) new
+PutDeclStep old decl result new = (boxed : Box Decl Global) → boxed.value ≡ decl
+    → IsStep old (Edit (edits.PutDecl boxed)) (edit_answer result) new
 
 abbrev pub RemoveStep : State → Kind → List ℕ → Result (Unit {0}) Error → State → Type 0
 RemoveStep old kind name result new = IsStep old (Edit (edits.Remove kind name)) (edit_answer result) new

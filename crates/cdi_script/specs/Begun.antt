@@ -44,6 +44,6 @@ ServesCompleted (Some kept) (Some command) = ServesCommand kept command
 ServesCompleted kept command = ⊥
 
 -- a completed command and what is open after it serve for what a line does
-pub record ServesTaken (command : Option Command) (mode : Mode) (taken : Taken) : Type 0 where
-  pub command : ServesCompleted command taken.command
-  pub mode : ServesMode mode taken.mode
+pub record ServesTaken (kept : Option Command) (kept_mode : Mode) (taken : Taken) : Type 0 where
+  pub command : ServesCompleted kept taken.command
+  pub mode : ServesMode kept_mode taken.mode

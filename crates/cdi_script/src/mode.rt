@@ -1,9 +1,9 @@
 //! What has begun and takes further lines: a put block, and a batch.
-ghost use Rattle.std.specs.Prelude.{◌≡◌, None, Some, IfOk, OnOk, option_to_list};
+ghost use Rattle.std.specs.Prelude.{◌≡◌, [], ◌∷◌, None, Some, Ok, IfOk, OnOk, if◌then◌else◌};
 ghost use Rattle.cdi_script.specs.Commands.{outside, taken, taken_said, taken_in_put, edited, commanded, batch_begun, batch_ended, unclosed};
-ghost use Rattle.cdi_script.specs.Commands.{with_edit, command_of_batch, Spoiled};
-ghost use Rattle.cdi_script.specs.Commands.{Edits as OpenEdits};
+ghost use Rattle.cdi_script.specs.Commands.{with_edit, command_of_batch, Edits, Spoiled};
 ghost use Rattle.cdi_script.specs.Begun.{ServesOpen, ServesTaken};
+ghost use Rattle.cdi_lines.specs.declared.command.Command.TheVariants.{Unreadable};
 
 use cdi_container::BATCH_LIMIT;
 use cdi_lines::{Block, Command, Edit, Said, ends_block, read_line};
@@ -31,7 +31,7 @@ impl Model for OpenBatch {
 impl OpenBatch {
     /// A batch without edits.
     fn new(alloc: Global) -> OpenBatch
-        ensures { result ≡ OpenEdits [] }
+        ensures { result ≡ Edits [] }
     {
         OpenBatch {
             edits: Vec::new(alloc),

@@ -226,12 +226,13 @@ fn read_all<B: Bodies, R: Read, W: Write>(
 /// left as these commands leave it, so that further calls and scripts go on from there; it is not stopped at the end. All
 /// that it had sent was flushed before each read, and no read comes after an error of the reader; where it answers `Read`,
 /// it sent nothing after its last read. It takes a buffer of 65,536 bytes, what the container takes, and a bounded number
-/// of bytes for the line and the put block that have begun.
+/// of bytes for the line, the put block and the batch that have begun.
 ///
 /// Where it answers `Read`, the commands whose lines had come were carried out and their text was written. Where it answers
-/// `Memory`, the text of the first commands was written, and the container is left as they leave it, or as the next one
-/// does: it ran out of memory, or was carried out and its text found none. Where it answers `Write`, only a front part of
-/// the text was written, and the container is left as at `Memory`, since the writer may also fail at what is written
+/// `Memory`, the text of the commands before one was written. The container is left as that one leaves it: it ran out of
+/// memory, or was carried out and its text found none. Or that one was not complete, or is a run whose line found no
+/// memory to be read; then the container is left as those before it leave it. Where it answers `Write`, only a front part
+/// of the text was written, and the container is left as at `Memory`, since the writer may also fail at what is written
 /// before a run ends out of memory.
 ///
 /// The clauses speak of the bytes of readers and writers whose contents contracts see. Those of `std`'s files and
@@ -292,7 +293,7 @@ pub fn run_on<B: Bodies, R: Read, W: Write>(
 /// Reads a script, runs each command on a container that is empty at first and keeps this book of stored bodies, and
 /// writes what the commands print. All that it had sent was flushed before each read, and no read comes after an error
 /// of the reader; where it answers `Read`, it sent nothing after its last read. It takes a buffer of 65,536 bytes, what
-/// the container takes, and a bounded number of bytes for the line and the put block that have begun.
+/// the container takes, and a bounded number of bytes for the line, the put block and the batch that have begun.
 ///
 /// The clauses speak of the bytes of readers and writers whose contents contracts see. Those of `std`'s files and
 /// standard streams are not seen; of these they say what was counted, failed and flushed. That a command's lines are sent

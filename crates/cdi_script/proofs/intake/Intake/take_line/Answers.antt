@@ -1,12 +1,22 @@
-use Rattle.std.proofs.Common.{ap, refl, sym, ◌∙◌}
-use Rattle.std.proofs.lemmas.Result.{on_err_weaker}
-use Rattle.cdi_script.specs.Intake.{intake_on, mode_seen}
-use Rattle.cdi_script.proofs.Taking.{tries_in_put}
+use Rattle.std.proofs.Common.{refl}
+use Rattle.std.proofs.lemmas.Result.{on_ok_weaker, on_err_weaker}
+use Rattle.cdi_script.specs.Intake.{intake_on}
+use Rattle.cdi_script.proofs.Taking.{takes_none, takes_some, tries_some}
 use Rattle.cdi_script.proofs.intake.Intake.take_line.Goals as goal
 
-pub returns-in-InPut-clause-tries : goal.returns-in-InPut-clause-tries
-returns-in-InPut-clause-tries g c = on_err_weaker c.take_in_put.result
-    (tries_in_put (intake_on c.args.self.now c.args.container.now)
-    (intake_on (record c.args.self.now { mode = c.replace.new.dest }) c.args.container.now)
-    (intake_on c.take_in_put.new.self c.take_in_put.new.container) c.in-InPut.block c.args.line.now
-    (ap mode_seen (sym c.replace.ensures.value ∙ c.in-InPut.is)) refl) c.take_in_put.ensures.tries
+pub returns-in-None-clause-ok : goal.returns-in-None-clause-ok
+returns-in-None-clause-ok g c = takes_none (intake_on c.args.self.now c.args.container.now)
+    (intake_on (record c.args.self.now { mode = c.take_line.new.self }) c.args.container.now) c.args.line.now refl refl
+    c.in-None.ensures
+
+pub returns-in-Some-clause-ok : goal.returns-in-Some-clause-ok
+returns-in-Some-clause-ok g c = on_ok_weaker c.execute.result
+    (takes_some (intake_on c.args.self.now c.args.container.now)
+    (intake_on (record c.args.self.now { runner = c.execute.new.self; mode = c.take_line.new.self }) c.execute.new.container)
+    c.args.line.now c.in-Some.command refl c.in-Some.ensures) c.execute.ensures.ok
+
+pub returns-in-Some-clause-tries : goal.returns-in-Some-clause-tries
+returns-in-Some-clause-tries g c = on_err_weaker c.execute.result
+    (tries_some (intake_on c.args.self.now c.args.container.now)
+    (intake_on (record c.args.self.now { runner = c.execute.new.self; mode = c.take_line.new.self }) c.execute.new.container)
+    c.take_line.new.self c.args.line.now c.in-Some.command c.in-Some.ensures) c.execute.ensures.tries
