@@ -39,6 +39,7 @@ goes_on batch text = record { command = None; mode = record { batch = batch; tex
 abbrev pub completes : Command → Taken
 completes command = record { command = Some command; mode = outside }
 
+-- one edit more, unless it is spoiled
 abbrev pub with_edit : OpenBatch → Edit → OpenBatch
 with_edit (Edits edits) edit = Edits (edits ++ edit ∷ [])
 with_edit Spoiled edit = Spoiled
@@ -58,7 +59,7 @@ abbrev pub batch_begun : Option OpenBatch → Taken
 batch_begun None = goes_on (Some (Edits [])) None
 batch_begun (Some batch) = goes_on (Some Spoiled) None
 
--- a spoiled batch is no command
+-- a batch that ended is one command of its edits, and refused if it is spoiled
 abbrev pub command_of_batch : OpenBatch → Command
 command_of_batch (Edits edits) = BatchCommand edits
 command_of_batch Spoiled = Unreadable

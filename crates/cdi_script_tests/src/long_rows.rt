@@ -1,4 +1,4 @@
-//! Scripts with lines, blocks or lists at a limit, or with bytes that no text has, and what they print.
+//! Scripts with lines, blocks, batches or lists at a limit, or with bytes that no text has, and what they print.
 use crate::fixtures::{assert_text, ending};
 use std::alloc::{AllocError, Global};
 use std::test::Fail;
@@ -16,7 +16,7 @@ struct LongRow {
     refused: bool,
 }
 
-static LONG_ROWS: [LongRow; 12] = [
+static LONG_ROWS: [LongRow; 18] = [
     LongRow {
         name: "a command line of more than 4,096 bytes",
         script: &[Piece(4097, b"a"), Piece(1, b"\n")],
@@ -120,6 +120,78 @@ static LONG_ROWS: [LongRow; 12] = [
         name: "a last line without its line feed",
         script: &[Piece(1, b"drop type Mall\ndrop type Ma")],
         text: b"refused E11 Absent\nrefused E11 Absent\n",
+        refused: true,
+    },
+    LongRow {
+        name: "a batch has 256 edits; one more is too long, whatever they say",
+        script: &[
+            Piece(1, b"put\nkind=\"type\"\nname=\"A\"\n.\nbatch\n"),
+            Piece(128, b"put\nkind=\"type\"\nname=\"A\"\n.\ndrop type A\n"),
+            Piece(1, b"end\nbatch\n"),
+            Piece(257, b"drop type A\n"),
+            Piece(1, b"end\n"),
+        ],
+        text: b"ok\nok\nrefused E12 BatchTooLong\n",
+        refused: true,
+    },
+    LongRow {
+        name: "a spoiled batch is not too long",
+        script: &[
+            Piece(1, b"batch\n"),
+            Piece(257, b"drop type A\n"),
+            Piece(1, b"report\nend\nbatch\n"),
+            Piece(257, b"drop type A\n"),
+            Piece(1, b"# report\nend\n"),
+        ],
+        text: b"refused E20 BadCommand\nrefused E12 BatchTooLong\n",
+        refused: true,
+    },
+    LongRow {
+        name: "a line of 4,097 bytes spoils a batch, and one of 4,096 is an edit",
+        script: &[
+            Piece(1, b"put\nkind=\"type\"\nname=\"A\"\n.\nbatch\ndrop type A"),
+            Piece(4086, b" "),
+            Piece(1, b"\nend\nbatch\ndrop type A"),
+            Piece(4085, b" "),
+            Piece(1, b"\n"),
+            Piece(5000, b"#"),
+            Piece(1, b"\nend\n"),
+        ],
+        text: b"ok\nrefused E20 BadCommand\nok\n",
+        refused: true,
+    },
+    LongRow {
+        name: "a long put block is an edit of its batch",
+        script: &[
+            Piece(
+                1,
+                b"batch\nput\nkind=\"type\"\nname=\"A\"\n.\nput\nkind=\"type\"\nname=\"B\"\n#",
+            ),
+            Piece(65514, b"x"),
+            Piece(1, b"\n.\nend\ndrop type A\n"),
+        ],
+        text: b"refused E01 TooLong 2\nrefused E11 Absent\n",
+        refused: true,
+    },
+    LongRow {
+        name: "lines of a batch that are not UTF-8",
+        script: &[
+            Piece(1, b"batch\n\xff\nend\nbatch\n#\xff\nend\n"),
+            Piece(1, b"batch\nput\nkind=\"\xff\"\n.\nend\n"),
+        ],
+        text: b"refused E20 BadCommand\nok\nrefused E02 NotToml 1\n",
+        refused: true,
+    },
+    LongRow {
+        name: "spaces and carriage returns in a batch",
+        script: &[
+            Piece(
+                1,
+                b"  batch \r\nput\r\nkind=\"type\"\r\nname=\"A\"\r\n.\r\n\r\n  end  \r\n",
+            ),
+            Piece(1, b"batch\n drop  type   A \n end\nbatch\nend\r\r\nend\n"),
+        ],
+        text: b"ok\nok\nrefused E20 BadCommand\n",
         refused: true,
     },
 ];

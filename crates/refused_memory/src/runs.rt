@@ -1,7 +1,7 @@
 //! Lookups, calls, an event, requests, edits and a stop of a container, of which any one allocation may be refused.
 use crate::Difference;
-use Asked::{Batch, Begin, Call, End, Fire, LookUp, Put, Remove, Stop};
-use cdi_container::{BatchError, Container, Edit};
+use Asked::{Batch, Begin, Call, End, Fire, LookUp, Put, PutDecl, Remove, Stop};
+use cdi_container::{BatchError, Container, Edit, read_decl};
 use cdi_fixtures::name;
 use cdi_model::{Error, Ident, Kind, Name, Outcome, Quals, Seq, Val};
 use cdi_stock::StockBodies;
@@ -14,7 +14,9 @@ enum Asked {
     Call(i64, &'static [u8]),
     Fire(i64, &'static [u8]),
     Put(&'static [u8]),
-    /// Of these texts.
+    /// Of what a text spells.
+    PutDecl(&'static [u8]),
+    /// Of each of these texts, and then of what it spells.
     Batch(&'static [&'static [u8]]),
     /// Of a type.
     Remove(&'static [u8]),
@@ -82,7 +84,7 @@ pre={body="count"}
 "#,
 ];
 
-static STEPS: [Step; 20] = [
+static STEPS: [Step; 21] = [
     Step {
         asked: LookUp(b"A"),
         value: NULL,
@@ -308,6 +310,11 @@ static STEPS: [Step; 20] = [
         trace: b"",
     },
     Step {
+        asked: PutDecl(b"kind=\"type\"\nname=\"E\"\n"),
+        value: None,
+        trace: b"",
+    },
+    Step {
         asked: Remove(b"E"),
         value: None,
         trace: b"",
@@ -422,6 +429,7 @@ fn make(
         Call(arg, text) => return answer_of(container, name(text)?, &quals, Val::Int(*arg)),
         Fire(arg, text) => return outcome_of(container, name(text)?, &quals, Val::Int(*arg)),
         Put(text) => declare_one(container, text)?,
+        PutDecl(text) => container.put_decl(read_decl(alloc, text)?)?,
         Batch(texts) => declare_all(container, puts_of(alloc, texts)?)?,
         Remove(text) => container.remove(Kind::Type, name(text)?)?,
         Begin => begin_request(container)?,
@@ -461,7 +469,9 @@ fn repeats(
 /// call nothing is live, and the numbers of instances go on, so the steps end there.
 fn refused(alloc: Global, container: &mut Container<StockBodies>, step: &Step) -> Going {
     let is_right = match step.asked {
-        Put(_) | Batch(_) | Remove(_) | End | Stop => repeats(alloc, container, step) == Ok(true),
+        Put(_) | PutDecl(_) | Batch(_) | Remove(_) | End | Stop => {
+            repeats(alloc, container, step) == Ok(true)
+        }
         _ => container.trace().is_empty(),
     };
     if is_right {
@@ -495,13 +505,24 @@ fn declare_one(container: &mut Container<StockBodies>, text: &[u8]) -> Result<()
     container.put(text)
 }
 
-fn puts_of(alloc: Global, texts: &[&[u8]]) -> Result<Vec<Edit>, AllocError> {
-    let mut edits = Vec::with_capacity(alloc, texts.len())?;
+fn put_of(alloc: Global, text: &[u8]) -> Result<Edit, AllocError> {
+    let mut copy = Vec::with_capacity(alloc, text.len())?;
+    copy.extend_from_slice(text)?;
+    let text = Seq::from_vec(copy);
+    Ok(Edit::Put { text })
+}
+
+fn put_decl_of(alloc: Global, text: &[u8]) -> Result<Edit, Error> {
+    let decl = Box::new(alloc, read_decl(alloc, text)?)?;
+    Ok(Edit::PutDecl { decl })
+}
+
+/// Puts of each text, and then of what it spells.
+fn puts_of(alloc: Global, texts: &[&[u8]]) -> Result<Vec<Edit>, Error> {
+    let mut edits = Vec::new(alloc);
     for text in texts {
-        let mut copy = Vec::with_capacity(alloc, text.len())?;
-        copy.extend_from_slice(text)?;
-        let text = Seq::from_vec(copy);
-        edits.push(Edit::Put { text })?;
+        edits.push(put_of(alloc, text)?)?;
+        edits.push(put_decl_of(alloc, text)?)?;
     }
     Ok(edits)
 }

@@ -5,8 +5,8 @@ use cdi_script::{Console, Counted, Options, RunFault, run};
 use std::alloc::Global;
 
 /// A script in which a qualifier, a type, a stereotype and two beans are put, a bean is chosen by its qualifier, by its
-/// name and as an alternative, the faults are reported, and a type that is absent is dropped. Each command but the report
-/// prints one line.
+/// name and as an alternative, the faults are reported, a type that is absent is dropped, and a batch puts it and drops the
+/// stereotype. Each command but the report prints one line.
 const SCRIPT: &[u8] = br#"put
 kind="qualifier"
 name="Rank"
@@ -38,6 +38,13 @@ name mall
 choose Object Any
 report
 drop type Mall
+batch
+put
+kind="type"
+name="Mall"
+.
+drop stereotype Mock
+end
 "#;
 
 /// What it prints.
@@ -52,6 +59,7 @@ one Mall
 faults 1
 F01 bean Mall type Mall
 refused E11 Absent
+ok
 "#;
 
 /// What a report that has a fault prints first.
