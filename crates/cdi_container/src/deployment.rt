@@ -34,13 +34,21 @@ use cdi_model::{
 use cdi_observe::{ObserverId, PlainView, evaluate_observers};
 use cdi_resolve::{BeanList, Choice, choose_name};
 use cdi_run::Player;
-use cdi_scene::Notified;
+use cdi_scene::{Notified, Scene};
 use cdi_staging::Names;
 use cdi_subjects::are_known;
 use cdi_validate::faults;
 use cdi_wiring::{Wired, Wiring};
 use std::alloc::{AllocError, Global};
 use std::marker::Model;
+
+/// What was made of declarations before an edit. It is let go where it is made anew, so that the time of an edit does not
+/// grow with the deployment.
+#[derive(Drop)]
+struct Stale {
+    beans: Option<BeanList>,
+    scene: Option<Scene>,
+}
 
 /// The present declarations and the book of stored bodies, and what was made of them since the last edit.
 #[derive(Drop)]
@@ -53,6 +61,7 @@ pub(crate) struct Deployment<B: Bodies> {
     wiring: Option<Wiring>,
     /// Whom the last event of each type notified.
     last_events: LastEvents,
+    stale: Stale,
 }
 
 impl<B: Bodies> Model for Deployment<B> {
@@ -87,6 +96,10 @@ impl<B: Bodies> Deployment<B> {
             beans: None,
             wiring: None,
             last_events: LastEvents::new(alloc),
+            stale: Stale {
+                beans: None,
+                scene: None,
+            },
         }
     }
 
@@ -136,10 +149,15 @@ impl<B: Bodies> Deployment<B> {
         ensures new { self.new ≡ record self.old { decls = next; is_wired = false } }
     {
         self.decls = next;
-        self.beans = None;
         self.last_events.clear();
+        if let Some(list) = self.beans.take() {
+            self.stale.beans = Some(list);
+        }
         match self.wiring.take() {
-            Some(Wiring::Sound(wired)) => Some(wired.names),
+            Some(Wiring::Sound(wired)) => {
+                self.stale.scene = Some(wired.scene);
+                Some(wired.names)
+            }
             _ => None,
         }
     }
@@ -236,6 +254,7 @@ impl<B: Bodies> Deployment<B> {
             return Ok(wiring.count());
         }
         let list = self.take_beans(alloc)?;
+        self.stale.scene = None;
         let wiring = Wiring::of(alloc, &self.decls, &list, &self.book);
         self.beans = Some(list);
         let wiring = wiring?;
@@ -352,7 +371,10 @@ impl<B: Bodies> Deployment<B> {
     {
         match self.beans.take() {
             Some(list) => Ok(list),
-            None => BeanList::of(alloc, &self.decls),
+            None => {
+                self.stale.beans = None;
+                BeanList::of(alloc, &self.decls)
+            }
         }
     }
 }
