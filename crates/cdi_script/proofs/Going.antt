@@ -11,7 +11,7 @@ use Rattle.cdi_devices.specs.Counted.{inner_of, bytes_of, has_failed, is_flushed
 use Rattle.cdi_devices.specs.Devices.{Gives, ReadFails}
 use Rattle.cdi_lines.specs.Kept.{ServesLine}
 use Rattle.cdi_staging.specs.Naming.{names_of}
-use Rattle.cdi_container.specs.History.{State, runs}
+use Rattle.cdi_container.specs.History.{State, runs as is_run}
 use Rattle.std.specs.Prelude.{alloc_error}
 use Rattle.cdi_script.specs.Runner.{Tries}
 use Rattle.cdi_script.specs.Begun.{ServesMode}
@@ -43,7 +43,7 @@ wrote_nothing setting known = record {
 
 -- a command that is no run and found no memory has changed nothing
 left_unread : (command : Command) (rest first all : List Command) (state : State) → all ≡ first ++ command ∷ rest
-    → (is_run : Bool) → runs command ≡ is_run → Leaves first all state state
+    → (run : Bool) → is_run command ≡ run → Leaves first all state state
 left_unread command rest first all state cut true is =
     inr (inl (command, (rest, cut ∙ sym (append_assoc first (command ∷ []) rest)), is, refl))
 left_unread command rest first all state cut false is = inl (
@@ -54,7 +54,7 @@ left_unread command rest first all state cut false is = inl (
 
 left_as_it_was : (later first all : List Command) (state : State) → all ≡ first ++ later → Leaves first all state state
 left_as_it_was [] first all state cut = inr (inr (sym (cut ∙ append-nil first), refl))
-left_as_it_was (command ∷ rest) first all state cut = left_unread command rest first all state cut (runs command) refl
+left_as_it_was (command ∷ rest) first all state cut = left_unread command rest first all state cut (is_run command) refl
 
 -- what is left where at most one command more was carried out
 left_after : (first all : List Command) (state left : State) → AreFirst first all → Tries first all state left

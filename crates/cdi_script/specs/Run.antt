@@ -6,7 +6,7 @@ use Rattle.cdi_bodies.specs.Book.{Promised}
 use Rattle.cdi_lines.specs.declared.command.Command.{Command}
 use Rattle.cdi_script.specs.Commands.{commands, complete_commands, mode_of, AreFirst}
 use Rattle.cdi_lines.specs.Lines.{begun_line}
-use Rattle.cdi_container.specs.History.{State, empty, runs, Step, LegalStep, History, LegalHistory}
+use Rattle.cdi_container.specs.History.{State, empty, runs as is_run, Step, LegalStep, History, LegalHistory}
 use Rattle.cdi_script.specs.Runner.{RunnerOn, Tries}
 use Rattle.cdi_script.specs.Text.{text_of, is_refused, is_out_of_memory}
 use Rattle.cdi_devices.specs.Counted.{inner_of, bytes_of, has_failed, is_flushed, is_settled}
@@ -78,7 +78,7 @@ CarriesOutNext first all state left = (step : Step) × AreFirst (first ++ step.c
 
 -- a run comes next, and did not begin
 abbrev pub LeavesNextRun : List Command → List Command → State → State → Type 0
-LeavesNextRun first all state left = (command : Command) × AreFirst (first ++ command ∷ []) all × (runs command ≡ true) × (left ≡ state)
+LeavesNextRun first all state left = (command : Command) × AreFirst (first ++ command ∷ []) all × (is_run command ≡ true) × (left ≡ state)
 
 -- What is left where the first of all complete commands were answered and left a state. The next one was carried out: it found no
 -- memory, or its text was not written. Or it is a run whose line found no memory to be read. Or no other was complete.
