@@ -3,7 +3,7 @@
 `bench/compare` writes them into scripts. What a batch answers the model reads from its lines.
 """
 
-from reading import LINE_LIMIT, TEXT_LIMIT, edits_of, lines_of
+from reading import DECLARATIONS, EDITS, LINE_LIMIT, TEXT_LIMIT, edits_of, lines_of
 
 NOT_UTF8 = "\udcff"
 BAD_COMMAND = "refused E20 BadCommand"
@@ -27,8 +27,12 @@ def put_block(text):
     return f"put\n{text}.\n"
 
 
-def put_of_type(*keys):
-    return put_block("".join(key + "\n" for key in ['kind = "type"', 'name = "shop.More"', *keys]))
+def put_of_type(name, more=""):
+    return put_block(text_of_type(name) + more)
+
+
+def text_of_type(name):
+    return f'kind = "type"\nname = "{name}"\n'
 
 
 def refused_edit(chance):
@@ -64,10 +68,32 @@ def batch(chance, model, edits):
 
 def long_batch(chance, model):
     """A batch of about as many edits as it may have, of which the first is refused, or none, and its answer."""
-    edits = [put_of_type(), put_of_type("final = true")] * 128
+    edits = [put_of_type("shop.More"), put_of_type("shop.More", "final = true\n")] * EDITS
     if chance.random() < 0.4:
         edits[0] = chance.choice(ABSENT)
-    return answered(model, text_of_batch(chance, chance.choice([edits[:255], edits, edits, edits + edits[:1]])))
+    return answered(model, text_of_batch(chance, edits[: EDITS + chance.choice([-1, 0, 1])]))
+
+
+def filling(model, room):
+    """Batches of puts of types, after which so many new declarations may be put, and their answers."""
+    puts = [put_of_type(f"more.T{number}") for number in range(DECLARATIONS - room - len(model.declarations))]
+    batches = ["".join(["batch\n", *puts[place : place + EDITS], "end\n"]) for place in range(0, len(puts), EDITS)]
+    return [answered(model, text) for text in batches]
+
+
+def is_full(model):
+    return len(model.declarations) == DECLARATIONS
+
+
+def exchange(chance, model):
+    """Where the list is full, a batch of a drop and of puts of one or two new types in any order, or such a put; and its answer."""
+    new = f"more.N{chance.randint(0, 1000)}"
+    if chance.random() < 0.2:
+        return put_of_type(new), model.put_text(text_of_type(new))
+    dropped = chance.choice([found["name"] for found in model.declarations if found["name"].startswith("more.")])
+    edits = [f"drop type {dropped}\n", put_of_type(new), *[put_of_type("shop.More")] * (chance.random() < 0.3)]
+    chance.shuffle(edits)
+    return batch(chance, model, edits)
 
 
 def stray(chance):

@@ -14,7 +14,7 @@ beans, since they are made at a notification; so a bean may be made for an event
 the run is too deep.
 """
 
-from batches import batch, long_batch, stray
+from batches import batch, exchange, filling, is_full, long_batch, stray
 from texts import ANY, DEFAULT, NOTIFIES, Event, line_of
 
 METHODS = ["run", "add", "go"]
@@ -253,6 +253,8 @@ class Commander:
             steps = self.accepted([self.text_of_put(declaration) for declaration in beans])
         else:
             steps = [self.put(declaration) for declaration in beans]
+        if self.planner.maybe(0.02):
+            steps += filling(self.model, 0)
         steps.append(("report\n", self.model.report()))
         if self.planner.interceptors:
             steps.extend(self.chain(name) for name in self.planner.names)
@@ -402,9 +404,11 @@ class Commander:
         return f"drop {kind} {name}\n", self.model.drop(kind, name)
 
     def refused(self):
-        """A drop, a put or a line that is refused, and ends nothing; or a very long batch."""
-        if self.planner.maybe(0.1):
-            return stray(self.chance) if self.planner.maybe(0.6) else long_batch(self.chance, self.model)
+        """A drop, a put or a line that is refused, and ends nothing; or a batch that is very long, or where the list is full."""
+        if is_full(self.model) and self.planner.maybe(0.6):
+            return exchange(self.chance, self.model)
+        if self.planner.maybe(0.15):
+            return stray(self.chance) if self.planner.maybe(0.5) else long_batch(self.chance, self.model)
         if self.planner.maybe(0.5):
             return self.drop("bean", "shop.Nowhere")
         text = 'kind = "bean"\nname = "shop.Nowhere"\ncolour = "red"\n'

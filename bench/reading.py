@@ -11,6 +11,7 @@ import tomllib
 from texts import NOTIFIES
 
 TEXT_LIMIT, LINE_LIMIT, LIST_LIMIT = 65_536, 4_096, 32
+DECLARATIONS, EDITS = 2_048, 256
 LEAST, GREATEST = -(2**63), 2**63 - 1
 KINDS = ["type", "qualifier", "binding", "stereotype", "bean", "interceptor"]
 BUILT_IN = {"type": ["Object"], "qualifier": ["Any", "Default", "Named"]}

@@ -2,7 +2,7 @@
 
 import random
 
-from batches import batch, cut_off, long_batch, put_block, stray
+from batches import batch, cut_off, exchange, filling, is_full, long_batch, put_block, stray
 from bodies import PROMISES
 from chains import CALLBACKS, places_of
 from chains import PARTS as PARTS_OF_INTERCEPTORS
@@ -229,9 +229,11 @@ class Writer:
     def batch(self, model):
         """A batch, and its answer; now and then a very long one, or a line that is none."""
         draw = self.random.random()
-        if draw < 0.01:
+        if is_full(model) and draw < 0.5:
+            return exchange(self.random, model)
+        if draw < 0.02:
             return long_batch(self.random, model)
-        return stray(self.random) if draw < 0.05 else batch(self.random, model, self.edits(model))
+        return stray(self.random) if draw < 0.06 else batch(self.random, model, self.edits(model))
 
     def edits(self, model):
         """Some edits of a batch, few of which are refused."""
@@ -310,7 +312,8 @@ class Writer:
 
     def random_script(self, model):
         """Half of these scripts begin with bindings and interceptors, so that their chains are seldom empty. A third begin with
-        types that extend one another, often in circles, and with beans of these that specialize.
+        types that extend one another, often in circles, and with beans of these that specialize. In a few there are almost as
+        many declarations as there may be.
         """
         begun = []
         self.specializes = self.maybe(0.33)
@@ -319,6 +322,8 @@ class Writer:
         if self.specializes:
             begun += [(kind, name) for kind in ["type", "bean"] for name in self.random.sample(TYPES, len(TYPES))]
         steps = [self.put(model, kind, name) for kind, name in begun]
+        if self.maybe(0.02):
+            steps += filling(model, self.random.randint(0, 6))
         for _ in range(self.length * self.random.randint(5, 25)):
             steps.append(self.edit(model))
             steps.extend(self.question(model) for _ in range(self.random.randint(0, 4)))
