@@ -259,7 +259,9 @@ class Commander:
         if self.planner.interceptors:
             steps.extend(self.chain(name) for name in self.planner.names)
         changing = [found for found in beans if found["kind"] in ("bean", "interceptor")]
-        for _ in range(length * self.chance.randint(10, 40)):
+        # With as many declarations as there may be a run takes long where the program is checked as it runs.
+        least, most = (3, 8) if is_full(self.model) else (10, 40)
+        for _ in range(length * self.chance.randint(least, most)):
             steps.append(self.command())
             if self.chance.random() < (0.3 if self.model.runs.live else 0.05):
                 steps.extend(self.edits(changing))
