@@ -14,6 +14,7 @@ beans, since they are made at a notification; so a bean may be made for an event
 the run is too deep.
 """
 
+from batches import batch, exchange, filling, is_full, long_batch, stray
 from texts import ANY, DEFAULT, NOTIFIES, Event, line_of
 
 METHODS = ["run", "add", "go"]
@@ -248,12 +249,19 @@ class Commander:
 
     def script(self, length):
         beans = self.planner.declarations()
-        steps = [self.put(declaration) for declaration in beans]
+        if self.planner.maybe(0.2):
+            steps = self.accepted([self.text_of_put(declaration) for declaration in beans])
+        else:
+            steps = [self.put(declaration) for declaration in beans]
+        if self.planner.maybe(0.02):
+            steps += filling(self.model, 0)
         steps.append(("report\n", self.model.report()))
         if self.planner.interceptors:
             steps.extend(self.chain(name) for name in self.planner.names)
         changing = [found for found in beans if found["kind"] in ("bean", "interceptor")]
-        for _ in range(length * self.chance.randint(10, 40)):
+        # With as many declarations as there may be a run takes long where the program is checked as it runs.
+        least, most = (3, 8) if is_full(self.model) else (10, 40)
+        for _ in range(length * self.chance.randint(least, most)):
             steps.append(self.command())
             if self.chance.random() < (0.3 if self.model.runs.live else 0.05):
                 steps.extend(self.edits(changing))
@@ -321,7 +329,10 @@ class Commander:
         return (name, [("Any", ())], " Any") if draw < 0.2 else (name, [], "")
 
     def edits(self, changing):
-        """An edit of one of these declarations, which ends what is live by those from before; or one that is refused."""
+        """An edit of one of these declarations, which ends what is live by those from before; or one that is refused; or a
+        batch."""
+        if self.planner.maybe(0.45 if self.model.runs.live else 0.2):
+            return self.batches(changing)
         place = self.chance.randrange(len(changing))
         present, draw = changing[place], self.chance.random()
         if draw < 0.2:
@@ -338,6 +349,44 @@ class Commander:
         else:
             wrong = self.put(self.planner.faulty(present))
         return [wrong, *(self.command() for _ in range(self.chance.randint(0, 2))), self.put(present)]
+
+    def batches(self, changing):
+        """A batch that puts some of these declarations, a few of them anew. Some it first drops, or puts with a fault; a few
+        batches end behind this, and another one mends the declarations after some commands."""
+        chosen = self.chance.sample(range(len(changing)), min(len(changing), self.chance.choice([0, 1, 1, 2, 2, 3, 4, 99])))
+        after = list(changing)
+        for place in chosen:
+            after[place] = self.anew(changing[place]) if self.planner.maybe(0.6) else changing[place]
+        puts = [self.text_of_put(after[place]) for place in chosen]
+        wrong = [self.wrong(changing[place]) if self.planner.maybe(0.4) else "" for place in chosen]
+        if any(wrong) and self.planner.maybe(0.25):
+            steps = [batch(self.chance, self.model, wrong)]
+            steps += [self.command() for _ in range(self.chance.randint(0, 2))]
+            steps += self.accepted(puts)
+        elif self.planner.maybe(0.5):
+            steps = [batch(self.chance, self.model, wrong + puts)]
+        else:
+            steps = [batch(self.chance, self.model, [text for pair in zip(wrong, puts) for text in pair])]
+        if self.is_accepted(steps[-1]):
+            changing[:] = after
+        return steps
+
+    def accepted(self, edits):
+        """A batch of these edits, again until it is accepted."""
+        steps = [batch(self.chance, self.model, edits)]
+        while not self.is_accepted(steps[-1]):
+            steps.append(batch(self.chance, self.model, edits))
+        return steps
+
+    @staticmethod
+    def is_accepted(step):
+        return step[1].split("\n")[-1] == "ok"
+
+    def wrong(self, present):
+        """An edit that drops a declaration, or puts it with a fault."""
+        if self.planner.maybe(0.6):
+            return f"drop {present['kind']} {present['name']}\n"
+        return self.text_of_put(self.planner.faulty(present))
 
     def anew(self, present):
         """Another declaration of the same bean or interceptor: its bodies, its callbacks and its observer methods are others."""
@@ -357,7 +406,11 @@ class Commander:
         return f"drop {kind} {name}\n", self.model.drop(kind, name)
 
     def refused(self):
-        """A drop or a put that is refused, and ends nothing."""
+        """A drop, a put or a line that is refused, and ends nothing; or a batch that is very long, or where the list is full."""
+        if is_full(self.model) and self.planner.maybe(0.6):
+            return exchange(self.chance, self.model)
+        if self.planner.maybe(0.15):
+            return stray(self.chance) if self.planner.maybe(0.5) else long_batch(self.chance, self.model)
         if self.planner.maybe(0.5):
             return self.drop("bean", "shop.Nowhere")
         text = 'kind = "bean"\nname = "shop.Nowhere"\ncolour = "red"\n'

@@ -15,6 +15,7 @@ import tempfile
 HERE = pathlib.Path(__file__).resolve().parent
 TABLE = HERE / "instructions.txt"
 GROWTH = 1.1
+LARGE, SMALL = "_2048", "_512"
 TITLE = "# Instructions of a command, by `bench/run --instructions`: the script, the count, and why it grew where it did.\n"
 
 
@@ -56,8 +57,12 @@ def show(program, keeps):
     print(f"{'script':24}{'instructions':>14}{'kept':>14}{'ratio':>8}")
     for name, number in now.items():
         before = kept.get(name, (0, ""))[0]
-        ratio = f"{number / before:.2f}" if before else "-"
-        print(f"{name:24}{number:>14,}{before:>14,}{ratio:>8}{'  GREW' if before and number > before * GROWTH else ''}")
+        told = f"{before:>14,}{number / before:>8.2f}" if before else f"{'-':>14}{'-':>8}"
+        print(f"{name:24}{number:>14,}{told}{'  GREW' if before and number > before * GROWTH else ''}")
+    for name, number in now.items():
+        small = name.replace(LARGE, SMALL)
+        if name.endswith(LARGE):
+            print(f"{name}: {number / now[small]:.2f} times {small}")
     if keeps:
         rows = [f"{name:24}{number:>12}  {kept.get(name, (0, ''))[1]}".rstrip() for name, number in now.items()]
         TABLE.write_text(TITLE + "\n".join(rows) + "\n")

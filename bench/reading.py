@@ -1,7 +1,8 @@
-"""A plain model of reading: for what the text of a declaration is refused, and which lines are no commands.
+"""A plain model of reading: for what the text of a declaration is refused, which lines are no commands, and what a batch says.
 
 It is written from the rules of `docs/language.md` and `docs/refusals.md` and shares no code with the program. What counts
-as TOML is `tomllib`'s word here. A declaration's text is judged condition by condition, each on the whole text.
+as TOML is `tomllib`'s word here. A declaration's text is judged condition by condition, each on the whole text. A byte
+that is not UTF-8 is a lone surrogate in a text here, as `surrogateescape` reads it.
 """
 
 import re
@@ -10,6 +11,7 @@ import tomllib
 from texts import NOTIFIES
 
 TEXT_LIMIT, LINE_LIMIT, LIST_LIMIT = 65_536, 4_096, 32
+DECLARATIONS, EDITS = 2_048, 256
 LEAST, GREATEST = -(2**63), 2**63 - 1
 KINDS = ["type", "qualifier", "binding", "stereotype", "bean", "interceptor"]
 BUILT_IN = {"type": ["Object"], "qualifier": ["Any", "Default", "Named"]}
@@ -89,6 +91,14 @@ LISTS = ["names", "uses", "uses of beans", "uses of observers", "calls", "events
 
 
 # Texts.
+
+
+def bytes_of(text):
+    return text.encode("utf-8", "surrogateescape")
+
+
+def is_utf8(text):
+    return not any("\ud800" <= letter <= "\udfff" for letter in text)
 
 
 def is_identifier(text):
@@ -246,6 +256,8 @@ def has_far_number(value):
 
 def table_of(text):
     """What TOML reads of a text, if it is TOML."""
+    if not is_utf8(text):
+        return None
     try:
         table = tomllib.loads(text.removeprefix("\ufeff"))
     except (tomllib.TOMLDecodeError, RecursionError):
@@ -255,7 +267,7 @@ def table_of(text):
 
 def refusal_of(text):
     """The refusal of a declaration's text, if it is refused."""
-    if len(text.encode()) > TEXT_LIMIT:
+    if len(bytes_of(text)) > TEXT_LIMIT:
         return "refused E01 TooLong"
     table = table_of(text)
     if table is None:
@@ -281,6 +293,61 @@ def refusal_of(text):
 # Lines.
 
 
+def lines_of(text):
+    """The lines of a text, each without one carriage return at its end."""
+    return [line.removesuffix("\r") for line in text.removesuffix("\n").split("\n")]
+
+
+def is_skipped(line):
+    return not line.strip(" ") or line.startswith("#")
+
+
+def says(line, word):
+    """Whether a line says this word alone."""
+    return line.strip(" ") == word and len(bytes_of(line)) <= LINE_LIMIT
+
+
+class Open:
+    """Whether some lines leave a put block or a batch open."""
+
+    def __init__(self):
+        self.put = False
+        self.batch = False
+
+    def read(self, line):
+        if self.put:
+            self.put = line != "."
+        elif says(line, "put"):
+            self.put = True
+        elif says(line, "batch"):
+            self.batch = True
+        elif says(line, "end"):
+            self.batch = False
+
+
+def edits_of(lines):
+    """The edits of a batch, from the lines behind the one that begins it: each the text of a declaration, or the kind and the
+    name of one. There are none where a line spoils the batch, or where it has no end."""
+    edits, text, is_spoiled = [], None, False
+    for line in lines:
+        if text is not None:
+            text.append(line + "\n")
+            if line == ".":
+                edits.append("".join(text[:-1]))
+                text = None
+        elif says(line, "put"):
+            text = []
+        elif says(line, "end"):
+            return None if is_spoiled else edits
+        elif not is_skipped(line):
+            word, *words = [word for word in line.split(" ") if word]
+            if word == "drop" and is_command(line):
+                edits.append(tuple(words))
+            else:
+                is_spoiled = True
+    return None
+
+
 def are_uses(words):
     return len(words) <= LIST_LIMIT and all(map(is_use, words)) and not uses_repeat(words)
 
@@ -303,7 +370,7 @@ def is_argument_of(words):
 def is_command(line):
     """Whether a line that is not skipped and begins no block is one of the command table."""
     word, *rest = [word for word in line.split(" ") if word]
-    if len(line.encode()) > LINE_LIMIT:
+    if len(bytes_of(line)) > LINE_LIMIT or not is_utf8(line):
         return False
     if word in ("choose", "observers", "lookup"):
         return len(rest) >= 1 and is_name(rest[0]) and are_uses(rest[1:])

@@ -2,6 +2,7 @@
 
 import random
 
+from batches import batch, cut_off, exchange, filling, is_full, long_batch, put_block, stray
 from bodies import PROMISES
 from chains import CALLBACKS, places_of
 from chains import PARTS as PARTS_OF_INTERCEPTORS
@@ -200,24 +201,55 @@ class Writer:
         }
 
     def edit(self, model):
-        """A line or put block that edits the declarations, and its answer."""
+        """A line, put block or batch that edits the declarations, and its answer."""
         if self.maybe(0.12):
-            kind = self.random.choice(list(NAMES))
-            name = self.random.choice(NAMES[kind])
+            return self.batch(model)
+        if self.maybe(0.12):
+            kind, name = self.dropped()
             return f"drop {kind} {name}\n", model.drop(kind, name)
         if self.maybe(0.12):
-            return self.spoiled_put(model)
+            text = self.spoiled_text()
+            return put_block(text), model.put_text(text)
         return self.put(model, self.random.choice(KINDS))
 
     def put(self, model, kind, name=None):
         declaration = self.declaration(kind, name)
         return text_of_put(declaration), model.put(declaration)
 
-    def spoiled_put(self, model):
-        """A put of a bean or an interceptor of which something is wrong most often, and what it is refused for."""
+    def dropped(self):
+        """The kind and the name of any declaration."""
+        kind = self.random.choice(list(NAMES))
+        return kind, self.random.choice(NAMES[kind])
+
+    def spoiled_text(self):
+        """A bean or an interceptor of which something is wrong most often."""
         declaration = self.declaration(self.random.choice(["bean", "bean", "bean", "interceptor"]))
-        text = text_of_declaration(spoiled(self.random, declaration))
-        return f"put\n{text}.\n", model.put_text(text)
+        return text_of_declaration(spoiled(self.random, declaration))
+
+    def batch(self, model):
+        """A batch, and its answer; now and then a very long one, or a line that is none."""
+        draw = self.random.random()
+        if is_full(model) and draw < 0.5:
+            return exchange(self.random, model)
+        if draw < 0.02:
+            return long_batch(self.random, model)
+        return stray(self.random) if draw < 0.06 else batch(self.random, model, self.edits(model))
+
+    def edits(self, model):
+        """Some edits of a batch, few of which are refused."""
+        return [self.text_of_edit(model) for _ in range(self.random.choice([0, 1, 1, 2, 2, 3, 5]))]
+
+    def text_of_edit(self, model):
+        draw = self.random.random()
+        if draw < 0.04:
+            return put_block(self.spoiled_text())
+        if draw < 0.75:
+            return text_of_put(self.declaration(self.random.choice(KINDS)))
+        kind, name = self.dropped()
+        if model.declarations and draw < 0.97:
+            present = self.random.choice(model.declarations)
+            kind, name = present["kind"], present["name"]
+        return f"drop {kind} {name}\n"
 
     def question(self, model):
         """A line that asks for a bean, for a chain or for the faults, and its answer."""
@@ -267,20 +299,31 @@ class Writer:
         return line_of(["call", "run", "1", name], uses), model.runs.call("run", 1, name, uses)
 
     def script(self):
-        """The lines and put blocks of a script, and their answers; half of the scripts are of a sound deployment.
-
-        Half of the others begin with bindings and interceptors, so that their chains are seldom empty. A third begin with
-        types that extend one another, often in circles, and with beans of these that specialize.
-        """
-        model, begun = self.new_model(), []
+        """The lines, put blocks and batches of a script, and their answers; half of the scripts are of a sound deployment, and
+        the end of a few cuts what it ends with."""
+        model = self.new_model()
         if self.maybe(0.5):
-            return Commander(self.random, model, text_of_put).script(self.length)
+            steps = Commander(self.random, model, text_of_put).script(self.length)
+        else:
+            steps = self.random_script(model)
+        if self.maybe(0.15):
+            steps.append(cut_off(self.random, model, self.edits(model)))
+        return steps
+
+    def random_script(self, model):
+        """Half of these scripts begin with bindings and interceptors, so that their chains are seldom empty. A third begin with
+        types that extend one another, often in circles, and with beans of these that specialize. In a few there are almost as
+        many declarations as there may be.
+        """
+        begun = []
         self.specializes = self.maybe(0.33)
         if self.maybe(0.5):
             begun += [(kind, None) for kind in ["binding"] * 2 + ["interceptor"] * 3]
         if self.specializes:
             begun += [(kind, name) for kind in ["type", "bean"] for name in self.random.sample(TYPES, len(TYPES))]
         steps = [self.put(model, kind, name) for kind, name in begun]
+        if self.maybe(0.02):
+            steps += filling(model, self.random.randint(0, 6))
         for _ in range(self.length * self.random.randint(5, 25)):
             steps.append(self.edit(model))
             steps.extend(self.question(model) for _ in range(self.random.randint(0, 4)))
