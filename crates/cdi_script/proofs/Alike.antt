@@ -40,10 +40,12 @@ serves_edit kept edit same old new answer h = alike old new (EditCommand kept) (
     (λ given none acts. (acts.0, subst (λ asked. EditsFrom old (changes_in asked) new) same acts.1)) refl h
 
 -- batches whose edits ask for the same
+pub asked_alike : (kept es : List Edit) → asked_by kept ≡ asked_by es → length kept ≡ length es
+asked_alike kept es same = sym (length-map kept change_of) ∙ ap length same ∙ length-map es change_of
+
 judged_alike : (ds : List Decl) (kept es : List Edit) → asked_by kept ≡ asked_by es → refusal_of_batch ds kept ≡ refusal_of_batch ds es
-judged_alike ds kept es same =
-    let count : length kept ≡ length es = sym (length-map change_of kept) ∙ ap length same ∙ length-map change_of es in
-    ap₂ (λ n asked. if nat_lt 256 n then Some (BatchTooLong, None) else first_refusal 1 ds asked) count same
+judged_alike ds kept es same = ap₂ (λ n asked. if nat_lt 256 n then Some (BatchTooLong, None) else first_refusal 1 ds asked)
+    (asked_alike kept es same) same
 
 abbrev too_many : Option Reason
 too_many = Some (BatchTooLong, None)

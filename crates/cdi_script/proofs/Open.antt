@@ -1,9 +1,10 @@
 -- What is kept of a batch and of a put block that are open serves for all of them.
 use Rattle.std.proofs.Common.{◌≡◌, ℕ, ◌+◌, ◌<◌, List, [], ◌∷◌, ◌++◌, length, refl, ap, sym, ◌∙◌, subst, true, false, Bool, inl, inr, arith}
 use Rattle.std.specs.Prelude.{Option, Some, None, Result, Ok, Err}
-use Rattle.std.proofs.lemmas.List.{length-append, length-map, map-append}
+use Rattle.std.proofs.lemmas.List.{length-append, map-append}
 use Rattle.cdi_model.specs.declared.refusal.Refusal.{Refusal}
 use Rattle.cdi_lines.specs.declared.command.Command.{Command}
+use Rattle.cdi_lines.specs.declared.command.Command.TheVariants.{Unreadable}
 use Rattle.cdi_lines.specs.declared.command.Said.{Said}
 use Rattle.cdi_lines.specs.declared.command.Said.TheVariants as said
 use Rattle.cdi_lines.specs.declared.edit.Edit.{Edit}
@@ -16,18 +17,15 @@ use Rattle.cdi_script.specs.Commands.{batch_ended, taken, taken_at, taken_said, 
 use Rattle.cdi_script.specs.Begun.{ServesEdits, ServesOpen, ServesBatch, ServesBlock, ServesMode, ServesCommand, ServesCompleted, ServesTaken}
 use Rattle.cdi_script.proofs.Runs.{cc_append}
 use Rattle.cdi_script.proofs.Serving.{serves_command, serves_dot, serves_with_line, serves_serving_text}
-use Rattle.cdi_script.proofs.Alike.{serves_edit, serves_batch, asks_alike}
+use Rattle.cdi_script.proofs.Alike.{asked_alike, serves_edit, serves_batch, asks_alike}
 
 -- ---- edits
-
-asked_alike : (kept es : List Edit) → asked_by kept ≡ asked_by es → length kept ≡ length es
-asked_alike kept es same = sym (length-map change_of kept) ∙ ap length same ∙ length-map change_of es
 
 pub serves_with_edit : (kept es : List Edit) (a b : Edit) → ServesEdits kept es → change_of a ≡ change_of b
     → ServesEdits (kept ++ a ∷ []) (es ++ b ∷ [])
 serves_with_edit kept es a b (inl same) asks = inl (
-  map-append change_of kept (a ∷ []) ∙ cc_append _ _ _ _ same (ap (λ c. c ∷ []) asks) ∙ sym (map-append change_of es (b ∷ []))
-)
+    map-append change_of kept (a ∷ []) ∙ cc_append _ _ _ _ same (ap (λ c. c ∷ []) asks) ∙ sym (map-append change_of es (b ∷ []))
+    )
 serves_with_edit kept es a b (inr many) asks = inr (
   omega (arith, length-append kept (a ∷ []), many.0),
   omega (arith, length-append es (b ∷ []), many.1),
@@ -132,10 +130,10 @@ serves_ended : (kept batch : OpenBatch) → ServesOpen kept batch → ServesComm
 serves_ended (Edits kept) (Edits es) h = serves_batch kept es h
 serves_ended (Edits kept) Spoiled h = absurd h
 serves_ended Spoiled (Edits es) h = absurd h
-serves_ended Spoiled Spoiled h = command_itself (command_of_batch Spoiled)
+serves_ended Spoiled Spoiled h = command_itself Unreadable
 
 serves_batch_ended : (kept batch : Option OpenBatch) → ServesBatch kept batch → ServesSame (batch_ended kept) (batch_ended batch)
-serves_batch_ended None None h = record { command = command_itself _; mode = record { batch = tt; text = tt } }
+serves_batch_ended None None h = record { command = command_itself Unreadable; mode = record { batch = tt; text = tt } }
 serves_batch_ended None (Some batch) h = absurd h
 serves_batch_ended (Some kept) None h = absurd h
 serves_batch_ended (Some kept) (Some batch) h =
@@ -149,7 +147,7 @@ serves_said kept batch (Ok said.BatchBegins) h = serves_batch_begun kept batch h
 serves_said kept batch (Ok said.BatchEnds) h = serves_batch_ended kept batch h
 serves_said kept batch (Ok (said.Edit edit)) h = serves_edited kept batch edit edit h refl
 serves_said kept batch (Ok (said.Command command)) h = serves_commanded kept batch command h
-serves_said kept batch (Err refusal) h = serves_commanded kept batch _ h
+serves_said kept batch (Err refusal) h = serves_commanded kept batch Unreadable h
 
 serves_in_put : (kept batch : Option OpenBatch) (kept_text text kept_line line : List ℕ) → ServesBatch kept batch
     → ServesText kept_text text → ServesLine kept_line line → (dot : Bool) → is_dot kept_line ≡ dot → is_dot line ≡ dot

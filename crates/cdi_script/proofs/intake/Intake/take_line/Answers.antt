@@ -1,5 +1,7 @@
-use Rattle.std.proofs.Common.{refl}
+use Rattle.std.proofs.Common.{refl, subst}
 use Rattle.std.proofs.lemmas.Result.{on_ok_weaker, on_err_weaker}
+use Rattle.cdi_script.specs.Commands.{taken}
+use Rattle.cdi_script.specs.Begun.{ServesTaken}
 use Rattle.cdi_script.specs.Intake.{intake_on}
 use Rattle.cdi_script.proofs.Taking.{takes_none, takes_some, tries_some}
 use Rattle.cdi_script.proofs.intake.Intake.take_line.Goals as goal
@@ -7,16 +9,20 @@ use Rattle.cdi_script.proofs.intake.Intake.take_line.Goals as goal
 pub returns-in-None-clause-ok : goal.returns-in-None-clause-ok
 returns-in-None-clause-ok g c = takes_none (intake_on c.args.self.now c.args.container.now)
     (intake_on (record c.args.self.now { mode = c.take_line.new.self }) c.args.container.now) c.args.line.now refl refl
-    c.in-None.ensures
+    (subst (λ k. ServesTaken k c.take_line.new.self (taken c.args.self.now.mode c.args.line.now)) c.in-None.is c.in_ok-take_line.ensures)
 
 pub returns-in-Some-clause-ok : goal.returns-in-Some-clause-ok
 returns-in-Some-clause-ok g c = on_ok_weaker c.execute.result
     (takes_some (intake_on c.args.self.now c.args.container.now)
     (intake_on (record c.args.self.now { runner = c.execute.new.self; mode = c.take_line.new.self }) c.execute.new.container)
-    c.args.line.now c.in-Some.command refl c.in-Some.ensures) c.execute.ensures.ok
+    c.args.line.now c.in-Some.command refl
+    (subst (λ k. ServesTaken k c.take_line.new.self (taken c.args.self.now.mode c.args.line.now)) c.in-Some.is c.in_ok-take_line.ensures))
+    c.execute.ensures.ok
 
 pub returns-in-Some-clause-tries : goal.returns-in-Some-clause-tries
 returns-in-Some-clause-tries g c = on_err_weaker c.execute.result
     (tries_some (intake_on c.args.self.now c.args.container.now)
     (intake_on (record c.args.self.now { runner = c.execute.new.self; mode = c.take_line.new.self }) c.execute.new.container)
-    c.take_line.new.self c.args.line.now c.in-Some.command c.in-Some.ensures) c.execute.ensures.tries
+    c.take_line.new.self c.args.line.now c.in-Some.command
+    (subst (λ k. ServesTaken k c.take_line.new.self (taken c.args.self.now.mode c.args.line.now)) c.in-Some.is c.in_ok-take_line.ensures))
+    c.execute.ensures.tries
