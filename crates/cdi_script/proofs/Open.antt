@@ -1,5 +1,5 @@
 -- What is kept of a batch and of a put block that are open serves for all of them.
-use Rattle.std.proofs.Common.{◌≡◌, ℕ, ◌+◌, ◌<◌, List, [], ◌∷◌, ◌++◌, length, refl, ap, sym, ◌∙◌, subst, true, false, Bool, inl, inr, arith}
+use Rattle.std.proofs.Common.{◌≡◌, ℕ, ◌<◌, List, [], ◌∷◌, ◌++◌, refl, ap, sym, ◌∙◌, subst, true, false, Bool, inl, inr, arith}
 use Rattle.std.specs.Prelude.{Option, Some, None, Result, Ok, Err}
 use Rattle.std.proofs.lemmas.List.{length-append, map-append}
 use Rattle.cdi_model.specs.declared.refusal.Refusal.{Refusal}
@@ -10,8 +10,8 @@ use Rattle.cdi_lines.specs.declared.command.Said.TheVariants as said
 use Rattle.cdi_lines.specs.declared.edit.Edit.{Edit}
 use Rattle.cdi_lines.specs.declared.edit.Edit.TheVariants as edits
 use Rattle.cdi_lines.specs.Command.{said_of_line}
-use Rattle.cdi_lines.specs.Kept.{ServesLine, ServesText, with_line}
-use Rattle.cdi_container.specs.Editing.{asked_by, change_of}
+use Rattle.cdi_lines.specs.Kept.{ServesLine, ServesText}
+use Rattle.cdi_container.specs.Editing.{change_of}
 use Rattle.cdi_script.specs.Commands.{OpenBatch, Edits, Spoiled, Mode, Taken, with_edit, command_of_batch, edited, commanded, batch_begun}
 use Rattle.cdi_script.specs.Commands.{batch_ended, taken, taken_at, taken_said, taken_in_put, is_dot, unclosed, unclosed_at}
 use Rattle.cdi_script.specs.Begun.{ServesEdits, ServesOpen, ServesBatch, ServesBlock, ServesMode, ServesCommand, ServesCompleted, ServesTaken}
