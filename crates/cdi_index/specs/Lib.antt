@@ -1,2 +1,5 @@
 pub mod Counted
+pub mod Made
+pub mod Kept
+pub mod Next
 pub mod State

@@ -1,11 +1,16 @@
 -- What is seen of an index.
-use Rattle.std.specs.Prelude.{◌≡◌, ℕ, List, [], ◌∷◌, ◌++◌, Option, Some, None}
+use Rattle.std.specs.Prelude.{◌≡◌, List, [], ◌∷◌, ◌++◌, Option, Some, None, option_map}
 use Rattle.cdi_model.specs.declared.decl.Decl.{Decl}
 use Rattle.cdi_model.specs.declared.edit.Edit.{Edit}
 use Rattle.cdi_model.specs.declared.key.DeclKey.{DeclKey}
 use Rattle.cdi_model.specs.Edits.{edited, edited_all, edited_key, edited_keys}
+use Rattle.cdi_postings.specs.Listing.{Listing}
 use Rattle.cdi_index.specs.Counted.{counted}
 use Rattle.cdi_index.specs.declared.counts.Counts.{Counts}
+use Rattle.cdi_index.specs.declared.prepare.Next.{Next}
+use Rattle.cdi_index.specs.declared.shelf.Shelf.{Shelf}
+use Rattle.cdi_index.specs.Kept.{stored, IsExact, IsFreeFrom, IsShelf, IsSound}
+use Rattle.cdi_index.specs.Next.{IsNext}
 
 -- ---- drafts
 
@@ -58,3 +63,23 @@ committed_to state (Some next) = record { decls = next.decls; counts = next.coun
 
 abbrev pub committed : State → State
 committed state = committed_to state state.staged
+
+-- ---- as it is kept
+
+abbrev pub seen_next : Next → Staged
+seen_next next = record { decls = next.decls; counts = next.counts }
+
+abbrev pub seen : List Decl → Counts → Option Next → State
+seen ds counts next = record { decls = ds; counts = counts; staged = option_map seen_next next }
+
+abbrev pub MayBeNext : Shelf → List Listing → Option Next → Type 0
+MayBeNext shelf listings None = Unit {0}
+MayBeNext shelf listings (Some next) = IsNext shelf listings next
+
+-- What is kept is exact, each slot is listed under its words, and what is staged is prepared.
+pub record IsIndex (ds : List Decl) (shelf : Shelf) (listings : List Listing) (next : Option Next) : Type 0 where
+  pub shelved : IsShelf shelf
+  pub free : IsFreeFrom shelf.given shelf
+  pub exact : IsExact ds (stored shelf)
+  pub sound : IsSound (stored shelf) listings
+  pub staged : MayBeNext shelf listings next

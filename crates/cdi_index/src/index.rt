@@ -4,35 +4,33 @@ ghost use Rattle.cdi_index.specs.State.{committed, drafted_from, empty, staged_b
 
 use crate::counts::Counts;
 use crate::draft::Draft;
-use cdi_effective::reads_of;
-use cdi_match::closure;
-use cdi_model::{Decl, DeclKey, Decls, Kind};
+use crate::install::install;
+use crate::prepare::{Next, prepare};
+use crate::shelf::Shelf;
+use cdi_model::Decls;
+use cdi_postings::Postings;
 use std::alloc::{AllocError, Global};
 use std::marker::Model;
-
-/// What a commit takes over.
-#[derive(Drop)]
-pub(crate) struct Next {
-    pub(crate) decls: Decls,
-    pub(crate) counts: Counts,
-}
 
 /// The declarations, with what is made of each, and at most one draft that is staged.
 #[derive(Drop)]
 pub struct Index {
+    alloc: Global,
     decls: Decls,
+    shelf: Shelf,
+    postings: Postings,
     counts: Counts,
     next: Option<Next>,
-    alloc: Global,
 }
 
 impl Model for Index {
-    ghost use Rattle.std.specs.Prelude.{option_map};
-    ghost use Rattle.cdi_index.specs.State.{State};
+    ghost use Rattle.cdi_index.specs.State.{seen, IsIndex, State};
 
     ghost Value = { State };
 
-    ghost view = { λ i. record { decls = i.decls; counts = i.counts; staged = option_map (λ n. record { decls = n.decls; counts = n.counts }) i.next } };
+    ghost view = { λ i. seen i.decls i.counts i.next };
+
+    ghost invariant = { λ i. IsIndex i.decls i.shelf i.postings i.next };
 }
 
 impl Index {
@@ -41,13 +39,15 @@ impl Index {
         ensures { result ≡ empty }
     {
         Index {
+            alloc,
             decls: Decls::new(alloc),
+            shelf: Shelf::new(alloc),
+            postings: Postings::new(alloc),
             counts: Counts {
                 closures: 0,
                 beans: 0,
             },
             next: None,
-            alloc,
         }
     }
 
@@ -80,14 +80,15 @@ impl Index {
         ensures err { OnErr result (self.new ≡ with_staged self.old None) }
     {
         self.next = None;
-        let counts = Counts {
-            closures: count(self.alloc, Kind::Type, &self.decls, &draft, self.counts.closures)?,
-            beans: count(self.alloc, Kind::Bean, &self.decls, &draft, self.counts.beans)?,
-        };
-        self.next = Some(Next {
-            decls: draft.decls,
-            counts,
-        });
+        let next = prepare(
+            self.alloc,
+            &self.decls,
+            &mut self.shelf,
+            &mut self.postings,
+            self.counts,
+            draft,
+        )?;
+        self.next = Some(next);
         Ok(())
     }
 
@@ -96,46 +97,15 @@ impl Index {
         ensures { self.new ≡ committed self.old }
     {
         if let Some(next) = self.next.take() {
+            self.shelf.given = next.first + next.changes.len() as u64;
+            install(
+                &mut self.shelf,
+                &mut self.postings,
+                next.first,
+                next.changes,
+            );
             self.decls = next.decls;
             self.counts = next.counts;
         }
-    }
-}
-
-fn count(alloc: Global, kind: Kind, decls: &Decls, draft: &Draft, before: u64) -> Result<u64, AllocError> {
-    let mut count = before;
-    for decl in draft.decls.iter() {
-        if decl.kind() == kind && is_computed(alloc, decls, decl, draft)? {
-            count = count.saturating_add(1);
-        }
-    }
-    Ok(count)
-}
-
-fn is_computed(alloc: Global, decls: &Decls, decl: &Decl, draft: &Draft) -> Result<bool, AllocError> {
-    match decls.get(decl.kind(), decl.name()) {
-        Some(Decl::Bean(bean)) => {
-            let reads = reads_of(alloc, decls, decls, bean)?;
-            for key in reads.as_slice() {
-                for other in draft.keys.as_slice() {
-                    if *key == *other {
-                        return Ok(true);
-                    }
-                }
-            }
-            Ok(false)
-        }
-        Some(Decl::Type(_)) => {
-            let types = closure(alloc, decls, *decl.name())?;
-            for name in types.as_slice() {
-                for other in draft.keys.as_slice() {
-                    if other.kind == Kind::Type && *name == other.name {
-                        return Ok(true);
-                    }
-                }
-            }
-            Ok(false)
-        }
-        _ => Ok(true),
     }
 }

@@ -1,9 +1,15 @@
 //! The declarations with what is made of each, kept until something that it read is edited.
 #![tactic(auto)]
 
+mod affected;
+mod change;
 mod counts;
 mod draft;
 mod index;
+mod install;
+mod making;
+mod prepare;
+mod shelf;
 
 pub use counts::Counts;
 pub use draft::Draft;

@@ -1,0 +1,114 @@
+-- Which declarations edits affect, and that what is made of the others stays.
+use Rattle.std.proofs.Common.{◌≡◌, ℕ, Bool, true, false, ◌&&◌, ◌||◌, List, [], ◌∷◌, map, Option, Some, None, option_map}
+use Rattle.std.proofs.Common.{refl, sym, ap, ◌∙◌}
+use Rattle.std.specs.List.{list_any}
+use Rattle.std.proofs.lemmas.Bool.{or_parts}
+use Rattle.cdi_model.specs.declared.decl.BeanDecl.{BeanDecl}
+use Rattle.cdi_model.specs.declared.decl.Decl.{Decl}
+use Rattle.cdi_model.specs.declared.decl.Kind.{Kind}
+use Rattle.cdi_model.specs.declared.decl.Kind.TheVariants as kinds
+use Rattle.cdi_model.specs.declared.edit.Edit.{Edit}
+use Rattle.cdi_model.specs.declared.key.DeclKey.{DeclKey}
+use Rattle.cdi_model.specs.DeclKey.{key_at, same_key}
+use Rattle.cdi_model.specs.DeclList.{find_decl}
+use Rattle.cdi_model.specs.Edits.{edited_all, edited_keys, is_among, Avoid}
+use Rattle.cdi_model.proofs.EditLemmas.{edits_keep_decl}
+use Rattle.cdi_model.proofs.EntryLemmas.{key_exact}
+use Rattle.cdi_match.proofs.LocalityLemmas.{edits_keep_closure}
+use Rattle.cdi_effective.specs.Beans.{own_records}
+use Rattle.cdi_effective.specs.Disposers.{as_bean, find_bean}
+use Rattle.cdi_effective.specs.Reads.{record_reads}
+use Rattle.cdi_effective.proofs.RecordLemmas.{edits_keep_own_records}
+use Rattle.cdi_index.specs.declared.making.Made.{Made}
+use Rattle.cdi_index.specs.declared.making.Given.TheVariants as given
+use Rattle.cdi_index.specs.Made.{is_kept, made_of, made_of_bean, made_of_type, reads, reads_in}
+use Rattle.cdi_index.proofs.ChangeLemmas.{any-either, any-same, none-of}
+
+-- an edit of a key affects a declaration
+abbrev pub hits : List Decl → DeclKey → DeclKey → Bool
+hits ds k key = (is_kept key.kind && same_key key k) || reads (made_of ds k) key
+
+off : (x : Bool) → (x && false) ≡ false
+off true = refl
+off false = refl
+
+kept_same : (key k : DeclKey) → (is_kept key.kind && same_key key k) ≡ (is_kept k.kind && same_key key k)
+kept_same key k = by (same_key key k) refl
+  where
+    by : (b : Bool) → same_key key k ≡ b → (is_kept key.kind && b) ≡ (is_kept k.kind && b)
+    by true e = ap (λ (x : DeclKey). is_kept x.kind && true) (key_exact key k e)
+    by false e = off (is_kept key.kind) ∙ sym (off (is_kept k.kind))
+
+any-and : (b : Bool) (p : DeclKey → Bool) (keys : List DeclKey) → list_any (λ x. b && p x) keys ≡ (b && list_any p keys)
+any-and true p keys = refl
+any-and false p [] = refl
+any-and false p (x ∷ keys) = any-and false p keys
+
+-- a declaration is edited, or what is made of it read an edited one
+pub hit-parts : (ds : List Decl) (keys : List DeclKey) (k : DeclKey) → list_any (hits ds k) keys
+    ≡ ((is_kept k.kind && is_among keys k) || list_any (reads (made_of ds k)) keys)
+hit-parts ds keys k =
+    any-either (λ key. is_kept key.kind && same_key key k) (reads (made_of ds k)) keys
+    ∙ ap (λ b. b || list_any (reads (made_of ds k)) keys)
+    (any-same (λ key. is_kept key.kind && same_key key k) (λ key. is_kept k.kind && same_key key k) keys (λ key. kept_same key k)
+    ∙ any-and (is_kept k.kind) (λ key. same_key key k) keys)
+
+-- where edits read none of some keys they avoid them
+avoids : (edits : List Edit) (made : Option Made) → list_any (reads made) (edited_keys edits) ≡ false → Avoid (reads_in made) edits
+avoids edits made none key among = none-of (reads made) (edited_keys edits) key none among
+
+abbrev made_with : List (List ℕ) → Made
+made_with types = record { reads = map (key_at kinds.Type) types; given = given.Types types }
+
+-- what is made of a declaration that is not affected stays
+stays : (ds : List Decl) (edits : List Edit) (kind : Kind) (name : List ℕ)
+    → list_any (hits ds (key_at kind name)) (edited_keys edits) ≡ false
+    → made_of (edited_all ds edits) (key_at kind name) ≡ made_of ds (key_at kind name)
+stays ds edits kinds.Type name none =
+    let k = key_at kinds.Type name in
+    let parts = or_parts (is_among (edited_keys edits) k) (list_any (reads (made_of ds k)) (edited_keys edits))
+    (sym (hit-parts ds (edited_keys edits) k) ∙ none) in
+    by (find_decl kinds.Type name ds) refl (edits_keep_decl edits ds kinds.Type name parts.0) parts.1
+  where
+    by : (o : Option Decl) → find_decl kinds.Type name ds ≡ o
+        → find_decl kinds.Type name (edited_all ds edits) ≡ find_decl kinds.Type name ds
+        → list_any (reads (option_map (λ d. made_of_type ds name) (find_decl kinds.Type name ds))) (edited_keys edits) ≡ false
+        → option_map (λ d. made_of_type (edited_all ds edits) name) (find_decl kinds.Type name (edited_all ds edits))
+        ≡ option_map (λ d. made_of_type ds name) (find_decl kinds.Type name ds)
+    by None e same unread = ap (option_map (λ d. made_of_type (edited_all ds edits) name)) (same ∙ e)
+        ∙ sym (ap (option_map (λ d. made_of_type ds name)) e)
+    by (Some d) e same unread =
+        let unread_types : list_any (reads (Some (made_of_type ds name))) (edited_keys edits) ≡ false =
+        ap (λ o. list_any (reads (option_map (λ d. made_of_type ds name) o)) (edited_keys edits)) (sym e) ∙ unread in
+        ap (option_map (λ d. made_of_type (edited_all ds edits) name)) (same ∙ e)
+        ∙ ap (λ types. Some (made_with types)) (edits_keep_closure edits ds name (avoids edits (Some (made_of_type ds name)) unread_types))
+        ∙ sym (ap (option_map (λ d. made_of_type ds name)) e)
+stays ds edits kinds.Bean name none =
+    let k = key_at kinds.Bean name in
+    let parts = or_parts (is_among (edited_keys edits) k) (list_any (reads (made_of ds k)) (edited_keys edits))
+    (sym (hit-parts ds (edited_keys edits) k) ∙ none) in
+    by (find_bean name ds) refl (ap as_bean (edits_keep_decl edits ds kinds.Bean name parts.0)) parts.1
+  where
+    by : (o : Option BeanDecl) → find_bean name ds ≡ o
+        → find_bean name (edited_all ds edits) ≡ find_bean name ds
+        → list_any (reads (option_map (made_of_bean ds) (find_bean name ds))) (edited_keys edits) ≡ false
+        → option_map (made_of_bean (edited_all ds edits)) (find_bean name (edited_all ds edits))
+        ≡ option_map (made_of_bean ds) (find_bean name ds)
+    by None e same unread = ap (option_map (made_of_bean (edited_all ds edits))) (same ∙ e)
+        ∙ sym (ap (option_map (made_of_bean ds)) e)
+    by (Some bean) e same unread =
+        let unread_bean : list_any (reads (Some (made_of_bean ds bean))) (edited_keys edits) ≡ false =
+        ap (λ o. list_any (reads (option_map (made_of_bean ds) o)) (edited_keys edits)) (sym e) ∙ unread in
+        let leave = edits_keep_own_records edits ds bean (avoids edits (Some (made_of_bean ds bean)) unread_bean) in
+        ap (option_map (made_of_bean (edited_all ds edits))) (same ∙ e)
+        ∙ ap (λ rs. Some (record { reads = rs; given = given.Records (own_records (edited_all ds edits) bean) })) leave.reads
+        ∙ ap (λ rs. Some (record { reads = record_reads ds bean; given = given.Records rs })) leave.records
+        ∙ sym (ap (option_map (made_of_bean ds)) e)
+stays ds edits kinds.Qualifier name none = refl
+stays ds edits kinds.Binding name none = refl
+stays ds edits kinds.Stereotype name none = refl
+stays ds edits kinds.Interceptor name none = refl
+
+pub made-stays : (ds : List Decl) (edits : List Edit) (k : DeclKey) → list_any (hits ds k) (edited_keys edits) ≡ false
+    → made_of (edited_all ds edits) k ≡ made_of ds k
+made-stays ds edits k none = stays ds edits k.kind k.name none

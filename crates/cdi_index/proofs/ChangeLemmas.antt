@@ -1,0 +1,161 @@
+-- Changes that are taken over one after another, and those that are made of declarations.
+use Rattle.std.proofs.Common.{◌≡◌, ℕ, suc, ◌+◌, Bool, true, false, cond, ◌&&◌, ◌||◌, List, [], ◌∷◌, ◌++◌, map, length, filter, Option, Some, None, option_map}
+use Rattle.std.proofs.Common.{is_some, refl, sym, ap, ◌∙◌}
+use Rattle.std.specs.List.{list_any, slice_get}
+use Rattle.std.proofs.lemmas.Bool.{or_left, or_right, false≢true}
+use Rattle.std.proofs.Math.Nat.{add-zero, add-suc, suc-add}
+use Rattle.cdi_model.specs.declared.decl.Decl.{Decl}
+use Rattle.cdi_model.specs.declared.decl.Kind.{Kind}
+use Rattle.cdi_model.specs.declared.key.DeclKey.{DeclKey}
+use Rattle.cdi_model.specs.DeclKey.{same_key, same_key_equiv}
+use Rattle.cdi_model.specs.Edits.{is_among}
+use Rattle.cdi_model.proofs.EntryLemmas.{key_exact}
+use Rattle.cdi_index.specs.declared.change.Change.{Change}
+use Rattle.cdi_index.specs.declared.making.Made.{Made}
+use Rattle.cdi_index.specs.Counted.{is_of_kind}
+use Rattle.cdi_index.specs.Kept.{Stored, made_in}
+use Rattle.cdi_index.specs.Made.{made_of}
+use Rattle.cdi_index.specs.Next.{applied, change_of, is_made, stored_as}
+
+abbrev pub StoredBy : Type 0
+StoredBy = DeclKey → Option Stored
+
+-- one slot and one thing made are kept where one thing is
+slot-or : ℕ → Option Stored → ℕ
+slot-or slot None = slot
+slot-or slot (Some stored) = stored.0
+
+made-or : Made → Option Stored → Made
+made-or made None = made
+made-or made (Some stored) = stored.1
+
+abbrev stored_as_one : ℕ → Made → Option Stored
+stored_as_one n made = Some (n, made)
+
+pub one-stored : (n s : ℕ) (x y : Made) → stored_as_one n x ≡ stored_as_one s y → (n ≡ s) × (x ≡ y)
+unfolding slot-or made-or
+one-stored n s x y e = (ap (slot-or n) e, ap (made-or x) e)
+
+slide : (n m : ℕ) → suc n + m ≡ n + suc m
+slide n m = suc-add n m ∙ sym (add-suc n m)
+
+applied-push : (n : ℕ) (cs : List Change) (c : Change) (m : StoredBy) (k : DeclKey)
+    → applied n (cs ++ c ∷ []) m k ≡ applied n cs (λ l. cond (same_key c.key l) (stored_as (n + length cs) c) (m l)) k
+applied-push n [] c m k = ap (λ i. cond (same_key c.key k) (stored_as i c) (m k)) (sym (add-zero n))
+applied-push n (d ∷ cs) c m k = ap (λ o. cond (same_key d.key k) (stored_as n d) o)
+    (applied-push (suc n) cs c m k
+    ∙ ap (λ i. applied (suc n) cs (λ l. cond (same_key c.key l) (stored_as i c) (m l)) k) (slide n (length cs)))
+
+pub applied-same : (n : ℕ) (cs : List Change) (m o : StoredBy) → ((k : DeclKey) → m k ≡ o k) → (k : DeclKey)
+    → applied n cs m k ≡ applied n cs o k
+applied-same n [] m o h k = h k
+applied-same n (c ∷ cs) m o h k = ap (λ x. cond (same_key c.key k) (stored_as n c) x) (applied-same (suc n) cs m o h k)
+
+-- the last change is taken over, at its slot
+pub applied-next : (n : ℕ) (cs rest : List Change) (c : Change) (m o : StoredBy) → cs ≡ rest ++ c ∷ []
+    → ((k : DeclKey) → o k ≡ cond (same_key c.key k) (stored_as (n + length rest) c) (m k))
+    → (k : DeclKey) → applied n rest o k ≡ applied n cs m k
+applied-next n cs rest c m o is made k =
+    applied-same n rest o (λ l. cond (same_key c.key l) (stored_as (n + length rest) c) (m l)) made k
+    ∙ sym (applied-push n rest c m k) ∙ ap (λ xs. applied n xs m k) (sym is)
+
+-- ---- changes that are made of the declarations of some keys
+
+made-as : (n : ℕ) (c : Change) → made_in (stored_as n c) ≡ c.made
+made-as n c = by c.made
+  where
+    by : (o : Option Made) → made_in (option_map {U = Stored} (λ made. (n, made)) o) ≡ o
+    by None = refl
+    by (Some made) = refl
+
+-- what is kept after them is what is made, and of other declarations what was kept
+pub applied-made : (n : ℕ) (es : List Decl) (ks : List DeclKey) (m : StoredBy) (k : DeclKey)
+    → made_in (applied n (map (change_of es) ks) m k) ≡ cond (is_among ks k) (made_of es k) (made_in (m k))
+applied-made n es [] m k = refl
+applied-made n es (l ∷ ks) m k = by (same_key l k) refl (applied-made (suc n) es ks m k)
+  where
+    by : (b : Bool) → same_key l k ≡ b
+        → made_in (applied (suc n) (map (change_of es) ks) m k) ≡ cond (is_among ks k) (made_of es k) (made_in (m k))
+        → made_in (cond b (stored_as n (change_of es l)) (applied (suc n) (map (change_of es) ks) m k))
+        ≡ cond (b || is_among ks k) (made_of es k) (made_in (m k))
+    by true e more = made-as n (change_of es l) ∙ ap (made_of es) (key_exact l k e)
+    by false e more = more
+
+-- and it is kept at the slot of the change, or where it was
+pub data Comes (n : ℕ) (es : List Decl) (ks : List DeclKey) (m : StoredBy) (k : DeclKey) (s : ℕ) (made : Made) : Type 0 where
+  Anew : (i : ℕ) (l : DeclKey) → slice_get ks i ≡ Some l → s ≡ n + i → made_of es l ≡ Some made → Comes n es ks m k s made
+  Before : is_among ks k ≡ false → m k ≡ Some (s, made) → Comes n es ks m k s made
+
+pub applied-comes : (n : ℕ) (es : List Decl) (ks : List DeclKey) (m : StoredBy) (k : DeclKey) (s : ℕ) (made : Made)
+    → applied n (map (change_of es) ks) m k ≡ Some (s, made) → Comes n es ks m k s made
+applied-comes n es [] m k s made e = Before refl e
+applied-comes n es (l ∷ ks) m k s made e = by (same_key l k) refl e (applied-comes (suc n) es ks m k s made)
+  where
+    here : (o : Option Made) → made_of es l ≡ o → option_map {U = Stored} (λ x. (n, x)) o ≡ Some (s, made) → Comes n es (l ∷ ks) m k s made
+    here None is f = absurd (let none : None ≡ Some (s, made) = f in cc)
+    here (Some x) is f =
+        let one = one-stored n s x made f in
+        Anew 0 l refl (sym one.0 ∙ sym (add-zero n)) (is ∙ ap Some one.1)
+
+    by : (b : Bool) → same_key l k ≡ b
+        → cond b (stored_as n (change_of es l)) (applied (suc n) (map (change_of es) ks) m k) ≡ Some (s, made)
+        → (applied (suc n) (map (change_of es) ks) m k ≡ Some (s, made) → Comes (suc n) es ks m k s made)
+        → Comes n es (l ∷ ks) m k s made
+    by true is f more = here (made_of es l) refl f
+    by false is f more = elim (more f) [
+      | Anew i j at slot was ↦ Anew (suc i) j at (slot ∙ slide n i) was
+      | Before none was ↦ Before (ap (λ b. b || is_among ks k) is ∙ none) was
+    ]
+
+pub count-made : (kind : Kind) (es : List Decl) (ks : List DeclKey)
+    → length (filter (is_made kind) (map (change_of es) ks)) ≡ length (filter (λ k. is_of_kind kind k && is_some (made_of es k)) ks)
+count-made kind es [] = refl
+count-made kind es (k ∷ ks) = by (is_of_kind kind k && is_some (made_of es k)) (count-made kind es ks)
+  where
+    by : (b : Bool)
+        → length (filter (is_made kind) (map (change_of es) ks)) ≡ length (filter (λ k. is_of_kind kind k && is_some (made_of es k)) ks)
+        → length (cond b (change_of es k ∷ filter (is_made kind) (map (change_of es) ks)) (filter (is_made kind) (map (change_of es) ks)))
+        ≡ length (cond b (k ∷ filter (λ k. is_of_kind kind k && is_some (made_of es k)) ks)
+        (filter (λ k. is_of_kind kind k && is_some (made_of es k)) ks))
+    by true more = ap suc more
+    by false more = more
+
+-- ---- keys among others
+
+pub any-same : {X : Type 0} (p q : X → Bool) (xs : List X) → ((x : X) → p x ≡ q x) → list_any p xs ≡ list_any q xs
+any-same p q [] h = refl
+any-same p q (x ∷ xs) h = λ i. h x i || any-same p q xs h i
+
+pub among-turned : (ks : List DeclKey) (k : DeclKey) → list_any (same_key k) ks ≡ is_among ks k
+among-turned ks k = any-same (same_key k) (λ l. same_key l k) ks (λ l. same_key_equiv.symm k l)
+
+-- what no key of some has none among them has
+pub none-of : (p : DeclKey → Bool) (keys : List DeclKey) (key : DeclKey) → list_any p keys ≡ false → is_among keys key ≡ true → p key ≡ false
+none-of p [] key none among = absurd (false≢true among)
+none-of p (l ∷ keys) key none among = by (same_key l key) refl (p l) refl (none-of p keys key)
+  where
+    by : (b : Bool) → same_key l key ≡ b → (c : Bool) → p l ≡ c
+        → (list_any p keys ≡ false → is_among keys key ≡ true → p key ≡ false) → p key ≡ false
+    by true e true f more = absurd (false≢true (sym none ∙ ap (λ x. x || list_any p keys) f))
+    by true e false f more = ap p (sym (key_exact l key e)) ∙ f
+    by false e true f more = absurd (false≢true (sym none ∙ ap (λ x. x || list_any p keys) f))
+    by false e false f more = more (sym (ap (λ x. x || list_any p keys) f) ∙ none)
+        (sym (ap (λ x. x || is_among keys key) e) ∙ among)
+
+pub any-of : (p : DeclKey → Bool) (keys : List DeclKey) (key : DeclKey) → p key ≡ true → is_among keys key ≡ true → list_any p keys ≡ true
+any-of p [] key passes among = absurd (false≢true among)
+any-of p (l ∷ keys) key passes among = by (same_key l key) refl (any-of p keys key passes)
+  where
+    by : (b : Bool) → same_key l key ≡ b → (is_among keys key ≡ true → list_any p keys ≡ true) → list_any p (l ∷ keys) ≡ true
+    by true e more = or_left (p l) (list_any p keys) (ap p (key_exact l key e) ∙ passes)
+    by false e more = or_right (p l) (list_any p keys) (more (sym (ap (λ x. x || is_among keys key) e) ∙ among))
+
+pub any-either : {X : Type 0} (p q : X → Bool) (xs : List X) → list_any (λ x. p x || q x) xs ≡ (list_any p xs || list_any q xs)
+any-either p q [] = refl
+any-either p q (x ∷ xs) = ap (λ b. (p x || q x) || b) (any-either p q xs) ∙ turned (p x) (q x) (list_any p xs) (list_any q xs)
+  where
+    turned : (a b c d : Bool) → ((a || b) || (c || d)) ≡ ((a || c) || (b || d))
+    turned true b c d = refl
+    turned false true true d = refl
+    turned false true false d = refl
+    turned false false c d = refl

@@ -1,0 +1,125 @@
+-- Changes that are taken over one after another, from the last on.
+use Rattle.std.proofs.Common.{◌≡◌, ◌≢◌, ◌≤◌, ◌<◌, ◌+◌, ◌⊎◌, ℕ, suc, Bool, true, false, cond, List, [], ◌∷◌, ◌++◌, length}
+use Rattle.std.proofs.Common.{Option, Some, None, option_map, refl, sym, ap, ◌∙◌, inl, inr, arith, length-append}
+use Rattle.std.proofs.lemmas.Bool.{false≢true}
+use Rattle.cdi_model.specs.declared.key.DeclKey.{DeclKey}
+use Rattle.cdi_model.specs.DeclKey.{same_key, same_key_equiv}
+use Rattle.cdi_postings.specs.declared.word.Word.{Word}
+use Rattle.cdi_postings.specs.Listing.{Listing, is_listed}
+use Rattle.cdi_index.specs.declared.change.Change.{Change}
+use Rattle.cdi_index.specs.declared.making.Made.{Made}
+use Rattle.cdi_index.specs.declared.shelf.Kept.{Kept}
+use Rattle.cdi_index.specs.declared.shelf.Shelf.{Shelf}
+use Rattle.cdi_index.specs.Kept.{kept_at, slot_of, stored, IsShelf, IsSound, Stored}
+use Rattle.cdi_index.specs.Next.{applied, stored_as}
+use Rattle.cdi_index.proofs.ChangeLemmas.{applied-next, one-stored, StoredBy}
+use Rattle.cdi_index.proofs.ShelfLemmas.{found}
+
+-- what is kept is at slots below n, or at those that so many of the changes, the last ones, were given
+abbrev pub IsFreeBetween : ℕ → ℕ → ℕ → Shelf → Type 0
+IsFreeBetween n left all shelf = (s : ℕ) (e : Kept) → kept_at shelf s ≡ Some e → (s < n) ⊎ ((n + left ≤ s) × (s < n + all))
+
+-- what is kept after changes is at the slot of one, or was there
+applied-from : (n : ℕ) (cs : List Change) (m : StoredBy) (k : DeclKey) (s : ℕ) (made : Made) → applied n cs m k ≡ Some (s, made)
+    → ((n ≤ s) × (s < n + length cs)) ⊎ (m k ≡ Some (s, made))
+applied-from n [] m k s made e = inr e
+applied-from n (c ∷ cs) m k s made e = by (same_key c.key k) e (applied-from (suc n) cs m k s made)
+  where
+    here : (o : Option Made) → option_map {U = Stored} (λ x. (n, x)) o ≡ Some (s, made) → n ≡ s
+    here None f = absurd (let none : None ≡ Some (s, made) = f in cc)
+    here (Some x) f = (one-stored n s x made f).0
+
+    by : (b : Bool) → cond b (stored_as n c) (applied (suc n) cs m k) ≡ Some (s, made)
+        → (applied (suc n) cs m k ≡ Some (s, made) → ((suc n ≤ s) × (s < suc n + length cs)) ⊎ (m k ≡ Some (s, made)))
+        → ((n ≤ s) × (s < n + length (c ∷ cs))) ⊎ (m k ≡ Some (s, made))
+    by true f more = let at = here c.made f in inl (omega (arith, at), omega (arith, at))
+    by false f more = elim (more f) [
+      | inl between ↦ inl (omega (arith, between.0), omega (arith, between.1))
+      | inr was ↦ inr was
+    ]
+
+module _ (n all : ℕ) (cs rest : List Change) (c : Change) (is : cs ≡ rest ++ c ∷ []) (shelf : Shelf)
+    (free : IsFreeBetween n (length cs) all shelf) where
+  abbrev slot : ℕ
+  slot = n + length rest
+
+  longer : length cs ≡ length rest + 1
+  longer = ap length is ∙ length-append rest (c ∷ [])
+
+  apart : (e : Kept) → kept_at shelf slot ≡ Some e → ⊥
+  apart e there = elim (free slot e there) [
+    | inl below ↦ omega (arith, below)
+    | inr between ↦ omega (arith, between.0, longer)
+  ]
+
+  -- the slot of the last change is free
+  pub slot-free : kept_at shelf slot ≡ None
+  slot-free = by (kept_at shelf slot) refl
+    where
+      by : (o : Option Kept) → kept_at shelf slot ≡ o → o ≡ None
+      by None at = refl
+      by (Some e) at = absurd (apart e at)
+
+  module _ (new : Shelf) (few : length cs ≤ all)
+      (others : (s : ℕ) (e : Kept) → kept_at new s ≡ Some e → (s ≡ slot) ⊎ (kept_at shelf s ≡ Some e)) where
+    -- those of the changes before it stay free
+    pub free-left : IsFreeBetween n (length rest) all new
+    free-left s e there = elim (others s e there) [
+      | inl at ↦ inr (omega (arith, at), omega (arith, at, few, longer))
+      | inr was ↦ elim (free s e was) [
+        | inl below ↦ inl below
+        | inr between ↦ inr (omega (arith, between.0, longer), between.1)
+      ]
+    ]
+
+  module _ (new : Shelf) (shelved : IsShelf shelf) (old more : List Listing)
+      (made : (k : DeclKey) → stored new k ≡ cond (same_key c.key k) (stored_as slot c) (stored shelf k))
+      (sound : IsSound (applied n cs (stored shelf)) old)
+      (listed : (w : Word) (s : ℕ) → option_map (λ m. m.0) (stored shelf c.key) ≢ Some s → is_listed old w s ≡ true
+      → is_listed more w s ≡ true) where
+    -- what remains kept is not at the slot that the changed declaration had
+    other-slot : (k : DeclKey) (s : ℕ) (m : Made) → applied n rest (stored new) k ≡ Some (s, m)
+        → option_map (λ x. x.0) (stored shelf c.key) ≡ Some s → ⊥
+    other-slot k s m at had = by (stored shelf c.key) refl had
+      where
+        old-one : (x : Made) → stored shelf c.key ≡ Some (s, x) → ⊥
+        old-one x was =
+            let there = found (slot_of shelf) (kept_at shelf) shelved.owns c.key s x was in
+            elim (applied-from n rest (stored new) k s m at) [
+              | inl between ↦ elim (free s there.entry there.there) [
+                | inl below ↦ omega (arith, below, between.0)
+                | inr above ↦ omega (arith, above.0, between.1, longer)
+              ]
+              | inr kept ↦ here (same_key c.key k) refl (sym (made k) ∙ kept)
+            ]
+          where
+            there-is : (e : Kept) × (kept_at shelf s ≡ Some e) × (e.key ≡ c.key)
+            there-is = let it = found (slot_of shelf) (kept_at shelf) shelved.owns c.key s x was in (it.entry, it.there, it.key)
+
+            at_slot : (o : Option Made) → option_map {U = Stored} (λ y. (slot, y)) o ≡ Some (s, m) → slot ≡ s
+            at_slot None f = absurd (let none : None ≡ Some (s, m) = f in cc)
+            at_slot (Some y) f = (one-stored slot s y m f).0
+
+            here : (b : Bool) → same_key c.key k ≡ b → cond b (stored_as slot c) (stored shelf k) ≡ Some (s, m) → ⊥
+            here true e f = apart there-is.0 (ap (kept_at shelf) (at_slot c.made f) ∙ there-is.1)
+            here false e f =
+                let it = found (slot_of shelf) (kept_at shelf) shelved.owns k s m f in
+                let one : Some there-is.0 ≡ Some it.entry = sym there-is.1 ∙ it.there in
+                let same : there-is.0 ≡ it.entry = cc in
+                let keys : c.key ≡ k = sym there-is.2 ∙ ap (λ (y : Kept). y.key) same ∙ it.key in
+                false≢true (sym e ∙ ap (same_key c.key) (sym keys) ∙ same_key_equiv.refl c.key)
+
+        by : (o : Option (ℕ × Made)) → stored shelf c.key ≡ o → option_map (λ x. x.0) o ≡ Some s → ⊥
+        by None was f = absurd (let none : None ≡ Some s = f in cc)
+        by (Some x) was f =
+            let one : Some x.0 ≡ Some s = f in
+            let same : x.0 ≡ s = cc in
+            old-one x.1 (was ∙ ap (λ i. Some (i, x.1)) same)
+
+    pub sound-left : IsSound (applied n rest (stored new)) more
+    sound-left w k s m at has = listed w s (other-slot k s m at)
+        (sound w k s m (sym (applied-next n cs rest c (stored shelf) (stored new) is made k) ∙ at) has)
+
+pub no-items : {X : Type 0} (xs : List X) → length xs ≡ 0 → xs ≡ []
+no-items [] e = refl
+no-items (x ∷ xs) e = absurd (omega (arith, e))

@@ -1,0 +1,162 @@
+-- The steps of loops over declarations, their words and their slots.
+use Rattle.std.proofs.Common.{◌≡◌, ◌≢◌, ◌<◌, ◌+◌, ◌⊎◌, ℕ, zero, suc, nat_eq, Bool, true, false, cond, not, ◌&&◌, ◌||◌, List, [], ◌∷◌, ◌++◌, length, map, take, get_or}
+use Rattle.std.proofs.Common.{refl, sym, ap, ◌∙◌, inl, inr, Option, Some, None}
+use Rattle.std.specs.List.{list_any, slice_get}
+use Rattle.std.proofs.lemmas.Bool.{and_from, or_cases, or_left, or_right, eqb-true}
+use Rattle.std.proofs.lemmas.List.{map-append, take_more}
+use Rattle.std.proofs.lemmas.List.Folds.{list_any_more}
+use Rattle.cdi_model.specs.declared.decl.Decl.{Decl}
+use Rattle.cdi_model.specs.declared.key.DeclKey.{DeclKey}
+use Rattle.cdi_model.specs.DeclKey.{same_key}
+use Rattle.cdi_postings.specs.declared.word.Word.{Word}
+use Rattle.cdi_postings.specs.Listing.{Listing, is_listed, Lists, Unlists}
+use Rattle.cdi_postings.specs.Words.{same_word}
+use Rattle.cdi_index.specs.declared.change.Change.{Change}
+use Rattle.cdi_index.specs.declared.making.Made.{Made}
+use Rattle.cdi_index.specs.declared.shelf.Kept.{Kept}
+use Rattle.cdi_index.specs.Kept.{is_reader, is_reader_among, kept_at, Keeps}
+use Rattle.cdi_index.specs.declared.shelf.Shelf.{Shelf}
+use Rattle.cdi_index.specs.Made.{has_word, keys_have, made_of, reads, word_of}
+use Rattle.cdi_index.specs.Next.{change_of}
+use Rattle.cdi_index.proofs.ShelfLemmas.{nat-same}
+
+-- ---- what is listed stays
+
+pub keeps-list : (word : Word) (slot : ℕ) (a b c : List Listing) → Keeps a b → Lists word slot b c → Keeps a c
+keeps-list word slot a b c kept lists w s h = lists w s ∙ or_left (is_listed b w s) (same_word word w && nat_eq slot s) (kept w s h)
+
+pub keeps-then : (a b c : List Listing) → Keeps a b → Keeps b c → Keeps a c
+keeps-then a b c first then w s h = then w s (first w s h)
+
+-- a slot is listed under the word of one more key
+pub words-next : (keys : List DeclKey) (i : ℕ) (key : DeclKey) (slot : ℕ) (b c : List Listing) → i < length keys
+    → key ≡ get_or keys i key → Lists (word_of key) slot b c
+    → ((w : Word) → keys_have (take i keys) w ≡ true → is_listed b w slot ≡ true)
+    → (w : Word) → keys_have (take (i + 1) keys) w ≡ true → is_listed c w slot ≡ true
+words-next keys i key slot b c lt at lists before w h =
+    let p : DeclKey → Bool = λ r. same_word (word_of r) w in
+    let word = word_of key in
+    lists w slot
+    ∙ elim (or_cases (list_any p (take i keys)) (p (get_or keys i key)) (sym (list_any_more p keys i key lt) ∙ h)) [
+      | inl first ↦ or_left (is_listed b w slot) (same_word word w && nat_eq slot slot) (before w first)
+      | inr last ↦ or_right (is_listed b w slot) (same_word word w && nat_eq slot slot)
+          (and_from (same_word word w) (nat_eq slot slot) (ap p at ∙ last) (nat-same slot))
+    ]
+
+-- ---- changes
+
+-- what stands at a place of a list, with one more at its end
+get-last : {X : Type 0} (xs : List X) (x : X) (i : ℕ) (y : X) → slice_get (xs ++ x ∷ []) i ≡ Some y
+    → (slice_get xs i ≡ Some y) ⊎ ((i ≡ length xs) × (x ≡ y))
+get-last [] x zero y e = inr (refl, (let one : Some x ≡ Some y = e in cc))
+get-last [] x (suc i) y e = absurd (let no : None ≡ Some y = e in cc)
+get-last (z ∷ xs) x zero y e = inl e
+get-last (z ∷ xs) x (suc i) y e = elim (get-last xs x i y e) [
+  | inl before ↦ inl before
+  | inr last ↦ inr (ap suc last.0, last.1)
+]
+
+-- one more slot is listed under the words of what is made of the next declaration
+pub keys-next : (es : List Decl) (keys : List DeclKey) (i : ℕ) (key : DeclKey) (made : Option Made) (first slot : ℕ)
+    (b c : List Listing) → i < length keys → key ≡ get_or keys i key → made ≡ made_of es key → slot ≡ first + length (take i keys)
+    → Keeps b c → ((w : Word) → has_word made w ≡ true → is_listed c w slot ≡ true)
+    → ((w : Word) (j : ℕ) (k : DeclKey) → slice_get (take i keys) j ≡ Some k → has_word (made_of es k) w ≡ true
+    → is_listed b w (first + j) ≡ true)
+    → (w : Word) (j : ℕ) (k : DeclKey) → slice_get (take (i + 1) keys) j ≡ Some k → has_word (made_of es k) w ≡ true
+    → is_listed c w (first + j) ≡ true
+keys-next es keys i key made first slot b c lt at is number kept listed before w j k there has =
+    elim (get-last (take i keys) (get_or keys i key) j k (ap (λ l. slice_get l j) (sym (take_more keys i key lt)) ∙ there)) [
+      | inl old ↦ kept w (first + j) (before w j k old has)
+      | inr last ↦
+          ap (is_listed c w) (ap (λ n. first + n) last.0 ∙ sym number)
+          ∙ listed w (ap (λ m. has_word m w) is ∙ ap (λ x. has_word (made_of es x) w) (at ∙ last.1) ∙ has)
+    ]
+
+-- and the change of it comes after those before
+pub changes-next : (es : List Decl) (keys : List DeclKey) (i : ℕ) (key : DeclKey) (made : Option Made)
+    (olds news : List Change) → i < length keys → key ≡ get_or keys i key → made ≡ made_of es key
+    → news ≡ olds ++ record { key = key; made = made } ∷ [] → olds ≡ map (change_of es) (take i keys)
+    → news ≡ map (change_of es) (take (i + 1) keys)
+changes-next es keys i key made olds news lt at is pushed before =
+    let change : Option Made → Change = λ m. record { key = key; made = m } in
+    pushed ∙ ap (λ m. olds ++ change m ∷ []) is ∙ ap (λ cs. cs ++ change_of es key ∷ []) before
+    ∙ ap (λ k. map (change_of es) (take i keys) ++ change_of es k ∷ []) at
+    ∙ sym (map-append (change_of es) (take i keys) (get_or keys i key ∷ []))
+    ∙ ap (map (change_of es)) (sym (take_more keys i key lt))
+
+-- ---- listed no more
+
+-- other slots stay listed
+pub unlist-next : (word : Word) (slot : ℕ) (a b c : List Listing) → Unlists word slot b c
+    → ((w : Word) (s : ℕ) → s ≢ slot → is_listed a w s ≡ true → is_listed b w s ≡ true)
+    → (w : Word) (s : ℕ) → s ≢ slot → is_listed a w s ≡ true → is_listed c w s ≡ true
+unlist-next word slot a b c unlists before w s apart h =
+    unlists w s ∙ and_from (is_listed b w s) (not (same_word word w && nat_eq slot s)) (before w s apart h)
+    (by (same_word word w) (nat_eq slot s) refl)
+  where
+    by : (e f : Bool) → nat_eq slot s ≡ f → not (e && f) ≡ true
+    by true true is = absurd (apart (sym (eqb-true slot s is)))
+    by true false is = refl
+    by false f is = refl
+
+-- ---- who reads
+
+pub affected-more : (old mid b s r : Bool) → mid ≡ (old || (b && s)) → (mid || r) ≡ (old || ((b && s) || r))
+affected-more old mid b s r is = ap (λ m. m || r) is ∙ assoc old (b && s) r
+  where
+    assoc : (x y z : Bool) → ((x || y) || z) ≡ (x || (y || z))
+    assoc true y z = refl
+    assoc false y z = refl
+
+or-again : (x y z : Bool) → ((x || y) || z) ≡ (x || (y || z))
+or-again true y z = refl
+or-again false y z = refl
+
+put-or : (b e : Bool) → cond e true b ≡ (b || e)
+put-or true true = refl
+put-or true false = refl
+put-or false true = refl
+put-or false false = refl
+
+or-false : (b : Bool) → b ≡ (b || false)
+or-false true = refl
+or-false false = refl
+
+-- the declaration at one more slot is added where it reads the key, and nothing otherwise
+pub reader-next : (shelf : Shelf) (slots : List ℕ) (i : ℕ) (slot : ℕ) (key k : DeclKey) (first olds news : Bool)
+    → i < length slots → slot ≡ get_or slots i slot
+    → news ≡ (olds || is_reader (kept_at shelf slot) k key)
+    → olds ≡ (first || is_reader_among shelf (take i slots) k key)
+    → news ≡ (first || is_reader_among shelf (take (i + 1) slots) k key)
+reader-next shelf slots i slot key k first olds news lt at is before =
+    let p : ℕ → Bool = λ s. is_reader (kept_at shelf s) k key in
+    is ∙ ap (λ o. o || p slot) before ∙ or-again first (list_any p (take i slots)) (p slot)
+    ∙ ap (λ s. first || (list_any p (take i slots) || p s)) at
+    ∙ ap (λ b. first || b) (sym (list_any_more p slots i slot lt))
+
+-- what is at the slot reads the key
+pub reader-put : (e : Kept) (kept : Option Kept) (k key : DeclKey) (olds news : Bool) → kept ≡ Some e
+    → reads (Some e.made) key ≡ true → news ≡ cond (same_key e.key k) true olds → news ≡ (olds || is_reader kept k key)
+reader-put e kept k key olds news at read put =
+    put ∙ put-or olds (same_key e.key k)
+    ∙ ap (λ b. olds || b) (and-true (same_key e.key k) ∙ ap (λ b. same_key e.key k && b) (sym read))
+    ∙ ap (λ o. olds || is_reader o k key) (sym at)
+  where
+    and-true : (b : Bool) → b ≡ (b && true)
+    and-true true = refl
+    and-true false = refl
+
+-- it does not
+pub reader-not : (e : Kept) (kept : Option Kept) (k key : DeclKey) (olds : Bool) → kept ≡ Some e → reads (Some e.made) key ≡ false
+    → olds ≡ (olds || is_reader kept k key)
+reader-not e kept k key olds at read =
+    or-false olds ∙ ap (λ b. olds || b) (and-false (same_key e.key k) ∙ ap (λ b. same_key e.key k && b) (sym read))
+    ∙ ap (λ o. olds || is_reader o k key) (sym at)
+  where
+    and-false : (b : Bool) → false ≡ (b && false)
+    and-false true = refl
+    and-false false = refl
+
+-- nothing is at the slot
+pub reader-none : (kept : Option Kept) (k key : DeclKey) (olds : Bool) → kept ≡ None → olds ≡ (olds || is_reader kept k key)
+reader-none kept k key olds none = or-false olds ∙ ap (λ o. olds || is_reader o k key) (sym none)

@@ -1,0 +1,221 @@
+-- What is prepared of a draft, and how its changes are taken over.
+use Rattle.std.proofs.Common.{◌≡◌, ◌≤◌, ◌<◌, ◌+◌, ◌^◌, ℕ, nat_eq, Bool, true, false, cond, ◌&&◌, ◌||◌, List, [], ◌∷◌, length, map, filter}
+use Rattle.std.proofs.Common.{Option, Some, None, option_map, refl, sym, ap, ◌∙◌, subst}
+use Rattle.std.specs.List.{list_any, slice_get, IsDistinct}
+use Rattle.std.specs.Map.{lookup}
+use Rattle.std.proofs.lemmas.Bool.{and_from, and_parts, false≢true, eqb-true}
+use Rattle.indexmap.specs.IndexMap.{spare}
+use Rattle.cdi_model.specs.declared.decl.Decl.{Decl}
+use Rattle.cdi_model.specs.declared.decl.Kind.{Kind}
+use Rattle.cdi_model.specs.declared.edit.Edit.{Edit}
+use Rattle.cdi_model.specs.declared.key.DeclKey.{DeclKey}
+use Rattle.cdi_model.specs.DeclKey.{same_key, same_key_equiv}
+use Rattle.cdi_model.specs.DeclList.{AreDistinct}
+use Rattle.cdi_model.proofs.EntryLemmas.{key_exact}
+use Rattle.cdi_model.specs.Edits.{edited_all, edited_keys, is_among}
+use Rattle.cdi_postings.specs.declared.word.Word.{Word}
+use Rattle.cdi_postings.specs.Listing.{Listing, is_listed, under}
+use Rattle.cdi_index.specs.declared.change.Change.{Change}
+use Rattle.cdi_index.specs.declared.making.Made.{Made}
+use Rattle.cdi_index.specs.declared.shelf.Kept.{Kept}
+use Rattle.cdi_index.specs.declared.shelf.Shelf.{Shelf}
+use Rattle.cdi_index.specs.Counted.{computed}
+use Rattle.cdi_index.specs.Kept.{is_reader, is_reader_among, kept_at, made_in, slot_of, stored, stored_at, touches, IsExact, IsFreeFrom, IsShelf, IsSound, Keeps, Stored}
+use Rattle.cdi_index.specs.Made.{has_word, is_kept, made_of, reads, word_of}
+use Rattle.cdi_index.specs.Next.{applied, change_of, is_made, IsNext}
+use Rattle.cdi_index.specs.declared.prepare.Next.{Next}
+use Rattle.cdi_index.proofs.AffectedLemmas.{hits, made-stays}
+use Rattle.cdi_index.proofs.ChangeLemmas.{among-turned, any-same, applied-comes, applied-made, Anew, Before, StoredBy}
+use Rattle.cdi_index.proofs.CountLemmas.{count-changes}
+use Rattle.cdi_index.proofs.ShelfLemmas.{found}
+
+-- ---- who is affected
+
+same-bool : (a b : Bool) → (a ≡ true → b ≡ true) → (b ≡ true → a ≡ true) → a ≡ b
+same-bool true b f g = sym (f refl)
+same-bool false true f g = g refl
+same-bool false false f g = refl
+
+any-elim : {X B : Type 0} (p : X → Bool) (xs : List X) → list_any p xs ≡ true → ((x : X) → p x ≡ true → B) → B
+any-elim {B = B} p [] e f = absurd (false≢true e)
+any-elim {B = B} p (x ∷ xs) e f = by (p x) refl e (λ more. any-elim p xs more f)
+  where
+    by : (b : Bool) → p x ≡ b → (b || list_any p xs) ≡ true → (list_any p xs ≡ true → B) → B
+    by true is h more = f x is
+    by false is h more = more h
+
+any-more : {X : Type 0} (p q : X → Bool) (xs : List X) → ((x : X) → p x ≡ true → q x ≡ true) → list_any p xs ≡ true
+    → list_any q xs ≡ true
+any-more p q [] h e = e
+any-more p q (x ∷ xs) h e = by (p x) refl e (any-more p q xs h)
+  where
+    step : (b c : Bool) → c ≡ true → (b || c) ≡ true
+    step true c e = refl
+    step false c e = e
+
+    by : (b : Bool) → p x ≡ b → (b || list_any p xs) ≡ true → (list_any p xs ≡ true → list_any q xs ≡ true)
+        → (q x || list_any q xs) ≡ true
+    by true is f more = ap (λ b. b || list_any q xs) (h x is)
+    by false is f more = step (q x) (list_any q xs) (more f)
+
+module _ (ds : List Decl) (shelf : Shelf) (listings : List Listing) (is : IsShelf shelf) (exact : IsExact ds (stored shelf))
+    (sound : IsSound (stored shelf) listings) (k key : DeclKey) where
+  -- a reader that is listed is one
+  reads-if : is_reader_among shelf (under listings (word_of key)) k key ≡ true → reads (made_of ds k) key ≡ true
+  reads-if h = any-elim (λ s. is_reader (kept_at shelf s) k key) (under listings (word_of key)) h
+      (λ s reader. by s (kept_at shelf s) refl reader)
+    where
+      by : (s : ℕ) (o : Option Kept) → kept_at shelf s ≡ o → is_reader o k key ≡ true → reads (made_of ds k) key ≡ true
+      by s None at reader = absurd (false≢true reader)
+      by s (Some e) at reader =
+          let parts = and_parts (same_key e.key k) (reads (Some e.made) key) reader in
+          let one : e.key ≡ k = key_exact e.key k parts.0 in
+          let slot : slot_of shelf k ≡ Some s = ap (slot_of shelf) (sym one) ∙ is.owned s e at in
+          let kept : stored shelf k ≡ Some (s, e.made) = ap (stored_at (kept_at shelf)) slot
+          ∙ ap (option_map {U = Stored} (λ x. (s, x.made))) at in
+          ap (λ m. reads m key) (sym (exact k) ∙ ap made_in kept) ∙ parts.1
+
+  -- one that reads is listed
+  reads-only : reads (made_of ds k) key ≡ true → is_reader_among shelf (under listings (word_of key)) k key ≡ true
+  reads-only h = by (stored shelf k) refl
+    where
+      by : (o : Option (ℕ × Made)) → stored shelf k ≡ o → is_reader_among shelf (under listings (word_of key)) k key ≡ true
+      by None at = absurd (false≢true (ap (λ m. reads m key) (sym (ap made_in at) ∙ exact k) ∙ h))
+      by (Some (s, made)) at =
+          let read : reads (Some made) key ≡ true = ap (λ m. reads m key) (sym (ap made_in at) ∙ exact k) ∙ h in
+          let here = found (slot_of shelf) (kept_at shelf) is.owns k s made at in
+          let reader : is_reader (kept_at shelf s) k key ≡ true = ap (λ o. is_reader o k key) here.there
+          ∙ and_from (same_key here.entry.key k) (reads (Some here.entry.made) key)
+          (ap (λ x. same_key x k) here.key ∙ same_key_equiv.refl k) (ap (λ m. reads (Some m) key) here.is ∙ read) in
+          any-more (nat_eq s) (λ t. is_reader (kept_at shelf t) k key) (under listings (word_of key))
+          (λ t same. ap (λ x. is_reader (kept_at shelf x) k key) (sym (eqb-true s t same)) ∙ reader)
+          (sound (word_of key) k s made at read)
+
+  pub touches-hits : touches shelf listings k key ≡ hits ds k key
+  touches-hits = ap (λ b. (is_kept key.kind && same_key key k) || b)
+      (same-bool (is_reader_among shelf (under listings (word_of key)) k key) (reads (made_of ds k) key) reads-if reads-only)
+
+-- what the code finds affected is what edits affect
+pub affected-hits : (ds : List Decl) (shelf : Shelf) (listings : List Listing) (keys ks : List DeclKey) → IsShelf shelf
+    → IsExact ds (stored shelf) → IsSound (stored shelf) listings
+    → ((k : DeclKey) → list_any (same_key k) ks ≡ list_any (touches shelf listings k) keys)
+    → (k : DeclKey) → list_any (same_key k) ks ≡ list_any (hits ds k) keys
+affected-hits ds shelf listings keys ks is exact sound affected k = affected k
+    ∙ any-same (touches shelf listings k) (hits ds k) keys (λ key. touches-hits ds shelf listings is exact sound k key)
+
+-- ---- after the changes
+
+module _ (ds : List Decl) (edits : List Edit) (ks : List DeclKey) (m : StoredBy) (first : ℕ) (listings more : List Listing)
+    (exact : IsExact ds m) (sound : IsSound m listings) (kept : Keeps listings more)
+    (affected : (k : DeclKey) → list_any (same_key k) ks ≡ list_any (hits ds k) (edited_keys edits))
+    (listed : (w : Word) (i : ℕ) (k : DeclKey) → slice_get ks i ≡ Some k → has_word (made_of (edited_all ds edits) k) w ≡ true
+    → is_listed more w (first + i) ≡ true) where
+  abbrev es : List Decl
+  es = edited_all ds edits
+
+  unaffected : (k : DeclKey) → is_among ks k ≡ false → made_of es k ≡ made_of ds k
+  unaffected k none = made-stays ds edits k (sym (affected k) ∙ among-turned ks k ∙ none)
+
+  pub exact-next : IsExact es (applied first (map (change_of es) ks) m)
+  exact-next k = applied-made first es ks m k ∙ by (is_among ks k) refl
+    where
+      by : (b : Bool) → is_among ks k ≡ b → cond b (made_of es k) (made_in (m k)) ≡ made_of es k
+      by true e = refl
+      by false e = exact k ∙ sym (unaffected k e)
+
+  pub sound-next : IsSound (applied first (map (change_of es) ks) m) more
+  sound-next w k s made at has = elim (applied-comes first es ks m k s made at) [
+    | Anew i l there slot is ↦ ap (is_listed more w) slot ∙ listed w i l there (ap (λ o. has_word o w) is ∙ has)
+    | Before none was ↦ kept w s (sound w k s made was has)
+  ]
+
+-- a count, of what was made
+pub counted-from : (which : Kind) → is_kept which ≡ true → (ds eds : List Decl) (edits : List Edit) (ekeys ks slice : List DeclKey)
+    (changes : List Change) (n : ℕ) → eds ≡ edited_all ds edits → ekeys ≡ edited_keys edits → AreDistinct eds
+    → IsDistinct same_key ks → ((k : DeclKey) → list_any (same_key k) ks ≡ list_any (hits ds k) (edited_keys edits)) → slice ≡ ks
+    → changes ≡ map (change_of eds) slice → n ≡ length (filter (is_made which) changes) → n ≡ computed which ds eds ekeys
+counted-from which has ds eds edits ekeys ks slice changes n made named distinct once affected shown are is =
+    is ∙ ap (λ cs. length (filter (is_made which) cs))
+    (are ∙ ap (λ d. map (change_of d) slice) made ∙ ap (map (change_of (edited_all ds edits))) shown)
+    ∙ count-changes which has ds edits (subst AreDistinct made distinct) ks once affected
+    ∙ ap (λ d. computed which ds d (edited_keys edits)) (sym made) ∙ ap (computed which ds eds) (sym named)
+
+-- ---- with more room
+
+module _ (old new : Shelf) (slots : new.slots.entries ≡ old.slots.entries) (kept : new.kept.entries ≡ old.kept.entries) where
+  slot-same : (k : DeclKey) → slot_of new k ≡ slot_of old k
+  slot-same k = ap (lookup (same_key k)) slots
+
+  at-same : (s : ℕ) → kept_at new s ≡ kept_at old s
+  at-same s = ap (lookup (nat_eq s)) kept
+
+  stored-same : (k : DeclKey) → stored new k ≡ stored old k
+  stored-same k = ap (stored_at (kept_at new)) (slot-same k) ∙ by (slot_of old k)
+    where
+      by : (o : Option ℕ) → stored_at (kept_at new) o ≡ stored_at (kept_at old) o
+      by None = refl
+      by (Some s) = ap (option_map {U = Stored} (λ e. (s, e.made))) (at-same s)
+
+  pub shelf-same : IsShelf old → IsShelf new
+  shelf-same is = record {
+    owns = λ k s at. ap (option_map (λ (e : Kept). e.key)) (at-same s) ∙ is.owns k s (sym (slot-same k) ∙ at);
+    owned = λ s e at. slot-same e.key ∙ is.owned s e (sym (at-same s) ∙ at);
+  }
+
+  pub free-same : (n : ℕ) → IsFreeFrom n old → IsFreeFrom n new
+  free-same n free s e at = free s e (sym (at-same s) ∙ at)
+
+  pub exact-same : (ds : List Decl) → IsExact ds (stored old) → IsExact ds (stored new)
+  exact-same ds exact k = ap made_in (stored-same k) ∙ exact k
+
+  pub sound-same : (listings more : List Listing) → Keeps listings more → IsSound (stored old) listings → IsSound (stored new) more
+  sound-same listings more kept sound w k s made at has = kept w s (sound w k s made (sym (stored-same k) ∙ at) has)
+
+-- ---- all of it
+
+module _ (ds eds : List Decl) (edits : List Edit) (ekeys ks slice : List DeclKey) (old new : Shelf) (listings more : List Listing)
+    (is : IsShelf old) (exact : IsExact ds (stored old)) (sound : IsSound (stored old) listings)
+    (made : eds ≡ edited_all ds edits) (named : ekeys ≡ edited_keys edits)
+    (touched : (k : DeclKey) → list_any (same_key k) ks ≡ list_any (touches old listings k) ekeys) (shown : slice ≡ ks) where
+  all-hits : (k : DeclKey) → list_any (same_key k) ks ≡ list_any (hits ds k) (edited_keys edits)
+  all-hits k = affected-hits ds old listings ekeys ks is exact sound touched k ∙ ap (list_any (hits ds k)) named
+
+  pub counted : (which : Kind) → is_kept which ≡ true → (changes items : List Change) (n : ℕ) → AreDistinct eds → IsDistinct same_key ks
+      → items ≡ changes → changes ≡ map (change_of eds) slice → n ≡ length (filter (is_made which) items) → n ≡ computed which ds eds ekeys
+  counted which has changes items n distinct once seen are is_n =
+      counted-from which has ds eds edits ekeys ks slice changes n made named distinct once all-hits shown are
+      (is_n ∙ ap (λ cs. length (filter (is_made which) cs)) seen)
+
+  module _ (slots : new.slots.entries ≡ old.slots.entries) (kept : new.kept.entries ≡ old.kept.entries) (keeps : Keeps listings more)
+      (next : Next) (decls : next.decls ≡ eds) (are : next.changes.items ≡ map (change_of eds) slice)
+      (listed : (w : Word) (i : ℕ) (k : DeclKey) → slice_get slice i ≡ Some k → has_word (made_of eds k) w ≡ true
+      → is_listed more w (next.first + i) ≡ true) where
+    abbrev after : List Decl
+    after = edited_all ds edits
+
+    changed : next.changes.items ≡ map (change_of after) ks
+    changed = are ∙ ap (λ d. map (change_of d) slice) made ∙ ap (map (change_of after)) shown
+
+    exact-new : IsExact ds (stored new)
+    exact-new = exact-same old new slots kept ds exact
+
+    pub prepared : IsFreeFrom next.first old → next.first + length next.changes.items < 2 ^ 64
+        → length next.changes.items ≤ spare new.slots → length next.changes.items ≤ spare new.kept → IsNext new more next
+    prepared free numbers room_slots room_kept = record {
+      exact = λ k. ap (λ cs. made_in (applied next.first cs (stored new) k)) changed
+          ∙ exact-next ds edits ks (stored new) next.first listings more exact-new sound-old keeps all-hits listed-new k
+          ∙ ap (λ d. made_of d k) (sym (decls ∙ made));
+      sound = λ w k s m at has. sound-next ds edits ks (stored new) next.first listings more exact-new sound-old keeps all-hits listed-new
+          w k s m (ap (λ cs. applied next.first cs (stored new) k) (sym changed) ∙ at) has;
+      free = free-same old new slots kept next.first free;
+      numbers = numbers;
+      slots = room_slots;
+      kept = room_kept;
+    }
+      where
+        sound-old : IsSound (stored new) listings
+        sound-old = sound-same old new slots kept listings listings (λ w s h. h) sound
+
+        listed-new : (w : Word) (i : ℕ) (k : DeclKey) → slice_get ks i ≡ Some k → has_word (made_of after k) w ≡ true
+            → is_listed more w (next.first + i) ≡ true
+        listed-new w i k there has = listed w i k (ap (λ l. slice_get l i) shown ∙ there) (ap (λ d. has_word (made_of d k) w) made ∙ has)

@@ -1,0 +1,73 @@
+-- A declaration is read by what is made of it.
+use Rattle.std.proofs.Common.{◌≡◌, ℕ, Bool, true, false, cond, ◌||◌, List, [], ◌∷◌, map, Some, None, is_some, refl, sym, ap, ◌∙◌, inr}
+use Rattle.std.specs.Str.{bytes_eq}
+use Rattle.std.proofs.lemmas.Bool.{or_left}
+use Rattle.cdi_model.proofs.EntryLemmas.{key_exact}
+use Rattle.cdi_model.specs.declared.decl.BeanDecl.{BeanDecl}
+use Rattle.cdi_model.specs.declared.decl.Decl.{Decl}
+use Rattle.cdi_model.specs.declared.decl.Decl.TheVariants as decls
+use Rattle.cdi_model.specs.declared.decl.Kind.TheVariants as kinds
+use Rattle.cdi_model.specs.declared.key.DeclKey.{DeclKey}
+use Rattle.cdi_model.specs.Decl.{key_of}
+use Rattle.cdi_model.specs.DeclKey.{key_at, same_key, same_key_equiv}
+use Rattle.cdi_model.specs.DeclList.{find_decl, is_of}
+use Rattle.cdi_model.specs.Edits.{is_among}
+use Rattle.cdi_match.specs.Chain.{has}
+use Rattle.cdi_match.specs.Locality.{type_reads}
+use Rattle.cdi_match.specs.Types.{types_of}
+use Rattle.cdi_match.proofs.TypeLemmas.{is_type_decides, types_of-has}
+use Rattle.cdi_effective.specs.Disposers.{as_bean, find_bean}
+use Rattle.cdi_effective.specs.Reads.{record_reads}
+
+among-types : (names : List (List ℕ)) (name : List ℕ) → is_among (map (key_at kinds.Type) names) (key_at kinds.Type name) ≡ has names name
+among-types [] name = refl
+among-types (n ∷ names) name = ap (λ b. bytes_eq n name || b) (among-types names name)
+
+pub type-itself : (ds : List Decl) (name : List ℕ) → is_among (type_reads ds name) (key_at kinds.Type name) ≡ true
+type-itself ds name = among-types (types_of ds name) name ∙ types_of-has ds name name ∙ (is_type_decides ds name name).1 (inr (0, refl))
+
+-- a bean that is found has the name
+found_name : (name : List ℕ) (bean : BeanDecl) (ds : List Decl) → find_bean name ds ≡ Some bean → bean.name ≡ name
+found_name name bean [] e = absurd (let no : None ≡ Some bean = e in cc)
+found_name name bean (d ∷ ds) e = by (is_of kinds.Bean name d) refl e (found_name name bean ds)
+  where
+    of_bean : (d : Decl) → key_at kinds.Bean name ≡ key_of d → as_bean (Some d) ≡ Some bean → bean.name ≡ name
+    of_bean (decls.Bean b) one f =
+        let same : b ≡ bean = cc in ap (λ (x : BeanDecl). x.name) (sym same) ∙ sym (ap (λ (k : DeclKey). k.name) one)
+    of_bean (decls.Type b) one f = absurd (let no : None ≡ Some bean = f in cc)
+    of_bean (decls.Qualifier b) one f = absurd (let no : None ≡ Some bean = f in cc)
+    of_bean (decls.Binding b) one f = absurd (let no : None ≡ Some bean = f in cc)
+    of_bean (decls.Stereotype b) one f = absurd (let no : None ≡ Some bean = f in cc)
+    of_bean (decls.Interceptor b) one f = absurd (let no : None ≡ Some bean = f in cc)
+
+    by : (b : Bool) → is_of kinds.Bean name d ≡ b → as_bean (cond b (Some d) (find_decl kinds.Bean name ds)) ≡ Some bean
+        → (find_bean name ds ≡ Some bean → bean.name ≡ name) → bean.name ≡ name
+    by true is f more = of_bean d (key_exact (key_at kinds.Bean name) (key_of d) is) f
+    by false is f more = more f
+
+pub bean-itself : (ds : List Decl) (name : List ℕ) (bean : BeanDecl) → find_bean name ds ≡ Some bean
+    → is_among (record_reads ds bean) (key_at kinds.Bean name) ≡ true
+bean-itself ds name bean found =
+    let own = key_at kinds.Bean bean.name in
+    or_left (same_key own (key_at kinds.Bean name)) _
+    (ap (λ n. same_key own (key_at kinds.Bean n)) (sym (found_name name bean ds found)) ∙ same_key_equiv.refl own)
+
+-- where one is declared as a bean a bean is found
+pub bean-found : (name : List ℕ) (ds : List Decl) → is_some (find_bean name ds) ≡ is_some (find_decl kinds.Bean name ds)
+bean-found name [] = refl
+bean-found name (d ∷ ds) = by d (bean-found name ds)
+  where
+    at : (b : Bool) (x : BeanDecl) → is_some (find_bean name ds) ≡ is_some (find_decl kinds.Bean name ds)
+        → is_some (as_bean (cond b (Some (decls.Bean x)) (find_decl kinds.Bean name ds)))
+        ≡ is_some (cond b (Some (decls.Bean x)) (find_decl kinds.Bean name ds))
+    at true x more = refl
+    at false x more = more
+
+    by : (d : Decl) → is_some (find_bean name ds) ≡ is_some (find_decl kinds.Bean name ds)
+        → is_some (find_bean name (d ∷ ds)) ≡ is_some (find_decl kinds.Bean name (d ∷ ds))
+    by (decls.Bean b) more = at (is_of kinds.Bean name (decls.Bean b)) b more
+    by (decls.Type b) more = more
+    by (decls.Qualifier b) more = more
+    by (decls.Binding b) more = more
+    by (decls.Stereotype b) more = more
+    by (decls.Interceptor b) more = more

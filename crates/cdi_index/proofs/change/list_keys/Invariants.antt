@@ -1,0 +1,12 @@
+use Rattle.std.proofs.Common.{◌≡◌, true, take}
+use Rattle.cdi_postings.specs.declared.word.Word.{Word}
+use Rattle.cdi_postings.specs.Listing.{is_listed}
+use Rattle.cdi_index.specs.Kept.{Keeps}
+use Rattle.cdi_index.specs.Made.{keys_have}
+use Rattle.cdi_index.proofs.change.list_keys.Given as goal
+
+abbrev pub invariant-loop-read : goal.invariant-loop-read
+invariant-loop-read l = record {
+  kept : Keeps l.fn.postings l.postings;
+  listed : (w : Word) → keys_have (take l.read-index l.reads) w ≡ true → is_listed l.postings w l.slot ≡ true;
+}

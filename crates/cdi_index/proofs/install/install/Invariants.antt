@@ -1,0 +1,24 @@
+use Rattle.std.proofs.Common.{◌≡◌, ◌≤◌, ◌<◌, ◌+◌, ◌⊎◌, ℕ, length, vec_len, Some}
+use Rattle.indexmap.specs.IndexMap.{spare}
+use Rattle.cdi_model.specs.declared.key.DeclKey.{DeclKey}
+use Rattle.cdi_index.specs.declared.shelf.Kept.{Kept}
+use Rattle.cdi_index.specs.Kept.{kept_at, stored, IsShelf, IsSound}
+use Rattle.cdi_index.specs.Next.{applied}
+use Rattle.cdi_index.proofs.install.install.Given as goal
+
+abbrev pub invariant-left : goal.invariant-left
+invariant-left l = record {
+  shelf : IsShelf l.shelf;
+  given : l.shelf.given ≡ l.fn.shelf.given;
+  fewer : length l.changes.items ≤ length l.fn.changes.items;
+  slots : length l.changes.items ≤ spare l.shelf.slots;
+  kept : length l.changes.items ≤ spare l.shelf.kept;
+  free : (s : ℕ) (e : Kept) → kept_at l.shelf s ≡ Some e
+      → (s < l.first) ⊎ ((l.first + length l.changes.items ≤ s) × (s < l.first + length l.fn.changes.items));
+  applies : (k : DeclKey) → applied l.first l.changes.items (stored l.shelf) k
+      ≡ applied l.first l.fn.changes.items (stored l.fn.shelf) k;
+  sound : IsSound (applied l.first l.changes.items (stored l.shelf)) l.postings;
+}
+
+abbrev pub decreases-left : goal.decreases-left
+decreases-left l = vec_len l.changes

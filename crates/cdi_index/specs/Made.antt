@@ -1,0 +1,63 @@
+-- What is made of declarations, what it reads, and under which words a declaration is listed for it.
+use Rattle.std.specs.Prelude.{ℕ, Bool, true, false, List, [], Option, Some, None, option_map}
+use Rattle.std.specs.List.{list_any}
+use Rattle.cdi_model.specs.declared.decl.BeanDecl.{BeanDecl}
+use Rattle.cdi_model.specs.declared.decl.Decl.{Decl}
+use Rattle.cdi_model.specs.declared.decl.Kind.{Kind}
+use Rattle.cdi_model.specs.declared.decl.Kind.TheVariants as kinds
+use Rattle.cdi_model.specs.declared.key.DeclKey.{DeclKey}
+use Rattle.cdi_model.specs.DeclList.{find_decl}
+use Rattle.cdi_model.specs.Edits.{is_among}
+use Rattle.cdi_match.specs.Locality.{type_reads}
+use Rattle.cdi_match.specs.Types.{types_of}
+use Rattle.cdi_effective.specs.Beans.{own_records}
+use Rattle.cdi_effective.specs.Disposers.{find_bean}
+use Rattle.cdi_effective.specs.Reads.{record_reads}
+use Rattle.cdi_postings.specs.declared.word.Reason.TheVariants as reasons
+use Rattle.cdi_postings.specs.declared.word.Word.{Word}
+use Rattle.cdi_postings.specs.Words.{same_word, word_at}
+use Rattle.cdi_index.specs.declared.making.Made.{Made}
+use Rattle.cdi_index.specs.declared.making.Given.TheVariants as given
+
+-- something is made of the declarations of the kind
+abbrev pub is_kept : Kind → Bool
+is_kept kinds.Type = true
+is_kept kinds.Bean = true
+is_kept other = false
+
+-- the closure of a type
+abbrev pub made_of_type : List Decl → List ℕ → Made
+made_of_type ds name = record { reads = type_reads ds name; given = given.Types (types_of ds name) }
+
+-- the records that a bean declaration has by itself
+abbrev pub made_of_bean : List Decl → BeanDecl → Made
+made_of_bean ds bean = record { reads = record_reads ds bean; given = given.Records (own_records ds bean) }
+
+-- what is made of the declaration of a kind and name
+abbrev pub made_by : Kind → List ℕ → List Decl → Option Made
+made_by kinds.Type name ds = option_map (λ d. made_of_type ds name) (find_decl kinds.Type name ds)
+made_by kinds.Bean name ds = option_map (made_of_bean ds) (find_bean name ds)
+made_by other name ds = None
+
+abbrev pub made_of : List Decl → DeclKey → Option Made
+made_of ds k = made_by k.kind k.name ds
+
+-- what it reads
+abbrev pub reads_in : Option Made → List DeclKey
+reads_in None = []
+reads_in (Some made) = made.reads
+
+-- what was made read the declaration of the key
+abbrev pub reads : Option Made → DeclKey → Bool
+reads made key = is_among (reads_in made) key
+
+abbrev pub word_of : DeclKey → Word
+word_of key = word_at (reasons.RestsOn key.kind) key.name
+
+-- the word is that of one of the keys
+abbrev pub keys_have : List DeclKey → Word → Bool
+keys_have keys w = list_any (λ r. same_word (word_of r) w) keys
+
+-- a declaration of which this is made has to be listed under the word
+abbrev pub has_word : Option Made → Word → Bool
+has_word made w = keys_have (reads_in made) w

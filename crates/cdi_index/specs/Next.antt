@@ -1,0 +1,40 @@
+-- What is prepared of a draft.
+use Rattle.std.specs.Prelude.{◌≤◌, ◌<◌, ℕ, suc, ◌+◌, ◌^◌, Bool, cond, ◌&&◌, List, [], ◌∷◌, length, Option, is_some, option_map}
+use Rattle.indexmap.specs.IndexMap.{spare}
+use Rattle.cdi_model.specs.declared.decl.Decl.{Decl}
+use Rattle.cdi_model.specs.declared.decl.Kind.{Kind}
+use Rattle.cdi_model.specs.declared.key.DeclKey.{DeclKey}
+use Rattle.cdi_model.specs.DeclKey.{same_key}
+use Rattle.cdi_postings.specs.Listing.{Listing}
+use Rattle.cdi_index.specs.declared.change.Change.{Change}
+use Rattle.cdi_index.specs.declared.prepare.Next.{Next}
+use Rattle.cdi_index.specs.declared.shelf.Shelf.{Shelf}
+use Rattle.cdi_index.specs.Counted.{is_of_kind}
+use Rattle.cdi_index.specs.Kept.{Stored, stored, IsExact, IsFreeFrom, IsSound}
+use Rattle.cdi_index.specs.Made.{made_of}
+
+abbrev pub change_of : List Decl → DeclKey → Change
+change_of ds k = record { key = k; made = made_of ds k }
+
+-- the change is of the kind, and something was made
+abbrev pub is_made : Kind → Change → Bool
+is_made kind c = is_of_kind kind c.key && is_some c.made
+
+-- what is kept at the slot n where this is made
+abbrev pub stored_as : ℕ → Change → Option Stored
+stored_as n c = option_map (λ made. (n, made)) c.made
+
+-- what is kept of each declaration after some changes, whose slots are numbered from n on
+abbrev pub applied : ℕ → List Change → (DeclKey → Option Stored) → DeclKey → Option Stored
+applied n [] m k = m k
+applied n (c ∷ cs) m k = cond (same_key c.key k) (stored_as n c) (applied (suc n) cs m k)
+
+-- What is prepared: after the changes what is kept is exact, and each slot is listed under its words; the slots of the changes are free, and
+-- there is room for them.
+pub record IsNext (shelf : Shelf) (listings : List Listing) (next : Next) : Type 0 where
+  pub exact : IsExact next.decls (applied next.first next.changes.items (stored shelf))
+  pub sound : IsSound (applied next.first next.changes.items (stored shelf)) listings
+  pub free : IsFreeFrom next.first shelf
+  pub numbers : next.first + length next.changes.items < 2 ^ 64
+  pub slots : length next.changes.items ≤ spare shelf.slots
+  pub kept : length next.changes.items ≤ spare shelf.kept

@@ -1,0 +1,96 @@
+//! What is made of declarations anew.
+ghost use Rattle.std.specs.Prelude.{◌≡◌, ◌<◌, ◌+◌, ◌-◌, ◌^◌, true, map, filter, length, Some, IfOk, OnOk};
+ghost use Rattle.std.specs.List.{list_any, slice_get};
+ghost use Rattle.cdi_model.specs.DeclKey.{kind_number};
+ghost use Rattle.cdi_postings.specs.Listing.{is_listed};
+ghost use Rattle.cdi_index.specs.Counted.{is_of_kind};
+ghost use Rattle.cdi_index.specs.Kept.{Keeps};
+ghost use Rattle.cdi_index.specs.Made.{has_word, keys_have, made_of};
+ghost use Rattle.cdi_index.specs.Next.{change_of, is_made};
+
+use crate::affected::word_of;
+use crate::making::{Made, make};
+use cdi_model::{DeclKey, Decls, Kind};
+use cdi_postings::Postings;
+use std::alloc::{AllocError, Global};
+
+/// What is made of the declaration of a key, where there is one of which something is.
+#[derive(Drop)]
+pub(crate) struct Change {
+    pub(crate) key: DeclKey,
+    pub(crate) made: Option<Made>,
+}
+
+/// Lists a slot under the words of some keys.
+fn list_keys(postings: &mut Postings, slot: u64, reads: &[DeclKey]) -> Result<(), AllocError>
+    ensures kept { Keeps postings.old postings.new }
+    ensures listed { OnOk result ((w : _) → keys_have reads.now w ≡ true → is_listed postings.new w slot ≡ true) }
+{
+    for read in reads {
+        postings.list(word_of(read), slot)?;
+    }
+    Ok(())
+}
+
+/// Lists a slot under the words of what is made of a declaration.
+fn list_words(postings: &mut Postings, slot: u64, made: &Option<Made>) -> Result<(), AllocError>
+    ensures kept { Keeps postings.old postings.new }
+    ensures listed { OnOk result ((w : _) → has_word made.now w ≡ true → is_listed postings.new w slot ≡ true) }
+{
+    match made {
+        Some(made) => list_keys(postings, slot, made.reads.as_slice()),
+        None => Ok(()),
+    }
+}
+
+/// Makes what is made of the declarations of some keys, and lists slots, numbered from `first` on, under the words of it.
+pub(crate) fn change_all(
+    alloc: Global,
+    decls: &Decls,
+    keys: &[DeclKey],
+    first: u64,
+    postings: &mut Postings,
+) -> Result<Vec<Change>, AllocError>
+    requires { first + length keys.now < 2 ^ 64 }
+    ensures kept { Keeps postings.old postings.new }
+    ensures changes { IfOk result (λ changes. changes.items ≡ map (change_of decls.now) keys.now) }
+    ensures listed { IfOk result (λ changes. (w : _) (i : _) (k : _) → slice_get keys.now i ≡ Some k
+        → has_word (made_of decls.now k) w ≡ true → is_listed postings.new w (first + i) ≡ true) }
+{
+    let mut changes = Vec::with_capacity(alloc, keys.len())?;
+    for key in keys {
+        let made = make(alloc, decls, key)?;
+        list_words(postings, first + changes.len() as u64, &made)?;
+        changes.push(Change { key: *key, made })?;
+    }
+    Ok(changes)
+}
+
+fn is_of_kind(kind: Kind, key: &DeclKey) -> bool
+    ensures { result ≡ is_of_kind kind key.now }
+{
+    number_of(kind) == number_of(key.kind)
+}
+
+fn number_of(kind: Kind) -> u8
+    ensures { result ≡ kind_number kind }
+{
+    match kind {
+        Kind::Type => 0,
+        Kind::Qualifier => 1,
+        Kind::Binding => 2,
+        Kind::Stereotype => 3,
+        Kind::Bean => 4,
+        Kind::Interceptor => 5,
+    }
+}
+
+/// Of how many declarations of a kind some changes made something.
+pub(crate) fn count_made(kind: Kind, changes: &[Change]) -> u64
+    ensures { result ≡ length (filter (is_made kind) changes.now) }
+{
+    changes
+        .iter()
+        .filter(|change| is_of_kind(kind, &change.key) && change.made.is_some())
+        .count() as u64
+}

@@ -1,0 +1,83 @@
+//! Prepares what a draft leads to.
+ghost use Rattle.std.specs.Prelude.{◌≡◌, filter, length, IfOk};
+ghost use Rattle.cdi_model.specs.declared.decl.Kind.TheVariants as kinds;
+ghost use Rattle.cdi_index.specs.Counted.{counted, raised};
+ghost use Rattle.cdi_index.specs.Kept.{stored, Keeps, IsExact, IsFreeFrom, IsShelf, IsSound};
+ghost use Rattle.cdi_index.specs.Next.{is_made, IsNext};
+ghost use Rattle.cdi_index.specs.State.{IsEdited};
+
+use crate::affected::affected_by;
+use crate::change::{Change, change_all, count_made};
+use crate::counts::Counts;
+use crate::draft::Draft;
+use crate::shelf::Shelf;
+use cdi_model::{Decls, Kind};
+use cdi_postings::Postings;
+use std::alloc::{AllocError, Global};
+
+/// What a commit takes over.
+#[derive(Drop)]
+pub(crate) struct Next {
+    pub(crate) decls: Decls,
+    /// The slot of the first change. Those of the others follow.
+    pub(crate) first: u64,
+    pub(crate) changes: Vec<Change>,
+    pub(crate) counts: Counts,
+}
+
+impl Counts {
+    /// After some changes.
+    fn after(self, changes: &[Change]) -> Counts
+        ensures closures { result.closures ≡ raised self.closures (length (filter (is_made kinds.Type) changes.now)) }
+        ensures beans { result.beans ≡ raised self.beans (length (filter (is_made kinds.Bean) changes.now)) }
+    {
+        Counts {
+            closures: self
+                .closures
+                .saturating_add(count_made(Kind::Type, changes)),
+            beans: self.beans.saturating_add(count_made(Kind::Bean, changes)),
+        }
+    }
+}
+
+/// Prepares what a draft of these declarations leads to. Until it is taken over nothing is seen of it: what is listed under
+/// words stays, and more may.
+pub(crate) fn prepare(
+    alloc: Global,
+    decls: &Decls,
+    shelf: &mut Shelf,
+    postings: &mut Postings,
+    counts: Counts,
+    draft: Draft,
+) -> Result<Next, AllocError>
+    requires edited { IsEdited decls.now draft }
+    requires shelf { IsShelf shelf.old }
+    requires free { IsFreeFrom shelf.old.given shelf.old }
+    requires exact { IsExact decls.now (stored shelf.old) }
+    requires sound { IsSound (stored shelf.old) postings.old }
+    ensures slots { shelf.new.slots.entries ≡ shelf.old.slots.entries }
+    ensures kept { shelf.new.kept.entries ≡ shelf.old.kept.entries }
+    ensures given { shelf.new.given ≡ shelf.old.given }
+    ensures keeps { Keeps postings.old postings.new }
+    ensures decls { IfOk result (λ next. next.decls ≡ draft.decls) }
+    ensures counts { IfOk result (λ next. next.counts ≡ counted counts decls.now draft.decls draft.keys) }
+    ensures next { IfOk result (λ next. IsNext shelf.new postings.new next) }
+{
+    // No effect at run time. The proof reads here that no two declarations have one kind and name.
+    let _ = draft.decls.iter();
+    let affected = affected_by(alloc, shelf, postings, draft.keys.as_slice())?;
+    shelf.reserve(affected.len())?;
+    let changes = change_all(
+        alloc,
+        &draft.decls,
+        affected.as_slice(),
+        shelf.given,
+        postings,
+    )?;
+    Ok(Next {
+        counts: counts.after(changes.as_slice()),
+        decls: draft.decls,
+        first: shelf.given,
+        changes,
+    })
+}

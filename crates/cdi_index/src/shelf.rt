@@ -1,0 +1,94 @@
+//! What is kept of declarations, by slots.
+ghost use Rattle.std.specs.Prelude.{◌≡◌, ◌≤◌, ◌<◌, ◌+◌, ◌⊎◌, ◌^◌, Some, None, cond, OnOk};
+ghost use Rattle.indexmap.specs.IndexMap.{spare};
+ghost use Rattle.cdi_model.specs.DeclKey.{same_key};
+ghost use Rattle.cdi_index.specs.Kept.{kept_at, slot_of, stored, IsShelf};
+
+use crate::making::Made;
+use cdi_model::DeclKey;
+use indexmap::IndexMap;
+use std::alloc::{AllocError, Global};
+
+/// What is kept at a slot: a declaration's key, and what is made of it.
+#[derive(Drop)]
+pub(crate) struct Kept {
+    pub(crate) key: DeclKey,
+    pub(crate) made: Made,
+}
+
+/// What is kept of declarations. Each has a slot, a number that is given once. So what is listed by its slot is found
+/// without its name, and a slot that is listed too long leads to nothing.
+#[derive(Drop)]
+pub(crate) struct Shelf {
+    pub(crate) slots: IndexMap<DeclKey, u64>,
+    pub(crate) kept: IndexMap<u64, Kept>,
+    /// How many slots were given.
+    pub(crate) given: u64,
+}
+
+impl Shelf {
+    /// Nothing is kept. It takes no memory yet.
+    pub(crate) fn new(alloc: Global) -> Shelf
+        ensures shelf { IsShelf result }
+        ensures empty { (k : _) → stored result k ≡ None }
+        ensures free { (s : _) → kept_at result s ≡ None }
+    {
+        Shelf {
+            slots: IndexMap::new(alloc),
+            kept: IndexMap::new(alloc),
+            given: 0,
+        }
+    }
+
+    /// Makes room for so many declarations, for which there are slots too. It takes memory for them.
+    pub(crate) fn reserve(&mut self, more: usize) -> Result<(), AllocError>
+        ensures entries { self.new.slots.entries ≡ self.old.slots.entries }
+        ensures others { self.new.kept.entries ≡ self.old.kept.entries }
+        ensures given { self.new.given ≡ self.old.given }
+        ensures numbers { OnOk result (self.new.given + more < 2 ^ 64) }
+        ensures slots { OnOk result (more ≤ spare self.new.slots) }
+        ensures kept { OnOk result (more ≤ spare self.new.kept) }
+    {
+        self.slots.reserve(more)?;
+        self.kept.reserve(more)?;
+        match self.given.checked_add(more as u64) {
+            Some(_) => Ok(()),
+            None => Err(AllocError),
+        }
+    }
+
+    /// Takes out what is kept of a declaration, with its slot. It takes no memory.
+    pub(crate) fn take_out(&mut self, key: &DeclKey) -> Option<(u64, Made)>
+        requires { IsShelf self.old }
+        ensures shelf { IsShelf self.new }
+        ensures taken { result ≡ stored self.old key.now }
+        ensures stored { (k : _) → stored self.new k ≡ cond (same_key key.now k) None (stored self.old k) }
+        ensures gone { slot_of self.new key.now ≡ None }
+        ensures others { (s : _) (e : _) → kept_at self.new s ≡ Some e → kept_at self.old s ≡ Some e }
+        ensures given { self.new.given ≡ self.old.given }
+        ensures slots { spare self.old.slots ≤ spare self.new.slots }
+        ensures kept { spare self.old.kept ≤ spare self.new.kept }
+    {
+        let slot = self.slots.swap_remove(key)?;
+        let kept = self.kept.swap_remove(&slot)?;
+        Some((slot, kept.made))
+    }
+
+    /// Keeps what is made of a declaration at a slot that is free. It takes no memory where there is room.
+    pub(crate) fn put_in(&mut self, key: &DeclKey, slot: u64, made: Made)
+        requires shelf { IsShelf self.old }
+        requires absent { slot_of self.old key.now ≡ None }
+        requires free { kept_at self.old slot ≡ None }
+        requires slots { 0 < spare self.old.slots }
+        requires kept { 0 < spare self.old.kept }
+        ensures shelf { IsShelf self.new }
+        ensures stored { (k : _) → stored self.new k ≡ cond (same_key key.now k) (Some (slot, made)) (stored self.old k) }
+        ensures others { (s : _) (e : _) → kept_at self.new s ≡ Some e → (s ≡ slot) ⊎ (kept_at self.old s ≡ Some e) }
+        ensures given { self.new.given ≡ self.old.given }
+        ensures slots { spare self.old.slots ≤ spare self.new.slots + 1 }
+        ensures kept { spare self.old.kept ≤ spare self.new.kept + 1 }
+    {
+        self.slots.insert(*key, slot).unwrap();
+        self.kept.insert(slot, Kept { key: *key, made }).unwrap();
+    }
+}
