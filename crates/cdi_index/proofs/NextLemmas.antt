@@ -186,6 +186,12 @@ module _ (ds eds : List Decl) (edits : List Edit) (ekeys ks slice : List DeclKey
       counted-from which has ds eds edits ekeys ks slice changes n made named distinct once all-hits shown are
       (is_n ∙ ap (λ cs. length (filter (is_made which) cs)) seen)
 
+  -- what is kept of others is what is made of them now
+  pub kept-of-others : new.slots.entries ≡ old.slots.entries → new.kept.entries ≡ old.kept.entries → (k : DeclKey)
+      → list_any (same_key k) ks ≡ false → made_in (stored new k) ≡ made_of eds k
+  kept-of-others slots kept k none = exact-same old new slots kept ds exact k ∙ sym (made-stays ds edits k (sym (all-hits k) ∙ none))
+      ∙ ap (λ d. made_of d k) (sym made)
+
   module _ (slots : new.slots.entries ≡ old.slots.entries) (kept : new.kept.entries ≡ old.kept.entries) (keeps : Keeps listings more)
       (next : Next) (decls : next.decls ≡ eds) (are : next.changes.items ≡ map (change_of eds) slice)
       (listed : (w : Word) (i : ℕ) (k : DeclKey) → slice_get slice i ≡ Some k → has_word (made_of eds k) w ≡ true

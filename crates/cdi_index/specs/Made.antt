@@ -1,6 +1,8 @@
 -- What is made of declarations, what it reads, and under which words a declaration is listed for it.
-use Rattle.std.specs.Prelude.{ℕ, Bool, true, false, List, [], Option, Some, None, option_map}
+use Rattle.std.specs.Prelude.{◌≡◌, ℕ, Bool, true, false, List, [], Option, Some, None, option_map}
 use Rattle.std.specs.List.{list_any}
+use Rattle.std.specs.declared.alloc.Global.{Global}
+use Rattle.std.specs.declared.vec.Vec.{Vec}
 use Rattle.cdi_model.specs.declared.decl.BeanDecl.{BeanDecl}
 use Rattle.cdi_model.specs.declared.decl.Decl.{Decl}
 use Rattle.cdi_model.specs.declared.decl.Kind.{Kind}
@@ -61,3 +63,7 @@ keys_have keys w = list_any (λ r. same_word (word_of r) w) keys
 -- a declaration of which this is made has to be listed under the word
 abbrev pub has_word : Option Made → Word → Bool
 has_word made w = keys_have (reads_in made) w
+
+-- These are the types of each name for which some are there.
+abbrev pub AreClosed : List Decl → (DeclKey → Option (Vec (List ℕ) Global)) → Type 0
+AreClosed ds closed = (k : DeclKey) (types : Vec (List ℕ) Global) → closed k ≡ Some types → types.items ≡ types_of ds k.name

@@ -8,6 +8,7 @@ mod draft;
 mod index;
 mod install;
 mod making;
+mod next_types;
 mod prepare;
 mod shelf;
 

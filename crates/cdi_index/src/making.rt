@@ -4,9 +4,9 @@ ghost use Rattle.cdi_model.specs.declared.decl.Kind.TheVariants as kinds;
 ghost use Rattle.cdi_model.specs.DeclKey.{key_at};
 ghost use Rattle.cdi_index.specs.Made.{made_of, made_of_bean, made_of_type};
 
-use cdi_effective::{Effective, own_records_of, reads_of};
-use cdi_match::closure;
-use cdi_model::{BeanDecl, Decl, DeclKey, Decls, Kind, Name, Seq};
+use crate::next_types::NextTypes;
+use cdi_effective::{Closures, Effective, own_records_of, reads_of};
+use cdi_model::{BeanDecl, Decl, DeclKey, Kind, Name, Seq};
 use std::alloc::{AllocError, Global};
 
 /// What a declaration gives.
@@ -40,10 +40,10 @@ fn keys_of_types(alloc: Global, names: &[Name]) -> Result<Seq<DeclKey>, AllocErr
 }
 
 /// Makes the types of a type.
-fn make_types(alloc: Global, decls: &Decls, name: &Name) -> Result<Made, AllocError>
-    ensures { IfOk result (λ made. made ≡ made_of_type decls.now name.now) }
+fn make_types(alloc: Global, types: &NextTypes<'_>, name: &Name) -> Result<Made, AllocError>
+    ensures { IfOk result (λ made. made ≡ made_of_type types.now.decls.now name.now) }
 {
-    let types = closure(alloc, decls, *name)?;
+    let types = types.types_of(alloc, *name)?;
     let reads = keys_of_types(alloc, types.as_slice())?;
     Ok(Made {
         reads,
@@ -52,11 +52,11 @@ fn make_types(alloc: Global, decls: &Decls, name: &Name) -> Result<Made, AllocEr
 }
 
 /// Makes the records of a bean declaration.
-fn make_records(alloc: Global, decls: &Decls, bean: &BeanDecl) -> Result<Made, AllocError>
-    ensures { IfOk result (λ made. made ≡ made_of_bean decls.now bean.now) }
+fn make_records(alloc: Global, types: &NextTypes<'_>, bean: &BeanDecl) -> Result<Made, AllocError>
+    ensures { IfOk result (λ made. made ≡ made_of_bean types.now.decls.now bean.now) }
 {
-    let records = own_records_of(alloc, decls, decls, bean)?;
-    let reads = reads_of(alloc, decls, decls, bean)?;
+    let records = own_records_of(alloc, types.decls, types, bean)?;
+    let reads = reads_of(alloc, types.decls, types, bean)?;
     Ok(Made {
         reads: Seq::from_vec(reads),
         given: Given::Records(Seq::from_vec(records)),
@@ -64,18 +64,22 @@ fn make_records(alloc: Global, decls: &Decls, bean: &BeanDecl) -> Result<Made, A
 }
 
 /// Makes what is made of the declaration of a key.
-pub(crate) fn make(alloc: Global, decls: &Decls, key: &DeclKey) -> Result<Option<Made>, AllocError>
-    ensures { IfOk result (λ made. made ≡ made_of decls.now key.now) }
+pub(crate) fn make(
+    alloc: Global,
+    types: &NextTypes<'_>,
+    key: &DeclKey,
+) -> Result<Option<Made>, AllocError>
+    ensures { IfOk result (λ made. made ≡ made_of types.now.decls.now key.now) }
 {
     match key.kind {
         Kind::Type => {
-            if decls.get(Kind::Type, &key.name).is_none() {
+            if types.decls.get(Kind::Type, &key.name).is_none() {
                 return Ok(None);
             }
-            Ok(Some(make_types(alloc, decls, &key.name)?))
+            Ok(Some(make_types(alloc, types, &key.name)?))
         }
-        Kind::Bean => match decls.get(Kind::Bean, &key.name) {
-            Some(Decl::Bean(bean)) => Ok(Some(make_records(alloc, decls, bean)?)),
+        Kind::Bean => match types.decls.get(Kind::Bean, &key.name) {
+            Some(Decl::Bean(bean)) => Ok(Some(make_records(alloc, types, bean)?)),
             _ => Ok(None),
         },
         _ => Ok(None),

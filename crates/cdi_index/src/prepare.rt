@@ -7,7 +7,7 @@ ghost use Rattle.cdi_index.specs.Next.{is_made, IsNext};
 ghost use Rattle.cdi_index.specs.State.{IsEdited};
 
 use crate::affected::affected_by;
-use crate::change::{Change, change_all, count_made};
+use crate::change::{Change, change_affected, count_made};
 use crate::counts::Counts;
 use crate::draft::Draft;
 use crate::shelf::Shelf;
@@ -67,13 +67,7 @@ pub(crate) fn prepare(
     let _ = draft.decls.iter();
     let affected = affected_by(alloc, shelf, postings, draft.keys.as_slice())?;
     shelf.reserve(affected.len())?;
-    let changes = change_all(
-        alloc,
-        &draft.decls,
-        affected.as_slice(),
-        shelf.given,
-        postings,
-    )?;
+    let changes = change_affected(alloc, &draft.decls, shelf, &affected, postings)?;
     Ok(Next {
         counts: counts.after(changes.as_slice()),
         decls: draft.decls,

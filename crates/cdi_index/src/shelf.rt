@@ -1,8 +1,9 @@
 //! What is kept of declarations, by slots.
 ghost use Rattle.std.specs.Prelude.{◌≡◌, ◌≤◌, ◌<◌, ◌+◌, ◌⊎◌, ◌^◌, Some, None, cond, OnOk};
+ghost use Rattle.std.specs.Option.{option_copied};
 ghost use Rattle.indexmap.specs.IndexMap.{spare};
 ghost use Rattle.cdi_model.specs.DeclKey.{same_key};
-ghost use Rattle.cdi_index.specs.Kept.{kept_at, slot_of, stored, IsShelf};
+ghost use Rattle.cdi_index.specs.Kept.{kept_at, made_in, slot_of, stored, IsShelf};
 
 use crate::making::Made;
 use cdi_model::DeclKey;
@@ -38,6 +39,15 @@ impl Shelf {
             kept: IndexMap::new(alloc),
             given: 0,
         }
+    }
+
+    /// What is kept of a declaration. It takes no memory.
+    pub(crate) fn find(&self, key: &DeclKey) -> Option<&Made>
+        ensures { option_copied result ≡ made_in (stored self.now key.now) }
+    {
+        let slot = self.slots.get(key)?;
+        let kept = self.kept.get(slot)?;
+        Some(&kept.made)
     }
 
     /// Makes room for so many declarations, for which there are slots too. It takes memory for them.

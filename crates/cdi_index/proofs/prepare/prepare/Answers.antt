@@ -7,29 +7,38 @@ use Rattle.std.proofs.lemmas.List.{length-map}
 use Rattle.cdi_index.specs.Counted.{raised}
 use Rattle.cdi_index.specs.Next.{change_of}
 use Rattle.cdi_index.specs.State.{Drafted}
-use Rattle.cdi_index.proofs.NextLemmas.{counted, prepared}
+use Rattle.cdi_index.proofs.NextLemmas.{counted, kept-of-others, prepared}
 use Rattle.cdi_index.proofs.prepare.prepare.Goals as goal
+
+pub change_affected-requires-clause-kept : goal.change_affected-requires-clause-kept
+change_affected-requires-clause-kept c k none =
+    let decls : c.draft.inside.decls ≡ c.args.draft.decls = ap (λ (d : Drafted). d.decls) c.draft.view_is in
+    let keys : c.as_slice.result.now ≡ c.args.draft.keys = c.as_slice.ensures.value ∙ ap (λ (d : Drafted). d.keys) c.draft.view_is in
+    kept-of-others c.args.decls.now c.draft.inside.decls c.requires.edited.edits c.as_slice.result.now c.in_ok-affected.affected.keys
+    c.in_ok-affected.affected.keys c.args.shelf.now c.reserve.new.self c.args.postings.now c.args.postings.now c.requires.shelf
+    c.requires.exact c.requires.sound (decls ∙ c.requires.edited.decls) (keys ∙ c.requires.edited.keys) c.in_ok-affected.ensures refl
+    c.reserve.ensures.entries c.reserve.ensures.others k none
 
 pub returns-clause-counts : goal.returns-clause-counts
 returns-clause-counts c =
     let decls : c.draft.inside.decls ≡ c.args.draft.decls = ap (λ (d : Drafted). d.decls) c.draft.view_is in
     let keys : c.as_slice.result.now ≡ c.args.draft.keys = c.as_slice.ensures.value ∙ ap (λ (d : Drafted). d.keys) c.draft.view_is in
-    let changes = c.in_ok-changes.ensures.changes ∙ ap (λ d. map (change_of d) c.as_slice-2.result.now) decls in
+    let changes = c.in_ok-changes.ensures.changes ∙ ap (λ d. map (change_of d) c.in_ok-affected.affected.keys) decls in
     let distinct = subst AreDistinct decls c.iter.ensures.distinct in
     let closures = c.after.ensures.closures
     ∙ ap (raised c.args.counts.closures) (counted c.args.decls.now c.args.draft.decls c.requires.edited.edits c.args.draft.keys
-    c.in_ok-affected.affected.keys c.as_slice-2.result.now c.args.shelf.now c.reserve.new.self c.args.postings.now c.change_all.new.postings
+    c.in_ok-affected.affected.keys c.in_ok-affected.affected.keys c.args.shelf.now c.reserve.new.self c.args.postings.now c.change_affected.new.postings
     c.requires.shelf c.requires.exact c.requires.sound c.requires.edited.decls c.requires.edited.keys
     (λ k. c.in_ok-affected.ensures k ∙ ap (list_any (touches c.args.shelf.now c.args.postings.now k)) keys)
-    c.as_slice-2.ensures.keys kinds.Type refl c.in_ok-changes.changes.items c.as_slice-3.result.now _ distinct c.as_slice-2.ensures.unique
-    c.as_slice-3.ensures.value changes refl) in
+    refl kinds.Type refl c.in_ok-changes.changes.items c.as_slice-2.result.now _ distinct c.len.ensures.unique
+    c.as_slice-2.ensures.value changes refl) in
     let beans = c.after.ensures.beans
     ∙ ap (raised c.args.counts.beans) (counted c.args.decls.now c.args.draft.decls c.requires.edited.edits c.args.draft.keys
-    c.in_ok-affected.affected.keys c.as_slice-2.result.now c.args.shelf.now c.reserve.new.self c.args.postings.now c.change_all.new.postings
+    c.in_ok-affected.affected.keys c.in_ok-affected.affected.keys c.args.shelf.now c.reserve.new.self c.args.postings.now c.change_affected.new.postings
     c.requires.shelf c.requires.exact c.requires.sound c.requires.edited.decls c.requires.edited.keys
     (λ k. c.in_ok-affected.ensures k ∙ ap (list_any (touches c.args.shelf.now c.args.postings.now k)) keys)
-    c.as_slice-2.ensures.keys kinds.Bean refl c.in_ok-changes.changes.items c.as_slice-3.result.now _ distinct c.as_slice-2.ensures.unique
-    c.as_slice-3.ensures.value changes refl) in
+    refl kinds.Bean refl c.in_ok-changes.changes.items c.as_slice-2.result.now _ distinct c.len.ensures.unique
+    c.as_slice-2.ensures.value changes refl) in
     λ i. record { closures = closures i; beans = beans i }
 
 pub returns-clause-next : goal.returns-clause-next
@@ -37,11 +46,11 @@ returns-clause-next c =
     let decls : c.draft.inside.decls ≡ c.args.draft.decls = ap (λ (d : Drafted). d.decls) c.draft.view_is in
     let keys : c.as_slice.result.now ≡ c.args.draft.keys = c.as_slice.ensures.value ∙ ap (λ (d : Drafted). d.keys) c.draft.view_is in
     let many : length c.in_ok-changes.changes.items ≡ c.len.result = ap length c.in_ok-changes.ensures.changes
-    ∙ length-map c.as_slice-2.result.now (change_of c.draft.inside.decls) ∙ ap length c.as_slice-2.ensures.keys ∙ sym c.len.ensures.len in
+    ∙ length-map c.in_ok-affected.affected.keys (change_of c.draft.inside.decls) ∙ sym c.len.ensures.len in
     prepared c.args.decls.now c.draft.inside.decls c.requires.edited.edits c.as_slice.result.now c.in_ok-affected.affected.keys
-    c.as_slice-2.result.now c.args.shelf.now c.reserve.new.self c.args.postings.now c.change_all.new.postings c.requires.shelf
+    c.in_ok-affected.affected.keys c.args.shelf.now c.reserve.new.self c.args.postings.now c.change_affected.new.postings c.requires.shelf
     c.requires.exact c.requires.sound (decls ∙ c.requires.edited.decls) (keys ∙ c.requires.edited.keys) c.in_ok-affected.ensures
-    c.as_slice-2.ensures.keys c.reserve.ensures.entries c.reserve.ensures.others c.change_all.ensures.kept _ refl
+    refl c.reserve.ensures.entries c.reserve.ensures.others c.change_affected.ensures.kept _ refl
     c.in_ok-changes.ensures.changes c.in_ok-changes.ensures.listed
     (λ s e at. omega (arith, c.requires.free s e at, c.reserve.ensures.given))
     (omega (arith, c.in_ok-reserve.ensures.numbers, many))
