@@ -1,5 +1,6 @@
 -- The edits of a batch, one after another.
-use Rattle.std.proofs.Common.{◌≡◌, ℕ, ◌+◌, List, [], ◌∷◌, ◌++◌, Option, None, Some, refl, ap, ◌∙◌}
+use Rattle.std.proofs.Common.{◌≡◌, ℕ, ◌+◌, List, [], ◌∷◌, ◌++◌, Option, None, Some, refl, ap, sym, ◌∙◌, append_assoc}
+use Rattle.std.proofs.lemmas.List.{map-append}
 use Rattle.std.specs.Prelude.{Result, Ok, Err}
 use Rattle.cdi_model.specs.declared.decl.Decl.{Decl}
 use Rattle.cdi_model.specs.declared.edit.Edit.{Edit as Change}
@@ -7,9 +8,10 @@ use Rattle.cdi_model.specs.declared.refusal.Error.{Error}
 use Rattle.cdi_model.specs.declared.refusal.Error.TheVariants as errors
 use Rattle.cdi_model.specs.declared.refusal.Refusal.{Refusal}
 use Rattle.cdi_model.specs.Answering.{Answers}
-use Rattle.cdi_model.specs.Edits.{edited, edited_all}
+use Rattle.cdi_model.specs.Edits.{edited, edited_all, edited_key, edited_keys}
+use Rattle.cdi_index.specs.State.{Drafted}
 use Rattle.cdi_lines.specs.declared.edit.Edit.{Edit}
-use Rattle.cdi_container.specs.Editing.{asked_by, change_of, changes_of, changes_of_all, first_refusal, refusal_of_change, refused_first}
+use Rattle.cdi_container.specs.Editing.{asked_by, change_of, changes_of, changes_of_all, drafted_all, first_refusal, refusal_of_change, refused_first}
 use Rattle.cdi_container.specs.Seen.{SaysReason, answer_of_change, refused_at}
 use Rattle.cdi_container.proofs.Putting.{accepted_change, refused_change}
 
@@ -17,10 +19,18 @@ pub edited_all-append : (ds : List Decl) (es fs : List Change) → edited_all ds
 edited_all-append ds [] fs = refl
 edited_all-append ds (e ∷ es) fs = edited_all-append (edited ds e) es fs
 
+-- changes that are made on a draft, and then further ones
+drafted_all-append : (draft : Drafted) (es fs : List Change) → drafted_all draft (es ++ fs) ≡ drafted_all (drafted_all draft es) fs
+drafted_all-append draft es fs =
+    ap (λ ds. record { decls = ds; keys = draft.keys ++ edited_keys (es ++ fs) }) (edited_all-append draft.decls es fs)
+    ∙ ap (λ keys. record { decls = edited_all (edited_all draft.decls es) fs; keys = draft.keys ++ keys }) (map-append edited_key es fs)
+    ∙ ap (λ keys. record { decls = edited_all (edited_all draft.decls es) fs; keys = keys })
+    (sym (append_assoc draft.keys (edited_keys es) (edited_keys fs)))
+
 -- what an edit and further ones leave
-pub left_by_first : (ds next : List Decl) (e : Edit) (es : List Edit) → next ≡ edited_all ds (changes_of e)
-    → edited_all ds (changes_of_all (e ∷ es)) ≡ edited_all next (changes_of_all es)
-left_by_first ds next e es h = rw h (edited_all-append ds (changes_of e) (changes_of_all es))
+pub left_by_first : (draft next : Drafted) (e : Edit) (es : List Edit) → next ≡ drafted_all draft (changes_of e)
+    → drafted_all draft (changes_of_all (e ∷ es)) ≡ drafted_all next (changes_of_all es)
+left_by_first draft next e es h = rw h (drafted_all-append draft (changes_of e) (changes_of_all es))
 
 -- an edit is not refused, but a further one may be
 pub first_accepted : (number : ℕ) (ds next : List Decl) (e : Edit) (es : List Edit) (u : Unit {0})

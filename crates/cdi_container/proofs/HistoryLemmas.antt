@@ -1,19 +1,23 @@
--- The declarations behind a legal history are what its accepted edits make.
+-- The declarations and the counts behind a legal history are what its accepted edits make.
 use Rattle.std.proofs.Common.{◌≡◌, List, [], ◌∷◌, ◌++◌, refl, ap, sym, ◌∙◌, subst, Bool, true, false, None}
 use Rattle.std.specs.Prelude.{Result, Ok, Err, if◌then◌else◌}
 use Rattle.std.specs.declared.alloc.AllocError.{AllocError}
+use Rattle.cdi_model.specs.declared.decl.Decl.{Decl}
 use Rattle.cdi_model.specs.declared.edit.Edit.{Edit as Change}
 use Rattle.cdi_model.specs.Edits.{edited_all}
+use Rattle.cdi_index.specs.declared.counts.Counts.{Counts}
 use Rattle.cdi_lines.specs.declared.command.Command.{Command}
+use Rattle.cdi_lines.specs.declared.command.Command.TheVariants as commands
 use Rattle.cdi_lines.specs.declared.command.Command.TheVariants.{Edit, Batch, Choose, Named, Chain, Observers, Report, LookUp, Call, Fire}
 use Rattle.cdi_lines.specs.declared.command.Command.TheVariants.{BeginRequest, EndRequest}
 use Rattle.cdi_lines.specs.declared.command.Command.TheVariants.{Stop, Unreadable}
 use Rattle.cdi_container.specs.declared.answer.Answer.{Answer}
-use Rattle.cdi_container.specs.declared.answer.Answer.TheVariants.{Done, Chosen, Intercepted, Observed, Reported, Given, Refused}
+use Rattle.cdi_container.specs.declared.answer.Answer.TheVariants.{Done, Chosen, Intercepted, Observed, Reported, Counted, Given, Refused}
 use Rattle.cdi_container.specs.Editing.{changes_of, changes_of_all}
 use Rattle.cdi_container.proofs.BatchLemmas.{edited_all-append}
 use Rattle.cdi_container.specs.History.{State, empty, emptied, History, Acts, EditsFrom, LegalAnswer, LegalHistory, refusal_of}
 use Rattle.cdi_container.specs.History.{accepted_changes, accepted_edits, RestsOnAcceptedEdits, runs}
+use Rattle.cdi_container.specs.History.{counts_behind, counts_of, counts_with, no_counts, CountsAcceptedEdits}
 
 decls_of_edit : (old new : State) (changes : List Change) → EditsFrom old changes new → new.decls ≡ edited_all old.decls changes
 decls_of_edit old new changes h = ap (λ s. s.decls) h.rest
@@ -37,6 +41,8 @@ acts_edits old new (Observers t quals) answer accepted h =
     subst (λ a. new.decls ≡ edited_all old.decls (accepted_changes (Observers t quals) (Ok a))) (sym h.0) (ap (λ s. s.decls) h.1)
 acts_edits old new Report answer accepted h =
     subst (λ a. new.decls ≡ edited_all old.decls (accepted_changes Report (Ok a))) (sym h.0) (ap (λ s. s.decls) h.1)
+acts_edits old new commands.Counts answer accepted h =
+    subst (λ a. new.decls ≡ edited_all old.decls (accepted_changes commands.Counts (Ok a))) (sym h.0) (ap (λ s. s.decls) h.1)
 acts_edits old new (LookUp t quals) answer accepted h =
     subst (λ a. new.decls ≡ edited_all old.decls (accepted_changes (LookUp t quals) (Ok a))) (sym h.given) (ap (λ s. s.decls) h.rest)
 acts_edits old new (Call method arg t quals) answer accepted h =
@@ -63,6 +69,7 @@ step_edits old new command (Ok (Chosen choice)) h = acts_edits old new command (
 step_edits old new command (Ok (Intercepted names)) h = acts_edits old new command (Intercepted names) h.0 h.1
 step_edits old new command (Ok (Observed ids)) h = acts_edits old new command (Observed ids) h.0 h.1
 step_edits old new command (Ok (Reported list)) h = acts_edits old new command (Reported list) h.0 h.1
+step_edits old new command (Ok (Counted counts)) h = acts_edits old new command (Counted counts) h.0 h.1
 step_edits old new command (Ok (Given outcome)) h = acts_edits old new command (Given outcome) h.0 h.1
 step_edits old new command (Ok (Refused refusal edit)) h = ap (λ s. s.decls) h.1
 step_edits old new command (Err error) h = ap (λ s. s.decls) h ∙ unserved_decls old (runs command)
@@ -77,3 +84,73 @@ history_edits old new (step ∷ steps) h =
 
 pub rests_on_accepted_edits : (history : History) → RestsOnAcceptedEdits history
 rests_on_accepted_edits history book state h = history_edits (empty book) state history h
+
+-- ---- counts
+
+counts_of_edit : (old new : State) (changes : List Change) → EditsFrom old changes new
+    → new.counts ≡ counts_with old.decls old.counts changes
+counts_of_edit old new changes h = ap (λ s. s.counts) h.rest
+
+-- a command that was carried out counts what its edits compute
+pub acts_count : (old new : State) (command : Command) (answer : Answer) → Acts old command answer new
+    → new.counts ≡ counts_behind old.decls old.counts command (Ok answer)
+acts_count old new (Edit edit) answer h =
+    subst (λ a. new.counts ≡ counts_behind old.decls old.counts (Edit edit) (Ok a)) (sym h.0)
+    (counts_of_edit old new (changes_of edit) h.1)
+acts_count old new (Batch edits) answer h =
+    subst (λ a. new.counts ≡ counts_behind old.decls old.counts (Batch edits) (Ok a)) (sym h.0)
+    (counts_of_edit old new (changes_of_all edits) h.1)
+acts_count old new (Choose t quals) answer h =
+    subst (λ a. new.counts ≡ counts_behind old.decls old.counts (Choose t quals) (Ok a)) (sym h.0) (ap (λ s. s.counts) h.1)
+acts_count old new (Named name) answer h =
+    subst (λ a. new.counts ≡ counts_behind old.decls old.counts (Named name) (Ok a)) (sym h.0) (ap (λ s. s.counts) h.1)
+acts_count old new (Chain bean place) answer h =
+    subst (λ a. new.counts ≡ counts_behind old.decls old.counts (Chain bean place) (Ok a)) (sym h.given) (ap (λ s. s.counts) h.rest)
+acts_count old new (Observers t quals) answer h =
+    subst (λ a. new.counts ≡ counts_behind old.decls old.counts (Observers t quals) (Ok a)) (sym h.0) (ap (λ s. s.counts) h.1)
+acts_count old new Report answer h =
+    subst (λ a. new.counts ≡ counts_behind old.decls old.counts Report (Ok a)) (sym h.0) (ap (λ s. s.counts) h.1)
+acts_count old new commands.Counts answer h =
+    subst (λ a. new.counts ≡ counts_behind old.decls old.counts commands.Counts (Ok a)) (sym h.0) (ap (λ s. s.counts) h.1)
+acts_count old new (LookUp t quals) answer h =
+    subst (λ a. new.counts ≡ counts_behind old.decls old.counts (LookUp t quals) (Ok a)) (sym h.given) (ap (λ s. s.counts) h.rest)
+acts_count old new (Call method arg t quals) answer h =
+    subst (λ a. new.counts ≡ counts_behind old.decls old.counts (Call method arg t quals) (Ok a)) (sym h.given)
+    (ap (λ s. s.counts) h.rest)
+acts_count old new (Fire arg t quals) answer h =
+    subst (λ a. new.counts ≡ counts_behind old.decls old.counts (Fire arg t quals) (Ok a)) (sym h.given) (ap (λ s. s.counts) h.rest)
+acts_count old new BeginRequest answer h =
+    subst (λ a. new.counts ≡ counts_behind old.decls old.counts BeginRequest (Ok a)) (sym h.0) (ap (λ s. s.counts) h.1)
+acts_count old new EndRequest answer h =
+    subst (λ a. new.counts ≡ counts_behind old.decls old.counts EndRequest (Ok a)) (sym h.done) (ap (λ s. s.counts) h.rest)
+acts_count old new Stop answer h =
+    subst (λ a. new.counts ≡ counts_behind old.decls old.counts Stop (Ok a)) (sym h.done) (ap (λ s. s.counts) h.rest)
+acts_count old new Unreadable answer h = absurd h
+
+unserved_counts : (old : State) (b : Bool) → (if b then emptied old else old).counts ≡ old.counts
+unserved_counts old true = refl
+unserved_counts old false = refl
+
+step_counts : (old new : State) (command : Command) (answer : Result Answer AllocError)
+    → LegalAnswer old command answer new → new.counts ≡ counts_behind old.decls old.counts command answer
+step_counts old new command (Ok Done) h = acts_count old new command Done h.1
+step_counts old new command (Ok (Chosen choice)) h = acts_count old new command (Chosen choice) h.1
+step_counts old new command (Ok (Intercepted names)) h = acts_count old new command (Intercepted names) h.1
+step_counts old new command (Ok (Observed ids)) h = acts_count old new command (Observed ids) h.1
+step_counts old new command (Ok (Reported list)) h = acts_count old new command (Reported list) h.1
+step_counts old new command (Ok (Counted counts)) h = acts_count old new command (Counted counts) h.1
+step_counts old new command (Ok (Given outcome)) h = acts_count old new command (Given outcome) h.1
+step_counts old new command (Ok (Refused refusal edit)) h = ap (λ s. s.counts) h.1
+step_counts old new command (Err error) h = ap (λ s. s.counts) h ∙ unserved_counts old (runs command)
+
+history_counts : (old new : State) (history : History) → LegalHistory old history new
+    → new.counts ≡ counts_of old.decls old.counts history
+history_counts old new [] h = ap (λ s. s.counts) h
+history_counts old new (step ∷ steps) h =
+    history_counts h.0 new steps h.2
+    ∙ ap (λ ds. counts_of ds h.0.counts steps) (step_edits old h.0 step.command step.answer h.1.answered)
+    ∙ ap (λ counts. counts_of (edited_all old.decls (accepted_changes step.command step.answer)) counts steps)
+    (step_counts old h.0 step.command step.answer h.1.answered)
+
+pub counts_accepted_edits : (history : History) → CountsAcceptedEdits history
+counts_accepted_edits history book state h = history_counts (empty book) state history h

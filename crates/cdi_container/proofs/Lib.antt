@@ -11,3 +11,4 @@ mod Playing
 mod LastEventLemmas
 mod RunAnswered
 mod NamingLemmas
+mod Committing

@@ -14,13 +14,13 @@ abbrev pub by_names : Names → List Entry → List Shown
 by_names names trace = map (λ entry. record { names = names; entry = entry }) trace
 
 pub names_trace : (d : Deployed) (before : Option Names) (state : State) (m : Moment) (list : List Shown)
-    → standing_at d.decls d.book (trace_names d before) m ≡ state → list ≡ by_names (trace_names d before) m.trace → NamesTrace state list
+    → standing_at d (trace_names d before) m ≡ state → list ≡ by_names (trace_names d before) m.trace → NamesTrace state list
 names_trace d before state m list is all =
     subst (λ s. NamesTrace s list) is (record { names = trace_names d before; entries = all; text = refl })
 
 -- where the names are those of the present declarations
 pub names_present : (d : Deployed) (before : Option Names) (state : State) (m : Moment) (names : Names) (trace : List Entry) (list : List Shown)
-    → standing_at d.decls d.book (trace_names d before) m ≡ state → before ≡ None → names ≡ names_of d.decls → trace ≡ m.trace
+    → standing_at d (trace_names d before) m ≡ state → before ≡ None → names ≡ names_of d.decls → trace ≡ m.trace
     → list ≡ by_names names trace → NamesTrace state list
 names_present d before state m names trace list is none present same all =
     names_trace d before state m list is

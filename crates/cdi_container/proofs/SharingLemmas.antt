@@ -14,11 +14,12 @@ use Rattle.cdi_legal.proofs.Commands.{run_single, request_end_single, end_single
 use Rattle.cdi_legal.proofs.Housing.{run_rises, run_rooted, request_end_rises, request_end_rooted, end_rises, end_rooted}
 use Rattle.cdi_legal.proofs.Housing.{both_ends_leave_nothing}
 use Rattle.cdi_lines.specs.declared.command.Command.{Command}
+use Rattle.cdi_lines.specs.declared.command.Command.TheVariants as commands
 use Rattle.cdi_lines.specs.declared.command.Command.TheVariants.{Edit, Batch, Choose, Named, Chain, Observers, Report, LookUp, Call, Fire}
 use Rattle.cdi_lines.specs.declared.command.Command.TheVariants.{BeginRequest, EndRequest}
 use Rattle.cdi_lines.specs.declared.command.Command.TheVariants.{Stop, Unreadable}
 use Rattle.cdi_container.specs.declared.answer.Answer.{Answer}
-use Rattle.cdi_container.specs.declared.answer.Answer.TheVariants.{Done, Chosen, Intercepted, Observed, Reported, Given, Refused}
+use Rattle.cdi_container.specs.declared.answer.Answer.TheVariants.{Done, Chosen, Intercepted, Observed, Reported, Counted, Given, Refused}
 use Rattle.cdi_container.specs.History.{State, empty, emptied, untold, scene, Acts, EditsFrom, EndsContexts, IsRunFrom, RunsFrom}
 use Rattle.cdi_container.specs.History.{LegalAnswer, History, LegalHistory, runs}
 use Rattle.cdi_container.specs.History.{SharesInstances}
@@ -80,6 +81,7 @@ acts_hold old new (Named name) answer h q = untold_holds old new h.1 q
 acts_hold old new (Chain bean place) answer h q = untold_holds old new h.rest q
 acts_hold old new (Observers t quals) answer h q = untold_holds old new h.1 q
 acts_hold old new Report answer h q = untold_holds old new h.1 q
+acts_hold old new commands.Counts answer h q = untold_holds old new h.1 q
 acts_hold old new (LookUp t quals) answer h q = run_holds old new _ answer h q
 acts_hold old new (Call method arg t quals) answer h q = run_holds old new _ answer h q
 acts_hold old new (Fire arg t quals) answer h q = run_holds old new _ answer h q
@@ -102,6 +104,7 @@ step_holds old new command (Ok (Chosen choice)) h q = acts_hold old new command 
 step_holds old new command (Ok (Intercepted names)) h q = acts_hold old new command (Intercepted names) h.1 q
 step_holds old new command (Ok (Observed ids)) h q = acts_hold old new command (Observed ids) h.1 q
 step_holds old new command (Ok (Reported list)) h q = acts_hold old new command (Reported list) h.1 q
+step_holds old new command (Ok (Counted counts)) h q = acts_hold old new command (Counted counts) h.1 q
 step_holds old new command (Ok (Given outcome)) h q = acts_hold old new command (Given outcome) h.1 q
 step_holds old new command (Ok (Refused refusal edit)) h q = untold_holds old new h.1 q
 step_holds old new command (Err error) h q = subst Holds (sym h) (unserved_holds old (runs command) q)

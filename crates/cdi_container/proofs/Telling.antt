@@ -3,11 +3,12 @@ use Rattle.std.proofs.Common.{◌≡◌, [], ◌++◌, refl, subst, sym, ap, ◌
 use Rattle.std.specs.Prelude.{List, Ok}
 use Rattle.cdi_model.specs.declared.edit.Edit.{Edit as Change}
 use Rattle.cdi_lines.specs.declared.command.Command.{Command}
+use Rattle.cdi_lines.specs.declared.command.Command.TheVariants as commands
 use Rattle.cdi_lines.specs.declared.command.Command.TheVariants.{Edit, Batch, Choose, Named, Chain, Observers, Report, LookUp, Call, Fire}
 use Rattle.cdi_lines.specs.declared.command.Command.TheVariants.{BeginRequest, EndRequest}
 use Rattle.cdi_lines.specs.declared.command.Command.TheVariants.{Stop, Unreadable}
 use Rattle.cdi_container.specs.declared.answer.Answer.{Answer}
-use Rattle.cdi_container.specs.declared.answer.Answer.TheVariants.{Done, Chosen, Intercepted, Observed, Reported, Given, Refused}
+use Rattle.cdi_container.specs.declared.answer.Answer.TheVariants.{Done, Chosen, Intercepted, Observed, Reported, Counted, Given, Refused}
 use Rattle.cdi_container.specs.Seen.{IsStep}
 use Rattle.cdi_container.specs.History.{State, Acts, EditsFrom, told_on, untold}
 use Rattle.cdi_container.specs.Editing.{changes_of, changes_of_all}
@@ -30,6 +31,7 @@ acts_tell old new (Named name) answer h = untold_tells old new h.1
 acts_tell old new (Chain bean place) answer h = untold_tells old new h.rest
 acts_tell old new (Observers t quals) answer h = untold_tells old new h.1
 acts_tell old new Report answer h = untold_tells old new h.1
+acts_tell old new commands.Counts answer h = untold_tells old new h.1
 acts_tell old new (LookUp t quals) answer h = ap (λ s. s.text) h.rest
 acts_tell old new (Call method arg t quals) answer h = ap (λ s. s.text) h.rest
 acts_tell old new (Fire arg t quals) answer h = ap (λ s. s.text) h.rest
@@ -44,5 +46,6 @@ step_tells old new command (Chosen choice) h = acts_tell old new command (Chosen
 step_tells old new command (Intercepted names) h = acts_tell old new command (Intercepted names) h.1
 step_tells old new command (Observed ids) h = acts_tell old new command (Observed ids) h.1
 step_tells old new command (Reported list) h = acts_tell old new command (Reported list) h.1
+step_tells old new command (Counted counts) h = acts_tell old new command (Counted counts) h.1
 step_tells old new command (Given outcome) h = acts_tell old new command (Given outcome) h.1
 step_tells old new command (Refused refusal edit) h = untold_tells old new h.1

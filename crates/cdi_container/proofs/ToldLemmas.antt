@@ -6,28 +6,31 @@ use Rattle.cdi_model.specs.declared.decl.Decl.{Decl}
 use Rattle.cdi_model.specs.declared.edit.Edit.{Edit as Change}
 use Rattle.cdi_bodies.specs.Book.{Promised}
 use Rattle.cdi_contexts.specs.Standing.{Standing, closed}
+use Rattle.cdi_index.specs.declared.counts.Counts.{Counts}
 use Rattle.cdi_legal.specs.Follows.{after}
 use Rattle.cdi_legal.specs.declared.entry.Entry.{Entry}
 use Rattle.cdi_legal.proofs.Commands.{run_follows, request_end_follows, end_follows}
 use Rattle.cdi_staging.specs.Naming.{names_of}
 use Rattle.cdi_staging.specs.declared.names.Names.{Names}
 use Rattle.cdi_lines.specs.declared.command.Command.{Command}
+use Rattle.cdi_lines.specs.declared.command.Command.TheVariants as commands
 use Rattle.cdi_lines.specs.declared.command.Command.TheVariants.{Edit, Batch, Choose, Named, Chain, Observers, Report, LookUp, Call, Fire}
 use Rattle.cdi_lines.specs.declared.command.Command.TheVariants.{BeginRequest, EndRequest}
 use Rattle.cdi_lines.specs.declared.command.Command.TheVariants.{Stop, Unreadable}
 use Rattle.cdi_container.specs.declared.answer.Answer.{Answer}
-use Rattle.cdi_container.specs.declared.answer.Answer.TheVariants.{Done, Chosen, Intercepted, Observed, Reported, Given, Refused}
+use Rattle.cdi_container.specs.declared.answer.Answer.TheVariants.{Done, Chosen, Intercepted, Observed, Reported, Counted, Given, Refused}
 use Rattle.cdi_container.specs.History.{State, Acts, EditsFrom, LegalAnswer, LegalHistory, History, Step, LegalStep, empty}
 use Rattle.cdi_container.specs.History.{refusal_of, trace_behind}
 use Rattle.cdi_container.specs.Editing.{changes_of, changes_of_all}
 use Rattle.cdi_container.specs.Told.{standing_behind, carried_out, told_behind, told_by, IsTold}
-use Rattle.cdi_container.proofs.HistoryLemmas.{acts_edits}
+use Rattle.cdi_container.proofs.HistoryLemmas.{acts_count, acts_edits}
 use Rattle.cdi_container.proofs.Telling.{acts_tell}
 
-same_state : (a b : State) → a.decls ≡ b.decls → a.book ≡ b.book → a.standing ≡ b.standing → a.trace ≡ b.trace → a.text ≡ b.text
-    → a ≡ b
-same_state a b d k s t x =
+same_state : (a b : State) → a.decls ≡ b.decls → a.counts ≡ b.counts → a.book ≡ b.book → a.standing ≡ b.standing → a.trace ≡ b.trace
+    → a.text ≡ b.text → a ≡ b
+same_state a b d c k s t x =
     ap (λ (y : List Decl). record a { decls = y }) d
+    ∙ ap (λ (y : Counts). record b { counts = y; book = a.book; standing = a.standing; trace = a.trace; text = a.text }) c
     ∙ ap (λ (y : List Promised). record b { book = y; standing = a.standing; trace = a.trace; text = a.text }) k
     ∙ ap (λ (y : Standing). record b { standing = y; trace = a.trace; text = a.text }) s
     ∙ ap (λ (y : List Entry). record b { trace = y; text = a.text }) t
@@ -46,6 +49,7 @@ acts_book old new (Named name) answer h = ap (λ s. s.book) h.1
 acts_book old new (Chain bean place) answer h = ap (λ s. s.book) h.rest
 acts_book old new (Observers t quals) answer h = ap (λ s. s.book) h.1
 acts_book old new Report answer h = ap (λ s. s.book) h.1
+acts_book old new commands.Counts answer h = ap (λ s. s.book) h.1
 acts_book old new (LookUp t quals) answer h = ap (λ s. s.book) h.rest
 acts_book old new (Call method arg t quals) answer h = ap (λ s. s.book) h.rest
 acts_book old new (Fire arg t quals) answer h = ap (λ s. s.book) h.rest
@@ -70,6 +74,7 @@ acts_standing old new (Named name) answer h = ap (λ s. s.standing) h.1
 acts_standing old new (Chain bean place) answer h = ap (λ s. s.standing) h.rest
 acts_standing old new (Observers t quals) answer h = ap (λ s. s.standing) h.1
 acts_standing old new Report answer h = ap (λ s. s.standing) h.1
+acts_standing old new commands.Counts answer h = ap (λ s. s.standing) h.1
 acts_standing old new (LookUp t quals) answer h = run_follows h.legal
 acts_standing old new (Call method arg t quals) answer h = run_follows h.legal
 acts_standing old new (Fire arg t quals) answer h = run_follows h.legal
@@ -84,7 +89,7 @@ acts_told : (old new : State) (command : Command) (answer : Answer) → refusal_
     → new ≡ carried_out old command answer new.trace (names_of old.decls)
 acts_told old new command answer accepted h =
     same_state new (carried_out old command answer new.trace (names_of old.decls)) (acts_edits old new command answer accepted h)
-    (acts_book old new command answer h) (acts_standing old new command answer h) refl (acts_tell old new command answer h)
+    (acts_count old new command answer h) (acts_book old new command answer h) (acts_standing old new command answer h) refl (acts_tell old new command answer h)
 
 answer_told : (old new : State) (command : Command) (answer : Result Answer AllocError) → LegalAnswer old command answer new
     → new ≡ told_behind old command answer (trace_behind answer new) (names_of old.decls)
@@ -93,6 +98,7 @@ answer_told old new command (Ok (Chosen choice)) h = acts_told old new command (
 answer_told old new command (Ok (Intercepted names)) h = acts_told old new command (Intercepted names) h.0 h.1
 answer_told old new command (Ok (Observed ids)) h = acts_told old new command (Observed ids) h.0 h.1
 answer_told old new command (Ok (Reported list)) h = acts_told old new command (Reported list) h.0 h.1
+answer_told old new command (Ok (Counted counts)) h = acts_told old new command (Counted counts) h.0 h.1
 answer_told old new command (Ok (Given outcome)) h = acts_told old new command (Given outcome) h.0 h.1
 answer_told old new command (Ok (Refused refusal edit)) h = h.1
 answer_told old new command (Err error) h = h

@@ -3,6 +3,7 @@ use Rattle.std.specs.Prelude.{ℕ, List, [], ◌∷◌, ◌++◌, length, codes,
 use Rattle.cdi_model.specs.declared.refusal.Refusal.{Refusal}
 use Rattle.cdi_model.specs.declared.refusal.Refusal.TheVariants.{Faulty}
 use Rattle.cdi_model.specs.RefusalText.{code_of_refusal, word_of_refusal}
+use Rattle.cdi_index.specs.declared.counts.Counts.{Counts}
 use Rattle.cdi_observe.specs.declared.observers.ObserverId.{ObserverId}
 use Rattle.cdi_observe.specs.ObserverText.{text_of_observer}
 use Rattle.cdi_resolve.specs.ChoiceText.{text_of_choice}
@@ -10,7 +11,7 @@ use Rattle.cdi_faults.specs.declared.fault.Fault.{Fault}
 use Rattle.cdi_faults.specs.FaultText.{text_of_fault}
 use Rattle.cdi_model.specs.Bytes.{feed, space}
 use Rattle.cdi_container.specs.declared.answer.Answer.{Answer}
-use Rattle.cdi_container.specs.declared.answer.Answer.TheVariants.{Done, Chosen, Intercepted, Observed, Reported, Given, Refused}
+use Rattle.cdi_container.specs.declared.answer.Answer.TheVariants.{Done, Chosen, Intercepted, Observed, Reported, Counted, Given, Refused}
 use Rattle.cdi_model.specs.OutcomeText.{words_of_outcome}
 
 -- the code and the word of a refusal
@@ -35,6 +36,10 @@ text_of_faults list = flat_map (λ fault. feed ∷ text_of_fault fault) list
 abbrev pub text_of_report : List Fault → List ℕ
 text_of_report list = codes "faults " ++ decimal (length list) ++ text_of_faults list
 
+-- how many records were computed
+abbrev pub text_of_counts : Counts → List ℕ
+text_of_counts counts = codes "counts closures " ++ decimal counts.closures ++ codes " beans " ++ decimal counts.beans
+
 -- names, each behind a space
 abbrev pub text_of_names : List (List ℕ) → List ℕ
 text_of_names names = flat_map (λ name. space ∷ name) names
@@ -58,5 +63,6 @@ words_of_answer (Chosen choice) = text_of_choice choice
 words_of_answer (Intercepted names) = text_of_chain names
 words_of_answer (Observed ids) = text_of_observers ids
 words_of_answer (Reported list) = text_of_report list
+words_of_answer (Counted counts) = text_of_counts counts
 words_of_answer (Given outcome) = words_of_outcome outcome
 words_of_answer (Refused refusal edit) = codes "refused " ++ word_of refusal ++ count_of refusal ++ text_of_number edit

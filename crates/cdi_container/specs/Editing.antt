@@ -1,11 +1,12 @@
 -- What an edit changes, and why one is refused: by itself, and in a batch.
-use Rattle.std.specs.Prelude.{ℕ, ◌+◌, nat_lt, List, [], ◌∷◌, length, map, flat_map, Option, Some, None, Result, Ok, Err, if◌then◌else◌}
+use Rattle.std.specs.Prelude.{ℕ, ◌+◌, nat_lt, List, [], ◌∷◌, ◌++◌, length, map, flat_map, Option, Some, None, Result, Ok, Err, if◌then◌else◌}
 use Rattle.cdi_model.specs.declared.decl.Decl.{Decl}
 use Rattle.cdi_model.specs.declared.edit.Edit.{Edit as Change}
 use Rattle.cdi_model.specs.declared.edit.Edit.TheVariants as changes
 use Rattle.cdi_model.specs.declared.refusal.Refusal.{Refusal}
 use Rattle.cdi_model.specs.declared.refusal.Refusal.TheVariants.{BatchTooLong}
-use Rattle.cdi_model.specs.Edits.{edited_all, refusal_of_edit}
+use Rattle.cdi_model.specs.Edits.{edited_all, edited_keys, refusal_of_edit}
+use Rattle.cdi_index.specs.State.{Drafted, drafted_from}
 use Rattle.cdi_admission.specs.Admission.{refusal_of_decl}
 use Rattle.cdi_text.specs.Reading.{decl_of}
 use Rattle.cdi_lines.specs.declared.edit.Edit.{Edit}
@@ -41,6 +42,16 @@ changes_of edit = changes_in (change_of edit)
 abbrev pub refusal_of_change : List Decl → Result Change Refusal → Option Refusal
 refusal_of_change ds (Ok change) = refusal_of_edit ds change
 refusal_of_change ds (Err refusal) = Some refusal
+
+-- ---- drafts
+
+-- what a draft is after some further changes
+abbrev pub drafted_all : Drafted → List Change → Drafted
+drafted_all draft changes = record { decls = edited_all draft.decls changes; keys = draft.keys ++ edited_keys changes }
+
+-- a draft of these changes of some declarations
+abbrev pub drafted_by : List Decl → List Change → Drafted
+drafted_by ds changes = drafted_all (drafted_from ds) changes
 
 -- ---- a batch
 

@@ -9,7 +9,7 @@ use Rattle.cdi_model.specs.declared.refusal.Error.TheVariants as errors
 use Rattle.cdi_model.specs.declared.refusal.Refusal.{Refusal}
 use Rattle.cdi_model.specs.declared.refusal.Refusal.TheVariants.{BadCommand, RequestActive, NoRequest}
 use Rattle.cdi_model.specs.declared.edit.Edit.{Edit as Change}
-use Rattle.cdi_model.specs.Edits.{edited_all}
+use Rattle.cdi_model.specs.Edits.{edited_all, edited_keys}
 use Rattle.cdi_bodies.specs.Book.{Promised}
 use Rattle.cdi_contexts.specs.Standing.{Standing, opened, cleared}
 use Rattle.cdi_scene.specs.declared.scene.Scene.{Scene}
@@ -17,6 +17,9 @@ use Rattle.cdi_legal.specs.LegalRun.{Command as Run, LegalRun, LegalRequestEnd, 
 use Rattle.cdi_legal.specs.Single.{IsSingle}
 use Rattle.cdi_legal.specs.declared.entry.Entry.{Entry}
 use Rattle.cdi_effective.specs.Beans.{beans}
+use Rattle.cdi_index.specs.Counted.{counted}
+use Rattle.cdi_index.specs.State.{Staged}
+use Rattle.cdi_index.specs.declared.counts.Counts.{Counts}
 use Rattle.cdi_resolve.specs.Choices.{chosen, chosen_by_name}
 use Rattle.cdi_intercept.specs.Chains.{chain_of}
 use Rattle.cdi_observe.specs.Observers.{notified}
@@ -26,18 +29,21 @@ use Rattle.cdi_staging.specs.declared.names.Names.{Names}
 use Rattle.cdi_trace.specs.TraceText.{text_of_entries}
 use Rattle.cdi_validate.specs.Faults.{faults}
 use Rattle.cdi_lines.specs.declared.command.Command.{Command}
+use Rattle.cdi_lines.specs.declared.command.Command.TheVariants as commands
 use Rattle.cdi_lines.specs.declared.command.Command.TheVariants.{Edit, Batch, Choose, Named, Chain, Observers, Report, LookUp, Call, Fire}
 use Rattle.cdi_lines.specs.declared.command.Command.TheVariants.{BeginRequest, EndRequest}
 use Rattle.cdi_lines.specs.declared.command.Command.TheVariants.{Stop, Unreadable}
 use Rattle.cdi_container.specs.Editing.{Reason, alone, change_of, changes_of, changes_of_all, refusal_of_batch, refusal_of_change}
 use Rattle.cdi_container.specs.declared.answer.Answer.{Answer}
-use Rattle.cdi_container.specs.declared.answer.Answer.TheVariants.{Done, Chosen, Intercepted, Observed, Reported, Given, Refused}
+use Rattle.cdi_container.specs.declared.answer.Answer.TheVariants.{Done, Chosen, Intercepted, Observed, Reported, Counted, Given, Refused}
 use Rattle.cdi_container.specs.Asked.{to_look, to_call, run_of_event, run_of_use}
 
 -- what a container holds
 pub record State : Type 0 where
   -- the present declarations
   pub decls : List Decl
+  -- how many records were computed
+  pub counts : Counts
   -- the stored bodies, which never change
   pub book : List Promised
   -- the live instances, what they hold, how many numbers were given, and whether a request is active
@@ -47,8 +53,12 @@ pub record State : Type 0 where
   -- what is printed of them
   pub text : List ℕ
 
+-- no record was computed
+abbrev pub no_counts : Counts
+no_counts = record { closures = 0; beans = 0 }
+
 abbrev pub empty : List Promised → State
-empty book = record { decls = []; book = book; standing = cleared 0; trace = []; text = [] }
+empty book = record { decls = []; counts = no_counts; book = book; standing = cleared 0; trace = []; text = [] }
 
 abbrev pub scene : State → Scene
 scene state = scene_of state.decls state.book
@@ -89,6 +99,7 @@ refusal_of state (Named name) = None
 refusal_of state (Chain bean place) = alone (refusal_in (chain_of state.decls bean place))
 refusal_of state (Observers t quals) = None
 refusal_of state Report = None
+refusal_of state commands.Counts = None
 refusal_of state (LookUp t quals) = alone (refusal_in (run_of_use state.decls state.book (to_look t quals)))
 refusal_of state (Call method arg t quals) = alone (refusal_in (run_of_use state.decls state.book (to_call method arg t quals)))
 refusal_of state (Fire arg t quals) = alone (refusal_in (run_of_event state.decls state.book arg t quals))
@@ -124,15 +135,23 @@ pub record EndsContexts (old : State) (answer : Answer) (new : State) : Type 0 w
   pub legal : LegalEnd (scene old) old.standing new.trace new.standing
   pub rest : IsRunFrom old new
 
--- first both contexts end, as at a stop, on the declarations before; then these declarations are present, and nothing else is changed
-pub record Redeploys (old : State) (ds : List Decl) (new : State) : Type 0 where
+-- first both contexts end, as at a stop, on the declarations before; then these declarations and counts are present, and nothing
+-- else is changed
+pub record Redeploys (old : State) (next : Staged) (new : State) : Type 0 where
   pub stopped : State
   pub ends : EndsContexts old Done stopped
-  pub rest : new ≡ record stopped { decls = ds }
+  pub rest : new ≡ record stopped { decls = next.decls; counts = next.counts }
+
+-- the counts after changes that are made at once
+abbrev pub counts_with : List Decl → Counts → List Change → Counts
+counts_with ds counts changes = counted counts ds (edited_all ds changes) (edited_keys changes)
+
+abbrev pub next_by : List Decl → Counts → List Change → Staged
+next_by ds counts changes = record { decls = edited_all ds changes; counts = counts_with ds counts changes }
 
 -- so it is at an accepted edit, and once at an accepted batch (profile)
 abbrev pub EditsFrom : State → List Change → State → Type 0
-EditsFrom old changes new = Redeploys old (edited_all old.decls changes) new
+EditsFrom old changes new = Redeploys old (next_by old.decls old.counts changes) new
 
 -- the interceptors around a place of a bean are told
 pub record TellsChain (old : State) (bean : List ℕ) (place : BeanPlace) (answer : Answer) (new : State) : Type 0 where
@@ -151,6 +170,7 @@ Acts old (Chain bean place) answer new = TellsChain old bean place answer new
 Acts old (Observers t quals) answer new =
     (answer ≡ Observed (notified old.decls (beans old.decls) t quals)) × (new ≡ untold old)
 Acts old Report answer new = (answer ≡ Reported (faults old.decls old.book)) × (new ≡ untold old)
+Acts old commands.Counts answer new = (answer ≡ Counted old.counts) × (new ≡ untold old)
 Acts old (LookUp t quals) answer new = RunsFrom old (run_of_use old.decls old.book (to_look t quals)) answer new
 Acts old (Call method arg t quals) answer new = RunsFrom old (run_of_use old.decls old.book (to_call method arg t quals)) answer new
 Acts old (Fire arg t quals) answer new = RunsFrom old (run_of_event old.decls old.book arg t quals) answer new
@@ -246,6 +266,30 @@ accepted_edits (step ∷ steps) = accepted_changes step.command step.answer ++ a
 abbrev pub RestsOnAcceptedEdits : History → Type 0
 RestsOnAcceptedEdits history = (book : List Promised) (state : State) → LegalHistory (empty book) history state
     → state.decls ≡ edited_all [] (accepted_edits history)
+
+-- ---- what counts rest on
+
+-- the counts after a command that is accepted: an edit and a batch raise them
+abbrev pub counts_by : List Decl → Counts → Command → Counts
+counts_by ds counts (Edit edit) = counts_with ds counts (changes_of edit)
+counts_by ds counts (Batch edits) = counts_with ds counts (changes_of_all edits)
+counts_by ds counts command = counts
+
+-- and after a step
+abbrev pub counts_behind : List Decl → Counts → Command → Result Answer AllocError → Counts
+counts_behind ds counts command (Ok Done) = counts_by ds counts command
+counts_behind ds counts command answer = counts
+
+-- those after the accepted edits and batches of a history, one after another, where these declarations and counts came before it
+abbrev pub counts_of : List Decl → Counts → History → Counts
+counts_of ds counts [] = counts
+counts_of ds counts (step ∷ steps) =
+    counts_of (edited_all ds (accepted_changes step.command step.answer)) (counts_behind ds counts step.command step.answer) steps
+
+-- the counts behind a legal history rest on its accepted edits and batches alone: they are what these raise from none
+abbrev pub CountsAcceptedEdits : History → Type 0
+CountsAcceptedEdits history = (book : List Promised) (state : State) → LegalHistory (empty book) history state
+    → state.counts ≡ counts_of [] no_counts history
 
 -- ---- what stands
 

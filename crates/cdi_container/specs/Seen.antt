@@ -14,10 +14,12 @@ use Rattle.cdi_model.specs.declared.refusal.Error.TheVariants as errors
 use Rattle.cdi_model.specs.declared.refusal.Refusal.{Refusal}
 use Rattle.cdi_model.specs.declared.edit.Edit.{Edit as Change}
 use Rattle.cdi_model.specs.Edits.{answer_of_edit}
+use Rattle.cdi_index.specs.declared.counts.Counts.{Counts}
 use Rattle.cdi_observe.specs.declared.observers.ObserverId.{ObserverId}
 use Rattle.cdi_resolve.specs.declared.choice.Choice.{Choice}
 use Rattle.cdi_faults.specs.declared.fault.Fault.{Fault}
 use Rattle.cdi_lines.specs.declared.command.Command.{Command}
+use Rattle.cdi_lines.specs.declared.command.Command.TheVariants as commands
 use Rattle.cdi_lines.specs.declared.command.Command.TheVariants.{Edit, Batch, Choose, Named, Chain, Observers, Report, LookUp, Call, Fire}
 use Rattle.cdi_lines.specs.declared.command.Command.TheVariants.{BeginRequest, EndRequest}
 use Rattle.cdi_lines.specs.declared.command.Command.TheVariants.{Stop}
@@ -27,7 +29,7 @@ use Rattle.cdi_container.specs.Editing.{Reason}
 use Rattle.cdi_container.specs.declared.answer.Answer.{Answer}
 use Rattle.cdi_container.specs.declared.batch.BatchError.{BatchError}
 use Rattle.cdi_container.specs.declared.batch.BatchError.TheVariants as batch_errors
-use Rattle.cdi_container.specs.declared.answer.Answer.TheVariants.{Done, Chosen, Intercepted, Observed, Reported, Given, Refused}
+use Rattle.cdi_container.specs.declared.answer.Answer.TheVariants.{Done, Chosen, Intercepted, Observed, Reported, Counted, Given, Refused}
 use Rattle.cdi_container.specs.History.{State, LegalAnswer, untold}
 
 -- what an edit answers that asks for a change, or for none
@@ -106,6 +108,10 @@ abbrev pub report_answer : Result (Vec Fault Global) AllocError → Result Answe
 report_answer (Ok list) = Ok (Reported list.items)
 report_answer (Err error) = Err error
 
+-- the answer of a question for the counts
+abbrev pub counts_answer : Counts → Result Answer AllocError
+counts_answer counts = Ok (Counted counts)
+
 -- the answer of a look-up, a call or an event
 abbrev pub outcome_answer : Result Outcome Error → Result Answer AllocError
 outcome_answer (Ok outcome) = Ok (Given outcome)
@@ -146,6 +152,9 @@ ObserversStep old t quals result new = IsStep old (Observers t quals) (observers
 
 abbrev pub ReportStep : State → Result (Vec Fault Global) AllocError → State → Type 0
 ReportStep old result new = IsStep old Report (report_answer result) new
+
+abbrev pub CountsStep : State → Counts → State → Type 0
+CountsStep old result new = IsStep old commands.Counts (counts_answer result) new
 
 abbrev pub LookUpStep : State → List ℕ → List Qual → Result Outcome Error → State → Type 0
 LookUpStep old t quals result new = IsStep old (LookUp t quals) (outcome_answer result) new

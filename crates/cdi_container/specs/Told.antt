@@ -12,7 +12,7 @@ use Rattle.cdi_lines.specs.declared.command.Command.{Command}
 use Rattle.cdi_lines.specs.declared.command.Command.TheVariants.{Edit, Batch, LookUp, Call, Fire, BeginRequest, EndRequest, Stop}
 use Rattle.cdi_container.specs.declared.answer.Answer.{Answer}
 use Rattle.cdi_container.specs.declared.answer.Answer.TheVariants.{Refused}
-use Rattle.cdi_container.specs.History.{State, History, LegalHistory, empty, untold, left_unserved, accepted_changes}
+use Rattle.cdi_container.specs.History.{State, History, LegalHistory, empty, untold, left_unserved, accepted_changes, counts_behind}
 
 -- what stands behind a command that was carried out with this trace: the fold of its entries; and a request begins only by its
 -- own command, and is active no more behind the end of its context
@@ -31,6 +31,7 @@ standing_behind command s trace = s
 abbrev pub carried_out : State → Command → Answer → List Entry → Names → State
 carried_out old command answer trace names = record {
   decls = edited_all old.decls (accepted_changes command (Ok answer));
+  counts = counts_behind old.decls old.counts command (Ok answer);
   book = old.book;
   standing = standing_behind command old.standing trace;
   trace = trace;
@@ -48,7 +49,7 @@ abbrev pub told_by : State → History → State
 told_by state [] = state
 told_by state (step ∷ steps) = told_by (told_behind state step.command step.answer step.trace step.names) steps
 
--- the state behind a legal history is told by it: by its accepted edits, its traces, where requests begin and end, and where a run
+-- the state behind a legal history is told by it: by its accepted edits and batches, its traces, where requests begin and end, and where a run
 -- found no memory
 abbrev pub IsTold : History → Type 0
 IsTold history = (book : List Promised) (state : State) → LegalHistory (empty book) history state

@@ -5,6 +5,9 @@ use Rattle.cdi_model.specs.declared.edit.Edit.{Edit}
 use Rattle.cdi_model.specs.declared.edit.Edit.TheVariants as edits
 use Rattle.cdi_model.specs.Short.{HasShortLists}
 use Rattle.cdi_bodies.specs.Book.{Promised}
+use Rattle.cdi_index.specs.Counted.{counted}
+use Rattle.cdi_index.specs.State.{Drafted, Staged}
+use Rattle.cdi_index.specs.declared.counts.Counts.{Counts}
 use Rattle.cdi_legal.specs.Furnished.{IsFurnished}
 use Rattle.cdi_legal.specs.Moment.{Moment}
 use Rattle.cdi_legal.specs.Rooted.{IsRooted}
@@ -18,9 +21,11 @@ use Rattle.cdi_container.specs.declared.asked.Aim.{Aim}
 use Rattle.cdi_wiring.specs.declared.verdict.Wiring.{Wiring}
 use Rattle.cdi_wiring.specs.declared.verdict.Wiring.TheVariants as wirings
 
--- declarations and bodies, and whether a sound scene of them is there
+-- declarations and bodies, how many records were computed, what the next commit takes over, and whether a sound scene is there
 pub record Deployed : Type 0 where
   pub decls : List Decl
+  pub counts : Counts
+  pub staged : Option Staged
   pub book : List Promised
   pub is_wired : Bool
 
@@ -28,6 +33,21 @@ abbrev pub is_sound : Option Wiring → Bool
 is_sound None = false
 is_sound (Some (wirings.Faulty count)) = false
 is_sound (Some (wirings.Sound wired)) = true
+
+abbrev pub with_staged : Deployed → Option Staged → Deployed
+with_staged d staged = record d { staged = staged }
+
+-- what a draft stages
+abbrev pub staged_by : List Decl → Counts → Drafted → Staged
+staged_by ds counts draft = record { decls = draft.decls; counts = counted counts ds draft.decls draft.keys }
+
+-- what is staged is taken over, if anything is, and the scene is gone
+abbrev pub redeployed_to : Deployed → Option Staged → Deployed
+redeployed_to d None = record d { is_wired = false }
+redeployed_to d (Some next) = record d { decls = next.decls; counts = next.counts; staged = None; is_wired = false }
+
+abbrev pub redeployed : Deployed → Deployed
+redeployed d = redeployed_to d d.staged
 
 -- what is put has short lists
 abbrev pub IsShortEdit : Edit → Type 0
@@ -45,6 +65,8 @@ trace_names d before = unwrap_or before (names_of d.decls)
 -- it is the same deployment, whose scene is there if it was
 pub record IsSameDeployment (old new : Deployed) : Type 0 where
   pub decls : new.decls ≡ old.decls
+  pub counts : new.counts ≡ old.counts
+  pub staged : new.staged ≡ old.staged
   pub book : new.book ≡ old.book
   pub wired : old.is_wired ≡ true → new.is_wired ≡ true
 

@@ -6,6 +6,7 @@ ghost use Rattle.cdi_container.specs.Seen.{chain_answer, choice_answer, observer
 
 use crate::batch::BatchError;
 use cdi_faults::Fault;
+use cdi_index::Counts;
 use cdi_model::{Error, Name, Outcome, Refusal, Seq};
 use cdi_observe::ObserverId;
 use cdi_resolve::Choice;
@@ -24,6 +25,8 @@ pub enum Answer {
     Observed(Seq<ObserverId>),
     /// The faults of the deployment, in their order.
     Reported(Seq<Fault>),
+    /// How many records were computed.
+    Counted(Counts),
     /// The outcome of a lookup, a call or an event: a value or a failure.
     Given(Outcome),
     /// The command is refused and has changed nothing.

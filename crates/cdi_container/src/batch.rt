@@ -1,15 +1,16 @@
 //! Batches of edits: each edit is made on a list of its own, and judged on what those before it leave.
 ghost use Rattle.std.specs.Prelude.{◌≡◌, ◌≤◌, ◌+◌, ◌∷◌, [], length, Err, OnOk, OnErr, IfOk, IfErr};
 ghost use Rattle.cdi_model.specs.Answering.{Answers};
-ghost use Rattle.cdi_model.specs.Edits.{edited_all};
 ghost use Rattle.cdi_model.specs.Short.{AreShort};
+ghost use Rattle.cdi_container.specs.Editing.{drafted_all, drafted_by};
 ghost use Rattle.cdi_container.specs.Editing.{asked_by, change_of, changes_of, changes_of_all, first_refusal, refusal_of_batch};
 ghost use Rattle.cdi_container.specs.Seen.{answer_of_change, AnswersBatch, refused_at};
 ghost use Rattle.cdi_container.specs.Wired.{IsShortEdit};
 
 use cdi_admission::check_decl;
+use cdi_index::{Draft, Index};
 use cdi_lines::Edit;
-use cdi_model::{Decls, Edit as Change, Error as CallError, Refusal};
+use cdi_model::{Edit as Change, Error as CallError, Refusal};
 use cdi_text::read_decl;
 use std::alloc::{AllocError, Global};
 use std::error::Error;
@@ -74,16 +75,16 @@ impl fmt::Display for BatchError {
 
 impl Error for BatchError {}
 
-/// The declarations after a batch. It takes memory for a copy of the list and for what is put.
-pub(crate) fn stage_batch(
+/// A draft of a batch. It takes memory for a copy of the list and for what is put.
+pub(crate) fn draft_batch(
     alloc: Global,
-    decls: &Decls,
+    index: &Index,
     edits: Vec<Edit>,
-) -> Result<Decls, BatchError>
-    requires { AreShort decls.now }
-    ensures ok { IfOk result (λ next. next ≡ edited_all decls.now (changes_of_all edits.items)) }
-    ensures short { IfOk result (λ next. AreShort next) }
-    ensures answer { AnswersBatch result (refusal_of_batch decls.now edits.items) }
+) -> Result<Draft, BatchError>
+    requires { AreShort index.now.decls }
+    ensures ok { IfOk result (λ draft. draft ≡ drafted_by index.now.decls (changes_of_all edits.items)) }
+    ensures short { IfOk result (λ draft. AreShort draft.decls) }
+    ensures answer { AnswersBatch result (refusal_of_batch index.now.decls edits.items) }
 {
     if edits.len() > BATCH_LIMIT {
         return Err(BatchError::Refused {
@@ -91,23 +92,23 @@ pub(crate) fn stage_batch(
             edit: None,
         });
     }
-    let mut next = decls.copy()?;
-    make_all(alloc, &mut next, edits)?;
-    Ok(next)
+    let mut draft = index.draft()?;
+    make_all(alloc, &mut draft, edits)?;
+    Ok(draft)
 }
 
 /// Makes some edits, in order, up to the first that is refused.
-fn make_all(alloc: Global, decls: &mut Decls, edits: Vec<Edit>) -> Result<(), BatchError>
+fn make_all(alloc: Global, draft: &mut Draft, edits: Vec<Edit>) -> Result<(), BatchError>
     requires few { length edits.items ≤ 256 }
-    requires short { AreShort decls.old }
-    ensures ok { OnOk result (decls.new ≡ edited_all decls.old (changes_of_all edits.items)) }
-    ensures short { OnOk result (AreShort decls.new) }
-    ensures answer { AnswersBatch result (first_refusal 1 decls.old (asked_by edits.items)) }
+    requires short { AreShort draft.old.decls }
+    ensures ok { OnOk result (draft.new ≡ drafted_all draft.old (changes_of_all edits.items)) }
+    ensures short { OnOk result (AreShort draft.new.decls) }
+    ensures answer { AnswersBatch result (first_refusal 1 draft.old.decls (asked_by edits.items)) }
 {
     let mut number = 0;
     for edit in edits {
         number += 1;
-        match make(alloc, decls, edit) {
+        match make(alloc, draft, edit) {
             Ok(()) => {}
             Err(error) => return Err(BatchError::of(error, number)),
         }
@@ -117,14 +118,14 @@ fn make_all(alloc: Global, decls: &mut Decls, edits: Vec<Edit>) -> Result<(), Ba
 
 /// Makes an edit.
 #[tactic(auto, using(crate::proofs::Editing::edit_short))]
-pub(crate) fn make(alloc: Global, decls: &mut Decls, edit: Edit) -> Result<(), CallError>
-    requires { AreShort decls.old }
-    ensures answer { Answers result (answer_of_change decls.old (change_of edit)) }
-    ensures ok { OnOk result (decls.new ≡ edited_all decls.old (changes_of edit)) }
-    ensures short { OnOk result (AreShort decls.new) }
+fn make(alloc: Global, draft: &mut Draft, edit: Edit) -> Result<(), CallError>
+    requires { AreShort draft.old.decls }
+    ensures answer { Answers result (answer_of_change draft.old.decls (change_of edit)) }
+    ensures ok { OnOk result (draft.new ≡ drafted_all draft.old (changes_of edit)) }
+    ensures short { OnOk result (AreShort draft.new.decls) }
 {
     let change = read_change(alloc, edit)?;
-    decls.apply(change)
+    draft.apply(change)
 }
 
 /// The change that an edit asks for.

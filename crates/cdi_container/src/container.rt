@@ -11,9 +11,10 @@ ghost use Rattle.cdi_resolve.specs.Choices.{chosen, chosen_by_name};
 ghost use Rattle.cdi_intercept.specs.Chains.{chain_of};
 ghost use Rattle.cdi_observe.specs.Observers.{notified};
 ghost use Rattle.cdi_validate.specs.Faults.{faults};
-ghost use Rattle.cdi_container.specs.Wired.{IsShortEdit};
+ghost use Rattle.cdi_index.specs.State.{IsEdited};
+ghost use Rattle.cdi_container.specs.Wired.{IsShortEdit, staged_by};
 ghost use Rattle.cdi_staging.specs.Naming.{names_of};
-ghost use Rattle.cdi_container.specs.History.{EditsFrom, Redeploys, History, left_by, untold, RestsOnAcceptedEdits, SharesInstances};
+ghost use Rattle.cdi_container.specs.History.{EditsFrom, Redeploys, History, left_by, untold, RestsOnAcceptedEdits, CountsAcceptedEdits, SharesInstances};
 ghost use Rattle.cdi_container.specs.Named.{NamesTrace};
 ghost use Rattle.cdi_container.specs.Told.{IsTold};
 
@@ -24,14 +25,16 @@ use crate::answer::{
 use crate::batch::BatchError;
 use crate::beans::Beans;
 use crate::deployment::Deployment;
+use crate::instances::end_both;
 use cdi_admission::check_decl;
 use cdi_bodies::Bodies;
 use cdi_contexts::Contexts;
 use cdi_faults::Fault;
+use cdi_index::{Counts, Draft};
 use cdi_legal::{Entry, Run};
 use cdi_lines::{Command, Edit};
 use cdi_model::{
-    BeanPlace, Decl, Decls, Edit as Change, Error, Iter as DeclIter, Kind, Name, Quals, Refusal,
+    BeanPlace, Decl, Edit as Change, Error, Iter as DeclIter, Kind, Name, Quals, Refusal,
     Seq, Work,
 };
 use cdi_observe::ObserverId;
@@ -44,8 +47,8 @@ use std::fmt;
 use std::marker::Model;
 
 /// The present declarations, which are edited while the container runs, and questions about them; the instances that it
-/// makes, calls and destroys with the stored bodies. What contracts see of it is its state: the declarations, the names
-/// and promises of the bodies, what is live between runs, and the trace of the last command that was answered.
+/// makes, calls and destroys with the stored bodies. What contracts see of it is its state: the declarations, how
+/// many records were computed, the names and promises of the bodies, what is live between runs, and the trace of the last command that was answered.
 ///
 /// Each call is one step of a legal history: a refused call changes nothing. One that runs out of memory changes nothing
 /// either, but that a lookup, a call and an event leave no instance and no request. Beside that step each call says by
@@ -69,6 +72,7 @@ impl<B: Bodies> Model for Container<B> {
 
     ghost view = { λ c. record {
       decls = c.deployment.decls;
+      counts = c.deployment.counts;
       book = c.deployment.book;
       standing = c.run.moment.standing;
       trace = c.run.moment.trace;
@@ -85,7 +89,7 @@ impl<B: Bodies> Container<B> {
     ghost use Rattle.cdi_container.specs.Seen.{left_by_batch, AnswersBatch, BatchStep};
     ghost use Rattle.cdi_container.specs.Editing.{admitted, put_of, changes_in, changes_of_all, refusal_of_batch};
     ghost use Rattle.cdi_container.specs.Seen.{ChainStep, ObserversStep};
-    ghost use Rattle.cdi_container.specs.Seen.{ReportStep};
+    ghost use Rattle.cdi_container.specs.Seen.{ReportStep, CountsStep};
 
     /// An empty container, which keeps this book of stored bodies. It keeps the allocator, and takes no memory yet.
     pub fn new(alloc: Global, book: B) -> Container<B>
@@ -116,6 +120,7 @@ impl<B: Bodies> Container<B> {
                 answer_of_observers(self.observers(event_type, &quals))
             }
             Command::Report => answer_of_report(self.report()),
+            Command::Counts => Ok(Answer::Counted(self.counts())),
             Command::LookUp { bean_type, quals } => answer_of_run(self.lookup(bean_type, &quals)),
             Command::Call {
                 method,
@@ -216,16 +221,15 @@ impl<B: Bodies> Container<B> {
         ensures err { IfErr result (λ error. self.new ≡ left_by_batch error self.old) }
         ensures step { BatchStep self.old edits.items result self.new }
     {
-        let next = match self.deployment.stage_batch(self.alloc, edits) {
-            Ok(next) => next,
+        let draft = match self.deployment.draft_batch(self.alloc, edits) {
+            Ok(draft) => draft,
             Err(error) => return Err(self.leave_batch(error)),
         };
-        self.commit(next)?;
+        self.commit(draft)?;
         Ok(())
     }
 
-    /// A change of the declarations. It is staged, which may be refused or run out of memory; both contexts end; and it is
-    /// committed.
+    /// A change of the declarations. It is made on a draft, which may be refused or run out of memory, and committed.
     fn edit(&mut self, change: Change) -> Result<(), Error>
         requires { IsShortEdit change }
         ensures answer { Answers result (answer_of_edit self.old.decls change) }
@@ -233,26 +237,27 @@ impl<B: Bodies> Container<B> {
         ensures nothing { OnOk result (self.new.standing.live ≡ []) }
         ensures err { IfErr result (λ error. self.new ≡ left_by error self.old) }
     {
-        match self.deployment.stage(change) {
-            Ok(next) => {
-                self.commit(next)?;
+        match self.deployment.draft(change) {
+            Ok(draft) => {
+                self.commit(draft)?;
                 Ok(())
             }
             Err(error) => Err(self.leave(error)),
         }
     }
 
-    /// Both contexts end, and then these declarations are present. At `Err` nothing has changed.
-    fn commit(&mut self, next: Decls) -> Result<(), AllocError>
-        requires { AreShort next }
-        ensures ok { OnOk result (Redeploys self.old next self.new) }
+    /// A draft is staged, both contexts end, and then what is staged is present. At `Err` nothing has changed: what may be
+    /// staged is seen by nobody.
+    fn commit(&mut self, draft: Draft) -> Result<(), AllocError>
+        requires edited { IsEdited self.old.decls draft }
+        requires short { AreShort draft.decls }
+        ensures ok { OnOk result (Redeploys self.old (staged_by self.old.decls self.old.counts draft) self.new) }
         ensures nothing { OnOk result (self.new.standing.live ≡ []) }
         ensures err { OnErr result (self.new ≡ self.old) }
     {
-        self.stop()?;
-        let names = self.deployment.commit(next);
-        let before = self.told.take();
-        self.told = names.or(before);
+        self.deployment.stage(draft)?;
+        end_both(&self.deployment, &mut self.run)?;
+        self.told = self.deployment.commit();
         Ok(())
     }
 
@@ -368,6 +373,17 @@ impl<B: Bodies> Container<B> {
         Ok(faults)
     }
 
+    /// How many closures of types and how many records of beans were computed. An edit or a batch computes each that it puts, or
+    /// that read something that it edits. Nothing else computes any. It takes no memory.
+    pub fn counts(&mut self) -> Counts
+        ensures counts { result ≡ self.old.counts }
+        ensures left { self.new ≡ untold self.old }
+        ensures step { CountsStep self.old result self.new }
+    {
+        self.restart();
+        self.deployment.counts()
+    }
+
     /// The entries of the last command that was answered, by positions. It takes no memory.
     pub fn trace(&self) -> &[Entry]
         ensures { result.now ≡ self.now.trace }
@@ -437,10 +453,13 @@ impl<B: Bodies> Container<B> {
 }
 
 /// The laws of legal histories, for proofs: a proof that needs one calls this. It does nothing when it runs.
-#[tactic(auto, using(crate::proofs::HistoryLemmas::rests_on_accepted_edits, crate::proofs::SharingLemmas::shares_instances))]
+#[tactic(auto, using(crate::proofs::HistoryLemmas::rests_on_accepted_edits, crate::proofs::HistoryLemmas::counts_accepted_edits, crate::proofs::SharingLemmas::shares_instances))]
 pub fn history_laws()
     // The declarations after a legal history are what its accepted edits make of none, whatever else was asked.
     ensures edits { (history : History) → RestsOnAcceptedEdits history }
+
+    // The counts after a legal history are what its accepted edits and batches, one after another, raise from none.
+    ensures counts { (history : History) → CountsAcceptedEdits history }
 
     // At most one instance of each bean with a normal scope is live.
     ensures shared { (history : History) → SharesInstances history }

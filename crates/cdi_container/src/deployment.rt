@@ -1,7 +1,9 @@
 //! The present declarations and the stored bodies, and what questions have made of them.
-ghost use Rattle.std.specs.Prelude.{◌≡◌, ◌≢◌, AllPairs, IsSome, None, [], length, true, false, Ok, Err, OnOk, OnErr, IfOk, IfErr};
-ghost use Rattle.cdi_model.specs.Edits.{answer_of_edit, edited, edited_all};
-ghost use Rattle.cdi_container.specs.Editing.{changes_of_all, refusal_of_batch};
+ghost use Rattle.std.specs.Prelude.{◌≡◌, ◌≢◌, AllPairs, IsSome, None, [], length, true, false, Ok, Err, Some, ◌∷◌, OnOk, OnErr, IfOk, IfErr};
+ghost use Rattle.cdi_model.specs.Edits.{answer_of_edit};
+ghost use Rattle.cdi_index.specs.State.{IsEdited};
+ghost use Rattle.cdi_container.specs.Editing.{changes_of_all, drafted_by, refusal_of_batch};
+ghost use Rattle.cdi_container.specs.History.{no_counts};
 ghost use Rattle.cdi_container.specs.Seen.{AnswersBatch};
 ghost use Rattle.cdi_model.specs.Answering.{Answers};
 ghost use Rattle.cdi_model.specs.Short.{AreShort};
@@ -15,21 +17,22 @@ ghost use Rattle.cdi_staging.specs.Staged.{scene_of};
 ghost use Rattle.cdi_validate.specs.Faults.{faults};
 ghost use Rattle.cdi_container.specs.Asked.{aim_of, asked_for, fired_of};
 ghost use Rattle.cdi_scene.specs.Sound.{AreObservers};
-ghost use Rattle.cdi_container.specs.Wired.{StandsIn, IsSameDeployment, IsShortEdit, names_if};
+ghost use Rattle.cdi_container.specs.Wired.{StandsIn, IsSameDeployment, IsShortEdit, names_if, redeployed, staged_by, with_staged};
 ghost use Rattle.cdi_wiring.specs.Wired.{IsWiredOf};
 
 use crate::asked::{Aim, Message, aim_for, can_be_fired};
-use crate::batch::{BatchError, stage_batch};
+use crate::batch::{BatchError, draft_batch};
 use crate::beans::Beans;
 use crate::last_events::LastEvents;
 use cdi_bodies::Bodies;
 use cdi_effective::beans;
 use cdi_ending::Stage;
 use cdi_faults::Fault;
+use cdi_index::{Counts, Draft, Index};
 use cdi_intercept::chain_of;
 use cdi_lines::Edit;
 use cdi_model::{
-    BeanPlace, Decls, Edit as Change, Error, Iter as DeclIter, Name, Quals, Refusal, Seq, Work,
+    BeanPlace, Edit as Change, Error, Iter as DeclIter, Name, Quals, Refusal, Seq, Work,
 };
 use cdi_observe::{ObserverId, PlainView, evaluate_observers};
 use cdi_resolve::{BeanList, Choice, choose_name};
@@ -50,10 +53,10 @@ struct Stale {
     scene: Option<Scene>,
 }
 
-/// The present declarations and the book of stored bodies, and what was made of them since the last edit.
+/// The present declarations with what is kept of each, the book of stored bodies, and what was made of them since the last edit.
 #[derive(Drop)]
 pub(crate) struct Deployment<B: Bodies> {
-    decls: Decls,
+    index: Index,
     book: B,
     /// Made by the first question.
     beans: Option<BeanList>,
@@ -75,23 +78,32 @@ impl<B: Bodies> Model for Deployment<B> {
 
     ghost Value = { Deployed };
 
-    ghost view = { λ d. record { decls = d.decls; book = B.promises d.book; is_wired = is_sound d.wiring } };
+    ghost view = { λ d. record {
+      decls = d.index.decls;
+      counts = d.index.counts;
+      staged = d.index.staged;
+      book = B.promises d.book;
+      is_wired = is_sound d.wiring
+    } };
 
-    ghost invariant = { λ d. AreShort d.decls
-        × IfSome d.beans (λ list. list ≡ bean_list d.decls)
-        × IfSome d.wiring (λ wiring. IsWiringOf d.decls (B.promises d.book) wiring)
-        × AreFiredOn d.decls d.last_events };
+    ghost invariant = { λ d. AreShort d.index.decls
+        × IfSome d.index.staged (λ next. AreShort next.decls)
+        × IfSome d.beans (λ list. list ≡ bean_list d.index.decls)
+        × IfSome d.wiring (λ wiring. IsWiringOf d.index.decls (B.promises d.book) wiring)
+        × AreFiredOn d.index.decls d.last_events };
 }
 
 impl<B: Bodies> Deployment<B> {
     /// No declaration. It takes no memory yet.
     pub(crate) fn new(alloc: Global, book: B) -> Deployment<B>
         ensures decls { result.decls ≡ [] }
+        ensures counts { result.counts ≡ no_counts }
+        ensures staged { result.staged ≡ None }
         ensures book { result.book ≡ B.promises book }
         ensures wired { result.is_wired ≡ false }
     {
         Deployment {
-            decls: Decls::new(alloc),
+            index: Index::new(alloc),
             book,
             beans: None,
             wiring: None,
@@ -107,48 +119,65 @@ impl<B: Bodies> Deployment<B> {
     pub(crate) fn decls(&self) -> DeclIter<'_>
         ensures { result ≡ self.now.decls }
     {
-        self.decls.iter()
+        self.index.decls().iter()
+    }
+
+    /// How many records were computed.
+    pub(crate) fn counts(&self) -> Counts
+        ensures { result ≡ self.now.counts }
+    {
+        self.index.counts()
     }
 
     /// The records of all beans, in order. It takes memory for them.
     pub(crate) fn all_beans(&self, alloc: Global) -> Result<Beans, AllocError>
         ensures { IfOk result (λ list. list ≡ beans self.now.decls) }
     {
-        Ok(Beans::new(beans(alloc, &self.decls)?))
+        Ok(Beans::new(beans(alloc, self.index.decls())?))
     }
 
-    /// The declarations after a change, which are to be committed. It takes memory for what is put, and for a copy of the
-    /// list.
+    /// A draft of a change. It takes memory for what is put, and for a copy of the list.
     #[tactic(auto, using(crate::proofs::Editing::edit_short))]
-    pub(crate) fn stage(&self, change: Change) -> Result<Decls, Error>
+    pub(crate) fn draft(&self, change: Change) -> Result<Draft, Error>
         requires { IsShortEdit change }
         ensures accepted { OnOk result (answer_of_edit self.now.decls change ≡ Ok tt) }
         ensures refused { IfErr result (λ error. Answers (Err error) (answer_of_edit self.now.decls change)) }
-        ensures value { IfOk result (λ next. next ≡ edited self.now.decls change) }
-        ensures short { IfOk result (λ next. AreShort next) }
+        ensures value { IfOk result (λ draft. draft ≡ drafted_by self.now.decls (change ∷ [])) }
+        ensures short { IfOk result (λ draft. AreShort draft.decls) }
+        ensures edited { IfOk result (IsEdited self.now.decls) }
     {
-        let mut next = self.decls.copy()?;
-        next.apply(change)?;
-        Ok(next)
+        let mut draft = self.index.draft()?;
+        draft.apply(change)?;
+        Ok(draft)
     }
 
-    /// The declarations after a batch, which are to be committed. It takes memory as `stage` does.
-    pub(crate) fn stage_batch(&self, alloc: Global, edits: Vec<Edit>) -> Result<Decls, BatchError>
-        ensures ok { IfOk result (λ next. next ≡ edited_all self.now.decls (changes_of_all edits.items)) }
-        ensures short { IfOk result (λ next. AreShort next) }
+    /// A draft of a batch. It takes memory as `draft` does.
+    pub(crate) fn draft_batch(&self, alloc: Global, edits: Vec<Edit>) -> Result<Draft, BatchError>
         ensures answer { AnswersBatch result (refusal_of_batch self.now.decls edits.items) }
+        ensures value { IfOk result (λ draft. draft ≡ drafted_by self.now.decls (changes_of_all edits.items)) }
+        ensures short { IfOk result (λ draft. AreShort draft.decls) }
+        ensures edited { IfOk result (IsEdited self.now.decls) }
     {
-        stage_batch(alloc, &self.decls, edits)
+        draft_batch(alloc, &self.index, edits)
     }
 
-    /// These declarations are present from now on. The names of those from before, where the scene was there. It takes no
-    /// memory.
-    pub(crate) fn commit(&mut self, next: Decls) -> Option<Names>
-        requires { AreShort next }
-        ensures names { result ≡ names_if self.old }
-        ensures new { self.new ≡ record self.old { decls = next; is_wired = false } }
+    /// Stages a draft of these declarations, which nobody sees until `commit`. It takes memory for all that is computed.
+    pub(crate) fn stage(&mut self, draft: Draft) -> Result<(), AllocError>
+        requires edited { IsEdited self.old.decls draft }
+        requires short { AreShort draft.decls }
+        ensures ok { OnOk result (self.new ≡ with_staged self.old (Some (staged_by self.old.decls self.old.counts draft))) }
+        ensures err { OnErr result (self.new ≡ with_staged self.old None) }
     {
-        self.decls = next;
+        self.index.stage(draft)
+    }
+
+    /// What is staged is present from now on, if anything is. The names of the declarations from before, where the scene was
+    /// there. It takes no memory.
+    pub(crate) fn commit(&mut self) -> Option<Names>
+        ensures names { result ≡ names_if self.old }
+        ensures new { self.new ≡ redeployed self.old }
+    {
+        self.index.commit();
         self.last_events.clear();
         if let Some(list) = self.beans.take() {
             self.stale.beans = Some(list);
@@ -177,7 +206,7 @@ impl<B: Bodies> Deployment<B> {
         ensures err { OnErr result (work.new ≡ work.old) }
     {
         let list = self.take_beans(alloc)?;
-        let choice = list.choose(alloc, &self.decls, bean_type, quals, work);
+        let choice = list.choose(alloc, self.index.decls(), bean_type, quals, work);
         self.beans = Some(list);
         choice
     }
@@ -210,7 +239,7 @@ impl<B: Bodies> Deployment<B> {
         let beans = list.as_slice();
         let ids = evaluate_observers(
             alloc,
-            &self.decls,
+            self.index.decls(),
             beans,
             event_type,
             quals.as_slice(),
@@ -229,7 +258,7 @@ impl<B: Bodies> Deployment<B> {
     ) -> Result<Seq<Name>, Error>
         ensures { Answers result (chain_of self.now.decls bean place.now) }
     {
-        chain_of(alloc, &self.decls, bean, place)
+        chain_of(alloc, self.index.decls(), bean, place)
     }
 
     /// The faults.
@@ -239,7 +268,7 @@ impl<B: Bodies> Deployment<B> {
         ensures stays { self.new ≡ self.old }
     {
         let list = self.take_beans(alloc)?;
-        let found = faults(alloc, &mut PlainView::new(&self.decls, &list), &self.book);
+        let found = faults(alloc, &mut PlainView::new(self.index.decls(), &list), &self.book);
         self.beans = Some(list);
         found
     }
@@ -255,7 +284,7 @@ impl<B: Bodies> Deployment<B> {
         }
         let list = self.take_beans(alloc)?;
         self.stale.scene = None;
-        let wiring = Wiring::of(alloc, &self.decls, &list, &self.book);
+        let wiring = Wiring::of(alloc, self.index.decls(), &list, &self.book);
         self.beans = Some(list);
         let wiring = wiring?;
         let count = wiring.count();
@@ -282,13 +311,13 @@ impl<B: Bodies> Deployment<B> {
         if count != 0 {
             return Err(Error::Refused(Refusal::Faulty(count)));
         }
-        if !are_known(&self.decls, bean_type, quals) {
+        if !are_known(self.index.decls(), bean_type, quals) {
             return Err(Error::Refused(Refusal::UnknownName));
         }
         let list = self.take_beans(alloc)?;
         // No effect at run time. The proof reads here that no two declarations have one kind and name.
-        let _ = self.decls.iter();
-        let aim = aim_for(alloc, &self.decls, &list, bean_type, quals, message, work);
+        let _ = self.index.decls().iter();
+        let aim = aim_for(alloc, self.index.decls(), &list, bean_type, quals, message, work);
         self.beans = Some(list);
         aim
     }
@@ -311,15 +340,15 @@ impl<B: Bodies> Deployment<B> {
         if count != 0 {
             return Err(Error::Refused(Refusal::Faulty(count)));
         }
-        if !can_be_fired(&self.decls, event_type, quals) {
+        if !can_be_fired(self.index.decls(), event_type, quals) {
             return Err(Error::Refused(Refusal::UnknownName));
         }
         let list = self.take_beans(alloc)?;
         // No effect at run time. The proof reads here that no two declarations have one kind and name.
-        let _ = self.decls.iter();
+        let _ = self.index.decls().iter();
         let notified = self
             .last_events
-            .notified(alloc, &self.decls, &list, event_type, quals);
+            .notified(alloc, self.index.decls(), &list, event_type, quals);
         self.beans = Some(list);
         work.add_one();
         Ok(notified?)
@@ -373,7 +402,7 @@ impl<B: Bodies> Deployment<B> {
             Some(list) => Ok(list),
             None => {
                 self.stale.beans = None;
-                BeanList::of(alloc, &self.decls)
+                BeanList::of(alloc, self.index.decls())
             }
         }
     }

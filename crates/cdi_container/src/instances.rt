@@ -1,5 +1,8 @@
 //! Lookups, calls and events, requests, and the ends of contexts.
-ghost use Rattle.std.specs.Prelude.{◌≡◌, [], Some, IfOk, IfErr, OnOk, OnErr};
+ghost use Rattle.std.specs.Prelude.{◌≡◌, [], Some, false, IfOk, IfErr, OnOk, OnErr};
+ghost use Rattle.cdi_legal.specs.LegalRun.{LegalEnd};
+ghost use Rattle.cdi_legal.specs.Rooted.{IsRooted};
+ghost use Rattle.cdi_staging.specs.Staged.{scene_of};
 ghost use Rattle.cdi_model.specs.Answering.{Answers};
 ghost use Rattle.cdi_container.specs.Asked.{asked_for, to_look, to_call, run_of_event, run_of_use};
 ghost use Rattle.cdi_container.specs.History.{left_by, untold, unplayed, with_request, refusal_of_begin, refusal_of_end};
@@ -11,7 +14,9 @@ ghost use Rattle.cdi_container.specs.Seen.{LookUpStep, CallStep, FireStep, Begin
 use crate::answer::Answer;
 use crate::asked::Message;
 use crate::container::Container;
+use crate::deployment::Deployment;
 use cdi_bodies::Bodies;
+use cdi_legal::Run;
 use cdi_model::{Error, Ident, Name, Outcome, Quals, Refusal, Val};
 use std::alloc::AllocError;
 
@@ -193,14 +198,29 @@ impl<B: Bodies> Container<B> {
         ensures err { OnErr result (self.new ≡ self.old) }
         ensures step { StopStep self.old result self.new }
     {
-        if self.deployment.is_wired() {
-            self.deployment.player().end_contexts(&mut self.run)?;
-            self.told = None;
-            return Ok(());
-        }
-        self.run.restart();
-        self.run.close();
+        end_both(&self.deployment, &mut self.run)?;
         self.told = None;
         Ok(())
     }
+}
+
+/// Both contexts end, as `Container::stop` says. Without a scene nothing is live, and nothing ends.
+pub(crate) fn end_both<B: Bodies>(
+    deployment: &Deployment<B>,
+    run: &mut Run,
+) -> Result<(), AllocError>
+    requires nothing_lives { deployment.now.is_wired ≡ false → run.old.moment.standing.live ≡ [] }
+    requires rooted { IsRooted run.old.moment.standing.live }
+    ensures legal { let d = deployment.now in let before = run.old.moment.standing in let now = run.new.moment in
+        OnOk result (LegalEnd (scene_of d.decls d.book) before now.trace now.standing) }
+    ensures nothing { OnOk result (run.new.moment.standing.live ≡ []) }
+    ensures untraced { OnOk result (deployment.now.is_wired ≡ false → run.new.moment.trace ≡ []) }
+    ensures err { OnErr result (run.new.moment ≡ run.old.moment) }
+{
+    if deployment.is_wired() {
+        return deployment.player().end_contexts(run);
+    }
+    run.restart();
+    run.close();
+    Ok(())
 }

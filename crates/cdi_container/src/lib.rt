@@ -21,6 +21,7 @@ pub use cdi_bodies::{
 pub use cdi_contexts::{Actor, InstanceId, Owner};
 pub use cdi_effective::{BeanId, Effective};
 pub use cdi_faults::{Code, Fault, Subject};
+pub use cdi_index::Counts;
 pub use cdi_legal::Entry;
 pub use cdi_lines::{Command, Edit, Said, read_line, read_quals};
 pub use cdi_model::{

@@ -2,6 +2,7 @@
 
 use crate::answer::Answer;
 use cdi_faults::Fault;
+use cdi_index::Counts;
 use cdi_model::{Name, Refusal};
 use cdi_observe::ObserverId;
 use std::fmt;
@@ -95,6 +96,9 @@ impl fmt::Display for Answer {
             Answer::Reported(faults) => {
                 let list = FaultsText(faults.as_slice());
                 write!(f, "faults {}{list}", faults.len())
+            }
+            Answer::Counted(Counts { closures, beans }) => {
+                write!(f, "counts closures {closures} beans {beans}")
             }
             Answer::Given(outcome) => write!(f, "{outcome}"),
             Answer::Refused {

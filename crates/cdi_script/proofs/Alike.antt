@@ -13,7 +13,7 @@ use Rattle.cdi_lines.specs.declared.edit.Edit.{Edit}
 use Rattle.cdi_lines.specs.declared.edit.Edit.TheVariants as edits
 use Rattle.cdi_lines.specs.Kept.{ServesText}
 use Rattle.cdi_container.specs.declared.answer.Answer.{Answer}
-use Rattle.cdi_container.specs.declared.answer.Answer.TheVariants.{Done, Chosen, Intercepted, Observed, Reported, Given, Refused}
+use Rattle.cdi_container.specs.declared.answer.Answer.TheVariants.{Done, Chosen, Intercepted, Observed, Reported, Counted, Given, Refused}
 use Rattle.cdi_container.specs.Editing.{Reason, alone, put_of, change_of, changes_in, asked_by, refusal_of_change, first_refusal, refusal_of_batch}
 use Rattle.cdi_container.specs.History.{State, Acts, EditsFrom, LegalAnswer, refusal_of, runs, emptied}
 use Rattle.cdi_script.specs.Runner.{RunnerOn, Runs, RunsStep, Tries}
@@ -29,6 +29,7 @@ alike old new kept command (Ok (Chosen choice)) refused acts same h = (sym refus
 alike old new kept command (Ok (Intercepted names)) refused acts same h = (sym refused ∙ h.0, acts (Intercepted names) h.0 h.1)
 alike old new kept command (Ok (Observed ids)) refused acts same h = (sym refused ∙ h.0, acts (Observed ids) h.0 h.1)
 alike old new kept command (Ok (Reported list)) refused acts same h = (sym refused ∙ h.0, acts (Reported list) h.0 h.1)
+alike old new kept command (Ok (Counted counts)) refused acts same h = (sym refused ∙ h.0, acts (Counted counts) h.0 h.1)
 alike old new kept command (Ok (Given outcome)) refused acts same h = (sym refused ∙ h.0, acts (Given outcome) h.0 h.1)
 alike old new kept command (Ok (Refused refusal edit)) refused acts same h = (sym refused ∙ h.0, h.1)
 alike old new kept command (Err error) refused acts same h = h ∙ ap (λ r. if r then emptied old else old) same

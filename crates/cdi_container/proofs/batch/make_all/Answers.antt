@@ -1,7 +1,6 @@
 use Rattle.std.proofs.Common.{◌≡◌, ◌+◌, ◌∷◌, ◌∙◌, List, length, ap, subst, sym, arith}
 use Rattle.std.specs.Vec.Iter.{into_iter_items}
-use Rattle.cdi_model.specs.Edits.{edited_all}
-use Rattle.cdi_container.specs.Editing.{asked_by, changes_of_all, first_refusal}
+use Rattle.cdi_container.specs.Editing.{asked_by, changes_of_all, drafted_all, first_refusal}
 use Rattle.cdi_container.specs.Seen.{SaysReason, refused_at}
 use Rattle.cdi_container.proofs.BatchLemmas.{first_accepted, first_refused, left_by_first}
 use Rattle.cdi_container.proofs.batch.make_all.Goals as goal
@@ -13,10 +12,11 @@ loop-edit-preserved c =
     let rest = into_iter_items c.next.new.self in
     let steps : into_iter_items at.edit-iterator ≡ edit ∷ rest = c.in-Some.ensures.steps.0 in
     record {
-      left = at.invariant.left ∙ ap (λ es. edited_all at.decls (changes_of_all es)) steps
-          ∙ left_by_first at.decls c.make.new.decls edit rest c.in-Ok.ensures.ok;
-      refused = at.invariant.refused ∙ ap (λ es. first_refusal (at.number + 1) at.decls (asked_by es)) steps
-          ∙ first_accepted (at.number + 1) at.decls c.make.new.decls edit rest c.in-Ok.field-0 c.in-Ok.ensures.answer c.in-Ok.ensures.ok;
+      left = at.invariant.left ∙ ap (λ es. drafted_all at.draft (changes_of_all es)) steps
+          ∙ left_by_first at.draft c.make.new.draft edit rest c.in-Ok.ensures.ok;
+      refused = at.invariant.refused ∙ ap (λ es. first_refusal (at.number + 1) at.draft.decls (asked_by es)) steps
+          ∙ first_accepted (at.number + 1) at.draft.decls c.make.new.draft.decls edit rest c.in-Ok.field-0 c.in-Ok.ensures.answer
+          (ap (λ d. d.decls) c.in-Ok.ensures.ok);
       short = c.in-Ok.ensures.short;
       count = let was = at.invariant.count in let one = ap length steps in omega arith;
       length_is = let was = at.invariant.length_is in let gone = c.in-Some.ensures.steps.1 in let one = ap length steps in omega arith;
@@ -28,8 +28,8 @@ returns-in-Err-clause-answer c =
     let edit = c.in-Some.edit in
     let rest = into_iter_items c.next.new.self in
     let steps : into_iter_items at.edit-iterator ≡ edit ∷ rest = c.in-Some.ensures.steps.0 in
-    let reason = first_refusal 1 c.args.decls.now (asked_by c.args.edits.items) in
-    let same = at.invariant.refused ∙ ap (λ es. first_refusal (at.number + 1) at.decls (asked_by es)) steps in
+    let reason = first_refusal 1 c.args.draft.now.decls (asked_by c.args.edits.items) in
+    let same = at.invariant.refused ∙ ap (λ es. first_refusal (at.number + 1) at.draft.decls (asked_by es)) steps in
     subst (λ r. SaysReason r reason) (sym c.of.ensures)
     (subst (SaysReason (refused_at (at.number + 1) c.in-Err.error)) (sym same)
-    (first_refused (at.number + 1) at.decls edit rest c.in-Err.error c.in-Err.ensures.answer))
+    (first_refused (at.number + 1) at.draft.decls edit rest c.in-Err.error c.in-Err.ensures.answer))

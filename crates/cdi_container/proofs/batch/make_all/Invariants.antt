@@ -1,16 +1,15 @@
 use Rattle.std.proofs.Common.{◌≡◌, ◌+◌, length}
 use Rattle.std.specs.Vec.Iter.{into_iter_items, into_iter_len}
-use Rattle.cdi_model.specs.Edits.{edited_all}
 use Rattle.cdi_model.specs.Short.{AreShort}
-use Rattle.cdi_container.specs.Editing.{asked_by, changes_of_all, first_refusal}
+use Rattle.cdi_container.specs.Editing.{asked_by, changes_of_all, drafted_all, first_refusal}
 use Rattle.cdi_container.proofs.batch.make_all.Given as goal
 
 abbrev pub invariant-loop-edit : goal.invariant-loop-edit
 invariant-loop-edit l = record {
-  left : edited_all l.fn.decls (changes_of_all l.fn.edits.items) ≡ edited_all l.decls (changes_of_all (into_iter_items l.edit-iterator));
-  refused : first_refusal 1 l.fn.decls (asked_by l.fn.edits.items)
-      ≡ first_refusal (l.number + 1) l.decls (asked_by (into_iter_items l.edit-iterator));
-  short : AreShort l.decls;
+  left : drafted_all l.fn.draft (changes_of_all l.fn.edits.items) ≡ drafted_all l.draft (changes_of_all (into_iter_items l.edit-iterator));
+  refused : first_refusal 1 l.fn.draft.decls (asked_by l.fn.edits.items)
+      ≡ first_refusal (l.number + 1) l.draft.decls (asked_by (into_iter_items l.edit-iterator));
+  short : AreShort l.draft.decls;
   count : l.number + length (into_iter_items l.edit-iterator) ≡ length l.fn.edits.items;
   length_is : into_iter_len l.edit-iterator ≡ length (into_iter_items l.edit-iterator);
 }

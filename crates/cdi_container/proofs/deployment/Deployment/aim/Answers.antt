@@ -10,5 +10,5 @@ returns-clause-there g c =
     let book = c.args.self.now.book in
     subst (λ ds. IfOk c.aim_for-aim.result (λ aim. StandsIn (scene_of ds book) aim))
     (ap (λ d. d.decls) c.self-2.view_is ∙ ap (λ d. d.decls) c.take_beans.ensures.stays ∙ c.wire.ensures.same.decls)
-    (aim_stands c.self-2.inside.decls book (asked_for c.args.bean_type c.args.quals.now c.args.message) c.aim_for-aim.result
+    (aim_stands c.self-2.inside.index.decls book (asked_for c.args.bean_type c.args.quals.now c.args.message) c.aim_for-aim.result
     c.iter.ensures.distinct c.aim_for-aim.ensures)

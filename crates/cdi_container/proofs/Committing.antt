@@ -1,0 +1,104 @@
+-- What is staged is taken over behind the end of both contexts.
+use Rattle.std.proofs.Common.{◌≡◌, Bool, true, false, List, [], Option, None, Some, refl, ap, sym, subst, ◌∙◌}
+use Rattle.std.specs.Prelude.{ℕ, unwrap_or, if◌then◌else◌}
+use Rattle.cdi_index.specs.State.{Drafted, Staged}
+use Rattle.cdi_legal.specs.Furnished.{IsFurnished}
+use Rattle.cdi_legal.specs.LegalRun.{LegalEnd}
+use Rattle.cdi_legal.specs.Moment.{Moment}
+use Rattle.cdi_legal.specs.Rooted.{IsRooted}
+use Rattle.cdi_legal.specs.declared.entry.Entry.{Entry}
+use Rattle.cdi_contexts.specs.declared.instance.Instance.{Instance}
+use Rattle.cdi_staging.specs.Naming.{names_of}
+use Rattle.cdi_staging.specs.Staged.{scene_of}
+use Rattle.cdi_staging.specs.declared.names.Names.{Names}
+use Rattle.cdi_trace.specs.TraceText.{text_of_entries}
+use Rattle.cdi_container.specs.History.{State, Redeploys}
+use Rattle.cdi_container.specs.Wired.{Deployed, RestsOnScene, names_if, redeployed, redeployed_to, staged_by, trace_names, with_staged}
+use Rattle.cdi_container.proofs.Ending.{standing_at}
+
+-- ---- behind the end of both contexts
+
+pub rests_ended : (d : Deployed) (n : Moment) (before : Option Names) → n.standing.live ≡ []
+    → (d.is_wired ≡ false → before ≡ None → n.trace ≡ []) → (d.is_wired ≡ true → before ≡ None) → RestsOnScene d n before
+rests_ended d n before none untraced told = record {
+  nothing_lives = λ w. none;
+  nothing_told = untraced;
+  told_now = told;
+  rooted = subst (λ (live : List Instance). IsRooted live) (sym none) tt;
+  furnished = subst (λ (live : List Instance). IsFurnished (scene_of d.decls d.book) live) (sym none) tt;
+}
+
+-- ---- behind what stages, or lets go of what was staged
+
+pub rests_staged : (d e : Deployed) (staged : Option Staged) (m : Moment) (before : Option Names) → e ≡ with_staged d staged
+    → RestsOnScene d m before → RestsOnScene e m before
+rests_staged d e staged m before is r = subst (λ (x : Deployed). RestsOnScene x m before) (sym is) (record {
+  nothing_lives = r.nothing_lives;
+  nothing_told = r.nothing_told;
+  told_now = r.told_now;
+  rooted = r.rooted;
+  furnished = r.furnished;
+})
+
+-- ---- behind a commit
+
+unwired : (d : Deployed) (staged : Option Staged) → (redeployed_to d staged).is_wired ≡ false
+unwired d None = refl
+unwired d (Some next) = refl
+
+no_names : (d : Deployed) (b : Bool) → d.is_wired ≡ b → names_if d ≡ None → d.is_wired ≡ false
+no_names d true w none = absurd (let no : Some (names_of d.decls) ≡ None = rw w at none in cc)
+no_names d false w none = w
+
+-- the scene is gone; without it nothing was traced, and nothing is told
+pub rests_committed : (d e : Deployed) (n : Moment) (told : Option Names) → e ≡ redeployed d → told ≡ names_if d
+    → n.standing.live ≡ [] → (d.is_wired ≡ false → n.trace ≡ []) → RestsOnScene e n told
+rests_committed d e n told is names none untraced =
+    let gone : e.is_wired ≡ false = ap (λ (x : Deployed). x.is_wired) is ∙ unwired d d.staged in
+    rests_ended e n told none
+    (λ w t. untraced (no_names d d.is_wired refl (sym names ∙ t)))
+    (λ w. absurd (let no : false ≡ true = sym gone ∙ w in cc))
+
+-- what is told by names from before, if there are any, and is nothing if there are none
+told_before : (b : Bool) (before now : Names) (trace : List Entry) → (b ≡ false → trace ≡ [])
+    → text_of_entries (unwrap_or (if b then Some before else None) now) trace ≡ text_of_entries before trace
+told_before true before now trace none = refl
+told_before false before now trace none =
+    subst (λ (t : List Entry). text_of_entries now t ≡ text_of_entries before t) (sym (none refl)) refl
+
+-- what these declarations stage
+abbrev next_on : Deployed → Drafted → Staged
+next_on d draft = staged_by d.decls d.counts draft
+
+abbrev staged_on : Deployed → Drafted → Deployed
+staged_on d draft = with_staged d (Some (next_on d draft))
+
+redeploys_from : (d : Deployed) (names : Names) (draft : Drafted) (m n : Moment)
+    → LegalEnd (scene_of d.decls d.book) m.standing n.trace n.standing → (d.is_wired ≡ false → n.trace ≡ [])
+    → Redeploys (standing_at d names m) (next_on d draft)
+    (standing_at (redeployed (staged_on d draft)) (trace_names (redeployed (staged_on d draft)) (names_if d)) n)
+redeploys_from d names draft m n legal untraced = record {
+  stopped = standing_at d (names_of d.decls) n;
+  ends = record { done = refl; legal = legal; rest = refl };
+  rest = ap (λ (t : List ℕ). record (standing_at (redeployed (staged_on d draft)) names n) { text = t })
+      (told_before d.is_wired (names_of d.decls) (names_of draft.decls) n.trace untraced);
+}
+
+pub redeploys : (d e f : Deployed) (before told : Option Names) (old : State) (draft : Drafted) (m n : Moment)
+    → standing_at d (trace_names d before) m ≡ old → e ≡ with_staged d (Some (staged_by d.decls d.counts draft))
+    → LegalEnd (scene_of e.decls e.book) m.standing n.trace n.standing → (e.is_wired ≡ false → n.trace ≡ [])
+    → f ≡ redeployed e → told ≡ names_if e
+    → Redeploys old (staged_by old.decls old.counts draft) (standing_at f (trace_names f told) n)
+redeploys d e f before told old draft m n was staged legal untraced is names =
+    let legal_here : LegalEnd (scene_of d.decls d.book) m.standing n.trace n.standing =
+        subst (λ (x : Deployed). LegalEnd (scene_of x.decls x.book) m.standing n.trace n.standing) staged legal in
+    let untraced_here : d.is_wired ≡ false → n.trace ≡ [] =
+        subst (λ (x : Deployed). x.is_wired ≡ false → n.trace ≡ []) staged untraced in
+    let here = redeploys_from d (trace_names d before) draft m n legal_here untraced_here in
+    let next : f ≡ redeployed (staged_on d draft) = is ∙ ap redeployed staged in
+    let told_here : told ≡ names_if d = names ∙ ap names_if staged in
+    subst (λ (s : State). Redeploys s (staged_by s.decls s.counts draft) (standing_at f (trace_names f told) n)) was
+    (subst (λ (x : Deployed). Redeploys (standing_at d (trace_names d before) m) (next_on d draft) (standing_at x (trace_names x told) n))
+        (sym next)
+        (subst (λ (t : Option Names). Redeploys (standing_at d (trace_names d before) m) (next_on d draft)
+            (standing_at (redeployed (staged_on d draft)) (trace_names (redeployed (staged_on d draft)) t) n)) (sym told_here) here))
