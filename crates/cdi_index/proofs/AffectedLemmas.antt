@@ -18,6 +18,8 @@ use Rattle.cdi_match.proofs.LocalityLemmas.{edits_keep_closure}
 use Rattle.cdi_effective.specs.Beans.{own_records}
 use Rattle.cdi_effective.specs.Disposers.{as_bean, find_bean}
 use Rattle.cdi_effective.specs.Reads.{record_reads}
+use Rattle.cdi_effective.specs.Specialized.{replaced_by}
+use Rattle.cdi_model.specs.declared.decl.Decl.TheVariants as decls
 use Rattle.cdi_effective.proofs.RecordLemmas.{edits_keep_own_records}
 use Rattle.cdi_index.specs.declared.making.Made.{Made}
 use Rattle.cdi_index.specs.declared.making.Given.TheVariants as given
@@ -58,7 +60,7 @@ avoids : (edits : List Edit) (made : Option Made) → list_any (reads made) (edi
 avoids edits made none key among = none-of (reads made) (edited_keys edits) key none among
 
 abbrev made_with : List (List ℕ) → Made
-made_with types = record { reads = map (key_at kinds.Type) types; given = given.Types types }
+made_with types = record { reads = map (key_at kinds.Type) types; replaces = []; given = given.Types types }
 
 -- what is made of a declaration that is not affected stays
 stays : (ds : List Decl) (edits : List Edit) (kind : Kind) (name : List ℕ)
@@ -99,10 +101,14 @@ stays ds edits kinds.Bean name none =
     by (Some bean) e same unread =
         let unread_bean : list_any (reads (Some (made_of_bean ds bean))) (edited_keys edits) ≡ false =
         ap (λ o. list_any (reads (option_map (made_of_bean ds) o)) (edited_keys edits)) (sym e) ∙ unread in
+        let es = edited_all ds edits in
         let leave = edits_keep_own_records edits ds bean (avoids edits (Some (made_of_bean ds bean)) unread_bean) in
         ap (option_map (made_of_bean (edited_all ds edits))) (same ∙ e)
-        ∙ ap (λ rs. Some (record { reads = rs; given = given.Records (own_records (edited_all ds edits) bean) })) leave.reads
-        ∙ ap (λ rs. Some (record { reads = record_reads ds bean; given = given.Records rs })) leave.records
+        ∙ ap (λ rs. Some (record { reads = rs; replaces = replaced_by es (decls.Bean bean); given = given.Records (own_records es bean) }))
+        leave.reads
+        ∙ ap (λ rs. Some (record { reads = record_reads ds bean; replaces = rs; given = given.Records (own_records es bean) })) leave.replaced
+        ∙ ap (λ rs. Some (record { reads = record_reads ds bean; replaces = replaced_by ds (decls.Bean bean); given = given.Records rs }))
+        leave.records
         ∙ sym (ap (option_map (made_of_bean ds)) e)
 stays ds edits kinds.Qualifier name none = refl
 stays ds edits kinds.Binding name none = refl

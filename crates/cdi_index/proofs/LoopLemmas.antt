@@ -16,7 +16,7 @@ use Rattle.cdi_index.specs.declared.making.Made.{Made}
 use Rattle.cdi_index.specs.declared.shelf.Kept.{Kept}
 use Rattle.cdi_index.specs.Kept.{is_reader, is_reader_among, kept_at, Keeps}
 use Rattle.cdi_index.specs.declared.shelf.Shelf.{Shelf}
-use Rattle.cdi_index.specs.Made.{has_word, keys_have, made_of, reads, word_of}
+use Rattle.cdi_index.specs.Made.{classes_have, has_word, keys_have, made_of, reads}
 use Rattle.cdi_index.specs.Next.{change_of}
 use Rattle.cdi_index.proofs.ShelfLemmas.{nat-same}
 
@@ -28,20 +28,29 @@ keeps-list word slot a b c kept lists w s h = lists w s ∙ or_left (is_listed b
 pub keeps-then : (a b c : List Listing) → Keeps a b → Keeps b c → Keeps a c
 keeps-then a b c first then w s h = then w s (first w s h)
 
--- a slot is listed under the word of one more key
-pub words-next : (keys : List DeclKey) (i : ℕ) (key : DeclKey) (slot : ℕ) (b c : List Listing) → i < length keys
-    → key ≡ get_or keys i key → Lists (word_of key) slot b c
-    → ((w : Word) → keys_have (take i keys) w ≡ true → is_listed b w slot ≡ true)
-    → (w : Word) → keys_have (take (i + 1) keys) w ≡ true → is_listed c w slot ≡ true
-words-next keys i key slot b c lt at lists before w h =
-    let p : DeclKey → Bool = λ r. same_word (word_of r) w in
-    let word = word_of key in
+-- a slot is listed under the word of one more
+pub words-next : {X : Type 0} (word : X → Word) (xs : List X) (i : ℕ) (x : X) (slot : ℕ) (b c : List Listing) → i < length xs
+    → x ≡ get_or xs i x → Lists (word x) slot b c
+    → ((w : Word) → list_any (λ y. same_word (word y) w) (take i xs) ≡ true → is_listed b w slot ≡ true)
+    → (w : Word) → list_any (λ y. same_word (word y) w) (take (i + 1) xs) ≡ true → is_listed c w slot ≡ true
+words-next {X = X} word xs i x slot b c lt at lists before w h =
+    let p : X → Bool = λ y. same_word (word y) w in
     lists w slot
-    ∙ elim (or_cases (list_any p (take i keys)) (p (get_or keys i key)) (sym (list_any_more p keys i key lt) ∙ h)) [
-      | inl first ↦ or_left (is_listed b w slot) (same_word word w && nat_eq slot slot) (before w first)
-      | inr last ↦ or_right (is_listed b w slot) (same_word word w && nat_eq slot slot)
-          (and_from (same_word word w) (nat_eq slot slot) (ap p at ∙ last) (nat-same slot))
+    ∙ elim (or_cases (list_any p (take i xs)) (p (get_or xs i x)) (sym (list_any_more p xs i x lt) ∙ h)) [
+      | inl first ↦ or_left (is_listed b w slot) (same_word (word x) w && nat_eq slot slot) (before w first)
+      | inr last ↦ or_right (is_listed b w slot) (same_word (word x) w && nat_eq slot slot)
+          (and_from (same_word (word x) w) (nat_eq slot slot) (ap p at ∙ last) (nat-same slot))
     ]
+
+-- it is listed under the words of keys, and then under those of classes
+pub words-both : (made : Made) (slot : ℕ) (b c : List Listing) → Keeps b c
+    → ((w : Word) → keys_have made.reads w ≡ true → is_listed b w slot ≡ true)
+    → ((w : Word) → classes_have made.replaces w ≡ true → is_listed c w slot ≡ true)
+    → (w : Word) → has_word (Some made) w ≡ true → is_listed c w slot ≡ true
+words-both made slot b c kept keys classes w h = elim (or_cases (keys_have made.reads w) (classes_have made.replaces w) h) [
+  | inl first ↦ kept w slot (keys w first)
+  | inr last ↦ classes w last
+]
 
 -- ---- changes
 

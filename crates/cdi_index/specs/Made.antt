@@ -1,10 +1,11 @@
 -- What is made of declarations, what it reads, and under which words a declaration is listed for it.
-use Rattle.std.specs.Prelude.{◌≡◌, ℕ, Bool, true, false, List, [], Option, Some, None, option_map}
+use Rattle.std.specs.Prelude.{◌≡◌, ◌||◌, ℕ, Bool, true, false, List, [], Option, Some, None, option_map}
 use Rattle.std.specs.List.{list_any}
 use Rattle.std.specs.declared.alloc.Global.{Global}
 use Rattle.std.specs.declared.vec.Vec.{Vec}
 use Rattle.cdi_model.specs.declared.decl.BeanDecl.{BeanDecl}
 use Rattle.cdi_model.specs.declared.decl.Decl.{Decl}
+use Rattle.cdi_model.specs.declared.decl.Decl.TheVariants as decls
 use Rattle.cdi_model.specs.declared.decl.Kind.{Kind}
 use Rattle.cdi_model.specs.declared.decl.Kind.TheVariants as kinds
 use Rattle.cdi_model.specs.declared.key.DeclKey.{DeclKey}
@@ -15,6 +16,7 @@ use Rattle.cdi_match.specs.Types.{types_of}
 use Rattle.cdi_effective.specs.Beans.{own_records}
 use Rattle.cdi_effective.specs.Disposers.{find_bean}
 use Rattle.cdi_effective.specs.Reads.{record_reads}
+use Rattle.cdi_effective.specs.Specialized.{replaced_by}
 use Rattle.cdi_postings.specs.declared.word.Reason.TheVariants as reasons
 use Rattle.cdi_postings.specs.declared.word.Word.{Word}
 use Rattle.cdi_postings.specs.Words.{same_word, word_at}
@@ -29,11 +31,15 @@ is_kept other = false
 
 -- the closure of a type
 abbrev pub made_of_type : List Decl → List ℕ → Made
-made_of_type ds name = record { reads = type_reads ds name; given = given.Types (types_of ds name) }
+made_of_type ds name = record { reads = type_reads ds name; replaces = []; given = given.Types (types_of ds name) }
 
--- the records that a bean declaration has by itself
+-- the records that a bean declaration has by itself, and which beans it replaces
 abbrev pub made_of_bean : List Decl → BeanDecl → Made
-made_of_bean ds bean = record { reads = record_reads ds bean; given = given.Records (own_records ds bean) }
+made_of_bean ds bean = record {
+  reads = record_reads ds bean;
+  replaces = replaced_by ds (decls.Bean bean);
+  given = given.Records (own_records ds bean);
+}
 
 -- what is made of the declaration of a kind and name
 abbrev pub made_by : Kind → List ℕ → List Decl → Option Made
@@ -60,9 +66,18 @@ word_of key = word_at (reasons.RestsOn key.kind) key.name
 abbrev pub keys_have : List DeclKey → Word → Bool
 keys_have keys w = list_any (λ r. same_word (word_of r) w) keys
 
+-- the classes of the beans that it replaces
+abbrev pub replaces_in : Option Made → List (List ℕ)
+replaces_in None = []
+replaces_in (Some made) = made.replaces
+
+-- the word is that of one of the classes
+abbrev pub classes_have : List (List ℕ) → Word → Bool
+classes_have classes w = list_any (λ class. same_word (word_at reasons.Replaces class) w) classes
+
 -- a declaration of which this is made has to be listed under the word
 abbrev pub has_word : Option Made → Word → Bool
-has_word made w = keys_have (reads_in made) w
+has_word made w = keys_have (reads_in made) w || classes_have (replaces_in made) w
 
 -- These are the types of each name for which some are there.
 abbrev pub AreClosed : List Decl → (DeclKey → Option (Vec (List ℕ) Global)) → Type 0

@@ -4,12 +4,14 @@ ghost use Rattle.std.specs.List.{list_any};
 ghost use Rattle.indexmap.specs.IndexSet.{contains};
 ghost use Rattle.cdi_model.specs.DeclKey.{same_key};
 ghost use Rattle.cdi_model.specs.Edits.{is_among};
+ghost use Rattle.cdi_postings.specs.Words.{word_at};
+ghost use Rattle.cdi_postings.specs.declared.word.Reason.TheVariants as reasons;
 ghost use Rattle.cdi_index.specs.Kept.{is_reader_among, touches};
 ghost use Rattle.cdi_index.specs.Made.{is_kept, reads_in, word_of};
 
 use crate::making::Made;
 use crate::shelf::Shelf;
-use cdi_model::{DeclKey, Kind};
+use cdi_model::{DeclKey, Kind, Name};
 use cdi_postings::{Postings, Reason, Word};
 use indexmap::IndexSet;
 use std::alloc::{AllocError, Global};
@@ -38,6 +40,16 @@ pub(crate) fn word_of(key: &DeclKey) -> Word
     Word {
         reason: Reason::RestsOn(key.kind),
         name: key.name,
+    }
+}
+
+/// The word under which those are listed that replace the bean of a class.
+pub(crate) fn word_of_replaced(class: &Name) -> Word
+    ensures { result ≡ word_at reasons.Replaces class.now }
+{
+    Word {
+        reason: Reason::Replaces,
+        name: *class,
     }
 }
 

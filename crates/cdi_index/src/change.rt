@@ -6,14 +6,14 @@ ghost use Rattle.cdi_model.specs.DeclKey.{kind_number, same_key};
 ghost use Rattle.cdi_postings.specs.Listing.{is_listed};
 ghost use Rattle.cdi_index.specs.Counted.{is_of_kind};
 ghost use Rattle.cdi_index.specs.Kept.{made_in, stored, Keeps};
-ghost use Rattle.cdi_index.specs.Made.{has_word, keys_have, made_of};
+ghost use Rattle.cdi_index.specs.Made.{classes_have, has_word, keys_have, made_of};
 ghost use Rattle.cdi_index.specs.Next.{change_of, is_made};
 
-use crate::affected::word_of;
+use crate::affected::{word_of, word_of_replaced};
 use crate::making::{Made, make};
 use crate::next_types::NextTypes;
 use crate::shelf::Shelf;
-use cdi_model::{DeclKey, Decls, Kind};
+use cdi_model::{DeclKey, Decls, Kind, Name};
 use cdi_postings::Postings;
 use indexmap::IndexSet;
 use std::alloc::{AllocError, Global};
@@ -36,13 +36,27 @@ fn list_keys(postings: &mut Postings, slot: u64, reads: &[DeclKey]) -> Result<()
     Ok(())
 }
 
+/// Lists a slot under the words of some beans that are replaced.
+fn list_classes(postings: &mut Postings, slot: u64, classes: &[Name]) -> Result<(), AllocError>
+    ensures kept { Keeps postings.old postings.new }
+    ensures listed { OnOk result ((w : _) → classes_have classes.now w ≡ true → is_listed postings.new w slot ≡ true) }
+{
+    for class in classes {
+        postings.list(word_of_replaced(class), slot)?;
+    }
+    Ok(())
+}
+
 /// Lists a slot under the words of what is made of a declaration.
 fn list_words(postings: &mut Postings, slot: u64, made: &Option<Made>) -> Result<(), AllocError>
     ensures kept { Keeps postings.old postings.new }
     ensures listed { OnOk result ((w : _) → has_word made.now w ≡ true → is_listed postings.new w slot ≡ true) }
 {
     match made {
-        Some(made) => list_keys(postings, slot, made.reads.as_slice()),
+        Some(made) => {
+            list_keys(postings, slot, made.reads.as_slice())?;
+            list_classes(postings, slot, made.replaces.as_slice())
+        }
         None => Ok(()),
     }
 }

@@ -6,10 +6,10 @@ ghost use Rattle.cdi_postings.specs.Listing.{is_listed};
 ghost use Rattle.cdi_index.specs.Kept.{kept_at, stored, IsFreeFrom, IsShelf, IsSound};
 ghost use Rattle.cdi_index.specs.Next.{applied, stored_as};
 
-use crate::affected::word_of;
+use crate::affected::{word_of, word_of_replaced};
 use crate::change::Change;
 use crate::shelf::Shelf;
-use cdi_model::DeclKey;
+use cdi_model::{DeclKey, Name};
 use cdi_postings::Postings;
 
 /// Lists a slot no more under the words of some keys. It takes no memory.
@@ -18,6 +18,15 @@ fn unlist_keys(postings: &mut Postings, slot: u64, reads: &[DeclKey])
 {
     for read in reads {
         postings.unlist(word_of(read), slot);
+    }
+}
+
+/// Lists a slot no more under the words of some beans that are replaced. It takes no memory.
+fn unlist_classes(postings: &mut Postings, slot: u64, classes: &[Name])
+    ensures { (w : _) (s : _) → s ≢ slot → is_listed postings.old w s ≡ true → is_listed postings.new w s ≡ true }
+{
+    for class in classes {
+        postings.unlist(word_of_replaced(class), slot);
     }
 }
 
@@ -39,6 +48,7 @@ fn install_one(shelf: &mut Shelf, postings: &mut Postings, slot: u64, change: Ch
     let Change { key, made } = change;
     if let Some((old, before)) = shelf.take_out(&key) {
         unlist_keys(postings, old, before.reads.as_slice());
+        unlist_classes(postings, old, before.replaces.as_slice());
     }
     if let Some(made) = made {
         shelf.put_in(&key, slot, made);

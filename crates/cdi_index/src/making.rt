@@ -1,12 +1,13 @@
 //! What is made of a declaration.
-ghost use Rattle.std.specs.Prelude.{◌≡◌, map, IfOk};
+ghost use Rattle.std.specs.Prelude.{◌≡◌, map, option_map, Some, IfOk};
 ghost use Rattle.cdi_model.specs.declared.decl.Kind.TheVariants as kinds;
 ghost use Rattle.cdi_model.specs.DeclKey.{key_at};
+ghost use Rattle.cdi_effective.specs.Disposers.{as_bean};
 ghost use Rattle.cdi_index.specs.Made.{made_of, made_of_bean, made_of_type};
 
 use crate::next_types::NextTypes;
-use cdi_effective::{Closures, Effective, own_records_of, reads_of};
-use cdi_model::{BeanDecl, Decl, DeclKey, Kind, Name, Seq};
+use cdi_effective::{Closures, Effective, own_records_of, reads_of, replaced_by};
+use cdi_model::{Decl, DeclKey, Kind, Name, Seq};
 use std::alloc::{AllocError, Global};
 
 /// What a declaration gives.
@@ -22,6 +23,8 @@ pub(crate) enum Given {
 #[derive(Drop)]
 pub(crate) struct Made {
     pub(crate) reads: Seq<DeclKey>,
+    /// The classes of the beans that it replaces.
+    pub(crate) replaces: Seq<Name>,
     pub(crate) given: Given,
 }
 
@@ -47,20 +50,30 @@ fn make_types(alloc: Global, types: &NextTypes<'_>, name: &Name) -> Result<Made,
     let reads = keys_of_types(alloc, types.as_slice())?;
     Ok(Made {
         reads,
+        replaces: Seq::new(alloc),
         given: Given::Types(Seq::from_vec(types)),
     })
 }
 
-/// Makes the records of a bean declaration.
-fn make_records(alloc: Global, types: &NextTypes<'_>, bean: &BeanDecl) -> Result<Made, AllocError>
-    ensures { IfOk result (λ made. made ≡ made_of_bean types.now.decls.now bean.now) }
+/// Makes the records of a declaration, if it is that of a bean.
+fn make_records(
+    alloc: Global,
+    types: &NextTypes<'_>,
+    decl: &Decl,
+) -> Result<Option<Made>, AllocError>
+    ensures { IfOk result (λ made. made ≡ option_map (made_of_bean types.now.decls.now) (as_bean (Some decl.now))) }
 {
+    let Decl::Bean(bean) = decl else {
+        return Ok(None);
+    };
     let records = own_records_of(alloc, types.decls, types, bean)?;
     let reads = reads_of(alloc, types.decls, types, bean)?;
-    Ok(Made {
+    let replaces = replaced_by(alloc, types.decls, decl)?;
+    Ok(Some(Made {
         reads: Seq::from_vec(reads),
+        replaces: Seq::from_vec(replaces),
         given: Given::Records(Seq::from_vec(records)),
-    })
+    }))
 }
 
 /// Makes what is made of the declaration of a key.
@@ -79,8 +92,8 @@ pub(crate) fn make(
             Ok(Some(make_types(alloc, types, &key.name)?))
         }
         Kind::Bean => match types.decls.get(Kind::Bean, &key.name) {
-            Some(Decl::Bean(bean)) => Ok(Some(make_records(alloc, types, bean)?)),
-            _ => Ok(None),
+            Some(decl) => make_records(alloc, types, decl),
+            None => Ok(None),
         },
         _ => Ok(None),
     }

@@ -1,0 +1,12 @@
+use Rattle.std.proofs.Common.{◌≡◌, true, take}
+use Rattle.cdi_postings.specs.declared.word.Word.{Word}
+use Rattle.cdi_postings.specs.Listing.{is_listed}
+use Rattle.cdi_index.specs.Kept.{Keeps}
+use Rattle.cdi_index.specs.Made.{classes_have}
+use Rattle.cdi_index.proofs.change.list_classes.Given as goal
+
+abbrev pub invariant-loop-class : goal.invariant-loop-class
+invariant-loop-class l = record {
+  kept : Keeps l.fn.postings l.postings;
+  listed : (w : Word) → classes_have (take l.class-index l.classes) w ≡ true → is_listed l.postings w l.slot ≡ true;
+}
