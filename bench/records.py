@@ -2,13 +2,13 @@
 
 A type declaration has one record, of its types, and a bean declaration one, of its beans. An edit computes the records of
 new declarations, and those that read what it edits, by the declarations from before it. What a record reads is a kind and a
-name, declared or not. The definition shares no code with the program; declarations and types are asked of the model in
+name, declared or not. It shares no code with the program. Declarations, types and closures are asked of the model in
 `bench/compare`, which uses it.
 """
 
 
 class Records:
-    """The counts of an edit after another, with the present declarations, which are asked of a model."""
+    """Counts the records that edits compute, edit after edit. The present declarations are asked of a model."""
 
     def __init__(self, model):
         self.model = model
