@@ -6,12 +6,13 @@
 from reading import DECLARATIONS, EDITS, LINE_LIMIT, TEXT_LIMIT, edits_of, lines_of
 
 NOT_UTF8 = "\udcff"
+COUNTS = "counts\n"
 BAD_COMMAND = "refused E20 BadCommand"
 BEGINS = ["batch"] * 12 + ["  batch ", "batch".ljust(LINE_LIMIT)]
 ENDS = ["end"] * 12 + [" end", "end  ", "end".ljust(LINE_LIMIT)]
 SKIPPED = ["", "  ", "#", "# end", "#batch", "# " + "x" * LINE_LIMIT, " " * 2 * LINE_LIMIT, "#" + NOT_UTF8]
 # Lines that are no edit: those of other commands, those that almost end a batch, and those that are too long or not UTF-8.
-SPOILING = ["report", "stop", "request begin", "request end", "choose Object", "lookup Object", "fire 1 Object", "name a"]
+SPOILING = ["report", "counts", "stop", "request begin", "request end", "choose Object", "lookup Object", "fire 1 Object", "name a"]
 SPOILING += ["batch", " batch", "batch now", "end now", "End", "\tend", "end\r\r", " # end", "frob", ".", "put it", "Put"]
 SPOILING += ["drop", "drop type", "drop type A B", "drop bear A", "drop type 1A", "Drop type A"]
 SPOILING += ["end".ljust(LINE_LIMIT + 1), "put".rjust(LINE_LIMIT + 1), "drop type A".ljust(LINE_LIMIT + 1)]
@@ -64,6 +65,12 @@ def batch(chance, model, edits):
     if chance.random() < 0.15:
         edits.insert(chance.randint(0, len(edits)), refused_edit(chance))
     return answered(model, text_of_batch(chance, edits))
+
+
+def counted(chance, model, steps):
+    """Steps of edits, and after some of them, batches above all, the counts of what edits computed."""
+    asks = chance.random() < (0.6 if steps and steps[-1][0].lstrip(" ").startswith("batch") else 0.3)
+    return [*steps, (COUNTS, model.records.counts())] if asks else steps
 
 
 def long_batch(chance, model):

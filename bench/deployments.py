@@ -14,7 +14,7 @@ beans, since they are made at a notification; so a bean may be made for an event
 the run is too deep.
 """
 
-from batches import batch, exchange, filling, is_full, long_batch, stray
+from batches import COUNTS, batch, counted, exchange, filling, is_full, long_batch, stray
 from texts import ANY, DEFAULT, NOTIFIES, Event, line_of
 
 METHODS = ["run", "add", "go"]
@@ -253,6 +253,7 @@ class Commander:
             steps = self.accepted([self.text_of_put(declaration) for declaration in beans])
         else:
             steps = [self.put(declaration) for declaration in beans]
+        steps = counted(self.chance, self.model, steps)
         if self.planner.maybe(0.02):
             steps += filling(self.model, 0)
         steps.append(("report\n", self.model.report()))
@@ -264,7 +265,7 @@ class Commander:
         for _ in range(length * self.chance.randint(least, most)):
             steps.append(self.command())
             if self.chance.random() < (0.3 if self.model.runs.live else 0.05):
-                steps.extend(self.edits(changing))
+                steps.extend(counted(self.chance, self.model, self.edits(changing)))
         return steps
 
     def command(self):
@@ -278,6 +279,8 @@ class Commander:
             return "request end\n", runs.end_request()
         if draw < 0.27:
             return "stop\n", runs.stop()
+        if draw < 0.28:
+            return COUNTS, self.model.records.counts()
         if draw < 0.32:
             return f"choose {name}{words}\n", self.model.choose(name, uses)
         if draw < 0.36:

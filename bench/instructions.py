@@ -15,7 +15,8 @@ import tempfile
 HERE = pathlib.Path(__file__).resolve().parent
 TABLE = HERE / "instructions.txt"
 GROWTH = 1.1
-LARGE, SMALL = "_2048", "_512"
+# Which numbers of declarations are compared, at the ends of the names of scripts.
+SIZES = {"2048": "512", "1920": "480"}
 TITLE = "# Instructions of a command, by `bench/run --instructions`: the script, the count, and why it grew where it did.\n"
 
 
@@ -60,8 +61,9 @@ def show(program, keeps):
         told = f"{before:>14,}{number / before:>8.2f}" if before else f"{'-':>14}{'-':>8}"
         print(f"{name:24}{number:>14,}{told}{'  GREW' if before and number > before * GROWTH else ''}")
     for name, number in now.items():
-        small = name.replace(LARGE, SMALL)
-        if name.endswith(LARGE):
+        edits, _, size = name.rpartition("_")
+        if size in SIZES:
+            small = f"{edits}_{SIZES[size]}"
             print(f"{name}: {number / now[small]:.2f} times {small}")
     if keeps:
         rows = [f"{name:24}{number:>12}  {kept.get(name, (0, ''))[1]}".rstrip() for name, number in now.items()]

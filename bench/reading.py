@@ -384,4 +384,4 @@ def is_command(line):
         return len(rest) == 2 and rest[0] in KINDS and is_name(rest[1])
     if word == "name":
         return len(rest) == 1 and is_name(rest[0])
-    return [word, *rest] in (["report"], ["stop"], ["request", "begin"], ["request", "end"])
+    return [word, *rest] in (["report"], ["counts"], ["stop"], ["request", "begin"], ["request", "end"])

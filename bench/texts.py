@@ -50,6 +50,11 @@ def text_of_put(declaration):
     return "put\n" + text_of_declaration(declaration) + ".\n"
 
 
+def put_block(kind, name, *keys):
+    """A block that declares something; each further key is a line."""
+    return "\n".join(["put", f'kind = "{kind}"', f'name = "{name}"', *keys, "."]) + "\n"
+
+
 def text_of_declaration(declaration):
     return "".join(f"{key} = {toml(value)}\n" for key, value in declaration.items())
 

@@ -2,7 +2,7 @@
 
 import random
 
-from batches import batch, cut_off, exchange, filling, is_full, long_batch, put_block, stray
+from batches import COUNTS, batch, counted, cut_off, exchange, filling, is_full, long_batch, put_block, stray
 from bodies import PROMISES
 from chains import CALLBACKS, places_of
 from chains import PARTS as PARTS_OF_INTERCEPTORS
@@ -252,7 +252,9 @@ class Writer:
         return f"drop {kind} {name}\n"
 
     def question(self, model):
-        """A line that asks for a bean, for a chain or for the faults, and its answer."""
+        """A line that asks for a bean, for a chain, for the faults or for the counts, and its answer."""
+        if self.maybe(0.04):
+            return COUNTS, model.records.counts()
         if self.maybe(0.3):
             return "report\n", model.report()
         if self.maybe(0.35):
@@ -323,9 +325,9 @@ class Writer:
             begun += [(kind, name) for kind in ["type", "bean"] for name in self.random.sample(TYPES, len(TYPES))]
         steps = [self.put(model, kind, name) for kind, name in begun]
         if self.maybe(0.02):
-            steps += filling(model, self.random.randint(0, 6))
+            steps += counted(self.random, model, filling(model, self.random.randint(0, 6)))
         for _ in range(self.length * self.random.randint(5, 25)):
-            steps.append(self.edit(model))
+            steps.extend(counted(self.random, model, [self.edit(model)]))
             steps.extend(self.question(model) for _ in range(self.random.randint(0, 4)))
             steps.extend(self.run(model) for _ in range(self.random.randint(0, 1)))
         return steps

@@ -1,0 +1,116 @@
+"""A deployment, and edits of it with a choice after each, which `generate` writes over 480 declarations and over 1,920.
+
+It has interfaces, each with a class and its application-scoped bean, which has points of the two interfaces before its own
+and a method. Each tenth interface has a second class, whose bean is an alternative with a priority. The choice is one that
+no point asks for, so nothing of the deployment wants it to be known.
+"""
+
+import itertools
+
+from texts import put_block
+
+# So many interfaces are so many declarations.
+INTERFACES = {480: 150, 1920: 600}
+TENTH = 10
+# How many beans have the stereotype, where there is one.
+STEREOTYPED = 100
+# The place of what is edited again and again: no tenth one.
+EDITED = 75
+
+# How many edits a script has, and of how many the instructions are counted. The list makes a new base after so many changes.
+EDITS = 500
+MEASURED = 64
+CHOICE = "choose C3\n"
+
+
+def interface(place, *keys):
+    return put_block("type", f"I{place}", 'form = "interface"', *keys)
+
+
+def bean(place, is_furnished=False):
+    """The bean of a class. Where the deployment is furnished, some have a stereotype, and some a method with a binding."""
+    points = [f'{{ name = "at{other}", type = "I{other}" }}' for other in (place - 1, place - 2) if other >= 0]
+    bindings = ', bindings = ["Log"]' if is_furnished and place % TENTH == 0 else ""
+    keys = ['scope = "application"', "points = [" + ", ".join(points) + "]"]
+    keys += ['stereotypes = ["S"]'] * (is_furnished and place < STEREOTYPED)
+    return put_block("bean", f"C{place}", *keys, f'methods = [{{ name = "run", body = "echo"{bindings} }}]')
+
+
+def deployed(declarations, is_furnished=False):
+    """The deployment of so many declarations."""
+    for place in range(INTERFACES[declarations]):
+        implements = f'implements = ["I{place}"]'
+        yield interface(place)
+        yield put_block("type", f"C{place}", implements)
+        yield bean(place, is_furnished)
+        if place % TENTH == 0:
+            yield put_block("type", f"D{place}", implements)
+            yield put_block("bean", f"D{place}", "alternative = true", "priority = 5")
+
+
+def furnished(declarations):
+    """The same where 100 beans have a stereotype, and the method of each tenth a binding, for which there is an interceptor."""
+    yield put_block("stereotype", "S")
+    yield put_block("binding", "Log")
+    yield put_block("interceptor", "Scribe", "priority = 1", 'bindings = ["Log"]', 'around_invoke = { body = "pass" }')
+    yield from deployed(declarations, is_furnished=True)
+
+
+def with_face(declarations):
+    """The same with one more interface, which no class implements."""
+    yield put_block("type", "Face", 'form = "interface"')
+    yield from deployed(declarations)
+
+
+def equal_beans(declarations):
+    """Puts of each bean in turn as it is."""
+    return map(bean, itertools.cycle(range(INTERFACES[declarations])))
+
+
+def changed_interfaces(_):
+    """Puts of an interface that implements another, or does not."""
+    return itertools.cycle([interface(EDITED, 'implements = ["Face"]'), interface(EDITED)])
+
+
+def changed_stereotypes(_):
+    """Puts of a stereotype that gives 100 beans a name, or does not."""
+    return itertools.cycle([put_block("stereotype", "S", "named = true"), put_block("stereotype", "S")])
+
+
+def drops_and_puts(_):
+    """Drops of a bean that is chosen for two points, and puts of it."""
+    return itertools.cycle([f"drop bean C{EDITED}\n", bean(EDITED)])
+
+
+# What is edited, by the beginning of a script's name: the deployment and the edits.
+KINDS = {
+    "equal_beans": (deployed, equal_beans),
+    "changed_interfaces": (with_face, changed_interfaces),
+    "changed_stereotypes": (furnished, changed_stereotypes),
+    "drops_and_puts": (deployed, drops_and_puts),
+}
+NAMES = [f"{kind}_{declarations}" for kind in KINDS for declarations in INTERFACES]
+
+
+def begun(name):
+    """The edits that deploy what a script edits, and the further ones, without end."""
+    kind, _, declarations = name.rpartition("_")
+    deploys, edits = KINDS[kind]
+    return deploys(int(declarations)), edits(int(declarations))
+
+
+def script(name, in_batches):
+    """The commands of a script: batches of the deployment, which a function makes, a report, and edits with a choice each."""
+    deployment, edits = begun(name)
+    yield from in_batches(deployment)
+    yield "report\n"
+    for edit in itertools.islice(edits, EDITS):
+        yield edit
+        yield CHOICE
+
+
+def small_script(name, in_batches):
+    """The pieces of a small script before those that are measured, and these. In both there are as many edits, each with a choice."""
+    deployment, edits = begun(name)
+    pieces = [edit + CHOICE for edit in itertools.islice(edits, 2 * MEASURED)]
+    return [*in_batches(deployment), "report\n", *pieces[:MEASURED]], pieces[MEASURED:]
