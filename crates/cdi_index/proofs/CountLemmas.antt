@@ -63,7 +63,7 @@ pairs (e ∷ ds) distinct i j d before within =
     let first : i < length (e ∷ ds) = omega (arith, before, lt) in
     λ same. distinct i j e before lt (sym (get_or-map key_of (e ∷ ds) i e d first) ∙ same ∙ get_or-map key_of (e ∷ ds) j e d lt)
 
-keys-distinct : (ds : List Decl) → AreDistinct ds → IsDistinct same_key (map key_of ds)
+pub keys-distinct : (ds : List Decl) → AreDistinct ds → IsDistinct same_key (map key_of ds)
 keys-distinct ds distinct = IsDistinct-from_AllPairs key_decides (map key_of ds) (pairs ds distinct)
 
 found-key : (q : DeclKey) (ds : List Decl) → list_any (same_key q) (map key_of ds) ≡ is_some (find_decl q.kind q.name ds)

@@ -6,3 +6,5 @@ mod ShelfLemmas
 mod LoopLemmas
 mod NextLemmas
 mod InstallLemmas
+mod TurnLemmas
+mod ReplacedLemmas

@@ -4,7 +4,7 @@ use Rattle.std.proofs.Common.{Option, Some, None, option_map, refl, sym, ap, ◌
 use Rattle.std.specs.List.{list_any, slice_get, IsDistinct}
 use Rattle.std.specs.Map.{lookup}
 use Rattle.std.proofs.lemmas.Bool.{and_from, and_parts, or_left, false≢true, eqb-true}
-use Rattle.indexmap.specs.IndexMap.{spare}
+use Rattle.indexmap.specs.IndexMap.{get, spare}
 use Rattle.cdi_model.specs.declared.decl.Decl.{Decl}
 use Rattle.cdi_model.specs.declared.decl.Kind.{Kind}
 use Rattle.cdi_model.specs.declared.edit.Edit.{Edit}
@@ -24,6 +24,7 @@ use Rattle.cdi_index.specs.Kept.{is_reader, is_reader_among, kept_at, made_in, s
 use Rattle.cdi_index.specs.Made.{classes_have, has_word, is_kept, made_of, reads, word_of}
 use Rattle.cdi_index.specs.Next.{applied, change_of, is_made, IsNext}
 use Rattle.cdi_index.specs.declared.prepare.Next.{Next}
+use Rattle.cdi_index.specs.Replaced.{turned, AreReplaced}
 use Rattle.cdi_index.proofs.AffectedLemmas.{hits, made-stays}
 use Rattle.cdi_index.proofs.ChangeLemmas.{among-turned, any-same, applied-comes, applied-made, Anew, Before, StoredBy}
 use Rattle.cdi_index.proofs.CountLemmas.{count-changes}
@@ -31,12 +32,12 @@ use Rattle.cdi_index.proofs.ShelfLemmas.{found}
 
 -- ---- who is affected
 
-same-bool : (a b : Bool) → (a ≡ true → b ≡ true) → (b ≡ true → a ≡ true) → a ≡ b
+pub same-bool : (a b : Bool) → (a ≡ true → b ≡ true) → (b ≡ true → a ≡ true) → a ≡ b
 same-bool true b f g = sym (f refl)
 same-bool false true f g = g refl
 same-bool false false f g = refl
 
-any-elim : {X B : Type 0} (p : X → Bool) (xs : List X) → list_any p xs ≡ true → ((x : X) → p x ≡ true → B) → B
+pub any-elim : {X B : Type 0} (p : X → Bool) (xs : List X) → list_any p xs ≡ true → ((x : X) → p x ≡ true → B) → B
 any-elim {B = B} p [] e f = absurd (false≢true e)
 any-elim {B = B} p (x ∷ xs) e f = by (p x) refl e (λ more. any-elim p xs more f)
   where
@@ -44,7 +45,7 @@ any-elim {B = B} p (x ∷ xs) e f = by (p x) refl e (λ more. any-elim p xs more
     by true is h more = f x is
     by false is h more = more h
 
-any-more : {X : Type 0} (p q : X → Bool) (xs : List X) → ((x : X) → p x ≡ true → q x ≡ true) → list_any p xs ≡ true
+pub any-more : {X : Type 0} (p q : X → Bool) (xs : List X) → ((x : X) → p x ≡ true → q x ≡ true) → list_any p xs ≡ true
     → list_any q xs ≡ true
 any-more p q [] h e = e
 any-more p q (x ∷ xs) h e = by (p x) refl e (any-more p q xs h)
@@ -206,8 +207,10 @@ module _ (ds eds : List Decl) (edits : List Edit) (ekeys ks slice : List DeclKey
     exact-new = exact-same old new slots kept ds exact
 
     pub prepared : IsFreeFrom next.first old → next.first + length next.changes.items < 2 ^ 64
-        → length next.changes.items ≤ spare new.slots → length next.changes.items ≤ spare new.kept → IsNext new more next
-    prepared free numbers room_slots room_kept = record {
+        → length next.changes.items ≤ spare new.slots → length next.changes.items ≤ spare new.kept
+        → AreReplaced next.decls (turned next.turns.items (get same_key new.replaced)) → length next.turns.items ≤ spare new.replaced
+        → IsNext new more next
+    prepared free numbers room_slots room_kept turns room_turns = record {
       exact = λ k. ap (λ cs. made_in (applied next.first cs (stored new) k)) changed
           ∙ exact-next ds edits ks (stored new) next.first listings more exact-new sound-old keeps all-hits listed-new k
           ∙ ap (λ d. made_of d k) (sym (decls ∙ made));
@@ -217,6 +220,8 @@ module _ (ds eds : List Decl) (edits : List Edit) (ekeys ks slice : List DeclKey
       numbers = numbers;
       slots = room_slots;
       kept = room_kept;
+      turned = turns;
+      replaced = room_turns;
     }
       where
         sound-old : IsSound (stored new) listings

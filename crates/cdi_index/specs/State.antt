@@ -11,6 +11,9 @@ use Rattle.cdi_index.specs.declared.prepare.Next.{Next}
 use Rattle.cdi_index.specs.declared.shelf.Shelf.{Shelf}
 use Rattle.cdi_index.specs.Kept.{stored, IsExact, IsFreeFrom, IsShelf, IsSound}
 use Rattle.cdi_index.specs.Next.{IsNext}
+use Rattle.cdi_index.specs.Replaced.{AreReplaced}
+use Rattle.indexmap.specs.IndexMap.{get}
+use Rattle.cdi_model.specs.DeclKey.{same_key}
 
 -- ---- drafts
 
@@ -82,4 +85,5 @@ pub record IsIndex (ds : List Decl) (shelf : Shelf) (listings : List Listing) (n
   pub free : IsFreeFrom shelf.given shelf
   pub exact : IsExact ds (stored shelf)
   pub sound : IsSound (stored shelf) listings
+  pub replaced : AreReplaced ds (get same_key shelf.replaced)
   pub staged : MayBeNext shelf listings next

@@ -6,6 +6,7 @@ use crate::counts::Counts;
 use crate::draft::Draft;
 use crate::install::install;
 use crate::prepare::{Next, prepare};
+use crate::replaced::install_turns;
 use crate::shelf::Shelf;
 use cdi_model::Decls;
 use cdi_postings::Postings;
@@ -104,6 +105,7 @@ impl Index {
                 next.first,
                 next.changes,
             );
+            install_turns(&mut self.shelf.replaced, next.turns);
             self.decls = next.decls;
             self.counts = next.counts;
         }

@@ -40,6 +40,7 @@ fn install_one(shelf: &mut Shelf, postings: &mut Postings, slot: u64, change: Ch
     ensures stored { (k : _) → stored shelf.new k ≡ cond (same_key change.key k) (stored_as slot change) (stored shelf.old k) }
     ensures others { (s : _) (e : _) → kept_at shelf.new s ≡ Some e → (s ≡ slot) ⊎ (kept_at shelf.old s ≡ Some e) }
     ensures given { shelf.new.given ≡ shelf.old.given }
+    ensures replaced { shelf.new.replaced ≡ shelf.old.replaced }
     ensures slots { spare shelf.old.slots ≤ spare shelf.new.slots + 1 }
     ensures kept { spare shelf.old.kept ≤ spare shelf.new.kept + 1 }
     ensures listed { (w : _) (s : _) → option_map (λ m. m.0) (stored shelf.old change.key) ≢ Some s
@@ -71,6 +72,7 @@ pub(crate) fn install(
     ensures shelf { IsShelf shelf.new }
     ensures free { IsFreeFrom (first + length changes.items) shelf.new }
     ensures given { shelf.new.given ≡ shelf.old.given }
+    ensures replaced { shelf.new.replaced ≡ shelf.old.replaced }
     ensures stored { (k : _) → stored shelf.new k ≡ applied first changes.items (stored shelf.old) k }
     ensures sound { IsSound (stored shelf.new) postings.new }
 {

@@ -10,6 +10,7 @@ mod install;
 mod making;
 mod next_types;
 mod prepare;
+mod replaced;
 mod shelf;
 
 pub use counts::Counts;

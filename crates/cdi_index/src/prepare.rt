@@ -4,12 +4,16 @@ ghost use Rattle.cdi_model.specs.declared.decl.Kind.TheVariants as kinds;
 ghost use Rattle.cdi_index.specs.Counted.{counted, raised};
 ghost use Rattle.cdi_index.specs.Kept.{stored, Keeps, IsExact, IsFreeFrom, IsShelf, IsSound};
 ghost use Rattle.cdi_index.specs.Next.{is_made, IsNext};
+ghost use Rattle.cdi_index.specs.Replaced.{AreReplaced};
 ghost use Rattle.cdi_index.specs.State.{IsEdited};
+ghost use Rattle.indexmap.specs.IndexMap.{get};
+ghost use Rattle.cdi_model.specs.DeclKey.{same_key};
 
 use crate::affected::affected_by;
 use crate::change::{Change, change_affected, count_made};
 use crate::counts::Counts;
 use crate::draft::Draft;
+use crate::replaced::{Turn, turn_all};
 use crate::shelf::Shelf;
 use cdi_model::{Decls, Kind};
 use cdi_postings::Postings;
@@ -22,6 +26,7 @@ pub(crate) struct Next {
     /// The slot of the first change. Those of the others follow.
     pub(crate) first: u64,
     pub(crate) changes: Vec<Change>,
+    pub(crate) turns: Vec<Turn>,
     pub(crate) counts: Counts,
 }
 
@@ -55,23 +60,29 @@ pub(crate) fn prepare(
     requires free { IsFreeFrom shelf.old.given shelf.old }
     requires exact { IsExact decls.now (stored shelf.old) }
     requires sound { IsSound (stored shelf.old) postings.old }
+    requires replaced { AreReplaced decls.now (get same_key shelf.old.replaced) }
     ensures slots { shelf.new.slots.entries ≡ shelf.old.slots.entries }
     ensures kept { shelf.new.kept.entries ≡ shelf.old.kept.entries }
     ensures given { shelf.new.given ≡ shelf.old.given }
+    ensures replaced { shelf.new.replaced.entries ≡ shelf.old.replaced.entries }
     ensures keeps { Keeps postings.old postings.new }
     ensures decls { IfOk result (λ next. next.decls ≡ draft.decls) }
     ensures counts { IfOk result (λ next. next.counts ≡ counted counts decls.now draft.decls draft.keys) }
     ensures next { IfOk result (λ next. IsNext shelf.new postings.new next) }
 {
     // No effect at run time. The proof reads here that no two declarations have one kind and name.
+    let _ = decls.iter();
     let _ = draft.decls.iter();
     let affected = affected_by(alloc, shelf, postings, draft.keys.as_slice())?;
     shelf.reserve(affected.len())?;
     let changes = change_affected(alloc, &draft.decls, shelf, &affected, postings)?;
+    let turns = turn_all(alloc, shelf, postings, &affected, changes.as_slice())?;
+    shelf.replaced.reserve(turns.len())?;
     Ok(Next {
         counts: counts.after(changes.as_slice()),
         decls: draft.decls,
         first: shelf.given,
         changes,
+        turns,
     })
 }

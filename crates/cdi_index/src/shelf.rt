@@ -1,12 +1,13 @@
 //! What is kept of declarations, by slots.
 ghost use Rattle.std.specs.Prelude.{◌≡◌, ◌≤◌, ◌<◌, ◌+◌, ◌⊎◌, ◌^◌, Some, None, cond, OnOk};
 ghost use Rattle.std.specs.Option.{option_copied};
-ghost use Rattle.indexmap.specs.IndexMap.{spare};
+ghost use Rattle.indexmap.specs.IndexMap.{get, spare};
 ghost use Rattle.cdi_model.specs.DeclKey.{same_key};
 ghost use Rattle.cdi_index.specs.Kept.{kept_at, made_in, slot_of, stored, IsShelf};
 
 use crate::making::Made;
-use cdi_model::DeclKey;
+use cdi_effective::Effective;
+use cdi_model::{DeclKey, Seq};
 use indexmap::IndexMap;
 use std::alloc::{AllocError, Global};
 
@@ -25,6 +26,8 @@ pub(crate) struct Shelf {
     pub(crate) kept: IndexMap<u64, Kept>,
     /// How many slots were given.
     pub(crate) given: u64,
+    /// The records of the beans that others replace.
+    pub(crate) replaced: IndexMap<DeclKey, Seq<Effective>>,
 }
 
 impl Shelf {
@@ -33,11 +36,13 @@ impl Shelf {
         ensures shelf { IsShelf result }
         ensures empty { (k : _) → stored result k ≡ None }
         ensures free { (s : _) → kept_at result s ≡ None }
+        ensures replaced { (k : _) → get same_key result.replaced k ≡ None }
     {
         Shelf {
             slots: IndexMap::new(alloc),
             kept: IndexMap::new(alloc),
             given: 0,
+            replaced: IndexMap::new(alloc),
         }
     }
 
@@ -55,6 +60,7 @@ impl Shelf {
         ensures entries { self.new.slots.entries ≡ self.old.slots.entries }
         ensures others { self.new.kept.entries ≡ self.old.kept.entries }
         ensures given { self.new.given ≡ self.old.given }
+        ensures replaced { self.new.replaced ≡ self.old.replaced }
         ensures numbers { OnOk result (self.new.given + more < 2 ^ 64) }
         ensures slots { OnOk result (more ≤ spare self.new.slots) }
         ensures kept { OnOk result (more ≤ spare self.new.kept) }
@@ -76,6 +82,7 @@ impl Shelf {
         ensures gone { slot_of self.new key.now ≡ None }
         ensures others { (s : _) (e : _) → kept_at self.new s ≡ Some e → kept_at self.old s ≡ Some e }
         ensures given { self.new.given ≡ self.old.given }
+        ensures replaced { self.new.replaced ≡ self.old.replaced }
         ensures slots { spare self.old.slots ≤ spare self.new.slots }
         ensures kept { spare self.old.kept ≤ spare self.new.kept }
     {
@@ -95,6 +102,7 @@ impl Shelf {
         ensures stored { (k : _) → stored self.new k ≡ cond (same_key key.now k) (Some (slot, made)) (stored self.old k) }
         ensures others { (s : _) (e : _) → kept_at self.new s ≡ Some e → (s ≡ slot) ⊎ (kept_at self.old s ≡ Some e) }
         ensures given { self.new.given ≡ self.old.given }
+        ensures replaced { self.new.replaced ≡ self.old.replaced }
         ensures slots { spare self.old.slots ≤ spare self.new.slots + 1 }
         ensures kept { spare self.old.kept ≤ spare self.new.kept + 1 }
     {

@@ -7,7 +7,14 @@ use Rattle.std.proofs.lemmas.List.{length-map}
 use Rattle.cdi_index.specs.Counted.{raised}
 use Rattle.cdi_index.specs.Next.{change_of}
 use Rattle.cdi_index.specs.State.{Drafted}
-use Rattle.cdi_index.proofs.NextLemmas.{counted, kept-of-others, prepared}
+use Rattle.std.specs.Map.{lookup}
+use Rattle.std.proofs.Common.{cond}
+use Rattle.indexmap.specs.IndexMap.{get}
+use Rattle.cdi_model.specs.DeclKey.{same_key}
+use Rattle.cdi_index.specs.declared.shelf.Shelf.{Shelf}
+use Rattle.cdi_index.specs.Replaced.{is_at_stake, records_after, turned}
+use Rattle.cdi_index.proofs.NextLemmas.{counted, exact-same, kept-of-others, prepared, shelf-same, sound-same}
+use Rattle.cdi_index.proofs.ReplacedLemmas.{turned-are}
 use Rattle.cdi_index.proofs.prepare.prepare.Goals as goal
 
 pub change_affected-requires-clause-kept : goal.change_affected-requires-clause-kept
@@ -24,31 +31,39 @@ returns-clause-counts c =
     let decls : c.draft.inside.decls ≡ c.args.draft.decls = ap (λ (d : Drafted). d.decls) c.draft.view_is in
     let keys : c.as_slice.result.now ≡ c.args.draft.keys = c.as_slice.ensures.value ∙ ap (λ (d : Drafted). d.keys) c.draft.view_is in
     let changes = c.in_ok-changes.ensures.changes ∙ ap (λ d. map (change_of d) c.in_ok-affected.affected.keys) decls in
-    let distinct = subst AreDistinct decls c.iter.ensures.distinct in
+    let distinct = subst AreDistinct decls c.iter-2.ensures.distinct in
     let closures = c.after.ensures.closures
     ∙ ap (raised c.args.counts.closures) (counted c.args.decls.now c.args.draft.decls c.requires.edited.edits c.args.draft.keys
     c.in_ok-affected.affected.keys c.in_ok-affected.affected.keys c.args.shelf.now c.reserve.new.self c.args.postings.now c.change_affected.new.postings
     c.requires.shelf c.requires.exact c.requires.sound c.requires.edited.decls c.requires.edited.keys
     (λ k. c.in_ok-affected.ensures k ∙ ap (list_any (touches c.args.shelf.now c.args.postings.now k)) keys)
-    refl kinds.Type refl c.in_ok-changes.changes.items c.as_slice-2.result.now _ distinct c.len.ensures.unique
-    c.as_slice-2.ensures.value changes refl) in
+    refl kinds.Type refl c.in_ok-changes.changes.items c.as_slice-3.result.now _ distinct c.len.ensures.unique
+    c.as_slice-3.ensures.value changes refl) in
     let beans = c.after.ensures.beans
     ∙ ap (raised c.args.counts.beans) (counted c.args.decls.now c.args.draft.decls c.requires.edited.edits c.args.draft.keys
     c.in_ok-affected.affected.keys c.in_ok-affected.affected.keys c.args.shelf.now c.reserve.new.self c.args.postings.now c.change_affected.new.postings
     c.requires.shelf c.requires.exact c.requires.sound c.requires.edited.decls c.requires.edited.keys
     (λ k. c.in_ok-affected.ensures k ∙ ap (list_any (touches c.args.shelf.now c.args.postings.now k)) keys)
-    refl kinds.Bean refl c.in_ok-changes.changes.items c.as_slice-2.result.now _ distinct c.len.ensures.unique
-    c.as_slice-2.ensures.value changes refl) in
+    refl kinds.Bean refl c.in_ok-changes.changes.items c.as_slice-3.result.now _ distinct c.len.ensures.unique
+    c.as_slice-3.ensures.value changes refl) in
     λ i. record { closures = closures i; beans = beans i }
 
 pub returns-clause-next : goal.returns-clause-next
 returns-clause-next c =
+    let new : Shelf = record {
+      slots = c.reserve.new.self.slots;
+      kept = c.reserve.new.self.kept;
+      given = c.reserve.new.self.given;
+      replaced = c.reserve-2.new.self;
+    } in
+    let ks = c.in_ok-affected.affected.keys in
+    let more = c.change_affected.new.postings in
     let decls : c.draft.inside.decls ≡ c.args.draft.decls = ap (λ (d : Drafted). d.decls) c.draft.view_is in
     let keys : c.as_slice.result.now ≡ c.args.draft.keys = c.as_slice.ensures.value ∙ ap (λ (d : Drafted). d.keys) c.draft.view_is in
     let many : length c.in_ok-changes.changes.items ≡ c.len.result = ap length c.in_ok-changes.ensures.changes
     ∙ length-map c.in_ok-affected.affected.keys (change_of c.draft.inside.decls) ∙ sym c.len.ensures.len in
     prepared c.args.decls.now c.draft.inside.decls c.requires.edited.edits c.as_slice.result.now c.in_ok-affected.affected.keys
-    c.in_ok-affected.affected.keys c.args.shelf.now c.reserve.new.self c.args.postings.now c.change_affected.new.postings c.requires.shelf
+    c.in_ok-affected.affected.keys c.args.shelf.now new c.args.postings.now c.change_affected.new.postings c.requires.shelf
     c.requires.exact c.requires.sound (decls ∙ c.requires.edited.decls) (keys ∙ c.requires.edited.keys) c.in_ok-affected.ensures
     refl c.reserve.ensures.entries c.reserve.ensures.others c.change_affected.ensures.kept _ refl
     c.in_ok-changes.ensures.changes c.in_ok-changes.ensures.listed
@@ -56,3 +71,20 @@ returns-clause-next c =
     (omega (arith, c.in_ok-reserve.ensures.numbers, many))
     (omega (arith, c.in_ok-reserve.ensures.slots, many))
     (omega (arith, c.in_ok-reserve.ensures.kept, many))
+    (turned-are c.args.decls.now c.draft.inside.decls ks c.reserve.new.self more c.iter.ensures.distinct c.iter-2.ensures.distinct
+    (shelf-same c.args.shelf.now c.reserve.new.self c.reserve.ensures.entries c.reserve.ensures.others c.requires.shelf)
+    (exact-same c.args.shelf.now c.reserve.new.self c.reserve.ensures.entries c.reserve.ensures.others c.args.decls.now c.requires.exact)
+    (sound-same c.args.shelf.now c.reserve.new.self c.reserve.ensures.entries c.reserve.ensures.others c.args.postings.now more
+    c.change_affected.ensures.kept c.requires.sound)
+    (λ k none. sym (kept-of-others c.args.decls.now c.draft.inside.decls c.requires.edited.edits c.as_slice.result.now ks ks c.args.shelf.now
+    c.reserve.new.self c.args.postings.now c.args.postings.now c.requires.shelf c.requires.exact c.requires.sound
+    (decls ∙ c.requires.edited.decls) (keys ∙ c.requires.edited.keys) c.in_ok-affected.ensures refl c.reserve.ensures.entries
+    c.reserve.ensures.others k none)
+    ∙ exact-same c.args.shelf.now c.reserve.new.self c.reserve.ensures.entries c.reserve.ensures.others c.args.decls.now c.requires.exact k)
+    (get same_key c.reserve-2.new.self) (turned c.in_ok-turns.turns.items (get same_key c.reserve-2.new.self))
+    (λ k. ap (lookup (same_key k)) (c.reserve-2.ensures.entries ∙ ap (λ m. m.entries) c.reserve.ensures.replaced)
+    ∙ c.requires.replaced k)
+    (λ k. c.in_ok-turns.ensures (get same_key c.reserve-2.new.self) k
+    ∙ ap (λ cs. cond (is_at_stake c.reserve.new.self cs k) (records_after c.reserve.new.self more ks cs k) (get same_key c.reserve-2.new.self k))
+    (c.as_slice-2.ensures.value ∙ c.in_ok-changes.ensures.changes)))
+    (omega (arith, c.in_ok-reserve-2.ensures.ok, c.len-2.ensures, c.in_ok-turns.turns.ok.0))

@@ -1,5 +1,7 @@
 use Rattle.cdi_index.proofs.NextLemmas.{exact-same, free-same, shelf-same, sound-same}
-use Rattle.std.proofs.Common.{arith}
+use Rattle.std.proofs.Common.{arith, ap, ◌∙◌}
+use Rattle.std.specs.Map.{lookup}
+use Rattle.cdi_model.specs.DeclKey.{same_key}
 use Rattle.cdi_index.proofs.index.Index.stage.Goals as goal
 
 pub invariant_of-self : goal.invariant_of-self
@@ -16,6 +18,7 @@ invariant_of-self c =
       exact = exact-same old new c.prepare.ensures.slots c.prepare.ensures.kept c.self.inside.decls c.self.invariant.exact;
       sound = sound-same old new c.prepare.ensures.slots c.prepare.ensures.kept c.self.inside.postings c.prepare.new.postings
           c.prepare.ensures.keeps c.self.invariant.sound;
+      replaced = λ k. ap (lookup (same_key k)) c.prepare.ensures.replaced ∙ c.self.invariant.replaced k;
       staged = tt;
     }
 
@@ -33,5 +36,6 @@ invariant_of-self-2 c =
       exact = exact-same old new c.prepare.ensures.slots c.prepare.ensures.kept c.self.inside.decls c.self.invariant.exact;
       sound = sound-same old new c.prepare.ensures.slots c.prepare.ensures.kept c.self.inside.postings c.prepare.new.postings
           c.prepare.ensures.keeps c.self.invariant.sound;
+      replaced = λ k. ap (lookup (same_key k)) c.prepare.ensures.replaced ∙ c.self.invariant.replaced k;
       staged = c.in_ok-next.ensures.next;
     }

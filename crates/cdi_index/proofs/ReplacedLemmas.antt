@@ -1,0 +1,330 @@
+-- Which beans are replaced after changes.
+use Rattle.std.proofs.Common.{◌≡◌, ℕ, nat_eq, Bool, true, false, cond, not, ◌||◌, List, [], ◌∷◌, map, Option, Some, None, option_map}
+use Rattle.std.proofs.Common.{refl, sym, ap, ◌∙◌, inl, inr}
+use Rattle.std.specs.List.{list_any, AllByRecursion, IsDistinct}
+use Rattle.std.specs.Str.{bytes_eq}
+use Rattle.std.proofs.lemmas.Bool.{and_from, and_parts, or_left, or_right, or_cases, false≢true, eqb-true}
+use Rattle.cdi_model.specs.declared.decl.Decl.{Decl}
+use Rattle.cdi_model.specs.declared.decl.Decl.TheVariants as decls
+use Rattle.cdi_model.specs.declared.decl.Kind.{Kind}
+use Rattle.cdi_model.specs.declared.decl.Kind.TheVariants as kinds
+use Rattle.cdi_model.specs.declared.key.DeclKey.{DeclKey}
+use Rattle.cdi_model.specs.Decl.{key_of, kind_of, name_of_decl}
+use Rattle.cdi_model.specs.DeclKey.{key_at, same_key, same_key_equiv}
+use Rattle.cdi_model.specs.DeclList.{find_decl, is_of, AreDistinct}
+use Rattle.cdi_model.specs.Edits.{is_among}
+use Rattle.cdi_model.proofs.EntryLemmas.{key_exact}
+use Rattle.cdi_match.specs.Chain.{has}
+use Rattle.cdi_effective.specs.Disposers.{as_bean}
+use Rattle.cdi_effective.specs.Specialized.{is_replaced, replaced_by}
+use Rattle.cdi_effective.specs.declared.records.Effective.{Effective}
+use Rattle.cdi_postings.specs.declared.word.Reason.TheVariants as reasons
+use Rattle.cdi_postings.specs.Listing.{Listing, under}
+use Rattle.cdi_postings.specs.Words.{same_word, word_at, same_word_equiv}
+use Rattle.cdi_index.specs.declared.change.Change.{Change}
+use Rattle.cdi_index.specs.declared.making.Made.{Made}
+use Rattle.cdi_index.specs.declared.shelf.Kept.{Kept}
+use Rattle.cdi_index.specs.declared.shelf.Shelf.{Shelf}
+use Rattle.cdi_index.specs.Kept.{kept_at, made_in, slot_of, stored, stored_at, IsExact, IsShelf, IsSound, Stored}
+use Rattle.cdi_index.specs.Made.{classes_have, has_word, keys_have, made_of, made_of_bean, made_of_type, replaces_in}
+use Rattle.cdi_index.specs.Next.{change_of}
+use Rattle.cdi_index.specs.Replaced.{disabled, AreReplaced, is_at_stake, is_other, is_replaced_after, is_replaced_anew, is_replaced_key, is_replaced_of, is_replaced_still, made_after, records_after, replaced_records, replaces, stakes}
+use Rattle.cdi_index.proofs.CountLemmas.{keys-distinct}
+use Rattle.cdi_index.proofs.NextLemmas.{any-elim, any-more, same-bool}
+use Rattle.cdi_index.proofs.ShelfLemmas.{found}
+
+-- ---- a bean is replaced by one of which something is made
+
+-- one of some declarations that passes a test, as it is found by its key
+pub record Passing (p : Decl → Bool) (ds : List Decl) : Type 0 where
+  pub one : Decl
+  pub there : find_decl (kind_of one) (name_of_decl one) ds ≡ Some one
+  pub passes : p one ≡ true
+
+apart-found : (k : DeclKey) (kind : Kind) (name : List ℕ) (ds : List Decl) (e : Decl)
+    → AllByRecursion (λ l. same_key k l ≡ false) (map key_of ds) → find_decl kind name ds ≡ Some e → same_key k (key_of e) ≡ false
+apart-found k kind name [] e apart f = absurd (let none : None ≡ Some e = f in cc)
+apart-found k kind name (d ∷ ds) e apart f = by (is_of kind name d) f (apart-found k kind name ds e apart.1)
+  where
+    by : (b : Bool) → cond b (Some d) (find_decl kind name ds) ≡ Some e → (find_decl kind name ds ≡ Some e → same_key k (key_of e) ≡ false)
+        → same_key k (key_of e) ≡ false
+    by true g more = let one : Some d ≡ Some e = g in let same : d ≡ e = cc in ap (λ x. same_key k (key_of x)) (sym same) ∙ apart.0
+    by false g more = more g
+
+passing : (p : Decl → Bool) (ds : List Decl) → IsDistinct same_key (map key_of ds) → list_any p ds ≡ true → Passing p ds
+unfolding IsDistinct
+passing p [] distinct e = absurd (false≢true e)
+passing p (d ∷ ds) distinct e = by (p d) refl e (λ more. passing p ds distinct.1 more)
+  where
+    by : (b : Bool) → p d ≡ b → (b || list_any p ds) ≡ true → (list_any p ds ≡ true → Passing p ds) → Passing p (d ∷ ds)
+    by true is f more = record {
+      one = d;
+      there = ap (λ b. cond b (Some d) (find_decl (kind_of d) (name_of_decl d) ds)) (same_key_equiv.refl (key_of d));
+      passes = is;
+    }
+    by false is f more =
+        let it = more f in
+        record {
+          one = it.one;
+          there = ap (λ b. cond b (Some d) (find_decl (kind_of it.one) (name_of_decl it.one) ds))
+              (same_key_equiv.symm (key_of it.one) (key_of d)
+              ∙ apart-found (key_of d) (kind_of it.one) (name_of_decl it.one) ds it.one distinct.0 it.there) ∙ it.there;
+          passes = it.passes;
+        }
+
+any-at : (p : Decl → Bool) (kind : Kind) (name : List ℕ) (ds : List Decl) (e : Decl) → find_decl kind name ds ≡ Some e → p e ≡ true
+    → list_any p ds ≡ true
+any-at p kind name [] e f h = absurd (let none : None ≡ Some e = f in cc)
+any-at p kind name (d ∷ ds) e f h = by (is_of kind name d) f (λ g. any-at p kind name ds e g h)
+  where
+    by : (b : Bool) → cond b (Some d) (find_decl kind name ds) ≡ Some e → (find_decl kind name ds ≡ Some e → list_any p ds ≡ true)
+        → list_any p (d ∷ ds) ≡ true
+    by true g more =
+        let one : Some d ≡ Some e = g in
+        let same : d ≡ e = cc in
+        or_left (p d) (list_any p ds) (ap p same ∙ h)
+    by false g more = or_right (p d) (list_any p ds) (more g)
+
+among-beans : (classes : List (List ℕ)) (name : List ℕ) → is_among (map (key_at kinds.Bean) classes) (key_at kinds.Bean name) ≡ has classes name
+among-beans [] name = refl
+among-beans (c ∷ classes) name = ap (λ b. bytes_eq c name || b) (among-beans classes name)
+
+-- what is made of some declaration replaces the bean of the key
+pub record IsBy (ds : List Decl) (k : DeclKey) : Type 0 where
+  pub by : DeclKey
+  pub replaces : replaces (made_of ds by) k ≡ true
+
+by-of : (ds : List Decl) (name : List ℕ) (d : Decl) → find_decl (kind_of d) (name_of_decl d) ds ≡ Some d
+    → has (replaced_by ds d) name ≡ true → IsBy ds (key_at kinds.Bean name)
+unfolding replaced_by
+by-of ds name (decls.Bean b) there h = record {
+  by = key_at kinds.Bean b.name;
+  replaces = ap (λ o. replaces (option_map (made_of_bean ds) (as_bean o)) (key_at kinds.Bean name)) there
+      ∙ among-beans (replaced_by ds (decls.Bean b)) name ∙ h;
+}
+by-of ds name (decls.Type b) there h = absurd (false≢true h)
+by-of ds name (decls.Qualifier b) there h = absurd (false≢true h)
+by-of ds name (decls.Binding b) there h = absurd (false≢true h)
+by-of ds name (decls.Stereotype b) there h = absurd (false≢true h)
+by-of ds name (decls.Interceptor b) there h = absurd (false≢true h)
+
+-- where a bean is replaced it is so by one of which this is made
+pub replaced-by : (ds : List Decl) → AreDistinct ds → (k : DeclKey) → is_replaced_key ds k ≡ true → IsBy ds k
+unfolding is_replaced
+replaced-by ds distinct k h = by k.kind k.name h
+  where
+    by : (kind : Kind) (name : List ℕ) → is_replaced_of kind name ds ≡ true → IsBy ds (key_at kind name)
+    by kinds.Bean name h =
+        let it = passing (λ d. has (replaced_by ds d) name) ds (keys-distinct ds distinct) h in
+        by-of ds name it.one it.there it.passes
+    by kinds.Type name h = absurd (false≢true h)
+    by kinds.Qualifier name h = absurd (false≢true h)
+    by kinds.Binding name h = absurd (false≢true h)
+    by kinds.Stereotype name h = absurd (false≢true h)
+    by kinds.Interceptor name h = absurd (false≢true h)
+
+no-bean : (classes : List (List ℕ)) (kind : Kind) (name : List ℕ) → ((other : List ℕ) → same_key (key_at kinds.Bean other) (key_at kind name) ≡ false)
+    → is_among (map (key_at kinds.Bean) classes) (key_at kind name) ≡ true → ⊥
+no-bean [] kind name h e = false≢true e
+no-bean (c ∷ classes) kind name h e = no-bean classes kind name h
+    (sym (ap (λ b. b || is_among (map (key_at kinds.Bean) classes) (key_at kind name)) (h c)) ∙ e)
+
+-- and where one of which this is made replaces it, it is replaced
+pub is-replaced : (ds : List Decl) (a k : DeclKey) → replaces (made_of ds a) k ≡ true → is_replaced_key ds k ≡ true
+unfolding is_replaced
+is-replaced ds a k h = by k.kind k.name h
+  where
+    of_bean : (n name : List ℕ) (o : Option Decl) → find_decl kinds.Bean n ds ≡ o
+        → replaces (option_map (made_of_bean ds) (as_bean o)) (key_at kinds.Bean name) ≡ true → is_replaced ds name ≡ true
+    of_bean n name None at h = absurd (false≢true h)
+    of_bean n name (Some (decls.Bean b)) at h = any-at (λ d. has (replaced_by ds d) name) kinds.Bean n ds (decls.Bean b) at
+        (sym (among-beans (replaced_by ds (decls.Bean b)) name) ∙ h)
+    of_bean n name (Some (decls.Type b)) at h = absurd (false≢true h)
+    of_bean n name (Some (decls.Qualifier b)) at h = absurd (false≢true h)
+    of_bean n name (Some (decls.Binding b)) at h = absurd (false≢true h)
+    of_bean n name (Some (decls.Stereotype b)) at h = absurd (false≢true h)
+    of_bean n name (Some (decls.Interceptor b)) at h = absurd (false≢true h)
+
+    of_type : (n : List ℕ) (o : Option Decl) (name : List ℕ)
+        → replaces (option_map (λ d. made_of_type ds n) o) (key_at kinds.Bean name) ≡ true → ⊥
+    of_type n None name h = false≢true h
+    of_type n (Some d) name h = false≢true h
+
+    at_kind : (kind : Kind) (n name : List ℕ) → replaces (made_of ds (key_at kind n)) (key_at kinds.Bean name) ≡ true → is_replaced ds name ≡ true
+    at_kind kinds.Bean n name h = of_bean n name (find_decl kinds.Bean n ds) refl h
+    at_kind kinds.Type n name h = absurd (of_type n (find_decl kinds.Type n ds) name h)
+    at_kind kinds.Qualifier n name h = absurd (false≢true h)
+    at_kind kinds.Binding n name h = absurd (false≢true h)
+    at_kind kinds.Stereotype n name h = absurd (false≢true h)
+    at_kind kinds.Interceptor n name h = absurd (false≢true h)
+
+    by : (kind : Kind) (name : List ℕ) → replaces (made_of ds a) (key_at kind name) ≡ true → is_replaced_of kind name ds ≡ true
+    by kinds.Bean name h = at_kind a.kind a.name name h
+    by kinds.Type name h = absurd (no-bean (replaces_in (made_of ds a)) kinds.Type name (λ other. refl) h)
+    by kinds.Qualifier name h = absurd (no-bean (replaces_in (made_of ds a)) kinds.Qualifier name (λ other. refl) h)
+    by kinds.Binding name h = absurd (no-bean (replaces_in (made_of ds a)) kinds.Binding name (λ other. refl) h)
+    by kinds.Stereotype name h = absurd (no-bean (replaces_in (made_of ds a)) kinds.Stereotype name (λ other. refl) h)
+    by kinds.Interceptor name h = absurd (no-bean (replaces_in (made_of ds a)) kinds.Interceptor name (λ other. refl) h)
+
+-- ---- after changes
+
+-- a bean that is replaced by what is made is among its words
+word-of-replaced : (made : Made) (k : DeclKey) → replaces (Some made) k ≡ true
+    → has_word (Some made) (word_at reasons.Replaces k.name) ≡ true
+word-of-replaced made k h = or_right (keys_have made.reads (word_at reasons.Replaces k.name)) (classes_have made.replaces (word_at reasons.Replaces k.name))
+    (by made.replaces h)
+  where
+    by : (classes : List (List ℕ)) → is_among (map (key_at kinds.Bean) classes) k ≡ true → classes_have classes (word_at reasons.Replaces k.name) ≡ true
+    by [] e = absurd (false≢true e)
+    by (c ∷ classes) e = elim (or_cases (same_key (key_at kinds.Bean c) k) (is_among (map (key_at kinds.Bean) classes) k) e) [
+      | inl here ↦ or_left (same_word (word_at reasons.Replaces c) (word_at reasons.Replaces k.name)) (classes_have classes (word_at reasons.Replaces k.name))
+          (ap (λ (x : DeclKey). same_word (word_at reasons.Replaces c) (word_at reasons.Replaces x.name)) (sym (key_exact (key_at kinds.Bean c) k here))
+          ∙ same_word_equiv.refl (word_at reasons.Replaces c))
+      | inr later ↦ or_right (same_word (word_at reasons.Replaces c) (word_at reasons.Replaces k.name)) (classes_have classes (word_at reasons.Replaces k.name))
+          (by classes later)
+    ]
+
+made-after : (es : List Decl) (ks : List DeclKey) (before : Option Made) (k : DeclKey)
+    → made_after (map (change_of es) ks) before k ≡ cond (list_any (same_key k) ks) (made_of es k) before
+made-after es [] before k = refl
+made-after es (l ∷ ks) before k = by (same_key l k) refl (made-after es ks before k)
+  where
+    by : (b : Bool) → same_key l k ≡ b → made_after (map (change_of es) ks) before k ≡ cond (list_any (same_key k) ks) (made_of es k) before
+        → cond b (made_of es l) (made_after (map (change_of es) ks) before k) ≡ cond (same_key k l || list_any (same_key k) ks) (made_of es k) before
+    by true e more = ap (made_of es) (key_exact l k e)
+        ∙ ap (λ c. cond (c || list_any (same_key k) ks) (made_of es k) before) (sym (same_key_equiv.symm k l ∙ e))
+    by false e more = more ∙ ap (λ c. cond (c || list_any (same_key k) ks) (made_of es k) before) (sym (same_key_equiv.symm k l ∙ e))
+
+any-map : {X Y : Type 0} (p : Y → Bool) (f : X → Y) (xs : List X) → list_any p (map f xs) ≡ list_any (λ x. p (f x)) xs
+any-map p f [] = refl
+any-map p f (x ∷ xs) = ap (λ b. p (f x) || b) (any-map p f xs)
+
+any-key : (p : DeclKey → Bool) (ks : List DeclKey) (k : DeclKey) → list_any (same_key k) ks ≡ true → p k ≡ true → list_any p ks ≡ true
+any-key p ks k among h = any-more (same_key k) p ks (λ l same. ap p (sym (key_exact k l same)) ∙ h) among
+
+none-any : {X : Type 0} (p : X → Bool) (xs : List X) (x : X) (q : X → Bool) → list_any p xs ≡ false → list_any q xs ≡ true
+    → ((y : X) → q y ≡ true → p y ≡ true) → ⊥
+none-any p xs x q none some h = false≢true (sym none ∙ any-more q p xs h some)
+
+module _ (ds es : List Decl) (ks : List DeclKey) (shelf : Shelf) (listings : List Listing) (distinct : AreDistinct ds) (apart : AreDistinct es)
+    (is : IsShelf shelf) (exact : IsExact ds (stored shelf)) (sound : IsSound (stored shelf) listings)
+    (others : (k : DeclKey) → list_any (same_key k) ks ≡ false → made_of es k ≡ made_of ds k) where
+  abbrev changes : List Change
+  changes = map (change_of es) ks
+
+  abbrev word_slots : DeclKey → List ℕ
+  word_slots k = under listings (word_at reasons.Replaces k.name)
+
+  anew-is : (k : DeclKey) → is_replaced_anew changes k ≡ list_any (λ a. replaces (made_of es a) k) ks
+  anew-is k = any-map (λ c. replaces c.made k) (change_of es) ks
+
+  -- who is found replaced is replaced
+  found-replaced : (k : DeclKey) → is_replaced_after shelf listings ks changes k ≡ true → is_replaced_key es k ≡ true
+  found-replaced k h = elim (or_cases (is_replaced_anew changes k) (is_replaced_still shelf ks (word_slots k) k) h) [
+    | inl anew ↦ any-elim (λ a. replaces (made_of es a) k) ks (sym (anew-is k) ∙ anew) (λ a r. is-replaced es a k r)
+    | inr still ↦ any-elim (λ s. is_other ks (kept_at shelf s) k) (word_slots k) still (λ s r. by s (kept_at shelf s) refl r)
+  ]
+    where
+      by : (s : ℕ) (o : Option Kept) → kept_at shelf s ≡ o → is_other ks o k ≡ true → is_replaced_key es k ≡ true
+      by s None at r = absurd (false≢true r)
+      by s (Some e) at r =
+          let parts = and_parts (not (list_any (same_key e.key) ks)) (replaces (Some e.made) k) r in
+          let kept : stored shelf e.key ≡ Some (s, e.made) = ap (stored_at (kept_at shelf)) (is.owned s e at)
+          ∙ ap (option_map {U = Stored} (λ x. (s, x.made))) at in
+          let none : list_any (same_key e.key) ks ≡ false = un_not (list_any (same_key e.key) ks) parts.0 in
+          is-replaced es e.key k
+          (ap (λ m. replaces m k) (others e.key none ∙ sym (exact e.key) ∙ ap made_in kept) ∙ parts.1)
+        where
+          un_not : (b : Bool) → not b ≡ true → b ≡ false
+          un_not true e = absurd (false≢true e)
+          un_not false e = refl
+
+  -- who is replaced is found
+  replaced-found : (k : DeclKey) → is_replaced_key es k ≡ true → is_replaced_after shelf listings ks changes k ≡ true
+  replaced-found k h =
+      let it = replaced-by es apart k h in
+      by it.by it.replaces (list_any (same_key it.by) ks) refl
+    where
+      still : (a : DeclKey) → replaces (made_of es a) k ≡ true → list_any (same_key a) ks ≡ false
+          → is_replaced_still shelf ks (word_slots k) k ≡ true
+      still a r none = at (stored shelf a) refl
+        where
+          before : replaces (made_in (stored shelf a)) k ≡ true
+          before = ap (λ m. replaces m k) (exact a ∙ sym (others a none)) ∙ r
+
+          at : (o : Option Stored) → stored shelf a ≡ o → is_replaced_still shelf ks (word_slots k) k ≡ true
+          at None e = absurd (false≢true (ap (λ o. replaces (made_in o) k) (sym e) ∙ before))
+          at (Some (s, made)) e =
+              let it = found (slot_of shelf) (kept_at shelf) is.owns a s made e in
+              let replaced : replaces (Some made) k ≡ true = ap (λ o. replaces (made_in o) k) (sym e) ∙ before in
+              let other : is_other ks (kept_at shelf s) k ≡ true = ap (λ o. is_other ks o k) it.there
+              ∙ and_from (not (list_any (same_key it.entry.key) ks)) (replaces (Some it.entry.made) k)
+              (ap (λ x. not (list_any (same_key x) ks)) it.key ∙ ap not none) (ap (λ m. replaces (Some m) k) it.is ∙ replaced) in
+              any-more (nat_eq s) (λ t. is_other ks (kept_at shelf t) k) (word_slots k)
+              (λ t same. ap (λ x. is_other ks (kept_at shelf x) k) (sym (eqb-true s t same)) ∙ other)
+              (sound (word_at reasons.Replaces k.name) a s made e (word-of-replaced made k replaced))
+
+      by : (a : DeclKey) → replaces (made_of es a) k ≡ true → (b : Bool) → list_any (same_key a) ks ≡ b
+          → is_replaced_after shelf listings ks changes k ≡ true
+      by a r true among = or_left (is_replaced_anew changes k) (is_replaced_still shelf ks (word_slots k) k)
+          (anew-is k ∙ any-key (λ x. replaces (made_of es x) k) ks a among r)
+      by a r false none = or_right (is_replaced_anew changes k) (is_replaced_still shelf ks (word_slots k) k) (still a r none)
+
+  flag : (k : DeclKey) → is_replaced_after shelf listings ks changes k ≡ is_replaced_key es k
+  flag k = same-bool (is_replaced_after shelf listings ks changes k) (is_replaced_key es k) (found-replaced k) (replaced-found k)
+
+  after-is : (k : DeclKey) → made_after changes (made_in (stored shelf k)) k ≡ made_of es k
+  after-is k = made-after es ks (made_in (stored shelf k)) k ∙ by (list_any (same_key k) ks) refl
+    where
+      by : (b : Bool) → list_any (same_key k) ks ≡ b → cond b (made_of es k) (made_in (stored shelf k)) ≡ made_of es k
+      by true e = refl
+      by false e = exact k ∙ sym (others k e)
+
+  pub records-are : (k : DeclKey) → records_after shelf listings ks changes k ≡ replaced_records es k
+  records-are k = ap (λ b. cond b (disabled (made_after changes (made_in (stored shelf k)) k)) None) (flag k)
+      ∙ ap (λ m. cond (is_replaced_key es k) (disabled m) None) (after-is k)
+
+  stake-is : (k : DeclKey) → is_at_stake shelf changes k ≡ list_any (λ a. stakes shelf k (change_of es a)) ks
+  stake-is k = any-map (stakes shelf k) (change_of es) ks
+
+  -- a declaration that is not at stake stays replaced or not, and so do its records
+  pub spared : (k : DeclKey) → is_at_stake shelf changes k ≡ false → replaced_records es k ≡ replaced_records ds k
+  spared k none = ap (λ b. cond b (disabled (made_of es k)) None) (same-bool (is_replaced_key es k) (is_replaced_key ds k) here there)
+      ∙ ap (λ m. cond (is_replaced_key ds k) (disabled m) None) (others k apart_now)
+    where
+      at_stake : (a : DeclKey) → list_any (same_key a) ks ≡ true → stakes shelf k (change_of es a) ≡ true → ⊥
+      at_stake a among h = false≢true (sym none ∙ stake-is k ∙ any-key (λ x. stakes shelf k (change_of es x)) ks a among h)
+
+      apart_now : list_any (same_key k) ks ≡ false
+      apart_now = by (list_any (same_key k) ks) refl
+        where
+          by : (b : Bool) → list_any (same_key k) ks ≡ b → b ≡ false
+          by false e = refl
+          by true e = absurd (at_stake k e (or_left (same_key k k) (replaces (made_in (stored shelf k)) k || replaces (made_of es k) k)
+              (same_key_equiv.refl k)))
+
+      here : is_replaced_key es k ≡ true → is_replaced_key ds k ≡ true
+      here h = let it = replaced-by es apart k h in by it.by it.replaces (list_any (same_key it.by) ks) refl
+        where
+          by : (a : DeclKey) → replaces (made_of es a) k ≡ true → (b : Bool) → list_any (same_key a) ks ≡ b → is_replaced_key ds k ≡ true
+          by a r true among = absurd (at_stake a among (or_right (same_key a k) (replaces (made_in (stored shelf a)) k || replaces (made_of es a) k)
+              (or_right (replaces (made_in (stored shelf a)) k) (replaces (made_of es a) k) r)))
+          by a r false apart_from = is-replaced ds a k (ap (λ m. replaces m k) (sym (others a apart_from)) ∙ r)
+
+      there : is_replaced_key ds k ≡ true → is_replaced_key es k ≡ true
+      there h = let it = replaced-by ds distinct k h in by it.by it.replaces (list_any (same_key it.by) ks) refl
+        where
+          by : (a : DeclKey) → replaces (made_of ds a) k ≡ true → (b : Bool) → list_any (same_key a) ks ≡ b → is_replaced_key es k ≡ true
+          by a r true among = absurd (at_stake a among (or_right (same_key a k) (replaces (made_in (stored shelf a)) k || replaces (made_of es a) k)
+              (or_left (replaces (made_in (stored shelf a)) k) (replaces (made_of es a) k) (ap (λ m. replaces m k) (exact a) ∙ r))))
+          by a r false apart_from = is-replaced es a k (ap (λ m. replaces m k) (others a apart_from) ∙ r)
+
+  -- the records after the turns are those of the beans that are replaced then
+  pub turned-are : (before after : DeclKey → Option (List Effective)) → AreReplaced ds before
+      → ((k : DeclKey) → after k ≡ cond (is_at_stake shelf changes k) (records_after shelf listings ks changes k) (before k))
+      → AreReplaced es after
+  turned-are before after were turns k = turns k ∙ by (is_at_stake shelf changes k) refl
+    where
+      by : (b : Bool) → is_at_stake shelf changes k ≡ b → cond b (records_after shelf listings ks changes k) (before k) ≡ replaced_records es k
+      by true e = records-are k
+      by false e = were k ∙ sym (spared k e)

@@ -1,0 +1,54 @@
+-- Turns that are taken over one after another, and those of some beans.
+use Rattle.std.proofs.Common.{◌≡◌, ◌<◌, ◌+◌, ℕ, Bool, true, false, cond, ◌||◌, List, [], ◌∷◌, ◌++◌, length, map, take, get_or, Option, refl, sym, ap, ◌∙◌}
+use Rattle.std.specs.List.{list_any}
+use Rattle.std.proofs.lemmas.List.{map-append, take_more}
+use Rattle.cdi_model.specs.declared.key.DeclKey.{DeclKey}
+use Rattle.cdi_model.specs.DeclKey.{same_key, same_key_equiv}
+use Rattle.cdi_model.proofs.EntryLemmas.{key_exact}
+use Rattle.cdi_effective.specs.declared.records.Effective.{Effective}
+use Rattle.cdi_index.specs.declared.replaced.Turn.{Turn}
+use Rattle.cdi_index.specs.Replaced.{turned}
+
+abbrev pub RecordsOf : Type 0
+RecordsOf = DeclKey → Option (List Effective)
+
+turned-push : (ts : List Turn) (t : Turn) (f : RecordsOf) (k : DeclKey)
+    → turned (ts ++ t ∷ []) f k ≡ turned ts (λ l. cond (same_key t.key l) t.records (f l)) k
+turned-push [] t f k = refl
+turned-push (u ∷ ts) t f k = ap (λ o. cond (same_key u.key k) u.records o) (turned-push ts t f k)
+
+turned-same : (ts : List Turn) (f g : RecordsOf) → ((k : DeclKey) → f k ≡ g k) → (k : DeclKey) → turned ts f k ≡ turned ts g k
+turned-same [] f g h k = h k
+turned-same (t ∷ ts) f g h k = ap (λ o. cond (same_key t.key k) t.records o) (turned-same ts f g h k)
+
+-- the last turn is taken over
+pub turned-next : (ts rest : List Turn) (t : Turn) (f g : RecordsOf) → ts ≡ rest ++ t ∷ []
+    → ((k : DeclKey) → g k ≡ cond (same_key t.key k) t.records (f k)) → (k : DeclKey) → turned rest g k ≡ turned ts f k
+turned-next ts rest t f g is made k =
+    turned-same rest g (λ l. cond (same_key t.key l) t.records (f l)) made k
+    ∙ sym (turned-push rest t f k) ∙ ap (λ us. turned us f k) (sym is)
+
+abbrev pub turn_to : RecordsOf → DeclKey → Turn
+turn_to after k = record { key = k; records = after k }
+
+-- the turns of some beans
+pub turned-all : (after : RecordsOf) (ks : List DeclKey) (f : RecordsOf) (k : DeclKey)
+    → turned (map (turn_to after) ks) f k ≡ cond (list_any (same_key k) ks) (after k) (f k)
+turned-all after [] f k = refl
+turned-all after (l ∷ ks) f k = by (same_key l k) refl (turned-all after ks f k)
+  where
+    by : (b : Bool) → same_key l k ≡ b → turned (map (turn_to after) ks) f k ≡ cond (list_any (same_key k) ks) (after k) (f k)
+        → cond b (after l) (turned (map (turn_to after) ks) f k) ≡ cond (same_key k l || list_any (same_key k) ks) (after k) (f k)
+    by true e more = ap after (key_exact l k e)
+        ∙ ap (λ c. cond (c || list_any (same_key k) ks) (after k) (f k)) (sym (same_key_equiv.symm k l ∙ e))
+    by false e more = more ∙ ap (λ c. cond (c || list_any (same_key k) ks) (after k) (f k)) (sym (same_key_equiv.symm k l ∙ e))
+
+-- one more turn
+pub turns-next : (after : RecordsOf) (ks : List DeclKey) (i : ℕ) (k : DeclKey) (olds news : List Turn) → i < length ks
+    → k ≡ get_or ks i k → news ≡ olds ++ turn_to after k ∷ [] → olds ≡ map (turn_to after) (take i ks)
+    → news ≡ map (turn_to after) (take (i + 1) ks)
+turns-next after ks i k olds news lt at pushed before =
+    pushed ∙ ap (λ ts. ts ++ turn_to after k ∷ []) before
+    ∙ ap (λ l. map (turn_to after) (take i ks) ++ turn_to after l ∷ []) at
+    ∙ sym (map-append (turn_to after) (take i ks) (get_or ks i k ∷ []))
+    ∙ ap (map (turn_to after)) (sym (take_more ks i k lt))

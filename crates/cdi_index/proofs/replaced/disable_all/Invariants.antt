@@ -1,0 +1,6 @@
+use Rattle.std.proofs.Common.{◌≡◌, ◌++◌, true, drop, map}
+use Rattle.cdi_effective.specs.Beans.{unless_replaced}
+use Rattle.cdi_index.proofs.replaced.disable_all.Given as goal
+
+abbrev pub invariant-loop-record : goal.invariant-loop-record
+invariant-loop-record l = l.copies ++ map (unless_replaced true) (drop l.record-index l.records) ≡ map (unless_replaced true) l.records

@@ -1,0 +1,19 @@
+use Rattle.std.proofs.Common.{length, length-append, arith, ap, ◌∙◌, [], ◌∷◌}
+use Rattle.indexmap.specs.IndexMap.{get}
+use Rattle.cdi_model.specs.DeclKey.{same_key}
+use Rattle.cdi_index.proofs.TurnLemmas.{turned-next}
+use Rattle.cdi_index.proofs.replaced.install_turns.Goals as goal
+
+pub left-preserved : goal.left-preserved
+left-preserved c =
+    let items = c.in-Some.ensures.items in
+    record {
+      room = omega (
+        arith,
+        ap length items ∙ length-append c.pop.new.self.items (c.in-Some.turn ∷ []),
+        c.left.invariant.room,
+        c.install_turn.ensures.room,
+      );
+      applies = λ k. turned-next c.left.turns.items c.pop.new.self.items c.in-Some.turn (get same_key c.left.replaced)
+          (get same_key c.install_turn.new.replaced) items c.install_turn.ensures.records k ∙ c.left.invariant.applies k;
+    }

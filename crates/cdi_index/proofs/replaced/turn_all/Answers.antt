@@ -1,0 +1,14 @@
+use Rattle.std.proofs.Common.{map, cond, arith, ap, ◌∙◌}
+use Rattle.std.proofs.lemmas.List.{take_all}
+use Rattle.cdi_index.specs.Replaced.{records_after, turn_by, turned}
+use Rattle.cdi_index.proofs.TurnLemmas.{turned-all}
+use Rattle.cdi_index.proofs.replaced.turn_all.Goals as goal
+
+pub returns : goal.returns
+returns c records k =
+    let after = records_after c.args.shelf.now c.args.postings.now c.args.affected.now.keys c.args.changes.now in
+    let all = c.loop-key.invariant
+    ∙ ap (map (turn_by c.args.shelf.now c.args.postings.now c.args.affected.now.keys c.args.changes.now)) (take_all c.loop-key.key-index c.as_slice-key-items.result.now
+    (omega (arith, c.loop-key-test.false)) ∙ c.as_slice-key-items.ensures.keys) in
+    ap (λ ts. turned ts records k) all ∙ turned-all after c.in_ok-beans.beans.keys records k
+    ∙ ap (λ b. cond b (after k) (records k)) (c.in_ok-beans.ensures k)
