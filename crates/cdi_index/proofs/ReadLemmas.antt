@@ -27,7 +27,7 @@ pub type-itself : (ds : List Decl) (name : List ℕ) → is_among (type_reads ds
 type-itself ds name = among-types (types_of ds name) name ∙ types_of-has ds name name ∙ (is_type_decides ds name name).1 (inr (0, refl))
 
 -- a bean that is found has the name
-found_name : (name : List ℕ) (bean : BeanDecl) (ds : List Decl) → find_bean name ds ≡ Some bean → bean.name ≡ name
+pub found_name : (name : List ℕ) (bean : BeanDecl) (ds : List Decl) → find_bean name ds ≡ Some bean → bean.name ≡ name
 found_name name bean [] e = absurd (let no : None ≡ Some bean = e in cc)
 found_name name bean (d ∷ ds) e = by (is_of kinds.Bean name d) refl e (found_name name bean ds)
   where

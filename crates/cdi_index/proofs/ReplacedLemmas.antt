@@ -1,9 +1,10 @@
 -- Which beans are replaced after changes.
-use Rattle.std.proofs.Common.{◌≡◌, ℕ, nat_eq, Bool, true, false, cond, not, ◌||◌, List, [], ◌∷◌, map, Option, Some, None, option_map}
+use Rattle.std.proofs.Common.{◌&&◌, ◌≡◌, ℕ, nat_eq, Bool, true, false, cond, not, ◌||◌, List, [], ◌∷◌, map, Option, Some, None, option_map}
 use Rattle.std.proofs.Common.{refl, sym, ap, ◌∙◌, inl, inr}
 use Rattle.std.specs.List.{list_any, AllByRecursion, IsDistinct}
 use Rattle.std.specs.Str.{bytes_eq}
 use Rattle.std.proofs.lemmas.Bool.{and_from, and_parts, or_left, or_right, or_cases, false≢true, eqb-true}
+use Rattle.cdi_model.specs.declared.decl.BeanDecl.{BeanDecl}
 use Rattle.cdi_model.specs.declared.decl.Decl.{Decl}
 use Rattle.cdi_model.specs.declared.decl.Decl.TheVariants as decls
 use Rattle.cdi_model.specs.declared.decl.Kind.{Kind}
@@ -15,8 +16,12 @@ use Rattle.cdi_model.specs.DeclList.{find_decl, is_of, AreDistinct}
 use Rattle.cdi_model.specs.Edits.{is_among}
 use Rattle.cdi_model.proofs.EntryLemmas.{key_exact}
 use Rattle.cdi_match.specs.Chain.{has}
-use Rattle.cdi_effective.specs.Disposers.{as_bean}
+use Rattle.cdi_effective.specs.Disposers.{as_bean, find_bean}
 use Rattle.cdi_effective.specs.Specialized.{is_replaced, replaced_by}
+use Rattle.cdi_effective.specs.Beans.{own_records, records, unless_replaced}
+use Rattle.cdi_effective.specs.Records.{records_declared, records_in}
+use Rattle.cdi_effective.proofs.RecordLemmas.{records_are_own}
+use Rattle.cdi_index.proofs.ReadLemmas.{found_name}
 use Rattle.cdi_effective.specs.declared.records.Effective.{Effective}
 use Rattle.cdi_postings.specs.declared.word.Reason.TheVariants as reasons
 use Rattle.cdi_postings.specs.Listing.{Listing, under}
@@ -28,7 +33,7 @@ use Rattle.cdi_index.specs.declared.shelf.Shelf.{Shelf}
 use Rattle.cdi_index.specs.Kept.{kept_at, made_in, slot_of, stored, stored_at, IsExact, IsShelf, IsSound, Stored}
 use Rattle.cdi_index.specs.Made.{classes_have, has_word, keys_have, made_of, made_of_bean, made_of_type, replaces_in}
 use Rattle.cdi_index.specs.Next.{change_of}
-use Rattle.cdi_index.specs.Replaced.{disabled, AreReplaced, is_at_stake, is_other, is_replaced_after, is_replaced_anew, is_replaced_key, is_replaced_of, is_replaced_still, made_after, records_after, replaced_records, replaces, stakes}
+use Rattle.cdi_index.specs.Replaced.{lent, disabled, AreReplaced, is_at_stake, is_other, is_replaced_after, is_replaced_anew, is_replaced_key, is_replaced_of, is_replaced_still, made_after, records_after, replaced_records, replaces, stakes}
 use Rattle.cdi_index.proofs.CountLemmas.{keys-distinct}
 use Rattle.cdi_index.proofs.NextLemmas.{any-elim, any-more, same-bool}
 use Rattle.cdi_index.proofs.ShelfLemmas.{found}
@@ -328,3 +333,47 @@ module _ (ds es : List Decl) (ks : List DeclKey) (shelf : Shelf) (listings : Lis
       by : (b : Bool) → is_at_stake shelf changes k ≡ b → cond b (records_after shelf listings ks changes k) (before k) ≡ replaced_records es k
       by true e = records-are k
       by false e = were k ∙ sym (spared k e)
+
+-- ---- what is lent of a bean
+
+not-replaced : (b : Effective) → unless_replaced false b ≡ b
+not-replaced b = ap (λ e. record b { is_enabled = e }) (and-true b.is_enabled)
+  where
+    and-true : (x : Bool) → (x && true) ≡ x
+    and-true true = refl
+    and-true false = refl
+
+none-replaced : (bs : List Effective) → map (unless_replaced false) bs ≡ bs
+none-replaced [] = refl
+none-replaced (b ∷ bs) = ap (λ c. c ∷ map (unless_replaced false) bs) (not-replaced b) ∙ ap (λ cs. b ∷ cs) (none-replaced bs)
+
+bean-name : (name : List ℕ) (ds : List Decl) (b : BeanDecl) → find_bean name ds ≡ Some b → b.name ≡ name
+bean-name name ds b found = found_name name b ds found
+
+pub lent-are : (ds : List Decl) (class : List ℕ) → lent (replaced_records ds (key_at kinds.Bean class)) (made_of ds (key_at kinds.Bean class))
+    ≡ records_in ds class
+unfolding records_in
+lent-are ds class = by (find_bean class ds) refl (is_replaced ds class) refl
+  where
+    of_bean : (b : BeanDecl) → b.name ≡ class → (r : Bool) → is_replaced ds class ≡ r
+        → records ds b ≡ map (unless_replaced r) (own_records ds b)
+    of_bean b one r is = records_are_own ds b ∙ ap (λ x. map (unless_replaced x) (own_records ds b)) (ap (is_replaced ds) one ∙ is)
+
+    by : (o : Option BeanDecl) → find_bean class ds ≡ o → (r : Bool) → is_replaced ds class ≡ r
+        → lent (cond (is_replaced ds class) (disabled (option_map (made_of_bean ds) (find_bean class ds))) None) (option_map (made_of_bean ds) (find_bean class ds))
+        ≡ records_declared ds (find_bean class ds)
+    by None f true is = ap (λ o. lent (cond (is_replaced ds class) (disabled (option_map (made_of_bean ds) o)) None) (option_map (made_of_bean ds) o)) f
+        ∙ ap (λ x. lent (cond x None None) None) is ∙ ap (records_declared ds) (sym f)
+    by None f false is = ap (λ o. lent (cond (is_replaced ds class) (disabled (option_map (made_of_bean ds) o)) None) (option_map (made_of_bean ds) o)) f
+        ∙ ap (λ x. lent (cond x None None) None) is ∙ ap (records_declared ds) (sym f)
+    by (Some b) f true is = ap (λ o. lent (cond (is_replaced ds class) (disabled (option_map (made_of_bean ds) o)) None) (option_map (made_of_bean ds) o)) f
+        ∙ ap (λ x. lent (cond x (disabled (Some (made_of_bean ds b))) None) (Some (made_of_bean ds b))) is
+        ∙ sym (of_bean b (bean-name class ds b f) true is) ∙ ap (records_declared ds) (sym f)
+    by (Some b) f false is = ap (λ o. lent (cond (is_replaced ds class) (disabled (option_map (made_of_bean ds) o)) None) (option_map (made_of_bean ds) o)) f
+        ∙ ap (λ x. lent (cond x (disabled (Some (made_of_bean ds b))) None) (Some (made_of_bean ds b))) is
+        ∙ sym (none-replaced (own_records ds b)) ∙ sym (of_bean b (bean-name class ds b f) false is) ∙ ap (records_declared ds) (sym f)
+
+-- what is lent is that of the bean, where the records and what is made are exact
+pub lent-of : (ds : List Decl) (class : List ℕ) (o : Option (List Effective)) (made : Option Made)
+    → o ≡ replaced_records ds (key_at kinds.Bean class) → made ≡ made_of ds (key_at kinds.Bean class) → lent o made ≡ records_in ds class
+lent-of ds class o made p q = ap (λ x. lent x made) p ∙ ap (lent (replaced_records ds (key_at kinds.Bean class))) q ∙ lent-are ds class

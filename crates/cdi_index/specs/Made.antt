@@ -79,6 +79,10 @@ classes_have classes w = list_any (λ class. same_word (word_at reasons.Replaces
 abbrev pub has_word : Option Made → Word → Bool
 has_word made w = keys_have (reads_in made) w || classes_have (replaces_in made) w
 
+-- the types of a declared type
+abbrev pub types_declared : List Decl → List ℕ → Option (List (List ℕ))
+types_declared ds name = option_map (λ d. types_of ds name) (find_decl kinds.Type name ds)
+
 -- These are the types of each name for which some are there.
 abbrev pub AreClosed : List Decl → (DeclKey → Option (Vec (List ℕ) Global)) → Type 0
 AreClosed ds closed = (k : DeclKey) (types : Vec (List ℕ) Global) → closed k ≡ Some types → types.items ≡ types_of ds k.name

@@ -45,6 +45,16 @@ abbrev pub disabled : Option Made → Option (List Effective)
 disabled None = None
 disabled (Some made) = disabled_in made.given
 
+-- the records that are lent of a bean: these where it is replaced, and else those that were made
+abbrev pub lent_in : Given → List Effective
+lent_in (given.Types types) = []
+lent_in (given.Records records) = records
+
+abbrev pub lent : Option (List Effective) → Option Made → List Effective
+lent (Some records) made = records
+lent None None = []
+lent None (Some made) = lent_in made.given
+
 abbrev pub replaced_records : List Decl → DeclKey → Option (List Effective)
 replaced_records ds k = if is_replaced_key ds k then disabled (made_of ds k) else None
 

@@ -1,14 +1,20 @@
 //! The declarations, with what is made of each.
 ghost use Rattle.std.specs.Prelude.{◌≡◌, Some, None, IfOk, OnOk, OnErr};
+ghost use Rattle.std.specs.Option.{option_copied};
+ghost use Rattle.cdi_effective.specs.Records.{records_in};
+ghost use Rattle.cdi_index.specs.Made.{types_declared};
+ghost use Rattle.cdi_index.specs.Replaced.{lent};
 ghost use Rattle.cdi_index.specs.State.{committed, drafted_from, empty, staged_by, with_staged, IsEdited};
 
 use crate::counts::Counts;
 use crate::draft::Draft;
 use crate::install::install;
+use crate::making::{Given, Made};
 use crate::prepare::{Next, prepare};
 use crate::replaced::install_turns;
 use crate::shelf::Shelf;
-use cdi_model::Decls;
+use cdi_effective::Effective;
+use cdi_model::{DeclKey, Decls, Kind, Name};
 use cdi_postings::Postings;
 use std::alloc::{AllocError, Global};
 use std::marker::Model;
@@ -66,6 +72,41 @@ impl Index {
         self.counts
     }
 
+    /// The types of a declared type, each once, in byte order (CDI 4.0, Bean types). None where it is not declared. It takes
+    /// no memory.
+    pub fn types(&self, name: &Name) -> Option<&[Name]>
+        ensures { option_copied result ≡ types_declared self.now.decls name.now }
+    {
+        let key = DeclKey {
+            kind: Kind::Type,
+            name: *name,
+        };
+        match self.shelf.find(&key) {
+            Some(
+                Made {
+                    given: Given::Types(types),
+                    ..
+                },
+            ) => Some(types.as_slice()),
+            _ => None,
+        }
+    }
+
+    /// The records of the bean declaration of a class: its managed bean, and after it its products in order. None where
+    /// no such bean is declared. It takes no memory.
+    pub fn records(&self, class: &Name) -> &[Effective]
+        ensures { result.now ≡ records_in self.now.decls class.now }
+    {
+        let key = DeclKey {
+            kind: Kind::Bean,
+            name: *class,
+        };
+        match self.shelf.replaced.get(&key) {
+            Some(records) => records.as_slice(),
+            None => own_records(self.shelf.find(&key)),
+        }
+    }
+
     /// A draft without an edit. It takes memory as `Decls::copy` does.
     pub fn draft(&self) -> Result<Draft, AllocError>
         ensures { IfOk result (λ draft. draft ≡ drafted_from self.now.decls) }
@@ -109,5 +150,20 @@ impl Index {
             self.decls = next.decls;
             self.counts = next.counts;
         }
+    }
+}
+
+/// The records that a bean declaration has by itself.
+fn own_records(made: Option<&Made>) -> &[Effective]
+    ensures { result.now ≡ lent None (option_copied made.entry) }
+{
+    match made {
+        Some(
+            Made {
+                given: Given::Records(records),
+                ..
+            },
+        ) => records.as_slice(),
+        _ => &[],
     }
 }
