@@ -1,7 +1,8 @@
 -- What is staged is taken over behind the end of both contexts.
 use Rattle.std.proofs.Common.{◌≡◌, Bool, true, false, List, [], Option, None, Some, refl, ap, sym, subst, ◌∙◌}
-use Rattle.std.specs.Prelude.{ℕ, unwrap_or, if◌then◌else◌}
-use Rattle.cdi_index.specs.State.{Drafted, Staged}
+use Rattle.std.specs.Prelude.{ℕ, IfSome, unwrap_or, if◌then◌else◌}
+use Rattle.cdi_index.specs.State.{Drafted, Staged, State as Indexed, committed, committed_to}
+use Rattle.cdi_model.specs.Short.{AreShort}
 use Rattle.cdi_legal.specs.Furnished.{IsFurnished}
 use Rattle.cdi_legal.specs.LegalRun.{LegalEnd}
 use Rattle.cdi_legal.specs.Moment.{Moment}
@@ -41,6 +42,20 @@ rests_staged d e staged m before is r = subst (λ (x : Deployed). RestsOnScene x
 })
 
 -- ---- behind a commit
+
+pub committed_short : (i : Indexed) → AreShort i.decls → IfSome i.staged (λ next. AreShort next.decls) → AreShort (committed i).decls
+committed_short i short staged = by i.staged staged
+  where
+    by : (next : Option Staged) → IfSome next (λ s. AreShort s.decls) → AreShort (committed_to i next).decls
+    by None h = short
+    by (Some next) h = h
+
+pub nothing_staged : (i : Indexed) → IfSome (committed i).staged (λ next. AreShort next.decls)
+nothing_staged i = by i.staged refl
+  where
+    by : (next : Option Staged) → i.staged ≡ next → IfSome (committed_to i next).staged (λ s. AreShort s.decls)
+    by None h = subst (λ (o : Option Staged). IfSome o (λ s. AreShort s.decls)) (sym h) tt
+    by (Some next) h = tt
 
 unwired : (d : Deployed) (staged : Option Staged) → (redeployed_to d staged).is_wired ≡ false
 unwired d None = refl
