@@ -34,8 +34,7 @@ use cdi_index::{Counts, Draft};
 use cdi_legal::{Entry, Run};
 use cdi_lines::{Command, Edit};
 use cdi_model::{
-    BeanPlace, Decl, Edit as Change, Error, Iter as DeclIter, Kind, Name, Quals, Refusal,
-    Seq, Work,
+    BeanPlace, Decl, Edit as Change, Error, Iter as DeclIter, Kind, Name, Quals, Refusal, Seq, Work,
 };
 use cdi_observe::ObserverId;
 use cdi_resolve::Choice;

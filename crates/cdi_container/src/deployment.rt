@@ -83,7 +83,7 @@ impl<B: Bodies> Model for Deployment<B> {
       counts = d.index.counts;
       staged = d.index.staged;
       book = B.promises d.book;
-      is_wired = is_sound d.wiring
+      is_wired = is_sound d.wiring;
     } };
 
     ghost invariant = { λ d. AreShort d.index.decls
@@ -137,6 +137,7 @@ impl<B: Bodies> Deployment<B> {
     }
 
     /// A draft of a change. It takes memory for what is put, and for a copy of the list.
+    #[tactic(auto, using(crate::proofs::Committing::is_edited))]
     pub(crate) fn draft(&self, change: Change) -> Result<Draft, Error>
         requires { IsShortEdit change }
         ensures accepted { OnOk result (answer_of_edit self.now.decls change ≡ Ok tt) }
@@ -265,7 +266,11 @@ impl<B: Bodies> Deployment<B> {
         ensures stays { self.new ≡ self.old }
     {
         let list = self.take_beans(alloc)?;
-        let found = faults(alloc, &mut PlainView::new(self.index.decls(), &list), &self.book);
+        let found = faults(
+            alloc,
+            &mut PlainView::new(self.index.decls(), &list),
+            &self.book,
+        );
         self.beans = Some(list);
         found
     }
@@ -314,7 +319,15 @@ impl<B: Bodies> Deployment<B> {
         let list = self.take_beans(alloc)?;
         // No effect at run time. The proof reads here that no two declarations have one kind and name.
         let _ = self.index.decls().iter();
-        let aim = aim_for(alloc, self.index.decls(), &list, bean_type, quals, message, work);
+        let aim = aim_for(
+            alloc,
+            self.index.decls(),
+            &list,
+            bean_type,
+            quals,
+            message,
+            work,
+        );
         self.beans = Some(list);
         aim
     }
