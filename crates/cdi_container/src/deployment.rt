@@ -137,7 +137,6 @@ impl<B: Bodies> Deployment<B> {
     }
 
     /// A draft of a change. It takes memory for what is put, and for a copy of the list.
-    #[tactic(auto, using(crate::proofs::Committing::is_edited))]
     pub(crate) fn draft(&self, change: Change) -> Result<Draft, Error>
         requires { IsShortEdit change }
         ensures accepted { OnOk result (answer_of_edit self.now.decls change ≡ Ok tt) }

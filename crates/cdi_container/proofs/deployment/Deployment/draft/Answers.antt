@@ -1,0 +1,11 @@
+use Rattle.std.proofs.Common.{subst}
+use Rattle.std.specs.Prelude.{IfOk}
+use Rattle.cdi_index.specs.State.{IsEdited}
+use Rattle.cdi_container.specs.Wired.{Deployed}
+use Rattle.cdi_container.proofs.Committing.{is_edited}
+use Rattle.cdi_container.proofs.deployment.Deployment.draft.Goals as goal
+
+pub returns-clause-edited : goal.returns-clause-edited
+returns-clause-edited g c =
+    subst (λ (d : Deployed). IfOk c.draft_change.result (IsEdited d.decls)) c.self.view_is
+    (is_edited c.self.inside.index.decls c.args.change c.draft_change.result c.draft_change.ensures.ok)
