@@ -1,7 +1,11 @@
 -- What is staged is taken over behind the end of both contexts.
-use Rattle.std.proofs.Common.{◌≡◌, Bool, true, false, List, [], Option, None, Some, refl, ap, sym, subst, ◌∙◌}
-use Rattle.std.specs.Prelude.{ℕ, unwrap_or, if◌then◌else◌}
-use Rattle.cdi_index.specs.State.{Drafted, Staged}
+use Rattle.std.proofs.Common.{◌≡◌, Bool, true, false, List, [], ◌∷◌, Option, None, Some, refl, ap, sym, subst, ◌∙◌}
+use Rattle.std.specs.Prelude.{ℕ, IfOk, IfSome, Result, Ok, Err, unwrap_or, if◌then◌else◌}
+use Rattle.cdi_index.specs.State.{Drafted, IsEdited, Staged, State as Indexed, committed, committed_to}
+use Rattle.cdi_model.specs.Short.{AreShort}
+use Rattle.cdi_model.specs.declared.decl.Decl.{Decl}
+use Rattle.cdi_model.specs.declared.edit.Edit.{Edit as Change}
+use Rattle.cdi_model.specs.declared.refusal.Error.{Error}
 use Rattle.cdi_legal.specs.Furnished.{IsFurnished}
 use Rattle.cdi_legal.specs.LegalRun.{LegalEnd}
 use Rattle.cdi_legal.specs.Moment.{Moment}
@@ -12,9 +16,19 @@ use Rattle.cdi_staging.specs.Naming.{names_of}
 use Rattle.cdi_staging.specs.Staged.{scene_of}
 use Rattle.cdi_staging.specs.declared.names.Names.{Names}
 use Rattle.cdi_trace.specs.TraceText.{text_of_entries}
+use Rattle.cdi_container.specs.Editing.{drafted_by}
 use Rattle.cdi_container.specs.History.{State, Redeploys}
 use Rattle.cdi_container.specs.Wired.{Deployed, RestsOnScene, names_if, redeployed, redeployed_to, staged_by, trace_names, with_staged}
 use Rattle.cdi_container.proofs.Ending.{standing_at}
+
+-- ---- drafts
+
+-- a draft of a change is edited from its declarations
+pub is_edited : (ds : List Decl) (change : Change) (result : Result Drafted Error)
+    → IfOk result (λ draft. draft ≡ drafted_by ds (change ∷ [])) → IfOk result (IsEdited ds)
+is_edited ds change (Ok draft) h =
+    record { edits = change ∷ []; decls = ap (λ (d : Drafted). d.decls) h; keys = ap (λ (d : Drafted). d.keys) h }
+is_edited ds change (Err error) h = tt
 
 -- ---- behind the end of both contexts
 
@@ -41,6 +55,20 @@ rests_staged d e staged m before is r = subst (λ (x : Deployed). RestsOnScene x
 })
 
 -- ---- behind a commit
+
+pub committed_short : (i : Indexed) → AreShort i.decls → IfSome i.staged (λ next. AreShort next.decls) → AreShort (committed i).decls
+committed_short i short staged = by i.staged staged
+  where
+    by : (next : Option Staged) → IfSome next (λ s. AreShort s.decls) → AreShort (committed_to i next).decls
+    by None h = short
+    by (Some next) h = h
+
+pub nothing_staged : (i : Indexed) → IfSome (committed i).staged (λ next. AreShort next.decls)
+nothing_staged i = by i.staged refl
+  where
+    by : (next : Option Staged) → i.staged ≡ next → IfSome (committed_to i next).staged (λ s. AreShort s.decls)
+    by None h = subst (λ (o : Option Staged). IfSome o (λ s. AreShort s.decls)) (sym h) tt
+    by (Some next) h = tt
 
 unwired : (d : Deployed) (staged : Option Staged) → (redeployed_to d staged).is_wired ≡ false
 unwired d None = refl
@@ -91,14 +119,14 @@ pub redeploys : (d e f : Deployed) (before told : Option Names) (old : State) (d
     → Redeploys old (staged_by old.decls old.counts draft) (standing_at f (trace_names f told) n)
 redeploys d e f before told old draft m n was staged legal untraced is names =
     let legal_here : LegalEnd (scene_of d.decls d.book) m.standing n.trace n.standing =
-        subst (λ (x : Deployed). LegalEnd (scene_of x.decls x.book) m.standing n.trace n.standing) staged legal in
+    subst (λ (x : Deployed). LegalEnd (scene_of x.decls x.book) m.standing n.trace n.standing) staged legal in
     let untraced_here : d.is_wired ≡ false → n.trace ≡ [] =
-        subst (λ (x : Deployed). x.is_wired ≡ false → n.trace ≡ []) staged untraced in
+    subst (λ (x : Deployed). x.is_wired ≡ false → n.trace ≡ []) staged untraced in
     let here = redeploys_from d (trace_names d before) draft m n legal_here untraced_here in
     let next : f ≡ redeployed (staged_on d draft) = is ∙ ap redeployed staged in
     let told_here : told ≡ names_if d = names ∙ ap names_if staged in
     subst (λ (s : State). Redeploys s (staged_by s.decls s.counts draft) (standing_at f (trace_names f told) n)) was
     (subst (λ (x : Deployed). Redeploys (standing_at d (trace_names d before) m) (next_on d draft) (standing_at x (trace_names x told) n))
-        (sym next)
-        (subst (λ (t : Option Names). Redeploys (standing_at d (trace_names d before) m) (next_on d draft)
-            (standing_at (redeployed (staged_on d draft)) (trace_names (redeployed (staged_on d draft)) t) n)) (sym told_here) here))
+    (sym next)
+    (subst (λ (t : Option Names). Redeploys (standing_at d (trace_names d before) m) (next_on d draft)
+    (standing_at (redeployed (staged_on d draft)) (trace_names (redeployed (staged_on d draft)) t) n)) (sym told_here) here))

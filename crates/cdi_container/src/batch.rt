@@ -1,6 +1,7 @@
 //! Batches of edits: each edit is made on a list of its own, and judged on what those before it leave.
-ghost use Rattle.std.specs.Prelude.{◌≡◌, ◌≤◌, ◌+◌, ◌∷◌, [], length, Err, OnOk, OnErr, IfOk, IfErr};
+ghost use Rattle.std.specs.Prelude.{◌≡◌, ◌≤◌, ◌+◌, ◌∷◌, [], length, Ok, Err, OnOk, OnErr, IfOk, IfErr};
 ghost use Rattle.cdi_model.specs.Answering.{Answers};
+ghost use Rattle.cdi_model.specs.Edits.{answer_of_edit};
 ghost use Rattle.cdi_model.specs.Short.{AreShort};
 ghost use Rattle.cdi_container.specs.Editing.{drafted_all, drafted_by};
 ghost use Rattle.cdi_container.specs.Editing.{asked_by, change_of, changes_of, changes_of_all, first_refusal, refusal_of_batch};
@@ -74,6 +75,21 @@ impl fmt::Display for BatchError {
 }
 
 impl Error for BatchError {}
+
+/// A draft of a change. It takes memory for a copy of the list and for what is put.
+#[tactic(auto, using(crate::proofs::Editing::edit_short))]
+pub(crate) fn draft_change(index: &Index, change: Change) -> Result<Draft, CallError>
+    requires short { AreShort index.now.decls }
+    requires put { IsShortEdit change }
+    ensures ok { IfOk result (λ draft. draft ≡ drafted_by index.now.decls (change ∷ [])) }
+    ensures short { IfOk result (λ draft. AreShort draft.decls) }
+    ensures accepted { OnOk result (answer_of_edit index.now.decls change ≡ Ok tt) }
+    ensures refused { IfErr result (λ error. Answers (Err error) (answer_of_edit index.now.decls change)) }
+{
+    let mut draft = index.draft()?;
+    draft.apply(change)?;
+    Ok(draft)
+}
 
 /// A draft of a batch. It takes memory for a copy of the list and for what is put.
 pub(crate) fn draft_batch(

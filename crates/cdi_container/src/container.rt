@@ -34,8 +34,7 @@ use cdi_index::{Counts, Draft};
 use cdi_legal::{Entry, Run};
 use cdi_lines::{Command, Edit};
 use cdi_model::{
-    BeanPlace, Decl, Edit as Change, Error, Iter as DeclIter, Kind, Name, Quals, Refusal,
-    Seq, Work,
+    BeanPlace, Decl, Edit as Change, Error, Iter as DeclIter, Kind, Name, Quals, Refusal, Seq, Work,
 };
 use cdi_observe::ObserverId;
 use cdi_resolve::Choice;
@@ -47,8 +46,9 @@ use std::fmt;
 use std::marker::Model;
 
 /// The present declarations, which are edited while the container runs, and questions about them; the instances that it
-/// makes, calls and destroys with the stored bodies. What contracts see of it is its state: the declarations, how
-/// many records were computed, the names and promises of the bodies, what is live between runs, and the trace of the last command that was answered.
+/// makes, calls and destroys with the stored bodies. What contracts see of it is its state: the declarations, how many
+/// records were computed, the names and promises of the bodies, what is live between runs, and the trace of the last
+/// command that was answered.
 ///
 /// Each call is one step of a legal history: a refused call changes nothing. One that runs out of memory changes nothing
 /// either, but that a lookup, a call and an event leave no instance and no request. Beside that step each call says by
@@ -373,8 +373,8 @@ impl<B: Bodies> Container<B> {
         Ok(faults)
     }
 
-    /// How many closures of types and how many records of beans were computed. An edit or a batch computes each that it puts, or
-    /// that read something that it edits. Nothing else computes any. It takes no memory.
+    /// How many closures of types and how many records of beans were computed. An edit or a batch computes each that it puts,
+    /// or that read something that it edits. Nothing else computes any. It takes no memory.
     pub fn counts(&mut self) -> Counts
         ensures counts { result ≡ self.old.counts }
         ensures left { self.new ≡ untold self.old }

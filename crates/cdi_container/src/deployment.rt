@@ -1,7 +1,7 @@
 //! The present declarations and the stored bodies, and what questions have made of them.
-ghost use Rattle.std.specs.Prelude.{◌≡◌, ◌≢◌, AllPairs, IsSome, None, [], length, true, false, Ok, Err, Some, ◌∷◌, OnOk, OnErr, IfOk, IfErr};
+ghost use Rattle.std.specs.Prelude.{◌≡◌, ◌≢◌, AllPairs, IfSome, IsSome, None, [], length, true, false, Ok, Err, Some, ◌∷◌, OnOk, OnErr, IfOk, IfErr};
 ghost use Rattle.cdi_model.specs.Edits.{answer_of_edit};
-ghost use Rattle.cdi_index.specs.State.{IsEdited};
+ghost use Rattle.cdi_index.specs.State.{IsEdited, committed};
 ghost use Rattle.cdi_container.specs.Editing.{changes_of_all, drafted_by, refusal_of_batch};
 ghost use Rattle.cdi_container.specs.History.{no_counts};
 ghost use Rattle.cdi_container.specs.Seen.{AnswersBatch};
@@ -21,7 +21,7 @@ ghost use Rattle.cdi_container.specs.Wired.{StandsIn, IsSameDeployment, IsShortE
 ghost use Rattle.cdi_wiring.specs.Wired.{IsWiredOf};
 
 use crate::asked::{Aim, Message, aim_for, can_be_fired};
-use crate::batch::{BatchError, draft_batch};
+use crate::batch::{BatchError, draft_batch, draft_change};
 use crate::beans::Beans;
 use crate::last_events::LastEvents;
 use cdi_bodies::Bodies;
@@ -83,7 +83,7 @@ impl<B: Bodies> Model for Deployment<B> {
       counts = d.index.counts;
       staged = d.index.staged;
       book = B.promises d.book;
-      is_wired = is_sound d.wiring
+      is_wired = is_sound d.wiring;
     } };
 
     ghost invariant = { λ d. AreShort d.index.decls
@@ -137,7 +137,6 @@ impl<B: Bodies> Deployment<B> {
     }
 
     /// A draft of a change. It takes memory for what is put, and for a copy of the list.
-    #[tactic(auto, using(crate::proofs::Editing::edit_short))]
     pub(crate) fn draft(&self, change: Change) -> Result<Draft, Error>
         requires { IsShortEdit change }
         ensures accepted { OnOk result (answer_of_edit self.now.decls change ≡ Ok tt) }
@@ -146,9 +145,7 @@ impl<B: Bodies> Deployment<B> {
         ensures short { IfOk result (λ draft. AreShort draft.decls) }
         ensures edited { IfOk result (IsEdited self.now.decls) }
     {
-        let mut draft = self.index.draft()?;
-        draft.apply(change)?;
-        Ok(draft)
+        draft_change(&self.index, change)
     }
 
     /// A draft of a batch. It takes memory as `draft` does.
@@ -177,7 +174,7 @@ impl<B: Bodies> Deployment<B> {
         ensures names { result ≡ names_if self.old }
         ensures new { self.new ≡ redeployed self.old }
     {
-        self.index.commit();
+        take_over(&mut self.index);
         self.last_events.clear();
         if let Some(list) = self.beans.take() {
             self.stale.beans = Some(list);
@@ -268,7 +265,11 @@ impl<B: Bodies> Deployment<B> {
         ensures stays { self.new ≡ self.old }
     {
         let list = self.take_beans(alloc)?;
-        let found = faults(alloc, &mut PlainView::new(self.index.decls(), &list), &self.book);
+        let found = faults(
+            alloc,
+            &mut PlainView::new(self.index.decls(), &list),
+            &self.book,
+        );
         self.beans = Some(list);
         found
     }
@@ -317,7 +318,15 @@ impl<B: Bodies> Deployment<B> {
         let list = self.take_beans(alloc)?;
         // No effect at run time. The proof reads here that no two declarations have one kind and name.
         let _ = self.index.decls().iter();
-        let aim = aim_for(alloc, self.index.decls(), &list, bean_type, quals, message, work);
+        let aim = aim_for(
+            alloc,
+            self.index.decls(),
+            &list,
+            bean_type,
+            quals,
+            message,
+            work,
+        );
         self.beans = Some(list);
         aim
     }
@@ -406,4 +415,16 @@ impl<B: Bodies> Deployment<B> {
             }
         }
     }
+}
+
+/// What is staged is taken over, if anything is.
+#[tactic(auto, using(crate::proofs::Committing::committed_short, crate::proofs::Committing::nothing_staged))]
+fn take_over(index: &mut Index)
+    requires short { AreShort index.old.decls }
+    requires staged { IfSome index.old.staged (λ next. AreShort next.decls) }
+    ensures new { index.new ≡ committed index.old }
+    ensures short { AreShort index.new.decls }
+    ensures nothing { IfSome index.new.staged (λ next. AreShort next.decls) }
+{
+    index.commit();
 }

@@ -1,14 +1,12 @@
-use Rattle.std.proofs.Common.{rules, ◌≡◌, [], Some, false, IfOk, IfErr, OnOk, OnErr, ℕ, ◌+◌, ◌-◌, ◌*◌, ◌<◌, ◌≤◌, length, ◌/◌, ◌%◌, Bool, true, nat_eq, nat_lt, List, ◌∷◌, ◌++◌, slice_index_or, slice_set, bit_and, bit_or, Fits, w8, w32, w64, Bor, MutBor}
-use Rattle.cdi_legal.specs.LegalRun.{LegalEnd}
-use Rattle.cdi_legal.specs.Rooted.{IsRooted}
+use Rattle.std.proofs.Common.{sym, ◌∙◌}
 use Rattle.cdi_staging.specs.Staged.{scene_of}
-use Rattle.cdi_model.specs.Answering.{Answers}
-use Rattle.cdi_container.specs.Asked.{asked_for, to_look, to_call, run_of_event, run_of_use}
-use Rattle.cdi_container.specs.History.{left_by, untold, unplayed, with_request, refusal_of_begin, refusal_of_end, IsRefusedBy, RunAnswers, RunsFrom, EndsRequest, EndsContexts}
-use Rattle.cdi_container.specs.declared.answer.Answer.TheVariants.{Given}
-use Rattle.cdi_container.specs.Seen.{LookUpStep, CallStep, FireStep, BeginStep, EndStep, StopStep, done_or}
+use Rattle.cdi_container.proofs.Ending.{ends_nothing, is_closed}
 use Rattle.cdi_container.proofs.instances.end_both.Goals as goal
 
--- src/instances.rt:208:1
 pub returns-clause-legal : goal.returns-clause-legal
-returns-clause-legal g c = ?
+returns-clause-legal g c =
+    let d = c.args.deployment.now in
+    let m = c.args.run.now.moment in
+    ends_nothing (scene_of d.decls d.book) m c.close.new.self.moment
+    (c.requires.nothing_lives (sym c.is_wired.ensures ∙ c.if-is_wired.false))
+    (is_closed m c.restart.new.self.moment c.close.new.self.moment c.restart.ensures.moment c.close.ensures)

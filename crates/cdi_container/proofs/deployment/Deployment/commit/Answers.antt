@@ -1,33 +1,12 @@
-use Rattle.std.proofs.Common.{rules, ◌≡◌, ◌≢◌, AllPairs, IsSome, None, [], length, true, false, Ok, Err, Some, ◌∷◌, OnOk, OnErr, IfOk, IfErr, ℕ, ◌+◌, ◌-◌, ◌*◌, ◌<◌, ◌≤◌, ◌/◌, ◌%◌, Bool, nat_eq, nat_lt, List, ◌++◌, slice_index_or, slice_set, bit_and, bit_or, Fits, w8, w32, w64, Bor, MutBor}
-use Rattle.cdi_model.specs.Edits.{answer_of_edit}
-use Rattle.cdi_index.specs.State.{IsEdited}
-use Rattle.cdi_container.specs.Editing.{changes_of_all, drafted_by, refusal_of_batch}
-use Rattle.cdi_container.specs.History.{no_counts}
-use Rattle.cdi_container.specs.Seen.{AnswersBatch}
-use Rattle.cdi_model.specs.Answering.{Answers}
-use Rattle.cdi_model.specs.Short.{AreShort}
-use Rattle.cdi_model.specs.Work.{with_one}
-use Rattle.cdi_effective.specs.Beans.{beans}
-use Rattle.cdi_resolve.specs.Choices.{chosen, chosen_by_name}
-use Rattle.cdi_intercept.specs.Chains.{chain_of}
-use Rattle.cdi_observe.specs.Observers.{notified}
-use Rattle.cdi_staging.specs.Naming.{names_of}
-use Rattle.cdi_staging.specs.Staged.{scene_of}
-use Rattle.cdi_validate.specs.Faults.{faults}
-use Rattle.cdi_container.specs.Asked.{aim_of, asked_for, fired_of}
-use Rattle.cdi_scene.specs.Sound.{AreObservers}
-use Rattle.cdi_container.specs.Wired.{StandsIn, IsSameDeployment, IsShortEdit, names_if, redeployed, staged_by, with_staged}
-use Rattle.cdi_wiring.specs.Wired.{IsWiredOf}
+use Rattle.std.proofs.Common.{rules}
 use Rattle.cdi_container.proofs.deployment.Deployment.commit.Goals as goal
 
--- src/deployment.rt:185:9
 pub invariant_of-self : goal.invariant_of-self
-invariant_of-self g c = ?
+invariant_of-self g c = (c.take_over.ensures.short, c.take_over.ensures.nothing, search rules, search rules, search rules)
 
--- src/deployment.rt:185:9
 pub invariant_of-self-in_default-take : goal.invariant_of-self-in_default-take
-invariant_of-self-in_default-take g c = ?
+invariant_of-self-in_default-take g c = (c.take_over.ensures.short, c.take_over.ensures.nothing, search rules, search rules, search rules)
 
--- src/deployment.rt:185:9
 pub invariant_of-self-in_default-take-2 : goal.invariant_of-self-in_default-take-2
-invariant_of-self-in_default-take-2 g c = ?
+invariant_of-self-in_default-take-2 g c =
+    (c.take_over.ensures.short, c.take_over.ensures.nothing, search rules, search rules, search rules)
