@@ -1,6 +1,6 @@
 //! Answers, and what they are to be.
 use crate::texts::{are_names, are_observers};
-use cdi_container::{Choice, ObserverId};
+use cdi_container::{Choice, Counts, ObserverId};
 use cdi_fixtures::are_of;
 use cdi_model::{Error, Name, Refusal, Seq};
 
@@ -13,6 +13,8 @@ pub enum Answer {
     Unsatisfied,
     Ambiguous(&'static [&'static [u8]]),
     Faults(&'static [u8]),
+    /// How many closures and how many records of beans were computed.
+    Counted(u64, u64),
     /// The names of interceptors.
     Around(&'static [&'static [u8]]),
     /// The names of observer methods.
@@ -26,6 +28,7 @@ pub enum Answered {
     Choice(Choice),
     /// The texts of faults, each on a line.
     Faults(Vec<u8>),
+    Counts(Counts),
     Names(Seq<Name>),
     Observers(Seq<ObserverId>),
 }
@@ -45,6 +48,10 @@ fn is_answer(answered: &Answered, answer: Answer) -> bool {
     match answered {
         Answered::Nothing => matches!(answer, Answer::Done),
         Answered::Choice(choice) => is_choice(choice, answer),
+        Answered::Counts(counts) => match answer {
+            Answer::Counted(closures, beans) => *counts == Counts { closures, beans },
+            _ => false,
+        },
         Answered::Names(names) => match answer {
             Answer::Around(wanted) => are_names(names.as_slice(), wanted),
             _ => false,

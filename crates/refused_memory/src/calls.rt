@@ -1,8 +1,8 @@
 //! Calls of a container, of which any one allocation may be refused.
 use crate::Difference;
 use crate::answers::{Answer, Answered, agrees};
-use Answer::{Ambiguous, Around, Done, Faults, Observed, One, Refused, Unsatisfied};
-use Call::{Beans, Books, Chain, Choose, Named, Observers, Promises, Put, Remove, Report};
+use Answer::{Ambiguous, Around, Counted, Done, Faults, Observed, One, Refused, Unsatisfied};
+use Call::{Beans, Books, Chain, Choose, Counts, Named, Observers, Promises, Put, Remove, Report};
 use cdi_container::{Bodies, Book, Choice, Container, Promise, PromiseBook, read_quals};
 use cdi_fixtures::{Echo, lines_of, name};
 use cdi_model::{BeanPlace, Error, Ident, Kind, Refusal, Seq};
@@ -21,6 +21,7 @@ enum Call {
     /// The observer methods of an event of a type, with uses of qualifiers.
     Observers(&'static [u8], &'static [u8]),
     Report,
+    Counts,
     /// The classes of the bean list.
     Beans,
     /// Whether a book of promises has the one that was inserted.
@@ -164,7 +165,7 @@ F30 bean Place Corner Hut
 ";
 
 /// Calls, each with its answer.
-static CALLS: [(Call, Answer); 51] = [
+static CALLS: [(Call, Answer); 52] = [
     (Put(TYPE), Done),
     (Put(INTERFACE), Done),
     (Put(QUALIFIER), Done),
@@ -213,6 +214,7 @@ static CALLS: [(Call, Answer); 51] = [
     (Put(ALSO_SPECIALIZING), Done),
     (Choose(PLACE, ANY), One(HUT)),
     (Put(SPECIALIZING_NONE), Done),
+    (Counts, Counted(5, 12)),
     (Report, Faults(FAULTS)),
     (
         Beans,
@@ -234,6 +236,7 @@ fn make(alloc: Global, container: &mut Container<Echo>, call: Call) -> Result<An
         Chain(text, method) => chain(container, text, method),
         Observers(text, uses) => observers(alloc, container, text, uses),
         Report => report(alloc, container),
+        Counts => Ok(Answered::Counts(container.counts())),
         Beans => beans(alloc, container),
         Promises => promises(alloc),
         Books => books(alloc),
