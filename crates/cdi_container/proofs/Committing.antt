@@ -18,7 +18,11 @@ use Rattle.cdi_staging.specs.declared.names.Names.{Names}
 use Rattle.cdi_trace.specs.TraceText.{text_of_entries}
 use Rattle.cdi_container.specs.Editing.{drafted_by}
 use Rattle.cdi_container.specs.History.{State, Redeploys}
-use Rattle.cdi_container.specs.Wired.{Deployed, RestsOnScene, names_if, redeployed, redeployed_to, staged_by, trace_names, with_staged}
+use Rattle.cdi_bodies.specs.Book.{Promised}
+use Rattle.cdi_wiring.specs.Wired.{IsWiringOf}
+use Rattle.cdi_wiring.specs.declared.verdict.Wiring.{Wiring}
+use Rattle.cdi_wiring.specs.declared.verdict.Wiring.TheVariants as wirings
+use Rattle.cdi_container.specs.Wired.{Deployed, RestsOnScene, is_sound, names_if, names_in, redeployed, redeployed_to, staged_by, trace_names, with_staged}
 use Rattle.cdi_container.proofs.Ending.{standing_at}
 
 -- ---- drafts
@@ -55,6 +59,13 @@ rests_staged d e staged m before is r = subst (λ (x : Deployed). RestsOnScene x
 })
 
 -- ---- behind a commit
+
+-- the names of a scene are those of its declarations
+pub names_wired : (ds : List Decl) (book : List Promised) (wiring : Option Wiring) → IfSome wiring (IsWiringOf ds book)
+    → names_in wiring ≡ (if is_sound wiring then Some (names_of ds) else None)
+names_wired ds book None h = refl
+names_wired ds book (Some (wirings.Faulty count)) h = refl
+names_wired ds book (Some (wirings.Sound wired)) h = ap Some h.names
 
 pub committed_short : (i : Indexed) → AreShort i.decls → IfSome i.staged (λ next. AreShort next.decls) → AreShort (committed i).decls
 committed_short i short staged = by i.staged staged

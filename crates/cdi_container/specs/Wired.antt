@@ -54,6 +54,12 @@ abbrev pub IsShortEdit : Edit → Type 0
 IsShortEdit (edits.Put d) = HasShortLists d
 IsShortEdit (edits.Remove kind name) = Unit {0}
 
+-- the names of a scene that is there
+abbrev pub names_in : Option Wiring → Option Names
+names_in None = None
+names_in (Some (wirings.Faulty count)) = None
+names_in (Some (wirings.Sound wired)) = Some wired.names
+
 -- the names of a scene that was there
 abbrev pub names_if : Deployed → Option Names
 names_if d = if d.is_wired then Some (names_of d.decls) else None

@@ -17,7 +17,7 @@ ghost use Rattle.cdi_staging.specs.Staged.{scene_of};
 ghost use Rattle.cdi_validate.specs.Faults.{faults};
 ghost use Rattle.cdi_container.specs.Asked.{aim_of, asked_for, fired_of};
 ghost use Rattle.cdi_scene.specs.Sound.{AreObservers};
-ghost use Rattle.cdi_container.specs.Wired.{StandsIn, IsSameDeployment, IsShortEdit, names_if, redeployed, staged_by, with_staged};
+ghost use Rattle.cdi_container.specs.Wired.{StandsIn, IsSameDeployment, IsShortEdit, names_if, names_in, redeployed, staged_by, with_staged};
 ghost use Rattle.cdi_wiring.specs.Wired.{IsWiredOf};
 
 use crate::asked::{Aim, Message, aim_for, can_be_fired};
@@ -51,6 +51,28 @@ use std::marker::Model;
 struct Stale {
     beans: Option<BeanList>,
     scene: Option<Scene>,
+}
+
+impl Stale {
+    /// A bean list is stale, if there is one.
+    fn take_beans(&mut self, beans: Option<BeanList>) {
+        if let Some(list) = beans {
+            self.beans = Some(list);
+        }
+    }
+
+    /// A scene is stale, if there is one. Its names.
+    fn take_wiring(&mut self, wiring: Option<Wiring>) -> Option<Names>
+        ensures { result ≡ names_in wiring }
+    {
+        match wiring {
+            Some(Wiring::Sound(wired)) => {
+                self.scene = Some(wired.scene);
+                Some(wired.names)
+            }
+            _ => None,
+        }
+    }
 }
 
 /// The present declarations with what is kept of each, the book of stored bodies, and what was made of them since the last edit.
@@ -170,22 +192,17 @@ impl<B: Bodies> Deployment<B> {
 
     /// What is staged is present from now on, if anything is. The names of the declarations from before, where the scene was
     /// there. It takes no memory.
+    #[tactic(auto, using(crate::proofs::Committing::names_wired))]
     pub(crate) fn commit(&mut self) -> Option<Names>
         ensures names { result ≡ names_if self.old }
         ensures new { self.new ≡ redeployed self.old }
     {
-        take_over(&mut self.index);
+        let beans = self.beans.take();
+        let wiring = self.wiring.take();
         self.last_events.clear();
-        if let Some(list) = self.beans.take() {
-            self.stale.beans = Some(list);
-        }
-        match self.wiring.take() {
-            Some(Wiring::Sound(wired)) => {
-                self.stale.scene = Some(wired.scene);
-                Some(wired.names)
-            }
-            _ => None,
-        }
+        take_over(&mut self.index);
+        self.stale.take_beans(beans);
+        self.stale.take_wiring(wiring)
     }
 
     /// The bean for a type and qualifiers.

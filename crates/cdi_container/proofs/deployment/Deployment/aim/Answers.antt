@@ -1,4 +1,5 @@
-use Rattle.std.proofs.Common.{IfOk, subst, ap, ◌∙◌}
+use Rattle.std.proofs.Common.{IfOk, subst, sym, ap, ◌∙◌}
+use Rattle.cdi_model.specs.DeclList.{AreDistinct}
 use Rattle.cdi_staging.specs.Staged.{scene_of}
 use Rattle.cdi_container.specs.Asked.{asked_for}
 use Rattle.cdi_container.specs.Wired.{StandsIn}
@@ -9,6 +10,6 @@ pub returns-clause-there : goal.returns-clause-there
 returns-clause-there g c =
     let book = c.args.self.now.book in
     subst (λ ds. IfOk c.aim_for-aim.result (λ aim. StandsIn (scene_of ds book) aim))
-    (ap (λ d. d.decls) c.self-2.view_is ∙ ap (λ d. d.decls) c.take_beans.ensures.stays ∙ c.wire.ensures.same.decls)
-    (aim_stands c.self-2.inside.index.decls book (asked_for c.args.bean_type c.args.quals.now c.args.message) c.aim_for-aim.result
-    c.iter.ensures.distinct c.aim_for-aim.ensures)
+    (c.decls-3.ensures ∙ ap (λ d. d.decls) c.self-2.view_is ∙ ap (λ d. d.decls) c.take_beans.ensures.stays ∙ c.wire.ensures.same.decls)
+    (aim_stands c.decls-3.result.now book (asked_for c.args.bean_type c.args.quals.now c.args.message) c.aim_for-aim.result
+    (subst AreDistinct (c.decls-2.ensures ∙ sym c.decls-3.ensures) c.iter.ensures.distinct) c.aim_for-aim.ensures)
