@@ -16,6 +16,7 @@ use Rattle.cdi_model.proofs.EditLemmas.{edits_keep_decl}
 use Rattle.cdi_model.proofs.EntryLemmas.{key_exact}
 use Rattle.cdi_match.proofs.LocalityLemmas.{edits_keep_closure}
 use Rattle.cdi_effective.specs.Beans.{own_records}
+use Rattle.cdi_effective.specs.declared.records.Effective.{Effective}
 use Rattle.cdi_effective.specs.Disposers.{as_bean, find_bean}
 use Rattle.cdi_effective.specs.Reads.{record_reads}
 use Rattle.cdi_effective.specs.Specialized.{replaced_by}
@@ -23,7 +24,7 @@ use Rattle.cdi_model.specs.declared.decl.Decl.TheVariants as decls
 use Rattle.cdi_effective.proofs.RecordLemmas.{edits_keep_own_records}
 use Rattle.cdi_index.specs.declared.making.Made.{Made}
 use Rattle.cdi_index.specs.declared.making.Given.TheVariants as given
-use Rattle.cdi_index.specs.Made.{is_kept, made_of, made_of_bean, made_of_type, reads, reads_in}
+use Rattle.cdi_index.specs.Made.{is_kept, made_of, made_of_bean, made_of_type, reads, reads_in, words_of}
 use Rattle.cdi_index.proofs.ChangeLemmas.{any-either, any-same, none-of}
 
 -- an edit of a key affects a declaration
@@ -60,7 +61,15 @@ avoids : (edits : List Edit) (made : Option Made) → list_any (reads made) (edi
 avoids edits made none key among = none-of (reads made) (edited_keys edits) key none among
 
 abbrev made_with : List (List ℕ) → Made
-made_with types = record { reads = map (key_at kinds.Type) types; replaces = []; given = given.Types types }
+made_with types = record { reads = map (key_at kinds.Type) types; replaces = []; words = []; given = given.Types types }
+
+abbrev bean_with : BeanDecl → List DeclKey → List (List ℕ) → List Effective → Made
+bean_with bean reads replaces records = record {
+  reads = reads;
+  replaces = replaces;
+  words = words_of records bean.observers;
+  given = given.Records records;
+}
 
 -- what is made of a declaration that is not affected stays
 stays : (ds : List Decl) (edits : List Edit) (kind : Kind) (name : List ℕ)
@@ -104,11 +113,9 @@ stays ds edits kinds.Bean name none =
         let es = edited_all ds edits in
         let leave = edits_keep_own_records edits ds bean (avoids edits (Some (made_of_bean ds bean)) unread_bean) in
         ap (option_map (made_of_bean (edited_all ds edits))) (same ∙ e)
-        ∙ ap (λ rs. Some (record { reads = rs; replaces = replaced_by es (decls.Bean bean); given = given.Records (own_records es bean) }))
-        leave.reads
-        ∙ ap (λ rs. Some (record { reads = record_reads ds bean; replaces = rs; given = given.Records (own_records es bean) })) leave.replaced
-        ∙ ap (λ rs. Some (record { reads = record_reads ds bean; replaces = replaced_by ds (decls.Bean bean); given = given.Records rs }))
-        leave.records
+        ∙ ap (λ rs. Some (bean_with bean rs (replaced_by es (decls.Bean bean)) (own_records es bean))) leave.reads
+        ∙ ap (λ rs. Some (bean_with bean (record_reads ds bean) rs (own_records es bean))) leave.replaced
+        ∙ ap (λ rs. Some (bean_with bean (record_reads ds bean) (replaced_by ds (decls.Bean bean)) rs)) leave.records
         ∙ sym (ap (option_map (made_of_bean ds)) e)
 stays ds edits kinds.Qualifier name none = refl
 stays ds edits kinds.Binding name none = refl

@@ -8,3 +8,5 @@ mod NextLemmas
 mod InstallLemmas
 mod TurnLemmas
 mod ReplacedLemmas
+mod UnderLemmas
+mod SoughtLemmas

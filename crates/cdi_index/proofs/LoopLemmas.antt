@@ -1,22 +1,22 @@
 -- The steps of loops over declarations, their words and their slots.
-use Rattle.std.proofs.Common.{◌≡◌, ◌≢◌, ◌<◌, ◌+◌, ◌⊎◌, ℕ, zero, suc, nat_eq, Bool, true, false, cond, not, ◌&&◌, ◌||◌, List, [], ◌∷◌, ◌++◌, length, map, take, get_or}
+use Rattle.std.proofs.Common.{◌≡◌, ◌<◌, ◌+◌, ◌⊎◌, ℕ, zero, suc, nat_eq, Bool, true, false, cond, ◌&&◌, ◌||◌, List, [], ◌∷◌, ◌++◌, length, map, take, get_or}
 use Rattle.std.proofs.Common.{refl, sym, ap, ◌∙◌, inl, inr, Option, Some, None}
 use Rattle.std.specs.List.{list_any, slice_get}
-use Rattle.std.proofs.lemmas.Bool.{and_from, or_cases, or_left, or_right, eqb-true}
+use Rattle.std.proofs.lemmas.Bool.{and_from, or_cases, or_left, or_right}
 use Rattle.std.proofs.lemmas.List.{map-append, take_more}
 use Rattle.std.proofs.lemmas.List.Folds.{list_any_more}
 use Rattle.cdi_model.specs.declared.decl.Decl.{Decl}
 use Rattle.cdi_model.specs.declared.key.DeclKey.{DeclKey}
 use Rattle.cdi_model.specs.DeclKey.{same_key}
 use Rattle.cdi_postings.specs.declared.word.Word.{Word}
-use Rattle.cdi_postings.specs.Listing.{Listing, is_listed, Lists, Unlists}
+use Rattle.cdi_postings.specs.Listing.{Listing, is_listed, Lists}
 use Rattle.cdi_postings.specs.Words.{same_word}
 use Rattle.cdi_index.specs.declared.change.Change.{Change}
 use Rattle.cdi_index.specs.declared.making.Made.{Made}
 use Rattle.cdi_index.specs.declared.shelf.Kept.{Kept}
 use Rattle.cdi_index.specs.Kept.{is_reader, is_reader_among, kept_at, Keeps}
 use Rattle.cdi_index.specs.declared.shelf.Shelf.{Shelf}
-use Rattle.cdi_index.specs.Made.{classes_have, has_word, keys_have, made_of, reads}
+use Rattle.cdi_index.specs.Made.{classes_have, has_word, keys_have, made_of, reads, words_have}
 use Rattle.cdi_index.specs.Next.{change_of}
 use Rattle.cdi_index.proofs.ShelfLemmas.{nat-same}
 
@@ -42,15 +42,20 @@ words-next {X = X} word xs i x slot b c lt at lists before w h =
           (and_from (same_word (word x) w) (nat_eq slot slot) (ap p at ∙ last) (nat-same slot))
     ]
 
--- it is listed under the words of keys, and then under those of classes
-pub words-both : (made : Made) (slot : ℕ) (b c : List Listing) → Keeps b c
+-- it is listed under the words of keys, then under those of classes, and then under others
+pub words-all : (made : Made) (slot : ℕ) (b c e : List Listing) → Keeps b c → Keeps c e
     → ((w : Word) → keys_have made.reads w ≡ true → is_listed b w slot ≡ true)
     → ((w : Word) → classes_have made.replaces w ≡ true → is_listed c w slot ≡ true)
-    → (w : Word) → has_word (Some made) w ≡ true → is_listed c w slot ≡ true
-words-both made slot b c kept keys classes w h = elim (or_cases (keys_have made.reads w) (classes_have made.replaces w) h) [
-  | inl first ↦ kept w slot (keys w first)
-  | inr last ↦ classes w last
-]
+    → ((w : Word) → words_have made.words w ≡ true → is_listed e w slot ≡ true)
+    → (w : Word) → has_word (Some made) w ≡ true → is_listed e w slot ≡ true
+words-all made slot b c e first second keys classes words w h =
+    elim (or_cases (keys_have made.reads w) (classes_have made.replaces w || words_have made.words w) h) [
+      | inl read ↦ second w slot (first w slot (keys w read))
+      | inr other ↦ elim (or_cases (classes_have made.replaces w) (words_have made.words w) other) [
+        | inl replaced ↦ second w slot (classes w replaced)
+        | inr own ↦ words w own
+      ]
+    ]
 
 -- ---- changes
 
@@ -92,21 +97,6 @@ changes-next es keys i key made olds news lt at is pushed before =
     ∙ ap (λ k. map (change_of es) (take i keys) ++ change_of es k ∷ []) at
     ∙ sym (map-append (change_of es) (take i keys) (get_or keys i key ∷ []))
     ∙ ap (map (change_of es)) (sym (take_more keys i key lt))
-
--- ---- listed no more
-
--- other slots stay listed
-pub unlist-next : (word : Word) (slot : ℕ) (a b c : List Listing) → Unlists word slot b c
-    → ((w : Word) (s : ℕ) → s ≢ slot → is_listed a w s ≡ true → is_listed b w s ≡ true)
-    → (w : Word) (s : ℕ) → s ≢ slot → is_listed a w s ≡ true → is_listed c w s ≡ true
-unlist-next word slot a b c unlists before w s apart h =
-    unlists w s ∙ and_from (is_listed b w s) (not (same_word word w && nat_eq slot s)) (before w s apart h)
-    (by (same_word word w) (nat_eq slot s) refl)
-  where
-    by : (e f : Bool) → nat_eq slot s ≡ f → not (e && f) ≡ true
-    by true true is = absurd (apart (sym (eqb-true slot s is)))
-    by true false is = refl
-    by false f is = refl
 
 -- ---- who reads
 

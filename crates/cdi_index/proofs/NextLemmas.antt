@@ -21,7 +21,7 @@ use Rattle.cdi_index.specs.declared.shelf.Kept.{Kept}
 use Rattle.cdi_index.specs.declared.shelf.Shelf.{Shelf}
 use Rattle.cdi_index.specs.Counted.{computed}
 use Rattle.cdi_index.specs.Kept.{is_reader, is_reader_among, kept_at, made_in, slot_of, stored, stored_at, touches, IsExact, IsFreeFrom, IsShelf, IsSound, Keeps, Stored}
-use Rattle.cdi_index.specs.Made.{classes_have, has_word, is_kept, made_of, reads, word_of}
+use Rattle.cdi_index.specs.Made.{classes_have, has_word, is_kept, made_of, reads, word_of, words_have}
 use Rattle.cdi_index.specs.Next.{applied, change_of, is_made, IsNext}
 use Rattle.cdi_index.specs.declared.prepare.Next.{Next}
 use Rattle.cdi_index.specs.Replaced.{turned, AreReplaced}
@@ -90,7 +90,7 @@ module _ (ds : List Decl) (shelf : Shelf) (listings : List Listing) (is : IsShel
           (ap (λ x. same_key x k) here.key ∙ same_key_equiv.refl k) (ap (λ m. reads (Some m) key) here.is ∙ read) in
           any-more (nat_eq s) (λ t. is_reader (kept_at shelf t) k key) (under listings (word_of key))
           (λ t same. ap (λ x. is_reader (kept_at shelf x) k key) (sym (eqb-true s t same)) ∙ reader)
-          (sound (word_of key) k s made at (or_left (reads (Some made) key) (classes_have made.replaces (word_of key)) read))
+          (sound (word_of key) k s made at (or_left (reads (Some made) key) (classes_have made.replaces (word_of key) || words_have made.words (word_of key)) read))
 
   pub touches-hits : touches shelf listings k key ≡ hits ds k key
   touches-hits = ap (λ b. (is_kept key.kind && same_key key k) || b)

@@ -24,6 +24,7 @@ use Rattle.cdi_effective.proofs.RecordLemmas.{records_are_own}
 use Rattle.cdi_index.proofs.ReadLemmas.{found_name}
 use Rattle.cdi_effective.specs.declared.records.Effective.{Effective}
 use Rattle.cdi_postings.specs.declared.word.Reason.TheVariants as reasons
+use Rattle.cdi_postings.specs.declared.word.Word.{Word}
 use Rattle.cdi_postings.specs.Listing.{Listing, under}
 use Rattle.cdi_postings.specs.Words.{same_word, word_at, same_word_equiv}
 use Rattle.cdi_index.specs.declared.change.Change.{Change}
@@ -31,7 +32,7 @@ use Rattle.cdi_index.specs.declared.making.Made.{Made}
 use Rattle.cdi_index.specs.declared.shelf.Kept.{Kept}
 use Rattle.cdi_index.specs.declared.shelf.Shelf.{Shelf}
 use Rattle.cdi_index.specs.Kept.{kept_at, made_in, slot_of, stored, stored_at, IsExact, IsShelf, IsSound, Stored}
-use Rattle.cdi_index.specs.Made.{classes_have, has_word, keys_have, made_of, made_of_bean, made_of_type, replaces_in}
+use Rattle.cdi_index.specs.Made.{classes_have, has_word, keys_have, made_of, made_of_bean, made_of_type, replaces_in, words_have}
 use Rattle.cdi_index.specs.Next.{change_of}
 use Rattle.cdi_index.specs.Replaced.{lent, disabled, AreReplaced, is_at_stake, is_other, is_replaced_after, is_replaced_anew, is_replaced_key, is_replaced_of, is_replaced_still, made_after, records_after, replaced_records, replaces, stakes}
 use Rattle.cdi_index.proofs.CountLemmas.{keys-distinct}
@@ -173,21 +174,27 @@ is-replaced ds a k h = by k.kind k.name h
 
 -- ---- after changes
 
+-- the word of a bean that is replaced
+abbrev replaced-word : List ℕ → Word
+replaced-word class = word_at reasons.Replaces class
+
 -- a bean that is replaced by what is made is among its words
-word-of-replaced : (made : Made) (k : DeclKey) → replaces (Some made) k ≡ true
-    → has_word (Some made) (word_at reasons.Replaces k.name) ≡ true
-word-of-replaced made k h = or_right (keys_have made.reads (word_at reasons.Replaces k.name)) (classes_have made.replaces (word_at reasons.Replaces k.name))
-    (by made.replaces h)
+word-of-replaced : (made : Made) (k : DeclKey) → replaces (Some made) k ≡ true → has_word (Some made) (replaced-word k.name) ≡ true
+word-of-replaced made k h =
+    let w : Word = replaced-word k.name in
+    or_right (keys_have made.reads w) (classes_have made.replaces w || words_have made.words w)
+    (or_left (classes_have made.replaces w) (words_have made.words w) (by made.replaces h))
   where
-    by : (classes : List (List ℕ)) → is_among (map (key_at kinds.Bean) classes) k ≡ true → classes_have classes (word_at reasons.Replaces k.name) ≡ true
+    by : (classes : List (List ℕ)) → is_among (map (key_at kinds.Bean) classes) k ≡ true → classes_have classes (replaced-word k.name) ≡ true
     by [] e = absurd (false≢true e)
-    by (c ∷ classes) e = elim (or_cases (same_key (key_at kinds.Bean c) k) (is_among (map (key_at kinds.Bean) classes) k) e) [
-      | inl here ↦ or_left (same_word (word_at reasons.Replaces c) (word_at reasons.Replaces k.name)) (classes_have classes (word_at reasons.Replaces k.name))
-          (ap (λ (x : DeclKey). same_word (word_at reasons.Replaces c) (word_at reasons.Replaces x.name)) (sym (key_exact (key_at kinds.Bean c) k here))
-          ∙ same_word_equiv.refl (word_at reasons.Replaces c))
-      | inr later ↦ or_right (same_word (word_at reasons.Replaces c) (word_at reasons.Replaces k.name)) (classes_have classes (word_at reasons.Replaces k.name))
-          (by classes later)
-    ]
+    by (c ∷ classes) e =
+        let w : Word = replaced-word k.name in
+        elim (or_cases (same_key (key_at kinds.Bean c) k) (is_among (map (key_at kinds.Bean) classes) k) e) [
+          | inl here ↦ or_left (same_word (replaced-word c) w) (classes_have classes w)
+              (ap (λ (x : DeclKey). same_word (replaced-word c) (replaced-word x.name)) (sym (key_exact (key_at kinds.Bean c) k here))
+              ∙ same_word_equiv.refl (replaced-word c))
+          | inr later ↦ or_right (same_word (replaced-word c) w) (classes_have classes w) (by classes later)
+        ]
 
 made-after : (es : List Decl) (ks : List DeclKey) (before : Option Made) (k : DeclKey)
     → made_after (map (change_of es) ks) before k ≡ cond (list_any (same_key k) ks) (made_of es k) before

@@ -4,3 +4,4 @@ pub mod Kept
 pub mod Replaced
 pub mod Next
 pub mod State
+pub mod Under

@@ -1,12 +1,14 @@
 -- What is made of declarations, what it reads, and under which words a declaration is listed for it.
-use Rattle.std.specs.Prelude.{◌≡◌, ◌||◌, ℕ, Bool, true, false, List, [], Option, Some, None, option_map}
-use Rattle.std.specs.List.{list_any}
+use Rattle.std.specs.Prelude.{◌≡◌, ◌||◌, ℕ, Bool, true, false, List, [], ◌++◌, map, Option, Some, None, option_map}
+use Rattle.std.specs.List.{flat_map, list_any}
+use Rattle.std.specs.Option.{option_to_list}
 use Rattle.std.specs.declared.alloc.Global.{Global}
 use Rattle.std.specs.declared.vec.Vec.{Vec}
 use Rattle.cdi_model.specs.declared.decl.BeanDecl.{BeanDecl}
 use Rattle.cdi_model.specs.declared.decl.Decl.{Decl}
 use Rattle.cdi_model.specs.declared.decl.Decl.TheVariants as decls
 use Rattle.cdi_model.specs.declared.decl.Kind.{Kind}
+use Rattle.cdi_model.specs.declared.decl.ObserverDecl.{ObserverDecl}
 use Rattle.cdi_model.specs.declared.decl.Kind.TheVariants as kinds
 use Rattle.cdi_model.specs.declared.key.DeclKey.{DeclKey}
 use Rattle.cdi_model.specs.DeclList.{find_decl}
@@ -14,6 +16,7 @@ use Rattle.cdi_model.specs.Edits.{is_among}
 use Rattle.cdi_match.specs.Locality.{type_reads}
 use Rattle.cdi_match.specs.Types.{types_of}
 use Rattle.cdi_effective.specs.Beans.{own_records}
+use Rattle.cdi_effective.specs.declared.records.Effective.{Effective}
 use Rattle.cdi_effective.specs.Disposers.{find_bean}
 use Rattle.cdi_effective.specs.Reads.{record_reads}
 use Rattle.cdi_effective.specs.Specialized.{replaced_by}
@@ -29,15 +32,33 @@ is_kept kinds.Type = true
 is_kept kinds.Bean = true
 is_kept other = false
 
+-- the words of a record: its types and its name
+abbrev pub words_of_record : Effective → List Word
+words_of_record r = map (word_at reasons.HasType) r.types ++ map (word_at reasons.HasName) (option_to_list r.name)
+
+-- those of some records, and the types that some observer methods observe
+abbrev pub words_of : List Effective → List ObserverDecl → List Word
+words_of records observers = flat_map words_of_record records ++ map (λ o. word_at reasons.Observes o.event_type) observers
+
+-- the words of a bean declaration: those of the records that it has by itself, and of its observer methods
+abbrev pub words_of_bean : List Decl → BeanDecl → List Word
+words_of_bean ds bean = words_of (own_records ds bean) bean.observers
+
 -- the closure of a type
 abbrev pub made_of_type : List Decl → List ℕ → Made
-made_of_type ds name = record { reads = type_reads ds name; replaces = []; given = given.Types (types_of ds name) }
+made_of_type ds name = record {
+  reads = type_reads ds name;
+  replaces = [];
+  words = [];
+  given = given.Types (types_of ds name);
+}
 
--- the records that a bean declaration has by itself, and which beans it replaces
+-- the records that a bean declaration has by itself, which beans it replaces, and its words
 abbrev pub made_of_bean : List Decl → BeanDecl → Made
 made_of_bean ds bean = record {
   reads = record_reads ds bean;
   replaces = replaced_by ds (decls.Bean bean);
+  words = words_of_bean ds bean;
   given = given.Records (own_records ds bean);
 }
 
@@ -75,9 +96,18 @@ replaces_in (Some made) = made.replaces
 abbrev pub classes_have : List (List ℕ) → Word → Bool
 classes_have classes w = list_any (λ class. same_word (word_at reasons.Replaces class) w) classes
 
+-- the words under which it is listed beside what it reads and replaces
+abbrev pub words_in : Option Made → List Word
+words_in None = []
+words_in (Some made) = made.words
+
+-- the word is one of these
+abbrev pub words_have : List Word → Word → Bool
+words_have words w = list_any (λ v. same_word v w) words
+
 -- a declaration of which this is made has to be listed under the word
 abbrev pub has_word : Option Made → Word → Bool
-has_word made w = keys_have (reads_in made) w || classes_have (replaces_in made) w
+has_word made w = keys_have (reads_in made) w || (classes_have (replaces_in made) w || words_have (words_in made) w)
 
 -- the types of a declared type
 abbrev pub types_declared : List Decl → List ℕ → Option (List (List ℕ))

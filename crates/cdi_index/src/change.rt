@@ -6,7 +6,7 @@ ghost use Rattle.cdi_model.specs.DeclKey.{kind_number, same_key};
 ghost use Rattle.cdi_postings.specs.Listing.{is_listed};
 ghost use Rattle.cdi_index.specs.Counted.{is_of_kind};
 ghost use Rattle.cdi_index.specs.Kept.{made_in, stored, Keeps};
-ghost use Rattle.cdi_index.specs.Made.{classes_have, has_word, keys_have, made_of};
+ghost use Rattle.cdi_index.specs.Made.{classes_have, has_word, keys_have, made_of, words_have};
 ghost use Rattle.cdi_index.specs.Next.{change_of, is_made};
 
 use crate::affected::{word_of, word_of_replaced};
@@ -14,7 +14,7 @@ use crate::making::{Made, make};
 use crate::next_types::NextTypes;
 use crate::shelf::Shelf;
 use cdi_model::{DeclKey, Decls, Kind, Name};
-use cdi_postings::Postings;
+use cdi_postings::{Postings, Word};
 use indexmap::IndexSet;
 use std::alloc::{AllocError, Global};
 
@@ -47,6 +47,17 @@ fn list_classes(postings: &mut Postings, slot: u64, classes: &[Name]) -> Result<
     Ok(())
 }
 
+/// Lists a slot under some words.
+fn list_each(postings: &mut Postings, slot: u64, words: &[Word]) -> Result<(), AllocError>
+    ensures kept { Keeps postings.old postings.new }
+    ensures listed { OnOk result ((w : _) → words_have words.now w ≡ true → is_listed postings.new w slot ≡ true) }
+{
+    for word in words {
+        postings.list(*word, slot)?;
+    }
+    Ok(())
+}
+
 /// Lists a slot under the words of what is made of a declaration.
 fn list_words(postings: &mut Postings, slot: u64, made: &Option<Made>) -> Result<(), AllocError>
     ensures kept { Keeps postings.old postings.new }
@@ -55,7 +66,8 @@ fn list_words(postings: &mut Postings, slot: u64, made: &Option<Made>) -> Result
     match made {
         Some(made) => {
             list_keys(postings, slot, made.reads.as_slice())?;
-            list_classes(postings, slot, made.replaces.as_slice())
+            list_classes(postings, slot, made.replaces.as_slice())?;
+            list_each(postings, slot, made.words.as_slice())
         }
         None => Ok(()),
     }

@@ -1,10 +1,13 @@
 //! The declarations, with what is made of each.
-ghost use Rattle.std.specs.Prelude.{◌≡◌, Some, None, IfOk, OnOk, OnErr};
+ghost use Rattle.std.specs.Prelude.{◌≡◌, filter, flat_map, map, Some, None, IfOk, OnOk, OnErr};
 ghost use Rattle.std.specs.Option.{option_copied};
+ghost use Rattle.cdi_match.specs.Chain.{has};
+ghost use Rattle.cdi_effective.specs.Beans.{beans, entries};
 ghost use Rattle.cdi_effective.specs.Records.{records_in};
 ghost use Rattle.cdi_index.specs.Made.{types_declared};
 ghost use Rattle.cdi_index.specs.Replaced.{lent};
 ghost use Rattle.cdi_index.specs.State.{committed, drafted_from, empty, staged_by, with_staged, IsEdited};
+ghost use Rattle.cdi_index.specs.Under.{beans_under, has_name, is_sought, observes_one, records_at};
 
 use crate::counts::Counts;
 use crate::draft::Draft;
@@ -13,9 +16,10 @@ use crate::making::{Given, Made};
 use crate::prepare::{Next, prepare};
 use crate::replaced::install_turns;
 use crate::shelf::Shelf;
+use crate::under::{Sought, positions_under, sought_at_positions, words_observed};
 use cdi_effective::Effective;
-use cdi_model::{DeclKey, Decls, Kind, Name};
-use cdi_postings::Postings;
+use cdi_model::{Decl, DeclKey, Decls, Kind, Name};
+use cdi_postings::{Postings, Reason, Word};
 use std::alloc::{AllocError, Global};
 use std::marker::Model;
 
@@ -105,6 +109,76 @@ impl Index {
             Some(records) => records.as_slice(),
             None => own_records(self.shelf.find(&key)),
         }
+    }
+
+    /// The records of the declaration at a position.
+    pub(crate) fn records_at(&self, position: usize) -> &[Effective]
+        ensures { result.now ≡ records_at self.now.decls position }
+    {
+        // No effect at run time. The proof reads here that no two declarations have one kind and name.
+        let _ = self.decls.iter();
+        match self.decls.at(position) {
+            Some(Decl::Bean(bean)) => self.records(&bean.name),
+            _ => &[],
+        }
+    }
+
+    /// Those of the beans of the declarations that have one of some words which are sought, in order.
+    fn sought_under(
+        &self,
+        alloc: Global,
+        words: &[Word],
+        sought: Sought<'_>,
+    ) -> Result<Vec<&Effective>, AllocError>
+        ensures { IfOk result (λ list. map (λ bean. bean.now) list.items
+            ≡ filter (is_sought sought.entry) (beans_under self.now.decls words.now)) }
+    {
+        // No effect at run time. The proof reads here that no two declarations have one kind and name.
+        let _ = self.decls.iter();
+        let positions = positions_under(&self.decls, &self.shelf, &self.postings, words);
+        sought_at_positions(alloc, self, sought, &positions)
+    }
+
+    /// The beans that have a type, enabled or not, in order. It takes memory for a list of them, and looks at the beans of
+    /// their declarations alone.
+    pub fn beans_of_type(
+        &self,
+        alloc: Global,
+        bean_type: &Name,
+    ) -> Result<Vec<&Effective>, AllocError>
+        ensures { IfOk result (λ list. map (λ bean. bean.now) list.items
+            ≡ filter (λ bean. has bean.types bean_type.now) (beans self.now.decls)) }
+    {
+        let word = Word {
+            reason: Reason::HasType,
+            name: *bean_type,
+        };
+        self.sought_under(alloc, &[word], Sought::OfType(bean_type))
+    }
+
+    /// The beans that have a name, enabled or not, in order. It takes memory and time as `beans_of_type` does.
+    pub fn beans_of_name(&self, alloc: Global, name: &Name) -> Result<Vec<&Effective>, AllocError>
+        ensures { IfOk result (λ list. map (λ bean. bean.now) list.items ≡ filter (has_name name.now) (beans self.now.decls)) }
+    {
+        let word = Word {
+            reason: Reason::HasName,
+            name: *name,
+        };
+        self.sought_under(alloc, &[word], Sought::OfName(name))
+    }
+
+    /// The beans of the declarations of which an observer method observes one of some types, in order. It takes memory for
+    /// lists of the types and of the beans.
+    pub fn beans_observing(
+        &self,
+        alloc: Global,
+        types: &[Name],
+    ) -> Result<Vec<&Effective>, AllocError>
+        ensures { IfOk result (λ list. map (λ bean. bean.now) list.items
+            ≡ flat_map (entries self.now.decls) (filter (observes_one types.now) self.now.decls)) }
+    {
+        let words = words_observed(alloc, types)?;
+        self.sought_under(alloc, words.as_slice(), Sought::Each)
     }
 
     /// A draft without an edit. It takes memory as `Decls::copy` does.

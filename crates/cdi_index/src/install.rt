@@ -10,7 +10,7 @@ use crate::affected::{word_of, word_of_replaced};
 use crate::change::Change;
 use crate::shelf::Shelf;
 use cdi_model::{DeclKey, Name};
-use cdi_postings::Postings;
+use cdi_postings::{Postings, Word};
 
 /// Lists a slot no more under the words of some keys. It takes no memory.
 fn unlist_keys(postings: &mut Postings, slot: u64, reads: &[DeclKey])
@@ -27,6 +27,15 @@ fn unlist_classes(postings: &mut Postings, slot: u64, classes: &[Name])
 {
     for class in classes {
         postings.unlist(word_of_replaced(class), slot);
+    }
+}
+
+/// Lists a slot no more under some words. It takes no memory.
+fn unlist_each(postings: &mut Postings, slot: u64, words: &[Word])
+    ensures { (w : _) (s : _) → s ≢ slot → is_listed postings.old w s ≡ true → is_listed postings.new w s ≡ true }
+{
+    for word in words {
+        postings.unlist(*word, slot);
     }
 }
 
@@ -50,6 +59,7 @@ fn install_one(shelf: &mut Shelf, postings: &mut Postings, slot: u64, change: Ch
     if let Some((old, before)) = shelf.take_out(&key) {
         unlist_keys(postings, old, before.reads.as_slice());
         unlist_classes(postings, old, before.replaces.as_slice());
+        unlist_each(postings, old, before.words.as_slice());
     }
     if let Some(made) = made {
         shelf.put_in(&key, slot, made);

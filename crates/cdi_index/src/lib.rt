@@ -12,6 +12,7 @@ mod next_types;
 mod prepare;
 mod replaced;
 mod shelf;
+mod under;
 
 pub use counts::Counts;
 pub use draft::Draft;

@@ -18,13 +18,14 @@ pub(crate) struct Kept {
     pub(crate) made: Made,
 }
 
-/// What is kept of declarations. Each has a slot, a number that is given once. So what is listed by its slot is found
-/// without its name, and a slot that is listed too long leads to nothing.
+/// What is kept of declarations, each at a slot of its own: a number that each version of what is made gets anew. So what is
+/// listed by its slot is found without its name. A slot may be listed too long: then it leads to nothing, or to what is
+/// kept there since, which tells by itself whether it is looked for.
 #[derive(Drop)]
 pub(crate) struct Shelf {
     pub(crate) slots: IndexMap<DeclKey, u64>,
     pub(crate) kept: IndexMap<u64, Kept>,
-    /// How many slots were given.
+    /// No slot from this one on was given at a commit. A stage that is given up leaves it, so its slots are given again.
     pub(crate) given: u64,
     /// The records of the beans that others replace.
     pub(crate) replaced: IndexMap<DeclKey, Seq<Effective>>,

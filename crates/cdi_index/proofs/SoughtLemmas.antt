@@ -1,0 +1,215 @@
+-- The beans that are sought are among those of the declarations that have the words.
+use Rattle.std.proofs.Common.{◌≡◌, ℕ, Bool, true, false, cond, ◌||◌, List, [], ◌∷◌, ◌++◌, map, flat_map, filter, Option, Some, None}
+use Rattle.std.proofs.Common.{refl, sym, ap, ◌∙◌}
+use Rattle.std.specs.List.{list_any}
+use Rattle.std.specs.Option.{option_to_list}
+use Rattle.std.specs.Str.{bytes_eq}
+use Rattle.std.proofs.lemmas.Bool.{or_parts}
+use Rattle.std.proofs.lemmas.List.Elements.{filter-append}
+use Rattle.std.proofs.lemmas.List.Folds.{list_any-append}
+use Rattle.cdi_model.specs.declared.decl.BeanDecl.{BeanDecl}
+use Rattle.cdi_model.specs.declared.decl.Decl.{Decl}
+use Rattle.cdi_model.specs.declared.decl.Decl.TheVariants as decls
+use Rattle.cdi_model.specs.declared.decl.ObserverDecl.{ObserverDecl}
+use Rattle.cdi_match.specs.Chain.{has}
+use Rattle.cdi_match.proofs.Names.{bytes_eq-turned}
+use Rattle.cdi_effective.specs.Beans.{beans, entries, own_records, unless_replaced}
+use Rattle.cdi_effective.specs.Specialized.{is_replaced}
+use Rattle.cdi_effective.specs.declared.records.Effective.{Effective}
+use Rattle.cdi_effective.proofs.RecordLemmas.{records_are_own}
+use Rattle.cdi_postings.specs.declared.word.Reason.TheVariants as reasons
+use Rattle.cdi_postings.specs.declared.word.Word.{Word}
+use Rattle.cdi_postings.specs.Words.{same_word, word_at}
+use Rattle.cdi_index.specs.Made.{words_have, words_of_bean, words_of_record}
+use Rattle.cdi_index.specs.Under.{beans_under, has_name, has_one, observes_one}
+use Rattle.cdi_index.proofs.ChangeLemmas.{any-either, any-same}
+
+-- ---- where others give nothing that is sought
+
+filter-under : {X Y : Type 0} (f : X → List Y) (test : X → Bool) (q : Y → Bool) → ((x : X) → test x ≡ false → filter q (f x) ≡ [])
+    → (xs : List X) → filter q (flat_map f (filter test xs)) ≡ filter q (flat_map f xs)
+filter-under f test q gives [] = refl
+filter-under f test q gives (x ∷ xs) = by (test x) refl (filter-under f test q gives xs)
+  where
+    by : (b : Bool) → test x ≡ b → filter q (flat_map f (filter test xs)) ≡ filter q (flat_map f xs)
+        → filter q (flat_map f (cond b (x ∷ filter test xs) (filter test xs))) ≡ filter q (flat_map f (x ∷ xs))
+    by true e rest =
+        filter-append q (f x) (flat_map f (filter test xs)) ∙ ap (λ ys. filter q (f x) ++ ys) rest
+        ∙ sym (filter-append q (f x) (flat_map f xs))
+    by false e rest = rest ∙ ap (λ ys. ys ++ filter q (flat_map f xs)) (sym (gives x e)) ∙ sym (filter-append q (f x) (flat_map f xs))
+
+-- ---- the words of records
+
+or-false : (b : Bool) → (b || false) ≡ b
+or-false true = refl
+or-false false = refl
+
+-- a list of words of names has the word of one just where the names have that
+types-have : (types : List (List ℕ)) (t : List ℕ) → words_have (map (word_at reasons.HasType) types) (word_at reasons.HasType t) ≡ has types t
+types-have [] t = refl
+types-have (s ∷ types) t = ap (λ b. bytes_eq s t || b) (types-have types t)
+
+name-has : (o : Option (List ℕ)) (name : List ℕ) (x : Effective) → x.name ≡ o
+    → words_have (map (word_at reasons.HasName) (option_to_list x.name)) (word_at reasons.HasName name) ≡ has_name name x
+name-has None name x is = rw is refl
+name-has (Some own) name x is = rw is (or-false (bytes_eq own name))
+
+-- what the words of a record and of others have
+module _ (w : Word) where
+  abbrev is_word : Word → Bool
+  is_word v = same_word v w
+
+  words-append : (xs ys : List Word) → words_have (xs ++ ys) w ≡ (words_have xs w || words_have ys w)
+  words-append xs ys = list_any-append is_word xs ys
+
+  -- where none of the words is this one, none of the records passes a test that says so
+  none-sought : (q : Effective → Bool) (r : Bool)
+      → ((x : Effective) → words_have (words_of_record x) w ≡ false → q (unless_replaced r x) ≡ false)
+      → (own : List Effective) → words_have (flat_map words_of_record own) w ≡ false → filter q (map (unless_replaced r) own) ≡ []
+  none-sought q r says [] none = refl
+  none-sought q r says (x ∷ own) none =
+      let rest : List Word = flat_map words_of_record own in
+      let parts = or_parts (words_have (words_of_record x) w) (words_have rest w) (sym (words-append (words_of_record x) rest) ∙ none) in
+      ap (λ b. cond b (unless_replaced r x ∷ filter q (map (unless_replaced r) own)) (filter q (map (unless_replaced r) own)))
+      (says x parts.0)
+      ∙ none-sought q r says own parts.1
+
+  -- so a declaration that has not the word gives no bean that passes it
+  none-given : (q : Effective → Bool)
+      → ((r : Bool) (x : Effective) → words_have (words_of_record x) w ≡ false → q (unless_replaced r x) ≡ false)
+      → (ds : List Decl) (d : Decl) → has_one ds (w ∷ []) d ≡ false → filter q (entries ds d) ≡ []
+  none-given q says ds (decls.Bean b) none =
+      let r : Bool = is_replaced ds b.name in
+      let own : List Word = flat_map words_of_record (own_records ds b) in
+      let more : List Word = map (λ o. word_at reasons.Observes o.event_type) b.observers in
+      let parts = or_parts (words_have own w) (words_have more w)
+      (sym (words-append own more) ∙ sym (or-false (words_have (words_of_bean ds b) w)) ∙ none) in
+      ap (filter q) (records_are_own ds b) ∙ none-sought q r (says r) (own_records ds b) parts.0
+  none-given q says ds (decls.Type d) none = refl
+  none-given q says ds (decls.Qualifier d) none = refl
+  none-given q says ds (decls.Binding d) none = refl
+  none-given q says ds (decls.Stereotype d) none = refl
+  none-given q says ds (decls.Interceptor d) none = refl
+
+-- ---- what is found
+
+no-type : (t : List ℕ) (r : Bool) (x : Effective) → words_have (words_of_record x) (word_at reasons.HasType t) ≡ false
+    → has (unless_replaced r x).types t ≡ false
+no-type t r x none =
+    let w : Word = word_at reasons.HasType t in
+    let types : List Word = map (word_at reasons.HasType) x.types in
+    let name : List Word = map (word_at reasons.HasName) (option_to_list x.name) in
+    let parts = or_parts (words_have types w) (words_have name w) (sym (words-append w types name) ∙ none) in
+    sym (types-have x.types t) ∙ parts.0
+
+no-name : (n : List ℕ) (r : Bool) (x : Effective) → words_have (words_of_record x) (word_at reasons.HasName n) ≡ false
+    → has_name n (unless_replaced r x) ≡ false
+no-name n r x none =
+    let w : Word = word_at reasons.HasName n in
+    let types : List Word = map (word_at reasons.HasType) x.types in
+    let name : List Word = map (word_at reasons.HasName) (option_to_list x.name) in
+    let parts = or_parts (words_have types w) (words_have name w) (sym (words-append w types name) ∙ none) in
+    sym (name-has x.name n x refl) ∙ parts.1
+
+pub of-type : (ds : List Decl) (t : List ℕ)
+    → filter (λ b. has b.types t) (beans_under ds (word_at reasons.HasType t ∷ [])) ≡ filter (λ b. has b.types t) (beans ds)
+unfolding beans
+of-type ds t =
+    let w : Word = word_at reasons.HasType t in
+    filter-under (entries ds) (has_one ds (w ∷ [])) (λ b. has b.types t) (none-given w (λ b. has b.types t) (no-type t) ds) ds
+
+pub of-name : (ds : List Decl) (n : List ℕ)
+    → filter (has_name n) (beans_under ds (word_at reasons.HasName n ∷ [])) ≡ filter (has_name n) (beans ds)
+unfolding beans
+of-name ds n =
+    let w : Word = word_at reasons.HasName n in
+    filter-under (entries ds) (has_one ds (w ∷ [])) (has_name n) (none-given w (has_name n) (no-name n) ds) ds
+
+-- ---- observer methods
+
+none-typed : (types : List (List ℕ)) (t : List ℕ) → words_have (map (word_at reasons.HasType) types) (word_at reasons.Observes t) ≡ false
+none-typed [] t = refl
+none-typed (s ∷ types) t = none-typed types t
+
+none-named : (o : Option (List ℕ)) (t : List ℕ)
+    → words_have (map (word_at reasons.HasName) (option_to_list o)) (word_at reasons.Observes t) ≡ false
+none-named None t = refl
+none-named (Some n) t = refl
+
+none-of-records : (own : List Effective) (t : List ℕ) → words_have (flat_map words_of_record own) (word_at reasons.Observes t) ≡ false
+none-of-records [] t = refl
+none-of-records (x ∷ own) t =
+    let w : Word = word_at reasons.Observes t in
+    let types : List Word = map (word_at reasons.HasType) x.types in
+    let name : List Word = map (word_at reasons.HasName) (option_to_list x.name) in
+    words-append w (words_of_record x) (flat_map words_of_record own)
+    ∙ ap (λ b. b || words_have (flat_map words_of_record own) w) (words-append w types name)
+    ∙ ap (λ b. (b || words_have name w) || words_have (flat_map words_of_record own) w) (none-typed x.types t)
+    ∙ ap (λ b. b || words_have (flat_map words_of_record own) w) (none-named x.name t)
+    ∙ none-of-records own t
+
+observed : (observers : List ObserverDecl) (t : List ℕ)
+    → words_have (map (λ o. word_at reasons.Observes o.event_type) observers) (word_at reasons.Observes t)
+    ≡ list_any (λ o. bytes_eq t o.event_type) observers
+observed [] t = refl
+observed (o ∷ observers) t =
+    ap (λ b. b || words_have (map (λ (x : ObserverDecl). word_at reasons.Observes x.event_type) observers) (word_at reasons.Observes t))
+    (bytes_eq-turned o.event_type t)
+    ∙ ap (λ b. bytes_eq t o.event_type || b) (observed observers t)
+
+words-observed : (ds : List Decl) (b : BeanDecl) (t : List ℕ)
+    → words_have (words_of_bean ds b) (word_at reasons.Observes t) ≡ list_any (λ o. bytes_eq t o.event_type) b.observers
+words-observed ds b t =
+    let w : Word = word_at reasons.Observes t in
+    let more : List Word = map (λ o. word_at reasons.Observes o.event_type) b.observers in
+    words-append w (flat_map words_of_record (own_records ds b)) more
+    ∙ ap (λ c. c || words_have more w) (none-of-records (own_records ds b) t) ∙ observed b.observers t
+
+any-none : {X : Type 0} (xs : List X) → list_any (λ x. false) xs ≡ false
+any-none [] = refl
+any-none (x ∷ xs) = any-none xs
+
+in-turn : (observers : List ObserverDecl) (types : List (List ℕ))
+    → list_any (λ t. list_any (λ (o : ObserverDecl). bytes_eq t o.event_type) observers) types
+    ≡ list_any (λ (o : ObserverDecl). has types o.event_type) observers
+in-turn [] types = any-none types
+in-turn (o ∷ observers) types =
+    any-either (λ t. bytes_eq t o.event_type) (λ t. list_any (λ (x : ObserverDecl). bytes_eq t x.event_type) observers) types
+    ∙ ap (λ b. has types o.event_type || b) (in-turn observers types)
+
+mapped : (p : Word → Bool) (types : List (List ℕ))
+    → list_any p (map (word_at reasons.Observes) types) ≡ list_any (λ t. p (word_at reasons.Observes t)) types
+mapped p [] = refl
+mapped p (t ∷ types) = ap (λ b. p (word_at reasons.Observes t) || b) (mapped p types)
+
+none-had : (words : List Word) → list_any (words_have []) words ≡ false
+none-had words = any-none words
+
+pub observing-one : (ds : List Decl) (types : List (List ℕ)) (d : Decl)
+    → has_one ds (map (word_at reasons.Observes) types) d ≡ observes_one types d
+observing-one ds types (decls.Bean b) =
+    mapped (words_have (words_of_bean ds b)) types
+    ∙ any-same (λ t. words_have (words_of_bean ds b) (word_at reasons.Observes t))
+    (λ t. list_any (λ (o : ObserverDecl). bytes_eq t o.event_type) b.observers) types (words-observed ds b)
+    ∙ in-turn b.observers types
+observing-one ds types (decls.Type d) = none-had (map (word_at reasons.Observes) types)
+observing-one ds types (decls.Qualifier d) = none-had (map (word_at reasons.Observes) types)
+observing-one ds types (decls.Binding d) = none-had (map (word_at reasons.Observes) types)
+observing-one ds types (decls.Stereotype d) = none-had (map (word_at reasons.Observes) types)
+observing-one ds types (decls.Interceptor d) = none-had (map (word_at reasons.Observes) types)
+
+filter-same : {X : Type 0} (p q : X → Bool) (xs : List X) → ((x : X) → p x ≡ q x) → filter p xs ≡ filter q xs
+filter-same p q [] same = refl
+filter-same p q (x ∷ xs) same = λ i. cond (same x i) (x ∷ filter-same p q xs same i) (filter-same p q xs same i)
+
+all-pass : {X : Type 0} (xs : List X) → filter (λ x. true) xs ≡ xs
+all-pass [] = refl
+all-pass (x ∷ xs) = ap (λ ys. x ∷ ys) (all-pass xs)
+
+pub of-observers : (ds : List Decl) (types : List (List ℕ))
+    → filter (λ b. true) (beans_under ds (map (word_at reasons.Observes) types))
+    ≡ flat_map (entries ds) (filter (observes_one types) ds)
+of-observers ds types =
+    all-pass (beans_under ds (map (word_at reasons.Observes) types))
+    ∙ ap (flat_map (entries ds))
+    (filter-same (has_one ds (map (word_at reasons.Observes) types)) (observes_one types) ds (observing-one ds types))

@@ -1,0 +1,216 @@
+-- The declarations that are under words, by their positions.
+use Rattle.std.proofs.Common.{◌≡◌, ◌+◌, ℕ, suc, nat_eq, Bool, true, false, cond, ◌||◌, List, [], ◌∷◌, ◌++◌, flat_map, filter}
+use Rattle.std.proofs.Common.{Option, Some, None, option_map, position, slice_get, refl, sym, ap, ◌∙◌, arith}
+use Rattle.std.specs.Option.{option_map_or}
+use Rattle.std.proofs.lemmas.Bool.{false≢true, or_right, eqb-true}
+use Rattle.cdi_model.specs.declared.decl.BeanDecl.{BeanDecl}
+use Rattle.cdi_model.specs.declared.decl.Decl.{Decl}
+use Rattle.cdi_model.specs.declared.decl.Decl.TheVariants as decls
+use Rattle.cdi_model.specs.declared.decl.Kind.{Kind}
+use Rattle.cdi_model.specs.declared.decl.Kind.TheVariants as kinds
+use Rattle.cdi_model.specs.declared.key.DeclKey.{DeclKey}
+use Rattle.cdi_model.specs.DeclKey.{key_at}
+use Rattle.cdi_model.specs.DeclList.{find_decl, is_of, AreDistinct}
+use Rattle.cdi_model.proofs.PositionLemmas.{position-there}
+use Rattle.cdi_positions.specs.Marks.{is_marked, marked_from}
+use Rattle.cdi_effective.specs.Beans.{entries}
+use Rattle.cdi_effective.specs.Disposers.{as_bean}
+use Rattle.cdi_effective.specs.Records.{records_declared, records_in}
+use Rattle.cdi_effective.proofs.PlaceLemmas.{own-place, place-found}
+use Rattle.cdi_postings.specs.declared.word.Word.{Word}
+use Rattle.cdi_postings.specs.Listing.{Listing, under}
+use Rattle.cdi_index.specs.declared.making.Made.{Made}
+use Rattle.cdi_index.specs.declared.shelf.Kept.{Kept}
+use Rattle.cdi_index.specs.declared.shelf.Shelf.{Shelf}
+use Rattle.cdi_index.specs.Kept.{kept_at, made_in, slot_of, stored, stored_at, IsExact, IsShelf, IsSound, Stored}
+use Rattle.cdi_index.specs.Made.{classes_have, keys_have, made_by, made_of, made_of_bean, made_of_type, words_have}
+use Rattle.cdi_index.specs.Under.{beans_under, has_one, is_at, is_at_slots, is_at_words, records_at, words_by}
+use Rattle.cdi_index.proofs.NextLemmas.{any-elim, any-more, same-bool}
+use Rattle.cdi_index.proofs.ShelfLemmas.{found, nat-same}
+
+-- ---- the records at a position
+
+pub records-of-bean : (ds : List Decl) (p : ℕ) (bean : BeanDecl) → AreDistinct ds → slice_get ds p ≡ Some (decls.Bean bean)
+    → records_in ds bean.name ≡ records_at ds p
+unfolding records_in
+records-of-bean ds p bean distinct at =
+    ap (records_declared ds) (place-found ds bean p (own-place ds p bean distinct at))
+    ∙ sym (ap (λ o. option_map_or (entries ds) o []) at)
+
+-- ---- what is marked
+
+-- what is kept has the word, and its declaration is at the position
+record At (ds : List Decl) (w : Word) (kept : Option Kept) (p : ℕ) : Type 0 where
+  entry : Kept
+  there : kept ≡ Some entry
+  has : words_have entry.made.words w ≡ true
+  place : position (is_of entry.key.kind entry.key.name) ds ≡ Some p
+
+is-at : (ds : List Decl) (w : Word) (kept : Option Kept) (p : ℕ) → is_at ds w kept p ≡ true → At ds w kept p
+is-at ds w None p h = absurd (false≢true h)
+is-at ds w (Some e) p h = by (words_have e.made.words w) refl (position (is_of e.key.kind e.key.name) ds) refl h
+  where
+    by : (b : Bool) → words_have e.made.words w ≡ b → (o : Option ℕ) → position (is_of e.key.kind e.key.name) ds ≡ o
+        → option_map_or (λ i. nat_eq i p) (cond b o None) false ≡ true → At ds w (Some e) p
+    by false is o at f = absurd (false≢true f)
+    by true is None at f = absurd (false≢true f)
+    by true is (Some i) at f = record { entry = e; there = refl; has = is; place = at ∙ ap Some (eqb-true i p f) }
+
+at-is : (ds : List Decl) (w : Word) (kept : Option Kept) (p : ℕ) (e : Kept) → kept ≡ Some e → words_have e.made.words w ≡ true
+    → position (is_of e.key.kind e.key.name) ds ≡ Some p → is_at ds w kept p ≡ true
+at-is ds w kept p e there has place =
+    ap (λ k. is_at ds w k p) there
+    ∙ ap (λ b. option_map_or (λ i. nat_eq i p) (cond b (position (is_of e.key.kind e.key.name) ds) None) false) has
+    ∙ ap (λ o. option_map_or (λ i. nat_eq i p) o false) place ∙ nat-same p
+
+-- what is made has a word, so it is of a bean declaration which has that
+abbrev OfBean : List Decl → List Word → ℕ → Type 0
+OfBean ds words p = (d : Decl) × (slice_get ds p ≡ Some d) × (words_by ds d ≡ words)
+
+some-made : (a b : Made) → Some a ≡ Some b → a ≡ b
+some-made a b h = cc
+
+of-bean : (ds : List Decl) (kind : Kind) (name : List ℕ) (made : Made) (w : Word) (p : ℕ) → made_by kind name ds ≡ Some made
+    → words_have made.words w ≡ true → position (is_of kind name) ds ≡ Some p → OfBean ds made.words p
+of-bean ds kinds.Type name made w p is has at = absurd (by (find_decl kinds.Type name ds) is)
+  where
+    by : (o : Option Decl) → option_map (λ d. made_of_type ds name) o ≡ Some made → ⊥
+    by None e = let no : None ≡ Some made = e in cc
+    by (Some d) e = false≢true (ap (λ (m : Made). words_have m.words w) (some-made (made_of_type ds name) made e) ∙ has)
+of-bean ds kinds.Bean name made w p is has at = by (find_decl kinds.Bean name ds) refl is
+  where
+    none : (o : Option Made) → o ≡ None → o ≡ Some made → OfBean ds made.words p
+    none o e f = absurd (let no : None ≡ Some made = sym e ∙ f in cc)
+
+    by : (o : Option Decl) → find_decl kinds.Bean name ds ≡ o → option_map (made_of_bean ds) (as_bean o) ≡ Some made
+        → OfBean ds made.words p
+    by None e f = none None refl f
+    by (Some (decls.Bean b)) e f = (
+      decls.Bean b,
+      position-there kinds.Bean name ds p at ∙ e,
+      ap (λ (m : Made). m.words) (some-made (made_of_bean ds b) made f),
+    )
+    by (Some (decls.Type d)) e f = none None refl f
+    by (Some (decls.Qualifier d)) e f = none None refl f
+    by (Some (decls.Binding d)) e f = none None refl f
+    by (Some (decls.Stereotype d)) e f = none None refl f
+    by (Some (decls.Interceptor d)) e f = none None refl f
+of-bean ds kinds.Qualifier name made w p is has at = absurd (let no : None ≡ Some made = is in cc)
+of-bean ds kinds.Binding name made w p is has at = absurd (let no : None ≡ Some made = is in cc)
+of-bean ds kinds.Stereotype name made w p is has at = absurd (let no : None ≡ Some made = is in cc)
+of-bean ds kinds.Interceptor name made w p is has at = absurd (let no : None ≡ Some made = is in cc)
+
+module _ (ds : List Decl) (shelf : Shelf) (listings : List Listing) (shelved : IsShelf shelf) (exact : IsExact ds (stored shelf))
+    (sound : IsSound (stored shelf) listings) (distinct : AreDistinct ds) where
+  made-at : (s : ℕ) (e : Kept) → kept_at shelf s ≡ Some e → made_of ds e.key ≡ Some e.made
+  made-at s e there =
+      sym (exact e.key)
+      ∙ ap (λ o. made_in (stored_at (kept_at shelf) o)) (shelved.owned s e there)
+      ∙ ap (λ o. made_in (option_map {U = Stored} (λ k. (s, k.made)) o)) there
+
+  one-decl : (p : ℕ) (d e : Decl) → slice_get ds p ≡ Some d → slice_get ds p ≡ Some e → e ≡ d
+  one-decl p d e first second = let same : Some e ≡ Some d = sym second ∙ first in cc
+
+  -- a slot that marks a position is of the declaration there, which has the word
+  marks-only : (p s : ℕ) (w : Word) → is_at ds w (kept_at shelf s) p ≡ true
+      → (d : Decl) × (slice_get ds p ≡ Some d) × (words_have (words_by ds d) w ≡ true)
+  marks-only p s w h =
+      let at = is-at ds w (kept_at shelf s) p h in
+      let of = of-bean ds at.entry.key.kind at.entry.key.name at.entry.made w p (made-at s at.entry at.there) at.has at.place in
+      (of.0, of.1, ap (λ ws. words_have ws w) of.2 ∙ at.has)
+
+  -- a declaration that has a word is marked by its slot
+  marks-if : (p : ℕ) (d : Decl) (w : Word) → slice_get ds p ≡ Some d → words_have (words_by ds d) w ≡ true
+      → is_at_slots ds shelf w (under listings w) p ≡ true
+  marks-if p (decls.Bean b) w at has =
+      let k = key_at kinds.Bean b.name in
+      let place = own-place ds p b distinct at in
+      let is : made_of ds k ≡ Some (made_of_bean ds b) = ap (option_map (made_of_bean ds)) (place-found ds b p place) in
+      by (stored shelf k) refl (exact k ∙ is) place.0
+    where
+      by : (o : Option Stored) → stored shelf (key_at kinds.Bean b.name) ≡ o → made_in o ≡ Some (made_of_bean ds b)
+          → position (is_of kinds.Bean b.name) ds ≡ Some p → is_at_slots ds shelf w (under listings w) p ≡ true
+      by None here none place = absurd (let no : None ≡ Some (made_of_bean ds b) = none in cc)
+      by (Some (s, made)) here one place =
+          let k = key_at kinds.Bean b.name in
+          let same : made ≡ made_of_bean ds b = some-made made (made_of_bean ds b) one in
+          let words : words_have made.words w ≡ true = ap (λ (m : Made). words_have m.words w) same ∙ has in
+          let it = found (slot_of shelf) (kept_at shelf) shelved.owns k s made here in
+          let marked : is_at ds w (kept_at shelf s) p ≡ true =
+          at-is ds w (kept_at shelf s) p it.entry it.there (ap (λ (m : Made). words_have m.words w) it.is ∙ words)
+          (ap (λ (x : DeclKey). position (is_of x.kind x.name) ds) it.key ∙ place) in
+          any-more (nat_eq s) (λ t. is_at ds w (kept_at shelf t) p) (under listings w)
+          (λ t equal. ap (λ x. is_at ds w (kept_at shelf x) p) (sym (eqb-true s t equal)) ∙ marked)
+          (sound w k s made here
+          (or_right (keys_have made.reads w) (classes_have made.replaces w || words_have made.words w)
+          (or_right (classes_have made.replaces w) (words_have made.words w) words)))
+  marks-if p (decls.Type d) w at has = absurd (false≢true has)
+  marks-if p (decls.Qualifier d) w at has = absurd (false≢true has)
+  marks-if p (decls.Binding d) w at has = absurd (false≢true has)
+  marks-if p (decls.Stereotype d) w at has = absurd (false≢true has)
+  marks-if p (decls.Interceptor d) w at has = absurd (false≢true has)
+
+  abbrev at_slots : ℕ → Word → Bool
+  at_slots p w = is_at_slots ds shelf w (under listings w) p
+
+  -- the marked positions are those of the declarations that have one of the words
+  pub marked-are : (words : List Word) (p : ℕ)
+      → is_at_words ds shelf listings words p ≡ option_map_or (has_one ds words) (slice_get ds p) false
+  marked-are words p = same-bool (is_at_words ds shelf listings words p) (option_map_or (has_one ds words) (slice_get ds p) false) only back
+    where
+      only : is_at_words ds shelf listings words p ≡ true → option_map_or (has_one ds words) (slice_get ds p) false ≡ true
+      only h = by (slice_get ds p) refl
+        where
+          by : (o : Option Decl) → slice_get ds p ≡ o → option_map_or (has_one ds words) o false ≡ true
+          by None none = any-elim (at_slots p) words h (λ w at. any-elim (λ s. is_at ds w (kept_at shelf s) p) (under listings w) at (λ s one.
+              let it = marks-only p s w one in absurd (let no : None ≡ Some it.0 = sym none ∙ it.1 in cc)))
+          by (Some d) there = any-more (at_slots p) (words_have (words_by ds d)) words
+              (λ w at. any-elim (λ s. is_at ds w (kept_at shelf s) p) (under listings w) at (λ s one.
+              let it = marks-only p s w one in
+              ap (λ x. words_have (words_by ds x) w) (one-decl p it.0 d it.1 there) ∙ it.2)) h
+
+      back : option_map_or (has_one ds words) (slice_get ds p) false ≡ true → is_at_words ds shelf listings words p ≡ true
+      back h = by (slice_get ds p) refl h
+        where
+          by : (o : Option Decl) → slice_get ds p ≡ o → option_map_or (has_one ds words) o false ≡ true
+              → is_at_words ds shelf listings words p ≡ true
+          by None none f = absurd (false≢true f)
+          by (Some d) there f = any-more (words_have (words_by ds d)) (at_slots p) words (λ w has. marks-if p d w there has) f
+
+-- ---- a walk over marked positions
+
+module _ {X Y : Type 0} (f : X → List Y) (test : X → Bool) (all : List X) where
+  abbrev found_at : ℕ → List Y
+  found_at p = option_map_or f (slice_get all p) []
+
+  none-pass : (xs : List X) → ((i : ℕ) → false ≡ option_map_or test (slice_get xs i) false) → filter test xs ≡ []
+  none-pass [] blank = refl
+  none-pass (x ∷ xs) blank = ap (λ b. cond b (x ∷ filter test xs) (filter test xs)) (sym (blank 0)) ∙ none-pass xs (λ i. blank (suc i))
+
+  walk : (n : ℕ) (marks : List Bool) (xs : List X) → ((i : ℕ) → slice_get all (n + i) ≡ slice_get xs i)
+      → ((i : ℕ) → is_marked marks i ≡ option_map_or test (slice_get xs i) false)
+      → flat_map found_at (marked_from n marks) ≡ flat_map f (filter test xs)
+  walk n [] xs here marked = sym (ap (flat_map f) (none-pass xs marked))
+  walk n (true ∷ ms) [] here marked = absurd (false≢true (sym (marked 0)))
+  walk n (false ∷ ms) [] here marked = walk (n + 1) ms [] (λ i. ap (slice_get all) (omega arith) ∙ here (suc i)) (λ i. marked (suc i))
+  walk n (m ∷ ms) (x ∷ xs) here marked =
+      let rest = walk (n + 1) ms xs (λ i. ap (slice_get all) (omega arith) ∙ here (suc i)) (λ i. marked (suc i)) in
+      by m refl (test x) refl (marked 0) rest
+    where
+      first : found_at n ≡ f x
+      first = ap (λ o. option_map_or f o []) (ap (slice_get all) (omega arith) ∙ here 0)
+
+      by : (b : Bool) → m ≡ b → (t : Bool) → test x ≡ t → b ≡ t
+          → flat_map found_at (marked_from (n + 1) ms) ≡ flat_map f (filter test xs)
+          → flat_map found_at (cond b (n ∷ marked_from (n + 1) ms) (marked_from (n + 1) ms))
+          ≡ flat_map f (cond t (x ∷ filter test xs) (filter test xs))
+      by true e true g h rest = ap (λ ys. ys ++ flat_map found_at (marked_from (n + 1) ms)) first ∙ ap (λ ys. f x ++ ys) rest
+      by true e false g h rest = absurd (false≢true (sym h))
+      by false e true g h rest = absurd (false≢true h)
+      by false e false g h rest = rest
+
+-- so the records at marked positions are those of the declarations that have one of the words
+pub walked : (ds : List Decl) (words : List Word) (marks : List Bool)
+    → ((p : ℕ) → is_marked marks p ≡ option_map_or (has_one ds words) (slice_get ds p) false)
+    → flat_map (records_at ds) (marked_from 0 marks) ≡ beans_under ds words
+walked ds words marks marked = walk (entries ds) (has_one ds words) ds 0 marks ds (λ i. ap (slice_get ds) (omega arith)) marked

@@ -1,0 +1,16 @@
+use Rattle.std.proofs.Common.{Some, sym, ap, ◌∙◌}
+use Rattle.std.specs.Option.{option_copied}
+use Rattle.cdi_effective.specs.Records.{records_in}
+use Rattle.cdi_index.specs.State.{State}
+use Rattle.cdi_index.specs.Under.{records_at}
+use Rattle.cdi_index.proofs.UnderLemmas.{records-of-bean}
+use Rattle.cdi_index.proofs.index.Index.records_at.Goals as goal
+
+pub returns-in-Some-Bean : goal.returns-in-Some-Bean
+returns-in-Some-Bean c =
+    let ds = c.self.inside.decls in
+    c.records.ensures
+    ∙ ap (λ (s : State). records_in s.decls c.in-Some-Bean.bean.name) (sym c.self.view_is)
+    ∙ records-of-bean ds c.args.position c.in-Some-Bean.bean c.iter.ensures.distinct
+    (sym c.at.ensures ∙ ap option_copied c.in-Some-Bean.is ∙ ap Some c.in-Some-Bean.field-0-is)
+    ∙ ap (λ (s : State). records_at s.decls c.args.position) c.self.view_is

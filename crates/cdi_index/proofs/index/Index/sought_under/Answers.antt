@@ -1,0 +1,26 @@
+use Rattle.std.proofs.Common.{◌≡◌, List, filter, flat_map, map, sym, ap, ◌∙◌}
+use Rattle.std.proofs.lemmas.Result.{IfOk-weaker}
+use Rattle.cdi_effective.specs.declared.records.Effective.{Effective}
+use Rattle.cdi_positions.specs.Marks.{marked_from}
+use Rattle.cdi_index.specs.State.{State}
+use Rattle.cdi_index.specs.Under.{beans_under, is_sought, records_at}
+use Rattle.cdi_index.proofs.UnderLemmas.{marked-are, walked}
+use Rattle.cdi_index.proofs.index.Index.sought_under.Goals as goal
+
+pub returns : goal.returns
+returns c =
+    let ds = c.self.inside.decls in
+    let words = c.args.words.now in
+    let marks = c.positions_under-positions.result in
+    let found : List Effective → List Effective = filter (is_sought c.args.sought) in
+    IfOk-weaker c.sought_at_positions.result
+    (λ list. map (λ bean. bean.now) list.items ≡ found (flat_map (records_at c.args.self.now.decls) (marked_from 0 marks)))
+    (λ list. map (λ bean. bean.now) list.items ≡ found (beans_under c.args.self.now.decls words))
+    (λ list are. are
+    ∙ ap (λ (s : State). found (flat_map (records_at s.decls) (marked_from 0 marks))) (sym c.self.view_is)
+    ∙ ap found (walked ds words marks
+    (λ p. c.positions_under-positions.ensures p
+    ∙ marked-are ds c.self.inside.shelf c.self.inside.postings c.self.invariant.shelved c.self.invariant.exact c.self.invariant.sound
+    c.iter.ensures.distinct words p))
+    ∙ ap (λ (s : State). found (beans_under s.decls words)) c.self.view_is)
+    c.sought_at_positions.ensures

@@ -1,0 +1,7 @@
+use Rattle.std.proofs.Common.{◌≡◌, ◌≢◌, ℕ, true}
+use Rattle.cdi_postings.specs.declared.word.Word.{Word}
+use Rattle.cdi_postings.specs.Listing.{is_listed}
+use Rattle.cdi_index.proofs.install.unlist_each.Given as goal
+
+abbrev pub invariant-loop-word : goal.invariant-loop-word
+invariant-loop-word l = (w : Word) (s : ℕ) → s ≢ l.slot → is_listed l.fn.postings w s ≡ true → is_listed l.postings w s ≡ true

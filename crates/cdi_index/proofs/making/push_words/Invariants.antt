@@ -1,0 +1,7 @@
+use Rattle.std.proofs.Common.{◌≡◌, ◌++◌, drop, map}
+use Rattle.cdi_postings.specs.Words.{word_at}
+use Rattle.cdi_index.proofs.making.push_words.Given as goal
+
+abbrev pub invariant-loop-name : goal.invariant-loop-name
+invariant-loop-name l =
+    l.words.items ++ map (word_at l.reason) (drop l.name-index l.names) ≡ l.fn.words.items ++ map (word_at l.reason) l.names

@@ -1,0 +1,12 @@
+use Rattle.std.proofs.Common.{◌≡◌, ◌||◌, ℕ, length, take}
+use Rattle.cdi_model.specs.DeclList.{limit}
+use Rattle.cdi_positions.specs.Marks.{is_marked}
+use Rattle.cdi_index.specs.Under.{is_at_slots}
+use Rattle.cdi_index.proofs.under.mark_slots.Given as goal
+
+abbrev pub invariant-loop-slot : goal.invariant-loop-slot
+invariant-loop-slot l = record {
+  size : length l.positions ≡ limit;
+  marks : (p : ℕ) → is_marked l.positions p
+      ≡ (is_marked l.fn.positions p || is_at_slots l.decls l.shelf l.word (take l.slot-index l.slots) p);
+}

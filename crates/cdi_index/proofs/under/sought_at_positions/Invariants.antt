@@ -1,0 +1,9 @@
+use Rattle.std.proofs.Common.{◌≡◌, ◌++◌, filter, flat_map, map}
+use Rattle.cdi_positions.specs.Marks.{marked_from}
+use Rattle.cdi_index.specs.Under.{is_sought, records_at}
+use Rattle.cdi_index.proofs.under.sought_at_positions.Given as goal
+
+abbrev pub invariant-loop-position : goal.invariant-loop-position
+invariant-loop-position l =
+    map (λ bean. bean.now) l.list.items ++ filter (is_sought l.sought) (flat_map (records_at l.index.decls) l.position-iterator)
+    ≡ filter (is_sought l.sought) (flat_map (records_at l.index.decls) (marked_from 0 l.positions))

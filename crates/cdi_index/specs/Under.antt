@@ -1,0 +1,74 @@
+-- Which declarations are under words, and the beans that are found by these.
+use Rattle.std.specs.Prelude.{ℕ, nat_eq, Bool, true, false, List, [], flat_map, filter, Option, Some, None, if◌then◌else◌, position, slice_get}
+use Rattle.std.specs.List.{list_any}
+use Rattle.std.specs.Option.{option_map_or}
+use Rattle.std.specs.Str.{bytes_eq}
+use Rattle.cdi_model.specs.declared.decl.Decl.{Decl}
+use Rattle.cdi_model.specs.declared.decl.Decl.TheVariants as decls
+use Rattle.cdi_model.specs.DeclList.{is_of}
+use Rattle.cdi_match.specs.Chain.{has}
+use Rattle.cdi_effective.specs.Beans.{entries}
+use Rattle.cdi_effective.specs.declared.records.Effective.{Effective}
+use Rattle.cdi_postings.specs.declared.word.Word.{Word}
+use Rattle.cdi_postings.specs.Listing.{Listing, under}
+use Rattle.cdi_index.specs.declared.shelf.Kept.{Kept}
+use Rattle.cdi_index.specs.declared.shelf.Shelf.{Shelf}
+use Rattle.cdi_index.specs.declared.under.Sought.{Sought}
+use Rattle.cdi_index.specs.declared.under.Sought.TheVariants as sought
+use Rattle.cdi_index.specs.Kept.{kept_at}
+use Rattle.cdi_index.specs.Made.{words_have, words_of_bean}
+
+-- ---- what is found
+
+-- the bean has the name
+abbrev pub has_name : List ℕ → Effective → Bool
+has_name name bean = option_map_or (λ n. bytes_eq n name) bean.name false
+
+-- the bean is sought
+abbrev pub is_sought : Sought → Effective → Bool
+is_sought (sought.OfType t) bean = has bean.types t.now
+is_sought (sought.OfName name) bean = has_name name.now bean
+is_sought sought.Each bean = true
+
+-- an observer method of the declaration observes one of these types
+abbrev pub observes_one : List (List ℕ) → Decl → Bool
+observes_one types (decls.Bean bean) = list_any (λ o. has types o.event_type) bean.observers
+observes_one types other = false
+
+-- ---- by words
+
+-- the words of a declaration
+abbrev pub words_by : List Decl → Decl → List Word
+words_by ds (decls.Bean bean) = words_of_bean ds bean
+words_by ds other = []
+
+-- the declaration has one of these words
+abbrev pub has_one : List Decl → List Word → Decl → Bool
+has_one ds words d = list_any (words_have (words_by ds d)) words
+
+-- the records of the declarations that have one of these words
+abbrev pub beans_under : List Decl → List Word → List Effective
+beans_under ds words = flat_map (entries ds) (filter (has_one ds words) ds)
+
+-- ---- by positions
+
+-- the records of the declaration at a position
+abbrev pub records_at : List Decl → ℕ → List Effective
+records_at ds p = option_map_or (entries ds) (slice_get ds p) []
+
+-- the position of the declaration of which this is kept, where it has the word
+abbrev pub position_under : List Decl → Word → Option Kept → Option ℕ
+position_under ds word None = None
+position_under ds word (Some e) = if words_have e.made.words word then position (is_of e.key.kind e.key.name) ds else None
+
+-- this is the position
+abbrev pub is_at : List Decl → Word → Option Kept → ℕ → Bool
+is_at ds word kept p = option_map_or (λ i. nat_eq i p) (position_under ds word kept) false
+
+-- it is the position of one that is kept at these slots
+abbrev pub is_at_slots : List Decl → Shelf → Word → List ℕ → ℕ → Bool
+is_at_slots ds shelf word slots p = list_any (λ s. is_at ds word (kept_at shelf s) p) slots
+
+-- of one that is listed under one of these words, and has it
+abbrev pub is_at_words : List Decl → Shelf → List Listing → List Word → ℕ → Bool
+is_at_words ds shelf listings words p = list_any (λ w. is_at_slots ds shelf w (under listings w) p) words

@@ -1,0 +1,147 @@
+//! The declarations that are under words, and the beans that are found by these.
+ghost use Rattle.std.specs.Prelude.{◌≡◌, ◌<◌, ◌||◌, ◌++◌, filter, flat_map, length, map, IfOk, IfSome, OnOk};
+ghost use Rattle.std.specs.Option.{option_copied};
+ghost use Rattle.cdi_model.specs.DeclList.{limit};
+ghost use Rattle.cdi_positions.specs.Marks.{is_marked, marked_from};
+ghost use Rattle.cdi_index.specs.Made.{words_have};
+ghost use Rattle.cdi_index.specs.Kept.{kept_at};
+ghost use Rattle.cdi_postings.specs.Words.{word_at};
+ghost use Rattle.cdi_postings.specs.declared.word.Reason.TheVariants as reasons;
+ghost use Rattle.cdi_index.specs.Under.{has_name, is_sought, is_at_slots, is_at_words, position_under, records_at};
+
+use crate::index::Index;
+use crate::making::Made;
+use crate::shelf::{Kept, Shelf};
+use cdi_effective::Effective;
+use cdi_model::{Decls, Name};
+use cdi_positions::PositionSet;
+use cdi_postings::{Postings, Reason, Word};
+use std::alloc::{AllocError, Global};
+
+/// Whether what is made has a word.
+fn has_word(made: &Made, word: &Word) -> bool
+    ensures { result ≡ words_have made.now.words word.now }
+{
+    made.words.as_slice().iter().any(|other| *other == *word)
+}
+
+/// The position of the declaration of which this is kept, where it has a word.
+fn position_under(decls: &Decls, kept: Option<&Kept>, word: &Word) -> Option<usize>
+    ensures value { result ≡ position_under decls.now word.now (option_copied kept.entry) }
+    ensures bound { IfSome result (λ i. i < limit) }
+{
+    let kept = kept?;
+    if !has_word(&kept.made, word) {
+        return None;
+    }
+    decls.position(kept.key.kind, &kept.key.name)
+}
+
+/// Marks the positions of the declarations at some slots that have a word.
+fn mark_slots(decls: &Decls, shelf: &Shelf, slots: &[u64], word: &Word, positions: &mut PositionSet)
+    requires { length positions.old ≡ limit }
+    ensures size { length positions.new ≡ limit }
+    ensures marks { (p : _) → is_marked positions.new p
+        ≡ (is_marked positions.old p || is_at_slots decls.now shelf.now word.now slots.now p) }
+{
+    for slot in slots {
+        if let Some(position) = position_under(decls, shelf.kept.get(slot), word) {
+            positions.insert(position);
+        }
+    }
+}
+
+/// The positions of the declarations that are listed under some words, and have one of them.
+pub(crate) fn positions_under(
+    decls: &Decls,
+    shelf: &Shelf,
+    postings: &Postings,
+    words: &[Word],
+) -> PositionSet
+    ensures { (p : _) → is_marked result p ≡ is_at_words decls.now shelf.now postings.now words.now p }
+{
+    let mut positions = PositionSet::new();
+    for word in words {
+        mark_slots(decls, shelf, postings.under(*word), word, &mut positions);
+    }
+    positions
+}
+
+/// Which beans are sought.
+#[derive(Clone, Copy)]
+pub(crate) enum Sought<'a> {
+    /// Those of a type.
+    OfType(&'a Name),
+    /// Those of a name.
+    OfName(&'a Name),
+    /// All.
+    Each,
+}
+
+/// Whether a bean is sought.
+fn is_sought(sought: Sought<'_>, bean: &Effective) -> bool
+    ensures { result ≡ is_sought sought.entry bean.now }
+{
+    match sought {
+        Sought::OfType(bean_type) => bean.has_type(bean_type),
+        Sought::OfName(name) => has_name(bean, name),
+        Sought::Each => true,
+    }
+}
+
+fn has_name(bean: &Effective, name: &Name) -> bool
+    ensures { result ≡ has_name name.now bean.now }
+{
+    match bean.name {
+        Some(own) => own == *name,
+        None => false,
+    }
+}
+
+/// Appends those of some records that are sought.
+fn push_sought<'a>(
+    sought: Sought<'_>,
+    records: &'a [Effective],
+    list: &mut Vec<&'a Effective>,
+) -> Result<(), AllocError>
+    ensures { OnOk result (map (λ bean. bean.now) list.new.items
+        ≡ map (λ bean. bean.now) list.old.items ++ filter (is_sought sought.entry) records.now) }
+{
+    for record in records {
+        if is_sought(sought, record) {
+            list.push(record)?;
+        }
+    }
+    Ok(())
+}
+
+/// Those of the records of the declarations at some positions that are sought, in order.
+pub(crate) fn sought_at_positions<'a>(
+    alloc: Global,
+    index: &'a Index,
+    sought: Sought<'_>,
+    positions: &PositionSet,
+) -> Result<Vec<&'a Effective>, AllocError>
+    ensures { IfOk result (λ list. map (λ bean. bean.now) list.items
+        ≡ filter (is_sought sought.entry) (flat_map (records_at index.now.decls) (marked_from 0 positions.now))) }
+{
+    let mut list = Vec::new(alloc);
+    for position in positions.iter() {
+        push_sought(sought, index.records_at(position), &mut list)?;
+    }
+    Ok(list)
+}
+
+/// The words of the types that observer methods observe.
+pub(crate) fn words_observed(alloc: Global, types: &[Name]) -> Result<Vec<Word>, AllocError>
+    ensures { IfOk result (λ words. words.items ≡ map (word_at reasons.Observes) types.now) }
+{
+    let mut words = Vec::with_capacity(alloc, types.len())?;
+    for event_type in types {
+        words.push(Word {
+            reason: Reason::Observes,
+            name: *event_type,
+        })?;
+    }
+    Ok(words)
+}
