@@ -1,13 +1,15 @@
 //! The observer methods that are notified of an event (CDI 4.0, Observer resolution).
-ghost use Rattle.std.specs.Prelude.{◌≡◌, ◌++◌, filter, map, IfOk, OnOk, OnErr};
+ghost use Rattle.std.specs.Prelude.{◌≡◌, ◌++◌, ℕ, List, filter, map, IfOk, OnOk, OnErr};
 ghost use Rattle.std.specs.List.{list_all};
 ghost use Rattle.cdi_model.specs.Work.{with_one};
 ghost use Rattle.std.specs.Option.{option_copied};
 ghost use Rattle.cdi_match.specs.Chain.{has};
+ghost use Rattle.cdi_match.specs.Types.{types_of};
+ghost use Rattle.cdi_intercept.specs.Sorting.{sorted_by};
 ghost use Rattle.cdi_effective.specs.Qualifiers.{some_covers};
 ghost use Rattle.cdi_observe.specs.Lent.{lent_in};
 ghost use Rattle.cdi_observe.specs.Observers.{declared_by, enabled_bean, event_has, notified, observers, observes};
-ghost use Rattle.cdi_observe.specs.Observers.{observing, priority_of};
+ghost use Rattle.cdi_observe.specs.Observers.{is_before, is_notified, observer_id, priority_of};
 ghost use Rattle.cdi_observe.specs.Sees.{NotifiedRestOnSeen};
 
 use cdi_effective::Effective;
@@ -48,7 +50,7 @@ const DEFAULT_PRIORITY: i64 = 2500;
 /// those of enabled beans which observe one of its types and of whose qualifiers it has each, from the least priority on
 /// (CDI 4.0, Observer resolution; Observer ordering). A type that is not declared has itself and `Object`. It takes memory
 /// for the types of the event and for the observer methods of these types.
-#[tactic(auto, unfolding(crate::specs::Observers::resolved))]
+#[tactic(auto, unfolding(crate::specs::Observers::resolved, crate::specs::Observers::observing))]
 pub fn notified_of(
     alloc: Global,
     decls: &Decls,
@@ -58,8 +60,47 @@ pub fn notified_of(
 ) -> Result<Seq<ObserverId>, AllocError>
     ensures { IfOk result (λ ids. ids ≡ notified decls.now beans.now event_type quals.now) }
 {
+    let types = closure(alloc, decls, event_type)?;
+    let found = of_types(alloc, decls, beans, &types)?;
+    notified_among(alloc, decls, found, quals)
+}
+
+/// The same for an event that has these types, where the beans of which an observer method observes one are among these
+/// candidates, in order. It is counted as one evaluation: `Work` rises where they are answered, and not where memory runs
+/// out.
+#[tactic(auto, using(crate::proofs::SeenLemmas::notified_rest_on_seen), unfolding(crate::specs::Observers::resolved, crate::specs::Observers::observing))]
+pub fn evaluate_observers(
+    alloc: Global,
+    decls: &Decls,
+    candidates: &[&Effective],
+    types: &[Name],
+    quals: &[Qual],
+    work: &mut Work,
+) -> Result<Seq<ObserverId>, AllocError>
+    ensures observers { IfOk result (λ ids. (t : List ℕ) → types.now ≡ types_of decls.now t
+        → ids ≡ notified decls.now (map (λ bean. bean.now) candidates.now) t quals.now) }
+    ensures work { OnOk result (work.new ≡ with_one work.old) }
+    ensures err { OnErr result (work.new ≡ work.old) }
+    ensures seen { NotifiedRestOnSeen }
+{
+    let found = of_types_among(alloc, decls, candidates, types)?;
+    let ids = notified_among(alloc, decls, found, quals)?;
+    work.add_one();
+    Ok(ids)
+}
+
+/// Those of some which are notified of an event with these qualifiers, from the least priority on.
+fn notified_among(
+    alloc: Global,
+    decls: &Decls,
+    found: Vec<Found<'_>>,
+    quals: &[Qual],
+) -> Result<Seq<ObserverId>, AllocError>
+    ensures { IfOk result (λ ids. ids
+        ≡ map observer_id (filter (is_notified decls.now quals.now) (sorted_by is_before (lent_in found.entry.items)))) }
+{
     let mut ids = Seq::new(alloc);
-    for found in &observing(alloc, decls, beans, event_type)? {
+    for found in &in_order(found)? {
         if is_notified(decls, quals, found.method) {
             ids.push(ObserverId {
                 class: found.bean.name,
@@ -70,41 +111,15 @@ pub fn notified_of(
     Ok(ids)
 }
 
-/// The same, counted as one evaluation: `Work` rises where they are answered, and not where memory runs out.
-#[tactic(auto, using(crate::proofs::SeenLemmas::notified_rest_on_seen))]
-pub fn evaluate_observers(
-    alloc: Global,
-    decls: &Decls,
-    beans: &[Effective],
-    event_type: Name,
-    quals: &[Qual],
-    work: &mut Work,
-) -> Result<Seq<ObserverId>, AllocError>
-    ensures observers { IfOk result (λ ids. ids ≡ notified decls.now beans.now event_type quals.now) }
-    ensures work { OnOk result (work.new ≡ with_one work.old) }
-    ensures err { OnErr result (work.new ≡ work.old) }
-    ensures seen { NotifiedRestOnSeen }
+/// The same, from the least priority on.
+fn in_order(mut list: Vec<Found<'_>>) -> Result<Vec<Found<'_>>, AllocError>
+    ensures { IfOk result (λ sorted. lent_in sorted.items ≡ sorted_by is_before (lent_in list.entry.items)) }
 {
-    let ids = notified_of(alloc, decls, beans, event_type, quals)?;
-    work.add_one();
-    Ok(ids)
-}
-
-/// Those which observe a type that an event has, in order.
-fn observing<'a>(
-    alloc: Global,
-    decls: &'a Decls,
-    beans: &[Effective],
-    event_type: Name,
-) -> Result<Vec<Found<'a>>, AllocError>
-    ensures { IfOk result (λ list. lent_in list.items ≡ observing decls.now beans.now event_type) }
-{
-    let types = closure(alloc, decls, event_type)?;
-    let mut list = of_types(alloc, decls, beans, &types)?;
     list.sort_by_key(|found| priority_of(found.method))?;
     Ok(list)
 }
 
+/// The observer methods of some beans which observe one of these types.
 fn of_types<'a>(
     alloc: Global,
     decls: &'a Decls,
@@ -112,6 +127,23 @@ fn of_types<'a>(
     types: &[Name],
 ) -> Result<Vec<Found<'a>>, AllocError>
     ensures { IfOk result (λ list. lent_in list.items ≡ filter (observes types.now) (observers decls.now beans.now)) }
+{
+    let mut list = Vec::new(alloc);
+    for bean in beans {
+        push_of_types(enabled_bean(decls, bean), types, &mut list)?;
+    }
+    Ok(list)
+}
+
+/// The same of beans that are lent.
+fn of_types_among<'a>(
+    alloc: Global,
+    decls: &'a Decls,
+    beans: &[&Effective],
+    types: &[Name],
+) -> Result<Vec<Found<'a>>, AllocError>
+    ensures { IfOk result (λ list. lent_in list.items
+        ≡ filter (observes types.now) (observers decls.now (map (λ bean. bean.now) beans.now))) }
 {
     let mut list = Vec::new(alloc);
     for bean in beans {

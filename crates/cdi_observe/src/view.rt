@@ -10,7 +10,7 @@ ghost use Rattle.cdi_observe.specs.Keys.{choice_key, ChainKey, EventKey};
 ghost use Rattle.cdi_observe.specs.Kept.{Kept, after_key};
 ghost use Rattle.cdi_observe.specs.Observers.{notified};
 
-use crate::observers::{ObserverId, evaluate_observers};
+use crate::observers::{ObserverId, notified_of};
 use cdi_effective::Effective;
 use cdi_intercept::evaluate_chain;
 use cdi_model::{BeanPlace, Decls, Error, Name, Quals, Seq, Work};
@@ -149,15 +149,7 @@ impl<'a> View for PlainView<'a> {
         event_type: Name,
         quals: &Quals,
     ) -> Result<Seq<ObserverId>, AllocError> {
-        let mut work = Work::new();
         let beans = self.beans.as_slice();
-        evaluate_observers(
-            alloc,
-            self.decls,
-            beans,
-            event_type,
-            quals.as_slice(),
-            &mut work,
-        )
+        notified_of(alloc, self.decls, beans, event_type, quals.as_slice())
     }
 }

@@ -8,19 +8,16 @@ use Rattle.cdi_intercept.specs.Sorting.{sorted_by}
 use Rattle.cdi_intercept.proofs.OrderLemmas.{sorted_from_sort, sorted_map}
 use Rattle.cdi_observe.specs.Lent.{lent_at, lent_in}
 use Rattle.cdi_observe.specs.Observers.{is_before, observers, observes, observing, priority_of}
-use Rattle.cdi_observe.proofs.observers.observing.Goals as goal
+use Rattle.cdi_observe.proofs.observers.in_order.Goals as goal
 
 abbrev key : Found → ℤ
 key found = priority_of found.method.now
 
 pub returns : goal.returns
-unfolding observing
 returns c =
     let sort = c.in_ok-sort_by_key.ensures in
     let sorted = sort.sorted key (always_returns_same _ (λ a r. r ≡ key a.0.now) _ (λ a r q k. search rules)) in
     let stable = sort.stable key (always_returns_same _ (λ a r. r ≡ key a.0.now) _ (λ a r q k. search rules)) in
     let order = ranks_by int_cmp_total key in
     ap lent_in (sorted_from_sort (λ x y. is_before (lent_at x) (lent_at y)) order _ _ sorted stable)
-    ∙ sorted_map lent_at is_before c.in_ok-list.list.items
-    ∙ ap (sorted_by is_before) (c.in_ok-list.ensures
-    ∙ ap (λ types. filter (observes types) (observers c.args.decls.now c.args.beans.now)) (search rules))
+    ∙ sorted_map lent_at is_before c.args.list.items
