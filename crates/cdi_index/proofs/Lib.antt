@@ -9,4 +9,4 @@ mod InstallLemmas
 mod TurnLemmas
 mod ReplacedLemmas
 mod UnderLemmas
-mod SoughtLemmas
+pub mod SoughtLemmas

@@ -1,7 +1,7 @@
 -- The beans that are sought are among those of the declarations that have the words.
-use Rattle.std.proofs.Common.{◌≡◌, ℕ, Bool, true, false, cond, ◌||◌, List, [], ◌∷◌, ◌++◌, map, flat_map, filter, Option, Some, None}
+use Rattle.std.proofs.Common.{◌≡◌, ℕ, suc, Bool, true, false, cond, ◌||◌, List, [], ◌∷◌, ◌++◌, map, flat_map, filter, Option, Some, None}
 use Rattle.std.proofs.Common.{refl, sym, ap, ◌∙◌}
-use Rattle.std.specs.List.{list_any}
+use Rattle.std.specs.List.{list_any, slice_get}
 use Rattle.std.specs.Option.{option_to_list}
 use Rattle.std.specs.Str.{bytes_eq}
 use Rattle.std.proofs.lemmas.Bool.{or_parts}
@@ -26,17 +26,18 @@ use Rattle.cdi_index.proofs.ChangeLemmas.{any-either, any-same}
 
 -- ---- where others give nothing that is sought
 
-filter-under : {X Y : Type 0} (f : X → List Y) (test : X → Bool) (q : Y → Bool) → ((x : X) → test x ≡ false → filter q (f x) ≡ [])
-    → (xs : List X) → filter q (flat_map f (filter test xs)) ≡ filter q (flat_map f xs)
-filter-under f test q gives [] = refl
-filter-under f test q gives (x ∷ xs) = by (test x) refl (filter-under f test q gives xs)
+pub filter-under : {X Y : Type 0} (f : X → List Y) (test : X → Bool) (q : Y → Bool) (xs : List X)
+    → ((i : ℕ) (x : X) → slice_get xs i ≡ Some x → test x ≡ false → filter q (f x) ≡ [])
+    → filter q (flat_map f (filter test xs)) ≡ filter q (flat_map f xs)
+filter-under f test q [] gives = refl
+filter-under f test q (x ∷ xs) gives = by (test x) refl (filter-under f test q xs (λ i. gives (suc i)))
   where
     by : (b : Bool) → test x ≡ b → filter q (flat_map f (filter test xs)) ≡ filter q (flat_map f xs)
         → filter q (flat_map f (cond b (x ∷ filter test xs) (filter test xs))) ≡ filter q (flat_map f (x ∷ xs))
     by true e rest =
         filter-append q (f x) (flat_map f (filter test xs)) ∙ ap (λ ys. filter q (f x) ++ ys) rest
         ∙ sym (filter-append q (f x) (flat_map f xs))
-    by false e rest = rest ∙ ap (λ ys. ys ++ filter q (flat_map f xs)) (sym (gives x e)) ∙ sym (filter-append q (f x) (flat_map f xs))
+    by false e rest = rest ∙ ap (λ ys. ys ++ filter q (flat_map f xs)) (sym (gives 0 x refl e)) ∙ sym (filter-append q (f x) (flat_map f xs))
 
 -- ---- the words of records
 
@@ -116,14 +117,16 @@ pub of-type : (ds : List Decl) (t : List ℕ)
 unfolding beans
 of-type ds t =
     let w : Word = word_at reasons.HasType t in
-    filter-under (entries ds) (has_one ds (w ∷ [])) (λ b. has b.types t) (none-given w (λ b. has b.types t) (no-type t) ds) ds
+    filter-under (entries ds) (has_one ds (w ∷ [])) (λ b. has b.types t) ds
+    (λ i d there. none-given w (λ b. has b.types t) (no-type t) ds d)
 
 pub of-name : (ds : List Decl) (n : List ℕ)
     → filter (has_name n) (beans_under ds (word_at reasons.HasName n ∷ [])) ≡ filter (has_name n) (beans ds)
 unfolding beans
 of-name ds n =
     let w : Word = word_at reasons.HasName n in
-    filter-under (entries ds) (has_one ds (w ∷ [])) (has_name n) (none-given w (has_name n) (no-name n) ds) ds
+    filter-under (entries ds) (has_one ds (w ∷ [])) (has_name n) ds
+    (λ i d there. none-given w (has_name n) (no-name n) ds d)
 
 -- ---- observer methods
 
