@@ -1,13 +1,8 @@
-// A library with one function.
+//! Questions about the declarations of an index, answered by what it lists.
 #![tactic(auto)]
 
-ghost use Rattle.std.specs.Prelude.{◌≡◌};
-ghost use Rattle.cdi_live.specs.Echo.{echo_of};
+mod index_view;
+mod questions;
 
-// The `ensures` clause is the contract: what `echo` returns is `echo_of` of its argument, a definition
-// in `specs/Echo.antt`, which a caller's clause can cite too.
-pub fn echo(x: usize) -> usize
-    ensures { result ≡ echo_of x }
-{
-    x
-}
+pub use index_view::IndexView;
+pub use questions::{choose, choose_name, observers};

@@ -1,0 +1,85 @@
+//! Questions that look only at the beans which the index lists for them.
+ghost use Rattle.std.specs.Prelude.{◌≡◌, ℕ, List, IfOk, OnOk, OnErr};
+ghost use Rattle.cdi_model.specs.Work.{with_one};
+ghost use Rattle.cdi_match.specs.Types.{types_of};
+ghost use Rattle.cdi_effective.specs.Beans.{beans};
+ghost use Rattle.cdi_resolve.specs.Choices.{chosen, chosen_by_name};
+ghost use Rattle.cdi_observe.specs.Observers.{notified};
+
+use cdi_index::Index;
+use cdi_match::closure;
+use cdi_model::{Name, Qual, Quals, Seq, Work};
+use cdi_observe::{ObserverId, evaluate_observers};
+use cdi_resolve::{Choice, choose_from};
+use std::alloc::{AllocError, Global};
+
+/// The bean for a type and qualifiers (CDI 4.0, Performing typesafe resolution). It takes memory for a list of the beans
+/// that have the type, and where several eligible ones rank alike. It is counted as one evaluation: `Work` rises where it
+/// answers, and not where memory runs out.
+#[tactic(auto, using(crate::proofs::CandidateLemmas::has_enough))]
+pub fn choose(
+    alloc: Global,
+    index: &Index,
+    bean_type: Name,
+    quals: &Quals,
+    work: &mut Work,
+) -> Result<Choice, AllocError>
+    ensures choice { IfOk result (λ choice. choice ≡ chosen index.now.decls (beans index.now.decls) bean_type quals.now) }
+    ensures work { OnOk result (work.new ≡ with_one work.old) }
+    ensures err { OnErr result (work.new ≡ work.old) }
+{
+    let candidates = index.beans_of_type(alloc, &bean_type)?;
+    choose_from(alloc, index.decls(), &candidates, bean_type, quals, work)
+}
+
+/// The bean of a name (CDI 4.0, Name resolution). It takes memory for a list of the beans that have the name, and where
+/// several of these rank alike.
+#[tactic(auto, using(crate::proofs::CandidateLemmas::named_enough))]
+pub fn choose_name(alloc: Global, index: &Index, name: Name) -> Result<Choice, AllocError>
+    ensures { IfOk result (λ choice. choice ≡ chosen_by_name (beans index.now.decls) name) }
+{
+    let candidates = index.beans_of_name(alloc, &name)?;
+    cdi_resolve::choose_name(alloc, &candidates, name)
+}
+
+/// The observer methods that are notified of an event of a type with some qualifiers, in order (CDI 4.0, Observer
+/// resolution; Observer ordering). A type or a qualifier that is not declared is taken as it is. It takes memory for lists
+/// of the beans of which an observer method observes a type of the event, and of these methods. It is counted as `choose`
+/// is.
+pub fn observers(
+    alloc: Global,
+    index: &Index,
+    event_type: Name,
+    quals: &Quals,
+    work: &mut Work,
+) -> Result<Seq<ObserverId>, AllocError>
+    ensures observers { IfOk result (λ ids. ids ≡ notified index.now.decls (beans index.now.decls) event_type quals.now) }
+    ensures work { OnOk result (work.new ≡ with_one work.old) }
+    ensures err { OnErr result (work.new ≡ work.old) }
+{
+    if let Some(types) = index.types(&event_type) {
+        return observers_of_types(alloc, index, types, quals.as_slice(), work);
+    }
+    let types = closure(alloc, index.decls(), event_type)?;
+    observers_of_types(alloc, index, &types, quals.as_slice(), work)
+}
+
+/// The observer methods that are notified of an event which has these types.
+#[tactic(auto, using(crate::proofs::CandidateLemmas::observing_enough))]
+fn observers_of_types(
+    alloc: Global,
+    index: &Index,
+    types: &[Name],
+    quals: &[Qual],
+    work: &mut Work,
+) -> Result<Seq<ObserverId>, AllocError>
+    ensures observers { IfOk result (λ ids. (t : List ℕ) → types.now ≡ types_of index.now.decls t
+        → ids ≡ notified index.now.decls (beans index.now.decls) t quals.now) }
+    ensures work { OnOk result (work.new ≡ with_one work.old) }
+    ensures err { OnErr result (work.new ≡ work.old) }
+{
+    // No effect at run time. The proof reads here that no two declarations have one kind and name.
+    let _ = index.decls().iter();
+    let candidates = index.beans_observing(alloc, types)?;
+    evaluate_observers(alloc, index.decls(), &candidates, types, quals, work)
+}
