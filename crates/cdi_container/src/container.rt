@@ -294,8 +294,7 @@ impl<B: Bodies> Container<B> {
     /// Which bean is right for a type and qualifiers (CDI 4.0, Performing typesafe resolution). Where no qualifier is
     /// named, `Default` is asked for.
     ///
-    /// It takes memory for the beans that are right, and at the first question after an edit for the list of all beans,
-    /// which further questions use again.
+    /// It looks only at the beans that have the type, and takes memory for a list of them and for those that are right.
     pub fn choose(&mut self, bean_type: Name, quals: &Quals) -> Result<Choice, AllocError>
         ensures choice { IfOk result (λ choice. choice ≡ chosen self.old.decls (beans self.old.decls) bean_type quals.now) }
         ensures ok { OnOk result (self.new ≡ untold self.old) }
@@ -309,7 +308,8 @@ impl<B: Bodies> Container<B> {
         Ok(choice)
     }
 
-    /// Which bean has a name (CDI 4.0, Name resolution). It takes memory as `choose` does.
+    /// Which bean has a name (CDI 4.0, Name resolution). It looks only at the beans that have it, and takes memory as
+    /// `choose` does.
     pub fn named(&mut self, name: Name) -> Result<Choice, AllocError>
         ensures choice { IfOk result (λ choice. choice ≡ chosen_by_name (beans self.old.decls) name) }
         ensures ok { OnOk result (self.new ≡ untold self.old) }
@@ -339,8 +339,8 @@ impl<B: Bodies> Container<B> {
     }
 
     /// The observer methods that are notified of an event of a type with some qualifiers, in order (CDI 4.0, Observer
-    /// resolution; Observer ordering). A type or a qualifier that is not declared is taken as it is. It takes memory for the
-    /// types of the event and for the observer methods of these types, and for the list of all beans as `choose` does.
+    /// resolution; Observer ordering). A type or a qualifier that is not declared is taken as it is. It looks only at the
+    /// beans of which an observer method observes a type of the event, and takes memory for lists of these and of the methods.
     pub fn observers(
         &mut self,
         event_type: Name,
@@ -359,8 +359,7 @@ impl<B: Bodies> Container<B> {
     }
 
     /// All that is wrong with the present declarations (CDI 4.0, Problems detected automatically by the container), in
-    /// the order of the declarations. It takes memory for the faults and for the answers to all injection points, and
-    /// for the list of all beans as `choose` does.
+    /// the order of the declarations. It takes memory for the faults and for the answers to all injection points.
     pub fn report(&mut self) -> Result<Vec<Fault>, AllocError>
         ensures faults { IfOk result (λ list. list.items ≡ faults self.old.decls self.old.book) }
         ensures once { IfOk result (λ list. AllPairs (λ f g. f ≢ g) list.items) }

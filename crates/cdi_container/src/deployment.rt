@@ -1,5 +1,7 @@
 //! The present declarations and the stored bodies, and what questions have made of them.
-ghost use Rattle.std.specs.Prelude.{◌≡◌, ◌≢◌, AllPairs, IfSome, IsSome, None, [], length, true, false, Ok, Err, Some, ◌∷◌, OnOk, OnErr, IfOk, IfErr};
+ghost use Rattle.cdi_model.specs.declared.decl.Decl.{Decl};
+ghost use Rattle.cdi_bodies.specs.Book.{Promised};
+ghost use Rattle.std.specs.Prelude.{◌≡◌, ◌≢◌, AllPairs, List, IfSome, IsSome, None, [], length, true, false, Ok, Err, Some, ◌∷◌, OnOk, OnErr, IfOk, IfErr};
 ghost use Rattle.cdi_model.specs.Edits.{answer_of_edit};
 ghost use Rattle.cdi_index.specs.State.{IsEdited, committed};
 ghost use Rattle.cdi_container.specs.Editing.{changes_of_all, drafted_by, refusal_of_batch};
@@ -17,8 +19,8 @@ ghost use Rattle.cdi_staging.specs.Staged.{scene_of};
 ghost use Rattle.cdi_validate.specs.Faults.{faults};
 ghost use Rattle.cdi_container.specs.Asked.{aim_of, asked_for, fired_of};
 ghost use Rattle.cdi_scene.specs.Sound.{AreObservers};
-ghost use Rattle.cdi_container.specs.Wired.{StandsIn, IsSameDeployment, IsShortEdit, names_if, names_in, redeployed, staged_by, with_staged};
-ghost use Rattle.cdi_wiring.specs.Wired.{IsWiredOf};
+ghost use Rattle.cdi_container.specs.Wired.{StandsIn, IsSameDeployment, IsShortEdit, names_if, names_in, redeployed, staged_by, with_staged, is_sound};
+ghost use Rattle.cdi_wiring.specs.Wired.{IsWiredOf, IsWiringOf};
 
 use crate::asked::{Aim, Message, aim_for, can_be_fired};
 use crate::batch::{BatchError, draft_batch, draft_change};
@@ -31,11 +33,12 @@ use cdi_faults::Fault;
 use cdi_index::{Counts, Draft, Index};
 use cdi_intercept::chain_of;
 use cdi_lines::Edit;
+use cdi_live::{IndexView, choose, choose_name, observers};
 use cdi_model::{
     BeanPlace, Edit as Change, Error, Iter as DeclIter, Name, Quals, Refusal, Seq, Work,
 };
-use cdi_observe::{ObserverId, PlainView, evaluate_observers};
-use cdi_resolve::{BeanList, Choice, choose_name};
+use cdi_observe::ObserverId;
+use cdi_resolve::{BeanList, Choice};
 use cdi_run::Player;
 use cdi_scene::{Notified, Scene};
 use cdi_staging::Names;
@@ -49,25 +52,26 @@ use std::marker::Model;
 /// grow with the deployment.
 #[derive(Drop)]
 struct Stale {
-    beans: Option<BeanList>,
     scene: Option<Scene>,
+    beans: Option<BeanList>,
 }
 
 impl Stale {
-    /// A bean list is stale, if there is one.
-    fn take_beans(&mut self, beans: Option<BeanList>) {
-        if let Some(list) = beans {
-            self.beans = Some(list);
+    fn none() -> Stale {
+        Stale {
+            scene: None,
+            beans: None,
         }
     }
 
-    /// A scene is stale, if there is one. Its names.
+    /// A scene is stale, if there is one, with its bean list. Its names.
     fn take_wiring(&mut self, wiring: Option<Wiring>) -> Option<Names>
         ensures { result ≡ names_in wiring }
     {
         match wiring {
             Some(Wiring::Sound(wired)) => {
                 self.scene = Some(wired.scene);
+                self.beans = Some(wired.beans);
                 Some(wired.names)
             }
             _ => None,
@@ -80,8 +84,6 @@ impl Stale {
 pub(crate) struct Deployment<B: Bodies> {
     index: Index,
     book: B,
-    /// Made by the first question.
-    beans: Option<BeanList>,
     /// Made by the first lookup, call or event.
     wiring: Option<Wiring>,
     /// Whom the last event of each type notified.
@@ -92,7 +94,6 @@ pub(crate) struct Deployment<B: Bodies> {
 impl<B: Bodies> Model for Deployment<B> {
     ghost use Rattle.std.specs.Prelude.{IfSome, ◌≡◌};
     ghost use Rattle.cdi_model.specs.Short.{AreShort};
-    ghost use Rattle.cdi_effective.specs.Beans.{beans as bean_list};
     ghost use Rattle.cdi_container.specs.Asked.{aim_of, asked_for};
     ghost use Rattle.cdi_container.specs.LastEvents.{AreFiredOn};
     ghost use Rattle.cdi_container.specs.Wired.{StandsIn, Deployed, is_sound};
@@ -110,7 +111,6 @@ impl<B: Bodies> Model for Deployment<B> {
 
     ghost invariant = { λ d. AreShort d.index.decls
         × IfSome d.index.staged (λ next. AreShort next.decls)
-        × IfSome d.beans (λ list. list ≡ bean_list d.index.decls)
         × IfSome d.wiring (λ wiring. IsWiringOf d.index.decls (B.promises d.book) wiring)
         × AreFiredOn d.index.decls d.last_events };
 }
@@ -127,13 +127,9 @@ impl<B: Bodies> Deployment<B> {
         Deployment {
             index: Index::new(alloc),
             book,
-            beans: None,
             wiring: None,
             last_events: LastEvents::new(alloc),
-            stale: Stale {
-                beans: None,
-                scene: None,
-            },
+            stale: Stale::none(),
         }
     }
 
@@ -197,70 +193,48 @@ impl<B: Bodies> Deployment<B> {
         ensures names { result ≡ names_if self.old }
         ensures new { self.new ≡ redeployed self.old }
     {
-        let beans = self.beans.take();
         let wiring = self.wiring.take();
         self.last_events.clear();
         take_over(&mut self.index);
-        self.stale.take_beans(beans);
         self.stale.take_wiring(wiring)
     }
 
     /// The bean for a type and qualifiers.
     pub(crate) fn choose(
-        &mut self,
+        &self,
         alloc: Global,
         bean_type: Name,
         quals: &Quals,
         work: &mut Work,
     ) -> Result<Choice, AllocError>
         ensures choice { IfOk result (λ choice. choice
-            ≡ chosen self.old.decls (beans self.old.decls) bean_type quals.now) }
-        ensures stays { self.new ≡ self.old }
+            ≡ chosen self.now.decls (beans self.now.decls) bean_type quals.now) }
         ensures work { OnOk result (work.new ≡ with_one work.old) }
         ensures err { OnErr result (work.new ≡ work.old) }
     {
-        let list = self.take_beans(alloc)?;
-        let choice = list.choose(alloc, self.index.decls(), bean_type, quals, work);
-        self.beans = Some(list);
-        choice
+        choose(alloc, &self.index, bean_type, quals, work)
     }
 
     /// The bean of a name.
-    pub(crate) fn named(&mut self, alloc: Global, name: Name) -> Result<Choice, AllocError>
-        ensures choice { IfOk result (λ choice. choice ≡ chosen_by_name (beans self.old.decls) name) }
-        ensures stays { self.new ≡ self.old }
+    pub(crate) fn named(&self, alloc: Global, name: Name) -> Result<Choice, AllocError>
+        ensures { IfOk result (λ choice. choice ≡ chosen_by_name (beans self.now.decls) name) }
     {
-        let list = self.take_beans(alloc)?;
-        let choice = choose_name(alloc, list.as_slice(), name);
-        self.beans = Some(list);
-        choice
+        choose_name(alloc, &self.index, name)
     }
 
     /// The observer methods that are notified of an event.
     pub(crate) fn observers(
-        &mut self,
+        &self,
         alloc: Global,
         event_type: Name,
         quals: &Quals,
         work: &mut Work,
     ) -> Result<Seq<ObserverId>, AllocError>
-        ensures observers { IfOk result (λ ids. ids ≡ notified self.old.decls (beans self.old.decls) event_type quals.now) }
-        ensures stays { self.new ≡ self.old }
+        ensures observers { IfOk result (λ ids. ids ≡ notified self.now.decls (beans self.now.decls) event_type quals.now) }
         ensures work { OnOk result (work.new ≡ with_one work.old) }
         ensures err { OnErr result (work.new ≡ work.old) }
     {
-        let list = self.take_beans(alloc)?;
-        let beans = list.as_slice();
-        let ids = evaluate_observers(
-            alloc,
-            self.index.decls(),
-            beans,
-            event_type,
-            quals.as_slice(),
-            work,
-        );
-        self.beans = Some(list);
-        ids
+        observers(alloc, &self.index, event_type, quals, work)
     }
 
     /// The names of the interceptors around a place.
@@ -276,19 +250,11 @@ impl<B: Bodies> Deployment<B> {
     }
 
     /// The faults.
-    pub(crate) fn report(&mut self, alloc: Global) -> Result<Vec<Fault>, AllocError>
-        ensures faults { IfOk result (λ list. list.items ≡ faults self.old.decls self.old.book) }
+    pub(crate) fn report(&self, alloc: Global) -> Result<Vec<Fault>, AllocError>
+        ensures faults { IfOk result (λ list. list.items ≡ faults self.now.decls self.now.book) }
         ensures once { IfOk result (λ list. AllPairs (λ f g. f ≢ g) list.items) }
-        ensures stays { self.new ≡ self.old }
     {
-        let list = self.take_beans(alloc)?;
-        let found = faults(
-            alloc,
-            &mut PlainView::new(self.index.decls(), &list),
-            &self.book,
-        );
-        self.beans = Some(list);
-        found
+        faults(alloc, &mut IndexView::new(&self.index), &self.book)
     }
 
     /// How many faults there are. Where there is none, the scene is there from now on.
@@ -300,11 +266,8 @@ impl<B: Bodies> Deployment<B> {
         if let Some(wiring) = &self.wiring {
             return Ok(wiring.count());
         }
-        let list = self.take_beans(alloc)?;
-        self.stale.scene = None;
-        let wiring = Wiring::of(alloc, self.index.decls(), &list, &self.book);
-        self.beans = Some(list);
-        let wiring = wiring?;
+        self.stale = Stale::none();
+        let wiring = Wiring::of(alloc, &mut IndexView::new(&self.index), &self.book)?;
         let count = wiring.count();
         self.wiring = Some(wiring);
         Ok(count)
@@ -332,20 +295,18 @@ impl<B: Bodies> Deployment<B> {
         if !are_known(self.index.decls(), bean_type, quals) {
             return Err(Error::Refused(Refusal::UnknownName));
         }
-        let list = self.take_beans(alloc)?;
         // No effect at run time. The proof reads here that no two declarations have one kind and name.
         let _ = self.index.decls().iter();
-        let aim = aim_for(
+        let beans = &self.wired().beans;
+        aim_for(
             alloc,
             self.index.decls(),
-            &list,
+            beans,
             bean_type,
             quals,
             message,
             work,
-        );
-        self.beans = Some(list);
-        aim
+        )
     }
 
     /// The observer methods that an event notifies. Where it is not refused, the scene is there from now on.
@@ -369,13 +330,12 @@ impl<B: Bodies> Deployment<B> {
         if !can_be_fired(self.index.decls(), event_type, quals) {
             return Err(Error::Refused(Refusal::UnknownName));
         }
-        let list = self.take_beans(alloc)?;
         // No effect at run time. The proof reads here that no two declarations have one kind and name.
         let _ = self.index.decls().iter();
+        let beans = &wired_in(&self.wiring).beans;
         let notified = self
             .last_events
-            .notified(alloc, self.index.decls(), &list, event_type, quals);
-        self.beans = Some(list);
+            .notified(alloc, self.index.decls(), beans, event_type, quals);
         work.add_one();
         Ok(notified?)
     }
@@ -385,10 +345,7 @@ impl<B: Bodies> Deployment<B> {
         requires { self.now.is_wired ≡ true }
         ensures { IsWiredOf self.now.decls self.now.book result.now }
     {
-        match &self.wiring {
-            Some(Wiring::Sound(wired)) => wired,
-            _ => unreachable!(),
-        }
+        wired_in(&self.wiring)
     }
 
     /// Whether the scene is there.
@@ -418,19 +375,16 @@ impl<B: Bodies> Deployment<B> {
     {
         &self.wired().names
     }
+}
 
-    /// The bean list, which is made where it is not there, and is not kept.
-    fn take_beans(&mut self, alloc: Global) -> Result<BeanList, AllocError>
-        ensures list { IfOk result (λ list. list ≡ beans self.old.decls) }
-        ensures stays { self.new ≡ self.old }
-    {
-        match self.beans.take() {
-            Some(list) => Ok(list),
-            None => {
-                self.stale.beans = None;
-                BeanList::of(alloc, self.index.decls())
-            }
-        }
+/// The scene and its names, where they are there.
+fn wired_in(wiring: &Option<Wiring>) -> &Wired
+    requires { is_sound wiring.now ≡ true }
+    ensures { (ds : List Decl) (book : List Promised) → IfSome wiring.now (IsWiringOf ds book) → IsWiredOf ds book result.now }
+{
+    match wiring {
+        Some(Wiring::Sound(wired)) => wired,
+        _ => unreachable!(),
     }
 }
 

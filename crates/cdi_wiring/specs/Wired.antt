@@ -2,6 +2,7 @@
 use Rattle.std.specs.Prelude.{◌≡◌, ℕ, ◌<◌, List, [], length}
 use Rattle.cdi_model.specs.declared.decl.Decl.{Decl}
 use Rattle.cdi_bodies.specs.Book.{Promised}
+use Rattle.cdi_effective.specs.Beans.{beans}
 use Rattle.cdi_scene.specs.Sound.{IsSound}
 use Rattle.cdi_staging.specs.Naming.{names_of}
 use Rattle.cdi_staging.specs.Staged.{scene_of}
@@ -14,11 +15,12 @@ abbrev pub count_of : Wiring → ℕ
 count_of (wirings.Faulty count) = count
 count_of (wirings.Sound wired) = 0
 
--- the scene of a deployment without faults, and the names of its traces
+-- the scene of a deployment without faults, its bean list, and the names of its traces
 pub record IsWiredOf (ds : List Decl) (book : List Promised) (wired : Wired) : Type 0 where
   pub faultless : faults ds book ≡ []
   pub scene : wired.scene ≡ scene_of ds book
   pub sound : IsSound book (scene_of ds book)
+  pub listed : wired.beans ≡ beans ds
   pub names : wired.names ≡ names_of ds
 
 -- the number of faults, or that

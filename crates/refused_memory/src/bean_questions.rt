@@ -208,7 +208,11 @@ fn chooses_name(
     text: &[u8],
     answer: Answer,
 ) -> Result<bool, Error> {
-    let choice = choose_name(alloc, beans, name(text)?)?;
+    let mut candidates = Vec::with_capacity(alloc, beans.len())?;
+    for bean in beans {
+        candidates.push(bean)?;
+    }
+    let choice = choose_name(alloc, &candidates, name(text)?)?;
     Ok(is_choice(&choice, answer))
 }
 
