@@ -1,18 +1,16 @@
 -- What each declaration adds to what the keys of a type see rests on what it reads.
-use Rattle.std.proofs.Common.{◌≡◌, ℕ, Bool, true, false, cond, not, List, [], ◌∷◌, ◌++◌, map, filter, flat_map, refl, sym, ap, ◌∙◌}
-use Rattle.std.specs.List.{AllByRecursion}
+use Rattle.std.proofs.Common.{◌≡◌, ℕ, Bool, true, false, cond, List, [], ◌∷◌, ◌++◌, map, filter, flat_map, refl, sym, ap, ◌∙◌}
 use Rattle.std.proofs.lemmas.List.{map-append}
 use Rattle.std.proofs.lemmas.List.Elements.{filter-append}
-use Rattle.cdi_model.specs.Decl.{key_of}
 use Rattle.cdi_model.specs.DeclKey.{key_at}
-use Rattle.cdi_model.specs.Edits.{edited_all, edited_keys, is_among, Avoid, others}
+use Rattle.cdi_model.specs.Edits.{edited_all, edited_keys, is_among, Avoid}
 use Rattle.cdi_model.specs.declared.decl.Decl.{Decl}
 use Rattle.cdi_model.specs.declared.decl.Kind.TheVariants as kinds
 use Rattle.cdi_model.specs.declared.decl.UseKind.TheVariants as uses
 use Rattle.cdi_model.specs.declared.edit.Edit.{Edit}
 use Rattle.cdi_model.specs.declared.key.DeclKey.{DeclKey}
 use Rattle.cdi_model.specs.declared.quals.Qual.{Qual}
-use Rattle.cdi_model.proofs.EditLemmas.{edits_keep_decl, edits_keep_others, avoid-first, avoid-second, avoid-head}
+use Rattle.cdi_model.proofs.EditLemmas.{edits_keep_decl, avoid-first, avoid-second, avoid-head}
 use Rattle.cdi_match.specs.Filling.{as_qualifier, fill, members_of}
 use Rattle.cdi_match.specs.Covering.{given_name}
 use Rattle.cdi_effective.specs.Beans.{beans, entries, records}
@@ -70,13 +68,13 @@ bean-same edits ds r avoid =
 abbrev with_bean : List ℕ → Bool → Effective → List Effective → List Effective
 with_bean t offered r rs = cond offered (r ∷ filter (offers t) rs) (filter (offers t) rs)
 
-seen-same : (edits : List Edit) (ds : List Decl) (t : List ℕ) (rs : List Effective) → Avoid (qualifier_reads rs) edits
+pub seen_same : (edits : List Edit) (ds : List Decl) (t : List ℕ) (rs : List Effective) → Avoid (qualifier_reads rs) edits
     → seen_of (edited_all ds edits) t rs ≡ seen_of ds t rs
-seen-same edits ds t [] avoid = refl
-seen-same edits ds t (r ∷ rs) avoid =
+seen_same edits ds t [] avoid = refl
+seen_same edits ds t (r ∷ rs) avoid =
     let own = map use_key r.qualifiers in
     by (offers t r) (bean-same edits ds r (avoid-first edits own (qualifier_reads rs) avoid))
-    (seen-same edits ds t rs (avoid-second edits own (qualifier_reads rs) avoid))
+    (seen_same edits ds t rs (avoid-second edits own (qualifier_reads rs) avoid))
   where
     by : (b : Bool) → seen_bean (edited_all ds edits) r ≡ seen_bean ds r → seen_of (edited_all ds edits) t rs ≡ seen_of ds t rs
         → map (seen_bean (edited_all ds edits)) (with_bean t b r rs) ≡ map (seen_bean ds) (with_bean t b r rs)
@@ -91,7 +89,7 @@ edits_keep_contribution edits ds bean avoid replaced t =
     let quals = qualifier_reads (records ds bean) in
     let stay : records (edited_all ds edits) bean ≡ records ds bean =
     edits_keep_records edits ds bean (avoid-first edits apart quals avoid) replaced in
-    ap (seen_of (edited_all ds edits) t) stay ∙ seen-same edits ds t (records ds bean) (avoid-second edits apart quals avoid)
+    ap (seen_of (edited_all ds edits) t) stay ∙ seen_same edits ds t (records ds bean) (avoid-second edits apart quals avoid)
 
 pub edits_keep_seen_beans : EditsKeepSeenBeans
 edits_keep_seen_beans edits ds t leave =

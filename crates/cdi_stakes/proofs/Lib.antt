@@ -1,0 +1,15 @@
+pub mod SortLemmas
+pub mod PresentLemmas
+pub mod UseLemmas
+pub mod GatherLemmas
+pub mod SetLemmas
+pub mod ChainLemmas
+pub mod EventLemmas
+pub mod ChoiceLemmas
+pub mod StakeLemmas
+pub mod RestLemmas
+pub mod GiveLemmas
+pub mod NameLemmas
+pub mod WordLemmas
+pub mod CompareLemmas
+pub mod AffectedLemmas

@@ -1,0 +1,5 @@
+pub mod Rests
+pub mod Words
+pub mod Gives
+pub mod Stakes
+pub mod Compared
