@@ -21,24 +21,35 @@ pub fn check_page(alloc: Global, text: &str) -> Result<usize, Difference<'_>>
 
 /// Runs the script of a row from an empty container with the program's bodies, and compares.
 fn check_row<'t>(alloc: Global, row: &Row<'t>) -> Result<(), Difference<'t>> {
-    let mut reader = Counted::new(row.script.as_bytes());
+    let mut reader = Counted::new(row.script.as_slice());
     let mut writer = Counted::new(Vec::new(alloc));
     let options = Options { quiet: row.quiet };
     let Ok(book) = Book::new(stock_bodies!(alloc)) else {
         return Err(Difference::OutOfMemory);
     };
     let mut console = Console::new(&mut reader, &mut writer);
-    if let Err(fault) = run(alloc, &mut console, options, book) {
-        return Err(Difference::Run {
-            row: row.name,
-            fault,
-        });
-    }
+    let summary = match run(alloc, &mut console, options, book) {
+        Ok(summary) => summary,
+        Err(fault) => {
+            return Err(Difference::Run {
+                row: row.name,
+                fault,
+            });
+        }
+    };
     let came = writer.into_inner();
-    match first_difference(row.wanted.as_bytes(), came.as_slice()) {
-        None => Ok(()),
-        Some(place) => Err(answer_at(alloc, row, came.as_slice(), place)?),
+    if let Some(place) = first_difference(row.wanted.as_bytes(), came.as_slice()) {
+        return Err(answer_at(alloc, row, came.as_slice(), place)?);
     }
+    if summary.refused != wants_refusal(row) {
+        return Err(Difference::Refused(row.name));
+    }
+    Ok(())
+}
+
+/// Whether a row wants that a command is refused.
+fn wants_refusal(row: &Row) -> bool {
+    row.wanted.lines().any(|line| line.starts_with("refused "))
 }
 
 /// The place of the first byte in which two texts differ, or the length of the shorter where it is the front of the other.
