@@ -321,20 +321,33 @@ fn report(alloc: Global, container: &mut Container<Echo>) -> Result<Answered, Er
     Ok(Answered::Faults(lines_of(alloc, faults.as_slice())?))
 }
 
-/// Makes the calls, and tells whether one got no memory. Where one gets none, it is made again.
+/// Whether a call has its answer. `None` where it has no memory.
+fn is_right(
+    alloc: Global,
+    container: &mut Container<Echo>,
+    call: Call,
+    answer: Answer,
+) -> Option<bool> {
+    agrees(&make(alloc, container, call), answer)
+}
+
+/// Makes the calls in an empty container, and tells whether one got no memory. Where one gets none, it is made again.
 pub fn make_calls(alloc: Global) -> Result<bool, Difference> {
-    let mut container = Container::new(alloc, Echo);
+    make_each(alloc, &mut Container::new(alloc, Echo))
+}
+
+fn make_each(alloc: Global, container: &mut Container<Echo>) -> Result<bool, Difference> {
     let mut refused = false;
     for (place, (call, answer)) in CALLS.iter().enumerate() {
-        let mut answered = make(alloc, &mut container, *call);
-        if matches!(answered, Err(Error::OutOfMemory)) {
+        let mut right = is_right(alloc, container, *call, *answer);
+        if right.is_none() {
             if refused {
                 return Err(Difference::RefusedAgain);
             }
             refused = true;
-            answered = make(alloc, &mut container, *call);
+            right = is_right(alloc, container, *call, *answer);
         }
-        if !agrees(&answered, *answer) {
+        if right != Some(true) {
             return Err(Difference::Answer(place));
         }
     }

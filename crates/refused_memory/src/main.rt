@@ -1,4 +1,4 @@
-//! The program: makes calls, asks questions and runs a script, of which any one allocation may be refused, and says
+//! The program: makes calls, asks questions, runs scripts and takes steps, of which any one allocation may be refused, and says
 //! whether each answer is right.
 //!
 //! The number on the standard input is how many allocations come before the first of the calls.
@@ -8,23 +8,26 @@ mod answers;
 mod bean_questions;
 mod calls;
 mod chain_questions;
+mod deployed;
 mod questions;
 mod runs;
 mod scripts;
 mod specializing_questions;
+mod steps;
 mod texts;
 
 use calls::make_calls;
 use questions::ask_questions;
-use runs::run_steps;
-use scripts::run_script;
+use runs::take_steps;
+use scripts::run_scripts;
 use std::alloc::Global;
 use std::io;
 use std::io::{ErrorKind, Read};
 use std::process::ExitCode;
+use steps::{DECLARED, FURTHER_DECLARED, FURTHER_STEPS, STEPS};
 use thiserror::Error;
 
-/// The status where every answer is right, and one allocation of the calls, questions, run and steps was refused.
+/// The status where every answer is right, and one allocation of the calls, questions, scripts and steps was refused.
 const STATUS_REFUSED: u8 = 3;
 
 /// What is not as it is to be.
@@ -36,8 +39,8 @@ pub enum Difference {
     Question(usize),
     #[error("the declarations that are asked about are not read")]
     Declarations,
-    #[error("the run of the script writes or answers something else")]
-    Run,
+    #[error("the run of script {0} writes or answers something else")]
+    Run(usize),
     #[error("step {0} answers, shows or leaves something else")]
     Step(usize),
     #[error("a second allocation is refused")]
@@ -72,14 +75,27 @@ fn drop_boxes(alloc: Global, count: u16) {
     }
 }
 
-/// Makes the calls, asks the questions, runs the script and takes the steps, and tells whether an allocation of theirs is
-/// refused. At most one may be.
+/// Goes through everything, and tells whether an allocation was refused. Where one was, it goes through everything again.
 fn compare(alloc: Global) -> Result<bool, Difference> {
+    if !go_through(alloc)? {
+        return Ok(false);
+    }
+    if go_through(alloc)? {
+        Err(Difference::RefusedAgain)
+    } else {
+        Ok(true)
+    }
+}
+
+/// Makes the calls, asks the questions, runs the scripts and takes the steps of both tables, and tells whether an allocation
+/// of theirs is refused. At most one may be.
+fn go_through(alloc: Global) -> Result<bool, Difference> {
     let parts = [
         make_calls(alloc)?,
         ask_questions(alloc)?,
-        run_script(alloc)?,
-        run_steps(alloc)?,
+        run_scripts(alloc)?,
+        take_steps(alloc, &DECLARED, &STEPS)?,
+        take_steps(alloc, &FURTHER_DECLARED, &FURTHER_STEPS)?,
     ];
     match parts.iter().filter(|refused| **refused).count() {
         0 => Ok(false),
