@@ -27,13 +27,13 @@ pub enum Asked {
 }
 
 /// What a call answers: an outcome where it is a lookup, the call of a method or an event.
-pub type Told = Result<Option<Outcome>, Error>;
+pub type Reply = Result<Option<Outcome>, Error>;
 
 /// A call, what it answers, and the trace after it.
 #[derive(Clone, Copy)]
 pub struct Step {
     pub asked: Asked,
-    pub told: Told,
+    pub reply: Reply,
     pub trace: &'static [u8],
 }
 
@@ -50,16 +50,16 @@ fn method(text: &[u8]) -> Result<Ident, Error> {
     Ident::parse(text).ok_or(Error::Refused(Refusal::BadName))
 }
 
-fn given(answered: Result<Outcome, Error>) -> Told {
+fn given(answered: Result<Outcome, Error>) -> Reply {
     Ok(Some(answered?))
 }
 
-fn done(answered: Result<(), Error>) -> Told {
+fn done(answered: Result<(), Error>) -> Reply {
     answered?;
     Ok(None)
 }
 
-fn state_of(alloc: Global, container: &mut Container<StockBodies>, bean_type: Name) -> Told {
+fn state_of(alloc: Global, container: &mut Container<StockBodies>, bean_type: Name) -> Reply {
     given(container.lookup(bean_type, &Quals::new(alloc)))
 }
 
@@ -69,7 +69,7 @@ fn answer_of(
     bean_type: Name,
     method: Ident,
     arg: Val,
-) -> Told {
+) -> Reply {
     given(container.call(bean_type, &Quals::new(alloc), method, arg))
 }
 
@@ -79,19 +79,19 @@ fn outcome_of(
     container: &mut Container<StockBodies>,
     event_type: Name,
     arg: Val,
-) -> Told {
+) -> Reply {
     given(container.fire(event_type, &Quals::new(alloc), arg))
 }
 
-fn begin_request(container: &mut Container<StockBodies>) -> Told {
+fn begin_request(container: &mut Container<StockBodies>) -> Reply {
     done(container.begin_request().map_err(Error::Refused))
 }
 
-fn end_request(container: &mut Container<StockBodies>) -> Told {
+fn end_request(container: &mut Container<StockBodies>) -> Reply {
     done(container.end_request())
 }
 
-fn end_contexts(container: &mut Container<StockBodies>) -> Told {
+fn end_contexts(container: &mut Container<StockBodies>) -> Reply {
     done(container.stop().map_err(|_| Error::OutOfMemory))
 }
 
@@ -148,7 +148,7 @@ fn declare_all(
 }
 
 /// Makes a call by its own function.
-fn make(alloc: Global, container: &mut Container<StockBodies>, asked: &Asked) -> Told {
+fn make(alloc: Global, container: &mut Container<StockBodies>, asked: &Asked) -> Reply {
     match asked {
         LookUp(text) => state_of(alloc, container, name(text)?),
         Call(text, arg, of) => answer_of(alloc, container, name(of)?, method(text)?, *arg),
@@ -191,8 +191,8 @@ fn repeats(
     container: &mut Container<StockBodies>,
     step: &Step,
 ) -> Result<bool, AllocError> {
-    let told = make(alloc, container, &step.asked);
-    Ok(told == step.told && shows(alloc, container, step.trace)?)
+    let reply = make(alloc, container, &step.asked);
+    Ok(reply == step.reply && shows(alloc, container, step.trace)?)
 }
 
 /// How a step goes that has no memory for its call. An edit and the end of contexts change nothing then. After any other
@@ -224,11 +224,11 @@ fn shown(alloc: Global, container: &Container<StockBodies>, step: &Step) -> Goin
 }
 
 fn take(alloc: Global, container: &mut Container<StockBodies>, step: &Step) -> Going {
-    let told = make(alloc, container, &step.asked);
-    if told == Err(Error::OutOfMemory) {
+    let reply = make(alloc, container, &step.asked);
+    if reply == Err(Error::OutOfMemory) {
         return refused(alloc, container, step);
     }
-    if told == step.told {
+    if reply == step.reply {
         shown(alloc, container, step)
     } else {
         Going::Wrong
@@ -272,7 +272,7 @@ fn go_through(
     }
 }
 
-/// The same in an empty container.
+/// Puts the texts in an empty container, takes the steps, and says whether there was no memory for one of these.
 pub fn take_steps(alloc: Global, texts: &[&[u8]], steps: &[Step]) -> Result<bool, Difference> {
     go_through(alloc, &mut Container::new(alloc, StockBodies), texts, steps)
 }

@@ -1,16 +1,16 @@
 //! What is declared, the steps that are taken then, what each answers, and the trace that it shows.
-use crate::runs::{Asked, Step, Told};
+use crate::runs::{Asked, Reply, Step};
 use Asked::{Batch, Begin, Call, End, Fire, LookUp, Put, PutDecl, Remove, Stop};
 use Error::Refused;
 use Outcome::{Failed, Value};
 use Val::{Int, Null};
 use cdi_model::{Error, Failure, Outcome, Refusal, Val};
 
-const DONE: Told = Ok(None);
+const DONE: Reply = Ok(None);
 
-const NULL: Told = Ok(Some(Value(Null)));
+const NULL: Reply = Ok(Some(Value(Null)));
 
-const NOT_ACTIVE: Told = Ok(Some(Failed(Failure::NotActive)));
+const NOT_ACTIVE: Reply = Ok(Some(Failed(Failure::NotActive)));
 
 /// What a batch puts.
 const PUTS: &[&[u8]] = &[
@@ -52,10 +52,11 @@ pre={body="count"}
 "#,
 ];
 
+/// Steps in which edits, the ends of contexts and interceptors with state and points make and destroy instances.
 pub static STEPS: [Step; 21] = [
     Step {
         asked: LookUp(b"A"),
-        told: NULL,
+        reply: NULL,
         trace: b"  create A#1
   create D#2
   enter D#2 post arg null
@@ -70,7 +71,7 @@ pub static STEPS: [Step; 21] = [
     },
     Step {
         asked: Call(b"run", Int(7), b"S"),
-        told: Ok(Some(Value(Int(7)))),
+        reply: Ok(Some(Value(Int(7)))),
         trace: b"  create S#3
   create D#4
   enter D#4 post arg null
@@ -99,12 +100,12 @@ pub static STEPS: [Step; 21] = [
     },
     Step {
         asked: Begin,
-        told: DONE,
+        reply: DONE,
         trace: b"",
     },
     Step {
         asked: Call(b"run", Int(8), b"R"),
-        told: Ok(Some(Value(Int(8)))),
+        reply: Ok(Some(Value(Int(8)))),
         trace: b"  create R#6
   ready R#6
   enter R#6 method run arg 8
@@ -113,22 +114,22 @@ pub static STEPS: [Step; 21] = [
     },
     Step {
         asked: End,
-        told: DONE,
+        reply: DONE,
         trace: b"  destroy R#6\n  gone R#6\n",
     },
     Step {
         asked: Begin,
-        told: DONE,
+        reply: DONE,
         trace: b"",
     },
     Step {
         asked: LookUp(b"R"),
-        told: NULL,
+        reply: NULL,
         trace: b"  create R#7\n  ready R#7\n",
     },
     Step {
         asked: Batch(PUTS),
-        told: DONE,
+        reply: DONE,
         trace: b"  destroy R#7
   gone R#7
   destroy S#3
@@ -145,12 +146,12 @@ pub static STEPS: [Step; 21] = [
     },
     Step {
         asked: LookUp(b"R"),
-        told: NOT_ACTIVE,
+        reply: NOT_ACTIVE,
         trace: b"",
     },
     Step {
         asked: Fire(Int(5), b"R"),
-        told: NULL,
+        reply: NULL,
         trace: b"  create A#8
   create D#9
   enter D#9 post arg null
@@ -173,7 +174,7 @@ pub static STEPS: [Step; 21] = [
     },
     Step {
         asked: Call(b"run", Int(9), b"S"),
-        told: Ok(Some(Value(Int(9)))),
+        reply: Ok(Some(Value(Int(9)))),
         trace: b"  create S#11
   create D#12
   enter D#12 post arg null
@@ -202,7 +203,7 @@ pub static STEPS: [Step; 21] = [
     },
     Step {
         asked: Stop,
-        told: DONE,
+        reply: DONE,
         trace: b"  destroy S#11
   enter S#11 pre by I arg null
   load 1
@@ -217,12 +218,12 @@ pub static STEPS: [Step; 21] = [
     },
     Step {
         asked: Begin,
-        told: DONE,
+        reply: DONE,
         trace: b"",
     },
     Step {
         asked: Call(b"run", Int(4), b"S"),
-        told: Ok(Some(Value(Int(4)))),
+        reply: Ok(Some(Value(Int(4)))),
         trace: b"  create S#14
   create D#15
   enter D#15 post arg null
@@ -251,12 +252,12 @@ pub static STEPS: [Step; 21] = [
     },
     Step {
         asked: LookUp(b"R"),
-        told: NULL,
+        reply: NULL,
         trace: b"  create R#17\n  ready R#17\n",
     },
     Step {
         asked: Remove(b"E"),
-        told: DONE,
+        reply: DONE,
         trace: b"  destroy R#17
   gone R#17
   destroy S#14
@@ -274,22 +275,22 @@ pub static STEPS: [Step; 21] = [
     // Where nothing was asked since the last edit, nothing ends.
     Step {
         asked: Put(b"kind=\"type\"\nname=\"E\"\n"),
-        told: DONE,
+        reply: DONE,
         trace: b"",
     },
     Step {
         asked: PutDecl(b"kind=\"type\"\nname=\"E\"\n"),
-        told: DONE,
+        reply: DONE,
         trace: b"",
     },
     Step {
         asked: Remove(b"E"),
-        told: DONE,
+        reply: DONE,
         trace: b"",
     },
     Step {
         asked: Fire(Int(5), b"R"),
-        told: NULL,
+        reply: NULL,
         trace: b"  create A#18
   create D#19
   enter D#19 post arg null
@@ -313,7 +314,7 @@ pub static STEPS: [Step; 21] = [
     // Whom the same event notifies is known by now.
     Step {
         asked: Fire(Int(6), b"R"),
-        told: NULL,
+        reply: NULL,
         trace: b"  create A#21
   create D#22
   enter D#22 post arg null
@@ -354,10 +355,11 @@ observers=[{name="see",type="D",body="echo"}]
 "#,
 ];
 
+/// Steps of which some are refused or fail: for want of a request, for a second one, and for what they name.
 pub static FURTHER_STEPS: [Step; 19] = [
     Step {
         asked: LookUp(b"A"),
-        told: NULL,
+        reply: NULL,
         trace: b"  create A#1
   create D#2
   enter D#2 post arg null
@@ -372,7 +374,7 @@ pub static FURTHER_STEPS: [Step; 19] = [
     },
     Step {
         asked: Call(b"run", Int(1), b"A"),
-        told: Ok(Some(Value(Int(1)))),
+        reply: Ok(Some(Value(Int(1)))),
         trace: b"  create A#3
   create D#4
   enter D#4 post arg null
@@ -389,22 +391,22 @@ pub static FURTHER_STEPS: [Step; 19] = [
     },
     Step {
         asked: Call(b"run", Int(1), b"R"),
-        told: NOT_ACTIVE,
+        reply: NOT_ACTIVE,
         trace: b"",
     },
     Step {
         asked: End,
-        told: Err(Refused(Refusal::NoRequest)),
+        reply: Err(Refused(Refusal::NoRequest)),
         trace: b"",
     },
     Step {
         asked: Begin,
-        told: DONE,
+        reply: DONE,
         trace: b"",
     },
     Step {
         asked: Call(b"run", Int(-5), b"R"),
-        told: Ok(Some(Value(Int(-5)))),
+        reply: Ok(Some(Value(Int(-5)))),
         trace: b"  create R#5
   ready R#5
   enter R#5 method run arg -5
@@ -413,12 +415,12 @@ pub static FURTHER_STEPS: [Step; 19] = [
     },
     Step {
         asked: Begin,
-        told: Err(Refused(Refusal::RequestActive)),
+        reply: Err(Refused(Refusal::RequestActive)),
         trace: b"",
     },
     Step {
         asked: Call(b"run", Null, b"S"),
-        told: NULL,
+        reply: NULL,
         trace: b"  create S#6
   ready S#6
   enter S#6 method run arg null
@@ -427,57 +429,57 @@ pub static FURTHER_STEPS: [Step; 19] = [
     },
     Step {
         asked: LookUp(b"S"),
-        told: NULL,
+        reply: NULL,
         trace: b"",
     },
     Step {
         asked: Fire(Int(3), b"D"),
-        told: NULL,
+        reply: NULL,
         trace: b"  enter S#6 observer see arg 3\n  leave 3\n",
     },
     Step {
         asked: Fire(Int(3), b"A"),
-        told: NULL,
+        reply: NULL,
         trace: b"",
     },
     Step {
         asked: Fire(Int(3), b"Z"),
-        told: Err(Refused(Refusal::UnknownName)),
+        reply: Err(Refused(Refusal::UnknownName)),
         trace: b"",
     },
     Step {
         asked: Call(b"go", Null, b"S"),
-        told: Err(Refused(Refusal::NoMethod)),
+        reply: Err(Refused(Refusal::NoMethod)),
         trace: b"",
     },
     Step {
         asked: LookUp(b"Z"),
-        told: Err(Refused(Refusal::UnknownName)),
+        reply: Err(Refused(Refusal::UnknownName)),
         trace: b"",
     },
     Step {
         asked: LookUp(b"Object"),
-        told: Err(Refused(Refusal::Ambiguous)),
+        reply: Err(Refused(Refusal::Ambiguous)),
         trace: b"",
     },
     Step {
         asked: End,
-        told: DONE,
+        reply: DONE,
         trace: b"  destroy R#5\n  gone R#5\n",
     },
     Step {
         asked: LookUp(b"R"),
-        told: NOT_ACTIVE,
+        reply: NOT_ACTIVE,
         trace: b"",
     },
     Step {
         asked: Stop,
-        told: DONE,
+        reply: DONE,
         trace: b"  destroy S#6\n  gone S#6\n",
     },
     Step {
         asked: Stop,
-        told: DONE,
+        reply: DONE,
         trace: b"",
     },
 ];
