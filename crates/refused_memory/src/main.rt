@@ -75,32 +75,46 @@ fn drop_boxes(alloc: Global, count: u16) {
     }
 }
 
-/// Goes through everything, and tells whether an allocation was refused. Where one was, it goes through everything again.
-fn compare(alloc: Global) -> Result<bool, Difference> {
-    if !go_through(alloc)? {
-        return Ok(false);
-    }
-    if go_through(alloc)? {
-        Err(Difference::RefusedAgain)
-    } else {
-        Ok(true)
-    }
+/// A part of what the program does.
+#[derive(Clone, Copy)]
+enum Part {
+    Calls,
+    Questions,
+    Scripts,
+    Steps,
+    FurtherSteps,
 }
 
-/// Makes the calls, asks the questions, runs the scripts and takes the steps of both tables, and tells whether an allocation
-/// of theirs is refused. At most one may be.
-fn go_through(alloc: Global) -> Result<bool, Difference> {
-    let parts = [
-        make_calls(alloc)?,
-        ask_questions(alloc)?,
-        run_scripts(alloc)?,
-        take_steps(alloc, &DECLARED, &STEPS)?,
-        take_steps(alloc, &FURTHER_DECLARED, &FURTHER_STEPS)?,
-    ];
-    match parts.iter().filter(|refused| **refused).count() {
-        0 => Ok(false),
-        1 => Ok(true),
-        _ => Err(Difference::RefusedAgain),
+static PARTS: [Part; 5] = [
+    Part::Calls,
+    Part::Questions,
+    Part::Scripts,
+    Part::Steps,
+    Part::FurtherSteps,
+];
+
+/// Does each part, and tells whether an allocation of theirs was refused. At most one may be, and its part is done again.
+fn compare(alloc: Global) -> Result<bool, Difference> {
+    let mut refused = false;
+    for part in &PARTS {
+        if do_part(alloc, *part)? {
+            if refused || do_part(alloc, *part)? {
+                return Err(Difference::RefusedAgain);
+            }
+            refused = true;
+        }
+    }
+    Ok(refused)
+}
+
+/// Does a part, and tells whether an allocation of it was refused.
+fn do_part(alloc: Global, part: Part) -> Result<bool, Difference> {
+    match part {
+        Part::Calls => make_calls(alloc),
+        Part::Questions => ask_questions(alloc),
+        Part::Scripts => run_scripts(alloc),
+        Part::Steps => take_steps(alloc, &DECLARED, &STEPS),
+        Part::FurtherSteps => take_steps(alloc, &FURTHER_DECLARED, &FURTHER_STEPS),
     }
 }
 
