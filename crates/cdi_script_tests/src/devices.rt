@@ -3,6 +3,7 @@ use crate::fixtures::{STORED_SCRIPT, STORED_TEXT, assert_text, empty_page, fault
 use cdi_devices::SCRIPT_LIMIT;
 use cdi_fixtures::Echo;
 use cdi_script::{Console, Counted, Options, RunFault, run};
+use std::alloc::Global;
 use std::cell::Cell;
 use std::io;
 use std::io::{ErrorKind, Read, Write};
@@ -137,21 +138,26 @@ impl Read for Broken {
     }
 }
 
+/// What is written where the reader fails after so many reads, and whether the run says that a read failed.
+fn written_after(alloc: Global, reads: usize) -> Result<(Vec<u8>, bool), Fail> {
+    let mut reader = Counted::new(Broken {
+        rest: STORED_SCRIPT,
+        reads,
+    });
+    let mut writer = Counted::new(empty_page(alloc)?);
+    let mut console = Console::new(&mut reader, &mut writer);
+    let fault = fault_of(run(alloc, &mut console, OPTIONS, Echo))?;
+    Ok((writer.into_inner(), fault == Some(RunFault::Read)))
+}
+
 #[test]
 fn reads_that_fail(rt: HostRuntime) -> Result<(), Fail> {
     for reads in 0..=19usize {
-        let mut reader = Counted::new(Broken {
-            rest: STORED_SCRIPT,
-            reads,
-        });
-        let mut writer = Counted::new(empty_page(rt.alloc())?);
-        let mut console = Console::new(&mut reader, &mut writer);
-        let ending = run(rt.alloc(), &mut console, OPTIONS, Echo);
-        let is_read = fault_of(ending)? == Some(RunFault::Read);
+        let (written, is_read) = written_after(rt.alloc(), reads)?;
         assert!(rt; is_read, "after {reads}");
         let count = STORED_SCRIPT.len().min(reads * 5);
         let text = text_of(&CUTS_BY_FAILURE, count).ok_or("no text")?;
-        assert_text(&rt, writer.into_inner().as_slice(), text, &reads);
+        assert_text(&rt, written.as_slice(), text, &reads);
     }
     Ok(())
 }
@@ -211,25 +217,30 @@ impl Write for Full {
     }
 }
 
+/// Whether a run whose writer takes so many bytes writes these, and says that a write failed exactly where it has no room.
+fn fills(alloc: Global, left: usize, fails: bool) -> Result<bool, Fail> {
+    let has_room = left == STORED_TEXT.len() && !fails;
+    let mut reader = Counted::new(STORED_SCRIPT);
+    let mut writer = Counted::new(Full {
+        left,
+        fails,
+        bytes: empty_page(alloc)?,
+    });
+    let mut console = Console::new(&mut reader, &mut writer);
+    let fault = fault_of(run(alloc, &mut console, OPTIONS, Echo))?;
+    let is_write = fault == Some(RunFault::Write);
+    let is_counted = writer.has_failed() != has_room && writer.count() == left as u64;
+    let bytes = writer.into_inner().bytes;
+    let is_written = bytes.len() == left && STORED_TEXT.starts_with(bytes.as_slice());
+    Ok(is_write != has_room && is_counted && is_written)
+}
+
 #[test]
 fn writes_that_fail(rt: HostRuntime) -> Result<(), Fail> {
     for left in 0..=STORED_TEXT.len() {
-        for fails in [true, false] {
-            let has_room = left == STORED_TEXT.len() && !fails;
-            let mut reader = Counted::new(STORED_SCRIPT);
-            let mut writer = Counted::new(Full {
-                left,
-                fails,
-                bytes: empty_page(rt.alloc())?,
-            });
-            let mut console = Console::new(&mut reader, &mut writer);
-            let ending = run(rt.alloc(), &mut console, OPTIONS, Echo);
-            let is_write = fault_of(ending)? == Some(RunFault::Write);
-            assert!(rt; is_write != has_room, "at {left}");
-            assert!(rt; writer.has_failed() != has_room && writer.count() == left as u64);
-            let bytes = writer.into_inner().bytes;
-            assert_text(&rt, bytes.as_slice(), &STORED_TEXT[..left], &left);
-        }
+        let fails = fills(rt.alloc(), left, true)?;
+        let takes_none = fills(rt.alloc(), left, false)?;
+        assert!(rt; fails && takes_none, "at {left}");
     }
     Ok(())
 }

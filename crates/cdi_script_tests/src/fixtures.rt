@@ -1,7 +1,6 @@
 //! What several tests share.
 use cdi_bodies::{Body, Book};
-use cdi_fixtures::Echo;
-use cdi_script::{Console, Container, Counted, Options, RunFault, Summary, run, run_on};
+use cdi_script::{Console, Counted, Options, RunFault, Summary, run};
 use std::alloc::{AllocError, Global};
 use std::fmt::Display;
 use std::process::Abort;
@@ -26,30 +25,6 @@ pub(crate) fn fault_of(ending: Result<Summary, RunFault>) -> Result<Option<RunFa
         Err(RunFault::Memory) => Err(Fail::new("out of memory")),
         Err(fault) => Ok(Some(fault)),
     }
-}
-
-/// What the run of a script wrote, and whether a command was refused.
-pub(crate) fn ending(alloc: Global, script: &[u8]) -> Result<(Vec<u8>, bool), Fail> {
-    let mut reader = Counted::new(script);
-    let mut writer = Counted::new(empty_page(alloc)?);
-    let options = Options { quiet: false };
-    let mut console = Console::new(&mut reader, &mut writer);
-    let summary = run(alloc, &mut console, options, Echo)?;
-    Ok((writer.into_inner(), summary.refused))
-}
-
-/// What the run of a script on a container that is there prints.
-pub(crate) fn printed_on(
-    alloc: Global,
-    container: &mut Container<Echo>,
-    script: &[u8],
-) -> Result<Vec<u8>, Fail> {
-    let mut reader = Counted::new(script);
-    let mut writer = Counted::new(empty_page(alloc)?);
-    let options = Options { quiet: false };
-    let mut console = Console::new(&mut reader, &mut writer);
-    run_on(alloc, container, &mut console, options)?;
-    Ok(writer.into_inner())
 }
 
 /// What the run of a script with these bodies prints.

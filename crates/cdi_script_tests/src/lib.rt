@@ -1,5 +1,5 @@
-//! Tests of scripts that no page of `worked_rows` can hold, of the devices that they come from and are answered to, of the
-//! program's statuses, and of a container's calls.
+//! Tests of what no script shows: of the devices that scripts come from and are answered to, of the program's statuses, and of
+//! functions that are stored as bodies.
 #![tactic(auto)]
 
 #[cfg(test)]
@@ -9,12 +9,6 @@ mod devices;
 #[cfg(test)]
 mod fixtures;
 #[cfg(test)]
-mod full_list;
-#[cfg(test)]
-mod long_rows;
-#[cfg(test)]
 mod proceeding;
-#[cfg(test)]
-mod runs;
 #[cfg(test)]
 mod session;

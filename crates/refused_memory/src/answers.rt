@@ -33,13 +33,14 @@ pub enum Answered {
     Observers(Seq<ObserverId>),
 }
 
-/// Whether a call answered what it is to answer.
-pub fn agrees(answered: &Result<Answered, Error>, answer: Answer) -> bool {
+/// Whether a call answered what it is to answer. `None` where it had no memory.
+pub fn agrees(answered: &Result<Answered, Error>, answer: Answer) -> Option<bool> {
     match answered {
-        Ok(answered) => is_answer(answered, answer),
+        Ok(answered) => Some(is_answer(answered, answer)),
+        Err(Error::OutOfMemory) => None,
         Err(error) => match answer {
-            Answer::Refused(refusal) => *error == Error::Refused(refusal),
-            _ => false,
+            Answer::Refused(refusal) => Some(*error == Error::Refused(refusal)),
+            _ => Some(false),
         },
     }
 }

@@ -1,14 +1,14 @@
 //! Questions about the beans of some declarations.
 use crate::answers::{Answer, is_choice};
+use crate::deployed::Deployed;
 use crate::texts::are_names;
 use cdi_container::Choice;
 use cdi_effective::{Effective, disposer_of, records_of};
-use cdi_fixtures::{declared, name, quals};
+use cdi_fixtures::{name, quals};
 use cdi_model::{BeanDecl, Decl, Decls, Error, Ident, Kind, Name, Qual, Scope, Work};
 use cdi_observe::{PlainView, evaluate};
 use cdi_resolve::{BeanList, choose_name};
 use cdi_seen::{offering, same_beans};
-use cdi_text::read_decl;
 use std::alloc::{AllocError, Global};
 use std::rc::Rc;
 
@@ -53,67 +53,67 @@ pub struct Compared(pub &'static [u8], pub bool);
 
 use BeanQuestion::{Beans, Choose, ChooseName, Evaluate, Put, Record};
 
-/// Declarations with their beans.
-#[derive(Drop)]
-pub struct Deployed {
-    pub decls: Decls,
-    beans: BeanList,
+/// Whether a question has its answer.
+pub fn has_answer(
+    alloc: Global,
+    deployed: &Deployed,
+    question: BeanQuestion,
+) -> Result<bool, Error> {
+    let Deployed { decls, beans } = deployed;
+    match question {
+        Beans(wanted) => Ok(are_told(alloc, decls, beans.as_slice(), wanted)),
+        Record(class, wanted) => has_record(alloc, decls, class, wanted),
+        Choose(text, uses, answer) => chooses(alloc, deployed, text, uses, answer),
+        ChooseName(text, answer) => chooses_name(alloc, beans.as_slice(), text, answer),
+        Evaluate(wanted) => evaluates(alloc, decls, wanted),
+        Put(text, wanted) => sees_after(alloc, deployed, text, wanted),
+    }
 }
 
-impl Deployed {
-    /// The declarations that texts spell, with their beans.
-    pub fn new(alloc: Global, texts: &[&[u8]]) -> Result<Deployed, Error> {
-        let decls = declared(alloc, texts)?;
-        let beans = BeanList::of(alloc, &decls)?;
-        Ok(Deployed { decls, beans })
+/// Whether the choice for a type and uses of qualifiers is the one that is wanted. The work rises by one, unless there is no
+/// memory for the choice.
+fn chooses(
+    alloc: Global,
+    deployed: &Deployed,
+    text: &[u8],
+    uses: &[&[u8]],
+    answer: Answer,
+) -> Result<bool, Error> {
+    let quals = quals(alloc, uses)?;
+    let mut work = Work::new();
+    work.add_one();
+    let chosen = deployed
+        .beans
+        .choose(alloc, &deployed.decls, name(text)?, &quals, &mut work);
+    if work.count() != 1 + u64::from(chosen.is_ok()) {
+        return Ok(false);
     }
+    Ok(is_choice(&chosen?, answer))
+}
 
-    /// Whether a question has its answer.
-    pub fn answers(&self, alloc: Global, question: BeanQuestion) -> Result<bool, Error> {
-        match question {
-            Beans(wanted) => has_beans(alloc, &self.decls, wanted),
-            Record(class, wanted) => has_record(alloc, &self.decls, class, wanted),
-            Choose(text, uses, answer) => self.chooses(alloc, text, uses, answer),
-            ChooseName(text, answer) => chooses_name(alloc, self.beans.as_slice(), text, answer),
-            Evaluate(wanted) => evaluates(alloc, &self.decls, wanted),
-            Put(text, wanted) => self.sees_after(alloc, text, wanted),
-        }
-    }
+/// Whether each type has its answer where a text is put.
+fn sees_after(
+    alloc: Global,
+    before: &Deployed,
+    text: &[u8],
+    wanted: &[Compared],
+) -> Result<bool, Error> {
+    let after = before.after_put(alloc, text)?;
+    see_each(alloc, before, &after, wanted)
+}
 
-    /// Whether the choice for a type and uses of qualifiers is the one that is wanted. The work rises by one, unless
-    /// there is no memory for the choice.
-    fn chooses(
-        &self,
-        alloc: Global,
-        text: &[u8],
-        uses: &[&[u8]],
-        answer: Answer,
-    ) -> Result<bool, Error> {
-        let quals = quals(alloc, uses)?;
-        let mut work = Work::new();
-        work.add_one();
-        let chosen = self
-            .beans
-            .choose(alloc, &self.decls, name(text)?, &quals, &mut work);
-        if work.count() != 1 + u64::from(chosen.is_ok()) {
+fn see_each(
+    alloc: Global,
+    before: &Deployed,
+    after: &Deployed,
+    wanted: &[Compared],
+) -> Result<bool, Error> {
+    for Compared(text, is_same) in wanted {
+        if see_same(alloc, before, after, name(text)?)? != *is_same {
             return Ok(false);
         }
-        Ok(is_choice(&chosen?, answer))
     }
-
-    /// Whether each type has its answer where a text is put.
-    fn sees_after(&self, alloc: Global, text: &[u8], wanted: &[Compared]) -> Result<bool, Error> {
-        let mut decls = self.decls.copy()?;
-        decls.put(read_decl(alloc, text)?)?;
-        let beans = BeanList::of(alloc, &decls)?;
-        let after = Deployed { decls, beans };
-        for Compared(text, is_same) in wanted {
-            if see_same(alloc, self, &after, name(text)?)? != *is_same {
-                return Ok(false);
-            }
-        }
-        Ok(true)
-    }
+    Ok(true)
 }
 
 /// Whether the questions for a type see the same beans of two deployments.
@@ -123,16 +123,8 @@ fn see_same(
     after: &Deployed,
     bean_type: Name,
 ) -> Result<bool, AllocError> {
-    let olds = offering(
-        alloc,
-        references(alloc, before.beans.as_slice())?.as_slice(),
-        bean_type,
-    )?;
-    let news = offering(
-        alloc,
-        references(alloc, after.beans.as_slice())?.as_slice(),
-        bean_type,
-    )?;
+    let olds = offering_of(alloc, before, bean_type)?;
+    let news = offering_of(alloc, after, bean_type)?;
     same_beans(
         alloc,
         &before.decls,
@@ -140,6 +132,16 @@ fn see_same(
         &after.decls,
         news.as_slice(),
     )
+}
+
+/// The beans of a deployment that a question for a type sees.
+fn offering_of<'d>(
+    alloc: Global,
+    deployed: &'d Deployed,
+    bean_type: Name,
+) -> Result<Vec<&'d Effective>, AllocError> {
+    let beans = references(alloc, deployed.beans.as_slice())?;
+    offering(alloc, beans.as_slice(), bean_type)
 }
 
 fn references(alloc: Global, beans: &[Effective]) -> Result<Vec<&Effective>, AllocError> {
@@ -151,17 +153,16 @@ fn references(alloc: Global, beans: &[Effective]) -> Result<Vec<&Effective>, All
 }
 
 /// Whether the beans are these, in this order.
-fn has_beans(alloc: Global, decls: &Decls, wanted: &[Told]) -> Result<bool, Error> {
-    let found = BeanList::of(alloc, decls)?;
-    if found.as_slice().len() != wanted.len() {
-        return Ok(false);
+fn are_told(alloc: Global, decls: &Decls, beans: &[Effective], wanted: &[Told]) -> bool {
+    if beans.len() != wanted.len() {
+        return false;
     }
-    for (bean, told) in found.as_slice().iter().zip(wanted.iter()) {
+    for (bean, told) in beans.iter().zip(wanted.iter()) {
         if !is_told(bean, disposer_of(alloc, decls, bean), told) {
-            return Ok(false);
+            return false;
         }
     }
-    Ok(true)
+    true
 }
 
 fn is_told(bean: &Effective, disposer: Option<Ident>, wanted: &Told) -> bool {

@@ -4,9 +4,9 @@ use crate::answers::{Answer, Answered, agrees};
 use Answer::{Ambiguous, Around, Counted, Done, Faults, Observed, One, Refused, Unsatisfied};
 use Call::{Beans, Books, Chain, Choose, Counts, Named, Observers, Promises, Put, Remove, Report};
 use cdi_container::{Bodies, Book, Choice, Container, Promise, PromiseBook, read_quals};
-use cdi_fixtures::{Echo, lines_of, name};
+use cdi_fixtures::{lines_of, name};
 use cdi_model::{BeanPlace, Error, Ident, Kind, Refusal, Seq};
-use cdi_stock::stock_bodies;
+use cdi_stock::{StockBodies, stock_bodies};
 use std::alloc::{AllocError, Global};
 
 /// A call of a container. A type is chosen with uses of qualifiers.
@@ -227,7 +227,11 @@ static CALLS: [(Call, Answer); 52] = [
 ];
 
 /// Makes a call.
-fn make(alloc: Global, container: &mut Container<Echo>, call: Call) -> Result<Answered, Error> {
+fn make(
+    alloc: Global,
+    container: &mut Container<StockBodies>,
+    call: Call,
+) -> Result<Answered, Error> {
     match call {
         Put(text) => nothing(container.put(text)),
         Remove(kind, text) => nothing(container.remove(kind, name(text)?)),
@@ -250,7 +254,7 @@ fn books(alloc: Global) -> Result<Answered, Error> {
     }
 }
 
-fn beans(alloc: Global, container: &Container<Echo>) -> Result<Answered, Error> {
+fn beans(alloc: Global, container: &Container<StockBodies>) -> Result<Answered, Error> {
     let mut classes = Seq::new(alloc);
     for bean in container.beans()? {
         classes.push(bean.id.class)?;
@@ -270,7 +274,7 @@ fn promises(alloc: Global) -> Result<Answered, Error> {
 
 fn observers(
     alloc: Global,
-    container: &mut Container<Echo>,
+    container: &mut Container<StockBodies>,
     text: &[u8],
     uses: &[u8],
 ) -> Result<Answered, Error> {
@@ -279,7 +283,7 @@ fn observers(
 }
 
 fn chain(
-    container: &mut Container<Echo>,
+    container: &mut Container<StockBodies>,
     text: &[u8],
     method: Option<&[u8]>,
 ) -> Result<Answered, Error> {
@@ -308,7 +312,7 @@ fn chosen(outcome: Result<Choice, AllocError>) -> Result<Answered, Error> {
 
 fn choose(
     alloc: Global,
-    container: &mut Container<Echo>,
+    container: &mut Container<StockBodies>,
     text: &[u8],
     uses: &[u8],
 ) -> Result<Answered, Error> {
@@ -316,25 +320,38 @@ fn choose(
     chosen(container.choose(name(text)?, &quals))
 }
 
-fn report(alloc: Global, container: &mut Container<Echo>) -> Result<Answered, Error> {
+fn report(alloc: Global, container: &mut Container<StockBodies>) -> Result<Answered, Error> {
     let faults = container.report()?;
     Ok(Answered::Faults(lines_of(alloc, faults.as_slice())?))
 }
 
-/// Makes the calls, and tells whether one got no memory. Where one gets none, it is made again.
+/// Whether a call has its answer. `None` where it has no memory.
+fn is_right(
+    alloc: Global,
+    container: &mut Container<StockBodies>,
+    call: Call,
+    answer: Answer,
+) -> Option<bool> {
+    agrees(&make(alloc, container, call), answer)
+}
+
+/// Makes the calls in an empty container, and tells whether one got no memory. Where one gets none, it is made again.
 pub fn make_calls(alloc: Global) -> Result<bool, Difference> {
-    let mut container = Container::new(alloc, Echo);
+    make_each(alloc, &mut Container::new(alloc, StockBodies))
+}
+
+fn make_each(alloc: Global, container: &mut Container<StockBodies>) -> Result<bool, Difference> {
     let mut refused = false;
     for (place, (call, answer)) in CALLS.iter().enumerate() {
-        let mut answered = make(alloc, &mut container, *call);
-        if matches!(answered, Err(Error::OutOfMemory)) {
+        let mut right = is_right(alloc, container, *call, *answer);
+        if right.is_none() {
             if refused {
                 return Err(Difference::RefusedAgain);
             }
             refused = true;
-            answered = make(alloc, &mut container, *call);
+            right = is_right(alloc, container, *call, *answer);
         }
-        if !agrees(&answered, *answer) {
+        if right != Some(true) {
             return Err(Difference::Answer(place));
         }
     }

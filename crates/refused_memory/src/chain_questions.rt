@@ -1,12 +1,12 @@
 //! Questions about the bindings and the interceptors at methods, and about observer methods.
+use crate::deployed::decls_after_put;
 use crate::texts::{are_names, are_observers};
-use cdi_fixtures::{declared, name};
+use cdi_fixtures::name;
 use cdi_intercept::{bindings_at, in_order};
 use cdi_model::{BeanPlace, Decls, Error, Ident, Name, Qual, Quals, Refusal};
 use cdi_observe::{PlainView, View};
 use cdi_resolve::BeanList;
 use cdi_seen::is_chain_touched;
-use cdi_text::read_decl;
 use std::alloc::Global;
 
 /// A question about the audited bean, with its answer.
@@ -26,7 +26,7 @@ use ChainQuestion::{Around, Bound, Observed, Touched};
 
 /// Three binding types, one of which brings another, an interceptor, and a bean with two methods, one of which has a
 /// binding in the place of the one that its class is brought, and with an observer method.
-static AUDITED: [&[u8]; 6] = [
+pub static AUDITED: [&[u8]; 6] = [
     b"kind=\"binding\"\nname=\"Log\"\n",
     b"kind=\"binding\"\nname=\"Tx\"\nmembers=[{name=\"level\",default=0}]\n",
     b"kind=\"binding\"\nname=\"Audit\"\ndeclares=[\"Tx(level=1)\"]\n",
@@ -45,62 +45,60 @@ observers=[{name="see",type="S",body="echo"}]
 "#,
 ];
 
-/// The audited bean and the declarations that it rests on.
-#[derive(Drop)]
-pub struct Audited {
-    decls: Decls,
+/// Whether a question about the audited bean has its answer by these declarations.
+pub fn has_answer_of_chains(
+    alloc: Global,
+    decls: &Decls,
+    question: ChainQuestion,
+) -> Result<bool, Error> {
+    match question {
+        Around(called, wanted) => is_surrounded(alloc, decls, called, wanted),
+        Bound(called, wanted) => is_bound(alloc, decls, called, wanted),
+        Touched(text, called, wanted) => {
+            let after = decls_after_put(alloc, decls, text)?;
+            Ok(is_touched(alloc, decls, &after, called)? == wanted)
+        }
+        Observed(event_type, wanted) => is_observed(alloc, decls, event_type, wanted),
+    }
 }
 
-impl Audited {
-    pub fn new(alloc: Global) -> Result<Audited, Error> {
-        let decls = declared(alloc, &AUDITED)?;
-        Ok(Audited { decls })
-    }
+fn is_surrounded(
+    alloc: Global,
+    decls: &Decls,
+    called: &[u8],
+    wanted: &[&[u8]],
+) -> Result<bool, Error> {
+    let list = BeanList::of(alloc, decls)?;
+    let mut view = PlainView::new(decls, &list);
+    let chain = view.chain(alloc, name(b"S")?, &method(called)?)?;
+    Ok(are_names(chain.as_slice(), wanted))
+}
 
-    /// Whether a question has its answer.
-    pub fn answers(&self, alloc: Global, question: ChainQuestion) -> Result<bool, Error> {
-        match question {
-            Around(called, wanted) => self.is_surrounded(alloc, called, wanted),
-            Bound(called, wanted) => self.is_bound(alloc, called, wanted),
-            Touched(text, called, wanted) => Ok(self.is_touched(alloc, text, called)? == wanted),
-            Observed(event_type, wanted) => self.is_observed(alloc, event_type, wanted),
-        }
-    }
+fn is_bound(alloc: Global, decls: &Decls, called: &[u8], wanted: &[&[u8]]) -> Result<bool, Error> {
+    let bindings = bindings_at(alloc, decls, name(b"S")?, &method(called)?)?;
+    let types = types_of(alloc, bindings.as_slice())?;
+    Ok(are_names(types.as_slice(), wanted))
+}
 
-    fn is_surrounded(&self, alloc: Global, called: &[u8], wanted: &[&[u8]]) -> Result<bool, Error> {
-        let list = BeanList::of(alloc, &self.decls)?;
-        let mut view = PlainView::new(&self.decls, &list);
-        let chain = view.chain(alloc, name(b"S")?, &method(called)?)?;
-        Ok(are_names(chain.as_slice(), wanted))
-    }
+/// Whether the question for the chain around a method is touched between some declarations and others.
+fn is_touched(alloc: Global, decls: &Decls, after: &Decls, called: &[u8]) -> Result<bool, Error> {
+    let olds = in_order(alloc, decls)?;
+    let news = in_order(alloc, after)?;
+    let (class, place) = (name(b"S")?, method(called)?);
+    Ok(is_chain_touched(alloc, decls, &olds, after, &news, class, &place)?)
+}
 
-    fn is_bound(&self, alloc: Global, called: &[u8], wanted: &[&[u8]]) -> Result<bool, Error> {
-        let bindings = bindings_at(alloc, &self.decls, name(b"S")?, &method(called)?)?;
-        let types = types_of(alloc, bindings.as_slice())?;
-        Ok(are_names(types.as_slice(), wanted))
-    }
-
-    fn is_touched(&self, alloc: Global, text: &[u8], called: &[u8]) -> Result<bool, Error> {
-        let mut after = self.decls.copy()?;
-        after.put(read_decl(alloc, text)?)?;
-        let olds = in_order(alloc, &self.decls)?;
-        let news = in_order(alloc, &after)?;
-        let (class, place) = (name(b"S")?, method(called)?);
-        Ok(is_chain_touched(alloc, &self.decls, &olds, &after, &news, class, &place)?)
-    }
-
-    fn is_observed(
-        &self,
-        alloc: Global,
-        event_type: &[u8],
-        wanted: &[&[u8]],
-    ) -> Result<bool, Error> {
-        let quals = Quals::new(alloc);
-        let list = BeanList::of(alloc, &self.decls)?;
-        let mut view = PlainView::new(&self.decls, &list);
-        let ids = view.observers(alloc, name(event_type)?, &quals)?;
-        Ok(are_observers(ids.as_slice(), wanted))
-    }
+fn is_observed(
+    alloc: Global,
+    decls: &Decls,
+    event_type: &[u8],
+    wanted: &[&[u8]],
+) -> Result<bool, Error> {
+    let quals = Quals::new(alloc);
+    let list = BeanList::of(alloc, decls)?;
+    let mut view = PlainView::new(decls, &list);
+    let ids = view.observers(alloc, name(event_type)?, &quals)?;
+    Ok(are_observers(ids.as_slice(), wanted))
 }
 
 /// The place of a method.

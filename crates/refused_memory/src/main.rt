@@ -1,4 +1,4 @@
-//! The program: makes calls, asks questions and runs a script, of which any one allocation may be refused, and says
+//! The program: makes calls, asks questions, runs scripts and takes steps, of which any one allocation may be refused, and says
 //! whether each answer is right.
 //!
 //! The number on the standard input is how many allocations come before the first of the calls.
@@ -8,23 +8,26 @@ mod answers;
 mod bean_questions;
 mod calls;
 mod chain_questions;
+mod deployed;
 mod questions;
 mod runs;
 mod scripts;
 mod specializing_questions;
+mod steps;
 mod texts;
 
 use calls::make_calls;
 use questions::ask_questions;
-use runs::run_steps;
-use scripts::run_script;
+use runs::take_steps;
+use scripts::run_scripts;
 use std::alloc::Global;
 use std::io;
 use std::io::{ErrorKind, Read};
 use std::process::ExitCode;
+use steps::{DECLARED, FURTHER_DECLARED, FURTHER_STEPS, STEPS};
 use thiserror::Error;
 
-/// The status where every answer is right, and one allocation of the calls, questions, run and steps was refused.
+/// The status where every answer is right, and one allocation of the calls, questions, scripts and steps was refused.
 const STATUS_REFUSED: u8 = 3;
 
 /// What is not as it is to be.
@@ -36,8 +39,8 @@ pub enum Difference {
     Question(usize),
     #[error("the declarations that are asked about are not read")]
     Declarations,
-    #[error("the run of the script writes or answers something else")]
-    Run,
+    #[error("the run of script {0} writes or answers something else")]
+    Run(usize),
     #[error("step {0} answers, shows or leaves something else")]
     Step(usize),
     #[error("a second allocation is refused")]
@@ -72,19 +75,46 @@ fn drop_boxes(alloc: Global, count: u16) {
     }
 }
 
-/// Makes the calls, asks the questions, runs the script and takes the steps, and tells whether an allocation of theirs is
-/// refused. At most one may be.
+/// A part of what the program does.
+#[derive(Clone, Copy)]
+enum Part {
+    Calls,
+    Questions,
+    Scripts,
+    Steps,
+    FurtherSteps,
+}
+
+static PARTS: [Part; 5] = [
+    Part::Calls,
+    Part::Questions,
+    Part::Scripts,
+    Part::Steps,
+    Part::FurtherSteps,
+];
+
+/// Does each part, and tells whether an allocation of theirs was refused. At most one may be, and its part is done again.
 fn compare(alloc: Global) -> Result<bool, Difference> {
-    let parts = [
-        make_calls(alloc)?,
-        ask_questions(alloc)?,
-        run_script(alloc)?,
-        run_steps(alloc)?,
-    ];
-    match parts.iter().filter(|refused| **refused).count() {
-        0 => Ok(false),
-        1 => Ok(true),
-        _ => Err(Difference::RefusedAgain),
+    let mut refused = false;
+    for part in &PARTS {
+        if do_part(alloc, *part)? {
+            if refused || do_part(alloc, *part)? {
+                return Err(Difference::RefusedAgain);
+            }
+            refused = true;
+        }
+    }
+    Ok(refused)
+}
+
+/// Does a part, and tells whether an allocation of it was refused.
+fn do_part(alloc: Global, part: Part) -> Result<bool, Difference> {
+    match part {
+        Part::Calls => make_calls(alloc),
+        Part::Questions => ask_questions(alloc),
+        Part::Scripts => run_scripts(alloc),
+        Part::Steps => take_steps(alloc, &DECLARED, &STEPS),
+        Part::FurtherSteps => take_steps(alloc, &FURTHER_DECLARED, &FURTHER_STEPS),
     }
 }
 

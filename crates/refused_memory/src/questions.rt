@@ -2,11 +2,14 @@
 //! refused. They change nothing.
 use crate::Difference;
 use crate::answers::Answer;
-use crate::bean_questions::{BeanQuestion, Compared, Deployed, Recorded, Told};
-use crate::chain_questions::{Audited, ChainQuestion};
-use crate::specializing_questions::{ReadKey, Specializing, SpecializingQuestion};
+use crate::bean_questions::{BeanQuestion, Compared, Recorded, Told, has_answer};
+use crate::chain_questions::{AUDITED, ChainQuestion, has_answer_of_chains};
+use crate::deployed::Deployed;
+use crate::specializing_questions::{
+    ReadKey, SPECIALIZING, SpecializingQuestion, has_answer_of_specializing,
+};
 use crate::texts::{are_names, names};
-use cdi_fixtures::name;
+use cdi_fixtures::{declared, name};
 use cdi_match::{closure, fill_members, is_type, stereotypes};
 use cdi_model::{Decls, Error, Ident, Kind, Members, Scope, UseKind};
 use cdi_text::read_qualifier;
@@ -202,15 +205,15 @@ static QUESTIONS: [Question; 34] = [
 #[derive(Drop)]
 struct Asked {
     deployed: Deployed,
-    audited: Audited,
-    specializing: Specializing,
+    audited: Decls,
+    specializing: Decls,
 }
 
 impl Asked {
     fn new(alloc: Global) -> Result<Asked, Error> {
         let deployed = Deployed::new(alloc, &TEXTS)?;
-        let audited = Audited::new(alloc)?;
-        let specializing = Specializing::new(alloc)?;
+        let audited = declared(alloc, &AUDITED)?;
+        let specializing = declared(alloc, &SPECIALIZING)?;
         Ok(Asked {
             deployed,
             audited,
@@ -219,22 +222,26 @@ impl Asked {
     }
 }
 
-/// Asks the questions, and tells whether one got no memory. Where one gets none, it is asked again.
+/// Makes what the questions are about, asks them, and tells whether there was no memory for one of these.
 pub fn ask_questions(alloc: Global) -> Result<bool, Difference> {
-    let mut made = Asked::new(alloc);
-    let mut refused = matches!(made, Err(Error::OutOfMemory));
-    if refused {
-        made = Asked::new(alloc);
+    match Asked::new(alloc) {
+        Ok(asked) => ask_each(alloc, &asked),
+        Err(Error::OutOfMemory) => Ok(true),
+        Err(_) => Err(Difference::Declarations),
     }
-    let asked = made.map_err(|_| Difference::Declarations)?;
+}
+
+/// Asks the questions, and tells whether one got no memory. Where one gets none, it is asked again.
+fn ask_each(alloc: Global, asked: &Asked) -> Result<bool, Difference> {
+    let mut refused = false;
     for (place, question) in QUESTIONS.iter().enumerate() {
-        let mut answered = ask(alloc, &asked, *question);
-        if matches!(answered, Err(Error::OutOfMemory)) {
+        let mut answered = ask(alloc, asked, *question);
+        if answered == Err(Error::OutOfMemory) {
             if refused {
                 return Err(Difference::RefusedAgain);
             }
             refused = true;
-            answered = ask(alloc, &asked, *question);
+            answered = ask(alloc, asked, *question);
         }
         if answered != Ok(true) {
             return Err(Difference::Question(place));
@@ -253,9 +260,11 @@ fn ask(alloc: Global, asked: &Asked, question: Question) -> Result<bool, Error> 
         }
         Fill(text, wanted) => fills(alloc, decls, text, wanted),
         Stereotypes(texts, wanted) => has_stereotypes(alloc, decls, texts, wanted),
-        OfBeans(question) => asked.deployed.answers(alloc, question),
-        OfChains(question) => asked.audited.answers(alloc, question),
-        OfSpecializing(question) => asked.specializing.answers(alloc, question),
+        OfBeans(question) => has_answer(alloc, &asked.deployed, question),
+        OfChains(question) => has_answer_of_chains(alloc, &asked.audited, question),
+        OfSpecializing(question) => {
+            has_answer_of_specializing(alloc, &asked.specializing, question)
+        }
     }
 }
 

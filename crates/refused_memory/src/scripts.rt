@@ -1,8 +1,21 @@
-//! The run of a script, of which any one allocation may be refused.
+//! Scripts that run on one container, one after another, of which any one allocation may be refused.
 use crate::Difference;
-use cdi_fixtures::Echo;
-use cdi_script::{Console, Counted, Options, RunFault, run};
+use cdi_script::{Console, Container, Counted, Options, RunFault, run_on};
+use cdi_stock::StockBodies;
 use std::alloc::Global;
+
+/// A script in which a type and a bean are put, the bean is chosen, and a type that is absent is dropped.
+const STORED_SCRIPT: &[u8] =
+    b"put\nkind=\"type\"\nname=\"Corner\"\n.\nput\nkind=\"bean\"\nname=\"Corner\"\n.\nchoose Corner\ndrop type Mall\n";
+
+/// What it prints.
+const STORED_TEXT: &[u8] = b"ok\nok\none Corner\nrefused E11 Absent\n";
+
+/// A script that asks about what the one before it put.
+const ASKING_SCRIPT: &[u8] = b"choose Object\n";
+
+/// What it prints.
+const ASKING_TEXT: &[u8] = b"one Corner\n";
 
 /// A script in which a qualifier, a type, a stereotype and two beans are put, a bean is chosen by its qualifier, by its
 /// name and as an alternative, the faults are reported, a type that is absent is dropped, and a batch puts it and drops the
@@ -65,38 +78,68 @@ ok
 /// What a report that has a fault prints first.
 const REPORT_BEGINS: &[u8] = b"faults 1\n";
 
-/// Runs the script, and tells whether an allocation was refused; where one was, the script is run again.
-pub fn run_script(alloc: Global) -> Result<bool, Difference> {
-    if run_once(alloc)? {
-        return Ok(false);
-    }
-    if run_once(alloc)? {
-        Ok(true)
-    } else {
-        Err(Difference::RefusedAgain)
-    }
+/// A script, what it prints, and whether a command of it is refused.
+#[derive(Clone, Copy)]
+struct Printed {
+    script: &'static [u8],
+    text: &'static [u8],
+    refused: bool,
 }
 
-/// Runs the script into an array, and tells whether there was memory for it.
-fn run_once(alloc: Global) -> Result<bool, Difference> {
+static SCRIPTS: [Printed; 3] = [
+    Printed {
+        script: STORED_SCRIPT,
+        text: STORED_TEXT,
+        refused: true,
+    },
+    Printed {
+        script: ASKING_SCRIPT,
+        text: ASKING_TEXT,
+        refused: false,
+    },
+    Printed {
+        script: SCRIPT,
+        text: TEXT,
+        refused: true,
+    },
+];
+
+/// Runs the scripts on a container that is empty at first, up to one that has no memory, and tells whether there is one.
+pub fn run_scripts(alloc: Global) -> Result<bool, Difference> {
+    run_each(alloc, &mut Container::new(alloc, StockBodies))
+}
+
+fn run_each(alloc: Global, container: &mut Container<StockBodies>) -> Result<bool, Difference> {
+    for (place, printed) in SCRIPTS.iter().enumerate() {
+        match prints(alloc, container, printed) {
+            Some(true) => {}
+            Some(false) => return Err(Difference::Run(place)),
+            None => return Ok(true),
+        }
+    }
+    Ok(false)
+}
+
+/// Whether the run of a script writes its text into an array. `None` where it had no memory and wrote whole answers.
+fn prints(alloc: Global, container: &mut Container<StockBodies>, wanted: &Printed) -> Option<bool> {
     let mut page = [0u8; 128];
-    let mut reader = Counted::new(SCRIPT);
+    let mut reader = Counted::new(wanted.script);
     let mut writer = Counted::new(&mut page[..]);
     let options = Options { quiet: false };
     let mut console = Console::new(&mut reader, &mut writer);
-    let outcome = run(alloc, &mut console, options, Echo);
+    let outcome = run_on(alloc, container, &mut console, options);
     let count = writer.count() as usize;
-    let written = page.get(..count).ok_or(Difference::Run)?;
+    let written = page.get(..count).unwrap_or(&[]);
     match outcome {
-        Ok(summary) if summary.refused && written == TEXT => Ok(true),
-        Err(RunFault::Memory) if is_whole_answers(written) => Ok(false),
-        _ => Err(Difference::Run),
+        Ok(summary) => Some(summary.refused == wanted.refused && written == wanted.text),
+        Err(RunFault::Memory) if is_whole_answers(wanted.text, written) => None,
+        _ => Some(false),
     }
 }
 
-/// Whether these are the answers of the first commands, or of none.
-fn is_whole_answers(written: &[u8]) -> bool {
+/// Whether these are the answers of the first commands of those that print a text, or of none.
+fn is_whole_answers(text: &[u8], written: &[u8]) -> bool {
     let ends = written.is_empty()
         || (written.ends_with(b"\n") && !written.ends_with(REPORT_BEGINS));
-    TEXT.starts_with(written) && ends
+    text.starts_with(written) && ends
 }

@@ -2,7 +2,7 @@
 use crate::bean_questions::{Recorded, find_bean, is_record};
 use crate::texts::are_names;
 use cdi_effective::{behind, own_records_of, reads_of, replaced_by};
-use cdi_fixtures::{declared, name};
+use cdi_fixtures::name;
 use cdi_model::{BeanDecl, DeclKey, Decls, Error, Kind, Name};
 use std::alloc::Global;
 
@@ -27,7 +27,7 @@ use SpecializingQuestion::{Behind, Own, Reads, Replaced};
 
 /// `Big` specializes `Wide`, and `Wide` specializes `Corner`, which has a name by its stereotype. Two uses of `Rank` are in
 /// their chain. The priority makes the alternative `Big` an offered one.
-static SPECIALIZING: [&[u8]; 7] = [
+pub static SPECIALIZING: [&[u8]; 7] = [
     b"kind=\"stereotype\"\nname=\"Model\"\nnamed=true\n",
     b"kind=\"stereotype\"\nname=\"Mock\"\nalternative=true\n",
     b"kind=\"type\"\nname=\"Wide\"\nextends=\"Corner\"\n",
@@ -43,38 +43,29 @@ priority=1
 "#,
 ];
 
-/// The bean and the declarations that it rests on.
-#[derive(Drop)]
-pub struct Specializing {
-    decls: Decls,
+/// Whether a question about `Big` has its answer by these declarations.
+pub fn has_answer_of_specializing(
+    alloc: Global,
+    decls: &Decls,
+    question: SpecializingQuestion,
+) -> Result<bool, Error> {
+    let Some(bean) = find_bean(decls, b"Big")? else {
+        return Ok(false);
+    };
+    match question {
+        Behind(wanted) => is_before(alloc, decls, bean, wanted),
+        Replaced(wanted) => replaces(alloc, decls, wanted),
+        Own(is_replaced, wanted) => has_own(alloc, decls, bean, is_replaced, wanted),
+        Reads(wanted) => rests_on(alloc, decls, bean, wanted),
+    }
 }
 
-impl Specializing {
-    pub fn new(alloc: Global) -> Result<Specializing, Error> {
-        let decls = declared(alloc, &SPECIALIZING)?;
-        Ok(Specializing { decls })
-    }
-
-    /// Whether a question has its answer.
-    pub fn answers(&self, alloc: Global, question: SpecializingQuestion) -> Result<bool, Error> {
-        let Some(bean) = find_bean(&self.decls, b"Big")? else {
-            return Ok(false);
-        };
-        match question {
-            Behind(wanted) => is_before(alloc, &self.decls, bean, wanted),
-            Replaced(wanted) => self.replaces(alloc, wanted),
-            Own(is_replaced, wanted) => has_own(alloc, &self.decls, bean, is_replaced, wanted),
-            Reads(wanted) => rests_on(alloc, &self.decls, bean, wanted),
-        }
-    }
-
-    fn replaces(&self, alloc: Global, wanted: &[&[u8]]) -> Result<bool, Error> {
-        let Some(decl) = self.decls.get(Kind::Bean, &name(b"Big")?) else {
-            return Ok(false);
-        };
-        let replaced = replaced_by(alloc, &self.decls, decl)?;
-        Ok(are_names(replaced.as_slice(), wanted))
-    }
+fn replaces(alloc: Global, decls: &Decls, wanted: &[&[u8]]) -> Result<bool, Error> {
+    let Some(decl) = decls.get(Kind::Bean, &name(b"Big")?) else {
+        return Ok(false);
+    };
+    let replaced = replaced_by(alloc, decls, decl)?;
+    Ok(are_names(replaced.as_slice(), wanted))
 }
 
 /// Whether the beans behind a bean are those of these classes.

@@ -14,17 +14,19 @@ IsBlockLine line (Script text) = (text.now ≡ line) × ((rest : List ℕ) → l
 pub record WantsFurther (answer : List ℕ) (old new : Row) : Type 0 where
   pub wanted : string_bytes new.wanted ≡ string_bytes old.wanted ++ answer ++ feed ∷ []
   pub commands : new.commands.items ≡ old.commands.items ++ old.last ∷ []
-  pub script : string_bytes new.script ≡ string_bytes old.script
+  pub script : new.script.items ≡ old.script.items
   pub last : new.last.now ≡ old.last.now
   pub quiet : new.quiet ≡ old.quiet
+  pub counted : new.counted ≡ old.counted
 
 -- a row's script has the line at its end
 pub record RunsFurther (line : List ℕ) (old new : Row) : Type 0 where
-  pub script : string_bytes new.script ≡ string_bytes old.script ++ line ++ feed ∷ []
+  pub script : new.script.items ≡ old.script.items ++ line ++ feed ∷ []
   pub last : new.last.now ≡ line
   pub wanted : string_bytes new.wanted ≡ string_bytes old.wanted
   pub commands : new.commands.items ≡ old.commands.items
   pub quiet : new.quiet ≡ old.quiet
+  pub counted : new.counted ≡ old.counted
 
 -- a row takes a line of its block
 abbrev pub TakesLine : BlockLine → Row → Row → Type 0

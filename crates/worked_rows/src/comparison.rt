@@ -3,7 +3,7 @@ ghost use Rattle.std.specs.Prelude.{◌≡◌, ◌≢◌, ◌<◌, ◌↔◌, If
 
 use crate::difference::Difference;
 use crate::rows::{Row, rows_of};
-use cdi_bodies::Book;
+use cdi_bodies::{Bodies, Book};
 use cdi_script::{Console, Counted, Options, run};
 use cdi_stock::stock_bodies;
 use std::alloc::{AllocError, Global};
@@ -21,24 +21,50 @@ pub fn check_page(alloc: Global, text: &str) -> Result<usize, Difference<'_>>
 
 /// Runs the script of a row from an empty container with the program's bodies, and compares.
 fn check_row<'t>(alloc: Global, row: &Row<'t>) -> Result<(), Difference<'t>> {
-    let mut reader = Counted::new(row.script.as_bytes());
-    let mut writer = Counted::new(Vec::new(alloc));
-    let options = Options { quiet: row.quiet };
     let Ok(book) = Book::new(stock_bodies!(alloc)) else {
         return Err(Difference::OutOfMemory);
     };
+    run_row(alloc, row, book)
+}
+
+/// The same with the bodies of a book.
+fn run_row<'t, B: Bodies + Drop>(
+    alloc: Global,
+    row: &Row<'t>,
+    book: B,
+) -> Result<(), Difference<'t>> {
+    let mut reader = Counted::new(row.script.as_slice());
+    let mut writer = Counted::new(Vec::new(alloc));
+    let options = Options { quiet: row.quiet };
     let mut console = Console::new(&mut reader, &mut writer);
-    if let Err(fault) = run(alloc, &mut console, options, book) {
-        return Err(Difference::Run {
+    match run(alloc, &mut console, options, book) {
+        Ok(summary) => compare(alloc, row, writer.into_inner().as_slice(), summary.refused),
+        Err(fault) => Err(Difference::Run {
             row: row.name,
             fault,
-        });
+        }),
     }
-    let came = writer.into_inner();
-    match first_difference(row.wanted.as_bytes(), came.as_slice()) {
-        None => Ok(()),
-        Some(place) => Err(answer_at(alloc, row, came.as_slice(), place)?),
+}
+
+/// Compares what the run of a row printed, and whether it says that a command was refused.
+fn compare<'t>(
+    alloc: Global,
+    row: &Row<'t>,
+    came: &[u8],
+    refused: bool,
+) -> Result<(), Difference<'t>> {
+    if let Some(place) = first_difference(row.wanted.as_bytes(), came) {
+        return Err(answer_at(alloc, row, came, place)?);
     }
+    if refused != wants_refusal(row) {
+        return Err(Difference::Refused(row.name));
+    }
+    Ok(())
+}
+
+/// Whether a row wants that a command is refused.
+fn wants_refusal(row: &Row) -> bool {
+    row.wanted.lines().any(|line| line.starts_with("refused "))
 }
 
 /// The place of the first byte in which two texts differ, or the length of the shorter where it is the front of the other.

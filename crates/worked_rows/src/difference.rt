@@ -18,6 +18,9 @@ pub enum Difference<'t> {
         row: &'t str,
         option: &'t str,
     },
+    /// A line of a counted block has no count, or an escape that is not known.
+    #[error("{0}: the counted line `{1}` has no count, or an escape that is not known")]
+    Counted(&'t str, &'t str),
     /// A block goes on with a script where none stands before.
     #[error("{0}: there is no script to go on with")]
     NothingBefore(&'t str),
@@ -36,6 +39,9 @@ pub enum Difference<'t> {
         wanted: String,
         came: String,
     },
+    /// The run says that a command was refused where the row wants no refusal, or the other way round.
+    #[error("{0}: the run says that a command was refused, and the row wants no refusal, or the other way round")]
+    Refused(&'t str),
     /// The allocator gave no memory.
     #[error("out of memory")]
     OutOfMemory,

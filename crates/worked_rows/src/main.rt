@@ -6,6 +6,7 @@
 #![tactic(auto)]
 
 mod comparison;
+mod counted;
 mod difference;
 mod markdown;
 mod rows;

@@ -3,6 +3,7 @@ ghost use Rattle.std.specs.Prelude.{◌≡◌, ◌<◌, ◌++◌, ◌∷◌, [],
 ghost use Rattle.cdi_script.specs.Bytes.{feed};
 ghost use Rattle.worked_rows.specs.Rows.{IsBlockLine, TakesLine};
 
+use crate::counted::Times;
 use crate::difference::Difference;
 use crate::markdown::{Fence, heading_of};
 use std::alloc::{AllocError, Global};
@@ -13,8 +14,10 @@ pub struct Row<'t> {
     pub name: &'t str,
     /// Whether the program's option `--quiet` is given.
     pub quiet: bool,
-    /// Each line of the script, with a line feed.
-    pub script: String,
+    /// Whether each line of the row's blocks says how many times it is there.
+    pub counted: bool,
+    /// The script. Where no line is counted, it is each line with a line feed.
+    pub script: Vec<u8>,
     /// Each wanted line, with a line feed.
     pub wanted: String,
     /// For each wanted line the line of the script that stands last before it.
@@ -42,11 +45,12 @@ pub fn block_line(line: &str) -> BlockLine<'_>
 
 impl<'t> Row<'t> {
     /// A row without a line.
-    fn new(alloc: Global, name: &'t str, quiet: bool) -> Row<'t> {
+    fn new(alloc: Global, name: &'t str) -> Row<'t> {
         Row {
             name,
-            quiet,
-            script: String::new(alloc),
+            quiet: false,
+            counted: false,
+            script: Vec::new(alloc),
             wanted: String::new(alloc),
             commands: Vec::new(alloc),
             last: "",
@@ -64,10 +68,43 @@ impl<'t> Row<'t> {
             }
             BlockLine::Script(text) => {
                 self.last = text;
-                push_with_feed(&mut self.script, text)
+                push_line(&mut self.script, text)
             }
         }
     }
+
+    /// Takes a line of the row's counted block, and tells whether it has a count and no unknown escape.
+    fn push_counted(&mut self, line: BlockLine<'t>) -> Result<bool, AllocError> {
+        match line {
+            BlockLine::Answer(answer) => match Times::of_line(answer) {
+                Some(times) => self.want_times(times),
+                None => Ok(false),
+            },
+            BlockLine::Script(text) => {
+                self.last = text;
+                match Times::of_line(text) {
+                    Some(times) => times.push_to(&mut self.script),
+                    None => Ok(false),
+                }
+            }
+        }
+    }
+
+    /// Wants an answer so many times.
+    fn want_times(&mut self, times: Times<'t>) -> Result<bool, AllocError> {
+        for _ in 0..times.count {
+            self.push(BlockLine::Answer(times.text))?;
+        }
+        Ok(true)
+    }
+}
+
+fn push_line(script: &mut Vec<u8>, line: &str) -> Result<(), AllocError>
+    ensures { OnOk result (script.new.items ≡ script.old.items ++ line.now ++ feed ∷ []) }
+{
+    script.extend_from_slice(line.as_bytes())?;
+    script.push(b'\n')?;
+    Ok(())
 }
 
 fn push_with_feed(text: &mut String, line: &str) -> Result<(), AllocError>
@@ -118,13 +155,15 @@ impl<'t> Page<'t> {
     }
 
     fn take_row_line(&mut self, line: &'t str) -> Result<(), Difference<'t>> {
-        match self.rows.last_mut() {
-            Some(row) => {
-                row.push(block_line(line))?;
-                Ok(())
-            }
-            None => Err(Difference::NothingBefore(self.heading)),
+        let Some(row) = self.rows.last_mut() else {
+            return Err(Difference::NothingBefore(self.heading));
+        };
+        if !row.counted {
+            row.push(block_line(line))?;
+        } else if !row.push_counted(block_line(line))? {
+            return Err(Difference::Counted(row.name, line));
         }
+        Ok(())
     }
 
     fn begin_block(&mut self, fence: Fence<'t>) -> Result<(), Difference<'t>> {
@@ -137,15 +176,18 @@ impl<'t> Page<'t> {
         if fence.info.trim() == "script continued" {
             return Ok(());
         }
-        let mut row = Row::new(self.alloc, self.heading, false);
+        let mut row = Row::new(self.alloc, self.heading);
         for word in words {
-            if word != "--quiet" {
-                return Err(Difference::UnknownOption {
-                    row: self.heading,
-                    option: word,
-                });
+            match word {
+                "--quiet" => row.quiet = true,
+                "--counted" => row.counted = true,
+                option => {
+                    return Err(Difference::UnknownOption {
+                        row: self.heading,
+                        option,
+                    });
+                }
             }
-            row.quiet = true;
         }
         self.rows.push(row)?;
         Ok(())
