@@ -17,7 +17,7 @@ ghost use Rattle.cdi_observe.specs.Observers.{notified};
 ghost use Rattle.cdi_staging.specs.Naming.{names_of};
 ghost use Rattle.cdi_staging.specs.Staged.{scene_of};
 ghost use Rattle.cdi_validate.specs.Faults.{faults};
-ghost use Rattle.cdi_container.specs.Asked.{aim_of, asked_for, fired_of};
+ghost use Rattle.cdi_container.specs.Asked.{aim_for, aim_of, asked_for, fired_of};
 ghost use Rattle.cdi_scene.specs.Sound.{AreObservers};
 ghost use Rattle.cdi_container.specs.Wired.{StandsIn, IsSameDeployment, IsShortEdit, names_if, names_in, redeployed, staged_by, with_staged, is_sound};
 ghost use Rattle.cdi_wiring.specs.Wired.{IsWiredOf, IsWiringOf};
@@ -295,9 +295,25 @@ impl<B: Bodies> Deployment<B> {
         if !are_known(self.index.decls(), bean_type, quals) {
             return Err(Error::Refused(Refusal::UnknownName));
         }
+        self.aim_wired(alloc, bean_type, quals, message, work)
+    }
+
+    /// Where a lookup or a call leads on the scene, which is there.
+    fn aim_wired(
+        &self,
+        alloc: Global,
+        bean_type: Name,
+        quals: &Quals,
+        message: Option<Message>,
+        work: &mut Work,
+    ) -> Result<Aim, Error>
+        requires { self.now.is_wired ≡ true }
+        ensures answer { Answers result (aim_for self.now.decls (asked_for bean_type quals.now message)) }
+        ensures there { IfOk result (λ aim. StandsIn (scene_of self.now.decls self.now.book) aim) }
+    {
         // No effect at run time. The proof reads here that no two declarations have one kind and name.
         let _ = self.index.decls().iter();
-        let beans = &self.wired().beans;
+        let beans = beans_in(&self.wiring);
         aim_for(
             alloc,
             self.index.decls(),
@@ -332,7 +348,7 @@ impl<B: Bodies> Deployment<B> {
         }
         // No effect at run time. The proof reads here that no two declarations have one kind and name.
         let _ = self.index.decls().iter();
-        let beans = &wired_in(&self.wiring).beans;
+        let beans = beans_in(&self.wiring);
         let notified = self
             .last_events
             .notified(alloc, self.index.decls(), beans, event_type, quals);
@@ -345,7 +361,10 @@ impl<B: Bodies> Deployment<B> {
         requires { self.now.is_wired ≡ true }
         ensures { IsWiredOf self.now.decls self.now.book result.now }
     {
-        wired_in(&self.wiring)
+        match &self.wiring {
+            Some(Wiring::Sound(wired)) => wired,
+            _ => unreachable!(),
+        }
     }
 
     /// Whether the scene is there.
@@ -377,13 +396,13 @@ impl<B: Bodies> Deployment<B> {
     }
 }
 
-/// The scene and its names, where they are there.
-fn wired_in(wiring: &Option<Wiring>) -> &Wired
+/// The bean list of a scene, where it is there.
+fn beans_in(wiring: &Option<Wiring>) -> &BeanList
     requires { is_sound wiring.now ≡ true }
-    ensures { (ds : List Decl) (book : List Promised) → IfSome wiring.now (IsWiringOf ds book) → IsWiredOf ds book result.now }
+    ensures { (ds : List Decl) (book : List Promised) → IfSome wiring.now (IsWiringOf ds book) → result.now ≡ beans ds }
 {
     match wiring {
-        Some(Wiring::Sound(wired)) => wired,
+        Some(Wiring::Sound(wired)) => &wired.beans,
         _ => unreachable!(),
     }
 }
