@@ -1,7 +1,5 @@
 //! The present declarations and the stored bodies, and what questions have made of them.
-ghost use Rattle.cdi_model.specs.declared.decl.Decl.{Decl};
-ghost use Rattle.cdi_bodies.specs.Book.{Promised};
-ghost use Rattle.std.specs.Prelude.{◌≡◌, ◌≢◌, AllPairs, List, IfSome, IsSome, None, [], length, true, false, Ok, Err, Some, ◌∷◌, OnOk, OnErr, IfOk, IfErr};
+ghost use Rattle.std.specs.Prelude.{◌≡◌, ◌≢◌, AllPairs, IfSome, IsSome, None, [], length, true, false, Ok, Err, Some, ◌∷◌, OnOk, OnErr, IfOk, IfErr};
 ghost use Rattle.cdi_model.specs.Edits.{answer_of_edit};
 ghost use Rattle.cdi_index.specs.State.{IsEdited, committed};
 ghost use Rattle.cdi_container.specs.Editing.{changes_of_all, drafted_by, refusal_of_batch};
@@ -19,8 +17,8 @@ ghost use Rattle.cdi_staging.specs.Staged.{scene_of};
 ghost use Rattle.cdi_validate.specs.Faults.{faults};
 ghost use Rattle.cdi_container.specs.Asked.{aim_for, aim_of, asked_for, fired_of};
 ghost use Rattle.cdi_scene.specs.Sound.{AreObservers};
-ghost use Rattle.cdi_container.specs.Wired.{StandsIn, IsSameDeployment, IsShortEdit, names_if, names_in, redeployed, staged_by, with_staged, is_sound};
-ghost use Rattle.cdi_wiring.specs.Wired.{IsWiredOf, IsWiringOf};
+ghost use Rattle.cdi_container.specs.Wired.{StandsIn, IsSameDeployment, IsShortEdit, names_if, names_in, redeployed, staged_by, with_staged};
+ghost use Rattle.cdi_wiring.specs.Wired.{IsWiredOf};
 
 use crate::asked::{Aim, Message, aim_for, can_be_fired};
 use crate::batch::{BatchError, draft_batch, draft_change};
@@ -47,6 +45,7 @@ use cdi_validate::faults;
 use cdi_wiring::{Wired, Wiring};
 use std::alloc::{AllocError, Global};
 use std::marker::Model;
+use std::mem;
 
 /// What was made of declarations before an edit. It is let go where it is made anew, so that the time of an edit does not
 /// grow with the deployment.
@@ -313,11 +312,10 @@ impl<B: Bodies> Deployment<B> {
     {
         // No effect at run time. The proof reads here that no two declarations have one kind and name.
         let _ = self.index.decls().iter();
-        let beans = beans_in(&self.wiring);
         aim_for(
             alloc,
             self.index.decls(),
-            beans,
+            self.bean_list(),
             bean_type,
             quals,
             message,
@@ -348,10 +346,16 @@ impl<B: Bodies> Deployment<B> {
         }
         // No effect at run time. The proof reads here that no two declarations have one kind and name.
         let _ = self.index.decls().iter();
-        let beans = beans_in(&self.wiring);
-        let notified = self
-            .last_events
-            .notified(alloc, self.index.decls(), beans, event_type, quals);
+        // The last events are apart from the rest while they are changed, and the bean list is lent.
+        let mut last_events = mem::replace(&mut self.last_events, LastEvents::new(alloc));
+        let notified = last_events.notified(
+            alloc,
+            self.index.decls(),
+            self.bean_list(),
+            event_type,
+            quals,
+        );
+        self.last_events = last_events;
         work.add_one();
         Ok(notified?)
     }
@@ -365,6 +369,14 @@ impl<B: Bodies> Deployment<B> {
             Some(Wiring::Sound(wired)) => wired,
             _ => unreachable!(),
         }
+    }
+
+    /// The bean list of the scene, which is there.
+    fn bean_list(&self) -> &BeanList
+        requires { self.now.is_wired ≡ true }
+        ensures { result.now ≡ beans self.now.decls }
+    {
+        &self.wired().beans
     }
 
     /// Whether the scene is there.
@@ -393,17 +405,6 @@ impl<B: Bodies> Deployment<B> {
         ensures { result.now ≡ names_of self.now.decls }
     {
         &self.wired().names
-    }
-}
-
-/// The bean list of a scene, where it is there.
-fn beans_in(wiring: &Option<Wiring>) -> &BeanList
-    requires { is_sound wiring.now ≡ true }
-    ensures { (ds : List Decl) (book : List Promised) → IfSome wiring.now (IsWiringOf ds book) → result.now ≡ beans ds }
-{
-    match wiring {
-        Some(Wiring::Sound(wired)) => &wired.beans,
-        _ => unreachable!(),
     }
 }
 
