@@ -38,7 +38,7 @@ impl Wiring {
         view: &mut V,
         book: &B,
     ) -> Result<Wiring, AllocError>
-        requires short { AreShort (V.list view.old) }
+        requires { AreShort (V.list view.old) }
         ensures wiring { IfOk result (λ wiring. IsWiringOf (V.list view.old) (B.promises book.now) wiring) }
         ensures list { V.list view.new ≡ V.list view.old }
         ensures sound { FaultlessIsSound }

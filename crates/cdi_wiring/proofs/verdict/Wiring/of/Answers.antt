@@ -14,7 +14,7 @@ returns-clause-wiring g c =
     let book = g.B.Bodies.promises c.args.book.now in
     let found = c.in_ok-found.found.items in
     let same = c.in_ok-answers.ensures.list in
-    let listed = c.decls.ensures ∙ same in
+    let listed = c.decls-decls.ensures ∙ same in
     let are : found ≡ faults ds book = subst (λ es. found ≡ faults es book) same c.in_ok-found.ensures.faults in
     let none : faults ds book ≡ [] =
     sym are ∙ nil_from_length found (sym (ap length c.as_slice-count.ensures.value) ∙ c.if-count-ne0.false) in
