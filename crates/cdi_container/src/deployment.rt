@@ -31,7 +31,7 @@ use cdi_faults::Fault;
 use cdi_index::{Counts, Draft, Index};
 use cdi_intercept::chain_of;
 use cdi_lines::Edit;
-use cdi_live::{IndexView, choose, choose_name, observers};
+use cdi_questions::{IndexView, choose, choose_name, observers};
 use cdi_model::{
     BeanPlace, Edit as Change, Error, Iter as DeclIter, Name, Quals, Refusal, Seq, Work,
 };
@@ -182,7 +182,8 @@ impl<B: Bodies> Deployment<B> {
         ensures ok { OnOk result (self.new ≡ with_staged self.old (Some (staged_by self.old.decls self.old.counts draft))) }
         ensures err { OnErr result (self.new ≡ with_staged self.old None) }
     {
-        self.index.stage(draft)
+        self.index.stage(draft)?;
+        Ok(())
     }
 
     /// What is staged is present from now on, if anything is. The names of the declarations from before, where the scene was

@@ -24,7 +24,7 @@ use Rattle.cdi_model.specs.declared.decl.Decl.TheVariants as decls
 use Rattle.cdi_effective.proofs.RecordLemmas.{edits_keep_own_records}
 use Rattle.cdi_index.specs.declared.making.Made.{Made}
 use Rattle.cdi_index.specs.declared.making.Given.TheVariants as given
-use Rattle.cdi_index.specs.Made.{is_kept, made_of, made_of_bean, made_of_type, reads, reads_in, words_of}
+use Rattle.cdi_index.specs.Made.{is_kept, made_of, made_of_bean, made_of_interceptor, made_of_type, reads, reads_in, words_of}
 use Rattle.cdi_index.proofs.ChangeLemmas.{any-either, any-same, none-of}
 
 -- an edit of a key affects a declaration
@@ -67,7 +67,7 @@ abbrev bean_with : BeanDecl → List DeclKey → List (List ℕ) → List Effect
 bean_with bean reads replaces records = record {
   reads = reads;
   replaces = replaces;
-  words = words_of records bean.observers;
+  words = words_of records (decls.Bean bean) bean.observers;
   given = given.Records records;
 }
 
@@ -120,7 +120,11 @@ stays ds edits kinds.Bean name none =
 stays ds edits kinds.Qualifier name none = refl
 stays ds edits kinds.Binding name none = refl
 stays ds edits kinds.Stereotype name none = refl
-stays ds edits kinds.Interceptor name none = refl
+stays ds edits kinds.Interceptor name none =
+    let k = key_at kinds.Interceptor name in
+    let parts = or_parts (is_among (edited_keys edits) k) (list_any (reads (made_of ds k)) (edited_keys edits))
+    (sym (hit-parts ds (edited_keys edits) k) ∙ none) in
+    ap (option_map made_of_interceptor) (edits_keep_decl edits ds kinds.Interceptor name parts.0)
 
 pub made-stays : (ds : List Decl) (edits : List Edit) (k : DeclKey) → list_any (hits ds k) (edited_keys edits) ≡ false
     → made_of (edited_all ds edits) k ≡ made_of ds k

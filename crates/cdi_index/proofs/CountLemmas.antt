@@ -21,8 +21,8 @@ use Rattle.cdi_model.proofs.EditLemmas.{edits_keep_decl}
 use Rattle.cdi_model.proofs.EntryLemmas.{key_exact}
 use Rattle.cdi_model.specs.declared.decl.BeanDecl.{BeanDecl}
 use Rattle.cdi_effective.specs.Disposers.{find_bean}
-use Rattle.cdi_index.specs.Made.{is_kept, made_of, made_of_bean, made_of_type, reads}
-use Rattle.cdi_index.specs.Counted.{computed, is_computed, is_computed_of, is_of_kind, reads_of}
+use Rattle.cdi_index.specs.Made.{made_of, made_of_bean, made_of_type, reads}
+use Rattle.cdi_index.specs.Counted.{computed, is_computed, is_computed_of, is_of_kind, is_recorded, reads_of}
 use Rattle.cdi_index.specs.Next.{change_of, is_made}
 use Rattle.cdi_index.proofs.AffectedLemmas.{hits, hit-parts}
 use Rattle.cdi_index.proofs.ChangeLemmas.{any-of, count-made}
@@ -104,7 +104,8 @@ some-map f None = refl
 some-map f (Some x) = refl
 
 -- the kind has records, and the other has none
-apart : (which kind : Kind) → is_kept which ≡ true → is_kept kind ≡ false → nat_eq (kind_number which) (kind_number kind) ≡ false
+apart : (which kind : Kind) → is_recorded which ≡ true → is_recorded kind ≡ false
+    → nat_eq (kind_number which) (kind_number kind) ≡ false
 apart kinds.Type kinds.Qualifier h e = refl
 apart kinds.Type kinds.Binding h e = refl
 apart kinds.Type kinds.Stereotype h e = refl
@@ -120,9 +121,9 @@ apart kinds.Binding kind h e = absurd (false≢true h)
 apart kinds.Stereotype kind h e = absurd (false≢true h)
 apart kinds.Interceptor kind h e = absurd (false≢true h)
 
--- of such a kind nothing is made and nothing counted
-never : (h f c x : Bool) → c ≡ false → (h && (c && false)) ≡ (f && (c && x))
-never h f c x e = ap (λ b. h && (b && false)) e ∙ off h ∙ sym (off f) ∙ ap (λ b. f && (b && x)) (sym e)
+-- of such a kind nothing is counted
+never : (h f c m x : Bool) → c ≡ false → (h && (c && m)) ≡ (f && (c && x))
+never h f c m x e = ap (λ b. h && (b && m)) e ∙ off h ∙ sym (off f) ∙ ap (λ b. f && (b && x)) (sym e)
 
 -- what is computed, by what was made
 computed-type : (ds : List Decl) (name : List ℕ) (keys : List DeclKey) (o : Option Decl)
@@ -147,18 +148,19 @@ bean-read : (ds : List Decl) (name : List ℕ) (o : Option BeanDecl) → find_be
 bean-read ds name None found e = absurd (false≢true e)
 bean-read ds name (Some bean) found e = bean-itself ds name bean found
 
-module _ (which : Kind) (has : is_kept which ≡ true) (ds : List Decl) (edits : List Edit) where
+module _ (which : Kind) (has : is_recorded which ≡ true) (ds : List Decl) (edits : List Edit) where
   abbrev es : List Decl
   es = edited_all ds edits
 
   abbrev keys : List DeclKey
   keys = edited_keys edits
 
-  other : (kind : Kind) (name : List ℕ) → is_kept kind ≡ false
-      → (list_any (hits ds (key_at kind name)) keys && (is_of_kind which (key_at kind name) && false))
+  other : (kind : Kind) (name : List ℕ) → is_recorded kind ≡ false
+      → (list_any (hits ds (key_at kind name)) keys && (is_of_kind which (key_at kind name) && is_some (made_of es (key_at kind name))))
       ≡ (is_some (find_decl kind name es) && is_computed_of which ds keys (key_at kind name))
   other kind name none = never (list_any (hits ds (key_at kind name)) keys) (is_some (find_decl kind name es))
-      (is_of_kind which (key_at kind name)) (is_computed keys (reads_of ds (key_at kind name))) (apart which kind has none)
+      (is_of_kind which (key_at kind name)) (is_some (made_of es (key_at kind name))) (is_computed keys (reads_of ds (key_at kind name)))
+      (apart which kind has none)
 
   counted-at : (kind : Kind) (name : List ℕ)
       → (list_any (hits ds (key_at kind name)) keys && (is_of_kind which (key_at kind name) && is_some (made_of es (key_at kind name))))

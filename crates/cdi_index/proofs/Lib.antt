@@ -8,5 +8,7 @@ mod NextLemmas
 mod InstallLemmas
 mod TurnLemmas
 mod ReplacedLemmas
-mod UnderLemmas
+pub mod UnderLemmas
+pub mod AskedLemmas
+mod ToldLemmas
 pub mod SoughtLemmas

@@ -19,7 +19,7 @@ use Rattle.cdi_index.specs.declared.change.Change.{Change}
 use Rattle.cdi_index.specs.declared.making.Made.{Made}
 use Rattle.cdi_index.specs.declared.shelf.Kept.{Kept}
 use Rattle.cdi_index.specs.declared.shelf.Shelf.{Shelf}
-use Rattle.cdi_index.specs.Counted.{computed}
+use Rattle.cdi_index.specs.Counted.{computed, is_recorded}
 use Rattle.cdi_index.specs.Kept.{is_reader, is_reader_among, kept_at, made_in, slot_of, stored, stored_at, touches, IsExact, IsFreeFrom, IsShelf, IsSound, Keeps, Stored}
 use Rattle.cdi_index.specs.Made.{classes_have, has_word, is_kept, made_of, reads, word_of, words_have}
 use Rattle.cdi_index.specs.Next.{applied, change_of, is_made, IsNext}
@@ -131,7 +131,7 @@ module _ (ds : List Decl) (edits : List Edit) (ks : List DeclKey) (m : StoredBy)
   ]
 
 -- a count, of what was made
-pub counted-from : (which : Kind) → is_kept which ≡ true → (ds eds : List Decl) (edits : List Edit) (ekeys ks slice : List DeclKey)
+pub counted-from : (which : Kind) → is_recorded which ≡ true → (ds eds : List Decl) (edits : List Edit) (ekeys ks slice : List DeclKey)
     (changes : List Change) (n : ℕ) → eds ≡ edited_all ds edits → ekeys ≡ edited_keys edits → AreDistinct eds
     → IsDistinct same_key ks → ((k : DeclKey) → list_any (same_key k) ks ≡ list_any (hits ds k) (edited_keys edits)) → slice ≡ ks
     → changes ≡ map (change_of eds) slice → n ≡ length (filter (is_made which) changes) → n ≡ computed which ds eds ekeys
@@ -181,7 +181,7 @@ module _ (ds eds : List Decl) (edits : List Edit) (ekeys ks slice : List DeclKey
   all-hits : (k : DeclKey) → list_any (same_key k) ks ≡ list_any (hits ds k) (edited_keys edits)
   all-hits k = affected-hits ds old listings ekeys ks is exact sound touched k ∙ ap (list_any (hits ds k)) named
 
-  pub counted : (which : Kind) → is_kept which ≡ true → (changes items : List Change) (n : ℕ) → AreDistinct eds → IsDistinct same_key ks
+  pub counted : (which : Kind) → is_recorded which ≡ true → (changes items : List Change) (n : ℕ) → AreDistinct eds → IsDistinct same_key ks
       → items ≡ changes → changes ≡ map (change_of eds) slice → n ≡ length (filter (is_made which) items) → n ≡ computed which ds eds ekeys
   counted which has changes items n distinct once seen are is_n =
       counted-from which has ds eds edits ekeys ks slice changes n made named distinct once all-hits shown are

@@ -32,7 +32,7 @@ use Rattle.cdi_index.specs.declared.making.Made.{Made}
 use Rattle.cdi_index.specs.declared.shelf.Kept.{Kept}
 use Rattle.cdi_index.specs.declared.shelf.Shelf.{Shelf}
 use Rattle.cdi_index.specs.Kept.{kept_at, made_in, slot_of, stored, stored_at, IsExact, IsShelf, IsSound, Stored}
-use Rattle.cdi_index.specs.Made.{classes_have, has_word, keys_have, made_of, made_of_bean, made_of_type, replaces_in, words_have}
+use Rattle.cdi_index.specs.Made.{classes_have, has_word, keys_have, made_of, made_of_bean, made_of_interceptor, made_of_type, replaces_in, words_have}
 use Rattle.cdi_index.specs.Next.{change_of}
 use Rattle.cdi_index.specs.Replaced.{lent, disabled, AreReplaced, is_at_stake, is_other, is_replaced_after, is_replaced_anew, is_replaced_key, is_replaced_of, is_replaced_still, made_after, records_after, replaced_records, replaces, stakes}
 use Rattle.cdi_index.proofs.CountLemmas.{keys-distinct}
@@ -57,7 +57,7 @@ apart-found k kind name (d ∷ ds) e apart f = by (is_of kind name d) f (apart-f
     by true g more = let one : Some d ≡ Some e = g in let same : d ≡ e = cc in ap (λ x. same_key k (key_of x)) (sym same) ∙ apart.0
     by false g more = more g
 
-passing : (p : Decl → Bool) (ds : List Decl) → IsDistinct same_key (map key_of ds) → list_any p ds ≡ true → Passing p ds
+pub passing : (p : Decl → Bool) (ds : List Decl) → IsDistinct same_key (map key_of ds) → list_any p ds ≡ true → Passing p ds
 unfolding IsDistinct
 passing p [] distinct e = absurd (false≢true e)
 passing p (d ∷ ds) distinct e = by (p d) refl e (λ more. passing p ds distinct.1 more)
@@ -78,7 +78,7 @@ passing p (d ∷ ds) distinct e = by (p d) refl e (λ more. passing p ds distinc
           passes = it.passes;
         }
 
-any-at : (p : Decl → Bool) (kind : Kind) (name : List ℕ) (ds : List Decl) (e : Decl) → find_decl kind name ds ≡ Some e → p e ≡ true
+pub any-at : (p : Decl → Bool) (kind : Kind) (name : List ℕ) (ds : List Decl) (e : Decl) → find_decl kind name ds ≡ Some e → p e ≡ true
     → list_any p ds ≡ true
 any-at p kind name [] e f h = absurd (let none : None ≡ Some e = f in cc)
 any-at p kind name (d ∷ ds) e f h = by (is_of kind name d) f (λ g. any-at p kind name ds e g h)
@@ -156,13 +156,17 @@ is-replaced ds a k h = by k.kind k.name h
     of_type n None name h = false≢true h
     of_type n (Some d) name h = false≢true h
 
+    of_interceptor : (o : Option Decl) (name : List ℕ) → replaces (option_map made_of_interceptor o) (key_at kinds.Bean name) ≡ true → ⊥
+    of_interceptor None name h = false≢true h
+    of_interceptor (Some d) name h = false≢true h
+
     at_kind : (kind : Kind) (n name : List ℕ) → replaces (made_of ds (key_at kind n)) (key_at kinds.Bean name) ≡ true → is_replaced ds name ≡ true
     at_kind kinds.Bean n name h = of_bean n name (find_decl kinds.Bean n ds) refl h
     at_kind kinds.Type n name h = absurd (of_type n (find_decl kinds.Type n ds) name h)
     at_kind kinds.Qualifier n name h = absurd (false≢true h)
     at_kind kinds.Binding n name h = absurd (false≢true h)
     at_kind kinds.Stereotype n name h = absurd (false≢true h)
-    at_kind kinds.Interceptor n name h = absurd (false≢true h)
+    at_kind kinds.Interceptor n name h = absurd (of_interceptor (find_decl kinds.Interceptor n ds) name h)
 
     by : (kind : Kind) (name : List ℕ) → replaces (made_of ds a) (key_at kind name) ≡ true → is_replaced_of kind name ds ≡ true
     by kinds.Bean name h = at_kind a.kind a.name name h
@@ -299,21 +303,21 @@ module _ (ds es : List Decl) (ks : List DeclKey) (shelf : Shelf) (listings : Lis
   stake-is : (k : DeclKey) → is_at_stake shelf changes k ≡ list_any (λ a. stakes shelf k (change_of es a)) ks
   stake-is k = any-map (stakes shelf k) (change_of es) ks
 
-  -- a declaration that is not at stake stays replaced or not, and so do its records
-  pub spared : (k : DeclKey) → is_at_stake shelf changes k ≡ false → replaced_records es k ≡ replaced_records ds k
-  spared k none = ap (λ b. cond b (disabled (made_of es k)) None) (same-bool (is_replaced_key es k) (is_replaced_key ds k) here there)
-      ∙ ap (λ m. cond (is_replaced_key ds k) (disabled m) None) (others k apart_now)
+  -- who is affected is at stake
+  pub unaffected : (k : DeclKey) → is_at_stake shelf changes k ≡ false → list_any (same_key k) ks ≡ false
+  unaffected k none = by (list_any (same_key k) ks) refl
+    where
+      by : (b : Bool) → list_any (same_key k) ks ≡ b → b ≡ false
+      by false e = refl
+      by true e = absurd (false≢true (sym none ∙ stake-is k ∙ any-key (λ x. stakes shelf k (change_of es x)) ks k e
+          (or_left (same_key k k) (replaces (made_in (stored shelf k)) k || replaces (made_of es k) k) (same_key_equiv.refl k))))
+
+  -- a declaration that is not at stake stays replaced or not
+  pub flag-spared : (k : DeclKey) → is_at_stake shelf changes k ≡ false → is_replaced_key es k ≡ is_replaced_key ds k
+  flag-spared k none = same-bool (is_replaced_key es k) (is_replaced_key ds k) here there
     where
       at_stake : (a : DeclKey) → list_any (same_key a) ks ≡ true → stakes shelf k (change_of es a) ≡ true → ⊥
       at_stake a among h = false≢true (sym none ∙ stake-is k ∙ any-key (λ x. stakes shelf k (change_of es x)) ks a among h)
-
-      apart_now : list_any (same_key k) ks ≡ false
-      apart_now = by (list_any (same_key k) ks) refl
-        where
-          by : (b : Bool) → list_any (same_key k) ks ≡ b → b ≡ false
-          by false e = refl
-          by true e = absurd (at_stake k e (or_left (same_key k k) (replaces (made_in (stored shelf k)) k || replaces (made_of es k) k)
-              (same_key_equiv.refl k)))
 
       here : is_replaced_key es k ≡ true → is_replaced_key ds k ≡ true
       here h = let it = replaced-by es apart k h in by it.by it.replaces (list_any (same_key it.by) ks) refl
@@ -330,6 +334,11 @@ module _ (ds es : List Decl) (ks : List DeclKey) (shelf : Shelf) (listings : Lis
           by a r true among = absurd (at_stake a among (or_right (same_key a k) (replaces (made_in (stored shelf a)) k || replaces (made_of es a) k)
               (or_left (replaces (made_in (stored shelf a)) k) (replaces (made_of es a) k) (ap (λ m. replaces m k) (exact a) ∙ r))))
           by a r false apart_from = is-replaced es a k (ap (λ m. replaces m k) (others a apart_from) ∙ r)
+
+  -- and so do its records
+  pub spared : (k : DeclKey) → is_at_stake shelf changes k ≡ false → replaced_records es k ≡ replaced_records ds k
+  spared k none = ap (λ b. cond b (disabled (made_of es k)) None) (flag-spared k none)
+      ∙ ap (λ m. cond (is_replaced_key ds k) (disabled m) None) (others k (unaffected k none))
 
   -- the records after the turns are those of the beans that are replaced then
   pub turned-are : (before after : DeclKey → Option (List Effective)) → AreReplaced ds before

@@ -11,6 +11,9 @@ use Rattle.cdi_model.specs.declared.decl.BeanDecl.{BeanDecl}
 use Rattle.cdi_model.specs.declared.decl.Decl.{Decl}
 use Rattle.cdi_model.specs.declared.decl.Decl.TheVariants as decls
 use Rattle.cdi_model.specs.declared.decl.ObserverDecl.{ObserverDecl}
+use Rattle.cdi_model.specs.declared.quals.Qual.{Qual}
+use Rattle.cdi_model.specs.Mentions.{mentions, Mention, BodyOf, CallOf, EventOf, MethodOf, PointOf, StereotypeOf, TypeIn, UseOf}
+use Rattle.cdi_effective.specs.Qualifiers.{required}
 use Rattle.cdi_match.specs.Chain.{has}
 use Rattle.cdi_match.proofs.Names.{bytes_eq-turned}
 use Rattle.cdi_effective.specs.Beans.{beans, entries, own_records, unless_replaced}
@@ -20,7 +23,7 @@ use Rattle.cdi_effective.proofs.RecordLemmas.{records_are_own}
 use Rattle.cdi_postings.specs.declared.word.Reason.TheVariants as reasons
 use Rattle.cdi_postings.specs.declared.word.Word.{Word}
 use Rattle.cdi_postings.specs.Words.{same_word, word_at}
-use Rattle.cdi_index.specs.Made.{words_have, words_of_bean, words_of_record}
+use Rattle.cdi_index.specs.Made.{words_have, words_named, words_named_in, words_of_bean, words_of_record, words_of_uses}
 use Rattle.cdi_index.specs.Under.{beans_under, has_name, has_one, observes_one}
 use Rattle.cdi_index.proofs.ChangeLemmas.{any-either, any-same}
 
@@ -83,9 +86,11 @@ module _ (w : Word) where
       let r : Bool = is_replaced ds b.name in
       let own : List Word = flat_map words_of_record (own_records ds b) in
       let more : List Word = map (λ o. word_at reasons.Observes o.event_type) b.observers in
-      let parts = or_parts (words_have own w) (words_have more w)
-      (sym (words-append own more) ∙ sym (or-false (words_have (words_of_bean ds b) w)) ∙ none) in
-      ap (filter q) (records_are_own ds b) ∙ none-sought q r (says r) (own_records ds b) parts.0
+      let named : List Word = words_named (decls.Bean b) in
+      let parts = or_parts (words_have (own ++ more) w) (words_have named w)
+      (sym (words-append (own ++ more) named) ∙ sym (or-false (words_have (words_of_bean ds b) w)) ∙ none) in
+      let first = or_parts (words_have own w) (words_have more w) (sym (words-append own more) ∙ parts.0) in
+      ap (filter q) (records_are_own ds b) ∙ none-sought q r (says r) (own_records ds b) first.0
   none-given q says ds (decls.Type d) none = refl
   none-given q says ds (decls.Qualifier d) none = refl
   none-given q says ds (decls.Binding d) none = refl
@@ -99,8 +104,8 @@ no-type : (t : List ℕ) (r : Bool) (x : Effective) → words_have (words_of_rec
 no-type t r x none =
     let w : Word = word_at reasons.HasType t in
     let types : List Word = map (word_at reasons.HasType) x.types in
-    let name : List Word = map (word_at reasons.HasName) (option_to_list x.name) in
-    let parts = or_parts (words_have types w) (words_have name w) (sym (words-append w types name) ∙ none) in
+    let more : List Word = map (word_at reasons.HasName) (option_to_list x.name) ++ words_of_uses x.qualifiers in
+    let parts = or_parts (words_have types w) (words_have more w) (sym (words-append w types more) ∙ none) in
     sym (types-have x.types t) ∙ parts.0
 
 no-name : (n : List ℕ) (r : Bool) (x : Effective) → words_have (words_of_record x) (word_at reasons.HasName n) ≡ false
@@ -109,8 +114,15 @@ no-name n r x none =
     let w : Word = word_at reasons.HasName n in
     let types : List Word = map (word_at reasons.HasType) x.types in
     let name : List Word = map (word_at reasons.HasName) (option_to_list x.name) in
-    let parts = or_parts (words_have types w) (words_have name w) (sym (words-append w types name) ∙ none) in
-    sym (name-has x.name n x refl) ∙ parts.1
+    let uses : List Word = words_of_uses x.qualifiers in
+    let parts = or_parts (words_have types w) (words_have (name ++ uses) w) (sym (words-append w types (name ++ uses)) ∙ none) in
+    let more = or_parts (words_have name w) (words_have uses w) (sym (words-append w name uses) ∙ parts.1) in
+    sym (name-has x.name n x refl) ∙ more.0
+
+-- a declaration that has not the word of a type has no bean of it
+pub none-of-type : (ds : List Decl) (d : Decl) (t : List ℕ) → has_one ds (word_at reasons.HasType t ∷ []) d ≡ false
+    → filter (λ b. has b.types t) (entries ds d) ≡ []
+none-of-type ds d t none = none-given (word_at reasons.HasType t) (λ b. has b.types t) (no-type t) ds d none
 
 pub of-type : (ds : List Decl) (t : List ℕ)
     → filter (λ b. has b.types t) (beans_under ds (word_at reasons.HasType t ∷ [])) ≡ filter (λ b. has b.types t) (beans ds)
@@ -118,7 +130,7 @@ unfolding beans
 of-type ds t =
     let w : Word = word_at reasons.HasType t in
     filter-under (entries ds) (has_one ds (w ∷ [])) (λ b. has b.types t) ds
-    (λ i d there. none-given w (λ b. has b.types t) (no-type t) ds d)
+    (λ i d there. none-of-type ds d t)
 
 pub of-name : (ds : List Decl) (n : List ℕ)
     → filter (has_name n) (beans_under ds (word_at reasons.HasName n ∷ [])) ≡ filter (has_name n) (beans ds)
@@ -139,17 +151,46 @@ none-named : (o : Option (List ℕ)) (t : List ℕ)
 none-named None t = refl
 none-named (Some n) t = refl
 
+none-used : (us : List Qual) (t : List ℕ) → words_have (words_of_uses us) (word_at reasons.Observes t) ≡ false
+none-used [] t = refl
+none-used (u ∷ us) t = none-used us t
+
 none-of-records : (own : List Effective) (t : List ℕ) → words_have (flat_map words_of_record own) (word_at reasons.Observes t) ≡ false
 none-of-records [] t = refl
 none-of-records (x ∷ own) t =
     let w : Word = word_at reasons.Observes t in
     let types : List Word = map (word_at reasons.HasType) x.types in
     let name : List Word = map (word_at reasons.HasName) (option_to_list x.name) in
+    let uses : List Word = words_of_uses x.qualifiers in
+    let rest : Bool = words_have (flat_map words_of_record own) w in
     words-append w (words_of_record x) (flat_map words_of_record own)
-    ∙ ap (λ b. b || words_have (flat_map words_of_record own) w) (words-append w types name)
-    ∙ ap (λ b. (b || words_have name w) || words_have (flat_map words_of_record own) w) (none-typed x.types t)
-    ∙ ap (λ b. b || words_have (flat_map words_of_record own) w) (none-named x.name t)
+    ∙ ap (λ b. b || rest) (words-append w types (name ++ uses))
+    ∙ ap (λ b. (b || words_have (name ++ uses) w) || rest) (none-typed x.types t)
+    ∙ ap (λ b. b || rest) (words-append w name uses)
+    ∙ ap (λ b. (b || words_have uses w) || rest) (none-named x.name t)
+    ∙ ap (λ b. b || rest) (none-used x.qualifiers t)
     ∙ none-of-records own t
+
+-- what a declaration names has no word of what observer methods observe
+none-in : (m : Mention) (t : List ℕ) → words_have (words_named_in m) (word_at reasons.Observes t) ≡ false
+none-in (PointOf place point) t = none-used (required point.qualifiers) t
+none-in (TypeIn place x) t = refl
+none-in (UseOf kind u) t = refl
+none-in (StereotypeOf s) t = refl
+none-in (MethodOf m) t = refl
+none-in (BodyOf place body) t = refl
+none-in (CallOf place params call) t = refl
+none-in (EventOf e) t = refl
+
+none-in-any : (ms : List Mention) (t : List ℕ) → words_have (flat_map words_named_in ms) (word_at reasons.Observes t) ≡ false
+none-in-any [] t = refl
+none-in-any (m ∷ ms) t =
+    words-append (word_at reasons.Observes t) (words_named_in m) (flat_map words_named_in ms)
+    ∙ ap (λ b. b || words_have (flat_map words_named_in ms) (word_at reasons.Observes t)) (none-in m t) ∙ none-in-any ms t
+
+none-of-named : (d : Decl) (t : List ℕ) → words_have (words_named d) (word_at reasons.Observes t) ≡ false
+unfolding words_named
+none-of-named d t = none-in-any (mentions d) t
 
 observed : (observers : List ObserverDecl) (t : List ℕ)
     → words_have (map (λ o. word_at reasons.Observes o.event_type) observers) (word_at reasons.Observes t)
@@ -164,8 +205,12 @@ words-observed : (ds : List Decl) (b : BeanDecl) (t : List ℕ)
     → words_have (words_of_bean ds b) (word_at reasons.Observes t) ≡ list_any (λ o. bytes_eq t o.event_type) b.observers
 words-observed ds b t =
     let w : Word = word_at reasons.Observes t in
+    let own : List Word = flat_map words_of_record (own_records ds b) in
     let more : List Word = map (λ o. word_at reasons.Observes o.event_type) b.observers in
-    words-append w (flat_map words_of_record (own_records ds b)) more
+    words-append w (own ++ more) (words_named (decls.Bean b))
+    ∙ ap (λ c. words_have (own ++ more) w || c) (none-of-named (decls.Bean b) t)
+    ∙ or-false (words_have (own ++ more) w)
+    ∙ words-append w own more
     ∙ ap (λ c. c || words_have more w) (none-of-records (own_records ds b) t) ∙ observed b.observers t
 
 any-none : {X : Type 0} (xs : List X) → list_any (λ x. false) xs ≡ false
@@ -199,7 +244,14 @@ observing-one ds types (decls.Type d) = none-had (map (word_at reasons.Observes)
 observing-one ds types (decls.Qualifier d) = none-had (map (word_at reasons.Observes) types)
 observing-one ds types (decls.Binding d) = none-had (map (word_at reasons.Observes) types)
 observing-one ds types (decls.Stereotype d) = none-had (map (word_at reasons.Observes) types)
-observing-one ds types (decls.Interceptor d) = none-had (map (word_at reasons.Observes) types)
+observing-one ds types (decls.Interceptor d) = none-among types
+  where
+    none-among : (types : List (List ℕ))
+        → list_any (words_have (words_named (decls.Interceptor d))) (map (word_at reasons.Observes) types) ≡ false
+    none-among [] = refl
+    none-among (t ∷ types) =
+        ap (λ b. b || list_any (words_have (words_named (decls.Interceptor d))) (map (word_at reasons.Observes) types))
+        (none-of-named (decls.Interceptor d) t) ∙ none-among types
 
 filter-same : {X : Type 0} (p q : X → Bool) (xs : List X) → ((x : X) → p x ≡ q x) → filter p xs ≡ filter q xs
 filter-same p q [] same = refl

@@ -1,6 +1,7 @@
 -- The declarations that are under words, by their positions.
 use Rattle.std.proofs.Common.{◌≡◌, ◌+◌, ℕ, suc, nat_eq, Bool, true, false, cond, ◌||◌, List, [], ◌∷◌, ◌++◌, flat_map, filter}
 use Rattle.std.proofs.Common.{Option, Some, None, option_map, position, slice_get, refl, sym, ap, ◌∙◌, arith}
+use Rattle.std.specs.List.{list_any}
 use Rattle.std.specs.Option.{option_map_or}
 use Rattle.std.proofs.lemmas.Bool.{false≢true, or_right, eqb-true}
 use Rattle.cdi_model.specs.declared.decl.BeanDecl.{BeanDecl}
@@ -9,21 +10,23 @@ use Rattle.cdi_model.specs.declared.decl.Decl.TheVariants as decls
 use Rattle.cdi_model.specs.declared.decl.Kind.{Kind}
 use Rattle.cdi_model.specs.declared.decl.Kind.TheVariants as kinds
 use Rattle.cdi_model.specs.declared.key.DeclKey.{DeclKey}
-use Rattle.cdi_model.specs.DeclKey.{key_at}
+use Rattle.cdi_model.specs.Decl.{key_of}
+use Rattle.cdi_model.specs.DeclKey.{key_at, same_key, same_key_equiv}
 use Rattle.cdi_model.specs.DeclList.{find_decl, is_of, AreDistinct}
+use Rattle.cdi_model.proofs.EntryLemmas.{key_exact}
 use Rattle.cdi_model.proofs.PositionLemmas.{position-there}
 use Rattle.cdi_positions.specs.Marks.{is_marked, marked_from}
 use Rattle.cdi_effective.specs.Beans.{entries}
 use Rattle.cdi_effective.specs.Disposers.{as_bean}
 use Rattle.cdi_effective.specs.Records.{records_declared, records_in}
-use Rattle.cdi_effective.proofs.PlaceLemmas.{own-place, place-found}
+use Rattle.cdi_effective.proofs.PlaceLemmas.{own-found, own-place, own-position, place-found}
 use Rattle.cdi_postings.specs.declared.word.Word.{Word}
 use Rattle.cdi_postings.specs.Listing.{Listing, under}
 use Rattle.cdi_index.specs.declared.making.Made.{Made}
 use Rattle.cdi_index.specs.declared.shelf.Kept.{Kept}
 use Rattle.cdi_index.specs.declared.shelf.Shelf.{Shelf}
 use Rattle.cdi_index.specs.Kept.{kept_at, made_in, slot_of, stored, stored_at, IsExact, IsShelf, IsSound, Stored}
-use Rattle.cdi_index.specs.Made.{classes_have, keys_have, made_by, made_of, made_of_bean, made_of_type, words_have}
+use Rattle.cdi_index.specs.Made.{classes_have, keys_have, made_by, made_of, made_of_bean, made_of_interceptor, made_of_type, words_have}
 use Rattle.cdi_index.specs.Under.{beans_under, has_one, is_at, is_at_slots, is_at_words, records_at, words_by}
 use Rattle.cdi_index.proofs.NextLemmas.{any-elim, any-more, same-bool}
 use Rattle.cdi_index.proofs.ShelfLemmas.{found, nat-same}
@@ -36,6 +39,19 @@ unfolding records_in
 records-of-bean ds p bean distinct at =
     ap (records_declared ds) (place-found ds bean p (own-place ds p bean distinct at))
     ∙ sym (ap (λ o. option_map_or (entries ds) o []) at)
+
+-- a declaration that is found has the key
+pub key-found : (kind : Kind) (name : List ℕ) (ds : List Decl) (d : Decl) → find_decl kind name ds ≡ Some d → key_at kind name ≡ key_of d
+key-found kind name [] d e = absurd (let no : None ≡ Some d = e in cc)
+key-found kind name (x ∷ ds) d e = by (is_of kind name x) refl e (key-found kind name ds d)
+  where
+    by : (b : Bool) → is_of kind name x ≡ b → cond b (Some x) (find_decl kind name ds) ≡ Some d
+        → (find_decl kind name ds ≡ Some d → key_at kind name ≡ key_of d) → key_at kind name ≡ key_of d
+    by true is f more =
+        let one : Some x ≡ Some d = f in
+        let same : x ≡ d = cc in
+        key_exact (key_at kind name) (key_of x) is ∙ ap key_of same
+    by false is f more = more f
 
 -- ---- what is marked
 
@@ -63,27 +79,27 @@ at-is ds w kept p e there has place =
     ∙ ap (λ b. option_map_or (λ i. nat_eq i p) (cond b (position (is_of e.key.kind e.key.name) ds) None) false) has
     ∙ ap (λ o. option_map_or (λ i. nat_eq i p) o false) place ∙ nat-same p
 
--- what is made has a word, so it is of a bean declaration which has that
-abbrev OfBean : List Decl → List Word → ℕ → Type 0
-OfBean ds words p = (d : Decl) × (slice_get ds p ≡ Some d) × (words_by ds d ≡ words)
+-- what is made has a word, so it is of a declaration which has that
+abbrev OfDecl : List Decl → List Word → ℕ → Type 0
+OfDecl ds words p = (d : Decl) × (slice_get ds p ≡ Some d) × (words_by ds d ≡ words)
 
 some-made : (a b : Made) → Some a ≡ Some b → a ≡ b
 some-made a b h = cc
 
-of-bean : (ds : List Decl) (kind : Kind) (name : List ℕ) (made : Made) (w : Word) (p : ℕ) → made_by kind name ds ≡ Some made
-    → words_have made.words w ≡ true → position (is_of kind name) ds ≡ Some p → OfBean ds made.words p
-of-bean ds kinds.Type name made w p is has at = absurd (by (find_decl kinds.Type name ds) is)
+of-decl : (ds : List Decl) (kind : Kind) (name : List ℕ) (made : Made) (w : Word) (p : ℕ) → made_by kind name ds ≡ Some made
+    → words_have made.words w ≡ true → position (is_of kind name) ds ≡ Some p → OfDecl ds made.words p
+of-decl ds kinds.Type name made w p is has at = absurd (by (find_decl kinds.Type name ds) is)
   where
     by : (o : Option Decl) → option_map (λ d. made_of_type ds name) o ≡ Some made → ⊥
     by None e = let no : None ≡ Some made = e in cc
     by (Some d) e = false≢true (ap (λ (m : Made). words_have m.words w) (some-made (made_of_type ds name) made e) ∙ has)
-of-bean ds kinds.Bean name made w p is has at = by (find_decl kinds.Bean name ds) refl is
+of-decl ds kinds.Bean name made w p is has at = by (find_decl kinds.Bean name ds) refl is
   where
-    none : (o : Option Made) → o ≡ None → o ≡ Some made → OfBean ds made.words p
+    none : (o : Option Made) → o ≡ None → o ≡ Some made → OfDecl ds made.words p
     none o e f = absurd (let no : None ≡ Some made = sym e ∙ f in cc)
 
     by : (o : Option Decl) → find_decl kinds.Bean name ds ≡ o → option_map (made_of_bean ds) (as_bean o) ≡ Some made
-        → OfBean ds made.words p
+        → OfDecl ds made.words p
     by None e f = none None refl f
     by (Some (decls.Bean b)) e f = (
       decls.Bean b,
@@ -95,10 +111,28 @@ of-bean ds kinds.Bean name made w p is has at = by (find_decl kinds.Bean name ds
     by (Some (decls.Binding d)) e f = none None refl f
     by (Some (decls.Stereotype d)) e f = none None refl f
     by (Some (decls.Interceptor d)) e f = none None refl f
-of-bean ds kinds.Qualifier name made w p is has at = absurd (let no : None ≡ Some made = is in cc)
-of-bean ds kinds.Binding name made w p is has at = absurd (let no : None ≡ Some made = is in cc)
-of-bean ds kinds.Stereotype name made w p is has at = absurd (let no : None ≡ Some made = is in cc)
-of-bean ds kinds.Interceptor name made w p is has at = absurd (let no : None ≡ Some made = is in cc)
+of-decl ds kinds.Qualifier name made w p is has at = absurd (let no : None ≡ Some made = is in cc)
+of-decl ds kinds.Binding name made w p is has at = absurd (let no : None ≡ Some made = is in cc)
+of-decl ds kinds.Stereotype name made w p is has at = absurd (let no : None ≡ Some made = is in cc)
+of-decl ds kinds.Interceptor name made w p is has at = by (find_decl kinds.Interceptor name ds) refl is
+  where
+    other : (d : Decl) → same_key (key_at kinds.Interceptor name) (key_of d) ≡ false
+        → find_decl kinds.Interceptor name ds ≡ Some d → OfDecl ds made.words p
+    other d apart e = absurd (false≢true (sym apart ∙ ap (same_key (key_at kinds.Interceptor name)) (sym (key-found kinds.Interceptor name ds d e))
+        ∙ same_key_equiv.refl (key_at kinds.Interceptor name)))
+
+    by : (o : Option Decl) → find_decl kinds.Interceptor name ds ≡ o → option_map made_of_interceptor o ≡ Some made → OfDecl ds made.words p
+    by None e f = absurd (let no : None ≡ Some made = f in cc)
+    by (Some (decls.Interceptor i)) e f = (
+      decls.Interceptor i,
+      position-there kinds.Interceptor name ds p at ∙ e,
+      ap (λ (m : Made). m.words) (some-made (made_of_interceptor (decls.Interceptor i)) made f),
+    )
+    by (Some (decls.Bean d)) e f = other (decls.Bean d) refl e
+    by (Some (decls.Type d)) e f = other (decls.Type d) refl e
+    by (Some (decls.Qualifier d)) e f = other (decls.Qualifier d) refl e
+    by (Some (decls.Binding d)) e f = other (decls.Binding d) refl e
+    by (Some (decls.Stereotype d)) e f = other (decls.Stereotype d) refl e
 
 module _ (ds : List Decl) (shelf : Shelf) (listings : List Listing) (shelved : IsShelf shelf) (exact : IsExact ds (stored shelf))
     (sound : IsSound (stored shelf) listings) (distinct : AreDistinct ds) where
@@ -116,39 +150,48 @@ module _ (ds : List Decl) (shelf : Shelf) (listings : List Listing) (shelved : I
       → (d : Decl) × (slice_get ds p ≡ Some d) × (words_have (words_by ds d) w ≡ true)
   marks-only p s w h =
       let at = is-at ds w (kept_at shelf s) p h in
-      let of = of-bean ds at.entry.key.kind at.entry.key.name at.entry.made w p (made-at s at.entry at.there) at.has at.place in
+      let of = of-decl ds at.entry.key.kind at.entry.key.name at.entry.made w p (made-at s at.entry at.there) at.has at.place in
       (of.0, of.1, ap (λ ws. words_have ws w) of.2 ∙ at.has)
+
+  -- what is made of a declaration has a word, so a test that says so of its slot is true of one that is listed
+  pub listed-at : (w : Word) (k : DeclKey) (m : Made) (test : ℕ → Bool) → made_of ds k ≡ Some m → words_have m.words w ≡ true
+      → ((s : ℕ) (e : Kept) → kept_at shelf s ≡ Some e → e.key ≡ k → e.made ≡ m → test s ≡ true) → list_any test (under listings w) ≡ true
+  listed-at w k m test is has says = by (stored shelf k) refl (exact k ∙ is)
+    where
+      by : (o : Option Stored) → stored shelf k ≡ o → made_in o ≡ Some m → list_any test (under listings w) ≡ true
+      by None here none = absurd (let no : None ≡ Some m = none in cc)
+      by (Some (s, made)) here one =
+          let same : made ≡ m = some-made made m one in
+          let words : words_have made.words w ≡ true = ap (λ (x : Made). words_have x.words w) same ∙ has in
+          let it = found (slot_of shelf) (kept_at shelf) shelved.owns k s made here in
+          any-more (nat_eq s) test (under listings w)
+          (λ t equal. ap test (sym (eqb-true s t equal)) ∙ says s it.entry it.there it.key (it.is ∙ same))
+          (sound w k s made here
+          (or_right (keys_have made.reads w) (classes_have made.replaces w || words_have made.words w)
+          (or_right (classes_have made.replaces w) (words_have made.words w) words)))
+
+  -- so its position is marked by its slot
+  marks-from : (p : ℕ) (w : Word) (k : DeclKey) (m : Made) → made_of ds k ≡ Some m → position (is_of k.kind k.name) ds ≡ Some p
+      → words_have m.words w ≡ true → is_at_slots ds shelf w (under listings w) p ≡ true
+  marks-from p w k m is place has = listed-at w k m (λ s. is_at ds w (kept_at shelf s) p) is has (λ s e there key made.
+      at-is ds w (kept_at shelf s) p e there (ap (λ (x : Made). words_have x.words w) made ∙ has)
+      (ap (λ (x : DeclKey). position (is_of x.kind x.name) ds) key ∙ place))
 
   -- a declaration that has a word is marked by its slot
   marks-if : (p : ℕ) (d : Decl) (w : Word) → slice_get ds p ≡ Some d → words_have (words_by ds d) w ≡ true
       → is_at_slots ds shelf w (under listings w) p ≡ true
   marks-if p (decls.Bean b) w at has =
-      let k = key_at kinds.Bean b.name in
       let place = own-place ds p b distinct at in
-      let is : made_of ds k ≡ Some (made_of_bean ds b) = ap (option_map (made_of_bean ds)) (place-found ds b p place) in
-      by (stored shelf k) refl (exact k ∙ is) place.0
-    where
-      by : (o : Option Stored) → stored shelf (key_at kinds.Bean b.name) ≡ o → made_in o ≡ Some (made_of_bean ds b)
-          → position (is_of kinds.Bean b.name) ds ≡ Some p → is_at_slots ds shelf w (under listings w) p ≡ true
-      by None here none place = absurd (let no : None ≡ Some (made_of_bean ds b) = none in cc)
-      by (Some (s, made)) here one place =
-          let k = key_at kinds.Bean b.name in
-          let same : made ≡ made_of_bean ds b = some-made made (made_of_bean ds b) one in
-          let words : words_have made.words w ≡ true = ap (λ (m : Made). words_have m.words w) same ∙ has in
-          let it = found (slot_of shelf) (kept_at shelf) shelved.owns k s made here in
-          let marked : is_at ds w (kept_at shelf s) p ≡ true =
-          at-is ds w (kept_at shelf s) p it.entry it.there (ap (λ (m : Made). words_have m.words w) it.is ∙ words)
-          (ap (λ (x : DeclKey). position (is_of x.kind x.name) ds) it.key ∙ place) in
-          any-more (nat_eq s) (λ t. is_at ds w (kept_at shelf t) p) (under listings w)
-          (λ t equal. ap (λ x. is_at ds w (kept_at shelf x) p) (sym (eqb-true s t equal)) ∙ marked)
-          (sound w k s made here
-          (or_right (keys_have made.reads w) (classes_have made.replaces w || words_have made.words w)
-          (or_right (classes_have made.replaces w) (words_have made.words w) words)))
+      marks-from p w (key_at kinds.Bean b.name) (made_of_bean ds b) (ap (option_map (made_of_bean ds)) (place-found ds b p place)) place.0 has
+  marks-if p (decls.Interceptor i) w at has =
+      let k = key_at kinds.Interceptor i.name in
+      marks-from p w k (made_of_interceptor (decls.Interceptor i))
+      (ap (option_map made_of_interceptor) (own-found ds p (decls.Interceptor i) distinct at))
+      (own-position ds p (decls.Interceptor i) distinct at) has
   marks-if p (decls.Type d) w at has = absurd (false≢true has)
   marks-if p (decls.Qualifier d) w at has = absurd (false≢true has)
   marks-if p (decls.Binding d) w at has = absurd (false≢true has)
   marks-if p (decls.Stereotype d) w at has = absurd (false≢true has)
-  marks-if p (decls.Interceptor d) w at has = absurd (false≢true has)
 
   abbrev at_slots : ℕ → Word → Bool
   at_slots p w = is_at_slots ds shelf w (under listings w) p
@@ -187,7 +230,7 @@ module _ {X Y : Type 0} (f : X → List Y) (test : X → Bool) (all : List X) wh
   none-pass [] blank = refl
   none-pass (x ∷ xs) blank = ap (λ b. cond b (x ∷ filter test xs) (filter test xs)) (sym (blank 0)) ∙ none-pass xs (λ i. blank (suc i))
 
-  walk : (n : ℕ) (marks : List Bool) (xs : List X) → ((i : ℕ) → slice_get all (n + i) ≡ slice_get xs i)
+  pub walk : (n : ℕ) (marks : List Bool) (xs : List X) → ((i : ℕ) → slice_get all (n + i) ≡ slice_get xs i)
       → ((i : ℕ) → is_marked marks i ≡ option_map_or test (slice_get xs i) false)
       → flat_map found_at (marked_from n marks) ≡ flat_map f (filter test xs)
   walk n [] xs here marked = sym (ap (flat_map f) (none-pass xs marked))

@@ -1,5 +1,5 @@
 -- Which records edits compute, and how many.
-use Rattle.std.specs.Prelude.{ℕ, ◌+◌, ◌-◌, ◌^◌, min, nat_eq, Bool, true, ◌&&◌, List, length, filter, Option, Some, None, option_map}
+use Rattle.std.specs.Prelude.{ℕ, ◌+◌, ◌-◌, ◌^◌, min, nat_eq, Bool, true, false, ◌&&◌, List, length, filter, Option, Some, None, option_map}
 use Rattle.std.specs.List.{list_any}
 use Rattle.cdi_model.specs.declared.decl.Decl.{Decl}
 use Rattle.cdi_model.specs.declared.decl.Kind.{Kind}
@@ -28,6 +28,12 @@ reads_of ds k = reads_by k.kind k.name ds
 abbrev pub is_computed : List DeclKey → Option (List DeclKey) → Bool
 is_computed keys None = true
 is_computed keys (Some reads) = list_any (is_among reads) keys
+
+-- declarations of the kind have records
+abbrev pub is_recorded : Kind → Bool
+is_recorded kinds.Type = true
+is_recorded kinds.Bean = true
+is_recorded other = false
 
 -- the key is of the kind
 abbrev pub is_of_kind : Kind → DeclKey → Bool

@@ -4,4 +4,7 @@ pub mod Kept
 pub mod Replaced
 pub mod Next
 pub mod State
+pub mod Told
+pub mod Asked
+pub mod AskedAt
 pub mod Under

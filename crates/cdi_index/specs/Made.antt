@@ -1,5 +1,5 @@
 -- What is made of declarations, what it reads, and under which words a declaration is listed for it.
-use Rattle.std.specs.Prelude.{◌≡◌, ◌||◌, ℕ, Bool, true, false, List, [], ◌++◌, map, Option, Some, None, option_map}
+use Rattle.std.specs.Prelude.{◌≡◌, ◌||◌, ℕ, Bool, true, false, List, [], ◌∷◌, ◌++◌, map, Option, Some, None, option_map}
 use Rattle.std.specs.List.{flat_map, list_any}
 use Rattle.std.specs.Option.{option_to_list}
 use Rattle.std.specs.declared.alloc.Global.{Global}
@@ -13,11 +13,16 @@ use Rattle.cdi_model.specs.declared.decl.Kind.TheVariants as kinds
 use Rattle.cdi_model.specs.declared.key.DeclKey.{DeclKey}
 use Rattle.cdi_model.specs.DeclList.{find_decl}
 use Rattle.cdi_model.specs.Edits.{is_among}
+use Rattle.cdi_model.specs.Mentions.{mentions, Mention, PointOf}
+use Rattle.cdi_model.specs.Quals.{name_of_use}
+use Rattle.cdi_model.specs.declared.decl.PointDecl.{PointDecl}
+use Rattle.cdi_model.specs.declared.quals.Qual.{Qual}
 use Rattle.cdi_match.specs.Locality.{type_reads}
 use Rattle.cdi_match.specs.Types.{types_of}
 use Rattle.cdi_effective.specs.Beans.{own_records}
 use Rattle.cdi_effective.specs.declared.records.Effective.{Effective}
 use Rattle.cdi_effective.specs.Disposers.{find_bean}
+use Rattle.cdi_effective.specs.Qualifiers.{required}
 use Rattle.cdi_effective.specs.Reads.{record_reads}
 use Rattle.cdi_effective.specs.Specialized.{replaced_by}
 use Rattle.cdi_postings.specs.declared.word.Reason.TheVariants as reasons
@@ -30,19 +35,40 @@ use Rattle.cdi_index.specs.declared.making.Given.TheVariants as given
 abbrev pub is_kept : Kind → Bool
 is_kept kinds.Type = true
 is_kept kinds.Bean = true
+is_kept kinds.Interceptor = true
 is_kept other = false
 
--- the words of a record: its types and its name
+-- the words of some uses of qualifiers
+abbrev pub words_of_uses : List Qual → List Word
+words_of_uses us = map (λ u. word_at reasons.Qualifies (name_of_use u)) us
+
+-- the words of a record: its types, its name and its qualifiers
 abbrev pub words_of_record : Effective → List Word
-words_of_record r = map (word_at reasons.HasType) r.types ++ map (word_at reasons.HasName) (option_to_list r.name)
+words_of_record r =
+    map (word_at reasons.HasType) r.types ++ (map (word_at reasons.HasName) (option_to_list r.name) ++ words_of_uses r.qualifiers)
 
--- those of some records, and the types that some observer methods observe
-abbrev pub words_of : List Effective → List ObserverDecl → List Word
-words_of records observers = flat_map words_of_record records ++ map (λ o. word_at reasons.Observes o.event_type) observers
+-- the words of a point: the type and the qualifiers for which it asks
+abbrev pub words_of_point : PointDecl → List Word
+words_of_point point = word_at reasons.Asks point.required_type ∷ words_of_uses (required point.qualifiers)
 
--- the words of a bean declaration: those of the records that it has by itself, and of its observer methods
+-- those of what a declaration names in one place
+abbrev pub words_named_in : Mention → List Word
+words_named_in (PointOf place point) = words_of_point point
+words_named_in other = []
+
+-- those of all that it names
+unfoldable pub words_named : Decl → List Word
+words_named d = flat_map words_named_in (mentions d)
+
+-- the words of a bean declaration with some records: those of the records, the types that its observer methods observe, and those of what it
+-- names
+abbrev pub words_of : List Effective → Decl → List ObserverDecl → List Word
+words_of records d observers =
+    (flat_map words_of_record records ++ map (λ o. word_at reasons.Observes o.event_type) observers) ++ words_named d
+
+-- with those that it has by itself
 abbrev pub words_of_bean : List Decl → BeanDecl → List Word
-words_of_bean ds bean = words_of (own_records ds bean) bean.observers
+words_of_bean ds bean = words_of (own_records ds bean) (decls.Bean bean) bean.observers
 
 -- the closure of a type
 abbrev pub made_of_type : List Decl → List ℕ → Made
@@ -62,10 +88,15 @@ made_of_bean ds bean = record {
   given = given.Records (own_records ds bean);
 }
 
+-- the words of an interceptor declaration
+abbrev pub made_of_interceptor : Decl → Made
+made_of_interceptor d = record { reads = []; replaces = []; words = words_named d; given = given.Nothing }
+
 -- what is made of the declaration of a kind and name
 abbrev pub made_by : Kind → List ℕ → List Decl → Option Made
 made_by kinds.Type name ds = option_map (λ d. made_of_type ds name) (find_decl kinds.Type name ds)
 made_by kinds.Bean name ds = option_map (made_of_bean ds) (find_bean name ds)
+made_by kinds.Interceptor name ds = option_map made_of_interceptor (find_decl kinds.Interceptor name ds)
 made_by other name ds = None
 
 abbrev pub made_of : List Decl → DeclKey → Option Made

@@ -41,3 +41,8 @@ pub record IsNext (shelf : Shelf) (listings : List Listing) (next : Next) : Type
   pub kept : length next.changes.items ≤ spare shelf.kept
   pub turned : AreReplaced next.decls (turned_by next.turns.items (get same_key shelf.replaced))
   pub replaced : length next.turns.items ≤ spare shelf.replaced
+
+-- After the changes what is kept is exact, and after the turns the records of replaced beans are.
+pub record IsAfter (shelf : Shelf) (next : Next) : Type 0 where
+  pub exact : IsExact next.decls (applied next.first next.changes.items (stored shelf))
+  pub turned : AreReplaced next.decls (turned_by next.turns.items (get same_key shelf.replaced))

@@ -40,6 +40,7 @@ is_replaced_key ds k = is_replaced_of k.kind k.name ds
 abbrev pub disabled_in : Given → Option (List Effective)
 disabled_in (given.Types types) = None
 disabled_in (given.Records records) = Some (map (unless_replaced true) records)
+disabled_in given.Nothing = None
 
 abbrev pub disabled : Option Made → Option (List Effective)
 disabled None = None
@@ -49,6 +50,7 @@ disabled (Some made) = disabled_in made.given
 abbrev pub lent_in : Given → List Effective
 lent_in (given.Types types) = []
 lent_in (given.Records records) = records
+lent_in given.Nothing = []
 
 abbrev pub lent : Option (List Effective) → Option Made → List Effective
 lent (Some records) made = records
@@ -99,6 +101,10 @@ records_after shelf listings affected changes k =
 
 abbrev pub turn_by : Shelf → List Listing → List DeclKey → List Change → DeclKey → Turn
 turn_by shelf listings affected changes k = record { key = k; records = records_after shelf listings affected changes k }
+
+-- whose records they are
+abbrev pub keys_turned : List Turn → List DeclKey
+keys_turned turns = map (λ t. t.key) turns
 
 -- the records of replaced beans after some turns
 abbrev pub turned : List Turn → (DeclKey → Option (List Effective)) → DeclKey → Option (List Effective)

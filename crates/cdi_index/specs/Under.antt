@@ -16,7 +16,7 @@ use Rattle.cdi_index.specs.declared.shelf.Shelf.{Shelf}
 use Rattle.cdi_index.specs.declared.under.Sought.{Sought}
 use Rattle.cdi_index.specs.declared.under.Sought.TheVariants as sought
 use Rattle.cdi_index.specs.Kept.{kept_at}
-use Rattle.cdi_index.specs.Made.{words_have, words_of_bean}
+use Rattle.cdi_index.specs.Made.{words_have, words_named, words_of_bean}
 
 -- ---- what is found
 
@@ -40,6 +40,7 @@ observes_one types other = false
 -- the words of a declaration
 abbrev pub words_by : List Decl → Decl → List Word
 words_by ds (decls.Bean bean) = words_of_bean ds bean
+words_by ds (decls.Interceptor i) = words_named (decls.Interceptor i)
 words_by ds other = []
 
 -- the declaration has one of these words

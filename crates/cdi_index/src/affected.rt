@@ -21,13 +21,13 @@ fn is_kept(kind: Kind) -> bool
     ensures { result ≡ is_kept kind }
 {
     match kind {
-        Kind::Type | Kind::Bean => true,
+        Kind::Type | Kind::Bean | Kind::Interceptor => true,
         _ => false,
     }
 }
 
 /// Whether a key is among some.
-fn has_key(keys: &[DeclKey], key: &DeclKey) -> bool
+pub(crate) fn has_key(keys: &[DeclKey], key: &DeclKey) -> bool
     ensures { result ≡ is_among keys.now key.now }
 {
     keys.iter().any(|other| *other == *key)

@@ -34,6 +34,13 @@ impl Draft {
         })
     }
 
+    /// The kinds and names of the edits, in order. It takes no memory.
+    pub fn keys(&self) -> &[DeclKey]
+        ensures { result.now ≡ self.now.keys }
+    {
+        self.keys.as_slice()
+    }
+
     /// Makes an edit. It takes memory as `Decls::apply` does, and for its kind and name.
     ///
     /// # Errors

@@ -1,24 +1,30 @@
 //! The declarations, with what is made of each.
-ghost use Rattle.std.specs.Prelude.{◌≡◌, filter, flat_map, map, Some, None, IfOk, OnOk, OnErr};
-ghost use Rattle.std.specs.Option.{option_copied};
+ghost use Rattle.std.specs.Prelude.{◌≡◌, false, filter, flat_map, map, slice_get, option_map, Some, None, IfOk, OnOk, OnErr};
+ghost use Rattle.std.specs.Option.{option_copied, option_map_or};
+ghost use Rattle.cdi_positions.specs.Marks.{is_marked};
 ghost use Rattle.cdi_match.specs.Chain.{has};
 ghost use Rattle.cdi_effective.specs.Beans.{beans, entries};
 ghost use Rattle.cdi_effective.specs.Records.{records_in};
 ghost use Rattle.cdi_index.specs.Made.{types_declared};
 ghost use Rattle.cdi_index.specs.Replaced.{lent};
 ghost use Rattle.cdi_index.specs.State.{committed, drafted_from, empty, staged_by, with_staged, IsEdited};
-ghost use Rattle.cdi_index.specs.Under.{beans_under, has_name, is_sought, observes_one, records_at};
+ghost use Rattle.cdi_index.specs.Asked.{is_asked};
+ghost use Rattle.cdi_index.specs.Told.{Tells};
+ghost use Rattle.cdi_index.specs.Under.{beans_under, has_name, has_one, is_sought, observes_one, records_at};
 
+use crate::asked::{Asked, is_asked_at};
 use crate::counts::Counts;
 use crate::draft::Draft;
 use crate::install::install;
 use crate::making::{Given, Made};
+use crate::next_index::NextIndex;
 use crate::prepare::{Next, prepare};
-use crate::replaced::install_turns;
+use crate::replaced::{install_turns, keys_turned};
 use crate::shelf::Shelf;
 use crate::under::{Sought, positions_under, sought_at_positions, words_observed};
 use cdi_effective::Effective;
-use cdi_model::{Decl, DeclKey, Decls, Kind, Name};
+use cdi_model::{Decl, DeclKey, Decls, Kind, Name, Qual};
+use cdi_positions::PositionSet;
 use cdi_postings::{Postings, Reason, Word};
 use std::alloc::{AllocError, Global};
 use std::marker::Model;
@@ -111,8 +117,8 @@ impl Index {
         }
     }
 
-    /// The records of the declaration at a position.
-    pub(crate) fn records_at(&self, position: usize) -> &[Effective]
+    /// The records of the declaration at a position: none where it is no bean declaration. It takes no memory.
+    pub fn records_at(&self, position: usize) -> &[Effective]
         ensures { result.now ≡ records_at self.now.decls position }
     {
         // No effect at run time. The proof reads here that no two declarations have one kind and name.
@@ -121,6 +127,40 @@ impl Index {
             Some(Decl::Bean(bean)) => self.records(&bean.name),
             _ => &[],
         }
+    }
+
+    /// The positions of the declarations that have one of some words. It takes no memory, and looks at these alone.
+    pub fn positions_under(&self, words: &[Word]) -> PositionSet
+        ensures { (p : _) → is_marked result p ≡ option_map_or (has_one self.now.decls words.now) (slice_get self.now.decls p) false }
+    {
+        // No effect at run time. The proof reads here that no two declarations have one kind and name.
+        let _ = self.decls.iter();
+        positions_under(&self.decls, &self.shelf, &self.postings, words)
+    }
+
+    /// Whether a point of a declaration asks for a type with these uses of qualifiers, as they are written, declarations of
+    /// some keys apart. It takes no memory, and looks at declarations that ask for the type alone.
+    pub fn is_asked(&self, bean_type: &Name, uses: &[Qual], apart: &[DeclKey]) -> bool
+        ensures { result ≡ is_asked self.now.decls bean_type.now uses.now apart.now }
+    {
+        let word = Word {
+            reason: Reason::Asks,
+            name: *bean_type,
+        };
+        let asked = Asked {
+            bean_type,
+            uses,
+            apart,
+        };
+        // No effect at run time. The proof reads here that no two declarations have one kind and name.
+        let _ = self.decls.iter();
+        is_asked_at(
+            self.alloc,
+            &self.decls,
+            &self.shelf,
+            self.postings.under(word),
+            asked,
+        )
     }
 
     /// Those of the beans of the declarations that have one of some words which are sought, in order.
@@ -188,10 +228,13 @@ impl Index {
         Draft::of(self.alloc, &self.decls)
     }
 
-    /// Stages a draft of these declarations. Nothing is seen of it until `commit`. It takes memory for all that is computed.
-    /// Without memory nothing is staged.
-    pub fn stage(&mut self, draft: Draft) -> Result<(), AllocError>
+    /// Stages a draft of these declarations, and answers which declarations it affects: those that it edits, and each whose
+    /// records are computed anew, or that another bean replaces before or after and not both. Others may be among them.
+    /// Nothing is seen of the draft until `commit`. It takes memory for all that is computed. Without memory nothing is
+    /// staged.
+    pub fn stage(&mut self, draft: Draft) -> Result<Vec<DeclKey>, AllocError>
         requires { IsEdited self.old.decls draft }
+        ensures told { IfOk result (λ told. Tells self.old.decls draft.decls draft.keys told.items) }
         ensures ok { OnOk result (self.new ≡ with_staged self.old (Some (staged_by self.old draft))) }
         ensures err { OnErr result (self.new ≡ with_staged self.old None) }
     {
@@ -204,8 +247,19 @@ impl Index {
             self.counts,
             draft,
         )?;
+        let told = keys_turned(self.alloc, next.turns.as_slice())?;
         self.next = Some(next);
-        Ok(())
+        Ok(told)
+    }
+
+    /// The declarations after the draft that is staged, if one is. It takes no memory.
+    pub fn next(&self) -> Option<NextIndex<'_>>
+        ensures { result ≡ option_map (λ staged. staged.decls) self.now.staged }
+    {
+        match &self.next {
+            Some(next) => Some(NextIndex::new(&self.shelf, next)),
+            None => None,
+        }
     }
 
     /// Takes over what is staged, if anything is. It takes no memory.
@@ -228,7 +282,7 @@ impl Index {
 }
 
 /// The records that a bean declaration has by itself.
-fn own_records(made: Option<&Made>) -> &[Effective]
+pub(crate) fn own_records(made: Option<&Made>) -> &[Effective]
     ensures { result.now ≡ lent None (option_copied made.entry) }
 {
     match made {

@@ -2,12 +2,14 @@
 #![tactic(auto)]
 
 mod affected;
+mod asked;
 mod change;
 mod counts;
 mod draft;
 mod index;
 mod install;
 mod making;
+mod next_index;
 mod next_types;
 mod prepare;
 mod replaced;
@@ -17,3 +19,4 @@ mod under;
 pub use counts::Counts;
 pub use draft::Draft;
 pub use index::Index;
+pub use next_index::NextIndex;

@@ -1,14 +1,21 @@
 //! What is made of a declaration.
-ghost use Rattle.std.specs.Prelude.{◌≡◌, ◌++◌, map, option_map, Some, IfOk, OnOk};
+ghost use Rattle.std.specs.Prelude.{◌≡◌, ◌++◌, flat_map, map, option_map, Some, IfOk, OnOk};
 ghost use Rattle.cdi_model.specs.declared.decl.Kind.TheVariants as kinds;
 ghost use Rattle.cdi_model.specs.DeclKey.{key_at};
 ghost use Rattle.cdi_effective.specs.Disposers.{as_bean};
+ghost use Rattle.cdi_effective.specs.Qualifiers.{default_use};
+ghost use Rattle.cdi_model.specs.Mentions.{shown};
+ghost use Rattle.cdi_model.specs.Quals.{name_of_use};
+ghost use Rattle.cdi_postings.specs.declared.word.Reason.TheVariants as reasons;
 ghost use Rattle.cdi_postings.specs.Words.{word_at};
-ghost use Rattle.cdi_index.specs.Made.{made_of, made_of_bean, made_of_type, words_of, words_of_record};
+ghost use Rattle.cdi_index.specs.Made.{made_of, made_of_bean, made_of_interceptor, made_of_type, words_named, words_named_in, words_of, words_of_point};
+ghost use Rattle.cdi_index.specs.Made.{words_of_record};
 
 use crate::next_types::NextTypes;
-use cdi_effective::{Closures, Effective, own_records_of, reads_of, replaced_by};
-use cdi_model::{Decl, DeclKey, Kind, Name, ObserverDecl, Seq};
+use cdi_effective::{
+    Closures, Effective, default_use, own_records_of, reads_of, replaced_by, required,
+};
+use cdi_model::{Decl, DeclKey, Kind, Mention, Name, ObserverDecl, PointDecl, Qual, Seq};
 use cdi_postings::{Reason, Word};
 use std::alloc::{AllocError, Global};
 
@@ -19,6 +26,8 @@ pub(crate) enum Given {
     Types(Seq<Name>),
     /// The records that a bean declaration has by itself.
     Records(Seq<Effective>),
+    /// Nothing but words.
+    Nothing,
 }
 
 /// What is made of a declaration, and what that read.
@@ -71,6 +80,20 @@ fn push_record_words(record: &Effective, words: &mut Vec<Word>) -> Result<(), Al
             name,
         })?;
     }
+    push_qualifier_words(record.qualifiers.as_slice(), words)
+}
+
+/// Appends the words of some uses of qualifiers.
+fn push_qualifier_words(uses: &[Qual], words: &mut Vec<Word>) -> Result<(), AllocError>
+    ensures { OnOk result (words.new.items
+        ≡ words.old.items ++ map (λ u. word_at reasons.Qualifies (name_of_use u)) uses.now) }
+{
+    for qual in uses {
+        words.push(Word {
+            reason: Reason::Qualifies,
+            name: qual.name,
+        })?;
+    }
     Ok(())
 }
 
@@ -87,24 +110,84 @@ fn push_words(reason: Reason, names: &[Name], words: &mut Vec<Word>) -> Result<(
     Ok(())
 }
 
-/// The words of some records, and of some observer methods.
-fn words_of(
+/// Appends the words of a point: the type and the qualifiers for which it asks.
+fn push_point_words(
     alloc: Global,
-    records: &[Effective],
-    observers: &[ObserverDecl],
-) -> Result<Vec<Word>, AllocError>
-    ensures { IfOk result (λ words. words.items ≡ words_of records.now observers.now) }
+    point: &PointDecl,
+    words: &mut Vec<Word>,
+) -> Result<(), AllocError>
+    ensures { OnOk result (words.new.items ≡ words.old.items ++ words_of_point point.now) }
 {
-    let mut words = Vec::new(alloc);
-    for record in records {
-        push_record_words(record, &mut words)?;
+    words.push(Word {
+        reason: Reason::Asks,
+        name: point.required_type,
+    })?;
+    let by_default = [default_use(alloc)];
+    push_qualifier_words(required(&point.qualifiers, &by_default), words)
+}
+
+/// Appends the words of what a declaration names in a place.
+fn push_named_words(
+    alloc: Global,
+    mention: &Mention<'_>,
+    words: &mut Vec<Word>,
+) -> Result<(), AllocError>
+    ensures { OnOk result (words.new.items ≡ words.old.items ++ words_named_in (shown mention.now)) }
+{
+    match mention {
+        Mention::Point(_, point) => push_point_words(alloc, point, words),
+        _ => Ok(()),
     }
+}
+
+/// Appends the words of what a declaration names.
+#[tactic(auto, unfolding(crate::specs::Made::words_named))]
+fn push_words_named(alloc: Global, decl: &Decl, words: &mut Vec<Word>) -> Result<(), AllocError>
+    ensures { OnOk result (words.new.items ≡ words.old.items ++ words_named decl.now) }
+{
+    for mention in decl.mentions() {
+        push_named_words(alloc, &mention, words)?;
+    }
+    Ok(())
+}
+
+/// Appends the words of some records.
+fn push_words_of_records(records: &[Effective], words: &mut Vec<Word>) -> Result<(), AllocError>
+    ensures { OnOk result (words.new.items ≡ words.old.items ++ flat_map words_of_record records.now) }
+{
+    for record in records {
+        push_record_words(record, words)?;
+    }
+    Ok(())
+}
+
+/// Appends the words of some observer methods.
+fn push_observer_words(observers: &[ObserverDecl], words: &mut Vec<Word>) -> Result<(), AllocError>
+    ensures { OnOk result (words.new.items
+        ≡ words.old.items ++ map (λ o. word_at reasons.Observes o.event_type) observers.now) }
+{
     for observer in observers {
         words.push(Word {
             reason: Reason::Observes,
             name: observer.event_type,
         })?;
     }
+    Ok(())
+}
+
+/// The words of a bean declaration with some records.
+fn words_of(
+    alloc: Global,
+    records: &[Effective],
+    decl: &Decl,
+    observers: &[ObserverDecl],
+) -> Result<Vec<Word>, AllocError>
+    ensures { IfOk result (λ words. words.items ≡ words_of records.now decl.now observers.now) }
+{
+    let mut words = Vec::new(alloc);
+    push_words_of_records(records, &mut words)?;
+    push_observer_words(observers, &mut words)?;
+    push_words_named(alloc, decl, &mut words)?;
     Ok(words)
 }
 
@@ -122,13 +205,27 @@ fn make_records(
     let records = own_records_of(alloc, types.decls, types, bean)?;
     let reads = reads_of(alloc, types.decls, types, bean)?;
     let replaces = replaced_by(alloc, types.decls, decl)?;
-    let words = words_of(alloc, &records, bean.observers.as_slice())?;
+    let words = words_of(alloc, &records, decl, bean.observers.as_slice())?;
     Ok(Some(Made {
         reads: Seq::from_vec(reads),
         replaces: Seq::from_vec(replaces),
         words: Seq::from_vec(words),
         given: Given::Records(Seq::from_vec(records)),
     }))
+}
+
+/// Makes the words of what a declaration names.
+fn make_words(alloc: Global, decl: &Decl) -> Result<Made, AllocError>
+    ensures { IfOk result (λ made. made ≡ made_of_interceptor decl.now) }
+{
+    let mut words = Vec::new(alloc);
+    push_words_named(alloc, decl, &mut words)?;
+    Ok(Made {
+        reads: Seq::new(alloc),
+        replaces: Seq::new(alloc),
+        words: Seq::from_vec(words),
+        given: Given::Nothing,
+    })
 }
 
 /// Makes what is made of the declaration of a key.
@@ -148,6 +245,10 @@ pub(crate) fn make(
         }
         Kind::Bean => match types.decls.get(Kind::Bean, &key.name) {
             Some(decl) => make_records(alloc, types, decl),
+            None => Ok(None),
+        },
+        Kind::Interceptor => match types.decls.get(Kind::Interceptor, &key.name) {
+            Some(decl) => Ok(Some(make_words(alloc, decl)?)),
             None => Ok(None),
         },
         _ => Ok(None),

@@ -4,8 +4,9 @@ ghost use Rattle.cdi_model.specs.declared.decl.Kind.TheVariants as kinds;
 ghost use Rattle.cdi_index.specs.Counted.{counted, raised};
 ghost use Rattle.cdi_index.specs.Kept.{stored, Keeps, IsExact, IsFreeFrom, IsShelf, IsSound};
 ghost use Rattle.cdi_index.specs.Next.{is_made, IsNext};
-ghost use Rattle.cdi_index.specs.Replaced.{AreReplaced};
+ghost use Rattle.cdi_index.specs.Replaced.{keys_turned, AreReplaced};
 ghost use Rattle.cdi_index.specs.State.{IsEdited};
+ghost use Rattle.cdi_index.specs.Told.{Tells};
 ghost use Rattle.indexmap.specs.IndexMap.{get};
 ghost use Rattle.cdi_model.specs.DeclKey.{same_key};
 
@@ -69,6 +70,7 @@ pub(crate) fn prepare(
     ensures decls { IfOk result (λ next. next.decls ≡ draft.decls) }
     ensures counts { IfOk result (λ next. next.counts ≡ counted counts decls.now draft.decls draft.keys) }
     ensures next { IfOk result (λ next. IsNext shelf.new postings.new next) }
+    ensures told { IfOk result (λ next. Tells decls.now draft.decls draft.keys (keys_turned next.turns.items)) }
 {
     // No effect at run time. The proof reads here that no two declarations have one kind and name.
     let _ = decls.iter();

@@ -9,7 +9,7 @@ ghost use Rattle.cdi_model.specs.DeclKey.{key_at, same_key};
 ghost use Rattle.cdi_model.specs.Edits.{is_among};
 ghost use Rattle.cdi_index.specs.Kept.{made_in, stored};
 ghost use Rattle.cdi_index.specs.Replaced.{disabled, is_at_stake, is_replaced_after, is_replaced_anew, is_replaced_still, made_after};
-ghost use Rattle.cdi_index.specs.Replaced.{records_after, replaces, stakes, turned};
+ghost use Rattle.cdi_index.specs.Replaced.{keys_turned, records_after, replaces, stakes, turned};
 
 use crate::affected::word_of_replaced;
 use crate::change::Change;
@@ -128,7 +128,11 @@ fn replaces(made: &Made, key: &DeclKey) -> bool
 }
 
 /// What is made of the declaration of a key after some changes.
-fn made_after<'a>(shelf: &'a Shelf, changes: &'a [Change], key: &DeclKey) -> Option<&'a Made>
+pub(crate) fn made_after<'a>(
+    shelf: &'a Shelf,
+    changes: &'a [Change],
+    key: &DeclKey,
+) -> Option<&'a Made>
     ensures { option_copied result ≡ made_after changes.now (made_in (stored shelf.now key.now)) key.now }
 {
     for change in changes {
@@ -194,7 +198,8 @@ pub(crate) fn turn_all(
     affected: &IndexSet<DeclKey>,
     changes: &[Change],
 ) -> Result<Vec<Turn>, AllocError>
-    ensures { IfOk result (λ turns. (records : _) (k : _) → turned turns.items records k
+    ensures keys { IfOk result (λ turns. (k : _) → is_among (keys_turned turns.items) k ≡ is_at_stake shelf.now changes.now k) }
+    ensures records { IfOk result (λ turns. (records : _) (k : _) → turned turns.items records k
         ≡ cond (is_at_stake shelf.now changes.now k) (records_after shelf.now postings.now affected.now.keys changes.now k) (records k)) }
 {
     let beans = beans_at_stake(alloc, shelf, changes)?;
@@ -205,6 +210,33 @@ pub(crate) fn turn_all(
         turns.push(Turn { key: *key, records })?;
     }
     Ok(turns)
+}
+
+/// The records of a bean after some turns, where another replaces it then.
+pub(crate) fn records_turned<'a>(
+    shelf: &'a Shelf,
+    turns: &'a [Turn],
+    key: &DeclKey,
+) -> Option<&'a Seq<Effective>>
+    ensures { option_copied result ≡ turned turns.now (get same_key shelf.now.replaced) key.now }
+{
+    for turn in turns {
+        if turn.key == *key {
+            return turn.records.as_ref();
+        }
+    }
+    shelf.replaced.get(key)
+}
+
+/// The keys of some turns.
+pub(crate) fn keys_turned(alloc: Global, turns: &[Turn]) -> Result<Vec<DeclKey>, AllocError>
+    ensures { IfOk result (λ keys. keys.items ≡ keys_turned turns.now) }
+{
+    let mut keys = Vec::with_capacity(alloc, turns.len())?;
+    for turn in turns {
+        keys.push(turn.key)?;
+    }
+    Ok(keys)
 }
 
 /// Takes turns over. It takes no memory where there is room for them.

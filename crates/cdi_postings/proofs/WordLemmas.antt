@@ -13,7 +13,9 @@ later : ℕ → Reason
 later zero = reasons.HasType
 later (suc zero) = reasons.HasName
 later (suc (suc zero)) = reasons.Replaces
-later (suc (suc (suc n))) = reasons.Observes
+later (suc (suc (suc zero))) = reasons.Observes
+later (suc (suc (suc (suc zero)))) = reasons.Asks
+later (suc (suc (suc (suc (suc n))))) = reasons.Qualifies
 
 reason_at : ℕ → Reason
 reason_at zero = reasons.RestsOn kinds.Type
@@ -36,6 +38,8 @@ reason_again reasons.HasType = refl
 reason_again reasons.HasName = refl
 reason_again reasons.Replaces = refl
 reason_again reasons.Observes = refl
+reason_again reasons.Asks = refl
+reason_again reasons.Qualifies = refl
 
 pub word_exact : (v w : Word) → same_word v w ≡ true → v ≡ w
 word_exact v w h =

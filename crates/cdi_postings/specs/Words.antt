@@ -17,6 +17,8 @@ reason_number reasons.HasType = 6
 reason_number reasons.HasName = 7
 reason_number reasons.Replaces = 8
 reason_number reasons.Observes = 9
+reason_number reasons.Asks = 10
+reason_number reasons.Qualifies = 11
 
 -- the words have one reason and one name
 abbrev pub same_word : Word → Word → Bool

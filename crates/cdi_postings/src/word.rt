@@ -18,6 +18,10 @@ pub enum Reason {
     Replaces,
     /// An observer method of it has the type.
     Observes,
+    /// A point of it asks for the type.
+    Asks,
+    /// A bean of it has the qualifier, or a point of it asks for it.
+    Qualifies,
 }
 
 /// A reason and a name under which declarations are listed.
@@ -43,6 +47,8 @@ impl Reason {
             Reason::HasName => 7,
             Reason::Replaces => 8,
             Reason::Observes => 9,
+            Reason::Asks => 10,
+            Reason::Qualifies => 11,
         }
     }
 }

@@ -11,10 +11,14 @@ use Rattle.std.specs.Map.{lookup}
 use Rattle.std.proofs.Common.{cond}
 use Rattle.indexmap.specs.IndexMap.{get}
 use Rattle.cdi_model.specs.DeclKey.{same_key}
+use Rattle.cdi_model.specs.declared.key.DeclKey.{DeclKey}
+use Rattle.std.proofs.Common.{List}
 use Rattle.cdi_index.specs.declared.shelf.Shelf.{Shelf}
-use Rattle.cdi_index.specs.Replaced.{is_at_stake, records_after, turned}
-use Rattle.cdi_index.proofs.NextLemmas.{counted, exact-same, kept-of-others, prepared, shelf-same, sound-same}
+use Rattle.cdi_index.specs.Replaced.{is_at_stake, keys_turned, records_after, turned}
+use Rattle.cdi_index.specs.Told.{Tells}
+use Rattle.cdi_index.proofs.NextLemmas.{affected-hits, counted, exact-same, kept-of-others, prepared, shelf-same, sound-same}
 use Rattle.cdi_index.proofs.ReplacedLemmas.{turned-are}
+use Rattle.cdi_index.proofs.ToldLemmas.{tells}
 use Rattle.cdi_index.proofs.prepare.prepare.Goals as goal
 
 pub change_affected-requires-clause-kept : goal.change_affected-requires-clause-kept
@@ -84,7 +88,32 @@ returns-clause-next c =
     (get same_key c.reserve-2.new.self) (turned c.in_ok-turns.turns.items (get same_key c.reserve-2.new.self))
     (λ k. ap (lookup (same_key k)) (c.reserve-2.ensures.entries ∙ ap (λ m. m.entries) c.reserve.ensures.replaced)
     ∙ c.requires.replaced k)
-    (λ k. c.in_ok-turns.ensures (get same_key c.reserve-2.new.self) k
+    (λ k. c.in_ok-turns.ensures.records (get same_key c.reserve-2.new.self) k
     ∙ ap (λ cs. cond (is_at_stake c.reserve.new.self cs k) (records_after c.reserve.new.self more ks cs k) (get same_key c.reserve-2.new.self k))
     (c.as_slice-2.ensures.value ∙ c.in_ok-changes.ensures.changes)))
     (omega (arith, c.in_ok-reserve-2.ensures.ok, c.len-2.ensures, c.in_ok-turns.turns.ok.0))
+
+pub returns-clause-told : goal.returns-clause-told
+returns-clause-told c =
+    let ds = c.args.decls.now in
+    let es = c.draft.inside.decls in
+    let ks = c.in_ok-affected.affected.keys in
+    let old = c.args.shelf.now in
+    let new = c.reserve.new.self in
+    let before = c.args.postings.now in
+    let more = c.change_affected.new.postings in
+    let told = keys_turned c.in_ok-turns.turns.items in
+    let decls : es ≡ c.args.draft.decls = ap (λ (d : Drafted). d.decls) c.draft.view_is in
+    let keys : c.as_slice.result.now ≡ c.args.draft.keys = c.as_slice.ensures.value ∙ ap (λ (d : Drafted). d.keys) c.draft.view_is in
+    let it = tells ds es c.as_slice.result.now ks told new more c.iter.ensures.distinct c.iter-2.ensures.distinct
+    (shelf-same old new c.reserve.ensures.entries c.reserve.ensures.others c.requires.shelf)
+    (exact-same old new c.reserve.ensures.entries c.reserve.ensures.others ds c.requires.exact)
+    (sound-same old new c.reserve.ensures.entries c.reserve.ensures.others before more c.change_affected.ensures.kept c.requires.sound)
+    (λ k none. sym (kept-of-others ds es c.requires.edited.edits c.as_slice.result.now ks ks old new before before c.requires.shelf
+    c.requires.exact c.requires.sound (decls ∙ c.requires.edited.decls) (keys ∙ c.requires.edited.keys) c.in_ok-affected.ensures refl
+    c.reserve.ensures.entries c.reserve.ensures.others k none)
+    ∙ exact-same old new c.reserve.ensures.entries c.reserve.ensures.others ds c.requires.exact k)
+    (affected-hits ds old before c.as_slice.result.now ks c.requires.shelf c.requires.exact c.requires.sound c.in_ok-affected.ensures)
+    (λ k. c.in_ok-turns.ensures.keys k
+    ∙ ap (λ cs. is_at_stake new cs k) (c.as_slice-2.ensures.value ∙ c.in_ok-changes.ensures.changes)) in
+    subst (λ e. Tells ds e c.args.draft.keys told) decls (subst (λ (x : List DeclKey). Tells ds es x told) keys it)

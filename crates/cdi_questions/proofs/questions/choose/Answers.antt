@@ -4,8 +4,8 @@ use Rattle.cdi_match.specs.Chain.{has}
 use Rattle.cdi_effective.specs.Beans.{beans}
 use Rattle.cdi_effective.specs.declared.records.Effective.{Effective}
 use Rattle.cdi_resolve.specs.Choices.{chosen, HasEnough}
-use Rattle.cdi_live.proofs.CandidateLemmas.{has_enough}
-use Rattle.cdi_live.proofs.questions.choose.Goals as goal
+use Rattle.cdi_questions.proofs.CandidateLemmas.{has_enough}
+use Rattle.cdi_questions.proofs.questions.choose.Goals as goal
 
 pub returns-clause-choice : goal.returns-clause-choice
 returns-clause-choice c =

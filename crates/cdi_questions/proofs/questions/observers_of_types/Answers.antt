@@ -6,8 +6,8 @@ use Rattle.cdi_effective.specs.Beans.{beans, entries}
 use Rattle.cdi_effective.specs.declared.records.Effective.{Effective}
 use Rattle.cdi_index.specs.Under.{observes_one}
 use Rattle.cdi_observe.specs.Observers.{notified}
-use Rattle.cdi_live.proofs.CandidateLemmas.{observing_enough}
-use Rattle.cdi_live.proofs.questions.observers_of_types.Goals as goal
+use Rattle.cdi_questions.proofs.CandidateLemmas.{observing_enough}
+use Rattle.cdi_questions.proofs.questions.observers_of_types.Goals as goal
 
 pub returns-clause-observers : goal.returns-clause-observers
 returns-clause-observers c =

@@ -1,0 +1,178 @@
+-- The declarations that ask for a type are found by its word.
+use Rattle.std.proofs.Common.{◌≡◌, ℕ, Bool, true, false, not, ◌&&◌, ◌||◌, List, [], ◌∷◌, ◌++◌, map, flat_map, Option, Some, None, option_map}
+use Rattle.std.proofs.Common.{refl, sym, ap, ◌∙◌}
+use Rattle.std.specs.Cmp.Lexicographic.{pointwise}
+use Rattle.std.specs.List.{list_any}
+use Rattle.std.specs.Option.{option_map_or, option_to_list}
+use Rattle.std.specs.Str.{bytes_eq}
+use Rattle.std.proofs.lemmas.Bool.{and_from, and_parts, false≢true, or_cases, or_left, or_right}
+use Rattle.std.proofs.lemmas.List.Folds.{list_any-append}
+use Rattle.std.proofs.Common.{inl, inr}
+use Rattle.cdi_model.specs.declared.decl.Decl.{Decl}
+use Rattle.cdi_model.specs.declared.decl.Decl.TheVariants as decls
+use Rattle.cdi_model.specs.declared.decl.Kind.TheVariants as kinds
+use Rattle.cdi_model.specs.declared.decl.TypeDecl.{TypeDecl}
+use Rattle.cdi_model.specs.declared.decl.UseKind.{UseKind}
+use Rattle.cdi_model.specs.declared.key.DeclKey.{DeclKey}
+use Rattle.cdi_model.specs.declared.mention.TypePlace.{TypePlace}
+use Rattle.cdi_model.specs.declared.mention.TypePlace.TheVariants as places
+use Rattle.cdi_model.specs.declared.decl.UseKind.TheVariants as uses
+use Rattle.cdi_model.specs.declared.quals.Qual.{Qual}
+use Rattle.cdi_model.specs.Decl.{key_of, kind_of, name_of_decl}
+use Rattle.cdi_model.specs.DeclKey.{key_at}
+use Rattle.cdi_model.specs.DeclList.{find_decl, AreDistinct}
+use Rattle.cdi_model.specs.Edits.{is_among}
+use Rattle.cdi_model.specs.SameUse.{same_qual}
+use Rattle.cdi_model.specs.Mentions.{mentions, of_bindings, Mention, BodyOf, CallOf, EventOf, MethodOf, PointOf, StereotypeOf, TypeIn, UseOf}
+use Rattle.cdi_match.proofs.Names.{bytes_eq-turned}
+use Rattle.cdi_effective.specs.Beans.{own_records}
+use Rattle.cdi_effective.specs.Disposers.{as_bean}
+use Rattle.cdi_effective.specs.Qualifiers.{required}
+use Rattle.cdi_postings.specs.declared.word.Reason.TheVariants as reasons
+use Rattle.cdi_postings.specs.declared.word.Word.{Word}
+use Rattle.cdi_postings.specs.Listing.{Listing, under}
+use Rattle.cdi_postings.specs.Words.{same_word, word_at}
+use Rattle.cdi_index.specs.Asked.{asks_for, asks_in, is_asked}
+use Rattle.cdi_index.specs.AskedAt.{is_asker, is_asker_at}
+use Rattle.cdi_index.specs.declared.asked.Asked.{Asked}
+use Rattle.cdi_index.specs.declared.shelf.Kept.{Kept}
+use Rattle.cdi_index.specs.declared.shelf.Shelf.{Shelf}
+use Rattle.cdi_index.specs.Kept.{kept_at, stored, IsExact, IsShelf, IsSound}
+use Rattle.cdi_index.specs.Made.{made_of_bean, made_of_interceptor, words_have, words_named, words_named_in, words_of_record, words_of_uses}
+use Rattle.cdi_index.specs.Under.{words_by}
+use Rattle.cdi_index.proofs.CountLemmas.{keys-distinct}
+use Rattle.cdi_index.proofs.NextLemmas.{any-elim, same-bool}
+use Rattle.cdi_index.proofs.ReplacedLemmas.{any-at, passing}
+use Rattle.cdi_index.proofs.UnderLemmas.{key-found, listed-at}
+
+module _ (t : List ℕ) (us : List Qual) where
+  abbrev word : Word
+  word = word_at reasons.Asks t
+
+  -- what asks in one place has the word there
+  asked-in : (m : Mention) → asks_in t us m ≡ true → words_have (words_named_in m) word ≡ true
+  asked-in (PointOf place point) h =
+      let parts = and_parts (bytes_eq t point.required_type) (pointwise same_qual us (required point.qualifiers)) h in
+      or_left (bytes_eq point.required_type t) (words_have (words_of_uses (required point.qualifiers)) word)
+      (bytes_eq-turned point.required_type t ∙ parts.0)
+  asked-in (TypeIn place x) h = absurd (false≢true h)
+  asked-in (UseOf kind u) h = absurd (false≢true h)
+  asked-in (StereotypeOf s) h = absurd (false≢true h)
+  asked-in (MethodOf m) h = absurd (false≢true h)
+  asked-in (BodyOf place body) h = absurd (false≢true h)
+  asked-in (CallOf place params call) h = absurd (false≢true h)
+  asked-in (EventOf e) h = absurd (false≢true h)
+
+  asked-among : (ms : List Mention) → list_any (asks_in t us) ms ≡ true → words_have (flat_map words_named_in ms) word ≡ true
+  asked-among [] h = absurd (false≢true h)
+  asked-among (m ∷ ms) h =
+      list_any-append (λ v. same_word v word) (words_named_in m) (flat_map words_named_in ms)
+      ∙ elim (or_cases (asks_in t us m) (list_any (asks_in t us) ms) h) [
+        | inl here ↦ or_left (words_have (words_named_in m) word) (words_have (flat_map words_named_in ms) word) (asked-in m here)
+        | inr later ↦ or_right (words_have (words_named_in m) word) (words_have (flat_map words_named_in ms) word) (asked-among ms later)
+      ]
+
+  named : (d : Decl) → asks_for t us d ≡ true → words_have (words_named d) word ≡ true
+  unfolding asks_for words_named
+  named d h = asked-among (mentions d) h
+
+  -- declarations without points ask for nothing
+  no-type : (place : TypePlace) (xs : List (List ℕ)) → list_any (asks_in t us) (map (TypeIn place) xs) ≡ false
+  no-type place [] = refl
+  no-type place (x ∷ xs) = no-type place xs
+
+  no-use : (kind : UseKind) (xs : List Qual) → list_any (asks_in t us) (map (UseOf kind) xs) ≡ false
+  no-use kind [] = refl
+  no-use kind (x ∷ xs) = no-use kind xs
+
+  no-stereotype : (xs : List (List ℕ)) → list_any (asks_in t us) (map StereotypeOf xs) ≡ false
+  no-stereotype [] = refl
+  no-stereotype (x ∷ xs) = no-stereotype xs
+
+  neither : (xs ys : List Mention) → list_any (asks_in t us) xs ≡ false → list_any (asks_in t us) ys ≡ false
+      → list_any (asks_in t us) (xs ++ ys) ≡ false
+  neither xs ys none more = list_any-append (asks_in t us) xs ys ∙ ap (λ b. b || list_any (asks_in t us) ys) none ∙ more
+
+  abbrev extends : TypeDecl → List Mention
+  extends d = map (TypeIn places.Extends) (option_to_list d.extends)
+
+  -- so the words of what a declaration that asks names are words of it
+  pub words-of-asker : (ds : List Decl) (d : Decl) (w : Word) → asks_for t us d ≡ true → words_have (words_named d) w ≡ true
+      → words_have (words_by ds d) w ≡ true
+  unfolding asks_for mentions
+  words-of-asker ds (decls.Bean b) w asking has =
+      let own : List Word = flat_map words_of_record (own_records ds b) in
+      let more : List Word = map (λ o. word_at reasons.Observes o.event_type) b.observers in
+      list_any-append (λ v. same_word v w) (own ++ more) (words_named (decls.Bean b))
+      ∙ or_right (words_have (own ++ more) w) (words_have (words_named (decls.Bean b)) w) has
+  words-of-asker ds (decls.Interceptor i) w asking has = has
+  words-of-asker ds (decls.Type d) w asking has = absurd (false≢true (sym (neither (extends d) (map (TypeIn places.Implements) d.implements)
+      (no-type places.Extends (option_to_list d.extends)) (no-type places.Implements d.implements)) ∙ asking))
+  words-of-asker ds (decls.Qualifier d) w asking has = absurd (false≢true asking)
+  words-of-asker ds (decls.Binding d) w asking has = absurd (false≢true (sym (no-use uses.Binding d.declares) ∙ asking))
+  words-of-asker ds (decls.Stereotype d) w asking has = absurd (false≢true (sym (neither (map StereotypeOf d.stereotypes) (of_bindings d.bindings)
+      (no-stereotype d.stereotypes) (no-use uses.Binding d.bindings)) ∙ asking))
+
+  module _ (ds : List Decl) (shelf : Shelf) (listings : List Listing) (shelved : IsShelf shelf) (exact : IsExact ds (stored shelf))
+      (sound : IsSound (stored shelf) listings) (distinct : AreDistinct ds) (asked : Asked)
+      (same_type : asked.bean_type.now ≡ t) (same_uses : asked.uses.now ≡ us) where
+    abbrev passes : Decl → Bool
+    passes d = not (is_among asked.apart.now (key_of d)) && asks_for t us d
+
+    abbrev asks : Decl → Bool
+    asks d = asks_for asked.bean_type.now asked.uses.now d
+
+    asks-same : (d : Decl) → asks d ≡ asks_for t us d
+    asks-same d = ap (λ x. asks_for x asked.uses.now d) same_type ∙ ap (λ x. asks_for t x d) same_uses
+
+    -- one that asks is there
+    only : list_any (is_asker_at ds asked shelf) (under listings word) ≡ true → list_any passes ds ≡ true
+    only h = any-elim (is_asker_at ds asked shelf) (under listings word) h (λ s asker. by (kept_at shelf s) asker)
+      where
+        at : (e : Kept) (o : Option Decl) → find_decl e.key.kind e.key.name ds ≡ o → not (is_among asked.apart.now e.key) ≡ true
+            → option_map_or asks o false ≡ true → list_any passes ds ≡ true
+        at e None is apart none = absurd (false≢true none)
+        at e (Some d) is apart found = any-at passes e.key.kind e.key.name ds d is
+            (and_from (not (is_among asked.apart.now (key_of d))) (asks_for t us d)
+            (ap (λ k. not (is_among asked.apart.now k)) (sym (key-found e.key.kind e.key.name ds d is)) ∙ apart)
+            (sym (asks-same d) ∙ found))
+
+        by : (o : Option Kept) → is_asker ds asked o ≡ true → list_any passes ds ≡ true
+        by None none = absurd (false≢true none)
+        by (Some e) asker =
+            let parts = and_parts (not (is_among asked.apart.now e.key)) (option_map_or asks (find_decl e.key.kind e.key.name ds) false) asker in
+            at e (find_decl e.key.kind e.key.name ds) refl parts.0 parts.1
+
+    -- and one that is there is listed
+    back : list_any passes ds ≡ true → list_any (is_asker_at ds asked shelf) (under listings word) ≡ true
+    back h =
+        let it = passing passes ds (keys-distinct ds distinct) h in
+        let parts = and_parts (not (is_among asked.apart.now (key_of it.one))) (asks_for t us it.one) it.passes in
+        by it.one it.there parts.0 parts.1 (words-of-asker ds it.one word parts.1 (named it.one parts.1))
+      where
+        slot : (d : Decl) → find_decl (kind_of d) (name_of_decl d) ds ≡ Some d → not (is_among asked.apart.now (key_of d)) ≡ true
+            → asks_for t us d ≡ true → (s : ℕ) (e : Kept) → kept_at shelf s ≡ Some e → e.key ≡ key_of d → is_asker_at ds asked shelf s ≡ true
+        slot d there apart asking s e kept key =
+            ap (is_asker ds asked) kept
+            ∙ ap (λ (k : DeclKey). not (is_among asked.apart.now k) && option_map_or asks (find_decl k.kind k.name ds) false) key
+            ∙ and_from (not (is_among asked.apart.now (key_of d))) (option_map_or asks (find_decl (kind_of d) (name_of_decl d) ds) false) apart
+            (ap (λ o. option_map_or asks o false) there ∙ asks-same d ∙ asking)
+
+        -- what is made of a declaration that has words
+        by : (d : Decl) → find_decl (kind_of d) (name_of_decl d) ds ≡ Some d → not (is_among asked.apart.now (key_of d)) ≡ true
+            → asks_for t us d ≡ true → words_have (words_by ds d) word ≡ true
+            → list_any (is_asker_at ds asked shelf) (under listings word) ≡ true
+        by (decls.Bean b) there apart asking has = listed-at ds shelf listings shelved exact sound distinct word (key_at kinds.Bean b.name)
+            (made_of_bean ds b) (is_asker_at ds asked shelf) (ap (λ o. option_map (made_of_bean ds) (as_bean o)) there) has
+            (λ s e kept key made. slot (decls.Bean b) there apart asking s e kept key)
+        by (decls.Interceptor i) there apart asking has = listed-at ds shelf listings shelved exact sound distinct word
+            (key_at kinds.Interceptor i.name) (made_of_interceptor (decls.Interceptor i)) (is_asker_at ds asked shelf)
+            (ap (option_map made_of_interceptor) there) has
+            (λ s e kept key made. slot (decls.Interceptor i) there apart asking s e kept key)
+        by (decls.Type d) there apart asking has = absurd (false≢true has)
+        by (decls.Qualifier d) there apart asking has = absurd (false≢true has)
+        by (decls.Binding d) there apart asking has = absurd (false≢true has)
+        by (decls.Stereotype d) there apart asking has = absurd (false≢true has)
+
+    pub askers-are : list_any (is_asker_at ds asked shelf) (under listings word) ≡ is_asked ds t us asked.apart.now
+    askers-are = same-bool (list_any (is_asker_at ds asked shelf) (under listings word)) (is_asked ds t us asked.apart.now) only back

@@ -1,0 +1,77 @@
+-- What a stage tells, and the declarations after it.
+use Rattle.std.proofs.Common.{◌≡◌, ℕ, suc, Bool, true, false, cond, ◌&&◌, List, [], ◌∷◌, map, Option, Some, None, refl, sym, ap, ◌∙◌}
+use Rattle.std.specs.List.{list_any}
+use Rattle.std.proofs.lemmas.Bool.{and_from, or_left, or_parts}
+use Rattle.cdi_model.specs.declared.decl.Decl.{Decl}
+use Rattle.cdi_model.specs.declared.decl.Kind.TheVariants as kinds
+use Rattle.cdi_model.specs.declared.key.DeclKey.{DeclKey}
+use Rattle.cdi_model.specs.DeclKey.{key_at, same_key}
+use Rattle.cdi_model.specs.DeclList.{AreDistinct}
+use Rattle.cdi_model.specs.Edits.{is_among}
+use Rattle.cdi_postings.specs.Listing.{Listing}
+use Rattle.cdi_index.specs.declared.change.Change.{Change}
+use Rattle.cdi_index.specs.declared.making.Made.{Made}
+use Rattle.cdi_index.specs.declared.shelf.Shelf.{Shelf}
+use Rattle.cdi_index.specs.Kept.{made_in, stored, IsExact, IsShelf, IsSound, Stored}
+use Rattle.cdi_index.specs.Made.{is_kept, made_of, reads}
+use Rattle.cdi_index.specs.Next.{applied, change_of, stored_as}
+use Rattle.cdi_index.specs.Replaced.{is_at_stake, lent, made_after, replaced_records}
+use Rattle.cdi_index.specs.Told.{Tells}
+use Rattle.cdi_index.proofs.AffectedLemmas.{hits, hit-parts}
+use Rattle.cdi_index.proofs.ChangeLemmas.{none-of}
+use Rattle.cdi_index.proofs.ReplacedLemmas.{flag-spared, lent-are, spared, unaffected}
+
+module _ (ds es : List Decl) (keys ks told : List DeclKey) (shelf : Shelf) (listings : List Listing) (distinct : AreDistinct ds)
+    (apart : AreDistinct es) (is : IsShelf shelf) (exact : IsExact ds (stored shelf)) (sound : IsSound (stored shelf) listings)
+    (others : (k : DeclKey) → list_any (same_key k) ks ≡ false → made_of es k ≡ made_of ds k)
+    (affected : (k : DeclKey) → list_any (same_key k) ks ≡ list_any (hits ds k) keys)
+    (at_stake : (k : DeclKey) → is_among told k ≡ is_at_stake shelf (map (change_of es) ks) k) where
+  none-at-stake : (k : DeclKey) → is_among told k ≡ false → is_at_stake shelf (map (change_of es) ks) k ≡ false
+  none-at-stake k none = sym (at_stake k) ∙ none
+
+  -- what is not told is not affected
+  not-hit : (k : DeclKey) → is_among told k ≡ false → list_any (hits ds k) keys ≡ false
+  not-hit k none = sym (affected k) ∙ unaffected ds es ks shelf listings distinct apart is exact sound others k (none-at-stake k none)
+
+  edited-told : (k : DeclKey) → is_kept k.kind ≡ true → is_among keys k ≡ true → is_among told k ≡ true
+  edited-told k kept among = by (is_among told k) refl
+    where
+      by : (b : Bool) → is_among told k ≡ b → b ≡ true
+      by true e = refl
+      by false e = sym (not-hit k e) ∙ hit-parts ds keys k
+          ∙ or_left (is_kept k.kind && is_among keys k) (list_any (reads (made_of ds k)) keys)
+          (and_from (is_kept k.kind) (is_among keys k) kept among)
+
+  pub tells : Tells ds es keys told
+  tells = record {
+    edited = edited-told;
+    apart = λ k none key among. none-of (reads (made_of ds k)) keys key
+        (or_parts (is_kept k.kind && is_among keys k) (list_any (reads (made_of ds k)) keys)
+        (sym (hit-parts ds keys k) ∙ not-hit k none)).1 among;
+    records = λ class none.
+        let k = key_at kinds.Bean class in
+        sym (lent-are es class)
+        ∙ ap (λ o. lent o (made_of es k)) (spared ds es ks shelf listings distinct apart is exact sound others k (none-at-stake k none))
+        ∙ ap (lent (replaced_records ds k))
+        (others k (unaffected ds es ks shelf listings distinct apart is exact sound others k (none-at-stake k none)))
+        ∙ lent-are ds class;
+    turned = λ class none. flag-spared ds es ks shelf listings distinct apart is exact sound others (key_at kinds.Bean class)
+        (none-at-stake (key_at kinds.Bean class) none);
+  }
+
+-- ---- after changes
+
+-- what is made of a declaration after changes is what is kept then
+pub made-applied : (n : ℕ) (cs : List Change) (m : DeclKey → Option Stored) (k : DeclKey)
+    → made_after cs (made_in (m k)) k ≡ made_in (applied n cs m k)
+made-applied n [] m k = refl
+made-applied n (c ∷ cs) m k = by (same_key c.key k) (made-applied (suc n) cs m k)
+  where
+    at : (o : Option Made) → o ≡ made_in (stored_as n (record { key = c.key; made = o }))
+    at None = refl
+    at (Some made) = refl
+
+    by : (b : Bool) → made_after cs (made_in (m k)) k ≡ made_in (applied (suc n) cs m k)
+        → cond b c.made (made_after cs (made_in (m k)) k) ≡ made_in (cond b (stored_as n c) (applied (suc n) cs m k))
+    by true more = at c.made
+    by false more = more

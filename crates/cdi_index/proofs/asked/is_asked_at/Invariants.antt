@@ -1,0 +1,8 @@
+use Rattle.std.proofs.Common.{◌≡◌, drop}
+use Rattle.std.specs.List.{list_any}
+use Rattle.cdi_index.specs.AskedAt.{is_asker_at}
+use Rattle.cdi_index.proofs.asked.is_asked_at.Given as goal
+
+abbrev pub invariant-loop-slot : goal.invariant-loop-slot
+invariant-loop-slot l = list_any (is_asker_at l.decls l.asked l.shelf) (drop l.slot-index l.slots)
+    ≡ list_any (is_asker_at l.decls l.asked l.shelf) l.slots

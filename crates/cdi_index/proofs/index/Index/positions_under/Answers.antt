@@ -1,0 +1,13 @@
+use Rattle.std.proofs.Common.{false, slice_get, ap, ◌∙◌}
+use Rattle.std.specs.Option.{option_map_or}
+use Rattle.cdi_index.specs.State.{State}
+use Rattle.cdi_index.specs.Under.{has_one}
+use Rattle.cdi_index.proofs.UnderLemmas.{marked-are}
+use Rattle.cdi_index.proofs.index.Index.positions_under.Goals as goal
+
+pub returns : goal.returns
+returns c p =
+    c.positions_under.ensures p
+    ∙ marked-are c.self.inside.decls c.self.inside.shelf c.self.inside.postings c.self.invariant.shelved c.self.invariant.exact
+    c.self.invariant.sound c.iter.ensures.distinct c.args.words.now p
+    ∙ ap (λ (s : State). option_map_or (has_one s.decls c.args.words.now) (slice_get s.decls p) false) c.self.view_is

@@ -1,0 +1,16 @@
+use Rattle.std.proofs.Common.{List, Some, sym, ap, ◌∙◌}
+use Rattle.std.specs.Option.{option_copied}
+use Rattle.cdi_model.specs.declared.decl.Decl.{Decl}
+use Rattle.cdi_effective.specs.Records.{records_in}
+use Rattle.cdi_index.specs.Under.{records_at}
+use Rattle.cdi_index.proofs.UnderLemmas.{records-of-bean}
+use Rattle.cdi_index.proofs.next_index.NextIndex.records_at.Goals as goal
+
+pub returns-in-Some-Bean : goal.returns-in-Some-Bean
+returns-in-Some-Bean c =
+    let ds = c.self.inside.next.now.decls in
+    c.records.ensures
+    ∙ ap (λ (d : List Decl). records_in d c.in-Some-Bean.bean.name) (sym c.self.view_is)
+    ∙ records-of-bean ds c.args.position c.in-Some-Bean.bean c.iter.ensures.distinct
+    (sym c.at.ensures ∙ ap option_copied c.in-Some-Bean.is ∙ ap Some c.in-Some-Bean.field-0-is)
+    ∙ ap (λ (d : List Decl). records_at d c.args.position) c.self.view_is
