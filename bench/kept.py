@@ -1,12 +1,12 @@
 """A plain model of known keys: which answers the container keeps over edits, and how many it has worked out.
 
-A key is a question whose answer may be kept: which bean is chosen for a type and qualifiers, which interceptors a place has, or
-which observer methods an event has. Declarations want the keys of their injection points, of the places of beans and of
-events. A command evaluates keys, and each of them that is not known is work. The wanted ones are known from then on, until
-an edit after which they see something else, or are not wanted.
+A key is a question whose answer may be kept: which bean is chosen for a type and qualifiers, which interceptors a place of a
+bean has, or which observer methods an event has. Declarations want the keys of their injection points, of the places of
+beans and of events. A command evaluates keys, and each of these that is not known is work. Those that are wanted are known
+from then on, until an edit after which they see something else or are not wanted.
 
-What a key sees is compared as a whole, before an edit and after it. It shares no code with the program. Declarations, beans,
-chains and observer methods are asked of the model in `bench/compare`, which uses it.
+What a key sees is compared as a whole, before an edit and after it. Nothing of this shares code with the program.
+Declarations, beans, bindings and types are asked of the model in `bench/compare`, which uses it.
 """
 
 from chains import CALLBACKS, places_of
@@ -124,7 +124,7 @@ class Kept:
         return found, [self.declared("qualifier", use[0]) for use in uses]
 
     def seen_by_chain(self, name, place):
-        """The bindings of the place, their declarations, and the interceptors with a part for it that have one of these types."""
+        """The bindings of the place, what declares them, and the interceptors with a part for it that have one of their types."""
         declaration = self.model.find("bean", name)
         if declaration is None or place not in places_of(declaration):
             return None
@@ -140,7 +140,7 @@ class Kept:
         return bindings, {use: self.declared("binding", use) for use in names}, around
 
     def seen_by_event(self, observers, name, uses):
-        """The observer methods of enabled beans that observe one of the event's types, and the declarations of its qualifiers."""
+        """The observer methods of enabled beans that observe a type of the event, and the declarations of its qualifiers."""
         types = self.model.types(name)
         found = [
             (bean, observer["name"], self.filled("qualifier", uses_of(observer.get("qualifiers", []))))
