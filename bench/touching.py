@@ -66,6 +66,9 @@ class Touching:
             return []
         if present[0]["kind"] in NAMESAKES and self.maybe(0.08):
             return [self.put(self.namesake(present[0])), *self.work(0.9)]
+        chained = [bean for bean in self.beans() if len(self.model.specialized.chain(bean)) > 1]
+        if chained and self.maybe(0.12):
+            return self.shared(self.chance.choice(chained))
         steps = [self.edit(present), *self.work(0.9)]
         for _ in range(self.chance.randint(0, 3)):
             steps += [self.question(), *self.work(0.5)]
@@ -91,7 +94,7 @@ class Touching:
         return put_block(text), self.model.put_text(text)
 
     def edit(self, present):
-        """A put or a drop of one declaration; or a batch in which all are changed, or changed and put back, or dropped and put again."""
+        """A put or a drop of one, or a batch in which all are changed, or changed and put back, or dropped and put again."""
         first, draw = present[0], self.chance.random()
         if len(present) == 1 and draw < 0.65:
             return self.put(self.changed(first))
@@ -110,6 +113,25 @@ class Touching:
         if self.maybe(0.5):
             self.chance.shuffle(drops)
         return batch(self.chance, self.model, drops + again)
+
+    def beans(self):
+        return [declaration for declaration in self.model.declarations if declaration["kind"] == "bean"]
+
+    def shared(self, bean):
+        """A bean and another one of its chain get one qualifier, written in one way or two, and lose it again."""
+        declared = [found for found in self.model.declarations if found["kind"] == "qualifier"]
+        members = {found["name"]: found.get("members", []) for found in declared}
+        steps, other = [], self.chance.choice(self.model.specialized.chain(bean)[1:])
+        if members:
+            name = self.chance.choice(list(members))
+            use = name, tuple((member["name"], 1) for member in members[name] if "default" not in member)
+            for declaration in (other, bean):
+                own = [kept for kept in declaration.get("qualifiers", []) if kept[0] != name] or [DEFAULT]
+                shared = {**declaration, "qualifiers": own + self.spelt_otherwise("qualifier", [use])}
+                steps += [self.put(shared), *self.work(0.8), ("report\n", self.model.kept.report()), *self.work(0.2)]
+            for declaration in (bean, other):
+                steps += [self.put(declaration), *self.work(0.9)]
+        return steps
 
     @staticmethod
     def namesake(declaration):
@@ -130,8 +152,7 @@ class Touching:
             "stereotype": [self.change_flags, self.change_flags, self.change_uses, self.change_spelling],
             "interceptor": [self.change_priority, self.change_uses, self.change_part, self.change_spelling],
             "bean": [self.change_uses, self.change_flags, self.change_spelling] * 2
-            + [self.change_priority, self.change_observer, self.change_event, self.change_order, self.change_entries]
-            + [self.change_inherited],
+            + [self.change_priority, self.change_observer, self.change_event, self.change_order, self.change_entries],
         }[declaration["kind"]]
         changed = copy.deepcopy(declaration)
         for _ in range(self.chance.choice([0, 1, 1, 1, 1, 2])):
@@ -225,15 +246,6 @@ class Touching:
             table.pop("priority", None)
         else:
             table["priority"] = self.chance.choice([-3, 0, 1, 2, 2500])
-
-    def change_inherited(self, bean):
-        """A qualifier that a bean has and another further on in its chain, written otherwise; or no such one any more."""
-        chain = self.model.specialized.chain(bean)[1:]
-        inherited = [use for further in chain for use in further.get("qualifiers", [])]
-        if inherited:
-            [use] = self.spelt_otherwise("qualifier", [self.chance.choice(inherited)])
-            others = [own for own in bean.get("qualifiers", []) if own[0] != use[0]]
-            bean["qualifiers"] = others + [use] * self.maybe(0.7)
 
     def change_observer(self, bean):
         """Another type, priority or condition of an observer method, if there is one."""
