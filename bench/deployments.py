@@ -238,9 +238,10 @@ class Planner:
 class Commander:
     """Random commands of a deployment, each with what the model answers."""
 
-    def __init__(self, chance, model, text_of_put):
+    def __init__(self, chance, model, text_of_put, touching):
         self.chance = chance
         self.model = model
+        self.touching = touching
         self.planner = Planner(chance)
         self.text_of_put = text_of_put
 
@@ -256,16 +257,17 @@ class Commander:
         steps = counted(self.chance, self.model, steps)
         if self.planner.maybe(0.02):
             steps += filling(self.model, 0)
-        steps.append(("report\n", self.model.report()))
+        steps.append(("report\n", self.model.kept.report()))
         if self.planner.interceptors:
             steps.extend(self.chain(name) for name in self.planner.names)
         changing = [found for found in beans if found["kind"] in ("bean", "interceptor")]
         # With as many declarations as there may be a run takes long where the program is checked as it runs.
         least, most = (3, 8) if is_full(self.model) else (10, 40)
         for _ in range(length * self.chance.randint(least, most)):
-            steps.append(self.command())
+            steps += [self.command(), *self.touching.work(0.2)]
             if self.chance.random() < (0.3 if self.model.runs.live else 0.05):
-                steps.extend(counted(self.chance, self.model, self.edits(changing)))
+                steps += [*counted(self.chance, self.model, self.edits(changing)), *self.touching.work(0.8)]
+            steps += self.touching.more()
         return steps
 
     def command(self):
@@ -282,7 +284,7 @@ class Commander:
         if draw < 0.28:
             return COUNTS, self.model.records.counts()
         if draw < 0.32:
-            return f"choose {name}{words}\n", self.model.choose(name, uses)
+            return f"choose {name}{words}\n", self.model.kept.choose(name, uses)
         if draw < 0.36:
             return self.chain(name)
         if draw < 0.55:
@@ -303,7 +305,7 @@ class Commander:
         if self.planner.maybe(0.03):
             name = "shop.Nowhere"
         if self.planner.maybe(0.2):
-            return line_of(["observers", name], uses), self.model.events.observers(name, uses)
+            return line_of(["observers", name], uses), self.model.kept.observers(name, uses)
         argument = self.chance.choice([None, 0, 5, -7, 2**63 - 1])
         word = "null" if argument is None else str(argument)
         return line_of(["fire", word, name], uses), self.model.runs.fire(argument, name, uses)
@@ -312,7 +314,7 @@ class Commander:
         """A question for a chain; a product has none."""
         methods, observers = ["method " + method for method in METHODS], ["observer on0"] * self.planner.has_events
         place = self.chance.choice(["construct", "post", "pre", *methods, *observers])
-        return f"chain {name} {place}\n", self.model.chains.chain(name, place)
+        return f"chain {name} {place}\n", self.model.kept.chain(name, place)
 
     def asked(self):
         """A type and qualifiers, most often those of one bean."""
@@ -351,7 +353,14 @@ class Commander:
             wrong = self.specializing_nothing(present)
         else:
             wrong = self.put(self.planner.faulty(present))
-        return [wrong, *(self.command() for _ in range(self.chance.randint(0, 2))), self.put(present)]
+        return [wrong, *self.commands(), self.put(present)]
+
+    def commands(self):
+        """A few commands between two edits."""
+        steps = self.touching.work(0.8)
+        for _ in range(self.chance.randint(0, 2)):
+            steps += [self.command(), *self.touching.work(0.2)]
+        return steps
 
     def batches(self, changing):
         """A batch that puts some of these declarations, a few of them anew. Some it first drops, or puts with a fault; a few
@@ -363,9 +372,7 @@ class Commander:
         puts = [self.text_of_put(after[place]) for place in chosen]
         wrong = [self.wrong(changing[place]) if self.planner.maybe(0.4) else "" for place in chosen]
         if any(wrong) and self.planner.maybe(0.25):
-            steps = [batch(self.chance, self.model, wrong)]
-            steps += [self.command() for _ in range(self.chance.randint(0, 2))]
-            steps += self.accepted(puts)
+            steps = [batch(self.chance, self.model, wrong), *self.commands(), *self.accepted(puts)]
         elif self.planner.maybe(0.5):
             steps = [batch(self.chance, self.model, wrong + puts)]
         else:

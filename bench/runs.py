@@ -7,6 +7,7 @@ into it, so each step of it is one time that the body is asked. `bench/compare` 
 
 from bodies import BODIES, Failed
 from chains import CALLBACKS
+from kept import choice_key, event_key
 from texts import DEFAULT, Event
 
 DEPTH, STEPS, STEPS_BEFORE_DESTRUCTION, BUDGET, LIVE = 32, 64, 8, 20_000, 1024
@@ -135,6 +136,7 @@ class Runs:
         refused = self.refusal_of_names(name, uses)
         if not refused and DEFAULT in uses:
             refused = "refused E51 UnknownName"
+        self.model.kept.run(None if refused else event_key(name, uses))
         if refused:
             return refused
         self.begin()
@@ -154,6 +156,7 @@ class Runs:
 
     def refusal(self, name, uses):
         refused = self.refusal_of_names(name, uses)
+        self.model.kept.run(None if refused else choice_key(name, uses))
         if refused:
             return refused
         answer = self.model.choose(name, uses)

@@ -9,6 +9,7 @@ from chains import PARTS as PARTS_OF_INTERCEPTORS
 from deployments import Commander
 from spoiling import spoiled
 from texts import ANY, DEFAULT, NOTIFIES, Event, line_of, text_of_declaration, text_of_put
+from touching import Touching
 
 TYPES = ["A", "B", "C", "D", "Shop", "x.Y"]
 QUALIFIERS = ["Q", "P", "a.R"]
@@ -35,10 +36,12 @@ KINDS = ["type"] * 3 + ["qualifier", "binding"] + ["stereotype"] * 2 + ["interce
 class Writer:
     """Random declarations, commands and their texts."""
 
-    def __init__(self, seed, new_model, length=1):
+    def __init__(self, seed, new_model, length=1, works=False):
         self.random = random.Random(seed)
         self.new_model = new_model
         self.length = length
+        # Whether scripts ask for the work.
+        self.works = works
         # Whether most types extend another, and most beans specialize.
         self.specializes = False
 
@@ -256,12 +259,12 @@ class Writer:
         if self.maybe(0.04):
             return COUNTS, model.records.counts()
         if self.maybe(0.3):
-            return "report\n", model.report()
+            return "report\n", model.kept.report()
         if self.maybe(0.35):
             return self.question_of_chain(model)
         if self.maybe(0.35):
             name, uses = self.type_of_event(), self.asked() + [DEFAULT] * self.maybe(0.1)
-            return line_of(["observers", name], uses), model.events.observers(name, uses)
+            return line_of(["observers", name], uses), model.kept.observers(name, uses)
         if self.maybe(0.25):
             name = self.random.choice(["a", "b", "c.d", "make", "p", "q", "shop", "y", "d", "c"])
             return f"name {name}\n", model.named(name)
@@ -269,7 +272,7 @@ class Writer:
         uses = [ANY] if self.maybe(0.25) else self.uses()
         if self.maybe(0.1):
             uses.append(("Named", self.random.choice(["a", "b", "make"])))
-        return line_of(["choose", name], uses), model.choose(name, uses)
+        return line_of(["choose", name], uses), model.kept.choose(name, uses)
 
     def question_of_chain(self, model):
         """A line that asks for a chain, most often around a place that a bean has."""
@@ -282,7 +285,7 @@ class Writer:
         if self.maybe(0.1):
             places = ["method gone", "producer p", "observer o"]
         place = self.random.choice(places)
-        return f"chain {name} {place}\n", model.chains.chain(name, place)
+        return f"chain {name} {place}\n", model.kept.chain(name, place)
 
     def run(self, model):
         """A line that runs something, or begins or ends a context, and its answer."""
@@ -304,15 +307,18 @@ class Writer:
         """The lines, put blocks and batches of a script, and their answers; half of the scripts are of a sound deployment, and
         the end of a few cuts what it ends with."""
         model = self.new_model()
-        if self.maybe(0.5):
-            steps = Commander(self.random, model, text_of_put).script(self.length)
+        is_sound = self.maybe(0.5)
+        touching = Touching(self.random, model, self.works, is_sound)
+        if is_sound:
+            steps = Commander(self.random, model, text_of_put, touching).script(self.length)
         else:
-            steps = self.random_script(model)
+            steps = self.random_script(model, touching)
+        steps += touching.work(0.5)
         if self.maybe(0.15):
             steps.append(cut_off(self.random, model, self.edits(model)))
         return steps
 
-    def random_script(self, model):
+    def random_script(self, model, touching):
         """Half of these scripts begin with bindings and interceptors, so that their chains are seldom empty. A third begin with
         types that extend one another, often in circles, and with beans of these that specialize. In a few there are almost as
         many declarations as there may be.
@@ -327,7 +333,10 @@ class Writer:
         if self.maybe(0.02):
             steps += counted(self.random, model, filling(model, self.random.randint(0, 6)))
         for _ in range(self.length * self.random.randint(5, 25)):
-            steps.extend(counted(self.random, model, [self.edit(model)]))
-            steps.extend(self.question(model) for _ in range(self.random.randint(0, 4)))
-            steps.extend(self.run(model) for _ in range(self.random.randint(0, 1)))
+            steps += [*counted(self.random, model, [self.edit(model)]), *touching.work(0.7)]
+            for _ in range(self.random.randint(0, 4)):
+                steps += [self.question(model), *touching.work(0.2)]
+            for _ in range(self.random.randint(0, 1)):
+                steps += [self.run(model), *touching.work(0.3)]
+            steps += touching.more()
         return steps
