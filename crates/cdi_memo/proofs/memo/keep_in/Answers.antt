@@ -1,4 +1,4 @@
-use Rattle.std.proofs.Common.{◌≡◌, not, cond, Some, sym, ap, ◌∙◌, subst}
+use Rattle.std.proofs.Common.{not, cond, Some, sym, ap, ◌∙◌, subst}
 use Rattle.std.specs.Map.{lookup}
 use Rattle.std.specs.Option.{IsSome, is_some, option_copied_mut}
 use Rattle.std.specs.Str.{bytes_eq}

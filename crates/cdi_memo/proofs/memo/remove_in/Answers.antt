@@ -1,4 +1,4 @@
-use Rattle.std.proofs.Common.{◌≡◌, cond, Some, None, sym, ap, ◌∙◌}
+use Rattle.std.proofs.Common.{cond, Some, None, sym, ap, ◌∙◌}
 use Rattle.std.specs.Map.{lookup}
 use Rattle.std.specs.Option.{IsSome, is_some, option_copied_mut}
 use Rattle.std.specs.Str.{bytes_eq}

@@ -1,4 +1,4 @@
-use Rattle.std.proofs.Common.{◌≡◌, not, sym, ap, ◌∙◌, arith}
+use Rattle.std.proofs.Common.{not, sym, ap, ◌∙◌, arith}
 use Rattle.cdi_memo.specs.Answers.{answers_in, is_kept}
 use Rattle.cdi_memo.proofs.ChangeLemmas.{turned}
 use Rattle.cdi_memo.proofs.QuestionLemmas.{count-more, count-put}
