@@ -31,11 +31,11 @@ use cdi_faults::Fault;
 use cdi_index::{Counts, Draft, Index};
 use cdi_intercept::chain_of;
 use cdi_lines::Edit;
-use cdi_questions::{IndexView, choose, choose_name, observers};
 use cdi_model::{
     BeanPlace, Edit as Change, Error, Iter as DeclIter, Name, Quals, Refusal, Seq, Work,
 };
 use cdi_observe::ObserverId;
+use cdi_questions::{IndexView, choose, choose_name, observers};
 use cdi_resolve::{BeanList, Choice};
 use cdi_run::Player;
 use cdi_scene::{Notified, Scene};
