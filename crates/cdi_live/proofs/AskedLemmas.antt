@@ -1,0 +1,133 @@
+-- A choice is asked for after edits by a declaration that is not edited, or by one that is.
+use Rattle.std.proofs.Common.{◌≡◌, ℕ, Bool, true, false, not, ◌&&◌, ◌||◌, List, [], ◌∷◌, flat_map, Option, Some, None, refl, sym, ap, ◌∙◌}
+use Rattle.std.proofs.Common.{inl, inr}
+use Rattle.std.specs.List.{list_any}
+use Rattle.std.specs.Option.{option_map_or}
+use Rattle.std.proofs.lemmas.Bool.{and_from, and_parts, false≢true, or_cases, or_left, or_right}
+use Rattle.std.proofs.lemmas.List.Folds.{list_any-append}
+use Rattle.cdi_model.specs.declared.decl.Decl.{Decl}
+use Rattle.cdi_model.specs.declared.edit.Edit.{Edit}
+use Rattle.cdi_model.specs.declared.key.DeclKey.{DeclKey}
+use Rattle.cdi_model.specs.declared.quals.Qual.{Qual}
+use Rattle.cdi_model.specs.Decl.{key_of, kind_of, name_of_decl}
+use Rattle.cdi_model.specs.DeclKey.{same_key}
+use Rattle.cdi_model.specs.DeclList.{find_decl, AreDistinct}
+use Rattle.cdi_model.specs.Edits.{edited_all, edited_keys, is_among}
+use Rattle.cdi_model.specs.Mentions.{mentions, Mention, BodyOf, CallOf, EventOf, MethodOf, PointOf, StereotypeOf, TypeIn, UseOf}
+use Rattle.cdi_model.proofs.EditLemmas.{edits_keep_decl}
+use Rattle.cdi_model.proofs.EntryLemmas.{key_exact}
+use Rattle.cdi_index.specs.Asked.{asks_at, asks_for, asks_in, is_asked, is_asked_by}
+use Rattle.cdi_observe.specs.Keys.{ChoiceKey, same_key as same_question}
+use Rattle.cdi_observe.specs.Wanted.{is_wanted, is_wanted_choice, key_of_point, point_named, points_of}
+use Rattle.cdi_observe.proofs.WantedLemmas.{wanted_stand_once}
+use Rattle.cdi_stakes.specs.Rests.{IsPresent}
+use Rattle.cdi_stakes.proofs.PresentLemmas.{all_present, found_any, witness}
+use Rattle.cdi_live.specs.Dropped.{is_asked_after}
+
+pub same-bool : (a b : Bool) → (a ≡ true → b ≡ true) → (b ≡ true → a ≡ true) → a ≡ b
+same-bool true b f g = sym (f refl)
+same-bool false true f g = g refl
+same-bool false false f g = refl
+
+pub any-elim : {X B : Type 0} (p : X → Bool) (xs : List X) → list_any p xs ≡ true → ((x : X) → p x ≡ true → B) → B
+any-elim {B = B} p [] e f = absurd (false≢true e)
+any-elim {B = B} p (x ∷ xs) e f = elim (or_cases (p x) (list_any p xs) e) [
+  | inl here ↦ f x here
+  | inr there ↦ any-elim p xs there f
+]
+
+pub any-same : {X : Type 0} (p q : X → Bool) (xs : List X) → ((x : X) → p x ≡ q x) → list_any p xs ≡ list_any q xs
+any-same p q [] same = refl
+any-same p q (x ∷ xs) same = λ i. same x i || any-same p q xs same i
+
+-- a test that is true of a key is true of one among keys that have it
+pub any-among : (p : DeclKey → Bool) (keys : List DeclKey) (k : DeclKey) → is_among keys k ≡ true → p k ≡ true → list_any p keys ≡ true
+any-among p [] k among h = absurd (false≢true among)
+any-among p (l ∷ keys) k among h = elim (or_cases (same_key l k) (is_among keys k) among) [
+  | inl here ↦ or_left (p l) (list_any p keys) (ap p (key_exact l k here) ∙ h)
+  | inr there ↦ or_right (p l) (list_any p keys) (any-among p keys k there h)
+]
+
+module _ (t : List ℕ) (us : List Qual) where
+  -- a declaration asks where a point of it does
+  at-point : (m : Mention) → list_any (λ point. same_question (ChoiceKey t us) (key_of_point point)) (point_named m) ≡ asks_in t us m
+  at-point (PointOf place point) = or-none (asks_in t us (PointOf place point))
+    where
+      or-none : (b : Bool) → (b || false) ≡ b
+      or-none true = refl
+      or-none false = refl
+  at-point (TypeIn place x) = refl
+  at-point (UseOf kind u) = refl
+  at-point (StereotypeOf s) = refl
+  at-point (MethodOf m) = refl
+  at-point (BodyOf place body) = refl
+  at-point (CallOf place params call) = refl
+  at-point (EventOf e) = refl
+
+  at-points : (ms : List Mention)
+      → list_any (λ point. same_question (ChoiceKey t us) (key_of_point point)) (flat_map point_named ms) ≡ list_any (asks_in t us) ms
+  at-points [] = refl
+  at-points (m ∷ ms) =
+      list_any-append (λ point. same_question (ChoiceKey t us) (key_of_point point)) (point_named m) (flat_map point_named ms)
+      ∙ ap (λ b. b || list_any (λ point. same_question (ChoiceKey t us) (key_of_point point)) (flat_map point_named ms)) (at-point m)
+      ∙ ap (λ b. asks_in t us m || b) (at-points ms)
+
+  asks-is : (d : Decl) → list_any (λ point. same_question (ChoiceKey t us) (key_of_point point)) (points_of d) ≡ asks_for t us d
+  unfolding asks_for
+  asks-is d = at-points (mentions d)
+
+  -- the choice is wanted where a declaration asks for it
+  pub wanted-is : (ds : List Decl) → is_wanted ds (ChoiceKey t us) ≡ list_any (asks_for t us) ds
+  unfolding is_wanted_choice
+  wanted-is ds =
+      sym ((wanted_stand_once ds).within (ChoiceKey t us))
+      ∙ any-same (λ d. list_any (λ point. same_question (ChoiceKey t us) (key_of_point point)) (points_of d)) (asks_for t us) ds asks-is
+
+  module _ (edits : List Edit) (ds : List Decl) (distinct : AreDistinct ds) (apart : AreDistinct (edited_all ds edits)) where
+    abbrev es : List Decl
+    es = edited_all ds edits
+
+    abbrev keys : List DeclKey
+    keys = edited_keys edits
+
+    abbrev others : Decl → Bool
+    others d = not (is_among keys (key_of d)) && asks_for t us d
+
+    un-not : (b : Bool) → not b ≡ true → b ≡ false
+    un-not true h = absurd (false≢true h)
+    un-not false h = refl
+
+    -- a declaration that is not edited is found before where it is found after
+    stays : (d : Decl) → is_among keys (key_of d) ≡ false → find_decl (kind_of d) (name_of_decl d) es ≡ find_decl (kind_of d) (name_of_decl d) ds
+    stays d none = edits_keep_decl edits ds (kind_of d) (name_of_decl d) none
+
+    asked : is_asked_after ds es keys t us ≡ true → list_any (asks_for t us) es ≡ true
+    asked h = elim (or_cases (is_asked ds t us keys) (is_asked_by es keys t us) h) [
+      | inl other ↦
+          let it = witness (IsPresent ds) others ds (all_present ds distinct) other in
+          let parts = and_parts (not (is_among keys (key_of it.0))) (asks_for t us it.0) it.2 in
+          found_any (kind_of it.0) (name_of_decl it.0) es it.0 (asks_for t us)
+          (stays it.0 (un-not (is_among keys (key_of it.0)) parts.0) ∙ it.1) parts.1
+      | inr own ↦ any-elim (asks_at es t us) keys own (λ k asks. by k (find_decl k.kind k.name es) refl asks)
+    ]
+      where
+        by : (k : DeclKey) (o : Option Decl) → find_decl k.kind k.name es ≡ o → option_map_or (asks_for t us) o false ≡ true
+            → list_any (asks_for t us) es ≡ true
+        by k None there none = absurd (false≢true none)
+        by k (Some d) there asks = found_any k.kind k.name es d (asks_for t us) there asks
+
+    asks : list_any (asks_for t us) es ≡ true → is_asked_after ds es keys t us ≡ true
+    asks h =
+        let it = witness (IsPresent es) (asks_for t us) es (all_present es apart) h in
+        by it.0 it.1 it.2 (is_among keys (key_of it.0)) refl
+      where
+        by : (d : Decl) → IsPresent es d → asks_for t us d ≡ true → (b : Bool) → is_among keys (key_of d) ≡ b
+            → is_asked_after ds es keys t us ≡ true
+        by d there asking true among = or_right (is_asked ds t us keys) (is_asked_by es keys t us)
+            (any-among (asks_at es t us) keys (key_of d) among (ap (λ o. option_map_or (asks_for t us) o false) there ∙ asking))
+        by d there asking false none = or_left (is_asked ds t us keys) (is_asked_by es keys t us)
+            (found_any (kind_of d) (name_of_decl d) ds d others (sym (stays d none) ∙ there)
+            (and_from (not (is_among keys (key_of d))) (asks_for t us d) (ap not none) asking))
+
+    pub asked-after : is_asked_after ds es keys t us ≡ is_wanted es (ChoiceKey t us)
+    asked-after = same-bool (is_asked_after ds es keys t us) (list_any (asks_for t us) es) asked asks ∙ sym (wanted-is es)

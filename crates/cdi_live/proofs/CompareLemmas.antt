@@ -1,0 +1,173 @@
+-- The beans of a type after edits are those of marked declarations.
+use Rattle.std.proofs.Common.{◌≡◌, ◌+◌, ℕ, zero, suc, nat_eq, Bool, true, false, cond, ◌||◌, List, [], ◌∷◌, ◌++◌, flat_map, filter, Option, Some, None}
+use Rattle.std.proofs.Common.{position, slice_get, refl, sym, ap, ◌∙◌, arith}
+use Rattle.std.specs.List.{list_any}
+use Rattle.std.specs.Option.{option_map_or}
+use Rattle.std.proofs.lemmas.Bool.{false≢true, or_left, or_parts, or_right}
+use Rattle.std.proofs.lemmas.Cmp.{nat_eq_equiv}
+use Rattle.std.proofs.lemmas.List.Elements.{filter-append}
+use Rattle.cdi_model.specs.declared.decl.Decl.{Decl}
+use Rattle.cdi_model.specs.declared.decl.Decl.TheVariants as decls
+use Rattle.cdi_model.specs.declared.decl.Kind.TheVariants as kinds
+use Rattle.cdi_model.specs.declared.key.DeclKey.{DeclKey}
+use Rattle.cdi_model.specs.Decl.{key_of, kind_of, name_of_decl}
+use Rattle.cdi_model.specs.DeclKey.{key_at, same_key}
+use Rattle.cdi_model.specs.DeclList.{find_decl, is_of, AreDistinct}
+use Rattle.cdi_model.specs.Edits.{is_among}
+use Rattle.cdi_model.proofs.EditLemmas.{edits_keep_decl}
+use Rattle.cdi_model.proofs.EntryLemmas.{key_exact}
+use Rattle.cdi_model.proofs.PositionLemmas.{position-found, position-there}
+use Rattle.cdi_match.specs.Chain.{has}
+use Rattle.cdi_effective.specs.Beans.{beans, entries}
+use Rattle.cdi_effective.proofs.PlaceLemmas.{own-found, own-position}
+use Rattle.cdi_postings.specs.declared.word.Reason.TheVariants as reasons
+use Rattle.cdi_postings.specs.Words.{word_at}
+use Rattle.cdi_positions.specs.Marks.{is_marked, marked_from}
+use Rattle.cdi_index.specs.Under.{has_one, records_at}
+use Rattle.cdi_index.proofs.SoughtLemmas.{none-of-type}
+use Rattle.cdi_index.proofs.UnderLemmas.{records-of-bean}
+use Rattle.cdi_live.specs.Compared.{is_at, is_place_of_one, IsBetween}
+use Rattle.cdi_live.specs.declared.sides.Sides.{Sides}
+
+-- ---- where the others give nothing
+
+module _ {X Y : Type 0} (f : X → List Y) (q : Y → Bool) (all : List X) where
+  abbrev found_at : ℕ → List Y
+  found_at p = option_map_or f (slice_get all p) []
+
+  none-there : (n : ℕ) (marks : List Bool) → ((i : ℕ) → slice_get all (n + i) ≡ None) → filter q (flat_map found_at (marked_from n marks)) ≡ []
+  none-there n [] none = refl
+  none-there n (m ∷ ms) none = by m (none-there (n + 1) ms (λ i. ap (slice_get all) (omega arith) ∙ none (suc i)))
+    where
+      first : found_at n ≡ []
+      first = ap (λ o. option_map_or f o []) (ap (slice_get all) (omega arith) ∙ none 0)
+
+      by : (b : Bool) → filter q (flat_map found_at (marked_from (n + 1) ms)) ≡ []
+          → filter q (flat_map found_at (cond b (n ∷ marked_from (n + 1) ms) (marked_from (n + 1) ms))) ≡ []
+      by true rest = ap (λ ys. filter q (ys ++ flat_map found_at (marked_from (n + 1) ms))) first ∙ rest
+      by false rest = rest
+
+  none-given : (xs : List X) → ((i : ℕ) (x : X) → slice_get xs i ≡ Some x → filter q (f x) ≡ []) → filter q (flat_map f xs) ≡ []
+  none-given [] none = refl
+  none-given (x ∷ xs) none = filter-append q (f x) (flat_map f xs)
+      ∙ ap (λ ys. ys ++ filter q (flat_map f xs)) (none 0 x refl) ∙ none-given xs (λ i. none (suc i))
+
+  gather : (n : ℕ) (marks : List Bool) (xs : List X) → ((i : ℕ) → slice_get all (n + i) ≡ slice_get xs i)
+      → ((i : ℕ) (x : X) → slice_get xs i ≡ Some x → is_marked marks i ≡ false → filter q (f x) ≡ [])
+      → filter q (flat_map found_at (marked_from n marks)) ≡ filter q (flat_map f xs)
+  gather n [] xs here others = sym (none-given xs (λ i x there. others i x there refl))
+  gather n (m ∷ ms) [] here others = none-there n (m ∷ ms) here
+  gather n (m ∷ ms) (x ∷ xs) here others =
+      by m refl (gather (n + 1) ms xs (λ i. ap (slice_get all) (omega arith) ∙ here (suc i)) (λ i y there none. others (suc i) y there none))
+    where
+      first : found_at n ≡ f x
+      first = ap (λ o. option_map_or f o []) (ap (slice_get all) (omega arith) ∙ here 0)
+
+      by : (b : Bool) → m ≡ b → filter q (flat_map found_at (marked_from (n + 1) ms)) ≡ filter q (flat_map f xs)
+          → filter q (flat_map found_at (cond b (n ∷ marked_from (n + 1) ms) (marked_from (n + 1) ms))) ≡ filter q (f x ++ flat_map f xs)
+      by true e rest =
+          filter-append q (found_at n) (flat_map found_at (marked_from (n + 1) ms))
+          ∙ ap (λ ys. filter q ys ++ filter q (flat_map found_at (marked_from (n + 1) ms))) first
+          ∙ ap (λ ys. filter q (f x) ++ ys) rest ∙ sym (filter-append q (f x) (flat_map f xs))
+      by false e rest =
+          rest ∙ ap (λ ys. ys ++ filter q (flat_map f xs)) (sym (others 0 x refl e)) ∙ sym (filter-append q (f x) (flat_map f xs))
+
+-- so the beans of a type at marked positions are all
+pub gathered : (es : List Decl) (t : List ℕ) (marks : List Bool)
+    → ((p : ℕ) (d : Decl) → slice_get es p ≡ Some d → is_marked marks p ≡ false → filter (λ b. has b.types t) (entries es d) ≡ [])
+    → filter (λ b. has b.types t) (flat_map (records_at es) (marked_from 0 marks)) ≡ filter (λ b. has b.types t) (beans es)
+unfolding beans
+gathered es t marks others = gather (entries es) (λ b. has b.types t) es 0 marks es (λ i. ap (slice_get es) (omega arith)) others
+
+-- ---- who is marked
+
+-- a marked position is among the marked ones
+among-marked : (test : ℕ → Bool) (n : ℕ) (marks : List Bool) (i : ℕ) → is_marked marks i ≡ true → test (n + i) ≡ true
+    → list_any test (marked_from n marks) ≡ true
+among-marked test n [] i marked h = absurd (false≢true marked)
+among-marked test n (m ∷ ms) zero marked h = by m marked
+  where
+    by : (b : Bool) → b ≡ true → list_any test (cond b (n ∷ marked_from (n + 1) ms) (marked_from (n + 1) ms)) ≡ true
+    by true e = or_left (test n) (list_any test (marked_from (n + 1) ms)) (ap test (omega arith) ∙ h)
+    by false e = absurd (false≢true e)
+among-marked test n (m ∷ ms) (suc i) marked h = by m (among-marked test (n + 1) ms i marked (ap test (omega arith) ∙ h))
+  where
+    by : (b : Bool) → list_any test (marked_from (n + 1) ms) ≡ true
+        → list_any test (cond b (n ∷ marked_from (n + 1) ms) (marked_from (n + 1) ms)) ≡ true
+    by true more = or_right (test n) (list_any test (marked_from (n + 1) ms)) more
+    by false more = more
+
+-- a key among others passes what is true of it
+among-any : (p : DeclKey → Bool) (keys : List DeclKey) (k : DeclKey) → list_any p keys ≡ false → p k ≡ true → is_among keys k ≡ false
+among-any p [] k none h = refl
+among-any p (l ∷ keys) k none h =
+    let parts = or_parts (p l) (list_any p keys) none in by (same_key l k) refl parts.0 (among-any p keys k parts.1 h)
+  where
+    by : (b : Bool) → same_key l k ≡ b → p l ≡ false → is_among keys k ≡ false → (b || is_among keys k) ≡ false
+    by true e f more = absurd (false≢true (sym f ∙ ap p (key_exact l k e) ∙ h))
+    by false e f more = more
+
+itself : (n : ℕ) → nat_eq n n ≡ true
+itself n = nat_eq_equiv.refl n
+
+module _ (sides : Sides) (between : IsBetween sides) (distinct : AreDistinct sides.index.now.decls) (apart : AreDistinct sides.next.now)
+    (t : List ℕ) (before : List Bool)
+    (found : (p : ℕ) → is_marked before p ≡ option_map_or (has_one sides.index.now.decls (word_at reasons.HasType t ∷ []))
+    (slice_get sides.index.now.decls p) false) where
+  abbrev ds : List Decl
+  ds = sides.index.now.decls
+
+  abbrev es : List Decl
+  es = sides.next.now
+
+  -- the declaration at a position is there
+  at-own : (p : ℕ) (d : Decl) → slice_get es p ≡ Some d → is_at es (key_of d) p ≡ true
+  at-own p d there = ap (λ o. option_map_or (λ i. nat_eq i p) o false) (own-position es p d apart there) ∙ itself p
+
+  -- where a bean declaration is found
+  placed : (o : Option ℕ) (d : Decl) → position (is_of (kind_of d) (name_of_decl d)) ds ≡ o → find_decl (kind_of d) (name_of_decl d) ds ≡ Some d
+      → (q : ℕ) × (slice_get ds q ≡ Some d)
+  placed None d none there = absurd (false≢true (ap is_there (sym none) ∙ position-found (kind_of d) (name_of_decl d) ds ∙ ap is_there there))
+    where
+      is_there : {X : Type 0} → Option X → Bool
+      is_there None = false
+      is_there (Some x) = true
+  placed (Some q) d at there = (q, position-there (kind_of d) (name_of_decl d) ds q at ∙ there)
+
+  pub unmarked : (p : ℕ) (d : Decl) → slice_get es p ≡ Some d
+      → (list_any (λ q. is_place_of_one ds es q p) (marked_from 0 before) || list_any (λ k. is_at es k p) sides.affected.now) ≡ false
+      → filter (λ b. has b.types t) (entries es d) ≡ []
+  unmarked p (decls.Bean b) there none =
+      let k = key_at kinds.Bean b.name in
+      let parts = or_parts (list_any (λ q. is_place_of_one ds es q p) (marked_from 0 before)) (list_any (λ k. is_at es k p) sides.affected.now) none in
+      let untold : is_among sides.affected.now k ≡ false =
+      among-any (λ k. is_at es k p) sides.affected.now k parts.1 (at-own p (decls.Bean b) there) in
+      let unedited : is_among sides.edited.now k ≡ false = not-edited (is_among sides.edited.now k) refl untold in
+      let same : find_decl kinds.Bean b.name ds ≡ Some (decls.Bean b) =
+      sym (edits_keep_decl between.edited.edits ds kinds.Bean b.name (ap (λ ks. is_among ks k) (sym between.edited.keys) ∙ unedited))
+      ∙ ap (find_decl kinds.Bean b.name) (sym between.edited.decls) ∙ own-found es p (decls.Bean b) apart there in
+      let here = placed (position (is_of kinds.Bean b.name) ds) (decls.Bean b) refl same in
+      let records : entries es (decls.Bean b) ≡ entries ds (decls.Bean b) =
+      ap (λ o. option_map_or (entries es) o []) (sym there) ∙ sym (records-of-bean es p b apart there)
+      ∙ between.told.records b.name untold ∙ records-of-bean ds here.0 b distinct here.1
+      ∙ ap (λ o. option_map_or (entries ds) o []) here.1 in
+      ap (filter (λ x. has x.types t)) records ∙ none-of-type ds (decls.Bean b) t
+      (without (has_one ds (word_at reasons.HasType t ∷ []) (decls.Bean b)) refl here.0 here.1 parts.0)
+    where
+      not-edited : (c : Bool) → is_among sides.edited.now (key_at kinds.Bean b.name) ≡ c
+          → is_among sides.affected.now (key_at kinds.Bean b.name) ≡ false → c ≡ false
+      not-edited false e untold = refl
+      not-edited true e untold = absurd (false≢true (sym untold ∙ between.told.edited (key_at kinds.Bean b.name) refl e))
+
+      without : (c : Bool) → has_one ds (word_at reasons.HasType t ∷ []) (decls.Bean b) ≡ c → (q : ℕ) → slice_get ds q ≡ Some (decls.Bean b)
+          → list_any (λ q. is_place_of_one ds es q p) (marked_from 0 before) ≡ false → c ≡ false
+      without false e q at none = refl
+      without true e q at none = absurd (false≢true (sym none ∙ among-marked (λ q. is_place_of_one ds es q p) 0 before q
+          (found q ∙ ap (λ o. option_map_or (has_one ds (word_at reasons.HasType t ∷ [])) o false) at ∙ e)
+          (ap (λ n. is_place_of_one ds es n p) (omega arith) ∙ ap (λ o. option_map_or (λ d. is_at es (key_of d) p) o false) at
+          ∙ at-own p (decls.Bean b) there)))
+  unmarked p (decls.Type d) there none = refl
+  unmarked p (decls.Qualifier d) there none = refl
+  unmarked p (decls.Binding d) there none = refl
+  unmarked p (decls.Stereotype d) there none = refl
+  unmarked p (decls.Interceptor d) there none = refl

@@ -1,0 +1,6 @@
+mod AskedLemmas
+mod CompareLemmas
+mod SuspectLemmas
+mod GoneLemmas
+mod LiveLemmas
+mod PartLemmas

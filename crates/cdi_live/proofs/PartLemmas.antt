@@ -1,0 +1,55 @@
+-- The parts of a name, one after another.
+use Rattle.std.proofs.Common.{◌≡◌, ◌<◌, ◌+◌, ℕ, zero, suc, Bool, true, false, ◌&&◌, ◌||◌, List, [], ◌∷◌, take, length, slice_get, Option, Some, None, is_some}
+use Rattle.std.proofs.Common.{refl, sym, ap, ◌∙◌, arith}
+use Rattle.std.specs.List.{list_any}
+use Rattle.std.specs.Option.{option_copied}
+use Rattle.std.specs.Borrow.{Bor}
+use Rattle.std.proofs.lemmas.Bool.{false≢true}
+
+-- one part more
+any-after : {X : Type 0} (f : X → Bool) (xs : List X) (i : ℕ) (x : X) → slice_get xs i ≡ Some x
+    → list_any f (take (suc i) xs) ≡ (list_any f (take i xs) || f x)
+any-after f [] i x at = absurd (let no : None ≡ Some x = at in cc)
+any-after f (y ∷ ys) zero x at = let one : y ≡ x = cc in ap (λ z. f z || false) one ∙ or-none (f x)
+  where
+    or-none : (b : Bool) → (b || false) ≡ b
+    or-none true = refl
+    or-none false = refl
+any-after f (y ∷ ys) (suc i) x at = ap (λ b. f y || b) (any-after f ys i x at) ∙ grouped (f y) (list_any f (take i ys)) (f x)
+  where
+    grouped : (a b c : Bool) → (a || (b || c)) ≡ ((a || b) || c)
+    grouped true b c = refl
+    grouped false b c = refl
+
+pub any-next : {X : Type 0} (f : X → Bool) (xs : List X) (i : ℕ) (x : X) → slice_get xs i ≡ Some x
+    → list_any f (take (i + 1) xs) ≡ (list_any f (take i xs) || f x)
+any-next f xs i x at =
+    let same : i + 1 ≡ suc i = omega arith in
+    ap (λ n. list_any f (take n xs)) same ∙ any-after f xs i x at
+
+-- no part is left
+pub take-whole : {X : Type 0} (xs : List X) (i : ℕ) → slice_get xs i ≡ None → take i xs ≡ xs
+take-whole [] zero none = refl
+take-whole [] (suc i) none = refl
+take-whole (x ∷ xs) zero none = absurd (let no : Some x ≡ None = none in cc)
+take-whole (x ∷ xs) (suc i) none = ap (λ ys. x ∷ ys) (take-whole xs i none)
+
+pub within : {X : Type 0} (xs : List X) (i : ℕ) (x : X) → slice_get xs i ≡ Some x → i < length xs
+within [] i x at = absurd (let no : None ≡ Some x = at in cc)
+within (y ∷ ys) zero x at = omega arith
+within (y ∷ ys) (suc i) x at = omega (arith, within ys i x at)
+
+pub regroup : (g b l x : Bool) → ((g || (b && l)) || (b && x)) ≡ (g || (b && (l || x)))
+regroup true b l x = refl
+regroup false true l x = refl
+regroup false false l x = refl
+
+pub nothing-more : (g b : Bool) → g ≡ (g || (b && false))
+nothing-more true b = refl
+nothing-more false true = refl
+nothing-more false false = refl
+
+-- nothing is lent
+pub none-copied : {X : Type 0} (o : Option (Bor X)) → is_some o ≡ false → option_copied o ≡ None
+none-copied None e = refl
+none-copied (Some x) e = absurd (false≢true (sym e))

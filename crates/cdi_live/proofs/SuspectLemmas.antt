@@ -1,0 +1,359 @@
+-- Choices for types that are not suspect see the same after edits.
+use Rattle.std.proofs.Common.{◌≡◌, ℕ, Bool, true, false, cond, ◌&&◌, ◌||◌, List, [], ◌∷◌, ◌++◌, map, flat_map, filter}
+use Rattle.std.proofs.Common.{refl, sym, ap, ◌∙◌, inl, inr}
+use Rattle.std.specs.List.{list_all, list_any}
+use Rattle.std.specs.Option.{option_to_list}
+use Rattle.std.specs.Str.{bytes_eq}
+use Rattle.std.proofs.lemmas.Bool.{and_from, and_parts, false≢true, or_cases, or_left, or_parts, or_right}
+use Rattle.std.proofs.lemmas.List.Folds.{list_any-append}
+use Rattle.cdi_model.specs.declared.decl.BeanDecl.{BeanDecl}
+use Rattle.cdi_model.specs.declared.decl.Decl.{Decl}
+use Rattle.cdi_model.specs.declared.decl.Decl.TheVariants as decls
+use Rattle.cdi_model.specs.declared.decl.Kind.TheVariants as kinds
+use Rattle.cdi_model.specs.declared.edit.Edit.{Edit}
+use Rattle.cdi_model.specs.declared.key.DeclKey.{DeclKey}
+use Rattle.cdi_model.specs.declared.quals.Qual.{Qual}
+use Rattle.cdi_model.specs.Decl.{key_of, kind_of, name_of_decl}
+use Rattle.cdi_model.specs.DeclKey.{key_at, same_key}
+use Rattle.cdi_model.specs.DeclList.{AreDistinct}
+use Rattle.cdi_model.specs.Edits.{edited_all, edited_keys, is_among, Avoid}
+use Rattle.cdi_model.specs.Mentions.{mentions, Mention, BodyOf, CallOf, EventOf, MethodOf, PointOf, StereotypeOf, TypeIn, UseOf}
+use Rattle.cdi_model.specs.SameUse.{same_quals, same_quals-decides}
+use Rattle.cdi_model.proofs.EditLemmas.{edits_keep_decl}
+use Rattle.cdi_model.proofs.EntryLemmas.{key_exact}
+use Rattle.cdi_match.specs.Chain.{has}
+use Rattle.cdi_match.proofs.Names.{bytes_eq-turned}
+use Rattle.cdi_effective.specs.Beans.{entries, own_records, records}
+use Rattle.cdi_effective.specs.Disposers.{as_bean}
+use Rattle.cdi_effective.specs.Qualifiers.{required}
+use Rattle.cdi_effective.specs.Reads.{qualifier_reads}
+use Rattle.cdi_effective.specs.Records.{records_declared, records_in}
+use Rattle.cdi_effective.specs.declared.records.Effective.{Effective}
+use Rattle.cdi_postings.specs.declared.word.Reason.TheVariants as reasons
+use Rattle.cdi_postings.specs.declared.word.Word.{Word}
+use Rattle.cdi_postings.specs.Words.{same_word, same_word_equiv, word_at}
+use Rattle.cdi_index.specs.Asked.{asks_for, asks_in}
+use Rattle.cdi_index.specs.Made.{words_have, words_named, words_named_in, words_of_record, words_of_uses}
+use Rattle.cdi_index.specs.Told.{Tells}
+use Rattle.cdi_index.specs.Under.{has_one, words_by}
+use Rattle.cdi_index.proofs.AskedLemmas.{words-of-asker}
+use Rattle.cdi_resolve.specs.Choices.{offers}
+use Rattle.cdi_resolve.specs.Sees.{seen_bean}
+use Rattle.cdi_seen.specs.Contribution.{contribution, seen_of}
+use Rattle.cdi_seen.specs.Touched.{declare_alike, see_same_beans}
+use Rattle.cdi_seen.proofs.ContributionLemmas.{seen_same}
+use Rattle.cdi_seen.proofs.TouchedLemmas.{edits_keep_declared, edits_keep_seen}
+use Rattle.cdi_stakes.specs.Rests.{IsPresent}
+use Rattle.cdi_stakes.proofs.GatherLemmas.{quals_are_own}
+use Rattle.cdi_stakes.proofs.PresentLemmas.{all_present, each_all, found_any, witness}
+use Rattle.cdi_live.specs.Gone.{are_alike}
+use Rattle.cdi_live.specs.Suspects.{asked_in, asked_types, concerned, holds, suspects, types_of_edited, types_of_key, types_of_records}
+
+-- ---- lists of names
+
+holds-append : (xs ys : List (List ℕ)) (t : List ℕ) → holds (xs ++ ys) t ≡ (holds xs t || holds ys t)
+holds-append xs ys t = list_any-append (λ n. bytes_eq n t) xs ys
+
+-- what is among no name of some keys is among none of one of them
+of-key : (f : DeclKey → List (List ℕ)) (keys : List DeclKey) (k : DeclKey) (t : List ℕ) → holds (flat_map f keys) t ≡ false
+    → is_among keys k ≡ true → holds (f k) t ≡ false
+of-key f [] k t none among = absurd (false≢true among)
+of-key f (l ∷ keys) k t none among =
+    let parts = or_parts (holds (f l) t) (holds (flat_map f keys) t) (sym (holds-append (f l) (flat_map f keys) t) ∙ none) in
+    elim (or_cases (same_key l k) (is_among keys k) among) [
+      | inl here ↦ ap (λ x. holds (f x) t) (sym (key_exact l k here)) ∙ parts.0
+      | inr there ↦ of-key f keys k t parts.1 there
+    ]
+
+-- those of declarations that pass a test
+of-passing : (f : Decl → List (List ℕ)) (test : Decl → Bool) (t : List ℕ) (ds : List Decl)
+    → list_any (λ d. test d && holds (f d) t) ds ≡ true → holds (flat_map f (filter test ds)) t ≡ true
+of-passing f test t [] h = absurd (false≢true h)
+of-passing f test t (d ∷ ds) h = by (test d) refl (of-passing f test t ds) h
+  where
+    by : (b : Bool) → test d ≡ b
+        → (list_any (λ d. test d && holds (f d) t) ds ≡ true → holds (flat_map f (filter test ds)) t ≡ true)
+        → ((b && holds (f d) t) || list_any (λ d. test d && holds (f d) t) ds) ≡ true
+        → holds (flat_map f (cond b (d ∷ filter test ds) (filter test ds))) t ≡ true
+    by true is more h =
+        holds-append (f d) (flat_map f (filter test ds)) t
+        ∙ elim (or_cases (holds (f d) t) (list_any (λ d. test d && holds (f d) t) ds) h) [
+          | inl here ↦ or_left (holds (f d) t) (holds (flat_map f (filter test ds)) t) here
+          | inr there ↦ or_right (holds (f d) t) (holds (flat_map f (filter test ds)) t) (more there)
+        ]
+    by false is more h = more h
+
+-- records of which none has a type are seen by no choice for it
+none-seen : (list : List Decl) (t : List ℕ) (rs : List Effective) → holds (types_of_records rs) t ≡ false → seen_of list t rs ≡ []
+none-seen list t [] none = refl
+none-seen list t (r ∷ rs) none =
+    let parts = or_parts (holds r.types t) (holds (types_of_records rs) t) (sym (holds-append r.types (types_of_records rs) t) ∙ none) in
+    by r.is_enabled (has r.types t) parts.0 (none-seen list t rs parts.1)
+  where
+    by : (e h : Bool) → h ≡ false → seen_of list t rs ≡ []
+        → map (seen_bean list) (cond (e && h) (r ∷ filter (offers t) rs) (filter (offers t) rs)) ≡ []
+    by true true is more = absurd (false≢true (sym is))
+    by true false is more = more
+    by false h is more = more
+
+-- ---- the qualifiers of records
+
+abbrev word : List ℕ → Word
+word q = word_at reasons.Qualifies q
+
+-- what some uses read is a qualifier, and a word of theirs
+record IsUsed (key : DeclKey) (words : List Word) : Type 0 where
+  name : List ℕ
+  is : key ≡ key_at kinds.Qualifier name
+  has : words_have words (word name) ≡ true
+
+used : (us : List Qual) (key : DeclKey) → is_among (map (λ u. key_at kinds.Qualifier u.name) us) key ≡ true → IsUsed key (words_of_uses us)
+used [] key h = absurd (false≢true h)
+used (u ∷ us) key h = elim (or_cases (same_key (key_at kinds.Qualifier u.name) key) (is_among (map (λ u. key_at kinds.Qualifier u.name) us) key) h) [
+  | inl here ↦ record {
+    name = u.name;
+    is = sym (key_exact (key_at kinds.Qualifier u.name) key here);
+    has = or_left (same_word (word u.name) (word u.name)) (words_have (words_of_uses us) (word u.name)) (same-word u.name);
+  }
+  | inr there ↦
+      let it = used us key there in
+      record { name = it.name; is = it.is; has = or_right (same_word (word u.name) (word it.name)) (words_have (words_of_uses us) (word it.name)) it.has }
+]
+  where
+    same-word : (n : List ℕ) → same_word (word n) (word n) ≡ true
+    same-word n = same_word_equiv.refl (word n)
+
+words-append : (w : Word) (xs ys : List Word) → words_have (xs ++ ys) w ≡ (words_have xs w || words_have ys w)
+words-append w xs ys = list_any-append (λ v. same_word v w) xs ys
+
+among-append : (xs ys : List DeclKey) (key : DeclKey) → is_among (xs ++ ys) key ≡ (is_among xs key || is_among ys key)
+among-append xs ys key = list_any-append (λ k. same_key k key) xs ys
+
+used-by : (rs : List Effective) (key : DeclKey) → is_among (qualifier_reads rs) key ≡ true → IsUsed key (flat_map words_of_record rs)
+used-by [] key h = absurd (false≢true h)
+used-by (r ∷ rs) key h =
+    let own = map (λ u. key_at kinds.Qualifier u.name) r.qualifiers in
+    elim (or_cases (is_among own key) (is_among (qualifier_reads rs) key) (sym (among-append own (qualifier_reads rs) key) ∙ h)) [
+      | inl here ↦
+          let it = used r.qualifiers key here in
+          let types : List Word = map (word_at reasons.HasType) r.types in
+          let names : List Word = map (word_at reasons.HasName) (option_to_list r.name) in
+          let uses : List Word = words_of_uses r.qualifiers in
+          let rest : List Word = flat_map words_of_record rs in
+          record {
+            name = it.name;
+            is = it.is;
+            has = words-append (word it.name) (words_of_record r) rest
+                ∙ or_left (words_have (words_of_record r) (word it.name)) (words_have rest (word it.name))
+                (words-append (word it.name) types (names ++ uses)
+                ∙ or_right (words_have types (word it.name)) (words_have (names ++ uses) (word it.name))
+                (words-append (word it.name) names uses
+                ∙ or_right (words_have names (word it.name)) (words_have uses (word it.name)) it.has));
+          }
+      | inr there ↦
+          let it = used-by rs key there in
+          record {
+            name = it.name;
+            is = it.is;
+            has = words-append (word it.name) (words_of_record r) (flat_map words_of_record rs)
+                ∙ or_right (words_have (words_of_record r) (word it.name)) (words_have (flat_map words_of_record rs) (word it.name)) it.has;
+          }
+    ]
+
+-- ---- edits
+
+module _ (edits : List Edit) (ds : List Decl) (told : List DeclKey) (distinct : AreDistinct ds) (apart : AreDistinct (edited_all ds edits))
+    (tells : Tells ds (edited_all ds edits) (edited_keys edits) told) (t : List ℕ)
+    (clear : holds (suspects ds (edited_all ds edits) (edited_keys edits) told) t ≡ false) where
+  abbrev es : List Decl
+  es = edited_all ds edits
+
+  abbrev keys : List DeclKey
+  keys = edited_keys edits
+
+  both : (holds (flat_map (types_of_key ds es) told) t ≡ false) × (holds (flat_map (types_of_edited ds) keys) t ≡ false)
+  both = or_parts (holds (flat_map (types_of_key ds es) told) t) (holds (flat_map (types_of_edited ds) keys) t)
+      (sym (holds-append (flat_map (types_of_key ds es) told) (flat_map (types_of_edited ds) keys) t) ∙ clear)
+
+  -- the beans of a told declaration have another type, before and after
+  told-clear : (class : List ℕ) → is_among told (key_at kinds.Bean class) ≡ true
+      → (holds (types_of_records (records_in ds class)) t ≡ false) × (holds (types_of_records (records_in es class)) t ≡ false)
+  told-clear class among = or_parts (holds (types_of_records (records_in ds class)) t) (holds (types_of_records (records_in es class)) t)
+      (sym (holds-append (types_of_records (records_in ds class)) (types_of_records (records_in es class)) t)
+      ∙ of-key (types_of_key ds es) told (key_at kinds.Bean class) t both.0 among)
+
+  -- a declaration that uses an edited qualifier concerns another type
+  qualified-clear : (q : List ℕ) (d : Decl) → IsPresent ds d → is_among keys (key_at kinds.Qualifier q) ≡ true
+      → words_have (words_by ds d) (word q) ≡ true → holds (concerned ds d) t ≡ false
+  qualified-clear q d there edited has = by (holds (concerned ds d) t) refl
+    where
+      by : (b : Bool) → holds (concerned ds d) t ≡ b → b ≡ false
+      by false e = refl
+      by true e = absurd (false≢true (sym (of-key (types_of_edited ds) keys (key_at kinds.Qualifier q) t both.1 edited)
+          ∙ of-passing (concerned ds) (has_one ds (word q ∷ [])) t ds
+          (found_any (kind_of d) (name_of_decl d) ds d (λ d. has_one ds (word q ∷ []) d && holds (concerned ds d) t) there
+          (and_from (has_one ds (word q ∷ []) d) (holds (concerned ds d) t) (or_left (words_have (words_by ds d) (word q)) false has) e))))
+
+  in-records : (list : List Decl) (b : BeanDecl) → IsPresent list (decls.Bean b) → records_in list b.name ≡ records list b
+  unfolding records_in
+  in-records list b there = ap (λ o. records_declared list (as_bean o)) there
+
+  nothing-told : (list : List Decl) (b : BeanDecl) → IsPresent list (decls.Bean b)
+      → holds (types_of_records (records_in list b.name)) t ≡ false → contribution list t (decls.Bean b) ≡ []
+  nothing-told list b there none = none-seen list t (records list b)
+      (ap (λ rs. holds (types_of_records rs) t) (sym (in-records list b there)) ∙ none)
+
+  -- the beans of a declaration that uses an edited qualifier have another type
+  bean-clear : (b : BeanDecl) → IsPresent ds (decls.Bean b) → holds (types_of_records (records ds b)) t ≡ true
+      → Avoid (qualifier_reads (records ds b)) edits
+  bean-clear b there has key edited = by (is_among (qualifier_reads (records ds b)) key) refl
+    where
+      concerns : holds (concerned ds (decls.Bean b)) t ≡ true
+      concerns = holds-append (types_of_records (records ds b)) (asked_types (decls.Bean b)) t
+          ∙ or_left (holds (types_of_records (records ds b)) t) (holds (asked_types (decls.Bean b)) t) has
+
+      by : (c : Bool) → is_among (qualifier_reads (records ds b)) key ≡ c → c ≡ false
+      by false e = refl
+      by true e =
+          let it = used-by (own_records ds b) key (ap (λ ks. is_among ks key) (sym (quals_are_own ds b)) ∙ e) in
+          let own : List Word = flat_map words_of_record (own_records ds b) in
+          let more : List Word = map (λ o. word_at reasons.Observes o.event_type) b.observers in
+          let named : List Word = words_named (decls.Bean b) in
+          absurd (false≢true (sym (qualified-clear it.name (decls.Bean b) there (ap (is_among keys) (sym it.is) ∙ edited)
+          (words-append (word it.name) (own ++ more) named
+          ∙ or_left (words_have (own ++ more) (word it.name)) (words_have named (word it.name))
+          (words-append (word it.name) own more
+          ∙ or_left (words_have own (word it.name)) (words_have more (word it.name)) it.has)))
+          ∙ concerns))
+
+  -- ---- what each declaration adds
+
+  before : (d : Decl) → IsPresent ds d → is_among keys (key_of d) ≡ true → contribution ds t d ≡ []
+  before (decls.Bean b) there edited = nothing-told ds b there (told-clear b.name (tells.edited (key_at kinds.Bean b.name) refl edited)).0
+  before (decls.Type d) there edited = refl
+  before (decls.Qualifier d) there edited = refl
+  before (decls.Binding d) there edited = refl
+  before (decls.Stereotype d) there edited = refl
+  before (decls.Interceptor d) there edited = refl
+
+  after : (d : Decl) → IsPresent es d → is_among keys (key_of d) ≡ true → contribution es t d ≡ []
+  after (decls.Bean b) there edited = nothing-told es b there (told-clear b.name (tells.edited (key_at kinds.Bean b.name) refl edited)).1
+  after (decls.Type d) there edited = refl
+  after (decls.Qualifier d) there edited = refl
+  after (decls.Binding d) there edited = refl
+  after (decls.Stereotype d) there edited = refl
+  after (decls.Interceptor d) there edited = refl
+
+  others : (d : Decl) → IsPresent ds d → is_among keys (key_of d) ≡ false → contribution ds t d ≡ contribution es t d
+  others (decls.Bean b) there none = by (is_among told (key_at kinds.Bean b.name)) refl
+    where
+      now : IsPresent es (decls.Bean b)
+      now = edits_keep_decl edits ds kinds.Bean b.name none ∙ there
+
+      same : is_among told (key_at kinds.Bean b.name) ≡ false → records es b ≡ records ds b
+      same untold = sym (in-records es b now) ∙ tells.records b.name untold ∙ in-records ds b there
+
+      at : (c : Bool) → holds (types_of_records (records ds b)) t ≡ c → is_among told (key_at kinds.Bean b.name) ≡ false
+          → contribution ds t (decls.Bean b) ≡ contribution es t (decls.Bean b)
+      at true e untold = sym (seen_same edits ds t (records ds b) (bean-clear b there e)) ∙ ap (seen_of es t) (sym (same untold))
+      at false e untold = none-seen ds t (records ds b) e
+          ∙ sym (none-seen es t (records es b) (ap (λ rs. holds (types_of_records rs) t) (same untold) ∙ e))
+
+      by : (c : Bool) → is_among told (key_at kinds.Bean b.name) ≡ c → contribution ds t (decls.Bean b) ≡ contribution es t (decls.Bean b)
+      by true among = let none = told-clear b.name among in nothing-told ds b there none.0 ∙ sym (nothing-told es b now none.1)
+      by false untold = at (holds (types_of_records (records ds b)) t) refl untold
+  others (decls.Type d) there none = refl
+  others (decls.Qualifier d) there none = refl
+  others (decls.Binding d) there none = refl
+  others (decls.Stereotype d) there none = refl
+  others (decls.Interceptor d) there none = refl
+
+  pub beans-same : see_same_beans ds es t ≡ true
+  beans-same = edits_keep_seen edits ds t (record {
+    before = each_all before ds (all_present ds distinct);
+    after = each_all after es (all_present es apart);
+    others = each_all others ds (all_present ds distinct);
+  })
+
+  -- ---- its qualifiers
+
+  module _ (us : List Qual) (wanted : list_any (asks_for t us) ds ≡ true) where
+    uses-exact : (vs : List Qual) → same_quals us vs ≡ true → us ≡ vs
+    uses-exact vs h = (same_quals-decides us vs).0 h
+
+    required-twice : (qs : List Qual) → required (required qs) ≡ required qs
+    required-twice [] = refl
+    required-twice (q ∷ qs) = refl
+
+    -- what asks has the words of the uses, and asks for the type
+    record Asks (ms : List Mention) (w : Word) : Type 0 where
+      words : words_have (words_of_uses (required us)) w ≡ true → words_have (flat_map words_named_in ms) w ≡ true
+      types : holds (flat_map asked_in ms) t ≡ true
+
+    asks-named : (ms : List Mention) (w : Word) → list_any (asks_in t us) ms ≡ true → Asks ms w
+    asks-named [] w h = absurd (false≢true h)
+    asks-named (m ∷ ms) w h = elim (or_cases (asks_in t us m) (list_any (asks_in t us) ms) h) [
+      | inl here ↦
+          let it = at m here in
+          record {
+            words = λ has. words-append w (words_named_in m) (flat_map words_named_in ms)
+                ∙ or_left (words_have (words_named_in m) w) (words_have (flat_map words_named_in ms) w) (it.0 has);
+            types = holds-append (asked_in m) (flat_map asked_in ms) t
+                ∙ or_left (holds (asked_in m) t) (holds (flat_map asked_in ms) t) it.1;
+          }
+      | inr there ↦
+          let it = asks-named ms w there in
+          record {
+            words = λ has. words-append w (words_named_in m) (flat_map words_named_in ms)
+                ∙ or_right (words_have (words_named_in m) w) (words_have (flat_map words_named_in ms) w) (it.words has);
+            types = holds-append (asked_in m) (flat_map asked_in ms) t
+                ∙ or_right (holds (asked_in m) t) (holds (flat_map asked_in ms) t) it.types;
+          }
+    ]
+      where
+        at : (m : Mention) → asks_in t us m ≡ true
+            → (words_have (words_of_uses (required us)) w ≡ true → words_have (words_named_in m) w ≡ true) × (holds (asked_in m) t ≡ true)
+        at (PointOf place point) h =
+            let parts = and_parts (bytes_eq t point.required_type) (same_quals us (required point.qualifiers)) h in
+            let one : us ≡ required point.qualifiers = uses-exact (required point.qualifiers) parts.1 in
+            let same : required us ≡ required point.qualifiers = ap required one ∙ required-twice point.qualifiers in (
+              λ has. or_right (same_word (word_at reasons.Asks point.required_type) w) (words_have (words_of_uses (required point.qualifiers)) w)
+                  (ap (λ qs. words_have (words_of_uses qs) w) (sym same) ∙ has),
+              or_left (bytes_eq point.required_type t) false (bytes_eq-turned point.required_type t ∙ parts.0),
+            )
+        at (TypeIn place x) h = absurd (false≢true h)
+        at (UseOf kind u) h = absurd (false≢true h)
+        at (StereotypeOf s) h = absurd (false≢true h)
+        at (MethodOf m) h = absurd (false≢true h)
+        at (BodyOf place body) h = absurd (false≢true h)
+        at (CallOf place params call) h = absurd (false≢true h)
+        at (EventOf e) h = absurd (false≢true h)
+
+    -- no qualifier that is asked for is edited
+    unedited : (q : List ℕ) → is_among keys (key_at kinds.Qualifier q) ≡ true → words_have (words_of_uses (required us)) (word q) ≡ false
+    unfolding asks_for words_named asked_types
+    unedited q edited = by (words_have (words_of_uses (required us)) (word q)) refl
+      where
+        by : (b : Bool) → words_have (words_of_uses (required us)) (word q) ≡ b → b ≡ false
+        by false e = refl
+        by true e =
+            let it = witness (IsPresent ds) (asks_for t us) ds (all_present ds distinct) wanted in
+            let asks = asks-named (mentions it.0) (word q) it.2 in
+            absurd (false≢true (sym (qualified-clear q it.0 it.1 edited (words-of-asker t us ds it.0 (word q) it.2 (asks.words e)))
+            ∙ holds-append (types_of_records (entries ds it.0)) (asked_types it.0) t
+            ∙ or_right (holds (types_of_records (entries ds it.0)) t) (holds (asked_types it.0) t) asks.types))
+
+    alike : (vs : List Qual) → ((q : List ℕ) → is_among keys (key_at kinds.Qualifier q) ≡ true → words_have (words_of_uses vs) (word q) ≡ false)
+        → list_all (λ u. declare_alike ds es u.name) vs ≡ true
+    alike [] none = refl
+    alike (v ∷ vs) none = and_from (declare_alike ds es v.name) (list_all (λ u. declare_alike ds es u.name) vs)
+        (by (is_among keys (key_at kinds.Qualifier v.name)) refl)
+        (alike vs (λ q edited. (or_parts (same_word (word v.name) (word q)) (words_have (words_of_uses vs) (word q)) (none q edited)).1))
+      where
+        by : (b : Bool) → is_among keys (key_at kinds.Qualifier v.name) ≡ b → declare_alike ds es v.name ≡ true
+        by false e = edits_keep_declared edits ds v.name e
+        by true e = absurd (false≢true (sym (or_parts (same_word (word v.name) (word v.name)) (words_have (words_of_uses vs) (word v.name))
+            (none v.name e)).0 ∙ same_word_equiv.refl (word v.name)))
+
+    pub uses-alike : are_alike ds es us ≡ true
+    uses-alike = alike (required us) unedited

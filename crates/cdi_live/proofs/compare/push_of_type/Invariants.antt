@@ -1,0 +1,7 @@
+use Rattle.std.proofs.Common.{◌≡◌, ◌++◌, filter, map, take}
+use Rattle.cdi_match.specs.Chain.{has}
+use Rattle.cdi_live.proofs.compare.push_of_type.Given as goal
+
+abbrev pub invariant-loop-bean : goal.invariant-loop-bean
+invariant-loop-bean l = map (λ bean. bean.now) l.list.items
+    ≡ map (λ bean. bean.now) l.fn.list.items ++ filter (λ b. has b.types l.bean_type) (take l.bean-index l.records)

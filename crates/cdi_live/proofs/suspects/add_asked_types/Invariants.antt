@@ -1,0 +1,9 @@
+use Rattle.std.proofs.Common.{◌≡◌, ◌||◌, ℕ, List, flat_map}
+use Rattle.std.specs.Str.{bytes_eq}
+use Rattle.indexmap.specs.IndexSet.{contains}
+use Rattle.cdi_live.specs.Suspects.{asked_in, asked_types, holds}
+use Rattle.cdi_live.proofs.suspects.add_asked_types.Given as goal
+
+abbrev pub invariant-loop-mention : goal.invariant-loop-mention
+invariant-loop-mention l = (t : List ℕ) → (contains bytes_eq l.types t || holds (flat_map asked_in l.mention-iterator) t)
+    ≡ (contains bytes_eq l.fn.types t || holds (asked_types l.decl) t)

@@ -1,0 +1,8 @@
+use Rattle.std.proofs.Common.{◌≡◌, ◌||◌, ℕ, List, take}
+use Rattle.std.specs.Str.{bytes_eq}
+use Rattle.indexmap.specs.IndexSet.{contains}
+use Rattle.cdi_live.specs.Suspects.{holds}
+use Rattle.cdi_live.proofs.suspects.add_names.Given as goal
+
+abbrev pub invariant-loop-name : goal.invariant-loop-name
+invariant-loop-name l = (t : List ℕ) → contains bytes_eq l.types t ≡ (contains bytes_eq l.fn.types t || holds (take l.name-index l.names) t)
