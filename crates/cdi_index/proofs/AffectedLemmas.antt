@@ -4,6 +4,7 @@ use Rattle.std.proofs.Common.{refl, sym, ap, ◌∙◌}
 use Rattle.std.specs.List.{list_any}
 use Rattle.std.proofs.lemmas.Bool.{or_parts}
 use Rattle.cdi_model.specs.declared.decl.BeanDecl.{BeanDecl}
+use Rattle.cdi_model.specs.declared.decl.BindingDecl.{BindingDecl}
 use Rattle.cdi_model.specs.declared.decl.Decl.{Decl}
 use Rattle.cdi_model.specs.declared.decl.Kind.{Kind}
 use Rattle.cdi_model.specs.declared.decl.Kind.TheVariants as kinds
@@ -14,7 +15,13 @@ use Rattle.cdi_model.specs.DeclList.{find_decl}
 use Rattle.cdi_model.specs.Edits.{edited_all, edited_keys, is_among, Avoid}
 use Rattle.cdi_model.proofs.EditLemmas.{edits_keep_decl}
 use Rattle.cdi_model.proofs.EntryLemmas.{key_exact}
-use Rattle.cdi_match.proofs.LocalityLemmas.{edits_keep_closure}
+use Rattle.cdi_model.specs.declared.quals.Qual.{Qual}
+use Rattle.cdi_model.specs.Quals.{name_of_use}
+use Rattle.cdi_match.specs.Bindings.{brings_type, types_brought}
+use Rattle.cdi_match.specs.Filling.{as_binding, find_binding}
+use Rattle.cdi_match.specs.Locality.{binding_reads}
+use Rattle.cdi_match.proofs.BindingLemmas.{bindings_in}
+use Rattle.cdi_match.proofs.LocalityLemmas.{edits_keep_closure, keep_names}
 use Rattle.cdi_effective.specs.Beans.{own_records}
 use Rattle.cdi_effective.specs.declared.records.Effective.{Effective}
 use Rattle.cdi_effective.specs.Disposers.{as_bean, find_bean}
@@ -24,7 +31,7 @@ use Rattle.cdi_model.specs.declared.decl.Decl.TheVariants as decls
 use Rattle.cdi_effective.proofs.RecordLemmas.{edits_keep_own_records}
 use Rattle.cdi_index.specs.declared.making.Made.{Made}
 use Rattle.cdi_index.specs.declared.making.Given.TheVariants as given
-use Rattle.cdi_index.specs.Made.{is_kept, made_of, made_of_bean, made_of_interceptor, made_of_type, reads, reads_in, words_of}
+use Rattle.cdi_index.specs.Made.{is_kept, made_of, made_of_bean, made_of_binding, made_of_interceptor, made_of_type, reads, reads_in, words_of}
 use Rattle.cdi_index.proofs.ChangeLemmas.{any-either, any-same, none-of}
 
 -- an edit of a key affects a declaration
@@ -70,6 +77,15 @@ bean_with bean reads replaces records = record {
   words = words_of records (decls.Bean bean) bean.observers;
   given = given.Records records;
 }
+
+abbrev binding_with : List DeclKey → Made
+binding_with reads = record { reads = reads; replaces = []; words = []; given = given.Nothing }
+
+bindings-stay : (edits : List Edit) (ds : List Decl) (us : List Qual) → Avoid (binding_reads ds us) edits
+    → binding_reads (edited_all ds edits) us ≡ binding_reads ds us
+unfolding types_brought brings_type
+bindings-stay edits ds us avoid =
+    ap (map (key_at kinds.Binding)) (keep_names kinds.Binding bindings_in refl edits ds (map name_of_use us) avoid)
 
 -- what is made of a declaration that is not affected stays
 stays : (ds : List Decl) (edits : List Edit) (kind : Kind) (name : List ℕ)
@@ -118,7 +134,25 @@ stays ds edits kinds.Bean name none =
         ∙ ap (λ rs. Some (bean_with bean (record_reads ds bean) (replaced_by ds (decls.Bean bean)) rs)) leave.records
         ∙ sym (ap (option_map (made_of_bean ds)) e)
 stays ds edits kinds.Qualifier name none = refl
-stays ds edits kinds.Binding name none = refl
+stays ds edits kinds.Binding name none =
+    let k = key_at kinds.Binding name in
+    let parts = or_parts (is_among (edited_keys edits) k) (list_any (reads (made_of ds k)) (edited_keys edits))
+    (sym (hit-parts ds (edited_keys edits) k) ∙ none) in
+    by (find_binding name ds) refl (ap as_binding (edits_keep_decl edits ds kinds.Binding name parts.0)) parts.1
+  where
+    by : (o : Option BindingDecl) → find_binding name ds ≡ o
+        → find_binding name (edited_all ds edits) ≡ find_binding name ds
+        → list_any (reads (option_map (made_of_binding ds) (find_binding name ds))) (edited_keys edits) ≡ false
+        → option_map (made_of_binding (edited_all ds edits)) (find_binding name (edited_all ds edits))
+        ≡ option_map (made_of_binding ds) (find_binding name ds)
+    by None e same unread = ap (option_map (made_of_binding (edited_all ds edits))) (same ∙ e)
+        ∙ sym (ap (option_map (made_of_binding ds)) e)
+    by (Some d) e same unread =
+        let unread_binding : list_any (reads (Some (made_of_binding ds d))) (edited_keys edits) ≡ false =
+        ap (λ o. list_any (reads (option_map (made_of_binding ds) o)) (edited_keys edits)) (sym e) ∙ unread in
+        ap (option_map (made_of_binding (edited_all ds edits))) (same ∙ e)
+        ∙ ap (λ rs. Some (binding_with rs)) (bindings-stay edits ds d.declares (avoids edits (Some (made_of_binding ds d)) unread_binding))
+        ∙ sym (ap (option_map (made_of_binding ds)) e)
 stays ds edits kinds.Stereotype name none = refl
 stays ds edits kinds.Interceptor name none =
     let k = key_at kinds.Interceptor name in

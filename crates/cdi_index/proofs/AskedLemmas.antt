@@ -1,4 +1,4 @@
--- The declarations that ask for a type are found by its word.
+-- The declarations that ask for a bean of a type, or for who observes an event of it, are found by its word.
 use Rattle.std.proofs.Common.{◌≡◌, ℕ, Bool, true, false, not, ◌&&◌, ◌||◌, List, [], ◌∷◌, ◌++◌, map, flat_map, Option, Some, None, option_map}
 use Rattle.std.proofs.Common.{refl, sym, ap, ◌∙◌}
 use Rattle.std.specs.Cmp.Lexicographic.{pointwise}
@@ -33,76 +33,105 @@ use Rattle.cdi_postings.specs.declared.word.Word.{Word}
 use Rattle.cdi_postings.specs.Listing.{Listing, under}
 use Rattle.cdi_postings.specs.Words.{same_word, word_at}
 use Rattle.cdi_index.specs.Asked.{asks_for, asks_in, is_asked}
-use Rattle.cdi_index.specs.AskedAt.{is_asker, is_asker_at}
+use Rattle.cdi_index.specs.AskedAt.{is_asker, is_asker_at, reason_of}
 use Rattle.cdi_index.specs.declared.asked.Asked.{Asked}
+use Rattle.cdi_index.specs.declared.asked.Question.{Question}
+use Rattle.cdi_index.specs.declared.asked.Question.TheVariants as questions
 use Rattle.cdi_index.specs.declared.shelf.Kept.{Kept}
 use Rattle.cdi_index.specs.declared.shelf.Shelf.{Shelf}
 use Rattle.cdi_index.specs.Kept.{kept_at, stored, IsExact, IsShelf, IsSound}
-use Rattle.cdi_index.specs.Made.{made_of_bean, made_of_interceptor, words_have, words_named, words_named_in, words_of_record, words_of_uses}
+use Rattle.cdi_index.specs.Made.{made_of_bean, made_of_interceptor, words_have, words_named, words_named_in, words_of_observer, words_of_record}
+use Rattle.cdi_index.specs.Made.{words_of_uses}
 use Rattle.cdi_index.specs.Under.{words_by}
 use Rattle.cdi_index.proofs.CountLemmas.{keys-distinct}
 use Rattle.cdi_index.proofs.NextLemmas.{any-elim, same-bool}
 use Rattle.cdi_index.proofs.ReplacedLemmas.{any-at, passing}
 use Rattle.cdi_index.proofs.UnderLemmas.{key-found, listed-at}
 
-module _ (t : List ℕ) (us : List Qual) where
+module _ (q : Question) (t : List ℕ) (us : List Qual) where
   abbrev word : Word
-  word = word_at reasons.Asks t
+  word = word_at (reason_of q) t
 
   -- what asks in one place has the word there
-  asked-in : (m : Mention) → asks_in t us m ≡ true → words_have (words_named_in m) word ≡ true
-  asked-in (PointOf place point) h =
-      let parts = and_parts (bytes_eq t point.required_type) (pointwise same_qual us (required point.qualifiers)) h in
-      or_left (bytes_eq point.required_type t) (words_have (words_of_uses (required point.qualifiers)) word)
-      (bytes_eq-turned point.required_type t ∙ parts.0)
-  asked-in (TypeIn place x) h = absurd (false≢true h)
-  asked-in (UseOf kind u) h = absurd (false≢true h)
-  asked-in (StereotypeOf s) h = absurd (false≢true h)
-  asked-in (MethodOf m) h = absurd (false≢true h)
-  asked-in (BodyOf place body) h = absurd (false≢true h)
-  asked-in (CallOf place params call) h = absurd (false≢true h)
-  asked-in (EventOf e) h = absurd (false≢true h)
+  asked-in : (m : Mention) → asks_in q t us m ≡ true → words_have (words_named_in m) word ≡ true
+  asked-in m h = by q m h
+    where
+      by : (q : Question) (m : Mention) → asks_in q t us m ≡ true → words_have (words_named_in m) (word_at (reason_of q) t) ≡ true
+      by questions.Choice (PointOf place point) h =
+          let parts = and_parts (bytes_eq t point.required_type) (pointwise same_qual us (required point.qualifiers)) h in
+          or_left (bytes_eq point.required_type t) (words_have (words_of_uses (required point.qualifiers)) (word_at reasons.Asks t))
+          (bytes_eq-turned point.required_type t ∙ parts.0)
+      by questions.Choice (TypeIn place x) h = absurd (false≢true h)
+      by questions.Choice (UseOf kind u) h = absurd (false≢true h)
+      by questions.Choice (StereotypeOf s) h = absurd (false≢true h)
+      by questions.Choice (MethodOf m) h = absurd (false≢true h)
+      by questions.Choice (BodyOf place body) h = absurd (false≢true h)
+      by questions.Choice (CallOf place params call) h = absurd (false≢true h)
+      by questions.Choice (EventOf e) h = absurd (false≢true h)
+      by questions.Event (EventOf e) h =
+          let parts = and_parts (bytes_eq t e.event_type) (pointwise same_qual us e.qualifiers) h in
+          or_left (bytes_eq e.event_type t) (words_have (words_of_uses e.qualifiers) (word_at reasons.Fires t))
+          (bytes_eq-turned e.event_type t ∙ parts.0)
+      by questions.Event (PointOf place point) h = absurd (false≢true h)
+      by questions.Event (TypeIn place x) h = absurd (false≢true h)
+      by questions.Event (UseOf kind u) h = absurd (false≢true h)
+      by questions.Event (StereotypeOf s) h = absurd (false≢true h)
+      by questions.Event (MethodOf m) h = absurd (false≢true h)
+      by questions.Event (BodyOf place body) h = absurd (false≢true h)
+      by questions.Event (CallOf place params call) h = absurd (false≢true h)
 
-  asked-among : (ms : List Mention) → list_any (asks_in t us) ms ≡ true → words_have (flat_map words_named_in ms) word ≡ true
+  asked-among : (ms : List Mention) → list_any (asks_in q t us) ms ≡ true → words_have (flat_map words_named_in ms) word ≡ true
   asked-among [] h = absurd (false≢true h)
   asked-among (m ∷ ms) h =
       list_any-append (λ v. same_word v word) (words_named_in m) (flat_map words_named_in ms)
-      ∙ elim (or_cases (asks_in t us m) (list_any (asks_in t us) ms) h) [
+      ∙ elim (or_cases (asks_in q t us m) (list_any (asks_in q t us) ms) h) [
         | inl here ↦ or_left (words_have (words_named_in m) word) (words_have (flat_map words_named_in ms) word) (asked-in m here)
         | inr later ↦ or_right (words_have (words_named_in m) word) (words_have (flat_map words_named_in ms) word) (asked-among ms later)
       ]
 
-  named : (d : Decl) → asks_for t us d ≡ true → words_have (words_named d) word ≡ true
+  named : (d : Decl) → asks_for q t us d ≡ true → words_have (words_named d) word ≡ true
   unfolding asks_for words_named
   named d h = asked-among (mentions d) h
 
   -- declarations without points ask for nothing
-  no-type : (place : TypePlace) (xs : List (List ℕ)) → list_any (asks_in t us) (map (TypeIn place) xs) ≡ false
+  no-type : (place : TypePlace) (xs : List (List ℕ)) → list_any (asks_in q t us) (map (TypeIn place) xs) ≡ false
   no-type place [] = refl
-  no-type place (x ∷ xs) = no-type place xs
+  no-type place (x ∷ xs) = ap (λ b. b || list_any (asks_in q t us) (map (TypeIn place) xs)) (by q) ∙ no-type place xs
+    where
+      by : (q : Question) → asks_in q t us (TypeIn place x) ≡ false
+      by questions.Choice = refl
+      by questions.Event = refl
 
-  no-use : (kind : UseKind) (xs : List Qual) → list_any (asks_in t us) (map (UseOf kind) xs) ≡ false
+  no-use : (kind : UseKind) (xs : List Qual) → list_any (asks_in q t us) (map (UseOf kind) xs) ≡ false
   no-use kind [] = refl
-  no-use kind (x ∷ xs) = no-use kind xs
+  no-use kind (x ∷ xs) = ap (λ b. b || list_any (asks_in q t us) (map (UseOf kind) xs)) (by q) ∙ no-use kind xs
+    where
+      by : (q : Question) → asks_in q t us (UseOf kind x) ≡ false
+      by questions.Choice = refl
+      by questions.Event = refl
 
-  no-stereotype : (xs : List (List ℕ)) → list_any (asks_in t us) (map StereotypeOf xs) ≡ false
+  no-stereotype : (xs : List (List ℕ)) → list_any (asks_in q t us) (map StereotypeOf xs) ≡ false
   no-stereotype [] = refl
-  no-stereotype (x ∷ xs) = no-stereotype xs
+  no-stereotype (x ∷ xs) = ap (λ b. b || list_any (asks_in q t us) (map StereotypeOf xs)) (by q) ∙ no-stereotype xs
+    where
+      by : (q : Question) → asks_in q t us (StereotypeOf x) ≡ false
+      by questions.Choice = refl
+      by questions.Event = refl
 
-  neither : (xs ys : List Mention) → list_any (asks_in t us) xs ≡ false → list_any (asks_in t us) ys ≡ false
-      → list_any (asks_in t us) (xs ++ ys) ≡ false
-  neither xs ys none more = list_any-append (asks_in t us) xs ys ∙ ap (λ b. b || list_any (asks_in t us) ys) none ∙ more
+  neither : (xs ys : List Mention) → list_any (asks_in q t us) xs ≡ false → list_any (asks_in q t us) ys ≡ false
+      → list_any (asks_in q t us) (xs ++ ys) ≡ false
+  neither xs ys none more = list_any-append (asks_in q t us) xs ys ∙ ap (λ b. b || list_any (asks_in q t us) ys) none ∙ more
 
   abbrev extends : TypeDecl → List Mention
   extends d = map (TypeIn places.Extends) (option_to_list d.extends)
 
   -- so the words of what a declaration that asks names are words of it
-  pub words-of-asker : (ds : List Decl) (d : Decl) (w : Word) → asks_for t us d ≡ true → words_have (words_named d) w ≡ true
+  pub words-of-asker : (ds : List Decl) (d : Decl) (w : Word) → asks_for q t us d ≡ true → words_have (words_named d) w ≡ true
       → words_have (words_by ds d) w ≡ true
   unfolding asks_for mentions
   words-of-asker ds (decls.Bean b) w asking has =
       let own : List Word = flat_map words_of_record (own_records ds b) in
-      let more : List Word = map (λ o. word_at reasons.Observes o.event_type) b.observers in
+      let more : List Word = flat_map words_of_observer b.observers in
       list_any-append (λ v. same_word v w) (own ++ more) (words_named (decls.Bean b))
       ∙ or_right (words_have (own ++ more) w) (words_have (words_named (decls.Bean b)) w) has
   words-of-asker ds (decls.Interceptor i) w asking has = has
@@ -115,64 +144,65 @@ module _ (t : List ℕ) (us : List Qual) where
 
   module _ (ds : List Decl) (shelf : Shelf) (listings : List Listing) (shelved : IsShelf shelf) (exact : IsExact ds (stored shelf))
       (sound : IsSound (stored shelf) listings) (distinct : AreDistinct ds) (asked : Asked)
-      (same_type : asked.bean_type.now ≡ t) (same_uses : asked.uses.now ≡ us) where
+      (apart : List DeclKey) (same_question : asked.question ≡ q) (same_name : asked.name.now ≡ t) (same_uses : asked.uses.now ≡ us) where
     abbrev passes : Decl → Bool
-    passes d = not (is_among asked.apart.now (key_of d)) && asks_for t us d
+    passes d = not (is_among apart (key_of d)) && asks_for q t us d
 
     abbrev asks : Decl → Bool
-    asks d = asks_for asked.bean_type.now asked.uses.now d
+    asks d = asks_for asked.question asked.name.now asked.uses.now d
 
-    asks-same : (d : Decl) → asks d ≡ asks_for t us d
-    asks-same d = ap (λ x. asks_for x asked.uses.now d) same_type ∙ ap (λ x. asks_for t x d) same_uses
+    asks-same : (d : Decl) → asks d ≡ asks_for q t us d
+    asks-same d = ap (λ x. asks_for x asked.name.now asked.uses.now d) same_question
+        ∙ ap (λ x. asks_for q x asked.uses.now d) same_name ∙ ap (λ x. asks_for q t x d) same_uses
 
     -- one that asks is there
-    only : list_any (is_asker_at ds asked shelf) (under listings word) ≡ true → list_any passes ds ≡ true
-    only h = any-elim (is_asker_at ds asked shelf) (under listings word) h (λ s asker. by (kept_at shelf s) asker)
+    only : list_any (is_asker_at ds asked apart shelf) (under listings word) ≡ true → list_any passes ds ≡ true
+    only h = any-elim (is_asker_at ds asked apart shelf) (under listings word) h (λ s asker. by (kept_at shelf s) asker)
       where
-        at : (e : Kept) (o : Option Decl) → find_decl e.key.kind e.key.name ds ≡ o → not (is_among asked.apart.now e.key) ≡ true
+        at : (e : Kept) (o : Option Decl) → find_decl e.key.kind e.key.name ds ≡ o → not (is_among apart e.key) ≡ true
             → option_map_or asks o false ≡ true → list_any passes ds ≡ true
-        at e None is apart none = absurd (false≢true none)
-        at e (Some d) is apart found = any-at passes e.key.kind e.key.name ds d is
-            (and_from (not (is_among asked.apart.now (key_of d))) (asks_for t us d)
-            (ap (λ k. not (is_among asked.apart.now k)) (sym (key-found e.key.kind e.key.name ds d is)) ∙ apart)
+        at e None is free none = absurd (false≢true none)
+        at e (Some d) is free found = any-at passes e.key.kind e.key.name ds d is
+            (and_from (not (is_among apart (key_of d))) (asks_for q t us d)
+            (ap (λ k. not (is_among apart k)) (sym (key-found e.key.kind e.key.name ds d is)) ∙ free)
             (sym (asks-same d) ∙ found))
 
-        by : (o : Option Kept) → is_asker ds asked o ≡ true → list_any passes ds ≡ true
+        by : (o : Option Kept) → is_asker ds asked apart o ≡ true → list_any passes ds ≡ true
         by None none = absurd (false≢true none)
         by (Some e) asker =
-            let parts = and_parts (not (is_among asked.apart.now e.key)) (option_map_or asks (find_decl e.key.kind e.key.name ds) false) asker in
+            let parts = and_parts (not (is_among apart e.key)) (option_map_or asks (find_decl e.key.kind e.key.name ds) false) asker in
             at e (find_decl e.key.kind e.key.name ds) refl parts.0 parts.1
 
     -- and one that is there is listed
-    back : list_any passes ds ≡ true → list_any (is_asker_at ds asked shelf) (under listings word) ≡ true
+    back : list_any passes ds ≡ true → list_any (is_asker_at ds asked apart shelf) (under listings word) ≡ true
     back h =
         let it = passing passes ds (keys-distinct ds distinct) h in
-        let parts = and_parts (not (is_among asked.apart.now (key_of it.one))) (asks_for t us it.one) it.passes in
+        let parts = and_parts (not (is_among apart (key_of it.one))) (asks_for q t us it.one) it.passes in
         by it.one it.there parts.0 parts.1 (words-of-asker ds it.one word parts.1 (named it.one parts.1))
       where
-        slot : (d : Decl) → find_decl (kind_of d) (name_of_decl d) ds ≡ Some d → not (is_among asked.apart.now (key_of d)) ≡ true
-            → asks_for t us d ≡ true → (s : ℕ) (e : Kept) → kept_at shelf s ≡ Some e → e.key ≡ key_of d → is_asker_at ds asked shelf s ≡ true
-        slot d there apart asking s e kept key =
-            ap (is_asker ds asked) kept
-            ∙ ap (λ (k : DeclKey). not (is_among asked.apart.now k) && option_map_or asks (find_decl k.kind k.name ds) false) key
-            ∙ and_from (not (is_among asked.apart.now (key_of d))) (option_map_or asks (find_decl (kind_of d) (name_of_decl d) ds) false) apart
+        slot : (d : Decl) → find_decl (kind_of d) (name_of_decl d) ds ≡ Some d → not (is_among apart (key_of d)) ≡ true
+            → asks_for q t us d ≡ true → (s : ℕ) (e : Kept) → kept_at shelf s ≡ Some e → e.key ≡ key_of d → is_asker_at ds asked apart shelf s ≡ true
+        slot d there free asking s e kept key =
+            ap (is_asker ds asked apart) kept
+            ∙ ap (λ (k : DeclKey). not (is_among apart k) && option_map_or asks (find_decl k.kind k.name ds) false) key
+            ∙ and_from (not (is_among apart (key_of d))) (option_map_or asks (find_decl (kind_of d) (name_of_decl d) ds) false) free
             (ap (λ o. option_map_or asks o false) there ∙ asks-same d ∙ asking)
 
         -- what is made of a declaration that has words
-        by : (d : Decl) → find_decl (kind_of d) (name_of_decl d) ds ≡ Some d → not (is_among asked.apart.now (key_of d)) ≡ true
-            → asks_for t us d ≡ true → words_have (words_by ds d) word ≡ true
-            → list_any (is_asker_at ds asked shelf) (under listings word) ≡ true
-        by (decls.Bean b) there apart asking has = listed-at ds shelf listings shelved exact sound distinct word (key_at kinds.Bean b.name)
-            (made_of_bean ds b) (is_asker_at ds asked shelf) (ap (λ o. option_map (made_of_bean ds) (as_bean o)) there) has
-            (λ s e kept key made. slot (decls.Bean b) there apart asking s e kept key)
-        by (decls.Interceptor i) there apart asking has = listed-at ds shelf listings shelved exact sound distinct word
-            (key_at kinds.Interceptor i.name) (made_of_interceptor (decls.Interceptor i)) (is_asker_at ds asked shelf)
+        by : (d : Decl) → find_decl (kind_of d) (name_of_decl d) ds ≡ Some d → not (is_among apart (key_of d)) ≡ true
+            → asks_for q t us d ≡ true → words_have (words_by ds d) word ≡ true
+            → list_any (is_asker_at ds asked apart shelf) (under listings word) ≡ true
+        by (decls.Bean b) there free asking has = listed-at ds shelf listings shelved exact sound distinct word (key_at kinds.Bean b.name)
+            (made_of_bean ds b) (is_asker_at ds asked apart shelf) (ap (λ o. option_map (made_of_bean ds) (as_bean o)) there) has
+            (λ s e kept key made. slot (decls.Bean b) there free asking s e kept key)
+        by (decls.Interceptor i) there free asking has = listed-at ds shelf listings shelved exact sound distinct word
+            (key_at kinds.Interceptor i.name) (made_of_interceptor (decls.Interceptor i)) (is_asker_at ds asked apart shelf)
             (ap (option_map made_of_interceptor) there) has
-            (λ s e kept key made. slot (decls.Interceptor i) there apart asking s e kept key)
-        by (decls.Type d) there apart asking has = absurd (false≢true has)
-        by (decls.Qualifier d) there apart asking has = absurd (false≢true has)
-        by (decls.Binding d) there apart asking has = absurd (false≢true has)
-        by (decls.Stereotype d) there apart asking has = absurd (false≢true has)
+            (λ s e kept key made. slot (decls.Interceptor i) there free asking s e kept key)
+        by (decls.Type d) there free asking has = absurd (false≢true has)
+        by (decls.Qualifier d) there free asking has = absurd (false≢true has)
+        by (decls.Binding d) there free asking has = absurd (false≢true has)
+        by (decls.Stereotype d) there free asking has = absurd (false≢true has)
 
-    pub askers-are : list_any (is_asker_at ds asked shelf) (under listings word) ≡ is_asked ds t us asked.apart.now
-    askers-are = same-bool (list_any (is_asker_at ds asked shelf) (under listings word)) (is_asked ds t us asked.apart.now) only back
+    pub askers-are : list_any (is_asker_at ds asked apart shelf) (under listings word) ≡ is_asked ds q t us apart
+    askers-are = same-bool (list_any (is_asker_at ds asked apart shelf) (under listings word)) (is_asked ds q t us apart) only back

@@ -92,9 +92,11 @@ module _ (ds : List Decl) (shelf : Shelf) (listings : List Listing) (is : IsShel
           (λ t same. ap (λ x. is_reader (kept_at shelf x) k key) (sym (eqb-true s t same)) ∙ reader)
           (sound (word_of key) k s made at (or_left (reads (Some made) key) (classes_have made.replaces (word_of key) || words_have made.words (word_of key)) read))
 
+  pub readers-are : is_reader_among shelf (under listings (word_of key)) k key ≡ reads (made_of ds k) key
+  readers-are = same-bool (is_reader_among shelf (under listings (word_of key)) k key) (reads (made_of ds k) key) reads-if reads-only
+
   pub touches-hits : touches shelf listings k key ≡ hits ds k key
-  touches-hits = ap (λ b. (is_kept key.kind && same_key key k) || b)
-      (same-bool (is_reader_among shelf (under listings (word_of key)) k key) (reads (made_of ds k) key) reads-if reads-only)
+  touches-hits = ap (λ b. (is_kept key.kind && same_key key k) || b) readers-are
 
 -- what the code finds affected is what edits affect
 pub affected-hits : (ds : List Decl) (shelf : Shelf) (listings : List Listing) (keys ks : List DeclKey) → IsShelf shelf

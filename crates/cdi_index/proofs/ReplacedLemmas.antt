@@ -32,7 +32,10 @@ use Rattle.cdi_index.specs.declared.making.Made.{Made}
 use Rattle.cdi_index.specs.declared.shelf.Kept.{Kept}
 use Rattle.cdi_index.specs.declared.shelf.Shelf.{Shelf}
 use Rattle.cdi_index.specs.Kept.{kept_at, made_in, slot_of, stored, stored_at, IsExact, IsShelf, IsSound, Stored}
-use Rattle.cdi_index.specs.Made.{classes_have, has_word, keys_have, made_of, made_of_bean, made_of_interceptor, made_of_type, replaces_in, words_have}
+use Rattle.cdi_index.specs.Made.{classes_have, has_word, keys_have, made_of, made_of_bean, made_of_binding, made_of_interceptor}
+use Rattle.cdi_index.specs.Made.{made_of_type, replaces_in, words_have}
+use Rattle.cdi_match.specs.Filling.{find_binding}
+use Rattle.cdi_model.specs.declared.decl.BindingDecl.{BindingDecl}
 use Rattle.cdi_index.specs.Next.{change_of}
 use Rattle.cdi_index.specs.Replaced.{lent, disabled, AreReplaced, is_at_stake, is_other, is_replaced_after, is_replaced_anew, is_replaced_key, is_replaced_of, is_replaced_still, made_after, records_after, replaced_records, replaces, stakes}
 use Rattle.cdi_index.proofs.CountLemmas.{keys-distinct}
@@ -160,11 +163,15 @@ is-replaced ds a k h = by k.kind k.name h
     of_interceptor None name h = false≢true h
     of_interceptor (Some d) name h = false≢true h
 
+    of_binding : (o : Option BindingDecl) (name : List ℕ) → replaces (option_map (made_of_binding ds) o) (key_at kinds.Bean name) ≡ true → ⊥
+    of_binding None name h = false≢true h
+    of_binding (Some d) name h = false≢true h
+
     at_kind : (kind : Kind) (n name : List ℕ) → replaces (made_of ds (key_at kind n)) (key_at kinds.Bean name) ≡ true → is_replaced ds name ≡ true
     at_kind kinds.Bean n name h = of_bean n name (find_decl kinds.Bean n ds) refl h
     at_kind kinds.Type n name h = absurd (of_type n (find_decl kinds.Type n ds) name h)
     at_kind kinds.Qualifier n name h = absurd (false≢true h)
-    at_kind kinds.Binding n name h = absurd (false≢true h)
+    at_kind kinds.Binding n name h = absurd (of_binding (find_binding n ds) name h)
     at_kind kinds.Stereotype n name h = absurd (false≢true h)
     at_kind kinds.Interceptor n name h = absurd (of_interceptor (find_decl kinds.Interceptor n ds) name h)
 

@@ -11,6 +11,7 @@ use Rattle.cdi_model.specs.declared.decl.BeanDecl.{BeanDecl}
 use Rattle.cdi_model.specs.declared.decl.Decl.{Decl}
 use Rattle.cdi_model.specs.declared.decl.Decl.TheVariants as decls
 use Rattle.cdi_model.specs.declared.decl.ObserverDecl.{ObserverDecl}
+use Rattle.cdi_model.specs.declared.decl.UseKind.TheVariants as uses
 use Rattle.cdi_model.specs.declared.quals.Qual.{Qual}
 use Rattle.cdi_model.specs.Mentions.{mentions, Mention, BodyOf, CallOf, EventOf, MethodOf, PointOf, StereotypeOf, TypeIn, UseOf}
 use Rattle.cdi_effective.specs.Qualifiers.{required}
@@ -23,7 +24,8 @@ use Rattle.cdi_effective.proofs.RecordLemmas.{records_are_own}
 use Rattle.cdi_postings.specs.declared.word.Reason.TheVariants as reasons
 use Rattle.cdi_postings.specs.declared.word.Word.{Word}
 use Rattle.cdi_postings.specs.Words.{same_word, word_at}
-use Rattle.cdi_index.specs.Made.{words_have, words_named, words_named_in, words_of_bean, words_of_record, words_of_uses}
+use Rattle.cdi_index.specs.Made.{words_have, words_named, words_named_in, words_of_bean, words_of_bindings, words_of_observer}
+use Rattle.cdi_index.specs.Made.{words_of_record, words_of_uses}
 use Rattle.cdi_index.specs.Under.{beans_under, has_name, has_one, observes_one}
 use Rattle.cdi_index.proofs.ChangeLemmas.{any-either, any-same}
 
@@ -85,7 +87,7 @@ module _ (w : Word) where
   none-given q says ds (decls.Bean b) none =
       let r : Bool = is_replaced ds b.name in
       let own : List Word = flat_map words_of_record (own_records ds b) in
-      let more : List Word = map (λ o. word_at reasons.Observes o.event_type) b.observers in
+      let more : List Word = flat_map words_of_observer b.observers in
       let named : List Word = words_named (decls.Bean b) in
       let parts = or_parts (words_have (own ++ more) w) (words_have named w)
       (sym (words-append (own ++ more) named) ∙ sym (or-false (words_have (words_of_bean ds b) w)) ∙ none) in
@@ -104,7 +106,7 @@ no-type : (t : List ℕ) (r : Bool) (x : Effective) → words_have (words_of_rec
 no-type t r x none =
     let w : Word = word_at reasons.HasType t in
     let types : List Word = map (word_at reasons.HasType) x.types in
-    let more : List Word = map (word_at reasons.HasName) (option_to_list x.name) ++ words_of_uses x.qualifiers in
+    let more : List Word = map (word_at reasons.HasName) (option_to_list x.name) ++ (words_of_uses x.qualifiers ++ words_of_bindings x.bindings) in
     let parts = or_parts (words_have types w) (words_have more w) (sym (words-append w types more) ∙ none) in
     sym (types-have x.types t) ∙ parts.0
 
@@ -114,7 +116,7 @@ no-name n r x none =
     let w : Word = word_at reasons.HasName n in
     let types : List Word = map (word_at reasons.HasType) x.types in
     let name : List Word = map (word_at reasons.HasName) (option_to_list x.name) in
-    let uses : List Word = words_of_uses x.qualifiers in
+    let uses : List Word = words_of_uses x.qualifiers ++ words_of_bindings x.bindings in
     let parts = or_parts (words_have types w) (words_have (name ++ uses) w) (sym (words-append w types (name ++ uses)) ∙ none) in
     let more = or_parts (words_have name w) (words_have uses w) (sym (words-append w name uses) ∙ parts.1) in
     sym (name-has x.name n x refl) ∙ more.0
@@ -155,32 +157,41 @@ none-used : (us : List Qual) (t : List ℕ) → words_have (words_of_uses us) (w
 none-used [] t = refl
 none-used (u ∷ us) t = none-used us t
 
+none-bound : (us : List Qual) (t : List ℕ) → words_have (words_of_bindings us) (word_at reasons.Observes t) ≡ false
+none-bound [] t = refl
+none-bound (u ∷ us) t = none-bound us t
+
 none-of-records : (own : List Effective) (t : List ℕ) → words_have (flat_map words_of_record own) (word_at reasons.Observes t) ≡ false
 none-of-records [] t = refl
 none-of-records (x ∷ own) t =
     let w : Word = word_at reasons.Observes t in
     let types : List Word = map (word_at reasons.HasType) x.types in
     let name : List Word = map (word_at reasons.HasName) (option_to_list x.name) in
-    let uses : List Word = words_of_uses x.qualifiers in
+    let quals : List Word = words_of_uses x.qualifiers in
+    let bindings : List Word = words_of_bindings x.bindings in
+    let uses : List Word = quals ++ bindings in
     let rest : Bool = words_have (flat_map words_of_record own) w in
     words-append w (words_of_record x) (flat_map words_of_record own)
     ∙ ap (λ b. b || rest) (words-append w types (name ++ uses))
     ∙ ap (λ b. (b || words_have (name ++ uses) w) || rest) (none-typed x.types t)
     ∙ ap (λ b. b || rest) (words-append w name uses)
     ∙ ap (λ b. (b || words_have uses w) || rest) (none-named x.name t)
-    ∙ ap (λ b. b || rest) (none-used x.qualifiers t)
+    ∙ ap (λ b. b || rest) (words-append w quals bindings)
+    ∙ ap (λ b. (b || words_have bindings w) || rest) (none-used x.qualifiers t)
+    ∙ ap (λ b. b || rest) (none-bound x.bindings t)
     ∙ none-of-records own t
 
 -- what a declaration names has no word of what observer methods observe
 none-in : (m : Mention) (t : List ℕ) → words_have (words_named_in m) (word_at reasons.Observes t) ≡ false
 none-in (PointOf place point) t = none-used (required point.qualifiers) t
 none-in (TypeIn place x) t = refl
-none-in (UseOf kind u) t = refl
+none-in (UseOf uses.Qualifier u) t = refl
+none-in (UseOf uses.Binding u) t = refl
 none-in (StereotypeOf s) t = refl
 none-in (MethodOf m) t = refl
 none-in (BodyOf place body) t = refl
 none-in (CallOf place params call) t = refl
-none-in (EventOf e) t = refl
+none-in (EventOf e) t = none-used e.qualifiers t
 
 none-in-any : (ms : List Mention) (t : List ℕ) → words_have (flat_map words_named_in ms) (word_at reasons.Observes t) ≡ false
 none-in-any [] t = refl
@@ -193,12 +204,15 @@ unfolding words_named
 none-of-named d t = none-in-any (mentions d) t
 
 observed : (observers : List ObserverDecl) (t : List ℕ)
-    → words_have (map (λ o. word_at reasons.Observes o.event_type) observers) (word_at reasons.Observes t)
+    → words_have (flat_map words_of_observer observers) (word_at reasons.Observes t)
     ≡ list_any (λ o. bytes_eq t o.event_type) observers
 observed [] t = refl
 observed (o ∷ observers) t =
-    ap (λ b. b || words_have (map (λ (x : ObserverDecl). word_at reasons.Observes x.event_type) observers) (word_at reasons.Observes t))
-    (bytes_eq-turned o.event_type t)
+    let w : Word = word_at reasons.Observes t in
+    let rest : List Word = flat_map words_of_observer observers in
+    words-append w (words_of_observer o) rest
+    ∙ ap (λ b. (bytes_eq o.event_type t || b) || words_have rest w) (none-used o.qualifiers t)
+    ∙ ap (λ b. b || words_have rest w) (or-false (bytes_eq o.event_type t) ∙ bytes_eq-turned o.event_type t)
     ∙ ap (λ b. bytes_eq t o.event_type || b) (observed observers t)
 
 words-observed : (ds : List Decl) (b : BeanDecl) (t : List ℕ)
@@ -206,7 +220,7 @@ words-observed : (ds : List Decl) (b : BeanDecl) (t : List ℕ)
 words-observed ds b t =
     let w : Word = word_at reasons.Observes t in
     let own : List Word = flat_map words_of_record (own_records ds b) in
-    let more : List Word = map (λ o. word_at reasons.Observes o.event_type) b.observers in
+    let more : List Word = flat_map words_of_observer b.observers in
     words-append w (own ++ more) (words_named (decls.Bean b))
     ∙ ap (λ c. words_have (own ++ more) w || c) (none-of-named (decls.Bean b) t)
     ∙ or-false (words_have (own ++ more) w)

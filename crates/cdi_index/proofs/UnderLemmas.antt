@@ -5,6 +5,7 @@ use Rattle.std.specs.List.{list_any}
 use Rattle.std.specs.Option.{option_map_or}
 use Rattle.std.proofs.lemmas.Bool.{false≢true, or_right, eqb-true}
 use Rattle.cdi_model.specs.declared.decl.BeanDecl.{BeanDecl}
+use Rattle.cdi_model.specs.declared.decl.BindingDecl.{BindingDecl}
 use Rattle.cdi_model.specs.declared.decl.Decl.{Decl}
 use Rattle.cdi_model.specs.declared.decl.Decl.TheVariants as decls
 use Rattle.cdi_model.specs.declared.decl.Kind.{Kind}
@@ -26,7 +27,9 @@ use Rattle.cdi_index.specs.declared.making.Made.{Made}
 use Rattle.cdi_index.specs.declared.shelf.Kept.{Kept}
 use Rattle.cdi_index.specs.declared.shelf.Shelf.{Shelf}
 use Rattle.cdi_index.specs.Kept.{kept_at, made_in, slot_of, stored, stored_at, IsExact, IsShelf, IsSound, Stored}
-use Rattle.cdi_index.specs.Made.{classes_have, keys_have, made_by, made_of, made_of_bean, made_of_interceptor, made_of_type, words_have}
+use Rattle.cdi_index.specs.Made.{classes_have, keys_have, made_by, made_of, made_of_bean, made_of_binding, made_of_interceptor}
+use Rattle.cdi_index.specs.Made.{made_of_type, words_have}
+use Rattle.cdi_match.specs.Filling.{find_binding}
 use Rattle.cdi_index.specs.Under.{beans_under, has_one, is_at, is_at_slots, is_at_words, records_at, words_by}
 use Rattle.cdi_index.proofs.NextLemmas.{any-elim, any-more, same-bool}
 use Rattle.cdi_index.proofs.ShelfLemmas.{found, nat-same}
@@ -112,7 +115,11 @@ of-decl ds kinds.Bean name made w p is has at = by (find_decl kinds.Bean name ds
     by (Some (decls.Stereotype d)) e f = none None refl f
     by (Some (decls.Interceptor d)) e f = none None refl f
 of-decl ds kinds.Qualifier name made w p is has at = absurd (let no : None ≡ Some made = is in cc)
-of-decl ds kinds.Binding name made w p is has at = absurd (let no : None ≡ Some made = is in cc)
+of-decl ds kinds.Binding name made w p is has at = absurd (by (find_binding name ds) is)
+  where
+    by : (o : Option BindingDecl) → option_map (made_of_binding ds) o ≡ Some made → ⊥
+    by None e = let no : None ≡ Some made = e in cc
+    by (Some d) e = false≢true (ap (λ (m : Made). words_have m.words w) (some-made (made_of_binding ds d) made e) ∙ has)
 of-decl ds kinds.Stereotype name made w p is has at = absurd (let no : None ≡ Some made = is in cc)
 of-decl ds kinds.Interceptor name made w p is has at = by (find_decl kinds.Interceptor name ds) refl is
   where

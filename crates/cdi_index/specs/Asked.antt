@@ -1,4 +1,4 @@
--- Which declarations ask for a type with some uses of qualifiers.
+-- Which declarations ask for a bean of a type, or for the observer methods of an event of it, with some uses of qualifiers.
 use Rattle.std.specs.Prelude.{ℕ, Bool, false, not, ◌&&◌, List}
 use Rattle.std.specs.List.{list_any}
 use Rattle.std.specs.Option.{option_map_or}
@@ -7,34 +7,42 @@ use Rattle.std.specs.Cmp.Lexicographic.{pointwise}
 use Rattle.cdi_model.specs.Decl.{key_of}
 use Rattle.cdi_model.specs.DeclList.{find_decl}
 use Rattle.cdi_model.specs.Edits.{is_among}
-use Rattle.cdi_model.specs.Mentions.{mentions, Mention, PointOf}
+use Rattle.cdi_model.specs.Mentions.{mentions, Mention, EventOf, PointOf}
 use Rattle.cdi_model.specs.SameUse.{same_qual}
 use Rattle.cdi_model.specs.declared.decl.Decl.{Decl}
+use Rattle.cdi_model.specs.declared.decl.EventDecl.{EventDecl}
 use Rattle.cdi_model.specs.declared.decl.PointDecl.{PointDecl}
 use Rattle.cdi_model.specs.declared.key.DeclKey.{DeclKey}
 use Rattle.cdi_model.specs.declared.quals.Qual.{Qual}
 use Rattle.cdi_effective.specs.Qualifiers.{required}
+use Rattle.cdi_index.specs.declared.asked.Question.{Question}
+use Rattle.cdi_index.specs.declared.asked.Question.TheVariants as questions
 
 -- a point asks for the type with these uses, as they are written
 abbrev pub point_asks : List ℕ → List Qual → PointDecl → Bool
 point_asks t us point = bytes_eq t point.required_type && pointwise same_qual us (required point.qualifiers)
 
--- what is named in one place is such a point
-abbrev pub asks_in : List ℕ → List Qual → Mention → Bool
-asks_in t us (PointOf place point) = point_asks t us point
-asks_in t us other = false
+-- an event of the type with these uses, as they are written, asks who observes it
+abbrev pub event_asks : List ℕ → List Qual → EventDecl → Bool
+event_asks t us event = bytes_eq t event.event_type && pointwise same_qual us event.qualifiers
 
--- a point of a declaration asks for it
-unfoldable pub asks_for : List ℕ → List Qual → Decl → Bool
-asks_for t us d = list_any (asks_in t us) (mentions d)
+-- what is named in one place is such a point, or such an event
+abbrev pub asks_in : Question → List ℕ → List Qual → Mention → Bool
+asks_in questions.Choice t us (PointOf place point) = point_asks t us point
+asks_in questions.Event t us (EventOf event) = event_asks t us event
+asks_in question t us other = false
+
+-- a point of a declaration asks for it, or a body of it may fire it
+unfoldable pub asks_for : Question → List ℕ → List Qual → Decl → Bool
+asks_for question t us d = list_any (asks_in question t us) (mentions d)
 
 -- a declaration apart from those of some keys asks for it
-abbrev pub is_asked : List Decl → List ℕ → List Qual → List DeclKey → Bool
-is_asked ds t us apart = list_any (λ d. not (is_among apart (key_of d)) && asks_for t us d) ds
+abbrev pub is_asked : List Decl → Question → List ℕ → List Qual → List DeclKey → Bool
+is_asked ds question t us apart = list_any (λ d. not (is_among apart (key_of d)) && asks_for question t us d) ds
 
 -- the declaration of one of some keys asks for it
-abbrev pub asks_at : List Decl → List ℕ → List Qual → DeclKey → Bool
-asks_at ds t us k = option_map_or (asks_for t us) (find_decl k.kind k.name ds) false
+abbrev pub asks_at : List Decl → Question → List ℕ → List Qual → DeclKey → Bool
+asks_at ds question t us k = option_map_or (asks_for question t us) (find_decl k.kind k.name ds) false
 
-abbrev pub is_asked_by : List Decl → List DeclKey → List ℕ → List Qual → Bool
-is_asked_by ds keys t us = list_any (asks_at ds t us) keys
+abbrev pub is_asked_by : List Decl → List DeclKey → Question → List ℕ → List Qual → Bool
+is_asked_by ds keys question t us = list_any (asks_at ds question t us) keys

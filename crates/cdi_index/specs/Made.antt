@@ -5,19 +5,24 @@ use Rattle.std.specs.Option.{option_to_list}
 use Rattle.std.specs.declared.alloc.Global.{Global}
 use Rattle.std.specs.declared.vec.Vec.{Vec}
 use Rattle.cdi_model.specs.declared.decl.BeanDecl.{BeanDecl}
+use Rattle.cdi_model.specs.declared.decl.BindingDecl.{BindingDecl}
 use Rattle.cdi_model.specs.declared.decl.Decl.{Decl}
 use Rattle.cdi_model.specs.declared.decl.Decl.TheVariants as decls
 use Rattle.cdi_model.specs.declared.decl.Kind.{Kind}
 use Rattle.cdi_model.specs.declared.decl.ObserverDecl.{ObserverDecl}
 use Rattle.cdi_model.specs.declared.decl.Kind.TheVariants as kinds
+use Rattle.cdi_model.specs.declared.decl.UseKind.TheVariants as uses
 use Rattle.cdi_model.specs.declared.key.DeclKey.{DeclKey}
+use Rattle.cdi_model.specs.DeclKey.{key_at}
 use Rattle.cdi_model.specs.DeclList.{find_decl}
 use Rattle.cdi_model.specs.Edits.{is_among}
-use Rattle.cdi_model.specs.Mentions.{mentions, Mention, PointOf}
+use Rattle.cdi_model.specs.Mentions.{mentions, Mention, EventOf, PointOf, UseOf}
 use Rattle.cdi_model.specs.Quals.{name_of_use}
+use Rattle.cdi_model.specs.declared.decl.EventDecl.{EventDecl}
 use Rattle.cdi_model.specs.declared.decl.PointDecl.{PointDecl}
 use Rattle.cdi_model.specs.declared.quals.Qual.{Qual}
-use Rattle.cdi_match.specs.Locality.{type_reads}
+use Rattle.cdi_match.specs.Filling.{find_binding}
+use Rattle.cdi_match.specs.Locality.{binding_reads, type_reads}
 use Rattle.cdi_match.specs.Types.{types_of}
 use Rattle.cdi_effective.specs.Beans.{own_records}
 use Rattle.cdi_effective.specs.declared.records.Effective.{Effective}
@@ -36,35 +41,48 @@ abbrev pub is_kept : Kind → Bool
 is_kept kinds.Type = true
 is_kept kinds.Bean = true
 is_kept kinds.Interceptor = true
+is_kept kinds.Binding = true
 is_kept other = false
 
 -- the words of some uses of qualifiers
 abbrev pub words_of_uses : List Qual → List Word
 words_of_uses us = map (λ u. word_at reasons.Qualifies (name_of_use u)) us
 
--- the words of a record: its types, its name and its qualifiers
+-- those of some uses of bindings
+abbrev pub words_of_bindings : List Qual → List Word
+words_of_bindings us = map (λ u. word_at reasons.Binds (name_of_use u)) us
+
+-- the words of a record: its types, its name, its qualifiers and the bindings of its class
 abbrev pub words_of_record : Effective → List Word
-words_of_record r =
-    map (word_at reasons.HasType) r.types ++ (map (word_at reasons.HasName) (option_to_list r.name) ++ words_of_uses r.qualifiers)
+words_of_record r = map (word_at reasons.HasType) r.types
+    ++ (map (word_at reasons.HasName) (option_to_list r.name) ++ (words_of_uses r.qualifiers ++ words_of_bindings r.bindings))
 
 -- the words of a point: the type and the qualifiers for which it asks
 abbrev pub words_of_point : PointDecl → List Word
 words_of_point point = word_at reasons.Asks point.required_type ∷ words_of_uses (required point.qualifiers)
 
+-- those of an event that may be fired: its type and its qualifiers
+abbrev pub words_of_event : EventDecl → List Word
+words_of_event event = word_at reasons.Fires event.event_type ∷ words_of_uses event.qualifiers
+
 -- those of what a declaration names in one place
 abbrev pub words_named_in : Mention → List Word
 words_named_in (PointOf place point) = words_of_point point
+words_named_in (EventOf event) = words_of_event event
+words_named_in (UseOf uses.Binding binding) = word_at reasons.Binds (name_of_use binding) ∷ []
 words_named_in other = []
 
 -- those of all that it names
 unfoldable pub words_named : Decl → List Word
 words_named d = flat_map words_named_in (mentions d)
 
--- the words of a bean declaration with some records: those of the records, the types that its observer methods observe, and those of what it
--- names
+-- those of an observer method: the type that it observes and its qualifiers
+abbrev pub words_of_observer : ObserverDecl → List Word
+words_of_observer o = word_at reasons.Observes o.event_type ∷ words_of_uses o.qualifiers
+
+-- the words of a bean declaration with some records: those of the records, of its observer methods, and of what it names
 abbrev pub words_of : List Effective → Decl → List ObserverDecl → List Word
-words_of records d observers =
-    (flat_map words_of_record records ++ map (λ o. word_at reasons.Observes o.event_type) observers) ++ words_named d
+words_of records d observers = (flat_map words_of_record records ++ flat_map words_of_observer observers) ++ words_named d
 
 -- with those that it has by itself
 abbrev pub words_of_bean : List Decl → BeanDecl → List Word
@@ -88,15 +106,25 @@ made_of_bean ds bean = record {
   given = given.Records (own_records ds bean);
 }
 
--- the words of an interceptor declaration
+-- the types of the bindings of an interceptor
+abbrev pub intercepted_reads : Decl → List DeclKey
+intercepted_reads (decls.Interceptor i) = map (λ u. key_at kinds.Binding (name_of_use u)) i.bindings
+intercepted_reads other = []
+
+-- the words of an interceptor declaration: as it is seen, with its bindings filled, it rests on the types of these
 abbrev pub made_of_interceptor : Decl → Made
-made_of_interceptor d = record { reads = []; replaces = []; words = words_named d; given = given.Nothing }
+made_of_interceptor d = record { reads = intercepted_reads d; replaces = []; words = words_named d; given = given.Nothing }
+
+-- of a binding type that on which what it brings rests
+abbrev pub made_of_binding : List Decl → BindingDecl → Made
+made_of_binding ds d = record { reads = binding_reads ds d.declares; replaces = []; words = []; given = given.Nothing }
 
 -- what is made of the declaration of a kind and name
 abbrev pub made_by : Kind → List ℕ → List Decl → Option Made
 made_by kinds.Type name ds = option_map (λ d. made_of_type ds name) (find_decl kinds.Type name ds)
 made_by kinds.Bean name ds = option_map (made_of_bean ds) (find_bean name ds)
 made_by kinds.Interceptor name ds = option_map made_of_interceptor (find_decl kinds.Interceptor name ds)
+made_by kinds.Binding name ds = option_map (made_of_binding ds) (find_binding name ds)
 made_by other name ds = None
 
 abbrev pub made_of : List Decl → DeclKey → Option Made

@@ -4,6 +4,7 @@ ghost use Rattle.std.specs.List.{list_any};
 ghost use Rattle.indexmap.specs.IndexSet.{contains};
 ghost use Rattle.cdi_model.specs.DeclKey.{same_key};
 ghost use Rattle.cdi_model.specs.Edits.{is_among};
+ghost use Rattle.cdi_postings.specs.Listing.{under};
 ghost use Rattle.cdi_postings.specs.Words.{word_at};
 ghost use Rattle.cdi_postings.specs.declared.word.Reason.TheVariants as reasons;
 ghost use Rattle.cdi_index.specs.Kept.{is_reader_among, touches};
@@ -21,7 +22,7 @@ fn is_kept(kind: Kind) -> bool
     ensures { result ≡ is_kept kind }
 {
     match kind {
-        Kind::Type | Kind::Bean | Kind::Interceptor => true,
+        Kind::Type | Kind::Bean | Kind::Interceptor | Kind::Binding => true,
         _ => false,
     }
 }
@@ -71,6 +72,32 @@ fn add_readers(
         }
     }
     Ok(())
+}
+
+/// The declarations of which what is made read that of a key, each once. It looks only at those that are listed for it.
+pub(crate) fn readers_of(
+    alloc: Global,
+    shelf: &Shelf,
+    postings: &Postings,
+    key: &DeclKey,
+) -> Result<Vec<DeclKey>, AllocError>
+    ensures { IfOk result (λ list. (k : _) → is_among list.items k
+        ≡ is_reader_among shelf.now (under postings.now (word_of key.now)) k key.now) }
+{
+    let mut readers = IndexSet::new(alloc);
+    add_readers(shelf, postings.under(word_of(key)), key, &mut readers)?;
+    copy_keys(alloc, readers.as_slice())
+}
+
+/// Copies of some keys.
+fn copy_keys(alloc: Global, keys: &[DeclKey]) -> Result<Vec<DeclKey>, AllocError>
+    ensures { IfOk result (λ copy. copy.items ≡ keys.now) }
+{
+    let mut copy = Vec::with_capacity(alloc, keys.len())?;
+    for key in keys {
+        copy.push(*key)?;
+    }
+    Ok(copy)
 }
 
 /// Adds the declarations that an edit of a key affects.

@@ -5,13 +5,15 @@ ghost use Rattle.cdi_positions.specs.Marks.{is_marked};
 ghost use Rattle.cdi_match.specs.Chain.{has};
 ghost use Rattle.cdi_effective.specs.Beans.{beans, entries};
 ghost use Rattle.cdi_effective.specs.Records.{records_in};
-ghost use Rattle.cdi_index.specs.Made.{types_declared};
+ghost use Rattle.cdi_model.specs.Edits.{is_among};
+ghost use Rattle.cdi_index.specs.Made.{made_of, reads, types_declared};
 ghost use Rattle.cdi_index.specs.Replaced.{lent};
 ghost use Rattle.cdi_index.specs.State.{committed, drafted_from, empty, staged_by, with_staged, IsEdited};
 ghost use Rattle.cdi_index.specs.Asked.{is_asked};
 ghost use Rattle.cdi_index.specs.Told.{Tells};
 ghost use Rattle.cdi_index.specs.Under.{beans_under, has_name, has_one, is_sought, observes_one, records_at};
 
+use crate::affected::readers_of;
 use crate::asked::{Asked, is_asked_at};
 use crate::counts::Counts;
 use crate::draft::Draft;
@@ -23,7 +25,7 @@ use crate::replaced::{install_turns, keys_turned};
 use crate::shelf::Shelf;
 use crate::under::{Sought, positions_under, sought_at_positions, words_observed};
 use cdi_effective::Effective;
-use cdi_model::{Decl, DeclKey, Decls, Kind, Name, Qual};
+use cdi_model::{Decl, DeclKey, Decls, Kind, Name};
 use cdi_positions::PositionSet;
 use cdi_postings::{Postings, Reason, Word};
 use std::alloc::{AllocError, Global};
@@ -138,29 +140,32 @@ impl Index {
         positions_under(&self.decls, &self.shelf, &self.postings, words)
     }
 
-    /// Whether a point of a declaration asks for a type with these uses of qualifiers, as they are written, declarations of
-    /// some keys apart. It takes no memory, and looks at declarations that ask for the type alone.
-    pub fn is_asked(&self, bean_type: &Name, uses: &[Qual], apart: &[DeclKey]) -> bool
-        ensures { result ≡ is_asked self.now.decls bean_type.now uses.now apart.now }
+    /// Whether a declaration asks for it, those of some keys apart. It takes no memory, and looks at declarations that ask
+    /// for the type alone.
+    pub fn is_asked(&self, asked: Asked<'_>, apart: &[DeclKey]) -> bool
+        ensures { result
+            ≡ is_asked self.now.decls asked.entry.question asked.entry.name.now asked.entry.uses.now apart.now }
     {
-        let word = Word {
-            reason: Reason::Asks,
-            name: *bean_type,
-        };
-        let asked = Asked {
-            bean_type,
-            uses,
-            apart,
-        };
         // No effect at run time. The proof reads here that no two declarations have one kind and name.
         let _ = self.decls.iter();
         is_asked_at(
             self.alloc,
             &self.decls,
             &self.shelf,
-            self.postings.under(word),
+            self.postings.under(asked.word()),
             asked,
+            apart,
         )
+    }
+
+    /// The declarations of types, bindings, beans and interceptors of which what is made read the declaration of a key, or
+    /// would if there were one: a type its types, a binding type those that it brings, an interceptor the types of its
+    /// bindings, a bean what its records rest on. Each once, in no order. It takes memory for a list of them, and looks at
+    /// them alone.
+    pub fn readers(&self, alloc: Global, key: &DeclKey) -> Result<Vec<DeclKey>, AllocError>
+        ensures { IfOk result (λ list. (k : _) → is_among list.items k ≡ reads (made_of self.now.decls k) key.now) }
+    {
+        readers_of(alloc, &self.shelf, &self.postings, key)
     }
 
     /// Those of the beans of the declarations that have one of some words which are sought, in order.

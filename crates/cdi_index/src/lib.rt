@@ -16,6 +16,7 @@ mod replaced;
 mod shelf;
 mod under;
 
+pub use asked::{Asked, Question};
 pub use counts::Counts;
 pub use draft::Draft;
 pub use index::Index;

@@ -8,14 +8,19 @@ ghost use Rattle.cdi_model.specs.Mentions.{shown};
 ghost use Rattle.cdi_model.specs.Quals.{name_of_use};
 ghost use Rattle.cdi_postings.specs.declared.word.Reason.TheVariants as reasons;
 ghost use Rattle.cdi_postings.specs.Words.{word_at};
-ghost use Rattle.cdi_index.specs.Made.{made_of, made_of_bean, made_of_interceptor, made_of_type, words_named, words_named_in, words_of, words_of_point};
-ghost use Rattle.cdi_index.specs.Made.{words_of_record};
+ghost use Rattle.cdi_match.specs.Filling.{as_binding};
+ghost use Rattle.cdi_match.specs.Locality.{binding_reads};
+ghost use Rattle.cdi_index.specs.Made.{intercepted_reads, made_of, made_of_bean, made_of_binding, made_of_interceptor, made_of_type};
+ghost use Rattle.cdi_index.specs.Made.{words_named, words_named_in, words_of, words_of_event, words_of_observer, words_of_point, words_of_record};
 
 use crate::next_types::NextTypes;
 use cdi_effective::{
     Closures, Effective, default_use, own_records_of, reads_of, replaced_by, required,
 };
-use cdi_model::{Decl, DeclKey, Kind, Mention, Name, ObserverDecl, PointDecl, Qual, Seq};
+use cdi_match::{push_uses, types_brought};
+use cdi_model::{
+    Decl, DeclKey, Decls, EventDecl, Kind, Mention, Name, ObserverDecl, PointDecl, Qual, Seq, UseKind,
+};
 use cdi_postings::{Reason, Word};
 use std::alloc::{AllocError, Global};
 
@@ -41,15 +46,26 @@ pub(crate) struct Made {
     pub(crate) given: Given,
 }
 
-/// The keys of some types.
-fn keys_of_types(alloc: Global, names: &[Name]) -> Result<Seq<DeclKey>, AllocError>
-    ensures { IfOk result (λ keys. keys ≡ map (key_at kinds.Type) names.now) }
+/// The keys of a kind with some names.
+fn keys_of_names(alloc: Global, kind: Kind, names: &[Name]) -> Result<Seq<DeclKey>, AllocError>
+    ensures { IfOk result (λ keys. keys ≡ map (key_at kind) names.now) }
 {
     let mut keys = Seq::new(alloc);
     for name in names {
+        keys.push(DeclKey { kind, name: *name })?;
+    }
+    Ok(keys)
+}
+
+/// The keys of the types of some bindings.
+fn keys_of_bindings(alloc: Global, bindings: &[Qual]) -> Result<Seq<DeclKey>, AllocError>
+    ensures { IfOk result (λ keys. keys ≡ map (λ u. key_at kinds.Binding (name_of_use u)) bindings.now) }
+{
+    let mut keys = Seq::new(alloc);
+    for binding in bindings {
         keys.push(DeclKey {
-            kind: Kind::Type,
-            name: *name,
+            kind: Kind::Binding,
+            name: binding.name,
         })?;
     }
     Ok(keys)
@@ -60,7 +76,7 @@ fn make_types(alloc: Global, types: &NextTypes<'_>, name: &Name) -> Result<Made,
     ensures { IfOk result (λ made. made ≡ made_of_type types.now.decls.now name.now) }
 {
     let types = types.types_of(alloc, *name)?;
-    let reads = keys_of_types(alloc, types.as_slice())?;
+    let reads = keys_of_names(alloc, Kind::Type, types.as_slice())?;
     Ok(Made {
         reads,
         replaces: Seq::new(alloc),
@@ -80,17 +96,18 @@ fn push_record_words(record: &Effective, words: &mut Vec<Word>) -> Result<(), Al
             name,
         })?;
     }
-    push_qualifier_words(record.qualifiers.as_slice(), words)
+    push_use_words(Reason::Qualifies, record.qualifiers.as_slice(), words)?;
+    push_use_words(Reason::Binds, record.bindings.as_slice(), words)?;
+    Ok(())
 }
 
-/// Appends the words of some uses of qualifiers.
-fn push_qualifier_words(uses: &[Qual], words: &mut Vec<Word>) -> Result<(), AllocError>
-    ensures { OnOk result (words.new.items
-        ≡ words.old.items ++ map (λ u. word_at reasons.Qualifies (name_of_use u)) uses.now) }
+/// Appends the words of some uses.
+fn push_use_words(reason: Reason, uses: &[Qual], words: &mut Vec<Word>) -> Result<(), AllocError>
+    ensures { OnOk result (words.new.items ≡ words.old.items ++ map (λ u. word_at reason (name_of_use u)) uses.now) }
 {
     for qual in uses {
         words.push(Word {
-            reason: Reason::Qualifies,
+            reason,
             name: qual.name,
         })?;
     }
@@ -123,7 +140,33 @@ fn push_point_words(
         name: point.required_type,
     })?;
     let by_default = [default_use(alloc)];
-    push_qualifier_words(required(&point.qualifiers, &by_default), words)
+    push_use_words(
+        Reason::Qualifies,
+        required(&point.qualifiers, &by_default),
+        words,
+    )
+}
+
+/// Appends the words of an event that may be fired: its type and its qualifiers.
+fn push_event_words(event: &EventDecl, words: &mut Vec<Word>) -> Result<(), AllocError>
+    ensures { OnOk result (words.new.items ≡ words.old.items ++ words_of_event event.now) }
+{
+    words.push(Word {
+        reason: Reason::Fires,
+        name: event.event_type,
+    })?;
+    push_use_words(Reason::Qualifies, event.qualifiers.as_slice(), words)
+}
+
+/// Appends the word of a binding.
+fn push_binding_word(binding: &Qual, words: &mut Vec<Word>) -> Result<(), AllocError>
+    ensures { OnOk result (words.new.items ≡ words.old.items ++ word_at reasons.Binds (name_of_use binding.now) ∷ []) }
+{
+    words.push(Word {
+        reason: Reason::Binds,
+        name: binding.name,
+    })?;
+    Ok(())
 }
 
 /// Appends the words of what a declaration names in a place.
@@ -136,6 +179,8 @@ fn push_named_words(
 {
     match mention {
         Mention::Point(_, point) => push_point_words(alloc, point, words),
+        Mention::Event(event) => push_event_words(event, words),
+        Mention::Use(UseKind::Binding, binding) => push_binding_word(binding, words),
         _ => Ok(()),
     }
 }
@@ -161,16 +206,26 @@ fn push_words_of_records(records: &[Effective], words: &mut Vec<Word>) -> Result
     Ok(())
 }
 
+/// Appends the words of an observer method: the type that it observes and its qualifiers.
+fn push_observer_words(observer: &ObserverDecl, words: &mut Vec<Word>) -> Result<(), AllocError>
+    ensures { OnOk result (words.new.items ≡ words.old.items ++ words_of_observer observer.now) }
+{
+    words.push(Word {
+        reason: Reason::Observes,
+        name: observer.event_type,
+    })?;
+    push_use_words(Reason::Qualifies, observer.qualifiers.as_slice(), words)
+}
+
 /// Appends the words of some observer methods.
-fn push_observer_words(observers: &[ObserverDecl], words: &mut Vec<Word>) -> Result<(), AllocError>
-    ensures { OnOk result (words.new.items
-        ≡ words.old.items ++ map (λ o. word_at reasons.Observes o.event_type) observers.now) }
+fn push_words_of_observers(
+    observers: &[ObserverDecl],
+    words: &mut Vec<Word>,
+) -> Result<(), AllocError>
+    ensures { OnOk result (words.new.items ≡ words.old.items ++ flat_map words_of_observer observers.now) }
 {
     for observer in observers {
-        words.push(Word {
-            reason: Reason::Observes,
-            name: observer.event_type,
-        })?;
+        push_observer_words(observer, words)?;
     }
     Ok(())
 }
@@ -186,7 +241,7 @@ fn words_of(
 {
     let mut words = Vec::new(alloc);
     push_words_of_records(records, &mut words)?;
-    push_observer_words(observers, &mut words)?;
+    push_words_of_observers(observers, &mut words)?;
     push_words_named(alloc, decl, &mut words)?;
     Ok(words)
 }
@@ -214,18 +269,57 @@ fn make_records(
     }))
 }
 
-/// Makes the words of what a declaration names.
+/// The types of the bindings of an interceptor.
+fn intercepted_reads(alloc: Global, decl: &Decl) -> Result<Seq<DeclKey>, AllocError>
+    ensures { IfOk result (λ keys. keys ≡ intercepted_reads decl.now) }
+{
+    match decl {
+        Decl::Interceptor(interceptor) => keys_of_bindings(alloc, interceptor.bindings.as_slice()),
+        _ => Ok(Seq::new(alloc)),
+    }
+}
+
+/// Makes the words of what an interceptor declaration names.
 fn make_words(alloc: Global, decl: &Decl) -> Result<Made, AllocError>
     ensures { IfOk result (λ made. made ≡ made_of_interceptor decl.now) }
 {
     let mut words = Vec::new(alloc);
     push_words_named(alloc, decl, &mut words)?;
     Ok(Made {
-        reads: Seq::new(alloc),
+        reads: intercepted_reads(alloc, decl)?,
         replaces: Seq::new(alloc),
         words: Seq::from_vec(words),
         given: Given::Nothing,
     })
+}
+
+/// The binding types on which rests what some uses bring.
+fn binding_reads(alloc: Global, decls: &Decls, uses: &[Qual]) -> Result<Seq<DeclKey>, AllocError>
+    ensures { IfOk result (λ keys. keys ≡ binding_reads decls.now uses.now) }
+{
+    let mut lent = Vec::with_capacity(alloc, uses.len())?;
+    push_uses(&mut lent, uses)?;
+    let types = types_brought(alloc, decls, lent.as_slice())?;
+    keys_of_names(alloc, Kind::Binding, types.as_slice())
+}
+
+/// Makes what is made of a binding type.
+fn make_brought(
+    alloc: Global,
+    decls: &Decls,
+    decl: &Decl,
+) -> Result<Option<Made>, AllocError>
+    ensures { IfOk result (λ made. made ≡ option_map (made_of_binding decls.now) (as_binding (Some decl.now))) }
+{
+    let Decl::Binding(binding) = decl else {
+        return Ok(None);
+    };
+    Ok(Some(Made {
+        reads: binding_reads(alloc, decls, binding.declares.as_slice())?,
+        replaces: Seq::new(alloc),
+        words: Seq::new(alloc),
+        given: Given::Nothing,
+    }))
 }
 
 /// Makes what is made of the declaration of a key.
@@ -249,6 +343,10 @@ pub(crate) fn make(
         },
         Kind::Interceptor => match types.decls.get(Kind::Interceptor, &key.name) {
             Some(decl) => Ok(Some(make_words(alloc, decl)?)),
+            None => Ok(None),
+        },
+        Kind::Binding => match types.decls.get(Kind::Binding, &key.name) {
+            Some(decl) => make_brought(alloc, types.decls, decl),
             None => Ok(None),
         },
         _ => Ok(None),

@@ -64,22 +64,11 @@ impl<'a> NextIndex<'a> {
         }
     }
 
-    /// Whether a point of the declaration of one of some keys asks for a type with these uses of qualifiers, as they are
-    /// written. It takes no memory.
-    pub fn is_asked_by(
-        &self,
-        alloc: Global,
-        keys: &[DeclKey],
-        bean_type: &Name,
-        uses: &[Qual],
-    ) -> bool
-        ensures { result ≡ is_asked_by self.now keys.now bean_type.now uses.now }
+    /// Whether the declaration of one of some keys asks for it. It takes no memory.
+    pub fn is_asked_by(&self, alloc: Global, keys: &[DeclKey], asked: Asked<'_>) -> bool
+        ensures { result
+            ≡ is_asked_by self.now keys.now asked.entry.question asked.entry.name.now asked.entry.uses.now }
     {
-        let asked = Asked {
-            bean_type,
-            uses,
-            apart: &[],
-        };
         is_asked_by(alloc, &self.next.decls, keys, asked)
     }
 

@@ -19,6 +19,8 @@ reason_number reasons.Replaces = 8
 reason_number reasons.Observes = 9
 reason_number reasons.Asks = 10
 reason_number reasons.Qualifies = 11
+reason_number reasons.Fires = 12
+reason_number reasons.Binds = 13
 
 -- the words have one reason and one name
 abbrev pub same_word : Word → Word → Bool

@@ -20,8 +20,13 @@ pub enum Reason {
     Observes,
     /// A point of it asks for the type.
     Asks,
-    /// A bean of it has the qualifier, or a point of it asks for it.
+    /// A bean of it has the qualifier, a point of it asks for it, an observer method of it observes it, or a body of it may
+    /// fire an event with it.
     Qualifies,
+    /// A body of it may fire an event of the type.
+    Fires,
+    /// A bean of it, or a method of one, has a binding of the type, or it is an interceptor with one.
+    Binds,
 }
 
 /// A reason and a name under which declarations are listed.
@@ -49,6 +54,8 @@ impl Reason {
             Reason::Observes => 9,
             Reason::Asks => 10,
             Reason::Qualifies => 11,
+            Reason::Fires => 12,
+            Reason::Binds => 13,
         }
     }
 }

@@ -4,5 +4,5 @@ use Rattle.cdi_index.specs.Asked.{asks_for, asks_in}
 use Rattle.cdi_index.proofs.asked.asks_for.Given as goal
 
 abbrev pub invariant-loop-mention : goal.invariant-loop-mention
-invariant-loop-mention l = list_any (asks_in l.asked.bean_type.now l.asked.uses.now) l.mention-iterator
-    ≡ asks_for l.asked.bean_type.now l.asked.uses.now l.decl
+invariant-loop-mention l = list_any (asks_in l.asked.question l.asked.name.now l.asked.uses.now) l.mention-iterator
+    ≡ asks_for l.asked.question l.asked.name.now l.asked.uses.now l.decl

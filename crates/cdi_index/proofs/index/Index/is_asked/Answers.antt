@@ -1,5 +1,6 @@
 use Rattle.std.proofs.Common.{refl, ap, ◌∙◌}
 use Rattle.std.specs.List.{list_any}
+use Rattle.cdi_postings.specs.Listing.{under}
 use Rattle.cdi_index.specs.Asked.{is_asked}
 use Rattle.cdi_index.specs.AskedAt.{is_asker_at}
 use Rattle.cdi_index.specs.declared.asked.Asked.{Asked}
@@ -9,9 +10,9 @@ use Rattle.cdi_index.proofs.index.Index.is_asked.Goals as goal
 
 pub returns : goal.returns
 returns c =
-    let asked : Asked = record { bean_type = c.args.bean_type; uses = c.args.uses; apart = c.args.apart } in
+    let asked : Asked = c.args.asked in
     c.is_asked_at.ensures
-    ∙ ap (list_any (is_asker_at c.self.inside.decls asked c.self.inside.shelf)) c.under.ensures
-    ∙ askers-are c.args.bean_type.now c.args.uses.now c.self.inside.decls c.self.inside.shelf c.self.inside.postings
-    c.self.invariant.shelved c.self.invariant.exact c.self.invariant.sound c.iter.ensures.distinct asked refl refl
-    ∙ ap (λ (s : State). is_asked s.decls c.args.bean_type.now c.args.uses.now c.args.apart.now) c.self.view_is
+    ∙ ap (λ w. list_any (is_asker_at c.self.inside.decls asked c.args.apart c.self.inside.shelf) (under c.self.inside.postings w)) c.word.ensures
+    ∙ askers-are asked.question asked.name.now asked.uses.now c.self.inside.decls c.self.inside.shelf c.self.inside.postings
+    c.self.invariant.shelved c.self.invariant.exact c.self.invariant.sound c.iter.ensures.distinct asked c.args.apart refl refl refl
+    ∙ ap (λ (s : State). is_asked s.decls asked.question asked.name.now asked.uses.now c.args.apart) c.self.view_is

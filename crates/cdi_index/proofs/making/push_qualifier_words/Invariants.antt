@@ -1,9 +1,0 @@
-use Rattle.std.proofs.Common.{◌≡◌, ◌++◌, map, take}
-use Rattle.cdi_model.specs.Quals.{name_of_use}
-use Rattle.cdi_postings.specs.Words.{word_at}
-use Rattle.cdi_postings.specs.declared.word.Reason.TheVariants as reasons
-use Rattle.cdi_index.proofs.making.push_qualifier_words.Given as goal
-
-abbrev pub invariant-loop-qual : goal.invariant-loop-qual
-invariant-loop-qual l =
-    l.words.items ≡ l.fn.words.items ++ map (λ u. word_at reasons.Qualifies (name_of_use u)) (take l.qual-index l.uses)
