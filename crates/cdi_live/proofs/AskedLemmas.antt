@@ -1,4 +1,4 @@
--- A choice is asked for after edits by a declaration that is not edited, or by one that is.
+-- A choice, or who observes an event, is asked for after edits by a declaration that is not edited, or by one that is.
 use Rattle.std.proofs.Common.{◌≡◌, ℕ, Bool, true, false, not, ◌&&◌, ◌||◌, List, [], ◌∷◌, flat_map, Option, Some, None, refl, sym, ap, ◌∙◌}
 use Rattle.std.proofs.Common.{inl, inr}
 use Rattle.std.specs.List.{list_any}
@@ -16,6 +16,8 @@ use Rattle.cdi_model.specs.Edits.{edited_all, edited_keys, is_among}
 use Rattle.cdi_model.specs.Mentions.{mentions, Mention, BodyOf, CallOf, EventOf, MethodOf, PointOf, StereotypeOf, TypeIn, UseOf}
 use Rattle.cdi_model.proofs.EditLemmas.{edits_keep_decl}
 use Rattle.cdi_model.proofs.EntryLemmas.{key_exact}
+use Rattle.cdi_index.specs.declared.asked.Question.{Question}
+use Rattle.cdi_index.specs.declared.asked.Question.TheVariants as questions
 use Rattle.cdi_index.specs.Asked.{asks_at, asks_for, asks_in, is_asked, is_asked_by}
 use Rattle.cdi_observe.specs.Keys.{ChoiceKey, same_key as same_question}
 use Rattle.cdi_observe.specs.Wanted.{is_wanted, is_wanted_choice, key_of_point, point_named, points_of}
@@ -50,8 +52,8 @@ any-among p (l ∷ keys) k among h = elim (or_cases (same_key l k) (is_among key
 
 module _ (t : List ℕ) (us : List Qual) where
   -- a declaration asks where a point of it does
-  at-point : (m : Mention) → list_any (λ point. same_question (ChoiceKey t us) (key_of_point point)) (point_named m) ≡ asks_in t us m
-  at-point (PointOf place point) = or-none (asks_in t us (PointOf place point))
+  at-point : (m : Mention) → list_any (λ point. same_question (ChoiceKey t us) (key_of_point point)) (point_named m) ≡ asks_in questions.Choice t us m
+  at-point (PointOf place point) = or-none (asks_in questions.Choice t us (PointOf place point))
     where
       or-none : (b : Bool) → (b || false) ≡ b
       or-none true = refl
@@ -65,69 +67,70 @@ module _ (t : List ℕ) (us : List Qual) where
   at-point (EventOf e) = refl
 
   at-points : (ms : List Mention)
-      → list_any (λ point. same_question (ChoiceKey t us) (key_of_point point)) (flat_map point_named ms) ≡ list_any (asks_in t us) ms
+      → list_any (λ point. same_question (ChoiceKey t us) (key_of_point point)) (flat_map point_named ms) ≡ list_any (asks_in questions.Choice t us) ms
   at-points [] = refl
   at-points (m ∷ ms) =
       list_any-append (λ point. same_question (ChoiceKey t us) (key_of_point point)) (point_named m) (flat_map point_named ms)
       ∙ ap (λ b. b || list_any (λ point. same_question (ChoiceKey t us) (key_of_point point)) (flat_map point_named ms)) (at-point m)
-      ∙ ap (λ b. asks_in t us m || b) (at-points ms)
+      ∙ ap (λ b. asks_in questions.Choice t us m || b) (at-points ms)
 
-  asks-is : (d : Decl) → list_any (λ point. same_question (ChoiceKey t us) (key_of_point point)) (points_of d) ≡ asks_for t us d
+  asks-is : (d : Decl) → list_any (λ point. same_question (ChoiceKey t us) (key_of_point point)) (points_of d) ≡ asks_for questions.Choice t us d
   unfolding asks_for
   asks-is d = at-points (mentions d)
 
   -- the choice is wanted where a declaration asks for it
-  pub wanted-is : (ds : List Decl) → is_wanted ds (ChoiceKey t us) ≡ list_any (asks_for t us) ds
+  pub wanted-is : (ds : List Decl) → is_wanted ds (ChoiceKey t us) ≡ list_any (asks_for questions.Choice t us) ds
   unfolding is_wanted_choice
   wanted-is ds =
       sym ((wanted_stand_once ds).within (ChoiceKey t us))
-      ∙ any-same (λ d. list_any (λ point. same_question (ChoiceKey t us) (key_of_point point)) (points_of d)) (asks_for t us) ds asks-is
+      ∙ any-same (λ d. list_any (λ point. same_question (ChoiceKey t us) (key_of_point point)) (points_of d)) (asks_for questions.Choice t us) ds asks-is
 
-  module _ (edits : List Edit) (ds : List Decl) (distinct : AreDistinct ds) (apart : AreDistinct (edited_all ds edits)) where
-    abbrev es : List Decl
-    es = edited_all ds edits
+module _ (q : Question) (t : List ℕ) (us : List Qual) (edits : List Edit) (ds : List Decl) (distinct : AreDistinct ds)
+    (apart : AreDistinct (edited_all ds edits)) where
+  abbrev es : List Decl
+  es = edited_all ds edits
 
-    abbrev keys : List DeclKey
-    keys = edited_keys edits
+  abbrev keys : List DeclKey
+  keys = edited_keys edits
 
-    abbrev others : Decl → Bool
-    others d = not (is_among keys (key_of d)) && asks_for t us d
+  abbrev others : Decl → Bool
+  others d = not (is_among keys (key_of d)) && asks_for q t us d
 
-    un-not : (b : Bool) → not b ≡ true → b ≡ false
-    un-not true h = absurd (false≢true h)
-    un-not false h = refl
+  un-not : (b : Bool) → not b ≡ true → b ≡ false
+  un-not true h = absurd (false≢true h)
+  un-not false h = refl
 
-    -- a declaration that is not edited is found before where it is found after
-    stays : (d : Decl) → is_among keys (key_of d) ≡ false → find_decl (kind_of d) (name_of_decl d) es ≡ find_decl (kind_of d) (name_of_decl d) ds
-    stays d none = edits_keep_decl edits ds (kind_of d) (name_of_decl d) none
+  -- a declaration that is not edited is found before where it is found after
+  stays : (d : Decl) → is_among keys (key_of d) ≡ false → find_decl (kind_of d) (name_of_decl d) es ≡ find_decl (kind_of d) (name_of_decl d) ds
+  stays d none = edits_keep_decl edits ds (kind_of d) (name_of_decl d) none
 
-    asked : is_asked_after ds es keys t us ≡ true → list_any (asks_for t us) es ≡ true
-    asked h = elim (or_cases (is_asked ds t us keys) (is_asked_by es keys t us) h) [
-      | inl other ↦
-          let it = witness (IsPresent ds) others ds (all_present ds distinct) other in
-          let parts = and_parts (not (is_among keys (key_of it.0))) (asks_for t us it.0) it.2 in
-          found_any (kind_of it.0) (name_of_decl it.0) es it.0 (asks_for t us)
-          (stays it.0 (un-not (is_among keys (key_of it.0)) parts.0) ∙ it.1) parts.1
-      | inr own ↦ any-elim (asks_at es t us) keys own (λ k asks. by k (find_decl k.kind k.name es) refl asks)
-    ]
-      where
-        by : (k : DeclKey) (o : Option Decl) → find_decl k.kind k.name es ≡ o → option_map_or (asks_for t us) o false ≡ true
-            → list_any (asks_for t us) es ≡ true
-        by k None there none = absurd (false≢true none)
-        by k (Some d) there asks = found_any k.kind k.name es d (asks_for t us) there asks
+  asked : is_asked_after ds es keys q t us ≡ true → list_any (asks_for q t us) es ≡ true
+  asked h = elim (or_cases (is_asked ds q t us keys) (is_asked_by es keys q t us) h) [
+    | inl other ↦
+        let it = witness (IsPresent ds) others ds (all_present ds distinct) other in
+        let parts = and_parts (not (is_among keys (key_of it.0))) (asks_for q t us it.0) it.2 in
+        found_any (kind_of it.0) (name_of_decl it.0) es it.0 (asks_for q t us)
+        (stays it.0 (un-not (is_among keys (key_of it.0)) parts.0) ∙ it.1) parts.1
+    | inr own ↦ any-elim (asks_at es q t us) keys own (λ k asks. by k (find_decl k.kind k.name es) refl asks)
+  ]
+    where
+      by : (k : DeclKey) (o : Option Decl) → find_decl k.kind k.name es ≡ o → option_map_or (asks_for q t us) o false ≡ true
+          → list_any (asks_for q t us) es ≡ true
+      by k None there none = absurd (false≢true none)
+      by k (Some d) there asks = found_any k.kind k.name es d (asks_for q t us) there asks
 
-    asks : list_any (asks_for t us) es ≡ true → is_asked_after ds es keys t us ≡ true
-    asks h =
-        let it = witness (IsPresent es) (asks_for t us) es (all_present es apart) h in
-        by it.0 it.1 it.2 (is_among keys (key_of it.0)) refl
-      where
-        by : (d : Decl) → IsPresent es d → asks_for t us d ≡ true → (b : Bool) → is_among keys (key_of d) ≡ b
-            → is_asked_after ds es keys t us ≡ true
-        by d there asking true among = or_right (is_asked ds t us keys) (is_asked_by es keys t us)
-            (any-among (asks_at es t us) keys (key_of d) among (ap (λ o. option_map_or (asks_for t us) o false) there ∙ asking))
-        by d there asking false none = or_left (is_asked ds t us keys) (is_asked_by es keys t us)
-            (found_any (kind_of d) (name_of_decl d) ds d others (sym (stays d none) ∙ there)
-            (and_from (not (is_among keys (key_of d))) (asks_for t us d) (ap not none) asking))
+  asks : list_any (asks_for q t us) es ≡ true → is_asked_after ds es keys q t us ≡ true
+  asks h =
+      let it = witness (IsPresent es) (asks_for q t us) es (all_present es apart) h in
+      by it.0 it.1 it.2 (is_among keys (key_of it.0)) refl
+    where
+      by : (d : Decl) → IsPresent es d → asks_for q t us d ≡ true → (b : Bool) → is_among keys (key_of d) ≡ b
+          → is_asked_after ds es keys q t us ≡ true
+      by d there asking true among = or_right (is_asked ds q t us keys) (is_asked_by es keys q t us)
+          (any-among (asks_at es q t us) keys (key_of d) among (ap (λ o. option_map_or (asks_for q t us) o false) there ∙ asking))
+      by d there asking false none = or_left (is_asked ds q t us keys) (is_asked_by es keys q t us)
+          (found_any (kind_of d) (name_of_decl d) ds d others (sym (stays d none) ∙ there)
+          (and_from (not (is_among keys (key_of d))) (asks_for q t us d) (ap not none) asking))
 
-    pub asked-after : is_asked_after ds es keys t us ≡ is_wanted es (ChoiceKey t us)
-    asked-after = same-bool (is_asked_after ds es keys t us) (list_any (asks_for t us) es) asked asks ∙ sym (wanted-is es)
+  pub asked-after : is_asked_after ds es keys q t us ≡ list_any (asks_for q t us) es
+  asked-after = same-bool (is_asked_after ds es keys q t us) (list_any (asks_for q t us) es) asked asks

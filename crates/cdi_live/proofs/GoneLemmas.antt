@@ -15,6 +15,7 @@ use Rattle.cdi_model.specs.Edits.{edited_all, edited_keys, is_among}
 use Rattle.cdi_model.specs.Mentions.{mentions, Mention, BodyOf, CallOf, EventOf, MethodOf, PointOf, StereotypeOf, TypeIn, UseOf}
 use Rattle.cdi_model.specs.SameUse.{same_quals, same_quals-decides}
 use Rattle.cdi_effective.specs.Qualifiers.{required}
+use Rattle.cdi_index.specs.declared.asked.Question.TheVariants as questions
 use Rattle.cdi_index.specs.Asked.{asks_for, asks_in}
 use Rattle.cdi_index.specs.Told.{Tells}
 use Rattle.cdi_memo.specs.Answers.{parts_under, Answers}
@@ -49,7 +50,7 @@ module _ (edits : List Edit) (ds : List Decl) (told : List DeclKey) (distinct : 
   abbrev keys : List DeclKey
   keys = edited_keys edits
 
-  asked : list_any (asks_for t us) ds ≡ true
+  asked : list_any (asks_for questions.Choice t us) ds ≡ true
   asked = sym (wanted-is t us ds) ∙ wanted
 
   -- ---- by what is seen
@@ -105,19 +106,19 @@ module _ (edits : List Edit) (ds : List Decl) (told : List DeclKey) (distinct : 
   -- ---- by who asks
 
   module _ (asks : Asks) (at_before : asks.before ≡ ds)
-      (drops : (s : List ℕ) (vs : List Qual) → asks.drops s vs ≡ (is_kept m s vs && not (is_asked_after ds es keys s vs))) where
+      (drops : (s : List ℕ) (vs : List Qual) → asks.drops s vs ≡ (is_kept m s vs && not (is_asked_after ds es keys questions.Choice s vs))) where
     un-not : (b : Bool) → not b ≡ true → b ≡ false
     un-not true h = absurd (false≢true h)
     un-not false h = refl
 
     drops-own : asks.drops t us ≡ not (is_wanted es (ChoiceKey t us))
-    drops-own = drops t us ∙ ap (λ b. b && not (is_asked_after ds es keys t us)) kept ∙ ap not (asked-after t us edits ds distinct apart)
+    drops-own = drops t us ∙ ap (λ b. b && not (is_asked_after ds es keys questions.Choice t us)) kept ∙ ap not (asked-after questions.Choice t us edits ds distinct apart ∙ sym (wanted-is t us es))
 
     -- what a declaration drops is what it asks for, and is not wanted
-    dropped-in : (x : Mention) → is_dropped_in asks t us x ≡ (asks_in t us x && not (is_wanted es (ChoiceKey t us)))
-    dropped-in (PointOf place point) = by (asks_in t us (PointOf place point)) refl
+    dropped-in : (x : Mention) → is_dropped_in asks t us x ≡ (asks_in questions.Choice t us x && not (is_wanted es (ChoiceKey t us)))
+    dropped-in (PointOf place point) = by (asks_in questions.Choice t us (PointOf place point)) refl
       where
-        by : (b : Bool) → asks_in t us (PointOf place point) ≡ b
+        by : (b : Bool) → asks_in questions.Choice t us (PointOf place point) ≡ b
             → (b && asks.drops point.required_type (required point.qualifiers)) ≡ (b && not (is_wanted es (ChoiceKey t us)))
         by false e = refl
         by true e =
@@ -132,11 +133,11 @@ module _ (edits : List Edit) (ds : List Decl) (told : List DeclKey) (distinct : 
     dropped-in (CallOf place params call) = refl
     dropped-in (EventOf e) = refl
 
-    dropped-any : (xs : List Mention) → list_any (is_dropped_in asks t us) xs ≡ (list_any (asks_in t us) xs && not (is_wanted es (ChoiceKey t us)))
+    dropped-any : (xs : List Mention) → list_any (is_dropped_in asks t us) xs ≡ (list_any (asks_in questions.Choice t us) xs && not (is_wanted es (ChoiceKey t us)))
     dropped-any [] = refl
     dropped-any (x ∷ xs) =
         (λ i. dropped-in x i || dropped-any xs i)
-        ∙ both (asks_in t us x) (list_any (asks_in t us) xs) (not (is_wanted es (ChoiceKey t us)))
+        ∙ both (asks_in questions.Choice t us x) (list_any (asks_in questions.Choice t us) xs) (not (is_wanted es (ChoiceKey t us)))
       where
         both : (a b c : Bool) → ((a && c) || (b && c)) ≡ ((a || b) && c)
         both true true true = refl
@@ -145,7 +146,7 @@ module _ (edits : List Edit) (ds : List Decl) (told : List DeclKey) (distinct : 
         both true false false = refl
         both false b c = refl
 
-    dropped-by : (d : Decl) → is_dropped_by asks t us d ≡ (asks_for t us d && not (is_wanted es (ChoiceKey t us)))
+    dropped-by : (d : Decl) → is_dropped_by asks t us d ≡ (asks_for questions.Choice t us d && not (is_wanted es (ChoiceKey t us)))
     unfolding is_dropped_by asks_for
     dropped-by d = dropped-any (mentions d)
 
@@ -157,23 +158,23 @@ module _ (edits : List Edit) (ds : List Decl) (told : List DeclKey) (distinct : 
           where
             by : (o : Option Decl) → option_map_or (is_dropped_by asks t us) o false ≡ true → not (is_wanted es (ChoiceKey t us)) ≡ true
             by None none = absurd (false≢true none)
-            by (Some d) dropped = (and_parts (asks_for t us d) (not (is_wanted es (ChoiceKey t us))) (sym (dropped-by d) ∙ dropped)).1
+            by (Some d) dropped = (and_parts (asks_for questions.Choice t us d) (not (is_wanted es (ChoiceKey t us))) (sym (dropped-by d) ∙ dropped)).1
 
         back : not (is_wanted es (ChoiceKey t us)) ≡ true → list_any (is_dropped_at asks t us) keys ≡ true
         back unwanted =
-            let it = witness (IsPresent ds) (asks_for t us) ds (all_present ds distinct) asked in
+            let it = witness (IsPresent ds) (asks_for questions.Choice t us) ds (all_present ds distinct) asked in
             by it.0 it.1 it.2 (is_among keys (key_of it.0)) refl
           where
-            by : (d : Decl) → IsPresent ds d → asks_for t us d ≡ true → (b : Bool) → is_among keys (key_of d) ≡ b
+            by : (d : Decl) → IsPresent ds d → asks_for questions.Choice t us d ≡ true → (b : Bool) → is_among keys (key_of d) ≡ b
                 → list_any (is_dropped_at asks t us) keys ≡ true
             by d found asking true among = any-among (is_dropped_at asks t us) keys (key_of d) among
                 (ap (λ list. option_map_or (is_dropped_by asks t us) (find_decl (kind_of d) (name_of_decl d) list) false) at_before
                 ∙ ap (λ o. option_map_or (is_dropped_by asks t us) o false) found ∙ dropped-by d
-                ∙ and_from (asks_for t us d) (not (is_wanted es (ChoiceKey t us))) asking unwanted)
+                ∙ and_from (asks_for questions.Choice t us d) (not (is_wanted es (ChoiceKey t us))) asking unwanted)
             by d found asking false none = absurd (false≢true (sym (un-not (is_wanted es (ChoiceKey t us)) unwanted)
-                ∙ sym (asked-after t us edits ds distinct apart)
-                ∙ or_left _ _ (found_any (kind_of d) (name_of_decl d) ds d (λ x. not (is_among keys (key_of x)) && asks_for t us x) found
-                (and_from (not (is_among keys (key_of d))) (asks_for t us d) (ap not none) asking))))
+                ∙ sym (asked-after questions.Choice t us edits ds distinct apart ∙ sym (wanted-is t us es))
+                ∙ or_left _ _ (found_any (kind_of d) (name_of_decl d) ds d (λ x. not (is_among keys (key_of x)) && asks_for questions.Choice t us x) found
+                (and_from (not (is_among keys (key_of d))) (asks_for questions.Choice t us d) (ap not none) asking))))
 
     -- ---- both
 

@@ -33,7 +33,9 @@ use Rattle.cdi_postings.specs.declared.word.Reason.TheVariants as reasons
 use Rattle.cdi_postings.specs.declared.word.Word.{Word}
 use Rattle.cdi_postings.specs.Words.{same_word, same_word_equiv, word_at}
 use Rattle.cdi_index.specs.Asked.{asks_for, asks_in}
-use Rattle.cdi_index.specs.Made.{words_have, words_named, words_named_in, words_of_record, words_of_uses}
+use Rattle.cdi_index.specs.declared.asked.Question.TheVariants as questions
+use Rattle.cdi_index.specs.Made.{words_have, words_named, words_named_in, words_of_bindings, words_of_observer, words_of_record}
+use Rattle.cdi_index.specs.Made.{words_of_uses}
 use Rattle.cdi_index.specs.Told.{Tells}
 use Rattle.cdi_index.specs.Under.{has_one, words_by}
 use Rattle.cdi_index.proofs.AskedLemmas.{words-of-asker}
@@ -138,7 +140,9 @@ used-by (r ∷ rs) key h =
           let it = used r.qualifiers key here in
           let types : List Word = map (word_at reasons.HasType) r.types in
           let names : List Word = map (word_at reasons.HasName) (option_to_list r.name) in
-          let uses : List Word = words_of_uses r.qualifiers in
+          let quals : List Word = words_of_uses r.qualifiers in
+          let bindings : List Word = words_of_bindings r.bindings in
+          let uses : List Word = quals ++ bindings in
           let rest : List Word = flat_map words_of_record rs in
           record {
             name = it.name;
@@ -148,7 +152,9 @@ used-by (r ∷ rs) key h =
                 (words-append (word it.name) types (names ++ uses)
                 ∙ or_right (words_have types (word it.name)) (words_have (names ++ uses) (word it.name))
                 (words-append (word it.name) names uses
-                ∙ or_right (words_have names (word it.name)) (words_have uses (word it.name)) it.has));
+                ∙ or_right (words_have names (word it.name)) (words_have uses (word it.name))
+                (words-append (word it.name) quals bindings
+                ∙ or_left (words_have quals (word it.name)) (words_have bindings (word it.name)) it.has)));
           }
       | inr there ↦
           let it = used-by rs key there in
@@ -217,7 +223,7 @@ module _ (edits : List Edit) (ds : List Decl) (told : List DeclKey) (distinct : 
       by true e =
           let it = used-by (own_records ds b) key (ap (λ ks. is_among ks key) (sym (quals_are_own ds b)) ∙ e) in
           let own : List Word = flat_map words_of_record (own_records ds b) in
-          let more : List Word = map (λ o. word_at reasons.Observes o.event_type) b.observers in
+          let more : List Word = flat_map words_of_observer b.observers in
           let named : List Word = words_named (decls.Bean b) in
           absurd (false≢true (sym (qualified-clear it.name (decls.Bean b) there (ap (is_among keys) (sym it.is) ∙ edited)
           (words-append (word it.name) (own ++ more) named
@@ -277,7 +283,7 @@ module _ (edits : List Edit) (ds : List Decl) (told : List DeclKey) (distinct : 
 
   -- ---- its qualifiers
 
-  module _ (us : List Qual) (wanted : list_any (asks_for t us) ds ≡ true) where
+  module _ (us : List Qual) (wanted : list_any (asks_for questions.Choice t us) ds ≡ true) where
     uses-exact : (vs : List Qual) → same_quals us vs ≡ true → us ≡ vs
     uses-exact vs h = (same_quals-decides us vs).0 h
 
@@ -290,9 +296,9 @@ module _ (edits : List Edit) (ds : List Decl) (told : List DeclKey) (distinct : 
       words : words_have (words_of_uses (required us)) w ≡ true → words_have (flat_map words_named_in ms) w ≡ true
       types : holds (flat_map asked_in ms) t ≡ true
 
-    asks-named : (ms : List Mention) (w : Word) → list_any (asks_in t us) ms ≡ true → Asks ms w
+    asks-named : (ms : List Mention) (w : Word) → list_any (asks_in questions.Choice t us) ms ≡ true → Asks ms w
     asks-named [] w h = absurd (false≢true h)
-    asks-named (m ∷ ms) w h = elim (or_cases (asks_in t us m) (list_any (asks_in t us) ms) h) [
+    asks-named (m ∷ ms) w h = elim (or_cases (asks_in questions.Choice t us m) (list_any (asks_in questions.Choice t us) ms) h) [
       | inl here ↦
           let it = at m here in
           record {
@@ -311,7 +317,7 @@ module _ (edits : List Edit) (ds : List Decl) (told : List DeclKey) (distinct : 
           }
     ]
       where
-        at : (m : Mention) → asks_in t us m ≡ true
+        at : (m : Mention) → asks_in questions.Choice t us m ≡ true
             → (words_have (words_of_uses (required us)) w ≡ true → words_have (words_named_in m) w ≡ true) × (holds (asked_in m) t ≡ true)
         at (PointOf place point) h =
             let parts = and_parts (bytes_eq t point.required_type) (same_quals us (required point.qualifiers)) h in
@@ -337,9 +343,9 @@ module _ (edits : List Edit) (ds : List Decl) (told : List DeclKey) (distinct : 
         by : (b : Bool) → words_have (words_of_uses (required us)) (word q) ≡ b → b ≡ false
         by false e = refl
         by true e =
-            let it = witness (IsPresent ds) (asks_for t us) ds (all_present ds distinct) wanted in
+            let it = witness (IsPresent ds) (asks_for questions.Choice t us) ds (all_present ds distinct) wanted in
             let asks = asks-named (mentions it.0) (word q) it.2 in
-            absurd (false≢true (sym (qualified-clear q it.0 it.1 edited (words-of-asker t us ds it.0 (word q) it.2 (asks.words e)))
+            absurd (false≢true (sym (qualified-clear q it.0 it.1 edited (words-of-asker questions.Choice t us ds it.0 (word q) it.2 (asks.words e)))
             ∙ holds-append (types_of_records (entries ds it.0)) (asked_types it.0) t
             ∙ or_right (holds (types_of_records (entries ds it.0)) t) (holds (asked_types it.0) t) asks.types))
 

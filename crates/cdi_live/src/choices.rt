@@ -12,7 +12,7 @@ ghost use Rattle.cdi_resolve.specs.Choices.{chosen};
 ghost use Rattle.cdi_live.specs.Gone.{is_gone};
 
 use crate::gone::Gone;
-use cdi_index::Index;
+use cdi_index::{Asked, Index, Question};
 use cdi_memo::Memo;
 use cdi_model::{Name, Quals, Work};
 use cdi_questions::choose;
@@ -41,7 +41,12 @@ fn keep(
         then Some choice.now else answer same_quals choices.old t us)) }
     ensures err { OnErr result (choices.new ≡ choices.old) }
 {
-    if !index.is_asked(&bean_type, uses.as_slice(), &[]) {
+    let asked = Asked {
+        question: Question::Choice,
+        name: &bean_type,
+        uses: uses.as_slice(),
+    };
+    if !index.is_asked(asked, &[]) {
         return Ok(());
     }
     let part = uses.copy()?;

@@ -9,8 +9,9 @@ ghost use Rattle.cdi_live.specs.Gone.{is_gone};
 use crate::choices::required_of;
 use crate::gone::{Gone, push_gone};
 use crate::sides::Sides;
+use cdi_index::{Asked, Question};
 use cdi_memo::Memo;
-use cdi_model::{Decl, DeclKey, Mention, Name, PointDecl, Qual, Quals};
+use cdi_model::{Decl, DeclKey, Mention, PointDecl, Quals};
 use cdi_resolve::Choice;
 use std::alloc::{AllocError, Global};
 
@@ -23,13 +24,13 @@ pub(crate) struct Wants<'a> {
     pub(crate) by_default: &'a Quals,
 }
 
-/// Whether a point asks for a choice after the draft. It looks at the declarations that ask for the type, and at those that
-/// are edited.
-fn is_asked_after(alloc: Global, sides: &Sides<'_>, bean_type: &Name, uses: &[Qual]) -> bool
-    ensures { result ≡ is_asked_after sides.now.index.now.decls sides.now.next.now sides.now.edited.now bean_type.now uses.now }
+/// Whether a declaration asks for it after the draft. It looks at those that ask for the type, and at those that are
+/// edited.
+pub(crate) fn is_asked_after(alloc: Global, sides: &Sides<'_>, asked: Asked<'_>) -> bool
+    ensures { result ≡ is_asked_after sides.now.index.now.decls sides.now.next.now sides.now.edited.now
+        asked.entry.question asked.entry.name.now asked.entry.uses.now }
 {
-    sides.index.is_asked(bean_type, uses, sides.edited)
-        || sides.next.is_asked_by(alloc, sides.edited, bean_type, uses)
+    sides.index.is_asked(asked, sides.edited) || sides.next.is_asked_by(alloc, sides.edited, asked)
 }
 
 /// Appends what a point of an edited declaration asks for, if it is kept and no point asks for it after the draft.
@@ -48,7 +49,12 @@ fn push_dropped_by_point(
     if wants.choices.get(bean_type, uses).is_none() {
         return Ok(());
     }
-    if is_asked_after(alloc, wants.sides, bean_type, uses.as_slice()) {
+    let asked = Asked {
+        question: Question::Choice,
+        name: bean_type,
+        uses: uses.as_slice(),
+    };
+    if is_asked_after(alloc, wants.sides, asked) {
         return Ok(());
     }
     push_gone(bean_type, uses, gone)
