@@ -22,6 +22,8 @@ use Rattle.cdi_effective.specs.Beans.{beans, entries}
 use Rattle.cdi_effective.proofs.PlaceLemmas.{own-found, own-position}
 use Rattle.cdi_postings.specs.declared.word.Reason.TheVariants as reasons
 use Rattle.cdi_postings.specs.Words.{word_at}
+use Rattle.cdi_postings.specs.declared.word.Word.{Word}
+use Rattle.cdi_index.specs.Made.{is_kept}
 use Rattle.cdi_positions.specs.Marks.{is_marked, marked_from}
 use Rattle.cdi_index.specs.Under.{has_one, records_at}
 use Rattle.cdi_index.proofs.SoughtLemmas.{none-of-type}
@@ -52,7 +54,7 @@ module _ {X Y : Type 0} (f : X → List Y) (q : Y → Bool) (all : List X) where
   none-given (x ∷ xs) none = filter-append q (f x) (flat_map f xs)
       ∙ ap (λ ys. ys ++ filter q (flat_map f xs)) (none 0 x refl) ∙ none-given xs (λ i. none (suc i))
 
-  gather : (n : ℕ) (marks : List Bool) (xs : List X) → ((i : ℕ) → slice_get all (n + i) ≡ slice_get xs i)
+  pub gather : (n : ℕ) (marks : List Bool) (xs : List X) → ((i : ℕ) → slice_get all (n + i) ≡ slice_get xs i)
       → ((i : ℕ) (x : X) → slice_get xs i ≡ Some x → is_marked marks i ≡ false → filter q (f x) ≡ [])
       → filter q (flat_map found_at (marked_from n marks)) ≡ filter q (flat_map f xs)
   gather n [] xs here others = sym (none-given xs (λ i x there. others i x there refl))
@@ -111,9 +113,8 @@ itself : (n : ℕ) → nat_eq n n ≡ true
 itself n = nat_eq_equiv.refl n
 
 module _ (sides : Sides) (between : IsBetween sides) (distinct : AreDistinct sides.index.now.decls) (apart : AreDistinct sides.next.now)
-    (t : List ℕ) (before : List Bool)
-    (found : (p : ℕ) → is_marked before p ≡ option_map_or (has_one sides.index.now.decls (word_at reasons.HasType t ∷ []))
-    (slice_get sides.index.now.decls p) false) where
+    (words : List Word) (before : List Bool)
+    (found : (p : ℕ) → is_marked before p ≡ option_map_or (has_one sides.index.now.decls words) (slice_get sides.index.now.decls p) false) where
   abbrev ds : List Decl
   ds = sides.index.now.decls
 
@@ -124,7 +125,7 @@ module _ (sides : Sides) (between : IsBetween sides) (distinct : AreDistinct sid
   at-own : (p : ℕ) (d : Decl) → slice_get es p ≡ Some d → is_at es (key_of d) p ≡ true
   at-own p d there = ap (λ o. option_map_or (λ i. nat_eq i p) o false) (own-position es p d apart there) ∙ itself p
 
-  -- where a bean declaration is found
+  -- where a declaration is found
   placed : (o : Option ℕ) (d : Decl) → position (is_of (kind_of d) (name_of_decl d)) ds ≡ o → find_decl (kind_of d) (name_of_decl d) ds ≡ Some d
       → (q : ℕ) × (slice_get ds q ≡ Some d)
   placed None d none there = absurd (false≢true (ap is_there (sym none) ∙ position-found (kind_of d) (name_of_decl d) ds ∙ ap is_there there))
@@ -134,38 +135,54 @@ module _ (sides : Sides) (between : IsBetween sides) (distinct : AreDistinct sid
       is_there (Some x) = true
   placed (Some q) d at there = (q, position-there (kind_of d) (name_of_decl d) ds q at ∙ there)
 
-  pub unmarked : (p : ℕ) (d : Decl) → slice_get es p ≡ Some d
+  -- what is at a position that is not marked is not affected, and is there before without one of the words
+  pub unmarked-decl : (p : ℕ) (d : Decl) → is_kept (kind_of d) ≡ true → slice_get es p ≡ Some d
       → (list_any (λ q. is_place_of_one ds es q p) (marked_from 0 before) || list_any (λ k. is_at es k p) sides.affected.now) ≡ false
-      → filter (λ b. has b.types t) (entries es d) ≡ []
-  unmarked p (decls.Bean b) there none =
-      let k = key_at kinds.Bean b.name in
+      → (is_among sides.affected.now (key_of d) ≡ false) × (((q : ℕ) × (slice_get ds q ≡ Some d)) × (has_one ds words d ≡ false))
+  unmarked-decl p d kept there none =
+      let k = key_of d in
       let parts = or_parts (list_any (λ q. is_place_of_one ds es q p) (marked_from 0 before)) (list_any (λ k. is_at es k p) sides.affected.now) none in
-      let untold : is_among sides.affected.now k ≡ false =
-      among-any (λ k. is_at es k p) sides.affected.now k parts.1 (at-own p (decls.Bean b) there) in
+      let untold : is_among sides.affected.now k ≡ false = among-any (λ k. is_at es k p) sides.affected.now k parts.1 (at-own p d there) in
       let unedited : is_among sides.edited.now k ≡ false = not-edited (is_among sides.edited.now k) refl untold in
-      let same : find_decl kinds.Bean b.name ds ≡ Some (decls.Bean b) =
-      sym (edits_keep_decl between.edited.edits ds kinds.Bean b.name (ap (λ ks. is_among ks k) (sym between.edited.keys) ∙ unedited))
-      ∙ ap (find_decl kinds.Bean b.name) (sym between.edited.decls) ∙ own-found es p (decls.Bean b) apart there in
-      let here = placed (position (is_of kinds.Bean b.name) ds) (decls.Bean b) refl same in
-      let records : entries es (decls.Bean b) ≡ entries ds (decls.Bean b) =
-      ap (λ o. option_map_or (entries es) o []) (sym there) ∙ sym (records-of-bean es p b apart there)
-      ∙ between.told.records b.name untold ∙ records-of-bean ds here.0 b distinct here.1
-      ∙ ap (λ o. option_map_or (entries ds) o []) here.1 in
-      ap (filter (λ x. has x.types t)) records ∙ none-of-type ds (decls.Bean b) t
-      (without (has_one ds (word_at reasons.HasType t ∷ []) (decls.Bean b)) refl here.0 here.1 parts.0)
+      let same : find_decl (kind_of d) (name_of_decl d) ds ≡ Some d =
+      sym (edits_keep_decl between.edited.edits ds (kind_of d) (name_of_decl d) (ap (λ ks. is_among ks k) (sym between.edited.keys) ∙ unedited))
+      ∙ ap (find_decl (kind_of d) (name_of_decl d)) (sym between.edited.decls) ∙ own-found es p d apart there in
+      let here = placed (position (is_of (kind_of d) (name_of_decl d)) ds) d refl same in
+      (untold, (here, without (has_one ds words d) refl here.0 here.1 parts.0))
     where
-      not-edited : (c : Bool) → is_among sides.edited.now (key_at kinds.Bean b.name) ≡ c
-          → is_among sides.affected.now (key_at kinds.Bean b.name) ≡ false → c ≡ false
+      not-edited : (c : Bool) → is_among sides.edited.now (key_of d) ≡ c → is_among sides.affected.now (key_of d) ≡ false → c ≡ false
       not-edited false e untold = refl
-      not-edited true e untold = absurd (false≢true (sym untold ∙ between.told.edited (key_at kinds.Bean b.name) refl e))
+      not-edited true e untold = absurd (false≢true (sym untold ∙ between.told.edited (key_of d) kept e))
 
-      without : (c : Bool) → has_one ds (word_at reasons.HasType t ∷ []) (decls.Bean b) ≡ c → (q : ℕ) → slice_get ds q ≡ Some (decls.Bean b)
+      without : (c : Bool) → has_one ds words d ≡ c → (q : ℕ) → slice_get ds q ≡ Some d
           → list_any (λ q. is_place_of_one ds es q p) (marked_from 0 before) ≡ false → c ≡ false
       without false e q at none = refl
       without true e q at none = absurd (false≢true (sym none ∙ among-marked (λ q. is_place_of_one ds es q p) 0 before q
-          (found q ∙ ap (λ o. option_map_or (has_one ds (word_at reasons.HasType t ∷ [])) o false) at ∙ e)
+          (found q ∙ ap (λ o. option_map_or (has_one ds words) o false) at ∙ e)
           (ap (λ n. is_place_of_one ds es n p) (omega arith) ∙ ap (λ o. option_map_or (λ d. is_at es (key_of d) p) o false) at
-          ∙ at-own p (decls.Bean b) there)))
+          ∙ at-own p d there)))
+
+module _ (sides : Sides) (between : IsBetween sides) (distinct : AreDistinct sides.index.now.decls) (apart : AreDistinct sides.next.now)
+    (t : List ℕ) (before : List Bool)
+    (found : (p : ℕ) → is_marked before p ≡ option_map_or (has_one sides.index.now.decls (word_at reasons.HasType t ∷ []))
+    (slice_get sides.index.now.decls p) false) where
+  abbrev olds : List Decl
+  olds = sides.index.now.decls
+
+  abbrev news : List Decl
+  news = sides.next.now
+
+  pub unmarked : (p : ℕ) (d : Decl) → slice_get news p ≡ Some d
+      → (list_any (λ q. is_place_of_one olds news q p) (marked_from 0 before) || list_any (λ k. is_at news k p) sides.affected.now) ≡ false
+      → filter (λ b. has b.types t) (entries news d) ≡ []
+  unmarked p (decls.Bean b) there none =
+      let it = unmarked-decl sides between distinct apart (word_at reasons.HasType t ∷ []) before found p (decls.Bean b) refl there none in
+      let here = it.1.0 in
+      let records : entries news (decls.Bean b) ≡ entries olds (decls.Bean b) =
+      ap (λ o. option_map_or (entries news) o []) (sym there) ∙ sym (records-of-bean news p b apart there)
+      ∙ between.told.records b.name it.0 ∙ records-of-bean olds here.0 b distinct here.1
+      ∙ ap (λ o. option_map_or (entries olds) o []) here.1 in
+      ap (filter (λ x. has x.types t)) records ∙ none-of-type olds (decls.Bean b) t it.1.1
   unmarked p (decls.Type d) there none = refl
   unmarked p (decls.Qualifier d) there none = refl
   unmarked p (decls.Binding d) there none = refl

@@ -4,3 +4,5 @@ mod SuspectLemmas
 mod GoneLemmas
 mod LiveLemmas
 mod PartLemmas
+mod ReaderLemmas
+mod InterceptorLemmas

@@ -62,8 +62,19 @@ fn mark_affected(sides: &Sides<'_>, marked: &mut PositionSet)
     }
 }
 
+/// The positions after the draft of the declarations that are at some positions before it, and of those that it affects.
+pub(crate) fn positions_after(sides: &Sides<'_>, before: &PositionSet) -> PositionSet
+    ensures { (p : _) → is_marked result p ≡ (list_any (λ q. is_place_of_one sides.now.index.now.decls sides.now.next.now q p)
+        (marked_from 0 before.now) || list_any (λ k. is_at sides.now.next.now k p) sides.now.affected.now) }
+{
+    let mut marked = PositionSet::new();
+    mark_kept(sides, before, &mut marked);
+    mark_affected(sides, &mut marked);
+    marked
+}
+
 /// The positions after the draft of the declarations that may have a bean of a type. What is at no other has none.
-fn positions_after(sides: &Sides<'_>, bean_type: &Name) -> PositionSet
+fn positions_of_type(sides: &Sides<'_>, bean_type: &Name) -> PositionSet
     requires { IsBetween sides.now }
     ensures { (p : _) (d : _) → slice_get sides.now.next.now p ≡ Some d → is_marked result p ≡ false
         → filter (λ b. has b.types bean_type.now) (entries sides.now.next.now d) ≡ [] }
@@ -76,10 +87,7 @@ fn positions_after(sides: &Sides<'_>, bean_type: &Name) -> PositionSet
         name: *bean_type,
     };
     let before = sides.index.positions_under(&[word]);
-    let mut marked = PositionSet::new();
-    mark_kept(sides, &before, &mut marked);
-    mark_affected(sides, &mut marked);
-    marked
+    positions_after(sides, &before)
 }
 
 /// Appends those of some records that have a type.
@@ -127,7 +135,7 @@ fn beans_after<'a>(
     ensures { IfOk result (λ list. map (λ bean. bean.now) list.items
         ≡ filter (λ b. has b.types bean_type.now) (beans sides.now.next.now)) }
 {
-    let positions = positions_after(sides, bean_type);
+    let positions = positions_of_type(sides, bean_type);
     beans_at(alloc, sides.next, bean_type, &positions)
 }
 

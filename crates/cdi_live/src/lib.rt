@@ -1,10 +1,15 @@
 //! Answers that are kept until an edit touches them.
 #![tactic(auto)]
 
+mod chain_compare;
+mod chain_gone;
+mod chain_place;
+mod chain_suspects;
 mod choices;
 mod compare;
 mod dropped;
 mod gone;
+mod interceptors;
 mod live;
 mod prepare;
 mod sides;

@@ -15,7 +15,9 @@ later (suc zero) = reasons.HasName
 later (suc (suc zero)) = reasons.Replaces
 later (suc (suc (suc zero))) = reasons.Observes
 later (suc (suc (suc (suc zero)))) = reasons.Asks
-later (suc (suc (suc (suc (suc n))))) = reasons.Qualifies
+later (suc (suc (suc (suc (suc zero))))) = reasons.Qualifies
+later (suc (suc (suc (suc (suc (suc zero)))))) = reasons.Fires
+later (suc (suc (suc (suc (suc (suc (suc n))))))) = reasons.Binds
 
 reason_at : ℕ → Reason
 reason_at zero = reasons.RestsOn kinds.Type
@@ -40,6 +42,8 @@ reason_again reasons.Replaces = refl
 reason_again reasons.Observes = refl
 reason_again reasons.Asks = refl
 reason_again reasons.Qualifies = refl
+reason_again reasons.Fires = refl
+reason_again reasons.Binds = refl
 
 pub word_exact : (v w : Word) → same_word v w ≡ true → v ≡ w
 word_exact v w h =

@@ -1,0 +1,157 @@
+-- The interceptors that a chain sees are found by the words of its bindings.
+use Rattle.std.proofs.Common.{◌≡◌, ℕ, Bool, true, false, cond, ◌&&◌, ◌||◌, is_some, List, [], ◌∷◌, ◌++◌, map, flat_map, filter, slice_get, Some}
+use Rattle.std.proofs.Common.{refl, sym, ap, ◌∙◌, arith}
+use Rattle.std.specs.List.{list_any}
+use Rattle.std.specs.Str.{bytes_eq}
+use Rattle.std.proofs.Math.Bool.{and-false}
+use Rattle.std.proofs.lemmas.Bool.{false≢true, or_left, or_parts, or_right}
+use Rattle.std.proofs.lemmas.Grind.{flat_map-append}
+use Rattle.std.proofs.lemmas.List.Elements.{filter-append}
+use Rattle.std.proofs.lemmas.List.Folds.{list_any-append}
+use Rattle.cdi_model.specs.declared.decl.Decl.{Decl}
+use Rattle.cdi_model.specs.declared.decl.Decl.TheVariants as decls
+use Rattle.cdi_model.specs.declared.decl.InterceptorDecl.{InterceptorDecl}
+use Rattle.cdi_model.specs.declared.decl.PointDecl.{PointDecl}
+use Rattle.cdi_model.specs.declared.decl.UseKind.TheVariants as uses
+use Rattle.cdi_model.specs.declared.mention.PointPlace.TheVariants as points
+use Rattle.cdi_model.specs.declared.place.BeanPlace.{BeanPlace}
+use Rattle.cdi_model.specs.declared.place.PartPlace.TheVariants as parts
+use Rattle.cdi_model.specs.declared.quals.Qual.{Qual}
+use Rattle.cdi_model.specs.Mentions.{mentions, of_bindings, of_parts, of_point, Mention, UseOf}
+use Rattle.cdi_match.proofs.Names.{bytes_eq-turned}
+use Rattle.cdi_effective.specs.Qualifiers.{uses_one}
+use Rattle.cdi_intercept.specs.Chains.{as_interceptor, in_order, interceptors, is_before, is_enabled, part_for}
+use Rattle.cdi_intercept.specs.Sees.{is_seen, shares_type}
+use Rattle.cdi_intercept.specs.Sorting.{sorted_by}
+use Rattle.cdi_positions.specs.Marks.{is_marked, marked_from}
+use Rattle.cdi_postings.specs.declared.word.Reason.TheVariants as reasons
+use Rattle.cdi_postings.specs.declared.word.Word.{Word}
+use Rattle.cdi_postings.specs.Words.{same_word, same_word_equiv, word_at}
+use Rattle.cdi_index.specs.Made.{words_have, words_named, words_named_in}
+use Rattle.cdi_index.specs.Under.{has_one}
+use Rattle.cdi_stakes.proofs.ChainLemmas.{order}
+use Rattle.cdi_stakes.proofs.SortLemmas.{filtered_in_order}
+use Rattle.std.specs.Option.{option_to_list}
+use Rattle.cdi_live.specs.ChainGone.{enabled_at, enabled_in, words_bound}
+use Rattle.cdi_live.proofs.AskedLemmas.{same-bool}
+use Rattle.cdi_live.proofs.CompareLemmas.{gather}
+
+-- ---- in order
+
+enabled-is : (ds : List Decl) → flat_map enabled_in ds ≡ filter is_enabled (interceptors ds)
+enabled-is [] = refl
+enabled-is (d ∷ ds) = ap (λ more. enabled_in d ++ more) (enabled-is ds)
+    ∙ sym (filter-append is_enabled (option_to_list (as_interceptor d)) (interceptors ds))
+
+-- where those at no marked position are seen, those at the marked ones are all that are
+pub seen-gathered : (bindings : List Qual) (place : BeanPlace) (ds : List Decl) (marks : List Bool)
+    → ((p : ℕ) (d : Decl) → slice_get ds p ≡ Some d → is_marked marks p ≡ false → filter (is_seen bindings place) (enabled_in d) ≡ [])
+    → filter (is_seen bindings place) (sorted_by is_before (flat_map (enabled_at ds) (marked_from 0 marks)))
+    ≡ filter (is_seen bindings place) (in_order ds)
+unfolding in_order
+seen-gathered bindings place ds marks none =
+    let seen : InterceptorDecl → Bool = is_seen bindings place in
+    filtered_in_order is_before order seen (flat_map (enabled_at ds) (marked_from 0 marks))
+    ∙ ap (sorted_by is_before)
+    (gather enabled_in seen ds 0 marks ds (λ i. ap (slice_get ds) (omega arith)) none ∙ ap (filter seen) (enabled-is ds))
+    ∙ sym (filtered_in_order is_before order seen (filter is_enabled (interceptors ds)))
+
+-- ---- by words
+
+-- the words have those of the types of some bindings
+abbrev pub Cover : List Word → List Qual → Type 0
+Cover words us = (x : List ℕ) → uses_one us x ≡ true → words_have words (word_at reasons.Binds x) ≡ true
+
+bound-has : (us : List Qual) (x : List ℕ) → words_have (words_bound us) (word_at reasons.Binds x) ≡ uses_one us x
+bound-has [] x = refl
+bound-has (u ∷ us) x = λ i. bytes_eq-turned u.name x i || bound-has us x i
+
+words-append : (w : Word) (xs ys : List Word) → words_have (xs ++ ys) w ≡ (words_have xs w || words_have ys w)
+words-append w xs ys = list_any-append (λ v. same_word v w) xs ys
+
+pub cover-first : (us vs : List Qual) → Cover (words_bound us ++ words_bound vs) us
+cover-first us vs x h =
+    let w : Word = word_at reasons.Binds x in
+    words-append w (words_bound us) (words_bound vs)
+    ∙ or_left (words_have (words_bound us) w) (words_have (words_bound vs) w) (bound-has us x ∙ h)
+
+pub cover-second : (us vs : List Qual) → Cover (words_bound us ++ words_bound vs) vs
+cover-second us vs x h =
+    let w : Word = word_at reasons.Binds x in
+    words-append w (words_bound us) (words_bound vs)
+    ∙ or_right (words_have (words_bound us) w) (words_have (words_bound vs) w) (bound-has vs x ∙ h)
+
+turned : (v w : Word) → same_word v w ≡ same_word w v
+turned v w = same-bool (same_word v w) (same_word w v) (same_word_equiv.sym v w) (same_word_equiv.sym w v)
+
+any-turned : (words : List Word) (w : Word) → list_any (same_word w) words ≡ words_have words w
+any-turned [] w = refl
+any-turned (v ∷ words) w = λ i. turned w v i || any-turned words w i
+
+any-or : (p q : Word → Bool) (words : List Word) → list_any (λ v. p v || q v) words ≡ (list_any p words || list_any q words)
+any-or p q [] = refl
+any-or p q (v ∷ words) = ap (λ b. (p v || q v) || b) (any-or p q words) ∙ shuffled (p v) (q v) (list_any p words) (list_any q words)
+  where
+    shuffled : (a b c d : Bool) → ((a || b) || (c || d)) ≡ ((a || c) || (b || d))
+    shuffled true b c d = refl
+    shuffled false true true d = refl
+    shuffled false true false d = refl
+    shuffled false false c d = refl
+
+no-share : (bindings us : List Qual) (words : List Word) → Cover words bindings → list_any (words_have (words_bound us)) words ≡ false
+    → list_any (λ u. uses_one bindings u.name) us ≡ false
+no-share bindings [] words cover none = refl
+no-share bindings (u ∷ us) words cover none =
+    let w : Word = word_at reasons.Binds u.name in
+    let parts = or_parts (list_any (same_word w) words) (list_any (words_have (words_bound us)) words)
+    (sym (any-or (same_word w) (words_have (words_bound us)) words) ∙ none) in
+    ap (λ b. b || list_any (λ v. uses_one bindings v.name) us) (by (uses_one bindings u.name) refl (sym (any-turned words w) ∙ parts.0))
+    ∙ no-share bindings us words cover parts.1
+  where
+    by : (b : Bool) → uses_one bindings u.name ≡ b → words_have words (word_at reasons.Binds u.name) ≡ false → b ≡ false
+    by false e f = refl
+    by true e f = absurd (false≢true (sym f ∙ cover u.name e))
+
+-- an interceptor has the words of its bindings
+named-bound : (us : List Qual) → flat_map words_named_in (of_bindings us) ≡ words_bound us
+named-bound [] = refl
+named-bound (u ∷ us) = ap (λ ws. word_at reasons.Binds u.name ∷ ws) (named-bound us)
+
+abbrev rest_of : InterceptorDecl → List Mention
+rest_of i = flat_map (of_point points.Constructor) i.points
+    ++ (of_parts parts.AroundInvoke i.around_invoke ++ of_parts parts.AroundConstruct i.around_construct
+    ++ of_parts parts.Post i.post ++ of_parts parts.Pre i.pre)
+
+pub words-of-interceptor : (i : InterceptorDecl)
+    → words_named (decls.Interceptor i) ≡ words_bound i.bindings ++ flat_map words_named_in (rest_of i)
+unfolding words_named mentions
+words-of-interceptor i = flat_map-append words_named_in (of_bindings i.bindings) (rest_of i)
+    ∙ ap (λ ws. ws ++ flat_map words_named_in (rest_of i)) (named-bound i.bindings)
+
+-- what has none of the words of some bindings shares no type with them
+pub without-words : (ds : List Decl) (words : List Word) (bindings : List Qual) (place : BeanPlace) (d : Decl) → Cover words bindings
+    → has_one ds words d ≡ false → filter (is_seen bindings place) (enabled_in d) ≡ []
+without-words ds words bindings place (decls.Interceptor i) cover none = by (is_enabled i) (no-share bindings i.bindings words cover own)
+  where
+    others : List Word
+    others = flat_map words_named_in (rest_of i)
+
+    either : (ws : List Word) → list_any (λ w. words_have (words_bound i.bindings ++ others) w) ws
+        ≡ list_any (λ w. words_have (words_bound i.bindings) w || words_have others w) ws
+    either [] = refl
+    either (w ∷ ws) = λ k. words-append w (words_bound i.bindings) others k || either ws k
+
+    own : list_any (words_have (words_bound i.bindings)) words ≡ false
+    own = (or_parts (list_any (words_have (words_bound i.bindings)) words) (list_any (words_have others) words)
+        (sym (any-or (words_have (words_bound i.bindings)) (words_have others) words) ∙ sym (either words)
+        ∙ ap (λ all. list_any (words_have all) words) (sym (words-of-interceptor i)) ∙ none)).0
+
+    by : (b : Bool) → shares_type bindings i ≡ false → filter (is_seen bindings place) (cond b (i ∷ []) []) ≡ []
+    by true share = ap (λ (c : Bool). cond {A = List InterceptorDecl} c (i ∷ []) [])
+        (ap (λ c. is_some (part_for place i) && c) share ∙ and-false (is_some (part_for place i)))
+    by false share = refl
+without-words ds words bindings place (decls.Bean d) cover none = refl
+without-words ds words bindings place (decls.Type d) cover none = refl
+without-words ds words bindings place (decls.Qualifier d) cover none = refl
+without-words ds words bindings place (decls.Binding d) cover none = refl
+without-words ds words bindings place (decls.Stereotype d) cover none = refl

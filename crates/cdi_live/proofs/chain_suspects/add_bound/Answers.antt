@@ -1,0 +1,19 @@
+use Rattle.std.proofs.Common.{◌||◌, ◌∷◌, [], ap, ◌∙◌, arith}
+use Rattle.std.specs.List.{slice_get}
+use Rattle.std.specs.Str.{bytes_eq}
+use Rattle.indexmap.specs.IndexSet.{contains}
+use Rattle.cdi_postings.specs.declared.word.Reason.TheVariants as reasons
+use Rattle.cdi_postings.specs.Words.{word_at}
+use Rattle.cdi_index.specs.Under.{has_one}
+use Rattle.cdi_index.proofs.UnderLemmas.{walk}
+use Rattle.cdi_live.specs.ChainSuspects.{class_named}
+use Rattle.cdi_live.specs.Suspects.{holds}
+use Rattle.cdi_live.proofs.chain_suspects.add_bound.Goals as goal
+
+pub returns : goal.returns
+returns c t =
+    let ds = c.args.index.now.decls in
+    let words = word_at reasons.Binds c.args.binding.now ∷ [] in
+    c.in_ok-add_classes_at.ensures t
+    ∙ ap (λ names. contains bytes_eq c.args.classes.now t || holds names t)
+    (walk class_named (has_one ds words) ds 0 c.positions_under-positions.result ds (λ i. ap (slice_get ds) (omega arith)) c.positions_under-positions.ensures)

@@ -1,0 +1,28 @@
+use Rattle.std.proofs.Common.{◌≡◌, ◌||◌, Bool, true, false, refl, sym, ap, subst, ◌∙◌}
+use Rattle.std.specs.List.{list_any}
+use Rattle.std.specs.Str.{bytes_eq}
+use Rattle.indexmap.specs.IndexSet.{contains}
+use Rattle.cdi_model.specs.declared.decl.Kind.TheVariants as kinds
+use Rattle.cdi_model.specs.DeclKey.{key_at}
+use Rattle.cdi_model.specs.DeclList.{AreDistinct}
+use Rattle.cdi_live.specs.ChainSuspects.{brings_to, classes_bound, is_bound_by}
+use Rattle.cdi_live.specs.Suspects.{holds}
+use Rattle.cdi_live.proofs.ReaderLemmas.{of-readers}
+use Rattle.cdi_live.proofs.chain_suspects.add_intercepted.Goals as goal
+
+grouped : (a b c : Bool) → ((a || b) || c) ≡ (a || (b || c))
+grouped true b c = refl
+grouped false b c = refl
+
+pub returns : goal.returns
+returns c t =
+    let ds = c.args.index.now.decls in
+    let x = c.args.binding.now in
+    let old = contains bytes_eq c.args.classes.now t in
+    let own = holds (classes_bound ds x) t in
+    c.in_ok-add_bound_by.ensures t
+    ∙ ap (λ b. b || list_any (λ k. is_bound_by ds k t) c.as_slice.result.now) (c.in_ok-add_bound.ensures t)
+    ∙ ap (λ ks. (old || own) || list_any (λ k. is_bound_by ds k t) ks) c.as_slice.ensures.value
+    ∙ ap (λ b. (old || own) || b) (of-readers ds (subst AreDistinct c.decls.ensures c.iter.ensures.distinct) (key_at kinds.Binding x)
+    c.in_ok-readers.readers.items (λ k. is_bound_by ds k t) c.in_ok-readers.ensures)
+    ∙ grouped old own (list_any (brings_to ds x t) ds)

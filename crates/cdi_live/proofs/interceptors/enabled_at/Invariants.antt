@@ -1,0 +1,9 @@
+use Rattle.std.proofs.Common.{◌≡◌, ◌++◌, flat_map}
+use Rattle.cdi_intercept.specs.Lent.{lent_in}
+use Rattle.cdi_positions.specs.Marks.{marked_from}
+use Rattle.cdi_live.specs.ChainGone.{enabled_at}
+use Rattle.cdi_live.proofs.interceptors.enabled_at.Given as goal
+
+abbrev pub invariant-loop-position : goal.invariant-loop-position
+invariant-loop-position l = lent_in l.list.items ++ flat_map (enabled_at l.decls) l.position-iterator
+    ≡ flat_map (enabled_at l.decls) (marked_from 0 l.positions)
