@@ -6,3 +6,5 @@ mod LiveLemmas
 mod PartLemmas
 mod ReaderLemmas
 mod InterceptorLemmas
+mod BoundLemmas
+mod ChainSuspectLemmas

@@ -68,7 +68,7 @@ of-key f (l ∷ keys) k t none among =
     ]
 
 -- those of declarations that pass a test
-of-passing : (f : Decl → List (List ℕ)) (test : Decl → Bool) (t : List ℕ) (ds : List Decl)
+pub of-passing : (f : Decl → List (List ℕ)) (test : Decl → Bool) (t : List ℕ) (ds : List Decl)
     → list_any (λ d. test d && holds (f d) t) ds ≡ true → holds (flat_map f (filter test ds)) t ≡ true
 of-passing f test t [] h = absurd (false≢true h)
 of-passing f test t (d ∷ ds) h = by (test d) refl (of-passing f test t ds) h

@@ -35,7 +35,7 @@ use Rattle.cdi_stakes.specs.Rests.{own_bindings, use_reads}
 
 -- ---- uses bring no type but those that are reached
 
-has-names_append : (us vs : List Qual) (x : List ℕ)
+pub has-names_append : (us vs : List Qual) (x : List ℕ)
     → has (map name_of_use (us ++ vs)) x ≡ (has (map name_of_use us) x || has (map name_of_use vs) x)
 has-names_append us vs x =
     ap (λ names. has names x) (map-append name_of_use us vs)
@@ -53,7 +53,7 @@ found-from ds (b ∷ bs) x h =
           (more.0, or_right (bytes_eq b more.0) (has bs more.0) more.1, more.2)
     ]
 
-brought-within : (ds : List Decl) (us : List Qual) (x : List ℕ) → has (map name_of_use (with_brought ds us)) x ≡ true
+pub brought-within : (ds : List Decl) (us : List Qual) (x : List ℕ) → has (map name_of_use (with_brought ds us)) x ≡ true
     → has (types_brought ds (map name_of_use us)) x ≡ true
 unfolding with_brought
 brought-within ds us x h =
@@ -94,7 +94,7 @@ use-among (u ∷ us) key h =
           (more.0, or_right (bytes_eq u.name more.0) (has (map name_of_use us) more.0) more.1, more.2)
     ]
 
-name-among : (names : List (List ℕ)) (x : List ℕ) → has names x ≡ true → is_among (map binding_key names) (binding_key x) ≡ true
+pub name-among : (names : List (List ℕ)) (x : List ℕ) → has names x ≡ true → is_among (map binding_key names) (binding_key x) ≡ true
 name-among [] x h = absurd (false≢true h)
 name-among (n ∷ names) x h = elim (or_cases (bytes_eq n x) (has names x) h) [
   | inl here ↦ or_left (same_key (binding_key n) (binding_key x)) (is_among (map binding_key names) (binding_key x))
