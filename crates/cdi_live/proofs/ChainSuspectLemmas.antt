@@ -130,7 +130,7 @@ module _ (ds : List Decl) where
           ∙ (brings_type_decides ds (map name_of_use d.declares) y).1 (u, first, more))
 
   -- where a bean is found
-  bean-there : (class : List ℕ) (b : BeanDecl) → find_bean class ds ≡ Some b
+  pub bean-there : (class : List ℕ) (b : BeanDecl) → find_bean class ds ≡ Some b
       → (find_decl kinds.Bean class ds ≡ Some (decls.Bean b)) × (b.name ≡ class)
   bean-there class b found = by (find_decl kinds.Bean class ds) refl found
     where

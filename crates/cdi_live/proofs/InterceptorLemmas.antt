@@ -82,7 +82,7 @@ cover-second us vs x h =
     ∙ or_right (words_have (words_bound us) w) (words_have (words_bound vs) w) (bound-has vs x ∙ h)
 
 turned : (v w : Word) → same_word v w ≡ same_word w v
-turned v w = same-bool (same_word v w) (same_word w v) (same_word_equiv.sym v w) (same_word_equiv.sym w v)
+turned v w = same_word_equiv.symm v w
 
 any-turned : (words : List Word) (w : Word) → list_any (same_word w) words ≡ words_have words w
 any-turned [] w = refl

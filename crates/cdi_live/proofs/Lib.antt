@@ -8,3 +8,7 @@ mod ReaderLemmas
 mod InterceptorLemmas
 mod BoundLemmas
 mod ChainSuspectLemmas
+mod WantedPlaceLemmas
+mod ChainGoneLemmas
+mod AroundLemmas
+mod LiveChainLemmas

@@ -1,5 +1,5 @@
 -- Which kept chains an edit takes away.
-use Rattle.std.specs.Prelude.{◌≡◌, ℕ, Bool, true, false, not, ◌&&◌, ◌||◌, List, [], filter, flat_map, map, is_some, Option}
+use Rattle.std.specs.Prelude.{◌≡◌, ℕ, Bool, true, false, not, ◌&&◌, ◌||◌, List, [], filter, flat_map, map, is_some, Option, Some, Ok}
 use Rattle.std.specs.List.{list_any, slice_get}
 use Rattle.std.specs.Option.{option_map_or, option_to_list}
 use Rattle.std.specs.Str.{bytes_eq}
@@ -9,7 +9,7 @@ use Rattle.cdi_model.specs.declared.decl.InterceptorDecl.{InterceptorDecl}
 use Rattle.cdi_model.specs.declared.place.BeanPlace.{BeanPlace}
 use Rattle.cdi_model.specs.declared.quals.Qual.{Qual}
 use Rattle.cdi_effective.specs.Disposers.{find_bean}
-use Rattle.cdi_intercept.specs.Chains.{as_interceptor, is_enabled}
+use Rattle.cdi_intercept.specs.Chains.{as_interceptor, chain_of, is_enabled}
 use Rattle.cdi_intercept.specs.Sets.{has_place}
 use Rattle.cdi_memo.specs.Answers.{answer, Answers}
 use Rattle.cdi_observe.specs.Keys.{ChainKey, same_place}
@@ -47,6 +47,11 @@ ArePlaces ds m = (class : List ℕ) (place : BeanPlace) → is_kept_chain m clas
 abbrev pub AreGoneChains : List Decl → List Decl → Chains → List GoneChain → Type 0
 AreGoneChains ds es m list = (class : List ℕ) (place : BeanPlace) → is_kept_chain m class place ≡ true
     → is_gone_chain list class place ≡ not (is_wanted es (ChainKey class place) && not (is_touched ds es (ChainKey class place)))
+
+-- Each kept chain is that of its place.
+abbrev pub AreRightChains : List Decl → Chains → Type 0
+AreRightChains ds m = (class : List ℕ) (place : BeanPlace) (names : List (List ℕ)) → answer same_place m class place ≡ Some names
+    → chain_of ds class place ≡ Ok names
 
 -- ---- the interceptors that are seen
 

@@ -4,7 +4,9 @@
 mod chain_compare;
 mod chain_gone;
 mod chain_place;
+mod chain_stage;
 mod chain_suspects;
+mod chains;
 mod choices;
 mod compare;
 mod dropped;

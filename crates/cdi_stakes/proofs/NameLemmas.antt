@@ -39,7 +39,7 @@ events-ask_no_chain class place [] = refl
 events-ask_no_chain class place (EventOf event ∷ named) = events-ask_no_chain class place named
 events-ask_no_chain class place (other ∷ named) = events-ask_no_chain class place named
 
-only-chains : (class : List ℕ) (place : BeanPlace) (d : Decl)
+pub only-chains : (class : List ℕ) (place : BeanPlace) (d : Decl)
     → has_key (wanted_by d) (ChainKey class place) ≡ has_key (chains_by d) (ChainKey class place)
 only-chains class place d =
     let key = ChainKey class place in

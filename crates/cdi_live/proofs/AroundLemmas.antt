@@ -1,0 +1,98 @@
+-- The interceptors around a place are among those that its chain sees.
+use Rattle.std.proofs.Common.{◌≡◌, ℕ, Bool, true, false, cond, not, ◌&&◌, ◌||◌, List, [], ◌∷◌, length, map, filter, nat_eq, is_some}
+use Rattle.std.proofs.Common.{refl, sym, ap, ◌∙◌, inl, inr}
+use Rattle.std.specs.List.{list_all, list_any}
+use Rattle.std.specs.Option.{option_eq}
+use Rattle.std.specs.Str.{bytes_eq}
+use Rattle.std.proofs.lemmas.Bool.{and_from, and_parts, false≢true, or_cases, or_left, or_right}
+use Rattle.std.proofs.lemmas.List.Elements.{filter_agree}
+use Rattle.cdi_model.specs.declared.decl.Decl.{Decl}
+use Rattle.cdi_model.specs.declared.decl.InterceptorDecl.{InterceptorDecl}
+use Rattle.cdi_model.specs.declared.decl.UseKind.TheVariants as use_kinds
+use Rattle.cdi_model.specs.declared.place.BeanPlace.{BeanPlace}
+use Rattle.cdi_model.specs.declared.quals.Qual.{Qual}
+use Rattle.cdi_match.specs.Covering.{agree, covers, covers_by, given_name}
+use Rattle.cdi_match.specs.Filling.{declared_of}
+use Rattle.cdi_match.proofs.Names.{bytes_eq-turned}
+use Rattle.cdi_effective.specs.Qualifiers.{uses_one}
+use Rattle.cdi_intercept.specs.Bindings.{in_text_order}
+use Rattle.cdi_intercept.specs.Chains.{binds, chain_by, covered_in, in_order, part_for, surrounds}
+use Rattle.cdi_intercept.specs.Sees.{is_seen, names_around, shares_type}
+use Rattle.cdi_intercept.proofs.UseLemmas.{any-in_text_order}
+
+covered-used : (ds : List Decl) (set : List Qual) (want : Qual) → covered_in ds set want ≡ true → uses_one set want.name ≡ true
+unfolding covers_by
+covered-used ds [] want h = h
+covered-used ds (have ∷ set) want h =
+    elim (or_cases (covers ds use_kinds.Binding have want) (covered_in ds set want) h) [
+      | inl here ↦ or_left (bytes_eq want.name have.name) (uses_one set want.name)
+          (bytes_eq-turned want.name have.name ∙ (and_parts (bytes_eq have.name want.name) (rest have) here).0)
+      | inr there ↦ or_right (bytes_eq want.name have.name) (uses_one set want.name) (covered-used ds set want there)
+    ]
+  where
+    -- what is said beside the names
+    rest : Qual → Bool
+    rest u = option_eq bytes_eq (given_name u.arguments) (given_name want.arguments) && agree
+        (declared_of ds use_kinds.Binding u.name) u want
+
+-- one that binds shares a type
+first-shared : (ds : List Decl) (set bindings : List Qual) → (not (nat_eq (length bindings) 0) && list_all (covered_in ds set) bindings)
+    ≡ true
+    → list_any (λ u. uses_one set u.name) bindings ≡ true
+first-shared ds set [] h = absurd (false≢true h)
+first-shared ds set (u ∷ us) h =
+    let all = (and_parts (not (nat_eq (length (u ∷ us)) 0)) (list_all (covered_in ds set) (u ∷ us)) h).1 in
+    or_left (uses_one set u.name) (list_any (λ v. uses_one set v.name) us)
+    (covered-used ds set u (and_parts (covered_in ds set u) (list_all (covered_in ds set) us) all).0)
+
+-- so what surrounds a place is seen there
+seen-too : (ds : List Decl) (set : List Qual) (place : BeanPlace) (i : InterceptorDecl)
+    → (is_seen set place i && surrounds ds set place i) ≡ surrounds ds set place i
+seen-too ds set place i = by (surrounds ds set place i) refl
+  where
+    and-true : (b : Bool) → (b && true) ≡ b
+    and-true true = refl
+    and-true false = refl
+
+    and-false : (b : Bool) → (b && false) ≡ false
+    and-false true = refl
+    and-false false = refl
+
+    by : (b : Bool) → surrounds ds set place i ≡ b → (is_seen set place i && b) ≡ b
+    by false e = and-false (is_seen set place i)
+    by true e =
+        let parts = and_parts (is_some (part_for place i)) (binds ds set i) e in
+        and-true (is_seen set place i)
+        ∙ and_from (is_some (part_for place i)) (shares_type set i) parts.0 (first-shared ds set i.bindings parts.1)
+
+-- first one test, then the other
+filter-both : {X : Type 0} (p q : X → Bool) (xs : List X) → filter (λ x. p x && q x) xs ≡ filter q (filter p xs)
+filter-both p q [] = refl
+filter-both {X = X} p q (x ∷ xs) = by (p x) (filter-both p q xs)
+  where
+    by : (b : Bool) → filter (λ y. p y && q y) xs ≡ filter q (filter p xs)
+        → cond (b && q x) (x ∷ filter (λ y. p y && q y) xs) (filter (λ y. p y && q y) xs)
+        ≡ filter q (cond b (x ∷ filter p xs) (filter p xs))
+    by true rest = ap (λ (more : List X). cond (q x) (x ∷ more) more) rest
+    by false rest = rest
+
+-- the order of the bindings does not count
+any-order : (ds : List Decl) (set us : List Qual) → list_all (covered_in ds (in_text_order set)) us ≡ list_all (covered_in ds set) us
+any-order ds set [] = refl
+any-order ds set (u ∷ us) = λ i. any-in_text_order (λ have. covers ds use_kinds.Binding have u) set i && any-order ds set us i
+
+surrounds-any : (ds : List Decl) (set : List Qual) (place : BeanPlace) (i : InterceptorDecl)
+    → surrounds ds (in_text_order set) place i ≡ surrounds ds set place i
+surrounds-any ds set place i =
+    ap (λ b. is_some (part_for place i) && (not (nat_eq (length i.bindings) 0) && b)) (any-order ds set i.bindings)
+
+pub around-seen : (ds : List Decl) (set : List Qual) (place : BeanPlace)
+    → map (λ i. i.name) (filter (surrounds ds (in_text_order set) place) (filter (is_seen (in_text_order set) place) (in_order ds)))
+    ≡ names_around ds set place
+unfolding chain_by
+around-seen ds set place =
+    let list : List Qual = in_text_order set in
+    ap (map (λ i. i.name))
+    (sym (filter-both (is_seen list place) (surrounds ds list place) (in_order ds))
+    ∙ filter_agree (λ i. is_seen list place i && surrounds ds list place i) (surrounds ds set place)
+    (λ i. seen-too ds list place i ∙ surrounds-any ds set place i) (in_order ds))

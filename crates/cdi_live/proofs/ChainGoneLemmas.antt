@@ -1,0 +1,123 @@
+-- Of the kept chains exactly those are gone that are not wanted any more, or are touched.
+use Rattle.std.proofs.Common.{◌≡◌, ℕ, Bool, true, false, not, ◌&&◌, ◌||◌, List, [], ◌∷◌, refl, sym, ap, ◌∙◌, subst, inl, inr}
+use Rattle.std.specs.Cmp.Lexicographic.{bytes_decides}
+use Rattle.std.specs.List.{list_any}
+use Rattle.std.specs.Str.{bytes_eq}
+use Rattle.std.proofs.lemmas.Bool.{and_from, and_parts, false≢true, or_cases, or_left, or_right}
+use Rattle.cdi_model.specs.declared.decl.Decl.{Decl}
+use Rattle.cdi_model.specs.declared.edit.Edit.{Edit}
+use Rattle.cdi_model.specs.declared.key.DeclKey.{DeclKey}
+use Rattle.cdi_model.specs.declared.place.BeanPlace.{BeanPlace}
+use Rattle.cdi_model.specs.DeclList.{AreDistinct}
+use Rattle.cdi_model.specs.Edits.{edited_all, edited_keys}
+use Rattle.cdi_index.specs.Told.{Tells}
+use Rattle.cdi_memo.specs.Answers.{parts_under}
+use Rattle.cdi_memo.proofs.QuestionLemmas.{parts-kept}
+use Rattle.cdi_observe.specs.Keys.{same_place, ChainKey}
+use Rattle.cdi_observe.specs.Wanted.{is_wanted}
+use Rattle.cdi_observe.proofs.KeyLemmas.{same_place-decides}
+use Rattle.cdi_seen.specs.Touched.{is_touched}
+use Rattle.cdi_live.specs.ChainGone.{goes, is_kept_chain, is_place_of, ArePlaces, Chains}
+use Rattle.cdi_live.specs.ChainSuspects.{is_chain_suspect}
+use Rattle.cdi_live.specs.Compared.{IsBetween}
+use Rattle.cdi_live.specs.declared.sides.Sides.{Sides}
+use Rattle.cdi_live.proofs.AskedLemmas.{any-elim, same-bool}
+use Rattle.cdi_live.proofs.ChainSuspectLemmas.{chain-same, place-same}
+use Rattle.cdi_live.proofs.WantedPlaceLemmas.{wanted-place}
+
+-- the chain is among the kept ones of some classes, and goes
+abbrev goes_by_class : List Decl → List Decl → Chains → List (List ℕ) → List ℕ → BeanPlace → Bool
+goes_by_class ds es m classes class place =
+    list_any (λ n. bytes_eq class n && list_any (λ q. same_place place q && goes ds es n q) (parts_under m n)) classes
+
+-- what does not go stays wanted, and is not touched
+abbrev stays : List Decl → List Decl → List ℕ → BeanPlace → Bool
+stays ds es class place = is_wanted es (ChainKey class place) && not (is_touched ds es (ChainKey class place))
+
+module _ (edits : List Edit) (ds : List Decl) (told : List DeclKey) (distinct : AreDistinct ds) (apart : AreDistinct (edited_all ds edits))
+    (tells : Tells ds (edited_all ds edits) (edited_keys edits) told) (m : Chains) (class : List ℕ) (place : BeanPlace)
+    (parts : list_any (same_place place) (parts_under m class) ≡ true) (wanted : is_wanted ds (ChainKey class place) ≡ true) where
+  abbrev es : List Decl
+  es = edited_all ds edits
+
+  -- one of a class that is not suspect does not go
+  spared : is_chain_suspect ds es told class ≡ false → goes ds es class place ≡ false
+  spared clear =
+      ap (λ b. not b || is_touched ds es (ChainKey class place)) (place-same edits ds told distinct apart tells class clear place)
+      ∙ ap (λ b. not b || is_touched ds es (ChainKey class place)) (sym (wanted-place ds distinct class place) ∙ wanted)
+      ∙ chain-same edits ds told distinct apart tells class clear place
+
+  by-class : (classes : List (List ℕ)) → ((n : List ℕ) → list_any (bytes_eq n) classes ≡ is_chain_suspect ds es told n)
+      → goes_by_class ds es m classes class place ≡ goes ds es class place
+  by-class classes are = same-bool (goes_by_class ds es m classes class place) (goes ds es class place) there back
+    where
+      there : goes_by_class ds es m classes class place ≡ true → goes ds es class place ≡ true
+      there h = any-elim (λ n. bytes_eq class n && list_any (λ q. same_place place q && goes ds es n q) (parts_under m n)) classes h (λ n one.
+          let first = and_parts (bytes_eq class n) (list_any (λ q. same_place place q && goes ds es n q) (parts_under m n)) one in
+          any-elim (λ q. same_place place q && goes ds es n q) (parts_under m n) first.1 (λ q two.
+          let both = and_parts (same_place place q) (goes ds es n q) two in
+          ap (λ x. goes ds es x place) ((bytes_decides class n).0 first.0)
+          ∙ ap (goes ds es n) ((same_place-decides place q).0 both.0) ∙ both.1))
+
+      at-part : (qs : List BeanPlace) → list_any (same_place place) qs ≡ true → goes ds es class place ≡ true
+          → list_any (λ q. same_place place q && goes ds es class q) qs ≡ true
+      at-part [] h going = absurd (false≢true h)
+      at-part (q ∷ qs) h going = elim (or_cases (same_place place q) (list_any (same_place place) qs) h) [
+        | inl here ↦ or_left (same_place place q && goes ds es class q) (list_any (λ q. same_place place q && goes ds es class q) qs)
+            (and_from (same_place place q) (goes ds es class q) here
+            (ap (goes ds es class) (sym ((same_place-decides place q).0 here)) ∙ going))
+        | inr later ↦ or_right (same_place place q && goes ds es class q) (list_any (λ q. same_place place q && goes ds es class q) qs)
+            (at-part qs later going)
+      ]
+
+      at-class : (ns : List (List ℕ)) → list_any (bytes_eq class) ns ≡ true → goes ds es class place ≡ true
+          → goes_by_class ds es m ns class place ≡ true
+      at-class [] h going = absurd (false≢true h)
+      at-class (n ∷ ns) h going =
+          let here : Bool = bytes_eq class n && list_any (λ q. same_place place q && goes ds es n q) (parts_under m n) in
+          elim (or_cases (bytes_eq class n) (list_any (bytes_eq class) ns) h) [
+            | inl one ↦ or_left here (goes_by_class ds es m ns class place)
+                (and_from (bytes_eq class n) (list_any (λ q. same_place place q && goes ds es n q) (parts_under m n)) one
+                (ap (λ x. list_any (λ q. same_place place q && goes ds es x q) (parts_under m x)) (sym ((bytes_decides class n).0 one))
+                ∙ at-part (parts_under m class) parts going))
+            | inr later ↦ or_right here (goes_by_class ds es m ns class place) (at-class ns later going)
+          ]
+
+      back : goes ds es class place ≡ true → goes_by_class ds es m classes class place ≡ true
+      back going = by (is_chain_suspect ds es told class) refl
+        where
+          by : (b : Bool) → is_chain_suspect ds es told class ≡ b → goes_by_class ds es m classes class place ≡ true
+          by true e = at-class classes (are class ∙ e) going
+          by false e = absurd (false≢true (sym (spared e) ∙ going))
+
+  pub going : (classes : List (List ℕ)) → ((n : List ℕ) → list_any (bytes_eq n) classes ≡ is_chain_suspect ds es told n)
+      → goes_by_class ds es m classes class place ≡ not (stays ds es class place)
+  going classes are = by-class classes are
+      ∙ ap (λ b. not b || is_touched ds es (ChainKey class place)) (sym (wanted-place es apart class place))
+      ∙ turned (is_wanted es (ChainKey class place)) (is_touched ds es (ChainKey class place))
+    where
+      turned : (a b : Bool) → (not a || b) ≡ not (a && not b)
+      turned true true = refl
+      turned true false = refl
+      turned false b = refl
+
+-- what goes is known of declarations that edits lead to
+abbrev GoesOn : List Decl → List DeclKey → Chains → List (List ℕ) → List ℕ → BeanPlace → List Decl → List DeclKey → Type 0
+GoesOn ds told m classes class place e ks = Tells ds e ks told → AreDistinct e
+    → ((n : List ℕ) → list_any (bytes_eq n) classes ≡ is_chain_suspect ds e told n)
+    → goes_by_class ds e m classes class place ≡ not (stays ds e class place)
+
+pub chains-between : (sides : Sides) → IsBetween sides → AreDistinct sides.index.now.decls → AreDistinct sides.next.now
+    → (m : Chains) → ArePlaces sides.index.now.decls m → (classes : List (List ℕ))
+    → ((n : List ℕ) → list_any (bytes_eq n) classes ≡ is_chain_suspect sides.index.now.decls sides.next.now sides.affected.now n)
+    → (class : List ℕ) (place : BeanPlace) → is_kept_chain m class place ≡ true
+    → goes_by_class sides.index.now.decls sides.next.now m classes class place ≡ not (stays sides.index.now.decls sides.next.now class place)
+chains-between sides between distinct apart m wanted classes are class place kept =
+    let ds = sides.index.now.decls in
+    let edits = between.edited.edits in
+    let told = sides.affected.now in
+    subst (λ e. GoesOn ds told m classes class place e sides.edited.now) (sym between.edited.decls)
+    (subst (GoesOn ds told m classes class place (edited_all ds edits)) (sym between.edited.keys)
+    (λ tells apart are. going edits ds told distinct apart tells m class place (sym (parts-kept same_place m class place) ∙ kept)
+    (wanted class place kept) classes are))
+    between.told apart are

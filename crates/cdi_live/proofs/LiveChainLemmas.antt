@@ -1,0 +1,161 @@
+-- What is known of chains after a commit, and after an evaluation.
+use Rattle.std.proofs.Common.{◌≡◌, ℕ, Bool, true, false, not, ◌&&◌, ◌||◌, List, [], ◌∷◌, ◌++◌, map, Option, Some, None, Result, Ok, Err, cond}
+use Rattle.std.proofs.Common.{if◌then◌else◌, is_some}
+use Rattle.std.proofs.Common.{refl, sym, ap, ◌∙◌}
+use Rattle.std.specs.Option.{option_map_or}
+use Rattle.std.specs.Str.{bytes_eq}
+use Rattle.std.specs.Cmp.Lexicographic.{bytes_decides}
+use Rattle.std.proofs.lemmas.Bool.{and_parts, false≢true}
+use Rattle.std.proofs.lemmas.List.Folds.{list_any-append}
+use Rattle.cdi_model.specs.declared.decl.BeanDecl.{BeanDecl}
+use Rattle.cdi_model.specs.declared.decl.Decl.{Decl}
+use Rattle.cdi_model.specs.declared.place.BeanPlace.{BeanPlace}
+use Rattle.cdi_model.specs.DeclList.{AreDistinct}
+use Rattle.cdi_model.specs.declared.refusal.Refusal.{Refusal}
+use Rattle.cdi_model.specs.declared.refusal.Refusal.TheVariants as refusals
+use Rattle.cdi_match.proofs.Names.{bytes_eq-turned}
+use Rattle.cdi_effective.specs.Bindings.{class_bindings}
+use Rattle.cdi_effective.specs.Disposers.{find_bean}
+use Rattle.cdi_intercept.specs.Chains.{chain_by, chain_of, chain_told}
+use Rattle.cdi_intercept.specs.Sees.{sees_at, Seen}
+use Rattle.cdi_intercept.specs.Sets.{has_place, set_by}
+use Rattle.cdi_intercept.proofs.SeenLemmas.{told_rests_on_seen}
+use Rattle.cdi_memo.specs.Answers.{answer, Removes}
+use Rattle.cdi_observe.specs.Keys.{same_place, ChainKey}
+use Rattle.cdi_observe.specs.Wanted.{is_wanted}
+use Rattle.cdi_observe.proofs.KeyLemmas.{same_place-decides}
+use Rattle.cdi_seen.specs.Touched.{is_touched, ByChain}
+use Rattle.cdi_seen.proofs.SameLemmas.{touched_where_seen_differs}
+use Rattle.cdi_live.specs.ChainGone.{is_gone_chain, is_kept_chain, is_place_of, AreGoneChains, ArePlaces, AreRightChains, Chains}
+use Rattle.cdi_live.specs.Places.{same_place_equiv}
+use Rattle.cdi_live.specs.declared.chain_gone.GoneChain.{GoneChain}
+use Rattle.cdi_live.proofs.WantedPlaceLemmas.{wanted-place}
+
+-- ---- after a commit
+
+abbrev stays : List Decl → List Decl → List ℕ → BeanPlace → Bool
+stays ds es class place = is_wanted es (ChainKey class place) && not (is_touched ds es (ChainKey class place))
+
+module _ (ds es : List Decl) (m new : Chains) (list : List GoneChain) (gone : AreGoneChains ds es m list)
+    (forgets : (c : List ℕ) (p : BeanPlace) → answer same_place new c p ≡ (if is_gone_chain list c p then None else answer same_place m c p)) where
+  -- a chain that is kept after was kept before, and stays
+  record Stays (class : List ℕ) (place : BeanPlace) : Type 0 where
+    same : answer same_place new class place ≡ answer same_place m class place
+    stays_it : stays ds es class place ≡ true
+
+  un-not : (b : Bool) → false ≡ not b → b ≡ true
+  un-not true h = refl
+  un-not false h = absurd (false≢true h)
+
+  staying : (class : List ℕ) (place : BeanPlace) → is_kept_chain new class place ≡ true → Stays class place
+  staying class place kept = by (is_gone_chain list class place) refl (forgets class place)
+    where
+      by : (b : Bool) → is_gone_chain list class place ≡ b
+          → answer same_place new class place ≡ (if b then None else answer same_place m class place) → Stays class place
+      by true e f = absurd (false≢true (sym (ap is_some f) ∙ kept))
+      by false e f = record {
+        same = f;
+        stays_it = un-not (stays ds es class place) (sym e ∙ gone class place (sym (ap is_some f) ∙ kept));
+      }
+
+  pub places-after : ArePlaces es new
+  places-after class place kept =
+      (and_parts (is_wanted es (ChainKey class place)) (not (is_touched ds es (ChainKey class place))) (staying class place kept).stays_it).0
+
+  seen-chain : (a b : Seen) → ByChain a ≡ ByChain b → a ≡ b
+  seen-chain a b e = cc
+
+  -- a place that is there has a chain
+  told : (class : List ℕ) (place : BeanPlace) → is_place_of es class place ≡ true → (names : List (List ℕ)) × (chain_of es class place ≡ Ok names)
+  told class place there = by (find_bean class es) refl there
+    where
+      by : (o : Option BeanDecl) → find_bean class es ≡ o → option_map_or (λ b. has_place b place) o false ≡ true
+          → (names : List (List ℕ)) × (chain_of es class place ≡ Ok names)
+      by None found h = absurd (false≢true h)
+      by (Some b) found h =
+          let names : List (List ℕ) = map (λ i. i.name) (chain_by es (set_by es (class_bindings es b) b place) place) in
+          (names, ap (λ o. chain_told es o place) found ∙ ap (λ (c : Bool). cond {A = Result (List (List ℕ)) Refusal} c (Ok names) (Err refusals.NoMethod)) h)
+
+  pub right-chains-after : AreDistinct es → AreRightChains ds m → AreRightChains es new
+  right-chains-after apart right class place names kept =
+      let it = staying class place (ap is_some kept) in
+      let parts = and_parts (is_wanted es (ChainKey class place)) (not (is_touched ds es (ChainKey class place))) it.stays_it in
+      let there = told class place (sym (wanted-place es apart class place) ∙ parts.0) in
+      let seen : sees_at ds class place ≡ sees_at es class place =
+      seen-chain (sees_at ds class place) (sees_at es class place) ((touched_where_seen_differs ds es (ChainKey class place)).0 parts.1) in
+      there.1 ∙ ap Ok (sym (told_rests_on_seen ds es class place names there.0 seen (right class place names (sym it.same ∙ kept)) there.1))
+
+  pub known-chain : (class : List ℕ) (place : BeanPlace) → is_kept_chain new class place ≡ (is_kept_chain m class place && stays ds es class place)
+  known-chain class place = by (answer same_place m class place) refl (is_gone_chain list class place) refl
+    where
+      by : (o : Option (List (List ℕ))) → answer same_place m class place ≡ o → (b : Bool) → is_gone_chain list class place ≡ b
+          → is_kept_chain new class place ≡ (is_kept_chain m class place && stays ds es class place)
+      by None e true f = ap is_some (forgets class place) ∙ ap (λ b. is_some (if b then None else answer same_place m class place)) f
+          ∙ ap (λ o. is_some o && stays ds es class place) (sym e)
+      by None e false f = ap is_some (forgets class place) ∙ ap (λ b. is_some (if b then None else answer same_place m class place)) f
+          ∙ ap is_some e ∙ ap (λ o. is_some o && stays ds es class place) (sym e)
+      by (Some c) e b f =
+          ap is_some (forgets class place) ∙ ap (λ o. is_some (if is_gone_chain list class place then None else o)) e
+          ∙ ap (λ b. is_some (if b then None else Some c)) (gone class place (ap is_some e)) ∙ turned (stays ds es class place)
+          ∙ ap (λ o. is_some o && stays ds es class place) (sym e)
+        where
+          turned : (b : Bool) → is_some (if not b then None else Some c) ≡ b
+          turned true = refl
+          turned false = refl
+
+-- ---- after an evaluation
+
+module _ (ds : List Decl) (m new : Chains) (class : List ℕ) (place : BeanPlace) (names : List (List ℕ))
+    (keeps : (c : List ℕ) (p : BeanPlace) → answer same_place new c p
+    ≡ (if bytes_eq class c && same_place place p then Some names else answer same_place m c p)) where
+  pub known-chain-with : (c : List ℕ) (p : BeanPlace) → is_kept_chain new c p ≡ (is_kept_chain m c p || (bytes_eq class c && same_place place p))
+  known-chain-with c p = ap is_some (keeps c p) ∙ by (bytes_eq class c && same_place place p) (answer same_place m c p)
+    where
+      by : (b : Bool) (o : Option (List (List ℕ))) → is_some (if b then Some names else o) ≡ (is_some o || b)
+      by true None = refl
+      by true (Some x) = refl
+      by false None = refl
+      by false (Some x) = refl
+
+  pub right-chains-with : chain_of ds class place ≡ Ok names → AreRightChains ds m → AreRightChains ds new
+  right-chains-with is right c p others kept = by (bytes_eq class c && same_place place p) refl (sym (keeps c p) ∙ kept)
+    where
+      by : (b : Bool) → (bytes_eq class c && same_place place p) ≡ b
+          → (if b then Some names else answer same_place m c p) ≡ Some others → chain_of ds c p ≡ Ok others
+      by true e f =
+          let parts = and_parts (bytes_eq class c) (same_place place p) e in
+          let one : names ≡ others = cc in
+          ap (λ x. chain_of ds x p) (sym ((bytes_decides class c).0 parts.0)) ∙ ap (chain_of ds class) (sym ((same_place-decides place p).0 parts.1))
+          ∙ is ∙ ap Ok one
+      by false e f = right c p others f
+
+  pub places-with : is_wanted ds (ChainKey class place) ≡ true → ArePlaces ds m → ArePlaces ds new
+  places-with wanted places c p kept = by (bytes_eq class c && same_place place p) refl (sym (ap is_some (keeps c p)) ∙ kept)
+    where
+      by : (b : Bool) → (bytes_eq class c && same_place place p) ≡ b
+          → is_some (if b then Some names else answer same_place m c p) ≡ true → is_wanted ds (ChainKey c p) ≡ true
+      by true e f =
+          let parts = and_parts (bytes_eq class c) (same_place place p) e in
+          ap (λ x. is_wanted ds (ChainKey x p)) (sym ((bytes_decides class c).0 parts.0))
+          ∙ ap (λ x. is_wanted ds (ChainKey class x)) (sym ((same_place-decides place p).0 parts.1)) ∙ wanted
+      by false e f = places c p f
+
+-- ---- what is forgotten, one after another
+
+pub forget-next-chain : (items rest : List GoneChain) (one : GoneChain) (old new : Chains) → items ≡ rest ++ one ∷ []
+    → Removes same_place one.class one.place old new → (c : List ℕ) (p : BeanPlace)
+    → (if is_gone_chain rest c p then None else answer same_place new c p) ≡ (if is_gone_chain items c p then None else answer same_place old c p)
+forget-next-chain items rest one old new are removes c p =
+    ap (λ o. if is_gone_chain rest c p then None else o) (removes c p)
+    ∙ by (is_gone_chain rest c p) (bytes_eq one.class c) (same_place one.place p) (answer same_place old c p)
+    ∙ ap (λ b. if b then None else answer same_place old c p)
+    (ap (λ b. is_gone_chain rest c p || ((b && same_place one.place p) || false)) (bytes_eq-turned one.class c)
+    ∙ ap (λ b. is_gone_chain rest c p || ((bytes_eq c one.class && b) || false)) (same_place_equiv.symm one.place p)
+    ∙ sym (list_any-append (λ g. bytes_eq c g.class && same_place p g.place) rest (one ∷ [])) ∙ ap (λ gs. is_gone_chain gs c p) (sym are))
+  where
+    by : (g b q : Bool) (o : Option (List (List ℕ)))
+        → (if g then None else (if b && q then None else o)) ≡ (if g || ((b && q) || false) then None else o)
+    by true b q o = refl
+    by false true true o = refl
+    by false true false o = refl
+    by false false q o = refl

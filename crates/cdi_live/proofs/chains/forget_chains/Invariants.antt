@@ -1,0 +1,14 @@
+use Rattle.std.proofs.Common.{◌≡◌, ℕ, List, length, None, if◌then◌else◌}
+use Rattle.cdi_model.specs.declared.place.BeanPlace.{BeanPlace}
+use Rattle.cdi_memo.specs.Answers.{answer}
+use Rattle.cdi_observe.specs.Keys.{same_place}
+use Rattle.cdi_live.specs.ChainGone.{is_gone_chain}
+use Rattle.cdi_live.proofs.chains.forget_chains.Given as goal
+
+abbrev pub invariant-left : goal.invariant-left
+invariant-left l = (c : List ℕ) (p : BeanPlace)
+    → (if is_gone_chain l.gone.items c p then None else answer same_place l.chains c p)
+    ≡ (if is_gone_chain l.fn.gone.items c p then None else answer same_place l.fn.chains c p)
+
+abbrev pub decreases-left : goal.decreases-left
+decreases-left l = length l.gone.items

@@ -1,0 +1,8 @@
+use Rattle.std.proofs.Common.{◌≡◌, filter, map, take}
+use Rattle.cdi_intercept.specs.Chains.{surrounds}
+use Rattle.cdi_intercept.specs.Lent.{lent_in}
+use Rattle.cdi_live.proofs.chains.names_among.Given as goal
+
+abbrev pub invariant-loop-interceptor : goal.invariant-loop-interceptor
+invariant-loop-interceptor l =
+    l.names ≡ map (λ i. i.name) (filter (surrounds l.decls l.bindings l.place) (lent_in (take l.interceptor-index l.seen)))

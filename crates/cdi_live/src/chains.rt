@@ -1,0 +1,127 @@
+//! Chains that are kept.
+ghost use Rattle.std.specs.Prelude.{◌≡◌, ◌&&◌, true, filter, map, Some, None, if◌then◌else◌, IfOk, OnOk, OnErr};
+ghost use Rattle.std.specs.Str.{bytes_eq};
+ghost use Rattle.cdi_intercept.specs.Bindings.{set_at};
+ghost use Rattle.cdi_intercept.specs.Chains.{chain_of, surrounds};
+ghost use Rattle.cdi_intercept.specs.Lent.{lent_in};
+ghost use Rattle.cdi_intercept.specs.Sees.{names_around};
+ghost use Rattle.cdi_memo.specs.Answers.{answer};
+ghost use Rattle.cdi_model.specs.Answering.{Answers};
+ghost use Rattle.cdi_model.specs.Work.{with_one};
+ghost use Rattle.cdi_observe.specs.Keys.{same_place};
+ghost use Rattle.cdi_live.specs.ChainGone.{is_gone_chain, is_place_of};
+
+use crate::chain_gone::GoneChain;
+use crate::chain_place::ChainPlace;
+use crate::interceptors::{push_bound_words, seen_at};
+use cdi_index::Index;
+use cdi_intercept::{bindings_seen, has_place, surrounds};
+use cdi_match::push_uses;
+use cdi_memo::Memo;
+use cdi_model::{
+    BeanPlace, Decl, Decls, Error, InterceptorDecl, Kind, Name, Qual, Refusal, Seq, Work,
+};
+use std::alloc::{AllocError, Global};
+
+/// The names of those of some interceptors that are around a place with some bindings.
+fn names_among(
+    alloc: Global,
+    decls: &Decls,
+    seen: &[&InterceptorDecl],
+    bindings: &[Qual],
+    place: &BeanPlace,
+) -> Result<Seq<Name>, AllocError>
+    ensures { IfOk result (λ names. names
+        ≡ map (λ i. i.name) (filter (surrounds decls.now bindings.now place.now) (lent_in seen.now))) }
+{
+    let mut set = Vec::with_capacity(alloc, bindings.len())?;
+    push_uses(&mut set, bindings)?;
+    let mut names = Seq::new(alloc);
+    for interceptor in seen {
+        if surrounds(decls, &set, place, interceptor) {
+            names.push(interceptor.name)?;
+        }
+    }
+    Ok(names)
+}
+
+/// The names of the interceptors around a place of the bean of a class, in order. It looks at the interceptors that have a
+/// binding of one of the types at the place, and at no others.
+fn names_around(
+    alloc: Global,
+    index: &Index,
+    class: Name,
+    place: &BeanPlace,
+) -> Result<Seq<Name>, AllocError>
+    ensures { IfOk result (λ names. names ≡ names_around index.now.decls (set_at index.now.decls class place.now) place.now) }
+{
+    let bindings = bindings_seen(alloc, index.decls(), class, place)?;
+    let mut words = Vec::new(alloc);
+    push_bound_words(bindings.as_slice(), &mut words)?;
+    let positions = index.positions_under(words.as_slice());
+    let seen = seen_at(alloc, index.decls(), &positions, bindings.as_slice(), place)?;
+    names_among(alloc, index.decls(), &seen, bindings.as_slice(), place)
+}
+
+/// The names of the interceptors around a place of the bean of a class, in order. It is refused with `UnknownName` where no
+/// such bean is declared, and with `NoMethod` where it has no such place.
+fn chain(
+    alloc: Global,
+    index: &Index,
+    class: Name,
+    place: &BeanPlace,
+) -> Result<Seq<Name>, Error>
+    ensures chain { Answers result (chain_of index.now.decls class place.now) }
+    ensures there { OnOk result (is_place_of index.now.decls class place.now ≡ true) }
+{
+    let Some(Decl::Bean(bean)) = index.decls().get(Kind::Bean, &class) else {
+        return Err(Refusal::UnknownName.into());
+    };
+    if !has_place(bean, place) {
+        return Err(Refusal::NoMethod.into());
+    }
+    Ok(names_around(alloc, index, class, place)?)
+}
+
+/// Copies of some names.
+fn copy_names(alloc: Global, names: &[Name]) -> Result<Seq<Name>, AllocError>
+    ensures { IfOk result (λ copy. copy ≡ names.now) }
+{
+    let mut copy = Vec::with_capacity(alloc, names.len())?;
+    copy.extend_from_slice(names)?;
+    Ok(Seq::from_vec(copy))
+}
+
+/// Computes the chain around a place, and keeps it. Without memory nothing is kept or counted.
+pub(crate) fn evaluate_chain(
+    alloc: Global,
+    index: &Index,
+    chains: &mut Memo<ChainPlace, Seq<Name>>,
+    class: Name,
+    place: &BeanPlace,
+    work: &mut Work,
+) -> Result<Seq<Name>, Error>
+    ensures chain { Answers result (chain_of index.now.decls class place.now) }
+    ensures there { OnOk result (is_place_of index.now.decls class place.now ≡ true) }
+    ensures kept { IfOk result (λ names. (c : _) (p : _) → answer same_place chains.new c p
+        ≡ (if bytes_eq class c && same_place place.now p then Some names else answer same_place chains.old c p)) }
+    ensures work { OnOk result (work.new ≡ with_one work.old) }
+    ensures err { OnErr result (chains.new ≡ chains.old) }
+    ensures same { OnErr result (work.new ≡ work.old) }
+{
+    let names = chain(alloc, index, class, place)?;
+    let copy = copy_names(alloc, names.as_slice())?;
+    chains.keep(class, ChainPlace::new(*place), copy)?;
+    work.add_one();
+    Ok(names)
+}
+
+/// Keeps some chains no more. It takes no memory.
+pub(crate) fn forget_chains(chains: &mut Memo<ChainPlace, Seq<Name>>, mut gone: Vec<GoneChain>)
+    ensures { (c : _) (p : _) → answer same_place chains.new c p
+        ≡ (if is_gone_chain gone.items c p then None else answer same_place chains.old c p) }
+{
+    'left: while let Some(one) = gone.pop() {
+        chains.remove(&one.class, &ChainPlace::new(one.place));
+    }
+}
