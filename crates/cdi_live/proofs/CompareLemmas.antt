@@ -52,7 +52,7 @@ module _ {X Y : Type 0} (f : X → List Y) (q : Y → Bool) (all : List X) where
   none-given (x ∷ xs) none = filter-append q (f x) (flat_map f xs)
       ∙ ap (λ ys. ys ++ filter q (flat_map f xs)) (none 0 x refl) ∙ none-given xs (λ i. none (suc i))
 
-  gather : (n : ℕ) (marks : List Bool) (xs : List X) → ((i : ℕ) → slice_get all (n + i) ≡ slice_get xs i)
+  pub gather : (n : ℕ) (marks : List Bool) (xs : List X) → ((i : ℕ) → slice_get all (n + i) ≡ slice_get xs i)
       → ((i : ℕ) (x : X) → slice_get xs i ≡ Some x → is_marked marks i ≡ false → filter q (f x) ≡ [])
       → filter q (flat_map found_at (marked_from n marks)) ≡ filter q (flat_map f xs)
   gather n [] xs here others = sym (none-given xs (λ i x there. others i x there refl))
@@ -82,7 +82,7 @@ gathered es t marks others = gather (entries es) (λ b. has b.types t) es 0 mark
 -- ---- who is marked
 
 -- a marked position is among the marked ones
-among-marked : (test : ℕ → Bool) (n : ℕ) (marks : List Bool) (i : ℕ) → is_marked marks i ≡ true → test (n + i) ≡ true
+pub among-marked : (test : ℕ → Bool) (n : ℕ) (marks : List Bool) (i : ℕ) → is_marked marks i ≡ true → test (n + i) ≡ true
     → list_any test (marked_from n marks) ≡ true
 among-marked test n [] i marked h = absurd (false≢true marked)
 among-marked test n (m ∷ ms) zero marked h = by m marked
@@ -98,7 +98,7 @@ among-marked test n (m ∷ ms) (suc i) marked h = by m (among-marked test (n + 1
     by false more = more
 
 -- a key among others passes what is true of it
-among-any : (p : DeclKey → Bool) (keys : List DeclKey) (k : DeclKey) → list_any p keys ≡ false → p k ≡ true → is_among keys k ≡ false
+pub among-any : (p : DeclKey → Bool) (keys : List DeclKey) (k : DeclKey) → list_any p keys ≡ false → p k ≡ true → is_among keys k ≡ false
 among-any p [] k none h = refl
 among-any p (l ∷ keys) k none h =
     let parts = or_parts (p l) (list_any p keys) none in by (same_key l k) refl parts.0 (among-any p keys k parts.1 h)
@@ -107,7 +107,7 @@ among-any p (l ∷ keys) k none h =
     by true e f more = absurd (false≢true (sym f ∙ ap p (key_exact l k e) ∙ h))
     by false e f more = more
 
-itself : (n : ℕ) → nat_eq n n ≡ true
+pub itself : (n : ℕ) → nat_eq n n ≡ true
 itself n = nat_eq_equiv.refl n
 
 module _ (sides : Sides) (between : IsBetween sides) (distinct : AreDistinct sides.index.now.decls) (apart : AreDistinct sides.next.now)

@@ -4,3 +4,8 @@ mod SuspectLemmas
 mod GoneLemmas
 mod LiveLemmas
 mod PartLemmas
+mod EventLemmas
+mod EventAskedLemmas
+mod EventSuspectLemmas
+mod EventCompareLemmas
+mod EventGoneLemmas

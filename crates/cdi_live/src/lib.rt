@@ -4,6 +4,12 @@
 mod choices;
 mod compare;
 mod dropped;
+mod event_compare;
+mod event_dropped;
+mod event_observers;
+mod event_stage;
+mod event_suspects;
+mod events;
 mod gone;
 mod live;
 mod prepare;
