@@ -101,7 +101,7 @@ in-passing f test x (d ∷ ds) h = by (test d) refl (in-passing f test x ds) h
     by false is more h = more h
 
 -- a name among some is among others that have the same
-is-held : (xs : List (List ℕ)) (x : List ℕ) → list_any (bytes_eq x) xs ≡ has xs x
+pub is-held : (xs : List (List ℕ)) (x : List ℕ) → list_any (bytes_eq x) xs ≡ has xs x
 is-held [] x = refl
 is-held (y ∷ ys) x = λ i. bytes_eq-turned x y i || is-held ys x i
 
@@ -199,7 +199,7 @@ has-may ds kept t x named h = by (find_decl kinds.Type t ds) refl
     by : (o : Option Decl) → find_decl kinds.Type t ds ≡ o → may_have ds kept x t ≡ true
     by (Some d) there = or_right (bytes_eq x t) (readers || (bytes_eq x object && holds kept t))
         (or_left readers (bytes_eq x object && holds kept t)
-        (ap (λ o. reads (option_map (λ d. made_of_type ds t) o) (key_at kinds.Type x)) there ∙ among-types (types_of ds t) x ∙ h))
+        (ap (λ o. reads (option_map (λ (d : Decl). made_of_type ds t) o) (key_at kinds.Type x)) there ∙ among-types (types_of ds t) x ∙ h))
     by None none = elim ((is_type_decides ds t x).0 (sym (types_of-has ds t x) ∙ h)) [
       | inl all ↦ or_right (bytes_eq x t) (readers || (bytes_eq x object && holds kept t))
           (or_right readers (bytes_eq x object && holds kept t)
@@ -263,7 +263,7 @@ module _ (edits : List Edit) (ds : List Decl) (told : List DeclKey) (distinct : 
     where
       by : (o : Option Decl) → find_decl kinds.Type t ds ≡ o → types_of es t ≡ types_of ds t
       by (Some d) there = edits_keep_closure edits ds t (λ key edited.
-          sym (ap (λ o. is_among (reads_in (option_map (λ d. made_of_type ds t) o)) key) there)
+          sym (ap (λ o. is_among (reads_in (option_map (λ (d : Decl). made_of_type ds t) o)) key) there)
           ∙ tells.apart (key_at kinds.Type t) first.0 key edited)
       by None none =
           let keep : (s : List ℕ) → is_type es t s ≡ is_type ds t s =
