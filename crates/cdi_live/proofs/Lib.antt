@@ -12,3 +12,8 @@ mod WantedPlaceLemmas
 mod ChainGoneLemmas
 mod AroundLemmas
 mod LiveChainLemmas
+mod EventLemmas
+mod EventAskedLemmas
+mod EventSuspectLemmas
+mod EventCompareLemmas
+mod EventGoneLemmas

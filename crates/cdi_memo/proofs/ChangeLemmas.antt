@@ -46,6 +46,10 @@ stays-there {Q} {A} {S} name (e ∷ es) s w found is = by (bytes_eq name e.0) fo
         let same : e.1 ≡ s = cc in ap (λ xs. (e.0, xs) ∷ answers_in es) (is ∙ ap (λ (m : IndexMap Q A S). m.entries) (sym same))
     by false f more = ap (λ m. (e.0, e.1.entries) ∷ m) (more f)
 
+-- the names that are seen
+pub keys-seen : {Q A S : Type 0} (es : List (List ℕ × IndexMap Q A S)) (m : Answers Q A) → answers_in es ≡ m → keys_of es ≡ keys_of m
+keys-seen {Q = Q} {A = A} {S = S} es m view = sym (keys_of-map_values (λ (x : IndexMap Q A S). x.entries) es) ∙ ap keys_of view
+
 module _ {Q A S : Type 0} (eq : Q → Q → Bool) where
   -- what is seen of the map of a name
   abbrev pub answer_at : Option (IndexMap Q A S) → Q → Option A

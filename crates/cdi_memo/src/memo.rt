@@ -1,5 +1,6 @@
 //! Answers by a name and a further part.
 ghost use Rattle.std.specs.Prelude.{◌≡◌, ◌<◌, ◌≤◌, ◌^◌, [], length, not, slice_get, OnOk, OnErr, IfOk, IfSome, IsSome};
+ghost use Rattle.std.specs.Map.{keys_of};
 ghost use Rattle.std.specs.Option.{option_copied};
 ghost use Rattle.cdi_memo.specs.Answers.{answer, answers_in, how_many, is_kept, parts_under, Keeps, Removes};
 ghost use Rattle.cdi_memo.specs.Laws.{AreOnce, CountsAnswered, NamesHaveParts, PartsAreKept, PartsDiffer};
@@ -78,6 +79,20 @@ impl<Q: Eq + Hash, A> Memo<Q, A> {
         if index < parts.len() {
             let (part, _) = parts.get_index(index)?;
             Some(part)
+        } else {
+            None
+        }
+    }
+
+    /// The name at an index, counted from 0, among those of which an answer is kept. These stand in no order, which `keep`
+    /// and `remove` may change. It takes no memory.
+    pub fn name_at(&self, index: usize) -> Option<&Name>
+        ensures name { option_copied result ≡ slice_get (keys_of self.now) index }
+        ensures small { length (keys_of self.now) < 2 ^ 63 }
+    {
+        if index < self.answers.len() {
+            let (name, _) = self.answers.get_index(index)?;
+            Some(name)
         } else {
             None
         }

@@ -24,7 +24,9 @@ fn keeps_by_qualifiers(alloc: Global) -> Result<bool, Error> {
         && memo.part_at(&shop, 1).is_none();
     memo.remove(&shop, &quals);
     let is_gone = memo.get(&shop, &quals).is_none() && memo.part_at(&shop, 0).is_none();
-    let stays = memo.get(&stand, &quals).copied() == Some(2);
+    let stays = memo.get(&stand, &quals).copied() == Some(2)
+        && memo.name_at(0).copied() == Some(stand)
+        && memo.name_at(1).is_none();
     Ok(is_kept && is_gone && stays && memo.count() == 1)
 }
 

@@ -96,7 +96,7 @@ module _ (ds : List Decl) (types : List (List ℕ)) where
       ∙ ap (λ ys. ys ++ filter (observes types) rest) (none-of-record b x found none)
       ∙ none-of-products b offered producers found none
 
-  none-of-decl : AreDistinct ds → (i : ℕ) (d : Decl) → slice_get ds i ≡ Some d → observes_one types d ≡ false
+  pub none-of-decl : AreDistinct ds → (i : ℕ) (d : Decl) → slice_get ds i ≡ Some d → observes_one types d ≡ false
       → filter (observes types) (flat_map of_record (entries ds d)) ≡ []
   unfolding effective
   none-of-decl distinct i (decls.Bean b) there none =
@@ -117,7 +117,7 @@ module _ (ds : List Decl) (types : List (List ℕ)) where
   flat-twice g f [] = refl
   flat-twice g f (x ∷ xs) = flat_map-append g (f x) (flat_map f xs) ∙ ap (λ ys. flat_map g (f x) ++ ys) (flat-twice g f xs)
 
-  same-observers : AreDistinct ds → filter (observes types) (observers ds (flat_map (entries ds) (filter (observes_one types) ds)))
+  pub same-observers : AreDistinct ds → filter (observes types) (observers ds (flat_map (entries ds) (filter (observes_one types) ds)))
       ≡ filter (observes types) (observers ds (beans ds))
   unfolding beans
   same-observers distinct =

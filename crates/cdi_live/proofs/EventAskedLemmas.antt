@@ -1,0 +1,83 @@
+-- Which events are wanted: those for which a declaration asks.
+use Rattle.std.proofs.Common.{◌≡◌, ℕ, Bool, true, false, ◌||◌, List, [], ◌∷◌, ◌++◌, map, flat_map, refl, sym, ap, ◌∙◌}
+use Rattle.std.specs.List.{list_any}
+use Rattle.std.proofs.lemmas.List.Folds.{list_any-append}
+use Rattle.cdi_model.specs.declared.decl.Decl.{Decl}
+use Rattle.cdi_model.specs.declared.decl.Decl.TheVariants as decls
+use Rattle.cdi_model.specs.declared.decl.PointDecl.{PointDecl}
+use Rattle.cdi_model.specs.declared.edit.Edit.{Edit}
+use Rattle.cdi_model.specs.declared.place.BeanPlace.{BeanPlace}
+use Rattle.cdi_model.specs.declared.quals.Qual.{Qual}
+use Rattle.cdi_model.specs.DeclList.{AreDistinct}
+use Rattle.cdi_model.specs.Edits.{edited_all, edited_keys}
+use Rattle.cdi_model.specs.Mentions.{mentions, Mention, BodyOf, CallOf, EventOf, MethodOf, PointOf, StereotypeOf, TypeIn, UseOf}
+use Rattle.cdi_intercept.specs.Sets.{places_of}
+use Rattle.cdi_index.specs.Asked.{asks_for, asks_in}
+use Rattle.cdi_index.specs.declared.asked.Question.TheVariants as questions
+use Rattle.cdi_observe.specs.Keys.{has_key, same_key, ChainKey, EventKey}
+use Rattle.cdi_observe.specs.Wanted.{asked_by, chains_by, event_in, events_by, is_wanted, key_of_point, points_of, wanted_by}
+use Rattle.cdi_live.specs.Dropped.{is_asked_after}
+use Rattle.cdi_live.proofs.AskedLemmas.{any-same, asked-after}
+
+module _ (t : List ℕ) (us : List Qual) where
+  abbrev own : Mention → Bool
+  own m = has_key (event_in m) (EventKey t us)
+
+  or-none : (b : Bool) → (b || false) ≡ b
+  or-none true = refl
+  or-none false = refl
+
+  -- a declaration asks where an event of it does
+  at-event : (m : Mention) → own m ≡ asks_in questions.Event t us m
+  at-event (EventOf e) = or-none (asks_in questions.Event t us (EventOf e))
+  at-event (PointOf place point) = refl
+  at-event (TypeIn place x) = refl
+  at-event (UseOf kind u) = refl
+  at-event (StereotypeOf s) = refl
+  at-event (MethodOf m) = refl
+  at-event (BodyOf place body) = refl
+  at-event (CallOf place params call) = refl
+
+  at-events : (ms : List Mention) → has_key (flat_map event_in ms) (EventKey t us) ≡ list_any (asks_in questions.Event t us) ms
+  at-events [] = refl
+  at-events (m ∷ ms) =
+      list_any-append (same_key (EventKey t us)) (event_in m) (flat_map event_in ms)
+      ∙ ap (λ b. b || has_key (flat_map event_in ms) (EventKey t us)) (at-event m)
+      ∙ ap (λ b. asks_in questions.Event t us m || b) (at-events ms)
+
+  no-choice : (points : List PointDecl) → has_key (map key_of_point points) (EventKey t us) ≡ false
+  no-choice [] = refl
+  no-choice (p ∷ points) = no-choice points
+
+  no-chain : (class : List ℕ) (places : List BeanPlace) → has_key (map (ChainKey class) places) (EventKey t us) ≡ false
+  no-chain class [] = refl
+  no-chain class (place ∷ places) = no-chain class places
+
+  no-chain-by : (d : Decl) → has_key (chains_by d) (EventKey t us) ≡ false
+  no-chain-by (decls.Bean b) = no-chain b.name (places_of b)
+  no-chain-by (decls.Type d) = refl
+  no-chain-by (decls.Qualifier d) = refl
+  no-chain-by (decls.Binding d) = refl
+  no-chain-by (decls.Stereotype d) = refl
+  no-chain-by (decls.Interceptor d) = refl
+
+  fires-is : (d : Decl) → has_key (wanted_by d) (EventKey t us) ≡ asks_for questions.Event t us d
+  unfolding asks_for
+  fires-is d =
+      list_any-append (same_key (EventKey t us)) (asked_by d) (chains_by d ++ events_by d)
+      ∙ ap (λ b. b || has_key (chains_by d ++ events_by d) (EventKey t us)) (no-choice (points_of d))
+      ∙ list_any-append (same_key (EventKey t us)) (chains_by d) (events_by d)
+      ∙ ap (λ b. b || has_key (events_by d) (EventKey t us)) (no-chain-by d)
+      ∙ at-events (mentions d)
+
+  -- the event is wanted where a declaration may fire it
+  pub event-wanted-is : (ds : List Decl) → is_wanted ds (EventKey t us) ≡ list_any (asks_for questions.Event t us) ds
+  unfolding is_wanted
+  event-wanted-is ds =
+      any-same (λ d. has_key (wanted_by d) (EventKey t us)) (asks_for questions.Event t us) ds fires-is
+
+  -- also after edits
+  pub fired-after : (edits : List Edit) (ds : List Decl) → AreDistinct ds → AreDistinct (edited_all ds edits)
+      → is_asked_after ds (edited_all ds edits) (edited_keys edits) questions.Event t us ≡ is_wanted (edited_all ds edits) (EventKey t us)
+  fired-after edits ds distinct apart =
+      asked-after questions.Event t us edits ds distinct apart ∙ sym (event-wanted-is (edited_all ds edits))

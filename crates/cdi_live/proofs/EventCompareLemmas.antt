@@ -1,0 +1,151 @@
+-- The observer methods that an event sees, before and after edits, are among those of the declarations that are looked at.
+use Rattle.std.proofs.Common.{◌≡◌, ◌+◌, ℕ, nat_eq, Bool, true, false, ◌||◌, List, [], ◌∷◌, ◌++◌, map, flat_map, filter, Option, Some, None}
+use Rattle.std.proofs.Common.{position, slice_get, refl, sym, ap, ◌∙◌, arith}
+use Rattle.std.specs.List.{list_any}
+use Rattle.std.specs.Option.{option_map_or}
+use Rattle.std.proofs.lemmas.Bool.{false≢true, or_parts}
+use Rattle.std.proofs.lemmas.Grind.{flat_map-append}
+use Rattle.cdi_model.specs.declared.decl.Decl.{Decl}
+use Rattle.cdi_model.specs.declared.decl.Decl.TheVariants as decls
+use Rattle.cdi_model.specs.declared.decl.Kind.TheVariants as kinds
+use Rattle.cdi_model.specs.Decl.{key_of, kind_of, name_of_decl}
+use Rattle.cdi_model.specs.DeclKey.{key_at}
+use Rattle.cdi_model.specs.DeclList.{find_decl, is_of, AreDistinct}
+use Rattle.cdi_model.specs.Edits.{is_among}
+use Rattle.cdi_model.proofs.EditLemmas.{edits_keep_decl}
+use Rattle.cdi_model.proofs.PositionLemmas.{position-found, position-there}
+use Rattle.cdi_match.specs.Types.{types_of}
+use Rattle.cdi_effective.specs.Beans.{beans, entries}
+use Rattle.cdi_effective.specs.declared.records.Effective.{Effective}
+use Rattle.cdi_effective.proofs.PlaceLemmas.{own-found, own-position}
+use Rattle.cdi_intercept.specs.Sorting.{sorted_by}
+use Rattle.cdi_postings.specs.declared.word.Reason.TheVariants as reasons
+use Rattle.cdi_postings.specs.Words.{word_at}
+use Rattle.cdi_positions.specs.Marks.{is_marked, marked_from}
+use Rattle.cdi_index.specs.Under.{has_one, observes_one, records_at}
+use Rattle.cdi_index.proofs.SoughtLemmas.{observing-one}
+use Rattle.cdi_observe.specs.Observers.{Observer, declared_by, enabled_bean, is_before, observers, observes, observing}
+use Rattle.cdi_questions.proofs.CandidateLemmas.{none-of-decl, same-observers}
+use Rattle.cdi_live.specs.Compared.{is_at, is_place_of_one, IsBetween}
+use Rattle.cdi_live.specs.declared.sides.Sides.{Sides}
+use Rattle.cdi_live.proofs.CompareLemmas.{among-any, among-marked, gather, itself}
+
+-- ---- before
+
+-- the beans of the declarations that observe a type of an event are enough
+pub seen-before : (ds : List Decl) (types : List (List ℕ)) → AreDistinct ds → (t : List ℕ) → types ≡ types_of ds t
+    → sorted_by is_before (filter (observes types) (observers ds (flat_map (entries ds) (filter (observes_one types) ds))))
+    ≡ observing ds (beans ds) t
+unfolding observing
+seen-before ds types distinct t are =
+    ap (sorted_by is_before) (same-observers ds types distinct)
+    ∙ ap (λ ts. sorted_by is_before (filter (observes ts) (observers ds (beans ds)))) are
+
+-- ---- after
+
+flat-twice : {X Y Z : Type 0} (g : Y → List Z) (f : X → List Y) (xs : List X) → flat_map g (flat_map f xs) ≡ flat_map (λ x. flat_map g (f x)) xs
+flat-twice g f [] = refl
+flat-twice g f (x ∷ xs) = flat_map-append g (f x) (flat_map f xs) ∙ ap (λ ys. flat_map g (f x) ++ ys) (flat-twice g f xs)
+
+flat-same : {X Y : Type 0} (f g : X → List Y) → ((x : X) → f x ≡ g x) → (xs : List X) → flat_map f xs ≡ flat_map g xs
+flat-same f g same [] = refl
+flat-same f g same (x ∷ xs) = λ i. same x i ++ flat-same f g same xs i
+
+module _ (es : List Decl) (types : List (List ℕ)) (marks : List Bool) (distinct : AreDistinct es)
+    (others : (p : ℕ) (d : Decl) → slice_get es p ≡ Some d → is_marked marks p ≡ false → observes_one types d ≡ false) where
+  -- the observer methods of a record, and those of a declaration
+  abbrev of_record : Effective → List Observer
+  of_record x = declared_by (enabled_bean es x)
+
+  abbrev of_decl : Decl → List Observer
+  of_decl d = flat_map of_record (entries es d)
+
+  abbrev of_place : ℕ → List Observer
+  of_place p = option_map_or of_decl (slice_get es p) []
+
+  at-place : (p : ℕ) → flat_map of_record (records_at es p) ≡ of_place p
+  at-place p = by (slice_get es p)
+    where
+      by : (o : Option Decl) → flat_map of_record (option_map_or (entries es) o []) ≡ option_map_or of_decl o []
+      by None = refl
+      by (Some d) = refl
+
+  same-after : filter (observes types) (observers es (flat_map (records_at es) (marked_from 0 marks)))
+      ≡ filter (observes types) (observers es (beans es))
+  unfolding beans
+  same-after =
+      ap (filter (observes types))
+      (flat-twice of_record (records_at es) (marked_from 0 marks)
+      ∙ flat-same (λ p. flat_map of_record (records_at es p)) of_place at-place (marked_from 0 marks))
+      ∙ gather of_decl (observes types) es 0 marks es (λ i. ap (slice_get es) (omega arith))
+      (λ p d there none. none-of-decl es types distinct p d there (others p d there none))
+      ∙ sym (ap (filter (observes types)) (flat-twice of_record (entries es) es))
+
+  pub seen-after : (t : List ℕ) → types ≡ types_of es t
+      → sorted_by is_before (filter (observes types) (observers es (flat_map (records_at es) (marked_from 0 marks))))
+      ≡ observing es (beans es) t
+  unfolding observing
+  seen-after t are =
+      ap (sorted_by is_before) same-after
+      ∙ ap (λ ts. sorted_by is_before (filter (observes ts) (observers es (beans es)))) are
+
+-- ---- who is marked
+
+-- where a declaration is found
+placed : (ds : List Decl) (o : Option ℕ) (d : Decl) → position (is_of (kind_of d) (name_of_decl d)) ds ≡ o
+    → find_decl (kind_of d) (name_of_decl d) ds ≡ Some d → (q : ℕ) × (slice_get ds q ≡ Some d)
+placed ds None d none there = absurd (false≢true (ap is_there (sym none) ∙ position-found (kind_of d) (name_of_decl d) ds ∙ ap is_there there))
+  where
+    is_there : {X : Type 0} → Option X → Bool
+    is_there None = false
+    is_there (Some x) = true
+placed ds (Some q) d at there = (q, position-there (kind_of d) (name_of_decl d) ds q at ∙ there)
+
+module _ (sides : Sides) (between : IsBetween sides) (distinct : AreDistinct sides.index.now.decls) (apart : AreDistinct sides.next.now)
+    (types : List (List ℕ)) (before : List Bool)
+    (found : (p : ℕ) → is_marked before p ≡ option_map_or (has_one sides.index.now.decls (map (word_at reasons.Observes) types))
+    (slice_get sides.index.now.decls p) false) where
+  abbrev ds : List Decl
+  ds = sides.index.now.decls
+
+  abbrev after : List Decl
+  after = sides.next.now
+
+  -- the declaration at a position is there
+  at-own : (p : ℕ) (d : Decl) → slice_get after p ≡ Some d → is_at after (key_of d) p ≡ true
+  at-own p d there = ap (λ o. option_map_or (λ i. nat_eq i p) o false) (own-position after p d apart there) ∙ itself p
+
+  -- a declaration that is at no marked position observes none of the types
+  pub unobserved : (p : ℕ) (d : Decl) → slice_get after p ≡ Some d
+      → (list_any (λ q. is_place_of_one ds after q p) (marked_from 0 before) || list_any (λ k. is_at after k p) sides.affected.now) ≡ false
+      → observes_one types d ≡ false
+  unobserved p (decls.Bean b) there none =
+      let k = key_at kinds.Bean b.name in
+      let parts = or_parts (list_any (λ q. is_place_of_one ds after q p) (marked_from 0 before)) (list_any (λ k. is_at after k p) sides.affected.now) none in
+      let untold : is_among sides.affected.now k ≡ false =
+      among-any (λ k. is_at after k p) sides.affected.now k parts.1 (at-own p (decls.Bean b) there) in
+      let unedited : is_among sides.edited.now k ≡ false = not-edited (is_among sides.edited.now k) refl untold in
+      let same : find_decl kinds.Bean b.name ds ≡ Some (decls.Bean b) =
+      sym (edits_keep_decl between.edited.edits ds kinds.Bean b.name (ap (λ ks. is_among ks k) (sym between.edited.keys) ∙ unedited))
+      ∙ ap (find_decl kinds.Bean b.name) (sym between.edited.decls) ∙ own-found after p (decls.Bean b) apart there in
+      let here = placed ds (position (is_of kinds.Bean b.name) ds) (decls.Bean b) refl same in
+      sym (observing-one ds types (decls.Bean b))
+      ∙ without (has_one ds (map (word_at reasons.Observes) types) (decls.Bean b)) refl here.0 here.1 parts.0
+    where
+      not-edited : (c : Bool) → is_among sides.edited.now (key_at kinds.Bean b.name) ≡ c
+          → is_among sides.affected.now (key_at kinds.Bean b.name) ≡ false → c ≡ false
+      not-edited false e untold = refl
+      not-edited true e untold = absurd (false≢true (sym untold ∙ between.told.edited (key_at kinds.Bean b.name) refl e))
+
+      without : (c : Bool) → has_one ds (map (word_at reasons.Observes) types) (decls.Bean b) ≡ c → (q : ℕ) → slice_get ds q ≡ Some (decls.Bean b)
+          → list_any (λ q. is_place_of_one ds after q p) (marked_from 0 before) ≡ false → c ≡ false
+      without false e q at none = refl
+      without true e q at none = absurd (false≢true (sym none ∙ among-marked (λ q. is_place_of_one ds after q p) 0 before q
+          (found q ∙ ap (λ o. option_map_or (has_one ds (map (word_at reasons.Observes) types)) o false) at ∙ e)
+          (ap (λ n. is_place_of_one ds after n p) (omega arith) ∙ ap (λ o. option_map_or (λ d. is_at after (key_of d) p) o false) at
+          ∙ at-own p (decls.Bean b) there)))
+  unobserved p (decls.Type d) there none = refl
+  unobserved p (decls.Qualifier d) there none = refl
+  unobserved p (decls.Binding d) there none = refl
+  unobserved p (decls.Stereotype d) there none = refl
+  unobserved p (decls.Interceptor d) there none = refl

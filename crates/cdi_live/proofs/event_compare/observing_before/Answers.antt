@@ -1,0 +1,27 @@
+use Rattle.std.proofs.Common.{◌≡◌, ℕ, List, filter, flat_map, map, ap, subst, ◌∙◌}
+use Rattle.std.proofs.lemmas.Result.{IfOk-weaker}
+use Rattle.cdi_model.specs.DeclList.{AreDistinct}
+use Rattle.cdi_match.specs.Types.{types_of}
+use Rattle.cdi_effective.specs.Beans.{beans, entries}
+use Rattle.cdi_effective.specs.declared.records.Effective.{Effective}
+use Rattle.cdi_index.specs.Under.{observes_one}
+use Rattle.cdi_intercept.specs.Sorting.{sorted_by}
+use Rattle.cdi_observe.specs.Observers.{is_before, observers, observes, observing}
+use Rattle.cdi_seen.specs.Lent.{lent_in}
+use Rattle.cdi_live.proofs.EventCompareLemmas.{seen-before}
+use Rattle.cdi_live.proofs.event_compare.observing_before.Goals as goal
+
+pub returns : goal.returns
+returns c =
+    let ds = c.args.index.now.decls in
+    let types = c.args.types.now in
+    let candidates : List Effective = map (λ bean. bean.now) c.deref.result.now in
+    let are : candidates ≡ flat_map (entries ds) (filter (observes_one types) ds) =
+    ap (map (λ bean. bean.now)) c.deref.ensures.value ∙ c.in_ok-beans.ensures in
+    let distinct : AreDistinct ds = subst AreDistinct c.decls.ensures c.iter.ensures.distinct in
+    IfOk-weaker c.observers_in_order.result
+    (λ list. lent_in list.items ≡ sorted_by is_before (filter (observes types) (observers c.decls-2.result.now candidates)))
+    (λ list. (t : List ℕ) → types ≡ types_of ds t → lent_in list.items ≡ observing ds (beans ds) t)
+    (λ list is t of. is ∙ ap (λ es. sorted_by is_before (filter (observes types) (observers es candidates))) c.decls-2.ensures
+    ∙ ap (λ xs. sorted_by is_before (filter (observes types) (observers ds xs))) are ∙ seen-before ds types distinct t of)
+    c.observers_in_order.ensures

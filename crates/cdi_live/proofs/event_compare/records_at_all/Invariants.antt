@@ -1,0 +1,9 @@
+use Rattle.std.proofs.Common.{◌≡◌, ◌++◌, flat_map, map}
+use Rattle.cdi_positions.specs.Marks.{marked_from}
+use Rattle.cdi_index.specs.Under.{records_at}
+use Rattle.cdi_live.proofs.event_compare.records_at_all.Given as goal
+
+abbrev pub invariant-loop-position : goal.invariant-loop-position
+invariant-loop-position l =
+    map (λ bean. bean.now) l.list.items ++ flat_map (records_at l.next) l.position-iterator
+    ≡ flat_map (records_at l.next) (marked_from 0 l.positions)

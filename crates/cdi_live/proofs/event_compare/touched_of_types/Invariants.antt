@@ -1,0 +1,9 @@
+use Rattle.std.proofs.Common.{◌≡◌, ℕ, List, take}
+use Rattle.cdi_model.specs.declared.quals.Qual.{Qual}
+use Rattle.cdi_live.specs.EventCompared.{is_touched_of}
+use Rattle.cdi_live.specs.Gone.{is_gone}
+use Rattle.cdi_live.proofs.event_compare.touched_of_types.Given as goal
+
+abbrev pub invariant-loop-event_type : goal.invariant-loop-event_type
+invariant-loop-event_type l = (t : List ℕ) (us : List Qual) → is_gone l.gone.items t us
+    ≡ is_touched_of l.sides.index.now.decls l.sides.next.now l.events (take l.event_type-index l.types) t us

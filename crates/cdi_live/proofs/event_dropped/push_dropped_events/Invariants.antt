@@ -1,0 +1,11 @@
+use Rattle.std.proofs.Common.{◌≡◌, ◌||◌, ℕ, List, take}
+use Rattle.std.specs.List.{list_any}
+use Rattle.cdi_model.specs.declared.quals.Qual.{Qual}
+use Rattle.cdi_live.specs.EventDropped.{drops_before, is_dropped_at}
+use Rattle.cdi_live.specs.Gone.{is_gone}
+use Rattle.cdi_live.proofs.event_dropped.push_dropped_events.Given as goal
+
+abbrev pub invariant-loop-key : goal.invariant-loop-key
+invariant-loop-key l = (t : List ℕ) (us : List Qual) → is_gone l.gone.items t us
+    ≡ (is_gone l.fn.gone.items t us
+    || list_any (is_dropped_at l.wants.sides.now.index.now.decls (drops_before l.wants) t us) (take l.key-index l.keys))

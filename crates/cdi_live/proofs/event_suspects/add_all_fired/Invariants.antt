@@ -1,0 +1,11 @@
+use Rattle.std.proofs.Common.{◌≡◌, ◌||◌, ℕ, List, flat_map}
+use Rattle.std.specs.Str.{bytes_eq}
+use Rattle.indexmap.specs.IndexSet.{contains}
+use Rattle.cdi_positions.specs.Marks.{marked_from}
+use Rattle.cdi_live.specs.EventSuspects.{fired_at}
+use Rattle.cdi_live.specs.Suspects.{holds}
+use Rattle.cdi_live.proofs.event_suspects.add_all_fired.Given as goal
+
+abbrev pub invariant-loop-position : goal.invariant-loop-position
+invariant-loop-position l = (t : List ℕ) → (contains bytes_eq l.types t || holds (flat_map (fired_at l.index.decls) l.position-iterator) t)
+    ≡ (contains bytes_eq l.fn.types t || holds (flat_map (fired_at l.index.decls) (marked_from 0 l.positions)) t)

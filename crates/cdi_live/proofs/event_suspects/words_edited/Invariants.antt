@@ -1,0 +1,6 @@
+use Rattle.std.proofs.Common.{◌≡◌, take}
+use Rattle.cdi_live.specs.EventSuspects.{words_edited}
+use Rattle.cdi_live.proofs.event_suspects.words_edited.Given as goal
+
+abbrev pub invariant-loop-key : goal.invariant-loop-key
+invariant-loop-key l = l.words.items ≡ words_edited (take l.key-index l.edited)

@@ -1,0 +1,34 @@
+use Rattle.std.proofs.Common.{◌≡◌, ◌&&◌, if◌then◌else◌, Some, sym, ap, ◌∙◌}
+use Rattle.std.specs.List.{list_any}
+use Rattle.std.specs.Str.{bytes_eq}
+use Rattle.cdi_model.specs.SameUse.{same_quals}
+use Rattle.cdi_index.specs.Asked.{asks_for}
+use Rattle.cdi_index.specs.declared.asked.Question.TheVariants as questions
+use Rattle.cdi_memo.specs.Answers.{answer}
+use Rattle.cdi_observe.specs.Keys.{EventKey}
+use Rattle.cdi_observe.specs.Wanted.{is_wanted}
+use Rattle.cdi_live.proofs.EventAskedLemmas.{event-wanted-is}
+use Rattle.cdi_live.proofs.events.keep_event.Goals as goal
+
+pub returns-then-not-is_asked-clause-ok : goal.returns-then-not-is_asked-clause-ok
+returns-then-not-is_asked-clause-ok c t us =
+    let ds = c.args.index.now.decls in
+    let class = c.args.event_type in
+    let uses = c.args.quals.now in
+    let is : is_wanted ds (EventKey class uses) ≡ c.is_asked.result =
+    event-wanted-is class uses ds ∙ ap (λ vs. list_any (asks_for questions.Event class vs) ds) (sym c.as_slice.ensures.value) ∙ sym c.is_asked.ensures in
+    sym (ap (λ w. if w && (bytes_eq class t && same_quals uses us) then Some c.args.ids.now else answer same_quals c.args.events.now t us)
+    (is ∙ c.if-not-is_asked.true))
+
+pub returns-clause-ok : goal.returns-clause-ok
+returns-clause-ok c t us =
+    let ds = c.args.index.now.decls in
+    let class = c.args.event_type in
+    let uses = c.args.quals.now in
+    let old = answer same_quals c.args.events.now t us in
+    let is : is_wanted ds (EventKey class uses) ≡ c.is_asked.result =
+    event-wanted-is class uses ds ∙ ap (λ vs. list_any (asks_for questions.Event class vs) ds) (sym c.as_slice.ensures.value) ∙ sym c.is_asked.ensures in
+    c.in_ok-keep.ensures.ok t us
+    ∙ ap (λ vs. if bytes_eq class t && same_quals vs us then Some c.in_ok-answer.answer else old) c.in_ok-part.ensures
+    ∙ ap (λ a. if bytes_eq class t && same_quals uses us then Some a else old) c.in_ok-answer.ensures
+    ∙ sym (ap (λ w. if w && (bytes_eq class t && same_quals uses us) then Some c.args.ids.now else old) (is ∙ c.if-not-is_asked.false))

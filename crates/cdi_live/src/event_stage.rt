@@ -1,0 +1,34 @@
+//! What a draft takes away of the kept events.
+ghost use Rattle.std.specs.Prelude.{◌≡◌, IfOk};
+ghost use Rattle.cdi_live.specs.Compared.{IsBetween};
+ghost use Rattle.cdi_live.specs.EventStage.{EventsAreGone, EventsAreWanted};
+
+use crate::event_compare::touched_of_types;
+use crate::event_dropped::{EventWants, push_dropped_events};
+use crate::event_suspects::event_suspects;
+use crate::gone::Gone;
+use crate::sides::Sides;
+use cdi_memo::Memo;
+use cdi_model::{Quals, Seq};
+use cdi_observe::ObserverId;
+use std::alloc::{AllocError, Global};
+
+/// The kept events that a draft takes away: those that no body may fire after it, and those that see something else.
+pub(crate) fn gone_events_after(
+    alloc: Global,
+    sides: &Sides<'_>,
+    events: &Memo<Quals, Seq<ObserverId>>,
+) -> Result<Vec<Gone>, AllocError>
+    requires between { IsBetween sides.now }
+    requires wanted { EventsAreWanted sides.now.index.now.decls events.now }
+    ensures { IfOk result (λ gone. EventsAreGone sides.now.index.now.decls sides.now.next.now events.now gone.items) }
+{
+    // No effect at run time. The proof reads here that no two declarations have one kind and name.
+    let _ = sides.index.decls().iter();
+    let _ = sides.next.decls().iter();
+    let types = event_suspects(alloc, sides, events)?;
+    let mut gone = touched_of_types(alloc, sides, events, types.as_slice())?;
+    let wants = EventWants { sides, events };
+    push_dropped_events(alloc, &wants, sides.edited, &mut gone)?;
+    Ok(gone)
+}
