@@ -1,5 +1,5 @@
 //! What is made of a declaration.
-ghost use Rattle.std.specs.Prelude.{◌≡◌, ◌++◌, flat_map, map, option_map, Some, IfOk, OnOk};
+ghost use Rattle.std.specs.Prelude.{◌≡◌, ◌∷◌, ◌++◌, [], flat_map, map, option_map, Some, IfOk, OnOk};
 ghost use Rattle.cdi_model.specs.declared.decl.Kind.TheVariants as kinds;
 ghost use Rattle.cdi_model.specs.DeclKey.{key_at};
 ghost use Rattle.cdi_effective.specs.Disposers.{as_bean};
@@ -19,7 +19,8 @@ use cdi_effective::{
 };
 use cdi_match::{push_uses, types_brought};
 use cdi_model::{
-    Decl, DeclKey, Decls, EventDecl, Kind, Mention, Name, ObserverDecl, PointDecl, Qual, Seq, UseKind,
+    Decl, DeclKey, Decls, EventDecl, Kind, Mention, Name, ObserverDecl, PointDecl, Qual, Seq,
+    UseKind,
 };
 use cdi_postings::{Reason, Word};
 use std::alloc::{AllocError, Global};
@@ -304,11 +305,7 @@ fn binding_reads(alloc: Global, decls: &Decls, uses: &[Qual]) -> Result<Seq<Decl
 }
 
 /// Makes what is made of a binding type.
-fn make_brought(
-    alloc: Global,
-    decls: &Decls,
-    decl: &Decl,
-) -> Result<Option<Made>, AllocError>
+fn make_brought(alloc: Global, decls: &Decls, decl: &Decl) -> Result<Option<Made>, AllocError>
     ensures { IfOk result (λ made. made ≡ option_map (made_of_binding decls.now) (as_binding (Some decl.now))) }
 {
     let Decl::Binding(binding) = decl else {
