@@ -12,7 +12,6 @@ mod WantedPlaceLemmas
 mod ChainGoneLemmas
 mod AroundLemmas
 mod LiveChainLemmas
-mod EventLemmas
 mod EventAskedLemmas
 mod EventSuspectLemmas
 mod EventCompareLemmas

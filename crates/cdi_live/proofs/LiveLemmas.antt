@@ -1,33 +1,45 @@
 -- What is known after a commit, and after an evaluation.
-use Rattle.std.proofs.Common.{◌≡◌, ℕ, Bool, true, false, not, ◌&&◌, ◌||◌, List, [], ◌∷◌, ◌++◌, Option, Some, None, if◌then◌else◌, is_some, refl, sym, ap, subst, ◌∙◌}
+use Rattle.std.proofs.Common.{◌≡◌, ℕ, Bool, true, false, not, ◌&&◌, ◌||◌, List, [], ◌∷◌, ◌++◌, Option, Some, None, Ok, if◌then◌else◌, is_some}
+use Rattle.std.proofs.Common.{refl, sym, ap, subst, ◌∙◌}
 use Rattle.std.specs.Prelude.{IfSome}
 use Rattle.std.specs.Str.{bytes_eq}
 use Rattle.std.specs.Cmp.Lexicographic.{bytes_decides}
 use Rattle.std.proofs.lemmas.Bool.{and_parts, false≢true}
 use Rattle.std.proofs.lemmas.List.Folds.{list_any-append}
 use Rattle.cdi_model.specs.declared.decl.Decl.{Decl}
+use Rattle.cdi_model.specs.declared.place.BeanPlace.{BeanPlace}
 use Rattle.cdi_model.specs.declared.quals.Qual.{Qual}
+use Rattle.cdi_model.specs.DeclList.{AreDistinct}
 use Rattle.cdi_model.specs.SameUse.{same_quals, same_quals-decides, same_quals_equiv}
 use Rattle.cdi_model.specs.Work.{with_one}
 use Rattle.cdi_match.proofs.Names.{bytes_eq-turned}
 use Rattle.cdi_effective.specs.Beans.{beans}
 use Rattle.cdi_effective.specs.Qualifiers.{required}
+use Rattle.cdi_intercept.specs.Chains.{chain_of}
 use Rattle.cdi_memo.specs.Answers.{answer, Answers, Removes}
 use Rattle.cdi_observe.specs.Kept.{after_key, with_known, work_with, Kept}
-use Rattle.cdi_observe.specs.Keys.{Key, choice_key, ChainKey, ChoiceKey, EventKey}
+use Rattle.cdi_observe.specs.Keys.{Key, choice_key, same_place, ChainKey, ChoiceKey, EventKey}
+use Rattle.cdi_observe.specs.Observers.{notified}
+use Rattle.cdi_observe.specs.Sees.{event_sees, SeenOfEvent}
 use Rattle.cdi_observe.specs.Wanted.{is_wanted}
+use Rattle.cdi_observe.specs.declared.observers.ObserverId.{ObserverId}
+use Rattle.cdi_observe.proofs.SeenLemmas.{notified_rest_on_seen}
 use Rattle.cdi_resolve.specs.declared.choice.Choice.{Choice}
 use Rattle.cdi_resolve.specs.Choices.{chosen, eligible}
 use Rattle.cdi_resolve.specs.Sees.{sees, Seen}
 use Rattle.cdi_resolve.proofs.SeenLemmas.{choice_rests_on_seen}
-use Rattle.cdi_seen.specs.Touched.{is_touched, still_known, ByChoice}
+use Rattle.cdi_seen.specs.Touched.{is_touched, still_known, ByChoice, ByEvent}
 use Rattle.cdi_seen.proofs.SameLemmas.{touched_where_seen_differs}
-use Rattle.cdi_live.specs.Dropped.{is_kept}
-use Rattle.cdi_live.specs.Gone.{is_gone, stays_known}
-use Rattle.cdi_live.specs.Stage.{AreGone, AreWanted}
+use Rattle.cdi_live.specs.ChainGone.{Chains}
+use Rattle.cdi_live.specs.EventCompared.{Events}
+use Rattle.cdi_live.specs.Gone.{is_gone}
+use Rattle.cdi_live.specs.Kept.{AreGoing, Forgets}
 use Rattle.cdi_index.specs.State.{committed as index_committed, committed_to, State as IndexState}
-use Rattle.cdi_live.specs.State.{knows_choices, AreRight, Going, IsGoing, IsLive, MayGo}
+use Rattle.cdi_live.specs.State.{knows_in, AreKept, AreRight, AreRightEvents, IsGoing, IsLive, MayGo}
 use Rattle.cdi_live.specs.declared.gone.Gone.{Gone}
+use Rattle.cdi_live.specs.declared.memos.Going.{Going}
+use Rattle.cdi_live.specs.declared.memos.Memos.{Memos}
+use Rattle.cdi_live.proofs.LiveChainLemmas.{known-chain, known-chain-with, places-after, places-with, right-chains-after, right-chains-with}
 
 abbrev pub Choices : Type 0
 Choices = Answers (List Qual) Choice
@@ -35,164 +47,291 @@ Choices = Answers (List Qual) Choice
 abbrev pub keeping : (Key → Bool) → ℕ → Kept
 keeping knows work = record { keeps = true; knows = knows; work = work }
 
--- ---- after a commit
+-- ---- answers by types and qualifiers
 
-module _ (ds es : List Decl) (m new : Choices) (list : List Gone) (gone : AreGone ds es m list)
-    (forgets : (t : List ℕ) (us : List Qual) → answer same_quals new t us ≡ (if is_gone list t us then None else answer same_quals m t us)) where
-  -- a choice that is kept after was kept before, and stays known
-  record Stays (t : List ℕ) (us : List Qual) : Type 0 where
-    same : answer same_quals new t us ≡ answer same_quals m t us
-    stays : stays_known ds es t us ≡ true
+module _ {A : Type 0} (key : List ℕ → List Qual → Key) (value : List Decl → List ℕ → List Qual → A) where
+  abbrev kept : Answers (List Qual) A → List ℕ → List Qual → Bool
+  kept m t us = is_some (answer same_quals m t us)
 
-  un-not : (b : Bool) → false ≡ not b → b ≡ true
-  un-not true h = refl
-  un-not false h = absurd (false≢true h)
+  abbrev Right : List Decl → Answers (List Qual) A → Type 0
+  Right ds m = (t : List ℕ) (us : List Qual) (a : A) → answer same_quals m t us ≡ Some a → a ≡ value ds t us
 
-  stays : (t : List ℕ) (us : List Qual) → is_kept new t us ≡ true → Stays t us
-  stays t us kept = by (is_gone list t us) refl (forgets t us)
-    where
-      by : (b : Bool) → is_gone list t us ≡ b → answer same_quals new t us ≡ (if b then None else answer same_quals m t us) → Stays t us
-      by true e f = absurd (false≢true (sym (ap is_some f) ∙ kept))
-      by false e f = record { same = f; stays = un-not (stays_known ds es t us) (sym e ∙ gone t us (sym (ap is_some f) ∙ kept)) }
+  abbrev Wanted : List Decl → Answers (List Qual) A → Type 0
+  Wanted ds m = (t : List ℕ) (us : List Qual) → kept m t us ≡ true → is_wanted ds (key t us) ≡ true
 
-  seen-choice : (a b : Seen) → ByChoice a ≡ ByChoice b → a ≡ b
-  seen-choice a b e = cc
+  abbrev staying : List Decl → List Decl → List ℕ → List Qual → Bool
+  staying ds es t us = is_wanted es (key t us) && not (is_touched ds es (key t us))
 
-  is-false : (b : Bool) → not b ≡ true → b ≡ false
-  is-false true h = absurd (false≢true h)
-  is-false false h = refl
+  -- after a commit
+  module _ (ds es : List Decl) (rests : (t : List ℕ) (us : List Qual) → not (is_touched ds es (key t us)) ≡ true → value ds t us ≡ value es t us)
+      (m new : Answers (List Qual) A) (list : List Gone)
+      (gone : (t : List ℕ) (us : List Qual) → kept m t us ≡ true → is_gone list t us ≡ not (staying ds es t us))
+      (forgets : (t : List ℕ) (us : List Qual) → answer same_quals new t us ≡ (if is_gone list t us then None else answer same_quals m t us)) where
+    -- an answer that is kept after was kept before, and stays
+    record Stays (t : List ℕ) (us : List Qual) : Type 0 where
+      same : answer same_quals new t us ≡ answer same_quals m t us
+      stays_it : staying ds es t us ≡ true
 
-  -- it sees the same, so it is the same
-  same-choice : (t : List ℕ) (us : List Qual) → stays_known ds es t us ≡ true → chosen ds (beans ds) t us ≡ chosen es (beans es) t us
-  same-choice t us h =
-      let parts = and_parts (is_wanted es (ChoiceKey t us)) (not (is_touched ds es (ChoiceKey t us))) h in
-      choice_rests_on_seen ds es (beans ds) (beans es) t us
-      (seen-choice (sees ds (beans ds) t us) (sees es (beans es) t us)
-      ((touched_where_seen_differs ds es (ChoiceKey t us)).0 parts.1))
+    un-not : (b : Bool) → false ≡ not b → b ≡ true
+    un-not true h = refl
+    un-not false h = absurd (false≢true h)
 
-  pub right-after : AreRight ds m → AreRight es new
-  right-after right t us choice kept =
-      let it = stays t us (ap is_some kept) in
-      right t us choice (sym it.same ∙ kept) ∙ same-choice t us it.stays
+    stays : (t : List ℕ) (us : List Qual) → kept new t us ≡ true → Stays t us
+    stays t us there = by (is_gone list t us) refl (forgets t us)
+      where
+        by : (b : Bool) → is_gone list t us ≡ b → answer same_quals new t us ≡ (if b then None else answer same_quals m t us) → Stays t us
+        by true e f = absurd (false≢true (sym (ap is_some f) ∙ there))
+        by false e f = record { same = f; stays_it = un-not (staying ds es t us) (sym e ∙ gone t us (sym (ap is_some f) ∙ there)) }
 
-  pub wanted-after : AreWanted es new
-  wanted-after t us kept =
-      (and_parts (is_wanted es (ChoiceKey t us)) (not (is_touched ds es (ChoiceKey t us))) (stays t us kept).stays).0
+    -- it sees the same, so it is the same
+    right-after : Right ds m → Right es new
+    right-after right t us a there =
+        let it = stays t us (ap is_some there) in
+        right t us a (sym it.same ∙ there)
+        ∙ rests t us (and_parts (is_wanted es (key t us)) (not (is_touched ds es (key t us))) it.stays_it).1
 
-  known-choice : (t : List ℕ) (us : List Qual) → is_kept new t us ≡ (is_kept m t us && stays_known ds es t us)
-  known-choice t us = by (answer same_quals m t us) refl (is_gone list t us) refl
-    where
-      by : (o : Option Choice) → answer same_quals m t us ≡ o → (b : Bool) → is_gone list t us ≡ b
-          → is_kept new t us ≡ (is_kept m t us && stays_known ds es t us)
-      by None e true f = ap is_some (forgets t us) ∙ ap (λ b. is_some (if b then None else answer same_quals m t us)) f
-          ∙ ap (λ o. is_some o && stays_known ds es t us) (sym e)
-      by None e false f = ap is_some (forgets t us) ∙ ap (λ b. is_some (if b then None else answer same_quals m t us)) f ∙ ap is_some e
-          ∙ ap (λ o. is_some o && stays_known ds es t us) (sym e)
-      by (Some c) e b f =
-          ap is_some (forgets t us) ∙ ap (λ o. is_some (if is_gone list t us then None else o)) e
-          ∙ ap (λ b. is_some (if b then None else Some c)) (gone t us (ap is_some e)) ∙ turned (stays_known ds es t us)
-          ∙ ap (λ o. is_some o && stays_known ds es t us) (sym e)
-        where
-          turned : (b : Bool) → is_some (if not b then None else Some c) ≡ b
-          turned true = refl
-          turned false = refl
+    wanted-after : Wanted es new
+    wanted-after t us there = (and_parts (is_wanted es (key t us)) (not (is_touched ds es (key t us))) (stays t us there).stays_it).0
 
-  pub known-after : (key : Key) → knows_choices new key ≡ still_known ds es (knows_choices m) key
-  known-after (ChoiceKey t us) = known-choice t us
-  known-after (ChainKey class place) = refl
-  known-after (EventKey t us) = refl
+    known-after : (t : List ℕ) (us : List Qual) → kept new t us ≡ (kept m t us && staying ds es t us)
+    known-after t us = by (answer same_quals m t us) refl (is_gone list t us) refl
+      where
+        by : (o : Option A) → answer same_quals m t us ≡ o → (b : Bool) → is_gone list t us ≡ b
+            → kept new t us ≡ (kept m t us && staying ds es t us)
+        by None e true f = ap is_some (forgets t us) ∙ ap (λ b. is_some (if b then None else answer same_quals m t us)) f
+            ∙ ap (λ o. is_some o && staying ds es t us) (sym e)
+        by None e false f = ap is_some (forgets t us) ∙ ap (λ b. is_some (if b then None else answer same_quals m t us)) f ∙ ap is_some e
+            ∙ ap (λ o. is_some o && staying ds es t us) (sym e)
+        by (Some c) e b f =
+            ap is_some (forgets t us) ∙ ap (λ o. is_some (if is_gone list t us then None else o)) e
+            ∙ ap (λ b. is_some (if b then None else Some c)) (gone t us (ap is_some e)) ∙ turned (staying ds es t us)
+            ∙ ap (λ o. is_some o && staying ds es t us) (sym e)
+          where
+            turned : (b : Bool) → is_some (if not b then None else Some c) ≡ b
+            turned true = refl
+            turned false = refl
 
--- ---- after an evaluation
+  -- after an evaluation
+  module _ (ds : List Decl) (m new : Answers (List Qual) A) (t : List ℕ) (us : List Qual) (a : A)
+      (keeps : (s : List ℕ) (vs : List Qual) → answer same_quals new s vs
+      ≡ (if is_wanted ds (key t us) && (bytes_eq t s && same_quals us vs) then Some a else answer same_quals m s vs)) where
+    abbrev is_it : List ℕ → List Qual → Bool
+    is_it s vs = is_wanted ds (key t us) && (bytes_eq t s && same_quals us vs)
+
+    known-with : (s : List ℕ) (vs : List Qual) → kept new s vs ≡ (kept m s vs || is_it s vs)
+    known-with s vs = ap is_some (keeps s vs) ∙ by (is_it s vs) (answer same_quals m s vs)
+      where
+        by : (b : Bool) (o : Option A) → is_some (if b then Some a else o) ≡ (is_some o || b)
+        by true None = refl
+        by true (Some c) = refl
+        by false None = refl
+        by false (Some c) = refl
+
+    right-with : a ≡ value ds t us → Right ds m → Right ds new
+    right-with is right s vs other there = by (is_it s vs) refl (sym (keeps s vs) ∙ there)
+      where
+        by : (b : Bool) → is_it s vs ≡ b → (if b then Some a else answer same_quals m s vs) ≡ Some other → other ≡ value ds s vs
+        by true e f =
+            let parts = and_parts (bytes_eq t s) (same_quals us vs) (and_parts (is_wanted ds (key t us)) (bytes_eq t s && same_quals us vs) e).1 in
+            let one : a ≡ other = cc in
+            sym one ∙ is ∙ ap (λ x. value ds x us) ((bytes_decides t s).0 parts.0) ∙ ap (value ds s) ((same_quals-decides us vs).0 parts.1)
+        by false e f = right s vs other f
+
+    wanted-with : Wanted ds m → Wanted ds new
+    wanted-with wanted s vs there = by (is_it s vs) refl (sym (ap is_some (keeps s vs)) ∙ there)
+      where
+        by : (b : Bool) → is_it s vs ≡ b → is_some (if b then Some a else answer same_quals m s vs) ≡ true → is_wanted ds (key s vs) ≡ true
+        by true e f =
+            let first = and_parts (is_wanted ds (key t us)) (bytes_eq t s && same_quals us vs) e in
+            let parts = and_parts (bytes_eq t s) (same_quals us vs) first.1 in
+            ap (λ x. is_wanted ds (key x vs)) (sym ((bytes_decides t s).0 parts.0))
+            ∙ ap (λ x. is_wanted ds (key t x)) (sym ((same_quals-decides us vs).0 parts.1)) ∙ first.0
+        by false e f = wanted s vs f
+
+-- ---- what rests on what is seen
+
+abbrev pub choice_of : List Decl → List ℕ → List Qual → Choice
+choice_of ds t us = chosen ds (beans ds) t us
+
+abbrev pub ids_of : List Decl → List ℕ → List Qual → List ObserverId
+ids_of ds t us = notified ds (beans ds) t us
+
+same-choice : (ds es : List Decl) (t : List ℕ) (us : List Qual) → not (is_touched ds es (ChoiceKey t us)) ≡ true
+    → choice_of ds t us ≡ choice_of es t us
+same-choice ds es t us h = choice_rests_on_seen ds es (beans ds) (beans es) t us
+    (seen (sees ds (beans ds) t us) (sees es (beans es) t us) ((touched_where_seen_differs ds es (ChoiceKey t us)).0 h))
+  where
+    seen : (a b : Seen) → ByChoice a ≡ ByChoice b → a ≡ b
+    seen a b e = cc
+
+same-ids : (ds es : List Decl) (t : List ℕ) (us : List Qual) → not (is_touched ds es (EventKey t us)) ≡ true → ids_of ds t us ≡ ids_of es t us
+same-ids ds es t us h = notified_rest_on_seen ds es (beans ds) (beans es) t us
+    (seen (event_sees ds (beans ds) t us) (event_sees es (beans es) t us) ((touched_where_seen_differs ds es (EventKey t us)).0 h))
+  where
+    seen : (a b : SeenOfEvent) → ByEvent a ≡ ByEvent b → a ≡ b
+    seen a b e = cc
+
+-- ---- a commit
+
+module _ (ds es : List Decl) (memos new : Memos) (going : Going) (are : AreGoing ds es memos going) (forgets : Forgets memos going new) where
+  pub kept-after-commit : AreKept ds memos → AreKept es new
+  kept-after-commit is = record {
+    choices = right-after ChoiceKey choice_of ds es (same-choice ds es) memos.choices new.choices going.choices.items are.choices forgets.choices
+        is.choices;
+    chains = right-chains-after ds es memos.chains new.chains going.chains.items are.chains forgets.chains are.distinct is.chains;
+    events = right-after EventKey ids_of ds es (same-ids ds es) memos.events new.events going.events.items are.events forgets.events is.events;
+    asked = record {
+      choices = wanted-after ChoiceKey choice_of ds es (same-choice ds es) memos.choices new.choices going.choices.items are.choices forgets.choices;
+      chains = places-after ds es memos.chains new.chains going.chains.items are.chains forgets.chains;
+      events = wanted-after EventKey ids_of ds es (same-ids ds es) memos.events new.events going.events.items are.events forgets.events;
+    };
+  }
+
+  pub known-after-commit : (k : Key) → knows_in new k ≡ still_known ds es (knows_in memos) k
+  known-after-commit (ChoiceKey t us) =
+      known-after ChoiceKey choice_of ds es (same-choice ds es) memos.choices new.choices going.choices.items are.choices forgets.choices t us
+  known-after-commit (ChainKey class place) =
+      known-chain ds es memos.chains new.chains going.chains.items are.chains forgets.chains class place
+  known-after-commit (EventKey t us) =
+      known-after EventKey ids_of ds es (same-ids ds es) memos.events new.events going.events.items are.events forgets.events t us
+
+pub live-after : (index after : IndexState) (memos new : Memos) (by_default : List Qual) (before now : Option Going) (going : Going)
+    → IsLive index memos by_default before → before ≡ Some going → now ≡ None → after ≡ index_committed index → Forgets memos going new
+    → IsLive after new by_default now
+live-after index after memos new by_default before now going live was none is forgets =
+    let staged : IsGoing index memos going = subst (MayGo index memos) was live.staged in
+    let decls : after.decls ≡ staged.next.decls =
+    ap (λ (s : IndexState). s.decls) is ∙ ap (λ o. (committed_to index o).decls) staged.staged in
+    record {
+      default = live.default;
+      kept = subst (λ d. AreKept d new) (sym decls) (kept-after-commit index.decls staged.next.decls memos new going staged.are forgets live.kept);
+      staged = subst (MayGo after new) (sym none) tt;
+    }
+
+-- ---- an evaluation
 
 required-again : (us : List Qual) → required (required us) ≡ required us
 required-again [] = refl
 required-again (u ∷ us) = refl
 
 -- a choice by what is required is the choice
-pub chosen-by-required : (ds : List Decl) (t : List ℕ) (us : List Qual) → chosen ds (beans ds) t (required us) ≡ chosen ds (beans ds) t us
+pub chosen-by-required : (ds : List Decl) (t : List ℕ) (us : List Qual) → choice_of ds t (required us) ≡ choice_of ds t us
 unfolding chosen eligible
 chosen-by-required ds t us = by us
   where
-    by : (us : List Qual) → chosen ds (beans ds) t (required us) ≡ chosen ds (beans ds) t us
+    by : (us : List Qual) → choice_of ds t (required us) ≡ choice_of ds t us
     by [] = refl
     by (u ∷ us) = refl
 
-module _ (ds : List Decl) (m new : Choices) (t : List ℕ) (us : List Qual) (choice : Choice)
+no-more : (a b : Bool) → a ≡ (a || (b && false))
+no-more true b = refl
+no-more false true = refl
+no-more false false = refl
+
+-- one more choice
+module _ (ds : List Decl) (memos : Memos) (new : Choices) (t : List ℕ) (us : List Qual) (choice : Choice)
     (keeps : (s : List ℕ) (vs : List Qual) → answer same_quals new s vs
-    ≡ (if is_wanted ds (ChoiceKey t us) && (bytes_eq t s && same_quals us vs) then Some choice else answer same_quals m s vs)) where
-  kept-key : (key : Key) → knows_choices new key ≡ with_known ds (knows_choices m) (ChoiceKey t us) key
-  kept-key (ChoiceKey s vs) = ap is_some (keeps s vs) ∙ by (is_wanted ds (ChoiceKey t us) && (bytes_eq t s && same_quals us vs)) (answer same_quals m s vs)
-    where
-      by : (b : Bool) (o : Option Choice) → is_some (if b then Some choice else o) ≡ (is_some o || b)
-      by true None = refl
-      by true (Some c) = refl
-      by false None = refl
-      by false (Some c) = refl
-  kept-key (ChainKey class place) = sym (none (is_wanted ds (ChoiceKey t us)))
-    where
-      none : (b : Bool) → (b && false) ≡ false
-      none true = refl
-      none false = refl
-  kept-key (EventKey s vs) = sym (none (is_wanted ds (ChoiceKey t us)))
-    where
-      none : (b : Bool) → (b && false) ≡ false
-      none true = refl
-      none false = refl
+    ≡ (if is_wanted ds (ChoiceKey t us) && (bytes_eq t s && same_quals us vs) then Some choice else answer same_quals memos.choices s vs)) where
+  abbrev with_choice : Memos
+  with_choice = record { choices = new; chains = memos.chains; events = memos.events }
 
-  pub known-with : knows_choices new ≡ with_known ds (knows_choices m) (ChoiceKey t us)
-  known-with = λ i key. kept-key key i
+  one-choice : (k : Key) → knows_in with_choice k ≡ with_known ds (knows_in memos) (ChoiceKey t us) k
+  one-choice (ChoiceKey s vs) = known-with ChoiceKey choice_of ds memos.choices new t us choice keeps s vs
+  one-choice (ChainKey class place) = no-more (knows_in memos (ChainKey class place)) (is_wanted ds (ChoiceKey t us))
+  one-choice (EventKey s vs) = no-more (knows_in memos (EventKey s vs)) (is_wanted ds (ChoiceKey t us))
 
-  pub right-with : choice ≡ chosen ds (beans ds) t us → AreRight ds m → AreRight ds new
-  right-with is right s vs other kept = by (is_wanted ds (ChoiceKey t us) && (bytes_eq t s && same_quals us vs)) refl (sym (keeps s vs) ∙ kept)
-    where
-      by : (b : Bool) → (is_wanted ds (ChoiceKey t us) && (bytes_eq t s && same_quals us vs)) ≡ b
-          → (if b then Some choice else answer same_quals m s vs) ≡ Some other → other ≡ chosen ds (beans ds) s vs
-      by true e f =
-          let parts = and_parts (bytes_eq t s) (same_quals us vs)
-          (and_parts (is_wanted ds (ChoiceKey t us)) (bytes_eq t s && same_quals us vs) e).1 in
-          let one : choice ≡ other = cc in
-          sym one ∙ is ∙ ap (λ x. chosen ds (beans ds) x us) ((bytes_decides t s).0 parts.0)
-          ∙ ap (chosen ds (beans ds) s) ((same_quals-decides us vs).0 parts.1)
-      by false e f = right s vs other f
+  pub known-with-choice : knows_in with_choice ≡ with_known ds (knows_in memos) (ChoiceKey t us)
+  known-with-choice = λ i k. one-choice k i
 
-  pub wanted-with : AreWanted ds m → AreWanted ds new
-  wanted-with wanted s vs kept = by (is_wanted ds (ChoiceKey t us) && (bytes_eq t s && same_quals us vs)) refl (sym (ap is_some (keeps s vs)) ∙ kept)
-    where
-      by : (b : Bool) → (is_wanted ds (ChoiceKey t us) && (bytes_eq t s && same_quals us vs)) ≡ b
-          → is_some (if b then Some choice else answer same_quals m s vs) ≡ true → is_wanted ds (ChoiceKey s vs) ≡ true
-      by true e f =
-          let first = and_parts (is_wanted ds (ChoiceKey t us)) (bytes_eq t s && same_quals us vs) e in
-          let parts = and_parts (bytes_eq t s) (same_quals us vs) first.1 in
-          ap (λ x. is_wanted ds (ChoiceKey x vs)) (sym ((bytes_decides t s).0 parts.0))
-          ∙ ap (λ x. is_wanted ds (ChoiceKey t x)) (sym ((same_quals-decides us vs).0 parts.1)) ∙ first.0
-      by false e f = wanted s vs f
+  pub kept-with-choice : choice ≡ choice_of ds t us → AreKept ds memos → AreKept ds with_choice
+  kept-with-choice is kept = record {
+    choices = right-with ChoiceKey choice_of ds memos.choices new t us choice keeps is kept.choices;
+    chains = kept.chains;
+    events = kept.events;
+    asked = record {
+      choices = wanted-with ChoiceKey choice_of ds memos.choices new t us choice keeps kept.asked.choices;
+      chains = kept.asked.chains;
+      events = kept.asked.events;
+    };
+  }
+
+-- the observer methods of one more event
+module _ (ds : List Decl) (memos : Memos) (new : Events) (t : List ℕ) (us : List Qual) (ids : List ObserverId)
+    (keeps : (s : List ℕ) (vs : List Qual) → answer same_quals new s vs
+    ≡ (if is_wanted ds (EventKey t us) && (bytes_eq t s && same_quals us vs) then Some ids else answer same_quals memos.events s vs)) where
+  abbrev with_event : Memos
+  with_event = record { choices = memos.choices; chains = memos.chains; events = new }
+
+  one-event : (k : Key) → knows_in with_event k ≡ with_known ds (knows_in memos) (EventKey t us) k
+  one-event (EventKey s vs) = known-with EventKey ids_of ds memos.events new t us ids keeps s vs
+  one-event (ChainKey class place) = no-more (knows_in memos (ChainKey class place)) (is_wanted ds (EventKey t us))
+  one-event (ChoiceKey s vs) = no-more (knows_in memos (ChoiceKey s vs)) (is_wanted ds (EventKey t us))
+
+  pub known-with-event : knows_in with_event ≡ with_known ds (knows_in memos) (EventKey t us)
+  known-with-event = λ i k. one-event k i
+
+  pub kept-with-event : ids ≡ ids_of ds t us → AreKept ds memos → AreKept ds with_event
+  kept-with-event is kept = record {
+    choices = kept.choices;
+    chains = kept.chains;
+    events = right-with EventKey ids_of ds memos.events new t us ids keeps is kept.events;
+    asked = record {
+      choices = kept.asked.choices;
+      chains = kept.asked.chains;
+      events = wanted-with EventKey ids_of ds memos.events new t us ids keeps kept.asked.events;
+    };
+  }
+
+-- one more chain
+module _ (ds : List Decl) (memos : Memos) (new : Chains) (class : List ℕ) (place : BeanPlace) (names : List (List ℕ))
+    (wanted : is_wanted ds (ChainKey class place) ≡ true)
+    (keeps : (c : List ℕ) (p : BeanPlace) → answer same_place new c p
+    ≡ (if bytes_eq class c && same_place place p then Some names else answer same_place memos.chains c p)) where
+  abbrev with_chain : Memos
+  with_chain = record { choices = memos.choices; chains = new; events = memos.events }
+
+  one-chain : (k : Key) → knows_in with_chain k ≡ with_known ds (knows_in memos) (ChainKey class place) k
+  one-chain (ChainKey c p) = known-chain-with ds memos.chains new class place names keeps c p
+      ∙ ap (λ b. knows_in memos (ChainKey c p) || (b && (bytes_eq class c && same_place place p))) (sym wanted)
+  one-chain (ChoiceKey s vs) = no-more (knows_in memos (ChoiceKey s vs)) (is_wanted ds (ChainKey class place))
+  one-chain (EventKey s vs) = no-more (knows_in memos (EventKey s vs)) (is_wanted ds (ChainKey class place))
+
+  pub known-with-one-chain : knows_in with_chain ≡ with_known ds (knows_in memos) (ChainKey class place)
+  known-with-one-chain = λ i k. one-chain k i
+
+  pub kept-with-chain : chain_of ds class place ≡ Ok names → AreKept ds memos → AreKept ds with_chain
+  kept-with-chain is kept = record {
+    choices = kept.choices;
+    chains = right-chains-with ds memos.chains new class place names keeps is kept.chains;
+    events = kept.events;
+    asked = record {
+      choices = kept.asked.choices;
+      chains = places-with ds memos.chains new class place names keeps wanted kept.asked.chains;
+      events = kept.asked.events;
+    };
+  }
 
 -- what is lent is right
 pub right-lent : (ds : List Decl) (m : Choices) (t : List ℕ) (us uses : List Qual) → AreRight ds m → uses ≡ required us → (o : Option Choice)
-    → o ≡ answer same_quals m t uses → IfSome o (λ choice. choice ≡ chosen ds (beans ds) t us)
+    → o ≡ answer same_quals m t uses → IfSome o (λ choice. choice ≡ choice_of ds t us)
 right-lent ds m t us uses right same None is = tt
 right-lent ds m t us uses right same (Some choice) is =
-    right t uses choice (sym is) ∙ ap (chosen ds (beans ds) t) same ∙ chosen-by-required ds t us
+    right t uses choice (sym is) ∙ ap (choice_of ds t) same ∙ chosen-by-required ds t us
 
 -- what is kept after an evaluation of a key that was not known
-pub kept-after : (ds : List Decl) (m new : Choices) (work counted : ℕ) (t : List ℕ) (us uses : List Qual) (choice : Choice) → uses ≡ required us
-    → ((s : List ℕ) (vs : List Qual) → answer same_quals new s vs
-    ≡ (if is_wanted ds (ChoiceKey t uses) && (bytes_eq t s && same_quals uses vs) then Some choice else answer same_quals m s vs))
-    → false ≡ knows_choices m (choice_key t us) → counted ≡ with_one work
-    → keeping (knows_choices new) counted ≡ after_key ds (choice_key t us) (keeping (knows_choices m) work)
+pub kept-after : (ds : List Decl) (knows knows_now : Key → Bool) (work counted : ℕ) (k : Key) → knows_now ≡ with_known ds knows k
+    → false ≡ knows k → counted ≡ with_one work → keeping knows_now counted ≡ after_key ds k (keeping knows work)
 unfolding after_key
-kept-after ds m new work counted t us uses choice same keeps unknown one =
-    let known : knows_choices new ≡ with_known ds (knows_choices m) (choice_key t us) =
-    known-with ds m new t uses choice keeps ∙ ap (λ vs. with_known ds (knows_choices m) (ChoiceKey t vs)) same in
-    let more : counted ≡ work_with (knows_choices m) (choice_key t us) work = one ∙ ap (λ b. if b then work else with_one work) unknown in
+kept-after ds knows knows_now work counted k known unknown one =
+    let more : counted ≡ work_with knows k work = one ∙ ap (λ b. if b then work else with_one work) unknown in
     λ i. record { keeps = true; knows = known i; work = more i }
 
 -- ---- what is forgotten, one after another
 
-pub forget-next : (items rest : List Gone) (one : Gone) (old new : Choices) → items ≡ rest ++ one ∷ []
+pub forget-next : {A : Type 0} (items rest : List Gone) (one : Gone) (old new : Answers (List Qual) A) → items ≡ rest ++ one ∷ []
     → Removes same_quals one.bean_type one.uses old new → (t : List ℕ) (us : List Qual)
     → (if is_gone rest t us then None else answer same_quals new t us) ≡ (if is_gone items t us then None else answer same_quals old t us)
-forget-next items rest one old new are removes t us =
+forget-next {A = A} items rest one old new are removes t us =
     ap (λ o. if is_gone rest t us then None else o) (removes t us)
     ∙ by (is_gone rest t us) (bytes_eq one.bean_type t) (same_quals one.uses us) (answer same_quals old t us)
     ∙ ap (λ b. if b then None else answer same_quals old t us)
@@ -200,26 +339,8 @@ forget-next items rest one old new are removes t us =
     ∙ ap (λ b. is_gone rest t us || ((bytes_eq t one.bean_type && b) || false)) (same_quals_equiv.symm one.uses us)
     ∙ sym (list_any-append (λ g. bytes_eq t g.bean_type && same_quals us g.uses) rest (one ∷ [])) ∙ ap (λ gs. is_gone gs t us) (sym are))
   where
-    by : (g b q : Bool) (o : Option Choice) → (if g then None else (if b && q then None else o)) ≡ (if g || ((b && q) || false) then None else o)
+    by : (g b q : Bool) (o : Option A) → (if g then None else (if b && q then None else o)) ≡ (if g || ((b && q) || false) then None else o)
     by true b q o = refl
     by false true true o = refl
     by false true false o = refl
     by false false q o = refl
-
--- ---- a commit
-
-pub live-after : (index after : IndexState) (m new : Choices) (by_default : List Qual) (before now : Option Going) (gone : Going)
-    → IsLive index m by_default before → before ≡ Some gone → now ≡ None → after ≡ index_committed index
-    → ((t : List ℕ) (us : List Qual) → answer same_quals new t us ≡ (if is_gone gone.items t us then None else answer same_quals m t us))
-    → IsLive after new by_default now
-live-after index after m new by_default before now gone live was none is forgets =
-    let going : IsGoing index m gone.items = subst (MayGo index m) was live.staged in
-    let decls : after.decls ≡ going.next.decls =
-    ap (λ (s : IndexState). s.decls) is ∙ ap (λ o. (committed_to index o).decls) going.staged in
-    record {
-      default = live.default;
-      right = subst (λ d. AreRight d new) (sym decls)
-          (right-after index.decls going.next.decls m new gone.items going.are forgets live.right);
-      wanted = subst (λ d. AreWanted d new) (sym decls) (wanted-after index.decls going.next.decls m new gone.items going.are forgets);
-      staged = subst (MayGo after new) (sym none) tt;
-    }

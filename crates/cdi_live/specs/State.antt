@@ -1,7 +1,5 @@
 -- What is seen of declarations whose answers are kept.
-use Rattle.std.specs.Prelude.{◌≡◌, ℕ, Bool, true, false, List, [], ◌∷◌, Option, Some, None}
-use Rattle.std.specs.declared.alloc.Global.{Global}
-use Rattle.std.specs.declared.vec.Vec.{Vec}
+use Rattle.std.specs.Prelude.{◌≡◌, ℕ, Bool, true, List, [], ◌∷◌, Option, Some, None}
 use Rattle.cdi_model.specs.declared.decl.Decl.{Decl}
 use Rattle.cdi_model.specs.declared.quals.Qual.{Qual}
 use Rattle.cdi_effective.specs.Beans.{beans}
@@ -11,18 +9,24 @@ use Rattle.cdi_index.specs.declared.counts.Counts.{Counts}
 use Rattle.cdi_memo.specs.Answers.{answer, Answers}
 use Rattle.cdi_model.specs.SameUse.{same_quals}
 use Rattle.cdi_observe.specs.Kept.{Kept}
-use Rattle.cdi_observe.specs.Keys.{Key, ChoiceKey}
+use Rattle.cdi_observe.specs.Keys.{Key, ChainKey, ChoiceKey, EventKey}
+use Rattle.cdi_observe.specs.Observers.{notified}
+use Rattle.cdi_observe.specs.declared.observers.ObserverId.{ObserverId}
 use Rattle.cdi_resolve.specs.declared.choice.Choice.{Choice}
 use Rattle.cdi_resolve.specs.Choices.{chosen}
 use Rattle.cdi_seen.specs.Touched.{still_known}
+use Rattle.cdi_live.specs.ChainGone.{is_kept_chain, AreRightChains}
 use Rattle.cdi_live.specs.Dropped.{is_kept}
-use Rattle.cdi_live.specs.Stage.{AreGone, AreWanted}
-use Rattle.cdi_live.specs.declared.gone.Gone.{Gone}
+use Rattle.cdi_live.specs.EventCompared.{Events}
+use Rattle.cdi_live.specs.EventDropped.{is_kept as is_kept_event}
+use Rattle.cdi_live.specs.Kept.{no_answers, AreAsked, AreGoing}
+use Rattle.cdi_live.specs.declared.memos.Going.{Going}
+use Rattle.cdi_live.specs.declared.memos.Memos.{Memos}
 
 pub record State : Type 0 where
   pub decls : List Decl
-  -- the choices that are kept
-  pub choices : Answers (List Qual) Choice
+  -- the answers that are kept
+  pub memos : Memos
   -- how many answers were computed
   pub work : ℕ
   -- how many records were
@@ -30,17 +34,17 @@ pub record State : Type 0 where
   -- what is taken over at the next commit
   pub staged : Option Staged
 
--- the choices that are known
-abbrev pub knows_choices : Answers (List Qual) Choice → Key → Bool
-knows_choices m (ChoiceKey t us) = is_kept m t us
-knows_choices m other = false
-
 -- the keys whose answers are kept
+abbrev pub knows_in : Memos → Key → Bool
+knows_in memos (ChoiceKey t us) = is_kept memos.choices t us
+knows_in memos (ChainKey class place) = is_kept_chain memos.chains class place
+knows_in memos (EventKey t us) = is_kept_event memos.events t us
+
 abbrev pub knows : State → Key → Bool
-knows state key = knows_choices state.choices key
+knows state key = knows_in state.memos key
 
 abbrev pub empty : State
-empty = record { decls = []; choices = []; work = 0; counts = record { closures = 0; beans = 0 }; staged = None }
+empty = record { decls = []; memos = no_answers; work = 0; counts = record { closures = 0; beans = 0 }; staged = None }
 
 -- what it keeps
 abbrev pub kept_in : State → Kept
@@ -71,41 +75,47 @@ Commits old new = CommitsTo old old.staged new
 
 -- ---- as it is kept
 
--- the choices that go at the next commit
-abbrev pub Going : Type 0
-Going = Vec Gone Global
-
 -- a staged draft is seen where what goes with it is known
 abbrev pub staged_with : Option Going → Option Staged → Option Staged
 staged_with None staged = None
-staged_with (Some gone) staged = staged
+staged_with (Some going) staged = staged
 
-abbrev pub seen : IndexState → Answers (List Qual) Choice → ℕ → Option Going → State
-seen index m work gone = record {
+abbrev pub seen : IndexState → Memos → ℕ → Option Going → State
+seen index memos work going = record {
   decls = index.decls;
-  choices = m;
+  memos = memos;
   work = work;
   counts = index.counts;
-  staged = staged_with gone index.staged;
+  staged = staged_with going index.staged;
 }
 
 -- Each kept choice is the chosen bean.
 abbrev pub AreRight : List Decl → Answers (List Qual) Choice → Type 0
 AreRight ds m = (t : List ℕ) (us : List Qual) (choice : Choice) → answer same_quals m t us ≡ Some choice → choice ≡ chosen ds (beans ds) t us
 
--- What goes with the staged draft is gone from the kept choices after it.
-pub record IsGoing (index : IndexState) (m : Answers (List Qual) Choice) (gone : List Gone) : Type 0 where
+-- The kept observer methods of each event are those that are notified.
+abbrev pub AreRightEvents : List Decl → Events → Type 0
+AreRightEvents ds m = (t : List ℕ) (us : List Qual) (ids : List ObserverId) → answer same_quals m t us ≡ Some ids
+    → ids ≡ notified ds (beans ds) t us
+
+-- What goes with the staged draft goes from the kept answers after it.
+pub record IsGoing (index : IndexState) (memos : Memos) (going : Going) : Type 0 where
   pub next : Staged
   pub staged : index.staged ≡ Some next
-  pub are : AreGone index.decls next.decls m gone
+  pub are : AreGoing index.decls next.decls memos going
 
-abbrev pub MayGo : IndexState → Answers (List Qual) Choice → Option Going → Type 0
-MayGo index m None = Unit {0}
-MayGo index m (Some gone) = IsGoing index m gone.items
+abbrev pub MayGo : IndexState → Memos → Option Going → Type 0
+MayGo index memos None = Unit {0}
+MayGo index memos (Some going) = IsGoing index memos going
 
--- The kept choices are right, and points ask for each.
-pub record IsLive (index : IndexState) (m : Answers (List Qual) Choice) (by_default : List Qual) (gone : Option Going) : Type 0 where
+-- The kept answers are right, and declarations ask for each.
+pub record AreKept (ds : List Decl) (memos : Memos) : Type 0 where
+  pub choices : AreRight ds memos.choices
+  pub chains : AreRightChains ds memos.chains
+  pub events : AreRightEvents ds memos.events
+  pub asked : AreAsked ds memos
+
+pub record IsLive (index : IndexState) (memos : Memos) (by_default : List Qual) (going : Option Going) : Type 0 where
   pub default : by_default ≡ default_use ∷ []
-  pub right : AreRight index.decls m
-  pub wanted : AreWanted index.decls m
-  pub staged : MayGo index m gone
+  pub kept : AreKept index.decls memos
+  pub staged : MayGo index memos going

@@ -84,7 +84,7 @@ fn chain(
 }
 
 /// Copies of some names.
-fn copy_names(alloc: Global, names: &[Name]) -> Result<Seq<Name>, AllocError>
+pub(crate) fn copy_names(alloc: Global, names: &[Name]) -> Result<Seq<Name>, AllocError>
     ensures { IfOk result (λ copy. copy ≡ names.now) }
 {
     let mut copy = Vec::with_capacity(alloc, names.len())?;

@@ -19,7 +19,7 @@ use cdi_questions::observers;
 use std::alloc::{AllocError, Global};
 
 /// The same observer methods again.
-fn copy_ids(alloc: Global, ids: &Seq<ObserverId>) -> Result<Seq<ObserverId>, AllocError>
+pub(crate) fn copy_ids(alloc: Global, ids: &Seq<ObserverId>) -> Result<Seq<ObserverId>, AllocError>
     ensures { IfOk result (λ copy. copy ≡ ids.now) }
 {
     let mut copy = Seq::new(alloc);

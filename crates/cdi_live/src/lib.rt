@@ -19,6 +19,7 @@ mod events;
 mod gone;
 mod interceptors;
 mod live;
+mod memos;
 mod prepare;
 mod sides;
 mod stage;

@@ -1,21 +1,27 @@
 //! Declarations whose answers are kept.
-ghost use Rattle.std.specs.Prelude.{◌≡◌, true, is_some, Some, None, IfOk, IfSome, OnOk, OnErr};
+ghost use Rattle.std.specs.Prelude.{◌≡◌, true, is_some, Some, None, Ok, IfOk, IfSome, OnOk, OnErr};
 ghost use Rattle.std.specs.Option.{option_copied};
 ghost use Rattle.cdi_effective.specs.Beans.{beans};
 ghost use Rattle.cdi_effective.specs.Records.{records_in};
 ghost use Rattle.cdi_index.specs.State.{drafted_from, IsEdited};
 ghost use Rattle.cdi_observe.specs.Kept.{after_key};
-ghost use Rattle.cdi_observe.specs.Keys.{choice_key};
+ghost use Rattle.cdi_intercept.specs.Chains.{chain_of};
+ghost use Rattle.cdi_model.specs.Answering.{Answers};
+ghost use Rattle.cdi_observe.specs.Keys.{choice_key, ChainKey, EventKey};
+ghost use Rattle.cdi_observe.specs.Observers.{notified};
 ghost use Rattle.cdi_resolve.specs.Choices.{chosen};
 ghost use Rattle.cdi_live.specs.State.{empty, kept_in, knows, staged_by, with_staged, Commits};
 
-use crate::choices::{evaluate, forget, required_of};
-use crate::gone::Gone;
-use crate::prepare::{KeptChoices, prepare};
+use crate::chain_place::ChainPlace;
+use crate::chains::{copy_names, evaluate_chain};
+use crate::choices::{evaluate, required_of};
+use crate::events::{copy_ids, evaluate_event};
+use crate::memos::{Going, Memos};
+use crate::prepare::{KeptAnswers, prepare};
 use cdi_effective::{Effective, default_use};
 use cdi_index::{Counts, Draft, Index};
-use cdi_memo::Memo;
-use cdi_model::{Decls, Name, Quals, Work};
+use cdi_model::{BeanPlace, Decls, Error, Name, Quals, Seq, Work};
+use cdi_observe::ObserverId;
 use cdi_resolve::Choice;
 use std::alloc::{AllocError, Global};
 use std::marker::Model;
@@ -25,12 +31,12 @@ use std::marker::Model;
 pub struct Live {
     alloc: Global,
     index: Index,
-    choices: Memo<Quals, Choice>,
+    memos: Memos,
     /// `Default`, for which a point asks that names no qualifier.
     by_default: Quals,
     work: Work,
-    /// The kept choices that go at the next commit, if a draft is staged.
-    gone: Option<Vec<Gone>>,
+    /// The kept answers that go at the next commit, if a draft is staged.
+    going: Option<Going>,
 }
 
 impl Model for Live {
@@ -38,9 +44,9 @@ impl Model for Live {
 
     ghost Value = { State };
 
-    ghost view = { λ l. seen l.index l.choices l.work l.gone };
+    ghost view = { λ l. seen l.index l.memos l.work l.going };
 
-    ghost invariant = { λ l. IsLive l.index l.choices l.by_default l.gone };
+    ghost invariant = { λ l. IsLive l.index l.memos l.by_default l.going };
 }
 
 impl Live {
@@ -53,10 +59,10 @@ impl Live {
         Ok(Live {
             alloc,
             index: Index::new(alloc),
-            choices: Memo::new(alloc),
+            memos: Memos::new(alloc),
             by_default,
             work: Work::new(),
-            gone: None,
+            going: None,
         })
     }
 
@@ -103,7 +109,7 @@ impl Live {
             (λ choice. choice ≡ chosen self.now.decls (beans self.now.decls) bean_type.now quals.now) }
     {
         let uses = required_of(quals, &self.by_default);
-        self.choices.get(bean_type, uses)
+        self.memos.choices.get(bean_type, uses)
     }
 
     /// The bean for a type and qualifiers (CDI 4.0, Performing typesafe resolution). A choice that is not kept is computed
@@ -130,13 +136,101 @@ impl Live {
         let choice = evaluate(
             alloc,
             &self.index,
-            &mut self.choices,
+            &mut self.memos.choices,
             bean_type,
             required_of(quals, &self.by_default),
             &mut self.work,
         )?;
-        self.gone = None;
+        self.going = None;
         Ok(choice)
+    }
+
+    /// The names of the interceptors around a place of the bean of a class, in order (Interceptors 2.1, Interceptor
+    /// Ordering), where they are kept. It takes no memory.
+    pub fn kept_chain(&self, class: &Name, place: &BeanPlace) -> Option<&Seq<Name>>
+        ensures known { is_some result ≡ knows self.now (ChainKey class.now place.now) }
+        ensures chain { IfSome (option_copied result) (λ names. chain_of self.now.decls class.now place.now ≡ Ok names) }
+    {
+        self.memos.chains.get(class, &ChainPlace::new(*place))
+    }
+
+    /// The names of the interceptors around a place of the bean of a class, in order (Interceptors 2.1, Interceptor
+    /// Ordering), whether it is enabled or not. It is refused with `UnknownName` where no such bean is declared, and with
+    /// `NoMethod` where it has no such place. A chain that is not kept is computed, counted and kept; a draft that is staged
+    /// is then given up. It takes memory for the answer, and to compute and keep it. Where it is refused or without memory
+    /// nothing has changed.
+    pub fn chain(
+        &mut self,
+        alloc: Global,
+        class: Name,
+        place: &BeanPlace,
+    ) -> Result<Seq<Name>, Error>
+        ensures chain { Answers result (chain_of self.old.decls class place.now) }
+        ensures decls { self.new.decls ≡ self.old.decls }
+        ensures counts { self.new.counts ≡ self.old.counts }
+        ensures kept { OnOk result (kept_in self.new ≡ after_key self.old.decls (ChainKey class place.now) (kept_in self.old)) }
+        ensures err { OnErr result (self.new ≡ self.old) }
+        ensures staged { knows self.old (ChainKey class place.now) ≡ true → self.new.staged ≡ self.old.staged }
+    {
+        if let Some(names) = self.kept_chain(&class, place) {
+            let copy = copy_names(alloc, names.as_slice())?;
+            return Ok(copy);
+        }
+        // No effect at run time. The proof reads here that no two declarations have one kind and name.
+        let _ = self.index.decls().iter();
+        let names = evaluate_chain(
+            alloc,
+            &self.index,
+            &mut self.memos.chains,
+            class,
+            place,
+            &mut self.work,
+        )?;
+        self.going = None;
+        Ok(names)
+    }
+
+    /// The observer methods that are notified of an event of a type with some qualifiers, in order (CDI 4.0, Observer
+    /// resolution; Observer ordering), where they are kept. It takes no memory.
+    pub fn kept_observers(&self, event_type: &Name, quals: &Quals) -> Option<&Seq<ObserverId>>
+        ensures known { is_some result ≡ knows self.now (EventKey event_type.now quals.now) }
+        ensures observers { IfSome (option_copied result)
+            (λ ids. ids ≡ notified self.now.decls (beans self.now.decls) event_type.now quals.now) }
+    {
+        self.memos.events.get(event_type, quals)
+    }
+
+    /// The observer methods that are notified of an event of a type with some qualifiers, in order (CDI 4.0, Observer
+    /// resolution; Observer ordering). Those that are not kept are computed and counted, and kept if a body may fire the
+    /// event; a draft that is staged is then given up. It takes memory for the answer, and to compute and keep it. Without
+    /// memory nothing has changed.
+    pub fn observers(
+        &mut self,
+        alloc: Global,
+        event_type: Name,
+        quals: &Quals,
+    ) -> Result<Seq<ObserverId>, AllocError>
+        ensures observers { IfOk result (λ ids. ids ≡ notified self.old.decls (beans self.old.decls) event_type quals.now) }
+        ensures decls { self.new.decls ≡ self.old.decls }
+        ensures counts { self.new.counts ≡ self.old.counts }
+        ensures kept { OnOk result (kept_in self.new ≡ after_key self.old.decls (EventKey event_type quals.now) (kept_in self.old)) }
+        ensures err { OnErr result (self.new ≡ self.old) }
+        ensures staged { knows self.old (EventKey event_type quals.now) ≡ true → self.new.staged ≡ self.old.staged }
+    {
+        if let Some(ids) = self.kept_observers(&event_type, quals) {
+            let copy = copy_ids(alloc, ids)?;
+            return Ok(copy);
+        }
+        let ids = evaluate_event(
+            alloc,
+            &self.index,
+            &mut self.memos.events,
+            event_type,
+            quals,
+            &mut self.work,
+        )?;
+        self.going = None;
+        Ok(ids)
     }
 
     /// Stages a draft of these declarations. Nothing is seen of it until `commit`. It takes memory for all that is computed,
@@ -147,13 +241,13 @@ impl Live {
         ensures ok { OnOk result (self.new ≡ with_staged self.old (Some (staged_by self.old draft))) }
         ensures err { OnErr result (self.new ≡ with_staged self.old None) }
     {
-        self.gone = None;
-        let kept = KeptChoices {
-            choices: &self.choices,
+        self.going = None;
+        let kept = KeptAnswers {
+            memos: &self.memos,
             by_default: &self.by_default,
         };
-        let gone = prepare(self.alloc, &mut self.index, &kept, draft)?;
-        self.gone = Some(gone);
+        let going = prepare(self.alloc, &mut self.index, &kept, draft)?;
+        self.going = Some(going);
         Ok(())
     }
 
@@ -162,8 +256,8 @@ impl Live {
     pub fn commit(&mut self)
         ensures { Commits self.old self.new }
     {
-        if let Some(gone) = self.gone.take() {
-            forget(&mut self.choices, gone);
+        if let Some(going) = self.going.take() {
+            self.memos.forget(going);
             self.index.commit();
         }
     }

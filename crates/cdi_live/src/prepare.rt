@@ -3,16 +3,17 @@ ghost use Rattle.std.specs.Prelude.{◌≡◌, ◌∷◌, [], true, is_some, Som
 ghost use Rattle.cdi_effective.specs.Qualifiers.{default_use};
 ghost use Rattle.cdi_index.specs.State.{staged_by, IsEdited};
 ghost use Rattle.cdi_index.specs.Told.{Tells};
-ghost use Rattle.cdi_live.specs.Stage.{AreGone, AreWanted};
+ghost use Rattle.cdi_live.specs.Compared.{IsBetween};
+ghost use Rattle.cdi_live.specs.Kept.{AreAsked, AreGoing};
 
+use crate::chain_stage::gone_chains_after;
 use crate::dropped::Wants;
-use crate::gone::Gone;
+use crate::event_stage::gone_events_after;
+use crate::memos::{Going, Memos};
 use crate::sides::Sides;
 use crate::stage::gone_after;
 use cdi_index::{Draft, Index};
-use cdi_memo::Memo;
 use cdi_model::{DeclKey, Quals};
-use cdi_resolve::Choice;
 use std::alloc::{AllocError, Global};
 
 /// Copies of some keys.
@@ -33,22 +34,55 @@ struct Keys {
     affected: Vec<DeclKey>,
 }
 
-/// What goes of the kept choices where a draft that an index has staged leads from its declarations to others.
-fn gone_between(
+/// The answers that are kept.
+#[derive(Drop)]
+pub(crate) struct KeptAnswers<'a> {
+    pub(crate) memos: &'a Memos,
+    /// `Default`, for which a point asks that names no qualifier.
+    pub(crate) by_default: &'a Quals,
+}
+
+/// What goes of the kept answers with a draft.
+fn going_after(
+    alloc: Global,
+    sides: &Sides<'_>,
+    kept: &KeptAnswers<'_>,
+) -> Result<Going, AllocError>
+    requires between { IsBetween sides.now }
+    requires default { kept.now.by_default.now ≡ default_use ∷ [] }
+    requires asked { AreAsked sides.now.index.now.decls kept.now.memos.now }
+    ensures { IfOk result (λ going. AreGoing sides.now.index.now.decls sides.now.next.now kept.now.memos.now going) }
+{
+    // No effect at run time. The proof reads here that no two declarations have one kind and name.
+    let _ = sides.next.decls().iter();
+    let wants = Wants {
+        sides,
+        choices: &kept.memos.choices,
+        by_default: kept.by_default,
+    };
+    Ok(Going {
+        choices: gone_after(alloc, &wants)?,
+        chains: gone_chains_after(alloc, sides, &kept.memos.chains)?,
+        events: gone_events_after(alloc, sides, &kept.memos.events)?,
+    })
+}
+
+/// What goes of the kept answers where a draft that an index has staged leads from its declarations to others.
+fn going_between(
     alloc: Global,
     index: &Index,
-    kept: &KeptChoices<'_>,
+    kept: &KeptAnswers<'_>,
     keys: &Keys,
-) -> Result<Vec<Gone>, AllocError>
+) -> Result<Going, AllocError>
     requires staged { is_some index.now.staged ≡ true }
     requires between { IfSome index.now.staged (λ next.
         IsEdited index.now.decls (record { decls = next.decls; keys = keys.now.edited.items })) }
     requires told { IfSome index.now.staged (λ next.
         Tells index.now.decls next.decls keys.now.edited.items keys.now.affected.items) }
     requires default { kept.now.by_default.now ≡ default_use ∷ [] }
-    requires wanted { AreWanted index.now.decls kept.now.choices.now }
-    ensures { IfOk result (λ gone. IfSome index.now.staged (λ next.
-        AreGone index.now.decls next.decls kept.now.choices.now gone.items)) }
+    requires asked { AreAsked index.now.decls kept.now.memos.now }
+    ensures { IfOk result (λ going. IfSome index.now.staged (λ next.
+        AreGoing index.now.decls next.decls kept.now.memos.now going)) }
 {
     let next = index.next().unwrap();
     let sides = Sides {
@@ -57,38 +91,25 @@ fn gone_between(
         edited: keys.edited.as_slice(),
         affected: keys.affected.as_slice(),
     };
-    let wants = Wants {
-        sides: &sides,
-        choices: kept.choices,
-        by_default: kept.by_default,
-    };
-    gone_after(alloc, &wants)
+    going_after(alloc, &sides, kept)
 }
 
-/// The choices that are kept.
-#[derive(Drop)]
-pub(crate) struct KeptChoices<'a> {
-    pub(crate) choices: &'a Memo<Quals, Choice>,
-    /// `Default`, for which a point asks that names no qualifier.
-    pub(crate) by_default: &'a Quals,
-}
-
-/// Stages a draft, and answers what goes of the kept choices with it. Without memory what is staged is not to be taken over.
+/// Stages a draft, and answers what goes of the kept answers with it. Without memory what is staged is not to be taken over.
 pub(crate) fn prepare(
     alloc: Global,
     index: &mut Index,
-    kept: &KeptChoices<'_>,
+    kept: &KeptAnswers<'_>,
     draft: Draft,
-) -> Result<Vec<Gone>, AllocError>
+) -> Result<Going, AllocError>
     requires edited { IsEdited index.old.decls draft }
     requires default { kept.now.by_default.now ≡ default_use ∷ [] }
-    requires wanted { AreWanted index.old.decls kept.now.choices.now }
+    requires asked { AreAsked index.old.decls kept.now.memos.now }
     ensures decls { index.new.decls ≡ index.old.decls }
     ensures counts { index.new.counts ≡ index.old.counts }
     ensures staged { OnOk result (index.new.staged ≡ Some (staged_by index.old draft)) }
-    ensures gone { IfOk result (λ gone. AreGone index.old.decls draft.decls kept.now.choices.now gone.items) }
+    ensures going { IfOk result (λ going. AreGoing index.old.decls draft.decls kept.now.memos.now going) }
 {
     let edited = copy_keys(alloc, draft.keys())?;
     let affected = index.stage(draft)?;
-    gone_between(alloc, index, kept, &Keys { edited, affected })
+    going_between(alloc, index, kept, &Keys { edited, affected })
 }

@@ -1,5 +1,5 @@
 use Rattle.std.proofs.Common.{◌∙◌}
-use Rattle.cdi_live.proofs.EventLemmas.{forget-next}
+use Rattle.cdi_live.proofs.LiveLemmas.{forget-next}
 use Rattle.cdi_live.proofs.events.forget_events.Goals as goal
 
 pub left-preserved : goal.left-preserved
