@@ -84,7 +84,7 @@ gathered es t marks others = gather (entries es) (λ b. has b.types t) es 0 mark
 -- ---- who is marked
 
 -- a marked position is among the marked ones
-pub among-marked : (test : ℕ → Bool) (n : ℕ) (marks : List Bool) (i : ℕ) → is_marked marks i ≡ true → test (n + i) ≡ true
+among-marked : (test : ℕ → Bool) (n : ℕ) (marks : List Bool) (i : ℕ) → is_marked marks i ≡ true → test (n + i) ≡ true
     → list_any test (marked_from n marks) ≡ true
 among-marked test n [] i marked h = absurd (false≢true marked)
 among-marked test n (m ∷ ms) zero marked h = by m marked
@@ -100,7 +100,7 @@ among-marked test n (m ∷ ms) (suc i) marked h = by m (among-marked test (n + 1
     by false more = more
 
 -- a key among others passes what is true of it
-pub among-any : (p : DeclKey → Bool) (keys : List DeclKey) (k : DeclKey) → list_any p keys ≡ false → p k ≡ true → is_among keys k ≡ false
+among-any : (p : DeclKey → Bool) (keys : List DeclKey) (k : DeclKey) → list_any p keys ≡ false → p k ≡ true → is_among keys k ≡ false
 among-any p [] k none h = refl
 among-any p (l ∷ keys) k none h =
     let parts = or_parts (p l) (list_any p keys) none in by (same_key l k) refl parts.0 (among-any p keys k parts.1 h)
@@ -109,7 +109,7 @@ among-any p (l ∷ keys) k none h =
     by true e f more = absurd (false≢true (sym f ∙ ap p (key_exact l k e) ∙ h))
     by false e f more = more
 
-pub itself : (n : ℕ) → nat_eq n n ≡ true
+itself : (n : ℕ) → nat_eq n n ≡ true
 itself n = nat_eq_equiv.refl n
 
 module _ (sides : Sides) (between : IsBetween sides) (distinct : AreDistinct sides.index.now.decls) (apart : AreDistinct sides.next.now)

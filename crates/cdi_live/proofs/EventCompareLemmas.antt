@@ -1,23 +1,15 @@
 -- The observer methods that an event sees, before and after edits, are among those of the declarations that are looked at.
-use Rattle.std.proofs.Common.{◌≡◌, ◌+◌, ℕ, nat_eq, Bool, true, false, ◌||◌, List, [], ◌∷◌, ◌++◌, map, flat_map, filter, Option, Some, None}
-use Rattle.std.proofs.Common.{position, slice_get, refl, sym, ap, ◌∙◌, arith}
+use Rattle.std.proofs.Common.{◌≡◌, ◌+◌, ℕ, Bool, false, ◌||◌, List, [], ◌∷◌, ◌++◌, map, flat_map, filter, Option, Some, None}
+use Rattle.std.proofs.Common.{slice_get, refl, sym, ap, ◌∙◌, arith}
 use Rattle.std.specs.List.{list_any}
 use Rattle.std.specs.Option.{option_map_or}
-use Rattle.std.proofs.lemmas.Bool.{false≢true, or_parts}
 use Rattle.std.proofs.lemmas.Grind.{flat_map-append}
 use Rattle.cdi_model.specs.declared.decl.Decl.{Decl}
 use Rattle.cdi_model.specs.declared.decl.Decl.TheVariants as decls
-use Rattle.cdi_model.specs.declared.decl.Kind.TheVariants as kinds
-use Rattle.cdi_model.specs.Decl.{key_of, kind_of, name_of_decl}
-use Rattle.cdi_model.specs.DeclKey.{key_at}
-use Rattle.cdi_model.specs.DeclList.{find_decl, is_of, AreDistinct}
-use Rattle.cdi_model.specs.Edits.{is_among}
-use Rattle.cdi_model.proofs.EditLemmas.{edits_keep_decl}
-use Rattle.cdi_model.proofs.PositionLemmas.{position-found, position-there}
+use Rattle.cdi_model.specs.DeclList.{AreDistinct}
 use Rattle.cdi_match.specs.Types.{types_of}
 use Rattle.cdi_effective.specs.Beans.{beans, entries}
 use Rattle.cdi_effective.specs.declared.records.Effective.{Effective}
-use Rattle.cdi_effective.proofs.PlaceLemmas.{own-found, own-position}
 use Rattle.cdi_intercept.specs.Sorting.{sorted_by}
 use Rattle.cdi_postings.specs.declared.word.Reason.TheVariants as reasons
 use Rattle.cdi_postings.specs.Words.{word_at}
@@ -28,7 +20,7 @@ use Rattle.cdi_observe.specs.Observers.{Observer, declared_by, enabled_bean, is_
 use Rattle.cdi_questions.proofs.CandidateLemmas.{none-of-decl, same-observers}
 use Rattle.cdi_live.specs.Compared.{is_at, is_place_of_one, IsBetween}
 use Rattle.cdi_live.specs.declared.sides.Sides.{Sides}
-use Rattle.cdi_live.proofs.CompareLemmas.{among-any, among-marked, gather, itself}
+use Rattle.cdi_live.proofs.CompareLemmas.{gather, unmarked-decl}
 
 -- ---- before
 
@@ -91,61 +83,20 @@ module _ (es : List Decl) (types : List (List ℕ)) (marks : List Bool) (distinc
 
 -- ---- who is marked
 
--- where a declaration is found
-placed : (ds : List Decl) (o : Option ℕ) (d : Decl) → position (is_of (kind_of d) (name_of_decl d)) ds ≡ o
-    → find_decl (kind_of d) (name_of_decl d) ds ≡ Some d → (q : ℕ) × (slice_get ds q ≡ Some d)
-placed ds None d none there = absurd (false≢true (ap is_there (sym none) ∙ position-found (kind_of d) (name_of_decl d) ds ∙ ap is_there there))
-  where
-    is_there : {X : Type 0} → Option X → Bool
-    is_there None = false
-    is_there (Some x) = true
-placed ds (Some q) d at there = (q, position-there (kind_of d) (name_of_decl d) ds q at ∙ there)
-
-module _ (sides : Sides) (between : IsBetween sides) (distinct : AreDistinct sides.index.now.decls) (apart : AreDistinct sides.next.now)
-    (types : List (List ℕ)) (before : List Bool)
-    (found : (p : ℕ) → is_marked before p ≡ option_map_or (has_one sides.index.now.decls (map (word_at reasons.Observes) types))
-    (slice_get sides.index.now.decls p) false) where
-  abbrev ds : List Decl
-  ds = sides.index.now.decls
-
-  abbrev after : List Decl
-  after = sides.next.now
-
-  -- the declaration at a position is there
-  at-own : (p : ℕ) (d : Decl) → slice_get after p ≡ Some d → is_at after (key_of d) p ≡ true
-  at-own p d there = ap (λ o. option_map_or (λ i. nat_eq i p) o false) (own-position after p d apart there) ∙ itself p
-
-  -- a declaration that is at no marked position observes none of the types
-  pub unobserved : (p : ℕ) (d : Decl) → slice_get after p ≡ Some d
-      → (list_any (λ q. is_place_of_one ds after q p) (marked_from 0 before) || list_any (λ k. is_at after k p) sides.affected.now) ≡ false
-      → observes_one types d ≡ false
-  unobserved p (decls.Bean b) there none =
-      let k = key_at kinds.Bean b.name in
-      let parts = or_parts (list_any (λ q. is_place_of_one ds after q p) (marked_from 0 before)) (list_any (λ k. is_at after k p) sides.affected.now) none in
-      let untold : is_among sides.affected.now k ≡ false =
-      among-any (λ k. is_at after k p) sides.affected.now k parts.1 (at-own p (decls.Bean b) there) in
-      let unedited : is_among sides.edited.now k ≡ false = not-edited (is_among sides.edited.now k) refl untold in
-      let same : find_decl kinds.Bean b.name ds ≡ Some (decls.Bean b) =
-      sym (edits_keep_decl between.edited.edits ds kinds.Bean b.name (ap (λ ks. is_among ks k) (sym between.edited.keys) ∙ unedited))
-      ∙ ap (find_decl kinds.Bean b.name) (sym between.edited.decls) ∙ own-found after p (decls.Bean b) apart there in
-      let here = placed ds (position (is_of kinds.Bean b.name) ds) (decls.Bean b) refl same in
-      sym (observing-one ds types (decls.Bean b))
-      ∙ without (has_one ds (map (word_at reasons.Observes) types) (decls.Bean b)) refl here.0 here.1 parts.0
-    where
-      not-edited : (c : Bool) → is_among sides.edited.now (key_at kinds.Bean b.name) ≡ c
-          → is_among sides.affected.now (key_at kinds.Bean b.name) ≡ false → c ≡ false
-      not-edited false e untold = refl
-      not-edited true e untold = absurd (false≢true (sym untold ∙ between.told.edited (key_at kinds.Bean b.name) refl e))
-
-      without : (c : Bool) → has_one ds (map (word_at reasons.Observes) types) (decls.Bean b) ≡ c → (q : ℕ) → slice_get ds q ≡ Some (decls.Bean b)
-          → list_any (λ q. is_place_of_one ds after q p) (marked_from 0 before) ≡ false → c ≡ false
-      without false e q at none = refl
-      without true e q at none = absurd (false≢true (sym none ∙ among-marked (λ q. is_place_of_one ds after q p) 0 before q
-          (found q ∙ ap (λ o. option_map_or (has_one ds (map (word_at reasons.Observes) types)) o false) at ∙ e)
-          (ap (λ n. is_place_of_one ds after n p) (omega arith) ∙ ap (λ o. option_map_or (λ d. is_at after (key_of d) p) o false) at
-          ∙ at-own p (decls.Bean b) there)))
-  unobserved p (decls.Type d) there none = refl
-  unobserved p (decls.Qualifier d) there none = refl
-  unobserved p (decls.Binding d) there none = refl
-  unobserved p (decls.Stereotype d) there none = refl
-  unobserved p (decls.Interceptor d) there none = refl
+-- a declaration that is at no marked position observes none of the types
+pub unobserved : (sides : Sides) → IsBetween sides → AreDistinct sides.index.now.decls → AreDistinct sides.next.now
+    → (types : List (List ℕ)) (before : List Bool)
+    → ((p : ℕ) → is_marked before p ≡ option_map_or (has_one sides.index.now.decls (map (word_at reasons.Observes) types))
+    (slice_get sides.index.now.decls p) false)
+    → (p : ℕ) (d : Decl) → slice_get sides.next.now p ≡ Some d
+    → (list_any (λ q. is_place_of_one sides.index.now.decls sides.next.now q p) (marked_from 0 before)
+    || list_any (λ k. is_at sides.next.now k p) sides.affected.now) ≡ false
+    → observes_one types d ≡ false
+unobserved sides between distinct apart types before found p (decls.Bean b) there none =
+    sym (observing-one sides.index.now.decls types (decls.Bean b))
+    ∙ (unmarked-decl sides between distinct apart (map (word_at reasons.Observes) types) before found p (decls.Bean b) refl there none).1.1
+unobserved sides between distinct apart types before found p (decls.Type d) there none = refl
+unobserved sides between distinct apart types before found p (decls.Qualifier d) there none = refl
+unobserved sides between distinct apart types before found p (decls.Binding d) there none = refl
+unobserved sides between distinct apart types before found p (decls.Stereotype d) there none = refl
+unobserved sides between distinct apart types before found p (decls.Interceptor d) there none = refl

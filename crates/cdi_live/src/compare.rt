@@ -37,7 +37,7 @@ fn mark(decls: &Decls, key: &DeclKey, positions: &mut PositionSet)
 }
 
 /// Marks the positions after the draft of the declarations that are at some positions before it.
-pub(crate) fn mark_kept(sides: &Sides<'_>, positions: &PositionSet, marked: &mut PositionSet)
+fn mark_kept(sides: &Sides<'_>, positions: &PositionSet, marked: &mut PositionSet)
     requires { length marked.old ≡ limit }
     ensures size { length marked.new ≡ limit }
     ensures marks { (p : _) → is_marked marked.new p ≡ (is_marked marked.old p
@@ -51,7 +51,7 @@ pub(crate) fn mark_kept(sides: &Sides<'_>, positions: &PositionSet, marked: &mut
 }
 
 /// Marks the positions after the draft of the declarations that it affects.
-pub(crate) fn mark_affected(sides: &Sides<'_>, marked: &mut PositionSet)
+fn mark_affected(sides: &Sides<'_>, marked: &mut PositionSet)
     requires { length marked.old ≡ limit }
     ensures size { length marked.new ≡ limit }
     ensures marks { (p : _) → is_marked marked.new p ≡ (is_marked marked.old p

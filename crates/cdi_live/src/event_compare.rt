@@ -17,7 +17,7 @@ ghost use Rattle.cdi_live.specs.Compared.{IsBetween};
 ghost use Rattle.cdi_live.specs.EventCompared.{is_touched_among, is_touched_of, AreObserved};
 ghost use Rattle.cdi_live.specs.Gone.{is_gone};
 
-use crate::compare::{mark_affected, mark_kept};
+use crate::compare::positions_after;
 use crate::event_observers::observers_in_order;
 use crate::gone::{Gone, push_gone};
 use crate::sides::Sides;
@@ -96,10 +96,7 @@ fn positions_observing(
     let _ = sides.next.decls().iter();
     let words = words_observed(alloc, types)?;
     let before = sides.index.positions_under(&words);
-    let mut marked = PositionSet::new();
-    mark_kept(sides, &before, &mut marked);
-    mark_affected(sides, &mut marked);
-    Ok(marked)
+    Ok(positions_after(sides, &before))
 }
 
 /// Appends some records.

@@ -1,12 +1,10 @@
-use Rattle.std.proofs.Common.{◌≡◌, ◌||◌, ℕ, false, map, slice_get, sym, ap, subst, ◌∙◌}
-use Rattle.std.specs.List.{list_any}
+use Rattle.std.proofs.Common.{◌≡◌, ℕ, false, map, slice_get, sym, ap, subst, ◌∙◌}
 use Rattle.std.specs.Option.{option_map_or}
 use Rattle.cdi_model.specs.DeclList.{AreDistinct}
 use Rattle.cdi_postings.specs.declared.word.Reason.TheVariants as reasons
 use Rattle.cdi_postings.specs.Words.{word_at}
-use Rattle.cdi_positions.specs.Marks.{is_marked, marked_from}
+use Rattle.cdi_positions.specs.Marks.{is_marked}
 use Rattle.cdi_index.specs.Under.{has_one}
-use Rattle.cdi_live.specs.Compared.{is_at, is_place_of_one}
 use Rattle.cdi_live.proofs.EventCompareLemmas.{unobserved}
 use Rattle.cdi_live.proofs.event_compare.positions_observing.Goals as goal
 
@@ -16,12 +14,9 @@ returns c p d there none =
     let ds = sides.index.now.decls in
     let types = c.args.types.now in
     let before = c.positions_under-before.result in
-    let kept = list_any (λ q. is_place_of_one ds sides.next.now q p) (marked_from 0 before) in
-    let affected = list_any (λ k. is_at sides.next.now k p) sides.affected.now in
     let found : (q : ℕ) → is_marked before q ≡ option_map_or (has_one ds (map (word_at reasons.Observes) types)) (slice_get ds q) false =
     λ q. c.positions_under-before.ensures q
     ∙ ap (λ ws. option_map_or (has_one ds ws) (slice_get ds q) false) (c.deref.ensures.value ∙ c.in_ok-words.ensures) in
     unobserved sides c.requires (subst AreDistinct c.decls.ensures c.iter.ensures.distinct)
     (subst AreDistinct c.decls-2.ensures c.iter-2.ensures.distinct) types before found p d there
-    (sym (c.mark_affected.ensures.marks p
-    ∙ ap (λ b. b || affected) (c.mark_kept.ensures.marks p ∙ ap (λ b. b || kept) (c.new-marked.ensures.none p))) ∙ none)
+    (sym (c.positions_after.ensures p) ∙ none)
