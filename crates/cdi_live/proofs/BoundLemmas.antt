@@ -81,11 +81,12 @@ any-right p xs ys h = list_any-append p xs ys ∙ or_right (list_any p xs) (list
 find-in : {X : Type 0} (f : X → List Mention) (q : X → Bool) (p : Mention → Bool) (xs : List X) (x : X) → find q xs ≡ Some x
     → list_any p (f x) ≡ true → list_any p (flat_map f xs) ≡ true
 find-in f q p [] x at h = absurd (let no : None ≡ Some x = at in cc)
-find-in {X = X} f q p (y ∷ ys) x at h = by (q y) at
+find-in {X = X} f q p (y ∷ ys) x at h = by (q y) at (λ e. find-in f q p ys x e h)
   where
-    by : (b : Bool) → cond b (Some y) (find q ys) ≡ Some x → list_any p (f y ++ flat_map f ys) ≡ true
-    by true e = let one : y ≡ x = cc in any-left p (f y) (flat_map f ys) (ap (λ z. list_any p (f z)) one ∙ h)
-    by false e = any-right p (f y) (flat_map f ys) (find-in f q p ys x e h)
+    by : (b : Bool) → cond b (Some y) (find q ys) ≡ Some x → (find q ys ≡ Some x → list_any p (flat_map f ys) ≡ true)
+        → list_any p (f y ++ flat_map f ys) ≡ true
+    by true e more = let one : y ≡ x = cc in any-left p (f y) (flat_map f ys) (ap (λ z. list_any p (f z)) one ∙ h)
+    by false e more = any-right p (f y) (flat_map f ys) (more e)
 
 -- ---- at a place
 

@@ -17,7 +17,7 @@ use Rattle.cdi_observe.specs.Keys.{same_place, ChainKey}
 use Rattle.cdi_observe.specs.Wanted.{is_wanted}
 use Rattle.cdi_observe.proofs.KeyLemmas.{same_place-decides}
 use Rattle.cdi_seen.specs.Touched.{is_touched}
-use Rattle.cdi_live.specs.ChainGone.{goes, is_kept_chain, is_place_of, ArePlaces, Chains}
+use Rattle.cdi_live.specs.ChainGone.{goes, is_kept_chain, ArePlaces, Chains}
 use Rattle.cdi_live.specs.ChainSuspects.{is_chain_suspect}
 use Rattle.cdi_live.specs.Compared.{IsBetween}
 use Rattle.cdi_live.specs.declared.sides.Sides.{Sides}

@@ -1,8 +1,8 @@
 -- Chains of classes that are not suspect see the same after edits.
-use Rattle.std.proofs.Common.{◌≡◌, ℕ, zero, suc, Bool, true, false, cond, not, ◌&&◌, ◌||◌, List, [], ◌∷◌, ◌++◌, map, flat_map, filter}
+use Rattle.std.proofs.Common.{◌≡◌, ℕ, zero, suc, Bool, true, false, cond, not, ◌&&◌, List, [], ◌∷◌, map, filter}
 use Rattle.std.proofs.Common.{Option, Some, None, option_map, unwrap_or, refl, sym, ap, ◌∙◌, inl, inr}
 use Rattle.std.specs.List.{list_any}
-use Rattle.std.specs.Option.{option_map_or, option_to_list}
+use Rattle.std.specs.Option.{option_map_or}
 use Rattle.std.specs.Str.{bytes_eq}
 use Rattle.std.proofs.lemmas.Bool.{and_from, false≢true, or_cases, or_from, or_left, or_parts, or_right}
 use Rattle.std.proofs.lemmas.List.Folds.{list_any-append}
@@ -30,7 +30,7 @@ use Rattle.cdi_match.specs.Filling.{as_binding, find_binding}
 use Rattle.cdi_match.specs.Locality.{binding_reads}
 use Rattle.cdi_match.proofs.BindingLemmas.{brings_type_decides, types_brought-has}
 use Rattle.cdi_match.proofs.Names.{one_name, same_text}
-use Rattle.cdi_effective.specs.Bindings.{class_bindings, in_place_of}
+use Rattle.cdi_effective.specs.Bindings.{class_bindings}
 use Rattle.cdi_effective.specs.Disposers.{as_bean, find_bean}
 use Rattle.cdi_effective.specs.Qualifiers.{uses_one}
 use Rattle.cdi_effective.specs.Reads.{record_reads}
@@ -46,10 +46,10 @@ use Rattle.cdi_index.specs.Told.{Tells}
 use Rattle.cdi_index.specs.Under.{has_one, words_by}
 use Rattle.cdi_index.proofs.UnderLemmas.{key-found}
 use Rattle.cdi_observe.specs.Keys.{ChainKey}
-use Rattle.cdi_seen.specs.Touched.{is_touched, key_sees, ByChain}
+use Rattle.cdi_seen.specs.Touched.{is_touched, ByChain}
 use Rattle.cdi_seen.proofs.ContributionLemmas.{edits_keep_given}
 use Rattle.cdi_seen.proofs.SameLemmas.{touched_where_seen_differs}
-use Rattle.cdi_stakes.specs.Gives.{interceptor_at, interceptor_given, ranked_interceptor}
+use Rattle.cdi_stakes.specs.Gives.{interceptor_given, ranked_interceptor}
 use Rattle.cdi_stakes.specs.Rests.{own_bindings, own_reads, place_reads, IsPresent}
 use Rattle.cdi_stakes.specs.Words.{types_bound_by}
 use Rattle.cdi_stakes.proofs.ChainLemmas.{chain_same_from, keep_interceptors, no_interceptor}
@@ -102,14 +102,15 @@ any-use p (u ∷ us) x h holds = elim (or_cases (bytes_eq u.name x) (has (map na
 
 names-filtered : (p : Qual → Bool) (us : List Qual) (x : List ℕ) → has (map name_of_use (filter p us)) x ≡ true → has (map name_of_use us) x ≡ true
 names-filtered p [] x h = h
-names-filtered p (u ∷ us) x h = by (p u) h
+names-filtered p (u ∷ us) x h = by (p u) h (names-filtered p us x)
   where
-    by : (b : Bool) → has (map name_of_use (cond b (u ∷ filter p us) (filter p us))) x ≡ true → has (map name_of_use (u ∷ us)) x ≡ true
-    by true e = elim (or_cases (bytes_eq u.name x) (has (map name_of_use (filter p us)) x) e) [
+    by : (b : Bool) → has (map name_of_use (cond b (u ∷ filter p us) (filter p us))) x ≡ true
+        → (has (map name_of_use (filter p us)) x ≡ true → has (map name_of_use us) x ≡ true) → has (map name_of_use (u ∷ us)) x ≡ true
+    by true e more = elim (or_cases (bytes_eq u.name x) (has (map name_of_use (filter p us)) x) e) [
       | inl here ↦ or_left (bytes_eq u.name x) (has (map name_of_use us) x) here
-      | inr there ↦ or_right (bytes_eq u.name x) (has (map name_of_use us) x) (names-filtered p us x there)
+      | inr there ↦ or_right (bytes_eq u.name x) (has (map name_of_use us) x) (more there)
     ]
-    by false e = or_right (bytes_eq u.name x) (has (map name_of_use us) x) (names-filtered p us x e)
+    by false e more = or_right (bytes_eq u.name x) (has (map name_of_use us) x) (more e)
 
 -- ---- one list of declarations
 
@@ -165,7 +166,7 @@ module _ (ds : List Decl) where
         → is_intercepted ds x class ≡ true
     by-chain n x has (zero, same) = or_left (holds (classes_bound ds x) class) (list_any (brings_to ds x class) ds)
         (ap (λ m. holds (classes_bound ds m) class) (sym same) ∙ bound n has)
-    by-chain n x has (suc k, (u, (step, more))) = or_right (holds (classes_bound ds x) class) (list_any (brings_to ds x class) ds)
+    by-chain n x has (suc k, (u, step, more)) = or_right (holds (classes_bound ds x) class) (list_any (brings_to ds x class) ds)
         (at (find_decl kinds.Binding n ds) refl (reads-brought n x u step (k, more)))
       where
         at : (o : Option Decl) → find_decl kinds.Binding n ds ≡ o → reads (made_of ds (key_at kinds.Binding n)) (key_at kinds.Binding x) ≡ true
@@ -254,7 +255,7 @@ module _ (edits : List Edit) (ds : List Decl) (told : List DeclKey) (distinct : 
   chain-told : (n y : List ℕ) → is_among keys (key_at kinds.Binding y) ≡ true → Chain (brings ds) n y → is_among told (key_at kinds.Binding n) ≡ true
   chain-told n y edited (zero, same) =
       ap (λ m. is_among told (key_at kinds.Binding m)) same ∙ tells.edited (key_at kinds.Binding y) refl edited
-  chain-told n y edited (suc k, (u, (step, more))) = by (is_among told (key_at kinds.Binding n)) refl
+  chain-told n y edited (suc k, (u, step, more)) = by (is_among told (key_at kinds.Binding n)) refl
     where
       by : (b : Bool) → is_among told (key_at kinds.Binding n) ≡ b → b ≡ true
       by true e = refl

@@ -8,10 +8,9 @@ use Rattle.std.proofs.lemmas.Cmp.{nat_eq_equiv}
 use Rattle.std.proofs.lemmas.List.Elements.{filter-append}
 use Rattle.cdi_model.specs.declared.decl.Decl.{Decl}
 use Rattle.cdi_model.specs.declared.decl.Decl.TheVariants as decls
-use Rattle.cdi_model.specs.declared.decl.Kind.TheVariants as kinds
 use Rattle.cdi_model.specs.declared.key.DeclKey.{DeclKey}
 use Rattle.cdi_model.specs.Decl.{key_of, kind_of, name_of_decl}
-use Rattle.cdi_model.specs.DeclKey.{key_at, same_key}
+use Rattle.cdi_model.specs.DeclKey.{same_key}
 use Rattle.cdi_model.specs.DeclList.{find_decl, is_of, AreDistinct}
 use Rattle.cdi_model.specs.Edits.{is_among}
 use Rattle.cdi_model.proofs.EditLemmas.{edits_keep_decl}

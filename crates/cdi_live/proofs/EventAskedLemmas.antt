@@ -64,10 +64,10 @@ module _ (t : List ℕ) (us : List Qual) where
   fires-is : (d : Decl) → has_key (wanted_by d) (EventKey t us) ≡ asks_for questions.Event t us d
   unfolding asks_for
   fires-is d =
-      list_any-append (same_key (EventKey t us)) (asked_by d) (chains_by d ++ events_by d)
-      ∙ ap (λ b. b || has_key (chains_by d ++ events_by d) (EventKey t us)) (no-choice (points_of d))
-      ∙ list_any-append (same_key (EventKey t us)) (chains_by d) (events_by d)
-      ∙ ap (λ b. b || has_key (events_by d) (EventKey t us)) (no-chain-by d)
+      list_any-append (same_key (EventKey t us)) (asked_by d ++ chains_by d) (events_by d)
+      ∙ ap (λ b. b || has_key (events_by d) (EventKey t us))
+      (list_any-append (same_key (EventKey t us)) (asked_by d) (chains_by d)
+      ∙ ap (λ b. b || has_key (chains_by d) (EventKey t us)) (no-choice (points_of d)) ∙ no-chain-by d)
       ∙ at-events (mentions d)
 
   -- the event is wanted where a declaration may fire it

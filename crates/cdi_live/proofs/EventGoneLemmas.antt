@@ -19,7 +19,7 @@ use Rattle.cdi_model.specs.SameUse.{same_quals, same_quals-decides}
 use Rattle.cdi_index.specs.Asked.{asks_for, asks_in}
 use Rattle.cdi_index.specs.declared.asked.Question.TheVariants as questions
 use Rattle.cdi_index.specs.Told.{Tells}
-use Rattle.cdi_memo.specs.Answers.{answer, parts_under}
+use Rattle.cdi_memo.specs.Answers.{parts_under}
 use Rattle.cdi_memo.proofs.QuestionLemmas.{parts-kept}
 use Rattle.cdi_observe.specs.declared.observers.ObserverId.{ObserverId}
 use Rattle.cdi_observe.specs.Keys.{EventKey}
@@ -29,7 +29,7 @@ use Rattle.cdi_stakes.specs.Rests.{IsPresent}
 use Rattle.cdi_stakes.proofs.PresentLemmas.{all_present, found_any, witness}
 use Rattle.cdi_live.specs.Compared.{IsBetween}
 use Rattle.cdi_live.specs.Dropped.{is_asked_after}
-use Rattle.cdi_live.specs.EventCompared.{is_touched_among, is_touched_of, Events}
+use Rattle.cdi_live.specs.EventCompared.{is_touched_of, Events}
 use Rattle.cdi_live.specs.EventDropped.{is_dropped_at, is_dropped_by, is_dropped_in, is_kept, Drops}
 use Rattle.cdi_live.specs.EventStage.{event_stays, EventsAreWanted}
 use Rattle.cdi_live.specs.EventSuspects.{is_suspect}

@@ -1,10 +1,9 @@
 -- Events of types that are not suspect see the same after edits.
-use Rattle.std.proofs.Common.{◌≡◌, ℕ, ℤ, zero, suc, Bool, true, false, cond, not, ◌&&◌, ◌||◌, List, [], ◌∷◌, ◌++◌, length, map, flat_map, filter}
+use Rattle.std.proofs.Common.{◌≡◌, ℕ, ℤ, zero, suc, Bool, true, false, cond, not, ◌&&◌, ◌||◌, List, [], ◌∷◌, ◌++◌, map, flat_map, filter}
 use Rattle.std.proofs.Common.{Option, Some, None, option_map, unwrap_or, slice_get, refl, sym, ap, ◌∙◌, inl, inr, arith}
 use Rattle.std.specs.List.{list_any}
 use Rattle.std.specs.Option.{option_map_or}
 use Rattle.std.specs.Str.{bytes_eq}
-use Rattle.std.specs.Cmp.Lexicographic.{bytes_decides}
 use Rattle.std.proofs.lemmas.Bool.{and_from, and_parts, false≢true, or_cases, or_left, or_parts, or_right}
 use Rattle.std.proofs.lemmas.List.Folds.{list_any-append}
 use Rattle.cdi_model.specs.declared.decl.BeanDecl.{BeanDecl}
@@ -29,10 +28,9 @@ use Rattle.cdi_model.proofs.GivingLemmas.{edits_keep_given}
 use Rattle.cdi_match.specs.Chain.{has, Chain, Steps}
 use Rattle.cdi_match.specs.Filled.{FilledUse, filled, filled_by}
 use Rattle.cdi_match.specs.Filling.{as_qualifier, find_qualifier}
-use Rattle.cdi_match.specs.Locality.{type_reads}
 use Rattle.cdi_match.specs.Types.{is_super, is_type, object, supers_of, types_of}
 use Rattle.cdi_match.proofs.LocalityLemmas.{edits_keep_closure, same_types_apart}
-use Rattle.cdi_match.proofs.Names.{any_chosen, bytes_eq-turned, chosen, one_name, same_text}
+use Rattle.cdi_match.proofs.Names.{any_chosen, bytes_eq-turned, chosen, same_text}
 use Rattle.cdi_match.proofs.TypeLemmas.{is_type_decides, types_of-has, types_of-is, types_of-rises}
 use Rattle.cdi_effective.specs.Beans.{beans, managed, own_records, records}
 use Rattle.cdi_effective.specs.Disposers.{as_bean, find_bean}
@@ -57,7 +55,7 @@ use Rattle.cdi_seen.specs.Touched.{is_touched, ByEvent}
 use Rattle.cdi_seen.proofs.SameLemmas.{touched_where_seen_differs}
 use Rattle.cdi_stakes.specs.Gives.{is_before_observer, observer_given, ranked_observer, unranked}
 use Rattle.cdi_stakes.specs.Rests.{IsPresent, use_reads}
-use Rattle.cdi_stakes.specs.Words.{names_under, types_observed, Observes}
+use Rattle.cdi_stakes.specs.Words.{names_under, types_observed}
 use Rattle.cdi_stakes.proofs.EventLemmas.{event_by_words, observers_by_declaration, observers_of}
 use Rattle.cdi_stakes.proofs.PresentLemmas.{all_present, each_all, found_any, witness}
 use Rattle.cdi_stakes.proofs.UseLemmas.{read_same}
@@ -65,7 +63,7 @@ use Rattle.cdi_live.specs.EventCompared.{observer_in}
 use Rattle.cdi_live.specs.EventSuspects.{concerned_types, event_types, fired_at, fired_in, fired_types, is_fired, is_suspect, may_have, may_have_one}
 use Rattle.cdi_live.specs.EventSuspects.{observed_at, observed_by_key, observed_of, uses_edited, word_edited, words_edited}
 use Rattle.cdi_live.specs.Suspects.{holds}
-use Rattle.cdi_live.proofs.AskedLemmas.{any-elim, same-bool}
+use Rattle.cdi_live.proofs.AskedLemmas.{same-bool}
 
 -- ---- lists of names
 

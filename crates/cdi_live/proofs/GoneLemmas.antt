@@ -194,7 +194,7 @@ module _ (edits : List Edit) (ds : List Decl) (told : List DeclKey) (distinct : 
 -- what goes is known of declarations that edits lead to
 abbrev GoesOn : List Decl → List DeclKey → Answers (List Qual) Choice → Asks → List (List ℕ) → List ℕ → List Qual → List Decl → List DeclKey → Type 0
 GoesOn ds told m asks types t us e ks = Tells ds e ks told → AreDistinct e
-    → ((s : List ℕ) (vs : List Qual) → asks.drops s vs ≡ (is_kept m s vs && not (is_asked_after ds e ks s vs)))
+    → ((s : List ℕ) (vs : List Qual) → asks.drops s vs ≡ (is_kept m s vs && not (is_asked_after ds e ks questions.Choice s vs)))
     → ((n : List ℕ) → list_any (bytes_eq n) types ≡ holds (suspects ds e ks told) n)
     → (goes_by_type (sees_other ds e) m types t us || list_any (is_dropped_at asks t us) ks) ≡ not (stays_known ds e t us)
 
@@ -202,7 +202,7 @@ GoesOn ds told m asks types t us e ks = Tells ds e ks told → AreDistinct e
 pub gone-between : (sides : Sides) → IsBetween sides → AreDistinct sides.index.now.decls → AreDistinct sides.next.now
     → (m : Answers (List Qual) Choice) → AreWanted sides.index.now.decls m → (asks : Asks) → asks.before ≡ sides.index.now.decls
     → ((s : List ℕ) (vs : List Qual) → asks.drops s vs
-    ≡ (is_kept m s vs && not (is_asked_after sides.index.now.decls sides.next.now sides.edited.now s vs)))
+    ≡ (is_kept m s vs && not (is_asked_after sides.index.now.decls sides.next.now sides.edited.now questions.Choice s vs)))
     → (types : List (List ℕ))
     → ((n : List ℕ) → list_any (bytes_eq n) types ≡ holds (suspects sides.index.now.decls sides.next.now sides.edited.now sides.affected.now) n)
     → (t : List ℕ) (us : List Qual) → is_kept m t us ≡ true

@@ -1,23 +1,20 @@
 -- The interceptors that a chain sees are found by the words of its bindings.
-use Rattle.std.proofs.Common.{◌≡◌, ℕ, Bool, true, false, cond, ◌&&◌, ◌||◌, is_some, List, [], ◌∷◌, ◌++◌, map, flat_map, filter, slice_get, Some}
+use Rattle.std.proofs.Common.{◌≡◌, ℕ, Bool, true, false, cond, ◌&&◌, ◌||◌, is_some, List, [], ◌∷◌, ◌++◌, flat_map, filter, slice_get, Some}
 use Rattle.std.proofs.Common.{refl, sym, ap, ◌∙◌, arith}
 use Rattle.std.specs.List.{list_any}
-use Rattle.std.specs.Str.{bytes_eq}
 use Rattle.std.proofs.Math.Bool.{and-false}
-use Rattle.std.proofs.lemmas.Bool.{false≢true, or_left, or_parts, or_right}
+use Rattle.std.proofs.lemmas.Bool.{false≢true, or_from, or_left, or_parts, or_right}
 use Rattle.std.proofs.lemmas.Grind.{flat_map-append}
 use Rattle.std.proofs.lemmas.List.Elements.{filter-append}
 use Rattle.std.proofs.lemmas.List.Folds.{list_any-append}
 use Rattle.cdi_model.specs.declared.decl.Decl.{Decl}
 use Rattle.cdi_model.specs.declared.decl.Decl.TheVariants as decls
 use Rattle.cdi_model.specs.declared.decl.InterceptorDecl.{InterceptorDecl}
-use Rattle.cdi_model.specs.declared.decl.PointDecl.{PointDecl}
-use Rattle.cdi_model.specs.declared.decl.UseKind.TheVariants as uses
 use Rattle.cdi_model.specs.declared.mention.PointPlace.TheVariants as points
 use Rattle.cdi_model.specs.declared.place.BeanPlace.{BeanPlace}
 use Rattle.cdi_model.specs.declared.place.PartPlace.TheVariants as parts
 use Rattle.cdi_model.specs.declared.quals.Qual.{Qual}
-use Rattle.cdi_model.specs.Mentions.{mentions, of_bindings, of_parts, of_point, Mention, UseOf}
+use Rattle.cdi_model.specs.Mentions.{mentions, of_bindings, of_parts, of_point, Mention}
 use Rattle.cdi_match.proofs.Names.{bytes_eq-turned}
 use Rattle.cdi_effective.specs.Qualifiers.{uses_one}
 use Rattle.cdi_intercept.specs.Chains.{as_interceptor, in_order, interceptors, is_before, is_enabled, part_for}
@@ -31,10 +28,12 @@ use Rattle.cdi_index.specs.Made.{words_have, words_named, words_named_in}
 use Rattle.cdi_index.specs.Under.{has_one}
 use Rattle.cdi_stakes.proofs.ChainLemmas.{order}
 use Rattle.cdi_stakes.proofs.SortLemmas.{filtered_in_order}
-use Rattle.std.specs.Option.{option_to_list}
+use Rattle.std.specs.Option.{option_map_or, option_to_list}
+use Rattle.cdi_model.specs.DeclList.{AreDistinct}
+use Rattle.cdi_live.specs.Compared.{is_at, is_place_of_one, IsBetween}
+use Rattle.cdi_live.specs.declared.sides.Sides.{Sides}
 use Rattle.cdi_live.specs.ChainGone.{enabled_at, enabled_in, words_bound}
-use Rattle.cdi_live.proofs.AskedLemmas.{same-bool}
-use Rattle.cdi_live.proofs.CompareLemmas.{gather}
+use Rattle.cdi_live.proofs.CompareLemmas.{gather, unmarked-decl}
 
 -- ---- in order
 
@@ -68,6 +67,9 @@ bound-has (u ∷ us) x = λ i. bytes_eq-turned u.name x i || bound-has us x i
 
 words-append : (w : Word) (xs ys : List Word) → words_have (xs ++ ys) w ≡ (words_have xs w || words_have ys w)
 words-append w xs ys = list_any-append (λ v. same_word v w) xs ys
+
+pub cover-one : (us : List Qual) → Cover (words_bound us) us
+cover-one us x h = bound-has us x ∙ h
 
 pub cover-first : (us vs : List Qual) → Cover (words_bound us ++ words_bound vs) us
 cover-first us vs x h =
@@ -117,34 +119,49 @@ named-bound : (us : List Qual) → flat_map words_named_in (of_bindings us) ≡ 
 named-bound [] = refl
 named-bound (u ∷ us) = ap (λ ws. word_at reasons.Binds u.name ∷ ws) (named-bound us)
 
-abbrev rest_of : InterceptorDecl → List Mention
-rest_of i = flat_map (of_point points.Constructor) i.points
-    ++ (of_parts parts.AroundInvoke i.around_invoke ++ of_parts parts.AroundConstruct i.around_construct
-    ++ of_parts parts.Post i.post ++ of_parts parts.Pre i.pre)
+-- what it names apart from them
+abbrev first_of : InterceptorDecl → List Mention
+first_of i = flat_map (of_point points.Constructor) i.points
 
-pub words-of-interceptor : (i : InterceptorDecl)
-    → words_named (decls.Interceptor i) ≡ words_bound i.bindings ++ flat_map words_named_in (rest_of i)
+abbrev rest_of : InterceptorDecl → List Mention
+rest_of i = of_parts parts.AroundInvoke i.around_invoke ++ of_parts parts.AroundConstruct i.around_construct
+    ++ of_parts parts.Post i.post ++ of_parts parts.Pre i.pre
+
+words-of-interceptor : (i : InterceptorDecl) → words_named (decls.Interceptor i)
+    ≡ (words_bound i.bindings ++ flat_map words_named_in (first_of i)) ++ flat_map words_named_in (rest_of i)
 unfolding words_named mentions
-words-of-interceptor i = flat_map-append words_named_in (of_bindings i.bindings) (rest_of i)
-    ∙ ap (λ ws. ws ++ flat_map words_named_in (rest_of i)) (named-bound i.bindings)
+words-of-interceptor i =
+    flat_map-append words_named_in (of_bindings i.bindings ++ first_of i) (rest_of i)
+    ∙ ap (λ ws. ws ++ flat_map words_named_in (rest_of i))
+    (flat_map-append words_named_in (of_bindings i.bindings) (first_of i)
+    ∙ ap (λ ws. ws ++ flat_map words_named_in (first_of i)) (named-bound i.bindings))
+
+bound-named : (i : InterceptorDecl) (w : Word) → words_have (words_bound i.bindings) w ≡ true → words_have (words_named (decls.Interceptor i)) w ≡ true
+bound-named i w h =
+    let bound : List Word = words_bound i.bindings in
+    let first : List Word = flat_map words_named_in (first_of i) in
+    let rest : List Word = flat_map words_named_in (rest_of i) in
+    ap (λ ws. words_have ws w) (words-of-interceptor i) ∙ words-append w (bound ++ first) rest
+    ∙ or_left (words_have (bound ++ first) w) (words_have rest w)
+    (words-append w bound first ∙ or_left (words_have bound w) (words_have first w) h)
+
+fewer : (p q : Word → Bool) (ws : List Word) → ((w : Word) → p w ≡ true → q w ≡ true) → list_any q ws ≡ false → list_any p ws ≡ false
+fewer p q [] more none = refl
+fewer p q (w ∷ ws) more none =
+    let both = or_parts (q w) (list_any q ws) none in
+    or_from (p w) (list_any p ws) (by (p w) refl both.0) (fewer p q ws more both.1)
+  where
+    by : (b : Bool) → p w ≡ b → q w ≡ false → b ≡ false
+    by false e f = refl
+    by true e f = absurd (false≢true (sym f ∙ more w e))
 
 -- what has none of the words of some bindings shares no type with them
 pub without-words : (ds : List Decl) (words : List Word) (bindings : List Qual) (place : BeanPlace) (d : Decl) → Cover words bindings
     → has_one ds words d ≡ false → filter (is_seen bindings place) (enabled_in d) ≡ []
 without-words ds words bindings place (decls.Interceptor i) cover none = by (is_enabled i) (no-share bindings i.bindings words cover own)
   where
-    others : List Word
-    others = flat_map words_named_in (rest_of i)
-
-    either : (ws : List Word) → list_any (λ w. words_have (words_bound i.bindings ++ others) w) ws
-        ≡ list_any (λ w. words_have (words_bound i.bindings) w || words_have others w) ws
-    either [] = refl
-    either (w ∷ ws) = λ k. words-append w (words_bound i.bindings) others k || either ws k
-
     own : list_any (words_have (words_bound i.bindings)) words ≡ false
-    own = (or_parts (list_any (words_have (words_bound i.bindings)) words) (list_any (words_have others) words)
-        (sym (any-or (words_have (words_bound i.bindings)) (words_have others) words) ∙ sym (either words)
-        ∙ ap (λ all. list_any (words_have all) words) (sym (words-of-interceptor i)) ∙ none)).0
+    own = fewer (words_have (words_bound i.bindings)) (words_have (words_named (decls.Interceptor i))) words (bound-named i) none
 
     by : (b : Bool) → shares_type bindings i ≡ false → filter (is_seen bindings place) (cond b (i ∷ []) []) ≡ []
     by true share = ap (λ (c : Bool). cond {A = List InterceptorDecl} c (i ∷ []) [])
@@ -155,3 +172,20 @@ without-words ds words bindings place (decls.Type d) cover none = refl
 without-words ds words bindings place (decls.Qualifier d) cover none = refl
 without-words ds words bindings place (decls.Binding d) cover none = refl
 without-words ds words bindings place (decls.Stereotype d) cover none = refl
+
+-- so what is at a position that is not marked after a draft is not seen
+pub unmarked-seen : (sides : Sides) → IsBetween sides → AreDistinct sides.index.now.decls → AreDistinct sides.next.now
+    → (words : List Word) (before : List Bool)
+    → ((p : ℕ) → is_marked before p ≡ option_map_or (has_one sides.index.now.decls words) (slice_get sides.index.now.decls p) false)
+    → (bindings : List Qual) (place : BeanPlace) → Cover words bindings → (p : ℕ) (d : Decl) → slice_get sides.next.now p ≡ Some d
+    → (list_any (λ q. is_place_of_one sides.index.now.decls sides.next.now q p) (marked_from 0 before)
+    || list_any (λ k. is_at sides.next.now k p) sides.affected.now) ≡ false
+    → filter (is_seen bindings place) (enabled_in d) ≡ []
+unmarked-seen sides between distinct apart words before found bindings place cover p (decls.Interceptor i) there none =
+    without-words sides.index.now.decls words bindings place (decls.Interceptor i) cover
+    (unmarked-decl sides between distinct apart words before found p (decls.Interceptor i) refl there none).1.1
+unmarked-seen sides between distinct apart words before found bindings place cover p (decls.Bean d) there none = refl
+unmarked-seen sides between distinct apart words before found bindings place cover p (decls.Type d) there none = refl
+unmarked-seen sides between distinct apart words before found bindings place cover p (decls.Qualifier d) there none = refl
+unmarked-seen sides between distinct apart words before found bindings place cover p (decls.Binding d) there none = refl
+unmarked-seen sides between distinct apart words before found bindings place cover p (decls.Stereotype d) there none = refl

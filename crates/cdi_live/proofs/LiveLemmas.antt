@@ -9,7 +9,6 @@ use Rattle.std.proofs.lemmas.List.Folds.{list_any-append}
 use Rattle.cdi_model.specs.declared.decl.Decl.{Decl}
 use Rattle.cdi_model.specs.declared.place.BeanPlace.{BeanPlace}
 use Rattle.cdi_model.specs.declared.quals.Qual.{Qual}
-use Rattle.cdi_model.specs.DeclList.{AreDistinct}
 use Rattle.cdi_model.specs.SameUse.{same_quals, same_quals-decides, same_quals_equiv}
 use Rattle.cdi_model.specs.Work.{with_one}
 use Rattle.cdi_match.proofs.Names.{bytes_eq-turned}
@@ -18,7 +17,7 @@ use Rattle.cdi_effective.specs.Qualifiers.{required}
 use Rattle.cdi_intercept.specs.Chains.{chain_of}
 use Rattle.cdi_memo.specs.Answers.{answer, Answers, Removes}
 use Rattle.cdi_observe.specs.Kept.{after_key, with_known, work_with, Kept}
-use Rattle.cdi_observe.specs.Keys.{Key, choice_key, same_place, ChainKey, ChoiceKey, EventKey}
+use Rattle.cdi_observe.specs.Keys.{Key, same_place, ChainKey, ChoiceKey, EventKey}
 use Rattle.cdi_observe.specs.Observers.{notified}
 use Rattle.cdi_observe.specs.Sees.{event_sees, SeenOfEvent}
 use Rattle.cdi_observe.specs.Wanted.{is_wanted}
@@ -35,7 +34,7 @@ use Rattle.cdi_live.specs.EventCompared.{Events}
 use Rattle.cdi_live.specs.Gone.{is_gone}
 use Rattle.cdi_live.specs.Kept.{AreGoing, Forgets}
 use Rattle.cdi_index.specs.State.{committed as index_committed, committed_to, State as IndexState}
-use Rattle.cdi_live.specs.State.{knows_in, AreKept, AreRight, AreRightEvents, IsGoing, IsLive, MayGo}
+use Rattle.cdi_live.specs.State.{knows_in, AreKept, AreRight, IsGoing, IsLive, MayGo}
 use Rattle.cdi_live.specs.declared.gone.Gone.{Gone}
 use Rattle.cdi_live.specs.declared.memos.Going.{Going}
 use Rattle.cdi_live.specs.declared.memos.Memos.{Memos}

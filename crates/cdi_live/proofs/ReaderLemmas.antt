@@ -3,7 +3,6 @@ use Rattle.std.proofs.Common.{◌≡◌, ℕ, Bool, true, false, ◌&&◌, ◌||
 use Rattle.std.specs.List.{list_any}
 use Rattle.std.proofs.lemmas.Bool.{and_from, and_parts, false≢true, or_left, or_right}
 use Rattle.cdi_model.specs.declared.decl.Decl.{Decl}
-use Rattle.cdi_model.specs.declared.decl.Decl.TheVariants as decls
 use Rattle.cdi_model.specs.declared.decl.Kind.{Kind}
 use Rattle.cdi_model.specs.declared.decl.Kind.TheVariants as kinds
 use Rattle.cdi_model.specs.declared.key.DeclKey.{DeclKey}
@@ -11,14 +10,13 @@ use Rattle.cdi_model.specs.Decl.{key_of}
 use Rattle.cdi_model.specs.DeclKey.{key_at, same_key, same_key_equiv}
 use Rattle.cdi_model.specs.DeclList.{find_decl, AreDistinct}
 use Rattle.cdi_model.specs.Edits.{is_among}
-use Rattle.cdi_model.proofs.EntryLemmas.{key_exact}
 use Rattle.cdi_effective.specs.Disposers.{as_bean}
 use Rattle.cdi_match.specs.Filling.{as_binding}
-use Rattle.cdi_index.specs.Made.{made_of, reads}
+use Rattle.cdi_index.specs.Made.{made_of, made_of_bean, made_of_binding, made_of_interceptor, made_of_type, reads}
 use Rattle.cdi_index.proofs.UnderLemmas.{key-found}
 use Rattle.cdi_stakes.specs.Rests.{IsPresent}
 use Rattle.cdi_stakes.proofs.PresentLemmas.{all_present, found_any, witness}
-use Rattle.cdi_live.proofs.AskedLemmas.{any-among, any-elim, same-bool}
+use Rattle.cdi_live.proofs.AskedLemmas.{any-among, same-bool}
 
 -- what read something is made of a declaration that is there
 is-declared : (ds : List Decl) (k key : DeclKey) → reads (made_of ds k) key ≡ true → (d : Decl) × (find_decl k.kind k.name ds ≡ Some d)
@@ -31,15 +29,26 @@ is-declared ds k key read = by k.kind k.name read
 
     by : (kind : Kind) (name : List ℕ) → reads (made_of ds (key_at kind name)) key ≡ true → (d : Decl) × (find_decl kind name ds ≡ Some d)
     by kinds.Type name h = found kinds.Type name (find_decl kinds.Type name ds) refl
-        (λ none. false≢true (ap (λ o. reads (option_map _ o) key) (sym none) ∙ h))
+        (λ none. false≢true (ap (λ o. reads (option_map (λ d. made_of_type ds name) o) key) (sym none) ∙ h))
     by kinds.Bean name h = found kinds.Bean name (find_decl kinds.Bean name ds) refl
-        (λ none. false≢true (ap (λ o. reads (option_map _ (as_bean o)) key) (sym none) ∙ h))
+        (λ none. false≢true (ap (λ o. reads (option_map (made_of_bean ds) (as_bean o)) key) (sym none) ∙ h))
     by kinds.Interceptor name h = found kinds.Interceptor name (find_decl kinds.Interceptor name ds) refl
-        (λ none. false≢true (ap (λ o. reads (option_map _ o) key) (sym none) ∙ h))
+        (λ none. false≢true (ap (λ o. reads (option_map made_of_interceptor o) key) (sym none) ∙ h))
     by kinds.Binding name h = found kinds.Binding name (find_decl kinds.Binding name ds) refl
-        (λ none. false≢true (ap (λ o. reads (option_map _ (as_binding o)) key) (sym none) ∙ h))
+        (λ none. false≢true (ap (λ o. reads (option_map (made_of_binding ds) (as_binding o)) key) (sym none) ∙ h))
     by kinds.Qualifier name h = absurd (false≢true h)
     by kinds.Stereotype name h = absurd (false≢true h)
+
+-- a test that is true of some key among others is true of one
+member : (p : DeclKey → Bool) (keys : List DeclKey) → list_any p keys ≡ true → (k : DeclKey) × (is_among keys k ≡ true) × (p k ≡ true)
+member p [] h = absurd (false≢true h)
+member p (k ∷ keys) h = by (p k) refl h (member p keys)
+  where
+    by : (b : Bool) → p k ≡ b → (b || list_any p keys) ≡ true
+        → (list_any p keys ≡ true → (l : DeclKey) × (is_among keys l ≡ true) × (p l ≡ true))
+        → (l : DeclKey) × (is_among (k ∷ keys) l ≡ true) × (p l ≡ true)
+    by true e f more = (k, or_left (same_key k k) (is_among keys k) (same_key_equiv.refl k), e)
+    by false e f more = let it = more f in (it.0, or_right (same_key k it.0) (is_among keys it.0) it.1, it.2)
 
 pub of-readers : (ds : List Decl) → AreDistinct ds → (key : DeclKey) (list : List DeclKey) (p : DeclKey → Bool)
     → ((k : DeclKey) → is_among list k ≡ reads (made_of ds k) key)
@@ -49,17 +58,9 @@ of-readers ds distinct key list p are = same-bool (list_any p list) (list_any te
     test : Decl → Bool
     test d = reads (made_of ds (key_of d)) key && p (key_of d)
 
-    member : (keys : List DeclKey) → list_any p keys ≡ true → (k : DeclKey) × (is_among keys k ≡ true) × (p k ≡ true)
-    member [] h = absurd (false≢true h)
-    member (k ∷ keys) h = by (p k) refl h
-      where
-        by : (b : Bool) → p k ≡ b → (b || list_any p keys) ≡ true → (l : DeclKey) × (is_among (k ∷ keys) l ≡ true) × (p l ≡ true)
-        by true e f = (k, or_left (same_key k k) (is_among keys k) (same_key_equiv.refl k), e)
-        by false e f = let it = member keys f in (it.0, or_right (same_key k it.0) (is_among keys it.0) it.1, it.2)
-
     there : list_any p list ≡ true → list_any test ds ≡ true
     there h =
-        let it = member list h in
+        let it = member p list h in
         let read : reads (made_of ds it.0) key ≡ true = sym (are it.0) ∙ it.1 in
         let d = is-declared ds it.0 key read in
         let one : key_of d.0 ≡ it.0 = sym (key-found it.0.kind it.0.name ds d.0 d.1) in

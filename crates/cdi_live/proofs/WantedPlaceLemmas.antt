@@ -20,7 +20,7 @@ use Rattle.cdi_match.proofs.Names.{bytes_eq-turned, one_name, same_text}
 use Rattle.cdi_effective.specs.Disposers.{as_bean, find_bean}
 use Rattle.cdi_intercept.specs.Sets.{has_place, methods_of, observers_of, places_of, producers_of}
 use Rattle.cdi_observe.specs.Keys.{has_key, same_place, ChainKey}
-use Rattle.cdi_observe.specs.Wanted.{chains_by, is_wanted, wanted_by}
+use Rattle.cdi_observe.specs.Wanted.{is_wanted, wanted_by}
 use Rattle.cdi_stakes.specs.Rests.{IsPresent}
 use Rattle.cdi_stakes.proofs.NameLemmas.{only-chains}
 use Rattle.cdi_stakes.proofs.PresentLemmas.{all_present, found_any, witness}
@@ -130,7 +130,7 @@ chains-are name class place (p ∷ ps) =
     both true b c = refl
     both false b c = refl
 
-asks : (class : List ℕ) (place : BeanPlace) (d : Decl) → Bool
+abbrev asks : List ℕ → BeanPlace → Decl → Bool
 asks class place d = option_map_or (λ b. bytes_eq class b.name && has_place b place) (as_bean (Some d)) false
 
 asks-is : (class : List ℕ) (place : BeanPlace) (d : Decl) → has_key (wanted_by d) (ChainKey class place) ≡ asks class place d

@@ -1,5 +1,5 @@
 -- The answers that are kept, as they are, and which of them go after edits.
-use Rattle.std.specs.Prelude.{◌≡◌, ℕ, Bool, List, [], None, if◌then◌else◌}
+use Rattle.std.specs.Prelude.{◌≡◌, ℕ, List, [], None, if◌then◌else◌}
 use Rattle.cdi_model.specs.declared.decl.Decl.{Decl}
 use Rattle.cdi_model.specs.declared.place.BeanPlace.{BeanPlace}
 use Rattle.cdi_model.specs.declared.quals.Qual.{Qual}

@@ -1,5 +1,5 @@
 -- When two places are one, and what is hashed of a place.
-use Rattle.std.specs.Prelude.{◌≡◌, ℕ, true, ◌++◌}
+use Rattle.std.specs.Prelude.{◌≡◌, true, ◌++◌}
 use Rattle.std.specs.Cmp.{IsEquivalence, decided}
 use Rattle.std.specs.Hash as fed
 use Rattle.std.proofs.Common.{ap}

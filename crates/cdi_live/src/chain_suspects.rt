@@ -173,10 +173,7 @@ fn add_suspects_of_interceptor(
 
 /// The classes of which chains may be other ones after a draft: those of affected beans, those that name affected binding
 /// types, and those that affected interceptors may intercept, before or after.
-pub(crate) fn chain_suspects(
-    alloc: Global,
-    sides: &Sides<'_>,
-) -> Result<IndexSet<Name>, AllocError>
+pub(crate) fn chain_suspects(alloc: Global, sides: &Sides<'_>) -> Result<IndexSet<Name>, AllocError>
     ensures { IfOk result (λ classes. (c : _) → contains bytes_eq classes c
         ≡ is_chain_suspect sides.now.index.now.decls sides.now.next.now sides.now.affected.now c) }
 {

@@ -65,12 +65,7 @@ fn names_around(
 
 /// The names of the interceptors around a place of the bean of a class, in order. It is refused with `UnknownName` where no
 /// such bean is declared, and with `NoMethod` where it has no such place.
-fn chain(
-    alloc: Global,
-    index: &Index,
-    class: Name,
-    place: &BeanPlace,
-) -> Result<Seq<Name>, Error>
+fn chain(alloc: Global, index: &Index, class: Name, place: &BeanPlace) -> Result<Seq<Name>, Error>
     ensures chain { Answers result (chain_of index.now.decls class place.now) }
     ensures there { OnOk result (is_place_of index.now.decls class place.now ≡ true) }
 {

@@ -31,7 +31,11 @@ fn push_dropped_event(
     ensures { OnOk result ((t : _) (us : _) → is_gone gone.new.items t us
         ≡ (is_gone gone.old.items t us || is_dropped_event (drops_before wants.now) event.now t us)) }
 {
-    if wants.events.get(&event.event_type, &event.qualifiers).is_none() {
+    if wants
+        .events
+        .get(&event.event_type, &event.qualifiers)
+        .is_none()
+    {
         return Ok(());
     }
     let asked = Asked {

@@ -260,6 +260,15 @@ fn add_readers(
     add_types(&readers, types)
 }
 
+/// Adds a name.
+fn add_name(name: &Name, types: &mut IndexSet<Name>) -> Result<(), AllocError>
+    ensures { OnOk result ((t : _) → contains bytes_eq types.new t
+        ≡ (contains bytes_eq types.old t || bytes_eq name.now t)) }
+{
+    types.insert(*name)?;
+    Ok(())
+}
+
 /// Adds the types of the kept events.
 fn add_kept(
     events: &Memo<Quals, Seq<ObserverId>>,
@@ -270,7 +279,7 @@ fn add_kept(
 {
     let mut index = 0;
     'names: while let Some(name) = events.name_at(index) {
-        types.insert(*name)?;
+        add_name(name, types)?;
         index += 1;
     }
     Ok(())

@@ -27,10 +27,7 @@ pub(crate) fn push_bound_words(uses: &[Qual], words: &mut Vec<Word>) -> Result<(
 }
 
 /// Appends the interceptor that a declaration is, if it is enabled.
-fn push_enabled<'a>(
-    decl: &'a Decl,
-    list: &mut Vec<&'a InterceptorDecl>,
-) -> Result<(), AllocError>
+fn push_enabled<'a>(decl: &'a Decl, list: &mut Vec<&'a InterceptorDecl>) -> Result<(), AllocError>
     ensures { OnOk result (lent_in list.new.items ≡ lent_in list.old.items ++ enabled_in decl.now) }
 {
     if let Decl::Interceptor(interceptor) = decl {

@@ -3,7 +3,6 @@ use Rattle.std.specs.Cmp.{int_cmp_total}
 use Rattle.std.specs.Prelude.{ℤ}
 use Rattle.std.proofs.lemmas.Fn.{always_returns_same}
 use Rattle.std.proofs.lemmas.List.Sorted.{ranks_by}
-use Rattle.cdi_intercept.specs.Sorting.{sorted_by}
 use Rattle.cdi_intercept.proofs.OrderLemmas.{sorted_from_sort, sorted_map}
 use Rattle.cdi_observe.specs.Observers.{is_before, priority_of}
 use Rattle.cdi_seen.specs.Lent.{lent_at, lent_in}

@@ -3,6 +3,7 @@ use Rattle.std.specs.List.{list_any}
 use Rattle.std.specs.Str.{bytes_eq}
 use Rattle.cdi_model.specs.DeclList.{AreDistinct}
 use Rattle.cdi_live.specs.EventDropped.{drops_before, is_dropped_at}
+use Rattle.cdi_live.specs.declared.event_dropped.EventWants.{EventWants}
 use Rattle.cdi_live.proofs.EventGoneLemmas.{gone-between}
 use Rattle.cdi_live.proofs.event_stage.gone_events_after.Goals as goal
 
@@ -10,7 +11,8 @@ pub returns : goal.returns
 returns c t us kept =
     let sides = c.args.sides.now in
     let ds = sides.index.now.decls in
-    let drops = drops_before c.push_dropped_events.wants.now in
+    let wants : EventWants = record { sides = c.args.sides; events = c.args.events } in
+    let drops = drops_before wants in
     c.in_ok-push_dropped_events.ensures t us
     ∙ ap (λ b. b || list_any (is_dropped_at ds drops t us) sides.edited.now) (c.in_ok-gone.ensures t us)
     ∙ gone-between sides c.requires.between (subst AreDistinct c.decls.ensures c.iter.ensures.distinct)

@@ -1,9 +1,9 @@
-use Rattle.std.proofs.Common.{◌||◌, sym, ap, ◌∙◌, arith}
+use Rattle.std.proofs.Common.{◌≡◌, Bool, true, false, ◌||◌, take, refl, sym, ap, ◌∙◌, arith}
 use Rattle.std.specs.Map.{keys_of}
 use Rattle.std.specs.Str.{bytes_eq}
 use Rattle.indexmap.specs.IndexSet.{contains}
 use Rattle.cdi_live.specs.Suspects.{holds}
-use Rattle.cdi_live.proofs.PartLemmas.{take-whole, within}
+use Rattle.cdi_live.proofs.PartLemmas.{any-next, take-whole, within}
 use Rattle.cdi_live.proofs.event_suspects.add_kept.Goals as goal
 
 pub overflow_add-index : goal.overflow_add-index
@@ -18,6 +18,20 @@ names-smaller c = omega (
   arith,
   within (keys_of c.args.events.now) c.names.index c.in-Some.name.now (sym c.in-Some.ensures.name),
 )
+
+grouped : (a b c : Bool) → ((a || b) || c) ≡ (a || (b || c))
+grouped true b c = refl
+grouped false b c = refl
+
+pub names-preserved : goal.names-preserved
+names-preserved c t =
+    let names = keys_of c.args.events.now in
+    let name = c.in-Some.name.now in
+    let old = contains bytes_eq c.args.types.now t in
+    c.in_ok-add_name.ensures t
+    ∙ ap (λ b. b || bytes_eq name t) (c.names.invariant t)
+    ∙ grouped old (holds (take c.names.index names) t) (bytes_eq name t)
+    ∙ ap (λ b. old || b) (sym (any-next (λ n. bytes_eq n t) names c.names.index name (sym c.in-Some.ensures.name)))
 
 pub returns : goal.returns
 returns c t =

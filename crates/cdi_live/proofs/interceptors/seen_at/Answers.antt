@@ -1,4 +1,4 @@
-use Rattle.std.proofs.Common.{◌≡◌, filter, flat_map, ap, ◌∙◌}
+use Rattle.std.proofs.Common.{◌≡◌, filter, ap, ◌∙◌}
 use Rattle.std.proofs.lemmas.Result.{IfOk-weaker}
 use Rattle.cdi_intercept.specs.Chains.{in_order, is_before}
 use Rattle.cdi_intercept.specs.Lent.{lent_in}

@@ -5,6 +5,7 @@ use Rattle.cdi_observe.specs.Keys.{choice_key, ChoiceKey}
 use Rattle.cdi_observe.proofs.KeptLemmas.{after_known}
 use Rattle.cdi_resolve.specs.Choices.{chosen}
 use Rattle.cdi_live.specs.State.{kept_in, knows_in, State}
+use Rattle.cdi_live.specs.declared.memos.Memos.{Memos}
 use Rattle.cdi_live.proofs.LiveLemmas.{chosen-by-required, kept-after, kept-with-choice, keeping, known-with-choice}
 use Rattle.cdi_live.proofs.live.Live.choose.Goals as goal
 
@@ -33,7 +34,7 @@ returns-clause-kept c =
     let memos = c.self.inside.memos in
     let t = c.args.bean_type in
     let us = c.args.quals.now in
-    let new = record { choices = c.evaluate.new.choices; chains = memos.chains; events = memos.events } in
+    let new : Memos = record { choices = c.evaluate.new.choices; chains = memos.chains; events = memos.events } in
     subst (λ (s : State). keeping (knows_in new) c.evaluate.new.work ≡ after_key s.decls (choice_key t us) (kept_in s)) c.self.view_is
     (kept-after ds (knows_in memos) (knows_in new) c.self.inside.work c.evaluate.new.work (choice_key t us)
     (known-with-choice ds memos c.evaluate.new.choices t c.required_of.result.now c.in_ok-choice.choice c.in_ok-choice.ensures.kept

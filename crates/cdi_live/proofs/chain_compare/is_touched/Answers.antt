@@ -1,0 +1,40 @@
+use Rattle.std.proofs.Common.{◌≡◌, false, List, ◌++◌, slice_get, sym, ap, subst, ◌∙◌}
+use Rattle.std.specs.Option.{option_map_or}
+use Rattle.cdi_model.specs.declared.quals.Qual.{Qual}
+use Rattle.cdi_model.specs.DeclList.{AreDistinct}
+use Rattle.cdi_postings.specs.declared.word.Word.{Word}
+use Rattle.cdi_index.specs.Under.{has_one}
+use Rattle.cdi_live.specs.ChainGone.{words_bound}
+use Rattle.cdi_live.proofs.InterceptorLemmas.{cover-first, cover-second, unmarked-seen, without-words, Cover}
+use Rattle.cdi_live.proofs.chain_compare.is_touched.Goals as goal
+
+pub seen_at-requires : goal.seen_at-requires
+seen_at-requires c p d at unmarked =
+    let ds = c.args.sides.now.index.now.decls in
+    let olds : List Qual = c.as_slice-4.result.now in
+    let news : List Qual = c.as_slice-2.result.now in
+    let words : List Word = c.as_slice-3.result.now in
+    let are : words ≡ words_bound olds ++ words_bound news =
+    c.as_slice-3.ensures.value ∙ c.in_ok-push_bound_words-2.ensures
+    ∙ ap (λ ws. ws ++ words_bound news) (c.in_ok-push_bound_words.ensures
+    ∙ ap (λ ws. ws ++ words_bound c.as_slice.result.now) c.new-words.ensures.items
+    ∙ ap words_bound (c.as_slice.ensures ∙ sym c.as_slice-4.ensures)) in
+    without-words ds words olds c.args.place.now d (subst (λ ws. Cover ws olds) (sym are) (cover-first olds news))
+    (sym (ap (λ o. option_map_or (has_one ds words) o false) (ap (λ l. slice_get l p) (sym c.decls-5.ensures) ∙ at))
+    ∙ sym (c.positions_under-before.ensures p) ∙ unmarked)
+
+pub seen_at-requires-2 : goal.seen_at-requires-2
+seen_at-requires-2 c p d at unmarked =
+    let sides = c.args.sides.now in
+    let olds : List Qual = c.as_slice.result.now in
+    let news : List Qual = c.as_slice-5.result.now in
+    let words : List Word = c.as_slice-3.result.now in
+    let are : words ≡ words_bound olds ++ words_bound news =
+    c.as_slice-3.ensures.value ∙ c.in_ok-push_bound_words-2.ensures
+    ∙ ap (λ ws. ws ++ words_bound c.as_slice-2.result.now) (c.in_ok-push_bound_words.ensures
+    ∙ ap (λ ws. ws ++ words_bound olds) c.new-words.ensures.items)
+    ∙ ap (λ us. words_bound olds ++ words_bound us) (c.as_slice-2.ensures ∙ sym c.as_slice-5.ensures) in
+    unmarked-seen sides c.requires (subst AreDistinct c.decls.ensures c.iter.ensures.distinct)
+    (subst AreDistinct c.decls-2.ensures c.iter-2.ensures.distinct) words c.positions_under-before.result c.positions_under-before.ensures
+    news c.args.place.now (subst (λ ws. Cover ws news) (sym are) (cover-second olds news)) p d
+    (ap (λ l. slice_get l p) (sym c.decls-6.ensures) ∙ at) (sym (c.positions_after-after.ensures p) ∙ unmarked)
