@@ -24,5 +24,6 @@ mod prepare;
 mod sides;
 mod stage;
 mod suspects;
+mod view;
 
 pub use live::Live;

@@ -1,0 +1,48 @@
+//! Declarations whose answers are kept, as a view.
+ghost use Rattle.std.specs.Prelude.{option_map};
+ghost use Rattle.cdi_live.specs.State.{kept_in};
+
+use crate::live::Live;
+use cdi_effective::Effective;
+use cdi_model::{BeanPlace, Decls, Error, Name, Quals, Seq};
+use cdi_observe::{ObserverId, View};
+use cdi_resolve::Choice;
+use std::alloc::{AllocError, Global};
+
+impl View for Live {
+    ghost list = { λ l. l.decls };
+
+    ghost kept = { λ l. kept_in l };
+
+    ghost staged = { λ l. option_map (λ s. s.decls) l.staged };
+
+    fn decls(&self) -> &Decls {
+        Live::decls(self)
+    }
+
+    fn records(&self, class: &Name) -> &[Effective] {
+        Live::records(self, class)
+    }
+
+    fn choose(
+        &mut self,
+        alloc: Global,
+        bean_type: Name,
+        quals: &Quals,
+    ) -> Result<Choice, AllocError> {
+        Live::choose(self, alloc, bean_type, quals)
+    }
+
+    fn chain(&mut self, alloc: Global, class: Name, place: &BeanPlace) -> Result<Seq<Name>, Error> {
+        Live::chain(self, alloc, class, place)
+    }
+
+    fn observers(
+        &mut self,
+        alloc: Global,
+        event_type: Name,
+        quals: &Quals,
+    ) -> Result<Seq<ObserverId>, AllocError> {
+        Live::observers(self, alloc, event_type, quals)
+    }
+}
