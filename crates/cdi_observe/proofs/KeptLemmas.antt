@@ -1,27 +1,33 @@
 -- What evaluations of keys leave.
-use Rattle.std.proofs.Common.{suc, ◌≡◌, ◌<◌, ◌+◌, Bool, true, false, cond, not, ◌&&◌, ◌||◌, ℕ, List, []}
+use Rattle.std.proofs.Common.{suc, ◌≡◌, ◌≢◌, ◌<◌, ◌+◌, Bool, true, false, cond, not, ◌&&◌, ◌||◌, ℕ, List, []}
 use Rattle.std.proofs.Common.{◌∷◌, ◌++◌, length, take, get_or, refl, sym, ap, ◌∙◌, Result, Ok}
 use Rattle.std.proofs.Common.{Err}
-use Rattle.std.specs.Result.{OnErr}
+use Rattle.std.specs.Result.{OnErr, OnOk}
 use Rattle.std.specs.Fn.{iterate}
-use Rattle.std.specs.List.{AllByRecursion, IsDistinct, filter, list_all}
+use Rattle.std.specs.List.{All, AllByRecursion, AllPairs, IsDistinct, filter, list_all}
 use Rattle.std.proofs.Math.Bool.{or_assoc, or-false}
 use Rattle.std.proofs.lemmas.Bool.{and_parts, or_left, or_right, false≢true}
 use Rattle.std.proofs.lemmas.List.{take_more}
-use Rattle.std.proofs.lemmas.List.Elements.{All-take}
+use Rattle.std.proofs.lemmas.List.Elements.{All-from_recursion, All-take, recursion_from_All}
 use Rattle.std.proofs.lemmas.List.Sums.{AllPass-from_list_all, fold-append, list_all-from_AllPass}
+use Rattle.std.proofs.lemmas.Map.Made.{IsDistinct-from_AllPairs}
 use Rattle.cdi_model.specs.declared.decl.Decl.{Decl}
 use Rattle.cdi_model.specs.Work.{with_one}
 use Rattle.cdi_observe.specs.Keys.{Key, same_key, has_key}
-use Rattle.cdi_observe.specs.Wanted.{wanted_choices, is_wanted}
-use Rattle.cdi_observe.specs.Kept.{Kept, with_known, work_with, after_key, evaluated, unknown, KnowsWanted}
+use Rattle.cdi_observe.specs.Wanted.{wanted, is_wanted}
+use Rattle.cdi_observe.specs.Kept.{Kept, with_known, work_with, with_all, after_key, evaluated, unknown, EvaluatesSome, KnowsWanted}
 use Rattle.cdi_observe.proofs.KeyLemmas.{same_key-decides, same_key-equiv}
-use Rattle.cdi_observe.proofs.WantedLemmas.{choice-is_wanted, has-wanted_choice, wanted_choices-distinct}
+use Rattle.cdi_observe.proofs.WantedLemmas.{has-wanted, wanted-distinct, wanted_stand_once}
 
 -- what holds at all holds where there is an error
 pub where_err : {T E P : Type 0} (r : Result T E) → P → OnErr r P
 where_err (Ok x) p = tt
 where_err (Err y) p = p
+
+-- or none
+pub where_ok : {T E P : Type 0} (r : Result T E) → P → OnOk r P
+where_ok (Ok x) p = p
+where_ok (Err y) p = tt
 
 -- ---- keys one after another
 
@@ -84,7 +90,7 @@ evaluated-plain ds (key ∷ keys) kept plain = ap (evaluated ds keys) (after_key
 
 -- ---- keys that are known
 
-evaluated-known : (ds : List Decl) (keys : List Key) (kept : Kept) → list_all kept.knows keys ≡ true → evaluated ds keys kept ≡ kept
+pub evaluated-known : (ds : List Decl) (keys : List Key) (kept : Kept) → list_all kept.knows keys ≡ true → evaluated ds keys kept ≡ kept
 evaluated-known ds [] kept all = refl
 evaluated-known ds (key ∷ keys) kept all =
     let parts = and_parts (kept.knows key) (list_all kept.knows keys) all in
@@ -99,15 +105,7 @@ known-next ds keys i key kept before lt at is all =
     (list_all-from_AllPass kept.knows (take i keys) (All-take (λ k. kept.knows k ≡ true) i keys each)))
     ∙ ap kept.knows at ∙ each i key lt
 
--- ---- the wanted choices
-
--- a view that keeps answers, with some more keys that it knows, each of which was counted once
-abbrev with_all : List Key → Kept → Kept
-with_all keys kept = record {
-  keeps = true;
-  knows = λ key. kept.knows key || has_key keys key;
-  work = iterate with_one (unknown kept.knows keys) kept.work;
-}
+-- ---- wanted keys of which no two are one
 
 -- one more key, which is wanted
 abbrev with_one_key : Key → Kept → Kept
@@ -166,19 +164,36 @@ evaluated-distinct ds (k ∷ keys) kept keeps all apart =
           ∙ counts-one k (filter (λ key. not (kept.knows key)) keys) (kept.knows k) kept.work) j;
     })
 
-each-among : (P : Key → Type 0) (keys : List Key) → ((key : Key) → has_key keys key ≡ true → P key) → AllByRecursion P keys
+pub each-among : (P : Key → Type 0) (keys : List Key) → ((key : Key) → has_key keys key ≡ true → P key) → AllByRecursion P keys
 each-among P [] each = tt
 each-among P (k ∷ keys) each = (
   each k (or_left (same_key k k) (has_key keys k) (same_key-equiv.refl k)),
   each-among P keys (λ key h. each key (or_right (same_key key k) (has_key keys key) h)),
 )
 
+each-wanted : (ds : List Decl) → AllByRecursion (λ key. is_wanted ds key ≡ true) (wanted ds)
+each-wanted ds = each-among (λ key. is_wanted ds key ≡ true) (wanted ds) (λ key h. sym (has-wanted ds key) ∙ h)
+
+pub evaluated-apart : (ds : List Decl) (keys : List Key) (kept : Kept) → kept.keeps ≡ true
+    → All (λ key. is_wanted ds key ≡ true) keys → AllPairs (λ k l. k ≢ l) keys → evaluated ds keys kept ≡ with_all keys kept
+evaluated-apart ds keys kept keeps wants apart =
+    evaluated-distinct ds keys kept keeps (recursion_from_All (λ key. is_wanted ds key ≡ true) keys wants)
+    (IsDistinct-from_AllPairs same_key-decides keys apart)
+
 pub knows_wanted : KnowsWanted
 knows_wanted ds kept keeps =
-    evaluated-distinct ds (wanted_choices ds) kept keeps (each-among (λ key. is_wanted ds key ≡ true) (wanted_choices ds)
-    (λ key h. choice-is_wanted ds key (sym (has-wanted_choice ds key) ∙ h))) (wanted_choices-distinct ds)
+    evaluated-distinct ds (wanted ds) kept keeps (each-wanted ds) (wanted-distinct ds)
     ∙ (λ j. record {
       keeps = true;
-      knows = λ key. kept.knows key || has-wanted_choice ds key j;
-      work = iterate with_one (unknown kept.knows (wanted_choices ds)) kept.work;
+      knows = λ key. kept.knows key || has-wanted ds key j;
+      work = iterate with_one (unknown kept.knows (wanted ds)) kept.work;
     })
+
+-- all wanted keys are some of which no two are one
+pub evaluates_all : (ds : List Decl) (old : Kept) → EvaluatesSome ds old (evaluated ds (wanted ds) old)
+evaluates_all ds old = record {
+  keys = wanted ds;
+  wanted = All-from_recursion (λ key. is_wanted ds key ≡ true) (wanted ds) (each-wanted ds);
+  apart = (wanted_stand_once ds).apart;
+  are = refl;
+}

@@ -1,10 +1,11 @@
 -- What a view keeps of its answers, and what evaluations of keys do to it.
-use Rattle.std.specs.Prelude.{◌≡◌, ℕ, Bool, true, not, ◌&&◌, ◌||◌, List, length, filter, fold, if◌then◌else◌}
+use Rattle.std.specs.Prelude.{◌≡◌, ◌≢◌, ℕ, Bool, true, not, ◌&&◌, ◌||◌, All, AllPairs, List, length, filter, fold}
+use Rattle.std.specs.Prelude.{if◌then◌else◌}
 use Rattle.std.specs.Fn.{iterate}
 use Rattle.cdi_model.specs.declared.decl.Decl.{Decl}
 use Rattle.cdi_model.specs.Work.{with_one}
-use Rattle.cdi_observe.specs.Keys.{Key, same_key}
-use Rattle.cdi_observe.specs.Wanted.{wanted_choices, is_wanted, is_wanted_choice}
+use Rattle.cdi_observe.specs.Keys.{Key, has_key, same_key}
+use Rattle.cdi_observe.specs.Wanted.{wanted, is_wanted}
 
 -- whether a view keeps answers, which keys have theirs kept, and how many answers it computed: one that keeps none has no
 -- known key and tells no work
@@ -32,17 +33,33 @@ after_key ds key kept =
 abbrev pub evaluated : List Decl → List Key → Kept → Kept
 evaluated ds keys kept = fold (λ before key. after_key ds key before) kept keys
 
--- ---- the wanted choices evaluated
+-- ---- wanted keys evaluated
+
+-- Some wanted keys were evaluated, or none, of which no two are one.
+pub record EvaluatesSome (ds : List Decl) (old new : Kept) : Type 0 where
+  pub keys : List Key
+  pub wanted : All (λ key. is_wanted ds key ≡ true) keys
+  pub apart : AllPairs (λ k l. k ≢ l) keys
+  pub are : new ≡ evaluated ds keys old
 
 -- how many of some keys are not known
 abbrev pub unknown : (Key → Bool) → List Key → ℕ
 unknown knows keys = length (filter (λ key. not (knows key)) keys)
 
--- A view that keeps answers knows each wanted choice after all were evaluated, and has counted each that it did not know once.
+-- what a view that keeps answers keeps after the evaluation of wanted keys of which no two are one: it knows them, and has counted
+-- each that it did not know once
+abbrev pub with_all : List Key → Kept → Kept
+with_all keys kept = record {
+  keeps = true;
+  knows = λ key. kept.knows key || has_key keys key;
+  work = iterate with_one (unknown kept.knows keys) kept.work;
+}
+
+-- A view that keeps answers knows each wanted key after all were evaluated, and has counted each that it did not know once.
 abbrev pub KnowsWanted : Type 0
 KnowsWanted = (ds : List Decl) (kept : Kept) → kept.keeps ≡ true
-    → evaluated ds (wanted_choices ds) kept ≡ record {
+    → evaluated ds (wanted ds) kept ≡ record {
       keeps = true;
-      knows = λ key. kept.knows key || is_wanted_choice ds key;
-      work = iterate with_one (unknown kept.knows (wanted_choices ds)) kept.work;
+      knows = λ key. kept.knows key || is_wanted ds key;
+      work = iterate with_one (unknown kept.knows (wanted ds)) kept.work;
     }

@@ -1,5 +1,5 @@
 //! Views over present declarations.
-ghost use Rattle.std.specs.Prelude.{◌≡◌, List, true, false, Option, None, IfOk, OnOk, OnErr};
+ghost use Rattle.std.specs.Prelude.{◌≡◌, ℕ, List, true, false, Option, None, IfOk, OnOk, OnErr};
 ghost use Rattle.cdi_model.specs.declared.decl.Decl.{Decl};
 ghost use Rattle.cdi_effective.specs.Beans.{beans as beans_of};
 ghost use Rattle.cdi_effective.specs.Records.{records_in};
@@ -29,6 +29,9 @@ pub trait View {
     /// The declarations after an edit that is staged, if one is.
     ghost staged: { Self → Option (List Decl) };
 
+    /// What it counts beside answers, which no question changes.
+    ghost counts: { Self → ℕ × ℕ };
+
     /// The declarations.
     fn decls(&self) -> &Decls
         ensures { result.now ≡ list self.now };
@@ -49,6 +52,7 @@ pub trait View {
     ) -> Result<Choice, AllocError>
         ensures choice { IfOk result (λ choice. choice ≡ chosen (list self.old) (beans_of (list self.old)) bean_type quals.now) }
         ensures list { list self.new ≡ list self.old }
+        ensures counts { counts self.new ≡ counts self.old }
         ensures ok { OnOk result (kept self.new ≡ after_key (list self.old) (choice_key bean_type quals.now) (kept self.old)) }
         ensures err { OnErr result (kept self.new ≡ kept self.old) }
         ensures staged { (kept self.old).knows (choice_key bean_type quals.now) ≡ true → staged self.new ≡ staged self.old };
@@ -60,6 +64,7 @@ pub trait View {
     fn chain(&mut self, alloc: Global, class: Name, place: &BeanPlace) -> Result<Seq<Name>, Error>
         ensures chain { Answers result (chain_of (list self.old) class place.now) }
         ensures list { list self.new ≡ list self.old }
+        ensures counts { counts self.new ≡ counts self.old }
         ensures ok { OnOk result (kept self.new ≡ after_key (list self.old) (ChainKey class place.now) (kept self.old)) }
         ensures err { OnErr result (kept self.new ≡ kept self.old) }
         ensures staged { (kept self.old).knows (ChainKey class place.now) ≡ true → staged self.new ≡ staged self.old };
@@ -75,6 +80,7 @@ pub trait View {
     ) -> Result<Seq<ObserverId>, AllocError>
         ensures observers { IfOk result (λ ids. ids ≡ notified (list self.old) (beans_of (list self.old)) event_type quals.now) }
         ensures list { list self.new ≡ list self.old }
+        ensures counts { counts self.new ≡ counts self.old }
         ensures ok { OnOk result (kept self.new ≡ after_key (list self.old) (EventKey event_type quals.now) (kept self.old)) }
         ensures err { OnErr result (kept self.new ≡ kept self.old) }
         ensures staged { (kept self.old).knows (EventKey event_type quals.now) ≡ true → staged self.new ≡ staged self.old };
@@ -115,6 +121,8 @@ impl<'a> View for PlainView<'a> {
     ghost kept = { λ v. record { keeps = false; knows = λ key. false; work = 0 } };
 
     ghost staged = { λ v. None };
+
+    ghost counts = { λ v. (0, 0) };
 
     fn decls(&self) -> &Decls {
         self.decls

@@ -1,12 +1,12 @@
 //! The faults of a deployment.
-ghost use Rattle.std.specs.Prelude.{◌≡◌, ◌≢◌, AllPairs, ◌++◌, ℕ, true, map, take, IfOk, OnOk, OnErr};
+ghost use Rattle.std.specs.Prelude.{◌≡◌, ◌≢◌, AllPairs, ◌++◌, true, map, IfOk, OnOk, OnErr};
 ghost use Rattle.std.specs.List.{flat_map, list_all};
 ghost use Rattle.cdi_model.specs.Decl.{kind_of, name_of_decl};
 ghost use Rattle.cdi_model.specs.DeclList.{AreDistinct};
 ghost use Rattle.cdi_effective.specs.Beans.{beans, entries};
 ghost use Rattle.cdi_observe.specs.Answers.{answer_to, answers as all_answers};
-ghost use Rattle.cdi_observe.specs.Kept.{evaluated};
-ghost use Rattle.cdi_observe.specs.Wanted.{points_of, wanted_choices};
+ghost use Rattle.cdi_observe.specs.Kept.{evaluated, EvaluatesSome};
+ghost use Rattle.cdi_observe.specs.Wanted.{points_of, wanted};
 ghost use Rattle.cdi_faults.specs.FaultText.{SubjectsInOrder};
 ghost use Rattle.cdi_validate.specs.Circles.{NeedsItselfOnCircle};
 ghost use Rattle.cdi_validate.specs.Faults.{circles, faults, faults_of, name_clashes, name_prefixes};
@@ -33,9 +33,9 @@ use std::rc::Rc;
 /// their subjects, and then the faults of names, those of circles, and those of two beans that specialize one. Each fault
 /// occurs once.
 ///
-/// Each injection point is asked for once for each type and qualifiers. It takes memory for the faults, for the answers
-/// and where the view does. Where none is left, some of the keys from the front on were asked. An edit that is staged
-/// stays where each of the keys is known.
+/// All that the declarations ask for is asked, each injection point once for each type and qualifiers. It takes memory for
+/// the faults, for the answers and where the view does. Where none is left, some of the keys were asked. An edit that is
+/// staged stays where each of the keys is known.
 #[tactic(auto, using(crate::proofs::LineLemmas::clashes_rise, crate::proofs::LineLemmas::circles_rise, crate::proofs::TwiceLemmas::twice_rise))]
 pub fn faults<V: View, B: Bodies>(
     alloc: Global,
@@ -44,10 +44,10 @@ pub fn faults<V: View, B: Bodies>(
 ) -> Result<Vec<Fault>, AllocError>
     ensures faults { IfOk result (λ list. list.items ≡ faults (V.list view.old) (B.promises book.now)) }
     ensures list { V.list view.new ≡ V.list view.old }
-    ensures ok { OnOk result (V.kept view.new ≡ evaluated (V.list view.old) (wanted_choices (V.list view.old)) (V.kept view.old)) }
-    ensures err { OnErr result ((i : ℕ) × (V.kept view.new
-        ≡ evaluated (V.list view.old) (take i (wanted_choices (V.list view.old))) (V.kept view.old))) }
-    ensures staged { list_all (V.kept view.old).knows (wanted_choices (V.list view.old)) ≡ true → V.staged view.new ≡ V.staged view.old }
+    ensures counts { V.counts view.new ≡ V.counts view.old }
+    ensures ok { OnOk result (V.kept view.new ≡ evaluated (V.list view.old) (wanted (V.list view.old)) (V.kept view.old)) }
+    ensures err { OnErr result (EvaluatesSome (V.list view.old) (V.kept view.old) (V.kept view.new)) }
+    ensures staged { list_all (V.kept view.old).knows (wanted (V.list view.old)) ≡ true → V.staged view.new ≡ V.staged view.old }
     ensures order { SubjectsInOrder }
     ensures once { IfOk result (λ list. AllPairs (λ f g. f ≢ g) list.items) }
     ensures clashes { LinesRise (name_clashes (beans (V.list view.old))) }

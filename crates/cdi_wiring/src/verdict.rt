@@ -1,6 +1,8 @@
 //! What a deployment is found to be.
-ghost use Rattle.std.specs.Prelude.{◌≡◌, IfOk};
+ghost use Rattle.std.specs.Prelude.{◌≡◌, IfOk, OnErr, OnOk};
 ghost use Rattle.cdi_model.specs.Short.{AreShort};
+ghost use Rattle.cdi_observe.specs.Kept.{evaluated, EvaluatesSome};
+ghost use Rattle.cdi_observe.specs.Wanted.{wanted};
 ghost use Rattle.cdi_wiring.specs.Laws.{FaultlessIsSound};
 ghost use Rattle.cdi_wiring.specs.Wired.{IsWiringOf, count_of};
 
@@ -30,8 +32,8 @@ pub enum Wiring {
 }
 
 impl Wiring {
-    /// What the declarations of a view are, where the bodies of this book are stored. It takes memory and time as a report
-    /// does, and for the scene and its bean list. The last clause says that a deployment without faults has a sound scene.
+    /// What the declarations of a view are, where the bodies of this book are stored. All that they ask for is asked, as for
+    /// a report. It takes memory and time as one does, and for the scene and its bean list. The last clause says that a deployment without faults has a sound scene.
     #[tactic(auto, using(crate::proofs::FaultLemmas::faultless_is_sound))]
     pub fn of<V: View, B: Bodies>(
         alloc: Global,
@@ -41,6 +43,9 @@ impl Wiring {
         requires { AreShort (V.list view.old) }
         ensures wiring { IfOk result (λ wiring. IsWiringOf (V.list view.old) (B.promises book.now) wiring) }
         ensures list { V.list view.new ≡ V.list view.old }
+        ensures counts { V.counts view.new ≡ V.counts view.old }
+        ensures ok { OnOk result (V.kept view.new ≡ evaluated (V.list view.old) (wanted (V.list view.old)) (V.kept view.old)) }
+        ensures err { OnErr result (EvaluatesSome (V.list view.old) (V.kept view.old) (V.kept view.new)) }
         ensures sound { FaultlessIsSound }
     {
         let answers = evaluate(alloc, view)?;

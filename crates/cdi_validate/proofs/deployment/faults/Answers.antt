@@ -1,28 +1,16 @@
-use Rattle.std.proofs.Common.{◌≡◌, ℕ, List, Result, Ok, Err, length, map, take, subst, sym, ap, ◌∙◌, arith}
-use Rattle.std.specs.Result.{OnErr, OnOk}
-use Rattle.std.proofs.lemmas.List.{take_all}
+use Rattle.std.proofs.Common.{map, subst, sym, ap, ◌∙◌}
+use Rattle.std.specs.Result.{OnOk}
 use Rattle.std.proofs.lemmas.Result.{IfOk-weaker}
-use Rattle.cdi_model.specs.declared.decl.Decl.{Decl}
 use Rattle.cdi_effective.specs.Beans.{beans}
 use Rattle.cdi_observe.specs.Answers.{answers}
-use Rattle.cdi_observe.specs.Kept.{Kept, evaluated}
-use Rattle.cdi_observe.specs.Wanted.{wanted_choices}
+use Rattle.cdi_observe.specs.Kept.{EvaluatesSome}
+use Rattle.cdi_observe.proofs.KeptLemmas.{evaluates_all, where_err, where_ok}
 use Rattle.cdi_faults.proofs.OrderLemmas.{subjects_in_order}
 use Rattle.cdi_validate.specs.Faults.{faults, name_prefixes, LinesRise}
 use Rattle.cdi_validate.proofs.BehindLemmas.{prefixes_go_on}
 use Rattle.cdi_validate.proofs.CircleLemmas.{needs_itself_on_circle}
 use Rattle.cdi_validate.proofs.TwiceLemmas.{sharers_are_told}
 use Rattle.cdi_validate.proofs.deployment.faults.Goals as goal
-
--- where all keys were asked, those from the front on were, up to the last
-all_asked : {T E : Type 0} (r : Result T E) (ds : List Decl) (before after : Kept) → after ≡ evaluated ds (wanted_choices ds) before
-    → OnErr r ((i : ℕ) × (after ≡ evaluated ds (take i (wanted_choices ds)) before))
-all_asked (Ok x) ds before after all = tt
-all_asked (Err e) ds before after all = (
-  length (wanted_choices ds),
-  all
-      ∙ ap (λ keys. evaluated ds keys before) (sym (take_all (length (wanted_choices ds)) (wanted_choices ds) (omega arith))),
-)
 
 pub faults_by-requires : goal.faults_by-requires
 faults_by-requires g c =
@@ -35,9 +23,14 @@ returns-clause-faults g c =
     (λ list are. are ∙ ap (λ ds. faults ds (g.B.Bodies.promises c.args.book.now)) c.in_ok-answers.ensures.list)
     c.faults_by.ensures.faults
 
+pub returns-clause-ok : goal.returns-clause-ok
+returns-clause-ok g c = where_ok c.faults_by.result c.in_ok-answers.ensures.ok
+
 pub returns-clause-err : goal.returns-clause-err
-returns-clause-err g c = all_asked c.faults_by.result (g.V.View.list c.args.view.now) (g.V.View.kept c.args.view.now)
-    (g.V.View.kept c.evaluate.new.view) c.in_ok-answers.ensures.ok
+returns-clause-err g c =
+    let ds = g.V.View.list c.args.view.now in
+    let old = g.V.View.kept c.args.view.now in
+    where_err c.faults_by.result (subst (EvaluatesSome ds old) (sym c.in_ok-answers.ensures.ok) (evaluates_all ds old))
 
 pub returns-clause-prefixes : goal.returns-clause-prefixes
 returns-clause-prefixes g c =

@@ -2,6 +2,8 @@ use Rattle.std.proofs.Common.{◌≡◌, [], length, ap, sym, subst, ◌∙◌}
 use Rattle.std.proofs.lemmas.List.{nil_from_length}
 use Rattle.cdi_effective.specs.Beans.{beans}
 use Rattle.cdi_model.specs.DeclList.{AreDistinct}
+use Rattle.cdi_observe.specs.Kept.{EvaluatesSome}
+use Rattle.cdi_observe.proofs.KeptLemmas.{evaluates_all, where_err}
 use Rattle.cdi_staging.specs.Naming.{names_of}
 use Rattle.cdi_staging.specs.Staged.{scene_of}
 use Rattle.cdi_validate.specs.Faults.{faults}
@@ -25,3 +27,27 @@ returns-clause-wiring g c =
       listed = c.in_ok-beans.ensures ∙ ap beans listed;
       names = c.in_ok-names_of.ensures ∙ ap names_of listed;
     }
+
+pub returns-in_err-found-clause-err : goal.returns-in_err-found-clause-err
+returns-in_err-found-clause-err g c =
+    let ds = g.V.View.list c.args.view.now in
+    let old = g.V.View.kept c.args.view.now in
+    where_err c.from_residual-in_err-found.result (subst (EvaluatesSome ds old) (sym c.in_ok-answers.ensures.ok) (evaluates_all ds old))
+
+pub returns-in_err-beans-clause-err : goal.returns-in_err-beans-clause-err
+returns-in_err-beans-clause-err g c =
+    let ds = g.V.View.list c.args.view.now in
+    let old = g.V.View.kept c.args.view.now in
+    where_err c.from_residual-in_err-beans.result (subst (EvaluatesSome ds old) (sym c.in_ok-answers.ensures.ok) (evaluates_all ds old))
+
+pub returns-in_err-scene_of-clause-err : goal.returns-in_err-scene_of-clause-err
+returns-in_err-scene_of-clause-err g c =
+    let ds = g.V.View.list c.args.view.now in
+    let old = g.V.View.kept c.args.view.now in
+    where_err c.from_residual-in_err-scene_of.result (subst (EvaluatesSome ds old) (sym c.in_ok-answers.ensures.ok) (evaluates_all ds old))
+
+pub returns-in_err-names_of-clause-err : goal.returns-in_err-names_of-clause-err
+returns-in_err-names_of-clause-err g c =
+    let ds = g.V.View.list c.args.view.now in
+    let old = g.V.View.kept c.args.view.now in
+    where_err c.from_residual-in_err-names_of.result (subst (EvaluatesSome ds old) (sym c.in_ok-answers.ensures.ok) (evaluates_all ds old))

@@ -1,0 +1,159 @@
+-- Evaluations of keys in other orders, and of keys that stand twice.
+use Rattle.std.proofs.Common.{◌≡◌, Bool, true, false, cond, ◌&&◌, ◌||◌, ℕ, zero, suc, List, [], ◌∷◌, take, refl, sym, ap, ◌∙◌, inl, inr}
+use Rattle.std.specs.List.{AllByRecursion, list_all}
+use Rattle.std.proofs.lemmas.Bool.{and_from, and_parts, or_cases, or_left, or_right, false≢true}
+use Rattle.std.proofs.lemmas.List.Elements.{All-from_recursion}
+use Rattle.cdi_model.specs.declared.decl.Decl.{Decl}
+use Rattle.cdi_model.specs.Work.{with_one}
+use Rattle.cdi_observe.specs.Keys.{Key, same_key, has_key}
+use Rattle.cdi_observe.specs.Wanted.{each_once, is_wanted}
+use Rattle.cdi_observe.specs.Kept.{Kept, with_known, work_with, after_key, evaluated, EvaluatesSome}
+use Rattle.cdi_observe.proofs.KeyLemmas.{same_key-decides, same_key-equiv}
+use Rattle.cdi_observe.proofs.KeptLemmas.{after_known, each-among}
+use Rattle.cdi_observe.proofs.WantedLemmas.{each_once-apart, has-each_once}
+
+-- ---- two keys
+
+or-swap : (a b c : Bool) → ((a || b) || c) ≡ ((a || c) || b)
+or-swap true b c = refl
+or-swap false true true = refl
+or-swap false true false = refl
+or-swap false false true = refl
+or-swap false false false = refl
+
+counts-swap : (a b : Bool) (w : ℕ) → cond a (cond b w (with_one w)) (with_one (cond b w (with_one w)))
+    ≡ cond b (cond a w (with_one w)) (with_one (cond a w (with_one w)))
+counts-swap true true w = refl
+counts-swap true false w = refl
+counts-swap false true w = refl
+counts-swap false false w = refl
+
+-- a key that is another is known after that only where it was
+apart-known : (a b c : Bool) → c ≡ false → (a || (b && c)) ≡ a
+apart-known true b c e = refl
+apart-known false true c e = e
+apart-known false false c e = refl
+
+module _ (ds : List Decl) (knows : Key → Bool) (work : ℕ) where
+  -- the work of the second, after the first
+  abbrev second : Key → Key → ℕ
+  second k l = work_with (with_known ds knows l) k (work_with knows l work)
+
+  second-swap : (k l : Key) → second k l ≡ second l k
+  second-swap k l = by (same_key l k) refl
+    where
+      by : (b : Bool) → same_key l k ≡ b → second k l ≡ second l k
+      by true e =
+          let one : l ≡ k = (same_key-decides l k).0 e in
+          ap (second k) one ∙ ap (λ m. second m k) (sym one)
+      by false e =
+          ap (λ b. cond b (work_with knows l work) (with_one (work_with knows l work))) (apart-known (knows k) (is_wanted ds l) (same_key l k) e)
+          ∙ counts-swap (knows k) (knows l) work
+          ∙ ap (λ b. cond b (work_with knows k work) (with_one (work_with knows k work)))
+          (sym (apart-known (knows l) (is_wanted ds k) (same_key k l) (same_key-equiv.symm k l ∙ e)))
+
+  abbrev before : Bool → Kept
+  before keeps = record { keeps = keeps; knows = knows; work = work }
+
+  swap-at : (k l : Key) (keeps : Bool) → after_key ds k (after_key ds l (before keeps)) ≡ after_key ds l (after_key ds k (before keeps))
+  unfolding after_key
+  swap-at k l false = refl
+  swap-at k l true = λ j. record {
+    keeps = true;
+    knows = λ x. or-swap (knows x) (is_wanted ds l && same_key l x) (is_wanted ds k && same_key k x) j;
+    work = second-swap k l j;
+  }
+
+  twice-at : (k : Key) (keeps : Bool) → is_wanted ds k ≡ true
+      → after_key ds k (after_key ds k (before keeps)) ≡ after_key ds k (before keeps)
+  unfolding after_key
+  twice-at k false wants = refl
+  twice-at k true wants = after_known ds k (after_key ds k (before true))
+      (or_right (knows k) (is_wanted ds k && same_key k k) (and_from (is_wanted ds k) (same_key k k) wants (same_key-equiv.refl k)))
+
+-- two evaluations leave the same in either order
+after-swap : (ds : List Decl) (k l : Key) (kept : Kept) → after_key ds k (after_key ds l kept) ≡ after_key ds l (after_key ds k kept)
+after-swap ds k l kept = swap-at ds kept.knows kept.work k l kept.keeps
+
+-- and a second of one wanted key changes nothing
+after-twice : (ds : List Decl) (k : Key) (kept : Kept) → is_wanted ds k ≡ true → after_key ds k (after_key ds k kept) ≡ after_key ds k kept
+after-twice ds k kept wants = twice-at ds kept.knows kept.work k kept.keeps wants
+
+-- ---- lists of keys
+
+after-evaluated : (ds : List Decl) (k : Key) (keys : List Key) (kept : Kept)
+    → evaluated ds keys (after_key ds k kept) ≡ after_key ds k (evaluated ds keys kept)
+after-evaluated ds k [] kept = refl
+after-evaluated ds k (l ∷ keys) kept = ap (evaluated ds keys) (after-swap ds l k kept) ∙ after-evaluated ds k keys (after_key ds l kept)
+
+-- a wanted key that is evaluated later need not be evaluated before
+absorbed : (ds : List Decl) (k : Key) (keys : List Key) (kept : Kept) → is_wanted ds k ≡ true → has_key keys k ≡ true
+    → evaluated ds keys (after_key ds k kept) ≡ evaluated ds keys kept
+absorbed ds k [] kept wants has = absurd (false≢true has)
+absorbed ds k (l ∷ keys) kept wants has = elim (or_cases (same_key k l) (has_key keys k) has) [
+  | inl here ↦
+      let one : k ≡ l = (same_key-decides k l).0 here in
+      ap (evaluated ds keys) (ap (λ m. after_key ds m (after_key ds k kept)) (sym one) ∙ after-twice ds k kept wants
+      ∙ ap (λ m. after_key ds m kept) one)
+  | inr there ↦ ap (evaluated ds keys) (after-swap ds l k kept) ∙ absorbed ds k keys (after_key ds l kept) wants there
+]
+
+each-absorbed : (ds : List Decl) (keys all : List Key) (kept : Kept) → AllByRecursion (λ key. is_wanted ds key ≡ true) keys
+    → AllByRecursion (λ key. has_key all key ≡ true) keys → evaluated ds all (evaluated ds keys kept) ≡ evaluated ds all kept
+each-absorbed ds [] all kept wants has = refl
+each-absorbed ds (k ∷ keys) all kept wants has =
+    each-absorbed ds keys all (after_key ds k kept) wants.1 has.1 ∙ absorbed ds k all kept wants.0 has.0
+
+either-first : (ds : List Decl) (xs ys : List Key) (kept : Kept) → evaluated ds ys (evaluated ds xs kept) ≡ evaluated ds xs (evaluated ds ys kept)
+either-first ds [] ys kept = refl
+either-first ds (x ∷ xs) ys kept = either-first ds xs ys (after_key ds x kept) ∙ ap (evaluated ds xs) (after-evaluated ds x ys kept)
+
+-- evaluations of the same wanted keys leave the same, in whatever order and however often each stands
+pub evaluated-same : (ds : List Decl) (xs ys : List Key) (kept : Kept) → ((key : Key) → has_key xs key ≡ true → is_wanted ds key ≡ true)
+    → ((key : Key) → has_key xs key ≡ has_key ys key) → evaluated ds xs kept ≡ evaluated ds ys kept
+evaluated-same ds xs ys kept wants same =
+    let within : AllByRecursion (λ key. has_key ys key ≡ true) xs =
+    each-among (λ key. has_key ys key ≡ true) xs (λ key h. sym (same key) ∙ h) in
+    let back : AllByRecursion (λ key. has_key xs key ≡ true) ys = each-among (λ key. has_key xs key ≡ true) ys (λ key h. same key ∙ h) in
+    let wanted_back : AllByRecursion (λ key. is_wanted ds key ≡ true) ys =
+    each-among (λ key. is_wanted ds key ≡ true) ys (λ key h. wants key (same key ∙ h)) in
+    sym (each-absorbed ds ys xs kept wanted_back back)
+    ∙ either-first ds ys xs kept
+    ∙ each-absorbed ds xs ys kept (each-among (λ key. is_wanted ds key ≡ true) xs wants) within
+
+-- wanted keys that are evaluated are some of which no two are one
+pub evaluates_some : (ds : List Decl) (old new : Kept) (keys : List Key) → ((key : Key) → has_key keys key ≡ true → is_wanted ds key ≡ true)
+    → new ≡ evaluated ds keys old → EvaluatesSome ds old new
+evaluates_some ds old new keys wants is = record {
+  keys = each_once keys;
+  wanted = All-from_recursion (λ key. is_wanted ds key ≡ true) (each_once keys)
+      (each-among (λ key. is_wanted ds key ≡ true) (each_once keys) (λ key h. wants key (sym (has-each_once keys key) ∙ h)));
+  apart = each_once-apart keys;
+  are = is ∙ evaluated-same ds keys (each_once keys) old wants (λ key. sym (has-each_once keys key));
+}
+
+-- a key among the first of some is among them
+pub has-take : (i : ℕ) (keys : List Key) (key : Key) → has_key (take i keys) key ≡ true → has_key keys key ≡ true
+has-take zero keys key h = absurd (false≢true h)
+has-take (suc i) [] key h = h
+has-take (suc i) (k ∷ keys) key h = elim (or_cases (same_key key k) (has_key (take i keys) key) h) [
+  | inl here ↦ or_left (same_key key k) (has_key keys key) here
+  | inr there ↦ or_right (same_key key k) (has_key keys key) (has-take i keys key there)
+]
+
+-- what holds of each of some keys holds of each of those among them
+pub all-within : (p : Key → Bool) (xs ys : List Key) → ((key : Key) → has_key xs key ≡ true → has_key ys key ≡ true)
+    → list_all p ys ≡ true → list_all p xs ≡ true
+all-within p [] ys within all = refl
+all-within p (x ∷ xs) ys within all =
+    and_from (p x) (list_all p xs) (at ys all (within x (or_left (same_key x x) (has_key xs x) (same_key-equiv.refl x))))
+    (all-within p xs ys (λ key h. within key (or_right (same_key key x) (has_key xs key) h)) all)
+  where
+    at : (zs : List Key) → list_all p zs ≡ true → has_key zs x ≡ true → p x ≡ true
+    at [] all h = absurd (false≢true h)
+    at (z ∷ zs) all h =
+        let parts = and_parts (p z) (list_all p zs) all in
+        elim (or_cases (same_key x z) (has_key zs x) h) [
+          | inl here ↦ ap p ((same_key-decides x z).0 here) ∙ parts.0
+          | inr there ↦ at zs parts.1 there
+        ]
