@@ -16,3 +16,5 @@ mod EventAskedLemmas
 mod EventSuspectLemmas
 mod EventCompareLemmas
 mod EventGoneLemmas
+mod WantedOnceLemmas
+mod KnownLemmas

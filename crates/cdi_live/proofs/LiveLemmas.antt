@@ -1,19 +1,21 @@
 -- What is known after a commit, and after an evaluation.
 use Rattle.std.proofs.Common.{◌≡◌, ℕ, Bool, true, false, not, ◌&&◌, ◌||◌, List, [], ◌∷◌, ◌++◌, Option, Some, None, Ok, if◌then◌else◌, is_some}
-use Rattle.std.proofs.Common.{refl, sym, ap, subst, ◌∙◌}
+use Rattle.std.proofs.Common.{refl, sym, ap, subst, ◌∙◌, ◌==◌, inl, inr, length}
 use Rattle.std.specs.Prelude.{IfSome}
 use Rattle.std.specs.Str.{bytes_eq}
 use Rattle.std.specs.Cmp.Lexicographic.{bytes_decides}
-use Rattle.std.proofs.lemmas.Bool.{and_parts, false≢true}
+use Rattle.std.proofs.lemmas.Bool.{and_parts, eqb-true, false≢true}
+use Rattle.std.proofs.lemmas.List.{nil_from_length}
 use Rattle.std.proofs.lemmas.List.Folds.{list_any-append}
 use Rattle.cdi_model.specs.declared.decl.Decl.{Decl}
 use Rattle.cdi_model.specs.declared.place.BeanPlace.{BeanPlace}
 use Rattle.cdi_model.specs.declared.quals.Qual.{Qual}
+use Rattle.cdi_model.specs.Quals.{put_use}
 use Rattle.cdi_model.specs.SameUse.{same_quals, same_quals-decides, same_quals_equiv}
 use Rattle.cdi_model.specs.Work.{with_one}
 use Rattle.cdi_match.proofs.Names.{bytes_eq-turned}
 use Rattle.cdi_effective.specs.Beans.{beans}
-use Rattle.cdi_effective.specs.Qualifiers.{required}
+use Rattle.cdi_effective.specs.Qualifiers.{default_use, required}
 use Rattle.cdi_intercept.specs.Chains.{chain_of}
 use Rattle.cdi_memo.specs.Answers.{answer, Answers, Removes}
 use Rattle.cdi_observe.specs.Kept.{after_key, with_known, work_with, Kept}
@@ -34,7 +36,7 @@ use Rattle.cdi_live.specs.EventCompared.{Events}
 use Rattle.cdi_live.specs.Gone.{is_gone}
 use Rattle.cdi_live.specs.Kept.{AreGoing, Forgets}
 use Rattle.cdi_index.specs.State.{committed as index_committed, committed_to, State as IndexState}
-use Rattle.cdi_live.specs.State.{knows_in, AreKept, AreRight, IsGoing, IsLive, MayGo}
+use Rattle.cdi_live.specs.State.{knows_in, AreKept, AreRight, HasDefault, IsDefaultOrNone, IsGoing, IsLive, KeepsNone, MayGo}
 use Rattle.cdi_live.specs.declared.gone.Gone.{Gone}
 use Rattle.cdi_live.specs.declared.memos.Going.{Going}
 use Rattle.cdi_live.specs.declared.memos.Memos.{Memos}
@@ -194,6 +196,18 @@ module _ (ds es : List Decl) (memos new : Memos) (going : Going) (are : AreGoing
   known-after-commit (EventKey t us) =
       known-after EventKey ids_of ds es (same-ids ds es) memos.events new.events going.events.items are.events forgets.events t us
 
+none-either : (b : Bool) (o : Option Choice) → o ≡ None → (if b then None else o) ≡ None
+none-either true o h = refl
+none-either false o h = h
+
+-- where no choice is kept, none is after some are forgotten
+default-after : (us : List Qual) (m new : Choices) (gone : List ℕ → List Qual → Bool)
+    → ((t : List ℕ) (vs : List Qual) → answer same_quals new t vs ≡ (if gone t vs then None else answer same_quals m t vs))
+    → HasDefault us m → HasDefault us new
+default-after us m new gone forgets (inl is) = inl is
+default-after us m new gone forgets (inr nothing) =
+    inr (nothing.0, λ t vs. forgets t vs ∙ none-either (gone t vs) (answer same_quals m t vs) (nothing.1 t vs))
+
 pub live-after : (index after : IndexState) (memos new : Memos) (by_default : List Qual) (before now : Option Going) (going : Going)
     → IsLive index memos by_default before → before ≡ Some going → now ≡ None → after ≡ index_committed index → Forgets memos going new
     → IsLive after new by_default now
@@ -202,7 +216,7 @@ live-after index after memos new by_default before now going live was none is fo
     let decls : after.decls ≡ staged.next.decls =
     ap (λ (s : IndexState). s.decls) is ∙ ap (λ o. (committed_to index o).decls) staged.staged in
     record {
-      default = live.default;
+      default = default-after by_default memos.choices new.choices (is_gone going.choices.items) forgets.choices live.default;
       kept = subst (λ d. AreKept d new) (sym decls) (kept-after-commit index.decls staged.next.decls memos new going staged.are forgets live.kept);
       staged = subst (MayGo after new) (sym none) tt;
     }
@@ -309,6 +323,25 @@ module _ (ds : List Decl) (memos : Memos) (new : Chains) (class : List ℕ) (pla
       events = kept.asked.events;
     };
   }
+
+-- `Default` where it is there, or none
+pub has-one : (us : List Qual) (m : Choices) → HasDefault us m → IsDefaultOrNone us
+has-one us m (inl is) = inl is
+has-one us m (inr nothing) = inr nothing.0
+
+pub default-there : (us : List Qual) → IsDefaultOrNone us → (length us == 0) ≡ false → us ≡ default_use ∷ []
+default-there us (inl is) some = is
+default-there us (inr none) some = absurd (let no : true ≡ false = ap (λ (l : List Qual). length l == 0) (sym none) ∙ some in cc)
+
+pub none-there : (us : List Qual) (m : Choices) → HasDefault us m → (length us == 0) ≡ true → KeepsNone m
+none-there us m (inl is) none = absurd (let no : false ≡ true = ap (λ (l : List Qual). length l == 0) (sym is) ∙ none in cc)
+none-there us m (inr nothing) none = nothing.1
+
+-- what is made where none is there
+pub made-default : (us : List Qual) (now : List Qual) → (length us == 0) ≡ true → now ≡ put_use us default_use → now ≡ default_use ∷ []
+made-default us now none made = made ∙ ap (λ l. put_use l default_use) (nil_from_length us (eqb-true (length us) 0 none))
+
+pub ruleset default_or_none = (default-there, made-default)
 
 -- what is lent is right
 pub right-lent : (ds : List Decl) (m : Choices) (t : List ℕ) (us uses : List Qual) → AreRight ds m → uses ≡ required us → (o : Option Choice)

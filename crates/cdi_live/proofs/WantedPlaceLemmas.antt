@@ -1,117 +1,28 @@
 -- A chain is asked for where the bean of its class has its place.
-use Rattle.std.proofs.Common.{◌≡◌, ℕ, Bool, true, false, cond, not, ◌&&◌, ◌||◌, List, [], ◌∷◌, ◌++◌, map, filter, Option, Some, None, is_some}
-use Rattle.std.proofs.Common.{option_map, refl, sym, ap, ◌∙◌}
-use Rattle.std.specs.List.{find, list_any}
+use Rattle.std.proofs.Common.{◌≡◌, ℕ, Bool, true, false, ◌&&◌, ◌||◌, List, [], ◌∷◌, map, Option, Some, None, refl, sym, ap}
+use Rattle.std.proofs.Common.{◌∙◌}
+use Rattle.std.specs.List.{list_any}
 use Rattle.std.specs.Option.{option_map_or}
 use Rattle.std.specs.Str.{bytes_eq}
 use Rattle.std.proofs.lemmas.Bool.{and_from, and_parts, false≢true}
-use Rattle.std.proofs.lemmas.List.Folds.{list_any-append}
 use Rattle.cdi_model.specs.declared.decl.BeanDecl.{BeanDecl}
 use Rattle.cdi_model.specs.declared.decl.Decl.{Decl}
 use Rattle.cdi_model.specs.declared.decl.Decl.TheVariants as decls
 use Rattle.cdi_model.specs.declared.decl.Kind.TheVariants as kinds
-use Rattle.cdi_model.specs.declared.decl.MethodDecl.{MethodDecl}
-use Rattle.cdi_model.specs.declared.decl.ObserverDecl.{ObserverDecl}
-use Rattle.cdi_model.specs.declared.decl.ProducerDecl.{ProducerDecl}
 use Rattle.cdi_model.specs.declared.place.BeanPlace.{BeanPlace}
-use Rattle.cdi_model.specs.declared.place.BeanPlace.TheVariants as places
 use Rattle.cdi_model.specs.DeclList.{AreDistinct}
-use Rattle.cdi_match.proofs.Names.{bytes_eq-turned, one_name, same_text}
+use Rattle.cdi_match.proofs.Names.{one_name, same_text}
 use Rattle.cdi_effective.specs.Disposers.{as_bean, find_bean}
-use Rattle.cdi_intercept.specs.Sets.{has_place, methods_of, observers_of, places_of, producers_of}
+use Rattle.cdi_intercept.specs.Sets.{has_place, places_of}
 use Rattle.cdi_observe.specs.Keys.{has_key, same_place, ChainKey}
 use Rattle.cdi_observe.specs.Wanted.{is_wanted, wanted_by}
+use Rattle.cdi_observe.proofs.BeanPlaceLemmas.{has-it}
 use Rattle.cdi_stakes.specs.Rests.{IsPresent}
 use Rattle.cdi_stakes.proofs.NameLemmas.{only-chains}
 use Rattle.cdi_stakes.proofs.PresentLemmas.{all_present, found_any, witness}
 use Rattle.cdi_live.specs.ChainGone.{is_place_of}
 use Rattle.cdi_live.proofs.AskedLemmas.{same-bool}
 use Rattle.cdi_live.proofs.ChainSuspectLemmas.{bean-there}
-
--- ---- the places of a bean
-
-or-false : (b : Bool) → (b || false) ≡ b
-or-false true = refl
-or-false false = refl
-
-found-any : {X : Type 0} {Y : Type 0} (q r : X → Bool) (f : X → Y) (xs : List X) → ((x : X) → q x ≡ r x)
-    → list_any q xs ≡ is_some (option_map f (find r xs))
-found-any q r f [] same = refl
-found-any {X = X} {Y = Y} q r f (x ∷ xs) same = ap (λ b. b || list_any q xs) (same x) ∙ by (r x) (found-any q r f xs same)
-  where
-    by : (b : Bool) → list_any q xs ≡ is_some (option_map f (find r xs))
-        → (b || list_any q xs) ≡ is_some (option_map f (cond b (Some x) (find r xs)))
-    by true more = refl
-    by false more = more
-
-module _ (place : BeanPlace) where
-  abbrev is : BeanPlace → Bool
-  is p = same_place place p
-
-  three : (xs ys zs : List BeanPlace) → list_any is (xs ++ ys ++ zs) ≡ ((list_any is xs || list_any is ys) || list_any is zs)
-  three xs ys zs = list_any-append is (xs ++ ys) zs ∙ ap (λ b. b || list_any is zs) (list_any-append is xs ys)
-
-  none-of : {X : Type 0} (f : X → BeanPlace) (xs : List X) → ((x : X) → is (f x) ≡ false) → list_any is (map f xs) ≡ false
-  none-of f [] none = refl
-  none-of f (x ∷ xs) none = ap (λ b. b || list_any is (map f xs)) (none x) ∙ none-of f xs none
-
-  mapped : {X : Type 0} (f : X → BeanPlace) (q : X → Bool) (xs : List X) → ((x : X) → is (f x) ≡ q x) → list_any is (map f xs) ≡ list_any q xs
-  mapped f q [] same = refl
-  mapped f q (x ∷ xs) same = λ i. same x i || mapped f q xs same i
-
-filtered : {X : Type 0} (q t : X → Bool) (xs : List X) → list_any q (filter t xs) ≡ list_any (λ x. q x && t x) xs
-filtered q t [] = refl
-filtered {X = X} q t (x ∷ xs) = by (t x) (filtered q t xs)
-  where
-    by : (b : Bool) → list_any q (filter t xs) ≡ list_any (λ x. q x && t x) xs
-        → list_any q (cond b (x ∷ filter t xs) (filter t xs)) ≡ ((q x && b) || list_any (λ x. q x && t x) xs)
-    by true more = ap (λ c. q x || c) more ∙ ap (λ c. c || list_any (λ x. q x && t x) xs) (sym (and-true (q x)))
-      where
-        and-true : (b : Bool) → (b && true) ≡ b
-        and-true true = refl
-        and-true false = refl
-    by false more = more ∙ ap (λ c. c || list_any (λ x. q x && t x) xs) (sym (and-false (q x)))
-      where
-        and-false : (b : Bool) → (b && false) ≡ false
-        and-false true = refl
-        and-false false = refl
-
-has-it : (b : BeanDecl) (place : BeanPlace) → list_any (same_place place) (places_of b) ≡ has_place b place
-has-it b places.Construct = refl
-has-it b places.Post = refl
-has-it b places.Pre = refl
-has-it b (places.Method name) =
-    let place = places.Method name in
-    three place (methods_of b) (producers_of b) (observers_of b)
-    ∙ ap (λ c. (list_any (same_place place) (methods_of b) || c) || list_any (same_place place) (observers_of b))
-    (none-of place (λ (r : ProducerDecl). places.Producer r.name) (filter (λ r. not r.is_static) b.producers) (λ r. refl))
-    ∙ ap (λ c. (list_any (same_place place) (methods_of b) || false) || c)
-    (none-of place (λ (o : ObserverDecl). places.Observer o.name) b.observers (λ o. refl))
-    ∙ or-false (list_any (same_place place) (methods_of b) || false) ∙ or-false (list_any (same_place place) (methods_of b))
-    ∙ mapped place (λ (m : MethodDecl). places.Method m.name) (λ m. bytes_eq name m.name) b.methods (λ m. refl)
-    ∙ found-any (λ (m : MethodDecl). bytes_eq name m.name) (λ m. bytes_eq m.name name) (λ m. m.bindings) b.methods (λ m. bytes_eq-turned name m.name)
-has-it b (places.Producer name) =
-    let place = places.Producer name in
-    let own : List ProducerDecl = filter (λ r. not r.is_static) b.producers in
-    three place (methods_of b) (producers_of b) (observers_of b)
-    ∙ ap (λ c. (c || list_any (same_place place) (producers_of b)) || list_any (same_place place) (observers_of b))
-    (none-of place (λ (m : MethodDecl). places.Method m.name) b.methods (λ m. refl))
-    ∙ ap (λ c. list_any (same_place place) (producers_of b) || c)
-    (none-of place (λ (o : ObserverDecl). places.Observer o.name) b.observers (λ o. refl))
-    ∙ or-false (list_any (same_place place) (producers_of b))
-    ∙ mapped place (λ (r : ProducerDecl). places.Producer r.name) (λ r. bytes_eq name r.name) own (λ r. refl)
-    ∙ filtered (λ (r : ProducerDecl). bytes_eq name r.name) (λ r. not r.is_static) b.producers
-    ∙ found-any (λ (r : ProducerDecl). bytes_eq name r.name && not r.is_static) (λ r. bytes_eq r.name name && not r.is_static) (λ r. r.bindings)
-    b.producers (λ r. ap (λ c. c && not r.is_static) (bytes_eq-turned name r.name))
-has-it b (places.Observer name) =
-    let place = places.Observer name in
-    three place (methods_of b) (producers_of b) (observers_of b)
-    ∙ ap (λ c. (c || list_any (same_place place) (producers_of b)) || list_any (same_place place) (observers_of b))
-    (none-of place (λ (m : MethodDecl). places.Method m.name) b.methods (λ m. refl))
-    ∙ ap (λ c. c || list_any (same_place place) (observers_of b))
-    (none-of place (λ (r : ProducerDecl). places.Producer r.name) (filter (λ r. not r.is_static) b.producers) (λ r. refl))
-    ∙ mapped place (λ (o : ObserverDecl). places.Observer o.name) (λ o. bytes_eq name o.name) b.observers (λ o. refl)
-    ∙ found-any (λ (o : ObserverDecl). bytes_eq name o.name) (λ o. bytes_eq o.name name) (λ o. o.bindings) b.observers (λ o. bytes_eq-turned name o.name)
 
 -- ---- who asks for a chain
 

@@ -1,5 +1,5 @@
 -- What is seen of declarations whose answers are kept.
-use Rattle.std.specs.Prelude.{◌≡◌, ℕ, Bool, true, List, [], ◌∷◌, Option, Some, None}
+use Rattle.std.specs.Prelude.{◌≡◌, ◌⊎◌, ℕ, Bool, true, List, [], ◌∷◌, Option, Some, None}
 use Rattle.cdi_model.specs.declared.decl.Decl.{Decl}
 use Rattle.cdi_model.specs.declared.quals.Qual.{Qual}
 use Rattle.cdi_effective.specs.Beans.{beans}
@@ -115,7 +115,19 @@ pub record AreKept (ds : List Decl) (memos : Memos) : Type 0 where
   pub events : AreRightEvents ds memos.events
   pub asked : AreAsked ds memos
 
+-- the use of `Default`, or none yet
+abbrev pub IsDefaultOrNone : List Qual → Type 0
+IsDefaultOrNone us = (us ≡ default_use ∷ []) ⊎ (us ≡ [])
+
+-- no choice is kept
+abbrev pub KeepsNone : Answers (List Qual) Choice → Type 0
+KeepsNone m = (t : List ℕ) (us : List Qual) → answer same_quals m t us ≡ None
+
+-- Before `Default` is there no choice is kept.
+abbrev pub HasDefault : List Qual → Answers (List Qual) Choice → Type 0
+HasDefault us m = (us ≡ default_use ∷ []) ⊎ ((us ≡ []) × KeepsNone m)
+
 pub record IsLive (index : IndexState) (memos : Memos) (by_default : List Qual) (going : Option Going) : Type 0 where
-  pub default : by_default ≡ default_use ∷ []
+  pub default : HasDefault by_default memos.choices
   pub kept : AreKept index.decls memos
   pub staged : MayGo index memos going

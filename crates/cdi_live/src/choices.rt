@@ -10,8 +10,10 @@ ghost use Rattle.cdi_observe.specs.Keys.{ChoiceKey};
 ghost use Rattle.cdi_observe.specs.Wanted.{is_wanted};
 ghost use Rattle.cdi_resolve.specs.Choices.{chosen};
 ghost use Rattle.cdi_live.specs.Gone.{is_gone};
+ghost use Rattle.cdi_live.specs.State.{IsDefaultOrNone};
 
 use crate::gone::Gone;
+use cdi_effective::default_use;
 use cdi_index::{Asked, Index, Question};
 use cdi_memo::Memo;
 use cdi_model::{Name, Quals, Work};
@@ -25,6 +27,19 @@ pub(crate) fn required_of<'a>(quals: &'a Quals, by_default: &'a Quals) -> &'a Qu
     ensures { result.now ≡ required quals.now }
 {
     if quals.is_empty() { by_default } else { quals }
+}
+
+/// `Default` is there from now on. It takes memory for it.
+#[tactic(auto, using(crate::proofs::LiveLemmas::default_or_none))]
+pub(crate) fn make_default(by_default: &mut Quals, alloc: Global) -> Result<(), AllocError>
+    requires { IsDefaultOrNone by_default.old }
+    ensures ok { OnOk result (by_default.new ≡ default_use ∷ []) }
+    ensures err { OnErr result (by_default.new ≡ by_default.old) }
+{
+    if by_default.is_empty() {
+        by_default.insert(default_use(alloc))?;
+    }
+    Ok(())
 }
 
 /// Keeps a choice, if a point asks for it.

@@ -1,5 +1,5 @@
 //! Declarations whose answers are kept.
-ghost use Rattle.std.specs.Prelude.{◌≡◌, true, is_some, Some, None, Ok, IfOk, IfSome, OnOk, OnErr};
+ghost use Rattle.std.specs.Prelude.{◌≡◌, ◌-◌, ◌^◌, min, length, true, is_some, Some, None, Ok, IfOk, IfSome, OnOk, OnErr};
 ghost use Rattle.std.specs.Option.{option_copied};
 ghost use Rattle.cdi_effective.specs.Beans.{beans};
 ghost use Rattle.cdi_effective.specs.Records.{records_in};
@@ -9,19 +9,21 @@ ghost use Rattle.cdi_intercept.specs.Chains.{chain_of};
 ghost use Rattle.cdi_model.specs.Answering.{Answers};
 ghost use Rattle.cdi_observe.specs.Keys.{choice_key, ChainKey, EventKey};
 ghost use Rattle.cdi_observe.specs.Observers.{notified};
-ghost use Rattle.cdi_resolve.specs.Choices.{chosen};
+ghost use Rattle.cdi_resolve.specs.Choices.{chosen, chosen_by_name};
+ghost use Rattle.cdi_live.specs.Known.{known_of, KnownAreWanted};
 ghost use Rattle.cdi_live.specs.State.{empty, kept_in, knows, staged_by, with_staged, Commits};
 
 use crate::chain_place::ChainPlace;
 use crate::chains::{copy_names, evaluate_chain};
-use crate::choices::{evaluate, required_of};
+use crate::choices::{evaluate, make_default, required_of};
 use crate::events::{copy_ids, evaluate_event};
 use crate::memos::{Going, Memos};
 use crate::prepare::{KeptAnswers, prepare};
-use cdi_effective::{Effective, default_use};
+use cdi_effective::Effective;
 use cdi_index::{Counts, Draft, Index};
 use cdi_model::{BeanPlace, Decls, Error, Name, Quals, Seq, Work};
 use cdi_observe::ObserverId;
+use cdi_questions::choose_name;
 use cdi_resolve::Choice;
 use std::alloc::{AllocError, Global};
 use std::marker::Model;
@@ -32,7 +34,7 @@ pub struct Live {
     alloc: Global,
     index: Index,
     memos: Memos,
-    /// `Default`, for which a point asks that names no qualifier.
+    /// `Default`, for which a point asks that names no qualifier: from the first choice or edit on.
     by_default: Quals,
     work: Work,
     /// The kept answers that go at the next commit, if a draft is staged.
@@ -50,20 +52,18 @@ impl Model for Live {
 }
 
 impl Live {
-    /// No declaration, and nothing kept or staged. It takes memory for a use of `Default`.
-    pub fn new(alloc: Global) -> Result<Live, AllocError>
-        ensures { IfOk result (λ live. live ≡ empty) }
+    /// No declaration, and nothing kept or staged. It takes no memory.
+    pub fn new(alloc: Global) -> Live
+        ensures { result ≡ empty }
     {
-        let mut by_default = Quals::new(alloc);
-        by_default.insert(default_use(alloc))?;
-        Ok(Live {
+        Live {
             alloc,
             index: Index::new(alloc),
             memos: Memos::new(alloc),
-            by_default,
+            by_default: Quals::new(alloc),
             work: Work::new(),
             going: None,
-        })
+        }
     }
 
     /// The declarations. It takes no memory.
@@ -90,9 +90,21 @@ impl Live {
 
     /// How many answers were computed. It takes no memory.
     pub fn work(&self) -> u64
-        ensures { result ≡ self.now.work }
+        ensures count { result ≡ self.now.work }
+        ensures wanted { KnownAreWanted self.now }
     {
         self.work.count()
+    }
+
+    /// How many keys are known, up to the greatest `usize`. It takes no memory.
+    pub fn known(&self) -> usize
+        ensures count { result ≡ min (length (known_of self.now)) (2 ^ 64 - 1) }
+        ensures wanted { KnownAreWanted self.now }
+    {
+        let choices = self.memos.choices.count();
+        let chains = self.memos.chains.count();
+        let events = self.memos.events.count();
+        choices.saturating_add(chains).saturating_add(events)
     }
 
     /// A draft without an edit. It takes memory as `Decls::copy` does.
@@ -108,8 +120,19 @@ impl Live {
         ensures choice { IfSome (option_copied result)
             (λ choice. choice ≡ chosen self.now.decls (beans self.now.decls) bean_type.now quals.now) }
     {
+        if self.by_default.is_empty() {
+            return None;
+        }
         let uses = required_of(quals, &self.by_default);
         self.memos.choices.get(bean_type, uses)
+    }
+
+    /// The bean of a name (CDI 4.0, Name resolution). It is computed each time and not counted, and takes memory for a list of
+    /// the beans that have the name.
+    pub fn named(&self, alloc: Global, name: Name) -> Result<Choice, AllocError>
+        ensures { IfOk result (λ choice. choice ≡ chosen_by_name (beans self.now.decls) name) }
+    {
+        choose_name(alloc, &self.index, name)
     }
 
     /// The bean for a type and qualifiers (CDI 4.0, Performing typesafe resolution). A choice that is not kept is computed
@@ -133,6 +156,7 @@ impl Live {
             let copy = choice.copy(alloc)?;
             return Ok(copy);
         }
+        make_default(&mut self.by_default, alloc)?;
         let choice = evaluate(
             alloc,
             &self.index,
@@ -242,6 +266,7 @@ impl Live {
         ensures err { OnErr result (self.new ≡ with_staged self.old None) }
     {
         self.going = None;
+        make_default(&mut self.by_default, self.alloc)?;
         let kept = KeptAnswers {
             memos: &self.memos,
             by_default: &self.by_default,

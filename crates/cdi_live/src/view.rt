@@ -16,6 +16,8 @@ impl View for Live {
 
     ghost staged = { λ l. option_map (λ s. s.decls) l.staged };
 
+    ghost counts = { λ l. (l.counts.closures, l.counts.beans) };
+
     fn decls(&self) -> &Decls {
         Live::decls(self)
     }

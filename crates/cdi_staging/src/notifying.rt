@@ -44,6 +44,23 @@ fn notified_as(decls: &Decls, beans: &BeanList, id: ObserverId) -> Notified
     }
 }
 
+/// The positions of some observer methods in the scene of the declarations whose bean list this is. It takes memory for a
+/// list of them.
+pub fn positions_of(
+    alloc: Global,
+    decls: &Decls,
+    beans: &BeanList,
+    ids: &[ObserverId],
+) -> Result<Seq<Notified>, AllocError>
+    ensures { IfOk result (λ list. list ≡ map (notified_as decls.now beans.now) ids.now) }
+{
+    let mut list = Seq::new(alloc);
+    for id in ids {
+        list.push(notified_as(decls, beans, *id))?;
+    }
+    Ok(list)
+}
+
 /// The observer methods that are notified of an event of a type with some qualifiers, in order, by their positions in the
 /// scene of the declarations whose bean list this is (CDI 4.0, Observer resolution; Observer ordering). It takes memory for
 /// them, for the types of the event and for the observer methods of these types. The last clause says that each of them
@@ -59,11 +76,8 @@ pub fn notified_at(
     ensures value { IfOk result (λ list. list ≡ notified_at decls.now beans.now event_type quals.now) }
     ensures stand { NotifiedStand }
 {
-    let mut list = Seq::new(alloc);
-    for id in notified_of(alloc, decls, beans.as_slice(), event_type, quals)?.as_slice() {
-        list.push(notified_as(decls, beans, *id))?;
-    }
-    Ok(list)
+    let ids = notified_of(alloc, decls, beans.as_slice(), event_type, quals)?;
+    positions_of(alloc, decls, beans, ids.as_slice())
 }
 
 /// Whom each of some fire sites notifies.

@@ -1,4 +1,4 @@
-use Rattle.std.proofs.Common.{◌≡◌, sym, ap, subst, ◌∙◌}
+use Rattle.std.proofs.Common.{◌≡◌, inl, sym, ap, subst, ◌∙◌}
 use Rattle.cdi_effective.specs.Beans.{beans}
 use Rattle.cdi_observe.specs.Kept.{after_key, with_known}
 use Rattle.cdi_observe.specs.Keys.{choice_key, ChoiceKey}
@@ -15,7 +15,7 @@ returns-in-Some-clause-kept c =
 
 pub invariant_of-self-2 : goal.invariant_of-self-2
 invariant_of-self-2 c = record {
-  default = c.self.invariant.default;
+  default = inl c.in_ok-make_default.ensures.ok;
   kept = kept-with-choice c.self.inside.index.decls c.self.inside.memos c.evaluate.new.choices c.args.bean_type c.required_of.result.now
       c.in_ok-choice.choice c.in_ok-choice.ensures.kept c.in_ok-choice.ensures.choice c.self.invariant.kept;
   staged = tt;
