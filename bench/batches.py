@@ -12,7 +12,7 @@ BEGINS = ["batch"] * 12 + ["  batch ", "batch".ljust(LINE_LIMIT)]
 ENDS = ["end"] * 12 + [" end", "end  ", "end".ljust(LINE_LIMIT)]
 SKIPPED = ["", "  ", "#", "# end", "#batch", "# " + "x" * LINE_LIMIT, " " * 2 * LINE_LIMIT, "#" + NOT_UTF8]
 # Lines that are no edit: those of other commands, those that almost end a batch, and those that are too long or not UTF-8.
-SPOILING = ["report", "counts", "stop", "request begin", "request end", "choose Object", "lookup Object", "fire 1 Object", "name a"]
+SPOILING = ["report", "counts", "work", "stop", "request begin", "request end", "choose Object", "lookup Object", "fire 1 Object", "name a"]
 SPOILING += ["batch", " batch", "batch now", "end now", "End", "\tend", "end\r\r", " # end", "frob", ".", "put it", "Put"]
 SPOILING += ["drop", "drop type", "drop type A B", "drop bear A", "drop type 1A", "Drop type A"]
 SPOILING += ["end".ljust(LINE_LIMIT + 1), "put".rjust(LINE_LIMIT + 1), "drop type A".ljust(LINE_LIMIT + 1)]

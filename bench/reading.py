@@ -367,8 +367,8 @@ def is_argument_of(words):
     return len(words) >= 2 and is_value(words[0]) and is_name(words[1]) and are_uses(words[2:])
 
 
-def is_command(line, works=False):
-    """Whether a line that is not skipped and begins no block is one of the command table, in which `work` is or is not."""
+def is_command(line):
+    """Whether a line that is not skipped and begins no block is one of the command table."""
     word, *rest = [word for word in line.split(" ") if word]
     if len(bytes_of(line)) > LINE_LIMIT or not is_utf8(line):
         return False
@@ -384,6 +384,4 @@ def is_command(line, works=False):
         return len(rest) == 2 and rest[0] in KINDS and is_name(rest[1])
     if word == "name":
         return len(rest) == 1 and is_name(rest[0])
-    if [word, *rest] == ["work"]:
-        return works
-    return [word, *rest] in (["report"], ["counts"], ["stop"], ["request", "begin"], ["request", "end"])
+    return [word, *rest] in (["report"], ["counts"], ["work"], ["stop"], ["request", "begin"], ["request", "end"])

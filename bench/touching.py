@@ -1,6 +1,6 @@
 """Edits that touch some keys and not others, and questions for keys, in scripts that ask for the work.
 
-`bench/compare --work` writes them among the other commands. They are made of the present declarations: some member, use,
+`bench/compare` writes them among the other commands. They are made of the present declarations: some member, use,
 priority, part or entry of one is another, or is none, or a declaration is dropped and put again as it is. A deployment without
 faults is mended after them. Questions are for keys that are wanted, most often for those that are not known, and for others
 that are almost the same.
@@ -24,12 +24,11 @@ SCOPES = ["dependent", "request", "application"]
 
 
 class Touching:
-    """Writes what is asked about known keys among the other commands of a script: nothing where `work` is no command."""
+    """Writes what is asked about known keys among the other commands of a script."""
 
-    def __init__(self, chance, model, works, mends):
+    def __init__(self, chance, model, mends):
         self.chance = chance
         self.model = model
-        self.works = works
         # Whether what an edit makes faulty is mended.
         self.mends = mends
         # Every key that was wanted when one was asked for.
@@ -40,7 +39,7 @@ class Touching:
 
     def work(self, likely):
         """A question for the work, so likely, or none."""
-        if not self.works or not self.maybe(likely):
+        if not self.maybe(likely):
             return []
         if self.maybe(0.02):
             return [(self.chance.choice(NO_WORK), BAD_COMMAND)]
@@ -49,7 +48,7 @@ class Touching:
     def more(self):
         """Some questions, and edits with questions after them; or nothing."""
         steps = []
-        if not self.works or self.maybe(0.8 if is_full(self.model) else 0.4):
+        if self.maybe(0.8 if is_full(self.model) else 0.4):
             return steps
         for _ in range(self.chance.randint(0, 2)):
             steps += [self.question(), *self.work(0.5)]

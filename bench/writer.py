@@ -36,12 +36,11 @@ KINDS = ["type"] * 3 + ["qualifier", "binding"] + ["stereotype"] * 2 + ["interce
 class Writer:
     """Random declarations, commands and their texts."""
 
-    def __init__(self, seed, new_model, length=1, works=False):
+    def __init__(self, seed, new_model, length=1):
         self.random = random.Random(seed)
         self.new_model = new_model
         self.length = length
         # Whether scripts ask for the work.
-        self.works = works
         # Whether most types extend another, and most beans specialize.
         self.specializes = False
 
@@ -308,7 +307,7 @@ class Writer:
         the end of a few cuts what it ends with."""
         model = self.new_model()
         is_sound = self.maybe(0.5)
-        touching = Touching(self.random, model, self.works, is_sound)
+        touching = Touching(self.random, model, is_sound)
         if is_sound:
             steps = Commander(self.random, model, text_of_put, touching).script(self.length)
         else:

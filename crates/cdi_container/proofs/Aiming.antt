@@ -1,11 +1,9 @@
 -- What a look-up or a call aims at stands in the scene.
-use Rattle.std.proofs.Common.{◌≡◌, ℕ, List, Bool, true, false, Option, None, Some, refl, subst}
-use Rattle.std.specs.Prelude.{Result, Ok, Err, IfOk, if◌then◌else◌}
-use Rattle.cdi_model.specs.Answering.{Answers}
+use Rattle.std.proofs.Common.{◌≡◌, ℕ, List, Bool, true, false, Option, None, Some, map, refl, subst, sym}
+use Rattle.std.specs.Prelude.{Result, Ok, Err, if◌then◌else◌}
 use Rattle.cdi_model.specs.DeclList.{AreDistinct}
 use Rattle.cdi_model.specs.declared.decl.Decl.{Decl}
 use Rattle.cdi_model.specs.declared.quals.Qual.{Qual}
-use Rattle.cdi_model.specs.declared.refusal.Error.{Error}
 use Rattle.cdi_model.specs.declared.refusal.Refusal.TheVariants.{NoMethod}
 use Rattle.cdi_bodies.specs.Book.{Promised}
 use Rattle.cdi_effective.specs.Beans.{beans}
@@ -15,10 +13,13 @@ use Rattle.cdi_resolve.specs.declared.choice.Choice.{Choice}
 use Rattle.cdi_resolve.specs.declared.choice.Choice.TheVariants.{One, Unsatisfied, Ambiguous}
 use Rattle.cdi_run.specs.declared.roots.Purpose.TheVariants as purposes
 use Rattle.cdi_staging.specs.Sites.{managed_class, method_of, position_of_bean}
+use Rattle.cdi_observe.specs.Observers.{notified}
+use Rattle.cdi_observe.specs.declared.observers.ObserverId.{ObserverId}
+use Rattle.cdi_staging.specs.Notifying.{notified_as, notified_at}
 use Rattle.cdi_staging.specs.Staged.{scene_of}
 use Rattle.cdi_staging.proofs.LookupLemmas.{chosen-stands, chosen-has-methods}
 use Rattle.cdi_subjects.specs.Sites.{has_method}
-use Rattle.cdi_container.specs.Asked.{Asked, aim_for, aim_of_choice, aim_with, purpose_of}
+use Rattle.cdi_container.specs.Asked.{Asked, aim_for, aim_of_choice, aim_with, asked_for, purpose_of}
 use Rattle.cdi_container.specs.Wired.{StandsIn}
 use Rattle.cdi_container.specs.declared.asked.Aim.{Aim}
 use Rattle.cdi_container.specs.declared.asked.Message.{Message}
@@ -50,14 +51,21 @@ module _ (ds : List Decl) (book : List Promised) (t : List ℕ) (quals : List Qu
   chosen_stands (Ambiguous ids) message aim one is = cc
   chosen_stands (One id) message aim one is = stands_at id message aim one is
 
-aimed_stands : (ds : List Decl) (book : List Promised) (asked : Asked) (aim : Aim) → AreDistinct ds → aim_for ds asked ≡ Ok aim
+pub aimed_stands : (ds : List Decl) (book : List Promised) (asked : Asked) (aim : Aim) → AreDistinct ds → aim_for ds asked ≡ Ok aim
     → StandsIn (scene_of ds book) aim
 unfolding aim_for
 aimed_stands ds book asked aim distinct is =
     chosen_stands ds book asked.bean_type asked.quals distinct (chosen ds (beans ds) asked.bean_type asked.quals) asked.message aim
     refl is
 
-pub aim_stands : (ds : List Decl) (book : List Promised) (asked : Asked) (result : Result Aim Error) → AreDistinct ds
-    → Answers result (aim_for ds asked) → IfOk result (λ aim. StandsIn (scene_of ds book) aim)
-aim_stands ds book asked (Ok aim) distinct is = aimed_stands ds book asked aim distinct is
-aim_stands ds book asked (Err error) distinct is = tt
+-- what is aimed at by what is chosen
+pub aims : (ds es : List Decl) (t : List ℕ) (quals : List Qual) (message : Option Message) (choice : Choice) → es ≡ ds
+    → choice ≡ chosen ds (beans ds) t quals → aim_for ds (asked_for t quals message) ≡ aim_of_choice es message choice
+unfolding aim_for
+aims ds es t quals message choice same is = λ j. aim_of_choice (sym same j) message (sym is j)
+
+-- the positions of the observer methods of an event
+pub positions_are : (ds es : List Decl) (t : List ℕ) (quals : List Qual) (ids : List ObserverId) → es ≡ ds → ids ≡ notified ds (beans ds) t quals
+    → map (notified_as es (beans es)) ids ≡ notified_at ds (beans ds) t quals
+unfolding notified_at
+positions_are ds es t quals ids same are = λ j. map (notified_as (same j) (beans (same j))) (are j)

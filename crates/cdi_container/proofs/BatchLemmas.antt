@@ -1,7 +1,7 @@
 -- The edits of a batch, one after another.
-use Rattle.std.proofs.Common.{◌≡◌, ℕ, ◌+◌, List, [], ◌∷◌, ◌++◌, Option, None, Some, refl, ap, sym, ◌∙◌, append_assoc}
+use Rattle.std.proofs.Common.{◌≡◌, ℕ, ◌+◌, List, [], ◌∷◌, ◌++◌, Option, refl, ap, sym, ◌∙◌, append_assoc}
 use Rattle.std.proofs.lemmas.List.{map-append}
-use Rattle.std.specs.Prelude.{Result, Ok, Err}
+use Rattle.std.specs.Prelude.{Ok, Err}
 use Rattle.cdi_model.specs.declared.decl.Decl.{Decl}
 use Rattle.cdi_model.specs.declared.edit.Edit.{Edit as Change}
 use Rattle.cdi_model.specs.declared.refusal.Error.{Error}
@@ -11,7 +11,7 @@ use Rattle.cdi_model.specs.Answering.{Answers}
 use Rattle.cdi_model.specs.Edits.{edited, edited_all, edited_key, edited_keys}
 use Rattle.cdi_index.specs.State.{Drafted}
 use Rattle.cdi_lines.specs.declared.edit.Edit.{Edit}
-use Rattle.cdi_container.specs.Editing.{asked_by, change_of, changes_of, changes_of_all, drafted_all, first_refusal, refusal_of_change, refused_first}
+use Rattle.cdi_container.specs.Editing.{asked_by, change_of, changes_of, changes_of_all, drafted_all, first_refusal, refused_first}
 use Rattle.cdi_container.specs.Seen.{SaysReason, answer_of_change, refused_at}
 use Rattle.cdi_container.proofs.Putting.{accepted_change, refused_change}
 

@@ -1,7 +1,12 @@
 -- What is staged is taken over behind the end of both contexts.
 use Rattle.std.proofs.Common.{◌≡◌, Bool, true, false, List, [], ◌∷◌, Option, None, Some, refl, ap, sym, subst, ◌∙◌}
-use Rattle.std.specs.Prelude.{ℕ, IfOk, IfSome, Result, Ok, Err, unwrap_or, if◌then◌else◌}
-use Rattle.cdi_index.specs.State.{Drafted, IsEdited, Staged, State as Indexed, committed, committed_to}
+use Rattle.std.specs.Prelude.{ℕ, filter, IfOk, IfSome, Result, Ok, Err, unwrap_or, if◌then◌else◌}
+use Rattle.cdi_index.specs.State.{Drafted, IsEdited, Staged}
+use Rattle.cdi_live.specs.Known.{known_of, KnownAreWanted}
+use Rattle.cdi_live.specs.State.{State as Live, knows, Commits, CommitsTo, TakesOver}
+use Rattle.cdi_observe.specs.Keys.{Key}
+use Rattle.cdi_observe.specs.Wanted.{wanted}
+use Rattle.cdi_seen.specs.Touched.{still_known}
 use Rattle.cdi_model.specs.Short.{AreShort}
 use Rattle.cdi_model.specs.declared.decl.Decl.{Decl}
 use Rattle.cdi_model.specs.declared.edit.Edit.{Edit as Change}
@@ -23,7 +28,9 @@ use Rattle.cdi_wiring.specs.Wired.{IsWiringOf}
 use Rattle.cdi_wiring.specs.declared.verdict.Wiring.{Wiring}
 use Rattle.cdi_wiring.specs.declared.verdict.Wiring.TheVariants as wirings
 use Rattle.cdi_container.specs.Wired.{Deployed, RestsOnScene, is_sound, names_if, names_in, redeployed, redeployed_to, staged_by, trace_names, with_staged}
+use Rattle.cdi_container.specs.Known.{known_still}
 use Rattle.cdi_container.proofs.Ending.{standing_at}
+use Rattle.cdi_container.proofs.KnownLemmas.{same-knows}
 
 -- ---- drafts
 
@@ -67,19 +74,56 @@ names_wired ds book None h = refl
 names_wired ds book (Some (wirings.Faulty count)) h = refl
 names_wired ds book (Some (wirings.Sound wired)) h = ap Some h.names
 
-pub committed_short : (i : Indexed) → AreShort i.decls → IfSome i.staged (λ next. AreShort next.decls) → AreShort (committed i).decls
-committed_short i short staged = by i.staged staged
+-- short lists stay short
+pub committed_short : (old new : Live) → AreShort old.decls → IfSome old.staged (λ next. AreShort next.decls) → Commits old new
+    → AreShort new.decls
+committed_short old new short staged is = by old.staged staged is
   where
-    by : (next : Option Staged) → IfSome next (λ s. AreShort s.decls) → AreShort (committed_to i next).decls
-    by None h = short
-    by (Some next) h = h
+    by : (next : Option Staged) → IfSome next (λ s. AreShort s.decls) → CommitsTo old next new → AreShort new.decls
+    by None h e = subst (λ (l : Live). AreShort l.decls) (sym e) short
+    by (Some next) h e = subst AreShort (sym e.decls) h
 
-pub nothing_staged : (i : Indexed) → IfSome (committed i).staged (λ next. AreShort next.decls)
-nothing_staged i = by i.staged refl
+-- the known keys are those that were known, are still wanted and are not touched
+still-known : (old new : Live) (next : Staged) → KnownAreWanted old → TakesOver old next new
+    → known_of new ≡ known_still old.decls next.decls (known_of old)
+still-known old new next within is =
+    ap (λ ds. filter (knows new) (wanted ds)) is.decls
+    ∙ ap (λ (f : Key → Bool). filter f (wanted next.decls)) (λ j key. is.known key j)
+    ∙ ap (λ (f : Key → Bool). filter (still_known old.decls next.decls f) (wanted next.decls)) (sym (same-knows old within))
+
+-- a deployment over an answering view
+abbrev pub deployed_on : Live → List Promised → Bool → Deployed
+deployed_on live book is_wired = record {
+  decls = live.decls;
+  counts = live.counts;
+  known = known_of live;
+  work = live.work;
+  staged = live.staged;
+  book = book;
+  is_wired = is_wired;
+}
+
+-- what a view counts beside answers are its records
+pub same-counts : (old new : Live) → ◌≡◌ {A = ℕ × ℕ} (new.counts.closures, new.counts.beans) (old.counts.closures, old.counts.beans)
+    → new.counts ≡ old.counts
+same-counts old new h = ap (λ p. record { closures = p.0; beans = p.1 }) h
+
+pub commits : (old new : Live) (book : List Promised) (wired : Bool) → KnownAreWanted old → Commits old new
+    → deployed_on new book false ≡ redeployed (deployed_on old book wired)
+commits old new book wired within is = by old.staged refl is
   where
-    by : (next : Option Staged) → i.staged ≡ next → IfSome (committed_to i next).staged (λ s. AreShort s.decls)
-    by None h = subst (λ (o : Option Staged). IfSome o (λ s. AreShort s.decls)) (sym h) tt
-    by (Some next) h = tt
+    by : (staged : Option Staged) → old.staged ≡ staged → CommitsTo old staged new
+        → deployed_on new book false ≡ redeployed_to (deployed_on old book wired) staged
+    by None e same = ap (λ (l : Live). deployed_on l book false) same
+    by (Some next) e over = λ j. record {
+      decls = over.decls j;
+      counts = over.counts j;
+      known = still-known old new next within over j;
+      work = over.work j;
+      staged = over.staged j;
+      book = book;
+      is_wired = false;
+    }
 
 unwired : (d : Deployed) (staged : Option Staged) → (redeployed_to d staged).is_wired ≡ false
 unwired d None = refl

@@ -17,6 +17,8 @@ abbrev pub standing_at : Deployed → Names → Moment → State
 standing_at d names m = record {
   decls = d.decls;
   counts = d.counts;
+  known = d.known;
+  work = d.work;
   book = d.book;
   standing = m.standing;
   trace = m.trace;

@@ -1,62 +1,66 @@
 -- The declarations and the counts behind a legal history are what its accepted edits make.
-use Rattle.std.proofs.Common.{◌≡◌, List, [], ◌∷◌, ◌++◌, refl, ap, sym, ◌∙◌, subst, Bool, true, false, None}
+use Rattle.std.proofs.Common.{◌≡◌, List, [], ◌∷◌, refl, ap, sym, ◌∙◌, subst, Bool, true, false}
 use Rattle.std.specs.Prelude.{Result, Ok, Err, if◌then◌else◌}
 use Rattle.std.specs.declared.alloc.AllocError.{AllocError}
-use Rattle.cdi_model.specs.declared.decl.Decl.{Decl}
 use Rattle.cdi_model.specs.declared.edit.Edit.{Edit as Change}
 use Rattle.cdi_model.specs.Edits.{edited_all}
-use Rattle.cdi_index.specs.declared.counts.Counts.{Counts}
 use Rattle.cdi_lines.specs.declared.command.Command.{Command}
 use Rattle.cdi_lines.specs.declared.command.Command.TheVariants as commands
 use Rattle.cdi_lines.specs.declared.command.Command.TheVariants.{Edit, Batch, Choose, Named, Chain, Observers, Report, LookUp, Call, Fire}
 use Rattle.cdi_lines.specs.declared.command.Command.TheVariants.{BeginRequest, EndRequest}
 use Rattle.cdi_lines.specs.declared.command.Command.TheVariants.{Stop, Unreadable}
 use Rattle.cdi_container.specs.declared.answer.Answer.{Answer}
-use Rattle.cdi_container.specs.declared.answer.Answer.TheVariants.{Done, Chosen, Intercepted, Observed, Reported, Counted, Given, Refused}
+use Rattle.cdi_container.specs.declared.answer.Answer.TheVariants.{Done, Chosen, Intercepted, Observed, Reported, Counted, Worked, Given, Refused}
 use Rattle.cdi_container.specs.Editing.{changes_of, changes_of_all}
 use Rattle.cdi_container.proofs.BatchLemmas.{edited_all-append}
-use Rattle.cdi_container.specs.History.{State, empty, emptied, History, Acts, EditsFrom, LegalAnswer, LegalHistory, refusal_of}
+use Rattle.cdi_container.specs.History.{State, asked, empty, emptied, evaluates, History, Acts, EditsFrom, LegalAnswer, LegalHistory}
 use Rattle.cdi_container.specs.History.{accepted_changes, accepted_edits, RestsOnAcceptedEdits, runs}
-use Rattle.cdi_container.specs.History.{counts_behind, counts_of, counts_with, no_counts, CountsAcceptedEdits}
+use Rattle.cdi_container.specs.History.{counts_behind, counts_of, counts_with, CountsAcceptedEdits}
+
+-- the state after what a command evaluates
+abbrev pub after_asking : State → Command → State
+after_asking old command = asked old (evaluates old command)
 
 decls_of_edit : (old new : State) (changes : List Change) → EditsFrom old changes new → new.decls ≡ edited_all old.decls changes
 decls_of_edit old new changes h = ap (λ s. s.decls) h.rest
 
 -- what a command that was carried out leaves is what its edits make
-pub acts_edits : (old new : State) (command : Command) (answer : Answer) → refusal_of old command ≡ None → Acts old command answer new
+pub acts_edits : (old new : State) (command : Command) (answer : Answer) → Acts old command answer new
     → new.decls ≡ edited_all old.decls (accepted_changes command (Ok answer))
-acts_edits old new (Edit edit) answer accepted h =
+acts_edits old new (Edit edit) answer h =
     subst (λ a. new.decls ≡ edited_all old.decls (accepted_changes (Edit edit) (Ok a))) (sym h.0)
     (decls_of_edit old new (changes_of edit) h.1)
-acts_edits old new (Batch edits) answer accepted h =
+acts_edits old new (Batch edits) answer h =
     subst (λ a. new.decls ≡ edited_all old.decls (accepted_changes (Batch edits) (Ok a))) (sym h.0)
     (decls_of_edit old new (changes_of_all edits) h.1)
-acts_edits old new (Choose t quals) answer accepted h =
+acts_edits old new (Choose t quals) answer h =
     subst (λ a. new.decls ≡ edited_all old.decls (accepted_changes (Choose t quals) (Ok a))) (sym h.0) (ap (λ s. s.decls) h.1)
-acts_edits old new (Named name) answer accepted h =
+acts_edits old new (Named name) answer h =
     subst (λ a. new.decls ≡ edited_all old.decls (accepted_changes (Named name) (Ok a))) (sym h.0) (ap (λ s. s.decls) h.1)
-acts_edits old new (Chain bean place) answer accepted h =
+acts_edits old new (Chain bean place) answer h =
     subst (λ a. new.decls ≡ edited_all old.decls (accepted_changes (Chain bean place) (Ok a))) (sym h.given) (ap (λ s. s.decls) h.rest)
-acts_edits old new (Observers t quals) answer accepted h =
+acts_edits old new (Observers t quals) answer h =
     subst (λ a. new.decls ≡ edited_all old.decls (accepted_changes (Observers t quals) (Ok a))) (sym h.0) (ap (λ s. s.decls) h.1)
-acts_edits old new Report answer accepted h =
+acts_edits old new Report answer h =
     subst (λ a. new.decls ≡ edited_all old.decls (accepted_changes Report (Ok a))) (sym h.0) (ap (λ s. s.decls) h.1)
-acts_edits old new commands.Counts answer accepted h =
+acts_edits old new commands.Counts answer h =
     subst (λ a. new.decls ≡ edited_all old.decls (accepted_changes commands.Counts (Ok a))) (sym h.0) (ap (λ s. s.decls) h.1)
-acts_edits old new (LookUp t quals) answer accepted h =
+acts_edits old new commands.Work answer h =
+    subst (λ a. new.decls ≡ edited_all old.decls (accepted_changes commands.Work (Ok a))) (sym h.0) (ap (λ s. s.decls) h.1)
+acts_edits old new (LookUp t quals) answer h =
     subst (λ a. new.decls ≡ edited_all old.decls (accepted_changes (LookUp t quals) (Ok a))) (sym h.given) (ap (λ s. s.decls) h.rest)
-acts_edits old new (Call method arg t quals) answer accepted h =
+acts_edits old new (Call method arg t quals) answer h =
     subst (λ a. new.decls ≡ edited_all old.decls (accepted_changes (Call method arg t quals) (Ok a))) (sym h.given)
     (ap (λ s. s.decls) h.rest)
-acts_edits old new (Fire arg t quals) answer accepted h =
+acts_edits old new (Fire arg t quals) answer h =
     subst (λ a. new.decls ≡ edited_all old.decls (accepted_changes (Fire arg t quals) (Ok a))) (sym h.given) (ap (λ s. s.decls) h.rest)
-acts_edits old new BeginRequest answer accepted h =
+acts_edits old new BeginRequest answer h =
     subst (λ a. new.decls ≡ edited_all old.decls (accepted_changes BeginRequest (Ok a))) (sym h.0) (ap (λ s. s.decls) h.1)
-acts_edits old new EndRequest answer accepted h =
+acts_edits old new EndRequest answer h =
     subst (λ a. new.decls ≡ edited_all old.decls (accepted_changes EndRequest (Ok a))) (sym h.done) (ap (λ s. s.decls) h.rest)
-acts_edits old new Stop answer accepted h =
+acts_edits old new Stop answer h =
     subst (λ a. new.decls ≡ edited_all old.decls (accepted_changes Stop (Ok a))) (sym h.done) (ap (λ s. s.decls) h.rest)
-acts_edits old new Unreadable answer accepted h = absurd h
+acts_edits old new Unreadable answer h = absurd h
 
 unserved_decls : (old : State) (b : Bool) → (if b then emptied old else old).decls ≡ old.decls
 unserved_decls old true = refl
@@ -64,15 +68,17 @@ unserved_decls old false = refl
 
 step_edits : (old new : State) (command : Command) (answer : Result Answer AllocError)
     → LegalAnswer old command answer new → new.decls ≡ edited_all old.decls (accepted_changes command answer)
-step_edits old new command (Ok Done) h = acts_edits old new command Done h.0 h.1
-step_edits old new command (Ok (Chosen choice)) h = acts_edits old new command (Chosen choice) h.0 h.1
-step_edits old new command (Ok (Intercepted names)) h = acts_edits old new command (Intercepted names) h.0 h.1
-step_edits old new command (Ok (Observed ids)) h = acts_edits old new command (Observed ids) h.0 h.1
-step_edits old new command (Ok (Reported list)) h = acts_edits old new command (Reported list) h.0 h.1
-step_edits old new command (Ok (Counted counts)) h = acts_edits old new command (Counted counts) h.0 h.1
-step_edits old new command (Ok (Given outcome)) h = acts_edits old new command (Given outcome) h.0 h.1
+step_edits old new command (Ok Done) h = acts_edits (after_asking old command) new command Done h.1
+step_edits old new command (Ok (Chosen choice)) h = acts_edits (after_asking old command) new command (Chosen choice) h.1
+step_edits old new command (Ok (Intercepted names)) h = acts_edits (after_asking old command) new command (Intercepted names) h.1
+step_edits old new command (Ok (Observed ids)) h = acts_edits (after_asking old command) new command (Observed ids) h.1
+step_edits old new command (Ok (Reported list)) h = acts_edits (after_asking old command) new command (Reported list) h.1
+step_edits old new command (Ok (Counted counts)) h = acts_edits (after_asking old command) new command (Counted counts) h.1
+step_edits old new command (Ok (Worked done)) h = acts_edits (after_asking old command) new command (Worked done) h.1
+step_edits old new command (Ok (Given outcome)) h = acts_edits (after_asking old command) new command (Given outcome) h.1
 step_edits old new command (Ok (Refused refusal edit)) h = ap (λ s. s.decls) h.1
-step_edits old new command (Err error) h = ap (λ s. s.decls) h ∙ unserved_decls old (runs command)
+step_edits old new command (Err error) h =
+    ap (λ s. s.decls) h.rest ∙ unserved_decls h.left (runs command) ∙ ap (λ s. s.decls) h.asks.are
 
 history_edits : (old new : State) (history : History) → LegalHistory old history new
     → new.decls ≡ edited_all old.decls (accepted_edits history)
@@ -112,6 +118,8 @@ acts_count old new Report answer h =
     subst (λ a. new.counts ≡ counts_behind old.decls old.counts Report (Ok a)) (sym h.0) (ap (λ s. s.counts) h.1)
 acts_count old new commands.Counts answer h =
     subst (λ a. new.counts ≡ counts_behind old.decls old.counts commands.Counts (Ok a)) (sym h.0) (ap (λ s. s.counts) h.1)
+acts_count old new commands.Work answer h =
+    subst (λ a. new.counts ≡ counts_behind old.decls old.counts commands.Work (Ok a)) (sym h.0) (ap (λ s. s.counts) h.1)
 acts_count old new (LookUp t quals) answer h =
     subst (λ a. new.counts ≡ counts_behind old.decls old.counts (LookUp t quals) (Ok a)) (sym h.given) (ap (λ s. s.counts) h.rest)
 acts_count old new (Call method arg t quals) answer h =
@@ -133,15 +141,17 @@ unserved_counts old false = refl
 
 step_counts : (old new : State) (command : Command) (answer : Result Answer AllocError)
     → LegalAnswer old command answer new → new.counts ≡ counts_behind old.decls old.counts command answer
-step_counts old new command (Ok Done) h = acts_count old new command Done h.1
-step_counts old new command (Ok (Chosen choice)) h = acts_count old new command (Chosen choice) h.1
-step_counts old new command (Ok (Intercepted names)) h = acts_count old new command (Intercepted names) h.1
-step_counts old new command (Ok (Observed ids)) h = acts_count old new command (Observed ids) h.1
-step_counts old new command (Ok (Reported list)) h = acts_count old new command (Reported list) h.1
-step_counts old new command (Ok (Counted counts)) h = acts_count old new command (Counted counts) h.1
-step_counts old new command (Ok (Given outcome)) h = acts_count old new command (Given outcome) h.1
+step_counts old new command (Ok Done) h = acts_count (after_asking old command) new command Done h.1
+step_counts old new command (Ok (Chosen choice)) h = acts_count (after_asking old command) new command (Chosen choice) h.1
+step_counts old new command (Ok (Intercepted names)) h = acts_count (after_asking old command) new command (Intercepted names) h.1
+step_counts old new command (Ok (Observed ids)) h = acts_count (after_asking old command) new command (Observed ids) h.1
+step_counts old new command (Ok (Reported list)) h = acts_count (after_asking old command) new command (Reported list) h.1
+step_counts old new command (Ok (Counted counts)) h = acts_count (after_asking old command) new command (Counted counts) h.1
+step_counts old new command (Ok (Worked done)) h = acts_count (after_asking old command) new command (Worked done) h.1
+step_counts old new command (Ok (Given outcome)) h = acts_count (after_asking old command) new command (Given outcome) h.1
 step_counts old new command (Ok (Refused refusal edit)) h = ap (λ s. s.counts) h.1
-step_counts old new command (Err error) h = ap (λ s. s.counts) h ∙ unserved_counts old (runs command)
+step_counts old new command (Err error) h =
+    ap (λ s. s.counts) h.rest ∙ unserved_counts h.left (runs command) ∙ ap (λ s. s.counts) h.asks.are
 
 history_counts : (old new : State) (history : History) → LegalHistory old history new
     → new.counts ≡ counts_of old.decls old.counts history

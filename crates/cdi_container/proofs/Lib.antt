@@ -1,4 +1,8 @@
 mod Aiming
+mod KnownLemmas
+mod AskedLemmas
+mod Asking
+mod KeepingLemmas
 mod Ending
 pub mod Telling
 mod Putting
@@ -8,7 +12,6 @@ mod SharingLemmas
 mod ToldLemmas
 mod Editing
 mod Playing
-mod LastEventLemmas
 mod RunAnswered
 mod NamingLemmas
 mod Committing

@@ -6,11 +6,12 @@ use Rattle.cdi_contexts.specs.Standing.{cleared}
 use Rattle.cdi_legal.specs.Furnished.{IsFurnished}
 use Rattle.cdi_legal.specs.Moment.{Moment, beginning}
 use Rattle.cdi_legal.specs.Rooted.{IsRooted}
+use Rattle.cdi_observe.specs.Keys.{Key}
 use Rattle.cdi_run.specs.Known.{StaysRooted}
 use Rattle.cdi_scene.specs.declared.scene.Scene.{Scene}
 use Rattle.cdi_staging.specs.Staged.{scene_of}
 use Rattle.cdi_staging.specs.declared.names.Names.{Names}
-use Rattle.cdi_container.specs.Wired.{Deployed, IsSameDeployment, RestsOnScene}
+use Rattle.cdi_container.specs.Wired.{Deployed, IsAsked, RestsOnScene}
 
 -- behind the beginning of a command
 rests_restarted : (d : Deployed) (m n : Moment) (before : Option Names) → RestsOnScene d m before → n ≡ beginning m.standing
@@ -56,24 +57,36 @@ rests_ran d s m begun n wired is began rooted stays furnished =
     (subst (λ (x : Scene). IsFurnished x n.standing.live) is furnished)
 
 -- one that is there now was there before where it is not there now
-not_wired : (d e : Deployed) → IsSameDeployment d e → e.is_wired ≡ false → d.is_wired ≡ false
-not_wired d e same w = by d.is_wired refl
+not_wired : (d e : Deployed) → (d.is_wired ≡ true → e.is_wired ≡ true) → e.is_wired ≡ false → d.is_wired ≡ false
+not_wired d e wired w = by d.is_wired refl
   where
     by : (b : Bool) → d.is_wired ≡ b → d.is_wired ≡ false
-    by true h = absurd (let no : true ≡ false = sym (same.wired h) ∙ w in cc)
+    by true h = absurd (let no : true ≡ false = sym (wired h) ∙ w in cc)
     by false h = h
 
-rests_same : (d e : Deployed) (m : Moment) → IsSameDeployment d e → RestsOnScene d m None → RestsOnScene e m None
-rests_same d e m same r = record {
-  nothing_lives = λ w. r.nothing_lives (not_wired d e same w);
-  nothing_told = λ w b. r.nothing_told (not_wired d e same w) refl;
+rests_same : (d e : Deployed) (m : Moment) → (d.is_wired ≡ true → e.is_wired ≡ true) → e.decls ≡ d.decls → e.book ≡ d.book
+    → RestsOnScene d m None → RestsOnScene e m None
+rests_same d e m wired decls book r = record {
+  nothing_lives = λ w. r.nothing_lives (not_wired d e wired w);
+  nothing_told = λ w b. r.nothing_told (not_wired d e wired w) refl;
   told_now = λ w. refl;
   rooted = r.rooted;
-  furnished = subst (λ (ds : List Decl). IsFurnished (scene_of ds e.book) m.standing.live) (sym same.decls)
-      (subst (λ (book : List Promised). IsFurnished (scene_of d.decls book) m.standing.live) (sym same.book) r.furnished);
+  furnished = subst (λ (ds : List Decl). IsFurnished (scene_of ds e.book) m.standing.live) (sym decls)
+      (subst (λ (book : List Promised). IsFurnished (scene_of d.decls book) m.standing.live) (sym book) r.furnished);
+}
+
+-- where keys were evaluated, and no scene was made or lost
+pub rests_asked : (d e : Deployed) (keys : List Key) (m : Moment) (before : Option Names) → IsAsked keys d e → RestsOnScene d m before
+    → (e.is_wired ≡ true → before ≡ None) → RestsOnScene e m before
+rests_asked d e keys m before asked r told = record {
+  nothing_lives = λ w. r.nothing_lives (not_wired d e asked.wired w);
+  nothing_told = λ w b. r.nothing_told (not_wired d e asked.wired w) b;
+  told_now = told;
+  rooted = r.rooted;
+  furnished = subst (λ (x : Deployed). IsFurnished (scene_of x.decls x.book) m.standing.live) (sym asked.rest) r.furnished;
 }
 
 -- where no run began
-pub rests_unplayed : (d e : Deployed) (m begun : Moment) (before : Option Names) → RestsOnScene d m before
-    → begun ≡ beginning m.standing → IsSameDeployment d e → RestsOnScene e begun None
-rests_unplayed d e m begun before r began same = rests_same d e begun same (rests_restarted d m begun before r began)
+pub rests_unplayed : (d e : Deployed) (m begun : Moment) (before : Option Names) → RestsOnScene d m before → begun ≡ beginning m.standing
+    → (d.is_wired ≡ true → e.is_wired ≡ true) → e.decls ≡ d.decls → e.book ≡ d.book → RestsOnScene e begun None
+rests_unplayed d e m begun before r began wired decls book = rests_same d e begun wired decls book (rests_restarted d m begun before r began)

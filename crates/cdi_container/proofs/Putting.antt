@@ -1,5 +1,5 @@
 -- What an edit and a batch answer and leave makes a step.
-use Rattle.std.proofs.Common.{◌≡◌, ℕ, List, Option, None, Some, refl, ap, sym, subst, ◌∙◌}
+use Rattle.std.proofs.Common.{◌≡◌, ℕ, List, [], Option, None, Some, refl, ap, sym, subst, ◌∙◌}
 use Rattle.std.specs.Prelude.{Result, Ok, Err, OnOk, IfErr}
 use Rattle.cdi_model.specs.declared.decl.Decl.{Decl}
 use Rattle.cdi_model.specs.declared.refusal.Error.{Error}
@@ -13,10 +13,11 @@ use Rattle.cdi_text.specs.Reading.{decl_of}
 use Rattle.cdi_lines.specs.declared.edit.Edit.{Edit}
 use Rattle.cdi_lines.specs.declared.edit.Edit.TheVariants as edits
 use Rattle.cdi_container.specs.Editing.{admitted, alone, change_of, changes_in, changes_of, changes_of_all, put_of, refusal_of_batch, refusal_of_change}
-use Rattle.cdi_container.specs.History.{State, EditsFrom, left_by}
+use Rattle.cdi_container.specs.History.{State, AsksSome, EditsFrom, left_by}
 use Rattle.cdi_container.specs.Seen.{EditStep, PutStep, PutDeclStep, BatchStep, AnswersBatch, answer_of_change, left_by_batch}
 use Rattle.cdi_container.specs.declared.batch.BatchError.{BatchError}
 use Rattle.cdi_container.specs.declared.batch.BatchError.TheVariants as batch_errors
+use Rattle.cdi_container.proofs.AskedLemmas.{apart-none}
 
 -- a change that is accepted has no refusal
 accepted : (ds : List Decl) (change : Change) (u : Unit {0}) → answer_of_edit ds change ≡ Ok u → refusal_of_edit ds change ≡ None
@@ -45,13 +46,17 @@ pub refused_change : (ds : List Decl) (asked : Result Change Refusal) (r : Refus
 refused_change ds (Ok change) r h = refused ds change r h
 refused_change ds (Err s) r h = cc
 
+-- an edit evaluates nothing
+no_keys : (old : State) → AsksSome old [] old
+no_keys old = record { some = []; among = refl; apart = apart-none; are = refl }
+
 -- what asks for a change answers as the edit that asks for it
 edit_step : (old new : State) (edit : Edit) (result : Result (Unit {0}) Error)
     → Answers result (answer_of_change old.decls (change_of edit))
     → OnOk result (EditsFrom old (changes_of edit) new)
     → IfErr result (λ error. new ≡ left_by error old) → EditStep old edit result new
 edit_step old new edit (Ok u) answer ok err = (ap alone (accepted_change old.decls (change_of edit) u answer), (refl, ok))
-edit_step old new edit (Err errors.OutOfMemory) answer ok err = err
+edit_step old new edit (Err errors.OutOfMemory) answer ok err = record { left = old; asks = no_keys old; rest = err }
 edit_step old new edit (Err (errors.Refused r)) answer ok err = (ap alone (refused_change old.decls (change_of edit) r answer), err)
 
 pub put_step : (old new : State) (text : List ℕ) (result : Result (Unit {0}) Error)
@@ -73,5 +78,5 @@ pub batch_step : (old new : State) (edits : List Edit) (result : Result (Unit {0
     → OnOk result (EditsFrom old (changes_of_all edits) new)
     → IfErr result (λ error. new ≡ left_by_batch error old) → BatchStep old edits result new
 batch_step old new edits (Ok u) answer ok err = (answer, (refl, ok))
-batch_step old new edits (Err batch_errors.OutOfMemory) answer ok err = err
+batch_step old new edits (Err batch_errors.OutOfMemory) answer ok err = record { left = old; asks = no_keys old; rest = err }
 batch_step old new edits (Err (batch_errors.Refused refusal edit)) answer ok err = (answer, err)

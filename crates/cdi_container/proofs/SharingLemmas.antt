@@ -13,17 +13,19 @@ use Rattle.cdi_legal.specs.Single.{IsSingle}
 use Rattle.cdi_legal.proofs.Commands.{run_single, request_end_single, end_single}
 use Rattle.cdi_legal.proofs.Housing.{run_rises, run_rooted, request_end_rises, request_end_rooted, end_rises, end_rooted}
 use Rattle.cdi_legal.proofs.Housing.{both_ends_leave_nothing}
+use Rattle.cdi_observe.specs.Keys.{Key}
 use Rattle.cdi_lines.specs.declared.command.Command.{Command}
 use Rattle.cdi_lines.specs.declared.command.Command.TheVariants as commands
 use Rattle.cdi_lines.specs.declared.command.Command.TheVariants.{Edit, Batch, Choose, Named, Chain, Observers, Report, LookUp, Call, Fire}
 use Rattle.cdi_lines.specs.declared.command.Command.TheVariants.{BeginRequest, EndRequest}
 use Rattle.cdi_lines.specs.declared.command.Command.TheVariants.{Stop, Unreadable}
 use Rattle.cdi_container.specs.declared.answer.Answer.{Answer}
-use Rattle.cdi_container.specs.declared.answer.Answer.TheVariants.{Done, Chosen, Intercepted, Observed, Reported, Counted, Given, Refused}
-use Rattle.cdi_container.specs.History.{State, empty, emptied, untold, scene, Acts, EditsFrom, EndsContexts, IsRunFrom, RunsFrom}
+use Rattle.cdi_container.specs.declared.answer.Answer.TheVariants.{Done, Chosen, Intercepted, Observed, Reported, Counted, Worked, Given, Refused}
+use Rattle.cdi_container.specs.History.{State, asked, empty, emptied, evaluates, untold, scene, Acts, EditsFrom, EndsContexts, IsRunFrom, RunsFrom}
 use Rattle.cdi_container.specs.History.{LegalAnswer, History, LegalHistory, runs}
 use Rattle.cdi_container.specs.History.{SharesInstances}
 use Rattle.cdi_container.specs.Editing.{changes_of, changes_of_all}
+use Rattle.cdi_container.proofs.HistoryLemmas.{after_asking}
 
 -- what holds of a state: at most one instance of each bean with a normal scope is live, numbers rise along the live instances, and
 -- each stands in a context or was made for a point of a live one
@@ -73,6 +75,10 @@ untold_holds : (old new : State) → new ≡ untold old → Holds old → Holds 
 untold_holds old new h q =
     subst Holds (sym h) (record { single = q.single; rises = q.rises; rooted = q.rooted })
 
+-- what is evaluated touches nothing that is live
+asked_holds : (old : State) (keys : List Key) → Holds old → Holds (asked old keys)
+asked_holds old keys q = record { single = q.single; rises = q.rises; rooted = q.rooted }
+
 acts_hold : (old new : State) (command : Command) (answer : Answer) → Acts old command answer new → Holds old → Holds new
 acts_hold old new (Edit edit) answer h q = edit_holds old new (changes_of edit) h.1 q
 acts_hold old new (Batch edits) answer h q = edit_holds old new (changes_of_all edits) h.1 q
@@ -82,6 +88,7 @@ acts_hold old new (Chain bean place) answer h q = untold_holds old new h.rest q
 acts_hold old new (Observers t quals) answer h q = untold_holds old new h.1 q
 acts_hold old new Report answer h q = untold_holds old new h.1 q
 acts_hold old new commands.Counts answer h q = untold_holds old new h.1 q
+acts_hold old new commands.Work answer h q = untold_holds old new h.1 q
 acts_hold old new (LookUp t quals) answer h q = run_holds old new _ answer h q
 acts_hold old new (Call method arg t quals) answer h q = run_holds old new _ answer h q
 acts_hold old new (Fire arg t quals) answer h q = run_holds old new _ answer h q
@@ -99,15 +106,18 @@ unserved_holds old false q = q
 
 step_holds : (old new : State) (command : Command) (answer : Result Answer AllocError) → LegalAnswer old command answer new
     → Holds old → Holds new
-step_holds old new command (Ok Done) h q = acts_hold old new command Done h.1 q
-step_holds old new command (Ok (Chosen choice)) h q = acts_hold old new command (Chosen choice) h.1 q
-step_holds old new command (Ok (Intercepted names)) h q = acts_hold old new command (Intercepted names) h.1 q
-step_holds old new command (Ok (Observed ids)) h q = acts_hold old new command (Observed ids) h.1 q
-step_holds old new command (Ok (Reported list)) h q = acts_hold old new command (Reported list) h.1 q
-step_holds old new command (Ok (Counted counts)) h q = acts_hold old new command (Counted counts) h.1 q
-step_holds old new command (Ok (Given outcome)) h q = acts_hold old new command (Given outcome) h.1 q
-step_holds old new command (Ok (Refused refusal edit)) h q = untold_holds old new h.1 q
-step_holds old new command (Err error) h q = subst Holds (sym h) (unserved_holds old (runs command) q)
+step_holds old new command (Ok Done) h q = acts_hold (after_asking old command) new command Done h.1 (asked_holds old (evaluates old command) q)
+step_holds old new command (Ok (Chosen choice)) h q = acts_hold (after_asking old command) new command (Chosen choice) h.1 (asked_holds old (evaluates old command) q)
+step_holds old new command (Ok (Intercepted names)) h q = acts_hold (after_asking old command) new command (Intercepted names) h.1 (asked_holds old (evaluates old command) q)
+step_holds old new command (Ok (Observed ids)) h q = acts_hold (after_asking old command) new command (Observed ids) h.1 (asked_holds old (evaluates old command) q)
+step_holds old new command (Ok (Reported list)) h q = acts_hold (after_asking old command) new command (Reported list) h.1 (asked_holds old (evaluates old command) q)
+step_holds old new command (Ok (Counted counts)) h q = acts_hold (after_asking old command) new command (Counted counts) h.1 (asked_holds old (evaluates old command) q)
+step_holds old new command (Ok (Worked done)) h q = acts_hold (after_asking old command) new command (Worked done) h.1 (asked_holds old (evaluates old command) q)
+step_holds old new command (Ok (Given outcome)) h q = acts_hold (after_asking old command) new command (Given outcome) h.1 (asked_holds old (evaluates old command) q)
+step_holds old new command (Ok (Refused refusal edit)) h q =
+    untold_holds (after_asking old command) new h.1 (asked_holds old (evaluates old command) q)
+step_holds old new command (Err error) h q =
+    subst Holds (sym h.rest) (unserved_holds h.left (runs command) (subst Holds (sym h.asks.are) (asked_holds old h.asks.some q)))
 
 history_holds : (old new : State) (history : History) → LegalHistory old history new → Holds old → Holds new
 history_holds old new [] h q = subst Holds (sym h) q

@@ -1,5 +1,5 @@
 -- The entries of a command are told by the names of the declarations before it.
-use Rattle.std.proofs.Common.{◌≡◌, [], ◌++◌, refl, subst, sym, ap, ◌∙◌}
+use Rattle.std.proofs.Common.{◌≡◌, refl, subst, sym, ap}
 use Rattle.std.specs.Prelude.{List, Ok}
 use Rattle.cdi_model.specs.declared.edit.Edit.{Edit as Change}
 use Rattle.cdi_lines.specs.declared.command.Command.{Command}
@@ -8,10 +8,11 @@ use Rattle.cdi_lines.specs.declared.command.Command.TheVariants.{Edit, Batch, Ch
 use Rattle.cdi_lines.specs.declared.command.Command.TheVariants.{BeginRequest, EndRequest}
 use Rattle.cdi_lines.specs.declared.command.Command.TheVariants.{Stop, Unreadable}
 use Rattle.cdi_container.specs.declared.answer.Answer.{Answer}
-use Rattle.cdi_container.specs.declared.answer.Answer.TheVariants.{Done, Chosen, Intercepted, Observed, Reported, Counted, Given, Refused}
+use Rattle.cdi_container.specs.declared.answer.Answer.TheVariants.{Done, Chosen, Intercepted, Observed, Reported, Counted, Worked, Given, Refused}
 use Rattle.cdi_container.specs.Seen.{IsStep}
 use Rattle.cdi_container.specs.History.{State, Acts, EditsFrom, told_on, untold}
 use Rattle.cdi_container.specs.Editing.{changes_of, changes_of_all}
+use Rattle.cdi_container.proofs.HistoryLemmas.{after_asking}
 
 -- the entries of a command are told by the declarations before it
 abbrev pub Tells : State → State → Type 0
@@ -32,6 +33,7 @@ acts_tell old new (Chain bean place) answer h = untold_tells old new h.rest
 acts_tell old new (Observers t quals) answer h = untold_tells old new h.1
 acts_tell old new Report answer h = untold_tells old new h.1
 acts_tell old new commands.Counts answer h = untold_tells old new h.1
+acts_tell old new commands.Work answer h = untold_tells old new h.1
 acts_tell old new (LookUp t quals) answer h = ap (λ s. s.text) h.rest
 acts_tell old new (Call method arg t quals) answer h = ap (λ s. s.text) h.rest
 acts_tell old new (Fire arg t quals) answer h = ap (λ s. s.text) h.rest
@@ -41,11 +43,12 @@ acts_tell old new Stop answer h = ap (λ s. s.text) h.rest
 acts_tell old new Unreadable answer h = absurd h
 
 pub step_tells : (old new : State) (command : Command) (answer : Answer) → IsStep old command (Ok answer) new → Tells old new
-step_tells old new command Done h = acts_tell old new command Done h.1
-step_tells old new command (Chosen choice) h = acts_tell old new command (Chosen choice) h.1
-step_tells old new command (Intercepted names) h = acts_tell old new command (Intercepted names) h.1
-step_tells old new command (Observed ids) h = acts_tell old new command (Observed ids) h.1
-step_tells old new command (Reported list) h = acts_tell old new command (Reported list) h.1
-step_tells old new command (Counted counts) h = acts_tell old new command (Counted counts) h.1
-step_tells old new command (Given outcome) h = acts_tell old new command (Given outcome) h.1
-step_tells old new command (Refused refusal edit) h = untold_tells old new h.1
+step_tells old new command Done h = acts_tell (after_asking old command) new command Done h.1
+step_tells old new command (Chosen choice) h = acts_tell (after_asking old command) new command (Chosen choice) h.1
+step_tells old new command (Intercepted names) h = acts_tell (after_asking old command) new command (Intercepted names) h.1
+step_tells old new command (Observed ids) h = acts_tell (after_asking old command) new command (Observed ids) h.1
+step_tells old new command (Reported list) h = acts_tell (after_asking old command) new command (Reported list) h.1
+step_tells old new command (Counted counts) h = acts_tell (after_asking old command) new command (Counted counts) h.1
+step_tells old new command (Worked done) h = acts_tell (after_asking old command) new command (Worked done) h.1
+step_tells old new command (Given outcome) h = acts_tell (after_asking old command) new command (Given outcome) h.1
+step_tells old new command (Refused refusal edit) h = untold_tells (after_asking old command) new h.1

@@ -1,15 +1,15 @@
 -- The state behind a legal history is told by what was commanded, answered and traced.
-use Rattle.std.proofs.Common.{◌≡◌, ℕ, List, [], ◌∷◌, refl, ap, sym, ◌∙◌, subst, None}
-use Rattle.std.specs.Prelude.{Result, Ok, Err}
+use Rattle.std.proofs.Common.{◌≡◌, ℕ, Bool, true, false, List, [], ◌∷◌, refl, ap, sym, ◌∙◌, subst}
+use Rattle.std.specs.Prelude.{Result, Ok, Err, if◌then◌else◌}
+use Rattle.std.specs.List.{list_all}
+use Rattle.std.proofs.lemmas.Bool.{and_parts, false≢true}
 use Rattle.std.specs.declared.alloc.AllocError.{AllocError}
-use Rattle.cdi_model.specs.declared.decl.Decl.{Decl}
 use Rattle.cdi_model.specs.declared.edit.Edit.{Edit as Change}
-use Rattle.cdi_bodies.specs.Book.{Promised}
-use Rattle.cdi_contexts.specs.Standing.{Standing, closed}
-use Rattle.cdi_index.specs.declared.counts.Counts.{Counts}
+use Rattle.cdi_contexts.specs.Standing.{closed}
 use Rattle.cdi_legal.specs.Follows.{after}
 use Rattle.cdi_legal.specs.declared.entry.Entry.{Entry}
 use Rattle.cdi_legal.proofs.Commands.{run_follows, request_end_follows, end_follows}
+use Rattle.cdi_observe.specs.Keys.{Key}
 use Rattle.cdi_staging.specs.Naming.{names_of}
 use Rattle.cdi_staging.specs.declared.names.Names.{Names}
 use Rattle.cdi_lines.specs.declared.command.Command.{Command}
@@ -18,23 +18,26 @@ use Rattle.cdi_lines.specs.declared.command.Command.TheVariants.{Edit, Batch, Ch
 use Rattle.cdi_lines.specs.declared.command.Command.TheVariants.{BeginRequest, EndRequest}
 use Rattle.cdi_lines.specs.declared.command.Command.TheVariants.{Stop, Unreadable}
 use Rattle.cdi_container.specs.declared.answer.Answer.{Answer}
-use Rattle.cdi_container.specs.declared.answer.Answer.TheVariants.{Done, Chosen, Intercepted, Observed, Reported, Counted, Given, Refused}
-use Rattle.cdi_container.specs.History.{State, Acts, EditsFrom, LegalAnswer, LegalHistory, History, Step, LegalStep, empty}
-use Rattle.cdi_container.specs.History.{refusal_of, trace_behind}
+use Rattle.cdi_container.specs.declared.answer.Answer.TheVariants.{Done, Chosen, Intercepted, Observed, Reported, Counted, Worked, Given, Refused}
+use Rattle.cdi_container.specs.History.{State, Acts, EditsFrom, LegalAnswer, LegalHistory, History, asked, empty, emptied}
+use Rattle.cdi_container.specs.History.{left_unserved, runs, trace_behind}
 use Rattle.cdi_container.specs.Editing.{changes_of, changes_of_all}
-use Rattle.cdi_container.specs.Told.{standing_behind, carried_out, told_behind, told_by, IsTold}
-use Rattle.cdi_container.proofs.HistoryLemmas.{acts_count, acts_edits}
+use Rattle.cdi_container.specs.Told.{standing_behind, carried_out, is_served, known_behind, told_behind, told_by, AreOneButKnown, IsTold}
+use Rattle.cdi_container.proofs.HistoryLemmas.{acts_count, acts_edits, after_asking}
 use Rattle.cdi_container.proofs.Telling.{acts_tell}
 
-same_state : (a b : State) → a.decls ≡ b.decls → a.counts ≡ b.counts → a.book ≡ b.book → a.standing ≡ b.standing → a.trace ≡ b.trace
-    → a.text ≡ b.text → a ≡ b
-same_state a b d c k s t x =
-    ap (λ (y : List Decl). record a { decls = y }) d
-    ∙ ap (λ (y : Counts). record b { counts = y; book = a.book; standing = a.standing; trace = a.trace; text = a.text }) c
-    ∙ ap (λ (y : List Promised). record b { book = y; standing = a.standing; trace = a.trace; text = a.text }) k
-    ∙ ap (λ (y : Standing). record b { standing = y; trace = a.trace; text = a.text }) s
-    ∙ ap (λ (y : List Entry). record b { trace = y; text = a.text }) t
-    ∙ ap (λ (y : List ℕ). record b { text = y }) x
+same_state : (a b : State) → a.decls ≡ b.decls → a.counts ≡ b.counts → a.known ≡ b.known → a.work ≡ b.work → a.book ≡ b.book
+    → a.standing ≡ b.standing → a.trace ≡ b.trace → a.text ≡ b.text → a ≡ b
+same_state a b d c k w p s t x = λ j. record {
+  decls = d j;
+  counts = c j;
+  known = k j;
+  work = w j;
+  book = p j;
+  standing = s j;
+  trace = t j;
+  text = x j;
+}
 
 -- ---- bodies never change
 
@@ -50,6 +53,7 @@ acts_book old new (Chain bean place) answer h = ap (λ s. s.book) h.rest
 acts_book old new (Observers t quals) answer h = ap (λ s. s.book) h.1
 acts_book old new Report answer h = ap (λ s. s.book) h.1
 acts_book old new commands.Counts answer h = ap (λ s. s.book) h.1
+acts_book old new commands.Work answer h = ap (λ s. s.book) h.1
 acts_book old new (LookUp t quals) answer h = ap (λ s. s.book) h.rest
 acts_book old new (Call method arg t quals) answer h = ap (λ s. s.book) h.rest
 acts_book old new (Fire arg t quals) answer h = ap (λ s. s.book) h.rest
@@ -75,6 +79,7 @@ acts_standing old new (Chain bean place) answer h = ap (λ s. s.standing) h.rest
 acts_standing old new (Observers t quals) answer h = ap (λ s. s.standing) h.1
 acts_standing old new Report answer h = ap (λ s. s.standing) h.1
 acts_standing old new commands.Counts answer h = ap (λ s. s.standing) h.1
+acts_standing old new commands.Work answer h = ap (λ s. s.standing) h.1
 acts_standing old new (LookUp t quals) answer h = run_follows h.legal
 acts_standing old new (Call method arg t quals) answer h = run_follows h.legal
 acts_standing old new (Fire arg t quals) answer h = run_follows h.legal
@@ -83,37 +88,136 @@ acts_standing old new EndRequest answer h = request_end_follows h.legal
 acts_standing old new Stop answer h = end_follows h.legal
 acts_standing old new Unreadable answer h = absurd h
 
+-- ---- what is known, and the work
+
+acts_known : (old new : State) (command : Command) (answer : Answer) → Acts old command answer new
+    → new.known ≡ known_behind old command answer
+acts_known old new (Edit edit) answer h =
+    subst (λ a. new.known ≡ known_behind old (Edit edit) a) (sym h.0) (ap (λ s. s.known) h.1.rest)
+acts_known old new (Batch edits) answer h =
+    subst (λ a. new.known ≡ known_behind old (Batch edits) a) (sym h.0) (ap (λ s. s.known) h.1.rest)
+acts_known old new (Choose t quals) answer h = ap (λ s. s.known) h.1
+acts_known old new (Named name) answer h = ap (λ s. s.known) h.1
+acts_known old new (Chain bean place) answer h = ap (λ s. s.known) h.rest
+acts_known old new (Observers t quals) answer h = ap (λ s. s.known) h.1
+acts_known old new Report answer h = ap (λ s. s.known) h.1
+acts_known old new commands.Counts answer h = ap (λ s. s.known) h.1
+acts_known old new commands.Work answer h = ap (λ s. s.known) h.1
+acts_known old new (LookUp t quals) answer h = ap (λ s. s.known) h.rest
+acts_known old new (Call method arg t quals) answer h = ap (λ s. s.known) h.rest
+acts_known old new (Fire arg t quals) answer h = ap (λ s. s.known) h.rest
+acts_known old new BeginRequest answer h = ap (λ s. s.known) h.1
+acts_known old new EndRequest answer h = ap (λ s. s.known) h.rest
+acts_known old new Stop answer h = ap (λ s. s.known) h.rest
+acts_known old new Unreadable answer h = absurd h
+
+edit_work : (old new : State) (changes : List Change) → EditsFrom old changes new → new.work ≡ old.work
+edit_work old new changes h = ap (λ s. s.work) h.rest ∙ ap (λ s. s.work) h.ends.rest
+
+acts_work : (old new : State) (command : Command) (answer : Answer) → Acts old command answer new → new.work ≡ old.work
+acts_work old new (Edit edit) answer h = edit_work old new (changes_of edit) h.1
+acts_work old new (Batch edits) answer h = edit_work old new (changes_of_all edits) h.1
+acts_work old new (Choose t quals) answer h = ap (λ s. s.work) h.1
+acts_work old new (Named name) answer h = ap (λ s. s.work) h.1
+acts_work old new (Chain bean place) answer h = ap (λ s. s.work) h.rest
+acts_work old new (Observers t quals) answer h = ap (λ s. s.work) h.1
+acts_work old new Report answer h = ap (λ s. s.work) h.1
+acts_work old new commands.Counts answer h = ap (λ s. s.work) h.1
+acts_work old new commands.Work answer h = ap (λ s. s.work) h.1
+acts_work old new (LookUp t quals) answer h = ap (λ s. s.work) h.rest
+acts_work old new (Call method arg t quals) answer h = ap (λ s. s.work) h.rest
+acts_work old new (Fire arg t quals) answer h = ap (λ s. s.work) h.rest
+acts_work old new BeginRequest answer h = ap (λ s. s.work) h.1
+acts_work old new EndRequest answer h = ap (λ s. s.work) h.rest
+acts_work old new Stop answer h = ap (λ s. s.work) h.rest
+acts_work old new Unreadable answer h = absurd h
+
 -- ---- steps
 
-acts_told : (old new : State) (command : Command) (answer : Answer) → refusal_of old command ≡ None → Acts old command answer new
+acts_told : (old new : State) (command : Command) (answer : Answer) → Acts old command answer new
     → new ≡ carried_out old command answer new.trace (names_of old.decls)
-acts_told old new command answer accepted h =
-    same_state new (carried_out old command answer new.trace (names_of old.decls)) (acts_edits old new command answer accepted h)
-    (acts_count old new command answer h) (acts_book old new command answer h) (acts_standing old new command answer h) refl (acts_tell old new command answer h)
+acts_told old new command answer h =
+    same_state new (carried_out old command answer new.trace (names_of old.decls)) (acts_edits old new command answer h)
+    (acts_count old new command answer h) (acts_known old new command answer h) (acts_work old new command answer h)
+    (acts_book old new command answer h) (acts_standing old new command answer h) refl (acts_tell old new command answer h)
 
-answer_told : (old new : State) (command : Command) (answer : Result Answer AllocError) → LegalAnswer old command answer new
-    → new ≡ told_behind old command answer (trace_behind answer new) (names_of old.decls)
-answer_told old new command (Ok Done) h = acts_told old new command Done h.0 h.1
-answer_told old new command (Ok (Chosen choice)) h = acts_told old new command (Chosen choice) h.0 h.1
-answer_told old new command (Ok (Intercepted names)) h = acts_told old new command (Intercepted names) h.0 h.1
-answer_told old new command (Ok (Observed ids)) h = acts_told old new command (Observed ids) h.0 h.1
-answer_told old new command (Ok (Reported list)) h = acts_told old new command (Reported list) h.0 h.1
-answer_told old new command (Ok (Counted counts)) h = acts_told old new command (Counted counts) h.0 h.1
-answer_told old new command (Ok (Given outcome)) h = acts_told old new command (Given outcome) h.0 h.1
-answer_told old new command (Ok (Refused refusal edit)) h = h.1
-answer_told old new command (Err error) h = h
+answer_told : (old new : State) (command : Command) (answer : Answer) → LegalAnswer old command (Ok answer) new
+    → new ≡ told_behind old command (Ok answer) new.trace (names_of old.decls)
+answer_told old new command Done h = acts_told (after_asking old command) new command Done h.1
+answer_told old new command (Chosen choice) h = acts_told (after_asking old command) new command (Chosen choice) h.1
+answer_told old new command (Intercepted names) h = acts_told (after_asking old command) new command (Intercepted names) h.1
+answer_told old new command (Observed ids) h = acts_told (after_asking old command) new command (Observed ids) h.1
+answer_told old new command (Reported list) h = acts_told (after_asking old command) new command (Reported list) h.1
+answer_told old new command (Counted counts) h = acts_told (after_asking old command) new command (Counted counts) h.1
+answer_told old new command (Worked done) h = acts_told (after_asking old command) new command (Worked done) h.1
+answer_told old new command (Given outcome) h = acts_told (after_asking old command) new command (Given outcome) h.1
+answer_told old new command (Refused refusal edit) h = h.1
 
-step_told : (old new : State) (step : Step) → LegalStep old step new
-    → new ≡ told_behind old step.command step.answer step.trace step.names
-step_told old new step h =
-    answer_told old new step.command step.answer h.answered
-    ∙ ap (λ (t : List Entry). told_behind old step.command step.answer t (names_of old.decls)) (sym h.trace)
-    ∙ ap (λ (n : Names). told_behind old step.command step.answer step.trace n) (sym h.names)
+-- where memory sufficed
+served_told : (old new : State) (command : Command) (answer : Result Answer AllocError) (trace : List Entry) (names : Names)
+    → LegalAnswer old command answer new → trace ≡ trace_behind answer new → names ≡ names_of old.decls → is_served answer ≡ true
+    → new ≡ told_behind old command answer trace names
+served_told old new command (Ok answer) trace names h traced named served =
+    answer_told old new command answer h
+    ∙ ap (λ (t : List Entry). told_behind old command (Ok answer) t (names_of old.decls)) (sym traced)
+    ∙ ap (λ (n : Names). told_behind old command (Ok answer) trace n) (sym named)
+served_told old new command (Err error) trace names h traced named served = absurd (false≢true served)
 
-history_told : (old new : State) (history : History) → LegalHistory old history new → new ≡ told_by old history
-history_told old new [] h = h
-history_told old new (step ∷ steps) h =
-    history_told h.0 new steps h.2 ∙ ap (λ (s : State). told_by s steps) (step_told old h.0 step h.1)
+history_told : (old new : State) (history : History) → LegalHistory old history new
+    → list_all (λ step. is_served step.answer) history ≡ true → new ≡ told_by old history
+history_told old new [] h served = h
+history_told old new (step ∷ steps) h served =
+    let parts = and_parts (is_served step.answer) (list_all (λ step. is_served step.answer) steps) served in
+    history_told h.0 new steps h.2 parts.1 ∙ ap (λ (s : State). told_by s steps)
+    (served_told old h.0 step.command step.answer step.trace step.names h.1.answered h.1.trace h.1.names parts.0)
+
+-- ---- and where it did not
+
+-- a state with other known keys, and another work
+abbrev but_known : State → List Key → ℕ → State
+but_known s known work = record s { known = known; work = work }
+
+told_but_known : (s : State) (known : List Key) (work : ℕ) (command : Command) (answer : Answer) (trace : List Entry) (names : Names)
+    → AreOneButKnown (told_behind (but_known s known work) command (Ok answer) trace names) (told_behind s command (Ok answer) trace names)
+told_but_known s known work command Done trace names = refl
+told_but_known s known work command (Chosen choice) trace names = refl
+told_but_known s known work command (Intercepted list) trace names = refl
+told_but_known s known work command (Observed ids) trace names = refl
+told_but_known s known work command (Reported list) trace names = refl
+told_but_known s known work command (Counted counts) trace names = refl
+told_but_known s known work command (Worked done) trace names = refl
+told_but_known s known work command (Given outcome) trace names = refl
+told_but_known s known work command (Refused refusal edit) trace names = refl
+
+unserved_but_known : (s : State) (known : List Key) (work : ℕ) (b : Bool)
+    → AreOneButKnown (if b then emptied (but_known s known work) else but_known s known work) (if b then emptied s else s)
+unserved_but_known s known work true = refl
+unserved_but_known s known work false = refl
+
+-- a state that differs from another in these at most
+known_apart : (old s new : State) (command : Command) (answer : Result Answer AllocError) (trace : List Entry) (names : Names)
+    → AreOneButKnown old s → LegalAnswer old command answer new → trace ≡ trace_behind answer new → names ≡ names_of old.decls
+    → AreOneButKnown new (told_behind s command answer trace names)
+known_apart old s new command (Ok answer) trace names like h traced named =
+    subst (λ (n : State). AreOneButKnown n (told_behind s command (Ok answer) trace names))
+    (sym (served_told old new command (Ok answer) trace names h traced named refl))
+    (subst (λ (o : State). AreOneButKnown (told_behind o command (Ok answer) trace names) (told_behind s command (Ok answer) trace names))
+    (sym like) (told_but_known s old.known old.work command answer trace names))
+known_apart old s new command (Err error) trace names like h traced named =
+    subst (λ (n : State). AreOneButKnown n (left_unserved s command))
+    (sym (h.rest ∙ ap (λ (l : State). left_unserved l command)
+    (h.asks.are ∙ ap (λ (o : State). but_known o (asked old h.asks.some).known (asked old h.asks.some).work) like)))
+    (unserved_but_known s (asked old h.asks.some).known (asked old h.asks.some).work (runs command))
+
+history_but_known : (old s new : State) (history : History) → AreOneButKnown old s → LegalHistory old history new
+    → AreOneButKnown new (told_by s history)
+history_but_known old s new [] like h = subst (λ (n : State). AreOneButKnown n s) (sym h) like
+history_but_known old s new (step ∷ steps) like h =
+    history_but_known h.0 (told_behind s step.command step.answer step.trace step.names) new steps
+    (known_apart old s h.0 step.command step.answer step.trace step.names like h.1.answered h.1.trace h.1.names) h.2
 
 pub is_told : (history : History) → IsTold history
-is_told history book state h = history_told (empty book) state history h
+is_told history book state h = record {
+  but_known = history_but_known (empty book) (empty book) state history refl h;
+  served = history_told (empty book) state history h;
+}

@@ -11,7 +11,8 @@ use Rattle.cdi_faults.specs.declared.fault.Fault.{Fault}
 use Rattle.cdi_faults.specs.FaultText.{text_of_fault}
 use Rattle.cdi_model.specs.Bytes.{feed, space}
 use Rattle.cdi_container.specs.declared.answer.Answer.{Answer}
-use Rattle.cdi_container.specs.declared.answer.Answer.TheVariants.{Done, Chosen, Intercepted, Observed, Reported, Counted, Given, Refused}
+use Rattle.cdi_container.specs.declared.answer.WorkDone.{WorkDone}
+use Rattle.cdi_container.specs.declared.answer.Answer.TheVariants.{Done, Chosen, Intercepted, Observed, Reported, Counted, Worked, Given, Refused}
 use Rattle.cdi_model.specs.OutcomeText.{words_of_outcome}
 
 -- the code and the word of a refusal
@@ -40,6 +41,10 @@ text_of_report list = codes "faults " ++ decimal (length list) ++ text_of_faults
 abbrev pub text_of_counts : Counts → List ℕ
 text_of_counts counts = codes "counts closures " ++ decimal counts.closures ++ codes " beans " ++ decimal counts.beans
 
+-- how many answers were computed, and how many are known
+abbrev pub text_of_work : WorkDone → List ℕ
+text_of_work done = codes "work " ++ decimal done.work ++ codes " known " ++ decimal done.known
+
 -- names, each behind a space
 abbrev pub text_of_names : List (List ℕ) → List ℕ
 text_of_names names = flat_map (λ name. space ∷ name) names
@@ -64,5 +69,6 @@ words_of_answer (Intercepted names) = text_of_chain names
 words_of_answer (Observed ids) = text_of_observers ids
 words_of_answer (Reported list) = text_of_report list
 words_of_answer (Counted counts) = text_of_counts counts
+words_of_answer (Worked done) = text_of_work done
 words_of_answer (Given outcome) = words_of_outcome outcome
 words_of_answer (Refused refusal edit) = codes "refused " ++ word_of refusal ++ count_of refusal ++ text_of_number edit

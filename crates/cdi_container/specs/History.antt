@@ -1,5 +1,6 @@
 -- The state of a container, and its legal steps and histories.
-use Rattle.std.specs.Prelude.{◌≡◌, ℕ, Bool, true, false, List, [], ◌∷◌, ◌++◌, Option, None, Some, Result, Ok, Err, if◌then◌else◌}
+use Rattle.std.specs.Prelude.{◌≡◌, ◌≢◌, ℕ, Bool, true, false, List, [], ◌∷◌, ◌++◌, AllPairs, Option, None, Some, Result, Ok, Err, if◌then◌else◌}
+use Rattle.std.specs.List.{list_all}
 use Rattle.std.specs.declared.alloc.AllocError.{AllocError}
 use Rattle.cdi_model.specs.declared.decl.Decl.{Decl}
 use Rattle.cdi_model.specs.declared.outcome.Outcome.{Outcome}
@@ -22,7 +23,9 @@ use Rattle.cdi_index.specs.State.{Staged}
 use Rattle.cdi_index.specs.declared.counts.Counts.{Counts}
 use Rattle.cdi_resolve.specs.Choices.{chosen, chosen_by_name}
 use Rattle.cdi_intercept.specs.Chains.{chain_of}
+use Rattle.cdi_observe.specs.Keys.{Key, ChainKey, EventKey, choice_key, has_key}
 use Rattle.cdi_observe.specs.Observers.{notified}
+use Rattle.cdi_observe.specs.Wanted.{wanted}
 use Rattle.cdi_staging.specs.Naming.{names_of}
 use Rattle.cdi_staging.specs.Staged.{scene_of}
 use Rattle.cdi_staging.specs.declared.names.Names.{Names}
@@ -33,9 +36,10 @@ use Rattle.cdi_lines.specs.declared.command.Command.TheVariants as commands
 use Rattle.cdi_lines.specs.declared.command.Command.TheVariants.{Edit, Batch, Choose, Named, Chain, Observers, Report, LookUp, Call, Fire}
 use Rattle.cdi_lines.specs.declared.command.Command.TheVariants.{BeginRequest, EndRequest}
 use Rattle.cdi_lines.specs.declared.command.Command.TheVariants.{Stop, Unreadable}
+use Rattle.cdi_container.specs.Known.{keys_of_chain, keys_of_event, keys_of_use, known_still, known_with, work_with, worked}
 use Rattle.cdi_container.specs.Editing.{Reason, alone, change_of, changes_of, changes_of_all, refusal_of_batch, refusal_of_change}
 use Rattle.cdi_container.specs.declared.answer.Answer.{Answer}
-use Rattle.cdi_container.specs.declared.answer.Answer.TheVariants.{Done, Chosen, Intercepted, Observed, Reported, Counted, Given, Refused}
+use Rattle.cdi_container.specs.declared.answer.Answer.TheVariants.{Done, Chosen, Intercepted, Observed, Reported, Counted, Worked, Given, Refused}
 use Rattle.cdi_container.specs.Asked.{to_look, to_call, run_of_event, run_of_use}
 
 -- what a container holds
@@ -44,6 +48,10 @@ pub record State : Type 0 where
   pub decls : List Decl
   -- how many records were computed
   pub counts : Counts
+  -- the keys whose answers are known, in the order in which the declarations ask for them
+  pub known : List Key
+  -- how many answers were computed
+  pub work : ℕ
   -- the stored bodies, which never change
   pub book : List Promised
   -- the live instances, what they hold, how many numbers were given, and whether a request is active
@@ -58,7 +66,7 @@ abbrev pub no_counts : Counts
 no_counts = record { closures = 0; beans = 0 }
 
 abbrev pub empty : List Promised → State
-empty book = record { decls = []; counts = no_counts; book = book; standing = cleared 0; trace = []; text = [] }
+empty book = record { decls = []; counts = no_counts; known = []; work = 0; book = book; standing = cleared 0; trace = []; text = [] }
 
 abbrev pub scene : State → Scene
 scene state = scene_of state.decls state.book
@@ -77,6 +85,30 @@ emptied state = record state { standing = cleared state.standing.given; trace = 
 
 abbrev pub with_request : State → State
 with_request state = record state { standing = opened state.standing; trace = []; text = [] }
+
+-- ---- what is evaluated
+
+-- some keys were evaluated, each of which is listed once
+abbrev pub asked : State → List Key → State
+asked state keys = record state { known = known_with state.decls state.known keys; work = work_with state.known keys state.work }
+
+-- some of these keys were evaluated, or none
+pub record AsksSome (old : State) (keys : List Key) (new : State) : Type 0 where
+  pub some : List Key
+  pub among : list_all (has_key keys) some ≡ true
+  pub apart : AllPairs (λ k l. k ≢ l) some
+  pub are : new ≡ asked old some
+
+-- the keys that a command evaluates
+abbrev pub evaluates : State → Command → List Key
+evaluates state (Choose t quals) = choice_key t quals ∷ []
+evaluates state (Chain bean place) = keys_of_chain (chain_of state.decls bean place) (ChainKey bean place)
+evaluates state (Observers t quals) = EventKey t quals ∷ []
+evaluates state Report = wanted state.decls
+evaluates state (LookUp t quals) = keys_of_use state.decls state.book t quals
+evaluates state (Call method arg t quals) = keys_of_use state.decls state.book t quals
+evaluates state (Fire arg t quals) = keys_of_event state.decls state.book t quals
+evaluates state command = []
 
 -- ---- refusals
 
@@ -100,6 +132,7 @@ refusal_of state (Chain bean place) = alone (refusal_in (chain_of state.decls be
 refusal_of state (Observers t quals) = None
 refusal_of state Report = None
 refusal_of state commands.Counts = None
+refusal_of state commands.Work = None
 refusal_of state (LookUp t quals) = alone (refusal_in (run_of_use state.decls state.book (to_look t quals)))
 refusal_of state (Call method arg t quals) = alone (refusal_in (run_of_use state.decls state.book (to_call method arg t quals)))
 refusal_of state (Fire arg t quals) = alone (refusal_in (run_of_event state.decls state.book arg t quals))
@@ -135,12 +168,12 @@ pub record EndsContexts (old : State) (answer : Answer) (new : State) : Type 0 w
   pub legal : LegalEnd (scene old) old.standing new.trace new.standing
   pub rest : IsRunFrom old new
 
--- first both contexts end, as at a stop, on the declarations before; then these declarations and counts are present, and nothing
--- else is changed
+-- first both contexts end, as at a stop, on the declarations before; then these declarations and counts are present, the known keys
+-- are those that were known, are still wanted and are not touched, and nothing else is changed
 pub record Redeploys (old : State) (next : Staged) (new : State) : Type 0 where
   pub stopped : State
   pub ends : EndsContexts old Done stopped
-  pub rest : new ≡ record stopped { decls = next.decls; counts = next.counts }
+  pub rest : new ≡ record stopped { decls = next.decls; counts = next.counts; known = known_still old.decls next.decls old.known }
 
 -- the counts after changes that are made at once
 abbrev pub counts_with : List Decl → Counts → List Change → Counts
@@ -171,6 +204,7 @@ Acts old (Observers t quals) answer new =
     (answer ≡ Observed (notified old.decls (beans old.decls) t quals)) × (new ≡ untold old)
 Acts old Report answer new = (answer ≡ Reported (faults old.decls old.book)) × (new ≡ untold old)
 Acts old commands.Counts answer new = (answer ≡ Counted old.counts) × (new ≡ untold old)
+Acts old commands.Work answer new = (answer ≡ Worked (worked old.work old.known)) × (new ≡ untold old)
 Acts old (LookUp t quals) answer new = RunsFrom old (run_of_use old.decls old.book (to_look t quals)) answer new
 Acts old (Call method arg t quals) answer new = RunsFrom old (run_of_use old.decls old.book (to_call method arg t quals)) answer new
 Acts old (Fire arg t quals) answer new = RunsFrom old (run_of_event old.decls old.book arg t quals) answer new
@@ -179,21 +213,27 @@ Acts old EndRequest answer new = EndsRequest old answer new
 Acts old Stop answer new = EndsContexts old answer new
 Acts old Unreadable answer new = ⊥
 
--- what a look-up, a call or an event whose run so begins answers, and leaves
-abbrev pub RunAnswers : State → Result Run Refusal → Result Outcome Error → State → Type 0
-RunAnswers old begun (Ok outcome) new = RunsFrom old begun (Given outcome) new
-RunAnswers old begun (Err errors.OutOfMemory) new = new ≡ emptied old
-RunAnswers old begun (Err (errors.Refused refusal)) new = (begun ≡ Err refusal) × (new ≡ untold old)
+-- some of these keys were evaluated, and the run took no memory that it needed
+pub record LeavesRun (old : State) (keys : List Key) (new : State) : Type 0 where
+  pub left : State
+  pub asks : AsksSome old keys left
+  pub rest : new ≡ emptied left
+
+-- what a look-up, a call or an event that evaluates these keys and whose run so begins answers, and leaves
+abbrev pub RunAnswers : State → List Key → Result Run Refusal → Result Outcome Error → State → Type 0
+RunAnswers old keys begun (Ok outcome) new = RunsFrom (asked old keys) begun (Given outcome) new
+RunAnswers old keys begun (Err errors.OutOfMemory) new = LeavesRun old keys new
+RunAnswers old keys begun (Err (errors.Refused refusal)) new = (begun ≡ Err refusal) × (new ≡ untold (asked old keys))
 
 -- where a run whose beginning is this was refused, it was for this
 abbrev pub IsRefusedBy : Result Run Refusal → Error → Type 0
 IsRefusedBy begun errors.OutOfMemory = Unit {0}
 IsRefusedBy begun (errors.Refused refusal) = begun ≡ Err refusal
 
--- what a run leaves that did not begin: refused, or for want of memory
-abbrev pub unplayed : Error → State → State
-unplayed errors.OutOfMemory old = emptied old
-unplayed (errors.Refused refusal) old = untold old
+-- what a run that evaluates these keys leaves where it is refused, or runs out of memory
+abbrev pub Unplayed : State → List Key → Error → State → Type 0
+Unplayed old keys errors.OutOfMemory new = LeavesRun old keys new
+Unplayed old keys (errors.Refused refusal) new = new ≡ untold (asked old keys)
 
 -- what a call leaves that was refused, or that found no memory and is no run
 abbrev pub left_by : Error → State → State
@@ -211,11 +251,18 @@ runs command = false
 abbrev pub left_unserved : State → Command → State
 left_unserved old command = if runs command then emptied old else old
 
--- A refusal is the first whose condition holds, and changes nothing.
+-- Some of the keys that the command evaluates were evaluated, or none.
+pub record Unserved (old : State) (command : Command) (new : State) : Type 0 where
+  pub left : State
+  pub asks : AsksSome old (evaluates old command) left
+  pub rest : new ≡ left_unserved left command
+
+-- A refusal is the first whose condition holds, and changes nothing but what the command evaluates.
 abbrev pub LegalAnswer : State → Command → Result Answer AllocError → State → Type 0
-LegalAnswer old command (Ok (Refused refusal edit)) new = (refusal_of old command ≡ Some (refusal, edit)) × (new ≡ untold old)
-LegalAnswer old command (Ok answer) new = (refusal_of old command ≡ None) × Acts old command answer new
-LegalAnswer old command (Err error) new = new ≡ left_unserved old command
+LegalAnswer old command (Ok (Refused refusal edit)) new =
+    (refusal_of old command ≡ Some (refusal, edit)) × (new ≡ untold (asked old (evaluates old command)))
+LegalAnswer old command (Ok answer) new = (refusal_of old command ≡ None) × Acts (asked old (evaluates old command)) command answer new
+LegalAnswer old command (Err error) new = Unserved old command new
 
 -- ---- steps
 

@@ -1,9 +1,9 @@
 pub mod Asked
+pub mod Known
 pub mod Editing
 pub mod History
 pub mod Told
 pub mod Wired
-pub mod LastEvents
 pub mod Seen
 pub mod AnswerText
 pub use Rattle.cdi_bodies.specs.Within

@@ -27,10 +27,11 @@ use Rattle.cdi_lines.specs.declared.edit.Edit.{Edit as AnyEdit}
 use Rattle.cdi_lines.specs.declared.edit.Edit.TheVariants as edits
 use Rattle.cdi_container.specs.Editing.{Reason}
 use Rattle.cdi_container.specs.declared.answer.Answer.{Answer}
+use Rattle.cdi_container.specs.declared.answer.WorkDone.{WorkDone}
 use Rattle.cdi_container.specs.declared.batch.BatchError.{BatchError}
 use Rattle.cdi_container.specs.declared.batch.BatchError.TheVariants as batch_errors
-use Rattle.cdi_container.specs.declared.answer.Answer.TheVariants.{Done, Chosen, Intercepted, Observed, Reported, Counted, Given, Refused}
-use Rattle.cdi_container.specs.History.{State, LegalAnswer, untold}
+use Rattle.cdi_container.specs.declared.answer.Answer.TheVariants.{Done, Chosen, Intercepted, Observed, Reported, Counted, Worked, Given, Refused}
+use Rattle.cdi_container.specs.History.{State, LegalAnswer, emptied, untold}
 
 -- what an edit answers that asks for a change, or for none
 abbrev pub answer_of_change : List Decl → Result Change Refusal → Result (Unit {0}) Refusal
@@ -78,6 +79,11 @@ abbrev pub left_by_batch : BatchError → State → State
 left_by_batch batch_errors.OutOfMemory old = old
 left_by_batch (batch_errors.Refused refusal edit) old = untold old
 
+-- what is left of a run that did not begin: it was refused, or ran out of memory
+abbrev pub unplayed : Error → State → State
+unplayed errors.OutOfMemory old = emptied old
+unplayed (errors.Refused refusal) old = untold old
+
 -- the answer of a call that gives no value and takes no memory
 abbrev pub plain_answer : Result (Unit {0}) Refusal → Result Answer AllocError
 plain_answer (Ok u) = Ok Done
@@ -111,6 +117,10 @@ report_answer (Err error) = Err error
 -- the answer of a question for the counts
 abbrev pub counts_answer : Counts → Result Answer AllocError
 counts_answer counts = Ok (Counted counts)
+
+-- the answer of a question for the work
+abbrev pub work_answer : WorkDone → Result Answer AllocError
+work_answer done = Ok (Worked done)
 
 -- the answer of a look-up, a call or an event
 abbrev pub outcome_answer : Result Outcome Error → Result Answer AllocError
@@ -155,6 +165,9 @@ ReportStep old result new = IsStep old Report (report_answer result) new
 
 abbrev pub CountsStep : State → Counts → State → Type 0
 CountsStep old result new = IsStep old commands.Counts (counts_answer result) new
+
+abbrev pub WorkStep : State → WorkDone → State → Type 0
+WorkStep old result new = IsStep old commands.Work (work_answer result) new
 
 abbrev pub LookUpStep : State → List ℕ → List Qual → Result Outcome Error → State → Type 0
 LookUpStep old t quals result new = IsStep old (LookUp t quals) (outcome_answer result) new

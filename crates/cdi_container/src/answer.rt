@@ -12,6 +12,13 @@ use cdi_observe::ObserverId;
 use cdi_resolve::Choice;
 use std::alloc::AllocError;
 
+/// How many answers were computed, up to the greatest `u64`, and of how many keys the answers are known.
+#[derive(Clone, Copy, Debug, PartialEq, Eq)]
+pub struct WorkDone {
+    pub work: u64,
+    pub known: usize,
+}
+
 /// The answer of a command.
 #[derive(Debug, Drop)]
 pub enum Answer {
@@ -27,6 +34,8 @@ pub enum Answer {
     Reported(Seq<Fault>),
     /// How many records were computed.
     Counted(Counts),
+    /// How many answers were computed, and how many are known.
+    Worked(WorkDone),
     /// The outcome of a lookup, a call or an event: a value or a failure.
     Given(Outcome),
     /// The command is refused and has changed nothing.

@@ -1,18 +1,16 @@
 //! Where lookups and calls lead, and which events may be fired.
-ghost use Rattle.std.specs.Prelude.{◌≡◌, IfOk, IfErr, OnOk, None, Some};
-ghost use Rattle.cdi_model.specs.Answering.{Answers};
+ghost use Rattle.std.specs.Prelude.{◌≡◌};
 ghost use Rattle.cdi_effective.specs.Beans.{beans as beans_of};
 ghost use Rattle.cdi_staging.specs.Sites.{managed_class};
-ghost use Rattle.cdi_container.specs.Asked.{purpose_of, aim_of_choice, aim_for, asked_for, can_be_fired};
+ghost use Rattle.cdi_container.specs.Asked.{purpose_of, aim_of_choice, can_be_fired};
 ghost use Rattle.cdi_container.specs.Asked.{names_default};
 
 use cdi_effective::BeanId;
-use cdi_model::{Decls, Error, Ident, Name, Qual, Quals, Refusal, Val, Work};
+use cdi_model::{Decls, Ident, Name, Qual, Quals, Refusal, Val};
 use cdi_resolve::{BeanList, Choice};
 use cdi_run::Purpose;
 use cdi_staging::{method_of, target_of};
 use cdi_subjects::{are_known, has_method};
-use std::alloc::Global;
 
 /// A method and its argument.
 #[derive(Clone, Copy)]
@@ -28,28 +26,9 @@ pub(crate) struct Aim {
     pub(crate) purpose: Purpose,
 }
 
-/// The aim of what is asked for, by the bean list of some declarations without faults, or why it is refused. It takes
-/// memory as a choice does.
-#[tactic(auto, unfolding(crate::specs::Asked::aim_for))]
-pub(crate) fn aim_for(
-    alloc: Global,
-    decls: &Decls,
-    beans: &BeanList,
-    bean_type: Name,
-    quals: &Quals,
-    message: Option<Message>,
-    work: &mut Work,
-) -> Result<Aim, Error>
-    requires { beans.now ≡ beans_of decls.now }
-    ensures { Answers result (aim_for decls.now (asked_for bean_type quals.now message)) }
-{
-    let choice = beans.choose(alloc, decls, bean_type, quals, work)?;
-    Ok(aim_of_choice(decls, beans, &choice, message)?)
-}
-
 /// The aim at what is chosen.
 #[tactic(auto, unfolding(cdi_staging::specs::Sites::target_of))]
-fn aim_of_choice(
+pub(crate) fn aim_of_choice(
     decls: &Decls,
     beans: &BeanList,
     choice: &Choice,

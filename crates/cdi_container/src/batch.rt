@@ -9,8 +9,9 @@ ghost use Rattle.cdi_container.specs.Seen.{answer_of_change, AnswersBatch, refus
 ghost use Rattle.cdi_container.specs.Wired.{IsShortEdit};
 
 use cdi_admission::check_decl;
-use cdi_index::{Draft, Index};
+use cdi_index::Draft;
 use cdi_lines::Edit;
+use cdi_live::Live;
 use cdi_model::{Edit as Change, Error as CallError, Refusal};
 use cdi_text::read_decl;
 use std::alloc::{AllocError, Global};
@@ -78,29 +79,25 @@ impl Error for BatchError {}
 
 /// A draft of a change. It takes memory for a copy of the list and for what is put.
 #[tactic(auto, using(crate::proofs::Editing::edit_short))]
-pub(crate) fn draft_change(index: &Index, change: Change) -> Result<Draft, CallError>
-    requires short { AreShort index.now.decls }
+pub(crate) fn draft_change(live: &Live, change: Change) -> Result<Draft, CallError>
+    requires short { AreShort live.now.decls }
     requires put { IsShortEdit change }
-    ensures ok { IfOk result (λ draft. draft ≡ drafted_by index.now.decls (change ∷ [])) }
+    ensures ok { IfOk result (λ draft. draft ≡ drafted_by live.now.decls (change ∷ [])) }
     ensures short { IfOk result (λ draft. AreShort draft.decls) }
-    ensures accepted { OnOk result (answer_of_edit index.now.decls change ≡ Ok tt) }
-    ensures refused { IfErr result (λ error. Answers (Err error) (answer_of_edit index.now.decls change)) }
+    ensures accepted { OnOk result (answer_of_edit live.now.decls change ≡ Ok tt) }
+    ensures refused { IfErr result (λ error. Answers (Err error) (answer_of_edit live.now.decls change)) }
 {
-    let mut draft = index.draft()?;
+    let mut draft = live.draft()?;
     draft.apply(change)?;
     Ok(draft)
 }
 
 /// A draft of a batch. It takes memory for a copy of the list and for what is put.
-pub(crate) fn draft_batch(
-    alloc: Global,
-    index: &Index,
-    edits: Vec<Edit>,
-) -> Result<Draft, BatchError>
-    requires { AreShort index.now.decls }
-    ensures ok { IfOk result (λ draft. draft ≡ drafted_by index.now.decls (changes_of_all edits.items)) }
+pub(crate) fn draft_batch(alloc: Global, live: &Live, edits: Vec<Edit>) -> Result<Draft, BatchError>
+    requires { AreShort live.now.decls }
+    ensures ok { IfOk result (λ draft. draft ≡ drafted_by live.now.decls (changes_of_all edits.items)) }
     ensures short { IfOk result (λ draft. AreShort draft.decls) }
-    ensures answer { AnswersBatch result (refusal_of_batch index.now.decls edits.items) }
+    ensures answer { AnswersBatch result (refusal_of_batch live.now.decls edits.items) }
 {
     if edits.len() > BATCH_LIMIT {
         return Err(BatchError::Refused {
@@ -108,7 +105,7 @@ pub(crate) fn draft_batch(
             edit: None,
         });
     }
-    let mut draft = index.draft()?;
+    let mut draft = live.draft()?;
     make_all(alloc, &mut draft, edits)?;
     Ok(draft)
 }

@@ -9,18 +9,21 @@ ghost use Rattle.cdi_text.specs.Reading.{decl_of};
 ghost use Rattle.cdi_effective.specs.Beans.{beans};
 ghost use Rattle.cdi_resolve.specs.Choices.{chosen, chosen_by_name};
 ghost use Rattle.cdi_intercept.specs.Chains.{chain_of};
+ghost use Rattle.cdi_observe.specs.Keys.{ChainKey, EventKey, choice_key};
 ghost use Rattle.cdi_observe.specs.Observers.{notified};
+ghost use Rattle.cdi_observe.specs.Wanted.{wanted};
 ghost use Rattle.cdi_validate.specs.Faults.{faults};
 ghost use Rattle.cdi_index.specs.State.{IsEdited};
 ghost use Rattle.cdi_container.specs.Wired.{IsShortEdit, staged_by};
 ghost use Rattle.cdi_staging.specs.Naming.{names_of};
-ghost use Rattle.cdi_container.specs.History.{EditsFrom, Redeploys, History, left_by, untold, RestsOnAcceptedEdits, CountsAcceptedEdits, SharesInstances};
+ghost use Rattle.cdi_container.specs.History.{AsksSome, EditsFrom, Redeploys, History, asked, left_by, untold, RestsOnAcceptedEdits, CountsAcceptedEdits, SharesInstances};
+ghost use Rattle.cdi_container.specs.Known.{work_with, worked};
 ghost use Rattle.cdi_container.specs.Named.{NamesTrace};
 ghost use Rattle.cdi_container.specs.Told.{IsTold};
 
 use crate::answer::{
-    Answer, answer_of_batch, answer_of_begin, answer_of_chain, answer_of_choice, answer_of_edit,
-    answer_of_observers, answer_of_report, answer_of_run, answer_of_stop, refused,
+    Answer, WorkDone, answer_of_batch, answer_of_begin, answer_of_chain, answer_of_choice,
+    answer_of_edit, answer_of_observers, answer_of_report, answer_of_run, answer_of_stop, refused,
 };
 use crate::batch::BatchError;
 use crate::beans::Beans;
@@ -34,7 +37,7 @@ use cdi_index::{Counts, Draft};
 use cdi_legal::{Entry, Run};
 use cdi_lines::{Command, Edit};
 use cdi_model::{
-    BeanPlace, Decl, Edit as Change, Error, Iter as DeclIter, Kind, Name, Quals, Refusal, Seq, Work,
+    BeanPlace, Decl, Edit as Change, Error, Iter as DeclIter, Kind, Name, Quals, Refusal, Seq,
 };
 use cdi_observe::ObserverId;
 use cdi_resolve::Choice;
@@ -47,12 +50,12 @@ use std::marker::Model;
 
 /// The present declarations, which are edited while the container runs, and questions about them; the instances that it
 /// makes, calls and destroys with the stored bodies. What contracts see of it is its state: the declarations, how many
-/// records were computed, the names and promises of the bodies, what is live between runs, and the trace of the last
+/// records were computed, which answers are known and how many were computed, the names and promises of the bodies, what is live between runs, and the trace of the last
 /// command that was answered.
 ///
-/// Each call is one step of a legal history: a refused call changes nothing. One that runs out of memory changes nothing
-/// either, but that a lookup, a call and an event leave no instance and no request. Beside that step each call says by
-/// itself what it answers and what it leaves.
+/// Each call is one step of a legal history: a refused call changes nothing but which answers are known. One that runs out of
+/// memory changes nothing else either, but that a lookup, a call and an event leave no instance and no request. Beside that
+/// step each call says by itself what it answers and what it leaves.
 #[derive(Drop)]
 pub struct Container<B: Bodies> {
     pub(crate) alloc: Global,
@@ -60,7 +63,6 @@ pub struct Container<B: Bodies> {
     pub(crate) run: Run,
     /// The names for the trace of an edit: those of the declarations before it.
     pub(crate) told: Option<Names>,
-    pub(crate) work: Work,
 }
 
 impl<B: Bodies> Model for Container<B> {
@@ -73,6 +75,8 @@ impl<B: Bodies> Model for Container<B> {
     ghost view = { λ c. record {
       decls = c.deployment.decls;
       counts = c.deployment.counts;
+      known = c.deployment.known;
+      work = c.deployment.work;
       book = c.deployment.book;
       standing = c.run.moment.standing;
       trace = c.run.moment.trace;
@@ -89,7 +93,7 @@ impl<B: Bodies> Container<B> {
     ghost use Rattle.cdi_container.specs.Seen.{left_by_batch, AnswersBatch, BatchStep};
     ghost use Rattle.cdi_container.specs.Editing.{admitted, put_of, changes_in, changes_of_all, refusal_of_batch};
     ghost use Rattle.cdi_container.specs.Seen.{ChainStep, ObserversStep};
-    ghost use Rattle.cdi_container.specs.Seen.{ReportStep, CountsStep};
+    ghost use Rattle.cdi_container.specs.Seen.{ReportStep, CountsStep, WorkStep};
 
     /// An empty container, which keeps this book of stored bodies. It keeps the allocator, and takes no memory yet.
     pub fn new(alloc: Global, book: B) -> Container<B>
@@ -100,7 +104,6 @@ impl<B: Bodies> Container<B> {
             deployment: Deployment::new(alloc, book),
             run: Run::new(Contexts::new(alloc), Vec::new(alloc)),
             told: None,
-            work: Work::new(),
         }
     }
 
@@ -121,6 +124,7 @@ impl<B: Bodies> Container<B> {
             }
             Command::Report => answer_of_report(self.report()),
             Command::Counts => Ok(Answer::Counted(self.counts())),
+            Command::Work => Ok(Answer::Worked(self.work())),
             Command::LookUp { bean_type, quals } => answer_of_run(self.lookup(bean_type, &quals)),
             Command::Call {
                 method,
@@ -294,16 +298,16 @@ impl<B: Bodies> Container<B> {
     /// Which bean is right for a type and qualifiers (CDI 4.0, Performing typesafe resolution). Where no qualifier is
     /// named, `Default` is asked for.
     ///
-    /// It looks only at the beans that have the type, and takes memory for a list of them and for those that are right.
+    /// An answer that is known is copied. Else it is computed, counted, and known from then on if an injection point asks for it:
+    /// only the beans that have the type are looked at, and it takes memory for a list of them, for those that are right, and
+    /// to keep the answer.
     pub fn choose(&mut self, bean_type: Name, quals: &Quals) -> Result<Choice, AllocError>
         ensures choice { IfOk result (λ choice. choice ≡ chosen self.old.decls (beans self.old.decls) bean_type quals.now) }
-        ensures ok { OnOk result (self.new ≡ untold self.old) }
+        ensures ok { OnOk result (self.new ≡ untold (asked self.old (choice_key bean_type quals.now ∷ []))) }
         ensures err { OnErr result (self.new ≡ self.old) }
         ensures step { ChooseStep self.old bean_type quals.now result self.new }
     {
-        let choice = self
-            .deployment
-            .choose(self.alloc, bean_type, quals, &mut self.work)?;
+        let choice = self.deployment.choose(self.alloc, bean_type, quals)?;
         self.restart();
         Ok(choice)
     }
@@ -323,48 +327,55 @@ impl<B: Bodies> Container<B> {
 
     /// The names of the interceptors around a place of the bean of a class, in the order in which they are called
     /// (Interceptors 2.1, Interceptor Ordering), whether the bean is enabled or not. It is refused with `UnknownName` where
-    /// no such bean is declared, and with `NoMethod` where it has no such place, as of a static producer method. It takes
-    /// memory for the bindings there, for the interceptors that are enabled and for the names.
+    /// no such bean is declared, and with `NoMethod` where it has no such place, as of a static producer method. An answer that
+    /// is known is copied. Else it is computed, counted, and known from then on: it takes memory for the bindings there, for the
+    /// interceptors that have one of them, for the names, and to keep these.
     pub fn chain(&mut self, bean: Name, place: &BeanPlace) -> Result<Seq<Name>, Error>
         ensures answer { Answers result (chain_of self.old.decls bean place.now) }
-        ensures ok { OnOk result (self.new ≡ untold self.old) }
+        ensures ok { OnOk result (self.new ≡ untold (asked self.old (ChainKey bean place.now ∷ []))) }
         ensures err { IfErr result (λ error. self.new ≡ left_by error self.old) }
         ensures step { ChainStep self.old bean place.now result self.new }
     {
-        let told = self.deployment.chain(self.alloc, bean, place);
-        if !matches!(told, Err(Error::OutOfMemory)) {
-            self.restart();
+        match self.deployment.chain(self.alloc, bean, place) {
+            Ok(names) => {
+                self.restart();
+                Ok(names)
+            }
+            Err(error) => Err(self.leave(error)),
         }
-        told
     }
 
     /// The observer methods that are notified of an event of a type with some qualifiers, in order (CDI 4.0, Observer
-    /// resolution; Observer ordering). A type or a qualifier that is not declared is taken as it is. It looks only at the
-    /// beans of which an observer method observes a type of the event, and takes memory for lists of these and of the methods.
+    /// resolution; Observer ordering). A type or a qualifier that is not declared is taken as it is. An answer that is known is
+    /// copied. Else it is computed, counted, and known from then on if a body may fire the event: only the beans of which an
+    /// observer method observes a type of the event are looked at, and it takes memory for lists of these and of the methods,
+    /// and to keep the answer.
     pub fn observers(
         &mut self,
         event_type: Name,
         quals: &Quals,
     ) -> Result<Seq<ObserverId>, AllocError>
         ensures observers { IfOk result (λ ids. ids ≡ notified self.old.decls (beans self.old.decls) event_type quals.now) }
-        ensures ok { OnOk result (self.new ≡ untold self.old) }
+        ensures ok { OnOk result (self.new ≡ untold (asked self.old (EventKey event_type quals.now ∷ []))) }
         ensures err { OnErr result (self.new ≡ self.old) }
         ensures step { ObserversStep self.old event_type quals.now result self.new }
     {
-        let ids = self
-            .deployment
-            .observers(self.alloc, event_type, quals, &mut self.work)?;
+        let ids = self.deployment.observers(self.alloc, event_type, quals)?;
         self.restart();
         Ok(ids)
     }
 
     /// All that is wrong with the present declarations (CDI 4.0, Problems detected automatically by the container), in
-    /// the order of the declarations. It takes memory for the faults and for the answers to all injection points.
+    /// the order of the declarations. Each answer that the declarations ask for is computed and counted, unless it is known,
+    /// and known from then on. It takes memory for the faults, for these answers, and to keep them. If memory runs out, those
+    /// that were computed before stay known.
     pub fn report(&mut self) -> Result<Vec<Fault>, AllocError>
         ensures faults { IfOk result (λ list. list.items ≡ faults self.old.decls self.old.book) }
         ensures once { IfOk result (λ list. AllPairs (λ f g. f ≢ g) list.items) }
-        ensures ok { OnOk result (self.new ≡ untold self.old) }
-        ensures err { OnErr result (self.new ≡ self.old) }
+        ensures ok { OnOk result (self.new ≡ untold (asked self.old (wanted self.old.decls))) }
+        ensures known { OnOk result (self.new.known ≡ wanted self.old.decls) }
+        ensures work { OnOk result (self.new.work ≡ work_with self.old.known (wanted self.old.decls) self.old.work) }
+        ensures err { OnErr result (AsksSome self.old (wanted self.old.decls) self.new) }
         ensures step { ReportStep self.old result self.new }
     {
         let faults = self.deployment.report(self.alloc)?;
@@ -381,6 +392,18 @@ impl<B: Bodies> Container<B> {
     {
         self.restart();
         self.deployment.counts()
+    }
+
+    /// How many answers were computed, up to the greatest `u64`, and of how many keys the answers are known: of those for which the
+    /// present declarations ask, these are kept. A question of which the answer is not known computes one, a report and each
+    /// lookup, call and event all that the declarations ask for. An edit keeps what it does not touch. It takes no memory.
+    pub fn work(&mut self) -> WorkDone
+        ensures work { result ≡ worked self.old.work self.old.known }
+        ensures left { self.new ≡ untold self.old }
+        ensures step { WorkStep self.old result self.new }
+    {
+        self.restart();
+        self.deployment.work()
     }
 
     /// The entries of the last command that was answered, by positions. It takes no memory.

@@ -1,51 +1,53 @@
 //! The present declarations and the stored bodies, and what questions have made of them.
-ghost use Rattle.std.specs.Prelude.{◌≡◌, ◌≢◌, AllPairs, IfSome, IsSome, None, [], length, true, false, Ok, Err, Some, ◌∷◌, OnOk, OnErr, IfOk, IfErr};
+ghost use Rattle.std.specs.Prelude.{◌≡◌, ◌≢◌, AllPairs, IfSome, IsSome, None, [], length, map, true, false, Ok, Err, Some, ◌∷◌, OnOk, OnErr, IfOk, IfErr};
 ghost use Rattle.cdi_model.specs.Edits.{answer_of_edit};
-ghost use Rattle.cdi_index.specs.State.{IsEdited, committed};
+ghost use Rattle.cdi_index.specs.State.{IsEdited};
+ghost use Rattle.cdi_live.specs.Known.{KnownAreWanted};
+ghost use Rattle.cdi_live.specs.State.{Commits};
 ghost use Rattle.cdi_container.specs.Editing.{changes_of_all, drafted_by, refusal_of_batch};
 ghost use Rattle.cdi_container.specs.History.{no_counts};
+ghost use Rattle.cdi_container.specs.Known.{keys_of_event, keys_of_use, worked, IsInOrder};
 ghost use Rattle.cdi_container.specs.Seen.{AnswersBatch};
 ghost use Rattle.cdi_model.specs.Answering.{Answers};
+ghost use Rattle.cdi_model.specs.DeclList.{AreDistinct};
 ghost use Rattle.cdi_model.specs.Short.{AreShort};
-ghost use Rattle.cdi_model.specs.Work.{with_one};
 ghost use Rattle.cdi_effective.specs.Beans.{beans};
 ghost use Rattle.cdi_resolve.specs.Choices.{chosen, chosen_by_name};
 ghost use Rattle.cdi_intercept.specs.Chains.{chain_of};
+ghost use Rattle.cdi_observe.specs.Keys.{ChainKey, EventKey, choice_key};
 ghost use Rattle.cdi_observe.specs.Observers.{notified};
+ghost use Rattle.cdi_observe.specs.Wanted.{wanted};
 ghost use Rattle.cdi_staging.specs.Naming.{names_of};
+ghost use Rattle.cdi_staging.specs.Notifying.{notified_as, notified_at};
 ghost use Rattle.cdi_staging.specs.Staged.{scene_of};
 ghost use Rattle.cdi_validate.specs.Faults.{faults};
-ghost use Rattle.cdi_container.specs.Asked.{aim_for, aim_of, asked_for, fired_of};
+ghost use Rattle.cdi_container.specs.Asked.{aim_for, aim_of, aim_of_choice, asked_for, fired_of};
 ghost use Rattle.cdi_scene.specs.Sound.{AreObservers};
-ghost use Rattle.cdi_container.specs.Wired.{StandsIn, IsSameDeployment, IsShortEdit, names_if, names_in, redeployed, staged_by, with_staged};
+ghost use Rattle.cdi_container.specs.Wired.{AsksOwn, StandsIn, IsAsked, IsAskedSome, IsShortEdit, Evaluates, KnowsAll, names_if, names_in, redeployed, staged_by, with_staged};
 ghost use Rattle.cdi_wiring.specs.Wired.{IsWiredOf};
 
-use crate::asked::{Aim, Message, aim_for, can_be_fired};
+use crate::answer::WorkDone;
+use crate::asked::{Aim, Message, aim_of_choice, can_be_fired};
 use crate::batch::{BatchError, draft_batch, draft_change};
 use crate::beans::Beans;
-use crate::last_events::LastEvents;
 use cdi_bodies::Bodies;
 use cdi_effective::beans;
 use cdi_ending::Stage;
 use cdi_faults::Fault;
-use cdi_index::{Counts, Draft, Index};
-use cdi_intercept::chain_of;
+use cdi_index::{Counts, Draft};
 use cdi_lines::Edit;
-use cdi_model::{
-    BeanPlace, Edit as Change, Error, Iter as DeclIter, Name, Quals, Refusal, Seq, Work,
-};
+use cdi_live::Live;
+use cdi_model::{BeanPlace, Edit as Change, Error, Iter as DeclIter, Name, Quals, Refusal, Seq};
 use cdi_observe::ObserverId;
-use cdi_questions::{IndexView, choose, choose_name, observers};
 use cdi_resolve::{BeanList, Choice};
 use cdi_run::Player;
 use cdi_scene::{Notified, Scene};
-use cdi_staging::Names;
+use cdi_staging::{Names, positions_of};
 use cdi_subjects::are_known;
 use cdi_validate::faults;
 use cdi_wiring::{Wired, Wiring};
 use std::alloc::{AllocError, Global};
 use std::marker::Model;
-use std::mem;
 
 /// What was made of declarations before an edit. It is let go where it is made anew, so that the time of an edit does not
 /// grow with the deployment.
@@ -78,56 +80,56 @@ impl Stale {
     }
 }
 
-/// The present declarations with what is kept of each, the book of stored bodies, and what was made of them since the last edit.
+/// The present declarations with the answers that are kept, the book of stored bodies, and what was made of them since the last
+/// edit.
 #[derive(Drop)]
 pub(crate) struct Deployment<B: Bodies> {
-    index: Index,
+    live: Live,
     book: B,
-    /// Made by the first lookup, call or event.
+    /// Made by the first lookup, call or event. Each wanted key is known from then on.
     wiring: Option<Wiring>,
-    /// Whom the last event of each type notified.
-    last_events: LastEvents,
     stale: Stale,
 }
 
 impl<B: Bodies> Model for Deployment<B> {
     ghost use Rattle.std.specs.Prelude.{IfSome, ◌≡◌};
     ghost use Rattle.cdi_model.specs.Short.{AreShort};
-    ghost use Rattle.cdi_container.specs.Asked.{aim_of, asked_for};
-    ghost use Rattle.cdi_container.specs.LastEvents.{AreFiredOn};
-    ghost use Rattle.cdi_container.specs.Wired.{StandsIn, Deployed, is_sound};
+    ghost use Rattle.cdi_live.specs.Known.{known_of};
+    ghost use Rattle.cdi_container.specs.Wired.{StandsIn, Deployed, KnowsAll, is_sound};
     ghost use Rattle.cdi_wiring.specs.Wired.{IsWiringOf};
 
     ghost Value = { Deployed };
 
     ghost view = { λ d. record {
-      decls = d.index.decls;
-      counts = d.index.counts;
-      staged = d.index.staged;
+      decls = d.live.decls;
+      counts = d.live.counts;
+      known = known_of d.live;
+      work = d.live.work;
+      staged = d.live.staged;
       book = B.promises d.book;
       is_wired = is_sound d.wiring;
     } };
 
-    ghost invariant = { λ d. AreShort d.index.decls
-        × IfSome d.index.staged (λ next. AreShort next.decls)
-        × IfSome d.wiring (λ wiring. IsWiringOf d.index.decls (B.promises d.book) wiring)
-        × AreFiredOn d.index.decls d.last_events };
+    ghost invariant = { λ d. AreShort d.live.decls
+        × IfSome d.wiring (λ wiring. IsWiringOf d.live.decls (B.promises d.book) wiring × KnowsAll d.live) };
 }
 
 impl<B: Bodies> Deployment<B> {
     /// No declaration. It takes no memory yet.
+    #[tactic(auto, using(crate::proofs::KnownLemmas::nothing))]
     pub(crate) fn new(alloc: Global, book: B) -> Deployment<B>
         ensures decls { result.decls ≡ [] }
         ensures counts { result.counts ≡ no_counts }
+        ensures known { result.known ≡ [] }
+        ensures work { result.work ≡ 0 }
         ensures staged { result.staged ≡ None }
         ensures book { result.book ≡ B.promises book }
         ensures wired { result.is_wired ≡ false }
     {
         Deployment {
-            index: Index::new(alloc),
+            live: Live::new(alloc),
             book,
             wiring: None,
-            last_events: LastEvents::new(alloc),
             stale: Stale::none(),
         }
     }
@@ -136,21 +138,31 @@ impl<B: Bodies> Deployment<B> {
     pub(crate) fn decls(&self) -> DeclIter<'_>
         ensures { result ≡ self.now.decls }
     {
-        self.index.decls().iter()
+        self.live.decls().iter()
     }
 
     /// How many records were computed.
     pub(crate) fn counts(&self) -> Counts
         ensures { result ≡ self.now.counts }
     {
-        self.index.counts()
+        self.live.counts()
+    }
+
+    /// How many answers were computed, and how many are known.
+    pub(crate) fn work(&self) -> WorkDone
+        ensures { result ≡ worked self.now.work self.now.known }
+    {
+        WorkDone {
+            work: self.live.work(),
+            known: self.live.known(),
+        }
     }
 
     /// The records of all beans, in order. It takes memory for them.
     pub(crate) fn all_beans(&self, alloc: Global) -> Result<Beans, AllocError>
         ensures { IfOk result (λ list. list ≡ beans self.now.decls) }
     {
-        Ok(Beans::new(beans(alloc, self.index.decls())?))
+        Ok(Beans::new(beans(alloc, self.live.decls())?))
     }
 
     /// A draft of a change. It takes memory for what is put, and for a copy of the list.
@@ -162,7 +174,7 @@ impl<B: Bodies> Deployment<B> {
         ensures short { IfOk result (λ draft. AreShort draft.decls) }
         ensures edited { IfOk result (IsEdited self.now.decls) }
     {
-        draft_change(&self.index, change)
+        draft_change(&self.live, change)
     }
 
     /// A draft of a batch. It takes memory as `draft` does.
@@ -172,7 +184,7 @@ impl<B: Bodies> Deployment<B> {
         ensures short { IfOk result (λ draft. AreShort draft.decls) }
         ensures edited { IfOk result (IsEdited self.now.decls) }
     {
-        draft_batch(alloc, &self.index, edits)
+        draft_batch(alloc, &self.live, edits)
     }
 
     /// Stages a draft of these declarations, which nobody sees until `commit`. It takes memory for all that is computed.
@@ -182,7 +194,7 @@ impl<B: Bodies> Deployment<B> {
         ensures ok { OnOk result (self.new ≡ with_staged self.old (Some (staged_by self.old.decls self.old.counts draft))) }
         ensures err { OnErr result (self.new ≡ with_staged self.old None) }
     {
-        self.index.stage(draft)?;
+        self.live.stage(draft)?;
         Ok(())
     }
 
@@ -190,84 +202,110 @@ impl<B: Bodies> Deployment<B> {
     /// there. It takes no memory.
     #[tactic(auto, using(crate::proofs::Committing::names_wired))]
     pub(crate) fn commit(&mut self) -> Option<Names>
+        requires { IfSome self.old.staged (λ next. AreShort next.decls) }
         ensures names { result ≡ names_if self.old }
         ensures new { self.new ≡ redeployed self.old }
     {
         let wiring = self.wiring.take();
-        self.last_events.clear();
-        take_over(&mut self.index);
+        take_over(&mut self.live);
         self.stale.take_wiring(wiring)
     }
 
     /// The bean for a type and qualifiers.
     pub(crate) fn choose(
-        &self,
+        &mut self,
         alloc: Global,
         bean_type: Name,
         quals: &Quals,
-        work: &mut Work,
     ) -> Result<Choice, AllocError>
         ensures choice { IfOk result (λ choice. choice
-            ≡ chosen self.now.decls (beans self.now.decls) bean_type quals.now) }
-        ensures work { OnOk result (work.new ≡ with_one work.old) }
-        ensures err { OnErr result (work.new ≡ work.old) }
+            ≡ chosen self.old.decls (beans self.old.decls) bean_type quals.now) }
+        ensures decls { self.new.decls ≡ self.old.decls }
+        ensures book { self.new.book ≡ self.old.book }
+        ensures wired { self.new.is_wired ≡ self.old.is_wired }
+        ensures asked { OnOk result (IsAsked (choice_key bean_type quals.now ∷ []) self.old self.new) }
+        ensures err { OnErr result (self.new ≡ self.old) }
     {
-        choose(alloc, &self.index, bean_type, quals, work)
+        // No effect at run time. The proof reads here that each known key is wanted.
+        let _ = self.live.work();
+        self.live.choose(alloc, bean_type, quals)
     }
 
     /// The bean of a name.
     pub(crate) fn named(&self, alloc: Global, name: Name) -> Result<Choice, AllocError>
         ensures { IfOk result (λ choice. choice ≡ chosen_by_name (beans self.now.decls) name) }
     {
-        choose_name(alloc, &self.index, name)
+        self.live.named(alloc, name)
     }
 
     /// The observer methods that are notified of an event.
     pub(crate) fn observers(
-        &self,
+        &mut self,
         alloc: Global,
         event_type: Name,
         quals: &Quals,
-        work: &mut Work,
     ) -> Result<Seq<ObserverId>, AllocError>
-        ensures observers { IfOk result (λ ids. ids ≡ notified self.now.decls (beans self.now.decls) event_type quals.now) }
-        ensures work { OnOk result (work.new ≡ with_one work.old) }
-        ensures err { OnErr result (work.new ≡ work.old) }
+        ensures observers { IfOk result (λ ids. ids ≡ notified self.old.decls (beans self.old.decls) event_type quals.now) }
+        ensures decls { self.new.decls ≡ self.old.decls }
+        ensures book { self.new.book ≡ self.old.book }
+        ensures wired { self.new.is_wired ≡ self.old.is_wired }
+        ensures asked { OnOk result (IsAsked (EventKey event_type quals.now ∷ []) self.old self.new) }
+        ensures err { OnErr result (self.new ≡ self.old) }
     {
-        observers(alloc, &self.index, event_type, quals, work)
+        // No effect at run time. The proof reads here that each known key is wanted.
+        let _ = self.live.work();
+        self.live.observers(alloc, event_type, quals)
     }
 
     /// The names of the interceptors around a place.
     pub(crate) fn chain(
-        &self,
+        &mut self,
         alloc: Global,
         bean: Name,
         place: &BeanPlace,
     ) -> Result<Seq<Name>, Error>
-        ensures { Answers result (chain_of self.now.decls bean place.now) }
+        ensures chain { Answers result (chain_of self.old.decls bean place.now) }
+        ensures wired { self.new.is_wired ≡ self.old.is_wired }
+        ensures asked { OnOk result (IsAsked (ChainKey bean place.now ∷ []) self.old self.new) }
+        ensures err { OnErr result (self.new ≡ self.old) }
     {
-        chain_of(alloc, self.index.decls(), bean, place)
+        // No effect at run time. The proof reads here that each known key is wanted.
+        let _ = self.live.work();
+        self.live.chain(alloc, bean, place)
     }
 
     /// The faults.
-    pub(crate) fn report(&self, alloc: Global) -> Result<Vec<Fault>, AllocError>
-        ensures faults { IfOk result (λ list. list.items ≡ faults self.now.decls self.now.book) }
+    pub(crate) fn report(&mut self, alloc: Global) -> Result<Vec<Fault>, AllocError>
+        ensures faults { IfOk result (λ list. list.items ≡ faults self.old.decls self.old.book) }
         ensures once { IfOk result (λ list. AllPairs (λ f g. f ≢ g) list.items) }
+        ensures wired { self.new.is_wired ≡ self.old.is_wired }
+        ensures order { IsInOrder self.old.decls self.old.known }
+        ensures asked { OnOk result (IsAsked (wanted self.old.decls) self.old self.new) }
+        ensures err { OnErr result (IsAskedSome (wanted self.old.decls) self.old self.new) }
     {
-        faults(alloc, &mut IndexView::new(&self.index), &self.book)
+        // No effect at run time. The proof reads here that each known key is wanted.
+        let _ = self.live.work();
+        faults(alloc, &mut self.live, &self.book)
     }
 
     /// How many faults there are. Where there is none, the scene is there from now on.
     pub(crate) fn wire(&mut self, alloc: Global) -> Result<usize, AllocError>
         ensures count { IfOk result (λ count. count ≡ length (faults self.old.decls self.old.book)) }
         ensures wired { IfOk result (λ count. count ≡ 0 → self.new.is_wired ≡ true) }
-        ensures same { IsSameDeployment self.old self.new }
+        ensures decls { self.new.decls ≡ self.old.decls }
+        ensures book { self.new.book ≡ self.old.book }
+        ensures wired_still { self.old.is_wired ≡ true → self.new.is_wired ≡ true }
+        ensures order { IsInOrder self.old.decls self.old.known }
+        ensures asked { OnOk result (IsAsked (wanted self.old.decls) self.old self.new) }
+        ensures err { OnErr result (IsAskedSome (wanted self.old.decls) self.old self.new) }
     {
+        // No effect at run time. The proof reads here that each known key is wanted.
+        let _ = self.live.work();
         if let Some(wiring) = &self.wiring {
             return Ok(wiring.count());
         }
         self.stale = Stale::none();
-        let wiring = Wiring::of(alloc, &mut IndexView::new(&self.index), &self.book)?;
+        let wiring = Wiring::of(alloc, &mut self.live, &self.book)?;
         let count = wiring.count();
         self.wiring = Some(wiring);
         Ok(count)
@@ -281,47 +319,55 @@ impl<B: Bodies> Deployment<B> {
         bean_type: Name,
         quals: &Quals,
         message: Option<Message>,
-        work: &mut Work,
     ) -> Result<Aim, Error>
         ensures answer { Answers result (aim_of self.old.decls self.old.book (asked_for bean_type quals.now message)) }
         ensures wired { OnOk result (self.new.is_wired ≡ true) }
         ensures there { IfOk result (λ aim. StandsIn (scene_of self.old.decls self.old.book) aim) }
-        ensures same { IsSameDeployment self.old self.new }
+        ensures decls { self.new.decls ≡ self.old.decls }
+        ensures book { self.new.book ≡ self.old.book }
+        ensures wired_still { self.old.is_wired ≡ true → self.new.is_wired ≡ true }
+        ensures asked { Evaluates (keys_of_use self.old.decls self.old.book bean_type quals.now) result self.old self.new }
     {
         let count = self.wire(alloc)?;
         if count != 0 {
             return Err(Error::Refused(Refusal::Faulty(count)));
         }
-        if !are_known(self.index.decls(), bean_type, quals) {
+        if !are_known(self.live.decls(), bean_type, quals) {
             return Err(Error::Refused(Refusal::UnknownName));
         }
-        self.aim_wired(alloc, bean_type, quals, message, work)
+        self.aim_wired(alloc, bean_type, quals, message)
     }
 
     /// Where a lookup or a call leads on the scene, which is there.
+    #[tactic(auto, unfolding(crate::specs::Asked::aim_for))]
     fn aim_wired(
-        &self,
+        &mut self,
         alloc: Global,
         bean_type: Name,
         quals: &Quals,
         message: Option<Message>,
-        work: &mut Work,
     ) -> Result<Aim, Error>
+        requires { self.old.is_wired ≡ true }
+        ensures answer { Answers result (aim_for self.old.decls (asked_for bean_type quals.now message)) }
+        ensures there { IfOk result (λ aim. StandsIn (scene_of self.old.decls self.old.book) aim) }
+        ensures wired { self.new.is_wired ≡ true }
+        ensures decls { self.new.decls ≡ self.old.decls }
+        ensures book { self.new.book ≡ self.old.book }
+        ensures asked { AsksOwn (choice_key bean_type quals.now) result self.old self.new }
+    {
+        let choice = self.choose(alloc, bean_type, quals)?;
+        Ok(self.aim_at(&choice, message)?)
+    }
+
+    /// Where a lookup or a call of what is chosen leads on the scene, which is there.
+    fn aim_at(&self, choice: &Choice, message: Option<Message>) -> Result<Aim, Refusal>
         requires { self.now.is_wired ≡ true }
-        ensures answer { Answers result (aim_for self.now.decls (asked_for bean_type quals.now message)) }
-        ensures there { IfOk result (λ aim. StandsIn (scene_of self.now.decls self.now.book) aim) }
+        ensures aim { result ≡ aim_of_choice self.now.decls message choice.now }
+        ensures distinct { AreDistinct self.now.decls }
     {
         // No effect at run time. The proof reads here that no two declarations have one kind and name.
-        let _ = self.index.decls().iter();
-        aim_for(
-            alloc,
-            self.index.decls(),
-            self.bean_list(),
-            bean_type,
-            quals,
-            message,
-            work,
-        )
+        let _ = self.live.decls().iter();
+        aim_of_choice(self.live.decls(), self.bean_list(), choice, message)
     }
 
     /// The observer methods that an event notifies. Where it is not refused, the scene is there from now on.
@@ -331,34 +377,54 @@ impl<B: Bodies> Deployment<B> {
         alloc: Global,
         event_type: Name,
         quals: &Quals,
-        work: &mut Work,
     ) -> Result<Seq<Notified>, Error>
         ensures answer { Answers result (fired_of self.old.decls self.old.book event_type quals.now) }
         ensures wired { OnOk result (self.new.is_wired ≡ true) }
         ensures there { IfOk result (λ list. AreObservers (scene_of self.old.decls self.old.book) list) }
-        ensures same { IsSameDeployment self.old self.new }
+        ensures decls { self.new.decls ≡ self.old.decls }
+        ensures book { self.new.book ≡ self.old.book }
+        ensures wired_still { self.old.is_wired ≡ true → self.new.is_wired ≡ true }
+        ensures asked { Evaluates (keys_of_event self.old.decls self.old.book event_type quals.now) result self.old self.new }
     {
         let count = self.wire(alloc)?;
         if count != 0 {
             return Err(Error::Refused(Refusal::Faulty(count)));
         }
-        if !can_be_fired(self.index.decls(), event_type, quals) {
+        if !can_be_fired(self.live.decls(), event_type, quals) {
             return Err(Error::Refused(Refusal::UnknownName));
         }
+        self.notified_wired(alloc, event_type, quals)
+    }
+
+    /// The observer methods that an event notifies on the scene, which is there.
+    #[tactic(auto, unfolding(cdi_staging::specs::Notifying::notified_at))]
+    fn notified_wired(
+        &mut self,
+        alloc: Global,
+        event_type: Name,
+        quals: &Quals,
+    ) -> Result<Seq<Notified>, Error>
+        requires { self.old.is_wired ≡ true }
+        ensures answer { Answers result (Ok (notified_at self.old.decls (beans self.old.decls) event_type quals.now)) }
+        ensures there { IfOk result (λ list. AreObservers (scene_of self.old.decls self.old.book) list) }
+        ensures wired { self.new.is_wired ≡ true }
+        ensures decls { self.new.decls ≡ self.old.decls }
+        ensures book { self.new.book ≡ self.old.book }
+        ensures asked { AsksOwn (EventKey event_type quals.now) result self.old self.new }
+    {
+        let ids = self.observers(alloc, event_type, quals)?;
+        Ok(self.notified_as(alloc, ids.as_slice())?)
+    }
+
+    /// Some observer methods by their positions on the scene, which is there.
+    fn notified_as(&self, alloc: Global, ids: &[ObserverId]) -> Result<Seq<Notified>, AllocError>
+        requires { self.now.is_wired ≡ true }
+        ensures list { IfOk result (λ list. list ≡ map (notified_as self.now.decls (beans self.now.decls)) ids.now) }
+        ensures distinct { AreDistinct self.now.decls }
+    {
         // No effect at run time. The proof reads here that no two declarations have one kind and name.
-        let _ = self.index.decls().iter();
-        // The last events are apart from the rest while they are changed, and the bean list is lent.
-        let mut last_events = mem::replace(&mut self.last_events, LastEvents::new(alloc));
-        let notified = last_events.notified(
-            alloc,
-            self.index.decls(),
-            self.bean_list(),
-            event_type,
-            quals,
-        );
-        self.last_events = last_events;
-        work.add_one();
-        Ok(notified?)
+        let _ = self.live.decls().iter();
+        positions_of(alloc, self.live.decls(), self.bean_list(), ids)
     }
 
     /// The scene and its names, which are there.
@@ -410,13 +476,15 @@ impl<B: Bodies> Deployment<B> {
 }
 
 /// What is staged is taken over, if anything is.
-#[tactic(auto, using(crate::proofs::Committing::committed_short, crate::proofs::Committing::nothing_staged))]
-fn take_over(index: &mut Index)
-    requires short { AreShort index.old.decls }
-    requires staged { IfSome index.old.staged (λ next. AreShort next.decls) }
-    ensures new { index.new ≡ committed index.old }
-    ensures short { AreShort index.new.decls }
-    ensures nothing { IfSome index.new.staged (λ next. AreShort next.decls) }
+#[tactic(auto, using(crate::proofs::Committing::committed_short))]
+fn take_over(live: &mut Live)
+    requires short { AreShort live.old.decls }
+    requires staged { IfSome live.old.staged (λ next. AreShort next.decls) }
+    ensures new { Commits live.old live.new }
+    ensures short { AreShort live.new.decls }
+    ensures wanted { KnownAreWanted live.old }
 {
-    index.commit();
+    // No effect at run time. The proof reads here that each known key is wanted.
+    let _ = live.work();
+    live.commit();
 }

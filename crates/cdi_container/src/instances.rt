@@ -5,11 +5,12 @@ ghost use Rattle.cdi_legal.specs.Rooted.{IsRooted};
 ghost use Rattle.cdi_staging.specs.Staged.{scene_of};
 ghost use Rattle.cdi_model.specs.Answering.{Answers};
 ghost use Rattle.cdi_container.specs.Asked.{asked_for, to_look, to_call, run_of_event, run_of_use};
-ghost use Rattle.cdi_container.specs.History.{left_by, untold, unplayed, with_request, refusal_of_begin, refusal_of_end};
-ghost use Rattle.cdi_container.specs.History.{IsRefusedBy, RunAnswers, RunsFrom};
+ghost use Rattle.cdi_container.specs.History.{asked, left_by, untold, with_request, refusal_of_begin, refusal_of_end};
+ghost use Rattle.cdi_container.specs.History.{IsRefusedBy, RunAnswers, RunsFrom, Unplayed};
+ghost use Rattle.cdi_container.specs.Known.{keys_of_event, keys_of_use};
 ghost use Rattle.cdi_container.specs.declared.answer.Answer.TheVariants.{Given};
 ghost use Rattle.cdi_container.specs.History.{EndsRequest, EndsContexts};
-ghost use Rattle.cdi_container.specs.Seen.{LookUpStep, CallStep, FireStep, BeginStep, EndStep, StopStep, done_or};
+ghost use Rattle.cdi_container.specs.Seen.{LookUpStep, CallStep, FireStep, BeginStep, EndStep, StopStep, done_or, unplayed};
 
 use crate::answer::Answer;
 use crate::asked::Message;
@@ -24,7 +25,7 @@ impl<B: Bodies> Container<B> {
     /// The state of the instance of the bean that is right for a type and qualifiers (CDI 4.0, Normal scopes and pseudo-scopes; the
     /// answer: profile). A dependent bean has its instance made for it, which is destroyed before the answer.
     ///
-    /// It takes memory as `report` does at the first lookup, call or event after an edit, and else for a choice and for
+    /// It takes memory as `report` does at the first lookup, call or event after an edit, and else as `choose` does, and for
     /// the instances and the entries of its trace.
     ///
     /// # Errors
@@ -33,10 +34,11 @@ impl<B: Bodies> Container<B> {
     /// `UnknownName`; `Unsatisfied`; `Ambiguous`.
     #[tactic(auto, using(crate::proofs::RunAnswered::answered))]
     pub fn lookup(&mut self, bean_type: Name, quals: &Quals) -> Result<Outcome, Error>
-        ensures ok { IfOk result (λ outcome. RunsFrom self.old
+        ensures ok { IfOk result (λ outcome. RunsFrom (asked self.old
+            (keys_of_use self.old.decls self.old.book bean_type quals.now))
             (run_of_use self.old.decls self.old.book (to_look bean_type quals.now)) (Given outcome) self.new) }
         ensures refused { IfErr result (IsRefusedBy (run_of_use self.old.decls self.old.book (to_look bean_type quals.now))) }
-        ensures err { IfErr result (λ error. self.new ≡ unplayed error self.old) }
+        ensures err { IfErr result (λ error. Unplayed self.old (keys_of_use self.old.decls self.old.book bean_type quals.now) error self.new) }
         ensures step { LookUpStep self.old bean_type quals.now result self.new }
     {
         self.use_bean(bean_type, quals, None)
@@ -56,11 +58,12 @@ impl<B: Bodies> Container<B> {
         method: Ident,
         arg: Val,
     ) -> Result<Outcome, Error>
-        ensures ok { IfOk result (λ outcome. RunsFrom self.old
+        ensures ok { IfOk result (λ outcome. RunsFrom (asked self.old
+            (keys_of_use self.old.decls self.old.book bean_type quals.now))
             (run_of_use self.old.decls self.old.book (to_call method arg bean_type quals.now)) (Given outcome) self.new) }
         ensures refused { IfErr result
             (IsRefusedBy (run_of_use self.old.decls self.old.book (to_call method arg bean_type quals.now))) }
-        ensures err { IfErr result (λ error. self.new ≡ unplayed error self.old) }
+        ensures err { IfErr result (λ error. Unplayed self.old (keys_of_use self.old.decls self.old.book bean_type quals.now) error self.new) }
         ensures step { CallStep self.old method arg bean_type quals.now result self.new }
     {
         self.use_bean(bean_type, quals, Some(Message { method, arg }))
@@ -73,15 +76,12 @@ impl<B: Bodies> Container<B> {
         quals: &Quals,
         message: Option<Message>,
     ) -> Result<Outcome, Error>
-        ensures { RunAnswers self.old (run_of_use self.old.decls self.old.book (asked_for bean_type quals.now message))
+        ensures { RunAnswers self.old (keys_of_use self.old.decls self.old.book bean_type quals.now) (run_of_use self.old.decls self.old.book (asked_for bean_type quals.now message))
             result self.new }
     {
         self.run.restart();
         self.told = None;
-        match self
-            .deployment
-            .aim(self.alloc, bean_type, quals, message, &mut self.work)
-        {
+        match self.deployment.aim(self.alloc, bean_type, quals, message) {
             Ok(aim) => {
                 let player = self.deployment.player();
                 let outcome = player.use_one(&mut self.run, aim.bean, aim.purpose)?;
@@ -93,8 +93,7 @@ impl<B: Bodies> Container<B> {
 
     /// An event with a value, for the observer methods that it notifies, in order, up to the first failure, which is its outcome
     /// then (CDI 4.0, Observer notification); else the outcome is null. It takes memory as `report` does at the first lookup,
-    /// call or event after an edit, and else for the instances and the entries of
-    /// its trace, and as `observers` does where the last event of the type had other qualifiers.
+    /// call or event after an edit, and else as `observers` does, and for the instances and the entries of its trace.
     ///
     /// # Errors
     ///
@@ -102,10 +101,11 @@ impl<B: Bodies> Container<B> {
     /// `UnknownName`, which `Default` among the qualifiers has too (profile).
     #[tactic(auto, using(crate::proofs::RunAnswered::answered))]
     pub fn fire(&mut self, event_type: Name, quals: &Quals, arg: Val) -> Result<Outcome, Error>
-        ensures ok { IfOk result (λ outcome. RunsFrom self.old
+        ensures ok { IfOk result (λ outcome. RunsFrom (asked self.old
+            (keys_of_event self.old.decls self.old.book event_type quals.now))
             (run_of_event self.old.decls self.old.book arg event_type quals.now) (Given outcome) self.new) }
         ensures refused { IfErr result (IsRefusedBy (run_of_event self.old.decls self.old.book arg event_type quals.now)) }
-        ensures err { IfErr result (λ error. self.new ≡ unplayed error self.old) }
+        ensures err { IfErr result (λ error. Unplayed self.old (keys_of_event self.old.decls self.old.book event_type quals.now) error self.new) }
         ensures step { FireStep self.old arg event_type quals.now result self.new }
     {
         self.notify(event_type, quals, arg)
@@ -113,14 +113,11 @@ impl<B: Bodies> Container<B> {
 
     /// An event, for whom it notifies.
     fn notify(&mut self, event_type: Name, quals: &Quals, arg: Val) -> Result<Outcome, Error>
-        ensures { RunAnswers self.old (run_of_event self.old.decls self.old.book arg event_type quals.now) result self.new }
+        ensures { RunAnswers self.old (keys_of_event self.old.decls self.old.book event_type quals.now) (run_of_event self.old.decls self.old.book arg event_type quals.now) result self.new }
     {
         self.run.restart();
         self.told = None;
-        match self
-            .deployment
-            .notified(self.alloc, event_type, quals, &mut self.work)
-        {
+        match self.deployment.notified(self.alloc, event_type, quals) {
             Ok(observers) => {
                 let player = self.deployment.player();
                 let outcome = player.fire(&mut self.run, observers.as_slice(), arg)?;

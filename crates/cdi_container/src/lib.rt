@@ -9,10 +9,9 @@ mod beans;
 mod container;
 mod deployment;
 mod instances;
-mod last_events;
 mod printing;
 
-pub use answer::Answer;
+pub use answer::{Answer, WorkDone};
 pub use batch::{BATCH_LIMIT, BatchError};
 pub use beans::Beans;
 pub use cdi_bodies::{

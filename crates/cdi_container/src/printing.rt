@@ -1,6 +1,6 @@
 //! How answers print.
 
-use crate::answer::Answer;
+use crate::answer::{Answer, WorkDone};
 use cdi_faults::Fault;
 use cdi_index::Counts;
 use cdi_model::{Name, Refusal};
@@ -100,6 +100,7 @@ impl fmt::Display for Answer {
             Answer::Counted(Counts { closures, beans }) => {
                 write!(f, "counts closures {closures} beans {beans}")
             }
+            Answer::Worked(WorkDone { work, known }) => write!(f, "work {work} known {known}"),
             Answer::Given(outcome) => write!(f, "{outcome}"),
             Answer::Refused {
                 refusal,

@@ -13,30 +13,53 @@ use Rattle.cdi_lines.specs.declared.edit.Edit.{Edit}
 use Rattle.cdi_lines.specs.declared.edit.Edit.TheVariants as edits
 use Rattle.cdi_lines.specs.Kept.{ServesText}
 use Rattle.cdi_container.specs.declared.answer.Answer.{Answer}
-use Rattle.cdi_container.specs.declared.answer.Answer.TheVariants.{Done, Chosen, Intercepted, Observed, Reported, Counted, Given, Refused}
+use Rattle.cdi_container.specs.declared.answer.Answer.TheVariants.{Done, Chosen, Intercepted, Observed, Reported, Counted, Worked, Given, Refused}
 use Rattle.cdi_container.specs.Editing.{Reason, alone, put_of, change_of, changes_in, asked_by, refusal_of_change, first_refusal, refusal_of_batch}
-use Rattle.cdi_container.specs.History.{State, Acts, EditsFrom, LegalAnswer, refusal_of, runs, emptied}
+use Rattle.cdi_container.specs.History.{State, Acts, AsksSome, EditsFrom, LegalAnswer, asked, emptied, evaluates, refusal_of, runs, untold}
 use Rattle.cdi_script.specs.Runner.{RunnerOn, Runs, RunsStep, Tries}
 use Rattle.cdi_script.specs.Begun.{ServesEdits, ServesCommand, ServesCompleted}
 use Rattle.cdi_script.proofs.Runs.{runs_none, runs_one}
 
--- two commands that are refused alike, and do the same, are answered alike
-alike : (old new : State) (kept command : Command) (answer : Result Answer AllocError) → refusal_of old kept ≡ refusal_of old command
+-- what one does that evaluates nothing, another does
+does : (old new : State) (kept command : Command) (given : Answer) → evaluates old kept ≡ [] → evaluates old command ≡ []
+    → (Acts old kept given new → Acts old command given new) → Acts (asked old (evaluates old kept)) kept given new
+    → Acts (asked old (evaluates old command)) command given new
+does old new kept command given one other acts h =
+    subst (λ keys. Acts (asked old keys) command given new) (sym other)
+    (acts (subst (λ keys. Acts (asked old keys) kept given new) one h))
+
+-- two commands that evaluate nothing, are refused alike, and do the same, are answered alike
+alike : (old new : State) (kept command : Command) (answer : Result Answer AllocError) → evaluates old kept ≡ []
+    → evaluates old command ≡ [] → refusal_of old kept ≡ refusal_of old command
     → ((given : Answer) → refusal_of old kept ≡ None → Acts old kept given new → Acts old command given new)
     → runs kept ≡ runs command → LegalAnswer old kept answer new → LegalAnswer old command answer new
-alike old new kept command (Ok Done) refused acts same h = (sym refused ∙ h.0, acts Done h.0 h.1)
-alike old new kept command (Ok (Chosen choice)) refused acts same h = (sym refused ∙ h.0, acts (Chosen choice) h.0 h.1)
-alike old new kept command (Ok (Intercepted names)) refused acts same h = (sym refused ∙ h.0, acts (Intercepted names) h.0 h.1)
-alike old new kept command (Ok (Observed ids)) refused acts same h = (sym refused ∙ h.0, acts (Observed ids) h.0 h.1)
-alike old new kept command (Ok (Reported list)) refused acts same h = (sym refused ∙ h.0, acts (Reported list) h.0 h.1)
-alike old new kept command (Ok (Counted counts)) refused acts same h = (sym refused ∙ h.0, acts (Counted counts) h.0 h.1)
-alike old new kept command (Ok (Given outcome)) refused acts same h = (sym refused ∙ h.0, acts (Given outcome) h.0 h.1)
-alike old new kept command (Ok (Refused refusal edit)) refused acts same h = (sym refused ∙ h.0, h.1)
-alike old new kept command (Err error) refused acts same h = h ∙ ap (λ r. if r then emptied old else old) same
+alike old new kept command (Ok Done) one other refused acts same h =
+    (sym refused ∙ h.0, does old new kept command Done one other (acts Done h.0) h.1)
+alike old new kept command (Ok (Chosen choice)) one other refused acts same h =
+    (sym refused ∙ h.0, does old new kept command (Chosen choice) one other (acts (Chosen choice) h.0) h.1)
+alike old new kept command (Ok (Intercepted names)) one other refused acts same h =
+    (sym refused ∙ h.0, does old new kept command (Intercepted names) one other (acts (Intercepted names) h.0) h.1)
+alike old new kept command (Ok (Observed ids)) one other refused acts same h =
+    (sym refused ∙ h.0, does old new kept command (Observed ids) one other (acts (Observed ids) h.0) h.1)
+alike old new kept command (Ok (Reported list)) one other refused acts same h =
+    (sym refused ∙ h.0, does old new kept command (Reported list) one other (acts (Reported list) h.0) h.1)
+alike old new kept command (Ok (Counted counts)) one other refused acts same h =
+    (sym refused ∙ h.0, does old new kept command (Counted counts) one other (acts (Counted counts) h.0) h.1)
+alike old new kept command (Ok (Worked done)) one other refused acts same h =
+    (sym refused ∙ h.0, does old new kept command (Worked done) one other (acts (Worked done) h.0) h.1)
+alike old new kept command (Ok (Given outcome)) one other refused acts same h =
+    (sym refused ∙ h.0, does old new kept command (Given outcome) one other (acts (Given outcome) h.0) h.1)
+alike old new kept command (Ok (Refused refusal edit)) one other refused acts same h =
+    (sym refused ∙ h.0, h.1 ∙ ap (λ keys. untold (asked old keys)) (one ∙ sym other))
+alike old new kept command (Err error) one other refused acts same h = record {
+  left = h.left;
+  asks = subst (λ keys. AsksSome old keys h.left) (one ∙ sym other) h.asks;
+  rest = h.rest ∙ ap (λ r. if r then emptied h.left else h.left) same;
+}
 
 -- edits that ask for the same
 pub serves_edit : (kept edit : Edit) → change_of kept ≡ change_of edit → ServesCommand (EditCommand kept) (EditCommand edit)
-serves_edit kept edit same old new answer h = alike old new (EditCommand kept) (EditCommand edit) answer
+serves_edit kept edit same old new answer h = alike old new (EditCommand kept) (EditCommand edit) answer refl refl
     (ap (λ asked. alone (refusal_of_change old.decls asked)) same)
     (λ given none acts. (acts.0, subst (λ asked. EditsFrom old (changes_in asked) new) same acts.1)) refl h
 
@@ -55,10 +78,10 @@ refused_many : (ds : List Decl) (es : List Edit) → 256 < length es → refusal
 refused_many ds es many = rw (lt-ltb 256 (length es) many) refl
 
 pub serves_batch : (kept es : List Edit) → ServesEdits kept es → ServesCommand (BatchCommand kept) (BatchCommand es)
-serves_batch kept es (inl same) old new answer h = alike old new (BatchCommand kept) (BatchCommand es) answer
+serves_batch kept es (inl same) old new answer h = alike old new (BatchCommand kept) (BatchCommand es) answer refl refl
     (judged_alike old.decls kept es same)
     (λ given none acts. (acts.0, subst (λ asked. EditsFrom old (flat_map changes_in asked) new) same acts.1)) refl h
-serves_batch kept es (inr many) old new answer h = alike old new (BatchCommand kept) (BatchCommand es) answer
+serves_batch kept es (inr many) old new answer h = alike old new (BatchCommand kept) (BatchCommand es) answer refl refl
     (refused_many old.decls kept many.0 ∙ sym (refused_many old.decls es many.1))
     (λ given none acts. absurd (let e : too_many ≡ None = sym (refused_many old.decls kept many.0) ∙ none in cc)) refl h
 

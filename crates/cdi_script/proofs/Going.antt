@@ -1,7 +1,7 @@
 -- A run from one read to the next, and how it ends.
 use Rattle.std.proofs.Common.{◌≡◌, ℕ, List, [], ◌∷◌, ◌++◌, take, refl, ap, sym, ◌∙◌, subst, Option, Some, None, length, true, false, inl, inr}
 use Rattle.std.proofs.Common.{append_assoc, arith}
-use Rattle.std.specs.Prelude.{Bool, Err, ◌≤◌, ◌&&◌, not}
+use Rattle.std.specs.Prelude.{Bool, Err, ◌<◌, ◌≤◌, ◌&&◌, not}
 use Rattle.std.proofs.lemmas.Bool.{false≢true, true≢false}
 use Rattle.std.specs.Io.KnownBytes.{Appends, Consumes}
 use Rattle.std.proofs.lemmas.List.{append-nil, length-append, length-take}
@@ -11,7 +11,7 @@ use Rattle.cdi_devices.specs.Counted.{inner_of, bytes_of, has_failed, is_flushed
 use Rattle.cdi_devices.specs.Devices.{Gives, ReadFails}
 use Rattle.cdi_lines.specs.Kept.{ServesLine}
 use Rattle.cdi_staging.specs.Naming.{names_of}
-use Rattle.cdi_container.specs.History.{State, runs as is_run}
+use Rattle.cdi_container.specs.History.{State, Unserved, runs as is_run}
 use Rattle.std.specs.Prelude.{alloc_error}
 use Rattle.cdi_script.specs.Runner.{Tries}
 use Rattle.cdi_script.specs.Begun.{ServesMode}
@@ -41,7 +41,18 @@ wrote_nothing setting known = record {
   written = Appends-none known;
 }
 
--- a command that is no run and found no memory has changed nothing
+-- a command that is no run and found no memory may have evaluated nothing
+none_below : (j : ℕ) → j < 0 → ⊥
+none_below j below = absurd (omega (arith, below))
+
+nothing_served : (state : State) (command : Command) → is_run command ≡ false → Unserved state command state
+nothing_served state command is = record {
+  left = state;
+  asks = record { some = []; among = refl; apart = λ i j d lt below. absurd (none_below j below); are = refl };
+  rest = rw is refl;
+}
+
+-- and has changed nothing
 left_unread : (command : Command) (rest first all : List Command) (state : State) → all ≡ first ++ command ∷ rest
     → (run : Bool) → is_run command ≡ run → Leaves first all state state
 left_unread command rest first all state cut true is =
@@ -49,7 +60,7 @@ left_unread command rest first all state cut true is =
 left_unread command rest first all state cut false is = inl (
   record { command = command; answer = Err alloc_error; trace = []; names = names_of state.decls },
   (rest, cut ∙ sym (append_assoc first (command ∷ []) rest)),
-  record { answered = rw is refl; trace = refl; names = refl },
+  record { answered = nothing_served state command is; trace = refl; names = refl },
 )
 
 left_as_it_was : (later first all : List Command) (state : State) → all ≡ first ++ later → Leaves first all state state

@@ -10,6 +10,7 @@ mod calls;
 mod chain_questions;
 mod deployed;
 mod questions;
+mod reports;
 mod runs;
 mod scripts;
 mod specializing_questions;
@@ -18,6 +19,7 @@ mod texts;
 
 use calls::make_calls;
 use questions::ask_questions;
+use reports::ask_for_all;
 use runs::take_steps;
 use scripts::run_scripts;
 use std::alloc::Global;
@@ -43,6 +45,8 @@ pub enum Difference {
     Run(usize),
     #[error("step {0} answers, shows or leaves something else")]
     Step(usize),
+    #[error("after step {0} something else is known")]
+    Known(usize),
     #[error("a second allocation is refused")]
     RefusedAgain,
 }
@@ -83,14 +87,16 @@ enum Part {
     Scripts,
     Steps,
     FurtherSteps,
+    Reports,
 }
 
-static PARTS: [Part; 5] = [
+static PARTS: [Part; 6] = [
     Part::Calls,
     Part::Questions,
     Part::Scripts,
     Part::Steps,
     Part::FurtherSteps,
+    Part::Reports,
 ];
 
 /// Does each part, and tells whether an allocation of theirs was refused. At most one may be, and its part is done again.
@@ -115,6 +121,7 @@ fn do_part(alloc: Global, part: Part) -> Result<bool, Difference> {
         Part::Scripts => run_scripts(alloc),
         Part::Steps => take_steps(alloc, &DECLARED, &STEPS),
         Part::FurtherSteps => take_steps(alloc, &FURTHER_DECLARED, &FURTHER_STEPS),
+        Part::Reports => ask_for_all(alloc),
     }
 }
 

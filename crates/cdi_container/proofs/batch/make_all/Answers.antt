@@ -1,4 +1,4 @@
-use Rattle.std.proofs.Common.{◌≡◌, ◌+◌, ◌∷◌, ◌∙◌, List, length, ap, subst, sym, arith}
+use Rattle.std.proofs.Common.{◌≡◌, ◌+◌, ◌∷◌, ◌∙◌, length, ap, subst, sym, arith}
 use Rattle.std.specs.Vec.Iter.{into_iter_items}
 use Rattle.cdi_container.specs.Editing.{asked_by, changes_of_all, drafted_all, first_refusal}
 use Rattle.cdi_container.specs.Seen.{SaysReason, refused_at}

@@ -1,6 +1,6 @@
-use Rattle.std.proofs.Common.{◌≡◌, ◌∙◌, [], ap, refl, sym}
+use Rattle.std.proofs.Common.{◌∙◌, [], refl, sym}
 use Rattle.cdi_staging.specs.Naming.{names_of}
-use Rattle.cdi_container.proofs.NamingLemmas.{by_names, names_present}
+use Rattle.cdi_container.proofs.NamingLemmas.{names_present}
 use Rattle.cdi_container.proofs.container.Container.entries.Goals as goal
 
 pub returns-then-not-is_wired : goal.returns-then-not-is_wired

@@ -1,3 +1,13 @@
+use Rattle.std.proofs.Common.{None, Ok, Err, ap, subst, ◌∙◌}
+use Rattle.cdi_contexts.specs.Standing.{cleared}
+use Rattle.cdi_legal.specs.Moment.{Moment, beginning}
+use Rattle.cdi_container.specs.Asked.{aim_of, asked_for, run_at, run_by, run_of_use}
+use Rattle.cdi_container.specs.History.{State, RunAnswers}
+use Rattle.cdi_container.specs.Known.{keys_of_use}
+use Rattle.cdi_container.specs.Wired.{trace_names}
+use Rattle.cdi_container.proofs.AskedLemmas.{some-all, use-apart}
+use Rattle.cdi_container.proofs.Asking.{leaves_run, refused_by, ran, run_left, run_without_memory}
+use Rattle.cdi_container.proofs.Ending.{standing_at}
 use Rattle.cdi_container.proofs.Playing.{rests_cleared, rests_ran, rests_unplayed}
 use Rattle.cdi_container.proofs.container.Container.use_bean.Goals as goal
 
@@ -14,4 +24,35 @@ invariant_of-self-in-Ok g c =
 pub invariant_of-self-in-Err : goal.invariant_of-self-in-Err
 invariant_of-self-in-Err g c =
     rests_unplayed c.self.inside.deployment c.aim.new.self c.self.inside.run.moment c.restart.new.self.moment c.self.inside.told
-    c.self.invariant c.restart.ensures.moment c.aim.ensures.same
+    c.self.invariant c.restart.ensures.moment (λ w. c.aim.ensures.wired_still w) c.aim.ensures.decls c.aim.ensures.book
+
+pub returns-in_err-outcome-in-Ok : goal.returns-in_err-outcome-in-Ok
+returns-in_err-outcome-in-Ok g c =
+    let d = c.self.inside.deployment in
+    let names = trace_names d c.self.inside.told in
+    subst (λ (s : State). RunAnswers s (keys_of_use s.decls s.book c.args.bean_type c.args.quals.now) (run_of_use s.decls s.book (asked_for c.args.bean_type c.args.quals.now c.args.message)) c.from_residual.result
+    (standing_at c.aim.new.self (trace_names c.aim.new.self None) c.use_one.new.run.moment)) c.self.view_is
+    (run_without_memory (standing_at d names c.self.inside.run.moment)
+    (standing_at c.aim.new.self (trace_names c.aim.new.self None) c.use_one.new.run.moment) (keys_of_use d.decls d.book c.args.bean_type c.args.quals.now) (run_of_use d.decls d.book (asked_for c.args.bean_type c.args.quals.now c.args.message)) c.from_residual.result c.from_residual.ensures.1
+    (leaves_run d c.aim.new.self names (trace_names c.aim.new.self None) c.self.inside.run.moment c.use_one.new.run.moment (keys_of_use d.decls d.book c.args.bean_type c.args.quals.now)
+    (some-all (keys_of_use d.decls d.book c.args.bean_type c.args.quals.now) d c.aim.new.self (use-apart d c.args.bean_type c.args.quals.now) c.in-Ok.ensures.asked)
+    (c.in_err-outcome-in-Ok.ensures.out_of_memory
+    ∙ ap (λ (x : Moment). beginning (cleared x.standing.given)) c.restart.ensures.moment)))
+
+pub returns-in_ok-outcome-in-Ok : goal.returns-in_ok-outcome-in-Ok
+returns-in_ok-outcome-in-Ok g c =
+    let d = c.self.inside.deployment in
+    subst (λ (s : State). RunAnswers s (keys_of_use s.decls s.book c.args.bean_type c.args.quals.now) (run_of_use s.decls s.book (asked_for c.args.bean_type c.args.quals.now c.args.message)) (Ok c.in_ok-outcome-in-Ok.outcome)
+    (standing_at c.aim.new.self (trace_names c.aim.new.self None) c.use_one.new.run.moment)) c.self.view_is
+    (ran d c.aim.new.self c.player-player.result.stage.scene (trace_names d c.self.inside.told) c.self.inside.run.moment
+    c.restart.new.self.moment c.use_one.new.run.moment (keys_of_use d.decls d.book c.args.bean_type c.args.quals.now) (run_of_use d.decls d.book (asked_for c.args.bean_type c.args.quals.now c.args.message)) (run_at c.in-Ok.aim) c.in_ok-outcome-in-Ok.outcome
+    c.in-Ok.ensures.asked c.restart.ensures.moment c.player-player.ensures.scene (ap (run_by run_at) c.in-Ok.ensures.answer) c.in_ok-outcome-in-Ok.ensures.legal)
+
+pub returns-in-Err : goal.returns-in-Err
+returns-in-Err g c =
+    let d = c.self.inside.deployment in
+    subst (λ (s : State). RunAnswers s (keys_of_use s.decls s.book c.args.bean_type c.args.quals.now) (run_of_use s.decls s.book (asked_for c.args.bean_type c.args.quals.now c.args.message)) (Err c.leave_unplayed.result)
+    c.leave_unplayed.new.self) c.self.view_is
+    (run_left d c.aim.new.self (trace_names d c.self.inside.told) (trace_names c.aim.new.self None) c.self.inside.run.moment
+    c.restart.new.self.moment (keys_of_use d.decls d.book c.args.bean_type c.args.quals.now) (run_of_use d.decls d.book (asked_for c.args.bean_type c.args.quals.now c.args.message)) c.in-Err.error c.leave_unplayed.result c.leave_unplayed.new.self c.restart.ensures.moment
+    (refused_by run_at (aim_of d.decls d.book (asked_for c.args.bean_type c.args.quals.now c.args.message)) c.in-Err.error c.in-Err.ensures.answer) c.in-Err.ensures.asked c.leave_unplayed.ensures.same c.leave_unplayed.ensures.left)

@@ -1,15 +1,25 @@
-use Rattle.std.proofs.Common.{IfOk, subst, sym, ap, ◌∙◌}
+use Rattle.std.proofs.Common.{sym, subst, ◌∙◌}
 use Rattle.cdi_model.specs.DeclList.{AreDistinct}
-use Rattle.cdi_staging.specs.Staged.{scene_of}
+use Rattle.cdi_observe.specs.Keys.{choice_key}
 use Rattle.cdi_container.specs.Asked.{asked_for}
-use Rattle.cdi_container.specs.Wired.{StandsIn}
-use Rattle.cdi_container.proofs.Aiming.{aim_stands}
+use Rattle.cdi_container.proofs.Aiming.{aimed_stands, aims}
+use Rattle.cdi_container.proofs.AskedLemmas.{own_asked, own_without_memory}
 use Rattle.cdi_container.proofs.deployment.Deployment.aim_wired.Goals as goal
+
+pub returns-in_err-choice-clause-asked : goal.returns-in_err-choice-clause-asked
+returns-in_err-choice-clause-asked g c =
+    own_without_memory c.from_residual.result (choice_key c.args.bean_type c.args.quals.now) c.args.self.now c.choose.new.self
+    c.from_residual.ensures.1 c.in_err-choice.ensures.err
+
+pub returns-in_err-aim_at-clause-asked : goal.returns-in_err-aim_at-clause-asked
+returns-in_err-aim_at-clause-asked g c =
+    own_asked c.from_residual-in_err-aim_at.result (choice_key c.args.bean_type c.args.quals.now) c.args.self.now c.choose.new.self
+    c.in_ok-choice.ensures.asked
 
 pub returns-clause-there : goal.returns-clause-there
 returns-clause-there g c =
-    let book = c.args.self.now.book in
-    subst (λ ds. IfOk c.aim_for.result (λ aim. StandsIn (scene_of ds book) aim))
-    (c.decls-2.ensures ∙ ap (λ d. d.decls) c.self.view_is)
-    (aim_stands c.decls-2.result.now book (asked_for c.args.bean_type c.args.quals.now c.args.message) c.aim_for.result
-    (subst AreDistinct (c.decls.ensures ∙ sym c.decls-2.ensures) c.iter.ensures.distinct) c.aim_for.ensures)
+    let d = c.args.self.now in
+    aimed_stands d.decls d.book (asked_for c.args.bean_type c.args.quals.now c.args.message) c.in_ok-aim_at.field-0
+    (subst AreDistinct c.choose.ensures.decls c.aim_at.ensures.distinct)
+    (aims d.decls c.choose.new.self.decls c.args.bean_type c.args.quals.now c.args.message c.in_ok-choice.choice c.choose.ensures.decls
+    c.in_ok-choice.ensures.choice ∙ sym c.in_ok-aim_at.ensures.aim)

@@ -1,0 +1,299 @@
+-- What calls leave of a deployment that evaluate keys.
+use Rattle.std.proofs.Common.{inl, inr, ◌≡◌, ◌≢◌, Bool, true, false, ◌&&◌, ◌||◌, ◌==◌, ℕ, List, [], ◌∷◌, ◌++◌, ◌<◌, get_or, length, refl, sym, ap, ◌∙◌, subst}
+use Rattle.std.specs.Prelude.{AllPairs, Result, Ok, Err, if◌then◌else◌}
+use Rattle.std.specs.Result.{IsErrAnd}
+use Rattle.std.specs.List.{list_all, IsDistinct}
+use Rattle.std.proofs.lemmas.Bool.{and_from, and_parts, eqb-true, false≢true, or_left, or_right}
+use Rattle.std.proofs.lemmas.List.Sums.{AllPass-from_list_all, list_all-from_AllPass}
+use Rattle.std.proofs.lemmas.Map.Keys.{IsDistinct-push}
+use Rattle.std.proofs.lemmas.Map.Made.{AllPairs-from_IsDistinct}
+use Rattle.cdi_model.specs.declared.decl.Decl.{Decl}
+use Rattle.cdi_model.specs.declared.quals.Qual.{Qual}
+use Rattle.cdi_model.specs.declared.refusal.Error.{Error}
+use Rattle.cdi_model.specs.declared.refusal.Error.TheVariants as errors
+use Rattle.cdi_bodies.specs.Book.{Promised}
+use Rattle.cdi_live.specs.Known.{KnownAreWanted, known_of}
+use Rattle.cdi_live.specs.State.{State as Live, kept_in, knows}
+use Rattle.cdi_observe.specs.Kept.{after_key, evaluated, EvaluatesSome}
+use Rattle.cdi_observe.specs.Keys.{Key, EventKey, choice_key, has_key, same_key, with_key}
+use Rattle.cdi_observe.specs.Wanted.{wanted, is_wanted}
+use Rattle.cdi_observe.proofs.KeyLemmas.{same_key-decides, same_key-equiv}
+use Rattle.cdi_observe.proofs.WantedLemmas.{has-wanted, wanted-distinct}
+use Rattle.cdi_subjects.specs.Asked.{are_known}
+use Rattle.cdi_validate.specs.Faults.{faults}
+use Rattle.cdi_container.specs.Asked.{can_be_fired}
+use Rattle.cdi_container.specs.Known.{keys_of_event, keys_of_run, keys_of_use, known_with, work_with, IsInOrder}
+use Rattle.cdi_container.specs.Wired.{AsksOwn, Deployed, Evaluates, IsAsked, IsAskedSome}
+use Rattle.cdi_container.proofs.Committing.{deployed_on}
+use Rattle.cdi_container.proofs.KnownLemmas.{KnowsAfter, asked_evaluated, asked_one, filter-all, has-with_key, known-then, known_with-wanted}
+use Rattle.cdi_container.proofs.KnownLemmas.{in_order, none-unknown, same-knows, work-then}
+
+-- ---- lists of keys
+
+all-within : (p : Key → Bool) (keys : List Key) → ((k : Key) → has_key keys k ≡ true → p k ≡ true) → list_all p keys ≡ true
+all-within p [] each = refl
+all-within p (k ∷ keys) each =
+    and_from (p k) (list_all p keys) (each k (or_left (same_key k k) (has_key keys k) (same_key-equiv.refl k)))
+    (all-within p keys (λ l h. each l (or_right (same_key l k) (has_key keys l) h)))
+
+pub apart-none : AllPairs (λ (k l : Key). k ≢ l) []
+unfolding IsDistinct
+apart-none = AllPairs-from_IsDistinct same_key-decides [] tt
+
+pub wanted-apart : (ds : List Decl) → AllPairs (λ k l. k ≢ l) (wanted ds)
+wanted-apart ds = AllPairs-from_IsDistinct same_key-decides (wanted ds) (wanted-distinct ds)
+
+-- what passes one test passes another
+all-among : (p q : Key → Bool) (keys : List Key) → ((k : Key) → p k ≡ true → q k ≡ true) → list_all p keys ≡ true → list_all q keys ≡ true
+all-among p q [] each h = refl
+all-among p q (k ∷ keys) each h =
+    let parts = and_parts (p k) (list_all p keys) h in
+    and_from (q k) (list_all q keys) (each k parts.0) (all-among p q keys each parts.1)
+
+-- each of some keys passes a test that all of them pass
+has-all : (p : Key → Bool) (keys : List Key) → list_all p keys ≡ true → (k : Key) → has_key keys k ≡ true → p k ≡ true
+has-all p [] all k h = absurd (false≢true h)
+has-all p (l ∷ keys) all k h = by (same_key k l) refl (has-all p keys (and_parts (p l) (list_all p keys) all).1 k)
+  where
+    by : (b : Bool) → same_key k l ≡ b → (has_key keys k ≡ true → p k ≡ true) → p k ≡ true
+    by true e more = ap p ((same_key-decides k l).0 e) ∙ (and_parts (p l) (list_all p keys) all).0
+    by false e more = more (sym (ap (λ b. b || has_key keys k) e) ∙ h)
+
+distinct-with_key : (keys : List Key) (key : Key) → IsDistinct same_key keys → IsDistinct same_key (with_key keys key)
+distinct-with_key keys key apart = by (has_key keys key) refl
+  where
+    by : (b : Bool) → has_key keys key ≡ b → IsDistinct same_key (if b then keys else keys ++ key ∷ [])
+    by true e = apart
+    by false e = IsDistinct-push same_key-equiv keys key apart e
+
+-- the keys of a run stand apart, and all wanted ones are among them
+run-apart : (ds : List Decl) (count : ℕ) (known : Bool) (key : Key) → AllPairs (λ k l. k ≢ l) (keys_of_run ds count known key)
+run-apart ds count known key = by (count == 0 && known)
+  where
+    by : (b : Bool) → AllPairs (λ k l. k ≢ l) (if b then with_key (wanted ds) key else wanted ds)
+    by true = AllPairs-from_IsDistinct same_key-decides (with_key (wanted ds) key) (distinct-with_key (wanted ds) key (wanted-distinct ds))
+    by false = wanted-apart ds
+
+run-within : (ds : List Decl) (count : ℕ) (known : Bool) (key : Key)
+    → list_all (has_key (keys_of_run ds count known key)) (wanted ds) ≡ true
+run-within ds count known key = by (count == 0 && known)
+  where
+    by : (b : Bool) → list_all (has_key (if b then with_key (wanted ds) key else wanted ds)) (wanted ds) ≡ true
+    by true = all-within (has_key (with_key (wanted ds) key)) (wanted ds) (λ k h. has-with_key (wanted ds) key k h)
+    by false = all-within (has_key (wanted ds)) (wanted ds) (λ k h. h)
+
+run-faulty : (ds : List Decl) (count : ℕ) (known : Bool) (key : Key) → (count == 0) ≡ false → keys_of_run ds count known key ≡ wanted ds
+run-faulty ds count known key h = rw h refl
+
+run-unknown : (ds : List Decl) (count : ℕ) (known : Bool) (key : Key) → known ≡ false → keys_of_run ds count known key ≡ wanted ds
+run-unknown ds count known key h = rw h (by (count == 0))
+  where
+    by : (b : Bool) → (if b && false then with_key (wanted ds) key else wanted ds) ≡ wanted ds
+    by true = refl
+    by false = refl
+
+run-own : (ds : List Decl) (count : ℕ) (known : Bool) (key : Key) → count ≡ 0 → known ≡ true
+    → keys_of_run ds count known key ≡ with_key (wanted ds) key
+run-own ds count known key none h = rw none (rw h refl)
+
+-- ---- what is evaluated of a view
+
+pub asked_by : (old new : Live) (book : List Promised) (wired after : Bool) (keys : List Key) → new.decls ≡ old.decls → new.counts ≡ old.counts
+    → KnowsAfter keys old new → (wired ≡ true → after ≡ true) → IsAsked keys (deployed_on old book wired) (deployed_on new book after)
+asked_by old new book wired after keys same counted knows stays = record {
+  rest = λ j. record {
+    decls = same j;
+    counts = counted j;
+    known = knows.known j;
+    work = knows.work j;
+    staged = new.staged;
+    book = book;
+    is_wired = after;
+  };
+  wired = stays;
+}
+
+pub asks_one : (old new : Live) (book : List Promised) (wired : Bool) (key : Key) → new.decls ≡ old.decls → new.counts ≡ old.counts
+    → KnownAreWanted old → kept_in new ≡ after_key old.decls key (kept_in old)
+    → IsAsked (key ∷ []) (deployed_on old book wired) (deployed_on new book wired)
+asks_one old new book wired key same counted within are =
+    asked_by old new book wired wired (key ∷ []) same counted (asked_one old new key same within are) (λ h. h)
+
+pub asks_wanted : (old new : Live) (book : List Promised) (wired after : Bool) → new.decls ≡ old.decls → new.counts ≡ old.counts
+    → KnownAreWanted old → kept_in new ≡ evaluated old.decls (wanted old.decls) (kept_in old) → (wired ≡ true → after ≡ true)
+    → IsAsked (wanted old.decls) (deployed_on old book wired) (deployed_on new book after)
+asks_wanted old new book wired after same counted within are stays =
+    asked_by old new book wired after (wanted old.decls) same counted
+    (asked_evaluated old new (wanted old.decls) same within
+    (λ i d lt. sym (has-wanted old.decls _) ∙ each-there i d lt) (wanted-apart old.decls) are) stays
+  where
+    each-there : (i : ℕ) (d : Key) → i < length (wanted old.decls) → has_key (wanted old.decls) (get_or (wanted old.decls) i d) ≡ true
+    each-there = AllPass-from_list_all (has_key (wanted old.decls)) (wanted old.decls)
+        (all-within (has_key (wanted old.decls)) (wanted old.decls) (λ k h. h))
+
+pub asks_some : (old new : Live) (book : List Promised) (wired : Bool) → new.decls ≡ old.decls → new.counts ≡ old.counts
+    → KnownAreWanted old → EvaluatesSome old.decls (kept_in old) (kept_in new)
+    → IsAskedSome (wanted old.decls) (deployed_on old book wired) (deployed_on new book wired)
+asks_some old new book wired same counted within some = record {
+  some = some.keys;
+  among = list_all-from_AllPass (has_key (wanted old.decls)) some.keys (λ i d lt. has-wanted old.decls _ ∙ some.wanted i d lt);
+  apart = some.apart;
+  are = asked_by old new book wired wired some.keys same counted
+      (asked_evaluated old new some.keys same within some.wanted some.apart some.are) (λ h. h);
+}
+
+-- all is known already
+pub asks_nothing_more : (live : Live) (book : List Promised) (wired : Bool) → KnownAreWanted live
+    → ((key : Key) → is_wanted live.decls key ≡ true → knows live key ≡ true)
+    → IsAsked (wanted live.decls) (deployed_on live book wired) (deployed_on live book wired)
+asks_nothing_more live book wired within all =
+    asked_by live live book wired wired (wanted live.decls) refl refl (record {
+      known = all-there ∙ sym (known_with-wanted live.decls (known_of live) (in_order live within));
+      work = sym (none-unknown live.decls (known_of live) (in_order live within) live.work
+          (λ key h. ap (λ f. f key) (same-knows live within) ∙ all key h));
+    }) (λ h. h)
+  where
+    all-there : known_of live ≡ wanted live.decls
+    all-there = filter-all (knows live) (wanted live.decls) (λ k h. all k (sym (has-wanted live.decls k) ∙ h))
+
+-- ---- the keys of a run
+
+pub then_asks : (d e f : Deployed) (key : Key) → IsInOrder d.decls d.known → IsAsked (wanted d.decls) d e → IsAsked (key ∷ []) e f
+    → IsAsked (with_key (wanted d.decls) key) d f
+then_asks d e f key ordered first own = record {
+  rest = own.rest
+      ∙ ap (λ (x : Deployed). record x {
+        known = known_with x.decls x.known (key ∷ []);
+        work = work_with x.known (key ∷ []) x.work;
+        staged = f.staged;
+        is_wired = f.is_wired;
+      }) first.rest
+      ∙ (λ j. record d {
+        known = known-then d.decls d.known ordered key j;
+        work = work-then d.decls d.known ordered key d.work j;
+        staged = f.staged;
+        is_wired = f.is_wired;
+      });
+  wired = λ h. own.wired (first.wired h);
+}
+
+not-none : (n : ℕ) → n ≢ 0 → (n == 0) ≡ false
+not-none n some = by (n == 0) refl
+  where
+    by : (b : Bool) → (n == 0) ≡ b → (n == 0) ≡ false
+    by true h = absurd (some (eqb-true n 0 h))
+    by false h = h
+
+-- where a run does not come to its own key
+abbrev asked_if : List Key → List Key → Deployed → Deployed → Type 0
+asked_if keys others d e = keys ≡ others → IsAsked others d e → IsAsked keys d e
+
+asked-alike : (keys others : List Key) (d e : Deployed) → asked_if keys others d e
+asked-alike keys others d e same h = subst (λ ks. IsAsked ks d e) (sym same) h
+
+module _ (d : Deployed) (t : List ℕ) (quals : List Qual) where
+  abbrev use_keys : List Key
+  use_keys = keys_of_use d.decls d.book t quals
+
+  abbrev event_keys : List Key
+  event_keys = keys_of_event d.decls d.book t quals
+
+  -- the deployment has faults
+  pub use-faulty : (e : Deployed) (count : ℕ) → count ≡ length (faults d.decls d.book) → count ≢ 0 → IsAsked (wanted d.decls) d e → IsAsked use_keys d e
+  unfolding keys_of_use
+  use-faulty e count is many h = asked-alike use_keys (wanted d.decls) d e (run-faulty d.decls (length (faults d.decls d.book)) (are_known d.decls t quals) (choice_key t quals) (ap (λ n. n == 0) (sym is) ∙ not-none count many)) h
+
+  pub event-faulty : (e : Deployed) (count : ℕ) → count ≡ length (faults d.decls d.book) → count ≢ 0 → IsAsked (wanted d.decls) d e → IsAsked event_keys d e
+  unfolding keys_of_event
+  event-faulty e count is many h = asked-alike event_keys (wanted d.decls) d e (run-faulty d.decls (length (faults d.decls d.book)) (can_be_fired d.decls t quals) (EventKey t quals) (ap (λ n. n == 0) (sym is) ∙ not-none count many)) h
+
+  -- what is named is not known
+  pub use-unknown : (e : Deployed) → are_known d.decls t quals ≡ false → IsAsked (wanted d.decls) d e → IsAsked use_keys d e
+  unfolding keys_of_use
+  use-unknown e none h = asked-alike use_keys (wanted d.decls) d e (run-unknown d.decls (length (faults d.decls d.book)) (are_known d.decls t quals) (choice_key t quals) none) h
+
+  pub event-unknown : (e : Deployed) → can_be_fired d.decls t quals ≡ false → IsAsked (wanted d.decls) d e → IsAsked event_keys d e
+  unfolding keys_of_event
+  event-unknown e none h = asked-alike event_keys (wanted d.decls) d e (run-unknown d.decls (length (faults d.decls d.book)) (can_be_fired d.decls t quals) (EventKey t quals) none) h
+
+  -- its own key comes after
+  pub use-own : (e f : Deployed) → IsInOrder d.decls d.known → length (faults d.decls d.book) ≡ 0 → are_known d.decls t quals ≡ true
+      → IsAsked (wanted d.decls) d e → IsAsked (choice_key t quals ∷ []) e f → IsAsked use_keys d f
+  unfolding keys_of_use
+  use-own e f ordered none known first own =
+      asked-alike use_keys (with_key (wanted d.decls) (choice_key t quals)) d f (run-own d.decls (length (faults d.decls d.book)) (are_known d.decls t quals) (choice_key t quals) none known)
+      (then_asks d e f (choice_key t quals) ordered first own)
+
+  pub event-own : (e f : Deployed) → IsInOrder d.decls d.known → length (faults d.decls d.book) ≡ 0 → can_be_fired d.decls t quals ≡ true
+      → IsAsked (wanted d.decls) d e → IsAsked (EventKey t quals ∷ []) e f → IsAsked event_keys d f
+  unfolding keys_of_event
+  event-own e f ordered none known first own =
+      asked-alike event_keys (with_key (wanted d.decls) (EventKey t quals)) d f (run-own d.decls (length (faults d.decls d.book)) (can_be_fired d.decls t quals) (EventKey t quals) none known)
+      (then_asks d e f (EventKey t quals) ordered first own)
+
+  -- some of the wanted ones were evaluated, or all of them
+  pub use-some : (e : Deployed) → IsAskedSome (wanted d.decls) d e → IsAskedSome use_keys d e
+  unfolding keys_of_use
+  use-some e h = record {
+    some = h.some;
+    among = all-among (has_key (wanted d.decls)) (has_key use_keys) h.some
+        (has-all (has_key use_keys) (wanted d.decls) (run-within d.decls (length (faults d.decls d.book)) (are_known d.decls t quals) (choice_key t quals))) h.among;
+    apart = h.apart;
+    are = h.are;
+  }
+
+  pub event-some : (e : Deployed) → IsAskedSome (wanted d.decls) d e → IsAskedSome event_keys d e
+  unfolding keys_of_event
+  event-some e h = record {
+    some = h.some;
+    among = all-among (has_key (wanted d.decls)) (has_key event_keys) h.some
+        (has-all (has_key event_keys) (wanted d.decls) (run-within d.decls (length (faults d.decls d.book)) (can_be_fired d.decls t quals) (EventKey t quals))) h.among;
+    apart = h.apart;
+    are = h.are;
+  }
+
+  pub use-apart : AllPairs (λ k l. k ≢ l) use_keys
+  unfolding keys_of_use
+  use-apart = run-apart d.decls (length (faults d.decls d.book)) (are_known d.decls t quals) (choice_key t quals)
+
+  pub event-apart : AllPairs (λ k l. k ≢ l) event_keys
+  unfolding keys_of_event
+  event-apart = run-apart d.decls (length (faults d.decls d.book)) (can_be_fired d.decls t quals) (EventKey t quals)
+
+-- all of these keys are some of them
+pub some-all : (keys : List Key) (d e : Deployed) → AllPairs (λ k l. k ≢ l) keys → IsAsked keys d e → IsAskedSome keys d e
+some-all keys d e apart h = record { some = keys; among = all-within (has_key keys) keys (λ k i. i); apart = apart; are = h }
+
+-- no key is some of them
+pub some-none : (keys : List Key) (d : Deployed) → IsAskedSome keys d d
+some-none keys d = record { some = []; among = refl; apart = apart-none; are = record { rest = refl; wired = λ h. h } }
+
+-- ---- how a call ends
+
+pub ends_without_memory : {X : Type 0} (r : Result X Error) (keys : List Key) (d e : Deployed) → IsErrAnd r (λ error. error ≡ errors.OutOfMemory)
+    → IsAskedSome keys d e → Evaluates keys r d e
+ends_without_memory (Ok x) keys d e out some = absurd out
+ends_without_memory (Err errors.OutOfMemory) keys d e out some = some
+ends_without_memory (Err (errors.Refused refusal)) keys d e out some =
+    absurd (let no : errors.Refused refusal ≡ errors.OutOfMemory = out in cc)
+
+-- a call of its own key, after all wanted ones
+pub own_ends : {X : Type 0} (r : Result X Error) (key : Key) (keys : List Key) (d e f : Deployed) → IsAskedSome keys d e
+    → (IsAsked (key ∷ []) e f → IsAsked keys d f) → AllPairs (λ k l. k ≢ l) keys → AsksOwn key r e f → Evaluates keys r d f
+own_ends (Ok x) key keys d e f some all apart own = all own
+own_ends (Err (errors.Refused refusal)) key keys d e f some all apart own = all own
+own_ends (Err errors.OutOfMemory) key keys d e f some all apart (inl same) = subst (λ (x : Deployed). IsAskedSome keys d x) (sym same) some
+own_ends (Err errors.OutOfMemory) key keys d e f some all apart (inr own) = some-all keys d f apart (all own)
+
+-- where nothing was evaluated, or the own key was and then memory ran out
+pub own_without_memory : {X : Type 0} (r : Result X Error) (key : Key) (d e : Deployed) → IsErrAnd r (λ error. error ≡ errors.OutOfMemory)
+    → e ≡ d → AsksOwn key r d e
+own_without_memory (Ok x) key d e out same = absurd out
+own_without_memory (Err errors.OutOfMemory) key d e out same = inl same
+own_without_memory (Err (errors.Refused refusal)) key d e out same =
+    absurd (let no : errors.Refused refusal ≡ errors.OutOfMemory = out in cc)
+
+pub own_asked : {X : Type 0} (r : Result X Error) (key : Key) (d e : Deployed) → IsAsked (key ∷ []) d e → AsksOwn key r d e
+own_asked (Ok x) key d e asked = asked
+own_asked (Err errors.OutOfMemory) key d e asked = inr asked
+own_asked (Err (errors.Refused refusal)) key d e asked = asked

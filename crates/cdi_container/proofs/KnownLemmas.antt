@@ -1,0 +1,201 @@
+-- The known keys as a list, and what evaluations make of it.
+use Rattle.std.proofs.Common.{zero, suc, ◌≡◌, ◌≢◌, Bool, true, false, cond, not, ◌&&◌, ◌||◌, ℕ, List, [], ◌∷◌, ◌++◌, length, refl, sym, ap, ◌∙◌}
+use Rattle.std.specs.Prelude.{All, AllPairs, filter}
+use Rattle.std.specs.Fn.{iterate}
+use Rattle.std.proofs.Math.Bool.{or-false}
+use Rattle.std.proofs.lemmas.Bool.{and_parts, or_left, or_right, false≢true}
+use Rattle.std.proofs.lemmas.List.Folds.{list_any-append}
+use Rattle.std.proofs.lemmas.Map.Views.{any-filter_same}
+use Rattle.cdi_model.specs.declared.decl.Decl.{Decl}
+use Rattle.cdi_model.specs.Work.{with_one}
+use Rattle.cdi_live.specs.Known.{known_of, KnownAreWanted}
+use Rattle.cdi_live.specs.State.{State as Live, empty, kept_in, knows}
+use Rattle.cdi_observe.specs.Kept.{Kept, after_key, evaluated, unknown, with_all}
+use Rattle.cdi_observe.specs.Keys.{Key, has_key, same_key, with_key}
+use Rattle.cdi_observe.specs.Wanted.{wanted, is_wanted}
+use Rattle.cdi_observe.proofs.KeptLemmas.{evaluated-apart}
+use Rattle.cdi_observe.proofs.WantedLemmas.{has-wanted}
+use Rattle.cdi_observe.proofs.KeyLemmas.{same_key-decides, same_key-equiv}
+use Rattle.cdi_container.specs.Known.{known_with, work_with, IsInOrder}
+
+-- ---- lists of keys
+
+filter-within : (p q : Key → Bool) (keys : List Key) → ((k : Key) → has_key keys k ≡ true → p k ≡ q k) → filter p keys ≡ filter q keys
+filter-within p q [] same = refl
+filter-within p q (k ∷ keys) same =
+    ap (λ b. cond b (k ∷ filter p keys) (filter p keys)) (same k (or_left (same_key k k) (has_key keys k) (same_key-equiv.refl k)))
+    ∙ ap (λ ks. cond (q k) (k ∷ ks) ks) (filter-within p q keys (λ l h. same l (or_right (same_key l k) (has_key keys l) h)))
+
+filter-each : (keys : List Key) → filter (λ k. true) keys ≡ keys
+filter-each [] = refl
+filter-each (k ∷ keys) = ap (λ ks. k ∷ ks) (filter-each keys)
+
+pub filter-all : (p : Key → Bool) (keys : List Key) → ((k : Key) → has_key keys k ≡ true → p k ≡ true) → filter p keys ≡ keys
+filter-all p keys each = filter-within p (λ k. true) keys each ∙ filter-each keys
+
+has-filter : (p : Key → Bool) (keys : List Key) (key : Key) → has_key (filter p keys) key ≡ (p key && has_key keys key)
+has-filter p keys key = any-filter_same (same_key key) p (p key) (λ k same. sym (ap p ((same_key-decides key k).0 same))) keys
+
+pub has-with_key : (keys : List Key) (key k : Key) → has_key keys k ≡ true → has_key (with_key keys key) k ≡ true
+has-with_key keys key k h = by (has_key keys key)
+  where
+    by : (b : Bool) → has_key (cond b keys (keys ++ key ∷ [])) k ≡ true
+    by true = h
+    by false = list_any-append (same_key k) keys (key ∷ []) ∙ or_left (has_key keys k) (has_key (key ∷ []) k) h
+
+-- ---- known keys in the order of the wanted ones
+
+and-within : (b c : Bool) → (b ≡ true → c ≡ true) → (b && c) ≡ b
+and-within true c h = h refl
+and-within false c h = refl
+
+has-known : (ds : List Decl) (p : Key → Bool) → ((key : Key) → p key ≡ true → is_wanted ds key ≡ true) → (key : Key)
+    → has_key (filter p (wanted ds)) key ≡ p key
+has-known ds p within key =
+    has-filter p (wanted ds) key ∙ ap (λ b. p key && b) (has-wanted ds key) ∙ and-within (p key) (is_wanted ds key) (within key)
+
+pub same-knows : (live : Live) → KnownAreWanted live → has_key (known_of live) ≡ knows live
+same-knows live within = λ j key. has-known live.decls (knows live) within key j
+
+pub in_order : (live : Live) → KnownAreWanted live → IsInOrder live.decls (known_of live)
+in_order live within =
+    sym (ap (λ (f : Key → Bool). filter f (wanted live.decls)) (same-knows live within))
+
+module _ (ds : List Decl) (known : List Key) (ordered : IsInOrder ds known) where
+  pub known-within : (key : Key) → has_key known key ≡ true → is_wanted ds key ≡ true
+  known-within key h =
+      sym (has-wanted ds key)
+      ∙ (and_parts (has_key known key) (has_key (wanted ds) key)
+      (sym (has-filter (has_key known) (wanted ds) key) ∙ ap (λ ks. has_key ks key) (sym ordered) ∙ h)).1
+
+  known_with-list : (keys : List Key) → known_with ds known keys ≡ filter (λ key. has_key known key || has_key keys key) (wanted ds)
+  known_with-list [] =
+      ordered ∙ sym (filter-within (λ key. has_key known key || false) (has_key known) (wanted ds) (λ k h. or-false (has_key known k)))
+  known_with-list (k ∷ keys) = refl
+
+  -- where each wanted key is evaluated, each is known
+  pub known_with-all : (keys : List Key) → ((k : Key) → has_key (wanted ds) k ≡ true → has_key keys k ≡ true)
+      → known_with ds known keys ≡ wanted ds
+  known_with-all keys each = known_with-list keys ∙ filter-all (λ key. has_key known key || has_key keys key) (wanted ds)
+      (λ k h. or_right (has_key known k) (has_key keys k) (each k h))
+
+  pub known_with-wanted : known_with ds known (wanted ds) ≡ wanted ds
+  known_with-wanted = known_with-all (wanted ds) (λ k h. h)
+
+  -- ---- the wanted keys, and then one more
+
+  pub known-then : (key : Key)
+      → known_with ds (known_with ds known (wanted ds)) (key ∷ []) ≡ known_with ds known (with_key (wanted ds) key)
+  known-then key =
+      ap (λ ks. known_with ds ks (key ∷ [])) known_with-wanted
+      ∙ filter-all (λ k. has_key (wanted ds) k || has_key (key ∷ []) k) (wanted ds)
+      (λ k h. or_left (has_key (wanted ds) k) (has_key (key ∷ []) k) h)
+      ∙ sym (known_with-all (with_key (wanted ds) key) (λ k h. has-with_key (wanted ds) key k h))
+
+  last-of : (n : ℕ) (work : ℕ) → iterate with_one (suc n) work ≡ with_one (iterate with_one n work)
+  last-of zero work = refl
+  last-of (suc n) work = last-of n (with_one work)
+
+  length-end : (p : Key → Bool) (keys : List Key) (key : Key) → p key ≡ true
+      → length (filter p (keys ++ key ∷ [])) ≡ suc (length (filter p keys))
+  length-end p [] key h = rw h refl
+  length-end p (k ∷ keys) key h = by (p k) (length-end p keys key h)
+    where
+      by : (b : Bool) → length (filter p (keys ++ key ∷ [])) ≡ suc (length (filter p keys))
+          → length (cond b (k ∷ filter p (keys ++ key ∷ [])) (filter p (keys ++ key ∷ [])))
+          ≡ suc (length (cond b (k ∷ filter p keys) (filter p keys)))
+      by true more = ap suc more
+      by false more = more
+
+  pub work-then : (key : Key) (work : ℕ)
+      → work_with (known_with ds known (wanted ds)) (key ∷ []) (work_with known (wanted ds) work)
+      ≡ work_with known (with_key (wanted ds) key) work
+  work-then key work =
+      ap (λ ks. work_with ks (key ∷ []) (work_with known (wanted ds) work)) known_with-wanted ∙ by (has_key (wanted ds) key) refl
+    where
+      unknown-own : has_key (wanted ds) key ≡ false → (b : Bool) → has_key known key ≡ b → not (has_key known key) ≡ true
+      unknown-own none true e = absurd (false≢true (sym none ∙ has-wanted ds key ∙ known-within key e))
+      unknown-own none false e = ap not e
+
+      by : (b : Bool) → has_key (wanted ds) key ≡ b
+          → iterate with_one (length (cond (not b) (key ∷ []) [])) (work_with known (wanted ds) work)
+          ≡ work_with known (cond b (wanted ds) (wanted ds ++ key ∷ [])) work
+      by true e = refl
+      by false e =
+          sym (last-of (unknown (has_key known) (wanted ds)) work)
+          ∙ ap (λ n. iterate with_one n work)
+          (sym (length-end (λ k. not (has_key known k)) (wanted ds) key (unknown-own e (has_key known key) refl)))
+
+  -- where all wanted keys are known, none counts
+  pub none-unknown : (work : ℕ) → ((key : Key) → is_wanted ds key ≡ true → has_key known key ≡ true) → work_with known (wanted ds) work ≡ work
+  none-unknown work each = ap (λ ks. iterate with_one (length ks) work)
+      (filter-within (λ k. not (has_key known k)) (λ k. false) (wanted ds)
+      (λ k h. ap not (each k (sym (has-wanted ds k) ∙ h))) ∙ filter-none (wanted ds))
+    where
+      filter-none : (keys : List Key) → filter (λ k. false) keys ≡ []
+      filter-none [] = refl
+      filter-none (k ∷ keys) = filter-none keys
+
+-- ---- what a view evaluated
+
+-- the known keys and the work after the evaluation of some keys
+pub record KnowsAfter (keys : List Key) (old new : Live) : Type 0 where
+  pub known : known_of new ≡ known_with old.decls (known_of old) keys
+  pub work : new.work ≡ work_with (known_of old) keys old.work
+
+pub asked_all : (old new : Live) (keys : List Key) → new.decls ≡ old.decls → KnownAreWanted old → kept_in new ≡ with_all keys (kept_in old)
+    → KnowsAfter keys old new
+asked_all old new keys same within are = record {
+  known = ap (λ ds. filter (knows new) (wanted ds)) same
+      ∙ ap (λ (kept : Kept). filter kept.knows (wanted old.decls)) are
+      ∙ ap (λ (f : Key → Bool). filter (λ key. f key || has_key keys key) (wanted old.decls)) (sym (same-knows old within))
+      ∙ sym (known_with-list old.decls (known_of old) (in_order old within) keys);
+  work = ap (λ (kept : Kept). kept.work) are
+      ∙ ap (λ (f : Key → Bool). iterate with_one (unknown f keys) old.work) (sym (same-knows old within));
+}
+
+pub asked_evaluated : (old new : Live) (keys : List Key) → new.decls ≡ old.decls → KnownAreWanted old
+    → All (λ key. is_wanted old.decls key ≡ true) keys → AllPairs (λ k l. k ≢ l) keys
+    → kept_in new ≡ evaluated old.decls keys (kept_in old) → KnowsAfter keys old new
+asked_evaluated old new keys same within wants apart are =
+    asked_all old new keys same within (are ∙ evaluated-apart old.decls keys (kept_in old) refl wants apart)
+
+-- one key, which may not be wanted
+one-same : (ds : List Decl) (key k : Key) → has_key (wanted ds) k ≡ true → (is_wanted ds key && same_key key k) ≡ has_key (key ∷ []) k
+one-same ds key k wants =
+    by (same_key key k) refl ∙ same_key-equiv.symm key k ∙ sym (or-false (same_key k key))
+  where
+    and-false : (b : Bool) → (b && false) ≡ false
+    and-false true = refl
+    and-false false = refl
+
+    by : (b : Bool) → same_key key k ≡ b → (is_wanted ds key && b) ≡ b
+    by true e = ap (λ c. c && true) (ap (is_wanted ds) ((same_key-decides key k).0 e) ∙ sym (has-wanted ds k) ∙ wants)
+    by false e = and-false (is_wanted ds key)
+
+one-counts : (b : Bool) (key : Key) (work : ℕ)
+    → cond b work (with_one work) ≡ iterate with_one (length (cond (not b) (key ∷ []) [])) work
+one-counts true key work = refl
+one-counts false key work = refl
+
+pub asked_one : (old new : Live) (key : Key) → new.decls ≡ old.decls → KnownAreWanted old
+    → kept_in new ≡ after_key old.decls key (kept_in old) → KnowsAfter (key ∷ []) old new
+unfolding after_key
+asked_one old new key same within are = record {
+  known = ap (λ ds. filter (knows new) (wanted ds)) same
+      ∙ ap (λ (kept : Kept). filter kept.knows (wanted old.decls)) are
+      ∙ filter-within (λ k. knows old k || (is_wanted old.decls key && same_key key k)) (λ k. knows old k || has_key (key ∷ []) k)
+      (wanted old.decls) (λ k h. ap (λ b. knows old k || b) (one-same old.decls key k h))
+      ∙ ap (λ (f : Key → Bool). filter (λ k. f k || has_key (key ∷ []) k) (wanted old.decls)) (sym (same-knows old within));
+  work = ap (λ (kept : Kept). kept.work) are
+      ∙ one-counts (knows old key) key old.work
+      ∙ ap (λ (f : Key → Bool). iterate with_one (unknown f (key ∷ [])) old.work) (sym (same-knows old within));
+}
+
+-- ---- nothing is known of no declarations
+
+pub nothing_known : known_of empty ≡ []
+unfolding wanted
+nothing_known = refl
+
+pub ruleset nothing = (nothing_known)

@@ -1,0 +1,46 @@
+use Rattle.std.proofs.Common.{◌∷◌, [], ap, refl, subst, sym, ◌∙◌}
+use Rattle.cdi_effective.specs.Beans.{beans}
+use Rattle.cdi_observe.proofs.KeptLemmas.{where_err}
+use Rattle.cdi_observe.specs.Keys.{EventKey}
+use Rattle.cdi_observe.specs.Observers.{notified}
+use Rattle.cdi_container.specs.History.{State}
+use Rattle.cdi_container.specs.Wired.{Deployed, RestsOnScene, trace_names}
+use Rattle.cdi_container.specs.declared.answer.Answer.TheVariants.{Observed}
+use Rattle.cdi_container.proofs.Asking.{asked_left, same_state, observers_unserved}
+use Rattle.cdi_container.proofs.Playing.{rests_asked}
+use Rattle.cdi_container.proofs.container.Container.observers.Goals as goal
+
+pub invariant_of-self : goal.invariant_of-self
+invariant_of-self g c =
+    subst (λ (d : Deployed). RestsOnScene d c.self.inside.run.moment c.self.inside.told) (sym c.in_err-ids.ensures.err) c.self.invariant
+
+pub returns-in_err-ids-clause-err : goal.returns-in_err-ids-clause-err
+returns-in_err-ids-clause-err g c =
+    where_err c.from_residual.result (same_state c.self.inside.deployment c.observers.new.self c.self.inside.told c.self.inside.run.moment
+    c.args.self.now c.self.view_is c.in_err-ids.ensures.err)
+
+pub returns-in_err-ids-clause-step : goal.returns-in_err-ids-clause-step
+returns-in_err-ids-clause-step g c =
+    observers_unserved c.args.self.now _ c.args.event_type c.args.quals.now c.from_residual.result c.from_residual.ensures.0
+    (same_state c.self.inside.deployment c.observers.new.self c.self.inside.told c.self.inside.run.moment
+    c.args.self.now c.self.view_is c.in_err-ids.ensures.err)
+
+pub invariant_of-self-2 : goal.invariant_of-self-2
+invariant_of-self-2 g c =
+    rests_asked c.self.inside.deployment c.observers.new.self (EventKey c.args.event_type c.args.quals.now ∷ []) c.self.inside.run.moment c.self.inside.told
+    c.in_ok-ids.ensures.asked c.self.invariant (λ wired. c.self.invariant.told_now (sym c.observers.ensures.wired ∙ wired))
+
+pub returns-clause-ok : goal.returns-clause-ok
+returns-clause-ok g c =
+    asked_left c.self.inside.deployment c.observers.new.self c.self.inside.told (trace_names c.observers.new.self c.self.inside.told)
+    c.self.inside.run.moment c.args.self.now c.restart.new.self (EventKey c.args.event_type c.args.quals.now ∷ []) c.self.view_is c.in_ok-ids.ensures.asked c.restart.ensures
+
+pub returns-clause-step : goal.returns-clause-step
+returns-clause-step g c = (
+  refl,
+  (
+    ap Observed (c.in_ok-ids.ensures.observers
+        ∙ ap (λ (s : State). notified s.decls (beans s.decls) c.args.event_type c.args.quals.now) c.self.view_is),
+    returns-clause-ok g c,
+  ),
+)

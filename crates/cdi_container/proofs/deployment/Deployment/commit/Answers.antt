@@ -1,0 +1,12 @@
+use Rattle.std.proofs.Common.{◌≡◌, ◌∙◌, Option, ap, false, subst}
+use Rattle.cdi_wiring.specs.declared.verdict.Wiring.{Wiring}
+use Rattle.cdi_container.specs.Wired.{Deployed, is_sound, redeployed}
+use Rattle.cdi_container.proofs.Committing.{commits, deployed_on}
+use Rattle.cdi_container.proofs.deployment.Deployment.commit.Goals as goal
+
+pub returns-clause-new : goal.returns-clause-new
+returns-clause-new g c =
+    let book = g.B.Bodies.promises c.self.inside.book in
+    ap (λ (o : Option Wiring). deployed_on c.take_over.new.live book (is_sound o)) c.take-wiring.ensures.after
+    ∙ subst (λ (d : Deployed). deployed_on c.take_over.new.live book false ≡ redeployed d) c.self.view_is
+    (commits c.self.inside.live c.take_over.new.live book (is_sound c.self.inside.wiring) c.take_over.ensures.wanted c.take_over.ensures.new)

@@ -1,0 +1,29 @@
+use Rattle.std.proofs.Common.{List, sym, ap, subst, ◌∙◌}
+use Rattle.cdi_model.specs.DeclList.{AreDistinct}
+use Rattle.cdi_observe.specs.Keys.{EventKey}
+use Rattle.cdi_scene.specs.Sound.{AreObservers}
+use Rattle.cdi_scene.specs.declared.scene.Notified.{Notified}
+use Rattle.cdi_staging.specs.Staged.{scene_of}
+use Rattle.cdi_staging.proofs.NotifiedLemmas.{notified_stand}
+use Rattle.cdi_container.proofs.Aiming.{positions_are}
+use Rattle.cdi_container.proofs.AskedLemmas.{own_asked, own_without_memory}
+use Rattle.cdi_container.proofs.deployment.Deployment.notified_wired.Goals as goal
+
+pub returns-in_err-ids-clause-asked : goal.returns-in_err-ids-clause-asked
+returns-in_err-ids-clause-asked g c =
+    own_without_memory c.from_residual.result (EventKey c.args.event_type c.args.quals.now) c.args.self.now c.observers.new.self
+    c.from_residual.ensures.1 c.in_err-ids.ensures.err
+
+pub returns-in_err-notified_as-clause-asked : goal.returns-in_err-notified_as-clause-asked
+returns-in_err-notified_as-clause-asked g c =
+    own_asked c.from_residual-in_err-notified_as.result (EventKey c.args.event_type c.args.quals.now) c.args.self.now
+    c.observers.new.self c.in_ok-ids.ensures.asked
+
+pub returns-clause-there : goal.returns-clause-there
+returns-clause-there g c =
+    let d = c.args.self.now in
+    subst (λ (list : List Notified). AreObservers (scene_of d.decls d.book) list)
+    (sym (c.in_ok-notified_as.ensures.list ∙ positions_are d.decls c.observers.new.self.decls c.args.event_type c.args.quals.now
+    c.as_slice.result.now c.observers.ensures.decls (ap (λ x. x) c.as_slice.ensures ∙ c.in_ok-ids.ensures.observers)))
+    (notified_stand d.decls d.book c.args.event_type c.args.quals.now
+    (subst AreDistinct c.observers.ensures.decls c.notified_as.ensures.distinct))

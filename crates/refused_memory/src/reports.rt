@@ -1,0 +1,155 @@
+//! What is known after edits, a question, a report and a lookup of which any one allocation may be refused.
+use crate::Difference;
+use Asking::{Choose, LookUp, Put, Report};
+use cdi_container::{Container, WorkDone};
+use cdi_fixtures::name;
+use cdi_model::{Error, Quals};
+use cdi_stock::StockBodies;
+use std::alloc::Global;
+
+/// An interface, two beans of it that a point cannot tell apart, and a stereotype that one of them has.
+static DECLARED: [&[u8]; 9] = [
+    b"kind=\"type\"\nname=\"Shop\"\nform=\"interface\"\n",
+    b"kind=\"type\"\nname=\"A\"\nimplements=[\"Shop\"]\n",
+    b"kind=\"type\"\nname=\"B\"\nimplements=[\"Shop\"]\n",
+    b"kind=\"type\"\nname=\"Use\"\n",
+    b"kind=\"stereotype\"\nname=\"Base\"\n",
+    b"kind=\"stereotype\"\nname=\"Mid\"\nstereotypes=[\"Base\"]\n",
+    b"kind=\"bean\"\nname=\"A\"\n",
+    b"kind=\"bean\"\nname=\"B\"\nstereotypes=[\"Mid\"]\npriority=1\n",
+    br#"kind="bean"
+name="Use"
+points=[{name="s",type="Shop"},{name="t",type="A"}]
+"#,
+];
+
+/// What is asked of the container.
+#[derive(Clone, Copy)]
+enum Asking {
+    /// How many faults there are.
+    Report(usize),
+    Put(&'static [u8]),
+    /// By a type alone.
+    Choose(&'static [u8]),
+    /// By a type alone, of a dependent bean without bodies.
+    LookUp(&'static [u8]),
+}
+
+/// What is asked, and what is known afterwards, where memory sufficed.
+#[derive(Clone, Copy)]
+struct Step {
+    asking: Asking,
+    known: usize,
+}
+
+/// Declarations ask for eleven answers: two choices, and chains at three places of each bean. An alternative touches the
+/// choice by `Shop` alone.
+static STEPS: [Step; 6] = [
+    Step {
+        asking: Report(1),
+        known: 11,
+    },
+    Step {
+        asking: Put(b"kind=\"stereotype\"\nname=\"Base\"\nalternative=true\n"),
+        known: 10,
+    },
+    Step {
+        asking: Choose(b"Shop"),
+        known: 11,
+    },
+    Step {
+        asking: Put(b"kind=\"stereotype\"\nname=\"Base\"\n"),
+        known: 10,
+    },
+    Step {
+        asking: Put(b"kind=\"stereotype\"\nname=\"Base\"\nalternative=true\n"),
+        known: 10,
+    },
+    Step {
+        asking: LookUp(b"A"),
+        known: 11,
+    },
+];
+
+/// Makes what is asked, and says whether it answers what it is to.
+fn make(
+    alloc: Global,
+    container: &mut Container<StockBodies>,
+    asking: &Asking,
+) -> Result<bool, Error> {
+    match asking {
+        Report(count) => Ok(container.report()?.len() == *count),
+        Put(text) => {
+            container.put(text)?;
+            Ok(true)
+        }
+        Choose(of) => {
+            container.choose(name(of)?, &Quals::new(alloc))?;
+            Ok(true)
+        }
+        LookUp(of) => {
+            container.lookup(name(of)?, &Quals::new(alloc))?;
+            Ok(true)
+        }
+    }
+}
+
+/// Whether no known answer was lost, and at most one was counted that is not known.
+fn loses_nothing(before: WorkDone, after: WorkDone) -> bool {
+    let more = after.known.saturating_sub(before.known) as u64;
+    let counted = after.work.saturating_sub(before.work);
+    after.known >= before.known && more <= counted && counted.saturating_sub(more) <= 1
+}
+
+/// Whether what an asking without memory left is right: an edit and a question leave the work, and a report and a lookup
+/// lose no known answer.
+fn is_left(asking: &Asking, before: WorkDone, after: WorkDone) -> bool {
+    match asking {
+        Put(_) | Choose(_) => before == after,
+        Report(_) | LookUp(_) => loses_nothing(before, after),
+    }
+}
+
+/// Makes a step, again if there was no memory for it, and says whether there was none.
+fn take(alloc: Global, container: &mut Container<StockBodies>, step: &Step) -> Option<bool> {
+    let before = container.work();
+    match make(alloc, container, &step.asking) {
+        Ok(right) if right && container.work().known == step.known => Some(false),
+        Err(Error::OutOfMemory) if is_left(&step.asking, before, container.work()) => {
+            match make(alloc, container, &step.asking) {
+                Ok(right) if right && container.work().known == step.known => Some(true),
+                _ => None,
+            }
+        }
+        _ => None,
+    }
+}
+
+fn declare(container: &mut Container<StockBodies>) -> Result<(), Error> {
+    for text in &DECLARED {
+        container.put(text)?;
+    }
+    Ok(())
+}
+
+/// Takes the steps, and says whether there was no memory for one of these.
+fn take_each(alloc: Global, container: &mut Container<StockBodies>) -> Result<bool, Difference> {
+    let mut refused = false;
+    for (place, step) in STEPS.iter().enumerate() {
+        match take(alloc, container, step) {
+            Some(here) => refused = refused || here,
+            None => return Err(Difference::Known(place)),
+        }
+    }
+    Ok(refused)
+}
+
+/// Declares what the steps need, takes them, and says whether there was no memory for one of these.
+pub fn ask_for_all(alloc: Global) -> Result<bool, Difference> {
+    let mut container = Container::new(alloc, StockBodies);
+    match declare(&mut container) {
+        Ok(()) => take_each(alloc, &mut container),
+        Err(Error::OutOfMemory) => Ok(true),
+        Err(_) => Err(Difference::Declarations),
+    }
+}
