@@ -18,4 +18,4 @@ pub use chain::{
 pub use conflict::has_conflict_at;
 pub use intercepted::is_intercepted;
 pub use seen::seen_around;
-pub use set::{has_place, set_by, sets_of};
+pub use set::{has_place, places_of, set_by, sets_of};

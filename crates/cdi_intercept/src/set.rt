@@ -4,7 +4,7 @@ ghost use Rattle.std.specs.Prelude.{◌≡◌, ◌++◌, ◌∷◌, [], map, IfO
 ghost use Rattle.std.specs.Option.{option_copied};
 ghost use Rattle.cdi_match.specs.Bindings.{uses_in};
 ghost use Rattle.cdi_intercept.specs.Sets.{around_method, has_place, of_method, of_observer, of_producer, own_at};
-ghost use Rattle.cdi_intercept.specs.Sets.{producers_of};
+ghost use Rattle.cdi_intercept.specs.Sets.{places_of, producers_of};
 ghost use Rattle.cdi_intercept.specs.Sets.{set_by, sets_of, with_set};
 ghost use Rattle.cdi_intercept.specs.Lent.{uses_at};
 
@@ -57,6 +57,37 @@ pub fn sets_of<'a>(
         push_set(alloc, decls, class, bean, place, &mut sets)?;
     }
     Ok(sets)
+}
+
+/// The places of a bean: its constructor, its callbacks, its methods, its producer methods that are not static and its
+/// observer methods. It takes memory for the list.
+pub fn places_of(alloc: Global, bean: &BeanDecl) -> Result<Vec<BeanPlace>, AllocError>
+    ensures { IfOk result (λ list. list.items ≡ places_of bean.now) }
+{
+    let mut list = Vec::new(alloc);
+    list.push(BeanPlace::Construct)?;
+    list.push(BeanPlace::Post)?;
+    list.push(BeanPlace::Pre)?;
+    for method in bean.methods.as_slice() {
+        list.push(BeanPlace::Method(method.name))?;
+    }
+    push_producers(bean, &mut list)?;
+    for observer in bean.observers.as_slice() {
+        list.push(BeanPlace::Observer(observer.name))?;
+    }
+    Ok(list)
+}
+
+/// Appends the producer methods that are not static.
+fn push_producers(bean: &BeanDecl, list: &mut Vec<BeanPlace>) -> Result<(), AllocError>
+    ensures { OnOk result (list.new.items ≡ list.old.items ++ producers_of bean.now) }
+{
+    for producer in bean.producers.as_slice() {
+        if !producer.is_static {
+            list.push(BeanPlace::Producer(producer.name))?;
+        }
+    }
+    Ok(())
 }
 
 /// Appends the producer methods that are not static, each with the bindings there.

@@ -26,6 +26,18 @@ impl View for Live {
         Live::records(self, class)
     }
 
+    fn kept_choice(&self, bean_type: &Name, quals: &Quals) -> Option<&Choice> {
+        Live::kept_choice(self, bean_type, quals)
+    }
+
+    fn kept_chain(&self, class: &Name, place: &BeanPlace) -> Option<&Seq<Name>> {
+        Live::kept_chain(self, class, place)
+    }
+
+    fn kept_observers(&self, event_type: &Name, quals: &Quals) -> Option<&Seq<ObserverId>> {
+        Live::kept_observers(self, event_type, quals)
+    }
+
     fn choose(
         &mut self,
         alloc: Global,

@@ -1,5 +1,6 @@
 //! Views over present declarations.
-ghost use Rattle.std.specs.Prelude.{◌≡◌, ℕ, List, true, false, Option, None, IfOk, OnOk, OnErr};
+ghost use Rattle.std.specs.Prelude.{◌≡◌, ℕ, List, true, false, is_some, Option, None, Ok, IfOk, IfSome, OnOk, OnErr};
+ghost use Rattle.std.specs.Option.{option_copied};
 ghost use Rattle.cdi_model.specs.declared.decl.Decl.{Decl};
 ghost use Rattle.cdi_effective.specs.Beans.{beans as beans_of};
 ghost use Rattle.cdi_effective.specs.Records.{records_in};
@@ -40,6 +41,24 @@ pub trait View {
     /// no such bean is declared.
     fn records(&self, class: &Name) -> &[Effective]
         ensures { result.now ≡ records_in (list self.now) class.now };
+
+    /// The bean for a type and qualifiers, where it is kept. It takes no memory.
+    fn kept_choice(&self, bean_type: &Name, quals: &Quals) -> Option<&Choice>
+        ensures known { is_some result ≡ (kept self.now).knows (choice_key bean_type.now quals.now) }
+        ensures choice { IfSome (option_copied result)
+            (λ choice. choice ≡ chosen (list self.now) (beans_of (list self.now)) bean_type.now quals.now) };
+
+    /// The names of the interceptors around a place of the bean of a class, where they are kept. It takes no memory.
+    fn kept_chain(&self, class: &Name, place: &BeanPlace) -> Option<&Seq<Name>>
+        ensures known { is_some result ≡ (kept self.now).knows (ChainKey class.now place.now) }
+        ensures chain { IfSome (option_copied result) (λ names. chain_of (list self.now) class.now place.now ≡ Ok names) };
+
+    /// The observer methods that are notified of an event of a type with some qualifiers, where they are kept. It takes no
+    /// memory.
+    fn kept_observers(&self, event_type: &Name, quals: &Quals) -> Option<&Seq<ObserverId>>
+        ensures known { is_some result ≡ (kept self.now).knows (EventKey event_type.now quals.now) }
+        ensures observers { IfSome (option_copied result)
+            (λ ids. ids ≡ notified (list self.now) (beans_of (list self.now)) event_type.now quals.now) };
 
     /// The bean for a type and qualifiers (CDI 4.0, Performing typesafe resolution). Where the answer was not kept, a view
     /// that keeps answers counts one more, and keeps it if a declaration asks for it; an edit that is staged may be
@@ -130,6 +149,18 @@ impl<'a> View for PlainView<'a> {
 
     fn records(&self, class: &Name) -> &[Effective] {
         self.beans.records(class)
+    }
+
+    fn kept_choice(&self, _bean_type: &Name, _quals: &Quals) -> Option<&Choice> {
+        None
+    }
+
+    fn kept_chain(&self, _class: &Name, _place: &BeanPlace) -> Option<&Seq<Name>> {
+        None
+    }
+
+    fn kept_observers(&self, _event_type: &Name, _quals: &Quals) -> Option<&Seq<ObserverId>> {
+        None
     }
 
     #[tactic(auto, unfolding(crate::specs::Kept::after_key))]
