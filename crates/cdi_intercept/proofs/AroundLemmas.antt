@@ -1,27 +1,23 @@
 -- Whether one stands around some place: by the interceptors in order, and by the places.
-use Rattle.std.proofs.Common.{◌≡◌, ℕ, suc, Bool, true, false, not, ◌||◌, List, [], ◌∷◌, ◌++◌, length, map, filter, nat_eq}
+use Rattle.std.proofs.Common.{◌≡◌, ℕ, suc, Bool, true, false, not, ◌||◌, List, [], ◌∷◌, length, map, filter, nat_eq}
 use Rattle.std.proofs.Common.{refl, sym, ap, ◌∙◌, arith}
 use Rattle.std.specs.List.{list_any}
-use Rattle.std.proofs.Math.Bool.{or_assoc}
-use Rattle.std.proofs.lemmas.Bool.{eqb-true, false_from_ne_true, not_from_false, or_left}
-use Rattle.std.proofs.lemmas.List.Folds.{list_any-append}
+use Rattle.std.proofs.lemmas.Bool.{eqb-true, false_from_ne_true, not_from_false}
 use Rattle.cdi_model.specs.declared.decl.BeanDecl.{BeanDecl}
 use Rattle.cdi_model.specs.declared.decl.Decl.{Decl}
 use Rattle.cdi_model.specs.declared.decl.InterceptorDecl.{InterceptorDecl}
-use Rattle.cdi_model.specs.declared.decl.ProducerDecl.{ProducerDecl}
 use Rattle.cdi_model.specs.declared.place.BeanPlace.{BeanPlace}
-use Rattle.cdi_model.specs.declared.place.BeanPlace.TheVariants as places
 use Rattle.cdi_model.specs.declared.quals.Qual.{Qual}
-use Rattle.cdi_intercept.specs.Chains.{around_any, in_order, interceptors, is_around, is_before, is_enabled}
-use Rattle.cdi_intercept.specs.Chains.{is_surrounded, surrounds, surrounds_one}
-use Rattle.cdi_intercept.specs.Sets.{methods_of, observers_of, places_of, producers_of, set_by, sets_of, with_set}
+use Rattle.cdi_intercept.specs.Chains.{around_any, in_order, interceptors, is_before, is_enabled}
+use Rattle.cdi_intercept.specs.Chains.{surrounds, surrounds_one}
+use Rattle.cdi_intercept.specs.Sets.{places_of, set_by, sets_of, with_set}
 use Rattle.cdi_intercept.specs.Sorting.{put, sorted_by}
 
 some_left : (n : ℕ) → not (nat_eq (suc n) 0) ≡ true
 some_left n = not_from_false (nat_eq (suc n) 0) (false_from_ne_true (nat_eq (suc n) 0) (λ h. absurd (omega (arith, eqb-true (suc n) 0 h))))
 
 -- some pass a test just where its filter leaves some
-any-left : {X : Type 0} (p : X → Bool) (xs : List X) → not (nat_eq (length (filter p xs)) 0) ≡ list_any p xs
+pub any-left : {X : Type 0} (p : X → Bool) (xs : List X) → not (nat_eq (length (filter p xs)) 0) ≡ list_any p xs
 any-left p [] = refl
 any-left p (x ∷ xs) = by (p x) refl (any-left p xs)
   where
@@ -46,7 +42,7 @@ any-put p lt x (y ∷ ys) = by (lt y x) refl (any-put p lt x ys)
     by false e more = rw e refl
 
 -- the order of a list is nothing to a test
-any-sorted : {X : Type 0} (p : X → Bool) (lt : X → X → Bool) (xs : List X) → list_any p (sorted_by lt xs) ≡ list_any p xs
+pub any-sorted : {X : Type 0} (p : X → Bool) (lt : X → X → Bool) (xs : List X) → list_any p (sorted_by lt xs) ≡ list_any p xs
 any-sorted p lt [] = refl
 any-sorted p lt (x ∷ xs) = any-put p lt x (sorted_by lt xs) ∙ ap (λ b. p x || b) (any-sorted p lt xs)
 
@@ -76,17 +72,21 @@ any-map f p [] = refl
 any-map f p (x ∷ xs) = ap (λ b. p (f x) || b) (any-map f p xs)
 
 -- places with the bindings there
-any-sets : (ds : List Decl) (class : List Qual) (bean : BeanDecl) (i : InterceptorDecl) (places : List BeanPlace)
+pub any-sets : (ds : List Decl) (class : List Qual) (bean : BeanDecl) (i : InterceptorDecl) (places : List BeanPlace)
     → surrounds_one ds (map (with_set ds class bean) places) i ≡ list_any (λ p. surrounds ds (set_by ds class bean p) p i) places
 any-sets ds class bean i [] = refl
 any-sets ds class bean i (p ∷ ps) = ap (λ b. surrounds ds (set_by ds class bean p) p i || b) (any-sets ds class bean i ps)
 
-any-same : {X : Type 0} (p q : X → Bool) → ((x : X) → p x ≡ q x) → (xs : List X) → list_any p xs ≡ list_any q xs
+pub any-same : {X : Type 0} (p q : X → Bool) → ((x : X) → p x ≡ q x) → (xs : List X) → list_any p xs ≡ list_any q xs
 any-same p q same [] = refl
 any-same p q same (x ∷ xs) = ap (λ b. b || list_any p xs) (same x) ∙ ap (λ b. q x || b) (any-same p q same xs)
 
+-- one that is enabled stands around a place of a bean whose class has these bindings
+abbrev pub is_around : List Decl → List Qual → BeanDecl → BeanPlace → Bool
+is_around ds class bean place = list_any (surrounds ds (set_by ds class bean place) place) (filter is_enabled (interceptors ds))
+
 -- one stands around some place just where there is one around any
-intercepted-by_places : (ds : List Decl) (class : List Qual) (bean : BeanDecl)
+pub intercepted-by_places : (ds : List Decl) (class : List Qual) (bean : BeanDecl)
     → list_any (is_around ds class bean) (places_of bean) ≡ not (nat_eq (length (around_any ds class bean)) 0)
 unfolding around_any in_order
 intercepted-by_places ds class bean =
@@ -95,33 +95,3 @@ intercepted-by_places ds class bean =
     ∙ any-same _ _ (λ i. sym (any-sets ds class bean i (places_of bean))) is
     ∙ sym (any-sorted (surrounds_one ds (sets_of ds class bean)) is_before is)
     ∙ sym (any-left (surrounds_one ds (sets_of ds class bean)) (sorted_by is_before is))
-
-own-places : (p : BeanPlace → Bool) (ms ps os : List BeanPlace)
-    → list_any p (ms ++ ps ++ os) ≡ (list_any p ms || (list_any p ps || list_any p os))
-own-places p [] ps os = list_any-append p ps os
-own-places p (m ∷ ms) ps os = ap (λ b. p m || b) (own-places p ms ps os) ∙ sym (or_assoc (p m) (list_any p ms) _)
-
--- the same by the kinds of places
-pub intercepted_by_parts : (ds : List Decl) (class : List Qual) (bean : BeanDecl)
-    → not (nat_eq (length (around_any ds class bean)) 0)
-    ≡ ((is_surrounded ds class places.Construct || (is_surrounded ds class places.Post || is_surrounded ds class places.Pre))
-    || (list_any (is_around ds class bean) (methods_of bean) || (list_any (is_around ds class bean) (producers_of bean)
-    || list_any (is_around ds class bean) (observers_of bean))))
-intercepted_by_parts ds class bean =
-    let at : BeanPlace → Bool = is_around ds class bean in
-    sym (intercepted-by_places ds class bean)
-    ∙ ap (λ b. is_surrounded ds class places.Construct || (is_surrounded ds class places.Post || (is_surrounded ds class places.Pre || b)))
-    (own-places at (methods_of bean) (producers_of bean) (observers_of bean))
-    ∙ three (is_surrounded ds class places.Construct) (is_surrounded ds class places.Post) (is_surrounded ds class places.Pre) _
-  where
-    three : (a b c d : Bool) → (a || (b || (c || d))) ≡ ((a || (b || c)) || d)
-    three true b c d = refl
-    three false true c d = refl
-    three false false c d = refl
-
--- one that is not static, at the front of some producer methods, settles what is asked of their places
-pub produced-first : (at : BeanPlace → Bool) (p : ProducerDecl) (ps : List ProducerDecl) → p.is_static ≡ false
-    → at (places.Producer p.name) ≡ true
-    → list_any at (map (λ q. places.Producer q.name) (filter (λ q. not q.is_static) (p ∷ ps))) ≡ true
-produced-first at p ps is here =
-    rw is (or_left (at (places.Producer p.name)) (list_any at (map (λ q. places.Producer q.name) (filter (λ q. not q.is_static) ps))) here)

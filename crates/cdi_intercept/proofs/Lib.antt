@@ -3,4 +3,4 @@ pub mod ChainLemmas
 pub mod UseLemmas
 pub mod SeenLemmas
 mod SetLemmas
-mod AroundLemmas
+pub mod AroundLemmas

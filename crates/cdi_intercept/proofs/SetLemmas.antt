@@ -1,6 +1,6 @@
 -- The bindings at a place, as those that it declares of its own and those of the class; and that what is asked of them does not rest
 -- on their order.
-use Rattle.std.proofs.Common.{◌≡◌, Bool, true, false, not, ◌&&◌, ◌||◌, List, [], ◌∷◌, ◌++◌, length, filter, Some, None, is_some}
+use Rattle.std.proofs.Common.{◌≡◌, Bool, true, false, not, ◌&&◌, ◌||◌, List, [], ◌∷◌, ◌++◌, length, filter, Some}
 use Rattle.std.proofs.Common.{refl, sym, ap, ◌∙◌, subst, inl, inr, nat_eq, arith}
 use Rattle.std.specs.List.{list_all, list_any, Contains}
 use Rattle.std.specs.Str.{bytes_eq}
@@ -9,17 +9,13 @@ use Rattle.std.proofs.lemmas.List.Elements.{Contains-append_cases, Contains-appe
 use Rattle.std.proofs.lemmas.List.Folds.{list_any_at}
 use Rattle.cdi_model.specs.declared.decl.BeanDecl.{BeanDecl}
 use Rattle.cdi_model.specs.declared.decl.Decl.{Decl}
-use Rattle.cdi_model.specs.declared.decl.InterceptorDecl.{InterceptorDecl}
-use Rattle.cdi_model.specs.declared.decl.UseKind.TheVariants as use_kinds
 use Rattle.cdi_model.specs.declared.place.BeanPlace.{BeanPlace}
 use Rattle.cdi_model.specs.declared.place.BeanPlace.TheVariants as places
 use Rattle.cdi_model.specs.declared.quals.Qual.{Qual}
 use Rattle.cdi_match.specs.Bindings.{with_brought, HaveTheSame}
-use Rattle.cdi_match.specs.Covering.{covers}
 use Rattle.cdi_match.proofs.BindingLemmas.{none_brought}
 use Rattle.cdi_effective.specs.Bindings.{in_place_of}
 use Rattle.cdi_effective.specs.Qualifiers.{uses_one}
-use Rattle.cdi_intercept.specs.Chains.{covered_in, interceptors, is_enabled, is_surrounded, part_for, surrounds}
 use Rattle.cdi_intercept.specs.Conflicts.{are_opposed, has_conflict}
 use Rattle.cdi_intercept.specs.Sets.{around_method, own_at, set_by}
 
@@ -42,16 +38,6 @@ set-own ds class bean places.Pre own h = class-alone ds class own (one [] own h)
 set-own ds class bean (places.Method name) own h = ap (around_method ds class) h
 set-own ds class bean (places.Producer name) own h = ap (around_method ds class) h
 set-own ds class bean (places.Observer name) own h = ap (around_method ds class) h
-
--- where the bean has no such place, there is none
-pub set-none : (ds : List Decl) (class : List Qual) (bean : BeanDecl) (place : BeanPlace) → own_at bean place ≡ None
-    → set_by ds class bean place ≡ []
-set-none ds class bean places.Construct h = absurd (cc)
-set-none ds class bean places.Post h = absurd (cc)
-set-none ds class bean places.Pre h = absurd (cc)
-set-none ds class bean (places.Method name) h = ap (around_method ds class) h
-set-none ds class bean (places.Producer name) h = ap (around_method ds class) h
-set-none ds class bean (places.Observer name) h = ap (around_method ds class) h
 
 no_uses : (us : List Qual) → length us ≡ 0 → [] ≡ us
 no_uses [] e = refl
@@ -124,35 +110,3 @@ pub conflict-same : (ds : List Decl) (us vs : List Qual) → HaveTheSame us vs �
 conflict-same ds us vs same =
     any-by (λ u. list_any (are_opposed ds u) us) (λ u. list_any (are_opposed ds u) vs) us (λ u. any-same (are_opposed ds u) us vs same)
     ∙ any-same (λ u. list_any (are_opposed ds u) vs) us vs same
-
--- the same interceptors stand around them
-surrounds-same : (ds : List Decl) (us vs : List Qual) (place : BeanPlace) (i : InterceptorDecl) → HaveTheSame us vs
-    → surrounds ds us place i ≡ surrounds ds vs place i
-surrounds-same ds us vs place i same =
-    ap (λ b. is_some (part_for place i) && (not (nat_eq (length i.bindings) 0) && b))
-    (all-by (covered_in ds us) (covered_in ds vs) i.bindings (λ w. any-same (λ have. covers ds use_kinds.Binding have w) us vs same))
-
-pub surrounded-same : (ds : List Decl) (us vs : List Qual) (place : BeanPlace) → HaveTheSame us vs
-    → is_surrounded ds us place ≡ is_surrounded ds vs place
-surrounded-same ds us vs place same = each (filter is_enabled (interceptors ds))
-  where
-    each : (is : List InterceptorDecl) → list_any (surrounds ds us place) is ≡ list_any (surrounds ds vs place) is
-    each [] = refl
-    each (i ∷ is) = ap (λ b. b || list_any (surrounds ds us place) is) (surrounds-same ds us vs place i same)
-        ∙ ap (λ b. surrounds ds vs place i || b) (each is)
-
--- around no binding there is none
-pub none-surrounded : (ds : List Decl) (place : BeanPlace) → is_surrounded ds [] place ≡ false
-none-surrounded ds place = each (filter is_enabled (interceptors ds))
-  where
-    apart : (b c : Bool) → c ≡ false → (b && c) ≡ false
-    apart true c e = e
-    apart false c e = refl
-
-    unbound : (bs : List Qual) → (not (nat_eq (length bs) 0) && list_all (covered_in ds []) bs) ≡ false
-    unbound [] = refl
-    unbound (b ∷ bs) = apart (not (nat_eq (length (b ∷ bs)) 0)) (list_all (covered_in ds []) (b ∷ bs)) refl
-
-    each : (is : List InterceptorDecl) → list_any (surrounds ds [] place) is ≡ false
-    each [] = refl
-    each (i ∷ is) = ap (λ b. b || list_any (surrounds ds [] place) is) (apart (is_some (part_for place i)) _ (unbound i.bindings)) ∙ each is

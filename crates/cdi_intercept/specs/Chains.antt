@@ -74,14 +74,6 @@ surrounds_one ds sets i = list_any (λ z. surrounds ds z.1 z.0 i) sets
 unfoldable pub around_any : List Decl → List Qual → BeanDecl → List InterceptorDecl
 around_any ds class bean = filter (surrounds_one ds (sets_of ds class bean)) (in_order ds)
 
--- one that is enabled stands around a place with these bindings
-abbrev pub is_surrounded : List Decl → List Qual → BeanPlace → Bool
-is_surrounded ds set place = list_any (surrounds ds set place) (filter is_enabled (interceptors ds))
-
--- the same of a place of a bean whose class has these
-abbrev pub is_around : List Decl → List Qual → BeanDecl → BeanPlace → Bool
-is_around ds class bean place = is_surrounded ds (set_by ds class bean place) place
-
 -- one that is enabled stands around some place of a bean
 unfoldable pub stands_around : List Decl → InterceptorDecl → BeanDecl → Bool
 stands_around ds i bean = is_enabled i && surrounds_one ds (sets_of ds (class_bindings ds bean) bean) i

@@ -3,11 +3,10 @@ ghost use Rattle.std.specs.Prelude.{◌≡◌, filter, map, IfOk};
 ghost use Rattle.std.specs.List.{list_all};
 ghost use Rattle.cdi_match.specs.Bindings.{uses_in};
 ghost use Rattle.cdi_intercept.specs.Chains.{around_any, binds, chain_by, covered_in, in_order, interceptors, is_enabled};
-ghost use Rattle.cdi_intercept.specs.Chains.{part_for, stands_around, surrounds, surrounds_one};
+ghost use Rattle.cdi_intercept.specs.Chains.{part_for, surrounds, surrounds_one};
 ghost use Rattle.cdi_intercept.specs.Lent.{lent_in, uses_at};
 
 use crate::set::sets_of;
-use cdi_effective::class_bindings;
 use cdi_match::covers;
 use cdi_model::{BeanDecl, BeanPlace, Decl, Decls, InterceptorDecl, PartDecl, Qual, UseKind};
 use std::alloc::{AllocError, Global};
@@ -79,25 +78,6 @@ pub fn around_any<'a>(
         }
     }
     Ok(list)
-}
-
-/// Whether an interceptor is enabled, and is around some place of a bean. Where it is enabled, it takes memory for the
-/// bindings of the class and for those at each place.
-#[tactic(auto, unfolding(crate::specs::Chains::stands_around))]
-pub fn stands_around(
-    alloc: Global,
-    decls: &Decls,
-    interceptor: &InterceptorDecl,
-    bean: &BeanDecl,
-) -> Result<bool, AllocError>
-    ensures { IfOk result (λ stands. stands ≡ stands_around decls.now interceptor.now bean.now) }
-{
-    if interceptor.priority.is_none() {
-        return Ok(false);
-    }
-    let class = class_bindings(alloc, decls, bean)?;
-    let sets = sets_of(alloc, decls, class.as_slice(), bean)?;
-    Ok(surrounds_one(decls, &sets, interceptor))
 }
 
 /// Whether an interceptor is around one of some places, each with the bindings there, where it is enabled. It takes no

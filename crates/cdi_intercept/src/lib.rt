@@ -5,7 +5,6 @@ mod asked;
 mod bindings;
 mod chain;
 mod conflict;
-mod intercepted;
 mod place_set;
 mod seen;
 mod set;
@@ -13,9 +12,8 @@ mod set;
 pub use asked::{chain_of, evaluate_chain};
 pub use bindings::{bindings_at, bindings_seen};
 pub use chain::{
-    around_any, chain_among, in_order, part_for, stands_around, surrounds, surrounds_one,
+    around_any, chain_among, in_order, part_for, surrounds, surrounds_one,
 };
 pub use conflict::has_conflict_at;
-pub use intercepted::is_intercepted;
 pub use seen::seen_around;
 pub use set::{has_place, places_of, set_by, sets_of};

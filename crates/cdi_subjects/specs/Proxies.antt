@@ -51,9 +51,13 @@ abbrev pub needs_subclass_as : List Decl → BeanDecl → Option Effective → B
 needs_subclass_as ds bean None = false
 needs_subclass_as ds bean (Some b) = needs_subclass_by ds bean b
 
+-- of the records of one bean declaration it is that of the product of a producer method, or of the managed bean
+abbrev pub is_told_by : Option (List ℕ) → Effective → Bool
+is_told_by producer b = option_eq bytes_eq b.id.producer producer
+
 abbrev pub needs_subclass_of : List Decl → BeanId → Option BeanDecl → Bool
 needs_subclass_of ds id None = false
-needs_subclass_of ds id (Some bean) = needs_subclass_as ds bean (find (λ b. option_eq bytes_eq b.id.producer id.producer) (records ds bean))
+needs_subclass_of ds id (Some bean) = needs_subclass_as ds bean (find (is_told_by id.producer) (records ds bean))
 
 abbrev pub needs_subclass : List Decl → BeanId → Bool
 needs_subclass ds id = needs_subclass_of ds id (find_bean id.class ds)

@@ -30,13 +30,19 @@ pub(crate) enum Verdict {
 
 impl Verdict {
     /// Whether the answer to a point is such.
-    fn is_of<V: View>(self, view: &V, point: &PointDecl, choice: &Choice) -> bool
-        ensures { result ≡ has_verdict (V.list view.now) self point.now choice.now }
+    fn is_of<V: View>(
+        self,
+        alloc: Global,
+        view: &V,
+        point: &PointDecl,
+        choice: &Choice,
+    ) -> Result<bool, AllocError>
+        ensures { IfOk result (λ is. is ≡ has_verdict (V.list view.now) self point.now choice.now) }
     {
         match self {
-            Verdict::Unsatisfied => matches!(choice, Choice::Unsatisfied),
-            Verdict::Ambiguous => matches!(choice, Choice::Ambiguous(_)),
-            Verdict::Unproxyable => is_unproxyable(view, point, choice),
+            Verdict::Unsatisfied => Ok(matches!(choice, Choice::Unsatisfied)),
+            Verdict::Ambiguous => Ok(matches!(choice, Choice::Ambiguous(_))),
+            Verdict::Unproxyable => is_unproxyable(alloc, view, point, choice),
         }
     }
 
@@ -104,7 +110,7 @@ fn points_by<V: View>(
         if let Mention::Point(place, point) = mention {
             if let Some((answer, others)) = left.split_first() {
                 left = others;
-                let found = point_by(view, decl, beans, &place, point, answer, verdict);
+                let found = point_by(alloc, view, decl, beans, &place, point, answer, verdict)?;
                 if let Some(subject) = found {
                     subjects.push(subject)?;
                 }
@@ -116,6 +122,7 @@ fn points_by<V: View>(
 
 /// A point, where the answer to it is such.
 fn point_by<V: View>(
+    alloc: Global,
     view: &V,
     decl: &Decl,
     beans: &[Effective],
@@ -123,16 +130,16 @@ fn point_by<V: View>(
     point: &PointDecl,
     answer: &Choice,
     verdict: Verdict,
-) -> Option<Subject>
-    ensures { result ≡ some_if (is_enabled_in decl.now beans.now (producer_of_point place.now)
-        && has_verdict (V.list view.now) verdict point.now answer.now) (the_subjects.Point place.now point.now.name) }
+) -> Result<Option<Subject>, AllocError>
+    ensures { IfOk result (λ found. found ≡ some_if (is_enabled_in decl.now beans.now (producer_of_point place.now)
+        && has_verdict (V.list view.now) verdict point.now answer.now) (the_subjects.Point place.now point.now.name)) }
 {
     let is_enabled = is_enabled_in(decl, beans, producer_of_point(place));
-    if !is_enabled || !verdict.is_of(view, point, answer) {
-        return None;
+    if !is_enabled || !verdict.is_of(alloc, view, point, answer)? {
+        return Ok(None);
     }
-    Some(Subject::Point {
+    Ok(Some(Subject::Point {
         place: *place,
         name: point.name,
-    })
+    }))
 }

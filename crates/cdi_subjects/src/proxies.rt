@@ -1,26 +1,34 @@
 //! Injection points whose bean needs a proxy or a subclass that its type rules out (CDI 4.0, Unproxyable bean types).
-ghost use Rattle.std.specs.Prelude.{◌≡◌};
-ghost use Rattle.cdi_subjects.specs.Proxies.{is_final, is_normal, is_unproxyable, needs_subclass, needs_subclass_as};
-ghost use Rattle.cdi_subjects.specs.Proxies.{needs_subclass_by};
+ghost use Rattle.std.specs.Prelude.{◌≡◌, false, is_some, Some, IfOk};
 ghost use Rattle.std.specs.List.{find};
-ghost use Rattle.std.specs.Option.{option_eq};
+ghost use Rattle.std.specs.Option.{option_copied, option_eq};
 ghost use Rattle.std.specs.Str.{bytes_eq};
-ghost use Rattle.cdi_effective.specs.Beans.{records};
+ghost use Rattle.cdi_effective.specs.Bindings.{class_bindings};
+ghost use Rattle.cdi_effective.specs.Disposers.{find_bean};
+ghost use Rattle.cdi_subjects.specs.Proxies.{is_final, is_normal, is_told_by, is_unproxyable, needs_subclass};
+ghost use Rattle.cdi_subjects.specs.Proxies.{needs_subclass_by};
 
 use cdi_effective::{BeanId, Effective};
-use cdi_intercept::is_intercepted;
 use cdi_model::{BeanDecl, Decl, Decls, Form, Ident, Kind, Name, PointDecl, Scope};
-use cdi_observe::View;
+use cdi_observe::{View, interceptors_of};
 use cdi_resolve::Choice;
+use std::alloc::{AllocError, Global};
 
 /// Whether one bean is chosen for a point, its instances need a subclass, and the class that the point requires may have
-/// none. It takes no memory.
-pub(crate) fn is_unproxyable<V: View>(view: &V, point: &PointDecl, choice: &Choice) -> bool
-    ensures { result ≡ is_unproxyable (V.list view.now) point.now choice.now }
+/// none. It takes memory for the names of the interceptors around the bean.
+pub(crate) fn is_unproxyable<V: View>(
+    alloc: Global,
+    view: &V,
+    point: &PointDecl,
+    choice: &Choice,
+) -> Result<bool, AllocError>
+    ensures { IfOk result (λ found. found ≡ is_unproxyable (V.list view.now) point.now choice.now) }
 {
     match choice {
-        Choice::One(id) if is_final(view.decls(), &point.required_type) => needs_subclass(view, id),
-        _ => false,
+        Choice::One(id) if is_final(view.decls(), &point.required_type) => {
+            needs_subclass(alloc, view, id)
+        }
+        _ => Ok(false),
     }
 }
 
@@ -35,48 +43,50 @@ pub(crate) fn is_final(decls: &Decls, name: &Name) -> bool
 }
 
 #[tactic(auto, unfolding(cdi_effective::specs::Records::records_in))]
-fn needs_subclass<V: View>(view: &V, id: &BeanId) -> bool
-    ensures { result ≡ needs_subclass (V.list view.now) id.now }
+fn needs_subclass<V: View>(alloc: Global, view: &V, id: &BeanId) -> Result<bool, AllocError>
+    ensures { IfOk result (λ needs. needs ≡ needs_subclass (V.list view.now) id.now) }
 {
-    let decls = view.decls();
-    match decls.get(Kind::Bean, &id.class) {
-        Some(Decl::Bean(bean)) => {
-            let records = view.records(&id.class);
-            needs_subclass_as(decls, bean, records, id.producer)
-        }
-        _ => false,
+    let Some(Decl::Bean(bean)) = view.decls().get(Kind::Bean, &id.class) else {
+        return Ok(false);
+    };
+    match record_of(view.records(&id.class), id.producer) {
+        Some(record) => needs_subclass_by(alloc, view, bean, record),
+        None => Ok(false),
     }
 }
 
-/// The same by the records of the bean, and its producer method where it is the product of one.
-fn needs_subclass_as(
-    decls: &Decls,
-    bean: &BeanDecl,
-    records: &[Effective],
-    producer: Option<Ident>,
-) -> bool
-    ensures { result
-        ≡ needs_subclass_as decls.now bean.now (find (λ b. option_eq bytes_eq b.id.producer producer) records.now) }
+/// Of the records of a declaration that of the product of a producer method, or of its managed bean.
+fn record_of(records: &[Effective], producer: Option<Ident>) -> Option<&Effective>
+    ensures { option_copied result ≡ find (is_told_by producer) records.now }
 {
     for record in records {
         if record.id.producer == producer {
-            return needs_subclass_by(decls, bean, record);
+            return Some(record);
         }
     }
-    false
+    None
 }
 
 /// Whether a client proxy stands for the instances of a bean, or it is a managed bean with interceptors.
-fn needs_subclass_by(decls: &Decls, bean: &BeanDecl, effective: &Effective) -> bool
-    ensures { result ≡ needs_subclass_by decls.now bean.now effective.now }
+fn needs_subclass_by<V: View>(
+    alloc: Global,
+    view: &V,
+    bean: &BeanDecl,
+    effective: &Effective,
+) -> Result<bool, AllocError>
+    requires found { find_bean bean.now.name (V.list view.now) ≡ Some bean.now }
+    requires own { is_some effective.now.id.producer ≡ false
+        → effective.now.bindings ≡ class_bindings (V.list view.now) bean.now }
+    ensures { IfOk result (λ needs. needs ≡ needs_subclass_by (V.list view.now) bean.now effective.now) }
 {
     if is_normal(effective.scope) {
-        return true;
+        return Ok(true);
     }
     if effective.id.producer.is_some() {
-        return false;
+        return Ok(false);
     }
-    is_intercepted(decls, effective.bindings.as_slice(), bean)
+    let names = interceptors_of(alloc, view, bean)?;
+    Ok(!names.is_empty())
 }
 
 fn is_normal(scope: Scope) -> bool

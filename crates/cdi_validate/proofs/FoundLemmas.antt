@@ -1,23 +1,24 @@
 -- The records of a declaration, which are found by its name, and the answers to its points.
-use Rattle.std.proofs.Common.{◌≡◌, ◌≢◌, Bool, true, false, cond, List, [], ◌∷◌, ◌++◌, Some, length}
+use Rattle.std.proofs.Common.{◌≡◌, ◌≢◌, ℕ, Bool, true, false, cond, List, [], ◌∷◌, ◌++◌, Some, length}
 use Rattle.std.proofs.Common.{map, refl, sym, subst, ap, ◌∙◌, append-nil}
-use Rattle.std.specs.List.{AllByRecursion, flat_map}
+use Rattle.std.specs.List.{AllByRecursion, flat_map, slice_get}
 use Rattle.std.proofs.lemmas.Grind.{flat_map-append}
 use Rattle.std.proofs.lemmas.List.{length-map, nil_from_length}
 use Rattle.cdi_model.specs.Decl.{key_of, kind_of, name_of_decl}
 use Rattle.cdi_model.specs.DeclKey.{same_key, same_key_equiv}
 use Rattle.cdi_model.specs.DeclList.{find_decl, AreDistinct}
+use Rattle.cdi_model.specs.declared.decl.BeanDecl.{BeanDecl}
 use Rattle.cdi_model.specs.declared.decl.Decl.{Decl}
 use Rattle.cdi_model.specs.declared.decl.Decl.TheVariants as decls
 use Rattle.cdi_model.specs.declared.decl.Kind.TheVariants as kinds
 use Rattle.cdi_model.proofs.EntryLemmas.{key_exact}
 use Rattle.cdi_effective.specs.Beans.{beans, entries}
 use Rattle.cdi_effective.specs.declared.records.Effective.{Effective}
-use Rattle.cdi_effective.specs.Disposers.{as_bean}
+use Rattle.cdi_effective.specs.Disposers.{as_bean, find_bean}
 use Rattle.cdi_effective.specs.Records.{records_declared, records_in}
 use Rattle.cdi_resolve.specs.declared.choice.Choice.{Choice}
 use Rattle.cdi_observe.specs.Answers.{answers_of}
-use Rattle.cdi_validate.specs.Records.{records_by}
+use Rattle.cdi_validate.specs.Records.{records_by, IsAmong}
 use Rattle.cdi_validate.proofs.ApartLemmas.{Apart, pairs-apart}
 
 at-middle : (P : Decl → Type 0) (es rest : List Decl) (d : Decl) → AllByRecursion P (es ++ d ∷ rest) → P d
@@ -39,6 +40,22 @@ found-own (e ∷ es) rest d apart =
     ap (λ b. cond b (Some e) (find_decl (kind_of d) (name_of_decl d) (es ++ d ∷ rest)))
     (other-key d e (at-middle (λ f. key_of e ≢ key_of f) es rest d apart.0))
     ∙ found-own es rest d apart.1
+
+-- where it is one of them
+pub bean_found : (ds : List Decl) (bean : BeanDecl) → AreDistinct ds → IsAmong ds (decls.Bean bean) → find_bean bean.name ds ≡ Some bean
+bean_found ds bean distinct among =
+    let keys-differ : Decl → Decl → Type 0 = λ d e. key_of d ≢ key_of e in
+    let all : List Decl = among.0 ++ decls.Bean bean ∷ among.1 in
+    ap as_bean (subst (λ all. find_decl kinds.Bean bean.name all ≡ Some (decls.Bean bean)) among.2
+    (found-own among.0 among.1 (decls.Bean bean) (pairs-apart keys-differ all (subst AreDistinct (sym among.2) distinct))))
+
+at-length : (es rest : List Decl) (d : Decl) → slice_get (es ++ d ∷ rest) (length es) ≡ Some d
+at-length [] rest d = refl
+at-length (e ∷ es) rest d = at-length es rest d
+
+-- the place at which it is
+pub among-at : (ds : List Decl) (d : Decl) → IsAmong ds d → (k : ℕ) × (slice_get ds k ≡ Some d)
+among-at ds d among = (length among.0, ap (λ all. slice_get all (length among.0)) (sym among.2) ∙ at-length among.0 among.1 d)
 
 -- so the records of the bean of its name are its records
 pub records_found : (ds es rest : List Decl) (d : Decl) → AreDistinct ds → es ++ d ∷ rest ≡ ds → records_by ds d ≡ entries ds d

@@ -1,17 +1,20 @@
 //! Dependent beans that need themselves before they can be made (profile).
-ghost use Rattle.std.specs.Prelude.{◌≡◌, ◌∷◌, [], ◌++◌, ℕ, List, filter, fold, map, take, IfOk, OnOk};
+ghost use Rattle.std.specs.Prelude.{◌≡◌, ◌∷◌, [], ◌++◌, ℕ, List, true, filter, fold, map, take, IfOk, OnOk};
 ghost use Rattle.std.specs.BTreeMap.{keys};
 ghost use Rattle.std.specs.List.{flat_map};
 ghost use Rattle.cdi_circles.specs.Edges.{is_on_circle, next_in};
 ghost use Rattle.cdi_effective.specs.Beans.{beans};
 ghost use Rattle.cdi_effective.specs.BeanText.{text_of_id};
+ghost use Rattle.cdi_intercept.specs.Chains.{is_enabled, stands_around};
 ghost use Rattle.cdi_match.specs.Chain.{has};
+ghost use Rattle.cdi_model.specs.DeclList.{AreDistinct};
 ghost use Rattle.cdi_model.specs.declared.decl.Decl.TheVariants as declared;
 ghost use Rattle.cdi_model.specs.Mentions.{shown};
 ghost use Rattle.cdi_observe.specs.Answers.{answers as all_answers};
 ghost use Rattle.cdi_validate.specs.Circles.{bean_of_point, between, chosen_one, dependents_by_text, is_dependent, managed_id};
 ghost use Rattle.cdi_validate.specs.Circles.{need_around, needs, product_id, with_dependent};
 ghost use Rattle.cdi_validate.specs.Faults.{circle, circles};
+ghost use Rattle.cdi_validate.specs.Records.{IsAmong};
 ghost use Rattle.cdi_validate.specs.Needed.{left_behind, need_by, needed_first, needs_along, needs_at, needs_by, AddsNeeds};
 ghost use Rattle.cdi_validate.specs.Surrounded.{beans_at, with_binding, AreByBinding};
 
@@ -20,12 +23,11 @@ use crate::surrounded::{add_bean, may_surround};
 use cdi_circles::{Node, on_circles};
 use cdi_effective::{BeanId, Effective};
 use cdi_faults::Fault;
-use cdi_intercept::stands_around;
 use cdi_model::{
     BeanDecl, Decl, Decls, Ident, InterceptorDecl, Mention, Mentions, Name, PartPlace, PointPlace,
     Scope,
 };
-use cdi_observe::View;
+use cdi_observe::{View, interceptors_of};
 use cdi_resolve::Choice;
 use std::alloc::{AllocError, Global};
 use std::collections::BTreeMap;
@@ -48,7 +50,7 @@ pub(crate) fn push_of_circles<V: View>(
     if dependents.is_empty() {
         return Ok(());
     }
-    let edges = edges_between(alloc, &dependents, view.decls(), answers)?;
+    let edges = edges_between(alloc, view, &dependents, answers)?;
     push_circles(alloc, &dependents, &edges, faults)
 }
 
@@ -124,22 +126,23 @@ fn node_of(alloc: Global, id: BeanId) -> Result<Node, AllocError>
 }
 
 /// The dependent beans that each dependent bean needs, by the answers to the injection points of each declaration.
-fn edges_between(
+fn edges_between<V: View>(
     alloc: Global,
+    view: &V,
     dependents: &BTreeMap<Node, BeanId>,
-    decls: &Decls,
     answers: &[Vec<Rc<Choice>>],
 ) -> Result<BTreeMap<Node, Vec<Node>>, AllocError>
-    requires { map (λ list. map (λ answer. answer.value) list.items) answers.now ≡ all_answers decls.now }
-    ensures { IfOk result (λ edges. (x : List ℕ) → next_in edges x ≡ between (keys dependents.now) (needs decls.now) x) }
+    requires { map (λ list. map (λ answer. answer.value) list.items) answers.now ≡ all_answers (V.list view.now) }
+    ensures { IfOk result (λ edges. (x : List ℕ) → next_in edges x ≡ between (keys dependents.now) (needs (V.list view.now)) x) }
 {
+    let decls = view.decls();
     let by_binding = by_binding(alloc, dependents, decls)?;
     let mut edges = BTreeMap::new(alloc);
     for (decl, own) in decls.iter().zip(answers) {
         add_needs(
             alloc,
+            view,
             dependents,
-            decls,
             &by_binding,
             decl,
             own.as_slice(),
@@ -187,18 +190,19 @@ fn add_by_binding<'a>(
 }
 
 /// Adds what beans need by a declaration, which has these answers to its injection points.
-fn add_needs(
+fn add_needs<V: View>(
     alloc: Global,
+    view: &V,
     dependents: &BTreeMap<Node, BeanId>,
-    decls: &Decls,
     by_binding: &BTreeMap<Name, Vec<&BeanDecl>>,
     decl: &Decl,
     answers: &[Rc<Choice>],
     edges: &mut BTreeMap<Node, Vec<Node>>,
 ) -> Result<(), AllocError>
-    requires { AreByBinding (keys dependents.now) decls.now by_binding.now }
+    requires by_binding { AreByBinding (keys dependents.now) (V.list view.now) by_binding.now }
+    requires among { IsAmong (V.list view.now) decl.now }
     ensures { OnOk result (AddsNeeds (keys dependents.now)
-        (needs_by decls.now decl.now (map (λ answer. answer.value) answers.now)) edges.old edges.new) }
+        (needs_by (V.list view.now) decl.now (map (λ answer. answer.value) answers.now)) edges.old edges.new) }
 {
     match decl {
         Decl::Bean(bean) => {
@@ -207,8 +211,8 @@ fn add_needs(
         Decl::Interceptor(interceptor) => {
             add_needs_around(
                 alloc,
+                view,
                 dependents,
-                decls,
                 by_binding,
                 interceptor,
                 answers,
@@ -294,18 +298,19 @@ fn bean_of_point(bean: &BeanDecl, place: &PointPlace) -> Option<BeanId>
 
 /// Adds what each managed bean needs for an interceptor that is around a place of it, by the answers to the
 /// interceptor's injection points.
-fn add_needs_around(
+fn add_needs_around<V: View>(
     alloc: Global,
+    view: &V,
     dependents: &BTreeMap<Node, BeanId>,
-    decls: &Decls,
     by_binding: &BTreeMap<Name, Vec<&BeanDecl>>,
     interceptor: &InterceptorDecl,
     answers: &[Rc<Choice>],
     edges: &mut BTreeMap<Node, Vec<Node>>,
 ) -> Result<(), AllocError>
-    requires { AreByBinding (keys dependents.now) decls.now by_binding.now }
-    ensures { OnOk result (AddsNeeds (keys dependents.now) (flat_map (need_around decls.now interceptor.now
-        (flat_map chosen_one (map (λ answer. answer.value) answers.now))) decls.now) edges.old edges.new) }
+    requires by_binding { AreByBinding (keys dependents.now) (V.list view.now) by_binding.now }
+    requires among { IsAmong (V.list view.now) (declared.Interceptor interceptor.now) }
+    ensures { OnOk result (AddsNeeds (keys dependents.now) (flat_map (need_around (V.list view.now) interceptor.now
+        (flat_map chosen_one (map (λ answer. answer.value) answers.now))) (V.list view.now)) edges.old edges.new) }
 {
     if interceptor.priority.is_none() {
         return Ok(());
@@ -319,28 +324,51 @@ fn add_needs_around(
         return Ok(());
     };
     for bean in beans.as_slice() {
-        add_need_around(alloc, dependents, decls, interceptor, bean, answers, edges)?;
+        add_need_around(alloc, view, dependents, interceptor, bean, answers, edges)?;
     }
     Ok(())
 }
 
-/// Adds what a managed bean needs for an interceptor, if it is dependent, and the interceptor is around a place of it.
-fn add_need_around(
+/// Adds what a managed bean needs for an interceptor that is enabled, if it is dependent, and the interceptor is around a
+/// place of it.
+fn add_need_around<V: View>(
     alloc: Global,
+    view: &V,
     dependents: &BTreeMap<Node, BeanId>,
-    decls: &Decls,
     interceptor: &InterceptorDecl,
     bean: &BeanDecl,
     answers: &[Rc<Choice>],
     edges: &mut BTreeMap<Node, Vec<Node>>,
 ) -> Result<(), AllocError>
-    ensures { OnOk result (AddsNeeds (keys dependents.now) (need_around decls.now interceptor.now
+    requires around { IsAmong (V.list view.now) (declared.Interceptor interceptor.now) }
+    requires enabled { is_enabled interceptor.now ≡ true }
+    requires bean { IsAmong (V.list view.now) (declared.Bean bean.now) }
+    ensures { OnOk result (AddsNeeds (keys dependents.now) (need_around (V.list view.now) interceptor.now
         (flat_map chosen_one (map (λ answer. answer.value) answers.now)) (declared.Bean bean.now)) edges.old edges.new) }
 {
-    if !stands_around(alloc, decls, interceptor, bean)? {
+    if !is_around(alloc, view, interceptor, bean)? {
         return Ok(());
     }
     add_need(alloc, dependents, managed_id(bean), None, answers, edges)
+}
+
+/// Whether an interceptor that is enabled is around a place of a bean.
+fn is_around<V: View>(
+    alloc: Global,
+    view: &V,
+    interceptor: &InterceptorDecl,
+    bean: &BeanDecl,
+) -> Result<bool, AllocError>
+    requires around { IsAmong (V.list view.now) (declared.Interceptor interceptor.now) }
+    requires enabled { is_enabled interceptor.now ≡ true }
+    requires bean { IsAmong (V.list view.now) (declared.Bean bean.now) }
+    ensures value { IfOk result (λ around. around ≡ stands_around (V.list view.now) interceptor.now bean.now) }
+    ensures distinct { AreDistinct (V.list view.now) }
+{
+    // No effect at run time. The proof reads here that no two declarations have one kind and name.
+    let _ = view.decls().iter();
+    let names = interceptors_of(alloc, view, bean)?;
+    Ok(names.contains(&interceptor.name))
 }
 
 fn managed_id(bean: &BeanDecl) -> BeanId

@@ -1,8 +1,6 @@
 use Rattle.std.proofs.Common.{◌++◌, ap, sym, ◌∙◌}
-use Rattle.std.specs.BTreeMap.{keys}
 use Rattle.std.proofs.lemmas.List.{append-nil}
 use Rattle.std.proofs.lemmas.Result.{IfOk-weaker}
-use Rattle.cdi_validate.specs.Circles.{between, needs}
 use Rattle.cdi_validate.proofs.CircleLemmas.{circles_found, no_circles}
 use Rattle.cdi_validate.proofs.circles.push_of_circles.Goals as goal
 
@@ -18,5 +16,5 @@ returns g c =
     let edges = c.in_ok-edges.edges in
     IfOk-weaker c.push_circles.result _ _ (λ done e. e ∙ ap (λ fs. c.args.faults.now.items ++ fs)
     (circles_found ds dependents edges c.in_ok-dependents.ensures
-    (λ x. c.in_ok-edges.ensures x ∙ ap (λ es. between (keys dependents) (needs es) x) c.decls.ensures)))
+    c.in_ok-edges.ensures))
     c.push_circles.ensures
