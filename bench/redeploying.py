@@ -2,7 +2,8 @@
 
 It has interfaces, each with a class and its application-scoped bean, which has points of the two interfaces before its own
 and a method. Each tenth interface has a second class, whose bean is an alternative with a priority. The choice is one that
-no point asks for, so nothing of the deployment wants it to be known.
+no point asks for, so nothing of the deployment wants it to be known; where an alternative is toggled it is one for which two
+points ask.
 """
 
 import itertools
@@ -21,6 +22,9 @@ EDITED = 75
 EDITS = 500
 MEASURED = 64
 CHOICE = "choose C3\n"
+# The place of the alternative whose priority is edited, and the choice for its interface, for which two points ask.
+TOGGLED = 70
+TOGGLED_CHOICE = f"choose I{TOGGLED}\n"
 
 
 def interface(place, *keys):
@@ -82,35 +86,41 @@ def drops_and_puts(_):
     return itertools.cycle([f"drop bean C{EDITED}\n", bean(EDITED)])
 
 
-# What is edited, by the beginning of a script's name: the deployment and the edits.
+def toggled_alternatives(_):
+    """Puts of an alternative with one priority and with another in turn."""
+    return itertools.cycle([put_block("bean", f"D{TOGGLED}", "alternative = true", f"priority = {priority}") for priority in (6, 5)])
+
+
+# What is edited, by the beginning of a script's name: the deployment, the edits, and the choice after each.
 KINDS = {
-    "equal_beans": (deployed, equal_beans),
-    "changed_interfaces": (with_face, changed_interfaces),
-    "changed_stereotypes": (furnished, changed_stereotypes),
-    "drops_and_puts": (deployed, drops_and_puts),
+    "equal_beans": (deployed, equal_beans, CHOICE),
+    "changed_interfaces": (with_face, changed_interfaces, CHOICE),
+    "changed_stereotypes": (furnished, changed_stereotypes, CHOICE),
+    "drops_and_puts": (deployed, drops_and_puts, CHOICE),
+    "toggled_alternatives": (deployed, toggled_alternatives, TOGGLED_CHOICE),
 }
 NAMES = [f"{kind}_{declarations}" for kind in KINDS for declarations in INTERFACES]
 
 
 def begun(name):
-    """The edits that deploy what a script edits, and the further ones, without end."""
+    """The edits that deploy what a script edits, the further ones, without end, and the choice after each of these."""
     kind, _, declarations = name.rpartition("_")
-    deploys, edits = KINDS[kind]
-    return deploys(int(declarations)), edits(int(declarations))
+    deploys, edits, choice = KINDS[kind]
+    return deploys(int(declarations)), edits(int(declarations)), choice
 
 
 def script(name, in_batches):
     """The commands of a script: batches of the deployment, which a function makes, a report, and edits with a choice each."""
-    deployment, edits = begun(name)
+    deployment, edits, choice = begun(name)
     yield from in_batches(deployment)
     yield "report\n"
     for edit in itertools.islice(edits, EDITS):
         yield edit
-        yield CHOICE
+        yield choice
 
 
 def small_script(name, in_batches):
     """The pieces of a small script before those that are measured, and these. In both there are as many edits, each with a choice."""
-    deployment, edits = begun(name)
-    pieces = [edit + CHOICE for edit in itertools.islice(edits, 2 * MEASURED)]
+    deployment, edits, choice = begun(name)
+    pieces = [edit + choice for edit in itertools.islice(edits, 2 * MEASURED)]
     return [*in_batches(deployment), "report\n", *pieces[:MEASURED]], pieces[MEASURED:]

@@ -1,0 +1,197 @@
+-- The names of the interceptors around a bean tell which of them stand around it.
+use Rattle.std.proofs.Common.{◌≡◌, ℕ, zero, suc, Bool, true, false, cond, not, ◌&&◌, ◌||◌, List, [], ◌∷◌, ◌++◌, map, length, nat_eq}
+use Rattle.std.proofs.Common.{Some, Ok, Result, Err, get_or, refl, sym, ap, subst, ◌∙◌}
+use Rattle.std.specs.List.{AllByRecursion, filter, flat_map, list_any, slice_get}
+use Rattle.std.specs.Str.{bytes_eq}
+use Rattle.std.proofs.Math.Bool.{and-false}
+use Rattle.std.proofs.lemmas.Bool.{false≢true, or_left, or_right}
+use Rattle.std.proofs.lemmas.List.Elements.{recursion_from_All}
+use Rattle.std.proofs.lemmas.List.Folds.{list_any-append}
+use Rattle.std.proofs.lemmas.Option.{none-some, same_Some, slice_get-get_or}
+use Rattle.cdi_model.specs.DeclList.{find_decl, AreDistinct}
+use Rattle.cdi_model.specs.declared.decl.BeanDecl.{BeanDecl}
+use Rattle.cdi_model.specs.declared.decl.Decl.{Decl}
+use Rattle.cdi_model.specs.declared.decl.Decl.TheVariants as decls
+use Rattle.cdi_model.specs.declared.decl.InterceptorDecl.{InterceptorDecl}
+use Rattle.cdi_model.specs.declared.decl.Kind.TheVariants as kinds
+use Rattle.cdi_model.specs.declared.place.BeanPlace.{BeanPlace}
+use Rattle.cdi_model.specs.declared.refusal.Refusal.{Refusal}
+use Rattle.cdi_match.specs.Chain.{has}
+use Rattle.cdi_match.proofs.Names.{one_name, same_text}
+use Rattle.cdi_effective.specs.Bindings.{class_bindings}
+use Rattle.cdi_effective.specs.Disposers.{find_bean}
+use Rattle.cdi_effective.proofs.PlaceLemmas.{own-found}
+use Rattle.cdi_intercept.specs.Chains.{around_any, chain_by, chain_of, chain_told, in_order, interceptors, is_before, is_enabled}
+use Rattle.cdi_intercept.specs.Chains.{stands_around, surrounds, surrounds_one}
+use Rattle.cdi_intercept.specs.Sets.{has_place, places_of, set_by, sets_of}
+use Rattle.cdi_intercept.proofs.AroundLemmas.{any-left, any-same, any-sets, any-sorted, intercepted-by_places, is_around}
+use Rattle.cdi_intercept.proofs.ChainLemmas.{in_order-declared, IsDeclared}
+use Rattle.cdi_observe.specs.Around.{names_at, names_of_bean}
+
+-- ---- the names at a place are those that are told of it
+
+told-where : {X : Type 0} (has : Bool) (x : X) (refusal : Refusal) → has ≡ true → cond has (Ok x) (Err refusal) ≡ Ok x
+told-where true x refusal e = refl
+told-where false x refusal e = absurd (false≢true e)
+
+pub told-names : (ds : List Decl) (bean : BeanDecl) (place : BeanPlace) → find_bean bean.name ds ≡ Some bean → has_place bean place ≡ true
+    → chain_of ds bean.name place ≡ Ok (names_at ds bean place)
+told-names ds bean place found there = ap (λ o. chain_told ds o place) found ∙ told-where (has_place bean place) _ _ there
+
+told-one : {X : Type 0} (r : Result X Refusal) (x y : X) → r ≡ Ok x → r ≡ Ok y → y ≡ x
+told-one r x y is other = let same : Ok y ≡ Ok x = sym other ∙ is in cc
+
+-- so what is told of it is they
+pub told-same : (ds : List Decl) (bean : BeanDecl) (place : BeanPlace) (names : List (List ℕ)) → find_bean bean.name ds ≡ Some bean
+    → has_place bean place ≡ true → chain_of ds bean.name place ≡ Ok names → names ≡ names_at ds bean place
+told-same ds bean place names found there is =
+    told-one (chain_of ds bean.name place) (names_at ds bean place) names (told-names ds bean place found there) is
+
+-- ---- an interceptor among those around a place
+
+kept-or-not : (b c own rest any : Bool) → (b ≡ true → c ≡ own) → rest ≡ (own && any) → cond c (b || rest) rest ≡ (own && (b || any))
+kept-or-not true true own rest any same is = ap (λ q. q && true) (same refl)
+kept-or-not true false own rest any same is = is ∙ ap (λ q. q && any) (sym (same refl)) ∙ ap (λ q. q && true) (same refl)
+kept-or-not false true own rest any same is = is
+kept-or-not false false own rest any same is = is
+
+module _ (i : InterceptorDecl) where
+  -- it has the name
+  abbrev is_named : InterceptorDecl → Bool
+  is_named x = bytes_eq x.name i.name
+
+  has-filtered : (p : InterceptorDecl → Bool) (xs : List InterceptorDecl) → AllByRecursion (λ x. is_named x ≡ true → x ≡ i) xs
+      → has (map (λ x. x.name) (filter p xs)) i.name ≡ (p i && list_any is_named xs)
+  has-filtered p [] all = sym (and-false (p i))
+  has-filtered p (x ∷ xs) all =
+      shown (p x) ∙ kept-or-not (is_named x) (p x) (p i) _ (list_any is_named xs) (λ e. ap p (all.0 e)) (has-filtered p xs all.1)
+    where
+      shown : (c : Bool) → has (map (λ x. x.name) (cond c (x ∷ filter p xs) (filter p xs))) i.name
+          ≡ cond c (is_named x || has (map (λ x. x.name) (filter p xs)) i.name) (has (map (λ x. x.name) (filter p xs)) i.name)
+      shown true = refl
+      shown false = refl
+
+  named-so : is_named i ≡ true
+  named-so = same_text i.name i.name refl
+
+  -- one that is declared and enabled is among those that are
+  any-declared : (ds : List Decl) (k : ℕ) → slice_get ds k ≡ Some (decls.Interceptor i) → is_enabled i ≡ true
+      → list_any is_named (filter is_enabled (interceptors ds)) ≡ true
+  any-declared [] k at enabled = absurd (none-some (decls.Interceptor i) at)
+  any-declared (d ∷ ds) zero at enabled =
+      let here : d ≡ decls.Interceptor i = same_Some d (decls.Interceptor i) at in
+      ap (λ e. list_any is_named (filter is_enabled (interceptors (e ∷ ds)))) here
+      ∙ ap (λ b. list_any is_named (cond b (i ∷ filter is_enabled (interceptors ds)) (filter is_enabled (interceptors ds)))) enabled
+      ∙ or_left (is_named i) (list_any is_named (filter is_enabled (interceptors ds))) named-so
+  any-declared (decls.Interceptor x ∷ ds) (suc k) at enabled = by (is_enabled x) (any-declared ds k at enabled)
+    where
+      by : (b : Bool) → list_any is_named (filter is_enabled (interceptors ds)) ≡ true
+          → list_any is_named (cond b (x ∷ filter is_enabled (interceptors ds)) (filter is_enabled (interceptors ds))) ≡ true
+      by true more = or_right (is_named x) (list_any is_named (filter is_enabled (interceptors ds))) more
+      by false more = more
+  any-declared (other ∷ ds) (suc k) at enabled = any-declared ds k at enabled
+
+module _ (ds : List Decl) (distinct : AreDistinct ds) where
+  -- two of one name are one
+  one-named : (x i : InterceptorDecl) → IsDeclared ds x → IsDeclared ds i → bytes_eq x.name i.name ≡ true → x ≡ i
+  one-named x i at there e =
+      let name : x.name ≡ i.name = one_name x.name i.name e in
+      let first : find_decl kinds.Interceptor x.name ds ≡ Some (decls.Interceptor x) = own-found ds at.0 (decls.Interceptor x) distinct at.1 in
+      let second : find_decl kinds.Interceptor i.name ds ≡ Some (decls.Interceptor i) =
+          own-found ds there.0 (decls.Interceptor i) distinct there.1 in
+      let same : decls.Interceptor x ≡ decls.Interceptor i =
+          same_Some (decls.Interceptor x) (decls.Interceptor i) (sym first ∙ ap (λ n. find_decl kinds.Interceptor n ds) name ∙ second) in
+      cc
+
+  only-named : (i : InterceptorDecl) → IsDeclared ds i → AllByRecursion (λ x. is_named i x ≡ true → x ≡ i) (in_order ds)
+  only-named i there = recursion_from_All (λ x. is_named i x ≡ true → x ≡ i) (in_order ds) (λ k d lt.
+      one-named (get_or (in_order ds) k d) i (in_order-declared ds k (get_or (in_order ds) k d) (slice_get-get_or (in_order ds) k d lt)).0 there)
+
+  any-named : (i : InterceptorDecl) → IsDeclared ds i → is_enabled i ≡ true → list_any (is_named i) (in_order ds) ≡ true
+  unfolding in_order
+  any-named i there enabled = any-sorted (is_named i) is_before (filter is_enabled (interceptors ds)) ∙ any-declared i ds there.0 there.1 enabled
+
+  and-true : (a b : Bool) → b ≡ true → (a && b) ≡ a
+  and-true true b e = e
+  and-true false b e = refl
+
+  has-of : (p : InterceptorDecl → Bool) (i : InterceptorDecl) → IsDeclared ds i → is_enabled i ≡ true
+      → has (map (λ x. x.name) (filter p (in_order ds))) i.name ≡ p i
+  has-of p i there enabled = has-filtered i p (in_order ds) (only-named i there)
+      ∙ and-true (p i) (list_any (is_named i) (in_order ds)) (any-named i there enabled)
+
+-- those around a place
+has-at : (ds : List Decl) (bean : BeanDecl) (place : BeanPlace) (i : InterceptorDecl) → AreDistinct ds → IsDeclared ds i → is_enabled i ≡ true
+    → has (names_at ds bean place) i.name ≡ surrounds ds (set_by ds (class_bindings ds bean) bean place) place i
+unfolding chain_by
+has-at ds bean place i distinct there enabled = has-of ds distinct (surrounds ds (set_by ds (class_bindings ds bean) bean place) place) i there enabled
+
+pub has-names_at : (ds : List Decl) (bean : BeanDecl) (place : BeanPlace) (k : ℕ) (i : InterceptorDecl) → AreDistinct ds
+    → slice_get (in_order ds) k ≡ Some i
+    → has (names_at ds bean place) i.name ≡ surrounds ds (set_by ds (class_bindings ds bean) bean place) place i
+has-names_at ds bean place k i distinct at =
+    let found = in_order-declared ds k i at in
+    has-at ds bean place i distinct found.0 found.1
+
+-- ---- among those around all places
+
+any-flat : {X Y : Type 0} (q : Y → Bool) (f : X → List Y) (xs : List X) → list_any q (flat_map f xs) ≡ list_any (λ x. list_any q (f x)) xs
+any-flat q f [] = refl
+any-flat q f (x ∷ xs) = list_any-append q (f x) (flat_map f xs) ∙ ap (λ b. list_any q (f x) || b) (any-flat q f xs)
+
+has-all : (ds : List Decl) (bean : BeanDecl) (i : InterceptorDecl) → AreDistinct ds → IsDeclared ds i → is_enabled i ≡ true
+    → has (names_of_bean ds bean) i.name ≡ surrounds_one ds (sets_of ds (class_bindings ds bean) bean) i
+unfolding names_of_bean
+has-all ds bean i distinct there enabled =
+    any-flat (λ n. bytes_eq n i.name) (names_at ds bean) (places_of bean)
+    ∙ any-same (λ place. has (names_at ds bean place) i.name) (λ place. surrounds ds (set_by ds (class_bindings ds bean) bean place) place i)
+    (λ place. has-at ds bean place i distinct there enabled) (places_of bean)
+    ∙ sym (any-sets ds (class_bindings ds bean) bean i (places_of bean))
+
+pub has-names : (ds : List Decl) (bean : BeanDecl) (k : ℕ) (i : InterceptorDecl) → AreDistinct ds → slice_get (in_order ds) k ≡ Some i
+    → has (names_of_bean ds bean) i.name ≡ surrounds_one ds (sets_of ds (class_bindings ds bean) bean) i
+has-names ds bean k i distinct at =
+    let found = in_order-declared ds k i at in
+    has-all ds bean i distinct found.0 found.1
+
+-- one that is declared and enabled
+pub stands-named : (ds : List Decl) (bean : BeanDecl) (k : ℕ) (i : InterceptorDecl) → AreDistinct ds → slice_get ds k ≡ Some (decls.Interceptor i)
+    → is_enabled i ≡ true → has (names_of_bean ds bean) i.name ≡ stands_around ds i bean
+unfolding stands_around
+stands-named ds bean k i distinct at enabled =
+    has-all ds bean i distinct (k, at) enabled
+    ∙ ap (λ b. b && surrounds_one ds (sets_of ds (class_bindings ds bean) bean) i) (sym enabled)
+
+-- ---- whether there is one
+
+some : {X : Type 0} → List X → Bool
+some xs = not (nat_eq (length xs) 0)
+
+some-append : {X : Type 0} (xs ys : List X) → some (xs ++ ys) ≡ (some xs || some ys)
+some-append [] ys = refl
+some-append (x ∷ xs) ys = refl
+
+some-flat : {X Y : Type 0} (f : X → List Y) (xs : List X) → some (flat_map f xs) ≡ list_any (λ x. some (f x)) xs
+some-flat f [] = refl
+some-flat f (x ∷ xs) = some-append (f x) (flat_map f xs) ∙ ap (λ b. some (f x) || b) (some-flat f xs)
+
+some-map : {X Y : Type 0} (f : X → Y) (xs : List X) → some (map f xs) ≡ some xs
+some-map f [] = refl
+some-map f (x ∷ xs) = refl
+
+some-at : (ds : List Decl) (bean : BeanDecl) (place : BeanPlace) → some (names_at ds bean place) ≡ is_around ds (class_bindings ds bean) bean place
+unfolding chain_by in_order
+some-at ds bean place =
+    let set = set_by ds (class_bindings ds bean) bean place in
+    some-map (λ (i : InterceptorDecl). i.name) (chain_by ds set place)
+    ∙ any-left (surrounds ds set place) (in_order ds)
+    ∙ any-sorted (surrounds ds set place) is_before (filter is_enabled (interceptors ds))
+
+-- there is a name just where an interceptor stands around some place
+pub some-names : (ds : List Decl) (bean : BeanDecl)
+    → not (nat_eq (length (names_of_bean ds bean)) 0) ≡ not (nat_eq (length (around_any ds (class_bindings ds bean) bean)) 0)
+unfolding names_of_bean
+some-names ds bean =
+    some-flat (names_at ds bean) (places_of bean)
+    ∙ any-same (λ place. some (names_at ds bean place)) (is_around ds (class_bindings ds bean) bean) (some-at ds bean) (places_of bean)
+    ∙ intercepted-by_places ds (class_bindings ds bean) bean

@@ -1,0 +1,48 @@
+-- The record of a bean has the bindings of its class.
+use Rattle.std.proofs.Common.{◌≡◌, ℕ, Bool, true, false, cond, List, [], ◌∷◌, map, Option, Some, None, is_some, refl, sym, ap, ◌∙◌}
+use Rattle.std.specs.List.{find}
+use Rattle.std.proofs.lemmas.Bool.{false≢true}
+use Rattle.std.proofs.lemmas.Option.{none-some, same_Some}
+use Rattle.cdi_model.specs.DeclList.{find_decl}
+use Rattle.cdi_model.specs.declared.decl.BeanDecl.{BeanDecl}
+use Rattle.cdi_model.specs.declared.decl.Decl.{Decl}
+use Rattle.cdi_model.specs.declared.decl.Decl.TheVariants as decls
+use Rattle.cdi_model.specs.declared.decl.Kind.TheVariants as kinds
+use Rattle.cdi_model.specs.declared.decl.ProducerDecl.{ProducerDecl}
+use Rattle.cdi_model.proofs.PositionLemmas.{name-found}
+use Rattle.cdi_effective.specs.Beans.{effective, managed, product, records}
+use Rattle.cdi_effective.specs.Bindings.{class_bindings}
+use Rattle.cdi_effective.specs.Disposers.{as_bean, find_bean}
+use Rattle.cdi_effective.specs.declared.records.Effective.{Effective}
+
+-- a bean that is found by a name has it, and is found by its own
+pub found-own : (ds : List Decl) (name : List ℕ) (bean : BeanDecl) → find_decl kinds.Bean name ds ≡ Some (decls.Bean bean)
+    → find_bean bean.name ds ≡ Some bean
+found-own ds name bean found =
+    let own : bean.name ≡ name = name-found kinds.Bean name ds (decls.Bean bean) found in
+    ap (λ n. find_bean n ds) own ∙ ap as_bean found
+
+module _ (ds : List Decl) (bean : BeanDecl) where
+  of-product : (test : Effective → Bool) (producers : List ProducerDecl) (b : Effective)
+      → find test (map (product ds bean) producers) ≡ Some b → is_some b.id.producer ≡ true
+  unfolding effective
+  of-product test [] b found = absurd (none-some b found)
+  of-product test (p ∷ ps) b found = by (test (product ds bean p)) found
+    where
+      by : (is : Bool) → cond is (Some (product ds bean p)) (find test (map (product ds bean) ps)) ≡ Some b → is_some b.id.producer ≡ true
+      by true here =
+          let same : product ds bean p ≡ b = same_Some (product ds bean p) b here in
+          ap (λ (x : Effective). is_some x.id.producer) (sym same)
+      by false more = of-product test ps b more
+
+  pub own-bindings : (test : Effective → Bool) (b : Effective) → find test (records ds bean) ≡ Some b → is_some b.id.producer ≡ false
+      → b.bindings ≡ class_bindings ds bean
+  unfolding effective
+  own-bindings test b found managed-one = by (test (managed ds bean)) found
+    where
+      by : (is : Bool) → cond is (Some (managed ds bean)) (find test (map (product ds bean) bean.producers)) ≡ Some b
+          → b.bindings ≡ class_bindings ds bean
+      by true here =
+          let same : managed ds bean ≡ b = same_Some (managed ds bean) b here in
+          ap (λ (x : Effective). x.bindings) (sym same)
+      by false more = absurd (false≢true (sym managed-one ∙ of-product test bean.producers b more))
