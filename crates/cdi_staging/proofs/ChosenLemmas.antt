@@ -158,7 +158,7 @@ other-key d e other = by (same_key (key_of d) (key_of e)) refl
     by false same = refl
     by true same = absurd (other (sym (key_exact (key_of d) (key_of e) same)))
 
-found-own : (ds : List Decl) (k : ℕ) (d : Decl) → AreDistinct ds → slice_get ds k ≡ Some d
+pub found-own : (ds : List Decl) (k : ℕ) (d : Decl) → AreDistinct ds → slice_get ds k ≡ Some d
     → find_decl (kind_of d) (name_of_decl d) ds ≡ Some d
 found-own [] k d distinct at = absurd (cc)
 found-own (e ∷ es) zero d distinct at =

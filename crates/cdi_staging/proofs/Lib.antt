@@ -1,6 +1,7 @@
 mod SplitLemmas
 mod BesideLemmas
 mod ChosenLemmas
+mod ClassLemmas
 pub mod NotifiedLemmas
 mod PartLemmas
 mod SoundLemmas

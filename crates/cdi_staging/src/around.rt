@@ -1,12 +1,13 @@
 //! The interceptors that are enabled, and where they are (Interceptors 2.1, Interceptor Ordering).
-ghost use Rattle.std.specs.Prelude.{◌≡◌, ◌++◌, map, filter, flat_map, IfOk, OnOk};
+ghost use Rattle.std.specs.Prelude.{◌≡◌, ◌≢◌, ◌∷◌, ◌++◌, ℕ, List, true, None, map, filter, flat_map, IfOk, IfSome, OnOk};
 ghost use Rattle.cdi_contexts.specs.declared.instance.Actor.TheVariants.{Target as ByTarget};
 ghost use Rattle.cdi_effective.specs.Beans.{beans as beans_of};
+ghost use Rattle.cdi_match.specs.Chain.{has};
 ghost use Rattle.cdi_observe.specs.Answers.{answers as all_answers};
 ghost use Rattle.cdi_intercept.specs.Chains.{interceptors, is_enabled, surrounds_one};
-ghost use Rattle.cdi_intercept.specs.Sets.{sets_of};
-ghost use Rattle.cdi_staging.specs.Shown.{around_in, class_in};
-ghost use Rattle.cdi_staging.specs.Staged.{around_of, class_chain, injections_around, injections_from, producer_chain};
+ghost use Rattle.cdi_intercept.specs.Sets.{has_place, sets_of};
+ghost use Rattle.cdi_staging.specs.Shown.{around_in, class_in, HasProducer, IsClassOf, names_among};
+ghost use Rattle.cdi_staging.specs.Staged.{around_of, class_chain, injections_around, injections_from, places_from, producer_chain};
 ghost use Rattle.cdi_staging.specs.Staged.{staged_interceptor, targets};
 
 use crate::site::Visible;
@@ -14,8 +15,8 @@ use crate::stage::Stage;
 use crate::target::{Target, targets_of};
 use cdi_bodies::Bodies;
 use cdi_contexts::Actor;
-use cdi_intercept::{set_by, sets_of, surrounds, surrounds_one};
-use cdi_model::{BeanDecl, BeanPlace, Decl, Decls, InterceptorDecl, ProducerDecl, Qual, Seq};
+use cdi_model::{BeanDecl, BeanPlace, Decl, Decls, InterceptorDecl, Name, ProducerDecl, Qual, Seq};
+use cdi_observe::{View, chain_at, interceptors_of};
 use cdi_resolve::{BeanList, Choice};
 use cdi_scene::{Injection, Interceptor};
 use std::alloc::{AllocError, Global};
@@ -77,55 +78,57 @@ fn enabled<'a>(
 }
 
 impl<'a> Class<'a> {
-    /// The interceptors around a place, by position.
-    pub(crate) fn chain(
+    /// The interceptors around a place that the bean has, by position: from the names that the view keeps, or else computed.
+    pub(crate) fn chain<V: View>(
         self,
         alloc: Global,
-        decls: &Decls,
+        view: &V,
         place: &BeanPlace,
     ) -> Result<Seq<usize>, AllocError>
-        ensures { IfOk result (λ chain. chain ≡ class_chain decls.now (class_in self.entry) place.now) }
+        requires class { IsClassOf (V.list view.now) (class_in self) }
+        requires place { has_place self.bean.now place.now ≡ true }
+        ensures { IfOk result (λ chain. chain ≡ class_chain (V.list view.now) (class_in self.entry) place.now) }
     {
-        let set = set_by(alloc, decls, self.bindings, self.bean, place)?;
-        let mut chain = Seq::new(alloc);
-        for (position, around) in self.around.iter().enumerate() {
-            if surrounds(decls, &set, place, around.decl) {
-                chain.push(position)?;
-            }
+        if let Some(kept) = view.kept_chain(&self.bean.name, place) {
+            return positions_named(alloc, self.around, kept.as_slice());
         }
-        Ok(chain)
+        let made = chain_at(alloc, view.decls(), self.bean, place)?;
+        positions_named(alloc, self.around, made.as_slice())
     }
 
     /// Those around a producer method: none around a static one.
-    pub(crate) fn producer_chain(
+    pub(crate) fn producer_chain<V: View>(
         self,
         alloc: Global,
-        decls: &Decls,
+        view: &V,
         producer: &ProducerDecl,
     ) -> Result<Seq<usize>, AllocError>
-        ensures { IfOk result (λ chain. chain ≡ producer_chain decls.now (class_in self.entry) producer.now) }
+        requires class { IsClassOf (V.list view.now) (class_in self) }
+        requires place { HasProducer self.bean.now producer.now }
+        ensures { IfOk result (λ chain. chain ≡ producer_chain (V.list view.now) (class_in self.entry) producer.now) }
     {
         if producer.is_static {
             return Ok(Seq::new(alloc));
         }
-        self.chain(alloc, decls, &BeanPlace::Producer(producer.name))
+        self.chain(alloc, view, &BeanPlace::Producer(producer.name))
     }
 
     /// What is chosen for the injection points of each interceptor around some place of it, and then for its own.
-    pub(crate) fn injections(
+    pub(crate) fn injections<V: View>(
         self,
         alloc: Global,
-        decls: &Decls,
+        view: &V,
         own: &[Target],
     ) -> Result<Seq<Injection>, AllocError>
+        requires { IsClassOf (V.list view.now) (class_in self) }
         ensures { IfOk result (λ list. list
-            ≡ injections_around (surrounds_one decls.now (sets_of decls.now self.entry.bindings.now self.entry.bean.now)) 0
-            (map around_in self.entry.around.now) ++ injections_from ByTarget 0 own.now) }
+            ≡ injections_around (surrounds_one (V.list view.now) (sets_of (V.list view.now) self.entry.bindings.now self.entry.bean.now))
+            0 (map around_in self.entry.around.now) ++ injections_from ByTarget 0 own.now) }
     {
-        let sets = sets_of(alloc, decls, self.bindings, self.bean)?;
+        let names = interceptors_of(alloc, view, self.bean)?;
         let mut list = Seq::new(alloc);
         for (position, around) in self.around.iter().enumerate() {
-            if surrounds_one(decls, &sets, around.decl) {
+            if names.contains(&around.decl.name) {
                 let actor = Actor::Interceptor(position);
                 push_injections(actor, around.targets.as_slice(), &mut list)?;
             }
@@ -133,6 +136,36 @@ impl<'a> Class<'a> {
         push_injections(Actor::Target, own, &mut list)?;
         Ok(list)
     }
+}
+
+/// The positions of the interceptors with these names, which are in the order of the interceptors. It goes through both once.
+fn positions_named(
+    alloc: Global,
+    around: &[Around<'_>],
+    names: &[Name],
+) -> Result<Seq<usize>, AllocError>
+    requires { names.now ≡ names_among names.now (map around_in around.now) }
+    ensures { IfOk result (λ positions. positions
+        ≡ places_from (λ a. has names.now a.0.name) 0 (map around_in around.now)) }
+{
+    let mut positions = Seq::new(alloc);
+    let mut left = names;
+    for (position, around) in around.iter().enumerate() {
+        if let Some(others) = after_first(left, around.decl.name) {
+            positions.push(position)?;
+            left = others;
+        }
+    }
+    Ok(positions)
+}
+
+/// The names after the first, where the first is this one.
+fn after_first(names: &[Name], name: Name) -> Option<&[Name]>
+    ensures some { IfSome result (λ others. names.now ≡ name ∷ others.now) }
+    ensures none { result ≡ None → (others : List (List ℕ)) → names.now ≢ name ∷ others }
+{
+    let (first, others) = names.split_first()?;
+    if *first == name { Some(others) } else { None }
 }
 
 /// Appends what is chosen for each injection point of whoever it is of.
@@ -153,11 +186,11 @@ fn push_injections(
     Ok(())
 }
 
-impl<'a, B: Bodies> Stage<'a, B> {
+impl<'a, V: View, B: Bodies> Stage<'a, V, B> {
     /// The interceptors that are enabled.
     pub(crate) fn interceptors(&self) -> Result<Seq<Interceptor>, AllocError>
         ensures { IfOk result (λ list. list
-            ≡ map (staged_interceptor self.now.decls.now self.now.beans.now (B.promises self.now.book.now))
+            ≡ map (staged_interceptor (V.list self.now.view.now) self.now.beans.now (B.promises self.now.book.now))
             (map around_in self.now.around.now)) }
     {
         let mut list = Seq::new(self.alloc);
@@ -170,7 +203,7 @@ impl<'a, B: Bodies> Stage<'a, B> {
     #[tactic(auto, unfolding(crate::specs::Staged::staged_interceptor))]
     fn interceptor(&self, around: &Around<'_>) -> Result<Interceptor, AllocError>
         ensures { IfOk result (λ made. made
-            ≡ staged_interceptor self.now.decls.now self.now.beans.now (B.promises self.now.book.now) (around_in around.now)) }
+            ≡ staged_interceptor (V.list self.now.view.now) self.now.beans.now (B.promises self.now.book.now) (around_in around.now)) }
     {
         let decl = around.decl;
         let sight = Visible {

@@ -1,7 +1,9 @@
 //! Managed beans and products.
-ghost use Rattle.std.specs.Prelude.{◌≡◌, length, map, flat_map, IfOk, option_copied};
+ghost use Rattle.std.specs.Prelude.{◌≡◌, true, length, map, flat_map, IfOk, option_copied};
+ghost use Rattle.cdi_model.specs.declared.place.BeanPlace.TheVariants as spots;
+ghost use Rattle.cdi_intercept.specs.Sets.{has_place};
 ghost use Rattle.cdi_staging.specs.Sites.{sight_in, method_sight};
-ghost use Rattle.cdi_staging.specs.Shown.{class_in};
+ghost use Rattle.cdi_staging.specs.Shown.{class_in, HasProducer, IsClassOf};
 ghost use Rattle.cdi_staging.specs.Staged.{managed_form, staged_observer, observers_by, disposer_named, disposer_for, product_form};
 ghost use Rattle.cdi_staging.specs.Staged.{unused_managed, unused_product, managed_bean, product_bean};
 
@@ -15,6 +17,7 @@ use cdi_effective::{Effective, disposer_of};
 use cdi_model::{
     BeanDecl, BeanPlace, DisposerDecl, Ident, ObserverDecl, PointDecl, ProducerDecl, Seq,
 };
+use cdi_observe::View;
 use cdi_resolve::BeanList;
 use cdi_scene::{Bean, Form, Managed, Observer, Part, Product};
 use std::alloc::{AllocError, Global};
@@ -94,7 +97,7 @@ fn method_sight<'a>(
     }
 }
 
-impl<'a, B: Bodies> Stage<'a, B> {
+impl<'a, V: View, B: Bodies> Stage<'a, V, B> {
     #[tactic(auto, unfolding(crate::specs::Staged::staged_observer))]
     fn staged_observer(
         &self,
@@ -103,8 +106,10 @@ impl<'a, B: Bodies> Stage<'a, B> {
         observer: &ObserverDecl,
         targets: &[Target],
     ) -> Result<Observer, AllocError>
+        requires class { IsClassOf (V.list self.now.view.now) (class_in class) }
+        requires place { has_place class.bean.now (spots.Observer observer.now.name) ≡ true }
         ensures { IfOk result (λ made. made
-            ≡ staged_observer self.now.decls.now self.now.beans.now (B.promises self.now.book.now) (sight_in own.entry)
+            ≡ staged_observer (V.list self.now.view.now) self.now.beans.now (B.promises self.now.book.now) (sight_in own.entry)
             (class_in class.entry) observer.now targets.now) }
     {
         let sight = method_sight(false, own, observer.params.as_slice(), targets);
@@ -123,9 +128,10 @@ impl<'a, B: Bodies> Stage<'a, B> {
         class: Class<'_>,
         targets: &[Target],
     ) -> Result<Seq<Observer>, AllocError>
-        requires { length targets.now ≡ length (flat_map (λ o. o.params) class.bean.now.observers) }
+        requires class { IsClassOf (V.list self.now.view.now) (class_in class) }
+        requires targets { length targets.now ≡ length (flat_map (λ o. o.params) class.bean.now.observers) }
         ensures { IfOk result (λ made. made
-            ≡ observers_by self.now.decls.now self.now.beans.now (B.promises self.now.book.now) (sight_in own.entry)
+            ≡ observers_by (V.list self.now.view.now) self.now.beans.now (B.promises self.now.book.now) (sight_in own.entry)
             (class_in class.entry) class.entry.bean.now.observers targets.now) }
     {
         let mut list = Seq::new(self.alloc);
@@ -145,14 +151,15 @@ impl<'a, B: Bodies> Stage<'a, B> {
         class: Class<'_>,
         observers: Seq<Observer>,
     ) -> Result<Managed, AllocError>
+        requires { IsClassOf (V.list self.now.view.now) (class_in class) }
         ensures { IfOk result (λ made. made
-            ≡ managed_form self.now.decls.now self.now.beans.now (B.promises self.now.book.now)
+            ≡ managed_form (V.list self.now.view.now) self.now.beans.now (B.promises self.now.book.now)
             (sight_in sight.entry) (class_in class.entry) observers) }
     {
         let bean = class.bean;
         let construct = BeanPlace::Construct;
         Ok(Managed {
-            injections: class.injections(self.alloc, self.decls, sight.targets)?,
+            injections: class.injections(self.alloc, self.view, sight.targets)?,
             construct: self.staged_place(sight, class, &construct, bean.construct.as_ref())?,
             post: self.staged_place(sight, class, &BeanPlace::Post, bean.post.as_ref())?,
             pre: self.staged_place(sight, class, &BeanPlace::Pre, bean.pre.as_ref())?,
@@ -164,9 +171,9 @@ impl<'a, B: Bodies> Stage<'a, B> {
     /// The disposer method that matches a product (CDI 4.0, Disposer method resolution).
     #[tactic(auto, unfolding(crate::specs::Staged::disposer_for))]
     fn disposer_for(&self, bean: &BeanDecl, effective: &Effective) -> Option<Part>
-        ensures { result ≡ disposer_for self.now.decls.now (B.promises self.now.book.now) bean.now effective.now }
+        ensures { result ≡ disposer_for (V.list self.now.view.now) (B.promises self.now.book.now) bean.now effective.now }
     {
-        let name = disposer_of(self.alloc, self.decls, effective)?;
+        let name = disposer_of(self.alloc, self.view.decls(), effective)?;
         let disposer = disposer_named(bean, name)?;
         self.part_of(disposer.body, Seq::new(self.alloc), Seq::new(self.alloc))
     }
@@ -180,12 +187,14 @@ impl<'a, B: Bodies> Stage<'a, B> {
         producer: &ProducerDecl,
         targets: &[Target],
     ) -> Result<Product, AllocError>
+        requires class { IsClassOf (V.list self.now.view.now) (class_in class) }
+        requires place { HasProducer class.bean.now producer.now }
         ensures { IfOk result (λ made. made
-            ≡ product_form self.now.decls.now self.now.beans.now (B.promises self.now.book.now) (sight_in own.entry)
+            ≡ product_form (V.list self.now.view.now) self.now.beans.now (B.promises self.now.book.now) (sight_in own.entry)
             (class_in class.entry) effective.now producer.now targets.now) }
     {
         let sight = method_sight(producer.is_static, own, producer.params.as_slice(), targets);
-        let chain = class.producer_chain(self.alloc, self.decls, producer)?;
+        let chain = class.producer_chain(self.alloc, self.view, producer)?;
         Ok(Product {
             declaring: position_of_class(self.beans, class.bean.name),
             is_static: producer.is_static,
@@ -203,11 +212,12 @@ impl<'a, B: Bodies> Stage<'a, B> {
         effective: &Effective,
         targets: &[Target],
     ) -> Result<Bean, AllocError>
-        requires { length targets.now ≡ length (flat_map (λ o. o.params) class.bean.now.observers) }
+        requires class { IsClassOf (V.list self.now.view.now) (class_in class) }
+        requires targets { length targets.now ≡ length (flat_map (λ o. o.params) class.bean.now.observers) }
         ensures { IfOk result (λ made. made
-            ≡ managed_bean self.now.decls.now self.now.beans.now (B.promises self.now.book.now)
+            ≡ managed_bean (V.list self.now.view.now) self.now.beans.now (B.promises self.now.book.now)
             (sight_in sight.entry) (class_in class.entry) effective.now
-            (observers_by self.now.decls.now self.now.beans.now (B.promises self.now.book.now) (sight_in sight.entry)
+            (observers_by (V.list self.now.view.now) self.now.beans.now (B.promises self.now.book.now) (sight_in sight.entry)
             (class_in class.entry) class.entry.bean.now.observers targets.now)) }
     {
         let managed = if effective.is_enabled {
@@ -231,8 +241,10 @@ impl<'a, B: Bodies> Stage<'a, B> {
         producer: &ProducerDecl,
         targets: &[Target],
     ) -> Result<Bean, AllocError>
+        requires class { IsClassOf (V.list self.now.view.now) (class_in class) }
+        requires place { HasProducer class.bean.now producer.now }
         ensures { IfOk result (λ made. made
-            ≡ product_bean self.now.decls.now self.now.beans.now (B.promises self.now.book.now) (sight_in own.entry)
+            ≡ product_bean (V.list self.now.view.now) self.now.beans.now (B.promises self.now.book.now) (sight_in own.entry)
             (class_in class.entry) effective.now producer.now targets.now) }
     {
         let product = if effective.is_enabled {

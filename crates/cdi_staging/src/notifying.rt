@@ -1,12 +1,13 @@
 //! Whom events notify.
 ghost use Rattle.std.specs.Prelude.{◌≡◌, map, position, IfOk};
+ghost use Rattle.cdi_effective.specs.Beans.{beans as beans_of};
 ghost use Rattle.cdi_effective.specs.Disposers.{find_bean};
 ghost use Rattle.cdi_staging.specs.Notifying.{fired_at, is_observer, notified_as, notified_at, observer_declared};
 ghost use Rattle.cdi_staging.specs.Lookups.{NotifiedStand};
 
 use crate::target::position_of_class;
 use cdi_model::{Decl, Decls, EventDecl, Ident, Kind, Name, ObserverDecl, Qual, Seq};
-use cdi_observe::{ObserverId, notified_of};
+use cdi_observe::{ObserverId, View, notified_of};
 use cdi_resolve::BeanList;
 use cdi_scene::Notified;
 use std::alloc::{AllocError, Global};
@@ -81,18 +82,42 @@ pub fn notified_at(
 }
 
 /// Whom each of some fire sites notifies.
-pub(crate) fn fired_at(
+pub(crate) fn fired_at<V: View>(
     alloc: Global,
-    decls: &Decls,
+    view: &V,
     beans: &BeanList,
     fires: &[EventDecl],
 ) -> Result<Seq<Seq<Notified>>, AllocError>
-    ensures { IfOk result (λ sites. sites ≡ map (fired_at decls.now beans.now) fires.now) }
+    requires { beans.now ≡ beans_of (V.list view.now) }
+    ensures { IfOk result (λ sites. sites ≡ map (fired_at (V.list view.now) beans.now) fires.now) }
 {
     let mut sites = Seq::new(alloc);
     for event in fires {
-        let quals = event.qualifiers.as_slice();
-        sites.push(notified_at(alloc, decls, beans, event.event_type, quals)?)?;
+        sites.push(notified_by(alloc, view, beans, event)?)?;
     }
     Ok(sites)
+}
+
+/// Whom a fire site notifies: from the ids that the view keeps, or else computed.
+#[tactic(auto, unfolding(crate::specs::Notifying::notified_at))]
+fn notified_by<V: View>(
+    alloc: Global,
+    view: &V,
+    beans: &BeanList,
+    event: &EventDecl,
+) -> Result<Seq<Notified>, AllocError>
+    requires { beans.now ≡ beans_of (V.list view.now) }
+    ensures { IfOk result (λ list. list ≡ fired_at (V.list view.now) beans.now event.now) }
+{
+    let decls = view.decls();
+    match view.kept_observers(&event.event_type, &event.qualifiers) {
+        Some(ids) => positions_of(alloc, decls, beans, ids.as_slice()),
+        None => notified_at(
+            alloc,
+            decls,
+            beans,
+            event.event_type,
+            event.qualifiers.as_slice(),
+        ),
+    }
 }

@@ -1,8 +1,9 @@
 //! The bodies of a bean, and what is invoked at its places.
-ghost use Rattle.std.specs.Prelude.{◌≡◌, map, Some, IfOk, option_copied};
+ghost use Rattle.std.specs.Prelude.{◌≡◌, map, true, Some, IfOk, option_copied};
+ghost use Rattle.cdi_intercept.specs.Sets.{has_place};
 ghost use Rattle.cdi_staging.specs.Sites.{sight_in};
 ghost use Rattle.std.specs.Option.{option_and_then};
-ghost use Rattle.cdi_staging.specs.Shown.{class_in};
+ghost use Rattle.cdi_staging.specs.Shown.{class_in, IsClassOf};
 ghost use Rattle.cdi_staging.specs.Staged.{class_chain, part_of, staged_part, staged_place, staged_method, empty_place};
 
 use crate::around::Class;
@@ -11,6 +12,7 @@ use crate::site::{Visible, sites_of};
 use crate::stage::Stage;
 use cdi_bodies::Bodies;
 use cdi_model::{BeanPlace, Ident, PartDecl, Seq};
+use cdi_observe::View;
 use cdi_scene::{CallSite, Invocable, Notified, Part};
 use std::alloc::{AllocError, Global};
 
@@ -24,7 +26,7 @@ pub(crate) fn empty_place(alloc: Global) -> Invocable
     }
 }
 
-impl<'a, B: Bodies> Stage<'a, B> {
+impl<'a, V: View, B: Bodies> Stage<'a, V, B> {
     /// The body of a name with some call sites and fire sites; none where the book has no such body.
     #[tactic(auto, unfolding(crate::specs::Staged::part_of))]
     pub(crate) fn part_of(
@@ -46,12 +48,12 @@ impl<'a, B: Bodies> Stage<'a, B> {
     #[tactic(auto, unfolding(crate::specs::Staged::staged_part))]
     fn staged_part(&self, sight: Visible<'_>, part: &PartDecl) -> Result<Option<Part>, AllocError>
         ensures { IfOk result (λ made. made
-            ≡ staged_part self.now.decls.now self.now.beans.now (B.promises self.now.book.now)
+            ≡ staged_part (V.list self.now.view.now) self.now.beans.now (B.promises self.now.book.now)
             (sight_in sight.entry) part.now) }
     {
-        let (decls, beans) = (self.decls, self.beans);
-        let calls = sites_of(self.alloc, decls, beans, sight, part.calls.as_slice())?;
-        let fires = fired_at(self.alloc, decls, beans, part.fires.as_slice())?;
+        let (view, beans) = (self.view, self.beans);
+        let calls = sites_of(self.alloc, view.decls(), beans, sight, part.calls.as_slice())?;
+        let fires = fired_at(self.alloc, view, beans, part.fires.as_slice())?;
         Ok(self.part_of(part.body, calls, fires))
     }
 
@@ -62,7 +64,7 @@ impl<'a, B: Bodies> Stage<'a, B> {
         part: Option<&PartDecl>,
     ) -> Result<Option<Part>, AllocError>
         ensures { IfOk result (λ made. made ≡ option_and_then
-            (staged_part self.now.decls.now self.now.beans.now (B.promises self.now.book.now) (sight_in sight.entry))
+            (staged_part (V.list self.now.view.now) self.now.beans.now (B.promises self.now.book.now) (sight_in sight.entry))
             (option_copied part.entry)) }
     {
         match part {
@@ -80,7 +82,7 @@ impl<'a, B: Bodies> Stage<'a, B> {
         part: Option<&PartDecl>,
     ) -> Result<Invocable, AllocError>
         ensures { IfOk result (λ made. made
-            ≡ staged_place self.now.decls.now self.now.beans.now (B.promises self.now.book.now) (sight_in sight.entry)
+            ≡ staged_place (V.list self.now.view.now) self.now.beans.now (B.promises self.now.book.now) (sight_in sight.entry)
             chain (option_copied part.entry)) }
     {
         Ok(Invocable {
@@ -97,11 +99,13 @@ impl<'a, B: Bodies> Stage<'a, B> {
         place: &BeanPlace,
         part: Option<&PartDecl>,
     ) -> Result<Invocable, AllocError>
+        requires class { IsClassOf (V.list self.now.view.now) (class_in class) }
+        requires place { has_place class.bean.now place.now ≡ true }
         ensures { IfOk result (λ made. made
-            ≡ staged_place self.now.decls.now self.now.beans.now (B.promises self.now.book.now) (sight_in sight.entry)
-            (class_chain self.now.decls.now (class_in class.entry) place.now) (option_copied part.entry)) }
+            ≡ staged_place (V.list self.now.view.now) self.now.beans.now (B.promises self.now.book.now) (sight_in sight.entry)
+            (class_chain (V.list self.now.view.now) (class_in class.entry) place.now) (option_copied part.entry)) }
     {
-        let chain = class.chain(self.alloc, self.decls, place)?;
+        let chain = class.chain(self.alloc, self.view, place)?;
         self.invocable(sight, chain, part)
     }
 
@@ -111,8 +115,9 @@ impl<'a, B: Bodies> Stage<'a, B> {
         sight: Visible<'_>,
         class: Class<'_>,
     ) -> Result<Seq<Invocable>, AllocError>
+        requires { IsClassOf (V.list self.now.view.now) (class_in class) }
         ensures { IfOk result (λ made. made
-            ≡ map (staged_method self.now.decls.now self.now.beans.now (B.promises self.now.book.now)
+            ≡ map (staged_method (V.list self.now.view.now) self.now.beans.now (B.promises self.now.book.now)
             (sight_in sight.entry) (class_in class.entry)) class.entry.bean.now.methods) }
     {
         let mut places = Seq::new(self.alloc);

@@ -1,16 +1,19 @@
 //! The scene of a deployment.
-ghost use Rattle.std.specs.Prelude.{◌≡◌, ◌++◌, List, length, map, take, drop, IfOk, OnOk};
+ghost use Rattle.std.specs.Prelude.{◌≡◌, ◌++◌, List, Some, length, map, take, drop, IfOk, OnOk};
 ghost use Rattle.std.specs.List.{flat_map};
+ghost use Rattle.cdi_model.specs.Decl.{kind_of, name_of_decl};
+ghost use Rattle.cdi_model.specs.DeclList.{AreDistinct, find_decl};
 ghost use Rattle.cdi_model.specs.declared.decl.Decl.{Decl as AnyDecl};
-ghost use Rattle.cdi_effective.specs.Beans.{beans as beans_of, entries};
+ghost use Rattle.cdi_effective.specs.Beans.{beans as beans_of, entries, records as records_of};
+ghost use Rattle.cdi_effective.specs.Disposers.{find_bean};
 ghost use Rattle.cdi_observe.specs.Answers.{answers as all_answers, answer_to};
 ghost use Rattle.cdi_observe.specs.Wanted.{points_of};
 ghost use Rattle.cdi_subjects.specs.Sites.{declared_points, params_of};
 ghost use Rattle.cdi_model.specs.declared.decl.Decl.TheVariants as decls;
 ghost use Rattle.cdi_staging.specs.Lookups.{ChosenHasMethods, ChosenStands};
-ghost use Rattle.cdi_staging.specs.Shown.{around_in, class_in};
+ghost use Rattle.cdi_staging.specs.Shown.{around_in, class_in, IsClassOf};
 ghost use Rattle.cdi_staging.specs.Sites.{sight_in};
-ghost use Rattle.cdi_staging.specs.Staged.{around_of, scene_of, staged_beans, beans_by, products_by};
+ghost use Rattle.cdi_staging.specs.Staged.{scene_of, staged_beans, beans_by, products_by};
 
 use crate::around::{Class, around_of};
 use crate::site::Visible;
@@ -18,7 +21,8 @@ use crate::stage::Stage;
 use crate::target::{Target, targets_of};
 use cdi_bodies::Bodies;
 use cdi_effective::Effective;
-use cdi_model::{BeanDecl, Decl, Decls, ProducerDecl, Seq};
+use cdi_model::{BeanDecl, Decl, ProducerDecl, Seq};
+use cdi_observe::View;
 use cdi_resolve::{BeanList, Choice};
 use cdi_scene::{Bean, Scene};
 use std::alloc::{AllocError, Global};
@@ -30,23 +34,23 @@ use std::rc::Rc;
 /// of the declarations; it takes memory for the scene. The last clauses say that a deployment without faults has a
 /// sound scene, and that a bean which is chosen for a lookup from outside is there and has its methods.
 #[tactic(auto, using(crate::proofs::Laws::of_scenes), unfolding(crate::specs::Staged::scene_of))]
-pub fn scene_of<B: Bodies>(
+pub fn scene_of<V: View, B: Bodies>(
     alloc: Global,
-    decls: &Decls,
+    view: &V,
     beans: &BeanList,
     answers: &[Vec<Rc<Choice>>],
     book: &B,
 ) -> Result<Scene, AllocError>
-    requires beans { beans.now ≡ beans_of decls.now }
-    requires answers { map (λ list. map (λ answer. answer.value) list.items) answers.now ≡ all_answers decls.now }
-    ensures value { IfOk result (λ scene. scene ≡ scene_of decls.now (B.promises book.now)) }
+    requires beans { beans.now ≡ beans_of (V.list view.now) }
+    requires answers { map (λ list. map (λ answer. answer.value) list.items) answers.now ≡ all_answers (V.list view.now) }
+    ensures value { IfOk result (λ scene. scene ≡ scene_of (V.list view.now) (B.promises book.now)) }
     ensures stands { ChosenStands }
     ensures methods { ChosenHasMethods }
 {
-    let around = around_of(alloc, decls, beans, answers)?;
+    let around = around_of(alloc, view.decls(), beans, answers)?;
     let stage = Stage {
         alloc,
-        decls,
+        view,
         beans,
         around: &around,
         book,
@@ -80,19 +84,17 @@ fn split_params<'a, T>(producers: &[ProducerDecl], chosen: &'a [T]) -> (&'a [T],
     chosen.split_at(count.min(chosen.len()))
 }
 
-impl<'a, B: Bodies> Stage<'a, B> {
+impl<'a, V: View, B: Bodies> Stage<'a, V, B> {
     /// The beans of all declarations, in order.
     fn staged_beans(&self, answers: &[Vec<Rc<Choice>>]) -> Result<Vec<Bean>, AllocError>
-        requires beans { self.now.beans.now ≡ beans_of self.now.decls.now }
-        requires around { map around_in self.now.around.now ≡ around_of self.now.decls.now }
-        requires answers { map (λ list. map (λ answer. answer.value) list.items) answers.now
-            ≡ all_answers self.now.decls.now }
+        requires { map (λ list. map (λ answer. answer.value) list.items) answers.now
+            ≡ all_answers (V.list self.now.view.now) }
         ensures { IfOk result (λ list. list.items
-            ≡ flat_map (staged_beans self.now.decls.now (B.promises self.now.book.now)) self.now.decls.now) }
+            ≡ flat_map (staged_beans (V.list self.now.view.now) (B.promises self.now.book.now)) (V.list self.now.view.now)) }
     {
         let mut rest = self.beans.as_slice();
         let mut list = Vec::with_capacity(self.alloc, rest.len())?;
-        for (decl, own) in self.decls.iter().zip(answers) {
+        for (decl, own) in self.view.decls().iter().zip(answers) {
             let (records, others) = rest.split_at(record_count(decl));
             self.push_of_decl(decl, records, own.as_slice(), &mut list)?;
             rest = others;
@@ -109,13 +111,13 @@ impl<'a, B: Bodies> Stage<'a, B> {
         answers: &[Rc<Choice>],
         list: &mut Vec<Bean>,
     ) -> Result<(), AllocError>
-        requires beans { self.now.beans.now ≡ beans_of self.now.decls.now }
-        requires around { map around_in self.now.around.now ≡ around_of self.now.decls.now }
-        requires records { records.now ≡ entries self.now.decls.now decl.now }
+        requires distinct { AreDistinct (V.list self.now.view.now) }
+        requires declared { find_decl (kind_of decl.now) (name_of_decl decl.now) (V.list self.now.view.now) ≡ Some decl.now }
+        requires records { records.now ≡ entries (V.list self.now.view.now) decl.now }
         requires answers { map (λ answer. answer.value) answers.now
-            ≡ map (answer_to self.now.decls.now) (points_of decl.now) }
+            ≡ map (answer_to (V.list self.now.view.now)) (points_of decl.now) }
         ensures { OnOk result (list.new.items
-            ≡ list.old.items ++ staged_beans self.now.decls.now (B.promises self.now.book.now) decl.now) }
+            ≡ list.old.items ++ staged_beans (V.list self.now.view.now) (B.promises self.now.book.now) decl.now) }
     {
         let Decl::Bean(bean) = decl else {
             return Ok(());
@@ -133,9 +135,12 @@ impl<'a, B: Bodies> Stage<'a, B> {
         targets: &[Target],
         list: &mut Vec<Bean>,
     ) -> Result<(), AllocError>
-        requires { length targets.now ≡ length (declared_points (decls.Bean bean.now)) }
+        requires distinct { AreDistinct (V.list self.now.view.now) }
+        requires declared { find_bean bean.now.name (V.list self.now.view.now) ≡ Some bean.now }
+        requires records { records.now ≡ records_of (V.list self.now.view.now) bean.now }
+        requires targets { length targets.now ≡ length (declared_points (decls.Bean bean.now)) }
         ensures { OnOk result (list.new.items ≡ list.old.items
-            ++ beans_by self.now.decls.now self.now.beans.now (B.promises self.now.book.now)
+            ++ beans_by (V.list self.now.view.now) self.now.beans.now (B.promises self.now.book.now)
             (map around_in self.now.around.now) bean.now records.now targets.now) }
     {
         let Some((managed, products)) = records.split_first() else {
@@ -169,9 +174,10 @@ impl<'a, B: Bodies> Stage<'a, B> {
         targets: &[Target],
         list: &mut Vec<Bean>,
     ) -> Result<(), AllocError>
-        requires { length targets.now ≡ length (params_of class.bean.now.producers) }
+        requires class { IsClassOf (V.list self.now.view.now) (class_in class) }
+        requires targets { length targets.now ≡ length (params_of class.bean.now.producers) }
         ensures { OnOk result (list.new.items ≡ list.old.items
-            ++ products_by self.now.decls.now self.now.beans.now (B.promises self.now.book.now) (sight_in own.entry)
+            ++ products_by (V.list self.now.view.now) self.now.beans.now (B.promises self.now.book.now) (sight_in own.entry)
             (class_in class.entry) records.now class.entry.bean.now.producers targets.now) }
     {
         let mut rest = targets;

@@ -1,16 +1,24 @@
 //! What a scene is made from.
+ghost use Rattle.std.specs.Prelude.{◌≡◌, map};
+ghost use Rattle.cdi_effective.specs.Beans.{beans as beans_of};
+ghost use Rattle.cdi_staging.specs.Shown.{around_in};
+ghost use Rattle.cdi_staging.specs.Staged.{around_of};
+
 use crate::around::Around;
 use cdi_bodies::Bodies;
-use cdi_model::Decls;
+use cdi_observe::View;
 use cdi_resolve::BeanList;
 use std::alloc::Global;
 
-/// The declarations, their bean list, the interceptors that are enabled, and the book of stored bodies.
-#[derive(Clone, Copy)]
-pub(crate) struct Stage<'a, B: Bodies> {
+/// The declarations with the answers that are kept, their bean list, the interceptors that are enabled, and the book of
+/// stored bodies.
+#[derive(Drop)]
+pub(crate) struct Stage<'a, V: View, B: Bodies> {
     pub(crate) alloc: Global,
-    pub(crate) decls: &'a Decls,
+    pub(crate) view: &'a V,
     pub(crate) beans: &'a BeanList,
     pub(crate) around: &'a [Around<'a>],
     pub(crate) book: &'a B,
+    ghost listed: { beans.now ≡ beans_of (V.list view.now) },
+    ghost enabled: { map around_in around.now ≡ around_of (V.list view.now) },
 }

@@ -59,7 +59,7 @@ impl Wiring {
         let _ = decls.iter();
         let beans = BeanList::of(alloc, decls)?;
         Ok(Wiring::Sound(Wired {
-            scene: scene_of(alloc, decls, &beans, answers.as_slice(), book)?,
+            scene: scene_of(alloc, &*view, &beans, answers.as_slice(), book)?,
             names: names_of(alloc, decls, &beans)?,
             beans,
         }))

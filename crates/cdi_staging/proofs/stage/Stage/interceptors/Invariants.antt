@@ -5,6 +5,6 @@ use Rattle.cdi_staging.proofs.stage.Stage.interceptors.Given as goal
 
 abbrev pub invariant-loop-around : goal.invariant-loop-around
 invariant-loop-around g l =
-    l.list ++ map (staged_interceptor l.self.decls.now l.self.beans.now (g.B.Bodies.promises l.self.book.now))
+    l.list ++ map (staged_interceptor (g.V.View.list l.self.view.now) l.self.beans.now (g.B.Bodies.promises l.self.book.now))
     (map around_in (drop l.around-index l.self.around.now))
-    ≡ map (staged_interceptor l.self.decls.now l.self.beans.now (g.B.Bodies.promises l.self.book.now)) (map around_in l.self.around.now)
+    ≡ map (staged_interceptor (g.V.View.list l.self.view.now) l.self.beans.now (g.B.Bodies.promises l.self.book.now)) (map around_in l.self.around.now)

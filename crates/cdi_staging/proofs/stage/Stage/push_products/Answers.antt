@@ -10,7 +10,7 @@ pub returns : goal.returns
 returns g c =
     let left = c.loop-effective.effective-iterator in
     let self = c.args.self.now in
-    let none = no-product self.decls.now self.beans.now (g.B.Bodies.promises self.book.now) (sight_in c.args.own) (class_in c.args.class)
+    let none = no-product (g.V.View.list self.view.now) self.beans.now (g.B.Bodies.promises self.book.now) (sight_in c.args.own) (class_in c.args.class)
     (iter_rest left.a) (iter_rest left.b) c.loop-effective.rest.now
     (either_empty_from_Zip left c.next.new.self c.next.result c.in-None.is c.next.ensures.steps) in
     sym (append-nil c.loop-effective.list.items)

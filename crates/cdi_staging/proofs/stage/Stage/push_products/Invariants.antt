@@ -9,8 +9,8 @@ use Rattle.cdi_staging.proofs.stage.Stage.push_products.Given as goal
 abbrev pub invariant-loop-effective : goal.invariant-loop-effective
 invariant-loop-effective g l = record {
   chosen : length l.rest ≡ length (flat_map (λ p. p.params) (iter_rest l.effective-iterator.b));
-  beans : l.list.items ++ products_by l.self.decls.now l.self.beans.now (g.B.Bodies.promises l.self.book.now) (sight_in l.own)
+  beans : l.list.items ++ products_by (g.V.View.list l.self.view.now) l.self.beans.now (g.B.Bodies.promises l.self.book.now) (sight_in l.own)
       (class_in l.class) (iter_rest l.effective-iterator.a) (iter_rest l.effective-iterator.b) l.rest
-      ≡ l.fn.list.items ++ products_by l.self.decls.now l.self.beans.now (g.B.Bodies.promises l.self.book.now) (sight_in l.own)
+      ≡ l.fn.list.items ++ products_by (g.V.View.list l.self.view.now) l.self.beans.now (g.B.Bodies.promises l.self.book.now) (sight_in l.own)
       (class_in l.class) l.records l.class.bean.now.producers l.targets;
 }

@@ -11,7 +11,7 @@ pub loop-decl-init : goal.loop-decl-init
 unfolding answers beans
 loop-decl-init g c =
     let self = c.args.self.now in
-    let ds = self.decls.now in
+    let ds = g.V.View.list self.view.now in
     let same : c.into_iter-decl-iterator.result.a ≡ ds = ap (λ z. z.a) c.into_iter-decl-iterator.ensures.into_iter_gives
     ∙ c.zip-decl-items.ensures.first ∙ c.iter.ensures.value in
     let lists : iter_rest c.into_iter-decl-iterator.result.b ≡ c.args.answers.now =
@@ -26,13 +26,13 @@ loop-decl-init g c =
 
 pub split_at-requires : goal.split_at-requires
 split_at-requires g c =
-    let ds = c.args.self.now.decls.now in
+    let ds = g.V.View.list c.args.self.now.view.now in
     records-within ds c.loop-decl.decl-iterator.a c.next.new.self.a c.in-Some.decl.now c.loop-decl.rest.now _
     c.in-Some.ensures.steps.0 c.loop-decl.invariant.records (c.record_count.ensures ds)
 
 pub push_of_decl-requires-clause-records : goal.push_of_decl-requires-clause-records
 push_of_decl-requires-clause-records g c =
-    let ds = c.args.self.now.decls.now in
+    let ds = g.V.View.list c.args.self.now.view.now in
     c.split_at.ensures.front
     ∙ records-first ds c.loop-decl.decl-iterator.a c.next.new.self.a c.in-Some.decl.now c.loop-decl.rest.now _
     c.in-Some.ensures.steps.0 c.loop-decl.invariant.records (c.record_count.ensures ds)
@@ -40,14 +40,14 @@ push_of_decl-requires-clause-records g c =
 pub push_of_decl-requires-clause-answers : goal.push_of_decl-requires-clause-answers
 push_of_decl-requires-clause-answers g c =
     ap (map (λ answer. answer.value)) c.as_slice.ensures.value
-    ∙ (first-answers (λ list. map (λ answer. answer.value) list.items) c.args.self.now.decls.now c.loop-decl.decl-iterator.a
+    ∙ (first-answers (λ list. map (λ answer. answer.value) list.items) (g.V.View.list c.args.self.now.view.now) c.loop-decl.decl-iterator.a
     c.next.new.self.a c.in-Some.decl.now (iter_rest c.loop-decl.decl-iterator.b) (iter_rest c.next.new.self.b) c.in-Some.own.now
     c.in-Some.ensures.steps.1 c.in-Some.ensures.steps.0 c.loop-decl.invariant.answers).0
 
 pub loop-decl-preserved : goal.loop-decl-preserved
 loop-decl-preserved g c =
     let self = c.args.self.now in
-    let ds = self.decls.now in
+    let ds = g.V.View.list self.view.now in
     let made = staged_beans ds (g.B.Bodies.promises self.book.now) in
     let d = c.in-Some.decl.now in
     let left = c.next.new.self.a in
@@ -67,7 +67,7 @@ loop-decl-preserved g c =
 pub returns : goal.returns
 returns g c =
     let self = c.args.self.now in
-    let ds = self.decls.now in
+    let ds = g.V.View.list self.view.now in
     let made = staged_beans ds (g.B.Bodies.promises self.book.now) in
     let left = c.loop-decl.decl-iterator.a in
     let none : left ≡ [] = ⊎_elim (λ first. first.1.0) (λ second. none-left (λ list. map (λ answer. answer.value) list.items) ds left

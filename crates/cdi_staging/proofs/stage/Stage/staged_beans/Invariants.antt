@@ -8,9 +8,9 @@ use Rattle.cdi_staging.proofs.stage.Stage.staged_beans.Given as goal
 
 abbrev pub invariant-loop-decl : goal.invariant-loop-decl
 invariant-loop-decl g l = record {
-  records : l.rest ≡ flat_map (entries l.self.decls.now) l.decl-iterator.a;
+  records : l.rest ≡ flat_map (entries (g.V.View.list l.self.view.now)) l.decl-iterator.a;
   answers : map (λ list. map (λ answer. answer.value) list.items) (iter_rest l.decl-iterator.b)
-      ≡ map (answers_of l.self.decls.now) l.decl-iterator.a;
-  beans : l.list.items ++ flat_map (staged_beans l.self.decls.now (g.B.Bodies.promises l.self.book.now)) l.decl-iterator.a
-      ≡ flat_map (staged_beans l.self.decls.now (g.B.Bodies.promises l.self.book.now)) l.self.decls.now;
+      ≡ map (answers_of (g.V.View.list l.self.view.now)) l.decl-iterator.a;
+  beans : l.list.items ++ flat_map (staged_beans (g.V.View.list l.self.view.now) (g.B.Bodies.promises l.self.book.now)) l.decl-iterator.a
+      ≡ flat_map (staged_beans (g.V.View.list l.self.view.now) (g.B.Bodies.promises l.self.book.now)) (g.V.View.list l.self.view.now);
 }

@@ -7,7 +7,7 @@ use Rattle.cdi_staging.proofs.stage.Stage.staged_methods.Goals as goal
 pub loop-method-preserved : goal.loop-method-preserved
 loop-method-preserved g c =
     let self = c.args.self.now in
-    let made = staged_method self.decls.now self.beans.now (g.B.Bodies.promises self.book.now) (sight_in c.args.sight)
+    let made = staged_method (g.V.View.list self.view.now) self.beans.now (g.B.Bodies.promises self.book.now) (sight_in c.args.sight)
     (class_in c.args.class) in
     pushed-next made c.as_slice-method-items.result.now c.loop-method.method-index c.method-item.result c.loop-method.places c.push.new.self
     _ _ c.loop-method-test.true c.method-item.is c.in_ok-push.ensures.ok c.in_ok-staged_place.ensures c.loop-method.invariant
