@@ -1,6 +1,6 @@
 -- The interceptors around the places of a bean that is declared, by the names that are told of them.
 use Rattle.std.proofs.Common.{◌≡◌, ◌≢◌, ◌+◌, ◌<◌, ℕ, zero, suc, Bool, true, false, cond, not, ◌&&◌, List, [], ◌∷◌, ◌++◌, map, filter, length}
-use Rattle.std.proofs.Common.{Some, Ok, get_or, is_some, option_map, refl, sym, subst, ap, ◌∙◌, arith}
+use Rattle.std.proofs.Common.{Some, Ok, Result, get_or, is_some, option_map, refl, sym, subst, ap, ◌∙◌, append_assoc}
 use Rattle.std.specs.List.{slice_get}
 use Rattle.std.specs.Str.{bytes_eq}
 use Rattle.std.proofs.lemmas.Bool.{false≢true}
@@ -16,6 +16,7 @@ use Rattle.cdi_model.specs.declared.decl.ProducerDecl.{ProducerDecl}
 use Rattle.cdi_model.specs.declared.place.BeanPlace.{BeanPlace}
 use Rattle.cdi_model.specs.declared.place.BeanPlace.TheVariants as spots
 use Rattle.cdi_model.specs.declared.quals.Qual.{Qual}
+use Rattle.cdi_model.specs.declared.refusal.Refusal.{Refusal}
 use Rattle.cdi_match.specs.Chain.{has}
 use Rattle.cdi_match.proofs.Names.{same_text}
 use Rattle.cdi_effective.specs.Beans.{effective, managed, records}
@@ -29,6 +30,7 @@ use Rattle.cdi_observe.proofs.AroundLemmas.{has-names, has-names_at, told-names}
 use Rattle.cdi_staging.specs.Shown.{HasProducer, IsClassOf, names_among}
 use Rattle.cdi_staging.specs.Staged.{Around, Class, around_of, chain_at, class_chain, injections_around, injections_from, places_from, targets}
 use Rattle.cdi_contexts.specs.declared.instance.Actor.TheVariants.{Interceptor as By}
+use Rattle.cdi_scene.specs.declared.scene.Injection.{Injection}
 use Rattle.cdi_staging.proofs.BesideLemmas.{found, from-map}
 
 -- ---- tests that agree on each element
@@ -93,7 +95,7 @@ names-at_place ds c place of =
     ∙ ap (names_among names) (sym of.around)
 
 -- and the positions of these are the chain
-pub positions-at_place : (ds : List Decl) (c : Class) (place : BeanPlace) → IsClassOf ds c
+positions-at_place : (ds : List Decl) (c : Class) (place : BeanPlace) → IsClassOf ds c
     → places_from (λ a. has (names_at ds c.bean place) a.0.name) 0 c.around ≡ class_chain ds c place
 positions-at_place ds c place of =
     let names = names_at ds c.bean place in
@@ -102,15 +104,19 @@ positions-at_place ds c place of =
     (told ds names around (λ k i at. has-names_at ds c.bean place k i of.distinct at) c.around of.around)
     ∙ ap (λ bindings. chain_at ds c.around (set_by ds bindings c.bean place) place) (sym of.bindings)
 
+pub positions-among : (ds : List Decl) (c : Class) (place : BeanPlace) (names : List (List ℕ)) → IsClassOf ds c
+    → names ≡ names_at ds c.bean place → places_from (λ a. has names a.0.name) 0 c.around ≡ class_chain ds c place
+positions-among ds c place names of are =
+    ap (λ list. places_from (λ (a : Around). has list a.0.name) 0 c.around) are ∙ positions-at_place ds c place of
+
 -- what is told of the place are these names
+one-value : (r : Result (List (List ℕ)) Refusal) (x y : List (List ℕ)) → r ≡ Ok x → r ≡ Ok y → x ≡ y
+one-value r x y first second = let both : Ok x ≡ Ok y = sym first ∙ second in cc
+
 pub names-told : (ds : List Decl) (c : Class) (place : BeanPlace) (names : List (List ℕ)) → IsClassOf ds c
     → has_place c.bean place ≡ true → chain_of ds c.bean.name place ≡ Ok names → names ≡ names_at ds c.bean place
 names-told ds c place names of there is =
-    let same : chain_of ds c.bean.name place ≡ Ok (names_at ds c.bean place) = told-names ds c.bean place of.declared there in
-    one-value names (names_at ds c.bean place) (chain_of ds c.bean.name place) is same
-  where
-    one-value : {X E : Type 0} (x y : X) (r : _) → r ≡ Ok x → r ≡ Ok {E = E} y → x ≡ y
-    one-value x y r first second = let both : Ok x ≡ Ok y = sym first ∙ second in cc
+    one-value (chain_of ds c.bean.name place) names (names_at ds c.bean place) is (told-names ds c.bean place of.declared there)
 
 -- what is chosen for those around some place
 pub injections-named : (ds : List Decl) (c : Class) (names : List (List ℕ)) → IsClassOf ds c → names ≡ names_of_bean ds c.bean
@@ -158,6 +164,30 @@ not-named-next names left a rest among none = by (has names a.0.name) refl among
         → (has names a.0.name ≡ false) × (left ≡ names_among names rest)
     by true e are = absurd (none (names_among names rest) are)
     by false e are = (e, are)
+
+pub places-next : {X : Type 0} (test : X → Bool) (n : ℕ) (x : X) (xs : List X) (olds all : List ℕ) → test x ≡ true
+    → olds ++ places_from test n (x ∷ xs) ≡ all → (olds ++ n ∷ []) ++ places_from test (n + 1) xs ≡ all
+places-next test n x xs olds all is before = append_assoc olds (n ∷ []) (places_from test (n + 1) xs)
+    ∙ ap (λ b. olds ++ (cond b (n ∷ []) [] ++ places_from test (n + 1) xs)) (sym is) ∙ before
+
+pub places-past : {X : Type 0} (test : X → Bool) (n : ℕ) (x : X) (xs : List X) (olds all : List ℕ) → test x ≡ false
+    → olds ++ places_from test n (x ∷ xs) ≡ all → olds ++ places_from test (n + 1) xs ≡ all
+places-past test n x xs olds all is before =
+    ap (λ b. olds ++ (cond b (n ∷ []) [] ++ places_from test (n + 1) xs)) (sym is) ∙ before
+
+pub injected-next : (test : InterceptorDecl → Bool) (n : ℕ) (a : Around) (rest : List Around) (olds news all : List Injection)
+    → test a.0 ≡ true → news ≡ olds ++ injections_from (By n) 0 a.1 → olds ++ injections_around test n (a ∷ rest) ≡ all
+    → news ++ injections_around test (n + 1) rest ≡ all
+injected-next test n a rest olds news all is pushed before =
+    let own = injections_from (By n) 0 a.1 in
+    let others = injections_around test (n + 1) rest in
+    ap (λ list. list ++ others) pushed ∙ append_assoc olds own others
+    ∙ ap (λ b. olds ++ (cond b own [] ++ others)) (sym is) ∙ before
+
+pub injected-past : (test : InterceptorDecl → Bool) (n : ℕ) (a : Around) (rest : List Around) (olds all : List Injection)
+    → test a.0 ≡ false → olds ++ injections_around test n (a ∷ rest) ≡ all → olds ++ injections_around test (n + 1) rest ≡ all
+injected-past test n a rest olds all is before =
+    ap (λ b. olds ++ (cond b (injections_from (By n) 0 a.1) [] ++ injections_around test (n + 1) rest)) (sym is) ∙ before
 
 -- ---- the class of a bean, and its places
 

@@ -13,7 +13,7 @@ mod stage;
 mod target;
 
 pub use names::{BeanNames, InterceptorNames, MethodNames, Names, SiteNames, names_of};
-pub use notifying::{notified_at, positions_of};
+pub use notifying::positions_of;
 pub use scene::scene_of;
 pub use site::method_of;
 pub use target::{Target, target_of};

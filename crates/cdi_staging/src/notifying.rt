@@ -3,7 +3,6 @@ ghost use Rattle.std.specs.Prelude.{◌≡◌, map, position, IfOk};
 ghost use Rattle.cdi_effective.specs.Beans.{beans as beans_of};
 ghost use Rattle.cdi_effective.specs.Disposers.{find_bean};
 ghost use Rattle.cdi_staging.specs.Notifying.{fired_at, is_observer, notified_as, notified_at, observer_declared};
-ghost use Rattle.cdi_staging.specs.Lookups.{NotifiedStand};
 
 use crate::target::position_of_class;
 use cdi_model::{Decl, Decls, EventDecl, Ident, Kind, Name, ObserverDecl, Qual, Seq};
@@ -64,18 +63,16 @@ pub fn positions_of(
 
 /// The observer methods that are notified of an event of a type with some qualifiers, in order, by their positions in the
 /// scene of the declarations whose bean list this is (CDI 4.0, Observer resolution; Observer ordering). It takes memory for
-/// them, for the types of the event and for the observer methods of these types. The last clause says that each of them
-/// is in the scene.
-#[tactic(auto, using(crate::proofs::NotifiedLemmas::notified_stand), unfolding(crate::specs::Notifying::notified_at))]
-pub fn notified_at(
+/// them, for the types of the event and for the observer methods of these types.
+#[tactic(auto, unfolding(crate::specs::Notifying::notified_at))]
+fn notified_at(
     alloc: Global,
     decls: &Decls,
     beans: &BeanList,
     event_type: Name,
     quals: &[Qual],
 ) -> Result<Seq<Notified>, AllocError>
-    ensures value { IfOk result (λ list. list ≡ notified_at decls.now beans.now event_type quals.now) }
-    ensures stand { NotifiedStand }
+    ensures { IfOk result (λ list. list ≡ notified_at decls.now beans.now event_type quals.now) }
 {
     let ids = notified_of(alloc, decls, beans.as_slice(), event_type, quals)?;
     positions_of(alloc, decls, beans, ids.as_slice())

@@ -10,7 +10,7 @@ ghost use Rattle.cdi_observe.specs.Answers.{answers as all_answers, answer_to};
 ghost use Rattle.cdi_observe.specs.Wanted.{points_of};
 ghost use Rattle.cdi_subjects.specs.Sites.{declared_points, params_of};
 ghost use Rattle.cdi_model.specs.declared.decl.Decl.TheVariants as decls;
-ghost use Rattle.cdi_staging.specs.Lookups.{ChosenHasMethods, ChosenStands};
+ghost use Rattle.cdi_staging.specs.Lookups.{ChosenHasMethods, ChosenStands, NotifiedStand};
 ghost use Rattle.cdi_staging.specs.Shown.{around_in, class_in, IsClassOf};
 ghost use Rattle.cdi_staging.specs.Sites.{sight_in};
 ghost use Rattle.cdi_staging.specs.Staged.{scene_of, staged_beans, beans_by, products_by};
@@ -31,8 +31,9 @@ use std::rc::Rc;
 /// The scene of some declarations whose bean list this is, with what is chosen for their injection points, as
 /// `evaluate` of `cdi_observe` answers, and a book of stored bodies. A part whose body the book has not is left out. It
 /// looks each name of a body, a bean and a method up once for each place that writes it, so its time is near the size
-/// of the declarations; it takes memory for the scene. The last clauses say that a deployment without faults has a
-/// sound scene, and that a bean which is chosen for a lookup from outside is there and has its methods.
+/// of the declarations; it takes memory for the scene. The chains and the observer methods that the view keeps are read,
+/// and the others computed. The last clauses say that a bean which is chosen for a lookup from outside is there and has
+/// its methods, and that the observer methods which an event notifies are there.
 #[tactic(auto, using(crate::proofs::Laws::of_scenes), unfolding(crate::specs::Staged::scene_of))]
 pub fn scene_of<V: View, B: Bodies>(
     alloc: Global,
@@ -46,6 +47,7 @@ pub fn scene_of<V: View, B: Bodies>(
     ensures value { IfOk result (λ scene. scene ≡ scene_of (V.list view.now) (B.promises book.now)) }
     ensures stands { ChosenStands }
     ensures methods { ChosenHasMethods }
+    ensures observers { NotifiedStand }
 {
     let around = around_of(alloc, view.decls(), beans, answers)?;
     let stage = Stage {

@@ -1,4 +1,5 @@
 use Rattle.std.proofs.Common.{◌++◌, sym, ap, ◌∙◌, append-nil, arith}
+use Rattle.std.specs.List.{slice_get}
 use Rattle.std.specs.Slice.Iter.{iter_rest}
 use Rattle.std.proofs.lemmas.Slice.Zip.{either_empty_from_Zip}
 use Rattle.cdi_staging.specs.Shown.{class_in}
@@ -22,3 +23,7 @@ split_at-requires g c =
     let room = enough (λ p. p.params) c.loop-effective.rest.now (iter_rest c.loop-effective.effective-iterator.b)
     (iter_rest c.next.new.self.b) c.in-Some.producer.now c.in-Some.ensures.steps.1 c.loop-effective.invariant.chosen in
     omega (arith, room)
+
+pub product_bean-requires-clause-place : goal.product_bean-requires-clause-place
+product_bean-requires-clause-place g c =
+    c.loop-effective.invariant.placed 0 c.in-Some.producer.now (ap (λ ps. slice_get ps 0) c.in-Some.ensures.steps.1)

@@ -1,9 +1,11 @@
-use Rattle.std.proofs.Common.{◌≡◌, ◌++◌, [], map, sym, ap, ◌∙◌, append_assoc, append-nil, ⊎_elim}
-use Rattle.std.specs.List.{flat_map}
+use Rattle.std.proofs.Common.{◌≡◌, ◌++◌, [], suc, Some, map, subst, sym, ap, ◌∙◌, append_assoc, append-nil, ⊎_elim}
+use Rattle.std.specs.List.{flat_map, slice_get}
 use Rattle.std.specs.Slice.Iter.{iter_rest}
+use Rattle.cdi_model.specs.DeclList.{AreDistinct}
 use Rattle.cdi_effective.specs.Beans.{beans, entries}
 use Rattle.cdi_observe.specs.Answers.{answers, answers_of}
 use Rattle.cdi_staging.specs.Staged.{staged_beans}
+use Rattle.cdi_staging.proofs.ChosenLemmas.{found-own}
 use Rattle.cdi_staging.proofs.SplitLemmas.{first-answers, none-left, records-within, records-first, records-behind}
 use Rattle.cdi_staging.proofs.stage.Stage.staged_beans.Goals as goal
 
@@ -13,12 +15,13 @@ loop-decl-init g c =
     let self = c.args.self.now in
     let ds = g.V.View.list self.view.now in
     let same : c.into_iter-decl-iterator.result.a ≡ ds = ap (λ z. z.a) c.into_iter-decl-iterator.ensures.into_iter_gives
-    ∙ c.zip-decl-items.ensures.first ∙ c.iter.ensures.value in
+    ∙ c.zip-decl-items.ensures.first ∙ c.iter.ensures.value ∙ c.decls.ensures in
     let lists : iter_rest c.into_iter-decl-iterator.result.b ≡ c.args.answers.now =
     ap (λ z. iter_rest z.b) c.into_iter-decl-iterator.ensures.into_iter_gives ∙ c.zip-decl-items.ensures.second.0 in
     record {
-      records = c.as_slice-rest.ensures ∙ c.requires.beans ∙ ap (flat_map (entries ds)) (sym same);
-      answers = ap (map (λ list. map (λ answer. answer.value) list.items)) lists ∙ c.requires.answers ∙ ap (map (answers_of ds)) (sym same);
+      declared = λ k d at. found-own ds k d (subst AreDistinct c.decls.ensures c.iter.ensures.distinct) (subst (λ es. slice_get es k ≡ Some d) same at);
+      records = c.as_slice-rest.ensures ∙ self.listed ∙ ap (flat_map (entries ds)) (sym same);
+      answers = ap (map (λ list. map (λ answer. answer.value) list.items)) lists ∙ c.requires ∙ ap (map (answers_of ds)) (sym same);
       beans = ap (λ list. list ++ flat_map (staged_beans ds (g.B.Bodies.promises self.book.now)) c.into_iter-decl-iterator.result.a)
           c.in_ok-list.ensures.items
           ∙ ap (flat_map (staged_beans ds (g.B.Bodies.promises self.book.now))) same;
@@ -29,6 +32,13 @@ split_at-requires g c =
     let ds = g.V.View.list c.args.self.now.view.now in
     records-within ds c.loop-decl.decl-iterator.a c.next.new.self.a c.in-Some.decl.now c.loop-decl.rest.now _
     c.in-Some.ensures.steps.0 c.loop-decl.invariant.records (c.record_count.ensures ds)
+
+pub push_of_decl-requires-clause-distinct : goal.push_of_decl-requires-clause-distinct
+push_of_decl-requires-clause-distinct g c = subst AreDistinct c.decls.ensures c.iter.ensures.distinct
+
+pub push_of_decl-requires-clause-declared : goal.push_of_decl-requires-clause-declared
+push_of_decl-requires-clause-declared g c =
+    c.loop-decl.invariant.declared 0 c.in-Some.decl.now (ap (λ es. slice_get es 0) c.in-Some.ensures.steps.0)
 
 pub push_of_decl-requires-clause-records : goal.push_of_decl-requires-clause-records
 push_of_decl-requires-clause-records g c =
@@ -52,6 +62,8 @@ loop-decl-preserved g c =
     let d = c.in-Some.decl.now in
     let left = c.next.new.self.a in
     record {
+      declared = λ k e at. c.loop-decl.invariant.declared (suc k) e
+          (ap (λ es. slice_get es (suc k)) c.in-Some.ensures.steps.0 ∙ at);
       records = c.split_at.ensures.back
           ∙ records-behind ds c.loop-decl.decl-iterator.a left d c.loop-decl.rest.now _
           c.in-Some.ensures.steps.0 c.loop-decl.invariant.records (c.record_count.ensures ds);

@@ -1,6 +1,7 @@
 use Rattle.cdi_staging.specs.Shown.{class_in}
 use Rattle.cdi_staging.specs.Sites.{sight_in}
 use Rattle.cdi_staging.specs.Staged.{staged_method}
+use Rattle.cdi_staging.proofs.ClassLemmas.{has-method}
 use Rattle.cdi_staging.proofs.SplitLemmas.{pushed-next}
 use Rattle.cdi_staging.proofs.stage.Stage.staged_methods.Goals as goal
 
@@ -11,3 +12,7 @@ loop-method-preserved g c =
     (class_in c.args.class) in
     pushed-next made c.as_slice-method-items.result.now c.loop-method.method-index c.method-item.result c.loop-method.places c.push.new.self
     _ _ c.loop-method-test.true c.method-item.is c.in_ok-push.ensures.ok c.in_ok-staged_place.ensures c.loop-method.invariant
+
+pub staged_place-requires-clause-place : goal.staged_place-requires-clause-place
+staged_place-requires-clause-place g c =
+    has-method c.args.class.bean.now c.loop-method.method-index c.method-item.result ? ?

@@ -10,6 +10,13 @@ use Rattle.cdi_validate.specs.Faults.{faults}
 use Rattle.cdi_wiring.proofs.FaultLemmas.{faultless_is_sound}
 use Rattle.cdi_wiring.proofs.verdict.Wiring.of.Goals as goal
 
+pub scene_of-requires-clause-beans : goal.scene_of-requires-clause-beans
+scene_of-requires-clause-beans g c = c.in_ok-beans.ensures ∙ ap beans c.decls-decls.ensures
+
+pub scene_of-requires-clause-answers : goal.scene_of-requires-clause-answers
+scene_of-requires-clause-answers g c =
+    c.as_slice-2.ensures.value ? ∙ c.in_ok-answers.ensures.answers ∙ ap all_answers (sym c.in_ok-answers.ensures.list)
+
 pub returns-clause-wiring : goal.returns-clause-wiring
 returns-clause-wiring g c =
     let ds = g.V.View.list c.args.view.now in
@@ -22,7 +29,7 @@ returns-clause-wiring g c =
     sym are ∙ nil_from_length found (sym (ap length c.as_slice-count.ensures.value) ∙ c.if-count-ne0.false) in
     record {
       faultless = none;
-      scene = c.in_ok-scene_of.ensures.value ∙ ap (λ es. scene_of es book) listed;
+      scene = c.in_ok-scene_of.ensures.value ∙ ap (λ es. scene_of es book) same;
       sound = faultless_is_sound ds book (subst AreDistinct listed c.iter.ensures.distinct) c.requires none;
       listed = c.in_ok-beans.ensures ∙ ap beans listed;
       names = c.in_ok-names_of.ensures ∙ ap names_of listed;
