@@ -13,7 +13,7 @@ use Rattle.cdi_intercept.specs.Chains.{surrounds, surrounds_one}
 use Rattle.cdi_intercept.specs.Sets.{places_of, set_by, sets_of, with_set}
 use Rattle.cdi_intercept.specs.Sorting.{put, sorted_by}
 
-some_left : (n : ℕ) → not (nat_eq (suc n) 0) ≡ true
+pub some_left : (n : ℕ) → not (nat_eq (suc n) 0) ≡ true
 some_left n = not_from_false (nat_eq (suc n) 0) (false_from_ne_true (nat_eq (suc n) 0) (λ h. absurd (omega (arith, eqb-true (suc n) 0 h))))
 
 -- some pass a test just where its filter leaves some

@@ -24,7 +24,7 @@ use Rattle.cdi_effective.proofs.PlaceLemmas.{own-found}
 use Rattle.cdi_intercept.specs.Chains.{around_any, chain_by, chain_of, chain_told, in_order, interceptors, is_before, is_enabled}
 use Rattle.cdi_intercept.specs.Chains.{stands_around, surrounds, surrounds_one}
 use Rattle.cdi_intercept.specs.Sets.{has_place, places_of, set_by, sets_of}
-use Rattle.cdi_intercept.proofs.AroundLemmas.{any-left, any-same, any-sets, any-sorted, intercepted-by_places, is_around}
+use Rattle.cdi_intercept.proofs.AroundLemmas.{any-left, any-same, any-sets, any-sorted, intercepted-by_places, is_around, some_left}
 use Rattle.cdi_intercept.proofs.ChainLemmas.{in_order-declared, IsDeclared}
 use Rattle.cdi_observe.specs.Around.{names_at, names_of_bean}
 
@@ -164,8 +164,13 @@ stands-named ds bean k i distinct at enabled =
 
 -- ---- whether there is one
 
-some : {X : Type 0} → List X → Bool
-some xs = not (nat_eq (length xs) 0)
+abbrev some : {X : Type 0} → List X → Bool
+some [] = false
+some (x ∷ xs) = true
+
+left-some : {X : Type 0} (xs : List X) → not (nat_eq (length xs) 0) ≡ some xs
+left-some [] = refl
+left-some (x ∷ xs) = some_left (length xs)
 
 some-append : {X : Type 0} (xs ys : List X) → some (xs ++ ys) ≡ (some xs || some ys)
 some-append [] ys = refl
@@ -184,6 +189,7 @@ unfolding chain_by in_order
 some-at ds bean place =
     let set = set_by ds (class_bindings ds bean) bean place in
     some-map (λ (i : InterceptorDecl). i.name) (chain_by ds set place)
+    ∙ sym (left-some (filter (surrounds ds set place) (in_order ds)))
     ∙ any-left (surrounds ds set place) (in_order ds)
     ∙ any-sorted (surrounds ds set place) is_before (filter is_enabled (interceptors ds))
 
@@ -192,6 +198,7 @@ pub some-names : (ds : List Decl) (bean : BeanDecl)
     → not (nat_eq (length (names_of_bean ds bean)) 0) ≡ not (nat_eq (length (around_any ds (class_bindings ds bean) bean)) 0)
 unfolding names_of_bean
 some-names ds bean =
-    some-flat (names_at ds bean) (places_of bean)
+    left-some (names_of_bean ds bean)
+    ∙ some-flat (names_at ds bean) (places_of bean)
     ∙ any-same (λ place. some (names_at ds bean place)) (is_around ds (class_bindings ds bean) bean) (some-at ds bean) (places_of bean)
     ∙ intercepted-by_places ds (class_bindings ds bean) bean
