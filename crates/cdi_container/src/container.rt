@@ -390,9 +390,9 @@ impl<B: Bodies> Container<B> {
 
     /// Each injection point of the present declarations with what is chosen for it (CDI 4.0, Injection points; Performing
     /// typesafe resolution), in the order of the declarations and of the places in which each names its points. It evaluates
-    /// what `report` does, and its step is that of a report whose list it does not hand out. It takes memory for the answers
-    /// that are not known, and to keep them, and none for the points, which it lends one after another. If memory runs out,
-    /// the answers that were computed before stay known.
+    /// what `report` does, and its step is that of a report whose list it does not hand out. It takes memory for what it
+    /// evaluates, and none for the points, which it lends one after another. If memory runs out, the answers that were
+    /// computed before stay known.
     pub fn points(&mut self) -> Result<Points<'_>, AllocError>
         ensures points { IfOk result (λ list. list ≡ points_told self.old.decls) }
         ensures* left { sem 𝓛 (Rests (the_row B.row B.Bodies) self.entry (PointsLeave self.old result)) }
