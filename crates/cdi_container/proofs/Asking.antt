@@ -19,6 +19,7 @@ use Rattle.cdi_legal.specs.LegalRun.{Command as Run, LegalRun}
 use Rattle.cdi_legal.specs.Moment.{Moment, beginning}
 use Rattle.cdi_scene.specs.declared.scene.Scene.{Scene}
 use Rattle.cdi_observe.specs.Keys.{Key, ChainKey}
+use Rattle.cdi_observe.specs.Wanted.{wanted}
 use Rattle.cdi_observe.specs.declared.observers.ObserverId.{ObserverId}
 use Rattle.cdi_resolve.specs.declared.choice.Choice.{Choice}
 use Rattle.cdi_intercept.specs.Chains.{chain_of}
@@ -29,11 +30,12 @@ use Rattle.cdi_container.specs.Asked.{run_by}
 use Rattle.cdi_container.specs.Editing.{alone}
 use Rattle.cdi_container.specs.History.{State, AsksSome, LeavesRun, RunAnswers, RunsFrom}
 use Rattle.cdi_container.specs.History.{asked, emptied, evaluates, left_by, refusal_in, untold, IsRefusedBy}
-use Rattle.cdi_container.specs.Known.{keys_of_chain}
-use Rattle.cdi_container.specs.Seen.{ChainStep, ChooseStep, ObserversStep, ReportStep, unplayed}
+use Rattle.cdi_container.specs.Known.{keys_of_chain, IsInOrder}
+use Rattle.cdi_container.specs.Seen.{ChainStep, ChooseStep, ObserversStep, PointsLeave, ReportStep, unplayed}
 use Rattle.cdi_container.specs.Wired.{Deployed, Evaluates, IsAsked, IsAskedSome, trace_names}
 use Rattle.cdi_container.specs.declared.answer.Answer.TheVariants.{Given}
 use Rattle.cdi_container.proofs.AskedLemmas.{apart-none}
+use Rattle.cdi_container.proofs.KnownLemmas.{known_with-wanted}
 use Rattle.cdi_container.proofs.Ending.{standing_at}
 
 -- ---- questions and reports
@@ -77,6 +79,32 @@ pub report_unserved : (old new : State) (r : Result (Vec Fault Global) AllocErro
     → ReportStep old r new
 report_unserved old new (Ok list) err asks = absurd (false≢true err)
 report_unserved old new (Err error) err asks = record { left = new; asks = asks; rest = refl }
+
+-- the same of a report whose list is not handed out
+pub points_unserved : {X : Type 0} (old new : State) (r : Result X AllocError) → IsErr r → AsksSome old (wanted old.decls) new
+    → PointsLeave old r new
+points_unserved old new (Ok x) err asks = absurd (false≢true err)
+points_unserved old new (Err error) err asks = record {
+  ok = tt;
+  known = tt;
+  work = tt;
+  err = asks;
+  step = record { left = new; asks = asks; rest = refl };
+}
+
+-- and where memory sufficed for a call
+abbrev pub served : {X : Type 0} → X → Result X AllocError
+served x = Ok x
+
+pub points_served : {X : Type 0} (old new : State) (x : X) → IsInOrder old.decls old.known → new ≡ untold (asked old (wanted old.decls))
+    → PointsLeave old (served x) new
+points_served old new x ordered left = record {
+  ok = left;
+  known = ap (λ (s : State). s.known) left ∙ known_with-wanted old.decls old.known ordered;
+  work = ap (λ (s : State). s.work) left;
+  err = tt;
+  step = (refl, (refl, left));
+}
 
 -- ---- chains
 

@@ -61,6 +61,12 @@ pub in_order : (live : Live) → KnownAreWanted live → IsInOrder live.decls (k
 in_order live within =
     sym (ap (λ (f : Key → Bool). filter f (wanted live.decls)) (same-knows live within))
 
+-- each wanted key is known where all are listed
+pub knows-listed : (live : Live) → known_of live ≡ wanted live.decls → (key : Key) → is_wanted live.decls key ≡ true → knows live key ≡ true
+knows-listed live all key wants =
+    (and_parts (knows live key) (has_key (wanted live.decls) key)
+    (sym (has-filter (knows live) (wanted live.decls) key) ∙ ap (λ ks. has_key ks key) all ∙ has-wanted live.decls key ∙ wants)).0
+
 module _ (ds : List Decl) (known : List Key) (ordered : IsInOrder ds known) where
   pub known-within : (key : Key) → has_key known key ≡ true → is_wanted ds key ≡ true
   known-within key h =

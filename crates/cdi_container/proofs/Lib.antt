@@ -1,5 +1,6 @@
 mod Aiming
 mod KnownLemmas
+mod PointLemmas
 mod AskedLemmas
 mod Asking
 mod KeepingLemmas

@@ -5,6 +5,8 @@ pub mod History
 pub mod Told
 pub mod Wired
 pub mod Seen
+pub mod Points
+pub mod Lent
 pub mod AnswerText
 pub use Rattle.cdi_bodies.specs.Within
 pub use Rattle.cdi_model.specs.Bytes

@@ -19,6 +19,7 @@ ghost use Rattle.cdi_staging.specs.Naming.{names_of};
 ghost use Rattle.cdi_container.specs.History.{AsksSome, EditsFrom, Redeploys, History, asked, left_by, untold, RestsOnAcceptedEdits, CountsAcceptedEdits, SharesInstances};
 ghost use Rattle.cdi_container.specs.Known.{work_with, worked};
 ghost use Rattle.cdi_container.specs.Named.{NamesTrace};
+ghost use Rattle.cdi_container.specs.Points.{points_told};
 ghost use Rattle.cdi_container.specs.Told.{IsTold};
 
 use crate::answer::{
@@ -29,6 +30,7 @@ use crate::batch::BatchError;
 use crate::beans::Beans;
 use crate::deployment::Deployment;
 use crate::instances::end_both;
+use crate::points::Points;
 use cdi_admission::check_decl;
 use cdi_bodies::Bodies;
 use cdi_contexts::Contexts;
@@ -93,7 +95,10 @@ impl<B: Bodies> Container<B> {
     ghost use Rattle.cdi_container.specs.Seen.{left_by_batch, AnswersBatch, BatchStep};
     ghost use Rattle.cdi_container.specs.Editing.{admitted, put_of, changes_in, changes_of_all, refusal_of_batch};
     ghost use Rattle.cdi_container.specs.Seen.{ChainStep, ObserversStep};
-    ghost use Rattle.cdi_container.specs.Seen.{ReportStep, CountsStep, WorkStep};
+    ghost use Rattle.cdi_container.specs.Seen.{PointsLeave, ReportStep, CountsStep, WorkStep};
+    ghost use Rattle.std.specs.Borrow.{sem};
+    ghost use Rattle.std.specs.Io.BufRead.{Rests};
+    ghost use Rattle.cdi_container.specs.contracts.container.Container.{the_row};
 
     /// An empty container, which keeps this book of stored bodies. It keeps the allocator, and takes no memory yet.
     pub fn new(alloc: Global, book: B) -> Container<B>
@@ -381,6 +386,36 @@ impl<B: Bodies> Container<B> {
         let faults = self.deployment.report(self.alloc)?;
         self.restart();
         Ok(faults)
+    }
+
+    /// Each injection point of the present declarations with what is chosen for it (CDI 4.0, Injection points; Performing
+    /// typesafe resolution), in the order of the declarations and of the places in which each names its points. It evaluates
+    /// what `report` does, and its step is that of a report whose list it does not hand out. It takes memory for what it
+    /// evaluates, and none for the points, which it lends one after another. If memory runs out, the answers that were
+    /// computed before stay known.
+    pub fn points(&mut self) -> Result<Points<'_>, AllocError>
+        ensures points { IfOk result (λ list. list ≡ points_told self.old.decls) }
+        ensures* left { sem 𝓛 (Rests (the_row B.row B.Bodies) self.entry (PointsLeave self.old result)) }
+    {
+        self.evaluate_all()?;
+        Ok(self.kept_points())
+    }
+
+    /// Evaluates all that a report does, and clears the trace.
+    fn evaluate_all(&mut self) -> Result<(), AllocError>
+        ensures { PointsLeave self.old result self.new }
+    {
+        self.deployment.evaluate_all(self.alloc)?;
+        self.restart();
+        Ok(())
+    }
+
+    /// The injection points, whose answers are known.
+    fn kept_points(&self) -> Points<'_>
+        requires { self.now.known ≡ wanted self.now.decls }
+        ensures { result ≡ points_told self.now.decls }
+    {
+        self.deployment.points()
     }
 
     /// How many closures of types and how many records of beans were computed. An edit or a batch computes each that it puts,

@@ -7,6 +7,7 @@ ghost use Rattle.cdi_live.specs.State.{Commits};
 ghost use Rattle.cdi_container.specs.Editing.{changes_of_all, drafted_by, refusal_of_batch};
 ghost use Rattle.cdi_container.specs.History.{no_counts};
 ghost use Rattle.cdi_container.specs.Known.{keys_of_event, keys_of_use, worked, IsInOrder};
+ghost use Rattle.cdi_container.specs.Points.{points_told};
 ghost use Rattle.cdi_container.specs.Seen.{AnswersBatch};
 ghost use Rattle.cdi_model.specs.Answering.{Answers};
 ghost use Rattle.cdi_model.specs.DeclList.{AreDistinct};
@@ -30,6 +31,7 @@ use crate::answer::WorkDone;
 use crate::asked::{Aim, Message, aim_of_choice, can_be_fired};
 use crate::batch::{BatchError, draft_batch, draft_change};
 use crate::beans::Beans;
+use crate::points::Points;
 use cdi_bodies::Bodies;
 use cdi_effective::beans;
 use cdi_ending::Stage;
@@ -38,7 +40,7 @@ use cdi_index::{Counts, Draft};
 use cdi_lines::Edit;
 use cdi_live::Live;
 use cdi_model::{BeanPlace, Edit as Change, Error, Iter as DeclIter, Name, Quals, Refusal, Seq};
-use cdi_observe::ObserverId;
+use cdi_observe::{ObserverId, evaluate};
 use cdi_resolve::{BeanList, Choice};
 use cdi_run::Player;
 use cdi_scene::{Notified, Scene};
@@ -286,6 +288,27 @@ impl<B: Bodies> Deployment<B> {
         // No effect at run time. The proof reads here that each known key is wanted.
         let _ = self.live.work();
         faults(alloc, &mut self.live, &self.book)
+    }
+
+    /// Evaluates each wanted key.
+    pub(crate) fn evaluate_all(&mut self, alloc: Global) -> Result<(), AllocError>
+        ensures wired { self.new.is_wired ≡ self.old.is_wired }
+        ensures order { IsInOrder self.old.decls self.old.known }
+        ensures asked { OnOk result (IsAsked (wanted self.old.decls) self.old self.new) }
+        ensures err { OnErr result (IsAskedSome (wanted self.old.decls) self.old self.new) }
+    {
+        // No effect at run time. The proof reads here that each known key is wanted.
+        let _ = self.live.work();
+        evaluate(alloc, &mut self.live)?;
+        Ok(())
+    }
+
+    /// The injection points, whose answers are known.
+    pub(crate) fn points(&self) -> Points<'_>
+        requires { self.now.known ≡ wanted self.now.decls }
+        ensures { result ≡ points_told self.now.decls }
+    {
+        Points::new(&self.live)
     }
 
     /// How many faults there are. Where there is none, the scene is there from now on.

@@ -9,6 +9,7 @@ mod beans;
 mod container;
 mod deployment;
 mod instances;
+mod points;
 mod printing;
 
 pub use answer::{Answer, WorkDone};
@@ -36,3 +37,4 @@ pub use cdi_scene::{Notified, Place, Seat};
 pub use cdi_text::{read_decl, read_qualifier};
 pub use cdi_trace::{NamedEntries, NamedEntry, NamedInstance, NamedInstances};
 pub use container::{Container, history_laws};
+pub use points::{InjectionPoint, Points};

@@ -1,11 +1,12 @@
-//! What is known after edits, a question, a report and a lookup of which any one allocation may be refused.
+//! What is known after edits, a question, a report, a call for the injection points and a lookup of which any one allocation may
+//! be refused.
 use crate::Difference;
-use Asking::{Choose, LookUp, Put, Report};
-use cdi_container::{Container, WorkDone};
+use Asking::{Choose, LookUp, Points, Put, Report};
+use cdi_container::{Choice, Container, WorkDone};
 use cdi_fixtures::name;
-use cdi_model::{Error, Quals};
+use cdi_model::{Error, Name, Quals};
 use cdi_stock::StockBodies;
-use std::alloc::Global;
+use std::alloc::{AllocError, Global};
 
 /// An interface, two beans of it that a point cannot tell apart, and a stereotype that one of them has.
 static DECLARED: [&[u8]; 9] = [
@@ -28,6 +29,8 @@ points=[{name="s",type="Shop"},{name="t",type="A"}]
 enum Asking {
     /// How many faults there are.
     Report(usize),
+    /// How many injection points there are, none of which names a qualifier.
+    Points(usize),
     Put(&'static [u8]),
     /// By a type alone.
     Choose(&'static [u8]),
@@ -44,7 +47,7 @@ struct Step {
 
 /// Declarations ask for eleven answers: two choices, and chains at three places of each bean. An alternative touches the
 /// choice by `Shop` alone.
-static STEPS: [Step; 6] = [
+static STEPS: [Step; 7] = [
     Step {
         asking: Report(1),
         known: 11,
@@ -62,6 +65,10 @@ static STEPS: [Step; 6] = [
         known: 10,
     },
     Step {
+        asking: Points(2),
+        known: 11,
+    },
+    Step {
         asking: Put(b"kind=\"stereotype\"\nname=\"Base\"\nalternative=true\n"),
         known: 10,
     },
@@ -71,6 +78,43 @@ static STEPS: [Step; 6] = [
     },
 ];
 
+/// The type of an injection point, and what is chosen for it.
+#[derive(Drop)]
+struct PointChoice {
+    bean_type: Name,
+    choice: Choice,
+}
+
+/// What is chosen for each injection point.
+fn point_choices(
+    alloc: Global,
+    container: &mut Container<StockBodies>,
+) -> Result<Vec<PointChoice>, AllocError> {
+    let mut list = Vec::new(alloc);
+    for told in container.points()? {
+        list.push(PointChoice {
+            bean_type: told.point.required_type,
+            choice: told.choice.copy(alloc)?,
+        })?;
+    }
+    Ok(list)
+}
+
+/// Whether there are so many injection points, and the choice for each answers the question for its type alone.
+fn agrees(
+    alloc: Global,
+    container: &mut Container<StockBodies>,
+    count: usize,
+) -> Result<bool, AllocError> {
+    let list = point_choices(alloc, container)?;
+    for told in &list {
+        if container.choose(told.bean_type, &Quals::new(alloc))? != told.choice {
+            return Ok(false);
+        }
+    }
+    Ok(list.len() == count)
+}
+
 /// Makes what is asked, and says whether it answers what it is to.
 fn make(
     alloc: Global,
@@ -79,6 +123,7 @@ fn make(
 ) -> Result<bool, Error> {
     match asking {
         Report(count) => Ok(container.report()?.len() == *count),
+        Points(count) => Ok(agrees(alloc, container, *count)?),
         Put(text) => {
             container.put(text)?;
             Ok(true)
@@ -101,12 +146,12 @@ fn loses_nothing(before: WorkDone, after: WorkDone) -> bool {
     after.known >= before.known && more <= counted && counted.saturating_sub(more) <= 1
 }
 
-/// Whether what an asking without memory left is right: an edit and a question leave the work, and a report and a lookup
-/// lose no known answer.
+/// Whether what an asking without memory left is right: an edit and a question leave the work, and a report, a call for the
+/// injection points and a lookup lose no known answer.
 fn is_left(asking: &Asking, before: WorkDone, after: WorkDone) -> bool {
     match asking {
         Put(_) | Choose(_) => before == after,
-        Report(_) | LookUp(_) => loses_nothing(before, after),
+        Report(_) | Points(_) | LookUp(_) => loses_nothing(before, after),
     }
 }
 

@@ -1,0 +1,52 @@
+-- The answers for the injection points are known where each wanted key is.
+use Rattle.std.proofs.Common.{◌≡◌, Bool, true, ◌&&◌, ◌||◌, List, [], ◌∷◌, ◌++◌, map, refl, sym, ap, ◌∙◌}
+use Rattle.std.specs.List.{flat_map, list_all, list_any}
+use Rattle.std.proofs.lemmas.Bool.{and_from, or_left, or_right}
+use Rattle.std.proofs.lemmas.List.Folds.{list_all-append, list_any-append}
+use Rattle.cdi_model.specs.declared.decl.Decl.{Decl}
+use Rattle.cdi_model.specs.Mentions.{Mention, PointOf, mentions}
+use Rattle.cdi_live.specs.State.{State as Live, knows}
+use Rattle.cdi_observe.specs.Keys.{Key, has_key, same_key}
+use Rattle.cdi_observe.specs.Wanted.{asked_by, chains_by, events_by, is_wanted, key_of_point, point_named, wanted_by}
+use Rattle.cdi_observe.proofs.KeyLemmas.{same_key-equiv}
+use Rattle.cdi_container.specs.Lent.{AreKnown}
+use Rattle.cdi_container.specs.Points.{PlacedPoint, placed_points, point_in, points_in}
+use Rattle.cdi_container.specs.Wired.{KnowsAll}
+
+module _ (f : Key → Bool) where
+  passes : PlacedPoint → Bool
+  passes p = f (key_of_point p.point)
+
+  -- where a test holds of what the points ask for that are named in some places, it holds of these points
+  own-pass : (owner : Decl) (named : List Mention)
+      → ((key : Key) → has_key (map key_of_point (flat_map point_named named)) key ≡ true → f key ≡ true)
+      → list_all passes (flat_map (point_in owner) named) ≡ true
+  own-pass owner [] each = refl
+  own-pass owner (PointOf place point ∷ named) each =
+      let key = key_of_point point in
+      let more = map key_of_point (flat_map point_named named) in
+      and_from (f key) (list_all passes (flat_map (point_in owner) named))
+      (each key (or_left (same_key key key) (has_key more key) (same_key-equiv.refl key)))
+      (own-pass owner named (λ k h. each k (or_right (same_key k key) (has_key more k) h)))
+  own-pass owner (other ∷ named) each = own-pass owner named each
+
+  -- what the points of a declaration ask for is wanted by it
+  asks-wanted : (d : Decl) (key : Key) → has_key (asked_by d) key ≡ true → has_key (wanted_by d) key ≡ true
+  asks-wanted d key h =
+      list_any-append (same_key key) (asked_by d ++ chains_by d) (events_by d)
+      ∙ or_left (has_key (asked_by d ++ chains_by d) key) (has_key (events_by d) key)
+      (list_any-append (same_key key) (asked_by d) (chains_by d) ∙ or_left (has_key (asked_by d) key) (has_key (chains_by d) key) h)
+
+  points-pass : (ds : List Decl) → ((key : Key) → list_any (λ d. has_key (wanted_by d) key) ds ≡ true → f key ≡ true)
+      → list_all passes (placed_points ds) ≡ true
+  points-pass [] each = refl
+  points-pass (d ∷ ds) each =
+      let more = λ (key : Key). list_any (λ e. has_key (wanted_by e) key) ds in
+      list_all-append passes (points_in d) (placed_points ds)
+      ∙ and_from (list_all passes (points_in d)) (list_all passes (placed_points ds))
+      (own-pass d (mentions d) (λ key h. each key (or_left (has_key (wanted_by d) key) (more key) (asks-wanted d key h))))
+      (points-pass ds (λ key h. each key (or_right (has_key (wanted_by d) key) (more key) h)))
+
+pub are_known : (live : Live) → KnowsAll live → AreKnown live (placed_points live.decls)
+unfolding is_wanted
+are_known live each = points-pass (knows live) live.decls each

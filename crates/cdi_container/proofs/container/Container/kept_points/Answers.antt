@@ -1,0 +1,11 @@
+use Rattle.std.proofs.Common.{◌≡◌, ◌∙◌, ap, subst, sym}
+use Rattle.cdi_observe.specs.Wanted.{wanted}
+use Rattle.cdi_container.specs.History.{State}
+use Rattle.cdi_container.specs.Points.{points_told}
+use Rattle.cdi_container.proofs.container.Container.kept_points.Goals as goal
+
+pub points-requires : goal.points-requires
+points-requires g c = subst (λ (s : State). s.known ≡ wanted s.decls) (sym c.self.view_is) c.requires
+
+pub returns : goal.returns
+returns g c = c.points.ensures ∙ ap (λ (s : State). points_told s.decls) c.self.view_is
