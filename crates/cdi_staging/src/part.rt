@@ -51,9 +51,9 @@ impl<'a, V: View, B: Bodies> Stage<'a, V, B> {
             ≡ staged_part (V.list self.now.view.now) self.now.beans.now (B.promises self.now.book.now)
             (sight_in sight.entry) part.now) }
     {
-        let (view, beans) = (self.view, self.beans);
-        let calls = sites_of(self.alloc, view.decls(), beans, sight, part.calls.as_slice())?;
-        let fires = fired_at(self.alloc, view, beans, part.fires.as_slice())?;
+        let (decls, beans) = (self.view.decls(), self.beans);
+        let calls = sites_of(self.alloc, decls, beans, sight, part.calls.as_slice())?;
+        let fires = fired_at(self.alloc, self.view, beans, part.fires.as_slice())?;
         Ok(self.part_of(part.body, calls, fires))
     }
 

@@ -10,13 +10,6 @@ use Rattle.cdi_validate.specs.Faults.{faults}
 use Rattle.cdi_wiring.proofs.FaultLemmas.{faultless_is_sound}
 use Rattle.cdi_wiring.proofs.verdict.Wiring.of.Goals as goal
 
-pub scene_of-requires-clause-beans : goal.scene_of-requires-clause-beans
-scene_of-requires-clause-beans g c = c.in_ok-beans.ensures ∙ ap beans c.decls-decls.ensures
-
-pub scene_of-requires-clause-answers : goal.scene_of-requires-clause-answers
-scene_of-requires-clause-answers g c =
-    c.as_slice-2.ensures.value ? ∙ c.in_ok-answers.ensures.answers ∙ ap all_answers (sym c.in_ok-answers.ensures.list)
-
 pub returns-clause-wiring : goal.returns-clause-wiring
 returns-clause-wiring g c =
     let ds = g.V.View.list c.args.view.now in
