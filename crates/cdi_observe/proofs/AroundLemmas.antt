@@ -98,9 +98,9 @@ module _ (ds : List Decl) (distinct : AreDistinct ds) where
       let name : x.name ≡ i.name = one_name x.name i.name e in
       let first : find_decl kinds.Interceptor x.name ds ≡ Some (decls.Interceptor x) = own-found ds at.0 (decls.Interceptor x) distinct at.1 in
       let second : find_decl kinds.Interceptor i.name ds ≡ Some (decls.Interceptor i) =
-          own-found ds there.0 (decls.Interceptor i) distinct there.1 in
+      own-found ds there.0 (decls.Interceptor i) distinct there.1 in
       let same : decls.Interceptor x ≡ decls.Interceptor i =
-          same_Some (decls.Interceptor x) (decls.Interceptor i) (sym first ∙ ap (λ n. find_decl kinds.Interceptor n ds) name ∙ second) in
+      same_Some (decls.Interceptor x) (decls.Interceptor i) (sym first ∙ ap (λ n. find_decl kinds.Interceptor n ds) name ∙ second) in
       cc
 
   only-named : (i : InterceptorDecl) → IsDeclared ds i → AllByRecursion (λ x. is_named i x ≡ true → x ≡ i) (in_order ds)
