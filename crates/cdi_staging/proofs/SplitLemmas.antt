@@ -1,8 +1,8 @@
 -- The beans of a declaration, by its records and by what is chosen for all of its injection points.
-use Rattle.std.proofs.Common.{◌≡◌, ◌≤◌, ◌+◌, ℕ, Bool, true, cond, List, [], ◌∷◌, ◌++◌, map, filter, length, length-append}
+use Rattle.std.proofs.Common.{◌≡◌, ◌≤◌, ◌+◌, ◌-◌, ℕ, Bool, true, cond, List, [], ◌∷◌, ◌++◌, map, filter, length, length-append}
 use Rattle.std.proofs.Common.{◌<◌, get_or, append_assoc, take, drop, refl, sym, ap, ◌∙◌, ◌⊎◌, inl, inr, arith}
 use Rattle.std.specs.List.{flat_map}
-use Rattle.std.proofs.lemmas.List.{drop_at, drop_more, length-map, map-append, nil_from_length, take_at}
+use Rattle.std.proofs.lemmas.List.{drop_at, drop_more, length-drop, length-map, map-append, nil_from_length, take_at}
 use Rattle.std.proofs.lemmas.Simd.{map-map}
 use Rattle.cdi_model.specs.declared.decl.BeanDecl.{BeanDecl}
 use Rattle.cdi_model.specs.declared.decl.Decl.{Decl}
@@ -156,6 +156,34 @@ enough params rest ps others p begins left =
     ∙ ap (λ qs. length (flat_map params qs)) begins
     ∙ length-append (params p) (flat_map params others) in
     omega arith
+
+-- and the rest is enough for the others
+pub enough-left : {A : Type 0} (params : A → List PointDecl) (rest left : List Target) (ps others : List A) (p : A) (n : ℕ)
+    → ps ≡ p ∷ others → n ≡ length (params p) → left ≡ drop n rest → length rest ≡ length (flat_map params ps)
+    → length left ≡ length (flat_map params others)
+enough-left params rest left ps others p n begins count is enough_first =
+    let all : length rest ≡ length (params p) + length (flat_map params others) = enough_first
+    ∙ ap (λ qs. length (flat_map params qs)) begins
+    ∙ length-append (params p) (flat_map params others) in
+    let cut : length left ≡ length rest - n = ap length is ∙ length-drop n rest in
+    omega arith
+
+-- one more product is pushed
+pub product-pushed : (ds : List Decl) (list : List Effective) (book : List Promised) (own : Sight) (c : Class) (x : Effective)
+    (xs xs' : List Effective) (p : ProducerDecl) (ps ps' : List ProducerDecl) (rest chosen left : List Target) (n : ℕ)
+    (olds news all : List Bean) (made : Bean) → xs ≡ x ∷ xs' → ps ≡ p ∷ ps' → n ≡ length p.params → chosen ≡ take n rest
+    → left ≡ drop n rest → made ≡ product_bean ds list book own c x p chosen → news ≡ olds ++ made ∷ []
+    → olds ++ products_by ds list book own c xs ps rest ≡ all → news ++ products_by ds list book own c xs' ps' left ≡ all
+product-pushed ds list book own c x xs xs' p ps ps' rest chosen left n olds news all made first second count own_is left_is is push before =
+    let product : List Target → Bean = λ ts. product_bean ds list book own c x p ts in
+    let others : List Target → List Bean = λ ts. products_by ds list book own c xs' ps' ts in
+    let first_one = take (length p.params) rest in
+    ap (λ bs. bs ++ others left) (push ∙ ap (λ b. olds ++ b ∷ []) (is ∙ ap product (own_is ∙ ap (λ m. take m rest) count)))
+    ∙ append_assoc olds (product first_one ∷ []) (others left)
+    ∙ ap (λ ts. olds ++ (product first_one ∷ others ts)) (left_is ∙ ap (λ m. drop m rest) count)
+    ∙ ap (λ ys. olds ++ products_by ds list book own c ys (p ∷ ps') rest) (sym first)
+    ∙ ap (λ qs. olds ++ products_by ds list book own c xs qs rest) (sym second)
+    ∙ before
 
 -- the records of the first declaration stand first
 pub first-records : (ds left others : List Decl) (d : Decl) (rest : List Effective) → left ≡ d ∷ others

@@ -1,3 +1,4 @@
+use Rattle.std.proofs.Common.{◌<◌, length, get_or, subst, ap, ◌∙◌}
 use Rattle.cdi_staging.specs.Shown.{class_in}
 use Rattle.cdi_staging.specs.Sites.{sight_in}
 use Rattle.cdi_staging.specs.Staged.{staged_method}
@@ -15,4 +16,7 @@ loop-method-preserved g c =
 
 pub staged_place-requires-clause-place : goal.staged_place-requires-clause-place
 staged_place-requires-clause-place g c =
-    has-method c.args.class.bean.now c.loop-method.method-index c.method-item.result ? ?
+    let i = c.loop-method.method-index in
+    let method = c.method-item.result in
+    has-method c.args.class.bean.now i method (subst (λ list. i < length list) c.as_slice-method-items.ensures c.loop-method-test.true)
+    (c.method-item.is ∙ ap (λ list. get_or list i method) c.as_slice-method-items.ensures)
