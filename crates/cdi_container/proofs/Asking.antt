@@ -1,6 +1,6 @@
 -- What questions, reports and runs leave of a container.
 use Rattle.std.proofs.Common.{◌≡◌, [], ◌∷◌, ◌∙◌, ℕ, List, Option, None, refl, ap, sym, subst}
-use Rattle.std.specs.Prelude.{Result, Ok, Err}
+use Rattle.std.specs.Prelude.{IfOk, Result, Ok, Err}
 use Rattle.std.specs.Result.{IsErr, IsErrAnd}
 use Rattle.std.specs.declared.alloc.AllocError.{AllocError}
 use Rattle.std.specs.declared.alloc.Global.{Global}
@@ -91,6 +91,11 @@ points_unserved old new (Err error) err asks = record {
   err = asks;
   step = record { left = new; asks = asks; rest = refl };
 }
+
+-- and nothing is lent
+pub none_lent : {X E : Type 0} (P : X → Type 0) (r : Result X E) → IsErr r → IfOk r P
+none_lent P (Ok x) err = absurd (false≢true err)
+none_lent P (Err error) err = tt
 
 -- and where memory sufficed for a call
 abbrev pub served : {X : Type 0} → X → Result X AllocError

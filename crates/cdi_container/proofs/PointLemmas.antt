@@ -14,7 +14,7 @@ use Rattle.cdi_container.specs.Points.{PlacedPoint, placed_points, point_in, poi
 use Rattle.cdi_container.specs.Wired.{KnowsAll}
 
 module _ (f : Key → Bool) where
-  passes : PlacedPoint → Bool
+  abbrev passes : PlacedPoint → Bool
   passes p = f (key_of_point p.point)
 
   -- where a test holds of what the points ask for that are named in some places, it holds of these points
