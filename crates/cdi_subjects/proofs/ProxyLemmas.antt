@@ -13,6 +13,7 @@ use Rattle.cdi_model.proofs.PositionLemmas.{name-found}
 use Rattle.cdi_effective.specs.Beans.{effective, managed, product, records}
 use Rattle.cdi_effective.specs.Bindings.{class_bindings}
 use Rattle.cdi_effective.specs.Disposers.{as_bean, find_bean}
+use Rattle.cdi_effective.specs.Records.{records_declared, records_in}
 use Rattle.cdi_effective.specs.declared.records.Effective.{Effective}
 
 -- a bean that is found by a name has it, and is found by its own
@@ -22,27 +23,36 @@ found-own ds name bean found =
     let own : bean.name ≡ name = name-found kinds.Bean name ds (decls.Bean bean) found in
     ap (λ n. find_bean n ds) own ∙ ap as_bean found
 
+-- and its records are these
+pub records-of : (ds : List Decl) (name : List ℕ) (bean : BeanDecl) → find_decl kinds.Bean name ds ≡ Some (decls.Bean bean)
+    → records_in ds name ≡ records ds bean
+unfolding records_in
+records-of ds name bean found = ap (λ o. records_declared ds (as_bean o)) found
+
 module _ (ds : List Decl) (bean : BeanDecl) where
+  product-first : (p : ProducerDecl) (b : Effective) → product ds bean p ≡ b → is_some b.id.producer ≡ true
+  unfolding effective
+  product-first p b same = ap (λ (x : Effective). is_some x.id.producer) (sym same)
+
   of-product : (test : Effective → Bool) (producers : List ProducerDecl) (b : Effective)
       → find test (map (product ds bean) producers) ≡ Some b → is_some b.id.producer ≡ true
-  unfolding effective
   of-product test [] b found = absurd (none-some b found)
-  of-product test (p ∷ ps) b found = by (test (product ds bean p)) found
+  of-product test (p ∷ ps) b found = by (test (product ds bean p)) (of-product test ps b) found
     where
-      by : (is : Bool) → cond is (Some (product ds bean p)) (find test (map (product ds bean) ps)) ≡ Some b → is_some b.id.producer ≡ true
-      by true here =
-          let same : product ds bean p ≡ b = same_Some (product ds bean p) b here in
-          ap (λ (x : Effective). is_some x.id.producer) (sym same)
-      by false more = of-product test ps b more
+      by : (is : Bool) → (find test (map (product ds bean) ps) ≡ Some b → is_some b.id.producer ≡ true)
+          → cond is (Some (product ds bean p)) (find test (map (product ds bean) ps)) ≡ Some b → is_some b.id.producer ≡ true
+      by true more here = product-first p b (same_Some (product ds bean p) b here)
+      by false more there = more there
+
+  managed-first : (b : Effective) → managed ds bean ≡ b → b.bindings ≡ class_bindings ds bean
+  unfolding effective
+  managed-first b same = ap (λ (x : Effective). x.bindings) (sym same)
 
   pub own-bindings : (test : Effective → Bool) (b : Effective) → find test (records ds bean) ≡ Some b → is_some b.id.producer ≡ false
       → b.bindings ≡ class_bindings ds bean
-  unfolding effective
   own-bindings test b found managed-one = by (test (managed ds bean)) found
     where
       by : (is : Bool) → cond is (Some (managed ds bean)) (find test (map (product ds bean) bean.producers)) ≡ Some b
           → b.bindings ≡ class_bindings ds bean
-      by true here =
-          let same : managed ds bean ≡ b = same_Some (managed ds bean) b here in
-          ap (λ (x : Effective). x.bindings) (sym same)
+      by true here = managed-first b (same_Some (managed ds bean) b here)
       by false more = absurd (false≢true (sym managed-one ∙ of-product test bean.producers b more))
