@@ -253,17 +253,16 @@ one-of : (nodes : List (List ℕ)) (ds : List Decl) (name : List ℕ) (before re
     → slice_get (flat_map (with_binding nodes ds name) rest) k ≡ Some b → IsAmong ds (decls.Bean b)
 one-of nodes ds name before [] k b split at = absurd (none-some b at)
 one-of nodes ds name before (decls.Bean d ∷ rest) k b split at =
-    by (has nodes (text_of_id (managed_id d)) && has_binding_at_place ds name d) k at
+    by (has nodes (text_of_id (managed_id d)) && has_binding_at_place ds name d)
+    (λ j there. one-of nodes ds name (before ++ decls.Bean d ∷ []) rest j b (append_assoc before (decls.Bean d ∷ []) rest ∙ split) there) k at
   where
-    later : (j : ℕ) → slice_get (flat_map (with_binding nodes ds name) rest) j ≡ Some b → IsAmong ds (decls.Bean b)
-    later j there = one-of nodes ds name (before ++ decls.Bean d ∷ []) rest j b (append_assoc before (decls.Bean d ∷ []) rest ∙ split) there
-
-    by : (is : Bool) (j : ℕ) → slice_get (cond is (d ∷ []) [] ++ flat_map (with_binding nodes ds name) rest) j ≡ Some b → IsAmong ds (decls.Bean b)
-    by true zero there =
+    by : (is : Bool) → ((j : ℕ) → slice_get (flat_map (with_binding nodes ds name) rest) j ≡ Some b → IsAmong ds (decls.Bean b))
+        → (j : ℕ) → slice_get (cond is (d ∷ []) [] ++ flat_map (with_binding nodes ds name) rest) j ≡ Some b → IsAmong ds (decls.Bean b)
+    by true later zero there =
         let same : d ≡ b = same_Some d b there in
         (before, rest, ap (λ x. before ++ decls.Bean x ∷ rest) (sym same) ∙ split)
-    by true (suc j) there = later j there
-    by false j there = later j there
+    by true later (suc j) there = later j there
+    by false later j there = later j there
 one-of nodes ds name before (d ∷ rest) k b split at =
     one-of nodes ds name (before ++ d ∷ []) rest k b (append_assoc before (d ∷ []) rest ∙ split) at
 

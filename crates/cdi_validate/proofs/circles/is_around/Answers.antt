@@ -15,7 +15,7 @@ returns-clause-value g c =
     let ds = g.V.View.list c.args.view.now in
     let interceptor = c.args.interceptor.now in
     let there = among-at ds (declared.Interceptor interceptor) c.requires.around in
-    c.contains.ensures
-    ∙ ap (λ names. has names interceptor.name) c.in_ok-names.ensures
+    c.contains.ensures.value
+    ∙ ap (λ names. has names interceptor.name) (c.deref.ensures.value ∙ c.in_ok-names.ensures)
     ∙ stands-named ds c.args.bean.now there.0 interceptor (subst AreDistinct c.decls.ensures c.iter.ensures.distinct) there.1
     c.requires.enabled
