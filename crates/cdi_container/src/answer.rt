@@ -38,7 +38,7 @@ pub enum Answer {
     Worked(WorkDone),
     /// The outcome of a lookup, a call or an event: a value or a failure.
     Given(Outcome),
-    /// The command is refused and has changed nothing.
+    /// The command is refused. It has changed nothing but which answers are known and the work, where it is a run.
     Refused {
         refusal: Refusal,
         /// The edit of a batch that is refused, counted from 1.
