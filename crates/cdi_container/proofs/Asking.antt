@@ -31,7 +31,7 @@ use Rattle.cdi_container.specs.Editing.{alone}
 use Rattle.cdi_container.specs.History.{State, AsksSome, LeavesRun, RunAnswers, RunsFrom}
 use Rattle.cdi_container.specs.History.{asked, emptied, evaluates, left_by, refusal_in, untold, IsRefusedBy}
 use Rattle.cdi_container.specs.Known.{keys_of_chain, IsInOrder}
-use Rattle.cdi_container.specs.Seen.{ChainStep, ChooseStep, ObserversStep, PointsLeave, ReportStep, unplayed}
+use Rattle.cdi_container.specs.Seen.{ChainStep, ChooseStep, ObserversStep, EvaluateStep, ReportStep, unplayed}
 use Rattle.cdi_container.specs.Wired.{Deployed, Evaluates, IsAsked, IsAskedSome, trace_names}
 use Rattle.cdi_container.specs.declared.answer.Answer.TheVariants.{Given}
 use Rattle.cdi_container.proofs.AskedLemmas.{apart-none}
@@ -81,35 +81,10 @@ report_unserved old new (Ok list) err asks = absurd (false≢true err)
 report_unserved old new (Err error) err asks = record { left = new; asks = asks; rest = refl }
 
 -- the same of a report whose list is not handed out
-pub points_unserved : {X : Type 0} (old new : State) (r : Result X AllocError) → IsErr r → AsksSome old (wanted old.decls) new
-    → PointsLeave old r new
-points_unserved old new (Ok x) err asks = absurd (false≢true err)
-points_unserved old new (Err error) err asks = record {
-  ok = tt;
-  known = tt;
-  work = tt;
-  err = asks;
-  step = record { left = new; asks = asks; rest = refl };
-}
-
--- and nothing is lent
-pub none_lent : {X E : Type 0} (P : X → Type 0) (r : Result X E) → IsErr r → IfOk r P
-none_lent P (Ok x) err = absurd (false≢true err)
-none_lent P (Err error) err = tt
-
--- and where memory sufficed for a call
-abbrev pub served : {X : Type 0} → X → Result X AllocError
-served x = Ok x
-
-pub points_served : {X : Type 0} (old new : State) (x : X) → IsInOrder old.decls old.known → new ≡ untold (asked old (wanted old.decls))
-    → PointsLeave old (served x) new
-points_served old new x ordered left = record {
-  ok = left;
-  known = ap (λ (s : State). s.known) left ∙ known_with-wanted old.decls old.known ordered;
-  work = ap (λ (s : State). s.work) left;
-  err = tt;
-  step = (refl, (refl, left));
-}
+pub evaluate_unserved : {X : Type 0} (old new : State) (r : Result X AllocError) → IsErr r → AsksSome old (evaluates old Report) new
+    → EvaluateStep old r new
+evaluate_unserved old new (Ok x) err asks = absurd (false≢true err)
+evaluate_unserved old new (Err error) err asks = record { left = new; asks = asks; rest = refl }
 
 -- ---- chains
 

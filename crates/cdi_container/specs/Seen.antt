@@ -1,5 +1,5 @@
 -- The steps of the calls of a container.
-use Rattle.std.specs.Prelude.{◌≡◌, ℕ, List, Option, None, Some, Result, Ok, Err, OnOk, OnErr, Box, alloc_error}
+use Rattle.std.specs.Prelude.{◌≡◌, ℕ, List, Option, None, Some, Result, Ok, Err, Box, alloc_error}
 use Rattle.std.specs.declared.alloc.AllocError.{AllocError}
 use Rattle.std.specs.declared.alloc.Global.{Global}
 use Rattle.std.specs.declared.vec.Vec.{Vec}
@@ -15,7 +15,6 @@ use Rattle.cdi_model.specs.declared.refusal.Refusal.{Refusal}
 use Rattle.cdi_model.specs.declared.edit.Edit.{Edit as Change}
 use Rattle.cdi_model.specs.Edits.{answer_of_edit}
 use Rattle.cdi_index.specs.declared.counts.Counts.{Counts}
-use Rattle.cdi_observe.specs.Wanted.{wanted}
 use Rattle.cdi_observe.specs.declared.observers.ObserverId.{ObserverId}
 use Rattle.cdi_resolve.specs.declared.choice.Choice.{Choice}
 use Rattle.cdi_faults.specs.declared.fault.Fault.{Fault}
@@ -33,8 +32,7 @@ use Rattle.cdi_container.specs.declared.answer.WorkDone.{WorkDone}
 use Rattle.cdi_container.specs.declared.batch.BatchError.{BatchError}
 use Rattle.cdi_container.specs.declared.batch.BatchError.TheVariants as batch_errors
 use Rattle.cdi_container.specs.declared.answer.Answer.TheVariants.{Done, Chosen, Intercepted, Observed, Reported, Counted, Worked, Given, Refused}
-use Rattle.cdi_container.specs.History.{State, AsksSome, LegalAnswer, asked, emptied, untold}
-use Rattle.cdi_container.specs.Known.{work_with}
+use Rattle.cdi_container.specs.History.{State, LegalAnswer, emptied, untold}
 
 -- what an edit answers that asks for a change, or for none
 abbrev pub answer_of_change : List Decl → Result Change Refusal → Result (Unit {0}) Refusal
@@ -172,16 +170,8 @@ abbrev pub ReportStep : State → Result (Vec Fault Global) AllocError → State
 ReportStep old result new = IsStep old Report (report_answer result) new
 
 -- the step of a report
-abbrev pub PointsStep : {X : Type 0} → State → Result X AllocError → State → Type 0
-PointsStep old result new = IsStep old Report (kept_answer old result) new
-
--- What a call for the injection points leaves. Each wanted key was evaluated; where memory ran out, some were, or none.
-pub record PointsLeave {X : Type 0} (old : State) (result : Result X AllocError) (new : State) : Type 0 where
-  pub ok : OnOk result (new ≡ untold (asked old (wanted old.decls)))
-  pub known : OnOk result (new.known ≡ wanted old.decls)
-  pub work : OnOk result (new.work ≡ work_with old.known (wanted old.decls) old.work)
-  pub err : OnErr result (AsksSome old (wanted old.decls) new)
-  pub step : PointsStep old result new
+abbrev pub EvaluateStep : {X : Type 0} → State → Result X AllocError → State → Type 0
+EvaluateStep old result new = IsStep old Report (kept_answer old result) new
 
 abbrev pub CountsStep : State → Counts → State → Type 0
 CountsStep old result new = IsStep old commands.Counts (counts_answer result) new

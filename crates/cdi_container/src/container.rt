@@ -95,10 +95,7 @@ impl<B: Bodies> Container<B> {
     ghost use Rattle.cdi_container.specs.Seen.{left_by_batch, AnswersBatch, BatchStep};
     ghost use Rattle.cdi_container.specs.Editing.{admitted, put_of, changes_in, changes_of_all, refusal_of_batch};
     ghost use Rattle.cdi_container.specs.Seen.{ChainStep, ObserversStep};
-    ghost use Rattle.cdi_container.specs.Seen.{PointsLeave, ReportStep, CountsStep, WorkStep};
-    ghost use Rattle.std.specs.Borrow.{sem};
-    ghost use Rattle.std.specs.Io.BufRead.{Rests};
-    ghost use Rattle.cdi_container.specs.contracts.container.Container.{the_row};
+    ghost use Rattle.cdi_container.specs.Seen.{EvaluateStep, ReportStep, CountsStep, WorkStep};
 
     /// An empty container, which keeps this book of stored bodies. It keeps the allocator, and takes no memory yet.
     pub fn new(alloc: Global, book: B) -> Container<B>
@@ -388,30 +385,25 @@ impl<B: Bodies> Container<B> {
         Ok(faults)
     }
 
-    /// Each injection point of the present declarations with what is chosen for it (CDI 4.0, Injection points; Performing
-    /// typesafe resolution), in the order of the declarations and of the places in which each names its points. It evaluates
-    /// what `report` does, and its step is that of a report whose list it does not hand out. It takes memory for what it
-    /// evaluates, and none for the points, which it lends one after another. If memory runs out, the answers that were
-    /// computed before stay known.
-    pub fn points(&mut self) -> Result<Points<'_>, AllocError>
-        ensures points { IfOk result (λ list. list ≡ points_told self.old.decls) }
-        ensures* left { sem 𝓛 (Rests (the_row B.row B.Bodies) self.entry (PointsLeave self.old result)) }
-    {
-        self.evaluate_all()?;
-        Ok(self.kept_points())
-    }
-
-    /// Evaluates all that a report does, and clears the trace.
-    fn evaluate_all(&mut self) -> Result<(), AllocError>
-        ensures { PointsLeave self.old result self.new }
+    /// Evaluates all that `report` does, without its list: each answer that the declarations ask for is computed and counted,
+    /// unless it is known, and known from then on. Its step is that of a report. It takes memory for the answers that it
+    /// computes, and to keep them. If memory runs out, those that were computed before stay known.
+    pub fn evaluate(&mut self) -> Result<(), AllocError>
+        ensures ok { OnOk result (self.new ≡ untold (asked self.old (wanted self.old.decls))) }
+        ensures known { OnOk result (self.new.known ≡ wanted self.new.decls) }
+        ensures work { OnOk result (self.new.work ≡ work_with self.old.known (wanted self.old.decls) self.old.work) }
+        ensures err { OnErr result (AsksSome self.old (wanted self.old.decls) self.new) }
+        ensures step { EvaluateStep self.old result self.new }
     {
         self.deployment.evaluate_all(self.alloc)?;
         self.restart();
         Ok(())
     }
 
-    /// The injection points, whose answers are known.
-    fn kept_points(&self) -> Points<'_>
+    /// Each injection point of the present declarations with what is chosen for it (CDI 4.0, Injection points; Performing
+    /// typesafe resolution), in the order of the declarations and of the places in which each names its points. It lends the
+    /// kept answers, which are all known after `evaluate`. It is no command, and takes no memory.
+    pub fn points(&self) -> Points<'_>
         requires { self.now.known ≡ wanted self.now.decls }
         ensures { result ≡ points_told self.now.decls }
     {

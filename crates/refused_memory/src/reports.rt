@@ -1,4 +1,4 @@
-//! What is known after edits, a question, a report, a call for the injection points and a lookup of which any one allocation may
+//! What is known after edits, a question, a report, a call for all answers and a lookup of which any one allocation may
 //! be refused.
 use crate::Difference;
 use Asking::{Choose, LookUp, Points, Put, Report};
@@ -91,7 +91,8 @@ fn point_choices(
     container: &mut Container<StockBodies>,
 ) -> Result<Vec<PointChoice>, AllocError> {
     let mut list = Vec::new(alloc);
-    for told in container.points()? {
+    container.evaluate()?;
+    for told in container.points() {
         list.push(PointChoice {
             bean_type: told.point.required_type,
             choice: told.choice.copy(alloc)?,
