@@ -2,13 +2,10 @@
 //! prints each that is refused and then all that is wrong. Its status is 1 where something is refused or wrong.
 #![tactic(auto)]
 
-use cdi_container::{Container, Error};
+use cdi_container::{Bodies, Container, Error};
 use cdi_stock::StockBodies;
 use std::process::ExitCode;
 use std::{env, fs, io};
-
-/// A container with the program's bodies, which declarations name.
-type Deployment = Container<StockBodies>;
 
 fn main(rt: HostRuntime) -> ExitCode {
     match check_folders(&rt) {
@@ -25,16 +22,16 @@ fn main(rt: HostRuntime) -> ExitCode {
 fn check_folders(rt: &HostRuntime) -> io::Result<bool> {
     let mut is_well = true;
     for folder in env::args(rt)?.skip(1) {
-        if !check_folder(rt, folder.as_str())? {
+        if !check_folder(rt, folder.as_str(), StockBodies)? {
             is_well = false;
         }
     }
     Ok(is_well)
 }
 
-/// Whether nothing is refused or wrong in a folder.
-fn check_folder(rt: &HostRuntime, folder: &str) -> io::Result<bool> {
-    let mut deployment = Container::new(rt.alloc(), StockBodies);
+/// Whether nothing is refused or wrong in a folder, whose declarations name these bodies.
+fn check_folder<B: Bodies + Drop>(rt: &HostRuntime, folder: &str, book: B) -> io::Result<bool> {
+    let mut deployment = Container::new(rt.alloc(), book);
     let is_accepted = put_files(rt, folder, &mut deployment)?;
     let is_faultless = print_faults(rt, &mut deployment)?;
     Ok(is_accepted && is_faultless)
@@ -54,7 +51,11 @@ fn file_names(rt: &HostRuntime, folder: &str) -> io::Result<Vec<String>> {
 }
 
 /// Puts what each file declares, and prints what is refused. Whether all is accepted.
-fn put_files(rt: &HostRuntime, folder: &str, deployment: &mut Deployment) -> io::Result<bool> {
+fn put_files<B: Bodies>(
+    rt: &HostRuntime,
+    folder: &str,
+    deployment: &mut Container<B>,
+) -> io::Result<bool> {
     let mut is_accepted = true;
     for name in file_names(rt, folder)? {
         let path = format!(in rt.alloc(); "{folder}/{name}")?;
@@ -67,11 +68,11 @@ fn put_files(rt: &HostRuntime, folder: &str, deployment: &mut Deployment) -> io:
 }
 
 /// Puts what a file declares, and prints why it is refused. Whether it is accepted.
-fn put_text(
+fn put_text<B: Bodies>(
     rt: &HostRuntime,
     name: &str,
     text: &[u8],
-    deployment: &mut Deployment,
+    deployment: &mut Container<B>,
 ) -> io::Result<bool> {
     match deployment.put(text) {
         Ok(()) => Ok(true),
@@ -85,7 +86,7 @@ fn put_text(
 }
 
 /// Prints what is wrong. Whether nothing is.
-fn print_faults(rt: &HostRuntime, deployment: &mut Deployment) -> io::Result<bool> {
+fn print_faults<B: Bodies>(rt: &HostRuntime, deployment: &mut Container<B>) -> io::Result<bool> {
     let faults = deployment.report()?;
     println!(rt; "faults {}", faults.len())?;
     for fault in &faults {

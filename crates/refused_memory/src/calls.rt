@@ -6,7 +6,7 @@ use Call::{Beans, Books, Chain, Choose, Counts, Named, Observers, Promises, Put,
 use cdi_container::{Bodies, Book, Choice, Container, Promise, PromiseBook, read_quals};
 use cdi_fixtures::{lines_of, name};
 use cdi_model::{BeanPlace, Error, Ident, Kind, Refusal, Seq};
-use cdi_stock::{StockBodies, stock_bodies};
+use cdi_stock::stock_bodies;
 use std::alloc::{AllocError, Global};
 
 /// A call of a container. A type is chosen with uses of qualifiers.
@@ -227,9 +227,9 @@ static CALLS: [(Call, Answer); 52] = [
 ];
 
 /// Makes a call.
-fn make(
+fn make<B: Bodies>(
     alloc: Global,
-    container: &mut Container<StockBodies>,
+    container: &mut Container<B>,
     call: Call,
 ) -> Result<Answered, Error> {
     match call {
@@ -254,7 +254,7 @@ fn books(alloc: Global) -> Result<Answered, Error> {
     }
 }
 
-fn beans(alloc: Global, container: &Container<StockBodies>) -> Result<Answered, Error> {
+fn beans<B: Bodies>(alloc: Global, container: &Container<B>) -> Result<Answered, Error> {
     let mut classes = Seq::new(alloc);
     for bean in container.beans()? {
         classes.push(bean.id.class)?;
@@ -272,9 +272,9 @@ fn promises(alloc: Global) -> Result<Answered, Error> {
     }
 }
 
-fn observers(
+fn observers<B: Bodies>(
     alloc: Global,
-    container: &mut Container<StockBodies>,
+    container: &mut Container<B>,
     text: &[u8],
     uses: &[u8],
 ) -> Result<Answered, Error> {
@@ -282,8 +282,8 @@ fn observers(
     Ok(Answered::Observers(container.observers(name(text)?, &quals)?))
 }
 
-fn chain(
-    container: &mut Container<StockBodies>,
+fn chain<B: Bodies>(
+    container: &mut Container<B>,
     text: &[u8],
     method: Option<&[u8]>,
 ) -> Result<Answered, Error> {
@@ -310,9 +310,9 @@ fn chosen(outcome: Result<Choice, AllocError>) -> Result<Answered, Error> {
     }
 }
 
-fn choose(
+fn choose<B: Bodies>(
     alloc: Global,
-    container: &mut Container<StockBodies>,
+    container: &mut Container<B>,
     text: &[u8],
     uses: &[u8],
 ) -> Result<Answered, Error> {
@@ -320,15 +320,15 @@ fn choose(
     chosen(container.choose(name(text)?, &quals))
 }
 
-fn report(alloc: Global, container: &mut Container<StockBodies>) -> Result<Answered, Error> {
+fn report<B: Bodies>(alloc: Global, container: &mut Container<B>) -> Result<Answered, Error> {
     let faults = container.report()?;
     Ok(Answered::Faults(lines_of(alloc, faults.as_slice())?))
 }
 
 /// Whether a call has its answer. `None` where it has no memory.
-fn is_right(
+fn is_right<B: Bodies>(
     alloc: Global,
-    container: &mut Container<StockBodies>,
+    container: &mut Container<B>,
     call: Call,
     answer: Answer,
 ) -> Option<bool> {
@@ -336,11 +336,11 @@ fn is_right(
 }
 
 /// Makes the calls in an empty container, and tells whether one got no memory. Where one gets none, it is made again.
-pub fn make_calls(alloc: Global) -> Result<bool, Difference> {
-    make_each(alloc, &mut Container::new(alloc, StockBodies))
+pub fn make_calls<B: Bodies + Drop>(alloc: Global, book: B) -> Result<bool, Difference> {
+    make_each(alloc, &mut Container::new(alloc, book))
 }
 
-fn make_each(alloc: Global, container: &mut Container<StockBodies>) -> Result<bool, Difference> {
+fn make_each<B: Bodies>(alloc: Global, container: &mut Container<B>) -> Result<bool, Difference> {
     let mut refused = false;
     for (place, (call, answer)) in CALLS.iter().enumerate() {
         let mut right = is_right(alloc, container, *call, *answer);

@@ -18,6 +18,7 @@ mod steps;
 mod texts;
 
 use calls::make_calls;
+use cdi_stock::StockBodies;
 use questions::ask_questions;
 use reports::ask_for_all;
 use runs::take_steps;
@@ -116,12 +117,12 @@ fn compare(alloc: Global) -> Result<bool, Difference> {
 /// Does a part, and tells whether an allocation of it was refused.
 fn do_part(alloc: Global, part: Part) -> Result<bool, Difference> {
     match part {
-        Part::Calls => make_calls(alloc),
+        Part::Calls => make_calls(alloc, StockBodies),
         Part::Questions => ask_questions(alloc),
-        Part::Scripts => run_scripts(alloc),
-        Part::Steps => take_steps(alloc, &DECLARED, &STEPS),
-        Part::FurtherSteps => take_steps(alloc, &FURTHER_DECLARED, &FURTHER_STEPS),
-        Part::Reports => ask_for_all(alloc),
+        Part::Scripts => run_scripts(alloc, StockBodies),
+        Part::Steps => take_steps(alloc, StockBodies, &DECLARED, &STEPS),
+        Part::FurtherSteps => take_steps(alloc, StockBodies, &FURTHER_DECLARED, &FURTHER_STEPS),
+        Part::Reports => ask_for_all(alloc, StockBodies),
     }
 }
 

@@ -2,10 +2,9 @@
 //! be refused.
 use crate::Difference;
 use Asking::{Choose, LookUp, Points, Put, Report};
-use cdi_container::{Choice, Container, WorkDone};
+use cdi_container::{Bodies, Choice, Container, WorkDone};
 use cdi_fixtures::name;
 use cdi_model::{Error, Name, Quals};
-use cdi_stock::StockBodies;
 use std::alloc::{AllocError, Global};
 
 /// An interface, two beans of it that a point cannot tell apart, and a stereotype that one of them has.
@@ -86,9 +85,9 @@ struct PointChoice {
 }
 
 /// What is chosen for each injection point.
-fn point_choices(
+fn point_choices<B: Bodies>(
     alloc: Global,
-    container: &mut Container<StockBodies>,
+    container: &mut Container<B>,
 ) -> Result<Vec<PointChoice>, AllocError> {
     let mut list = Vec::new(alloc);
     container.evaluate()?;
@@ -102,9 +101,9 @@ fn point_choices(
 }
 
 /// Whether there are so many injection points, and the choice for each answers the question for its type alone.
-fn agrees(
+fn agrees<B: Bodies>(
     alloc: Global,
-    container: &mut Container<StockBodies>,
+    container: &mut Container<B>,
     count: usize,
 ) -> Result<bool, AllocError> {
     let list = point_choices(alloc, container)?;
@@ -117,9 +116,9 @@ fn agrees(
 }
 
 /// Makes what is asked, and says whether it answers what it is to.
-fn make(
+fn make<B: Bodies>(
     alloc: Global,
-    container: &mut Container<StockBodies>,
+    container: &mut Container<B>,
     asking: &Asking,
 ) -> Result<bool, Error> {
     match asking {
@@ -157,7 +156,7 @@ fn is_left(asking: &Asking, before: WorkDone, after: WorkDone) -> bool {
 }
 
 /// Makes a step, again if there was no memory for it, and says whether there was none.
-fn take(alloc: Global, container: &mut Container<StockBodies>, step: &Step) -> Option<bool> {
+fn take<B: Bodies>(alloc: Global, container: &mut Container<B>, step: &Step) -> Option<bool> {
     let before = container.work();
     match make(alloc, container, &step.asking) {
         Ok(right) if right && container.work().known == step.known => Some(false),
@@ -171,7 +170,7 @@ fn take(alloc: Global, container: &mut Container<StockBodies>, step: &Step) -> O
     }
 }
 
-fn declare(container: &mut Container<StockBodies>) -> Result<(), Error> {
+fn declare<B: Bodies>(container: &mut Container<B>) -> Result<(), Error> {
     for text in &DECLARED {
         container.put(text)?;
     }
@@ -179,7 +178,7 @@ fn declare(container: &mut Container<StockBodies>) -> Result<(), Error> {
 }
 
 /// Takes the steps, and says whether there was no memory for one of these.
-fn take_each(alloc: Global, container: &mut Container<StockBodies>) -> Result<bool, Difference> {
+fn take_each<B: Bodies>(alloc: Global, container: &mut Container<B>) -> Result<bool, Difference> {
     let mut refused = false;
     for (place, step) in STEPS.iter().enumerate() {
         match take(alloc, container, step) {
@@ -191,8 +190,8 @@ fn take_each(alloc: Global, container: &mut Container<StockBodies>) -> Result<bo
 }
 
 /// Declares what the steps need, takes them, and says whether there was no memory for one of these.
-pub fn ask_for_all(alloc: Global) -> Result<bool, Difference> {
-    let mut container = Container::new(alloc, StockBodies);
+pub fn ask_for_all<B: Bodies + Drop>(alloc: Global, book: B) -> Result<bool, Difference> {
+    let mut container = Container::new(alloc, book);
     match declare(&mut container) {
         Ok(()) => take_each(alloc, &mut container),
         Err(Error::OutOfMemory) => Ok(true),

@@ -1,10 +1,9 @@
 //! Lookups, calls, events, requests, edits and a stop of a container, of which any one allocation may be refused.
 use crate::Difference;
 use Asked::{Batch, Begin, Call, End, Fire, LookUp, Put, PutDecl, Remove, Stop};
-use cdi_container::{BatchError, Container, Edit, read_decl};
+use cdi_container::{BatchError, Bodies, Container, Edit, read_decl};
 use cdi_fixtures::name;
 use cdi_model::{Error, Ident, Kind, Name, Outcome, Quals, Refusal, Seq, Val};
-use cdi_stock::StockBodies;
 use std::alloc::{AllocError, Global};
 
 /// A call of a container. What is looked up and called, and an event, is meant by its type alone.
@@ -59,13 +58,13 @@ fn done(answered: Result<(), Error>) -> Reply {
     Ok(None)
 }
 
-fn state_of(alloc: Global, container: &mut Container<StockBodies>, bean_type: Name) -> Reply {
+fn state_of<B: Bodies>(alloc: Global, container: &mut Container<B>, bean_type: Name) -> Reply {
     given(container.lookup(bean_type, &Quals::new(alloc)))
 }
 
-fn answer_of(
+fn answer_of<B: Bodies>(
     alloc: Global,
-    container: &mut Container<StockBodies>,
+    container: &mut Container<B>,
     bean_type: Name,
     method: Ident,
     arg: Val,
@@ -74,40 +73,40 @@ fn answer_of(
 }
 
 /// Fires an event without qualifiers.
-fn outcome_of(
+fn outcome_of<B: Bodies>(
     alloc: Global,
-    container: &mut Container<StockBodies>,
+    container: &mut Container<B>,
     event_type: Name,
     arg: Val,
 ) -> Reply {
     given(container.fire(event_type, &Quals::new(alloc), arg))
 }
 
-fn begin_request(container: &mut Container<StockBodies>) -> Reply {
+fn begin_request<B: Bodies>(container: &mut Container<B>) -> Reply {
     done(container.begin_request().map_err(Error::Refused))
 }
 
-fn end_request(container: &mut Container<StockBodies>) -> Reply {
+fn end_request<B: Bodies>(container: &mut Container<B>) -> Reply {
     done(container.end_request())
 }
 
-fn end_contexts(container: &mut Container<StockBodies>) -> Reply {
+fn end_contexts<B: Bodies>(container: &mut Container<B>) -> Reply {
     done(container.stop().map_err(|_| Error::OutOfMemory))
 }
 
-fn declare_one(container: &mut Container<StockBodies>, text: &[u8]) -> Result<(), Error> {
+fn declare_one<B: Bodies>(container: &mut Container<B>, text: &[u8]) -> Result<(), Error> {
     container.put(text)
 }
 
-fn put_decl(
+fn put_decl<B: Bodies>(
     alloc: Global,
-    container: &mut Container<StockBodies>,
+    container: &mut Container<B>,
     text: &[u8],
 ) -> Result<(), Error> {
     container.put_decl(read_decl(alloc, text)?)
 }
 
-fn remove(container: &mut Container<StockBodies>, text: &[u8]) -> Result<(), Error> {
+fn remove<B: Bodies>(container: &mut Container<B>, text: &[u8]) -> Result<(), Error> {
     container.remove(Kind::Type, name(text)?)
 }
 
@@ -133,9 +132,9 @@ fn push_puts(alloc: Global, edits: &mut Vec<Edit>, texts: &[&[u8]]) -> Result<()
 }
 
 /// Makes a batch of these puts.
-fn declare_all(
+fn declare_all<B: Bodies>(
     alloc: Global,
-    container: &mut Container<StockBodies>,
+    container: &mut Container<B>,
     texts: &[&[u8]],
 ) -> Result<(), Error> {
     let mut edits = Vec::new(alloc);
@@ -148,7 +147,7 @@ fn declare_all(
 }
 
 /// Makes a call by its own function.
-fn make(alloc: Global, container: &mut Container<StockBodies>, asked: &Asked) -> Reply {
+fn make<B: Bodies>(alloc: Global, container: &mut Container<B>, asked: &Asked) -> Reply {
     match asked {
         LookUp(text) => state_of(alloc, container, name(text)?),
         Call(text, arg, of) => answer_of(alloc, container, name(of)?, method(text)?, *arg),
@@ -163,21 +162,21 @@ fn make(alloc: Global, container: &mut Container<StockBodies>, asked: &Asked) ->
     }
 }
 
-fn trace_text(alloc: Global, container: &Container<StockBodies>) -> Result<Vec<u8>, AllocError> {
+fn trace_text<B: Bodies>(alloc: Global, container: &Container<B>) -> Result<Vec<u8>, AllocError> {
     let mut text = Vec::new(alloc);
     container.push_trace(&mut text)?;
     Ok(text)
 }
 
 /// How many entries a container shows.
-fn entries_of(container: &Container<StockBodies>) -> usize {
+fn entries_of<B: Bodies>(container: &Container<B>) -> usize {
     container.trace().len()
 }
 
 /// Whether a container shows this trace, with an entry for each line.
-fn shows(
+fn shows<B: Bodies>(
     alloc: Global,
-    container: &Container<StockBodies>,
+    container: &Container<B>,
     wanted: &[u8],
 ) -> Result<bool, AllocError> {
     let text = trace_text(alloc, container)?;
@@ -186,9 +185,9 @@ fn shows(
 }
 
 /// Whether a call that found no memory answers and shows what it is to when it is made again.
-fn repeats(
+fn repeats<B: Bodies>(
     alloc: Global,
-    container: &mut Container<StockBodies>,
+    container: &mut Container<B>,
     step: &Step,
 ) -> Result<bool, AllocError> {
     let reply = make(alloc, container, &step.asked);
@@ -197,7 +196,7 @@ fn repeats(
 
 /// How a step goes that has no memory for its call. An edit and the end of contexts change nothing then. After any other
 /// call nothing is live, and the numbers of instances go on, so the steps end there.
-fn refused(alloc: Global, container: &mut Container<StockBodies>, step: &Step) -> Going {
+fn refused<B: Bodies>(alloc: Global, container: &mut Container<B>, step: &Step) -> Going {
     let is_right = match step.asked {
         Put(_) | PutDecl(_) | Batch(_) | Remove(_) | End | Stop => {
             repeats(alloc, container, step) == Ok(true)
@@ -212,7 +211,7 @@ fn refused(alloc: Global, container: &mut Container<StockBodies>, step: &Step) -
 }
 
 /// How a step goes whose call is right. Where there is no memory for the trace's text, the text is asked for again.
-fn shown(alloc: Global, container: &Container<StockBodies>, step: &Step) -> Going {
+fn shown<B: Bodies>(alloc: Global, container: &Container<B>, step: &Step) -> Going {
     match shows(alloc, container, step.trace) {
         Ok(true) => Going::Right,
         Ok(false) => Going::Wrong,
@@ -223,7 +222,7 @@ fn shown(alloc: Global, container: &Container<StockBodies>, step: &Step) -> Goin
     }
 }
 
-fn take(alloc: Global, container: &mut Container<StockBodies>, step: &Step) -> Going {
+fn take<B: Bodies>(alloc: Global, container: &mut Container<B>, step: &Step) -> Going {
     let reply = make(alloc, container, &step.asked);
     if reply == Err(Error::OutOfMemory) {
         return refused(alloc, container, step);
@@ -235,7 +234,7 @@ fn take(alloc: Global, container: &mut Container<StockBodies>, step: &Step) -> G
     }
 }
 
-fn declare(container: &mut Container<StockBodies>, texts: &[&[u8]]) -> Result<(), Error> {
+fn declare<B: Bodies>(container: &mut Container<B>, texts: &[&[u8]]) -> Result<(), Error> {
     for text in texts {
         declare_one(container, text)?;
     }
@@ -243,9 +242,9 @@ fn declare(container: &mut Container<StockBodies>, texts: &[&[u8]]) -> Result<()
 }
 
 /// Takes the steps up to one that has no memory, and says whether there is one.
-fn take_each(
+fn take_each<B: Bodies>(
     alloc: Global,
-    container: &mut Container<StockBodies>,
+    container: &mut Container<B>,
     steps: &[Step],
 ) -> Result<bool, Difference> {
     for (place, step) in steps.iter().enumerate() {
@@ -259,9 +258,9 @@ fn take_each(
 }
 
 /// Declares what the steps need, takes them, and says whether there was no memory for one of these.
-fn go_through(
+fn go_through<B: Bodies>(
     alloc: Global,
-    container: &mut Container<StockBodies>,
+    container: &mut Container<B>,
     texts: &[&[u8]],
     steps: &[Step],
 ) -> Result<bool, Difference> {
@@ -273,6 +272,11 @@ fn go_through(
 }
 
 /// Puts the texts in an empty container, takes the steps, and says whether there was no memory for one of these.
-pub fn take_steps(alloc: Global, texts: &[&[u8]], steps: &[Step]) -> Result<bool, Difference> {
-    go_through(alloc, &mut Container::new(alloc, StockBodies), texts, steps)
+pub fn take_steps<B: Bodies + Drop>(
+    alloc: Global,
+    book: B,
+    texts: &[&[u8]],
+    steps: &[Step],
+) -> Result<bool, Difference> {
+    go_through(alloc, &mut Container::new(alloc, book), texts, steps)
 }

@@ -1,7 +1,7 @@
 //! Scripts that run on one container, one after another, of which any one allocation may be refused.
 use crate::Difference;
+use cdi_container::Bodies;
 use cdi_script::{Console, Container, Counted, Options, RunFault, run_on};
-use cdi_stock::StockBodies;
 use std::alloc::Global;
 
 /// A script in which a type and a bean are put, the bean is chosen, and a type that is absent is dropped.
@@ -105,11 +105,11 @@ static SCRIPTS: [Printed; 3] = [
 ];
 
 /// Runs the scripts on a container that is empty at first, up to one that has no memory, and tells whether there is one.
-pub fn run_scripts(alloc: Global) -> Result<bool, Difference> {
-    run_each(alloc, &mut Container::new(alloc, StockBodies))
+pub fn run_scripts<B: Bodies + Drop>(alloc: Global, book: B) -> Result<bool, Difference> {
+    run_each(alloc, &mut Container::new(alloc, book))
 }
 
-fn run_each(alloc: Global, container: &mut Container<StockBodies>) -> Result<bool, Difference> {
+fn run_each<B: Bodies>(alloc: Global, container: &mut Container<B>) -> Result<bool, Difference> {
     for (place, printed) in SCRIPTS.iter().enumerate() {
         match prints(alloc, container, printed) {
             Some(true) => {}
@@ -121,7 +121,11 @@ fn run_each(alloc: Global, container: &mut Container<StockBodies>) -> Result<boo
 }
 
 /// Whether the run of a script writes its text into an array. `None` where it had no memory and wrote whole answers.
-fn prints(alloc: Global, container: &mut Container<StockBodies>, wanted: &Printed) -> Option<bool> {
+fn prints<B: Bodies>(
+    alloc: Global,
+    container: &mut Container<B>,
+    wanted: &Printed,
+) -> Option<bool> {
     let mut page = [0u8; 128];
     let mut reader = Counted::new(wanted.script);
     let mut writer = Counted::new(&mut page[..]);
