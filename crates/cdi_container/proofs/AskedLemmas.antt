@@ -17,6 +17,7 @@ use Rattle.cdi_live.specs.State.{State as Live, kept_in, knows}
 use Rattle.cdi_observe.specs.Kept.{after_key, evaluated, EvaluatesSome}
 use Rattle.cdi_observe.specs.Keys.{Key, EventKey, choice_key, has_key, same_key, with_key}
 use Rattle.cdi_observe.specs.Wanted.{wanted, is_wanted}
+use Rattle.cdi_observe.proofs.KeptLemmas.{after_known}
 use Rattle.cdi_observe.proofs.KeyLemmas.{same_key-decides, same_key-equiv}
 use Rattle.cdi_observe.proofs.WantedLemmas.{has-wanted, wanted-distinct}
 use Rattle.cdi_subjects.specs.Asked.{are_known}
@@ -118,6 +119,12 @@ pub asks_one : (old new : Live) (book : List Promised) (wired : Bool) (key : Key
     → IsAsked (key ∷ []) (deployed_on old book wired) (deployed_on new book wired)
 asks_one old new book wired key same counted within are =
     asked_by old new book wired wired (key ∷ []) same counted (asked_one old new key same within are) (λ h. h)
+
+-- a key is known already
+pub asks_known : (live : Live) (book : List Promised) (wired : Bool) (key : Key) → KnownAreWanted live → knows live key ≡ true
+    → IsAsked (key ∷ []) (deployed_on live book wired) (deployed_on live book wired)
+asks_known live book wired key within known =
+    asks_one live live book wired key refl refl within (sym (after_known live.decls key (kept_in live) known))
 
 pub asks_wanted : (old new : Live) (book : List Promised) (wired after : Bool) → new.decls ≡ old.decls → new.counts ≡ old.counts
     → KnownAreWanted old → kept_in new ≡ evaluated old.decls (wanted old.decls) (kept_in old) → (wired ≡ true → after ≡ true)

@@ -1,5 +1,6 @@
 //! The present declarations and the stored bodies, and what questions have made of them.
-ghost use Rattle.std.specs.Prelude.{◌≡◌, ◌≢◌, AllPairs, IfSome, IsSome, None, [], length, map, true, false, Ok, Err, Some, ◌∷◌, OnOk, OnErr, IfOk, IfErr};
+ghost use Rattle.std.specs.Prelude.{◌≡◌, ◌≢◌, AllPairs, IfSome, IsSome, None, [], is_some, length, map, true, false, Ok, Err, Some, ◌∷◌, OnOk, OnErr, IfOk, IfErr};
+ghost use Rattle.std.specs.Option.{option_copied};
 ghost use Rattle.cdi_model.specs.Edits.{answer_of_edit};
 ghost use Rattle.cdi_index.specs.State.{IsEdited};
 ghost use Rattle.cdi_live.specs.Known.{KnownAreWanted};
@@ -378,8 +379,22 @@ impl<B: Bodies> Deployment<B> {
         ensures book { self.new.book ≡ self.old.book }
         ensures asked { AsksOwn (choice_key bean_type quals.now) result self.old self.new }
     {
+        if let Some(choice) = self.kept_choice(&bean_type, quals) {
+            return Ok(self.aim_at(choice, message)?);
+        }
         let choice = self.choose(alloc, bean_type, quals)?;
         Ok(self.aim_at(&choice, message)?)
+    }
+
+    /// The choice for a type and qualifiers where it is known. Nothing is computed for it then. It takes no memory.
+    fn kept_choice(&self, bean_type: &Name, quals: &Quals) -> Option<&Choice>
+        ensures choice { IfSome (option_copied result) (λ choice. choice
+            ≡ chosen self.now.decls (beans self.now.decls) bean_type.now quals.now) }
+        ensures asked { is_some result ≡ true → IsAsked (choice_key bean_type.now quals.now ∷ []) self.now self.now }
+    {
+        // No effect at run time. The proof reads here that each known key is wanted.
+        let _ = self.live.work();
+        self.live.kept_choice(bean_type, quals)
     }
 
     /// Where a lookup or a call of what is chosen leads on the scene, which is there.
@@ -435,8 +450,23 @@ impl<B: Bodies> Deployment<B> {
         ensures book { self.new.book ≡ self.old.book }
         ensures asked { AsksOwn (EventKey event_type quals.now) result self.old self.new }
     {
+        if let Some(ids) = self.kept_observers(&event_type, quals) {
+            return Ok(self.notified_as(alloc, ids.as_slice())?);
+        }
         let ids = self.observers(alloc, event_type, quals)?;
         Ok(self.notified_as(alloc, ids.as_slice())?)
+    }
+
+    /// The observer methods that are notified of an event where they are known. Nothing is computed for them then. It takes
+    /// no memory.
+    fn kept_observers(&self, event_type: &Name, quals: &Quals) -> Option<&Seq<ObserverId>>
+        ensures observers { IfSome (option_copied result) (λ ids. ids
+            ≡ notified self.now.decls (beans self.now.decls) event_type.now quals.now) }
+        ensures asked { is_some result ≡ true → IsAsked (EventKey event_type.now quals.now ∷ []) self.now self.now }
+    {
+        // No effect at run time. The proof reads here that each known key is wanted.
+        let _ = self.live.work();
+        self.live.kept_observers(event_type, quals)
     }
 
     /// Some observer methods by their positions on the scene, which is there.

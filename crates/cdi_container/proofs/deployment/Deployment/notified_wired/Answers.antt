@@ -1,4 +1,5 @@
-use Rattle.std.proofs.Common.{List, sym, ap, subst, ◌∙◌}
+use Rattle.std.proofs.Common.{List, ap, refl, sym, subst, ◌∙◌}
+use Rattle.std.specs.Prelude.{is_some}
 use Rattle.cdi_model.specs.DeclList.{AreDistinct}
 use Rattle.cdi_observe.specs.Keys.{EventKey}
 use Rattle.cdi_scene.specs.Sound.{AreObservers}
@@ -9,21 +10,41 @@ use Rattle.cdi_container.proofs.Aiming.{positions_are}
 use Rattle.cdi_container.proofs.AskedLemmas.{own_asked, own_without_memory}
 use Rattle.cdi_container.proofs.deployment.Deployment.notified_wired.Goals as goal
 
-pub returns-in_err-ids-clause-asked : goal.returns-in_err-ids-clause-asked
-returns-in_err-ids-clause-asked g c =
-    own_without_memory c.from_residual.result (EventKey c.args.event_type c.args.quals.now) c.args.self.now c.observers.new.self
-    c.from_residual.ensures.1 c.in_err-ids.ensures.err
+-- ---- the observer methods are known
 
 pub returns-in_err-notified_as-clause-asked : goal.returns-in_err-notified_as-clause-asked
 returns-in_err-notified_as-clause-asked g c =
-    own_asked c.from_residual-in_err-notified_as.result (EventKey c.args.event_type c.args.quals.now) c.args.self.now
+    own_asked c.from_residual.result (EventKey c.args.event_type c.args.quals.now) c.args.self.now c.args.self.now
+    (c.kept_observers.ensures.asked (ap is_some c.in-Some.is))
+
+pub returns-in-Some-clause-there : goal.returns-in-Some-clause-there
+returns-in-Some-clause-there g c =
+    let d = c.args.self.now in
+    subst (λ (list : List Notified). AreObservers (scene_of d.decls d.book) list)
+    (sym (c.in_ok-notified_as.ensures.list ∙ positions_are d.decls d.decls c.args.event_type c.args.quals.now
+    c.as_slice.result.now refl (ap (λ x. x) c.as_slice.ensures ∙ c.in-Some.ensures.observers)))
+    (notified_stand d.decls d.book c.args.event_type c.args.quals.now c.notified_as.ensures.distinct)
+
+pub returns-in-Some-clause-asked : goal.returns-in-Some-clause-asked
+returns-in-Some-clause-asked g c = c.kept_observers.ensures.asked (ap is_some c.in-Some.is)
+
+-- ---- they are computed
+
+pub returns-in_err-ids-clause-asked : goal.returns-in_err-ids-clause-asked
+returns-in_err-ids-clause-asked g c =
+    own_without_memory c.from_residual-in_err-ids.result (EventKey c.args.event_type c.args.quals.now) c.args.self.now c.observers.new.self
+    c.from_residual-in_err-ids.ensures.1 c.in_err-ids.ensures.err
+
+pub returns-in_err-notified_as-2-clause-asked : goal.returns-in_err-notified_as-2-clause-asked
+returns-in_err-notified_as-2-clause-asked g c =
+    own_asked c.from_residual-in_err-notified_as-2.result (EventKey c.args.event_type c.args.quals.now) c.args.self.now
     c.observers.new.self c.in_ok-ids.ensures.asked
 
 pub returns-clause-there : goal.returns-clause-there
 returns-clause-there g c =
     let d = c.args.self.now in
     subst (λ (list : List Notified). AreObservers (scene_of d.decls d.book) list)
-    (sym (c.in_ok-notified_as.ensures.list ∙ positions_are d.decls c.observers.new.self.decls c.args.event_type c.args.quals.now
-    c.as_slice.result.now c.observers.ensures.decls (ap (λ x. x) c.as_slice.ensures ∙ c.in_ok-ids.ensures.observers)))
+    (sym (c.in_ok-notified_as-2.ensures.list ∙ positions_are d.decls c.observers.new.self.decls c.args.event_type c.args.quals.now
+    c.as_slice-2.result.now c.observers.ensures.decls (ap (λ x. x) c.as_slice-2.ensures ∙ c.in_ok-ids.ensures.observers)))
     (notified_stand d.decls d.book c.args.event_type c.args.quals.now
-    (subst AreDistinct c.observers.ensures.decls c.notified_as.ensures.distinct))
+    (subst AreDistinct c.observers.ensures.decls c.notified_as-2.ensures.distinct))
