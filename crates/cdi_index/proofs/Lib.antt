@@ -7,6 +7,7 @@ mod LoopLemmas
 mod NextLemmas
 mod InstallLemmas
 mod TurnLemmas
+mod KeyLemmas
 mod ReplacedLemmas
 pub mod UnderLemmas
 pub mod AskedLemmas

@@ -24,7 +24,7 @@ use Rattle.cdi_index.specs.Kept.{is_reader, is_reader_among, kept_at, made_in, s
 use Rattle.cdi_index.specs.Made.{classes_have, has_word, is_kept, made_of, reads, word_of, words_have}
 use Rattle.cdi_index.specs.Next.{applied, change_of, is_made, IsNext}
 use Rattle.cdi_index.specs.declared.prepare.Next.{Next}
-use Rattle.cdi_index.specs.Replaced.{turned, AreReplaced}
+use Rattle.cdi_index.specs.Replaced.{keys_changed, keys_turned, turned, AreReplaced}
 use Rattle.cdi_index.proofs.AffectedLemmas.{hits, made-stays}
 use Rattle.cdi_index.proofs.ChangeLemmas.{among-turned, any-same, applied-comes, applied-made, Anew, Before, StoredBy}
 use Rattle.cdi_index.proofs.CountLemmas.{count-changes}
@@ -210,9 +210,11 @@ module _ (ds eds : List Decl) (edits : List Edit) (ekeys ks slice : List DeclKey
 
     pub prepared : IsFreeFrom next.first old → next.first + length next.changes.items < 2 ^ 64
         → length next.changes.items ≤ spare new.slots → length next.changes.items ≤ spare new.kept
-        → AreReplaced next.decls (turned next.turns.items (get same_key new.replaced)) → length next.turns.items ≤ spare new.replaced
+        → keys_changed next.changes.items ≡ next.affected.keys
+        → AreReplaced next.decls (turned next.turns.list.items (get same_key new.replaced))
+        → length next.turns.list.items ≤ spare new.replaced → keys_turned next.turns.list.items ≡ next.turns.beans.keys
         → IsNext new more next
-    prepared free numbers room_slots room_kept turns room_turns = record {
+    prepared free numbers room_slots room_kept affected turns room_turns beans = record {
       exact = λ k. ap (λ cs. made_in (applied next.first cs (stored new) k)) changed
           ∙ exact-next ds edits ks (stored new) next.first listings more exact-new sound-old keeps all-hits listed-new k
           ∙ ap (λ d. made_of d k) (sym (decls ∙ made));
@@ -222,8 +224,10 @@ module _ (ds eds : List Decl) (edits : List Edit) (ekeys ks slice : List DeclKey
       numbers = numbers;
       slots = room_slots;
       kept = room_kept;
+      affected = affected;
       turned = turns;
       replaced = room_turns;
+      beans = beans;
     }
       where
         sound-old : IsSound (stored new) listings

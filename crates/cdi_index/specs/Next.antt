@@ -1,5 +1,5 @@
 -- What is prepared of a draft.
-use Rattle.std.specs.Prelude.{◌≤◌, ◌<◌, ℕ, suc, ◌+◌, ◌^◌, Bool, cond, ◌&&◌, List, [], ◌∷◌, length, Option, is_some, option_map}
+use Rattle.std.specs.Prelude.{◌≡◌, ◌≤◌, ◌<◌, ℕ, suc, ◌+◌, ◌^◌, Bool, cond, ◌&&◌, List, [], ◌∷◌, length, Option, is_some, option_map}
 use Rattle.indexmap.specs.IndexMap.{get, spare}
 use Rattle.cdi_model.specs.declared.decl.Decl.{Decl}
 use Rattle.cdi_model.specs.declared.decl.Kind.{Kind}
@@ -12,7 +12,7 @@ use Rattle.cdi_index.specs.declared.shelf.Shelf.{Shelf}
 use Rattle.cdi_index.specs.Counted.{is_of_kind}
 use Rattle.cdi_index.specs.Kept.{Stored, stored, IsExact, IsFreeFrom, IsSound}
 use Rattle.cdi_index.specs.Made.{made_of}
-use Rattle.cdi_index.specs.Replaced.{turned as turned_by, AreReplaced}
+use Rattle.cdi_index.specs.Replaced.{keys_changed, keys_turned, turned as turned_by, AreReplaced}
 
 abbrev pub change_of : List Decl → DeclKey → Change
 change_of ds k = record { key = k; made = made_of ds k }
@@ -31,7 +31,7 @@ applied n [] m k = m k
 applied n (c ∷ cs) m k = cond (same_key c.key k) (stored_as n c) (applied (suc n) cs m k)
 
 -- What is prepared: after the changes what is kept is exact, and each slot is listed under its words; after the turns the records of replaced
--- beans are exact. The slots of the changes are free, and there is room.
+-- beans are exact. The changes and the turns are found by their keys. The slots of the changes are free, and there is room.
 pub record IsNext (shelf : Shelf) (listings : List Listing) (next : Next) : Type 0 where
   pub exact : IsExact next.decls (applied next.first next.changes.items (stored shelf))
   pub sound : IsSound (applied next.first next.changes.items (stored shelf)) listings
@@ -39,10 +39,14 @@ pub record IsNext (shelf : Shelf) (listings : List Listing) (next : Next) : Type
   pub numbers : next.first + length next.changes.items < 2 ^ 64
   pub slots : length next.changes.items ≤ spare shelf.slots
   pub kept : length next.changes.items ≤ spare shelf.kept
-  pub turned : AreReplaced next.decls (turned_by next.turns.items (get same_key shelf.replaced))
-  pub replaced : length next.turns.items ≤ spare shelf.replaced
+  pub affected : keys_changed next.changes.items ≡ next.affected.keys
+  pub turned : AreReplaced next.decls (turned_by next.turns.list.items (get same_key shelf.replaced))
+  pub replaced : length next.turns.list.items ≤ spare shelf.replaced
+  pub beans : keys_turned next.turns.list.items ≡ next.turns.beans.keys
 
--- After the changes what is kept is exact, and after the turns the records of replaced beans are.
+-- After the changes what is kept is exact, and after the turns the records of replaced beans are. Both are found by their keys.
 pub record IsAfter (shelf : Shelf) (next : Next) : Type 0 where
   pub exact : IsExact next.decls (applied next.first next.changes.items (stored shelf))
-  pub turned : AreReplaced next.decls (turned_by next.turns.items (get same_key shelf.replaced))
+  pub affected : keys_changed next.changes.items ≡ next.affected.keys
+  pub turned : AreReplaced next.decls (turned_by next.turns.list.items (get same_key shelf.replaced))
+  pub beans : keys_turned next.turns.list.items ≡ next.turns.beans.keys

@@ -66,6 +66,10 @@ AreReplaced ds records = (k : DeclKey) → records k ≡ replaced_records ds k
 
 -- ---- after changes
 
+-- of which declarations they are
+abbrev pub keys_changed : List Change → List DeclKey
+keys_changed changes = map (λ c. c.key) changes
+
 -- what is made of a declaration after some changes, where this was before
 abbrev pub made_after : List Change → Option Made → DeclKey → Option Made
 made_after [] before k = before

@@ -90,7 +90,7 @@ pub(crate) fn readers_of(
 }
 
 /// Copies of some keys.
-fn copy_keys(alloc: Global, keys: &[DeclKey]) -> Result<Vec<DeclKey>, AllocError>
+pub(crate) fn copy_keys(alloc: Global, keys: &[DeclKey]) -> Result<Vec<DeclKey>, AllocError>
     ensures { IfOk result (λ copy. copy.items ≡ keys.now) }
 {
     let mut copy = Vec::with_capacity(alloc, keys.len())?;

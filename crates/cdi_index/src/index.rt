@@ -13,7 +13,7 @@ ghost use Rattle.cdi_index.specs.Asked.{is_asked};
 ghost use Rattle.cdi_index.specs.Told.{Tells};
 ghost use Rattle.cdi_index.specs.Under.{beans_under, has_name, has_one, is_sought, observes_one, records_at};
 
-use crate::affected::readers_of;
+use crate::affected::{copy_keys, readers_of};
 use crate::asked::{Asked, is_asked_at};
 use crate::counts::Counts;
 use crate::draft::Draft;
@@ -21,7 +21,7 @@ use crate::install::install;
 use crate::making::{Given, Made};
 use crate::next_index::NextIndex;
 use crate::prepare::{Next, prepare};
-use crate::replaced::{install_turns, keys_turned};
+use crate::replaced::install_turns;
 use crate::shelf::Shelf;
 use crate::under::{Sought, positions_under, sought_at_positions, words_observed};
 use cdi_effective::Effective;
@@ -252,7 +252,7 @@ impl Index {
             self.counts,
             draft,
         )?;
-        let told = keys_turned(self.alloc, next.turns.as_slice())?;
+        let told = copy_keys(self.alloc, next.turns.beans.as_slice())?;
         self.next = Some(next);
         Ok(told)
     }

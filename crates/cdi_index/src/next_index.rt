@@ -50,7 +50,7 @@ impl<'a> NextIndex<'a> {
     }
 
     /// The records of the bean declaration of a class: its managed bean, and after it its products in order. None where
-    /// no such bean is declared. It takes no memory, and time for each declaration that the draft affects.
+    /// no such bean is declared. It takes no memory.
     pub fn records(&self, class: &Name) -> &'a [Effective]
         ensures { result.now ≡ records_in self.now class.now }
     {
@@ -58,9 +58,14 @@ impl<'a> NextIndex<'a> {
             kind: Kind::Bean,
             name: *class,
         };
-        match records_turned(self.shelf, self.next.turns.as_slice(), &key) {
+        match records_turned(self.shelf, &self.next.turns, &key) {
             Some(records) => records.as_slice(),
-            None => own_records(made_after(self.shelf, self.next.changes.as_slice(), &key)),
+            None => own_records(made_after(
+                self.shelf,
+                &self.next.affected,
+                self.next.changes.as_slice(),
+                &key,
+            )),
         }
     }
 
@@ -72,8 +77,7 @@ impl<'a> NextIndex<'a> {
         is_asked_by(alloc, &self.next.decls, keys, asked)
     }
 
-    /// The records of the declaration at a position: none where it is no bean declaration. It takes no memory, and time as
-    /// `records` does.
+    /// The records of the declaration at a position: none where it is no bean declaration. It takes no memory.
     pub fn records_at(&self, position: usize) -> &'a [Effective]
         ensures { result.now ≡ records_at self.now position }
     {

@@ -4,7 +4,7 @@ ghost use Rattle.cdi_model.specs.declared.decl.Kind.TheVariants as kinds;
 ghost use Rattle.cdi_index.specs.Counted.{counted, raised};
 ghost use Rattle.cdi_index.specs.Kept.{stored, Keeps, IsExact, IsFreeFrom, IsShelf, IsSound};
 ghost use Rattle.cdi_index.specs.Next.{is_made, IsNext};
-ghost use Rattle.cdi_index.specs.Replaced.{keys_turned, AreReplaced};
+ghost use Rattle.cdi_index.specs.Replaced.{AreReplaced};
 ghost use Rattle.cdi_index.specs.State.{IsEdited};
 ghost use Rattle.cdi_index.specs.Told.{Tells};
 ghost use Rattle.indexmap.specs.IndexMap.{get};
@@ -14,10 +14,11 @@ use crate::affected::affected_by;
 use crate::change::{Change, change_affected, count_made};
 use crate::counts::Counts;
 use crate::draft::Draft;
-use crate::replaced::{Turn, turn_all};
+use crate::replaced::{Turns, turn_all};
 use crate::shelf::Shelf;
-use cdi_model::{Decls, Kind};
+use cdi_model::{DeclKey, Decls, Kind};
 use cdi_postings::Postings;
+use indexmap::IndexSet;
 use std::alloc::{AllocError, Global};
 
 /// What a commit takes over.
@@ -26,8 +27,10 @@ pub(crate) struct Next {
     pub(crate) decls: Decls,
     /// The slot of the first change. Those of the others follow.
     pub(crate) first: u64,
+    /// The declarations that the changes are of, in the same order.
+    pub(crate) affected: IndexSet<DeclKey>,
     pub(crate) changes: Vec<Change>,
-    pub(crate) turns: Vec<Turn>,
+    pub(crate) turns: Turns,
     pub(crate) counts: Counts,
 }
 
@@ -70,7 +73,7 @@ pub(crate) fn prepare(
     ensures decls { IfOk result (λ next. next.decls ≡ draft.decls) }
     ensures counts { IfOk result (λ next. next.counts ≡ counted counts decls.now draft.decls draft.keys) }
     ensures next { IfOk result (λ next. IsNext shelf.new postings.new next) }
-    ensures told { IfOk result (λ next. Tells decls.now draft.decls draft.keys (keys_turned next.turns.items)) }
+    ensures told { IfOk result (λ next. Tells decls.now draft.decls draft.keys next.turns.beans.keys) }
 {
     // No effect at run time. The proof reads here that no two declarations have one kind and name.
     let _ = decls.iter();
@@ -79,11 +82,12 @@ pub(crate) fn prepare(
     shelf.reserve(affected.len())?;
     let changes = change_affected(alloc, &draft.decls, shelf, &affected, postings)?;
     let turns = turn_all(alloc, shelf, postings, &affected, changes.as_slice())?;
-    shelf.replaced.reserve(turns.len())?;
+    shelf.replaced.reserve(turns.list.len())?;
     Ok(Next {
         counts: counts.after(changes.as_slice()),
         decls: draft.decls,
         first: shelf.given,
+        affected,
         changes,
         turns,
     })

@@ -9,7 +9,7 @@ ghost use Rattle.cdi_model.specs.DeclKey.{key_at, same_key};
 ghost use Rattle.cdi_model.specs.Edits.{is_among};
 ghost use Rattle.cdi_index.specs.Kept.{made_in, stored};
 ghost use Rattle.cdi_index.specs.Replaced.{disabled, is_at_stake, is_replaced_after, is_replaced_anew, is_replaced_still, made_after};
-ghost use Rattle.cdi_index.specs.Replaced.{keys_turned, records_after, replaces, stakes, turned};
+ghost use Rattle.cdi_index.specs.Replaced.{keys_changed, keys_turned, records_after, replaces, stakes, turned};
 
 use crate::affected::word_of_replaced;
 use crate::change::Change;
@@ -26,6 +26,13 @@ use std::alloc::{AllocError, Global};
 pub(crate) struct Turn {
     pub(crate) key: DeclKey,
     pub(crate) records: Option<Seq<Effective>>,
+}
+
+/// Turns, with the beans that they are of, in the same order.
+#[derive(Drop)]
+pub(crate) struct Turns {
+    pub(crate) beans: IndexSet<DeclKey>,
+    pub(crate) list: Vec<Turn>,
 }
 
 /// Adds the beans of some classes.
@@ -127,20 +134,20 @@ fn replaces(made: &Made, key: &DeclKey) -> bool
     false
 }
 
-/// What is made of the declaration of a key after some changes.
+/// What is made of the declaration of a key after the changes of those that are affected.
 pub(crate) fn made_after<'a>(
     shelf: &'a Shelf,
+    affected: &IndexSet<DeclKey>,
     changes: &'a [Change],
     key: &DeclKey,
 ) -> Option<&'a Made>
+    requires { keys_changed changes.now ≡ affected.now.keys }
     ensures { option_copied result ≡ made_after changes.now (made_in (stored shelf.now key.now)) key.now }
 {
-    for change in changes {
-        if change.key == *key {
-            return change.made.as_ref();
-        }
+    match affected.get_index_of(key) {
+        Some(index) => changes[index].made.as_ref(),
+        None => shelf.find(key),
     }
-    shelf.find(key)
 }
 
 /// The records of a bean that is replaced.
@@ -179,12 +186,13 @@ fn records_after(
     anew: &IndexSet<DeclKey>,
     key: &DeclKey,
 ) -> Result<Option<Seq<Effective>>, AllocError>
-    requires { (k : _) → contains same_key anew.now k ≡ is_replaced_anew changes.now k }
+    requires changed { keys_changed changes.now ≡ affected.now.keys }
+    requires anew { (k : _) → contains same_key anew.now k ≡ is_replaced_anew changes.now k }
     ensures { IfOk result (λ records. records ≡ records_after shelf.now postings.now affected.now.keys changes.now key.now) }
 {
     let slots = postings.under(word_of_replaced(&key.name));
     if anew.contains(key) || is_replaced_still(shelf, affected, slots, key) {
-        return disabled(alloc, made_after(shelf, changes, key));
+        return disabled(alloc, made_after(shelf, affected, changes, key));
     }
     Ok(None)
 }
@@ -197,54 +205,44 @@ pub(crate) fn turn_all(
     postings: &Postings,
     affected: &IndexSet<DeclKey>,
     changes: &[Change],
-) -> Result<Vec<Turn>, AllocError>
-    ensures keys { IfOk result (λ turns. (k : _) → is_among (keys_turned turns.items) k ≡ is_at_stake shelf.now changes.now k) }
-    ensures records { IfOk result (λ turns. (records : _) (k : _) → turned turns.items records k
+) -> Result<Turns, AllocError>
+    requires { keys_changed changes.now ≡ affected.now.keys }
+    ensures beans { IfOk result (λ turns. (k : _) → is_among turns.beans.keys k ≡ is_at_stake shelf.now changes.now k) }
+    ensures keys { IfOk result (λ turns. keys_turned turns.list.items ≡ turns.beans.keys) }
+    ensures records { IfOk result (λ turns. (records : _) (k : _) → turned turns.list.items records k
         ≡ cond (is_at_stake shelf.now changes.now k) (records_after shelf.now postings.now affected.now.keys changes.now k) (records k)) }
 {
     let beans = beans_at_stake(alloc, shelf, changes)?;
     let anew = beans_replaced_anew(alloc, changes)?;
-    let mut turns = Vec::with_capacity(alloc, beans.len())?;
+    let mut list = Vec::with_capacity(alloc, beans.len())?;
     for key in beans.as_slice() {
         let records = records_after(alloc, shelf, postings, affected, changes, &anew, key)?;
-        turns.push(Turn { key: *key, records })?;
+        list.push(Turn { key: *key, records })?;
     }
-    Ok(turns)
+    Ok(Turns { beans, list })
 }
 
 /// The records of a bean after some turns, where another replaces it then.
 pub(crate) fn records_turned<'a>(
     shelf: &'a Shelf,
-    turns: &'a [Turn],
+    turns: &'a Turns,
     key: &DeclKey,
 ) -> Option<&'a Seq<Effective>>
-    ensures { option_copied result ≡ turned turns.now (get same_key shelf.now.replaced) key.now }
+    requires { keys_turned turns.now.list.items ≡ turns.now.beans.keys }
+    ensures { option_copied result ≡ turned turns.now.list.items (get same_key shelf.now.replaced) key.now }
 {
-    for turn in turns {
-        if turn.key == *key {
-            return turn.records.as_ref();
-        }
+    match turns.beans.get_index_of(key) {
+        Some(index) => turns.list[index].records.as_ref(),
+        None => shelf.replaced.get(key),
     }
-    shelf.replaced.get(key)
-}
-
-/// The keys of some turns.
-pub(crate) fn keys_turned(alloc: Global, turns: &[Turn]) -> Result<Vec<DeclKey>, AllocError>
-    ensures { IfOk result (λ keys. keys.items ≡ keys_turned turns.now) }
-{
-    let mut keys = Vec::with_capacity(alloc, turns.len())?;
-    for turn in turns {
-        keys.push(turn.key)?;
-    }
-    Ok(keys)
 }
 
 /// Takes turns over. It takes no memory where there is room for them.
-pub(crate) fn install_turns(replaced: &mut IndexMap<DeclKey, Seq<Effective>>, mut turns: Vec<Turn>)
-    requires { length turns.items ≤ spare replaced.old }
-    ensures { (k : _) → get same_key replaced.new k ≡ turned turns.items (get same_key replaced.old) k }
+pub(crate) fn install_turns(replaced: &mut IndexMap<DeclKey, Seq<Effective>>, mut turns: Turns)
+    requires { length turns.list.items ≤ spare replaced.old }
+    ensures { (k : _) → get same_key replaced.new k ≡ turned turns.list.items (get same_key replaced.old) k }
 {
-    'left: while let Some(turn) = turns.pop() {
+    'left: while let Some(turn) = turns.list.pop() {
         install_turn(replaced, turn);
     }
 }

@@ -13,9 +13,11 @@ use Rattle.indexmap.specs.IndexMap.{get}
 use Rattle.cdi_model.specs.DeclKey.{same_key}
 use Rattle.cdi_model.specs.declared.key.DeclKey.{DeclKey}
 use Rattle.std.proofs.Common.{List}
+use Rattle.cdi_index.specs.declared.change.Change.{Change}
 use Rattle.cdi_index.specs.declared.shelf.Shelf.{Shelf}
-use Rattle.cdi_index.specs.Replaced.{is_at_stake, keys_turned, records_after, turned}
+use Rattle.cdi_index.specs.Replaced.{is_at_stake, keys_changed, records_after, turned}
 use Rattle.cdi_index.specs.Told.{Tells}
+use Rattle.cdi_index.proofs.KeyLemmas.{keys-made}
 use Rattle.cdi_index.proofs.NextLemmas.{affected-hits, counted, exact-same, kept-of-others, prepared, shelf-same, sound-same}
 use Rattle.cdi_index.proofs.ReplacedLemmas.{turned-are}
 use Rattle.cdi_index.proofs.ToldLemmas.{tells}
@@ -29,6 +31,11 @@ change_affected-requires-clause-kept c k none =
     c.in_ok-affected.affected.keys c.args.shelf.now c.reserve.new.self c.args.postings.now c.args.postings.now c.requires.shelf
     c.requires.exact c.requires.sound (decls ∙ c.requires.edited.decls) (keys ∙ c.requires.edited.keys) c.in_ok-affected.ensures refl
     c.reserve.ensures.entries c.reserve.ensures.others k none
+
+pub turn_all-requires : goal.turn_all-requires
+turn_all-requires c =
+    ap keys_changed (c.as_slice-2.ensures.value ∙ c.in_ok-changes.ensures.changes)
+    ∙ keys-made (λ (x : Change). x.key) (change_of c.draft.inside.decls) (λ k. refl) c.in_ok-affected.affected.keys
 
 pub returns-clause-counts : goal.returns-clause-counts
 returns-clause-counts c =
@@ -75,6 +82,7 @@ returns-clause-next c =
     (omega (arith, c.in_ok-reserve.ensures.numbers, many))
     (omega (arith, c.in_ok-reserve.ensures.slots, many))
     (omega (arith, c.in_ok-reserve.ensures.kept, many))
+    (ap keys_changed c.in_ok-changes.ensures.changes ∙ keys-made (λ (x : Change). x.key) (change_of c.draft.inside.decls) (λ k. refl) ks)
     (turned-are c.args.decls.now c.draft.inside.decls ks c.reserve.new.self more c.iter.ensures.distinct c.iter-2.ensures.distinct
     (shelf-same c.args.shelf.now c.reserve.new.self c.reserve.ensures.entries c.reserve.ensures.others c.requires.shelf)
     (exact-same c.args.shelf.now c.reserve.new.self c.reserve.ensures.entries c.reserve.ensures.others c.args.decls.now c.requires.exact)
@@ -85,13 +93,14 @@ returns-clause-next c =
     (decls ∙ c.requires.edited.decls) (keys ∙ c.requires.edited.keys) c.in_ok-affected.ensures refl c.reserve.ensures.entries
     c.reserve.ensures.others k none)
     ∙ exact-same c.args.shelf.now c.reserve.new.self c.reserve.ensures.entries c.reserve.ensures.others c.args.decls.now c.requires.exact k)
-    (get same_key c.reserve-2.new.self) (turned c.in_ok-turns.turns.items (get same_key c.reserve-2.new.self))
+    (get same_key c.reserve-2.new.self) (turned c.in_ok-turns.turns.list.items (get same_key c.reserve-2.new.self))
     (λ k. ap (lookup (same_key k)) (c.reserve-2.ensures.entries ∙ ap (λ m. m.entries) c.reserve.ensures.replaced)
     ∙ c.requires.replaced k)
     (λ k. c.in_ok-turns.ensures.records (get same_key c.reserve-2.new.self) k
     ∙ ap (λ cs. cond (is_at_stake c.reserve.new.self cs k) (records_after c.reserve.new.self more ks cs k) (get same_key c.reserve-2.new.self k))
     (c.as_slice-2.ensures.value ∙ c.in_ok-changes.ensures.changes)))
-    (omega (arith, c.in_ok-reserve-2.ensures.ok, c.len-2.ensures, c.in_ok-turns.turns.ok.0))
+    (omega (arith, c.in_ok-reserve-2.ensures.ok, c.len-2.ensures, c.in_ok-turns.turns.list.ok.0))
+    c.in_ok-turns.ensures.keys
 
 pub returns-clause-told : goal.returns-clause-told
 returns-clause-told c =
@@ -102,7 +111,7 @@ returns-clause-told c =
     let new = c.reserve.new.self in
     let before = c.args.postings.now in
     let more = c.change_affected.new.postings in
-    let told = keys_turned c.in_ok-turns.turns.items in
+    let told = c.in_ok-turns.turns.beans.keys in
     let decls : es ≡ c.args.draft.decls = ap (λ (d : Drafted). d.decls) c.draft.view_is in
     let keys : c.as_slice.result.now ≡ c.args.draft.keys = c.as_slice.ensures.value ∙ ap (λ (d : Drafted). d.keys) c.draft.view_is in
     let it = tells ds es c.as_slice.result.now ks told new more c.iter.ensures.distinct c.iter-2.ensures.distinct
@@ -114,6 +123,6 @@ returns-clause-told c =
     c.reserve.ensures.entries c.reserve.ensures.others k none)
     ∙ exact-same old new c.reserve.ensures.entries c.reserve.ensures.others ds c.requires.exact k)
     (affected-hits ds old before c.as_slice.result.now ks c.requires.shelf c.requires.exact c.requires.sound c.in_ok-affected.ensures)
-    (λ k. c.in_ok-turns.ensures.keys k
+    (λ k. c.in_ok-turns.ensures.beans k
     ∙ ap (λ cs. is_at_stake new cs k) (c.as_slice-2.ensures.value ∙ c.in_ok-changes.ensures.changes)) in
     subst (λ e. Tells ds e c.args.draft.keys told) decls (subst (λ (x : List DeclKey). Tells ds es x told) keys it)

@@ -14,6 +14,6 @@ left-preserved c =
         c.left.invariant.room,
         c.install_turn.ensures.room,
       );
-      applies = λ k. turned-next c.left.turns.items c.pop.new.self.items c.in-Some.turn (get same_key c.left.replaced)
+      applies = λ k. turned-next c.left.turns.list.items c.pop.new.self.items c.in-Some.turn (get same_key c.left.replaced)
           (get same_key c.install_turn.new.replaced) items c.install_turn.ensures.records k ∙ c.left.invariant.applies k;
     }

@@ -3,4 +3,4 @@ use Rattle.cdi_index.specs.Replaced.{turn_by}
 use Rattle.cdi_index.proofs.replaced.turn_all.Given as goal
 
 abbrev pub invariant-loop-key : goal.invariant-loop-key
-invariant-loop-key l = l.turns.items ≡ map (turn_by l.shelf l.postings l.affected.keys l.changes) (take l.key-index l.key-items)
+invariant-loop-key l = l.list.items ≡ map (turn_by l.shelf l.postings l.affected.keys l.changes) (take l.key-index l.key-items)

@@ -1,8 +1,19 @@
 use Rattle.cdi_index.proofs.NextLemmas.{exact-same, free-same, shelf-same, sound-same}
-use Rattle.std.proofs.Common.{arith, ap, ◌∙◌}
+use Rattle.std.proofs.Common.{arith, None, Result, Ok, Err, ap, ◌∙◌}
 use Rattle.std.specs.Map.{lookup}
+use Rattle.std.specs.Result.{IsErr, OnErr, OnOk}
+use Rattle.std.proofs.lemmas.Bool.{false≢true}
 use Rattle.cdi_model.specs.DeclKey.{same_key}
+use Rattle.cdi_index.specs.State.{with_staged, State}
 use Rattle.cdi_index.proofs.index.Index.stage.Goals as goal
+
+on-ok : {T E : Type 0} (r : Result T E) (P : Type 0) → IsErr r → OnOk r P
+on-ok (Ok x) P e = absurd (false≢true e)
+on-ok (Err x) P e = tt
+
+on-err : {T E P : Type 0} (r : Result T E) → P → OnErr r P
+on-err (Ok x) p = tt
+on-err (Err x) p = p
 
 pub invariant_of-self : goal.invariant_of-self
 invariant_of-self c =
@@ -57,3 +68,10 @@ invariant_of-self-2 c =
       replaced = λ k. ap (lookup (same_key k)) c.prepare.ensures.replaced ∙ c.self.invariant.replaced k;
       staged = c.in_ok-next.ensures.next;
     }
+
+pub returns-in_err-told-clause-ok : goal.returns-in_err-told-clause-ok
+returns-in_err-told-clause-ok c = on-ok c.from_residual-in_err-told.result _ c.from_residual-in_err-told.ensures.0
+
+pub returns-in_err-told-clause-err : goal.returns-in_err-told-clause-err
+returns-in_err-told-clause-err c =
+    on-err c.from_residual-in_err-told.result (ap (λ (s : State). with_staged s None) c.self.view_is)

@@ -1,24 +1,25 @@
 use Rattle.std.proofs.Common.{List, Some, None, ap, refl, ◌∙◌}
-use Rattle.indexmap.specs.IndexMap.{get}
 use Rattle.cdi_model.specs.declared.decl.Decl.{Decl}
 use Rattle.cdi_model.specs.declared.decl.Kind.TheVariants as kinds
-use Rattle.cdi_model.specs.DeclKey.{key_at, same_key}
+use Rattle.cdi_model.specs.DeclKey.{key_at}
 use Rattle.cdi_effective.specs.Records.{records_in}
 use Rattle.cdi_index.specs.Kept.{made_in, stored}
 use Rattle.cdi_index.specs.Made.{made_of}
-use Rattle.cdi_index.specs.Replaced.{lent, made_after, turned}
+use Rattle.cdi_index.specs.Replaced.{keys_changed, lent, made_after}
 use Rattle.cdi_index.proofs.ReplacedLemmas.{lent-of}
 use Rattle.cdi_index.proofs.ToldLemmas.{made-applied}
 use Rattle.cdi_index.proofs.next_index.NextIndex.records.Goals as goal
+
+pub made_after-requires : goal.made_after-requires
+made_after-requires c = ap keys_changed c.as_slice-in-None.ensures.value ∙ c.self.invariant.affected
 
 pub returns-in-Some : goal.returns-in-Some
 returns-in-Some c =
     let next = c.self.inside.next.now in
     let key = key_at kinds.Bean c.args.class.now in
-    c.as_slice-in-Some.ensures
+    c.as_slice.ensures
     ∙ lent-of next.decls c.args.class.now (Some c.in-Some.records.now) (made_of next.decls key)
-    (c.in-Some.ensures ∙ ap (λ ts. turned ts (get same_key c.self.inside.shelf.now.replaced) key) c.as_slice.ensures.value
-    ∙ c.self.invariant.turned key) refl
+    (c.in-Some.ensures ∙ c.self.invariant.turned key) refl
     ∙ ap (λ (d : List Decl). records_in d c.args.class.now) c.self.view_is
 
 pub returns-in-None : goal.returns-in-None
@@ -30,7 +31,5 @@ returns-in-None c =
     ∙ ap (lent None)
     (c.made_after.ensures ∙ ap (λ cs. made_after cs (made_in (stored shelf key)) key) c.as_slice-in-None.ensures.value
     ∙ made-applied next.first next.changes.items (stored shelf) key)
-    ∙ lent-of next.decls c.args.class.now None _
-    (c.in-None.ensures ∙ ap (λ ts. turned ts (get same_key shelf.replaced) key) c.as_slice.ensures.value ∙ c.self.invariant.turned key)
-    (c.self.invariant.exact key)
+    ∙ lent-of next.decls c.args.class.now None _ (c.in-None.ensures ∙ c.self.invariant.turned key) (c.self.invariant.exact key)
     ∙ ap (λ (d : List Decl). records_in d c.args.class.now) c.self.view_is

@@ -1,0 +1,24 @@
+use Rattle.std.proofs.Common.{arith, sym, ap, ◌∙◌, subst}
+use Rattle.indexmap.specs.IndexMap.{get}
+use Rattle.cdi_model.specs.DeclKey.{same_key}
+use Rattle.cdi_index.specs.Kept.{made_in}
+use Rattle.cdi_index.specs.Next.{IsNext}
+use Rattle.cdi_index.specs.Replaced.{turned}
+use Rattle.cdi_index.specs.State.{MayBeNext}
+use Rattle.cdi_index.proofs.index.Index.commit.Goals as goal
+
+pub invariant_of-self : goal.invariant_of-self
+invariant_of-self c =
+    let next = c.in-Some.next in
+    let shelf = c.self.inside.shelf in
+    let prepared : IsNext shelf c.self.inside.postings next =
+    subst (MayBeNext shelf c.self.inside.postings) (sym c.in-Some.ensures.value) c.self.invariant.staged in
+    record {
+      shelved = record { owns = c.install.ensures.shelf.owns; owned = c.install.ensures.shelf.owned };
+      free = λ s e at. omega (arith, c.install.ensures.free s e at, c.install.ensures.given, c.len.ensures, next.changes.ok.0);
+      exact = λ k. ap made_in (c.install.ensures.stored k) ∙ prepared.exact k;
+      sound = c.install.ensures.sound;
+      replaced = λ k. c.install_turns.ensures k
+          ∙ ap (λ m. turned next.turns.list.items (get same_key m) k) c.install.ensures.replaced ∙ prepared.turned k;
+      staged = subst (MayBeNext _ c.install.new.postings) (sym c.in-Some.ensures.after) tt;
+    }
