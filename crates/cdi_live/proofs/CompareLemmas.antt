@@ -1,6 +1,6 @@
 -- The beans of a type after edits are those of marked declarations.
 use Rattle.std.proofs.Common.{◌≡◌, ◌+◌, ℕ, zero, suc, nat_eq, Bool, true, false, cond, ◌||◌, List, [], ◌∷◌, ◌++◌, flat_map, filter, Option, Some, None}
-use Rattle.std.proofs.Common.{position, slice_get, refl, sym, ap, ◌∙◌, arith}
+use Rattle.std.proofs.Common.{position, slice_get, refl, sym, ap, ◌∙◌, inl, inr, ◌⊎◌, arith}
 use Rattle.std.specs.List.{list_any}
 use Rattle.std.specs.Option.{option_map_or}
 use Rattle.std.proofs.lemmas.Bool.{false≢true, or_left, or_parts, or_right}
@@ -8,13 +8,10 @@ use Rattle.std.proofs.lemmas.Cmp.{nat_eq_equiv}
 use Rattle.std.proofs.lemmas.List.Elements.{filter-append}
 use Rattle.cdi_model.specs.declared.decl.Decl.{Decl}
 use Rattle.cdi_model.specs.declared.decl.Decl.TheVariants as decls
-use Rattle.cdi_model.specs.declared.key.DeclKey.{DeclKey}
 use Rattle.cdi_model.specs.Decl.{key_of, kind_of, name_of_decl}
-use Rattle.cdi_model.specs.DeclKey.{same_key}
 use Rattle.cdi_model.specs.DeclList.{find_decl, is_of, AreDistinct}
 use Rattle.cdi_model.specs.Edits.{is_among}
 use Rattle.cdi_model.proofs.EditLemmas.{edits_keep_decl}
-use Rattle.cdi_model.proofs.EntryLemmas.{key_exact}
 use Rattle.cdi_model.proofs.PositionLemmas.{position-found, position-there}
 use Rattle.cdi_match.specs.Chain.{has}
 use Rattle.cdi_effective.specs.Beans.{beans, entries}
@@ -22,13 +19,16 @@ use Rattle.cdi_effective.proofs.PlaceLemmas.{own-found, own-position}
 use Rattle.cdi_postings.specs.declared.word.Reason.TheVariants as reasons
 use Rattle.cdi_postings.specs.Words.{word_at}
 use Rattle.cdi_postings.specs.declared.word.Word.{Word}
-use Rattle.cdi_index.specs.Made.{is_kept}
+use Rattle.cdi_postings.specs.Listing.{is_listed}
+use Rattle.cdi_index.specs.Made.{is_kept, words_have}
 use Rattle.cdi_positions.specs.Marks.{is_marked, marked_from}
 use Rattle.cdi_index.specs.Under.{has_one, records_at}
 use Rattle.cdi_index.proofs.SoughtLemmas.{none-of-type}
 use Rattle.cdi_index.proofs.UnderLemmas.{records-of-bean}
 use Rattle.cdi_live.specs.Compared.{is_at, is_place_of_one, IsBetween}
+use Rattle.cdi_live.specs.Sought.{words_at, words_declared}
 use Rattle.cdi_live.specs.declared.sides.Sides.{Sides}
+use Rattle.cdi_live.proofs.SoughtLemmas.{none-had, none-typed}
 
 -- ---- where the others give nothing
 
@@ -98,16 +98,6 @@ among-marked test n (m ∷ ms) (suc i) marked h = by m (among-marked test (n + 1
     by true more = or_right (test n) (list_any test (marked_from (n + 1) ms)) more
     by false more = more
 
--- a key among others passes what is true of it
-among-any : (p : DeclKey → Bool) (keys : List DeclKey) (k : DeclKey) → list_any p keys ≡ false → p k ≡ true → is_among keys k ≡ false
-among-any p [] k none h = refl
-among-any p (l ∷ keys) k none h =
-    let parts = or_parts (p l) (list_any p keys) none in by (same_key l k) refl parts.0 (among-any p keys k parts.1 h)
-  where
-    by : (b : Bool) → same_key l k ≡ b → p l ≡ false → is_among keys k ≡ false → (b || is_among keys k) ≡ false
-    by true e f more = absurd (false≢true (sym f ∙ ap p (key_exact l k e) ∙ h))
-    by false e f more = more
-
 itself : (n : ℕ) → nat_eq n n ≡ true
 itself n = nat_eq_equiv.refl n
 
@@ -134,32 +124,46 @@ module _ (sides : Sides) (between : IsBetween sides) (distinct : AreDistinct sid
       is_there (Some x) = true
   placed (Some q) d at there = (q, position-there (kind_of d) (name_of_decl d) ds q at ∙ there)
 
-  -- what is at a position that is not marked is not affected, and is there before without one of the words
-  pub unmarked-decl : (p : ℕ) (d : Decl) → is_kept (kind_of d) ≡ true → slice_get es p ≡ Some d
-      → (list_any (λ q. is_place_of_one ds es q p) (marked_from 0 before) || list_any (λ k. is_at es k p) sides.affected.now) ≡ false
-      → (is_among sides.affected.now (key_of d) ≡ false) × (((q : ℕ) × (slice_get ds q ≡ Some d)) × (has_one ds words d ≡ false))
-  unmarked-decl p d kept there none =
+  -- what is not affected, and is at a position that is not marked, is there before without one of the words
+  unaffected : (p : ℕ) (d : Decl) → is_kept (kind_of d) ≡ true → slice_get es p ≡ Some d → is_among sides.affected.now (key_of d) ≡ false
+      → list_any (λ q. is_place_of_one ds es q p) (marked_from 0 before) ≡ false
+      → ((q : ℕ) × (slice_get ds q ≡ Some d)) × (has_one ds words d ≡ false)
+  unaffected p d kept there untold none =
       let k = key_of d in
-      let parts = or_parts (list_any (λ q. is_place_of_one ds es q p) (marked_from 0 before)) (list_any (λ k. is_at es k p) sides.affected.now) none in
-      let untold : is_among sides.affected.now k ≡ false = among-any (λ k. is_at es k p) sides.affected.now k parts.1 (at-own p d there) in
-      let unedited : is_among sides.edited.now k ≡ false = not-edited (is_among sides.edited.now k) refl untold in
+      let unedited : is_among sides.edited.now k ≡ false = not-edited (is_among sides.edited.now k) refl in
       let same : find_decl (kind_of d) (name_of_decl d) ds ≡ Some d =
       sym (edits_keep_decl between.edited.edits ds (kind_of d) (name_of_decl d) (ap (λ ks. is_among ks k) (sym between.edited.keys) ∙ unedited))
       ∙ ap (find_decl (kind_of d) (name_of_decl d)) (sym between.edited.decls) ∙ own-found es p d apart there in
       let here = placed (position (is_of (kind_of d) (name_of_decl d)) ds) d refl same in
-      (untold, (here, without (has_one ds words d) refl here.0 here.1 parts.0))
+      (here, without (has_one ds words d) refl here.0 here.1)
     where
-      not-edited : (c : Bool) → is_among sides.edited.now (key_of d) ≡ c → is_among sides.affected.now (key_of d) ≡ false → c ≡ false
-      not-edited false e untold = refl
-      not-edited true e untold = absurd (false≢true (sym untold ∙ between.told.edited (key_of d) kept e))
+      not-edited : (c : Bool) → is_among sides.edited.now (key_of d) ≡ c → c ≡ false
+      not-edited false e = refl
+      not-edited true e = absurd (false≢true (sym untold ∙ between.told.edited (key_of d) kept e))
 
-      without : (c : Bool) → has_one ds words d ≡ c → (q : ℕ) → slice_get ds q ≡ Some d
-          → list_any (λ q. is_place_of_one ds es q p) (marked_from 0 before) ≡ false → c ≡ false
-      without false e q at none = refl
-      without true e q at none = absurd (false≢true (sym none ∙ among-marked (λ q. is_place_of_one ds es q p) 0 before q
+      without : (c : Bool) → has_one ds words d ≡ c → (q : ℕ) → slice_get ds q ≡ Some d → c ≡ false
+      without false e q at = refl
+      without true e q at = absurd (false≢true (sym none ∙ among-marked (λ q. is_place_of_one ds es q p) 0 before q
           (found q ∙ ap (λ o. option_map_or (has_one ds words) o false) at ∙ e)
           (ap (λ n. is_place_of_one ds es n p) (omega arith) ∙ ap (λ o. option_map_or (λ d. is_at es (key_of d) p) o false) at
           ∙ at-own p d there)))
+
+  -- what is at a position that is not marked has none of the words; or it is not affected, and is there before without one of them
+  pub unmarked-decl : (p : ℕ) (d : Decl) → is_kept (kind_of d) ≡ true → slice_get es p ≡ Some d
+      → (list_any (λ q. is_place_of_one ds es q p) (marked_from 0 before) || list_any (λ w. is_listed sides.changed.now w p) words) ≡ false
+      → (list_any (words_have (words_at es p)) words ≡ false)
+      ⊎ ((is_among sides.affected.now (key_of d) ≡ false) × (((q : ℕ) × (slice_get ds q ≡ Some d)) × (has_one ds words d ≡ false)))
+  unmarked-decl p d kept there none =
+      let parts = or_parts (list_any (λ q. is_place_of_one ds es q p) (marked_from 0 before))
+      (list_any (λ w. is_listed sides.changed.now w p) words) none in
+      by (is_among sides.affected.now (key_of d)) refl parts.0 parts.1
+    where
+      by : (b : Bool) → is_among sides.affected.now (key_of d) ≡ b → list_any (λ q. is_place_of_one ds es q p) (marked_from 0 before) ≡ false
+          → list_any (λ w. is_listed sides.changed.now w p) words ≡ false
+          → (list_any (words_have (words_at es p)) words ≡ false)
+          ⊎ ((is_among sides.affected.now (key_of d) ≡ false) × (((q : ℕ) × (slice_get ds q ≡ Some d)) × (has_one ds words d ≡ false)))
+      by true e kept_marks listed = inl (none-had es sides.affected.now sides.changed.now between.listed p d apart there e words listed)
+      by false e kept_marks listed = inr (e, unaffected p d kept there e kept_marks)
 
 module _ (sides : Sides) (between : IsBetween sides) (distinct : AreDistinct sides.index.now.decls) (apart : AreDistinct sides.next.now)
     (t : List ℕ) (before : List Bool)
@@ -172,16 +176,23 @@ module _ (sides : Sides) (between : IsBetween sides) (distinct : AreDistinct sid
   news = sides.next.now
 
   pub unmarked : (p : ℕ) (d : Decl) → slice_get news p ≡ Some d
-      → (list_any (λ q. is_place_of_one olds news q p) (marked_from 0 before) || list_any (λ k. is_at news k p) sides.affected.now) ≡ false
+      → (list_any (λ q. is_place_of_one olds news q p) (marked_from 0 before)
+      || list_any (λ w. is_listed sides.changed.now w p) (word_at reasons.HasType t ∷ [])) ≡ false
       → filter (λ b. has b.types t) (entries news d) ≡ []
   unmarked p (decls.Bean b) there none =
-      let it = unmarked-decl sides between distinct apart (word_at reasons.HasType t ∷ []) before found p (decls.Bean b) refl there none in
-      let here = it.1.0 in
-      let records : entries news (decls.Bean b) ≡ entries olds (decls.Bean b) =
-      ap (λ o. option_map_or (entries news) o []) (sym there) ∙ sym (records-of-bean news p b apart there)
-      ∙ between.told.records b.name it.0 ∙ records-of-bean olds here.0 b distinct here.1
-      ∙ ap (λ o. option_map_or (entries olds) o []) here.1 in
-      ap (filter (λ x. has x.types t)) records ∙ none-of-type olds (decls.Bean b) t it.1.1
+      elim (unmarked-decl sides between distinct apart (word_at reasons.HasType t ∷ []) before found p (decls.Bean b) refl there none) [
+        | inl unlisted ↦
+            ap (λ o. filter (λ x. has x.types t) (option_map_or (entries news) o [])) (sym there)
+            ∙ none-typed (records_at news p) (option_map_or words_declared (slice_get news p) []) t
+            (or_parts (words_have (words_at news p) (word_at reasons.HasType t)) false unlisted).0
+        | inr it ↦
+            let here = it.1.0 in
+            let records : entries news (decls.Bean b) ≡ entries olds (decls.Bean b) =
+            ap (λ o. option_map_or (entries news) o []) (sym there) ∙ sym (records-of-bean news p b apart there)
+            ∙ between.told.records b.name it.0 ∙ records-of-bean olds here.0 b distinct here.1
+            ∙ ap (λ o. option_map_or (entries olds) o []) here.1 in
+            ap (filter (λ x. has x.types t)) records ∙ none-of-type olds (decls.Bean b) t it.1.1
+      ]
   unmarked p (decls.Type d) there none = refl
   unmarked p (decls.Qualifier d) there none = refl
   unmarked p (decls.Binding d) there none = refl

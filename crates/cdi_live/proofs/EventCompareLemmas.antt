@@ -1,6 +1,6 @@
 -- The observer methods that an event sees, before and after edits, are among those of the declarations that are looked at.
 use Rattle.std.proofs.Common.{◌≡◌, ℕ, Bool, false, ◌||◌, List, [], ◌∷◌, ◌++◌, map, flat_map, filter, Option, Some, None}
-use Rattle.std.proofs.Common.{slice_get, refl, sym, ap, ◌∙◌, arith}
+use Rattle.std.proofs.Common.{slice_get, refl, sym, ap, ◌∙◌, inl, inr, arith}
 use Rattle.std.specs.List.{list_any}
 use Rattle.std.specs.Option.{option_map_or}
 use Rattle.std.proofs.lemmas.Grind.{flat_map-append}
@@ -13,14 +13,18 @@ use Rattle.cdi_effective.specs.declared.records.Effective.{Effective}
 use Rattle.cdi_intercept.specs.Sorting.{sorted_by}
 use Rattle.cdi_postings.specs.declared.word.Reason.TheVariants as reasons
 use Rattle.cdi_postings.specs.Words.{word_at}
+use Rattle.cdi_postings.specs.Listing.{is_listed}
 use Rattle.cdi_positions.specs.Marks.{is_marked, marked_from}
+use Rattle.cdi_index.specs.Made.{words_have}
 use Rattle.cdi_index.specs.Under.{has_one, observes_one, records_at}
 use Rattle.cdi_index.proofs.SoughtLemmas.{observing-one}
 use Rattle.cdi_observe.specs.Observers.{Observer, declared_by, enabled_bean, is_before, observers, observes, observing}
 use Rattle.cdi_questions.proofs.CandidateLemmas.{none-of-decl, same-observers}
-use Rattle.cdi_live.specs.Compared.{is_at, is_place_of_one, IsBetween}
+use Rattle.cdi_live.specs.Compared.{is_place_of_one, IsBetween}
+use Rattle.cdi_live.specs.Sought.{words_declared, words_typed}
 use Rattle.cdi_live.specs.declared.sides.Sides.{Sides}
 use Rattle.cdi_live.proofs.CompareLemmas.{gather, unmarked-decl}
+use Rattle.cdi_live.proofs.SoughtLemmas.{none-observed}
 
 -- ---- before
 
@@ -90,11 +94,17 @@ pub unobserved : (sides : Sides) → IsBetween sides → AreDistinct sides.index
     (slice_get sides.index.now.decls p) false)
     → (p : ℕ) (d : Decl) → slice_get sides.next.now p ≡ Some d
     → (list_any (λ q. is_place_of_one sides.index.now.decls sides.next.now q p) (marked_from 0 before)
-    || list_any (λ k. is_at sides.next.now k p) sides.affected.now) ≡ false
+    || list_any (λ w. is_listed sides.changed.now w p) (map (word_at reasons.Observes) types)) ≡ false
     → observes_one types d ≡ false
 unobserved sides between distinct apart types before found p (decls.Bean b) there none =
-    sym (observing-one sides.index.now.decls types (decls.Bean b))
-    ∙ (unmarked-decl sides between distinct apart (map (word_at reasons.Observes) types) before found p (decls.Bean b) refl there none).1.1
+    elim (unmarked-decl sides between distinct apart (map (word_at reasons.Observes) types) before found p (decls.Bean b) refl there none) [
+      | inl unlisted ↦
+          let records : List Effective = records_at sides.next.now p in
+          none-observed (words_typed records) b.observers types
+          (ap (λ o. list_any (words_have (words_typed records ++ option_map_or words_declared o []))
+          (map (word_at reasons.Observes) types)) (sym there) ∙ unlisted)
+      | inr it ↦ sym (observing-one sides.index.now.decls types (decls.Bean b)) ∙ it.1.1
+    ]
 unobserved sides between distinct apart types before found p (decls.Type d) there none = refl
 unobserved sides between distinct apart types before found p (decls.Qualifier d) there none = refl
 unobserved sides between distinct apart types before found p (decls.Binding d) there none = refl

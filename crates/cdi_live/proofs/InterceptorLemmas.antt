@@ -1,9 +1,9 @@
 -- The interceptors that a chain sees are found by the words of its bindings.
 use Rattle.std.proofs.Common.{◌≡◌, ℕ, Bool, true, false, cond, ◌&&◌, ◌||◌, is_some, List, [], ◌∷◌, ◌++◌, flat_map, filter, slice_get, Some}
-use Rattle.std.proofs.Common.{refl, sym, ap, ◌∙◌, arith}
+use Rattle.std.proofs.Common.{refl, sym, ap, ◌∙◌, inl, inr, arith}
 use Rattle.std.specs.List.{list_any}
 use Rattle.std.proofs.Math.Bool.{and-false}
-use Rattle.std.proofs.lemmas.Bool.{false≢true, or_from, or_left, or_parts, or_right}
+use Rattle.std.proofs.lemmas.Bool.{false≢true, or_left, or_parts, or_right}
 use Rattle.std.proofs.lemmas.Grind.{flat_map-append}
 use Rattle.std.proofs.lemmas.List.Elements.{filter-append}
 use Rattle.std.proofs.lemmas.List.Folds.{list_any-append}
@@ -17,6 +17,7 @@ use Rattle.cdi_model.specs.declared.quals.Qual.{Qual}
 use Rattle.cdi_model.specs.Mentions.{mentions, of_bindings, of_parts, of_point, Mention}
 use Rattle.cdi_match.proofs.Names.{bytes_eq-turned}
 use Rattle.cdi_effective.specs.Qualifiers.{uses_one}
+use Rattle.cdi_effective.specs.declared.records.Effective.{Effective}
 use Rattle.cdi_intercept.specs.Chains.{as_interceptor, in_order, interceptors, is_before, is_enabled, part_for}
 use Rattle.cdi_intercept.specs.Sees.{is_seen, shares_type}
 use Rattle.cdi_intercept.specs.Sorting.{sorted_by}
@@ -25,15 +26,18 @@ use Rattle.cdi_postings.specs.declared.word.Reason.TheVariants as reasons
 use Rattle.cdi_postings.specs.declared.word.Word.{Word}
 use Rattle.cdi_postings.specs.Words.{same_word, same_word_equiv, word_at}
 use Rattle.cdi_index.specs.Made.{words_have, words_named, words_named_in}
-use Rattle.cdi_index.specs.Under.{has_one}
+use Rattle.cdi_postings.specs.Listing.{is_listed}
+use Rattle.cdi_index.specs.Under.{has_one, records_at}
 use Rattle.cdi_stakes.proofs.ChainLemmas.{order}
 use Rattle.cdi_stakes.proofs.SortLemmas.{filtered_in_order}
 use Rattle.std.specs.Option.{option_map_or, option_to_list}
 use Rattle.cdi_model.specs.DeclList.{AreDistinct}
-use Rattle.cdi_live.specs.Compared.{is_at, is_place_of_one, IsBetween}
+use Rattle.cdi_live.specs.Compared.{is_place_of_one, IsBetween}
+use Rattle.cdi_live.specs.Sought.{words_declared, words_typed}
 use Rattle.cdi_live.specs.declared.sides.Sides.{Sides}
 use Rattle.cdi_live.specs.ChainGone.{enabled_at, enabled_in, words_bound}
 use Rattle.cdi_live.proofs.CompareLemmas.{gather, unmarked-decl}
+use Rattle.cdi_live.proofs.SoughtLemmas.{fewer, none-declared}
 
 -- ---- in order
 
@@ -145,28 +149,22 @@ bound-named i w h =
     ∙ or_left (words_have (bound ++ first) w) (words_have rest w)
     (words-append w bound first ∙ or_left (words_have bound w) (words_have first w) h)
 
-fewer : (p q : Word → Bool) (ws : List Word) → ((w : Word) → p w ≡ true → q w ≡ true) → list_any q ws ≡ false → list_any p ws ≡ false
-fewer p q [] more none = refl
-fewer p q (w ∷ ws) more none =
-    let both = or_parts (q w) (list_any q ws) none in
-    or_from (p w) (list_any p ws) (by (p w) refl both.0) (fewer p q ws more both.1)
+-- an interceptor of which no binding has one of the words shares no type with those
+without-bound : (words : List Word) (bindings : List Qual) (place : BeanPlace) (i : InterceptorDecl) → Cover words bindings
+    → list_any (words_have (words_bound i.bindings)) words ≡ false → filter (is_seen bindings place) (enabled_in (decls.Interceptor i)) ≡ []
+without-bound words bindings place i cover none = by (is_enabled i) (no-share bindings i.bindings words cover none)
   where
-    by : (b : Bool) → p w ≡ b → q w ≡ false → b ≡ false
-    by false e f = refl
-    by true e f = absurd (false≢true (sym f ∙ more w e))
-
--- what has none of the words of some bindings shares no type with them
-pub without-words : (ds : List Decl) (words : List Word) (bindings : List Qual) (place : BeanPlace) (d : Decl) → Cover words bindings
-    → has_one ds words d ≡ false → filter (is_seen bindings place) (enabled_in d) ≡ []
-without-words ds words bindings place (decls.Interceptor i) cover none = by (is_enabled i) (no-share bindings i.bindings words cover own)
-  where
-    own : list_any (words_have (words_bound i.bindings)) words ≡ false
-    own = fewer (words_have (words_bound i.bindings)) (words_have (words_named (decls.Interceptor i))) words (bound-named i) none
-
     by : (b : Bool) → shares_type bindings i ≡ false → filter (is_seen bindings place) (cond b (i ∷ []) []) ≡ []
     by true share = ap (λ (c : Bool). cond {A = List InterceptorDecl} c (i ∷ []) [])
         (ap (λ c. is_some (part_for place i) && c) share ∙ and-false (is_some (part_for place i)))
     by false share = refl
+
+-- what has none of the words of some bindings shares no type with them
+pub without-words : (ds : List Decl) (words : List Word) (bindings : List Qual) (place : BeanPlace) (d : Decl) → Cover words bindings
+    → has_one ds words d ≡ false → filter (is_seen bindings place) (enabled_in d) ≡ []
+without-words ds words bindings place (decls.Interceptor i) cover none =
+    without-bound words bindings place i cover
+    (fewer (words_have (words_bound i.bindings)) (words_have (words_named (decls.Interceptor i))) words (bound-named i) none)
 without-words ds words bindings place (decls.Bean d) cover none = refl
 without-words ds words bindings place (decls.Type d) cover none = refl
 without-words ds words bindings place (decls.Qualifier d) cover none = refl
@@ -179,11 +177,17 @@ pub unmarked-seen : (sides : Sides) → IsBetween sides → AreDistinct sides.in
     → ((p : ℕ) → is_marked before p ≡ option_map_or (has_one sides.index.now.decls words) (slice_get sides.index.now.decls p) false)
     → (bindings : List Qual) (place : BeanPlace) → Cover words bindings → (p : ℕ) (d : Decl) → slice_get sides.next.now p ≡ Some d
     → (list_any (λ q. is_place_of_one sides.index.now.decls sides.next.now q p) (marked_from 0 before)
-    || list_any (λ k. is_at sides.next.now k p) sides.affected.now) ≡ false
+    || list_any (λ w. is_listed sides.changed.now w p) words) ≡ false
     → filter (is_seen bindings place) (enabled_in d) ≡ []
 unmarked-seen sides between distinct apart words before found bindings place cover p (decls.Interceptor i) there none =
-    without-words sides.index.now.decls words bindings place (decls.Interceptor i) cover
-    (unmarked-decl sides between distinct apart words before found p (decls.Interceptor i) refl there none).1.1
+    elim (unmarked-decl sides between distinct apart words before found p (decls.Interceptor i) refl there none) [
+      | inl unlisted ↦
+          let records : List Effective = records_at sides.next.now p in
+          without-bound words bindings place i cover
+          (none-declared (words_typed records) (words_bound i.bindings) words
+          (ap (λ o. list_any (words_have (words_typed records ++ option_map_or words_declared o [])) words) (sym there) ∙ unlisted))
+      | inr it ↦ without-words sides.index.now.decls words bindings place (decls.Interceptor i) cover it.1.1
+    ]
 unmarked-seen sides between distinct apart words before found bindings place cover p (decls.Bean d) there none = refl
 unmarked-seen sides between distinct apart words before found bindings place cover p (decls.Type d) there none = refl
 unmarked-seen sides between distinct apart words before found bindings place cover p (decls.Qualifier d) there none = refl

@@ -1,9 +1,10 @@
 mod AskedLemmas
+mod PartLemmas
+mod SoughtLemmas
 mod CompareLemmas
 mod SuspectLemmas
 mod GoneLemmas
 mod LiveLemmas
-mod PartLemmas
 mod ReaderLemmas
 mod InterceptorLemmas
 mod BoundLemmas

@@ -7,6 +7,7 @@ use Rattle.cdi_model.specs.Decl.{key_of}
 use Rattle.cdi_model.specs.DeclList.{is_of}
 use Rattle.cdi_index.specs.State.{IsEdited}
 use Rattle.cdi_index.specs.Told.{Tells}
+use Rattle.cdi_live.specs.Sought.{AreListed}
 use Rattle.cdi_live.specs.declared.sides.Sides.{Sides}
 
 -- it is the position of the declaration of a key
@@ -17,7 +18,8 @@ is_at ds k p = option_map_or (λ i. nat_eq i p) (position (is_of k.kind k.name) 
 abbrev pub is_place_of_one : List Decl → List Decl → ℕ → ℕ → Bool
 is_place_of_one ds es q p = option_map_or (λ d. is_at es (key_of d) p) (slice_get ds q) false
 
--- Edits lead from the one side to the other, and the affected declarations are told.
+-- Edits lead from the one side to the other, and the affected declarations are told, with where they are after them.
 pub record IsBetween (sides : Sides) : Type 0 where
   pub edited : IsEdited sides.index.now.decls (record { decls = sides.next.now; keys = sides.edited.now })
   pub told : Tells sides.index.now.decls sides.next.now sides.edited.now sides.affected.now
+  pub listed : AreListed sides.next.now sides.affected.now sides.changed.now

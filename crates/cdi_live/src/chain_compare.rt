@@ -29,8 +29,8 @@ pub(crate) fn is_place_of(decls: &Decls, class: &Name, place: &BeanPlace) -> boo
     }
 }
 
-/// Whether the chain around a place sees something else after the draft. It looks at the interceptors before it that have a
-/// binding of one of the types at the place, and at those that the draft affects.
+/// Whether the chain around a place sees something else after the draft. It looks at the interceptors that have a binding of
+/// one of the types at the place, before or after.
 fn is_touched(
     alloc: Global,
     sides: &Sides<'_>,
@@ -49,7 +49,7 @@ fn is_touched(
     push_bound_words(olds.as_slice(), &mut words)?;
     push_bound_words(news.as_slice(), &mut words)?;
     let before = sides.index.positions_under(words.as_slice());
-    let after = positions_after(sides, &before);
+    let after = positions_after(sides, &before, words.as_slice());
     let old_seen = seen_at(alloc, sides.index.decls(), &before, olds.as_slice(), place)?;
     let new_seen = seen_at(alloc, sides.next.decls(), &after, news.as_slice(), place)?;
     is_chain_touched_by(

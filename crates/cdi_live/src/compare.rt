@@ -1,12 +1,13 @@
 //! Whether choices see the same before and after a draft.
-ghost use Rattle.std.specs.Prelude.{◌≡◌, ◌&&◌, ◌||◌, ◌++◌, [], false, filter, flat_map, length, map, slice_get, Some, IfOk, OnOk};
-ghost use Rattle.std.specs.List.{list_all, list_any};
+ghost use Rattle.std.specs.Prelude.{◌≡◌, ◌<◌, ◌&&◌, ◌||◌, ◌++◌, [], nat_eq, false, filter, flat_map, length, map, slice_get, Some, IfOk, OnOk};
+ghost use Rattle.std.specs.List.{list_all, list_any, All};
 ghost use Rattle.std.specs.Str.{bytes_eq};
 ghost use Rattle.cdi_match.specs.Chain.{has};
 ghost use Rattle.cdi_model.specs.DeclList.{limit};
 ghost use Rattle.cdi_model.specs.SameUse.{same_quals};
 ghost use Rattle.cdi_effective.specs.Beans.{beans, entries};
 ghost use Rattle.cdi_memo.specs.Answers.{parts_under};
+ghost use Rattle.cdi_postings.specs.Listing.{is_listed};
 ghost use Rattle.cdi_index.specs.Under.{records_at};
 ghost use Rattle.cdi_positions.specs.Marks.{is_marked, marked_from};
 ghost use Rattle.cdi_seen.specs.Touched.{declare_alike, see_same_beans};
@@ -50,26 +51,47 @@ fn mark_kept(sides: &Sides<'_>, positions: &PositionSet, marked: &mut PositionSe
     }
 }
 
-/// Marks the positions after the draft of the declarations that it affects.
-fn mark_affected(sides: &Sides<'_>, marked: &mut PositionSet)
-    requires { length marked.old ≡ limit }
+/// Marks some positions.
+fn mark_slots(slots: &[u64], marked: &mut PositionSet)
+    requires size { length marked.old ≡ limit }
+    requires within { All (λ slot. slot < limit) slots.now }
     ensures size { length marked.new ≡ limit }
-    ensures marks { (p : _) → is_marked marked.new p ≡ (is_marked marked.old p
-        || list_any (λ k. is_at sides.now.next.now k p) sides.now.affected.now) }
+    ensures marks { (p : _) → is_marked marked.new p ≡ (is_marked marked.old p || list_any (nat_eq p) slots.now) }
 {
-    for key in sides.affected {
-        mark(sides.next.decls(), key, marked);
+    for slot in slots {
+        marked.insert(*slot as usize);
     }
 }
 
-/// The positions after the draft of the declarations that are at some positions before it, and of those that it affects.
-pub(crate) fn positions_after(sides: &Sides<'_>, before: &PositionSet) -> PositionSet
+/// Marks the positions after the draft of the declarations that it affects and that are found by one of some words.
+fn mark_affected(sides: &Sides<'_>, words: &[Word], marked: &mut PositionSet)
+    requires between { IsBetween sides.now }
+    requires size { length marked.old ≡ limit }
+    ensures size { length marked.new ≡ limit }
+    ensures marks { (p : _) → is_marked marked.new p ≡ (is_marked marked.old p
+        || list_any (λ w. is_listed sides.now.changed.now w p) words.now) }
+{
+    // No effect at run time. The proof reads here how many declarations there are at most.
+    let _ = sides.next.decls().iter();
+    for word in words {
+        mark_slots(sides.changed.under(*word), marked);
+    }
+}
+
+/// The positions after the draft of the declarations that are at some positions before it, and of those that it affects and
+/// that are found by one of some words.
+pub(crate) fn positions_after(
+    sides: &Sides<'_>,
+    before: &PositionSet,
+    words: &[Word],
+) -> PositionSet
+    requires { IsBetween sides.now }
     ensures { (p : _) → is_marked result p ≡ (list_any (λ q. is_place_of_one sides.now.index.now.decls sides.now.next.now q p)
-        (marked_from 0 before.now) || list_any (λ k. is_at sides.now.next.now k p) sides.now.affected.now) }
+        (marked_from 0 before.now) || list_any (λ w. is_listed sides.now.changed.now w p) words.now) }
 {
     let mut marked = PositionSet::new();
     mark_kept(sides, before, &mut marked);
-    mark_affected(sides, &mut marked);
+    mark_affected(sides, words, &mut marked);
     marked
 }
 
@@ -82,12 +104,12 @@ fn positions_of_type(sides: &Sides<'_>, bean_type: &Name) -> PositionSet
     // No effect at run time. The proof reads here that no two declarations have one kind and name.
     let _ = sides.index.decls().iter();
     let _ = sides.next.decls().iter();
-    let word = Word {
+    let words = [Word {
         reason: Reason::HasType,
         name: *bean_type,
-    };
-    let before = sides.index.positions_under(&[word]);
-    positions_after(sides, &before)
+    }];
+    let before = sides.index.positions_under(&words);
+    positions_after(sides, &before, &words)
 }
 
 /// Appends those of some records that have a type.
@@ -124,8 +146,8 @@ fn beans_at<'a>(
     Ok(list)
 }
 
-/// The beans of a type after the draft, in order. It looks at those that have it before, and at those of the declarations
-/// that the draft affects.
+/// The beans of a type after the draft, in order. It looks at the declarations that have one before, and at those that the
+/// draft affects and that have one after it.
 fn beans_after<'a>(
     alloc: Global,
     sides: &Sides<'a>,

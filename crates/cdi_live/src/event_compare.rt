@@ -96,7 +96,7 @@ fn positions_observing(
     let _ = sides.next.decls().iter();
     let words = words_observed(alloc, types)?;
     let before = sides.index.positions_under(&words);
-    Ok(positions_after(sides, &before))
+    Ok(positions_after(sides, &before, &words))
 }
 
 /// Appends some records.
@@ -128,8 +128,8 @@ fn records_at_all<'a>(
     Ok(list)
 }
 
-/// The observer methods that an event of a type sees after the draft. It looks at the declarations that observe a type of it
-/// before, and at those that the draft affects.
+/// The observer methods that an event of a type sees after the draft. It looks at the declarations that observe a type of it,
+/// before or after.
 fn observers_after<'a>(
     alloc: Global,
     sides: &Sides<'a>,

@@ -7,6 +7,7 @@ ghost use Rattle.cdi_live.specs.Compared.{IsBetween};
 ghost use Rattle.cdi_live.specs.Kept.{AreAsked, AreGoing};
 
 use crate::chain_stage::gone_chains_after;
+use crate::changed::changed_by_word;
 use crate::dropped::Wants;
 use crate::event_stage::gone_events_after;
 use crate::memos::{Going, Memos};
@@ -85,11 +86,13 @@ fn going_between(
         AreGoing index.now.decls next.decls kept.now.memos.now going)) }
 {
     let next = index.next().unwrap();
+    let changed = changed_by_word(alloc, &next, keys.affected.as_slice())?;
     let sides = Sides {
         index,
         next: &next,
         edited: keys.edited.as_slice(),
         affected: keys.affected.as_slice(),
+        changed: &changed,
     };
     going_after(alloc, &sides, kept)
 }

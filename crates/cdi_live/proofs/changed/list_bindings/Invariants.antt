@@ -1,0 +1,10 @@
+use Rattle.std.proofs.Common.{◌≡◌, ◌||◌, ℕ, take}
+use Rattle.cdi_postings.specs.declared.word.Word.{Word}
+use Rattle.cdi_postings.specs.Listing.{is_listed}
+use Rattle.cdi_live.specs.ChainGone.{words_bound}
+use Rattle.cdi_live.specs.Sought.{is_listed_by}
+use Rattle.cdi_live.proofs.changed.list_bindings.Given as goal
+
+abbrev pub invariant-loop-binding : goal.invariant-loop-binding
+invariant-loop-binding l = (w : Word) (p : ℕ) → is_listed l.changed w p
+    ≡ (is_listed l.fn.changed w p || is_listed_by (words_bound (take l.binding-index l.bindings)) l.slot w p)

@@ -1,0 +1,12 @@
+use Rattle.std.proofs.Common.{◌≤◌, ◌<◌, length, sym, subst}
+use Rattle.std.specs.List.{All}
+use Rattle.cdi_model.specs.DeclList.{limit}
+use Rattle.cdi_live.proofs.SoughtLemmas.{slots-within}
+use Rattle.cdi_live.proofs.compare.mark_affected.Goals as goal
+
+pub mark_slots-requires-clause-within : goal.mark_slots-requires-clause-within
+mark_slots-requires-clause-within c =
+    let sides = c.args.sides.now in
+    let few : length sides.next.now ≤ limit = subst (λ ds. length ds ≤ limit) c.decls.ensures c.iter.ensures.bound in
+    subst (All (λ slot. slot < limit)) (sym c.under.ensures)
+    (slots-within sides.next.now sides.affected.now sides.changed.now c.requires.between.listed few c.word-item.result)
