@@ -7,6 +7,8 @@ pub mod Wired
 pub mod Seen
 pub mod Points
 pub mod Lent
+pub mod PointsLent
+pub mod Evaluated
 pub mod AnswerText
 pub use Rattle.cdi_bodies.specs.Within
 pub use Rattle.cdi_model.specs.Bytes

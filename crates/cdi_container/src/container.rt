@@ -20,6 +20,7 @@ ghost use Rattle.cdi_container.specs.History.{AsksSome, EditsFrom, Redeploys, Hi
 ghost use Rattle.cdi_container.specs.Known.{work_with, worked};
 ghost use Rattle.cdi_container.specs.Named.{NamesTrace};
 ghost use Rattle.cdi_container.specs.Points.{points_told};
+ghost use Rattle.cdi_container.specs.PointsLent.{points_lent};
 ghost use Rattle.cdi_container.specs.Told.{IsTold};
 
 use crate::answer::{
@@ -96,6 +97,8 @@ impl<B: Bodies> Container<B> {
     ghost use Rattle.cdi_container.specs.Editing.{admitted, put_of, changes_in, changes_of_all, refusal_of_batch};
     ghost use Rattle.cdi_container.specs.Seen.{ChainStep, ObserversStep};
     ghost use Rattle.cdi_container.specs.Seen.{EvaluateStep, ReportStep, CountsStep, WorkStep};
+    ghost use Rattle.std.specs.Borrow.{sem};
+    ghost use Rattle.cdi_container.specs.Evaluated.{EndsEvaluated};
 
     /// An empty container, which keeps this book of stored bodies. It keeps the allocator, and takes no memory yet.
     pub fn new(alloc: Global, book: B) -> Container<B>
@@ -400,12 +403,21 @@ impl<B: Bodies> Container<B> {
         Ok(())
     }
 
-    /// Each injection point of the present declarations with what is chosen for it (CDI 4.0, Injection points; Performing
-    /// typesafe resolution), in the order of the declarations and of the places in which each names its points. It lends the
-    /// kept answers, which are all known after `evaluate`. It is no command, and takes no memory.
-    pub fn points(&self) -> Points<'_>
+    /// Evaluates as `evaluate` does, and lends each injection point of the present declarations with what is chosen for it
+    /// (CDI 4.0, Injection points; Performing typesafe resolution). What the container is once they are let go is said under
+    /// `left`, at `Ok` and at `Err`. It takes memory as `evaluate` does.
+    pub fn points(&mut self) -> Result<Points<'_>, AllocError>
+        ensures* left { sem 𝓛 (EndsEvaluated B.row B.Bodies self.entry result) }
+        ensures points { IfOk result (λ points. points_lent points ≡ points_told self.old.decls) }
+    {
+        self.evaluate()?;
+        Ok(self.kept_points())
+    }
+
+    /// The injection points, where each wanted key is known.
+    fn kept_points(&self) -> Points<'_>
         requires { self.now.known ≡ wanted self.now.decls }
-        ensures { result ≡ points_told self.now.decls }
+        ensures { points_lent result ≡ points_told self.now.decls }
     {
         self.deployment.points()
     }

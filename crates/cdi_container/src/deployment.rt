@@ -9,6 +9,7 @@ ghost use Rattle.cdi_container.specs.Editing.{changes_of_all, drafted_by, refusa
 ghost use Rattle.cdi_container.specs.History.{no_counts};
 ghost use Rattle.cdi_container.specs.Known.{keys_of_event, keys_of_use, worked, IsInOrder};
 ghost use Rattle.cdi_container.specs.Points.{points_told};
+ghost use Rattle.cdi_container.specs.PointsLent.{points_lent};
 ghost use Rattle.cdi_container.specs.Seen.{AnswersBatch};
 ghost use Rattle.cdi_model.specs.Answering.{Answers};
 ghost use Rattle.cdi_model.specs.DeclList.{AreDistinct};
@@ -307,7 +308,7 @@ impl<B: Bodies> Deployment<B> {
     /// The injection points, whose answers are known.
     pub(crate) fn points(&self) -> Points<'_>
         requires { self.now.known ≡ wanted self.now.decls }
-        ensures { result ≡ points_told self.now.decls }
+        ensures { points_lent result ≡ points_told self.now.decls }
     {
         Points::new(&self.live)
     }

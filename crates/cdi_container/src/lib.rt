@@ -37,4 +37,4 @@ pub use cdi_scene::{Notified, Place, Seat};
 pub use cdi_text::{read_decl, read_qualifier};
 pub use cdi_trace::{NamedEntries, NamedEntry, NamedInstance, NamedInstances};
 pub use container::{Container, history_laws};
-pub use points::{InjectionPoint, Points};
+pub use points::{InjectionPoint, PointIter, Points};

@@ -3,6 +3,7 @@ ghost use Rattle.std.specs.Prelude.{◌≡◌, ◌∷◌, [], MatchOption};
 ghost use Rattle.std.specs.Iterator.{YieldsFirstBy, item_count};
 ghost use Rattle.cdi_container.specs.Lent.{lent_at, own_left, placed_at, placed_left, some_left};
 ghost use Rattle.cdi_container.specs.Points.{placed_points, points_in};
+ghost use Rattle.cdi_container.specs.Wired.{KnowsAll};
 
 use cdi_live::Live;
 use cdi_model::{Decl, Iter as DeclIter, Mention, Mentions, PointDecl, PointPlace};
@@ -101,14 +102,70 @@ impl<'a> PlacedPoints<'a> {
     }
 }
 
-/// The injection points of some declarations, in order, with what is chosen for each. It takes no memory.
-#[derive(Drop)]
+/// The injection points of a container, in the order of the declarations and of the places in which each names its points,
+/// with what is chosen for each. It lends the kept answers, which are all known, and takes no memory.
+#[derive(Clone, Copy)]
 pub struct Points<'a> {
+    live: &'a Live,
+    ghost known: { KnowsAll live.now },
+}
+
+impl<'a> Points<'a> {
+    ghost use Rattle.cdi_container.specs.Points.{points_told};
+    ghost use Rattle.cdi_container.specs.PointsLent.{points_lent};
+
+    /// Those of the present declarations.
+    pub(crate) fn new(live: &'a Live) -> Points<'a>
+        requires { KnowsAll live.now }
+        ensures { points_lent result ≡ points_told live.now.decls }
+    {
+        Points { live }
+    }
+
+    /// Goes through them. It takes no memory.
+    #[tactic(auto, unfolding(crate::specs::Points::points_told))]
+    pub fn iter(&self) -> PointIter<'a>
+        ensures { result ≡ points_lent self.now }
+    {
+        let live = self.live;
+        PointIter {
+            live,
+            left: PlacedPoints {
+                own: None,
+                rest: live.decls().iter(),
+            },
+        }
+    }
+}
+
+impl<'a> IntoIterator for Points<'a> {
+    ghost use Rattle.cdi_container.specs.PointsLent.{points_lent};
+
+    type Item = InjectionPoint<'a>;
+
+    type IntoIter = PointIter<'a>;
+
+    ghost into_iter_gives = { λ points left. left ≡ points_lent points };
+
+    fn into_iter(self) -> PointIter<'a> {
+        self.iter()
+    }
+}
+
+impl fmt::Debug for Points<'_> {
+    fn fmt<W: fmt::Write>(&self, f: &mut fmt::Formatter<W>) -> fmt::Result {
+        write!(f, "Points")
+    }
+}
+
+/// The injection points that are left, in order, with what is chosen for each.
+#[derive(Drop)]
+pub struct PointIter<'a> {
     live: &'a Live,
     left: PlacedPoints<'a>,
 }
 
-impl<'a> Model for Points<'a> {
+impl<'a> Model for PointIter<'a> {
     ghost use Rattle.std.specs.Prelude.{List, map};
     ghost use Rattle.cdi_container.specs.Lent.{AreKnown, placed_left};
     ghost use Rattle.cdi_container.specs.Points.{ToldPoint, told_at};
@@ -120,27 +177,7 @@ impl<'a> Model for Points<'a> {
     ghost invariant = { λ p. AreKnown p.live.now (placed_left p.left) };
 }
 
-impl<'a> Points<'a> {
-    ghost use Rattle.cdi_container.specs.Points.{points_told};
-    ghost use Rattle.cdi_container.specs.Wired.{KnowsAll};
-
-    /// Those of the present declarations.
-    #[tactic(auto, unfolding(crate::specs::Points::points_told))]
-    pub(crate) fn new(live: &'a Live) -> Points<'a>
-        requires { KnowsAll live.now }
-        ensures { result ≡ points_told live.now.decls }
-    {
-        Points {
-            live,
-            left: PlacedPoints {
-                own: None,
-                rest: live.decls().iter(),
-            },
-        }
-    }
-}
-
-impl<'a> Iterator for Points<'a> {
+impl<'a> Iterator for PointIter<'a> {
     type Item = InjectionPoint<'a>;
 
     ghost next_gives = { YieldsFirstBy lent_at (λ s. s) };
@@ -165,8 +202,8 @@ impl<'a> Iterator for Points<'a> {
     }
 }
 
-impl fmt::Debug for Points<'_> {
+impl fmt::Debug for PointIter<'_> {
     fn fmt<W: fmt::Write>(&self, f: &mut fmt::Formatter<W>) -> fmt::Result {
-        write!(f, "Points")
+        write!(f, "PointIter")
     }
 }

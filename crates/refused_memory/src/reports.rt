@@ -90,8 +90,7 @@ fn point_choices<B: Bodies>(
     container: &mut Container<B>,
 ) -> Result<Vec<PointChoice>, AllocError> {
     let mut list = Vec::new(alloc);
-    container.evaluate()?;
-    for told in container.points() {
+    for told in container.points()? {
         list.push(PointChoice {
             bean_type: told.point.required_type,
             choice: told.choice.copy(alloc)?,

@@ -3,9 +3,9 @@ use Rattle.cdi_model.specs.declared.decl.Decl.{Decl}
 use Rattle.cdi_container.specs.Lent.{AreKnown}
 use Rattle.cdi_container.specs.Points.{placed_points}
 use Rattle.cdi_container.proofs.PointLemmas.{are_known}
-use Rattle.cdi_container.proofs.points.Points.new.Goals as goal
+use Rattle.cdi_container.proofs.points.Points.iter.Goals as goal
 
 pub invariant_of-result : goal.invariant_of-result
 invariant_of-result c =
-    subst (λ (ds : List Decl). AreKnown c.args.live.now (placed_points ds)) (sym (c.iter.ensures.value ∙ c.decls.ensures))
-    (are_known c.args.live.now c.requires)
+    subst (λ (ds : List Decl). AreKnown c.args.self.now.live.now (placed_points ds)) (sym (c.iter.ensures.value ∙ c.decls.ensures))
+    (are_known c.args.self.now.live.now c.args.self.now.known)

@@ -2,7 +2,7 @@ use Rattle.std.proofs.Common.{◌≡◌, ◌∙◌, ap, subst, sym}
 use Rattle.cdi_observe.specs.Wanted.{wanted}
 use Rattle.cdi_container.specs.History.{State}
 use Rattle.cdi_container.specs.Points.{points_told}
-use Rattle.cdi_container.proofs.container.Container.points.Goals as goal
+use Rattle.cdi_container.proofs.container.Container.kept_points.Goals as goal
 
 pub points-requires : goal.points-requires
 points-requires g c = subst (λ (s : State). s.known ≡ wanted s.decls) (sym c.self.view_is) c.requires
