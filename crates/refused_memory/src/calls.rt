@@ -335,12 +335,12 @@ fn is_right<B: Bodies>(
     agrees(&make(alloc, container, call), answer)
 }
 
-/// Makes the calls in an empty container, and tells whether one got no memory. Where one gets none, it is made again.
-pub fn make_calls<B: Bodies + Drop>(alloc: Global, book: B) -> Result<bool, Difference> {
-    make_each(alloc, &mut Container::new(alloc, book))
-}
-
-fn make_each<B: Bodies>(alloc: Global, container: &mut Container<B>) -> Result<bool, Difference> {
+/// Makes the calls in a container that is empty at first, and tells whether one got no memory. Where one gets none, it is made
+/// again.
+pub fn make_calls<B: Bodies>(
+    alloc: Global,
+    container: &mut Container<B>,
+) -> Result<bool, Difference> {
     let mut refused = false;
     for (place, (call, answer)) in CALLS.iter().enumerate() {
         let mut right = is_right(alloc, container, *call, *answer);

@@ -18,6 +18,7 @@ mod steps;
 mod texts;
 
 use calls::make_calls;
+use cdi_container::{Bodies, Container};
 use cdi_stock::StockBodies;
 use questions::ask_questions;
 use reports::ask_for_all;
@@ -104,8 +105,8 @@ static PARTS: [Part; 6] = [
 fn compare(alloc: Global) -> Result<bool, Difference> {
     let mut refused = false;
     for part in &PARTS {
-        if do_part(alloc, *part)? {
-            if refused || do_part(alloc, *part)? {
+        if do_part(alloc, StockBodies, *part)? {
+            if refused || do_part(alloc, StockBodies, *part)? {
                 return Err(Difference::RefusedAgain);
             }
             refused = true;
@@ -114,15 +115,24 @@ fn compare(alloc: Global) -> Result<bool, Difference> {
     Ok(refused)
 }
 
-/// Does a part, and tells whether an allocation of it was refused.
-fn do_part(alloc: Global, part: Part) -> Result<bool, Difference> {
+/// Does a part with a container of these bodies, and tells whether an allocation of it was refused.
+fn do_part<B: Bodies + Drop>(alloc: Global, book: B, part: Part) -> Result<bool, Difference> {
+    do_in(alloc, &mut Container::new(alloc, book), part)
+}
+
+/// Does a part in an empty container.
+fn do_in<B: Bodies>(
+    alloc: Global,
+    container: &mut Container<B>,
+    part: Part,
+) -> Result<bool, Difference> {
     match part {
-        Part::Calls => make_calls(alloc, StockBodies),
+        Part::Calls => make_calls(alloc, container),
         Part::Questions => ask_questions(alloc),
-        Part::Scripts => run_scripts(alloc, StockBodies),
-        Part::Steps => take_steps(alloc, StockBodies, &DECLARED, &STEPS),
-        Part::FurtherSteps => take_steps(alloc, StockBodies, &FURTHER_DECLARED, &FURTHER_STEPS),
-        Part::Reports => ask_for_all(alloc, StockBodies),
+        Part::Scripts => run_scripts(alloc, container),
+        Part::Steps => take_steps(alloc, container, &DECLARED, &STEPS),
+        Part::FurtherSteps => take_steps(alloc, container, &FURTHER_DECLARED, &FURTHER_STEPS),
+        Part::Reports => ask_for_all(alloc, container),
     }
 }
 

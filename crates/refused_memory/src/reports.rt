@@ -188,11 +188,13 @@ fn take_each<B: Bodies>(alloc: Global, container: &mut Container<B>) -> Result<b
     Ok(refused)
 }
 
-/// Declares what the steps need, takes them, and says whether there was no memory for one of these.
-pub fn ask_for_all<B: Bodies + Drop>(alloc: Global, book: B) -> Result<bool, Difference> {
-    let mut container = Container::new(alloc, book);
-    match declare(&mut container) {
-        Ok(()) => take_each(alloc, &mut container),
+/// Declares in an empty container what the steps need, takes them, and says whether there was no memory for one of these.
+pub fn ask_for_all<B: Bodies>(
+    alloc: Global,
+    container: &mut Container<B>,
+) -> Result<bool, Difference> {
+    match declare(container) {
+        Ok(()) => take_each(alloc, container),
         Err(Error::OutOfMemory) => Ok(true),
         Err(_) => Err(Difference::Declarations),
     }

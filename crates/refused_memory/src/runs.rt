@@ -257,8 +257,8 @@ fn take_each<B: Bodies>(
     Ok(false)
 }
 
-/// Declares what the steps need, takes them, and says whether there was no memory for one of these.
-fn go_through<B: Bodies>(
+/// Declares in an empty container what the steps need, takes them, and says whether there was no memory for one of these.
+pub fn take_steps<B: Bodies>(
     alloc: Global,
     container: &mut Container<B>,
     texts: &[&[u8]],
@@ -269,14 +269,4 @@ fn go_through<B: Bodies>(
         Err(Error::OutOfMemory) => Ok(true),
         Err(_) => Err(Difference::Declarations),
     }
-}
-
-/// Puts the texts in an empty container, takes the steps, and says whether there was no memory for one of these.
-pub fn take_steps<B: Bodies + Drop>(
-    alloc: Global,
-    book: B,
-    texts: &[&[u8]],
-    steps: &[Step],
-) -> Result<bool, Difference> {
-    go_through(alloc, &mut Container::new(alloc, book), texts, steps)
 }

@@ -105,11 +105,10 @@ static SCRIPTS: [Printed; 3] = [
 ];
 
 /// Runs the scripts on a container that is empty at first, up to one that has no memory, and tells whether there is one.
-pub fn run_scripts<B: Bodies + Drop>(alloc: Global, book: B) -> Result<bool, Difference> {
-    run_each(alloc, &mut Container::new(alloc, book))
-}
-
-fn run_each<B: Bodies>(alloc: Global, container: &mut Container<B>) -> Result<bool, Difference> {
+pub fn run_scripts<B: Bodies>(
+    alloc: Global,
+    container: &mut Container<B>,
+) -> Result<bool, Difference> {
     for (place, printed) in SCRIPTS.iter().enumerate() {
         match prints(alloc, container, printed) {
             Some(true) => {}
