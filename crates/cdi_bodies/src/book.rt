@@ -40,12 +40,17 @@ pub trait Bodies {
 }
 
 /// The bodies of a container, of distinct names. Contracts see of it what `Bodies` says, and no more.
-#[derive(Drop)]
 pub struct Book {
     bodies: Vec<Body>,
     /// Their names, in the same order.
     names: IndexSet<Ident>,
     ghost named: { names.keys ≡ map (λ body. body.name) bodies.items },
+}
+
+impl Drop for Book {
+    fn drop(self) {
+        let Book { bodies: _, names: _ } = self;
+    }
 }
 
 /// The names of some bodies, in order, which are distinct.

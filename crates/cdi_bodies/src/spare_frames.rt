@@ -9,9 +9,14 @@ use std::marker::Model;
 
 /// Frames that have ended, so that a frame which begins takes no memory where there is one. They are seen as how many there
 /// are: what they were shown shows in no frame that begins.
-#[derive(Drop)]
 pub struct SpareFrames {
     frames: Vec<Box<Frame>>,
+}
+
+impl Drop for SpareFrames {
+    fn drop(self) {
+        let SpareFrames { frames: _ } = self;
+    }
 }
 
 impl Model for SpareFrames {

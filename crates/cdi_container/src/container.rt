@@ -59,13 +59,23 @@ use std::marker::Model;
 /// Each call is one step of a legal history: a refused call changes nothing but which answers are known. One that runs out of
 /// memory changes nothing else either, but that a lookup, a call and an event leave no instance and no request. Beside that
 /// step each call says by itself what it answers and what it leaves.
-#[derive(Drop)]
 pub struct Container<B: Bodies> {
     pub(crate) alloc: Global,
     pub(crate) deployment: Deployment<B>,
     pub(crate) run: Run,
     /// The names for the trace of an edit: those of the declarations before it.
     pub(crate) told: Option<Names>,
+}
+
+impl<B: Bodies + Drop> Drop for Container<B> {
+    fn drop(self) {
+        let Container {
+            alloc: _,
+            deployment: _,
+            run: _,
+            told: _,
+        } = self;
+    }
 }
 
 impl<B: Bodies> Model for Container<B> {

@@ -55,10 +55,15 @@ use std::marker::Model;
 
 /// What was made of declarations before an edit. It is let go where it is made anew, so that the time of an edit does not
 /// grow with the deployment.
-#[derive(Drop)]
 struct Stale {
     scene: Option<Scene>,
     beans: Option<BeanList>,
+}
+
+impl Drop for Stale {
+    fn drop(self) {
+        let Stale { scene: _, beans: _ } = self;
+    }
 }
 
 impl Stale {
@@ -86,13 +91,23 @@ impl Stale {
 
 /// The present declarations with the answers that are kept, the book of stored bodies, and what was made of them since the last
 /// edit.
-#[derive(Drop)]
 pub(crate) struct Deployment<B: Bodies> {
     live: Live,
     book: B,
     /// Made by the first lookup, call or event. Each wanted key is known from then on.
     wiring: Option<Wiring>,
     stale: Stale,
+}
+
+impl<B: Bodies + Drop> Drop for Deployment<B> {
+    fn drop(self) {
+        let Deployment {
+            live: _,
+            book: _,
+            wiring: _,
+            stale: _,
+        } = self;
+    }
 }
 
 impl<B: Bodies> Model for Deployment<B> {

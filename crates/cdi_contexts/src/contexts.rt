@@ -20,13 +20,18 @@ use std::marker::Model;
 const MOST_LIVE: usize = 1024;
 
 /// The live instances and what they hold.
-#[derive(Drop)]
 pub struct Contexts {
     live: Vec<Instance>,
     homes: Homes,
     states: States,
     given: u64,
     is_active: bool,
+}
+
+impl Drop for Contexts {
+    fn drop(self) {
+        let Contexts { live: _, homes: _, states: _, given: _, is_active: _ } = self;
+    }
 }
 
 impl Model for Contexts {

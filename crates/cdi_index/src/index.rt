@@ -32,7 +32,6 @@ use std::alloc::{AllocError, Global};
 use std::marker::Model;
 
 /// The declarations, with what is made of each, and at most one draft that is staged.
-#[derive(Drop)]
 pub struct Index {
     alloc: Global,
     decls: Decls,
@@ -40,6 +39,12 @@ pub struct Index {
     postings: Postings,
     counts: Counts,
     next: Option<Next>,
+}
+
+impl Drop for Index {
+    fn drop(self) {
+        let Index { alloc: _, decls: _, shelf: _, postings: _, counts: _, next: _ } = self;
+    }
 }
 
 impl Model for Index {

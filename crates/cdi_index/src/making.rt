@@ -37,7 +37,6 @@ pub(crate) enum Given {
 }
 
 /// What is made of a declaration, and what that read.
-#[derive(Drop)]
 pub(crate) struct Made {
     pub(crate) reads: Seq<DeclKey>,
     /// The classes of the beans that it replaces.
@@ -45,6 +44,12 @@ pub(crate) struct Made {
     /// Under what it is listed beside what it reads and replaces.
     pub(crate) words: Seq<Word>,
     pub(crate) given: Given,
+}
+
+impl Drop for Made {
+    fn drop(self) {
+        let Made { reads: _, replaces: _, words: _, given: _ } = self;
+    }
 }
 
 /// The keys of a kind with some names.

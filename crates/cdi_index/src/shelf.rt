@@ -21,7 +21,6 @@ pub(crate) struct Kept {
 /// What is kept of declarations, each at a slot of its own: a number that each version of what is made gets anew. So what is
 /// listed by its slot is found without its name. A slot may be listed too long: then it leads to nothing, or to what is
 /// kept there since, which tells by itself whether it is looked for.
-#[derive(Drop)]
 pub(crate) struct Shelf {
     pub(crate) slots: IndexMap<DeclKey, u64>,
     pub(crate) kept: IndexMap<u64, Kept>,
@@ -29,6 +28,12 @@ pub(crate) struct Shelf {
     pub(crate) given: u64,
     /// The records of the beans that others replace.
     pub(crate) replaced: IndexMap<DeclKey, Seq<Effective>>,
+}
+
+impl Drop for Shelf {
+    fn drop(self) {
+        let Shelf { slots: _, kept: _, given: _, replaced: _ } = self;
+    }
 }
 
 impl Shelf {

@@ -29,7 +29,6 @@ use std::alloc::{AllocError, Global};
 use std::marker::Model;
 
 /// Declarations, with the answers to the questions that they ask, each kept until an edit touches it.
-#[derive(Drop)]
 pub struct Live {
     alloc: Global,
     index: Index,
@@ -39,6 +38,12 @@ pub struct Live {
     work: Work,
     /// The kept answers that go at the next commit, if a draft is staged.
     going: Option<Going>,
+}
+
+impl Drop for Live {
+    fn drop(self) {
+        let Live { alloc: _, index: _, memos: _, by_default: _, work: _, going: _ } = self;
+    }
 }
 
 impl Model for Live {

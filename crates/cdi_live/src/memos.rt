@@ -16,11 +16,16 @@ use std::alloc::Global;
 
 /// The answers that are kept: the beans of types and qualifiers, the interceptors around places of the beans of classes, and
 /// the observer methods of events by their types and qualifiers.
-#[derive(Drop)]
 pub(crate) struct Memos {
     pub(crate) choices: Memo<Quals, Choice>,
     pub(crate) chains: Memo<ChainPlace, Seq<Name>>,
     pub(crate) events: Memo<Quals, Seq<ObserverId>>,
+}
+
+impl Drop for Memos {
+    fn drop(self) {
+        let Memos { choices: _, chains: _, events: _ } = self;
+    }
 }
 
 /// The kept answers that go at the next commit.

@@ -9,9 +9,14 @@ use std::alloc::{AllocError, Global};
 use std::marker::Model;
 
 /// The slots that are listed under each word, each once, in no order.
-#[derive(Drop)]
 pub struct Postings {
     map: IndexMap<Word, IndexSet<u64>>,
+}
+
+impl Drop for Postings {
+    fn drop(self) {
+        let Postings { map: _ } = self;
+    }
 }
 
 impl Model for Postings {

@@ -18,13 +18,18 @@ use std::alloc::{AllocError, Global};
 use std::marker::Model;
 
 /// The beans of a deployment, in order, with lookups by the class that declares them and by the types that they have.
-#[derive(Drop)]
 pub struct BeanList {
     beans: Vec<Effective>,
     /// For each class the place of its first bean, which is its managed one.
     classes: IndexMap<Name, usize>,
     /// For each type the places of the enabled beans that have it, rising.
     types: IndexMap<Name, Vec<usize>>,
+}
+
+impl Drop for BeanList {
+    fn drop(self) {
+        let BeanList { beans: _, classes: _, types: _ } = self;
+    }
 }
 
 impl Model for BeanList {

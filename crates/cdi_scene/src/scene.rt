@@ -123,10 +123,15 @@ pub struct Interceptor {
 }
 
 /// The beans and the interceptors of a deployment. One scene serves every run until the declarations change.
-#[derive(Drop)]
 pub struct Scene {
     /// In the order of the bean list.
     pub beans: Seq<Bean>,
     /// Those that are enabled.
     pub interceptors: Seq<Interceptor>,
+}
+
+impl Drop for Scene {
+    fn drop(self) {
+        let Scene { beans: _, interceptors: _ } = self;
+    }
 }

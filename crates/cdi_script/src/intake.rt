@@ -16,13 +16,18 @@ use std::alloc::{AllocError, Global};
 use std::mem;
 
 /// What was taken of a script. Its commands run on the container that each call is given.
-#[derive(Drop)]
 pub(crate) struct Intake {
     alloc: Global,
     pub(crate) runner: Runner,
     /// What is kept of a line that isn't complete.
     line: Line,
     mode: Mode,
+}
+
+impl Drop for Intake {
+    fn drop(self) {
+        let Intake { alloc: _, runner: _, line: _, mode: _ } = self;
+    }
 }
 
 impl Intake {

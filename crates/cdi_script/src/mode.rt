@@ -72,11 +72,16 @@ impl OpenBatch {
 }
 
 /// What is open where a line begins.
-#[derive(Drop)]
 pub(crate) struct Mode {
     batch: Option<OpenBatch>,
     /// What is kept of a put block.
     block: Option<Block>,
+}
+
+impl Drop for Mode {
+    fn drop(self) {
+        let Mode { batch: _, block: _ } = self;
+    }
 }
 
 impl Model for Mode {

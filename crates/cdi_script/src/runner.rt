@@ -10,7 +10,6 @@ use std::alloc::{AllocError, Global};
 use std::io::Write;
 
 /// Runs commands on the container that each call is given, and keeps what they print until it is written.
-#[derive(Drop)]
 pub(crate) struct Runner {
     /// Leaves trace lines out.
     pub(crate) quiet: bool,
@@ -19,6 +18,12 @@ pub(crate) struct Runner {
     /// What is printed and not written yet.
     pub(crate) out: Vec<u8>,
     scratch: Vec<u8>,
+}
+
+impl Drop for Runner {
+    fn drop(self) {
+        let Runner { quiet: _, refused: _, out: _, scratch: _ } = self;
+    }
 }
 
 impl Runner {

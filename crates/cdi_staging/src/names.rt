@@ -57,10 +57,15 @@ pub struct InterceptorNames {
 }
 
 /// The names of the beans and the interceptors of a scene, in its order: each is found by a position in constant time.
-#[derive(Drop)]
 pub struct Names {
     pub beans: Seq<BeanNames>,
     pub interceptors: Seq<InterceptorNames>,
+}
+
+impl Drop for Names {
+    fn drop(self) {
+        let Names { beans: _, interceptors: _ } = self;
+    }
 }
 
 fn copy_calls(alloc: Global, calls: &[CallDecl]) -> Result<Seq<CallDecl>, AllocError>
