@@ -49,7 +49,10 @@ pub struct Book {
 
 impl Drop for Book {
     fn drop(self) {
-        let Book { bodies: _, names: _ } = self;
+        let Book {
+            bodies: _,
+            names: _,
+        } = self;
     }
 }
 

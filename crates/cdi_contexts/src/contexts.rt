@@ -30,7 +30,13 @@ pub struct Contexts {
 
 impl Drop for Contexts {
     fn drop(self) {
-        let Contexts { live: _, homes: _, states: _, given: _, is_active: _ } = self;
+        let Contexts {
+            live: _,
+            homes: _,
+            states: _,
+            given: _,
+            is_active: _,
+        } = self;
     }
 }
 

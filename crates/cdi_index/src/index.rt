@@ -43,7 +43,14 @@ pub struct Index {
 
 impl Drop for Index {
     fn drop(self) {
-        let Index { alloc: _, decls: _, shelf: _, postings: _, counts: _, next: _ } = self;
+        let Index {
+            alloc: _,
+            decls: _,
+            shelf: _,
+            postings: _,
+            counts: _,
+            next: _,
+        } = self;
     }
 }
 

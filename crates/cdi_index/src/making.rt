@@ -48,7 +48,12 @@ pub(crate) struct Made {
 
 impl Drop for Made {
     fn drop(self) {
-        let Made { reads: _, replaces: _, words: _, given: _ } = self;
+        let Made {
+            reads: _,
+            replaces: _,
+            words: _,
+            given: _,
+        } = self;
     }
 }
 

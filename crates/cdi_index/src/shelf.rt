@@ -32,7 +32,12 @@ pub(crate) struct Shelf {
 
 impl Drop for Shelf {
     fn drop(self) {
-        let Shelf { slots: _, kept: _, given: _, replaced: _ } = self;
+        let Shelf {
+            slots: _,
+            kept: _,
+            given: _,
+            replaced: _,
+        } = self;
     }
 }
 

@@ -42,7 +42,14 @@ pub struct Live {
 
 impl Drop for Live {
     fn drop(self) {
-        let Live { alloc: _, index: _, memos: _, by_default: _, work: _, going: _ } = self;
+        let Live {
+            alloc: _,
+            index: _,
+            memos: _,
+            by_default: _,
+            work: _,
+            going: _,
+        } = self;
     }
 }
 

@@ -24,7 +24,11 @@ pub(crate) struct Memos {
 
 impl Drop for Memos {
     fn drop(self) {
-        let Memos { choices: _, chains: _, events: _ } = self;
+        let Memos {
+            choices: _,
+            chains: _,
+            events: _,
+        } = self;
     }
 }
 

@@ -28,7 +28,11 @@ pub struct BeanList {
 
 impl Drop for BeanList {
     fn drop(self) {
-        let BeanList { beans: _, classes: _, types: _ } = self;
+        let BeanList {
+            beans: _,
+            classes: _,
+            types: _,
+        } = self;
     }
 }
 

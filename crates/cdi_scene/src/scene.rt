@@ -132,6 +132,9 @@ pub struct Scene {
 
 impl Drop for Scene {
     fn drop(self) {
-        let Scene { beans: _, interceptors: _ } = self;
+        let Scene {
+            beans: _,
+            interceptors: _,
+        } = self;
     }
 }

@@ -26,7 +26,12 @@ pub(crate) struct Intake {
 
 impl Drop for Intake {
     fn drop(self) {
-        let Intake { alloc: _, runner: _, line: _, mode: _ } = self;
+        let Intake {
+            alloc: _,
+            runner: _,
+            line: _,
+            mode: _,
+        } = self;
     }
 }
 

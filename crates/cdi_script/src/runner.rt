@@ -22,7 +22,12 @@ pub(crate) struct Runner {
 
 impl Drop for Runner {
     fn drop(self) {
-        let Runner { quiet: _, refused: _, out: _, scratch: _ } = self;
+        let Runner {
+            quiet: _,
+            refused: _,
+            out: _,
+            scratch: _,
+        } = self;
     }
 }
 

@@ -64,7 +64,10 @@ pub struct Names {
 
 impl Drop for Names {
     fn drop(self) {
-        let Names { beans: _, interceptors: _ } = self;
+        let Names {
+            beans: _,
+            interceptors: _,
+        } = self;
     }
 }
 
