@@ -1,9 +1,9 @@
-"""A deployment, and edits of it with a choice after each, which `generate` writes over 480 declarations and over 1,920.
+"""A deployment, and edits of it with a question after each, which `generate` writes over 480 declarations and over 1,920.
 
 It has interfaces, each with a class and its application-scoped bean, which has points of the two interfaces before its own
 and a method. Each tenth interface has a second class, whose bean is an alternative with a priority. The choice is one that
 no point asks for, so nothing of the deployment wants it to be known; where an alternative is toggled it is one for which two
-points ask.
+points ask. The same edits are measured with a report after each, too.
 """
 
 import itertools
@@ -25,6 +25,7 @@ CHOICE = "choose C3\n"
 # The place of the alternative whose priority is edited, and the choice for its interface, for which two points ask.
 TOGGLED = 70
 TOGGLED_CHOICE = f"choose I{TOGGLED}\n"
+REPORT = "report\n"
 
 
 def interface(place, *keys):
@@ -91,36 +92,54 @@ def toggled_alternatives(_):
     return itertools.cycle([put_block("bean", f"D{TOGGLED}", "alternative = true", f"priority = {priority}") for priority in (6, 5)])
 
 
-# What is edited, by the beginning of a script's name: the deployment, the edits, and the choice after each.
+def switched_alternatives(_):
+    """Puts of an alternative without a priority, so that it is disabled, and with one."""
+    keys = [[], ["priority = 5"]]
+    return itertools.cycle([put_block("bean", f"D{TOGGLED}", "alternative = true", *own) for own in keys])
+
+
+def changed_interceptors(_):
+    """Puts of the interceptor with one priority and with another in turn."""
+    keys = ['bindings = ["Log"]', 'around_invoke = { body = "pass" }']
+    return itertools.cycle([put_block("interceptor", "Scribe", f"priority = {priority}", *keys) for priority in (2, 1)])
+
+
+# What is edited, by the beginning of a script's name: the deployment, the edits, and the question after each.
 KINDS = {
     "equal_beans": (deployed, equal_beans, CHOICE),
     "changed_interfaces": (with_face, changed_interfaces, CHOICE),
     "changed_stereotypes": (furnished, changed_stereotypes, CHOICE),
     "drops_and_puts": (deployed, drops_and_puts, CHOICE),
     "toggled_alternatives": (deployed, toggled_alternatives, TOGGLED_CHOICE),
+    "reported_beans": (deployed, equal_beans, REPORT),
+    "reported_alternatives": (deployed, switched_alternatives, REPORT),
+    "reported_drops_and_puts": (deployed, drops_and_puts, REPORT),
+    "reported_interfaces": (with_face, changed_interfaces, REPORT),
+    "reported_stereotypes": (furnished, changed_stereotypes, REPORT),
+    "reported_interceptors": (furnished, changed_interceptors, REPORT),
 }
 NAMES = [f"{kind}_{declarations}" for kind in KINDS for declarations in INTERFACES]
 
 
 def begun(name):
-    """The edits that deploy what a script edits, the further ones, without end, and the choice after each of these."""
+    """The edits that deploy what a script edits, the further ones, without end, and the question after each of these."""
     kind, _, declarations = name.rpartition("_")
-    deploys, edits, choice = KINDS[kind]
-    return deploys(int(declarations)), edits(int(declarations)), choice
+    deploys, edits, question = KINDS[kind]
+    return deploys(int(declarations)), edits(int(declarations)), question
 
 
 def script(name, in_batches):
-    """The commands of a script: batches of the deployment, which a function makes, a report, and edits with a choice each."""
-    deployment, edits, choice = begun(name)
+    """The commands of a script: batches of the deployment, which a function makes, a report, and edits with a question each."""
+    deployment, edits, question = begun(name)
     yield from in_batches(deployment)
-    yield "report\n"
+    yield REPORT
     for edit in itertools.islice(edits, EDITS):
         yield edit
-        yield choice
+        yield question
 
 
 def small_script(name, in_batches):
-    """The pieces of a small script before those that are measured, and these. In both there are as many edits, each with a choice."""
-    deployment, edits, choice = begun(name)
-    pieces = [edit + choice for edit in itertools.islice(edits, 2 * MEASURED)]
-    return [*in_batches(deployment), "report\n", *pieces[:MEASURED]], pieces[MEASURED:]
+    """The pieces of a small script before those that are measured, and these. In both there are as many edits, each with a question."""
+    deployment, edits, question = begun(name)
+    pieces = [edit + question for edit in itertools.islice(edits, 2 * MEASURED)]
+    return [*in_batches(deployment), REPORT, *pieces[:MEASURED]], pieces[MEASURED:]

@@ -10,6 +10,7 @@ mod TurnLemmas
 mod KeyLemmas
 mod ReplacedLemmas
 pub mod UnderLemmas
+mod SlotLemmas
 pub mod AskedLemmas
 mod ToldLemmas
 pub mod SoughtLemmas

@@ -86,7 +86,7 @@ at-is ds w kept p e there has place =
 abbrev OfDecl : List Decl → List Word → ℕ → Type 0
 OfDecl ds words p = (d : Decl) × (slice_get ds p ≡ Some d) × (words_by ds d ≡ words)
 
-some-made : (a b : Made) → Some a ≡ Some b → a ≡ b
+pub some-made : (a b : Made) → Some a ≡ Some b → a ≡ b
 some-made a b h = cc
 
 of-decl : (ds : List Decl) (kind : Kind) (name : List ℕ) (made : Made) (w : Word) (p : ℕ) → made_by kind name ds ≡ Some made
@@ -143,7 +143,7 @@ of-decl ds kinds.Interceptor name made w p is has at = by (find_decl kinds.Inter
 
 module _ (ds : List Decl) (shelf : Shelf) (listings : List Listing) (shelved : IsShelf shelf) (exact : IsExact ds (stored shelf))
     (sound : IsSound (stored shelf) listings) (distinct : AreDistinct ds) where
-  made-at : (s : ℕ) (e : Kept) → kept_at shelf s ≡ Some e → made_of ds e.key ≡ Some e.made
+  pub made-at : (s : ℕ) (e : Kept) → kept_at shelf s ≡ Some e → made_of ds e.key ≡ Some e.made
   made-at s e there =
       sym (exact e.key)
       ∙ ap (λ o. made_in (stored_at (kept_at shelf) o)) (shelved.owned s e there)
@@ -233,7 +233,7 @@ module _ {X Y : Type 0} (f : X → List Y) (test : X → Bool) (all : List X) wh
   abbrev found_at : ℕ → List Y
   found_at p = option_map_or f (slice_get all p) []
 
-  none-pass : (xs : List X) → ((i : ℕ) → false ≡ option_map_or test (slice_get xs i) false) → filter test xs ≡ []
+  pub none-pass : (xs : List X) → ((i : ℕ) → false ≡ option_map_or test (slice_get xs i) false) → filter test xs ≡ []
   none-pass [] blank = refl
   none-pass (x ∷ xs) blank = ap (λ b. cond b (x ∷ filter test xs) (filter test xs)) (sym (blank 0)) ∙ none-pass xs (λ i. blank (suc i))
 

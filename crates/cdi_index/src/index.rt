@@ -23,7 +23,9 @@ use crate::next_index::NextIndex;
 use crate::prepare::{Next, prepare};
 use crate::replaced::install_turns;
 use crate::shelf::Shelf;
-use crate::under::{Sought, positions_under, sought_at_positions, words_observed};
+use crate::under::{
+    Sought, only_slot, positions_under, sought_at_positions, sought_at_slot, words_observed,
+};
 use cdi_effective::Effective;
 use cdi_model::{Decl, DeclKey, Decls, Kind, Name};
 use cdi_positions::PositionSet;
@@ -192,6 +194,9 @@ impl Index {
     {
         // No effect at run time. The proof reads here that no two declarations have one kind and name.
         let _ = self.decls.iter();
+        if let Some((word, slot)) = only_slot(&self.postings, words) {
+            return sought_at_slot(alloc, &self.shelf, sought, &word, slot);
+        }
         let positions = positions_under(&self.decls, &self.shelf, &self.postings, words);
         sought_at_positions(alloc, self, sought, &positions)
     }

@@ -1,15 +1,18 @@
 //! The declarations that are under words, and the beans that are found by these.
-ghost use Rattle.std.specs.Prelude.{◌≡◌, ◌<◌, ◌||◌, ◌++◌, filter, flat_map, length, map, IfOk, IfSome, OnOk};
+ghost use Rattle.std.specs.Prelude.{◌≡◌, ◌<◌, ◌||◌, ◌++◌, ℕ, Bool, filter, flat_map, length, map, IfOk, IfSome, OnOk};
+ghost use Rattle.std.specs.List.{list_any};
 ghost use Rattle.std.specs.Option.{option_copied};
 ghost use Rattle.cdi_model.specs.DeclList.{limit};
 ghost use Rattle.cdi_positions.specs.Marks.{is_marked, marked_from};
 ghost use Rattle.cdi_index.specs.Made.{words_have};
 ghost use Rattle.cdi_index.specs.Kept.{kept_at};
+ghost use Rattle.cdi_postings.specs.Listing.{under};
 ghost use Rattle.cdi_postings.specs.Words.{word_at};
+ghost use Rattle.cdi_postings.specs.declared.word.Word.{Word as AnyWord};
 ghost use Rattle.cdi_postings.specs.declared.word.Reason.TheVariants as reasons;
-ghost use Rattle.cdi_index.specs.Under.{has_name, is_sought, is_at_slots, is_at_words, position_under, records_at};
+ghost use Rattle.cdi_index.specs.Under.{has_name, is_sought, is_at_slots, is_at_words, position_under, records_at, records_kept};
 
-use crate::index::Index;
+use crate::index::{Index, own_records};
 use crate::making::Made;
 use crate::shelf::{Kept, Shelf};
 use cdi_effective::Effective;
@@ -113,6 +116,58 @@ fn push_sought<'a>(
         }
     }
     Ok(())
+}
+
+/// The only slot that is listed under some words, and its word. None where no slot or several are listed.
+pub(crate) fn only_slot(postings: &Postings, words: &[Word]) -> Option<(Word, u64)>
+    ensures { IfSome result (λ only. (test : AnyWord → ℕ → Bool)
+        → list_any (λ w. list_any (test w) (under postings.now w)) words.now ≡ test only.0 only.1) }
+{
+    let mut only = None;
+    for word in words {
+        match postings.under(*word) {
+            [] => {}
+            [slot] if only.is_none() => only = Some((*word, *slot)),
+            _ => return None,
+        }
+    }
+    only
+}
+
+/// The records of the bean of which this is kept, where it has a word.
+fn records_kept<'a>(shelf: &'a Shelf, kept: Option<&'a Kept>, word: &Word) -> &'a [Effective]
+    ensures { result.now ≡ records_kept shelf.now word.now (option_copied kept.entry) }
+{
+    let Some(kept) = kept else {
+        return &[];
+    };
+    if !has_word(&kept.made, word) {
+        return &[];
+    }
+    match shelf.replaced.get(&kept.key) {
+        Some(records) => records.as_slice(),
+        None => own_records(Some(&kept.made)),
+    }
+}
+
+/// Those of the records of the declaration at a slot that are sought, where it has a word.
+pub(crate) fn sought_at_slot<'a>(
+    alloc: Global,
+    shelf: &'a Shelf,
+    sought: Sought<'_>,
+    word: &Word,
+    slot: u64,
+) -> Result<Vec<&'a Effective>, AllocError>
+    ensures { IfOk result (λ list. map (λ bean. bean.now) list.items
+        ≡ filter (is_sought sought.entry) (records_kept shelf.now word.now (kept_at shelf.now slot))) }
+{
+    let mut list = Vec::new(alloc);
+    push_sought(
+        sought,
+        records_kept(shelf, shelf.kept.get(&slot), word),
+        &mut list,
+    )?;
+    Ok(list)
 }
 
 /// Those of the records of the declarations at some positions that are sought, in order.

@@ -2,10 +2,30 @@ use Rattle.std.proofs.Common.{◌≡◌, List, filter, flat_map, map, sym, ap, �
 use Rattle.std.proofs.lemmas.Result.{IfOk-weaker}
 use Rattle.cdi_effective.specs.declared.records.Effective.{Effective}
 use Rattle.cdi_positions.specs.Marks.{marked_from}
+use Rattle.cdi_index.specs.Kept.{kept_at}
 use Rattle.cdi_index.specs.State.{State}
-use Rattle.cdi_index.specs.Under.{beans_under, is_sought, records_at}
+use Rattle.cdi_index.specs.Under.{beans_under, is_sought, records_at, records_kept}
+use Rattle.cdi_index.proofs.SlotLemmas.{under-one}
 use Rattle.cdi_index.proofs.UnderLemmas.{marked-are, walked}
 use Rattle.cdi_index.proofs.index.Index.sought_under.Goals as goal
+
+pub returns-in-Some : goal.returns-in-Some
+returns-in-Some c =
+    let ds = c.self.inside.decls in
+    let shelf = c.self.inside.shelf in
+    let words = c.args.words.now in
+    let it = c.self.invariant in
+    let w = c.in-Some.word in
+    let s = c.in-Some.slot in
+    let found : List Effective → List Effective = filter (is_sought c.args.sought) in
+    IfOk-weaker c.sought_at_slot.result
+    (λ list. map (λ bean. bean.now) list.items ≡ found (records_kept shelf w (kept_at shelf s)))
+    (λ list. map (λ bean. bean.now) list.items ≡ found (beans_under c.args.self.now.decls words))
+    (λ list are. are
+    ∙ ap found (under-one ds shelf c.self.inside.postings it.shelved it.exact it.sound c.iter.ensures.distinct it.replaced words w s
+    c.in-Some.ensures)
+    ∙ ap (λ (s : State). found (beans_under s.decls words)) c.self.view_is)
+    c.sought_at_slot.ensures
 
 pub returns : goal.returns
 returns c =
