@@ -1,5 +1,5 @@
 -- Whom an event notifies, by position (CDI 4.0, Observer resolution; Observer ordering).
-use Rattle.std.specs.Prelude.{ℕ, Bool, List, length, map, Option, Some, None, position, unwrap_or}
+use Rattle.std.specs.Prelude.{◌≡◌, ℕ, Bool, List, length, map, Option, Some, None, position, unwrap_or}
 use Rattle.std.specs.Str.{bytes_eq}
 use Rattle.cdi_model.specs.declared.decl.BeanDecl.{BeanDecl}
 use Rattle.cdi_model.specs.declared.decl.Decl.{Decl}
@@ -12,6 +12,7 @@ use Rattle.cdi_effective.specs.declared.records.Effective.{Effective}
 use Rattle.cdi_observe.specs.Observers.{notified}
 use Rattle.cdi_observe.specs.declared.observers.ObserverId.{ObserverId}
 use Rattle.cdi_staging.specs.Sites.{position_of_class}
+use Rattle.cdi_staging.specs.declared.notifying.Host.{Host}
 
 abbrev pub is_observer : List ℕ → ObserverDecl → Bool
 is_observer name observer = bytes_eq observer.name name
@@ -30,6 +31,15 @@ notified_as ds list id = record {
   bean = position_of_class list id.class;
   observer = observer_declared (find_bean id.class ds) id.observer;
 }
+
+-- an observer method of a bean declaration
+abbrev pub notified_in : Host → List ℕ → Notified
+notified_in host name = record { bean = host.bean; observer = position_of_observer host.observers.now name }
+
+-- The bean declaration of a class is there with its position.
+pub record IsHost (ds : List Decl) (list : List Effective) (host : Host) : Type 0 where
+  pub bean : host.bean ≡ position_of_class list host.class
+  pub observers : (name : List ℕ) → position_of_observer host.observers.now name ≡ observer_declared (find_bean host.class ds) name
 
 -- the observer methods that are notified of an event of a type with these qualifiers, in order
 unfoldable pub notified_at : List Decl → List Effective → List ℕ → List Qual → List Notified

@@ -1,8 +1,8 @@
 //! Whom events notify.
-ghost use Rattle.std.specs.Prelude.{◌≡◌, map, position, IfOk};
+ghost use Rattle.std.specs.Prelude.{◌≡◌, ℕ, List, map, position, IfOk};
 ghost use Rattle.cdi_effective.specs.Beans.{beans as beans_of};
 ghost use Rattle.cdi_effective.specs.Disposers.{find_bean};
-ghost use Rattle.cdi_staging.specs.Notifying.{fired_at, is_observer, notified_as, notified_at, observer_declared};
+ghost use Rattle.cdi_staging.specs.Notifying.{fired_at, is_observer, notified_as, notified_at, notified_in, observer_declared, position_of_observer, IsHost};
 
 use crate::target::position_of_class;
 use cdi_model::{Decl, Decls, EventDecl, Ident, Kind, Name, ObserverDecl, Qual, Seq};
@@ -22,25 +22,45 @@ fn observer_named(observers: &[ObserverDecl], name: Ident) -> Option<usize>
     None
 }
 
-/// The position of an observer method among those that a class declares, or the one after the last.
-fn observer_declared(decls: &Decls, class: Name, name: Ident) -> usize
-    ensures { result ≡ observer_declared (find_bean class decls.now) name }
+/// The observer methods that a class declares.
+fn observers_of<'a>(decls: &'a Decls, class: &Name) -> &'a [ObserverDecl]
+    ensures { (name : List ℕ) → position_of_observer result.now name ≡ observer_declared (find_bean class.now decls.now) name }
 {
-    match decls.get(Kind::Bean, &class) {
-        Some(Decl::Bean(bean)) => {
-            let observers = bean.observers.as_slice();
-            observer_named(observers, name).unwrap_or(observers.len())
-        }
-        _ => 0,
+    match decls.get(Kind::Bean, class) {
+        Some(Decl::Bean(bean)) => bean.observers.as_slice(),
+        _ => &[],
     }
 }
 
-fn notified_as(decls: &Decls, beans: &BeanList, id: ObserverId) -> Notified
-    ensures { result ≡ notified_as decls.now beans.now id }
-{
-    Notified {
-        bean: position_of_class(beans, id.class),
-        observer: observer_declared(decls, id.class, id.observer),
+/// A bean declaration, as its observer methods are found.
+#[derive(Clone, Copy)]
+struct Host<'a> {
+    class: Name,
+    /// The position of its managed bean.
+    bean: usize,
+    observers: &'a [ObserverDecl],
+}
+
+impl<'a> Host<'a> {
+    fn of(decls: &'a Decls, beans: &BeanList, class: Name) -> Host<'a>
+        ensures host { IsHost decls.now beans.now result }
+        ensures class { result.class ≡ class }
+    {
+        Host {
+            class,
+            bean: position_of_class(beans, class),
+            observers: observers_of(decls, &class),
+        }
+    }
+
+    fn notified(&self, name: Ident) -> Notified
+        ensures { result ≡ notified_in self.now name }
+    {
+        let place = observer_named(self.observers, name);
+        Notified {
+            bean: self.bean,
+            observer: place.unwrap_or(self.observers.len()),
+        }
     }
 }
 
@@ -55,8 +75,15 @@ pub fn positions_of(
     ensures { IfOk result (λ list. list ≡ map (notified_as decls.now beans.now) ids.now) }
 {
     let mut list = Seq::new(alloc);
+    let Some(first) = ids.first() else {
+        return Ok(list);
+    };
+    let mut host = Host::of(decls, beans, first.class);
     for id in ids {
-        list.push(notified_as(decls, beans, *id))?;
+        if host.class != id.class {
+            host = Host::of(decls, beans, id.class);
+        }
+        list.push(host.notified(id.observer))?;
     }
     Ok(list)
 }

@@ -1,7 +1,7 @@
 pub mod AnsweredLemmas
 pub mod GlanceLemmas
 pub mod Laws
-mod ProxyLemmas
+pub mod ProxyLemmas
 pub mod PushLemmas
 pub mod RecordLemmas
 pub mod RestLemmas
