@@ -1,0 +1,13 @@
+-- The laws.
+use Rattle.cdi_model.specs.Edits.{edited_all}
+use Rattle.cdi_subjects.proofs.RestLemmas.{faults_rest_on}
+use Rattle.cdi_spared.specs.Spared.{BeansStayAlike, SparedKeepFaults}
+use Rattle.cdi_spared.proofs.BeanLemmas.{bean-alike}
+use Rattle.cdi_spared.proofs.SparedLemmas.{seen-alike}
+
+pub spared_keep_faults : SparedKeepFaults
+spared_keep_faults edits ds told d found tells spared code book =
+    faults_rest_on code ds (edited_all ds edits) book d (seen-alike edits ds told tells d found spared)
+
+pub beans_stay_alike : BeansStayAlike
+beans_stay_alike edits ds told id tells spared chains = bean-alike edits ds told tells id spared chains
