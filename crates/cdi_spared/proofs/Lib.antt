@@ -5,4 +5,6 @@ mod PlaceLemmas
 mod OwnLemmas
 mod SparedLemmas
 mod BeanLemmas
+mod OfferLemmas
+mod ApartLemmas
 mod Laws

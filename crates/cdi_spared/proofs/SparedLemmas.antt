@@ -34,7 +34,7 @@ use Rattle.cdi_match.proofs.BindingLemmas.{brings_type_decides, types_brought-ha
 use Rattle.cdi_match.proofs.Names.{one_name, same_text}
 use Rattle.cdi_effective.specs.Beans.{effective, entries, managed, product, records}
 use Rattle.cdi_effective.specs.Bindings.{class_bindings}
-use Rattle.cdi_effective.specs.Disposers.{as_bean}
+use Rattle.cdi_effective.specs.Disposers.{as_bean, find_bean}
 use Rattle.cdi_effective.specs.Reads.{bean_keys, bean_reads, chain_reads, class_reads, link_reads, product_reads, record_reads, specialized_reads}
 use Rattle.cdi_effective.specs.Records.{records_declared, records_in}
 use Rattle.cdi_effective.specs.Specialized.{bean_named, behind, extended, specialized}
@@ -60,6 +60,20 @@ among-map kind (n ∷ names) key among = elim (or_cases (same_key (key_at kind n
   | inr later ↦ (let more = among-map kind names key later in
       (more.0, ap (λ b. bytes_eq n more.0 || b) more.1 ∙ grind arith, more.2))
 ]
+
+-- a bean that is found is declared
+bean-decl : (o : Option Decl) (s : BeanDecl) → as_bean o ≡ Some s → o ≡ Some (decls.Bean s)
+bean-decl (Some (decls.Bean b)) s is = let same : b ≡ s = cc in ap (λ x. Some (decls.Bean x)) same
+bean-decl None s is = absurd (let no : None ≡ Some s = is in cc)
+bean-decl (Some (decls.Type d)) s is = absurd (let no : None ≡ Some s = is in cc)
+bean-decl (Some (decls.Qualifier d)) s is = absurd (let no : None ≡ Some s = is in cc)
+bean-decl (Some (decls.Binding d)) s is = absurd (let no : None ≡ Some s = is in cc)
+bean-decl (Some (decls.Stereotype d)) s is = absurd (let no : None ≡ Some s = is in cc)
+bean-decl (Some (decls.Interceptor d)) s is = absurd (let no : None ≡ Some s = is in cc)
+
+-- by its name
+pub named-class : (ds : List Decl) (class : List ℕ) (s : BeanDecl) → find_bean class ds ≡ Some s → s.name ≡ class
+named-class ds class s is = name-found kinds.Bean class ds (decls.Bean s) (bean-decl (find_decl kinds.Bean class ds) s is)
 
 module _ (edits : List Edit) (ds : List Decl) (told : List DeclKey) (tells : Tells ds (edited_all ds edits) (edited_keys edits) told) where
   abbrev es : List Decl
@@ -192,23 +206,8 @@ module _ (edits : List Edit) (ds : List Decl) (told : List DeclKey) (tells : Tel
 
   named-found : (o : Option (List ℕ)) (s : BeanDecl) → bean_named ds o ≡ Some s → find_decl kinds.Bean s.name ds ≡ Some (decls.Bean s)
   named-found None s is = absurd (let no : None ≡ Some s = is in cc)
-  named-found (Some class) s is = by (find_decl kinds.Bean class ds) refl is
-    where
-      none : (o : Option BeanDecl) → o ≡ None → o ≡ Some s → find_decl kinds.Bean s.name ds ≡ Some (decls.Bean s)
-      none o e f = absurd (let no : None ≡ Some s = sym e ∙ f in cc)
-
-      by : (o : Option Decl) → find_decl kinds.Bean class ds ≡ o → as_bean o ≡ Some s → find_decl kinds.Bean s.name ds ≡ Some (decls.Bean s)
-      by None e f = none None refl f
-      by (Some (decls.Bean b)) e f =
-          let some : Some b ≡ Some s = f in
-          let same : b ≡ s = cc in
-          let name : b.name ≡ class = name-found kinds.Bean class ds (decls.Bean b) e in
-          ap (λ n. find_decl kinds.Bean n ds) (sym (ap (λ (x : BeanDecl). x.name) same) ∙ name) ∙ e ∙ ap (λ x. Some (decls.Bean x)) same
-      by (Some (decls.Type d)) e f = none None refl f
-      by (Some (decls.Qualifier d)) e f = none None refl f
-      by (Some (decls.Binding d)) e f = none None refl f
-      by (Some (decls.Stereotype d)) e f = none None refl f
-      by (Some (decls.Interceptor d)) e f = none None refl f
+  named-found (Some class) s is =
+      ap (λ n. find_decl kinds.Bean n ds) (named-class ds class s is) ∙ bean-decl (find_decl kinds.Bean class ds) s is
 
   specialized-found : (d s : BeanDecl) → specialized ds d ≡ Some s → find_decl kinds.Bean s.name ds ≡ Some (decls.Bean s)
   specialized-found d s is = by d.specializes is

@@ -47,6 +47,11 @@ abbrev pub IsBindingSpared : List DeclKey → Mention → Type 0
 IsBindingSpared told (UseOf uses.Binding u) = is_among told (key_at kinds.Binding (name_of_use u)) ≡ false
 IsBindingSpared told m = ⊤
 
+-- the bindings that a bean writes are of binding types that are not affected
+abbrev pub AreBindingsSpared : List DeclKey → Decl → Type 0
+AreBindingsSpared told (decls.Bean d) = AllByRecursion (IsBindingSpared told) (mentions (decls.Bean d))
+AreBindingsSpared told d = ⊤
+
 -- none of the qualifiers that a bean has is edited
 abbrev pub AreQualifiersSpared : List DeclKey → Effective → Type 0
 AreQualifiersSpared keys b = AllByRecursion (λ u. is_among keys (key_at kinds.Qualifier u.name) ≡ false) b.qualifiers
@@ -61,13 +66,13 @@ abbrev pub AreInheritedSpared : List Decl → List Edit → Decl → Type 0
 AreInheritedSpared ds edits (decls.Stereotype d) = Avoid (stereotype_reads ds d.stereotypes) edits
 AreInheritedSpared ds edits d = ⊤
 
--- Edits of a list, which affect the told keys, spare a declaration: it is not edited or affected, it names nothing that is edited, nor a
--- binding type that is affected, its beans have no qualifier that is edited, and its points are answered alike.
+-- Edits of a list, which affect the told keys, spare a declaration: it is not edited or affected, it names nothing that is edited, a bean
+-- has no use of a binding type that is affected and no qualifier that is edited, and its points are answered alike.
 pub record IsSpared (ds : List Decl) (edits : List Edit) (told : List DeclKey) (d : Decl) : Type 0 where
   pub unedited : is_among (edited_keys edits) (key_of d) ≡ false
   pub unaffected : is_among told (key_of d) ≡ false
   pub names : AllByRecursion (λ m. IsNotEdited (edited_keys edits) (named_in m)) (mentions d)
-  pub bindings : AllByRecursion (IsBindingSpared told) (mentions d)
+  pub bindings : AreBindingsSpared told d
   pub qualifiers : AllByRecursion (AreQualifiersSpared (edited_keys edits)) (entries ds d)
   pub specialized : IsSpecializedSpared ds told d
   pub inherited : AreInheritedSpared ds edits d

@@ -5,6 +5,7 @@ ghost use Rattle.std.specs.Prelude.{◌≡◌};
 ghost use Rattle.std.specs.List.{list_any};
 ghost use Rattle.std.specs.Option.{option_copied};
 ghost use Rattle.cdi_model.specs.Mentions.{mentions, shown};
+ghost use Rattle.cdi_spared.specs.Apart.{ApartAreSpared};
 ghost use Rattle.cdi_spared.specs.Spared.{key_in, writes_in, BeansStayAlike, SparedKeepFaults};
 
 use cdi_model::{Decl, DeclKey, Kind, Mention};
@@ -16,6 +17,7 @@ pub fn writes_one(keys: &[DeclKey], decl: &Decl) -> bool
     ensures value { result ≡ list_any (writes_in keys.now) (mentions decl.now) }
     ensures faults { SparedKeepFaults }
     ensures beans { BeansStayAlike }
+    ensures apart { ApartAreSpared }
 {
     writes(keys, decl)
 }

@@ -1,5 +1,8 @@
-use Rattle.cdi_spared.proofs.Laws.{beans_stay_alike}
+use Rattle.cdi_spared.proofs.Laws.{apart_are_spared, beans_stay_alike}
 use Rattle.cdi_spared.proofs.writes_one.Goals as goal
 
 pub returns-clause-beans : goal.returns-clause-beans
 returns-clause-beans c = beans_stay_alike
+
+pub returns-clause-apart : goal.returns-clause-apart
+returns-clause-apart c = apart_are_spared
