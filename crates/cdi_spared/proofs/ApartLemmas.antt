@@ -1,5 +1,5 @@
 -- What has no word of what is edited or affected is spared.
-use Rattle.std.proofs.Common.{◌≡◌, ℕ, Bool, true, false, cond, ◌||◌, List, [], ◌∷◌, ◌++◌, map, flat_map, Option, Some, None, IfSome, option_map}
+use Rattle.std.proofs.Common.{◌≡◌, ℕ, Bool, true, false, cond, List, [], ◌∷◌, ◌++◌, map, flat_map, Option, Some, None, IfSome, option_map}
 use Rattle.std.proofs.Common.{refl, sym, ap, subst, ◌∙◌, inl, inr}
 use Rattle.std.specs.List.{AllByRecursion}
 use Rattle.std.specs.Option.{option_to_list}
@@ -7,9 +7,9 @@ use Rattle.std.proofs.lemmas.Bool.{cases_Bool, false≢true, or_left, or_parts, 
 use Rattle.std.proofs.lemmas.List.Folds.{list_any-append}
 use Rattle.cdi_model.specs.Decl.{kind_of, name_of_decl}
 use Rattle.cdi_model.specs.DeclKey.{key_at, same_key, same_key_equiv}
-use Rattle.cdi_model.specs.DeclList.{find_decl, AreDistinct}
+use Rattle.cdi_model.specs.DeclList.{find_decl}
 use Rattle.cdi_model.specs.Edits.{edited_all, edited_keys, is_among}
-use Rattle.cdi_model.specs.Mentions.{mentions, Mention, PointOf, UseOf}
+use Rattle.cdi_model.specs.Mentions.{mentions, Mention, UseOf}
 use Rattle.cdi_model.specs.Quals.{name_of_use}
 use Rattle.cdi_model.specs.declared.decl.BeanDecl.{BeanDecl}
 use Rattle.cdi_model.specs.declared.decl.Decl.{Decl}
@@ -21,24 +21,25 @@ use Rattle.cdi_model.specs.declared.key.DeclKey.{DeclKey}
 use Rattle.cdi_model.specs.declared.quals.Qual.{Qual}
 use Rattle.cdi_effective.specs.Beans.{entries, own_records, unless_replaced}
 use Rattle.cdi_effective.specs.Disposers.{as_bean}
-use Rattle.cdi_effective.specs.Qualifiers.{required}
 use Rattle.cdi_effective.specs.Reads.{bean_keys, bean_reads, chain_reads, class_reads, link_reads, product_reads, record_reads, specialized_reads}
 use Rattle.cdi_effective.specs.Specialized.{bean_named, behind, extended, is_replaced, specialized}
 use Rattle.cdi_effective.specs.declared.records.Effective.{Effective}
 use Rattle.cdi_effective.proofs.RecordLemmas.{records_are_own}
+use Rattle.cdi_effective.specs.declared.records.BeanId.{BeanId}
+use Rattle.cdi_model.specs.declared.decl.PointDecl.{PointDecl}
+use Rattle.cdi_resolve.specs.declared.choice.Choice.TheVariants.{One}
 use Rattle.cdi_postings.specs.declared.word.Reason.TheVariants as reasons
 use Rattle.cdi_postings.specs.declared.word.Word.{Word}
 use Rattle.cdi_postings.specs.Words.{same_word, same_word_equiv, word_at}
 use Rattle.cdi_index.specs.Made.{made_of_bean, reads_in, words_have, words_named, words_named_in, words_of_bean, words_of_bindings}
-use Rattle.cdi_index.specs.Made.{words_of_observer, words_of_point, words_of_record, words_of_uses}
+use Rattle.cdi_index.specs.Made.{words_of_observer, words_of_record, words_of_uses}
 use Rattle.cdi_index.specs.Told.{Tells}
 use Rattle.cdi_observe.specs.Answers.{answer_to}
-use Rattle.cdi_observe.specs.Wanted.{point_named, points_of}
+use Rattle.cdi_observe.specs.Wanted.{points_of}
 use Rattle.cdi_subjects.specs.Rests.{IsAnsweredAlike}
-use Rattle.cdi_spared.specs.Apart.{offers_type, IsApart, IsStill}
+use Rattle.cdi_spared.specs.Apart.{IsApart, IsStill}
 use Rattle.cdi_spared.specs.Spared.{AreBindingsSpared, AreQualifiersSpared, IsBindingSpared, IsSpecializedSpared, IsSpared}
 use Rattle.cdi_spared.proofs.BeanLemmas.{bean-alike}
-use Rattle.cdi_spared.proofs.OfferLemmas.{one-offers}
 use Rattle.cdi_spared.proofs.SparedLemmas.{named-class}
 
 -- ---- words
@@ -56,7 +57,7 @@ words-each w f [] none = tt
 words-each w f (x ∷ xs) none = (words-front w (f x) (flat_map f xs) none, words-each w f xs (words-back w (f x) (flat_map f xs) none))
 
 -- a word is among those that begin with it
-first-has : (w : Word) (ws : List Word) → words_have (w ∷ ws) w ≡ true
+pub first-has : (w : Word) (ws : List Word) → words_have (w ∷ ws) w ≡ true
 first-has w ws = or_left (same_word w w) (words_have ws w) (same_word_equiv.refl w)
 
 -- ---- the bean that a bean specializes
@@ -200,52 +201,23 @@ module _ (edits : List Edit) (told : List DeclKey) where
     specialized-apart (decls.Stereotype d) found apart = tt
     specialized-apart (decls.Interceptor d) found apart = tt
 
-    -- points that are answered alike, and ask for no type of a bean that does not stay still
-    points-apart : (ms : List Mention) → AreDistinct ds → Tells ds (edited_all ds edits) (edited_keys edits) told
-        → AllByRecursion (λ p. answer_to ds p ≡ answer_to (edited_all ds edits) p) (flat_map point_named ms)
-        → ((class t : List ℕ) → offers_type ds class t ≡ true → words_have (flat_map words_named_in ms) (word_at reasons.Asks t) ≡ true
-        → IsStill ds edits told class)
-        → AllByRecursion (IsAnsweredAlike ds (edited_all ds edits)) (flat_map point_named ms)
-    points-apart [] distinct tells answers still = tt
-    points-apart (m ∷ ms) distinct tells answers still =
-        by m answers (points-apart ms distinct tells) (λ class t offered word. still class t offered
-        (list_any-append (λ v. same_word v (word_at reasons.Asks t)) (words_named_in m) (flat_map words_named_in ms) ∙ word))
-      where
-        by : (m : Mention) → AllByRecursion (λ p. answer_to ds p ≡ answer_to (edited_all ds edits) p) (point_named m ++ flat_map point_named ms)
-            → (AllByRecursion (λ p. answer_to ds p ≡ answer_to (edited_all ds edits) p) (flat_map point_named ms)
-            → ((class t : List ℕ) → offers_type ds class t ≡ true → words_have (flat_map words_named_in ms) (word_at reasons.Asks t) ≡ true
-            → IsStill ds edits told class)
-            → AllByRecursion (IsAnsweredAlike ds (edited_all ds edits)) (flat_map point_named ms))
-            → ((class t : List ℕ) → offers_type ds class t ≡ true
-            → (words_have (words_named_in m) (word_at reasons.Asks t) || words_have (flat_map words_named_in ms) (word_at reasons.Asks t)) ≡ true
-            → IsStill ds edits told class)
-            → AllByRecursion (IsAnsweredAlike ds (edited_all ds edits)) (point_named m ++ flat_map point_named ms)
-        by (PointOf place p) answers more still = (
-          record {
-            answer = answers.0;
-            bean = λ id one.
-                let it = still id.class p.required_type (one-offers id ds p.required_type p.qualifiers distinct one)
-                (or_left (words_have (words_of_point p) (word_at reasons.Asks p.required_type))
-                (words_have (flat_map words_named_in ms) (word_at reasons.Asks p.required_type))
-                (first-has (word_at reasons.Asks p.required_type) (words_of_uses (required p.qualifiers)))) in
-                bean-alike edits ds told tells id it.unaffected it.chains;
-          },
-          more answers.1 (λ class t offered word. still class t offered
-              (or_right (words_have (words_of_point p) (word_at reasons.Asks t)) (words_have (flat_map words_named_in ms) (word_at reasons.Asks t))
-              word)),
-        )
-        by other answers more still = more answers (λ class t offered word. still class t offered
-            (or_right (words_have (words_named_in other) (word_at reasons.Asks t))
-            (words_have (flat_map words_named_in ms) (word_at reasons.Asks t)) word))
+    -- points that are answered alike, by a bean that stays still
+    points-apart : (ps : List PointDecl) → Tells ds (edited_all ds edits) (edited_keys edits) told
+        → AllByRecursion (λ p. answer_to ds p ≡ answer_to (edited_all ds edits) p) ps
+        → AllByRecursion (λ p. (id : BeanId) → answer_to ds p ≡ One id → IsStill ds edits told id.class) ps
+        → AllByRecursion (IsAnsweredAlike ds (edited_all ds edits)) ps
+    points-apart [] tells answers chosen = tt
+    points-apart (p ∷ ps) tells answers chosen = (
+      record {
+        answer = answers.0;
+        bean = λ id one. let still = chosen.0 id one in bean-alike edits ds told tells id still.unaffected still.chains;
+      },
+      points-apart ps tells answers.1 chosen.1,
+    )
 
-    answers-apart : (d : Decl) → AreDistinct ds → Tells ds (edited_all ds edits) (edited_keys edits) told → IsApart ds edits told d
-        → AllByRecursion (IsAnsweredAlike ds (edited_all ds edits)) (points_of d)
-    unfolding words_named
-    answers-apart d distinct tells apart = points-apart (mentions d) distinct tells apart.answers apart.offered
-
-    pub apart-spared : (d : Decl) → AreDistinct ds → find_decl (kind_of d) (name_of_decl d) ds ≡ Some d
+    pub apart-spared : (d : Decl) → find_decl (kind_of d) (name_of_decl d) ds ≡ Some d
         → Tells ds (edited_all ds edits) (edited_keys edits) told → IsApart ds edits told d → IsSpared ds edits told d
-    apart-spared d distinct found tells apart = record {
+    apart-spared d found tells apart = record {
       unedited = apart.unedited;
       unaffected = apart.unaffected;
       names = apart.names;
@@ -253,5 +225,5 @@ module _ (edits : List Edit) (told : List DeclKey) where
       qualifiers = qualifiers-apart d apart;
       specialized = specialized-apart d found apart;
       inherited = apart.inherited;
-      answers = answers-apart d distinct tells apart;
+      answers = points-apart (points_of d) tells apart.answers apart.chosen;
     }

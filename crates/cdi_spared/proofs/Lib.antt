@@ -7,4 +7,5 @@ mod SparedLemmas
 mod BeanLemmas
 mod OfferLemmas
 mod ApartLemmas
+mod UnconcernedLemmas
 mod Laws

@@ -25,7 +25,10 @@ use Rattle.cdi_resolve.specs.Choices.{Candidate}
 use Rattle.cdi_resolve.specs.declared.choice.Choice.TheVariants.{One}
 use Rattle.cdi_stakes.proofs.PresentLemmas.{all_present, witness}
 use Rattle.cdi_stakes.specs.Rests.{IsPresent}
-use Rattle.cdi_spared.specs.Apart.{offers_type}
+
+-- one of the beans of the declaration of a class has the type
+abbrev pub offers_type : List Decl → List ℕ → List ℕ → Bool
+offers_type ds class t = list_any (λ b. has b.types t) (records_in ds class)
 
 -- ---- some of a list
 

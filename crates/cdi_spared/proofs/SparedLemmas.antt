@@ -52,7 +52,7 @@ use Rattle.cdi_spared.proofs.OwnLemmas.{own-spared, AreSpared}
 use Rattle.cdi_spared.proofs.PlaceLemmas.{differ-alike}
 
 -- a key that is among those of some names is that of one
-among-map : (kind : Kind) (names : List (List ℕ)) (key : DeclKey) → is_among (map (key_at kind) names) key ≡ true
+pub among-map : (kind : Kind) (names : List (List ℕ)) (key : DeclKey) → is_among (map (key_at kind) names) key ≡ true
     → (n : List ℕ) × (has names n ≡ true) × (key_at kind n ≡ key)
 among-map kind [] key among = absurd (false≢true among)
 among-map kind (n ∷ names) key among = elim (or_cases (same_key (key_at kind n) key) (is_among (map (key_at kind) names) key) among) [

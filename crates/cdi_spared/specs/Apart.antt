@@ -1,9 +1,9 @@
 -- Which declarations edits spare, by the words under which they are listed.
-use Rattle.std.specs.Prelude.{◌≡◌, ℕ, Bool, true, false, List, Some}
-use Rattle.std.specs.List.{list_any, AllByRecursion}
+use Rattle.std.specs.Prelude.{◌≡◌, ℕ, true, false, List, Some}
+use Rattle.std.specs.List.{AllByRecursion}
 use Rattle.cdi_model.specs.Decl.{key_of, kind_of, name_of_decl}
 use Rattle.cdi_model.specs.DeclKey.{key_at}
-use Rattle.cdi_model.specs.DeclList.{find_decl, AreDistinct}
+use Rattle.cdi_model.specs.DeclList.{find_decl}
 use Rattle.cdi_model.specs.Edits.{edited_all, edited_keys, is_among}
 use Rattle.cdi_model.specs.Mentions.{mentions}
 use Rattle.cdi_model.specs.declared.decl.Decl.{Decl}
@@ -13,10 +13,10 @@ use Rattle.cdi_model.specs.declared.key.DeclKey.{DeclKey}
 use Rattle.cdi_model.specs.declared.place.BeanPlace.{BeanPlace}
 use Rattle.cdi_postings.specs.declared.word.Reason.TheVariants as reasons
 use Rattle.cdi_postings.specs.Words.{word_at}
-use Rattle.cdi_match.specs.Chain.{has}
-use Rattle.cdi_effective.specs.Records.{records_in}
+use Rattle.cdi_effective.specs.declared.records.BeanId.{BeanId}
 use Rattle.cdi_intercept.specs.Chains.{chain_of}
-use Rattle.cdi_index.specs.Made.{made_of, reads, words_have, words_named}
+use Rattle.cdi_resolve.specs.declared.choice.Choice.TheVariants.{One}
+use Rattle.cdi_index.specs.Made.{made_of, reads, words_have}
 use Rattle.cdi_index.specs.Told.{Tells}
 use Rattle.cdi_index.specs.Under.{words_by}
 use Rattle.cdi_observe.specs.Answers.{answer_to}
@@ -24,18 +24,14 @@ use Rattle.cdi_observe.specs.Wanted.{points_of}
 use Rattle.cdi_subjects.specs.Rests.{named_in}
 use Rattle.cdi_spared.specs.Spared.{AreInheritedSpared, IsNotEdited, IsSpared}
 
--- one of the beans of the declaration of a class has the type
-abbrev pub offers_type : List Decl → List ℕ → List ℕ → Bool
-offers_type ds class t = list_any (λ b. has b.types t) (records_in ds class)
-
 -- The bean declaration of a class is not affected, and the interceptors around its places are the same.
 pub record IsStill (ds : List Decl) (edits : List Edit) (told : List DeclKey) (class : List ℕ) : Type 0 where
   pub unaffected : is_among told (key_at kinds.Bean class) ≡ false
   pub chains : (place : BeanPlace) → chain_of (edited_all ds edits) class place ≡ chain_of ds class place
 
 -- Edits of a list, which affect the told keys, meet no word of a declaration: it is not edited or affected, it names nothing that is edited,
--- it has no word of an edited qualifier or of an affected binding type, it reads no affected bean, the same is chosen for its points, and
--- they ask for no type that a bean offers which does not stay still.
+-- it has no word of an edited qualifier or of an affected binding type, it reads no affected bean, and the same is chosen for its points, a
+-- bean that stays still.
 pub record IsApart (ds : List Decl) (edits : List Edit) (told : List DeclKey) (d : Decl) : Type 0 where
   pub unedited : is_among (edited_keys edits) (key_of d) ≡ false
   pub unaffected : is_among told (key_of d) ≡ false
@@ -47,11 +43,10 @@ pub record IsApart (ds : List Decl) (edits : List Edit) (told : List DeclKey) (d
       → reads (made_of ds (key_of d)) (key_at kinds.Bean class) ≡ false
   pub inherited : AreInheritedSpared ds edits d
   pub answers : AllByRecursion (λ p. answer_to ds p ≡ answer_to (edited_all ds edits) p) (points_of d)
-  pub offered : (class t : List ℕ) → offers_type ds class t ≡ true → words_have (words_named d) (word_at reasons.Asks t) ≡ true
-      → IsStill ds edits told class
+  pub chosen : AllByRecursion (λ p. (id : BeanId) → answer_to ds p ≡ One id → IsStill ds edits told id.class) (points_of d)
 
 -- So they spare it.
 abbrev pub ApartAreSpared : Type 0
 ApartAreSpared = (edits : List Edit) (ds : List Decl) (told : List DeclKey) (d : Decl)
-    → AreDistinct ds → find_decl (kind_of d) (name_of_decl d) ds ≡ Some d → Tells ds (edited_all ds edits) (edited_keys edits) told
+    → find_decl (kind_of d) (name_of_decl d) ds ≡ Some d → Tells ds (edited_all ds edits) (edited_keys edits) told
     → IsApart ds edits told d → IsSpared ds edits told d

@@ -1,2 +1,3 @@
 pub mod Spared
 pub mod Apart
+pub mod Unconcerned

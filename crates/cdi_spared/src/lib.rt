@@ -7,6 +7,7 @@ ghost use Rattle.std.specs.Option.{option_copied};
 ghost use Rattle.cdi_model.specs.Mentions.{mentions, shown};
 ghost use Rattle.cdi_spared.specs.Apart.{ApartAreSpared};
 ghost use Rattle.cdi_spared.specs.Spared.{key_in, writes_in, BeansStayAlike, SparedKeepFaults};
+ghost use Rattle.cdi_spared.specs.Unconcerned.{UnconcernedAreApart};
 
 use cdi_model::{Decl, DeclKey, Kind, Mention};
 
@@ -18,6 +19,7 @@ pub fn writes_one(keys: &[DeclKey], decl: &Decl) -> bool
     ensures faults { SparedKeepFaults }
     ensures beans { BeansStayAlike }
     ensures apart { ApartAreSpared }
+    ensures unconcerned { UnconcernedAreApart }
 {
     writes(keys, decl)
 }

@@ -1,0 +1,115 @@
+//! The keys of declarations that are found.
+ghost use Rattle.std.specs.Prelude.{◌≡◌, ◌||◌, ◌++◌, filter, flat_map, map, OnOk};
+ghost use Rattle.std.specs.List.{list_any};
+ghost use Rattle.cdi_model.specs.Decl.{key_of};
+ghost use Rattle.cdi_model.specs.Edits.{is_among};
+ghost use Rattle.cdi_positions.specs.Marks.{marked_from};
+ghost use Rattle.cdi_model.specs.declared.decl.Kind.TheVariants as kinds;
+ghost use Rattle.cdi_concern.specs.Concern.{is_of_kind, is_stereotype, keys_at, keys_of_stereotypes, keys_under, reads_one};
+
+use crate::sought::is_of_kind;
+use cdi_index::Index;
+use cdi_model::{Decl, DeclKey, Decls, Kind};
+use cdi_positions::PositionSet;
+use cdi_postings::Word;
+use std::alloc::{AllocError, Global};
+
+/// Appends some keys.
+pub(crate) fn push_keys(more: &[DeclKey], keys: &mut Vec<DeclKey>) -> Result<(), AllocError>
+    ensures { OnOk result (keys.new.items ≡ keys.old.items ++ more.now) }
+{
+    for key in more {
+        keys.push(*key)?;
+    }
+    Ok(())
+}
+
+/// Appends those of the declarations at some positions.
+fn push_keys_at(
+    decls: &Decls,
+    positions: &PositionSet,
+    keys: &mut Vec<DeclKey>,
+) -> Result<(), AllocError>
+    ensures { OnOk result (keys.new.items ≡ keys.old.items ++ flat_map (keys_at decls.now) (marked_from 0 positions.now)) }
+{
+    for position in positions.iter() {
+        if let Some(decl) = decls.at(position) {
+            keys.push(decl.key())?;
+        }
+    }
+    Ok(())
+}
+
+/// Appends those of the declarations that have one of some words.
+pub(crate) fn push_keys_under(
+    index: &Index,
+    words: &[Word],
+    keys: &mut Vec<DeclKey>,
+) -> Result<(), AllocError>
+    ensures { OnOk result (keys.new.items ≡ keys.old.items ++ keys_under index.now.decls words.now) }
+{
+    push_keys_at(index.decls(), &index.positions_under(words), keys)
+}
+
+/// Appends those of the declarations of which what is made reads one that is affected, a bean.
+pub(crate) fn push_keys_of_readers(
+    alloc: Global,
+    index: &Index,
+    affected: &[DeclKey],
+    keys: &mut Vec<DeclKey>,
+) -> Result<(), AllocError>
+    ensures { OnOk result ((k : _) → is_among keys.new.items k
+        ≡ (is_among keys.old.items k || reads_one index.now.decls affected.now k)) }
+{
+    for key in affected {
+        if is_of_kind(Kind::Bean, key) {
+            let readers = index.readers(alloc, key)?;
+            push_keys(readers.as_slice(), keys)?;
+        }
+    }
+    Ok(())
+}
+
+/// Whether one of some keys is that of a stereotype.
+fn has_stereotype(keys: &[DeclKey]) -> bool
+    ensures { result ≡ list_any (is_of_kind kinds.Stereotype) keys.now }
+{
+    for key in keys {
+        if is_of_kind(Kind::Stereotype, key) {
+            return true;
+        }
+    }
+    false
+}
+
+fn is_stereotype(decl: &Decl) -> bool
+    ensures { result ≡ is_stereotype decl.now }
+{
+    is_of_kind(Kind::Stereotype, &decl.key())
+}
+
+/// Appends those of all stereotypes.
+fn push_each_stereotype(decls: &Decls, keys: &mut Vec<DeclKey>) -> Result<(), AllocError>
+    ensures { OnOk result (keys.new.items ≡ keys.old.items ++ map key_of (filter is_stereotype decls.now)) }
+{
+    for decl in decls.iter() {
+        if is_stereotype(decl) {
+            keys.push(decl.key())?;
+        }
+    }
+    Ok(())
+}
+
+/// Appends those of all stereotypes, where one is edited.
+pub(crate) fn push_keys_of_stereotypes(
+    decls: &Decls,
+    edited: &[DeclKey],
+    keys: &mut Vec<DeclKey>,
+) -> Result<(), AllocError>
+    ensures { OnOk result (keys.new.items ≡ keys.old.items ++ keys_of_stereotypes decls.now edited.now) }
+{
+    if has_stereotype(edited) {
+        return push_each_stereotype(decls, keys);
+    }
+    Ok(())
+}

@@ -1,0 +1,380 @@
+-- What is not to be looked at again has no word of what edits move.
+use Rattle.std.proofs.Common.{◌≡◌, ℕ, Bool, true, false, cond, ◌&&◌, ◌||◌, List, [], ◌∷◌, ◌++◌, filter, flat_map, map, Some, None, ◌⊎◌}
+use Rattle.std.proofs.Common.{append_assoc, refl, sym, ap, subst, ◌∙◌, inl, inr}
+use Rattle.std.specs.List.{list_any, AllByRecursion}
+use Rattle.std.specs.Option.{option_to_list}
+use Rattle.std.specs.Str.{bytes_eq}
+use Rattle.std.proofs.lemmas.Bool.{cases_Bool, false≢true, or_cases, or_left, or_parts, or_right}
+use Rattle.std.proofs.lemmas.List.Folds.{list_any-append}
+use Rattle.cdi_model.specs.Decl.{key_of, kind_of, name_of_decl}
+use Rattle.cdi_model.specs.DeclKey.{key_at, same_key, same_key_equiv}
+use Rattle.cdi_model.specs.DeclList.{find_decl, is_of, AreDistinct}
+use Rattle.cdi_model.specs.Edits.{edited_all, edited_keys, is_among, Avoid}
+use Rattle.cdi_model.specs.Mentions.{mentions, Mention, PointOf, StereotypeOf, TypeIn, UseOf}
+use Rattle.cdi_model.specs.declared.decl.Decl.{Decl}
+use Rattle.cdi_model.specs.declared.decl.Decl.TheVariants as decls
+use Rattle.cdi_model.specs.declared.decl.Kind.{Kind}
+use Rattle.cdi_model.specs.declared.decl.Kind.TheVariants as kinds
+use Rattle.cdi_model.specs.declared.decl.PointDecl.{PointDecl}
+use Rattle.cdi_model.specs.declared.decl.UseKind.{UseKind}
+use Rattle.cdi_model.specs.declared.edit.Edit.{Edit}
+use Rattle.cdi_model.specs.declared.key.DeclKey.{DeclKey}
+use Rattle.cdi_model.specs.declared.mention.TypePlace.{TypePlace}
+use Rattle.cdi_model.specs.declared.mention.TypePlace.TheVariants as types
+use Rattle.cdi_model.specs.declared.decl.UseKind.TheVariants as uses
+use Rattle.cdi_model.specs.declared.place.BeanPlace.{BeanPlace}
+use Rattle.cdi_model.specs.declared.quals.Qual.{Qual}
+use Rattle.cdi_model.proofs.EntryLemmas.{key_exact}
+use Rattle.cdi_match.specs.Chain.{has}
+use Rattle.cdi_match.specs.Locality.{stereotype_reads}
+use Rattle.cdi_match.specs.Stereotypes.{stereotypes_of}
+use Rattle.cdi_match.proofs.Names.{one_name, same_text}
+use Rattle.cdi_effective.specs.Beans.{own_records}
+use Rattle.cdi_effective.specs.Qualifiers.{required}
+use Rattle.cdi_effective.specs.Records.{records_in}
+use Rattle.cdi_effective.specs.declared.records.BeanId.{BeanId}
+use Rattle.cdi_effective.specs.declared.records.Effective.{Effective}
+use Rattle.cdi_postings.specs.declared.word.Reason.{Reason}
+use Rattle.cdi_postings.specs.declared.word.Reason.TheVariants as reasons
+use Rattle.cdi_postings.specs.declared.word.Word.{Word}
+use Rattle.cdi_postings.specs.Words.{same_word, word_at}
+use Rattle.cdi_index.specs.Made.{made_of, reads, words_have, words_named, words_named_in, words_of_observer, words_of_point, words_of_record, words_of_uses}
+use Rattle.cdi_index.specs.Under.{has_one, words_by}
+use Rattle.cdi_intercept.specs.Chains.{chain_of}
+use Rattle.cdi_observe.specs.Answers.{answer_to}
+use Rattle.cdi_observe.specs.Wanted.{point_named, points_of}
+use Rattle.cdi_resolve.specs.declared.choice.Choice.TheVariants.{One}
+use Rattle.cdi_concern.specs.Concern.{is_of_kind, is_stereotype, keys_of_stereotypes, keys_under, names_of_kind, offered}
+use Rattle.cdi_concern.specs.Concern.{reads_one, types_of_beans, words_asking, words_sought}
+use Rattle.cdi_concern.specs.declared.moved.Moved.{Moved}
+use Rattle.cdi_spared.specs.Apart.{IsApart, IsStill}
+use Rattle.cdi_spared.specs.Spared.{AreInheritedSpared}
+use Rattle.cdi_spared.specs.Unconcerned.{IsUnconcerned}
+use Rattle.cdi_spared.proofs.ApartLemmas.{first-has}
+use Rattle.cdi_spared.proofs.OfferLemmas.{offers_type, one-offers}
+use Rattle.cdi_spared.proofs.SparedLemmas.{among-map}
+
+-- ---- none of a list
+
+none-front : {A : Type 0} (p : A → Bool) (xs ys : List A) → list_any p (xs ++ ys) ≡ false → list_any p xs ≡ false
+none-front p xs ys none = (or_parts (list_any p xs) (list_any p ys) (sym (list_any-append p xs ys) ∙ none)).0
+
+none-back : {A : Type 0} (p : A → Bool) (xs ys : List A) → list_any p (xs ++ ys) ≡ false → list_any p ys ≡ false
+none-back p xs ys none = (or_parts (list_any p xs) (list_any p ys) (sym (list_any-append p xs ys) ∙ none)).1
+
+-- a test fails for the word of each of some names
+none-named : (test : Word → Bool) (reason : Reason) (names : List (List ℕ)) (n : List ℕ) → list_any test (map (word_at reason) names) ≡ false
+    → has names n ≡ true → test (word_at reason n) ≡ false
+none-named test reason [] n none among = absurd (false≢true among)
+none-named test reason (x ∷ names) n none among =
+    let parts = or_parts (test (word_at reason x)) (list_any test (map (word_at reason) names)) none in
+    elim (or_cases (bytes_eq x n) (has names n) among) [
+      | inl here ↦ ap (λ y. test (word_at reason y)) (sym (one_name x n here)) ∙ parts.0
+      | inr later ↦ none-named test reason names n parts.1 later
+    ]
+
+-- ---- keys of a kind
+
+own-kind : (kind : Kind) (n : List ℕ) → is_of_kind kind (key_at kind n) ≡ true
+own-kind kind n = same_key_equiv.refl (key_at kind n)
+
+named-among : (kind : Kind) (keys : List DeclKey) (n : List ℕ) → is_among keys (key_at kind n) ≡ true → has (names_of_kind kind keys) n ≡ true
+named-among kind [] n among = absurd (false≢true among)
+named-among kind (k ∷ keys) n among = by (is_of_kind kind k) refl (or_cases (same_key k (key_at kind n)) (is_among keys (key_at kind n)) among)
+    (named-among kind keys n)
+  where
+    by : (b : Bool) → is_of_kind kind k ≡ b → (same_key k (key_at kind n) ≡ true) ⊎ (is_among keys (key_at kind n) ≡ true)
+        → (is_among keys (key_at kind n) ≡ true → has (names_of_kind kind keys) n ≡ true)
+        → has (map (λ x. x.name) (cond b (k ∷ filter (is_of_kind kind) keys) (filter (is_of_kind kind) keys))) n ≡ true
+    by true e (inl here) more = or_left (bytes_eq k.name n) (has (names_of_kind kind keys) n)
+        (same_text k.name n (ap (λ (x : DeclKey). x.name) (key_exact k (key_at kind n) here)))
+    by true e (inr later) more = or_right (bytes_eq k.name n) (has (names_of_kind kind keys) n) (more later)
+    by false e (inl here) more = absurd (false≢true (sym e ∙ ap (is_of_kind kind) (key_exact k (key_at kind n) here) ∙ own-kind kind n))
+    by false e (inr later) more = more later
+
+-- one among some keys is of the kind
+some-kind : (kind : Kind) (keys : List DeclKey) (n : List ℕ) → is_among keys (key_at kind n) ≡ true → list_any (is_of_kind kind) keys ≡ true
+some-kind kind [] n among = absurd (false≢true among)
+some-kind kind (k ∷ keys) n among = elim (or_cases (same_key k (key_at kind n)) (is_among keys (key_at kind n)) among) [
+  | inl here ↦ or_left (is_of_kind kind k) (list_any (is_of_kind kind) keys)
+      (ap (is_of_kind kind) (key_exact k (key_at kind n) here) ∙ own-kind kind n)
+  | inr later ↦ or_right (is_of_kind kind k) (list_any (is_of_kind kind) keys) (some-kind kind keys n later)
+]
+
+-- ---- a declaration that is found
+
+-- passes a test, so its key is among those of all that do
+found-among : (test : Decl → Bool) (ds : List Decl) (d : Decl) → find_decl (kind_of d) (name_of_decl d) ds ≡ Some d → test d ≡ true
+    → is_among (map key_of (filter test ds)) (key_of d) ≡ true
+found-among test [] d found passes = absurd (let no : None ≡ Some d = found in cc)
+found-among test (e ∷ ds) d found passes = by (is_of (kind_of d) (name_of_decl d) e) found (found-among test ds d)
+  where
+    first : (b : Bool) → b ≡ true → is_among (map key_of (cond b (d ∷ filter test ds) (filter test ds))) (key_of d) ≡ true
+    first true is = or_left (same_key (key_of d) (key_of d)) (is_among (map key_of (filter test ds)) (key_of d)) (same_key_equiv.refl (key_of d))
+    first false is = absurd (false≢true is)
+
+    more : (b : Bool) → is_among (map key_of (filter test ds)) (key_of d) ≡ true
+        → is_among (map key_of (cond b (e ∷ filter test ds) (filter test ds))) (key_of d) ≡ true
+    more true rest = or_right (same_key (key_of e) (key_of d)) (is_among (map key_of (filter test ds)) (key_of d)) rest
+    more false rest = rest
+
+    by : (b : Bool) → cond b (Some e) (find_decl (kind_of d) (name_of_decl d) ds) ≡ Some d
+        → (find_decl (kind_of d) (name_of_decl d) ds ≡ Some d → test d ≡ true → is_among (map key_of (filter test ds)) (key_of d) ≡ true)
+        → is_among (map key_of (filter test (e ∷ ds))) (key_of d) ≡ true
+    by true here rest =
+        let some : Some e ≡ Some d = here in
+        let same : e ≡ d = cc in
+        subst (λ x. is_among (map key_of (filter test (x ∷ ds))) (key_of d) ≡ true) (sym same) (first (test d) passes)
+    by false there rest = more (test e) (rest there passes)
+
+-- ---- declarations without points
+
+no-type : (place : TypePlace) (xs : List (List ℕ)) → flat_map point_named (map (TypeIn place) xs) ≡ []
+no-type place [] = refl
+no-type place (x ∷ xs) = no-type place xs
+
+no-use : (kind : UseKind) (us : List Qual) → flat_map point_named (map (UseOf kind) us) ≡ []
+no-use kind [] = refl
+no-use kind (u ∷ us) = no-use kind us
+
+no-stereotype : (xs : List (List ℕ)) → flat_map point_named (map StereotypeOf xs) ≡ []
+no-stereotype [] = refl
+no-stereotype (x ∷ xs) = no-stereotype xs
+
+flat-append : {A B : Type 0} (f : A → List B) (xs ys : List A) → flat_map f (xs ++ ys) ≡ flat_map f xs ++ flat_map f ys
+flat-append f [] ys = refl
+flat-append f (x ∷ xs) ys = ap (λ l. f x ++ l) (flat-append f xs ys) ∙ sym (append_assoc (f x) (flat_map f xs) (flat_map f ys))
+
+neither : (xs ys : List Mention) → flat_map point_named xs ≡ [] → flat_map point_named ys ≡ [] → flat_map point_named (xs ++ ys) ≡ []
+neither xs ys none more = flat-append point_named xs ys ∙ ap (λ l. l ++ flat_map point_named ys) none ∙ more
+
+-- ---- all
+
+module _ (edits : List Edit) (ds : List Decl) (m : Moved) (d : Decl) (distinct : AreDistinct ds)
+    (found : find_decl (kind_of d) (name_of_decl d) ds ≡ Some d) (same : m.edited.now ≡ edited_keys edits) (it : IsUnconcerned ds edits m d) where
+  abbrev key : DeclKey
+  key = key_of d
+
+  abbrev first-two : Bool
+  first-two = is_among m.edited.now key || is_among m.affected.now key
+
+  abbrev by-word : Bool
+  by-word = is_among (keys_under ds (words_sought ds m)) key
+
+  abbrev by-reading : Bool
+  by-reading = reads_one ds m.affected.now key
+
+  abbrev as-stereotype : Bool
+  as-stereotype = is_among (keys_of_stereotypes ds m.edited.now) key
+
+  outer : ((((first-two || by-word) || by-reading)) ≡ false) × (as-stereotype ≡ false)
+  outer = or_parts ((first-two || by-word) || by-reading) as-stereotype it.unconcerned
+
+  middle : ((first-two || by-word) ≡ false) × (by-reading ≡ false)
+  middle = or_parts (first-two || by-word) by-reading outer.0
+
+  inner : (first-two ≡ false) × (by-word ≡ false)
+  inner = or_parts first-two by-word middle.0
+
+  firsts : (is_among m.edited.now key ≡ false) × (is_among m.affected.now key ≡ false)
+  firsts = or_parts (is_among m.edited.now key) (is_among m.affected.now key) inner.0
+
+  -- ---- words
+
+  no-word : has_one ds (words_sought ds m) d ≡ false
+  no-word = elim (cases_Bool (has_one ds (words_sought ds m) d)) [
+    | inl some ↦ absurd (false≢true (sym inner.1 ∙ found-among (has_one ds (words_sought ds m)) ds d found some))
+    | inr none ↦ none
+  ]
+
+  abbrev had : Word → Bool
+  had w = words_have (words_by ds d) w
+
+  abbrev of-qualifiers : List Word
+  of-qualifiers = map (word_at reasons.Qualifies) (names_of_kind kinds.Qualifier m.edited.now)
+
+  abbrev of-bindings : List Word
+  of-bindings = map (word_at reasons.Binds) (names_of_kind kinds.Binding m.affected.now)
+
+  abbrev of-choices : List Word
+  of-choices = map (word_at reasons.Asks) m.types.now
+
+  abbrev of-events : List Word
+  of-events = map (word_at reasons.Fires) m.events.now
+
+  abbrev of-beans : List Word
+  of-beans = words_asking ds (names_of_kind kinds.Bean m.affected.now)
+
+  abbrev of-classes : List Word
+  of-classes = words_asking ds m.classes.now
+
+  none-had : list_any had (of-qualifiers ++ of-bindings ++ of-choices ++ of-events ++ of-beans ++ of-classes) ≡ false
+  unfolding words_sought
+  none-had = no-word
+
+  to-beans : list_any had (of-qualifiers ++ of-bindings ++ of-choices ++ of-events ++ of-beans) ≡ false
+  to-beans = none-front had (of-qualifiers ++ of-bindings ++ of-choices ++ of-events ++ of-beans) of-classes none-had
+
+  no-beans : list_any had of-beans ≡ false
+  no-beans = none-back had (of-qualifiers ++ of-bindings ++ of-choices ++ of-events) of-beans to-beans
+
+  to-bindings : list_any had (of-qualifiers ++ of-bindings) ≡ false
+  to-bindings = none-front had (of-qualifiers ++ of-bindings) of-choices
+      (none-front had (of-qualifiers ++ of-bindings ++ of-choices) of-events
+      (none-front had (of-qualifiers ++ of-bindings ++ of-choices ++ of-events) of-beans to-beans))
+
+  qualifiers : (q : List ℕ) → is_among (edited_keys edits) (key_at kinds.Qualifier q) ≡ true → had (word_at reasons.Qualifies q) ≡ false
+  qualifiers q among = none-named had reasons.Qualifies (names_of_kind kinds.Qualifier m.edited.now) q
+      (none-front had of-qualifiers of-bindings to-bindings)
+      (named-among kinds.Qualifier m.edited.now q (ap (λ keys. is_among keys (key_at kinds.Qualifier q)) same ∙ among))
+
+  bindings : (b : List ℕ) → is_among m.affected.now (key_at kinds.Binding b) ≡ true → had (word_at reasons.Binds b) ≡ false
+  bindings b among = none-named had reasons.Binds (names_of_kind kinds.Binding m.affected.now) b
+      (none-back had of-qualifiers of-bindings to-bindings) (named-among kinds.Binding m.affected.now b among)
+
+  -- ---- what it reads
+
+  reads-none : (affected : List DeclKey) (class : List ℕ) → reads_one ds affected key ≡ false
+      → is_among affected (key_at kinds.Bean class) ≡ true → reads (made_of ds key) (key_at kinds.Bean class) ≡ false
+  reads-none [] class none among = absurd (false≢true among)
+  reads-none (c ∷ affected) class none among =
+      let parts = or_parts (is_of_kind kinds.Bean c && reads (made_of ds key) c) (reads_one ds affected key) none in
+      elim (or_cases (same_key c (key_at kinds.Bean class)) (is_among affected (key_at kinds.Bean class)) among) [
+        | inl here ↦ (let one = key_exact c (key_at kinds.Bean class) here in
+            sym (ap (λ b. b && reads (made_of ds key) (key_at kinds.Bean class)) (own-kind kinds.Bean class))
+            ∙ ap (λ x. is_of_kind kinds.Bean x && reads (made_of ds key) x) (sym one) ∙ parts.0)
+        | inr later ↦ reads-none affected class parts.1 later
+      ]
+
+  -- ---- stereotypes
+
+  inherited : (d : Decl) → is_among (keys_of_stereotypes ds m.edited.now) (key_of d) ≡ false
+      → find_decl (kind_of d) (name_of_decl d) ds ≡ Some d → AreInheritedSpared ds edits d
+  inherited (decls.Stereotype s) none found = by (list_any (is_of_kind kinds.Stereotype) m.edited.now) refl none
+    where
+      by : (b : Bool) → list_any (is_of_kind kinds.Stereotype) m.edited.now ≡ b
+          → is_among (cond b (map key_of (filter is_stereotype ds)) []) (key_of (decls.Stereotype s)) ≡ false
+          → Avoid (stereotype_reads ds s.stereotypes) edits
+      by true e none = absurd (false≢true (sym none
+          ∙ found-among is_stereotype ds (decls.Stereotype s) found (own-kind kinds.Stereotype s.name)))
+      by false e none = λ k among. elim (cases_Bool (is_among (stereotype_reads ds s.stereotypes) k)) [
+        | inl read ↦ absurd (let one = among-map kinds.Stereotype (stereotypes_of ds s.stereotypes) k read in
+            false≢true (sym e ∙ some-kind kinds.Stereotype m.edited.now one.0
+            (ap (λ keys. is_among keys (key_at kinds.Stereotype one.0)) same
+            ∙ ap (is_among (edited_keys edits)) one.2 ∙ among)))
+        | inr apart ↦ apart
+      ]
+  inherited (decls.Type x) none found = tt
+  inherited (decls.Qualifier x) none found = tt
+  inherited (decls.Binding x) none found = tt
+  inherited (decls.Bean x) none found = tt
+  inherited (decls.Interceptor x) none found = tt
+
+  -- ---- chosen beans
+
+  offered-has : (bs : List Effective) (t : List ℕ) → list_any (λ b. has b.types t) bs ≡ true → has (types_of_beans bs) t ≡ true
+  offered-has [] t some = absurd (false≢true some)
+  offered-has (b ∷ bs) t some = list_any-append (λ n. bytes_eq n t) b.types (types_of_beans bs)
+      ∙ elim (or_cases (has b.types t) (list_any (λ b. has b.types t) bs) some) [
+        | inl here ↦ or_left (has b.types t) (has (types_of_beans bs) t) here
+        | inr later ↦ or_right (has b.types t) (has (types_of_beans bs) t) (offered-has bs t later)
+      ]
+
+  offered-by : (classes : List (List ℕ)) (class t : List ℕ) → has classes class ≡ true → offers_type ds class t ≡ true
+      → has (flat_map (offered ds) classes) t ≡ true
+  offered-by [] class t among some = absurd (false≢true among)
+  offered-by (c ∷ classes) class t among some = list_any-append (λ n. bytes_eq n t) (offered ds c) (flat_map (offered ds) classes)
+      ∙ elim (or_cases (bytes_eq c class) (has classes class) among) [
+        | inl here ↦ or_left (has (offered ds c) t) (has (flat_map (offered ds) classes) t)
+            (ap (λ n. has (offered ds n) t) (one_name c class here) ∙ offered-has (records_in ds class) t some)
+        | inr later ↦ or_right (has (offered ds c) t) (has (flat_map (offered ds) classes) t) (offered-by classes class t later some)
+      ]
+
+  -- the beans of an affected declaration have no type for which it asks
+  not-asked : (class t : List ℕ) → is_among m.affected.now (key_at kinds.Bean class) ≡ true → offers_type ds class t ≡ true
+      → had (word_at reasons.Asks t) ≡ false
+  not-asked class t among some = none-named had reasons.Asks (flat_map (offered ds) (names_of_kind kinds.Bean m.affected.now)) t no-beans
+      (offered-by (names_of_kind kinds.Bean m.affected.now) class t (named-among kinds.Bean m.affected.now class among) some)
+
+  abbrev Still : PointDecl → Type 0
+  Still p = (id : BeanId) → answer_to ds p ≡ One id → IsStill ds edits m.affected.now id.class
+
+  abbrev Chains : PointDecl → Type 0
+  Chains p = (id : BeanId) → answer_to ds p ≡ One id
+      → (place : BeanPlace) → chain_of (edited_all ds edits) id.class place ≡ chain_of ds id.class place
+
+  -- a point whose type it asks for
+  still-at : (p : PointDecl) → had (word_at reasons.Asks p.required_type) ≡ true → Chains p → Still p
+  still-at p asks chains = λ id one. record {
+    unaffected = elim (cases_Bool (is_among m.affected.now (key_at kinds.Bean id.class))) [
+      | inl among ↦ absurd (false≢true (sym (not-asked id.class p.required_type among
+          (one-offers id ds p.required_type p.qualifiers distinct one)) ∙ asks))
+      | inr spared ↦ spared
+    ];
+    chains = chains id one;
+  }
+
+  still-named : (ms : List Mention) → ((w : Word) → words_have (flat_map words_named_in ms) w ≡ true → had w ≡ true)
+      → AllByRecursion Chains (flat_map point_named ms) → AllByRecursion Still (flat_map point_named ms)
+  still-named [] asks chains = tt
+  still-named (x ∷ ms) asks chains = by x (λ w h. asks w (list_any-append (λ v. same_word v w) (words_named_in x) (flat_map words_named_in ms) ∙ h))
+      chains (still-named ms)
+    where
+      by : (x : Mention) → ((w : Word) → (words_have (words_named_in x) w || words_have (flat_map words_named_in ms) w) ≡ true → had w ≡ true)
+          → AllByRecursion Chains (point_named x ++ flat_map point_named ms)
+          → (((w : Word) → words_have (flat_map words_named_in ms) w ≡ true → had w ≡ true)
+          → AllByRecursion Chains (flat_map point_named ms) → AllByRecursion Still (flat_map point_named ms))
+          → AllByRecursion Still (point_named x ++ flat_map point_named ms)
+      by (PointOf place p) asks chains more = (
+        still-at p (asks (word_at reasons.Asks p.required_type)
+            (or_left (words_have (words_of_point p) (word_at reasons.Asks p.required_type))
+            (words_have (flat_map words_named_in ms) (word_at reasons.Asks p.required_type))
+            (first-has (word_at reasons.Asks p.required_type) (words_of_uses (required p.qualifiers))))) chains.0,
+        more (λ w h. asks w (or_right (words_have (words_of_point p) w) (words_have (flat_map words_named_in ms) w) h)) chains.1,
+      )
+      by other asks chains more = more
+          (λ w h. asks w (or_right (words_have (words_named_in other) w) (words_have (flat_map words_named_in ms) w) h)) chains
+
+  named-had : ((w : Word) → words_have (words_named d) w ≡ true → had w ≡ true) → AllByRecursion Chains (points_of d)
+      → AllByRecursion Still (points_of d)
+  unfolding words_named
+  named-had asks chains = still-named (mentions d) asks chains
+
+  pointless : points_of d ≡ [] → AllByRecursion Still (points_of d)
+  pointless none = subst (AllByRecursion Still) (sym none) tt
+
+-- the points of a declaration ask for no type of an affected bean
+chosen-still : (edits : List Edit) (ds : List Decl) (m : Moved) (d : Decl) → AreDistinct ds → find_decl (kind_of d) (name_of_decl d) ds ≡ Some d
+    → m.edited.now ≡ edited_keys edits → IsUnconcerned ds edits m d
+    → AllByRecursion (λ p. (id : BeanId) → answer_to ds p ≡ One id → IsStill ds edits m.affected.now id.class) (points_of d)
+unfolding mentions
+chosen-still edits ds m (decls.Bean b) distinct found same it = named-had edits ds m (decls.Bean b) distinct found same it (λ w h.
+    let own = flat_map words_of_record (own_records ds b) in
+    let observed = flat_map words_of_observer b.observers in
+    list_any-append (λ v. same_word v w) (own ++ observed) (words_named (decls.Bean b))
+    ∙ or_right (words_have (own ++ observed) w) (words_have (words_named (decls.Bean b)) w) h) it.chains
+chosen-still edits ds m (decls.Interceptor i) distinct found same it =
+    named-had edits ds m (decls.Interceptor i) distinct found same it (λ w h. h) it.chains
+chosen-still edits ds m (decls.Type t) distinct found same it = pointless edits ds m (decls.Type t) distinct found same it
+    (neither (map (TypeIn types.Extends) (option_to_list t.extends)) (map (TypeIn types.Implements) t.implements)
+    (no-type types.Extends (option_to_list t.extends)) (no-type types.Implements t.implements))
+chosen-still edits ds m (decls.Qualifier q) distinct found same it = tt
+chosen-still edits ds m (decls.Binding b) distinct found same it =
+    pointless edits ds m (decls.Binding b) distinct found same it (no-use uses.Binding b.declares)
+chosen-still edits ds m (decls.Stereotype s) distinct found same it = pointless edits ds m (decls.Stereotype s) distinct found same it
+    (neither (map StereotypeOf s.stereotypes) (map (UseOf uses.Binding) s.bindings) (no-stereotype s.stereotypes) (no-use uses.Binding s.bindings))
+
+pub unconcerned-apart : (edits : List Edit) (ds : List Decl) (m : Moved) (d : Decl) → AreDistinct ds
+    → find_decl (kind_of d) (name_of_decl d) ds ≡ Some d → m.edited.now ≡ edited_keys edits → IsUnconcerned ds edits m d
+    → IsApart ds edits m.affected.now d
+unconcerned-apart edits ds m d distinct found same it = record {
+  unedited = ap (λ keys. is_among keys (key_of d)) (sym same) ∙ (firsts edits ds m d distinct found same it).0;
+  unaffected = (firsts edits ds m d distinct found same it).1;
+  names = it.names;
+  qualifiers = qualifiers edits ds m d distinct found same it;
+  bindings = bindings edits ds m d distinct found same it;
+  beans = λ class among. reads-none edits ds m d distinct found same it m.affected.now class (middle edits ds m d distinct found same it).1 among;
+  inherited = inherited edits ds m d distinct found same it d (outer edits ds m d distinct found same it).1 found;
+  answers = it.answers;
+  chosen = chosen-still edits ds m d distinct found same it;
+}
