@@ -44,6 +44,7 @@ use Rattle.cdi_index.specs.Made.{made_of_bean, made_of_interceptor, words_have, 
 use Rattle.cdi_index.specs.Made.{words_of_uses}
 use Rattle.cdi_index.specs.Under.{words_by}
 use Rattle.cdi_index.proofs.CountLemmas.{keys-distinct}
+use Rattle.cdi_index.proofs.NamedLemmas.{among-named}
 use Rattle.cdi_index.proofs.NextLemmas.{any-elim, same-bool}
 use Rattle.cdi_index.proofs.ReplacedLemmas.{any-at, passing}
 use Rattle.cdi_index.proofs.UnderLemmas.{key-found, listed-at}
@@ -90,8 +91,8 @@ module _ (q : Question) (t : List ℕ) (us : List Qual) where
       ]
 
   named : (d : Decl) → asks_for q t us d ≡ true → words_have (words_named d) word ≡ true
-  unfolding asks_for words_named
-  named d h = asked-among (mentions d) h
+  unfolding asks_for
+  named d h = among-named d word (asked-among (mentions d) h)
 
   -- declarations without points ask for nothing
   no-type : (place : TypePlace) (xs : List (List ℕ)) → list_any (asks_in q t us) (map (TypeIn place) xs) ≡ false

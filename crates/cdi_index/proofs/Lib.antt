@@ -11,6 +11,7 @@ mod KeyLemmas
 mod ReplacedLemmas
 pub mod UnderLemmas
 mod SlotLemmas
+pub mod NamedLemmas
 pub mod AskedLemmas
 mod ToldLemmas
 pub mod SoughtLemmas

@@ -25,7 +25,7 @@ use Rattle.cdi_postings.specs.declared.word.Reason.TheVariants as reasons
 use Rattle.cdi_postings.specs.declared.word.Word.{Word}
 use Rattle.cdi_postings.specs.Words.{same_word, word_at}
 use Rattle.cdi_index.specs.Made.{words_have, words_named, words_named_in, words_of_bean, words_of_bindings, words_of_observer}
-use Rattle.cdi_index.specs.Made.{words_of_record, words_of_uses}
+use Rattle.cdi_index.specs.Made.{words_of_record, words_of_uses, words_written_in}
 use Rattle.cdi_index.specs.Under.{beans_under, has_name, has_one, observes_one}
 use Rattle.cdi_index.proofs.ChangeLemmas.{any-either, any-same}
 
@@ -199,9 +199,30 @@ none-in-any (m ∷ ms) t =
     words-append (word_at reasons.Observes t) (words_named_in m) (flat_map words_named_in ms)
     ∙ ap (λ b. b || words_have (flat_map words_named_in ms) (word_at reasons.Observes t)) (none-in m t) ∙ none-in-any ms t
 
+none-written : (m : Mention) (t : List ℕ) → words_have (words_written_in m) (word_at reasons.Observes t) ≡ false
+none-written (PointOf place point) t = refl
+none-written (TypeIn place x) t = refl
+none-written (UseOf uses.Qualifier u) t = refl
+none-written (UseOf uses.Binding u) t = refl
+none-written (StereotypeOf s) t = refl
+none-written (MethodOf m) t = refl
+none-written (BodyOf place body) t = refl
+none-written (CallOf place params call) t = refl
+none-written (EventOf e) t = refl
+
+none-written-any : (ms : List Mention) (t : List ℕ) → words_have (flat_map words_written_in ms) (word_at reasons.Observes t) ≡ false
+none-written-any [] t = refl
+none-written-any (m ∷ ms) t =
+    words-append (word_at reasons.Observes t) (words_written_in m) (flat_map words_written_in ms)
+    ∙ ap (λ b. b || words_have (flat_map words_written_in ms) (word_at reasons.Observes t)) (none-written m t) ∙ none-written-any ms t
+
 none-of-named : (d : Decl) (t : List ℕ) → words_have (words_named d) (word_at reasons.Observes t) ≡ false
 unfolding words_named
-none-of-named d t = none-in-any (mentions d) t
+none-of-named d t =
+    let w : Word = word_at reasons.Observes t in
+    let written : List Word = flat_map words_written_in (mentions d) in
+    words-append w (flat_map words_named_in (mentions d)) written
+    ∙ ap (λ b. b || words_have written w) (none-in-any (mentions d) t) ∙ none-written-any (mentions d) t
 
 observed : (observers : List ObserverDecl) (t : List ℕ)
     → words_have (flat_map words_of_observer observers) (word_at reasons.Observes t)

@@ -13,10 +13,11 @@ use Rattle.cdi_model.specs.declared.decl.ObserverDecl.{ObserverDecl}
 use Rattle.cdi_model.specs.declared.decl.Kind.TheVariants as kinds
 use Rattle.cdi_model.specs.declared.decl.UseKind.TheVariants as uses
 use Rattle.cdi_model.specs.declared.key.DeclKey.{DeclKey}
+use Rattle.cdi_model.specs.Decl.{declared_as}
 use Rattle.cdi_model.specs.DeclKey.{key_at}
 use Rattle.cdi_model.specs.DeclList.{find_decl}
 use Rattle.cdi_model.specs.Edits.{is_among}
-use Rattle.cdi_model.specs.Mentions.{mentions, Mention, EventOf, PointOf, UseOf}
+use Rattle.cdi_model.specs.Mentions.{mentions, Mention, EventOf, PointOf, StereotypeOf, TypeIn, UseOf}
 use Rattle.cdi_model.specs.Quals.{name_of_use}
 use Rattle.cdi_model.specs.declared.decl.EventDecl.{EventDecl}
 use Rattle.cdi_model.specs.declared.decl.PointDecl.{PointDecl}
@@ -72,9 +73,17 @@ words_named_in (EventOf event) = words_of_event event
 words_named_in (UseOf uses.Binding binding) = word_at reasons.Binds (name_of_use binding) ∷ []
 words_named_in other = []
 
+-- the word of a name that it writes in one place, as that of a declaration of a kind
+abbrev pub words_written_in : Mention → List Word
+words_written_in (TypeIn place t) = word_at (reasons.Writes kinds.Type) t ∷ []
+words_written_in (UseOf kind used) = word_at (reasons.Writes (declared_as kind)) (name_of_use used) ∷ []
+words_written_in (StereotypeOf s) = word_at (reasons.Writes kinds.Stereotype) s ∷ []
+words_written_in (PointOf place point) = word_at (reasons.Writes kinds.Type) point.required_type ∷ []
+words_written_in other = []
+
 -- those of all that it names
 unfoldable pub words_named : Decl → List Word
-words_named d = flat_map words_named_in (mentions d)
+words_named d = flat_map words_named_in (mentions d) ++ flat_map words_written_in (mentions d)
 
 -- those of an observer method: the type that it observes and its qualifiers
 abbrev pub words_of_observer : ObserverDecl → List Word

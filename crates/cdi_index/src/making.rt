@@ -1,10 +1,11 @@
 //! What is made of a declaration.
 ghost use Rattle.std.specs.Prelude.{◌≡◌, ◌∷◌, ◌++◌, [], flat_map, map, option_map, Some, IfOk, OnOk};
+ghost use Rattle.std.specs.Option.{option_to_list};
 ghost use Rattle.cdi_model.specs.declared.decl.Kind.TheVariants as kinds;
 ghost use Rattle.cdi_model.specs.DeclKey.{key_at};
 ghost use Rattle.cdi_effective.specs.Disposers.{as_bean};
 ghost use Rattle.cdi_effective.specs.Qualifiers.{default_use};
-ghost use Rattle.cdi_model.specs.Mentions.{shown};
+ghost use Rattle.cdi_model.specs.Mentions.{mentions, shown};
 ghost use Rattle.cdi_model.specs.Quals.{name_of_use};
 ghost use Rattle.cdi_postings.specs.declared.word.Reason.TheVariants as reasons;
 ghost use Rattle.cdi_postings.specs.Words.{word_at};
@@ -12,6 +13,7 @@ ghost use Rattle.cdi_match.specs.Filling.{as_binding};
 ghost use Rattle.cdi_match.specs.Locality.{binding_reads};
 ghost use Rattle.cdi_index.specs.Made.{intercepted_reads, made_of, made_of_bean, made_of_binding, made_of_interceptor, made_of_type};
 ghost use Rattle.cdi_index.specs.Made.{words_named, words_named_in, words_of, words_of_event, words_of_observer, words_of_point, words_of_record};
+ghost use Rattle.cdi_index.specs.Made.{words_written_in};
 
 use crate::next_types::NextTypes;
 use cdi_effective::{
@@ -196,15 +198,52 @@ fn push_named_words(
     }
 }
 
-/// Appends the words of what a declaration names.
-#[tactic(auto, unfolding(crate::specs::Made::words_named))]
-fn push_words_named(alloc: Global, decl: &Decl, words: &mut Vec<Word>) -> Result<(), AllocError>
-    ensures { OnOk result (words.new.items ≡ words.old.items ++ words_named decl.now) }
+/// Appends the words of what a declaration names in its places.
+fn push_words_in_places(alloc: Global, decl: &Decl, words: &mut Vec<Word>) -> Result<(), AllocError>
+    ensures { OnOk result (words.new.items ≡ words.old.items ++ flat_map words_named_in (mentions decl.now)) }
 {
     for mention in decl.mentions() {
         push_named_words(alloc, &mention, words)?;
     }
     Ok(())
+}
+
+/// The word of the name that a declaration writes in a place, if it writes one there.
+fn written_word(mention: &Mention<'_>) -> Option<Word>
+    ensures { option_to_list result ≡ words_written_in (shown mention.now) }
+{
+    let (kind, name) = match mention {
+        Mention::Type(_, name) => (Kind::Type, **name),
+        Mention::Use(kind, used) => (kind.declared_as(), used.name),
+        Mention::Stereotype(name) => (Kind::Stereotype, **name),
+        Mention::Point(_, point) => (Kind::Type, point.required_type),
+        _ => return None,
+    };
+    Some(Word {
+        reason: Reason::Writes(kind),
+        name,
+    })
+}
+
+/// Appends the words of the names that a declaration writes.
+fn push_written_words(decl: &Decl, words: &mut Vec<Word>) -> Result<(), AllocError>
+    ensures { OnOk result (words.new.items ≡ words.old.items ++ flat_map words_written_in (mentions decl.now)) }
+{
+    for mention in decl.mentions() {
+        if let Some(word) = written_word(&mention) {
+            words.push(word)?;
+        }
+    }
+    Ok(())
+}
+
+/// Appends the words of what a declaration names.
+#[tactic(auto, unfolding(crate::specs::Made::words_named))]
+fn push_words_named(alloc: Global, decl: &Decl, words: &mut Vec<Word>) -> Result<(), AllocError>
+    ensures { OnOk result (words.new.items ≡ words.old.items ++ words_named decl.now) }
+{
+    push_words_in_places(alloc, decl, words)?;
+    push_written_words(decl, words)
 }
 
 /// Appends the words of some records.

@@ -8,7 +8,16 @@ use Rattle.cdi_postings.specs.declared.word.Reason.{Reason}
 use Rattle.cdi_postings.specs.declared.word.Reason.TheVariants as reasons
 use Rattle.cdi_postings.specs.declared.word.Word.{Word}
 
--- the reason of a number
+-- the reason of a number, counted from that of what writes a name
+writing : ℕ → Reason
+writing zero = reasons.Writes kinds.Type
+writing (suc zero) = reasons.Writes kinds.Qualifier
+writing (suc (suc zero)) = reasons.Writes kinds.Binding
+writing (suc (suc (suc zero))) = reasons.Writes kinds.Stereotype
+writing (suc (suc (suc (suc zero)))) = reasons.Writes kinds.Bean
+writing (suc (suc (suc (suc (suc n))))) = reasons.Writes kinds.Interceptor
+
+-- from that of what has a type
 later : ℕ → Reason
 later zero = reasons.HasType
 later (suc zero) = reasons.HasName
@@ -17,8 +26,10 @@ later (suc (suc (suc zero))) = reasons.Observes
 later (suc (suc (suc (suc zero)))) = reasons.Asks
 later (suc (suc (suc (suc (suc zero))))) = reasons.Qualifies
 later (suc (suc (suc (suc (suc (suc zero)))))) = reasons.Fires
-later (suc (suc (suc (suc (suc (suc (suc n))))))) = reasons.Binds
+later (suc (suc (suc (suc (suc (suc (suc zero))))))) = reasons.Binds
+later (suc (suc (suc (suc (suc (suc (suc (suc n)))))))) = writing n
 
+-- and from the first
 reason_at : ℕ → Reason
 reason_at zero = reasons.RestsOn kinds.Type
 reason_at (suc zero) = reasons.RestsOn kinds.Qualifier
@@ -29,7 +40,7 @@ reason_at (suc (suc (suc (suc (suc zero))))) = reasons.RestsOn kinds.Interceptor
 reason_at (suc (suc (suc (suc (suc (suc n)))))) = later n
 
 reason_again : (r : Reason) → reason_at (reason_number r) ≡ r
-unfolding reason_at later
+unfolding reason_at later writing
 reason_again (reasons.RestsOn kinds.Type) = refl
 reason_again (reasons.RestsOn kinds.Qualifier) = refl
 reason_again (reasons.RestsOn kinds.Binding) = refl
@@ -44,6 +55,12 @@ reason_again reasons.Asks = refl
 reason_again reasons.Qualifies = refl
 reason_again reasons.Fires = refl
 reason_again reasons.Binds = refl
+reason_again (reasons.Writes kinds.Type) = refl
+reason_again (reasons.Writes kinds.Qualifier) = refl
+reason_again (reasons.Writes kinds.Binding) = refl
+reason_again (reasons.Writes kinds.Stereotype) = refl
+reason_again (reasons.Writes kinds.Bean) = refl
+reason_again (reasons.Writes kinds.Interceptor) = refl
 
 pub word_exact : (v w : Word) → same_word v w ≡ true → v ≡ w
 word_exact v w h =

@@ -1,5 +1,5 @@
 -- When two words are one.
-use Rattle.std.specs.Prelude.{ℕ, List, nat_eq, Bool}
+use Rattle.std.specs.Prelude.{ℕ, ◌+◌, List, nat_eq, Bool}
 use Rattle.std.specs.Cmp.{IsEquivalence}
 use Rattle.std.specs.Cmp.Lexicographic.{pointwise}
 use Rattle.std.specs.Cmp.Rules.{comparing}
@@ -21,6 +21,7 @@ reason_number reasons.Asks = 10
 reason_number reasons.Qualifies = 11
 reason_number reasons.Fires = 12
 reason_number reasons.Binds = 13
+reason_number (reasons.Writes kind) = 14 + kind_number kind
 
 -- the words have one reason and one name
 abbrev pub same_word : Word → Word → Bool

@@ -27,6 +27,8 @@ pub enum Reason {
     Fires,
     /// A bean of it, or a method of one, has a binding of the type, or it is an interceptor with one.
     Binds,
+    /// It writes the name as that of a declaration of a kind.
+    Writes(Kind),
 }
 
 /// A reason and a name under which declarations are listed.
@@ -56,6 +58,12 @@ impl Reason {
             Reason::Qualifies => 11,
             Reason::Fires => 12,
             Reason::Binds => 13,
+            Reason::Writes(Kind::Type) => 14,
+            Reason::Writes(Kind::Qualifier) => 15,
+            Reason::Writes(Kind::Binding) => 16,
+            Reason::Writes(Kind::Stereotype) => 17,
+            Reason::Writes(Kind::Bean) => 18,
+            Reason::Writes(Kind::Interceptor) => 19,
         }
     }
 }

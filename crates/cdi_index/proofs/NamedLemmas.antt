@@ -1,0 +1,23 @@
+-- The words of what a declaration names, and of the names that it writes, are among its words.
+use Rattle.std.proofs.Common.{◌≡◌, true, List, flat_map, ◌∙◌}
+use Rattle.std.proofs.lemmas.Bool.{or_left, or_right}
+use Rattle.std.proofs.lemmas.List.Folds.{list_any-append}
+use Rattle.cdi_model.specs.declared.decl.Decl.{Decl}
+use Rattle.cdi_model.specs.Mentions.{mentions}
+use Rattle.cdi_postings.specs.declared.word.Word.{Word}
+use Rattle.cdi_postings.specs.Words.{same_word}
+use Rattle.cdi_index.specs.Made.{words_have, words_named, words_named_in, words_written_in}
+
+pub among-named : (d : Decl) (w : Word) → words_have (flat_map words_named_in (mentions d)) w ≡ true → words_have (words_named d) w ≡ true
+unfolding words_named
+among-named d w has =
+    let named : List Word = flat_map words_named_in (mentions d) in
+    let written : List Word = flat_map words_written_in (mentions d) in
+    list_any-append (λ v. same_word v w) named written ∙ or_left (words_have named w) (words_have written w) has
+
+pub among-written : (d : Decl) (w : Word) → words_have (flat_map words_written_in (mentions d)) w ≡ true → words_have (words_named d) w ≡ true
+unfolding words_named
+among-written d w has =
+    let named : List Word = flat_map words_named_in (mentions d) in
+    let written : List Word = flat_map words_written_in (mentions d) in
+    list_any-append (λ v. same_word v w) named written ∙ or_right (words_have named w) (words_have written w) has

@@ -1,7 +1,0 @@
-use Rattle.std.proofs.Common.{◌≡◌, ◌++◌, flat_map}
-use Rattle.cdi_index.specs.Made.{words_named, words_named_in}
-use Rattle.cdi_index.proofs.making.push_words_named.Given as goal
-
-abbrev pub invariant-loop-mention : goal.invariant-loop-mention
-invariant-loop-mention l =
-    l.words.items ++ flat_map words_named_in l.mention-iterator ≡ l.fn.words.items ++ words_named l.decl

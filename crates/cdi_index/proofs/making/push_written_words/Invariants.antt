@@ -1,0 +1,8 @@
+use Rattle.std.proofs.Common.{◌≡◌, ◌++◌, flat_map}
+use Rattle.cdi_model.specs.Mentions.{mentions}
+use Rattle.cdi_index.specs.Made.{words_written_in}
+use Rattle.cdi_index.proofs.making.push_written_words.Given as goal
+
+abbrev pub invariant-loop-mention : goal.invariant-loop-mention
+invariant-loop-mention l =
+    l.words.items ++ flat_map words_written_in l.mention-iterator ≡ l.fn.words.items ++ flat_map words_written_in (mentions l.decl)
