@@ -41,8 +41,12 @@ offered ds class = types_of_beans (records_in ds class)
 abbrev pub words_asking : List Decl → List (List ℕ) → List Word
 words_asking ds classes = map (word_at reasons.Asks) (flat_map (offered ds) classes)
 
--- the words of edited qualifiers, of affected binding types, of choices and events that are given up, and of what asks for a bean that is
--- affected or has another chain
+-- the words of what writes the name of one of some declarations
+abbrev pub words_writing : List DeclKey → List Word
+words_writing keys = map (λ k. word_at (reasons.Writes k.kind) k.name) keys
+
+-- the words of edited qualifiers, of affected binding types, of choices and events that are given up, of what asks for a bean that is
+-- affected or has another chain, and of what writes an edited name
 unfoldable pub words_sought : List Decl → Moved → List Word
 words_sought ds m =
     map (word_at reasons.Qualifies) (names_of_kind kinds.Qualifier m.edited.now)
@@ -51,6 +55,7 @@ words_sought ds m =
     ++ map (word_at reasons.Fires) m.events.now
     ++ words_asking ds (names_of_kind kinds.Bean m.affected.now)
     ++ words_asking ds m.classes.now
+    ++ words_writing m.edited.now
 
 -- ---- keys
 
@@ -65,18 +70,25 @@ keys_at ds p = option_map_or (λ d. key_of d ∷ []) (slice_get ds p) []
 abbrev pub is_stereotype : Decl → Bool
 is_stereotype d = is_of_kind kinds.Stereotype (key_of d)
 
--- those of all stereotypes, where one is edited
+-- that of a stereotype or of a binding type
+abbrev pub is_inherited : DeclKey → Bool
+is_inherited k = is_of_kind kinds.Stereotype k || is_of_kind kinds.Binding k
+
+-- those of all stereotypes, where a stereotype or a binding type is edited
 abbrev pub keys_of_stereotypes : List Decl → List DeclKey → List DeclKey
-keys_of_stereotypes ds edited =
-    if list_any (is_of_kind kinds.Stereotype) edited then map key_of (filter is_stereotype ds) else []
+keys_of_stereotypes ds edited = if list_any is_inherited edited then map key_of (filter is_stereotype ds) else []
+
+-- those of the beans of some classes
+abbrev pub keys_of_classes : List (List ℕ) → List DeclKey
+keys_of_classes classes = map (key_at kinds.Bean) classes
 
 -- what is made of the declaration of a key reads an affected bean
 abbrev pub reads_one : List Decl → List DeclKey → DeclKey → Bool
 reads_one ds affected k = list_any (λ c. is_of_kind kinds.Bean c && reads (made_of ds k) c) affected
 
--- the declaration of the key is to be looked at again: it is edited or affected, has one of the words, or reads an affected bean; where a
--- stereotype is edited, it is a stereotype
+-- the declaration of the key is to be looked at again: it is edited or affected, has one of the words, reads an affected bean, or is the bean
+-- of a chain that is given up; where a stereotype or a binding type is edited, it is a stereotype
 abbrev pub is_concerned : List Decl → Moved → DeclKey → Bool
 is_concerned ds m k =
-    (((is_among m.edited.now k || is_among m.affected.now k) || is_among (keys_under ds (words_sought ds m)) k)
-    || reads_one ds m.affected.now k) || is_among (keys_of_stereotypes ds m.edited.now) k
+    ((((is_among m.edited.now k || is_among m.affected.now k) || is_among (keys_under ds (words_sought ds m)) k)
+    || reads_one ds m.affected.now k) || is_among (keys_of_stereotypes ds m.edited.now) k) || is_among (keys_of_classes m.classes.now) k

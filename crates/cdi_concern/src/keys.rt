@@ -4,12 +4,12 @@ ghost use Rattle.std.specs.List.{list_any};
 ghost use Rattle.cdi_model.specs.Decl.{key_of};
 ghost use Rattle.cdi_model.specs.Edits.{is_among};
 ghost use Rattle.cdi_positions.specs.Marks.{marked_from};
-ghost use Rattle.cdi_model.specs.declared.decl.Kind.TheVariants as kinds;
-ghost use Rattle.cdi_concern.specs.Concern.{is_of_kind, is_stereotype, keys_at, keys_of_stereotypes, keys_under, reads_one};
+ghost use Rattle.cdi_concern.specs.Concern.{is_inherited, is_stereotype, keys_at, keys_of_classes, keys_of_stereotypes, keys_under};
+ghost use Rattle.cdi_concern.specs.Concern.{reads_one};
 
 use crate::sought::is_of_kind;
 use cdi_index::Index;
-use cdi_model::{Decl, DeclKey, Decls, Kind};
+use cdi_model::{Decl, DeclKey, Decls, Kind, Name};
 use cdi_positions::PositionSet;
 use cdi_postings::Word;
 use std::alloc::{AllocError, Global};
@@ -70,12 +70,18 @@ pub(crate) fn push_keys_of_readers(
     Ok(())
 }
 
-/// Whether one of some keys is that of a stereotype.
-fn has_stereotype(keys: &[DeclKey]) -> bool
-    ensures { result ≡ list_any (is_of_kind kinds.Stereotype) keys.now }
+fn is_inherited(key: &DeclKey) -> bool
+    ensures { result ≡ is_inherited key.now }
+{
+    is_of_kind(Kind::Stereotype, key) || is_of_kind(Kind::Binding, key)
+}
+
+/// Whether one of some keys is that of a stereotype or of a binding type.
+fn has_inherited(keys: &[DeclKey]) -> bool
+    ensures { result ≡ list_any is_inherited keys.now }
 {
     for key in keys {
-        if is_of_kind(Kind::Stereotype, key) {
+        if is_inherited(key) {
             return true;
         }
     }
@@ -100,7 +106,7 @@ fn push_each_stereotype(decls: &Decls, keys: &mut Vec<DeclKey>) -> Result<(), Al
     Ok(())
 }
 
-/// Appends those of all stereotypes, where one is edited.
+/// Appends those of all stereotypes, where a stereotype or a binding type is edited.
 pub(crate) fn push_keys_of_stereotypes(
     decls: &Decls,
     edited: &[DeclKey],
@@ -108,8 +114,24 @@ pub(crate) fn push_keys_of_stereotypes(
 ) -> Result<(), AllocError>
     ensures { OnOk result (keys.new.items ≡ keys.old.items ++ keys_of_stereotypes decls.now edited.now) }
 {
-    if has_stereotype(edited) {
+    if has_inherited(edited) {
         return push_each_stereotype(decls, keys);
+    }
+    Ok(())
+}
+
+/// Appends those of the beans of some classes.
+pub(crate) fn push_keys_of_classes(
+    classes: &[Name],
+    keys: &mut Vec<DeclKey>,
+) -> Result<(), AllocError>
+    ensures { OnOk result (keys.new.items ≡ keys.old.items ++ keys_of_classes classes.now) }
+{
+    for class in classes {
+        keys.push(DeclKey {
+            kind: Kind::Bean,
+            name: *class,
+        })?;
     }
     Ok(())
 }

@@ -2,7 +2,7 @@
 ghost use Rattle.std.specs.Prelude.{◌≡◌, ◌++◌, flat_map, map, IfOk, OnOk};
 ghost use Rattle.cdi_postings.specs.Words.{word_at};
 ghost use Rattle.cdi_postings.specs.declared.word.Reason.TheVariants as reasons;
-ghost use Rattle.cdi_concern.specs.Concern.{is_of_kind, names_of_kind, types_of_beans, words_asking, words_sought};
+ghost use Rattle.cdi_concern.specs.Concern.{is_of_kind, names_of_kind, types_of_beans, words_asking, words_sought, words_writing};
 
 use crate::moved::Moved;
 use cdi_effective::Effective;
@@ -74,6 +74,19 @@ fn push_words_asking(
     Ok(())
 }
 
+/// Appends the words of what writes the name of one of some declarations.
+fn push_words_writing(keys: &[DeclKey], words: &mut Vec<Word>) -> Result<(), AllocError>
+    ensures { OnOk result (words.new.items ≡ words.old.items ++ words_writing keys.now) }
+{
+    for key in keys {
+        words.push(Word {
+            reason: Reason::Writes(key.kind),
+            name: key.name,
+        })?;
+    }
+    Ok(())
+}
+
 /// The words of what an edit moves.
 #[tactic(auto, unfolding(crate::specs::Concern::words_sought))]
 pub(crate) fn words_sought(
@@ -93,5 +106,6 @@ pub(crate) fn words_sought(
     push_words(Reason::Fires, moved.events, &mut words)?;
     push_words_asking(index, beans.as_slice(), &mut words)?;
     push_words_asking(index, moved.classes, &mut words)?;
+    push_words_writing(moved.edited, &mut words)?;
     Ok(words)
 }
