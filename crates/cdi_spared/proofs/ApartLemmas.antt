@@ -32,7 +32,7 @@ use Rattle.cdi_postings.specs.declared.word.Reason.TheVariants as reasons
 use Rattle.cdi_postings.specs.declared.word.Word.{Word}
 use Rattle.cdi_postings.specs.Words.{same_word, same_word_equiv, word_at}
 use Rattle.cdi_index.specs.Made.{made_of_bean, reads_in, words_have, words_named, words_named_in, words_of_bean, words_of_bindings}
-use Rattle.cdi_index.specs.Made.{words_of_observer, words_of_record, words_of_uses}
+use Rattle.cdi_index.specs.Made.{words_of_observer, words_of_record, words_of_uses, words_written_in}
 use Rattle.cdi_index.specs.Told.{Tells}
 use Rattle.cdi_observe.specs.Answers.{answer_to}
 use Rattle.cdi_observe.specs.Wanted.{points_of}
@@ -162,7 +162,8 @@ module _ (edits : List Edit) (told : List DeclKey) where
     named-words w d none =
         let own = flat_map words_of_record (own_records ds d) in
         let observed = flat_map words_of_observer d.observers in
-        words-back w (own ++ observed) (words_named (decls.Bean d)) none
+        words-front w (flat_map words_named_in (mentions (decls.Bean d))) (flat_map words_written_in (mentions (decls.Bean d)))
+        (words-back w (own ++ observed) (words_named (decls.Bean d)) none)
 
     qualifiers-apart : (d : Decl) → IsApart ds edits told d → AllByRecursion (AreQualifiersSpared keys) (entries ds d)
     qualifiers-apart (decls.Bean d) apart = subst (AllByRecursion (AreQualifiersSpared keys)) (sym (records_are_own ds d))

@@ -20,4 +20,4 @@ pub apart_are_spared : ApartAreSpared
 apart_are_spared edits ds told d found tells apart = apart-spared edits told ds d found tells apart
 
 pub unconcerned_are_apart : UnconcernedAreApart
-unconcerned_are_apart edits ds m d distinct found same it = unconcerned-apart edits ds m d distinct found same it
+unconcerned_are_apart edits ds m d distinct found same tells it = unconcerned-apart edits ds m d distinct found same tells it

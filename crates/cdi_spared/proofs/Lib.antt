@@ -5,7 +5,8 @@ mod PlaceLemmas
 mod OwnLemmas
 mod SparedLemmas
 mod BeanLemmas
-mod OfferLemmas
+pub mod OfferLemmas
 mod ApartLemmas
-mod UnconcernedLemmas
-mod Laws
+mod WrittenLemmas
+pub mod UnconcernedLemmas
+pub mod Laws

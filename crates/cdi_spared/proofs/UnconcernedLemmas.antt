@@ -11,11 +11,13 @@ use Rattle.cdi_model.specs.DeclKey.{key_at, same_key, same_key_equiv}
 use Rattle.cdi_model.specs.DeclList.{find_decl, is_of, AreDistinct}
 use Rattle.cdi_model.specs.Edits.{edited_all, edited_keys, is_among, Avoid}
 use Rattle.cdi_model.specs.Mentions.{mentions, Mention, PointOf, StereotypeOf, TypeIn, UseOf}
+use Rattle.cdi_model.specs.declared.decl.BeanDecl.{BeanDecl}
 use Rattle.cdi_model.specs.declared.decl.Decl.{Decl}
 use Rattle.cdi_model.specs.declared.decl.Decl.TheVariants as decls
 use Rattle.cdi_model.specs.declared.decl.Kind.{Kind}
 use Rattle.cdi_model.specs.declared.decl.Kind.TheVariants as kinds
 use Rattle.cdi_model.specs.declared.decl.PointDecl.{PointDecl}
+use Rattle.cdi_model.specs.declared.decl.StereotypeDecl.{StereotypeDecl}
 use Rattle.cdi_model.specs.declared.decl.UseKind.{UseKind}
 use Rattle.cdi_model.specs.declared.edit.Edit.{Edit}
 use Rattle.cdi_model.specs.declared.key.DeclKey.{DeclKey}
@@ -39,31 +41,35 @@ use Rattle.cdi_postings.specs.declared.word.Reason.TheVariants as reasons
 use Rattle.cdi_postings.specs.declared.word.Word.{Word}
 use Rattle.cdi_postings.specs.Words.{same_word, word_at}
 use Rattle.cdi_index.specs.Made.{made_of, reads, words_have, words_named, words_named_in, words_of_observer, words_of_point, words_of_record, words_of_uses}
+use Rattle.cdi_index.specs.Told.{Tells}
 use Rattle.cdi_index.specs.Under.{has_one, words_by}
+use Rattle.cdi_index.proofs.NamedLemmas.{among-named, among-written}
 use Rattle.cdi_intercept.specs.Chains.{chain_of}
 use Rattle.cdi_observe.specs.Answers.{answer_to}
 use Rattle.cdi_observe.specs.Wanted.{point_named, points_of}
 use Rattle.cdi_resolve.specs.declared.choice.Choice.TheVariants.{One}
-use Rattle.cdi_concern.specs.Concern.{is_of_kind, is_stereotype, keys_of_stereotypes, keys_under, names_of_kind, offered}
-use Rattle.cdi_concern.specs.Concern.{reads_one, types_of_beans, words_asking, words_sought}
+use Rattle.cdi_subjects.specs.Rests.{named_in}
+use Rattle.cdi_concern.specs.Concern.{is_inherited, is_of_kind, is_stereotype, keys_of_classes, keys_of_stereotypes, keys_under, names_of_kind}
+use Rattle.cdi_concern.specs.Concern.{offered, reads_one, types_of_beans, words_asking, words_sought, words_writing}
 use Rattle.cdi_concern.specs.declared.moved.Moved.{Moved}
 use Rattle.cdi_spared.specs.Apart.{IsApart, IsStill}
-use Rattle.cdi_spared.specs.Spared.{AreInheritedSpared}
+use Rattle.cdi_spared.specs.Spared.{AreInheritedSpared, IsNotEdited}
 use Rattle.cdi_spared.specs.Unconcerned.{IsUnconcerned}
 use Rattle.cdi_spared.proofs.ApartLemmas.{first-has}
 use Rattle.cdi_spared.proofs.OfferLemmas.{offers_type, one-offers}
 use Rattle.cdi_spared.proofs.SparedLemmas.{among-map}
+use Rattle.cdi_spared.proofs.WrittenLemmas.{declares-apart, inherits-apart, supers-apart, written-apart}
 
 -- ---- none of a list
 
-none-front : {A : Type 0} (p : A → Bool) (xs ys : List A) → list_any p (xs ++ ys) ≡ false → list_any p xs ≡ false
+pub none-front : {A : Type 0} (p : A → Bool) (xs ys : List A) → list_any p (xs ++ ys) ≡ false → list_any p xs ≡ false
 none-front p xs ys none = (or_parts (list_any p xs) (list_any p ys) (sym (list_any-append p xs ys) ∙ none)).0
 
-none-back : {A : Type 0} (p : A → Bool) (xs ys : List A) → list_any p (xs ++ ys) ≡ false → list_any p ys ≡ false
+pub none-back : {A : Type 0} (p : A → Bool) (xs ys : List A) → list_any p (xs ++ ys) ≡ false → list_any p ys ≡ false
 none-back p xs ys none = (or_parts (list_any p xs) (list_any p ys) (sym (list_any-append p xs ys) ∙ none)).1
 
 -- a test fails for the word of each of some names
-none-named : (test : Word → Bool) (reason : Reason) (names : List (List ℕ)) (n : List ℕ) → list_any test (map (word_at reason) names) ≡ false
+pub none-named : (test : Word → Bool) (reason : Reason) (names : List (List ℕ)) (n : List ℕ) → list_any test (map (word_at reason) names) ≡ false
     → has names n ≡ true → test (word_at reason n) ≡ false
 none-named test reason [] n none among = absurd (false≢true among)
 none-named test reason (x ∷ names) n none among =
@@ -78,7 +84,7 @@ none-named test reason (x ∷ names) n none among =
 own-kind : (kind : Kind) (n : List ℕ) → is_of_kind kind (key_at kind n) ≡ true
 own-kind kind n = same_key_equiv.refl (key_at kind n)
 
-named-among : (kind : Kind) (keys : List DeclKey) (n : List ℕ) → is_among keys (key_at kind n) ≡ true → has (names_of_kind kind keys) n ≡ true
+pub named-among : (kind : Kind) (keys : List DeclKey) (n : List ℕ) → is_among keys (key_at kind n) ≡ true → has (names_of_kind kind keys) n ≡ true
 named-among kind [] n among = absurd (false≢true among)
 named-among kind (k ∷ keys) n among = by (is_of_kind kind k) refl (or_cases (same_key k (key_at kind n)) (is_among keys (key_at kind n)) among)
     (named-among kind keys n)
@@ -92,19 +98,18 @@ named-among kind (k ∷ keys) n among = by (is_of_kind kind k) refl (or_cases (s
     by false e (inl here) more = absurd (false≢true (sym e ∙ ap (is_of_kind kind) (key_exact k (key_at kind n) here) ∙ own-kind kind n))
     by false e (inr later) more = more later
 
--- one among some keys is of the kind
-some-kind : (kind : Kind) (keys : List DeclKey) (n : List ℕ) → is_among keys (key_at kind n) ≡ true → list_any (is_of_kind kind) keys ≡ true
-some-kind kind [] n among = absurd (false≢true among)
-some-kind kind (k ∷ keys) n among = elim (or_cases (same_key k (key_at kind n)) (is_among keys (key_at kind n)) among) [
-  | inl here ↦ or_left (is_of_kind kind k) (list_any (is_of_kind kind) keys)
-      (ap (is_of_kind kind) (key_exact k (key_at kind n) here) ∙ own-kind kind n)
-  | inr later ↦ or_right (is_of_kind kind k) (list_any (is_of_kind kind) keys) (some-kind kind keys n later)
+-- one among some keys passes a test
+some-passes : (test : DeclKey → Bool) (keys : List DeclKey) (key : DeclKey) → is_among keys key ≡ true → test key ≡ true → list_any test keys ≡ true
+some-passes test [] key among passes = absurd (false≢true among)
+some-passes test (k ∷ keys) key among passes = elim (or_cases (same_key k key) (is_among keys key) among) [
+  | inl here ↦ or_left (test k) (list_any test keys) (ap test (key_exact k key here) ∙ passes)
+  | inr later ↦ or_right (test k) (list_any test keys) (some-passes test keys key later passes)
 ]
 
 -- ---- a declaration that is found
 
 -- passes a test, so its key is among those of all that do
-found-among : (test : Decl → Bool) (ds : List Decl) (d : Decl) → find_decl (kind_of d) (name_of_decl d) ds ≡ Some d → test d ≡ true
+pub found-among : (test : Decl → Bool) (ds : List Decl) (d : Decl) → find_decl (kind_of d) (name_of_decl d) ds ≡ Some d → test d ≡ true
     → is_among (map key_of (filter test ds)) (key_of d) ≡ true
 found-among test [] d found passes = absurd (let no : None ≡ Some d = found in cc)
 found-among test (e ∷ ds) d found passes = by (is_of (kind_of d) (name_of_decl d) e) found (found-among test ds d)
@@ -167,8 +172,14 @@ module _ (edits : List Edit) (ds : List Decl) (m : Moved) (d : Decl) (distinct :
   abbrev as-stereotype : Bool
   as-stereotype = is_among (keys_of_stereotypes ds m.edited.now) key
 
-  outer : ((((first-two || by-word) || by-reading)) ≡ false) × (as-stereotype ≡ false)
-  outer = or_parts ((first-two || by-word) || by-reading) as-stereotype it.unconcerned
+  abbrev of-chain : Bool
+  of-chain = is_among (keys_of_classes m.classes.now) key
+
+  whole : ((((first-two || by-word) || by-reading) || as-stereotype) ≡ false) × (of-chain ≡ false)
+  whole = or_parts (((first-two || by-word) || by-reading) || as-stereotype) of-chain it.unconcerned
+
+  outer : (((first-two || by-word) || by-reading) ≡ false) × (as-stereotype ≡ false)
+  outer = or_parts ((first-two || by-word) || by-reading) as-stereotype whole.0
 
   middle : ((first-two || by-word) ≡ false) × (by-reading ≡ false)
   middle = or_parts (first-two || by-word) by-reading outer.0
@@ -208,12 +219,19 @@ module _ (edits : List Edit) (ds : List Decl) (m : Moved) (d : Decl) (distinct :
   abbrev of-classes : List Word
   of-classes = words_asking ds m.classes.now
 
-  none-had : list_any had (of-qualifiers ++ of-bindings ++ of-choices ++ of-events ++ of-beans ++ of-classes) ≡ false
+  abbrev of-edited : List Word
+  of-edited = words_writing m.edited.now
+
+  none-had : list_any had (of-qualifiers ++ of-bindings ++ of-choices ++ of-events ++ of-beans ++ of-classes ++ of-edited) ≡ false
   unfolding words_sought
   none-had = no-word
 
+  no-edited : list_any had of-edited ≡ false
+  no-edited = none-back had (of-qualifiers ++ of-bindings ++ of-choices ++ of-events ++ of-beans ++ of-classes) of-edited none-had
+
   to-beans : list_any had (of-qualifiers ++ of-bindings ++ of-choices ++ of-events ++ of-beans) ≡ false
-  to-beans = none-front had (of-qualifiers ++ of-bindings ++ of-choices ++ of-events ++ of-beans) of-classes none-had
+  to-beans = none-front had (of-qualifiers ++ of-bindings ++ of-choices ++ of-events ++ of-beans) of-classes
+      (none-front had (of-qualifiers ++ of-bindings ++ of-choices ++ of-events ++ of-beans ++ of-classes) of-edited none-had)
 
   no-beans : list_any had of-beans ≡ false
   no-beans = none-back had (of-qualifiers ++ of-bindings ++ of-choices ++ of-events) of-beans to-beans
@@ -248,22 +266,44 @@ module _ (edits : List Edit) (ds : List Decl) (m : Moved) (d : Decl) (distinct :
 
   -- ---- stereotypes
 
+  -- where a stereotype is not listed for them, no stereotype and no binding type is edited
+  module _ (s : StereotypeDecl) (none : is_among (keys_of_stereotypes ds m.edited.now) (key_of (decls.Stereotype s)) ≡ false)
+      (there : find_decl kinds.Stereotype s.name ds ≡ Some (decls.Stereotype s)) where
+    none-inherited : list_any is_inherited m.edited.now ≡ false
+    none-inherited = by (list_any is_inherited m.edited.now) none
+      where
+        by : (b : Bool) → is_among (cond b (map key_of (filter is_stereotype ds)) []) (key_of (decls.Stereotype s)) ≡ false → b ≡ false
+        by true none = absurd (false≢true (sym none
+            ∙ found-among is_stereotype ds (decls.Stereotype s) there (own-kind kinds.Stereotype s.name)))
+        by false none = refl
+
+    inherited-apart : (k : DeclKey) → is_inherited k ≡ true → is_among (edited_keys edits) k ≡ false
+    inherited-apart k is = elim (cases_Bool (is_among (edited_keys edits) k)) [
+      | inl among ↦ absurd (false≢true (sym none-inherited
+          ∙ some-passes is_inherited m.edited.now k (ap (λ keys. is_among keys k) same ∙ among) is))
+      | inr apart ↦ apart
+    ]
+
+    stereotype-apart : (n : List ℕ) → is_among (edited_keys edits) (key_at kinds.Stereotype n) ≡ false
+    stereotype-apart n =
+        let k = key_at kinds.Stereotype n in
+        inherited-apart k (or_left (is_of_kind kinds.Stereotype k) (is_of_kind kinds.Binding k) (own-kind kinds.Stereotype n))
+
+    binding-apart : (n : List ℕ) → is_among (edited_keys edits) (key_at kinds.Binding n) ≡ false
+    binding-apart n =
+        let k = key_at kinds.Binding n in
+        inherited-apart k (or_right (is_of_kind kinds.Stereotype k) (is_of_kind kinds.Binding k) (own-kind kinds.Binding n))
+
+    inherits-none : Avoid (stereotype_reads ds s.stereotypes) edits
+    inherits-none k among = elim (cases_Bool (is_among (stereotype_reads ds s.stereotypes) k)) [
+      | inl read ↦ absurd (let one = among-map kinds.Stereotype (stereotypes_of ds s.stereotypes) k read in
+          false≢true (sym (stereotype-apart one.0) ∙ ap (is_among (edited_keys edits)) one.2 ∙ among))
+      | inr apart ↦ apart
+    ]
+
   inherited : (d : Decl) → is_among (keys_of_stereotypes ds m.edited.now) (key_of d) ≡ false
       → find_decl (kind_of d) (name_of_decl d) ds ≡ Some d → AreInheritedSpared ds edits d
-  inherited (decls.Stereotype s) none found = by (list_any (is_of_kind kinds.Stereotype) m.edited.now) refl none
-    where
-      by : (b : Bool) → list_any (is_of_kind kinds.Stereotype) m.edited.now ≡ b
-          → is_among (cond b (map key_of (filter is_stereotype ds)) []) (key_of (decls.Stereotype s)) ≡ false
-          → Avoid (stereotype_reads ds s.stereotypes) edits
-      by true e none = absurd (false≢true (sym none
-          ∙ found-among is_stereotype ds (decls.Stereotype s) found (own-kind kinds.Stereotype s.name)))
-      by false e none = λ k among. elim (cases_Bool (is_among (stereotype_reads ds s.stereotypes) k)) [
-        | inl read ↦ absurd (let one = among-map kinds.Stereotype (stereotypes_of ds s.stereotypes) k read in
-            false≢true (sym e ∙ some-kind kinds.Stereotype m.edited.now one.0
-            (ap (λ keys. is_among keys (key_at kinds.Stereotype one.0)) same
-            ∙ ap (is_among (edited_keys edits)) one.2 ∙ among)))
-        | inr apart ↦ apart
-      ]
+  inherited (decls.Stereotype s) none found = inherits-none s none found
   inherited (decls.Type x) none found = tt
   inherited (decls.Qualifier x) none found = tt
   inherited (decls.Binding x) none found = tt
@@ -337,22 +377,32 @@ module _ (edits : List Edit) (ds : List Decl) (m : Moved) (d : Decl) (distinct :
 
   named-had : ((w : Word) → words_have (words_named d) w ≡ true → had w ≡ true) → AllByRecursion Chains (points_of d)
       → AllByRecursion Still (points_of d)
-  unfolding words_named
-  named-had asks chains = still-named (mentions d) asks chains
+  named-had asks chains = still-named (mentions d) (λ w h. asks w (among-named d w h)) chains
+
+  -- what has the words of all that it names writes no edited name
+  named-apart : ((w : Word) → words_have (words_named d) w ≡ true → had w ≡ true)
+      → AllByRecursion (λ x. IsNotEdited (edited_keys edits) (named_in x)) (mentions d)
+  named-apart asks = subst (λ keys. AllByRecursion (λ x. IsNotEdited keys (named_in x)) (mentions d)) same
+      (written-apart m.edited.now had no-edited (mentions d) (λ w h. asks w (among-written d w h)))
 
   pointless : points_of d ≡ [] → AllByRecursion Still (points_of d)
   pointless none = subst (AllByRecursion Still) (sym none) tt
+
+-- a bean has the words of what it names
+named-in-bean : (ds : List Decl) (b : BeanDecl) (w : Word) → words_have (words_named (decls.Bean b)) w ≡ true
+    → words_have (words_by ds (decls.Bean b)) w ≡ true
+named-in-bean ds b w h =
+    let own = flat_map words_of_record (own_records ds b) in
+    let observed = flat_map words_of_observer b.observers in
+    list_any-append (λ v. same_word v w) (own ++ observed) (words_named (decls.Bean b))
+    ∙ or_right (words_have (own ++ observed) w) (words_have (words_named (decls.Bean b)) w) h
 
 -- the points of a declaration ask for no type of an affected bean
 chosen-still : (edits : List Edit) (ds : List Decl) (m : Moved) (d : Decl) → AreDistinct ds → find_decl (kind_of d) (name_of_decl d) ds ≡ Some d
     → m.edited.now ≡ edited_keys edits → IsUnconcerned ds edits m d
     → AllByRecursion (λ p. (id : BeanId) → answer_to ds p ≡ One id → IsStill ds edits m.affected.now id.class) (points_of d)
 unfolding mentions
-chosen-still edits ds m (decls.Bean b) distinct found same it = named-had edits ds m (decls.Bean b) distinct found same it (λ w h.
-    let own = flat_map words_of_record (own_records ds b) in
-    let observed = flat_map words_of_observer b.observers in
-    list_any-append (λ v. same_word v w) (own ++ observed) (words_named (decls.Bean b))
-    ∙ or_right (words_have (own ++ observed) w) (words_have (words_named (decls.Bean b)) w) h) it.chains
+chosen-still edits ds m (decls.Bean b) distinct found same it = named-had edits ds m (decls.Bean b) distinct found same it (named-in-bean ds b) it.chains
 chosen-still edits ds m (decls.Interceptor i) distinct found same it =
     named-had edits ds m (decls.Interceptor i) distinct found same it (λ w h. h) it.chains
 chosen-still edits ds m (decls.Type t) distinct found same it = pointless edits ds m (decls.Type t) distinct found same it
@@ -364,13 +414,34 @@ chosen-still edits ds m (decls.Binding b) distinct found same it =
 chosen-still edits ds m (decls.Stereotype s) distinct found same it = pointless edits ds m (decls.Stereotype s) distinct found same it
     (neither (map StereotypeOf s.stereotypes) (map (UseOf uses.Binding) s.bindings) (no-stereotype s.stereotypes) (no-use uses.Binding s.bindings))
 
+-- a declaration writes no edited name
+names-apart : (edits : List Edit) (ds : List Decl) (m : Moved) (d : Decl) → AreDistinct ds → find_decl (kind_of d) (name_of_decl d) ds ≡ Some d
+    → m.edited.now ≡ edited_keys edits → Tells ds (edited_all ds edits) (edited_keys edits) m.affected.now → IsUnconcerned ds edits m d
+    → AllByRecursion (λ x. IsNotEdited (edited_keys edits) (named_in x)) (mentions d)
+unfolding mentions
+names-apart edits ds m (decls.Bean b) distinct found same tells it =
+    named-apart edits ds m (decls.Bean b) distinct found same it (named-in-bean ds b)
+names-apart edits ds m (decls.Interceptor i) distinct found same tells it =
+    named-apart edits ds m (decls.Interceptor i) distinct found same it (λ w h. h)
+names-apart edits ds m (decls.Type t) distinct found same tells it =
+    supers-apart edits ds m.affected.now tells t found (firsts edits ds m (decls.Type t) distinct found same it).1
+names-apart edits ds m (decls.Binding b) distinct found same tells it =
+    declares-apart edits ds m.affected.now tells b found (firsts edits ds m (decls.Binding b) distinct found same it).1
+names-apart edits ds m (decls.Stereotype s) distinct found same tells it =
+    let none = (outer edits ds m (decls.Stereotype s) distinct found same it).1 in
+    inherits-apart (edited_keys edits) s (λ n. (
+      stereotype-apart edits ds m (decls.Stereotype s) distinct found same it s none found n,
+      binding-apart edits ds m (decls.Stereotype s) distinct found same it s none found n,
+    ))
+names-apart edits ds m (decls.Qualifier q) distinct found same tells it = tt
+
 pub unconcerned-apart : (edits : List Edit) (ds : List Decl) (m : Moved) (d : Decl) → AreDistinct ds
-    → find_decl (kind_of d) (name_of_decl d) ds ≡ Some d → m.edited.now ≡ edited_keys edits → IsUnconcerned ds edits m d
-    → IsApart ds edits m.affected.now d
-unconcerned-apart edits ds m d distinct found same it = record {
+    → find_decl (kind_of d) (name_of_decl d) ds ≡ Some d → m.edited.now ≡ edited_keys edits
+    → Tells ds (edited_all ds edits) (edited_keys edits) m.affected.now → IsUnconcerned ds edits m d → IsApart ds edits m.affected.now d
+unconcerned-apart edits ds m d distinct found same tells it = record {
   unedited = ap (λ keys. is_among keys (key_of d)) (sym same) ∙ (firsts edits ds m d distinct found same it).0;
   unaffected = (firsts edits ds m d distinct found same it).1;
-  names = it.names;
+  names = names-apart edits ds m d distinct found same tells it;
   qualifiers = qualifiers edits ds m d distinct found same it;
   bindings = bindings edits ds m d distinct found same it;
   beans = λ class among. reads-none edits ds m d distinct found same it m.affected.now class (middle edits ds m d distinct found same it).1 among;
