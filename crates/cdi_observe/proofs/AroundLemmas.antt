@@ -1,6 +1,6 @@
 -- The names of the interceptors around a bean tell which of them stand around it.
 use Rattle.std.proofs.Common.{◌≡◌, ℕ, zero, suc, Bool, true, false, cond, not, ◌&&◌, ◌||◌, List, [], ◌∷◌, ◌++◌, map, length, nat_eq}
-use Rattle.std.proofs.Common.{Some, Ok, Result, Err, get_or, refl, sym, ap, subst, ◌∙◌}
+use Rattle.std.proofs.Common.{Some, Ok, Result, Err, get_or, refl, sym, ap, ◌∙◌}
 use Rattle.std.specs.List.{AllByRecursion, filter, flat_map, list_any, slice_get}
 use Rattle.std.specs.Str.{bytes_eq}
 use Rattle.std.proofs.Math.Bool.{and-false}

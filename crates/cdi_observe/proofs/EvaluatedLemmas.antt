@@ -1,5 +1,5 @@
 -- Evaluations of keys in other orders, and of keys that stand twice.
-use Rattle.std.proofs.Common.{◌≡◌, Bool, true, false, cond, ◌&&◌, ◌||◌, ℕ, zero, suc, List, [], ◌∷◌, take, refl, sym, ap, ◌∙◌, inl, inr}
+use Rattle.std.proofs.Common.{◌≡◌, Bool, true, false, cond, ◌&&◌, ◌||◌, ℕ, zero, suc, List, [], ◌∷◌, take, refl, sym, ap, ◌∙◌, ◌⊎◌, inl, inr}
 use Rattle.std.specs.List.{AllByRecursion, list_all}
 use Rattle.std.proofs.lemmas.Bool.{and_from, and_parts, or_cases, or_left, or_right, false≢true}
 use Rattle.std.proofs.lemmas.List.Elements.{All-from_recursion}
@@ -120,6 +120,30 @@ evaluated-same ds xs ys kept wants same =
     sym (each-absorbed ds ys xs kept wanted_back back)
     ∙ either-first ds ys xs kept
     ∙ each-absorbed ds xs ys kept (each-among (λ key. is_wanted ds key ≡ true) xs wants) within
+
+-- keys that are known, or are evaluated after it, need not be evaluated before
+known-absorbed : (ds : List Decl) (keys all : List Key) (kept : Kept) → AllByRecursion (λ key. is_wanted ds key ≡ true) keys
+    → AllByRecursion (λ key. (kept.knows key ≡ true) ⊎ (has_key all key ≡ true)) keys
+    → evaluated ds all (evaluated ds keys kept) ≡ evaluated ds all kept
+known-absorbed ds [] all kept wants either = refl
+known-absorbed ds (k ∷ keys) all kept wants either = elim either.0 [
+  | inl known ↦ ap (λ now. evaluated ds all (evaluated ds keys now)) (after_known ds k kept known)
+      ∙ known-absorbed ds keys all kept wants.1 either.1
+  | inr later ↦ ap (evaluated ds all) (after-evaluated ds k keys kept) ∙ absorbed ds k all (evaluated ds keys kept) wants.0 later
+      ∙ known-absorbed ds keys all kept wants.1 either.1
+]
+
+-- wanted keys that have each other one which is not known leave what all leave
+pub evaluated-rest : (ds : List Decl) (rest all : List Key) (kept : Kept) → ((key : Key) → has_key all key ≡ true → is_wanted ds key ≡ true)
+    → ((key : Key) → has_key rest key ≡ true → has_key all key ≡ true)
+    → ((key : Key) → has_key all key ≡ true → (kept.knows key ≡ true) ⊎ (has_key rest key ≡ true))
+    → evaluated ds rest kept ≡ evaluated ds all kept
+evaluated-rest ds rest all kept wants within either =
+    sym (known-absorbed ds all rest kept (each-among (λ key. is_wanted ds key ≡ true) all wants)
+    (each-among (λ key. (kept.knows key ≡ true) ⊎ (has_key rest key ≡ true)) all either))
+    ∙ either-first ds all rest kept
+    ∙ each-absorbed ds rest all kept (each-among (λ key. is_wanted ds key ≡ true) rest (λ key h. wants key (within key h)))
+    (each-among (λ key. has_key all key ≡ true) rest within)
 
 -- wanted keys that are evaluated are some of which no two are one
 pub evaluates_some : (ds : List Decl) (old new : Kept) (keys : List Key) → ((key : Key) → has_key keys key ≡ true → is_wanted ds key ≡ true)

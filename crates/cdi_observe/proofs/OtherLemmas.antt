@@ -76,9 +76,13 @@ module _ (ds : List Decl) where
   decls-told [] found = tt
   decls-told (e ∷ es) found = all-append IsTold (others_by e) (flat_map others_by es) (decl-told e found.0) (decls-told es found.1)
 
+  pub told-of : (es : List Decl) (keys : List OtherKey) → AllByRecursion IsFound es → map other_key keys ≡ flat_map others_by es
+      → All (λ key. IsTold (other_key key)) keys
+  told-of es keys found are = All-from_recursion (λ key. IsTold (other_key key)) keys
+      (unmapped IsTold other_key keys (subst (AllByRecursion IsTold) (sym are) (decls-told es found)))
+
   pub each-told : (keys : List OtherKey) → AreDistinct ds → map other_key keys ≡ flat_map others_by ds → All (λ key. IsTold (other_key key)) keys
-  each-told keys distinct are = All-from_recursion (λ key. IsTold (other_key key)) keys
-      (unmapped IsTold other_key keys (subst (AllByRecursion IsTold) (sym are) (decls-told ds (each-found distinct))))
+  each-told keys distinct are = told-of ds keys (each-found distinct) are
 
 -- ---- with the choices they are all that is wanted
 
@@ -99,6 +103,15 @@ has-parts key d =
     ap (λ b. b || has_key (others_by d) key) (sym (has-points key (points_of d)))
     ∙ sym (list_any-append (same_key key) (asked_by d) (others_by d))
     ∙ ap (λ keys. has_key keys key) (sym (append_assoc (asked_by d) (chains_by d) (events_by d)))
+
+-- what some declarations ask for are the choices of their points and the others
+pub has-parts-of : (key : Key) (ds : List Decl)
+    → (list_any (λ d. has_key (asked_by d) key) ds || list_any (λ d. has_key (others_by d) key) ds)
+    ≡ list_any (λ d. has_key (wanted_by d) key) ds
+has-parts-of key ds = either-any (λ d. has_key (asked_by d) key) (λ d. has_key (others_by d) key) ds
+    ∙ each-same (λ d. has_key (asked_by d) key || has_key (others_by d) key) (λ d. has_key (wanted_by d) key)
+    (λ d. sym (list_any-append (same_key key) (asked_by d) (others_by d))
+    ∙ ap (λ keys. has_key keys key) (sym (append_assoc (asked_by d) (chains_by d) (events_by d)))) ds
 
 module _ (ds : List Decl) where
   abbrev others : List Key

@@ -39,7 +39,10 @@ pub(crate) fn other_keys<'a>(
 }
 
 /// Appends those of a declaration.
-fn push_of_decl<'a>(decl: &'a Decl, list: &mut Vec<OtherKey<'a>>) -> Result<(), AllocError>
+pub(crate) fn push_of_decl<'a>(
+    decl: &'a Decl,
+    list: &mut Vec<OtherKey<'a>>,
+) -> Result<(), AllocError>
     ensures { OnOk result (map other_key list.new.items ≡ map other_key list.old.items ++ others_by decl.now) }
 {
     push_chains(decl, list)?;
