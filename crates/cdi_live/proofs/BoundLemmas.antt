@@ -32,6 +32,7 @@ use Rattle.cdi_postings.specs.declared.word.Word.{Word}
 use Rattle.cdi_postings.specs.Words.{same_word, word_at}
 use Rattle.cdi_index.specs.Made.{words_have, words_named, words_named_in, words_of_bindings, words_of_observer, words_of_record, words_of_uses}
 use Rattle.cdi_index.specs.Under.{words_by}
+use Rattle.cdi_index.proofs.NamedLemmas.{among-named}
 use Rattle.cdi_stakes.specs.Rests.{own_bindings}
 
 abbrev word : List ℕ → Word
@@ -174,13 +175,13 @@ module _ (n : List ℕ) where
     -- a binding that a place declares of its own is among the words
     pub own-word : (ds : List Decl) (place : BeanPlace) → has (map name_of_use (own_bindings b place)) n ≡ true
         → words_have (words_by ds (decls.Bean b)) (word n) ≡ true
-    unfolding words_named
     own-word ds place h =
         let own : List Word = flat_map words_of_record (own_records ds b) in
         let more : List Word = flat_map words_of_observer b.observers in
-        let named : List Word = flat_map words_named_in (mentions (decls.Bean b)) in
+        let named : List Word = words_named (decls.Bean b) in
         words-append (word n) (own ++ more) named
-        ∙ or_right (words_have (own ++ more) (word n)) (words_have named (word n)) (named-word (mentions (decls.Bean b)) n (own-named place h))
+        ∙ or_right (words_have (own ++ more) (word n)) (words_have named (word n))
+        (among-named (decls.Bean b) (word n) (named-word (mentions (decls.Bean b)) n (own-named place h)))
 
     bound-has : (us : List Qual) → words_have (words_of_bindings us) (word n) ≡ has (map name_of_use us) n
     bound-has [] = refl

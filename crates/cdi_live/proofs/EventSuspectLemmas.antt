@@ -46,6 +46,7 @@ use Rattle.cdi_index.specs.Made.{made_of, made_of_type, reads, reads_in, words_h
 use Rattle.cdi_index.specs.Made.{words_of_uses}
 use Rattle.cdi_index.specs.Told.{Tells}
 use Rattle.cdi_index.specs.Under.{has_one, words_by}
+use Rattle.cdi_index.proofs.NamedLemmas.{among-named}
 use Rattle.cdi_index.proofs.AskedLemmas.{words-of-asker}
 use Rattle.cdi_index.proofs.UnderLemmas.{walk}
 use Rattle.cdi_observe.specs.Keys.{EventKey}
@@ -513,7 +514,7 @@ module _ (edits : List Edit) (ds : List Decl) (told : List DeclKey) (distinct : 
 
     -- none of them is edited
     unedited-use : (q : List ℕ) → is_among keys (key_at kinds.Qualifier q) ≡ true → words_have (words_of_uses us) (word q) ≡ false
-    unfolding asks_for words_named fired_types
+    unfolding asks_for fired_types
     unedited-use q edited = by (words_have (words_of_uses us) (word q)) refl
       where
         by : (b : Bool) → words_have (words_of_uses us) (word q) ≡ b → b ≡ false
@@ -525,7 +526,8 @@ module _ (edits : List Edit) (ds : List Decl) (told : List DeclKey) (distinct : 
             absurd (false≢true (sym first.1 ∙ in-passing fired_types (uses_edited ds keys) t ds
             (found_any (kind_of d) (name_of_decl d) ds d (λ d. uses_edited ds keys d && holds (fired_types d) t) it.1
             (and_from (uses_edited ds keys d) (holds (fired_types d) t)
-            (uses-one d q edited (words-of-asker questions.Event t us ds d (word q) it.2 (fires.words e))) fires.fires))))
+            (uses-one d q edited (words-of-asker questions.Event t us ds d (word q) it.2 (among-named d (word q) (fires.words e))))
+            fires.fires))))
 
     declared-same : (vs : List Qual)
         → ((q : List ℕ) → is_among keys (key_at kinds.Qualifier q) ≡ true → words_have (words_of_uses vs) (word q) ≡ false)

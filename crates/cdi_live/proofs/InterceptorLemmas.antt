@@ -28,6 +28,7 @@ use Rattle.cdi_postings.specs.Words.{same_word, same_word_equiv, word_at}
 use Rattle.cdi_index.specs.Made.{words_have, words_named, words_named_in}
 use Rattle.cdi_postings.specs.Listing.{is_listed}
 use Rattle.cdi_index.specs.Under.{has_one, records_at}
+use Rattle.cdi_index.proofs.NamedLemmas.{among-named}
 use Rattle.cdi_stakes.proofs.ChainLemmas.{order}
 use Rattle.cdi_stakes.proofs.SortLemmas.{filtered_in_order}
 use Rattle.std.specs.Option.{option_map_or, option_to_list}
@@ -131,9 +132,9 @@ abbrev rest_of : InterceptorDecl → List Mention
 rest_of i = of_parts parts.AroundInvoke i.around_invoke ++ of_parts parts.AroundConstruct i.around_construct
     ++ of_parts parts.Post i.post ++ of_parts parts.Pre i.pre
 
-words-of-interceptor : (i : InterceptorDecl) → words_named (decls.Interceptor i)
+words-of-interceptor : (i : InterceptorDecl) → flat_map words_named_in (mentions (decls.Interceptor i))
     ≡ (words_bound i.bindings ++ flat_map words_named_in (first_of i)) ++ flat_map words_named_in (rest_of i)
-unfolding words_named mentions
+unfolding mentions
 words-of-interceptor i =
     flat_map-append words_named_in (of_bindings i.bindings ++ first_of i) (rest_of i)
     ∙ ap (λ ws. ws ++ flat_map words_named_in (rest_of i))
@@ -145,9 +146,10 @@ bound-named i w h =
     let bound : List Word = words_bound i.bindings in
     let first : List Word = flat_map words_named_in (first_of i) in
     let rest : List Word = flat_map words_named_in (rest_of i) in
-    ap (λ ws. words_have ws w) (words-of-interceptor i) ∙ words-append w (bound ++ first) rest
+    among-named (decls.Interceptor i) w
+    (ap (λ ws. words_have ws w) (words-of-interceptor i) ∙ words-append w (bound ++ first) rest
     ∙ or_left (words_have (bound ++ first) w) (words_have rest w)
-    (words-append w bound first ∙ or_left (words_have bound w) (words_have first w) h)
+    (words-append w bound first ∙ or_left (words_have bound w) (words_have first w) h))
 
 -- an interceptor of which no binding has one of the words shares no type with those
 without-bound : (words : List Word) (bindings : List Qual) (place : BeanPlace) (i : InterceptorDecl) → Cover words bindings

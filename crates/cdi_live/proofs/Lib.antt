@@ -9,7 +9,7 @@ mod ReaderLemmas
 mod InterceptorLemmas
 mod BoundLemmas
 mod ChainSuspectLemmas
-mod WantedPlaceLemmas
+pub mod WantedPlaceLemmas
 mod ChainGoneLemmas
 mod AroundLemmas
 mod LiveChainLemmas
@@ -19,3 +19,4 @@ mod EventCompareLemmas
 mod EventGoneLemmas
 mod WantedOnceLemmas
 mod KnownLemmas
+mod MovedLemmas

@@ -38,6 +38,7 @@ use Rattle.cdi_index.specs.Made.{words_have, words_named, words_named_in, words_
 use Rattle.cdi_index.specs.Made.{words_of_uses}
 use Rattle.cdi_index.specs.Told.{Tells}
 use Rattle.cdi_index.specs.Under.{has_one, words_by}
+use Rattle.cdi_index.proofs.NamedLemmas.{among-named}
 use Rattle.cdi_index.proofs.AskedLemmas.{words-of-asker}
 use Rattle.cdi_resolve.specs.Choices.{offers}
 use Rattle.cdi_resolve.specs.Sees.{seen_bean}
@@ -337,7 +338,7 @@ module _ (edits : List Edit) (ds : List Decl) (told : List DeclKey) (distinct : 
 
     -- no qualifier that is asked for is edited
     unedited : (q : List ℕ) → is_among keys (key_at kinds.Qualifier q) ≡ true → words_have (words_of_uses (required us)) (word q) ≡ false
-    unfolding asks_for words_named asked_types
+    unfolding asks_for asked_types
     unedited q edited = by (words_have (words_of_uses (required us)) (word q)) refl
       where
         by : (b : Bool) → words_have (words_of_uses (required us)) (word q) ≡ b → b ≡ false
@@ -345,7 +346,8 @@ module _ (edits : List Edit) (ds : List Decl) (told : List DeclKey) (distinct : 
         by true e =
             let it = witness (IsPresent ds) (asks_for questions.Choice t us) ds (all_present ds distinct) wanted in
             let asks = asks-named (mentions it.0) (word q) it.2 in
-            absurd (false≢true (sym (qualified-clear q it.0 it.1 edited (words-of-asker questions.Choice t us ds it.0 (word q) it.2 (asks.words e)))
+            absurd (false≢true (sym (qualified-clear q it.0 it.1 edited
+            (words-of-asker questions.Choice t us ds it.0 (word q) it.2 (among-named it.0 (word q) (asks.words e))))
             ∙ holds-append (types_of_records (entries ds it.0)) (asked_types it.0) t
             ∙ or_right (holds (types_of_records (entries ds it.0)) t) (holds (asked_types it.0) t) asks.types))
 

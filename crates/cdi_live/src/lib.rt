@@ -21,6 +21,7 @@ mod gone;
 mod interceptors;
 mod live;
 mod memos;
+mod moved;
 mod prepare;
 mod sides;
 mod stage;

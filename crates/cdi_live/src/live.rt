@@ -10,6 +10,7 @@ ghost use Rattle.cdi_model.specs.Answering.{Answers};
 ghost use Rattle.cdi_observe.specs.Keys.{choice_key, ChainKey, EventKey};
 ghost use Rattle.cdi_observe.specs.Observers.{notified};
 ghost use Rattle.cdi_resolve.specs.Choices.{chosen, chosen_by_name};
+ghost use Rattle.cdi_live.specs.Concerned.{Concerns};
 ghost use Rattle.cdi_live.specs.Known.{known_of, KnownAreWanted};
 ghost use Rattle.cdi_live.specs.State.{empty, kept_in, knows, staged_by, with_staged, Commits};
 
@@ -18,10 +19,10 @@ use crate::chains::{copy_names, evaluate_chain};
 use crate::choices::{evaluate, make_default, required_of};
 use crate::events::{copy_ids, evaluate_event};
 use crate::memos::{Going, Memos};
-use crate::prepare::{KeptAnswers, prepare};
+use crate::prepare::{KeptAnswers, Prepared, prepare};
 use cdi_effective::Effective;
 use cdi_index::{Counts, Draft, Index};
-use cdi_model::{BeanPlace, Decls, Error, Name, Quals, Seq, Work};
+use cdi_model::{BeanPlace, DeclKey, Decls, Error, Name, Quals, Seq, Work};
 use cdi_observe::ObserverId;
 use cdi_questions::choose_name;
 use cdi_resolve::Choice;
@@ -269,11 +270,14 @@ impl Live {
         Ok(ids)
     }
 
-    /// Stages a draft of these declarations. Nothing is seen of it until `commit`. It takes memory for all that is computed,
-    /// and looks at the declarations that the draft affects and at the answers of which they are a part. Without memory
-    /// nothing is staged.
-    pub fn stage(&mut self, draft: Draft) -> Result<(), AllocError>
+    /// Stages a draft of these declarations. Nothing is seen of it until `commit`. It answers which declarations are to be
+    /// looked at again: what is edited or affected, or rests on that or on answers that go. The list has their kinds and
+    /// names, some of them several times. It takes memory for all that is computed and for the list. It looks at the
+    /// declarations that the draft affects, at the answers of which they are a part, and at what it answers; where a
+    /// stereotype or a binding type is edited, at all declarations. Without memory nothing is staged.
+    pub fn stage(&mut self, draft: Draft) -> Result<Vec<DeclKey>, AllocError>
         requires { IsEdited self.old.decls draft }
+        ensures concerned { IfOk result (λ keys. Concerns self.old draft keys.items) }
         ensures ok { OnOk result (self.new ≡ with_staged self.old (Some (staged_by self.old draft))) }
         ensures err { OnErr result (self.new ≡ with_staged self.old None) }
     {
@@ -283,9 +287,16 @@ impl Live {
             memos: &self.memos,
             by_default: &self.by_default,
         };
-        let going = prepare(self.alloc, &mut self.index, &kept, draft)?;
+        let Prepared { going, concerned } = prepare(self.alloc, &mut self.index, &kept, draft)?;
         self.going = Some(going);
-        Ok(())
+        Ok(concerned)
+    }
+
+    /// Gives up what is staged, if anything is. It takes no memory.
+    pub fn give_up(&mut self)
+        ensures { self.new ≡ with_staged self.old None }
+    {
+        self.going = None;
     }
 
     /// Takes over what is staged, if anything is. The answers that an edit touches, or for which nothing asks any more, are

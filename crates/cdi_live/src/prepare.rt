@@ -1,16 +1,19 @@
-//! Stages a draft, with what goes of the kept answers.
+//! Stages a draft, with what goes of the kept answers and what is to be looked at again.
 ghost use Rattle.std.specs.Prelude.{◌≡◌, ◌∷◌, [], true, is_some, Some, IfOk, IfSome, OnOk};
 ghost use Rattle.cdi_effective.specs.Qualifiers.{default_use};
 ghost use Rattle.cdi_index.specs.State.{staged_by, IsEdited};
 ghost use Rattle.cdi_index.specs.Told.{Tells};
 ghost use Rattle.cdi_live.specs.Compared.{IsBetween};
+ghost use Rattle.cdi_live.specs.Concerned.{Concerns};
 ghost use Rattle.cdi_live.specs.Kept.{AreAsked, AreGoing};
+ghost use Rattle.cdi_live.specs.State.{seen};
 
 use crate::chain_stage::gone_chains_after;
 use crate::changed::changed_by_word;
 use crate::dropped::Wants;
 use crate::event_stage::gone_events_after;
 use crate::memos::{Going, Memos};
+use crate::moved::concerned_by;
 use crate::sides::Sides;
 use crate::stage::gone_after;
 use cdi_index::{Draft, Index};
@@ -97,22 +100,42 @@ fn going_between(
     going_after(alloc, &sides, kept)
 }
 
-/// Stages a draft, and answers what goes of the kept answers with it. Without memory what is staged is not to be taken over.
+/// What is found of a draft that is staged.
+#[derive(Drop)]
+pub(crate) struct Prepared {
+    pub(crate) going: Going,
+    /// The kinds and names of the declarations that are to be looked at again.
+    pub(crate) concerned: Vec<DeclKey>,
+}
+
+/// Stages a draft. It answers what goes of the kept answers with it, and which declarations are to be looked at again.
+/// Without memory what is staged is not to be taken over.
 pub(crate) fn prepare(
     alloc: Global,
     index: &mut Index,
     kept: &KeptAnswers<'_>,
     draft: Draft,
-) -> Result<Going, AllocError>
+) -> Result<Prepared, AllocError>
     requires edited { IsEdited index.old.decls draft }
     requires default { kept.now.by_default.now ≡ default_use ∷ [] }
     requires asked { AreAsked index.old.decls kept.now.memos.now }
     ensures decls { index.new.decls ≡ index.old.decls }
     ensures counts { index.new.counts ≡ index.old.counts }
     ensures staged { OnOk result (index.new.staged ≡ Some (staged_by index.old draft)) }
-    ensures going { IfOk result (λ going. AreGoing index.old.decls draft.decls kept.now.memos.now going) }
+    ensures going { IfOk result (λ found. AreGoing index.old.decls draft.decls kept.now.memos.now found.going) }
+    ensures concerned { IfOk result (λ found. (work : _) (going : _)
+        → Concerns (seen index.old kept.now.memos.now work going) draft found.concerned.items) }
 {
     let edited = copy_keys(alloc, draft.keys())?;
     let affected = index.stage(draft)?;
-    going_between(alloc, index, kept, &Keys { edited, affected })
+    let keys = Keys { edited, affected };
+    let going = going_between(alloc, index, kept, &keys)?;
+    let concerned = concerned_by(
+        alloc,
+        index,
+        keys.edited.as_slice(),
+        keys.affected.as_slice(),
+        &going,
+    )?;
+    Ok(Prepared { going, concerned })
 }
