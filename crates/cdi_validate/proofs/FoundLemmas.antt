@@ -67,6 +67,12 @@ records_found ds es rest (decls.Bean bean) distinct split =
     (found-own es rest (decls.Bean bean) (pairs-apart keys-differ (es ++ decls.Bean bean ∷ rest) (subst AreDistinct (sym split) distinct))))
 records_found ds es rest other distinct split = refl
 
+-- the records of a declaration that is found by its kind and name
+pub records-of-found : (ds : List Decl) (d : Decl) → find_decl (kind_of d) (name_of_decl d) ds ≡ Some d → records_by ds d ≡ entries ds d
+unfolding records_in
+records-of-found ds (decls.Bean bean) found = ap (λ o. records_declared ds (as_bean o)) found
+records-of-found ds other found = refl
+
 -- the records of one more declaration
 pub records-next : (ds es rest : List Decl) (d : Decl) (records : List Effective) → AreDistinct ds → es ++ d ∷ rest ≡ ds
     → records ≡ records_by ds d

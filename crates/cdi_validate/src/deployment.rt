@@ -1,16 +1,16 @@
 //! The faults of a deployment.
-ghost use Rattle.std.specs.Prelude.{◌≡◌, ◌≢◌, AllPairs, ◌++◌, true, map, IfOk, OnOk, OnErr};
+ghost use Rattle.std.specs.Prelude.{◌≡◌, ◌≢◌, AllPairs, ◌++◌, true, map, Some, IfOk, OnOk, OnErr};
 ghost use Rattle.std.specs.List.{flat_map, list_all};
 ghost use Rattle.cdi_model.specs.Decl.{kind_of, name_of_decl};
-ghost use Rattle.cdi_model.specs.DeclList.{AreDistinct};
+ghost use Rattle.cdi_model.specs.DeclList.{find_decl, AreDistinct};
 ghost use Rattle.cdi_effective.specs.Beans.{beans, entries};
 ghost use Rattle.cdi_observe.specs.Answers.{answer_to, answers as all_answers};
 ghost use Rattle.cdi_observe.specs.Kept.{evaluated, EvaluatesSome};
-ghost use Rattle.cdi_observe.specs.Wanted.{points_of, wanted};
+ghost use Rattle.cdi_observe.specs.Wanted.{asked_by, points_of, wanted};
 ghost use Rattle.cdi_faults.specs.FaultText.{SubjectsInOrder};
 ghost use Rattle.cdi_validate.specs.Circles.{NeedsItselfOnCircle};
 ghost use Rattle.cdi_validate.specs.Faults.{circles, faults, faults_of, name_clashes, name_prefixes};
-ghost use Rattle.cdi_validate.specs.Faults.{LinesRise, PrefixesGoOn};
+ghost use Rattle.cdi_validate.specs.Faults.{FaultsStandOnce, LinesRise, PrefixesGoOn};
 ghost use Rattle.cdi_validate.specs.Twice.{specialized_twice, SharersAreTold};
 ghost use Rattle.cdi_faults.specs.declared.fault.Fault.TheVariants as the_faults;
 
@@ -22,7 +22,7 @@ use cdi_bodies::Bodies;
 use cdi_effective::Effective;
 use cdi_faults::{Code, Fault, Subject, in_text_order};
 use cdi_model::Decl;
-use cdi_observe::{View, evaluate};
+use cdi_observe::{View, evaluate, kept_answers};
 use cdi_resolve::Choice;
 use cdi_subjects::{Glance, subjects_at_fault};
 use std::alloc::{AllocError, Global};
@@ -76,10 +76,48 @@ pub fn faults_by<V: View, B: Bodies>(
 {
     let mut faults = Vec::new(alloc);
     push_of_decls(alloc, view, book, answers, &mut faults)?;
-    push_of_names(alloc, view, &mut faults)?;
-    push_of_circles(alloc, view, answers, &mut faults)?;
-    push_of_twice(alloc, view, &mut faults)?;
+    push_of_several(alloc, view, answers, &mut faults)?;
     Ok(faults)
+}
+
+/// Appends the faults that are not about one declaration: those of names, those of circles, and those of two beans that
+/// specialize one, by the answers to the injection points of each declaration. It takes memory for them and for what they are
+/// found by.
+#[tactic(auto, using(crate::proofs::OnceLemmas::faults_stand_once))]
+pub fn push_of_several<V: View>(
+    alloc: Global,
+    view: &V,
+    answers: &[Vec<Rc<Choice>>],
+    faults: &mut Vec<Fault>,
+) -> Result<(), AllocError>
+    requires { map (λ list. map (λ answer. answer.value) list.items) answers.now ≡ all_answers (V.list view.now) }
+    ensures faults { OnOk result (faults.new.items ≡ faults.old.items ++ name_clashes (beans (V.list view.now))
+        ++ name_prefixes (beans (V.list view.now)) ++ circles (V.list view.now) ++ specialized_twice (V.list view.now)) }
+    ensures prefixes { OnOk result (LinesRise (name_prefixes (beans (V.list view.now)))) }
+    ensures once { FaultsStandOnce }
+{
+    push_of_names(alloc, view, faults)?;
+    push_of_circles(alloc, view, answers, faults)?;
+    push_of_twice(alloc, view, faults)?;
+    Ok(())
+}
+
+/// Appends the faults of a declaration that is there, where all that its points ask for is known. It takes memory for them and
+/// for the answers.
+pub fn push_of_one<V: View, B: Bodies>(
+    alloc: Global,
+    view: &V,
+    book: &B,
+    decl: &Decl,
+    faults: &mut Vec<Fault>,
+) -> Result<(), AllocError>
+    requires found { find_decl (kind_of decl.now) (name_of_decl decl.now) (V.list view.now) ≡ Some decl.now }
+    requires known { list_all (V.kept view.now).knows (asked_by decl.now) ≡ true }
+    ensures { OnOk result (faults.new.items ≡ faults.old.items ++ faults_of (V.list view.now) (B.promises book.now) decl.now) }
+{
+    let answers = kept_answers(alloc, view, decl)?;
+    let beans = records_of(view, decl);
+    push_of_decl(alloc, view, book, decl, beans, answers.as_slice(), faults)
 }
 
 /// Appends the faults of the declarations, by the answers to their injection points.

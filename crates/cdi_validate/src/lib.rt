@@ -8,4 +8,4 @@ mod records;
 mod surrounded;
 mod twice;
 
-pub use deployment::{faults, faults_by};
+pub use deployment::{faults, faults_by, push_of_one, push_of_several};
