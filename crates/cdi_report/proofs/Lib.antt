@@ -1,0 +1,7 @@
+mod AskedLemmas
+mod UnmovedLemmas
+mod StillLemmas
+pub mod StayLemmas
+mod PositionLemmas
+pub mod SettledLemmas
+pub mod KeptLemmas

@@ -1,0 +1,113 @@
+-- Where the declarations of some keys are.
+use Rattle.std.proofs.Common.{◌≡◌, ℕ, nat_eq, Bool, true, false, cond, ◌||◌, List, [], ◌∷◌, flat_map, filter, position, slice_get, get_or}
+use Rattle.std.proofs.Common.{Option, Some, None, refl, sym, ap, ◌∙◌, inl, inr, arith}
+use Rattle.std.specs.List.{list_any}
+use Rattle.std.specs.Option.{option_map_or}
+use Rattle.std.proofs.lemmas.Bool.{cases_Bool, eq-eqb, eqb-true, false≢true}
+use Rattle.std.proofs.lemmas.List.Quantifiers.{position-Some}
+use Rattle.std.proofs.lemmas.Option.{slice_get-get_or}
+use Rattle.cdi_model.specs.Decl.{key_of}
+use Rattle.cdi_model.specs.DeclKey.{same_key, same_key_equiv}
+use Rattle.cdi_model.specs.DeclList.{is_of, AreDistinct}
+use Rattle.cdi_model.specs.declared.decl.Decl.{Decl}
+use Rattle.cdi_model.specs.declared.key.DeclKey.{DeclKey}
+use Rattle.cdi_model.proofs.EntryLemmas.{key_exact}
+use Rattle.cdi_effective.proofs.PlaceLemmas.{own-position}
+use Rattle.cdi_index.proofs.UnderLemmas.{walk}
+use Rattle.cdi_positions.specs.Marks.{is_marked, marked_from}
+use Rattle.indexmap.specs.IndexSet.{contains}
+use Rattle.cdi_report.specs.Positions.{decls_at, is_at}
+use Rattle.cdi_report.specs.Settled.{is_open, open_of}
+use Rattle.cdi_report.specs.declared.unsettled.Unsettled.{Unsettled}
+
+-- ---- one key
+
+-- the declaration at the position of a key has the key
+has-key : (k : DeclKey) (ds : List Decl) (i : ℕ) → position (is_of k.kind k.name) ds ≡ Some i
+    → option_map_or (λ d. same_key (key_of d) k) (slice_get ds i) false ≡ true
+has-key k [] i at = absurd (let no : None ≡ Some i = at in cc)
+has-key k (d ∷ ds) i at =
+    let found = position-Some (is_of k.kind k.name) (d ∷ ds) i d at in
+    ap (λ o. option_map_or (λ e. same_key (key_of e) k) o false) (slice_get-get_or (d ∷ ds) i d found.0)
+    ∙ same_key_equiv.symm (key_of (get_or (d ∷ ds) i d)) k ∙ found.1
+
+-- a declaration that has the key is at its position
+is-there : (ds : List Decl) (k : DeclKey) (d : Decl) (p : ℕ) → AreDistinct ds → slice_get ds p ≡ Some d → same_key (key_of d) k ≡ true
+    → position (is_of k.kind k.name) ds ≡ Some p
+is-there ds k d p distinct at same =
+    ap (λ (x : DeclKey). position (is_of x.kind x.name) ds) (sym (key_exact (key_of d) k same)) ∙ own-position ds p d distinct at
+
+at-key : (ds : List Decl) → AreDistinct ds → (k : DeclKey) (p : ℕ)
+    → is_at ds k p ≡ option_map_or (λ d. same_key (key_of d) k) (slice_get ds p) false
+at-key ds distinct k p = by (position (is_of k.kind k.name) ds) refl (option_map_or (λ d. same_key (key_of d) k) (slice_get ds p) false) refl
+  where
+    there : (o : Option Decl) → slice_get ds p ≡ o → option_map_or (λ d. same_key (key_of d) k) o false ≡ true
+        → position (is_of k.kind k.name) ds ≡ Some p
+    there None at has = absurd (false≢true has)
+    there (Some d) at has = is-there ds k d p distinct at has
+
+    by : (o : Option ℕ) → position (is_of k.kind k.name) ds ≡ o → (b : Bool)
+        → option_map_or (λ d. same_key (key_of d) k) (slice_get ds p) false ≡ b → option_map_or (λ i. nat_eq i p) o false ≡ b
+    by None none false e = refl
+    by None none true e = absurd (let no : None ≡ Some p = sym none ∙ there (slice_get ds p) refl e in cc)
+    by (Some i) at true e =
+        let same : Some i ≡ Some p = sym at ∙ there (slice_get ds p) refl e in
+        let one : i ≡ p = cc in
+        eq-eqb i p one
+    by (Some i) at false e = elim (cases_Bool (nat_eq i p)) [
+      | inl one ↦ absurd (false≢true (sym e
+          ∙ ap (λ j. option_map_or (λ d. same_key (key_of d) k) (slice_get ds j) false) (sym (eqb-true i p one)) ∙ has-key k ds i at))
+      | inr other ↦ other
+    ]
+
+-- ---- some keys
+
+any-key : (keys : List DeclKey) (o : Option Decl) → list_any (λ k. option_map_or (λ d. same_key (key_of d) k) o false) keys
+    ≡ option_map_or (λ d. list_any (same_key (key_of d)) keys) o false
+any-key [] None = refl
+any-key (k ∷ keys) None = any-key keys None
+any-key keys (Some d) = refl
+
+pub at-keys : (ds : List Decl) → AreDistinct ds → (keys : List DeclKey) (p : ℕ)
+    → list_any (λ k. is_at ds k p) keys ≡ option_map_or (λ d. list_any (same_key (key_of d)) keys) (slice_get ds p) false
+at-keys ds distinct keys p = each keys ∙ any-key keys (slice_get ds p)
+  where
+    each : (ks : List DeclKey) → list_any (λ k. is_at ds k p) ks
+        ≡ list_any (λ k. option_map_or (λ d. same_key (key_of d) k) (slice_get ds p) false) ks
+    each [] = refl
+    each (k ∷ ks) = ap (λ b. b || list_any (λ x. is_at ds x p) ks) (at-key ds distinct k p)
+        ∙ ap (λ b. option_map_or (λ d. same_key (key_of d) k) (slice_get ds p) false || b) (each ks)
+
+-- ---- at positions
+
+alone : (ds : List Decl) → flat_map (λ d. d ∷ []) ds ≡ ds
+alone [] = refl
+alone (d ∷ ds) = ap (λ es. d ∷ es) (alone ds)
+
+-- at the positions of those that pass a test are just these
+pub decls-marked : (ds : List Decl) (test : Decl → Bool) (marks : List Bool)
+    → ((p : ℕ) → is_marked marks p ≡ option_map_or test (slice_get ds p) false)
+    → flat_map (decls_at ds) (marked_from 0 marks) ≡ filter test ds
+decls-marked ds test marks marked =
+    walk (λ d. d ∷ []) test ds 0 marks ds (λ i. ap (slice_get ds) (omega arith)) marked ∙ alone (filter test ds)
+
+-- ---- the open declarations
+
+filter-each : (test : Decl → Bool) (ds : List Decl) → ((d : Decl) → test d ≡ true) → filter test ds ≡ ds
+filter-each test [] each = refl
+filter-each test (d ∷ ds) each = ap (λ b. cond b (d ∷ filter test ds) (filter test ds)) (each d) ∙ ap (λ es. d ∷ es) (filter-each test ds each)
+
+-- where a report looks at each declaration, these are all
+pub each-open : (u : Unsettled) (ds : List Decl) → u.is_each ≡ true → open_of u ds ≡ ds
+each-open u ds is = filter-each (λ d. is_open u (key_of d)) ds (λ d. ap (λ b. b || contains same_key u.keys (key_of d)) is)
+
+filter-same : (test other : Decl → Bool) (ds : List Decl) → ((d : Decl) → test d ≡ other d) → filter test ds ≡ filter other ds
+filter-same test other [] same = refl
+filter-same test other (d ∷ ds) same = ap (λ b. cond b (d ∷ filter test ds) (filter test ds)) (same d)
+    ∙ ap (λ es. cond (other d) (d ∷ es) es) (filter-same test other ds same)
+
+-- else they are those that have one of the keys
+pub some-open : (u : Unsettled) (ds : List Decl) (keys : List DeclKey) → u.is_each ≡ false → keys ≡ u.keys.keys
+    → filter (λ d. list_any (same_key (key_of d)) keys) ds ≡ open_of u ds
+some-open u ds keys not_each are = filter-same (λ d. list_any (same_key (key_of d)) keys) (λ d. is_open u (key_of d)) ds
+    (λ d. ap (λ ks. list_any (same_key (key_of d)) ks) are ∙ ap (λ b. b || contains same_key u.keys (key_of d)) (sym not_each))

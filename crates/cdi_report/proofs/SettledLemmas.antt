@@ -1,0 +1,273 @@
+-- A report that looks at some declarations tells the faults of all.
+use Rattle.std.proofs.Common.{◌≡◌, Bool, true, false, cond, ◌&&◌, ◌||◌, List, [], ◌∷◌, ◌++◌, Some, None, filter, map}
+use Rattle.std.proofs.Common.{refl, sym, ap, subst, ◌∙◌, ◌⊎◌, inl, inr, length, nat_lt, get_or, arith}
+use Rattle.std.specs.List.{All, AllByRecursion, flat_map, list_all, list_any}
+use Rattle.std.proofs.lemmas.Bool.{cases_Bool, and_from, and_parts, ltb-false, or_cases, or_left, or_right, false≢true}
+use Rattle.std.proofs.lemmas.List.Elements.{All-from_recursion, recursion_from_All}
+use Rattle.std.proofs.lemmas.List.Folds.{list_all-append, list_any-append}
+use Rattle.std.proofs.lemmas.Option.{slice_get-get_or}
+use Rattle.indexmap.specs.IndexSet.{contains}
+use Rattle.cdi_bodies.specs.Book.{Promised}
+use Rattle.cdi_model.specs.Decl.{key_of, kind_of, name_of_decl}
+use Rattle.cdi_model.specs.DeclKey.{same_key, same_key_equiv as same_decl_equiv}
+use Rattle.cdi_model.specs.DeclList.{find_decl, is_of, AreDistinct}
+use Rattle.cdi_model.specs.declared.decl.Decl.{Decl}
+use Rattle.cdi_model.specs.declared.key.DeclKey.{DeclKey}
+use Rattle.cdi_model.specs.declared.decl.PointDecl.{PointDecl}
+use Rattle.cdi_effective.proofs.PlaceLemmas.{own-found}
+use Rattle.cdi_observe.specs.Keys.{Key, ChainKey, has_key, same_key as same_ask}
+use Rattle.cdi_observe.specs.Kept.{Kept, evaluated, EvaluatesSome}
+use Rattle.cdi_observe.specs.Wanted.{asked, asked_by, chains_by, events_by, is_wanted, points_of, wanted, wanted_by, AskForRest}
+use Rattle.cdi_observe.proofs.KeyLemmas.{same_key-decides, same_key-equiv}
+use Rattle.cdi_observe.proofs.KeptLemmas.{evaluated-apart, knows_wanted}
+use Rattle.cdi_observe.proofs.RestLemmas.{found-any, IsFound}
+use Rattle.cdi_observe.proofs.WantedLemmas.{has-wanted}
+use Rattle.cdi_validate.specs.Faults.{faults_of}
+use Rattle.cdi_report.specs.Known.{AreChainsKnown, IsKnown}
+use Rattle.cdi_report.specs.Settled.{has_faults, is_open, open_of, AreSettled}
+use Rattle.cdi_report.specs.declared.unsettled.Unsettled.{Unsettled}
+
+-- ---- lists of which some are left out
+
+-- those of which nothing is left out but what gives nothing
+flat-filter : {A B : Type 0} (p : A → Bool) (f : A → List B) (xs : List A) → AllByRecursion (λ x. p x ≡ false → f x ≡ []) xs
+    → flat_map f (filter p xs) ≡ flat_map f xs
+flat-filter p f [] all = refl
+flat-filter p f (x ∷ xs) all = by (p x) refl (flat-filter p f xs all.1)
+  where
+    by : (b : Bool) → p x ≡ b → flat_map f (filter p xs) ≡ flat_map f xs
+        → flat_map f (cond b (x ∷ filter p xs) (filter p xs)) ≡ f x ++ flat_map f xs
+    by true e rest = ap (λ l. f x ++ l) rest
+    by false e rest = rest ∙ ap (λ l. l ++ flat_map f xs) (sym (all.0 e))
+
+-- one of those that are left passes a test that none of the others passes
+any-filter : {A : Type 0} (p f : A → Bool) (xs : List A) → AllByRecursion (λ x. p x ≡ false → f x ≡ false) xs → list_any f xs ≡ true
+    → list_any f (filter p xs) ≡ true
+any-filter p f [] all some = some
+any-filter p f (x ∷ xs) all some = by (p x) refl (or_cases (f x) (list_any f xs) some) (any-filter p f xs all.1)
+  where
+    by : (b : Bool) → p x ≡ b → (f x ≡ true) ⊎ (list_any f xs ≡ true) → (list_any f xs ≡ true → list_any f (filter p xs) ≡ true)
+        → list_any f (cond b (x ∷ filter p xs) (filter p xs)) ≡ true
+    by true e (inl here) more = or_left (f x) (list_any f (filter p xs)) here
+    by true e (inr later) more = or_right (f x) (list_any f (filter p xs)) (more later)
+    by false e (inl here) more = absurd (false≢true (sym (all.0 e) ∙ here))
+    by false e (inr later) more = more later
+
+-- what holds of each of a list holds of those that are left
+all-filter : {A : Type 0} (P : A → Type 0) (p : A → Bool) (xs : List A) → AllByRecursion P xs → AllByRecursion P (filter p xs)
+all-filter P p [] all = tt
+all-filter P p (x ∷ xs) all = by (p x) (all-filter P p xs all.1)
+  where
+    by : (b : Bool) → AllByRecursion P (filter p xs) → AllByRecursion P (cond b (x ∷ filter p xs) (filter p xs))
+    by true rest = (all.0, rest)
+    by false rest = rest
+
+-- one that is found by a test on the list, and passes one more, is among those that are left
+found-filter : (p f : Decl → Bool) (ds : List Decl) (d : Decl) → IsFound ds d → p d ≡ true → f d ≡ true → list_any f (filter p ds) ≡ true
+found-filter p f [] d found passes holds = absurd (let no : None ≡ Some d = found in cc)
+found-filter p f (e ∷ ds) d found passes holds = by (is_of (kind_of d) (name_of_decl d) e) found (found-filter p f ds d)
+  where
+    first : (b : Bool) → p e ≡ b → p e ≡ true → f e ≡ true → list_any f (cond b (e ∷ filter p ds) (filter p ds)) ≡ true
+    first true is passed holds = or_left (f e) (list_any f (filter p ds)) holds
+    first false is passed holds = absurd (false≢true (sym is ∙ passed))
+
+    more : (b : Bool) → list_any f (filter p ds) ≡ true → list_any f (cond b (e ∷ filter p ds) (filter p ds)) ≡ true
+    more true rest = or_right (f e) (list_any f (filter p ds)) rest
+    more false rest = rest
+
+    by : (b : Bool) → cond b (Some e) (find_decl (kind_of d) (name_of_decl d) ds) ≡ Some d
+        → (IsFound ds d → p d ≡ true → f d ≡ true → list_any f (filter p ds) ≡ true) → list_any f (filter p (e ∷ ds)) ≡ true
+    by true here rest =
+        let some : Some e ≡ Some d = here in
+        let same : e ≡ d = cc in
+        first (p e) refl (ap p same ∙ passes) (ap f same ∙ holds)
+    by false there rest = more (p e) (rest there passes holds)
+
+-- ---- each declaration of a list
+
+pub each-found : (ds : List Decl) → AreDistinct ds → AllByRecursion (IsFound ds) ds
+each-found ds distinct = recursion_from_All (IsFound ds) ds (λ i d lt. own-found ds i (get_or ds i d) distinct (slice_get-get_or ds i d lt))
+
+each-weaker : {A : Type 0} (P Q : A → Type 0) (xs : List A) → ((x : A) → P x → Q x) → AllByRecursion P xs → AllByRecursion Q xs
+each-weaker P Q [] weaker all = tt
+each-weaker P Q (x ∷ xs) weaker all = (weaker x all.0, each-weaker P Q xs weaker all.1)
+
+-- what holds of each that is lent
+pub unmapped : {P : Type 0} (Q : Decl → Type 0) (value : P → Decl) (ps : List P) (ds : List Decl) → map value ps ≡ ds → AllByRecursion Q ds
+    → All (λ p. Q (value p)) ps
+unmapped {P = P} Q value ps ds are all = All-from_recursion (λ p. Q (value p)) ps (by ps (subst (AllByRecursion Q) (sym are) all))
+  where
+    by : (xs : List P) → AllByRecursion Q (map value xs) → AllByRecursion (λ p. Q (value p)) xs
+    by [] all = tt
+    by (x ∷ xs) all = (all.0, by xs all.1)
+
+-- ---- what is known
+
+each-known : (knows : Key → Bool) (keys : List Key) → ((key : Key) → has_key keys key ≡ true → knows key ≡ true) → list_all knows keys ≡ true
+each-known knows [] each = refl
+each-known knows (k ∷ keys) each = and_from (knows k) (list_all knows keys)
+    (each k (or_left (same_ask k k) (has_key keys k) (same_key-equiv.refl k)))
+    (each-known knows keys (λ key has. each key (or_right (same_ask key k) (has_key keys key) has)))
+
+-- a key is known that is among known ones
+among-known : (knows : Key → Bool) (keys : List Key) (key : Key) → list_all knows keys ≡ true → has_key keys key ≡ true → knows key ≡ true
+among-known knows [] key all has = absurd (false≢true has)
+among-known knows (k ∷ keys) key all has =
+    let parts = and_parts (knows k) (list_all knows keys) all in
+    elim (or_cases (same_ask key k) (has_key keys key) has) [
+      | inl here ↦ ap knows ((same_key-decides key k).0 here) ∙ parts.0
+      | inr later ↦ among-known knows keys key parts.1 later
+    ]
+
+all-still : (knows more : Key → Bool) (keys : List Key) → ((key : Key) → knows key ≡ true → more key ≡ true) → list_all knows keys ≡ true
+    → list_all more keys ≡ true
+all-still knows more keys still all = each-known more keys (λ key has. still key (among-known knows keys key all has))
+
+-- all that a declaration asks for is wanted
+asked-wanted : (ds : List Decl) (d : Decl) → IsFound ds d → (key : Key) → has_key (wanted_by d) key ≡ true → is_wanted ds key ≡ true
+unfolding is_wanted
+asked-wanted ds d found key has = found-any (λ e. has_key (wanted_by e) key) ds d found has
+
+-- what its points ask for it asks for
+point-asked : (d : Decl) (key : Key) → has_key (asked_by d) key ≡ true → has_key (wanted_by d) key ≡ true
+point-asked d key has =
+    list_any-append (same_ask key) (asked_by d ++ chains_by d) (events_by d)
+    ∙ or_left (has_key (asked_by d ++ chains_by d) key) (has_key (events_by d) key)
+    (list_any-append (same_ask key) (asked_by d) (chains_by d) ∙ or_left (has_key (asked_by d) key) (has_key (chains_by d) key) has)
+
+module _ (ds : List Decl) (knows : Key → Bool) (all : (key : Key) → is_wanted ds key ≡ true → knows key ≡ true) where
+  points-known : (d : Decl) → IsFound ds d → list_all knows (asked_by d) ≡ true
+  points-known d found = each-known knows (asked_by d) (λ key has. all key (asked-wanted ds d found key (point-asked d key has)))
+
+  chains-known : (ps : List PointDecl) → AllByRecursion (AreChainsKnown ds knows) ps
+  chains-known [] = tt
+  chains-known (p ∷ ps) = (λ id one place wants. all (ChainKey id.class place) wants, chains-known ps)
+
+  is-known : (d : Decl) → IsFound ds d → IsKnown ds knows d
+  is-known d found = record {
+    keys = each-known knows (wanted_by d) (λ key has. all key (asked-wanted ds d found key has));
+    chains = chains-known (points_of d);
+  }
+
+  each-asked : (es : List Decl) → AllByRecursion (IsFound ds) es → list_all knows (flat_map asked_by es) ≡ true
+  each-asked [] found = refl
+  each-asked (e ∷ es) found = list_all-append knows (asked_by e) (flat_map asked_by es)
+      ∙ and_from (list_all knows (asked_by e)) (list_all knows (flat_map asked_by es)) (points-known e found.0) (each-asked es found.1)
+
+  pub asked-known : AreDistinct ds → list_all knows (asked ds) ≡ true
+  asked-known distinct = each-asked ds (each-found ds distinct)
+
+  each-points : (es : List Decl) → AllByRecursion (IsFound ds) es → AllByRecursion (λ d. list_all knows (asked_by d) ≡ true) es
+  each-points [] found = tt
+  each-points (e ∷ es) found = (points-known e found.0, each-points es found.1)
+
+-- all that is wanted is known, as a list
+pub list-known : (ds : List Decl) (knows : Key → Bool) → list_all knows (wanted ds) ≡ true → (key : Key) → is_wanted ds key ≡ true
+    → knows key ≡ true
+list-known ds knows all key wants = among-known knows (wanted ds) key all (has-wanted ds key ∙ wants)
+
+-- ---- evaluations
+
+pub some-still : (ds : List Decl) (old new : Kept) → old.keeps ≡ true → EvaluatesSome ds old new → (key : Key) → old.knows key ≡ true
+    → new.knows key ≡ true
+some-still ds old new keeps some key h =
+    ap (λ (kept : Kept). kept.knows key) (some.are ∙ evaluated-apart ds some.keys old keeps some.wanted some.apart)
+    ∙ or_left (old.knows key) (has_key some.keys key) h
+
+after-all : (ds : List Decl) (old new : Kept) → old.keeps ≡ true → new ≡ evaluated ds (wanted ds) old → (key : Key)
+    → new.knows key ≡ (old.knows key || is_wanted ds key)
+after-all ds old new keeps is key = ap (λ (kept : Kept). kept.knows key) (is ∙ knows_wanted ds old keeps)
+
+pub all-knows : (ds : List Decl) (old new : Kept) → old.keeps ≡ true → new ≡ evaluated ds (wanted ds) old → (key : Key)
+    → is_wanted ds key ≡ true → new.knows key ≡ true
+all-knows ds old new keeps is key wants = after-all ds old new keeps is key ∙ or_right (old.knows key) (is_wanted ds key) wants
+
+pub all-knows-list : (ds : List Decl) (old new : Kept) → old.keeps ≡ true → new ≡ evaluated ds (wanted ds) old
+    → list_all new.knows (wanted ds) ≡ true
+all-knows-list ds old new keeps is =
+    each-known new.knows (wanted ds) (λ key has. all-knows ds old new keeps is key (sym (has-wanted ds key) ∙ has))
+
+pub all-knew : (ds : List Decl) (old new : Kept) → old.keeps ≡ true → new ≡ evaluated ds (wanted ds) old → (key : Key)
+    → old.knows key ≡ true → new.knows key ≡ true
+all-knew ds old new keeps is key h = after-all ds old new keeps is key ∙ or_left (old.knows key) (is_wanted ds key) h
+
+-- ---- settled declarations
+
+chains-still : (ds : List Decl) (knows more : Key → Bool) (ps : List PointDecl) → ((key : Key) → knows key ≡ true → more key ≡ true)
+    → AllByRecursion (AreChainsKnown ds knows) ps → AllByRecursion (AreChainsKnown ds more) ps
+chains-still ds knows more [] still all = tt
+chains-still ds knows more (p ∷ ps) still all = (
+  λ id one place wants. still (ChainKey id.class place) (all.0 id one place wants),
+  chains-still ds knows more ps still all.1,
+)
+
+-- they are where more is known
+pub settled-still : (ds : List Decl) (knows more : Key → Bool) (book : List Promised) (u : Unsettled)
+    → ((key : Key) → knows key ≡ true → more key ≡ true) → AreSettled ds knows book u → AreSettled ds more book u
+settled-still ds knows more book u still settled d found closed =
+    let is = settled d found closed in
+    record {
+      known = record {
+        keys = all-still knows more (wanted_by d) still is.known.keys;
+        chains = chains-still ds knows more (points_of d) still is.known.chains;
+      };
+      faultless = is.faultless;
+    }
+
+none-of-length : {A : Type 0} (xs : List A) → nat_lt 0 (length xs) ≡ false → xs ≡ []
+none-of-length [] e = refl
+none-of-length (x ∷ xs) e = absurd (omega (arith, ltb-false 0 (length (x ∷ xs)) e))
+
+module _ (ds : List Decl) (knows : Key → Bool) (book : List Promised) (u : Unsettled) (settled : AreSettled ds knows book u) where
+  abbrev stands-open : Decl → Bool
+  stands-open d = is_open u (key_of d)
+
+  -- the open ones ask for all that is not known
+  pub rest-asked : AreDistinct ds → AskForRest ds knows (open_of u ds)
+  unfolding is_wanted
+  rest-asked distinct key wants new = any-filter stands-open (λ d. has_key (wanted_by d) key) ds
+      (each-weaker (IsFound ds) (λ d. stands-open d ≡ false → has_key (wanted_by d) key ≡ false) ds
+      (λ d found closed. elim (cases_Bool (has_key (wanted_by d) key)) [
+        | inl has ↦ absurd (false≢true (sym new ∙ among-known knows (wanted_by d) key (settled d found closed).known.keys has))
+        | inr none ↦ none
+      ])
+      (each-found ds distinct)) wants
+
+  -- and have all faults of declarations
+  pub tells-all : AreDistinct ds → flat_map (faults_of ds book) (open_of u ds) ≡ flat_map (faults_of ds book) ds
+  tells-all distinct = flat-filter stands-open (faults_of ds book) ds
+      (each-weaker (IsFound ds) (λ d. stands-open d ≡ false → faults_of ds book d ≡ []) ds (λ d found closed. (settled d found closed).faultless)
+      (each-found ds distinct))
+
+  -- those that have none are settled where all is known
+  pub settled-now : (more : Key → Bool) (now : Unsettled) → ((key : Key) → is_wanted ds key ≡ true → more key ≡ true) → now.is_each ≡ false
+      → ((k : DeclKey) → contains same_key now.keys k
+      ≡ list_any (λ d. same_key (key_of d) k && has_faults ds book d) (open_of u ds))
+      → AreSettled ds more book now
+  settled-now more now all not_each are d found closed = record {
+    known = is-known ds more all d found;
+    faultless = elim (cases_Bool (stands-open d)) [
+      | inl opened ↦ none-of-length (faults_of ds book d) (elim (cases_Bool (has_faults ds book d)) [
+        | inl some ↦ absurd (false≢true (sym closed
+            ∙ ap (λ b. b || contains same_key now.keys (key_of d)) not_each
+            ∙ are (key_of d)
+            ∙ found-filter stands-open (λ e. same_key (key_of e) (key_of d) && has_faults ds book e) ds d found opened
+            (and_from (same_key (key_of d) (key_of d)) (has_faults ds book d) (same_decl_equiv.refl (key_of d)) some)))
+        | inr none ↦ none
+      ])
+      | inr shut ↦ (settled d found shut).faultless
+    ];
+  }
+
+-- the open ones are there
+pub open-found : {P : Type 0} (value : P → Decl) (ps : List P) (ds : List Decl) (u : Unsettled) → AreDistinct ds → map value ps ≡ open_of u ds
+    → All (λ p. IsFound ds (value p)) ps
+open-found value ps ds u distinct are = unmapped (IsFound ds) value ps (open_of u ds) are
+    (all-filter (IsFound ds) (λ d. is_open u (key_of d)) ds (each-found ds distinct))
+
+pub open-known : {P : Type 0} (value : P → Decl) (ps : List P) (ds : List Decl) (u : Unsettled) (knows : Key → Bool) → AreDistinct ds
+    → map value ps ≡ open_of u ds → ((key : Key) → is_wanted ds key ≡ true → knows key ≡ true)
+    → All (λ p. list_all knows (asked_by (value p)) ≡ true) ps
+open-known value ps ds u knows distinct are all = unmapped (λ d. list_all knows (asked_by d) ≡ true) value ps (open_of u ds) are
+    (all-filter (λ d. list_all knows (asked_by d) ≡ true) (λ d. is_open u (key_of d)) ds
+    (each-points ds knows all ds (each-found ds distinct)))

@@ -1,0 +1,89 @@
+-- The laws of declarations that a draft does not concern.
+use Rattle.std.proofs.Common.{◌≡◌, false, List, Some, sym, ap, subst, ◌∙◌}
+use Rattle.cdi_model.specs.Decl.{key_of, kind_of, name_of_decl}
+use Rattle.cdi_model.specs.DeclList.{find_decl, AreDistinct}
+use Rattle.cdi_model.specs.Edits.{edited_all, edited_keys, is_among}
+use Rattle.cdi_model.specs.declared.decl.Decl.{Decl}
+use Rattle.cdi_model.specs.declared.edit.Edit.{Edit}
+use Rattle.cdi_model.specs.declared.key.DeclKey.{DeclKey}
+use Rattle.cdi_model.proofs.EditLemmas.{edits_keep_decl}
+use Rattle.cdi_index.specs.State.{Drafted, Staged}
+use Rattle.cdi_index.specs.Told.{Tells}
+use Rattle.cdi_subjects.specs.Subjects.{subjects_at_fault}
+use Rattle.cdi_observe.specs.Keys.{Key}
+use Rattle.cdi_seen.specs.Touched.{still_known}
+use Rattle.cdi_concern.specs.Concern.{is_concerned}
+use Rattle.cdi_concern.specs.declared.moved.Moved.{Moved}
+use Rattle.cdi_spared.proofs.Laws.{apart_are_spared, spared_keep_faults, unconcerned_are_apart}
+use Rattle.cdi_live.specs.State.{knows, State}
+use Rattle.cdi_report.specs.Known.{IsKnown}
+use Rattle.cdi_report.specs.Stays.{IsLeft, LeftStay, LeftWerePresent, Stays}
+use Rattle.cdi_report.proofs.StillLemmas.{known-after, unconcerned, IsGivenUp}
+use Rattle.cdi_report.proofs.UnmovedLemmas.{not-edited}
+
+-- ---- what is left by a draft
+
+module _ (old : State) (draft : Drafted) (next : Staged) (new : State) (keys : List DeclKey) (d : Decl)
+    (left : IsLeft old draft next new keys d) where
+  abbrev ds : List Decl
+  ds = old.decls
+
+  abbrev edits : List Edit
+  edits = left.edited.edits
+
+  abbrev moved : Moved
+  moved = left.concerned.moved
+
+  clear : is_concerned ds moved (key_of d) ≡ false
+  clear = sym (left.concerned.keys (key_of d)) ∙ left.apart
+
+  same-keys : moved.edited.now ≡ edited_keys edits
+  same-keys = left.concerned.by.edited ∙ left.edited.keys
+
+  unedited : is_among (edited_keys edits) (key_of d) ≡ false
+  unedited = ap (λ ks. is_among ks (key_of d)) (sym same-keys) ∙ not-edited ds moved d clear
+
+  present : find_decl (kind_of d) (name_of_decl d) ds ≡ Some d
+  present = sym (edits_keep_decl edits ds (kind_of d) (name_of_decl d) unedited)
+      ∙ ap (find_decl (kind_of d) (name_of_decl d)) (sym left.edited.decls) ∙ left.present
+
+  distinct-after : AreDistinct (edited_all ds edits)
+  distinct-after = subst AreDistinct left.edited.decls left.after
+
+  tells : Tells ds (edited_all ds edits) (edited_keys edits) moved.affected.now
+  tells = subst (λ ks. Tells ds (edited_all ds edits) ks moved.affected.now) left.edited.keys
+      (subst (λ es. Tells ds es draft.keys moved.affected.now) left.edited.decls left.concerned.by.tells)
+
+  given-up : IsGivenUp ds (edited_all ds edits) (knows old) moved
+  given-up = subst (λ es. IsGivenUp ds es (knows old) moved) left.edited.decls record {
+    types = left.concerned.by.types;
+    events = left.concerned.by.events;
+    classes = left.concerned.by.classes;
+  }
+
+  -- the declarations after it
+  after : new.decls ≡ edited_all ds edits
+  after = left.taken.decls ∙ left.staged ∙ left.edited.decls
+
+  still : (key : Key) → knows new key ≡ still_known ds (edited_all ds edits) (knows old) key
+  still key = left.taken.known key ∙ ap (λ es. still_known ds es (knows old) key) (left.staged ∙ left.edited.decls)
+
+  stays : IsKnown ds (knows old) d → Stays old new d
+  stays known =
+      let it = unconcerned edits ds moved d (knows old) left.before distinct-after present clear tells given-up known in
+      let spared = apart_are_spared edits ds moved.affected.now d present tells
+      (unconcerned_are_apart edits ds moved d left.before present same-keys tells it) in
+      record {
+        known = subst (λ es. IsKnown es (knows new) d) (sym after)
+            (known-after edits ds moved d (knows old) left.before distinct-after present clear tells given-up (knows new) still known);
+        faults = λ code book. spared_keep_faults edits ds moved.affected.now d present tells spared code book
+            ∙ ap (λ es. subjects_at_fault code es book d) (sym after);
+      }
+
+-- ---- the laws
+
+pub left_were_present : LeftWerePresent
+left_were_present old draft next new keys d left = present old draft next new keys d left
+
+pub left_stay : LeftStay
+left_stay old draft next new keys d left known = stays old draft next new keys d left known

@@ -1,0 +1,235 @@
+-- What a declaration asks for stays known after edits that do not concern it, and is answered alike.
+use Rattle.std.proofs.Common.{◌≡◌, ℕ, Bool, true, false, not, ◌&&◌, List, [], ◌∷◌, ◌++◌, map, Some, None, Option, Result, Ok, Err, cond}
+use Rattle.std.proofs.Common.{refl, sym, ap, ◌∙◌, inl, inr}
+use Rattle.std.specs.List.{list_all, AllByRecursion}
+use Rattle.std.specs.Option.{option_map_or}
+use Rattle.std.proofs.lemmas.Bool.{and_from, and_parts, cases_Bool, false≢true}
+use Rattle.std.proofs.lemmas.List.Folds.{list_all-append}
+use Rattle.cdi_model.specs.Decl.{key_of, kind_of, name_of_decl}
+use Rattle.cdi_model.specs.DeclKey.{key_at}
+use Rattle.cdi_model.specs.DeclList.{find_decl, AreDistinct}
+use Rattle.cdi_model.specs.Edits.{edited_all, edited_keys, is_among}
+use Rattle.cdi_model.specs.declared.decl.BeanDecl.{BeanDecl}
+use Rattle.cdi_model.specs.declared.decl.Decl.{Decl}
+use Rattle.cdi_model.specs.declared.decl.Kind.TheVariants as kinds
+use Rattle.cdi_model.specs.declared.decl.PointDecl.{PointDecl}
+use Rattle.cdi_model.specs.declared.edit.Edit.{Edit}
+use Rattle.cdi_model.specs.declared.place.BeanPlace.{BeanPlace}
+use Rattle.cdi_model.specs.declared.quals.Qual.{Qual}
+use Rattle.cdi_model.specs.declared.refusal.Refusal.{Refusal}
+use Rattle.cdi_model.specs.declared.refusal.Refusal.TheVariants as refusals
+use Rattle.cdi_model.proofs.EditLemmas.{edits_keep_decl}
+use Rattle.cdi_match.specs.Chain.{has}
+use Rattle.cdi_effective.specs.Beans.{beans}
+use Rattle.cdi_effective.specs.Bindings.{class_bindings}
+use Rattle.cdi_effective.specs.Disposers.{as_bean, find_bean}
+use Rattle.cdi_effective.specs.Qualifiers.{required}
+use Rattle.cdi_effective.specs.declared.records.BeanId.{BeanId}
+use Rattle.cdi_intercept.specs.Chains.{chain_by, chain_of, chain_told}
+use Rattle.cdi_intercept.specs.Sees.{sees_at, Seen as SeenAround}
+use Rattle.cdi_intercept.specs.Sets.{has_place, set_by}
+use Rattle.cdi_intercept.proofs.SeenLemmas.{told_rests_on_seen}
+use Rattle.cdi_resolve.specs.Choices.{chosen}
+use Rattle.cdi_resolve.specs.Sees.{sees, Seen}
+use Rattle.cdi_resolve.specs.declared.choice.Choice.TheVariants.{One}
+use Rattle.cdi_resolve.proofs.SeenLemmas.{choice_rests_on_seen}
+use Rattle.cdi_index.specs.Told.{Tells}
+use Rattle.cdi_observe.specs.Answers.{answer_to}
+use Rattle.cdi_observe.specs.Keys.{ChainKey, ChoiceKey, EventKey, Key}
+use Rattle.cdi_observe.specs.Wanted.{asked_by, chains_by, events_by, is_wanted, key_of_point, points_of, wanted_by}
+use Rattle.cdi_observe.proofs.PlaceLemmas.{chosen-required}
+use Rattle.cdi_seen.specs.Touched.{is_touched, still_known, ByChain, ByChoice}
+use Rattle.cdi_seen.proofs.SameLemmas.{touched_where_seen_differs}
+use Rattle.cdi_concern.specs.Concern.{is_concerned}
+use Rattle.cdi_concern.specs.declared.moved.Moved.{Moved}
+use Rattle.cdi_spared.specs.Unconcerned.{IsUnconcerned}
+use Rattle.cdi_spared.proofs.OfferLemmas.{offers_type, one-offers}
+use Rattle.cdi_live.proofs.WantedPlaceLemmas.{wanted-place}
+use Rattle.cdi_report.specs.Known.{AreChainsKnown, IsKnown}
+use Rattle.cdi_report.proofs.AskedLemmas.{points-listed, wanted-listed, IsListed, IsPointListed}
+use Rattle.cdi_report.proofs.UnmovedLemmas.{no-affected, no-chain, no-choice, no-event, not-classed}
+
+-- Of each known key that is given up, the type or the class is moved.
+pub record IsGivenUp (ds es : List Decl) (knows : Key → Bool) (m : Moved) : Type 0 where
+  pub types : (t : List ℕ) (us : List Qual) → knows (ChoiceKey t us) ≡ true → still_known ds es knows (ChoiceKey t us) ≡ false
+      → has m.types.now t ≡ true
+  pub events : (t : List ℕ) (us : List Qual) → knows (EventKey t us) ≡ true → still_known ds es knows (EventKey t us) ≡ false
+      → has m.events.now t ≡ true
+  pub classes : (class : List ℕ) (place : BeanPlace) → knows (ChainKey class place) ≡ true
+      → still_known ds es knows (ChainKey class place) ≡ false → has m.classes.now class ≡ true
+
+-- ---- what rests on what is seen
+
+-- what stays known is not touched
+untouched : (ds es : List Decl) (knows : Key → Bool) (key : Key) → still_known ds es knows key ≡ true → not (is_touched ds es key) ≡ true
+untouched ds es knows key h = (and_parts (is_wanted es key) (not (is_touched ds es key))
+    (and_parts (knows key) (is_wanted es key && not (is_touched ds es key)) h).1).1
+
+same-choice : (ds es : List Decl) (t : List ℕ) (us : List Qual) → not (is_touched ds es (ChoiceKey t us)) ≡ true
+    → chosen ds (beans ds) t us ≡ chosen es (beans es) t us
+same-choice ds es t us h = choice_rests_on_seen ds es (beans ds) (beans es) t us
+    (seen (sees ds (beans ds) t us) (sees es (beans es) t us) ((touched_where_seen_differs ds es (ChoiceKey t us)).0 h))
+  where
+    seen : (a b : Seen) → ByChoice a ≡ ByChoice b → a ≡ b
+    seen a b e = cc
+
+abbrev names_around : List Decl → List ℕ → BeanPlace → BeanDecl → List (List ℕ)
+names_around ds class place b = map (λ i. i.name) (chain_by ds (set_by ds (class_bindings ds b) b place) place)
+
+-- what is told of a place of a declared bean
+told-of : (ds : List Decl) (class : List ℕ) (place : BeanPlace) (b : BeanDecl) (there : Bool) → find_bean class ds ≡ Some b
+    → has_place b place ≡ there
+    → chain_of ds class place ≡ cond {A = Result (List (List ℕ)) Refusal} there (Ok (names_around ds class place b)) (Err refusals.NoMethod)
+told-of ds class place b there found has =
+    ap (λ o. chain_told ds o place) found
+    ∙ ap (λ (c : Bool). cond {A = Result (List (List ℕ)) Refusal} c (Ok (names_around ds class place b)) (Err refusals.NoMethod)) has
+
+-- around a place that is not touched, of one declaration
+same-chain : (ds es : List Decl) (class : List ℕ) (place : BeanPlace) (b : BeanDecl) → find_bean class ds ≡ Some b → find_bean class es ≡ Some b
+    → has_place b place ≡ true → not (is_touched ds es (ChainKey class place)) ≡ true → chain_of es class place ≡ chain_of ds class place
+same-chain ds es class place b before after there h =
+    let was : chain_of ds class place ≡ Ok (names_around ds class place b) = told-of ds class place b true before there in
+    let is : chain_of es class place ≡ Ok (names_around es class place b) = told-of es class place b true after there in
+    is ∙ ap Ok (sym (told_rests_on_seen ds es class place (names_around ds class place b) (names_around es class place b)
+    (seen (sees_at ds class place) (sees_at es class place) ((touched_where_seen_differs ds es (ChainKey class place)).0 h)) was is)) ∙ sym was
+  where
+    seen : (a b : SeenAround) → ByChain a ≡ ByChain b → a ≡ b
+    seen a b e = cc
+
+-- ---- a declaration that is not concerned
+
+module _ (edits : List Edit) (ds : List Decl) (m : Moved) (d : Decl) (knows : Key → Bool) (distinct : AreDistinct ds)
+    (apart : AreDistinct (edited_all ds edits)) (found : find_decl (kind_of d) (name_of_decl d) ds ≡ Some d)
+    (clear : is_concerned ds m (key_of d) ≡ false) (tells : Tells ds (edited_all ds edits) (edited_keys edits) m.affected.now)
+    (given-up : IsGivenUp ds (edited_all ds edits) knows m) where
+  abbrev es : List Decl
+  es = edited_all ds edits
+
+  -- a known key for which it asks stays known
+  still : (key : Key) → IsListed ds d key → knows key ≡ true → still_known ds es knows key ≡ true
+  still (ChoiceKey t us) listed known = elim (cases_Bool (still_known ds es knows (ChoiceKey t us))) [
+    | inl stays ↦ stays
+    | inr gone ↦ absurd (false≢true (sym (no-choice ds m d clear found t (given-up.types t us known gone)) ∙ listed))
+  ]
+  still (ChainKey class place) listed known = elim (cases_Bool (still_known ds es knows (ChainKey class place))) [
+    | inl stays ↦ stays
+    | inr gone ↦ absurd (false≢true (sym (not-classed ds m d clear class listed) ∙ given-up.classes class place known gone))
+  ]
+  still (EventKey t us) listed known = elim (cases_Bool (still_known ds es knows (EventKey t us))) [
+    | inl stays ↦ stays
+    | inr gone ↦ absurd (false≢true (sym (no-event ds m d clear found t (given-up.events t us known gone)) ∙ listed))
+  ]
+
+  -- so the same is chosen for its points
+  same-answers : (ps : List PointDecl) → AllByRecursion (IsPointListed ds d) ps → list_all knows (map key_of_point ps) ≡ true
+      → AllByRecursion (λ p. answer_to ds p ≡ answer_to es p) ps
+  same-answers [] listed known = tt
+  same-answers (p ∷ ps) listed known =
+      let parts = and_parts (knows (key_of_point p)) (list_all knows (map key_of_point ps)) known in (
+        chosen-required ds (beans ds) p.required_type p.qualifiers
+            ∙ same-choice ds es p.required_type (required p.qualifiers)
+            (untouched ds es knows (key_of_point p) (still (key_of_point p) listed.0 parts.0))
+            ∙ sym (chosen-required es (beans es) p.required_type p.qualifiers),
+        same-answers ps listed.1 parts.1,
+      )
+
+  known-points : list_all knows (wanted_by d) ≡ true → list_all knows (asked_by d) ≡ true
+  known-points known = (and_parts (list_all knows (asked_by d)) (list_all knows (chains_by d)) (sym (list_all-append knows (asked_by d) (chains_by d))
+      ∙ (and_parts (list_all knows (asked_by d ++ chains_by d)) (list_all knows (events_by d))
+      (sym (list_all-append knows (asked_by d ++ chains_by d) (events_by d)) ∙ known)).0)).0
+
+  -- ---- a bean that is chosen for one of its points
+
+  module _ (p : PointDecl) (listed : IsPointListed ds d p) (id : BeanId) (one : answer_to ds p ≡ One id) where
+    offers : offers_type ds id.class p.required_type ≡ true
+    offers = one-offers id ds p.required_type p.qualifiers distinct one
+
+    unaffected : is_among m.affected.now (key_at kinds.Bean id.class) ≡ false
+    unaffected = elim (cases_Bool (is_among m.affected.now (key_at kinds.Bean id.class))) [
+      | inl among ↦ absurd (false≢true (sym (no-affected ds m d clear found id.class p.required_type among offers) ∙ listed))
+      | inr none ↦ none
+    ]
+
+    unedited : is_among (edited_keys edits) (key_at kinds.Bean id.class) ≡ false
+    unedited = elim (cases_Bool (is_among (edited_keys edits) (key_at kinds.Bean id.class))) [
+      | inl among ↦ absurd (false≢true (sym unaffected ∙ tells.edited (key_at kinds.Bean id.class) refl among))
+      | inr none ↦ none
+    ]
+
+    -- its declaration is the same
+    same-bean : find_bean id.class es ≡ find_bean id.class ds
+    same-bean = ap as_bean (edits_keep_decl edits ds kinds.Bean id.class unedited)
+
+    -- what is known around its places stays known
+    still-chain : (place : BeanPlace) → knows (ChainKey id.class place) ≡ true → still_known ds es knows (ChainKey id.class place) ≡ true
+    still-chain place known = elim (cases_Bool (still_known ds es knows (ChainKey id.class place))) [
+      | inl stays ↦ stays
+      | inr gone ↦ absurd (false≢true (sym (no-chain ds m d clear found id.class p.required_type
+          (given-up.classes id.class place known gone) offers) ∙ listed))
+    ]
+
+    module _ (chains : (place : BeanPlace) → is_wanted ds (ChainKey id.class place) ≡ true → knows (ChainKey id.class place) ≡ true) where
+      -- so the interceptors around them are the same
+      chain-stays : (place : BeanPlace) → chain_of es id.class place ≡ chain_of ds id.class place
+      chain-stays place = by (find_bean id.class ds) refl
+        where
+          at-place : (b : BeanDecl) → find_bean id.class ds ≡ Some b → (there : Bool) → has_place b place ≡ there
+              → chain_of es id.class place ≡ chain_of ds id.class place
+          at-place b at true there =
+              let wanted : is_wanted ds (ChainKey id.class place) ≡ true =
+              wanted-place ds distinct id.class place ∙ ap (λ o. option_map_or (λ x. has_place x place) o false) at ∙ there in
+              same-chain ds es id.class place b at (same-bean ∙ at) there
+              (untouched ds es knows (ChainKey id.class place) (still-chain place (chains place wanted)))
+          at-place b at false there =
+              told-of es id.class place b false (same-bean ∙ at) there ∙ sym (told-of ds id.class place b false at there)
+
+          by : (o : Option BeanDecl) → find_bean id.class ds ≡ o → chain_of es id.class place ≡ chain_of ds id.class place
+          by None at = ap (λ o. chain_told es o place) (same-bean ∙ at) ∙ sym (ap (λ o. chain_told ds o place) at)
+          by (Some b) at = at-place b at (has_place b place) refl
+
+      -- and each that is wanted stays known
+      chain-known : (place : BeanPlace) → is_wanted es (ChainKey id.class place) ≡ true
+          → still_known ds es knows (ChainKey id.class place) ≡ true
+      chain-known place wanted = still-chain place (chains place
+          (wanted-place ds distinct id.class place ∙ ap (λ o. option_map_or (λ x. has_place x place) o false) (sym same-bean)
+          ∙ sym (wanted-place es apart id.class place) ∙ wanted))
+
+  -- ---- all its points
+
+  abbrev SameChains : PointDecl → Type 0
+  SameChains p = (id : BeanId) → answer_to ds p ≡ One id → (place : BeanPlace) → chain_of es id.class place ≡ chain_of ds id.class place
+
+  same-chains : (ps : List PointDecl) → AllByRecursion (IsPointListed ds d) ps → AllByRecursion (AreChainsKnown ds knows) ps
+      → AllByRecursion SameChains ps
+  same-chains [] listed known = tt
+  same-chains (p ∷ ps) listed known = (λ id one. chain-stays p listed.0 id one (known.0 id one), same-chains ps listed.1 known.1)
+
+  pub unconcerned : IsKnown ds knows d → IsUnconcerned ds edits m d
+  unconcerned known = record {
+    unconcerned = clear;
+    answers = same-answers (points_of d) (points-listed ds d) (known-points known.keys);
+    chains = same-chains (points_of d) (points-listed ds d) known.chains;
+  }
+
+  -- ---- what is known after the edits
+
+  module _ (now : Key → Bool) (after : (key : Key) → now key ≡ still_known ds es knows key) where
+    keys-known : (keys : List Key) → AllByRecursion (IsListed ds d) keys → list_all knows keys ≡ true → list_all now keys ≡ true
+    keys-known [] listed known = refl
+    keys-known (key ∷ keys) listed known =
+        let parts = and_parts (knows key) (list_all knows keys) known in
+        and_from (now key) (list_all now keys) (after key ∙ still key listed.0 parts.0) (keys-known keys listed.1 parts.1)
+
+    chains-known : (ps : List PointDecl) → AllByRecursion (IsPointListed ds d) ps → AllByRecursion (λ p. answer_to ds p ≡ answer_to es p) ps
+        → AllByRecursion (AreChainsKnown ds knows) ps → AllByRecursion (AreChainsKnown es now) ps
+    chains-known [] listed same known = tt
+    chains-known (p ∷ ps) listed same known = (
+      λ id one place wanted. after (ChainKey id.class place) ∙ chain-known p listed.0 id (same.0 ∙ one) (known.0 id (same.0 ∙ one)) place wanted,
+      chains-known ps listed.1 same.1 known.1,
+    )
+
+    pub known-after : IsKnown ds knows d → IsKnown es now d
+    known-after known = record {
+      keys = keys-known (wanted_by d) (wanted-listed ds d) known.keys;
+      chains = chains-known (points_of d) (points-listed ds d) (unconcerned known).answers known.chains;
+    }

@@ -1,0 +1,5 @@
+use Rattle.std.proofs.Common.{◌≡◌, ◌++◌, map}
+use Rattle.cdi_report.proofs.positions.all_decls.Given as goal
+
+abbrev pub invariant-loop-decl : goal.invariant-loop-decl
+invariant-loop-decl l = map (λ d. d.now) l.list.items ++ l.decl-iterator ≡ l.decls

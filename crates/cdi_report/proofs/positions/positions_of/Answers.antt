@@ -1,0 +1,15 @@
+use Rattle.std.proofs.Common.{◌≤◌, length, ap, ◌∙◌, arith}
+use Rattle.std.specs.List.{list_any}
+use Rattle.std.proofs.lemmas.List.{take_all}
+use Rattle.cdi_report.specs.Positions.{is_at}
+use Rattle.cdi_report.proofs.PositionLemmas.{at-keys}
+use Rattle.cdi_report.proofs.positions.positions_of.Goals as goal
+
+pub returns : goal.returns
+returns c = λ p.
+    let ds = c.args.decls.now in
+    let keys = c.args.keys.now in
+    let end : length keys ≤ c.loop-key.key-index = omega (arith, c.loop-key-test.false) in
+    c.loop-key.invariant.marks p
+    ∙ ap (list_any (λ k. is_at ds k p)) (take_all c.loop-key.key-index keys end)
+    ∙ at-keys ds c.iter.ensures.distinct keys p

@@ -1,0 +1,4 @@
+pub mod Known
+pub mod Settled
+pub mod Stays
+pub mod Positions
