@@ -1,17 +1,17 @@
 //! What a deployment is found to be.
-ghost use Rattle.std.specs.Prelude.{◌≡◌, IfOk, OnErr, OnOk};
+ghost use Rattle.std.specs.Prelude.{◌≡◌, length, true, IfOk};
+ghost use Rattle.std.specs.List.{list_all};
 ghost use Rattle.cdi_model.specs.Short.{AreShort};
-ghost use Rattle.cdi_observe.specs.Kept.{evaluated, EvaluatesSome};
-ghost use Rattle.cdi_observe.specs.Wanted.{wanted};
+ghost use Rattle.cdi_observe.specs.Wanted.{asked};
+ghost use Rattle.cdi_validate.specs.Faults.{faults};
 ghost use Rattle.cdi_wiring.specs.Laws.{FaultlessIsSound};
 ghost use Rattle.cdi_wiring.specs.Wired.{IsWiringOf, count_of};
 
 use cdi_bodies::Bodies;
-use cdi_observe::{View, evaluate};
+use cdi_observe::{View, all_kept_answers};
 use cdi_resolve::BeanList;
 use cdi_scene::Scene;
 use cdi_staging::{Names, names_of, scene_of};
-use cdi_validate::faults_by;
 use std::alloc::{AllocError, Global};
 
 /// The scene of a deployment without faults, the bean list by whose positions it names beans, and the names of its traces.
@@ -32,34 +32,32 @@ pub enum Wiring {
 }
 
 impl Wiring {
-    /// What the declarations of a view are, where the bodies of this book are stored. All that they ask for is asked, as for
-    /// a report. It takes memory and time as one does, and for the scene and its bean list. The last clause says that a deployment without faults has a sound scene.
+    /// What the declarations of a view are that have so many faults where the bodies of this book are stored, and all of whose points
+    /// ask for what is known. It takes memory and time for the scene and its bean list, if there are no faults. The last clause
+    /// says that a deployment without faults has a sound scene.
     #[tactic(auto, using(crate::proofs::FaultLemmas::faultless_is_sound))]
     pub fn of<V: View, B: Bodies>(
         alloc: Global,
-        view: &mut V,
+        view: &V,
         book: &B,
+        count: usize,
     ) -> Result<Wiring, AllocError>
-        requires { AreShort (V.list view.old) }
-        ensures wiring { IfOk result (λ wiring. IsWiringOf (V.list view.old) (B.promises book.now) wiring) }
-        ensures list { V.list view.new ≡ V.list view.old }
-        ensures counts { V.counts view.new ≡ V.counts view.old }
-        ensures ok { OnOk result (V.kept view.new ≡ evaluated (V.list view.old) (wanted (V.list view.old)) (V.kept view.old)) }
-        ensures err { OnErr result (EvaluatesSome (V.list view.old) (V.kept view.old) (V.kept view.new)) }
+        requires short { AreShort (V.list view.now) }
+        requires count { count ≡ length (faults (V.list view.now) (B.promises book.now)) }
+        requires known { list_all (V.kept view.now).knows (asked (V.list view.now)) ≡ true }
+        ensures wiring { IfOk result (λ wiring. IsWiringOf (V.list view.now) (B.promises book.now) wiring) }
         ensures sound { FaultlessIsSound }
     {
-        let answers = evaluate(alloc, view)?;
-        let found = faults_by(alloc, &*view, book, answers.as_slice())?;
-        let count = found.as_slice().len();
         if count != 0 {
             return Ok(Wiring::Faulty(count));
         }
+        let answers = all_kept_answers(alloc, view)?;
         let decls = view.decls();
         // No effect at run time. The proof reads here that no two declarations have one kind and name.
         let _ = decls.iter();
         let beans = BeanList::of(alloc, decls)?;
         Ok(Wiring::Sound(Wired {
-            scene: scene_of(alloc, &*view, &beans, answers.as_slice(), book)?,
+            scene: scene_of(alloc, view, &beans, answers.as_slice(), book)?,
             names: names_of(alloc, decls, &beans)?,
             beans,
         }))
