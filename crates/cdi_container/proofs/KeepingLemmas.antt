@@ -1,39 +1,169 @@
--- What holds of a deployment still holds after questions: its lists are short, and a wiring is right and knows all that is wanted.
-use Rattle.std.proofs.Common.{◌≡◌, true, ◌||◌, List, Option, None, Some, refl, sym, ap, ◌∙◌, subst}
+-- What is kept of a deployment is right still after questions, and after edits.
+use Rattle.std.proofs.Common.{◌≡◌, Bool, true, false, ◌||◌, List, Option, None, Some, inl, inr, refl, sym, ap, ◌∙◌, subst}
 use Rattle.std.specs.Prelude.{IfSome, OnOk, OnErr, Result, Ok, Err}
-use Rattle.std.proofs.lemmas.Bool.{or_left, or_right}
+use Rattle.std.proofs.lemmas.Bool.{cases_Bool, false≢true, or_left, or_right}
+use Rattle.cdi_model.specs.Decl.{key_of}
+use Rattle.cdi_model.specs.DeclList.{AreDistinct}
 use Rattle.cdi_model.specs.Short.{AreShort}
+use Rattle.cdi_model.specs.declared.decl.Decl.{Decl}
+use Rattle.cdi_model.specs.declared.key.DeclKey.{DeclKey}
 use Rattle.cdi_bodies.specs.Book.{Promised}
-use Rattle.cdi_live.specs.State.{State as Live, kept_in, knows}
+use Rattle.cdi_index.specs.State.{Staged}
+use Rattle.cdi_live.specs.State.{State as Live, empty, kept_in, knows, with_staged, Commits, CommitsTo}
 use Rattle.cdi_observe.specs.Kept.{Kept, after_key, evaluated, EvaluatesSome}
 use Rattle.cdi_observe.specs.Keys.{Key, has_key}
 use Rattle.cdi_observe.specs.Wanted.{wanted, is_wanted}
 use Rattle.cdi_observe.proofs.KeptLemmas.{evaluated-apart, knows_wanted}
+use Rattle.cdi_report.specs.Settled.{is_open, AreSettled}
+use Rattle.cdi_report.specs.Stays.{IsReadied}
+use Rattle.cdi_report.specs.declared.unsettled.Unsettled.{Unsettled}
+use Rattle.cdi_report.proofs.KeptLemmas.{settled_stay}
+use Rattle.cdi_report.proofs.SettledLemmas.{settled-still}
 use Rattle.cdi_wiring.specs.Wired.{IsWiringOf}
 use Rattle.cdi_wiring.specs.declared.verdict.Wiring.{Wiring}
+use Rattle.cdi_container.specs.Kept.{IsKept, IsWiredRight}
 use Rattle.cdi_container.specs.Wired.{KnowsAll}
 
 -- it knows all that it knew
 abbrev pub KnowsStill : Live → Live → Type 0
 KnowsStill old new = (key : Key) → knows old key ≡ true → knows new key ≡ true
 
--- a wiring that is there is right, and all that is wanted is known
-abbrev pub IsWiredRight : Live → List Promised → Option Wiring → Type 0
-IsWiredRight live book wiring = IfSome wiring (λ w. IsWiringOf live.decls book w × KnowsAll live)
+-- nothing needs to be readied where nothing is
+not_readied : {A : Type 0} → false ≡ true → A
+not_readied never = absurd (false≢true never)
 
-abbrev pub IsRight : Live → List Promised → Option Wiring → Type 0
-IsRight live book wiring = AreShort live.decls × IsWiredRight live book wiring
+wired_still : (old new : Live) (book : List Promised) (wiring : Option Wiring) → new.decls ≡ old.decls → KnowsStill old new
+    → IsWiredRight old book wiring → IsWiredRight new book wiring
+wired_still old new book None same still h = tt
+wired_still old new book (Some w) same still h = (
+  subst (λ ds. IsWiringOf ds book w) (sym same) h.0,
+  λ key wants. still key (h.1 key (ap (λ ds. is_wanted ds key) (sym same) ∙ wants)),
+)
 
-pub stays_right : (old new : Live) (book : List Promised) (wiring : Option Wiring) → new.decls ≡ old.decls → KnowsStill old new
-    → IsRight old book wiring → IsRight new book wiring
-stays_right old new book wiring same still right = (subst AreShort (sym same) right.0, by wiring right.1)
+still_settled : (old new : Live) (book : List Promised) (u : Unsettled) → new.decls ≡ old.decls → KnowsStill old new
+    → AreSettled old.decls (knows old) book u → AreSettled new.decls (knows new) book u
+still_settled old new book u same still settled =
+    subst (λ ds. AreSettled ds (knows new) book u) (sym same) (settled-still old.decls (knows old) (knows new) book u still settled)
+
+-- ---- after questions
+
+pub stays_right : (old new : Live) (book : List Promised) (wiring : Option Wiring) (u : Unsettled) (readied : Bool) → new.decls ≡ old.decls
+    → KnowsStill old new → IsKept old book wiring u readied → IsKept new book wiring u false
+stays_right old new book wiring u readied same still kept = record {
+  short = subst AreShort (sym same) kept.short;
+  wired = wired_still old new book wiring same still kept.wired;
+  settled = still_settled old new book u same still kept.settled;
+  readied = not_readied;
+}
+
+-- after a report
+pub reported_right : (old new : Live) (book : List Promised) (wiring : Option Wiring) (u v : Unsettled) (readied : Bool)
+    → new.decls ≡ old.decls → KnowsStill old new → AreSettled new.decls (knows new) book v → IsKept old book wiring u readied
+    → IsKept new book wiring v false
+reported_right old new book wiring u v readied same still settled kept = record {
+  short = subst AreShort (sym same) kept.short;
+  wired = wired_still old new book wiring same still kept.wired;
+  settled = settled;
+  readied = not_readied;
+}
+
+-- where a wiring was made
+pub wires_right : (old new : Live) (book : List Promised) (before : Option Wiring) (w : Wiring) (u now : Unsettled) (readied : Bool)
+    → new.decls ≡ old.decls → IsWiringOf old.decls book w → KnowsAll new → AreSettled new.decls (knows new) book now
+    → IsKept old book before u readied → IsKept new book (Some w) now false
+wires_right old new book before w u now readied same is all settled kept = record {
+  short = subst AreShort (sym same) kept.short;
+  wired = (subst (λ (ds : List Decl). IsWiringOf ds book w) (sym same) is, all);
+  settled = settled;
+  readied = not_readied;
+}
+
+-- ---- after edits
+
+-- of no declarations
+pub nothing_right : (live : Live) (book : List Promised) (u : Unsettled) → live ≡ empty → IsKept live book None u false
+nothing_right live book u is = subst (λ (l : Live). IsKept l book None u false) (sym is) (record {
+  short = λ i d found. absurd (let no : ◌≡◌ {A = Option Decl} None (Some d) = found in cc);
+  wired = tt;
+  settled = λ d found closed. absurd (let no : ◌≡◌ {A = Option Decl} None (Some d) = found in cc);
+  readied = not_readied;
+})
+
+-- where more declarations are looked at
+more_settled : (ds : List Decl) (known : Key → Bool) (book : List Promised) (u v : Unsettled)
+    → ((k : DeclKey) → is_open u k ≡ true → is_open v k ≡ true) → AreSettled ds known book u → AreSettled ds known book v
+more_settled ds known book u v still settled d found closed = settled d found (elim (cases_Bool (is_open u (key_of d))) [
+  | inl opened ↦ absurd (false≢true (sym closed ∙ still (key_of d) opened))
+  | inr shut ↦ shut
+])
+
+readied_with : (live : Live) (next : Staged) (u : Unsettled) (staged : Option Staged) → IsReadied live next u
+    → IsReadied (with_staged live staged) next u
+readied_with live next u staged r = record {
+  draft = r.draft;
+  keys = r.keys;
+  edited = r.edited;
+  concerned = record {
+    moved = r.concerned.moved;
+    by = record {
+      edited = r.concerned.by.edited;
+      tells = r.concerned.by.tells;
+      types = r.concerned.by.types;
+      events = r.concerned.by.events;
+      classes = r.concerned.by.classes;
+    };
+    keys = r.concerned.keys;
+  };
+  staged = r.staged;
+  looked = r.looked;
+}
+
+-- where a draft is staged, and what it concerns is looked at
+pub staged_right : (old new : Live) (next : Staged) (book : List Promised) (wiring : Option Wiring) (u v : Unsettled) (readied : Bool)
+    → new ≡ with_staged old (Some next) → ((k : DeclKey) → is_open u k ≡ true → is_open v k ≡ true) → IsReadied old next v
+    → IsKept old book wiring u readied → IsKept new book wiring v true
+staged_right old new next book wiring u v readied is still ready kept =
+    subst (λ (l : Live). IsKept l book wiring v true) (sym is) (record {
+      short = kept.short;
+      wired = wired_still old (with_staged old (Some next)) book wiring refl (λ key h. h) kept.wired;
+      settled = more_settled old.decls (knows old) book u v still kept.settled;
+      readied = λ yes. readied_with old next v (Some next) ready;
+    })
+
+-- where nothing is staged any more
+pub unstaged_right : (old new : Live) (book : List Promised) (wiring : Option Wiring) (u v : Unsettled) (readied : Bool)
+    → new ≡ with_staged old None → ((k : DeclKey) → is_open u k ≡ true → is_open v k ≡ true) → IsKept old book wiring u readied
+    → IsKept new book wiring v false
+unstaged_right old new book wiring u v readied is still kept =
+    subst (λ (l : Live). IsKept l book wiring v false) (sym is) (record {
+      short = kept.short;
+      wired = wired_still old (with_staged old None) book wiring refl (λ key h. h) kept.wired;
+      settled = more_settled old.decls (knows old) book u v still kept.settled;
+      readied = not_readied;
+    })
+
+-- where it is taken over
+pub commits_right : (new : Live) (book : List Promised) (wiring : Option Wiring) (u : Unsettled) → AreShort new.decls → wiring ≡ None
+    → AreSettled new.decls (knows new) book u → IsKept new book wiring u false
+commits_right new book wiring u short none settled = record {
+  short = short;
+  wired = subst (IsWiredRight new book) (sym none) tt;
+  settled = settled;
+  readied = not_readied;
+}
+
+-- what was settled is, where what was readied is taken over
+pub settled_committed : (old new : Live) (book : List Promised) (u : Unsettled) → AreDistinct old.decls → AreDistinct new.decls
+    → IfSome old.staged (λ next. IsReadied old next u) → Commits old new → AreSettled old.decls (knows old) book u
+    → AreSettled new.decls (knows new) book u
+settled_committed old new book u before after ready is settled = by old.staged ready is
   where
-    by : (w : Option Wiring) → IsWiredRight old book w → IsWiredRight new book w
-    by None h = tt
-    by (Some w) h = (
-      subst (λ ds. IsWiringOf ds book w) (sym same) h.0,
-      λ key wants. still key (h.1 key (ap (λ ds. is_wanted ds key) (sym same) ∙ wants)),
-    )
+    by : (staged : Option Staged) → IfSome staged (λ next. IsReadied old next u) → CommitsTo old staged new
+        → AreSettled new.decls (knows new) book u
+    by None r e = subst (λ (l : Live). AreSettled l.decls (knows l) book u) (sym e) settled
+    by (Some next) r over = settled_stay old next new book u before after r over settled
+
+-- ---- what questions leave
 
 after_one : (old new : Live) (key : Key) → kept_in new ≡ after_key old.decls key (kept_in old) → KnowsStill old new
 unfolding after_key

@@ -4,6 +4,7 @@ pub mod Editing
 pub mod History
 pub mod Told
 pub mod Wired
+pub mod Kept
 pub mod Seen
 pub mod Points
 pub mod Lent

@@ -1,10 +1,8 @@
 //! The present declarations and the stored bodies, and what questions have made of them.
-ghost use Rattle.std.specs.Prelude.{◌≡◌, ◌≢◌, AllPairs, IfSome, IsSome, None, [], is_some, length, map, true, false, Ok, Err, Some, ◌∷◌, OnOk, OnErr, IfOk, IfErr};
+ghost use Rattle.std.specs.Prelude.{◌≡◌, ◌≢◌, AllPairs, IfSome, None, [], is_some, length, map, true, false, Ok, Err, Some, ◌∷◌, OnOk, OnErr, IfOk, IfErr};
 ghost use Rattle.std.specs.Option.{option_copied};
 ghost use Rattle.cdi_model.specs.Edits.{answer_of_edit};
 ghost use Rattle.cdi_index.specs.State.{IsEdited};
-ghost use Rattle.cdi_live.specs.Known.{KnownAreWanted};
-ghost use Rattle.cdi_live.specs.State.{Commits};
 ghost use Rattle.cdi_container.specs.Editing.{changes_of_all, drafted_by, refusal_of_batch};
 ghost use Rattle.cdi_container.specs.History.{no_counts};
 ghost use Rattle.cdi_container.specs.Known.{keys_of_event, keys_of_use, worked, IsInOrder};
@@ -26,13 +24,15 @@ ghost use Rattle.cdi_staging.specs.Staged.{scene_of};
 ghost use Rattle.cdi_validate.specs.Faults.{faults};
 ghost use Rattle.cdi_container.specs.Asked.{aim_for, aim_of, aim_of_choice, asked_for, fired_of};
 ghost use Rattle.cdi_scene.specs.Sound.{AreObservers};
-ghost use Rattle.cdi_container.specs.Wired.{AsksOwn, StandsIn, IsAsked, IsAskedSome, IsShortEdit, Evaluates, KnowsAll, names_if, names_in, redeployed, staged_by, with_staged};
+ghost use Rattle.cdi_container.specs.Wired.{AsksOwn, StandsIn, IsAsked, IsAskedSome, IsShortEdit, Evaluates, names_if, names_in, redeployed, staged_by, with_staged};
 ghost use Rattle.cdi_wiring.specs.Wired.{IsWiredOf};
 
 use crate::answer::WorkDone;
 use crate::asked::{Aim, Message, aim_of_choice, can_be_fired};
 use crate::batch::{BatchError, draft_batch, draft_change};
 use crate::beans::Beans;
+use crate::edited::{stage_looked, take_over};
+use crate::found::find_wiring;
 use crate::points::Points;
 use cdi_bodies::Bodies;
 use cdi_effective::beans;
@@ -43,12 +43,12 @@ use cdi_lines::Edit;
 use cdi_live::Live;
 use cdi_model::{BeanPlace, Edit as Change, Error, Iter as DeclIter, Name, Quals, Refusal, Seq};
 use cdi_observe::{ObserverId, evaluate};
+use cdi_report::Unsettled;
 use cdi_resolve::{BeanList, Choice};
 use cdi_run::Player;
 use cdi_scene::{Notified, Scene};
 use cdi_staging::{Names, positions_of};
 use cdi_subjects::are_known;
-use cdi_validate::faults;
 use cdi_wiring::{Wired, Wiring};
 use std::alloc::{AllocError, Global};
 use std::marker::Model;
@@ -97,6 +97,10 @@ pub(crate) struct Deployment<B: Bodies> {
     /// Made by the first lookup, call or event. Each wanted key is known from then on.
     wiring: Option<Wiring>,
     stale: Stale,
+    /// At which declarations the next report looks.
+    unsettled: Unsettled,
+    /// Whether what is staged, if anything is, concerns only declarations at which the next report looks.
+    is_readied: bool,
 }
 
 impl<B: Bodies + Drop> Drop for Deployment<B> {
@@ -106,16 +110,16 @@ impl<B: Bodies + Drop> Drop for Deployment<B> {
             book: _,
             wiring: _,
             stale: _,
+            unsettled: _,
+            is_readied: _,
         } = self;
     }
 }
 
 impl<B: Bodies> Model for Deployment<B> {
-    ghost use Rattle.std.specs.Prelude.{IfSome, ◌≡◌};
-    ghost use Rattle.cdi_model.specs.Short.{AreShort};
     ghost use Rattle.cdi_live.specs.Known.{known_of};
-    ghost use Rattle.cdi_container.specs.Wired.{StandsIn, Deployed, KnowsAll, is_sound};
-    ghost use Rattle.cdi_wiring.specs.Wired.{IsWiringOf};
+    ghost use Rattle.cdi_container.specs.Kept.{IsKept};
+    ghost use Rattle.cdi_container.specs.Wired.{Deployed, is_sound};
 
     ghost Value = { Deployed };
 
@@ -129,8 +133,7 @@ impl<B: Bodies> Model for Deployment<B> {
       is_wired = is_sound d.wiring;
     } };
 
-    ghost invariant = { λ d. AreShort d.live.decls
-        × IfSome d.wiring (λ wiring. IsWiringOf d.live.decls (B.promises d.book) wiring × KnowsAll d.live) };
+    ghost invariant = { λ d. IsKept d.live (B.promises d.book) d.wiring d.unsettled d.is_readied };
 }
 
 impl<B: Bodies> Deployment<B> {
@@ -150,6 +153,8 @@ impl<B: Bodies> Deployment<B> {
             book,
             wiring: None,
             stale: Stale::none(),
+            unsettled: Unsettled::new(alloc),
+            is_readied: false,
         }
     }
 
@@ -213,7 +218,9 @@ impl<B: Bodies> Deployment<B> {
         ensures ok { OnOk result (self.new ≡ with_staged self.old (Some (staged_by self.old.decls self.old.counts draft))) }
         ensures err { OnErr result (self.new ≡ with_staged self.old None) }
     {
-        self.live.stage(draft)?;
+        self.is_readied = false;
+        stage_looked(&mut self.live, &mut self.unsettled, draft)?;
+        self.is_readied = true;
         Ok(())
     }
 
@@ -226,7 +233,8 @@ impl<B: Bodies> Deployment<B> {
         ensures new { self.new ≡ redeployed self.old }
     {
         let wiring = self.wiring.take();
-        take_over(&mut self.live);
+        take_over(&mut self.live, &mut self.unsettled, self.is_readied);
+        self.is_readied = false;
         self.stale.take_wiring(wiring)
     }
 
@@ -247,6 +255,7 @@ impl<B: Bodies> Deployment<B> {
     {
         // No effect at run time. The proof reads here that each known key is wanted.
         let _ = self.live.work();
+        self.is_readied = false;
         self.live.choose(alloc, bean_type, quals)
     }
 
@@ -273,6 +282,7 @@ impl<B: Bodies> Deployment<B> {
     {
         // No effect at run time. The proof reads here that each known key is wanted.
         let _ = self.live.work();
+        self.is_readied = false;
         self.live.observers(alloc, event_type, quals)
     }
 
@@ -290,6 +300,7 @@ impl<B: Bodies> Deployment<B> {
     {
         // No effect at run time. The proof reads here that each known key is wanted.
         let _ = self.live.work();
+        self.is_readied = false;
         self.live.chain(alloc, bean, place)
     }
 
@@ -304,7 +315,8 @@ impl<B: Bodies> Deployment<B> {
     {
         // No effect at run time. The proof reads here that each known key is wanted.
         let _ = self.live.work();
-        faults(alloc, &mut self.live, &self.book)
+        self.is_readied = false;
+        self.unsettled.report(alloc, &mut self.live, &self.book)
     }
 
     /// Evaluates each wanted key.
@@ -316,6 +328,7 @@ impl<B: Bodies> Deployment<B> {
     {
         // No effect at run time. The proof reads here that each known key is wanted.
         let _ = self.live.work();
+        self.is_readied = false;
         evaluate(alloc, &mut self.live)?;
         Ok(())
     }
@@ -345,7 +358,8 @@ impl<B: Bodies> Deployment<B> {
             return Ok(wiring.count());
         }
         self.stale = Stale::none();
-        let wiring = Wiring::of(alloc, &mut self.live, &self.book)?;
+        self.is_readied = false;
+        let wiring = find_wiring(alloc, &mut self.live, &mut self.unsettled, &self.book)?;
         let count = wiring.count();
         self.wiring = Some(wiring);
         Ok(count)
@@ -542,18 +556,4 @@ impl<B: Bodies> Deployment<B> {
     {
         &self.wired().names
     }
-}
-
-/// What is staged is taken over, if anything is.
-#[tactic(auto, using(crate::proofs::Committing::committed_short))]
-fn take_over(live: &mut Live)
-    requires short { AreShort live.old.decls }
-    requires staged { IfSome live.old.staged (λ next. AreShort next.decls) }
-    ensures new { Commits live.old live.new }
-    ensures short { AreShort live.new.decls }
-    ensures wanted { KnownAreWanted live.old }
-{
-    // No effect at run time. The proof reads here that each known key is wanted.
-    let _ = live.work();
-    live.commit();
 }

@@ -8,6 +8,8 @@ mod batch;
 mod beans;
 mod container;
 mod deployment;
+mod edited;
+mod found;
 mod instances;
 mod points;
 mod printing;

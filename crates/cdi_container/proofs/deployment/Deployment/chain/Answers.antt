@@ -9,7 +9,8 @@ use Rattle.cdi_container.proofs.deployment.Deployment.chain.Goals as goal
 
 pub invariant_of-self : goal.invariant_of-self
 invariant_of-self g c =
-    stays_right c.self.inside.live c.chain.new.self (g.B.Bodies.promises c.self.inside.book) c.self.inside.wiring c.chain.ensures.decls
+    stays_right c.self.inside.live c.chain.new.self (g.B.Bodies.promises c.self.inside.book) c.self.inside.wiring c.self.inside.unsettled c.self.inside.is_readied
+    c.chain.ensures.decls
     (still_asked c.chain.result c.self.inside.live c.chain.new.self (ChainKey c.args.bean c.args.place.now) c.chain.ensures.kept c.chain.ensures.err)
     c.self.invariant
 

@@ -9,7 +9,8 @@ use Rattle.cdi_container.proofs.deployment.Deployment.choose.Goals as goal
 
 pub invariant_of-self : goal.invariant_of-self
 invariant_of-self g c =
-    stays_right c.self.inside.live c.choose.new.self (g.B.Bodies.promises c.self.inside.book) c.self.inside.wiring c.choose.ensures.decls
+    stays_right c.self.inside.live c.choose.new.self (g.B.Bodies.promises c.self.inside.book) c.self.inside.wiring c.self.inside.unsettled c.self.inside.is_readied
+    c.choose.ensures.decls
     (still_asked c.choose.result c.self.inside.live c.choose.new.self (choice_key c.args.bean_type c.args.quals.now) c.choose.ensures.kept c.choose.ensures.err)
     c.self.invariant
 

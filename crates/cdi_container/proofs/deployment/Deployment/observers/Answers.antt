@@ -9,7 +9,8 @@ use Rattle.cdi_container.proofs.deployment.Deployment.observers.Goals as goal
 
 pub invariant_of-self : goal.invariant_of-self
 invariant_of-self g c =
-    stays_right c.self.inside.live c.observers.new.self (g.B.Bodies.promises c.self.inside.book) c.self.inside.wiring c.observers.ensures.decls
+    stays_right c.self.inside.live c.observers.new.self (g.B.Bodies.promises c.self.inside.book) c.self.inside.wiring c.self.inside.unsettled c.self.inside.is_readied
+    c.observers.ensures.decls
     (still_asked c.observers.result c.self.inside.live c.observers.new.self (EventKey c.args.event_type c.args.quals.now) c.observers.ensures.kept c.observers.ensures.err)
     c.self.invariant
 
