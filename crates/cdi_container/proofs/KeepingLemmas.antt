@@ -14,11 +14,12 @@ use Rattle.cdi_observe.specs.Kept.{Kept, after_key, evaluated, EvaluatesSome}
 use Rattle.cdi_observe.specs.Keys.{Key, has_key}
 use Rattle.cdi_observe.specs.Wanted.{wanted, is_wanted}
 use Rattle.cdi_observe.proofs.KeptLemmas.{evaluated-apart, knows_wanted}
-use Rattle.cdi_report.specs.Settled.{is_open, AreSettled}
+use Rattle.cdi_report.specs.Settled.{AreSettled, LooksAtMore}
 use Rattle.cdi_report.specs.Stays.{IsReadied}
 use Rattle.cdi_report.specs.declared.unsettled.Unsettled.{Unsettled}
 use Rattle.cdi_report.proofs.KeptLemmas.{settled_stay}
 use Rattle.cdi_report.proofs.SettledLemmas.{settled-still}
+use Rattle.cdi_report.proofs.TogetherLemmas.{more_is_settled, none_settled}
 use Rattle.cdi_wiring.specs.Wired.{IsWiringOf}
 use Rattle.cdi_wiring.specs.declared.verdict.Wiring.{Wiring}
 use Rattle.cdi_container.specs.Kept.{IsKept, IsWiredRight}
@@ -85,17 +86,9 @@ pub nothing_right : (live : Live) (book : List Promised) (u : Unsettled) → liv
 nothing_right live book u is = subst (λ (l : Live). IsKept l book None u false) (sym is) (record {
   short = λ i d found. absurd (let no : ◌≡◌ {A = Option Decl} None (Some d) = found in cc);
   wired = tt;
-  settled = λ d found closed. absurd (let no : ◌≡◌ {A = Option Decl} None (Some d) = found in cc);
+  settled = none_settled (knows empty) book u;
   readied = not_readied;
 })
-
--- where more declarations are looked at
-more_settled : (ds : List Decl) (known : Key → Bool) (book : List Promised) (u v : Unsettled)
-    → ((k : DeclKey) → is_open u k ≡ true → is_open v k ≡ true) → AreSettled ds known book u → AreSettled ds known book v
-more_settled ds known book u v still settled d found closed = settled d found (elim (cases_Bool (is_open u (key_of d))) [
-  | inl opened ↦ absurd (false≢true (sym closed ∙ still (key_of d) opened))
-  | inr shut ↦ shut
-])
 
 readied_with : (live : Live) (next : Staged) (u : Unsettled) (staged : Option Staged) → IsReadied live next u
     → IsReadied (with_staged live staged) next u
@@ -116,29 +109,30 @@ readied_with live next u staged r = record {
   };
   staged = r.staged;
   looked = r.looked;
+  named = r.named;
 }
 
 -- where a draft is staged, and what it concerns is looked at
 pub staged_right : (old new : Live) (next : Staged) (book : List Promised) (wiring : Option Wiring) (u v : Unsettled) (readied : Bool)
-    → new ≡ with_staged old (Some next) → ((k : DeclKey) → is_open u k ≡ true → is_open v k ≡ true) → IsReadied old next v
+    → new ≡ with_staged old (Some next) → LooksAtMore u v → IsReadied old next v
     → IsKept old book wiring u readied → IsKept new book wiring v true
 staged_right old new next book wiring u v readied is still ready kept =
     subst (λ (l : Live). IsKept l book wiring v true) (sym is) (record {
       short = kept.short;
       wired = wired_still old (with_staged old (Some next)) book wiring refl (λ key h. h) kept.wired;
-      settled = more_settled old.decls (knows old) book u v still kept.settled;
+      settled = more_is_settled old.decls (knows old) book u v still kept.settled;
       readied = λ yes. readied_with old next v (Some next) ready;
     })
 
 -- where nothing is staged any more
 pub unstaged_right : (old new : Live) (book : List Promised) (wiring : Option Wiring) (u v : Unsettled) (readied : Bool)
-    → new ≡ with_staged old None → ((k : DeclKey) → is_open u k ≡ true → is_open v k ≡ true) → IsKept old book wiring u readied
+    → new ≡ with_staged old None → LooksAtMore u v → IsKept old book wiring u readied
     → IsKept new book wiring v false
 unstaged_right old new book wiring u v readied is still kept =
     subst (λ (l : Live). IsKept l book wiring v false) (sym is) (record {
       short = kept.short;
       wired = wired_still old (with_staged old None) book wiring refl (λ key h. h) kept.wired;
-      settled = more_settled old.decls (knows old) book u v still kept.settled;
+      settled = more_is_settled old.decls (knows old) book u v still kept.settled;
       readied = not_readied;
     })
 

@@ -4,7 +4,7 @@ ghost use Rattle.cdi_model.specs.Short.{AreShort};
 ghost use Rattle.cdi_index.specs.State.{IsEdited};
 ghost use Rattle.cdi_live.specs.Known.{KnownAreWanted};
 ghost use Rattle.cdi_live.specs.State.{knows, staged_by, with_staged, Commits};
-ghost use Rattle.cdi_report.specs.Settled.{is_open, AreSettled};
+ghost use Rattle.cdi_report.specs.Settled.{AreSettled, LooksAtMore};
 ghost use Rattle.cdi_report.specs.Stays.{IsReadied};
 
 use cdi_index::Draft;
@@ -13,7 +13,7 @@ use cdi_report::Unsettled;
 use std::alloc::AllocError;
 
 /// Stages a draft. The next report looks at the declarations that it concerns, too. It takes memory for all that is computed.
-/// Without memory nothing is staged, and the next report looks at no fewer declarations than before.
+/// Without memory nothing is staged, and the next report looks at no less than before.
 pub(crate) fn stage_looked(
     live: &mut Live,
     unsettled: &mut Unsettled,
@@ -23,7 +23,7 @@ pub(crate) fn stage_looked(
     ensures ok { OnOk result (live.new ≡ with_staged live.old (Some (staged_by live.old draft))) }
     ensures err { OnErr result (live.new ≡ with_staged live.old None) }
     ensures readied { OnOk result (IsReadied live.old (staged_by live.old draft) unsettled.new) }
-    ensures still { (k : _) → is_open unsettled.old k ≡ true → is_open unsettled.new k ≡ true }
+    ensures more { LooksAtMore unsettled.old unsettled.new }
 {
     let keys = live.stage(draft)?;
     match unsettled.add(keys.as_slice()) {

@@ -1,19 +1,34 @@
 -- What is settled stays so over a draft that does not concern it.
-use Rattle.std.proofs.Common.{◌≡◌, List, [], ◌∷◌, ◌++◌, map, refl, sym, ap, subst, ◌∙◌, inl, inr}
-use Rattle.std.specs.List.{flat_map}
-use Rattle.std.proofs.lemmas.Bool.{cases_Bool, false≢true}
+use Rattle.std.proofs.Common.{◌≡◌, Bool, true, false, not, List, [], ◌∷◌, ◌++◌, cond, filter, map, Option, None, Some, refl, sym, ap, subst, ◌∙◌, inl, inr}
+use Rattle.std.specs.List.{flat_map, AllByRecursion}
+use Rattle.std.proofs.lemmas.Bool.{cases_Bool, false≢true, or_left}
 use Rattle.cdi_bodies.specs.Book.{Promised}
 use Rattle.cdi_model.specs.Decl.{key_of, kind_of, name_of_decl}
-use Rattle.cdi_model.specs.DeclList.{find_decl, AreDistinct}
-use Rattle.cdi_model.specs.Edits.{is_among}
+use Rattle.cdi_model.specs.DeclList.{find_decl, is_of, AreDistinct}
+use Rattle.cdi_model.specs.Grammar.{is_name}
+use Rattle.cdi_model.specs.Edits.{edited_all, edited_keys, is_among}
 use Rattle.cdi_model.specs.declared.decl.Decl.{Decl}
+use Rattle.cdi_model.specs.declared.edit.Edit.{Edit}
+use Rattle.cdi_model.specs.declared.key.DeclKey.{DeclKey}
+use Rattle.cdi_model.proofs.EditLemmas.{edits_keep_decl, edits_keep_others}
+use Rattle.cdi_concern.specs.declared.moved.Moved.{Moved}
+use Rattle.cdi_index.specs.State.{Staged}
+use Rattle.cdi_observe.proofs.RestLemmas.{IsFound}
+use Rattle.cdi_live.specs.State.{knows, State, TakesOver}
 use Rattle.cdi_faults.specs.FaultText.{in_text_order}
 use Rattle.cdi_faults.specs.declared.fault.Code.{Code}
 use Rattle.cdi_faults.specs.declared.fault.Fault.TheVariants as faults_are
 use Rattle.cdi_subjects.specs.Subjects.{subjects_at_fault}
 use Rattle.cdi_validate.specs.Faults.{faults_of_code}
-use Rattle.cdi_report.specs.Stays.{IsLeft, SettledStay}
-use Rattle.cdi_report.proofs.StayLemmas.{left_stay, left_were_present}
+use Rattle.cdi_validate.specs.Alike.{IsAlike}
+use Rattle.cdi_validate.specs.Together.{AreNamed}
+use Rattle.cdi_report.specs.Settled.{closed_of, is_open, AreSettled, IsSettled}
+use Rattle.cdi_report.specs.Stays.{IsLeft, IsReadied, SettledStay}
+use Rattle.cdi_report.specs.declared.unsettled.Unsettled.{Unsettled}
+use Rattle.cdi_report.proofs.SettledLemmas.{each-found, each-weaker}
+use Rattle.cdi_report.proofs.StayLemmas.{left_alike, left_stay, left_were_present}
+use Rattle.cdi_report.proofs.UnmovedLemmas.{not-edited}
+use Rattle.cdi_report.proofs.TogetherLemmas.{all-passed, filter-filter, not-false, together-stay}
 use Rattle.cdi_faults.specs.Codes.{all_codes}
 
 -- the faults of a declaration are the same where those of each code are
@@ -26,24 +41,99 @@ same-faults ds es book d same (code ∷ codes) =
     ++ flat_map (faults_of_code ds book d) codes) (same code)
     ∙ ap (λ more. faults_of_code es book d code ++ more) (same-faults ds es book d same codes)
 
+-- what holds of each of a list holds of one that is found there
+found-all : (P : Decl → Type 0) (ds : List Decl) → AllByRecursion P ds → (d : Decl) → IsFound ds d → P d
+found-all P [] all d found = absurd (let no : ◌≡◌ {A = Option Decl} None (Some d) = found in cc)
+found-all P (e ∷ ds) all d found = by (is_of (kind_of d) (name_of_decl d) e) found (found-all P ds all.1 d)
+  where
+    by : (b : Bool) → cond b (Some e) (find_decl (kind_of d) (name_of_decl d) ds) ≡ Some d → (IsFound ds d → P d) → P d
+    by true here rest = let some : ◌≡◌ {A = Option Decl} (Some e) (Some d) = here in let same : e ≡ d = cc in subst P same all.0
+    by false there rest = rest there
+
+module _ (old : State) (next : Staged) (new : State) (book : List Promised) (u : Unsettled) (before : AreDistinct old.decls)
+    (after : AreDistinct new.decls) (ready : IsReadied old next u) (taken : TakesOver old next new)
+    (settled : AreSettled old.decls (knows old) book u) where
+  -- what is not looked at is not concerned
+  shut-apart : (k : DeclKey) → is_open u k ≡ false → is_among ready.keys k ≡ false
+  shut-apart k shut = elim (cases_Bool (is_among ready.keys k)) [
+    | inl among ↦ absurd (false≢true (sym shut ∙ ready.looked k among))
+    | inr apart ↦ apart
+  ]
+
+  left : (d : Decl) → find_decl (kind_of d) (name_of_decl d) new.decls ≡ Some d → is_open u (key_of d) ≡ false
+      → IsLeft old ready.draft next new ready.keys d
+  left d found shut = record {
+    before = before;
+    after = subst (λ ds. AreDistinct ds) (taken.decls ∙ ready.staged) after;
+    edited = ready.edited;
+    concerned = ready.concerned;
+    staged = ready.staged;
+    taken = taken;
+    present = ap (find_decl (kind_of d) (name_of_decl d)) (sym (taken.decls ∙ ready.staged)) ∙ found;
+    apart = shut-apart (key_of d) shut;
+  }
+
+  was : (d : Decl) → find_decl (kind_of d) (name_of_decl d) new.decls ≡ Some d → is_open u (key_of d) ≡ false
+      → IsSettled old.decls (knows old) book d
+  was d found shut = settled.each d (left_were_present old ready.draft next new ready.keys d (left d found shut)) shut
+
+  abbrev edits : List Edit
+  edits = ready.edited.edits
+
+  abbrev moved : Moved
+  moved = ready.concerned.moved
+
+  -- what is not looked at is not edited
+  not-edited-shut : (d : Decl) → not (is_open u (key_of d)) ≡ true → not (is_among (edited_keys edits) (key_of d)) ≡ true
+  not-edited-shut d shut = ap not
+      (ap (λ ks. is_among ks (key_of d)) (sym ready.edited.keys ∙ sym ready.concerned.by.edited)
+      ∙ not-edited old.decls ready.concerned.moved d
+      (sym (ready.concerned.keys (key_of d)) ∙ shut-apart (key_of d) (not-false (is_open u (key_of d)) shut)))
+
+  -- the same declarations are not looked at, in the same order
+  same-closed : closed_of u old.decls ≡ closed_of u new.decls
+  same-closed =
+      let p : Decl → Bool = λ d. not (is_among (edited_keys edits) (key_of d)) in
+      let q : Decl → Bool = λ d. not (is_open u (key_of d)) in
+      sym (filter-filter p q old.decls not-edited-shut)
+      ∙ ap (filter q) (edits_keep_others edits old.decls)
+      ∙ filter-filter p q (edited_all old.decls edits) not-edited-shut
+      ∙ ap (closed_of u) (sym (taken.decls ∙ ready.staged ∙ ready.edited.decls))
+
+  all-alike : AllByRecursion (IsAlike old.decls new.decls) (closed_of u new.decls)
+  all-alike = all-passed (IsAlike old.decls new.decls) (λ d. not (is_open u (key_of d))) new.decls
+      (each-weaker (IsFound new.decls) (λ d. not (is_open u (key_of d)) ≡ true → IsAlike old.decls new.decls d) new.decls
+      (λ d found is-shut.
+      let shut : is_open u (key_of d) ≡ false = not-false (is_open u (key_of d)) is-shut in
+      left_alike old ready.draft next new ready.keys d (left d found shut) (was d found shut).known)
+      (each-found new.decls after))
+
+  -- a declaration that is edited has the name of a key that was added
+  named-one : AreNamed old.decls → (d : Decl) → find_decl (kind_of d) (name_of_decl d) new.decls ≡ Some d
+      → is_name (name_of_decl d) ≡ true
+  named-one named d found = elim (cases_Bool (is_among (edited_keys edits) (key_of d))) [
+    | inl among ↦ ready.named (key_of d) (ready.concerned.keys (key_of d)
+        ∙ or_left _ _ (or_left _ _ (or_left _ _ (or_left _ _ (or_left (is_among moved.edited.now (key_of d)) _
+        (ap (λ ks. is_among ks (key_of d)) (ready.concerned.by.edited ∙ ready.edited.keys) ∙ among))))))
+    | inr apart ↦ found-all (λ e. is_name (name_of_decl e) ≡ true) old.decls named d
+        (sym (edits_keep_decl edits old.decls (kind_of d) (name_of_decl d) apart)
+        ∙ ap (find_decl (kind_of d) (name_of_decl d)) (sym (taken.decls ∙ ready.staged ∙ ready.edited.decls)) ∙ found)
+  ]
+
+  still-named : AreNamed old.decls → AreNamed new.decls
+  still-named named = each-weaker (IsFound new.decls) (λ d. is_name (name_of_decl d) ≡ true) new.decls (named-one named)
+      (each-found new.decls after)
+
+  stay : AreSettled new.decls (knows new) book u
+  stay = record {
+    each = λ d found shut.
+        let stays = left_stay old ready.draft next new ready.keys d (left d found shut) (was d found shut).known in
+        record {
+          known = stays.known;
+          faultless = sym (same-faults old.decls new.decls book d (λ code. stays.faults code book) all_codes) ∙ (was d found shut).faultless;
+        };
+    apart = together-stay old.decls new.decls u before after same-closed all-alike still-named settled.apart;
+  }
+
 pub settled_stay : SettledStay
-settled_stay old next new book u before after ready taken settled d found closed =
-    let left : IsLeft old ready.draft next new ready.keys d = record {
-      before = before;
-      after = subst (λ ds. AreDistinct ds) (taken.decls ∙ ready.staged) after;
-      edited = ready.edited;
-      concerned = ready.concerned;
-      staged = ready.staged;
-      taken = taken;
-      present = ap (find_decl (kind_of d) (name_of_decl d)) (sym (taken.decls ∙ ready.staged)) ∙ found;
-      apart = elim (cases_Bool (is_among ready.keys (key_of d))) [
-        | inl among ↦ absurd (false≢true (sym closed ∙ ready.looked (key_of d) among))
-        | inr apart ↦ apart
-      ];
-    } in
-    let was = settled d (left_were_present old ready.draft next new ready.keys d left) closed in
-    let stays = left_stay old ready.draft next new ready.keys d left was.known in
-    record {
-      known = stays.known;
-      faultless = sym (same-faults old.decls new.decls book d (λ code. stays.faults code book) all_codes) ∙ was.faultless;
-    }
+settled_stay old next new book u before after ready taken settled = stay old next new book u before after ready taken settled

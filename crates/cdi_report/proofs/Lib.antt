@@ -3,5 +3,6 @@ mod UnmovedLemmas
 mod StillLemmas
 pub mod StayLemmas
 mod PositionLemmas
+pub mod TogetherLemmas
 pub mod SettledLemmas
 pub mod KeptLemmas

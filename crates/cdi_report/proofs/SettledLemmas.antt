@@ -1,5 +1,5 @@
 -- A report that looks at some declarations tells the faults of all.
-use Rattle.std.proofs.Common.{◌≡◌, Bool, true, false, cond, ◌&&◌, ◌||◌, List, [], ◌∷◌, ◌++◌, Some, None, filter, map}
+use Rattle.std.proofs.Common.{◌≡◌, Bool, true, false, not, cond, ◌&&◌, ◌||◌, List, [], ◌∷◌, ◌++◌, Some, None, filter, map}
 use Rattle.std.proofs.Common.{refl, sym, ap, subst, ◌∙◌, ◌⊎◌, inl, inr, length, nat_lt, get_or, arith}
 use Rattle.std.specs.List.{All, AllByRecursion, flat_map, list_all, list_any}
 use Rattle.std.proofs.lemmas.Bool.{cases_Bool, and_from, and_parts, ltb-false, or_cases, or_left, or_right, false≢true}
@@ -24,8 +24,9 @@ use Rattle.cdi_observe.proofs.RestLemmas.{found-any, IsFound}
 use Rattle.cdi_observe.proofs.WantedLemmas.{has-wanted}
 use Rattle.cdi_validate.specs.Faults.{faults_of}
 use Rattle.cdi_report.specs.Known.{AreChainsKnown, IsKnown}
-use Rattle.cdi_report.specs.Settled.{has_faults, is_open, open_of, AreSettled}
+use Rattle.cdi_report.specs.Settled.{has_faults, is_open, open_of, AreSettled, HaveNoneTogether}
 use Rattle.cdi_report.specs.declared.unsettled.Unsettled.{Unsettled}
+use Rattle.cdi_report.proofs.TogetherLemmas.{together-filtered}
 
 -- ---- lists of which some are left out
 
@@ -54,7 +55,7 @@ any-filter p f (x ∷ xs) all some = by (p x) refl (or_cases (f x) (list_any f x
     by false e (inr later) more = more later
 
 -- what holds of each of a list holds of those that are left
-all-filter : {A : Type 0} (P : A → Type 0) (p : A → Bool) (xs : List A) → AllByRecursion P xs → AllByRecursion P (filter p xs)
+pub all-filter : {A : Type 0} (P : A → Type 0) (p : A → Bool) (xs : List A) → AllByRecursion P xs → AllByRecursion P (filter p xs)
 all-filter P p [] all = tt
 all-filter P p (x ∷ xs) all = by (p x) (all-filter P p xs all.1)
   where
@@ -88,7 +89,7 @@ found-filter p f (e ∷ ds) d found passes holds = by (is_of (kind_of d) (name_o
 pub each-found : (ds : List Decl) → AreDistinct ds → AllByRecursion (IsFound ds) ds
 each-found ds distinct = recursion_from_All (IsFound ds) ds (λ i d lt. own-found ds i (get_or ds i d) distinct (slice_get-get_or ds i d lt))
 
-each-weaker : {A : Type 0} (P Q : A → Type 0) (xs : List A) → ((x : A) → P x → Q x) → AllByRecursion P xs → AllByRecursion Q xs
+pub each-weaker : {A : Type 0} (P Q : A → Type 0) (xs : List A) → ((x : A) → P x → Q x) → AllByRecursion P xs → AllByRecursion Q xs
 each-weaker P Q [] weaker all = tt
 each-weaker P Q (x ∷ xs) weaker all = (weaker x all.0, each-weaker P Q xs weaker all.1)
 
@@ -110,7 +111,7 @@ each-known knows (k ∷ keys) each = and_from (knows k) (list_all knows keys)
     (each-known knows keys (λ key has. each key (or_right (same_ask key k) (has_key keys key) has)))
 
 -- a key is known that is among known ones
-among-known : (knows : Key → Bool) (keys : List Key) (key : Key) → list_all knows keys ≡ true → has_key keys key ≡ true → knows key ≡ true
+pub among-known : (knows : Key → Bool) (keys : List Key) (key : Key) → list_all knows keys ≡ true → has_key keys key ≡ true → knows key ≡ true
 among-known knows [] key all has = absurd (false≢true has)
 among-known knows (k ∷ keys) key all has =
     let parts = and_parts (knows k) (list_all knows keys) all in
@@ -204,15 +205,18 @@ chains-still ds knows more (p ∷ ps) still all = (
 -- they are where more is known
 pub settled-still : (ds : List Decl) (knows more : Key → Bool) (book : List Promised) (u : Unsettled)
     → ((key : Key) → knows key ≡ true → more key ≡ true) → AreSettled ds knows book u → AreSettled ds more book u
-settled-still ds knows more book u still settled d found closed =
-    let is = settled d found closed in
-    record {
-      known = record {
-        keys = all-still knows more (wanted_by d) still is.known.keys;
-        chains = chains-still ds knows more (points_of d) still is.known.chains;
+settled-still ds knows more book u still settled = record {
+  each = λ d found closed.
+      let is = settled.each d found closed in
+      record {
+        known = record {
+          keys = all-still knows more (wanted_by d) still is.known.keys;
+          chains = chains-still ds knows more (points_of d) still is.known.chains;
+        };
+        faultless = is.faultless;
       };
-      faultless = is.faultless;
-    }
+  apart = settled.apart;
+}
 
 none-of-length : {A : Type 0} (xs : List A) → nat_lt 0 (length xs) ≡ false → xs ≡ []
 none-of-length [] e = refl
@@ -228,7 +232,7 @@ module _ (ds : List Decl) (knows : Key → Bool) (book : List Promised) (u : Uns
   rest-asked distinct key wants new = any-filter stands-open (λ d. has_key (wanted_by d) key) ds
       (each-weaker (IsFound ds) (λ d. stands-open d ≡ false → has_key (wanted_by d) key ≡ false) ds
       (λ d found closed. elim (cases_Bool (has_key (wanted_by d) key)) [
-        | inl has ↦ absurd (false≢true (sym new ∙ among-known knows (wanted_by d) key (settled d found closed).known.keys has))
+        | inl has ↦ absurd (false≢true (sym new ∙ among-known knows (wanted_by d) key (settled.each d found closed).known.keys has))
         | inr none ↦ none
       ])
       (each-found ds distinct)) wants
@@ -236,27 +240,30 @@ module _ (ds : List Decl) (knows : Key → Bool) (book : List Promised) (u : Uns
   -- and have all faults of declarations
   pub tells-all : AreDistinct ds → flat_map (faults_of ds book) (open_of u ds) ≡ flat_map (faults_of ds book) ds
   tells-all distinct = flat-filter stands-open (faults_of ds book) ds
-      (each-weaker (IsFound ds) (λ d. stands-open d ≡ false → faults_of ds book d ≡ []) ds (λ d found closed. (settled d found closed).faultless)
+      (each-weaker (IsFound ds) (λ d. stands-open d ≡ false → faults_of ds book d ≡ []) ds (λ d found closed. (settled.each d found closed).faultless)
       (each-found ds distinct))
 
   -- those that have none are settled where all is known
   pub settled-now : (more : Key → Bool) (now : Unsettled) → ((key : Key) → is_wanted ds key ≡ true → more key ≡ true) → now.is_each ≡ false
       → ((k : DeclKey) → contains same_key now.keys k
       ≡ list_any (λ d. same_key (key_of d) k && has_faults ds book d) (open_of u ds))
-      → AreSettled ds more book now
-  settled-now more now all not_each are d found closed = record {
-    known = is-known ds more all d found;
-    faultless = elim (cases_Bool (stands-open d)) [
-      | inl opened ↦ none-of-length (faults_of ds book d) (elim (cases_Bool (has_faults ds book d)) [
-        | inl some ↦ absurd (false≢true (sym closed
-            ∙ ap (λ b. b || contains same_key now.keys (key_of d)) not_each
-            ∙ are (key_of d)
-            ∙ found-filter stands-open (λ e. same_key (key_of e) (key_of d) && has_faults ds book e) ds d found opened
-            (and_from (same_key (key_of d) (key_of d)) (has_faults ds book d) (same_decl_equiv.refl (key_of d)) some)))
-        | inr none ↦ none
-      ])
-      | inr shut ↦ (settled d found shut).faultless
-    ];
+      → HaveNoneTogether ds ds now.anew → AreSettled ds more book now
+  settled-now more now all not_each are together = record {
+    each = λ d found closed. record {
+      known = is-known ds more all d found;
+      faultless = elim (cases_Bool (stands-open d)) [
+        | inl opened ↦ none-of-length (faults_of ds book d) (elim (cases_Bool (has_faults ds book d)) [
+          | inl some ↦ absurd (false≢true (sym closed
+              ∙ ap (λ b. b || contains same_key now.keys (key_of d)) not_each
+              ∙ are (key_of d)
+              ∙ found-filter stands-open (λ e. same_key (key_of e) (key_of d) && has_faults ds book e) ds d found opened
+              (and_from (same_key (key_of d) (key_of d)) (has_faults ds book d) (same_decl_equiv.refl (key_of d)) some)))
+          | inr none ↦ none
+        ])
+        | inr shut ↦ (settled.each d found shut).faultless
+      ];
+    };
+    apart = together-filtered ds ds now.anew (λ d. not (is_open now (key_of d))) together;
   }
 
 -- the open ones are there

@@ -1,12 +1,20 @@
 -- The laws of declarations that a draft does not concern.
-use Rattle.std.proofs.Common.{◌≡◌, false, List, Some, sym, ap, subst, ◌∙◌}
+use Rattle.std.proofs.Common.{◌≡◌, false, List, Some, option_map, refl, sym, ap, subst, ◌∙◌}
 use Rattle.cdi_model.specs.Decl.{key_of, kind_of, name_of_decl}
+use Rattle.cdi_model.specs.DeclKey.{key_at}
 use Rattle.cdi_model.specs.DeclList.{find_decl, AreDistinct}
 use Rattle.cdi_model.specs.Edits.{edited_all, edited_keys, is_among}
+use Rattle.cdi_model.specs.declared.decl.BeanDecl.{BeanDecl}
 use Rattle.cdi_model.specs.declared.decl.Decl.{Decl}
+use Rattle.cdi_model.specs.declared.decl.Decl.TheVariants as decls
+use Rattle.cdi_model.specs.declared.decl.Kind.TheVariants as kinds
 use Rattle.cdi_model.specs.declared.edit.Edit.{Edit}
 use Rattle.cdi_model.specs.declared.key.DeclKey.{DeclKey}
 use Rattle.cdi_model.proofs.EditLemmas.{edits_keep_decl}
+use Rattle.cdi_effective.specs.Disposers.{as_bean}
+use Rattle.cdi_effective.specs.Specialized.{chain}
+use Rattle.cdi_effective.proofs.RecordLemmas.{edits_keep_own_records}
+use Rattle.cdi_index.specs.Made.{made_of_bean, reads_in}
 use Rattle.cdi_index.specs.State.{Drafted, Staged}
 use Rattle.cdi_index.specs.Told.{Tells}
 use Rattle.cdi_subjects.specs.Subjects.{subjects_at_fault}
@@ -14,12 +22,15 @@ use Rattle.cdi_observe.specs.Keys.{Key}
 use Rattle.cdi_seen.specs.Touched.{still_known}
 use Rattle.cdi_concern.specs.Concern.{is_concerned}
 use Rattle.cdi_concern.specs.declared.moved.Moved.{Moved}
+use Rattle.cdi_validate.specs.Alike.{IsAlike}
+use Rattle.cdi_validate.specs.Records.{records_by}
+use Rattle.cdi_validate.proofs.FoundLemmas.{records-of-found}
 use Rattle.cdi_spared.proofs.Laws.{apart_are_spared, spared_keep_faults, unconcerned_are_apart}
 use Rattle.cdi_live.specs.State.{knows, State}
 use Rattle.cdi_report.specs.Known.{IsKnown}
 use Rattle.cdi_report.specs.Stays.{IsLeft, LeftStay, LeftWerePresent, Stays}
-use Rattle.cdi_report.proofs.StillLemmas.{known-after, unconcerned, IsGivenUp}
-use Rattle.cdi_report.proofs.UnmovedLemmas.{not-edited}
+use Rattle.cdi_report.proofs.StillLemmas.{known-after, own-chains-stay, unconcerned, IsGivenUp}
+use Rattle.cdi_report.proofs.UnmovedLemmas.{not-affected, not-edited}
 
 -- ---- what is left by a draft
 
@@ -80,10 +91,49 @@ module _ (old : State) (draft : Drafted) (next : Staged) (new : State) (keys : L
             ∙ ap (λ es. subjects_at_fault code es book d) (sym after);
       }
 
+  -- the same is made of it, chosen for it, and around it
+  alike : IsKnown ds (knows old) d → IsAlike ds new.decls d
+  alike known =
+      let it = unconcerned edits ds moved d (knows old) left.before distinct-after present clear tells given-up known in
+      subst (λ es. IsAlike ds es d) (sym after) record {
+        before = present;
+        after = ap (find_decl (kind_of d) (name_of_decl d)) (sym left.edited.decls) ∙ left.present;
+        records = sym (records-of-found (edited_all ds edits) d found-after) ∙ records-stay ∙ records-of-found ds d present;
+        answers = it.answers;
+        around = λ b is place.
+            own-chains-stay edits ds moved d (knows old) left.before distinct-after present clear tells given-up b is known.keys place;
+        chains = chains-stay;
+      }
+    where
+      found-after : find_decl (kind_of d) (name_of_decl d) (edited_all ds edits) ≡ Some d
+      found-after = ap (find_decl (kind_of d) (name_of_decl d)) (sym left.edited.decls) ∙ left.present
+
+      records-stay : records_by (edited_all ds edits) d ≡ records_by ds d
+      records-stay = by d refl
+        where
+          by : (e : Decl) → d ≡ e → records_by (edited_all ds edits) e ≡ records_by ds e
+          by (decls.Bean b) is = tells.records b.name (ap (λ e. is_among moved.affected.now (key_of e)) (sym is) ∙ not-affected ds moved d clear)
+          by (decls.Type t) is = refl
+          by (decls.Qualifier q) is = refl
+          by (decls.Binding b) is = refl
+          by (decls.Stereotype s) is = refl
+          by (decls.Interceptor i) is = refl
+
+      chains-stay : (b : BeanDecl) → d ≡ decls.Bean b → chain (edited_all ds edits) b ≡ chain ds b
+      chains-stay b is = (edits_keep_own_records edits ds b (λ key among.
+          sym (ap (λ o. is_among (reads_in (option_map (made_of_bean ds) (as_bean o))) key)
+          (sym (ap (λ e. find_decl (kind_of e) (name_of_decl e) ds) is) ∙ present ∙ ap Some is))
+          ∙ tells.apart (key_at kinds.Bean b.name)
+          (ap (λ e. is_among moved.affected.now (key_of e)) (sym is) ∙ not-affected ds moved d clear) key among)).chain
+
 -- ---- the laws
 
 pub left_were_present : LeftWerePresent
 left_were_present old draft next new keys d left = present old draft next new keys d left
+
+pub left_alike : (old : State) (draft : Drafted) (next : Staged) (new : State) (keys : List DeclKey) (d : Decl)
+    → IsLeft old draft next new keys d → IsKnown old.decls (knows old) d → IsAlike old.decls new.decls d
+left_alike old draft next new keys d left known = alike old draft next new keys d left known
 
 pub left_stay : LeftStay
 left_stay old draft next new keys d left known = stays old draft next new keys d left known

@@ -1,9 +1,10 @@
 -- What a declaration asks for stays known after edits that do not concern it, and is answered alike.
 use Rattle.std.proofs.Common.{◌≡◌, ℕ, Bool, true, false, not, ◌&&◌, List, [], ◌∷◌, ◌++◌, map, Some, None, Option, Result, Ok, Err, cond}
 use Rattle.std.proofs.Common.{refl, sym, ap, ◌∙◌, inl, inr}
-use Rattle.std.specs.List.{list_all, AllByRecursion}
+use Rattle.std.specs.List.{list_all, list_any, AllByRecursion}
+use Rattle.std.specs.Str.{bytes_eq}
 use Rattle.std.specs.Option.{option_map_or}
-use Rattle.std.proofs.lemmas.Bool.{and_from, and_parts, cases_Bool, false≢true}
+use Rattle.std.proofs.lemmas.Bool.{and_from, and_parts, cases_Bool, false≢true, or_cases, or_left, or_right}
 use Rattle.std.proofs.lemmas.List.Folds.{list_all-append}
 use Rattle.cdi_model.specs.Decl.{key_of, kind_of, name_of_decl}
 use Rattle.cdi_model.specs.DeclKey.{key_at}
@@ -11,6 +12,7 @@ use Rattle.cdi_model.specs.DeclList.{find_decl, AreDistinct}
 use Rattle.cdi_model.specs.Edits.{edited_all, edited_keys, is_among}
 use Rattle.cdi_model.specs.declared.decl.BeanDecl.{BeanDecl}
 use Rattle.cdi_model.specs.declared.decl.Decl.{Decl}
+use Rattle.cdi_model.specs.declared.decl.Decl.TheVariants as decls
 use Rattle.cdi_model.specs.declared.decl.Kind.TheVariants as kinds
 use Rattle.cdi_model.specs.declared.decl.PointDecl.{PointDecl}
 use Rattle.cdi_model.specs.declared.edit.Edit.{Edit}
@@ -20,6 +22,7 @@ use Rattle.cdi_model.specs.declared.refusal.Refusal.{Refusal}
 use Rattle.cdi_model.specs.declared.refusal.Refusal.TheVariants as refusals
 use Rattle.cdi_model.proofs.EditLemmas.{edits_keep_decl}
 use Rattle.cdi_match.specs.Chain.{has}
+use Rattle.cdi_match.proofs.Names.{same_text}
 use Rattle.cdi_effective.specs.Beans.{beans}
 use Rattle.cdi_effective.specs.Bindings.{class_bindings}
 use Rattle.cdi_effective.specs.Disposers.{as_bean, find_bean}
@@ -27,7 +30,7 @@ use Rattle.cdi_effective.specs.Qualifiers.{required}
 use Rattle.cdi_effective.specs.declared.records.BeanId.{BeanId}
 use Rattle.cdi_intercept.specs.Chains.{chain_by, chain_of, chain_told}
 use Rattle.cdi_intercept.specs.Sees.{sees_at, Seen as SeenAround}
-use Rattle.cdi_intercept.specs.Sets.{has_place, set_by}
+use Rattle.cdi_intercept.specs.Sets.{has_place, places_of, set_by}
 use Rattle.cdi_intercept.proofs.SeenLemmas.{told_rests_on_seen}
 use Rattle.cdi_resolve.specs.Choices.{chosen}
 use Rattle.cdi_resolve.specs.Sees.{sees, Seen}
@@ -35,9 +38,11 @@ use Rattle.cdi_resolve.specs.declared.choice.Choice.TheVariants.{One}
 use Rattle.cdi_resolve.proofs.SeenLemmas.{choice_rests_on_seen}
 use Rattle.cdi_index.specs.Told.{Tells}
 use Rattle.cdi_observe.specs.Answers.{answer_to}
-use Rattle.cdi_observe.specs.Keys.{ChainKey, ChoiceKey, EventKey, Key}
+use Rattle.cdi_observe.specs.Keys.{has_key, same_place, ChainKey, ChoiceKey, EventKey, Key}
 use Rattle.cdi_observe.specs.Wanted.{asked_by, chains_by, events_by, is_wanted, key_of_point, points_of, wanted_by}
+use Rattle.cdi_observe.proofs.BeanPlaceLemmas.{has-it}
 use Rattle.cdi_observe.proofs.PlaceLemmas.{chosen-required}
+use Rattle.cdi_stakes.proofs.NameLemmas.{only-chains}
 use Rattle.cdi_seen.specs.Touched.{is_touched, still_known, ByChain, ByChoice}
 use Rattle.cdi_seen.proofs.SameLemmas.{touched_where_seen_differs}
 use Rattle.cdi_concern.specs.Concern.{is_concerned}
@@ -46,8 +51,9 @@ use Rattle.cdi_spared.specs.Unconcerned.{IsUnconcerned}
 use Rattle.cdi_spared.proofs.OfferLemmas.{offers_type, one-offers}
 use Rattle.cdi_live.proofs.WantedPlaceLemmas.{wanted-place}
 use Rattle.cdi_report.specs.Known.{AreChainsKnown, IsKnown}
+use Rattle.cdi_report.proofs.SettledLemmas.{among-known}
 use Rattle.cdi_report.proofs.AskedLemmas.{points-listed, wanted-listed, IsListed, IsPointListed}
-use Rattle.cdi_report.proofs.UnmovedLemmas.{no-affected, no-chain, no-choice, no-event, not-classed}
+use Rattle.cdi_report.proofs.UnmovedLemmas.{no-affected, no-chain, no-choice, no-event, not-affected, not-classed}
 
 -- Of each known key that is given up, the type or the class is moved.
 pub record IsGivenUp (ds es : List Decl) (knows : Key → Bool) (m : Moved) : Type 0 where
@@ -95,6 +101,34 @@ same-chain ds es class place b before after there h =
   where
     seen : (a b : SeenAround) → ByChain a ≡ ByChain b → a ≡ b
     seen a b e = cc
+
+-- around each place of one declaration, if those that it has are not touched
+same-chains-of : (ds es : List Decl) (class : List ℕ) (place : BeanPlace) → find_bean class es ≡ find_bean class ds
+    → ((b : BeanDecl) → find_bean class ds ≡ Some b → has_place b place ≡ true → not (is_touched ds es (ChainKey class place)) ≡ true)
+    → chain_of es class place ≡ chain_of ds class place
+same-chains-of ds es class place same apart = by (find_bean class ds) refl
+  where
+    at-place : (b : BeanDecl) → find_bean class ds ≡ Some b → (there : Bool) → has_place b place ≡ there
+        → chain_of es class place ≡ chain_of ds class place
+    at-place b at true there = same-chain ds es class place b at (same ∙ at) there (apart b at there)
+    at-place b at false there = told-of es class place b false (same ∙ at) there ∙ sym (told-of ds class place b false at there)
+
+    by : (o : Option BeanDecl) → find_bean class ds ≡ o → chain_of es class place ≡ chain_of ds class place
+    by None at = ap (λ o. chain_told es o place) (same ∙ at) ∙ sym (ap (λ o. chain_told ds o place) at)
+    by (Some b) at = at-place b at (has_place b place) refl
+
+-- a bean asks for the chain at each of its places
+asks-own : (b : BeanDecl) (place : BeanPlace) → has_place b place ≡ true → has_key (wanted_by (decls.Bean b)) (ChainKey b.name place) ≡ true
+asks-own b place there = only-chains b.name place (decls.Bean b) ∙ among (places_of b) (has-it b place ∙ there)
+  where
+    among : (ps : List BeanPlace) → list_any (same_place place) ps ≡ true → has_key (map (ChainKey b.name) ps) (ChainKey b.name place) ≡ true
+    among [] some = absurd (false≢true some)
+    among (p ∷ ps) some = elim (or_cases (same_place place p) (list_any (same_place place) ps) some) [
+      | inl here ↦ or_left (bytes_eq b.name b.name && same_place place p) (has_key (map (ChainKey b.name) ps) (ChainKey b.name place))
+          (and_from (bytes_eq b.name b.name) (same_place place p) (same_text b.name b.name refl) here)
+      | inr later ↦ or_right (bytes_eq b.name b.name && same_place place p) (has_key (map (ChainKey b.name) ps) (ChainKey b.name place))
+          (among ps later)
+    ]
 
 -- ---- a declaration that is not concerned
 
@@ -171,21 +205,10 @@ module _ (edits : List Edit) (ds : List Decl) (m : Moved) (d : Decl) (knows : Ke
     module _ (chains : (place : BeanPlace) → is_wanted ds (ChainKey id.class place) ≡ true → knows (ChainKey id.class place) ≡ true) where
       -- so the interceptors around them are the same
       chain-stays : (place : BeanPlace) → chain_of es id.class place ≡ chain_of ds id.class place
-      chain-stays place = by (find_bean id.class ds) refl
-        where
-          at-place : (b : BeanDecl) → find_bean id.class ds ≡ Some b → (there : Bool) → has_place b place ≡ there
-              → chain_of es id.class place ≡ chain_of ds id.class place
-          at-place b at true there =
-              let wanted : is_wanted ds (ChainKey id.class place) ≡ true =
-              wanted-place ds distinct id.class place ∙ ap (λ o. option_map_or (λ x. has_place x place) o false) at ∙ there in
-              same-chain ds es id.class place b at (same-bean ∙ at) there
-              (untouched ds es knows (ChainKey id.class place) (still-chain place (chains place wanted)))
-          at-place b at false there =
-              told-of es id.class place b false (same-bean ∙ at) there ∙ sym (told-of ds id.class place b false at there)
-
-          by : (o : Option BeanDecl) → find_bean id.class ds ≡ o → chain_of es id.class place ≡ chain_of ds id.class place
-          by None at = ap (λ o. chain_told es o place) (same-bean ∙ at) ∙ sym (ap (λ o. chain_told ds o place) at)
-          by (Some b) at = at-place b at (has_place b place) refl
+      chain-stays place = same-chains-of ds es id.class place same-bean (λ b at there.
+          let wanted : is_wanted ds (ChainKey id.class place) ≡ true =
+          wanted-place ds distinct id.class place ∙ ap (λ o. option_map_or (λ x. has_place x place) o false) at ∙ there in
+          untouched ds es knows (ChainKey id.class place) (still-chain place (chains place wanted)))
 
       -- and each that is wanted stays known
       chain-known : (place : BeanPlace) → is_wanted es (ChainKey id.class place) ≡ true
@@ -193,6 +216,33 @@ module _ (edits : List Edit) (ds : List Decl) (m : Moved) (d : Decl) (knows : Ke
       chain-known place wanted = still-chain place (chains place
           (wanted-place ds distinct id.class place ∙ ap (λ o. option_map_or (λ x. has_place x place) o false) (sym same-bean)
           ∙ sym (wanted-place es apart id.class place) ∙ wanted))
+
+  -- ---- its own places
+
+  -- the interceptors around the places of its bean are the same
+  pub own-chains-stay : (b : BeanDecl) → d ≡ decls.Bean b → list_all knows (wanted_by d) ≡ true → (place : BeanPlace)
+      → chain_of es b.name place ≡ chain_of ds b.name place
+  own-chains-stay b is known place = same-chains-of ds es b.name place same-own (λ c at there.
+      let here : Some (decls.Bean b) ≡ find_decl kinds.Bean b.name ds =
+      sym (ap (λ e. find_decl (kind_of e) (name_of_decl e) ds) (sym is) ∙ found ∙ ap Some is) in
+      let one : Some b ≡ Some c = ap as_bean here ∙ at in
+      let same : b ≡ c = cc in
+      let asked : has_key (wanted_by d) (ChainKey b.name place) ≡ true =
+      ap (λ e. has_key (wanted_by e) (ChainKey b.name place)) is ∙ asks-own b place (ap (λ x. has_place x place) same ∙ there) in
+      untouched ds es knows (ChainKey b.name place)
+      (still (ChainKey b.name place) (ap key_of is) (among-known knows (wanted_by d) (ChainKey b.name place) known asked)))
+    where
+      unaffected : is_among m.affected.now (key_at kinds.Bean b.name) ≡ false
+      unaffected = ap (λ e. is_among m.affected.now (key_of e)) (sym is) ∙ not-affected ds m d clear
+
+      unedited : is_among (edited_keys edits) (key_at kinds.Bean b.name) ≡ false
+      unedited = elim (cases_Bool (is_among (edited_keys edits) (key_at kinds.Bean b.name))) [
+        | inl among ↦ absurd (false≢true (sym unaffected ∙ tells.edited (key_at kinds.Bean b.name) refl among))
+        | inr none ↦ none
+      ]
+
+      same-own : find_bean b.name es ≡ find_bean b.name ds
+      same-own = ap as_bean (edits_keep_decl edits ds kinds.Bean b.name unedited)
 
   -- ---- all its points
 

@@ -91,6 +91,10 @@ module _ (ds : List Decl) (m : Moved) (d : Decl) (clear : is_concerned ds m (key
   pub not-edited : is_among m.edited.now (key_of d) ≡ false
   not-edited = (or_parts (is_among m.edited.now key) (is_among m.affected.now key) words-apart.0).0
 
+  -- it is not affected
+  pub not-affected : is_among m.affected.now (key_of d) ≡ false
+  not-affected = (or_parts (is_among m.edited.now key) (is_among m.affected.now key) words-apart.0).1
+
   -- it is not the bean of a chain that is given up
   pub not-classed : (class : List ℕ) → key_of d ≡ key_at kinds.Bean class → has m.classes.now class ≡ false
   not-classed class is = elim (cases_Bool (has m.classes.now class)) [

@@ -1,5 +1,5 @@
 -- At which declarations a report looks.
-use Rattle.std.specs.Prelude.{◌≡◌, ◌||◌, nat_lt, Bool, false, List, [], length, filter, Some}
+use Rattle.std.specs.Prelude.{◌≡◌, ◌||◌, nat_lt, not, Bool, true, false, List, [], length, filter, Some}
 use Rattle.indexmap.specs.IndexSet.{contains}
 use Rattle.cdi_bodies.specs.Book.{Promised}
 use Rattle.cdi_model.specs.Decl.{key_of, kind_of, name_of_decl}
@@ -9,7 +9,9 @@ use Rattle.cdi_model.specs.declared.decl.Decl.{Decl}
 use Rattle.cdi_model.specs.declared.key.DeclKey.{DeclKey}
 use Rattle.cdi_observe.specs.Keys.{Key}
 use Rattle.cdi_validate.specs.Faults.{faults_of}
+use Rattle.cdi_validate.specs.Together.{AreNamed, HaveNoCircle, HaveNoClash, HaveNoneTwice}
 use Rattle.cdi_report.specs.Known.{IsKnown}
+use Rattle.cdi_report.specs.declared.unsettled.Anew.{Anew}
 use Rattle.cdi_report.specs.declared.unsettled.Unsettled.{Unsettled}
 
 -- a report looks at the declaration of the key
@@ -20,6 +22,10 @@ is_open u k = u.is_each || contains same_key u.keys k
 abbrev pub open_of : Unsettled → List Decl → List Decl
 open_of u ds = filter (λ d. is_open u (key_of d)) ds
 
+-- the others, in order
+abbrev pub closed_of : Unsettled → List Decl → List Decl
+closed_of u ds = filter (λ d. not (is_open u (key_of d))) ds
+
 -- the declaration has faults, where these bodies are stored
 abbrev pub has_faults : List Decl → List Promised → Decl → Bool
 has_faults ds book d = nat_lt 0 (length (faults_of ds book d))
@@ -29,7 +35,30 @@ pub record IsSettled (ds : List Decl) (knows : Key → Bool) (book : List Promis
   pub known : IsKnown ds knows d
   pub faultless : faults_of ds book d ≡ []
 
--- So it is with each declaration at which a report does not look.
-abbrev pub AreSettled : List Decl → (Key → Bool) → List Promised → Unsettled → Type 0
-AreSettled ds knows book u = (d : Decl) → find_decl (kind_of d) (name_of_decl d) ds ≡ Some d → is_open u (key_of d) ≡ false
-    → IsSettled ds knows book d
+-- Some declarations have no faults together, of those for which all are not looked at anew. Texts tell beans apart where all have a name
+-- by the grammar.
+pub record HaveNoneTogether (ds own : List Decl) (anew : Anew) : Type 0 where
+  pub names : anew.names ≡ false → HaveNoClash ds own
+  pub circles : anew.circles ≡ false → AreNamed ds × HaveNoCircle ds own
+  pub chains : anew.chains ≡ false → HaveNoneTwice ds own
+
+-- So it is with each declaration at which a report does not look, and these have no faults together.
+pub record AreSettled (ds : List Decl) (knows : Key → Bool) (book : List Promised) (u : Unsettled) : Type 0 where
+  pub each : (d : Decl) → find_decl (kind_of d) (name_of_decl d) ds ≡ Some d → is_open u (key_of d) ≡ false → IsSettled ds knows book d
+  pub apart : HaveNoneTogether ds (closed_of u ds) u.anew
+
+-- A report looks at no less than another.
+pub record LooksAtMore (less more : Unsettled) : Type 0 where
+  pub at : (k : DeclKey) → is_open less k ≡ true → is_open more k ≡ true
+  pub names : less.anew.names ≡ true → more.anew.names ≡ true
+  pub circles : less.anew.circles ≡ true → more.anew.circles ≡ true
+  pub chains : less.anew.chains ≡ true → more.anew.chains ≡ true
+
+-- So it is settled where the other is.
+abbrev pub MoreIsSettled : Type 0
+MoreIsSettled = (ds : List Decl) (knows : Key → Bool) (book : List Promised) (less more : Unsettled) → LooksAtMore less more
+    → AreSettled ds knows book less → AreSettled ds knows book more
+
+-- It is settled of all declarations.
+abbrev pub IsSettledAnyway : Unsettled → Type 0
+IsSettledAnyway u = (ds : List Decl) (knows : Key → Bool) (book : List Promised) → AreSettled ds knows book u

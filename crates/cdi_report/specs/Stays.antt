@@ -4,6 +4,7 @@ use Rattle.cdi_bodies.specs.Book.{Promised}
 use Rattle.cdi_model.specs.Decl.{key_of, kind_of, name_of_decl}
 use Rattle.cdi_model.specs.DeclList.{find_decl, AreDistinct}
 use Rattle.cdi_model.specs.Edits.{is_among}
+use Rattle.cdi_model.specs.Grammar.{is_name}
 use Rattle.cdi_model.specs.declared.decl.Decl.{Decl}
 use Rattle.cdi_model.specs.declared.key.DeclKey.{DeclKey}
 use Rattle.cdi_index.specs.State.{Drafted, IsEdited, Staged}
@@ -49,6 +50,7 @@ pub record IsReadied (old : State) (next : Staged) (u : Unsettled) : Type 0 wher
   pub concerned : Concerns old draft keys
   pub staged : next.decls ≡ draft.decls
   pub looked : (k : DeclKey) → is_among keys k ≡ true → is_open u k ≡ true
+  pub named : (k : DeclKey) → is_among keys k ≡ true → is_name k.name ≡ true
 
 -- Once it is taken over, all others are settled that were.
 abbrev pub SettledStay : Type 0

@@ -3,6 +3,7 @@
 
 mod positions;
 mod report;
+mod several;
 mod unsettled;
 
 pub use unsettled::Unsettled;

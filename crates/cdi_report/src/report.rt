@@ -8,32 +8,35 @@ ghost use Rattle.cdi_model.specs.DeclKey.{same_key};
 ghost use Rattle.cdi_model.specs.DeclList.{find_decl};
 ghost use Rattle.cdi_observe.specs.Kept.{evaluated, EvaluatesSome};
 ghost use Rattle.cdi_observe.specs.Wanted.{asked_by, wanted, AskForRest};
-ghost use Rattle.cdi_validate.specs.Faults.{circles, faults, faults_of, name_clashes, name_prefixes, FaultsStandOnce};
+ghost use Rattle.cdi_validate.specs.Faults.{circles, faults, faults_of, name_clashes, name_prefixes};
 ghost use Rattle.cdi_validate.specs.Twice.{specialized_twice};
-ghost use Rattle.cdi_report.specs.Settled.{has_faults, open_of, AreSettled};
+ghost use Rattle.cdi_report.specs.Settled.{closed_of, has_faults, open_of, AreSettled, HaveNoneTogether};
 
-use crate::unsettled::Unsettled;
+use crate::several::push_of_several;
+use crate::unsettled::{Anew, Unsettled};
 use cdi_bodies::Bodies;
 use cdi_faults::Fault;
 use cdi_model::{Decl, DeclKey};
-use cdi_observe::{View, all_kept_answers, evaluate_rest};
-use cdi_validate::{push_of_one, push_of_several};
+use cdi_observe::{View, evaluate_rest};
+use cdi_validate::push_of_one;
 use indexmap::IndexSet;
 use std::alloc::{AllocError, Global};
 
-/// The faults of some declarations, and which of these have some.
+/// The faults, which declarations have some by themselves, and for which faults of several a report looks at all anew.
 #[derive(Drop)]
 struct Found {
     faults: Vec<Fault>,
     keys: IndexSet<DeclKey>,
+    anew: Anew,
 }
 
 impl Unsettled {
     /// All that is wrong with the declarations of a view where the bodies of a book are stored, as `faults` of `cdi_validate`
-    /// tells it (CDI 4.0, Problems detected automatically by the container). It asks for what is not known, looks at these
-    /// declarations alone, and leaves those of them that have faults. It takes memory for the faults, for the answers to all
-    /// injection points, and where the view does. Where none is left, some of the keys were asked, and the same declarations are
-    /// left. An edit that is staged stays where each of the keys is known.
+    /// tells it (CDI 4.0, Problems detected automatically by the container). It asks for what is not known, and leaves those of these
+    /// declarations that have faults. It looks at these alone, with one exception: for the faults that several declarations have
+    /// together it looks at all, of names, of circles and of beans that specialize one each by itself, where one of these may have
+    /// such a fault. It takes memory for the faults and for what they are found by, and where the view does. Where none is left, some
+    /// of the keys were asked, and the same declarations are left. An edit that is staged stays where each of the keys is known.
     pub fn report<V: View, B: Bodies>(
         &mut self,
         alloc: Global,
@@ -58,6 +61,7 @@ impl Unsettled {
         *self = Unsettled {
             is_each: false,
             keys: found.keys,
+            anew: found.anew,
         };
         Ok(found.faults)
     }
@@ -80,21 +84,22 @@ fn ask_open<V: View>(alloc: Global, view: &mut V, open: &Unsettled) -> Result<()
     evaluate_rest(alloc, view, list.as_slice())
 }
 
-/// The faults, where each wanted key is known, and which declarations have some.
+/// The faults, where each wanted key is known.
 fn find<V: View, B: Bodies>(
     alloc: Global,
     view: &V,
     book: &B,
     open: &Unsettled,
 ) -> Result<Found, AllocError>
-    requires { list_all (V.kept view.now).knows (wanted (V.list view.now)) ≡ true }
+    requires known { list_all (V.kept view.now).knows (wanted (V.list view.now)) ≡ true }
+    requires apart { HaveNoneTogether (V.list view.now) (closed_of open.now (V.list view.now)) open.now.anew }
     ensures faults { IfOk result (λ found. found.faults.items
         ≡ flat_map (faults_of (V.list view.now) (B.promises book.now)) (open_of open.now (V.list view.now))
         ++ name_clashes (beans (V.list view.now)) ++ name_prefixes (beans (V.list view.now)) ++ circles (V.list view.now)
         ++ specialized_twice (V.list view.now)) }
     ensures keys { IfOk result (λ found. (k : _) → contains same_key found.keys k
         ≡ list_any (λ d. same_key (key_of d) k && has_faults (V.list view.now) (B.promises book.now) d) (open_of open.now (V.list view.now))) }
-    ensures once { OnOk result FaultsStandOnce }
+    ensures together { IfOk result (λ found. HaveNoneTogether (V.list view.now) (V.list view.now) found.anew) }
 {
     let decls = view.decls();
     // No effect at run time. The proof reads here that no two declarations have one kind and name.
@@ -102,9 +107,8 @@ fn find<V: View, B: Bodies>(
     let list = open.among(alloc, decls)?;
     let mut faults = Vec::new(alloc);
     let keys = push_of_each(alloc, view, book, list.as_slice(), &mut faults)?;
-    let answers = all_kept_answers(alloc, view)?;
-    push_of_several(alloc, view, answers.as_slice(), &mut faults)?;
-    Ok(Found { faults, keys })
+    let anew = push_of_several(alloc, view, open, list.as_slice(), &mut faults)?;
+    Ok(Found { faults, keys, anew })
 }
 
 /// Appends the faults of some declarations, and answers which of them have some.

@@ -3,7 +3,8 @@ ghost use Rattle.std.specs.Prelude.{◌≡◌, ◌||◌, true, false, map, IfOk,
 ghost use Rattle.indexmap.specs.IndexSet.{contains};
 ghost use Rattle.cdi_model.specs.DeclKey.{same_key};
 ghost use Rattle.cdi_model.specs.Edits.{is_among};
-ghost use Rattle.cdi_report.specs.Settled.{is_open, open_of};
+ghost use Rattle.cdi_model.specs.Grammar.{is_name};
+ghost use Rattle.cdi_report.specs.Settled.{is_open, open_of, IsSettledAnyway, LooksAtMore, MoreIsSettled};
 ghost use Rattle.cdi_report.specs.Stays.{SettledStay};
 
 use crate::positions::{all_decls, decls_at, positions_of};
@@ -11,13 +12,26 @@ use cdi_model::{Decl, DeclKey, Decls};
 use indexmap::IndexSet;
 use std::alloc::{AllocError, Global};
 
+/// Whether all declarations are looked at anew for the faults that several have together.
+#[derive(Clone, Copy)]
+pub(crate) struct Anew {
+    /// For the names that enabled beans share, or of which one continues another.
+    pub(crate) names: bool,
+    /// For the dependent beans that need themselves.
+    pub(crate) circles: bool,
+    /// For the beans that specialize one bean.
+    pub(crate) chains: bool,
+}
+
 /// The declarations at which a report looks: those that have faults, and those of which something on which their faults rest may
-/// have changed. No other has a fault, and all is known on which that rests.
+/// have changed. No other has a fault, and all is known on which that rests. The others have no faults together either, unless
+/// all declarations are looked at anew for these.
 #[derive(Drop)]
 pub struct Unsettled {
     /// Whether these are all declarations.
     pub(crate) is_each: bool,
     pub(crate) keys: IndexSet<DeclKey>,
+    pub(crate) anew: Anew,
 }
 
 impl Unsettled {
@@ -28,25 +42,38 @@ impl Unsettled {
         Unsettled {
             is_each: false,
             keys: IndexSet::new(alloc),
+            anew: Anew {
+                names: false,
+                circles: false,
+                chains: false,
+            },
         }
     }
 
-    /// Adds those of some keys. Without memory some of them may have been added. The last clause says that over a draft all stay
-    /// settled that it does not concern.
+    /// Adds those of some keys. Without memory some of them may have been added. The last clauses say that over a draft all stay
+    /// settled that it does not concern, and that they do where more are looked at.
     pub fn add(&mut self, keys: &[DeclKey]) -> Result<(), AllocError>
         ensures ok { OnOk result ((k : _) → is_open self.new k ≡ (is_open self.old k || is_among keys.now k)) }
-        ensures still { (k : _) → is_open self.old k ≡ true → is_open self.new k ≡ true }
+        ensures named { OnOk result ((k : _) → is_among keys.now k ≡ true → is_name k.name ≡ true) }
+        ensures more { LooksAtMore self.old self.new }
         ensures stays { SettledStay }
+        ensures settled { MoreIsSettled }
     {
+        read_names(keys);
         add_keys(&mut self.keys, keys)?;
         Ok(())
     }
 
-    /// Adds each. It takes no memory.
+    /// Adds each, and all are looked at anew. It takes no memory.
     pub fn add_each(&mut self)
-        ensures { (k : _) → is_open self.new k ≡ true }
+        ensures { IsSettledAnyway self.new }
     {
         self.is_each = true;
+        self.anew = Anew {
+            names: true,
+            circles: true,
+            chains: true,
+        };
     }
 
     /// Those of some declarations, in order. It takes memory for a list of them, and looks at no others unless it is all.
@@ -73,4 +100,13 @@ fn add_keys(set: &mut IndexSet<DeclKey>, keys: &[DeclKey]) -> Result<(), AllocEr
         set.insert(*key)?;
     }
     Ok(())
+}
+
+/// Has no effect at run time. The proof reads here that the names of some keys are names by the grammar.
+fn read_names(keys: &[DeclKey])
+    ensures { (k : _) → is_among keys.now k ≡ true → is_name k.name ≡ true }
+{
+    for key in keys {
+        let _ = key.name.as_bytes();
+    }
 }

@@ -1,6 +1,6 @@
 -- Lists of which each is apart from the later ones.
 use Rattle.std.proofs.Common.{◌≡◌, ◌≢◌, ◌<◌, ℕ, zero, suc, Bool, true, false, cond, List, [], ◌∷◌, ◌++◌, length, map, filter}
-use Rattle.std.proofs.Common.{Ordering, Less, Equal, sym, ap, ◌∙◌, arith}
+use Rattle.std.proofs.Common.{Ordering, Less, Equal, refl, sym, ap, ◌∙◌, arith}
 use Rattle.std.specs.List.{AllByRecursion, AllPairs, flat_map, slice_index_or}
 use Rattle.std.specs.List.Sorted.{IsStrictlySortedBy}
 use Rattle.std.specs.Cmp.{IsTotalOrder}
@@ -71,6 +71,83 @@ all-map P f (x ∷ xs) all = (all.0, all-map P f xs all.1)
 pub all-each : {X : Type 0} (P : X → Type 0) → ((x : X) → P x) → (xs : List X) → AllByRecursion P xs
 all-each P each [] = tt
 all-each P each (x ∷ xs) = (each x, all-each P each xs)
+
+-- what holds of each of two lists put together holds of each of the one and of the other
+pub all-front : {X : Type 0} (P : X → Type 0) (xs ys : List X) → AllByRecursion P (xs ++ ys) → AllByRecursion P xs
+all-front P [] ys all = tt
+all-front P (x ∷ xs) ys all = (all.0, all-front P xs ys all.1)
+
+pub all-back : {X : Type 0} (P : X → Type 0) (xs ys : List X) → AllByRecursion P (xs ++ ys) → AllByRecursion P ys
+all-back P [] ys all = all
+all-back P (x ∷ xs) ys all = all-back P xs ys all.1
+
+pub apart-back : {X : Type 0} (R : X → X → Type 0) (xs ys : List X) → Apart R (xs ++ ys) → Apart R ys
+apart-back R [] ys apart = apart
+apart-back R (x ∷ xs) ys apart = apart-back R xs ys apart.1
+
+-- what holds of two by what holds of each and of both
+pub apart-by : {X : Type 0} (R S : X → X → Type 0) (P : X → Type 0) → ((x y : X) → P x → P y → R x y → S x y) → (xs : List X)
+    → AllByRecursion P xs → Apart R xs → Apart S xs
+apart-by R S P both [] all apart = tt
+apart-by R S P both (x ∷ xs) all apart = (behind xs all.1 apart.0, apart-by R S P both xs all.1 apart.1)
+  where
+    behind : (ys : List _) → AllByRecursion P ys → AllByRecursion (R x) ys → AllByRecursion (S x) ys
+    behind [] each to = tt
+    behind (y ∷ ys) each to = (both x y all.0 each.0 to.0, behind ys each.1 to.1)
+
+-- ---- what each of some gives
+
+pub flat-same : {X Y : Type 0} (f g : X → List Y) (xs : List X) → AllByRecursion (λ x. f x ≡ g x) xs → flat_map f xs ≡ flat_map g xs
+flat-same f g [] same = refl
+flat-same f g (x ∷ xs) same = ap (λ ys. ys ++ flat_map f xs) same.0 ∙ ap (λ ys. g x ++ ys) (flat-same f g xs same.1)
+
+pub flat-all : {X Y : Type 0} (P : Y → Type 0) (f : X → List Y) (xs : List X) → AllByRecursion (λ x. AllByRecursion P (f x)) xs
+    → AllByRecursion P (flat_map f xs)
+flat-all P f [] all = tt
+flat-all P f (x ∷ xs) all = all-append P (f x) (flat_map f xs) all.0 (flat-all P f xs all.1)
+
+-- where those that are left out give nothing
+pub flat-left : {X Y : Type 0} (f : X → List Y) (p : X → Bool) (xs : List X) → AllByRecursion (λ x. p x ≡ false → f x ≡ []) xs
+    → flat_map f (filter p xs) ≡ flat_map f xs
+flat-left f p [] none = refl
+flat-left f p (x ∷ xs) none = by (p x) refl (flat-left f p xs none.1)
+  where
+    by : (b : Bool) → p x ≡ b → flat_map f (filter p xs) ≡ flat_map f xs
+        → flat_map f (cond b (x ∷ filter p xs) (filter p xs)) ≡ f x ++ flat_map f xs
+    by true e more = ap (λ ys. f x ++ ys) more
+    by false e more = more ∙ ap (λ ys. ys ++ flat_map f xs) (sym (none.0 e))
+
+-- what is apart stays so where some are left out
+module _ {X Y : Type 0} (f : X → List Y) (p : X → Bool) where
+  all-left : (P : Y → Type 0) (xs : List X) → AllByRecursion P (flat_map f xs) → AllByRecursion P (flat_map f (filter p xs))
+  all-left P [] all = tt
+  all-left P (x ∷ xs) all = by (p x) (all-left P xs (all-back P (f x) (flat_map f xs) all))
+    where
+      by : (b : Bool) → AllByRecursion P (flat_map f (filter p xs)) → AllByRecursion P (flat_map f (cond b (x ∷ filter p xs) (filter p xs)))
+      by true rest = all-append P (f x) (flat_map f (filter p xs)) (all-front P (f x) (flat_map f xs) all) rest
+      by false rest = rest
+
+  front-left : (R : Y → Y → Type 0) (xs : List X) (ys : List Y) → Apart R (ys ++ flat_map f xs) → Apart R (flat_map f (filter p xs))
+      → Apart R (ys ++ flat_map f (filter p xs))
+  front-left R xs [] apart rest = rest
+  front-left R xs (y ∷ ys) apart rest = (
+    all-append (R y) ys (flat_map f (filter p xs)) (all-front (R y) ys (flat_map f xs) apart.0)
+        (all-left (R y) xs (all-back (R y) ys (flat_map f xs) apart.0)),
+    front-left R xs ys apart.1 rest,
+  )
+
+  pub apart-left : (R : Y → Y → Type 0) (xs : List X) → Apart R (flat_map f xs) → Apart R (flat_map f (filter p xs))
+  apart-left R [] apart = tt
+  apart-left R (x ∷ xs) apart = by (p x) (apart-left R xs (apart-back R (f x) (flat_map f xs) apart))
+    where
+      by : (b : Bool) → Apart R (flat_map f (filter p xs)) → Apart R (flat_map f (cond b (x ∷ filter p xs) (filter p xs)))
+      by true rest = front-left R xs (f x) apart rest
+      by false rest = rest
+
+  pub pairs-left : (R : Y → Y → Type 0) (xs : List X) → AllPairs R (flat_map f xs) → AllPairs R (flat_map f (filter p xs))
+  pairs-left R xs all = apart-pairs R (flat_map f (filter p xs)) (apart-left R xs (pairs-apart R (flat_map f xs) all))
+
+-- ---- what differs
 
 abbrev pub Differ : {X : Type 0} → List X → Type 0
 Differ xs = Apart (λ x y. x ≢ y) xs

@@ -36,7 +36,7 @@ abbrev order : List ℕ → List ℕ → Ordering
 order = slice_cmp nat_cmp
 
 -- the bean is enabled and has the name
-is_its_name : (b : Effective) (n : List ℕ) → (b.is_enabled && is_named n b.name) ≡ has (enabled_name b) n
+pub is_its_name : (b : Effective) (n : List ℕ) → (b.is_enabled && is_named n b.name) ≡ has (enabled_name b) n
 is_its_name b n = by b.is_enabled b.name refl refl
   where
     by : (e : Bool) (name : Option (List ℕ)) → b.is_enabled ≡ e → b.name ≡ name

@@ -9,5 +9,10 @@ pub mod FoundLemmas
 pub mod NeedLemmas
 pub mod SurroundLemmas
 pub mod CircleLemmas
+pub mod CirclelessLemmas
 pub mod TwiceLemmas
 pub mod LinkLemmas
+pub mod CountLemmas
+pub mod NamelessLemmas
+pub mod ChainlessLemmas
+pub mod CircleStayLemmas

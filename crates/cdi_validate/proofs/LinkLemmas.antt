@@ -191,10 +191,10 @@ zip-push R [] (z ∷ zs) x y all r = absurd all
 zip-push R (z ∷ zs) [] x y all r = absurd all
 zip-push R (w ∷ ws) (z ∷ zs) x y all r = (all.0, zip-push R ws zs x y all.1 r)
 
-abbrev filtered : List BeanDecl → List BeanDecl
+abbrev pub filtered : List BeanDecl → List BeanDecl
 filtered bs = filter (λ b. b.specializes) bs
 
-specializing-own : (ds es rest : List Decl) (d : Decl) → AreDistinct ds → es ++ d ∷ rest ≡ ds
+pub specializing-own : (ds es rest : List Decl) (d : Decl) → AreDistinct ds → es ++ d ∷ rest ≡ ds
     → specializing_by ds d ≡ filtered (enabled_bean ds d)
 specializing-own ds es rest (decls.Bean b) distinct split =
     ap (λ t. cond (b.specializes && t) (b ∷ []) []) (ap is_first_enabled (records_found ds es rest (decls.Bean b) distinct split))

@@ -63,7 +63,7 @@ goes_on-before x y less = by (goes_on y x) refl
         ∙ ap ordering_reverse (less-if_goes_on y x e) in cc)
     by false e = e
 
-goes_on-itself : (x : List ℕ) → goes_on x x ≡ false
+pub goes_on-itself : (x : List ℕ) → goes_on x x ≡ false
 goes_on-itself x = by (goes_on x x) refl
   where
     by : (b : Bool) → goes_on x x ≡ b → goes_on x x ≡ false

@@ -1,7 +1,8 @@
 -- Loops that push what each element gives.
 use Rattle.std.proofs.Common.{◌≡◌, ℕ, ◌+◌, ◌<◌, List, [], ◌∷◌, ◌++◌, length, get_or, drop, sym, ap, ◌∙◌, append_assoc}
+use Rattle.std.proofs.Common.{arith}
 use Rattle.std.specs.List.{flat_map}
-use Rattle.std.proofs.lemmas.List.{at_drop_more}
+use Rattle.std.proofs.lemmas.List.{at_drop_more, length-append, nil_from_length}
 
 -- what each gives is pushed
 pub appended : {A B : Type 0} (f : A → List B) (xs : List A) (i : ℕ) (x : A) (old total : List B) → i < length xs → x ≡ get_or xs i x
@@ -18,3 +19,14 @@ skipped f xs i x old total within at none all =
     let rest = drop (i + 1) xs in
     ap (λ ys. old ++ (ys ++ flat_map f rest)) (sym none) ∙ ap (λ y. old ++ flat_map f (y ∷ rest)) at
     ∙ sym (at_drop_more (λ ys. old ++ flat_map f ys) xs i x within) ∙ all
+
+-- where the list is as long as before nothing was pushed
+pub none-pushed : {A : Type 0} (old more all : List A) → all ≡ old ++ more → length all ≡ length old → more ≡ []
+none-pushed old more all pushed same =
+    let sum = ap length pushed ∙ length-append old more in
+    nil_from_length more (omega (arith, sum, same))
+
+-- what stands behind others is nothing where all is
+pub none-behind : {A : Type 0} (xs ys : List A) → xs ++ ys ≡ [] → ys ≡ []
+none-behind [] ys none = none
+none-behind (x ∷ xs) ys some = absurd (let no : x ∷ (xs ++ ys) ≡ [] = some in cc)

@@ -30,13 +30,9 @@ use Rattle.cdi_faults.specs.declared.fault.Fault.{Fault}
 use Rattle.cdi_validate.specs.Linked.{specializing}
 use Rattle.cdi_validate.specs.Twice.{are_apart, by_line, enabled_bean, enabled_beans, faults_of_pairs, faults_of_two, first_shared}
 use Rattle.cdi_validate.specs.Twice.{is_in_chain, of_pairs, specialized_twice, twice, with_line, AreTold, SharersAreTold}
-use Rattle.cdi_validate.proofs.ApartLemmas.{Apart, all-append, all-more, apart-pairs, pairs-apart}
+use Rattle.cdi_validate.proofs.ApartLemmas.{Apart, all-append, all-more, apart-by, apart-pairs, flat-same, pairs-apart}
 
 -- ---- pairs
-
-flat-same : {X Y : Type 0} (f g : X → List Y) (xs : List X) → AllByRecursion (λ x. f x ≡ g x) xs → flat_map f xs ≡ flat_map g xs
-flat-same f g [] same = refl
-flat-same f g (x ∷ xs) same = ap (λ ys. ys ++ flat_map f xs) same.0 ∙ ap (λ ys. g x ++ ys) (flat-same f g xs same.1)
 
 flat-none : {X Y : Type 0} (f : X → List Y) → ((x : X) → f x ≡ []) → (xs : List X) → flat_map f xs ≡ []
 flat-none f none [] = refl
@@ -69,16 +65,6 @@ pairs-same f g [] same = refl
 pairs-same f g (x ∷ xs) same =
     ap (λ ys. ys ++ of_pairs f xs) (flat-same (f x) (g x) xs same.0)
     ∙ ap (λ ys. flat_map (g x) xs ++ ys) (pairs-same f g xs same.1)
-
--- what holds of two by what holds of each and of both
-apart-by : {X : Type 0} (R S : X → X → Type 0) (P : X → Type 0) → ((x y : X) → P x → P y → R x y → S x y) → (xs : List X)
-    → AllByRecursion P xs → Apart R xs → Apart S xs
-apart-by R S P both [] all apart = tt
-apart-by R S P both (x ∷ xs) all apart = (behind xs all.1 apart.0, apart-by R S P both xs all.1 apart.1)
-  where
-    behind : (ys : List _) → AllByRecursion P ys → AllByRecursion (R x) ys → AllByRecursion (S x) ys
-    behind [] each to = tt
-    behind (y ∷ ys) each to = (both x y all.0 each.0 to.0, behind ys each.1 to.1)
 
 find-same : {X : Type 0} (p q : X → Bool) (xs : List X) → AllByRecursion (λ x. p x ≡ q x) xs → find p xs ≡ find q xs
 find-same p q [] same = refl
@@ -220,12 +206,16 @@ second-none ds a b none =
     ap (λ cs. map (twice a.name b.name) (option_to_list (find (has cs) (class_names (behind ds a))))) (none-behind ds b none)
     ∙ ap (λ o. map (twice a.name b.name) (option_to_list o)) (find-none (class_names (behind ds a)))
 
+-- the fault of each two enabled beans is that of what is behind both
+pub two-of-enabled : (ds : List Decl) → AreDistinct ds → Apart (λ a b. faults_of_two ds a b ≡ behind_two ds a b) (enabled_beans ds)
+two-of-enabled ds distinct =
+    apart-by HaveOthers (λ a b. faults_of_two ds a b ≡ behind_two ds a b) (IsEnabled ds) (two-behind ds) (enabled_beans ds)
+    (all-enabled ds) (enabled-others ds distinct)
+
 pub pairs-behind : (ds : List Decl) → AreDistinct ds → of_pairs (behind_two ds) (specializing ds) ≡ faults_of_pairs ds
 pairs-behind ds distinct =
     pairs-filter (behind_two ds) (λ b. b.specializes) (first-none ds) (second-none ds) (enabled_beans ds)
-    ∙ sym (pairs-same (faults_of_two ds) (behind_two ds) (enabled_beans ds)
-    (apart-by HaveOthers (λ a b. faults_of_two ds a b ≡ behind_two ds a b) (IsEnabled ds) (two-behind ds) (enabled_beans ds)
-    (all-enabled ds) (enabled-others ds distinct)))
+    ∙ sym (pairs-same (faults_of_two ds) (behind_two ds) (enabled_beans ds) (two-of-enabled ds distinct))
 
 -- ---- lines
 
@@ -353,7 +343,7 @@ find-some p (c ∷ cs) class among passes = by (p c) refl (find-some p cs class)
       | inr there ↦ let found = later there passes in (found.0, found.1, or_right (bytes_eq c found.0) (has cs found.0) found.2, found.3)
     ]
 
-abbrev lines_of : List Fault → List (List ℕ)
+abbrev pub lines_of : List Fault → List (List ℕ)
 lines_of fs = map text_of_fault fs
 
 lines-append : (fs gs : List Fault) (line : List ℕ) → has (lines_of (fs ++ gs)) line ≡ (has (lines_of fs) line || has (lines_of gs) line)
@@ -389,7 +379,7 @@ module _ {X : Type 0} (f : X → X → List Fault) (all : List (List ℕ)) where
     pairs-within xs (back-within (flat_map (f x) xs) (of_pairs f xs) within),
   )
 
-lines-told : (ds : List Decl) (line : List ℕ) → has (lines_of (faults_of_pairs ds)) line ≡ true → has (lines_of (specialized_twice ds)) line ≡ true
+pub lines-told : (ds : List Decl) (line : List ℕ) → has (lines_of (faults_of_pairs ds)) line ≡ true → has (lines_of (specialized_twice ds)) line ≡ true
 unfolding specialized_twice
 lines-told ds line among =
     let fs = faults_of_pairs ds in
@@ -412,7 +402,7 @@ two-told ds a b of_a of_b other within class in_a in_b =
       line = within line (ap (λ fs. has (lines_of fs) line) one ∙ or_left (bytes_eq line line) false (same_text line line refl));
     }
 
-both-apart : {X : Type 0} (R S : X → X → Type 0) (xs : List X) → Apart R xs → Apart S xs → Apart (λ x y. R x y × S x y) xs
+pub both-apart : {X : Type 0} (R S : X → X → Type 0) (xs : List X) → Apart R xs → Apart S xs → Apart (λ x y. R x y × S x y) xs
 both-apart R S [] r s = tt
 both-apart R S (x ∷ xs) r s = (behind xs r.0 s.0, both-apart R S xs r.1 s.1)
   where

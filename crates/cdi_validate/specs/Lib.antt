@@ -6,3 +6,5 @@ pub mod Needed
 pub mod Surrounded
 pub mod Twice
 pub mod Linked
+pub mod Together
+pub mod Alike

@@ -1,13 +1,14 @@
 //! Dependent beans that need themselves before they can be made (profile).
-ghost use Rattle.std.specs.Prelude.{◌≡◌, ◌∷◌, [], ◌++◌, ℕ, List, true, filter, fold, map, take, IfOk, OnOk};
+ghost use Rattle.std.specs.Prelude.{◌≡◌, ◌∷◌, [], ◌++◌, ℕ, List, true, All, Some, filter, fold, map, take, IfOk, OnOk};
 ghost use Rattle.std.specs.BTreeMap.{keys};
-ghost use Rattle.std.specs.List.{flat_map};
+ghost use Rattle.std.specs.List.{flat_map, list_all, list_any};
 ghost use Rattle.cdi_circles.specs.Edges.{is_on_circle, next_in};
 ghost use Rattle.cdi_effective.specs.Beans.{beans};
 ghost use Rattle.cdi_effective.specs.BeanText.{text_of_id};
 ghost use Rattle.cdi_intercept.specs.Chains.{is_enabled, stands_around};
 ghost use Rattle.cdi_match.specs.Chain.{has};
-ghost use Rattle.cdi_model.specs.DeclList.{AreDistinct};
+ghost use Rattle.cdi_model.specs.Decl.{kind_of, name_of_decl};
+ghost use Rattle.cdi_model.specs.DeclList.{find_decl, AreDistinct};
 ghost use Rattle.cdi_model.specs.declared.decl.Decl.TheVariants as declared;
 ghost use Rattle.cdi_model.specs.Mentions.{shown};
 ghost use Rattle.cdi_observe.specs.Answers.{answers as all_answers};
@@ -17,6 +18,7 @@ ghost use Rattle.cdi_validate.specs.Faults.{circle, circles};
 ghost use Rattle.cdi_validate.specs.Records.{IsAmong};
 ghost use Rattle.cdi_validate.specs.Needed.{left_behind, need_by, needed_first, needs_along, needs_at, needs_by, AddsNeeds};
 ghost use Rattle.cdi_validate.specs.Surrounded.{beans_at, with_binding, AreByBinding};
+ghost use Rattle.cdi_validate.specs.Together.{is_needless, AreNamed, HaveNoCircle};
 
 use crate::records::records_of;
 use crate::surrounded::{add_bean, may_surround};
@@ -36,15 +38,33 @@ use std::rc::Rc;
 
 /// Appends a fault for each dependent bean that needs itself, by the answers to the injection points of each declaration.
 /// It takes memory for the dependent beans, for the bindings at their places, for what they need, and for what is on
-/// circles.
-pub(crate) fn push_of_circles<V: View>(
+/// circles. It answers whether there is no such fault.
+pub fn push_of_circles<V: View>(
+    alloc: Global,
+    view: &V,
+    answers: &[Vec<Rc<Choice>>],
+    faults: &mut Vec<Fault>,
+) -> Result<bool, AllocError>
+    requires { map (λ list. map (λ answer. answer.value) list.items) answers.now ≡ all_answers (V.list view.now) }
+    ensures faults { OnOk result (faults.new.items ≡ faults.old.items ++ circles (V.list view.now)) }
+    ensures apart { IfOk result (λ apart. apart ≡ true → HaveNoCircle (V.list view.now) (V.list view.now)) }
+    ensures named { OnOk result (AreNamed (V.list view.now)) }
+{
+    let before = faults.len();
+    push_all_circles(alloc, view, answers, faults)?;
+    Ok(faults.len() == before)
+}
+
+/// Appends these faults.
+fn push_all_circles<V: View>(
     alloc: Global,
     view: &V,
     answers: &[Vec<Rc<Choice>>],
     faults: &mut Vec<Fault>,
 ) -> Result<(), AllocError>
     requires { map (λ list. map (λ answer. answer.value) list.items) answers.now ≡ all_answers (V.list view.now) }
-    ensures { OnOk result (faults.new.items ≡ faults.old.items ++ circles (V.list view.now)) }
+    ensures faults { OnOk result (faults.new.items ≡ faults.old.items ++ circles (V.list view.now)) }
+    ensures named { OnOk result (AreNamed (V.list view.now)) }
 {
     let dependents = dependents_of(alloc, view)?;
     if dependents.is_empty() {
@@ -52,6 +72,54 @@ pub(crate) fn push_of_circles<V: View>(
     }
     let edges = edges_between(alloc, view, &dependents, answers)?;
     push_circles(alloc, &dependents, &edges, faults)
+}
+
+/// Whether no dependent bean of some declarations needs anything, and no interceptor among them gives a bean anything to need.
+/// It takes memory for the names of interceptors, and looks at these declarations alone.
+pub fn are_needless<V: View>(alloc: Global, view: &V, decls: &[&Decl]) -> Result<bool, AllocError>
+    requires { All (λ d. find_decl (kind_of d.now) (name_of_decl d.now) (V.list view.now) ≡ Some d.now) decls.now }
+    ensures { IfOk result (λ needless. needless ≡ list_all (is_needless (V.list view.now)) (map (λ d. d.now) decls.now)) }
+{
+    for decl in decls {
+        if !is_needless(alloc, view, *decl)? {
+            return Ok(false);
+        }
+    }
+    Ok(true)
+}
+
+/// Whether no dependent bean of a declaration needs anything, or it is an interceptor that gives a bean nothing to need.
+fn is_needless<V: View>(alloc: Global, view: &V, decl: &Decl) -> Result<bool, AllocError>
+    requires { find_decl (kind_of decl.now) (name_of_decl decl.now) (V.list view.now) ≡ Some decl.now }
+    ensures { IfOk result (λ needless. needless ≡ is_needless (V.list view.now) decl.now) }
+{
+    match decl {
+        Decl::Bean(bean) => {
+            if !has_dependent(records_of(view, decl)) {
+                return Ok(true);
+            }
+            if !bean.points.is_empty() || !bean.producers.is_empty() {
+                return Ok(false);
+            }
+            Ok(interceptors_of(alloc, view, bean)?.is_empty())
+        }
+        Decl::Interceptor(interceptor) => {
+            Ok(interceptor.priority.is_none() || interceptor.points.is_empty())
+        }
+        _ => Ok(true),
+    }
+}
+
+/// Whether one of some beans is dependent.
+fn has_dependent(beans: &[Effective]) -> bool
+    ensures { result ≡ list_any is_dependent beans.now }
+{
+    for bean in beans {
+        if is_dependent(bean) {
+            return true;
+        }
+    }
+    false
 }
 
 /// Appends a fault for each bean that is on a circle.
@@ -84,10 +152,13 @@ fn circle(id: BeanId) -> Fault
 
 /// The dependent beans of a view, by the texts of their ids.
 fn dependents_of<V: View>(alloc: Global, view: &V) -> Result<BTreeMap<Node, BeanId>, AllocError>
-    ensures { IfOk result (λ dependents. dependents.entries ≡ dependents_by_text (beans (V.list view.now))) }
+    ensures value { IfOk result (λ dependents. dependents.entries ≡ dependents_by_text (beans (V.list view.now))) }
+    ensures named { OnOk result (AreNamed (V.list view.now)) }
 {
     let mut dependents = BTreeMap::new(alloc);
     for decl in view.decls().iter() {
+        // No effect at run time. The proof reads here that the name is one by the grammar.
+        let _ = decl.name().as_bytes();
         add_dependents(alloc, records_of(view, decl), &mut dependents)?;
     }
     Ok(dependents)

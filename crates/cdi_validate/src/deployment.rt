@@ -84,7 +84,7 @@ pub fn faults_by<V: View, B: Bodies>(
 /// specialize one, by the answers to the injection points of each declaration. It takes memory for them and for what they are
 /// found by.
 #[tactic(auto, using(crate::proofs::OnceLemmas::faults_stand_once))]
-pub fn push_of_several<V: View>(
+fn push_of_several<V: View>(
     alloc: Global,
     view: &V,
     answers: &[Vec<Rc<Choice>>],

@@ -8,4 +8,7 @@ mod records;
 mod surrounded;
 mod twice;
 
-pub use deployment::{faults, faults_by, push_of_one, push_of_several};
+pub use circles::{are_needless, push_of_circles};
+pub use deployment::{faults, faults_by, push_of_one};
+pub use names::{are_nameless, push_of_names};
+pub use twice::{are_chainless, push_of_twice};

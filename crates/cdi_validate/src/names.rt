@@ -1,9 +1,12 @@
 //! Names of beans that cannot be used side by side (CDI 4.0, Ambiguous names).
-ghost use Rattle.std.specs.Prelude.{◌≡◌, ◌∷◌, ◌++◌, ℕ, List, length, map, filter, flat_map, IfOk, OnOk};
+ghost use Rattle.std.specs.Prelude.{◌≡◌, ◌∷◌, ◌++◌, ℕ, List, true, All, Some, length, map, filter, flat_map, nat_le, IfOk, OnOk};
 ghost use Rattle.std.specs.BTreeMap.{get, keys};
+ghost use Rattle.std.specs.List.{list_all};
 ghost use Rattle.std.specs.List.Sorted.{IsStrictlySortedBy};
 ghost use Rattle.std.specs.Cmp.Lexicographic.{slice_cmp};
 ghost use Rattle.std.specs.Ordering.{nat_cmp};
+ghost use Rattle.cdi_model.specs.Decl.{kind_of, name_of_decl};
+ghost use Rattle.cdi_model.specs.DeclList.{find_decl};
 ghost use Rattle.cdi_effective.specs.Beans.{beans};
 ghost use Rattle.cdi_effective.specs.declared.records.Effective.{Effective as AnyBean};
 ghost use Rattle.cdi_resolve.specs.Leaders.{leading};
@@ -11,30 +14,76 @@ ghost use Rattle.cdi_faults.specs.declared.fault.Fault.TheVariants as faults_are
 ghost use Rattle.cdi_subjects.specs.Subjects.{is_ambiguous};
 ghost use Rattle.cdi_validate.specs.Faults.{enabled_name, goes_on, name_clashes, name_prefixes};
 ghost use Rattle.cdi_validate.specs.Names.{has_dot_at, prefix_pairs, with_bean, AreNames, AreLed};
+ghost use Rattle.cdi_validate.specs.Together.{is_nameless, HaveNoClash};
 
 use crate::records::records_of;
 use cdi_effective::Effective;
 use cdi_faults::Fault;
-use cdi_model::Name;
+use cdi_model::{Decl, Name};
 use cdi_observe::View;
 use cdi_resolve::{Choice, Leaders};
 use std::alloc::{AllocError, Global};
 use std::collections::BTreeMap;
 
 /// Appends the faults of names: each that several enabled beans have of which none is chosen, and each pair of which one
-/// continues the other. It goes through the beans once, and takes memory for the names of enabled beans.
-pub(crate) fn push_of_names<V: View>(
+/// continues the other. It goes through the beans once, or twice where there is no such fault, and takes memory for the names of
+/// enabled beans. It answers whether no two of these beans share a name, and there is no such fault.
+pub fn push_of_names<V: View>(
     alloc: Global,
     view: &V,
     faults: &mut Vec<Fault>,
-) -> Result<(), AllocError>
+) -> Result<bool, AllocError>
     ensures faults { OnOk result (faults.new.items ≡ faults.old.items
         ++ name_clashes (beans (V.list view.now)) ++ name_prefixes (beans (V.list view.now))) }
     ensures grammar { OnOk result (AreNames (flat_map enabled_name (beans (V.list view.now)))) }
+    ensures apart { IfOk result (λ apart. apart ≡ true → HaveNoClash (V.list view.now) (V.list view.now)) }
 {
+    let before = faults.len();
     let leaders = leaders_of_names(alloc, view)?;
     push_clashes(&leaders, faults)?;
-    push_prefixes(names_of(alloc, &leaders)?.as_slice(), faults)
+    push_prefixes(names_of(alloc, &leaders)?.as_slice(), faults)?;
+    Ok(faults.len() == before && have_names_at_most(view, leaders.len()))
+}
+
+/// Whether no enabled bean of some declarations has a name. It takes no memory, and looks at these alone.
+pub fn are_nameless<V: View>(view: &V, decls: &[&Decl]) -> bool
+    requires { All (λ d. find_decl (kind_of d.now) (name_of_decl d.now) (V.list view.now) ≡ Some d.now) decls.now }
+    ensures { result ≡ list_all (is_nameless (V.list view.now)) (map (λ d. d.now) decls.now) }
+{
+    for decl in decls {
+        if count_of_names_in(records_of(view, *decl)) != 0 {
+            return false;
+        }
+    }
+    true
+}
+
+/// Whether at most so many enabled beans have a name.
+fn have_names_at_most<V: View>(view: &V, most: usize) -> bool
+    ensures { result ≡ nat_le (length (flat_map enabled_name (beans (V.list view.now)))) most }
+{
+    let mut left = most;
+    for decl in view.decls().iter() {
+        let count = count_of_names_in(records_of(view, decl));
+        if count > left {
+            return false;
+        }
+        left -= count;
+    }
+    true
+}
+
+/// How many of some beans are enabled and have a name.
+fn count_of_names_in(beans: &[Effective]) -> usize
+    ensures { result ≡ length (flat_map enabled_name beans.now) }
+{
+    let mut count = 0;
+    for bean in beans {
+        if bean.is_enabled && bean.name.is_some() {
+            count += 1;
+        }
+    }
+    count
 }
 
 /// Of each name of an enabled bean, the choice among the enabled beans that have it.

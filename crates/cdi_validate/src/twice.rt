@@ -1,7 +1,7 @@
 //! Two enabled beans that specialize one bean (CDI 4.0, Inconsistent specialization).
-ghost use Rattle.std.specs.Prelude.{◌≡◌, ◌++◌, List, fold, length, slice_set, true, IfOk, OnOk};
+ghost use Rattle.std.specs.Prelude.{◌≡◌, ◌++◌, List, fold, length, map, not, slice_set, true, IfOk, OnOk};
 ghost use Rattle.std.specs.BTreeMap.{values};
-ghost use Rattle.std.specs.List.{AllZip, flat_map};
+ghost use Rattle.std.specs.List.{AllZip, flat_map, list_all};
 ghost use Rattle.cdi_model.specs.DeclList.{AreDistinct};
 ghost use Rattle.cdi_model.specs.declared.decl.BeanDecl.{BeanDecl as AnyBean};
 ghost use Rattle.cdi_effective.specs.Lent.{beans_in};
@@ -9,6 +9,7 @@ ghost use Rattle.cdi_effective.specs.Specialized.{class_names};
 ghost use Rattle.cdi_faults.specs.FaultText.{text_of_fault};
 ghost use Rattle.cdi_validate.specs.Linked.{faults_between, faults_of_chains, first_marked, is_first_enabled, is_marked, link_to};
 ghost use Rattle.cdi_validate.specs.Linked.{links_to, specializing, specializing_by, AreMarked, KeepsChain};
+ghost use Rattle.cdi_validate.specs.Together.{is_chainless, HaveNoneTwice};
 ghost use Rattle.cdi_validate.specs.Twice.{by_line, specialized_twice, with_line};
 
 use cdi_circles::Node;
@@ -38,17 +39,42 @@ struct BeanChain {
 
 /// Appends a fault for each two enabled beans whose chains share a bean and of which neither is in the chain of the other,
 /// in the byte order of their lines. It takes memory for the chains of the enabled beans that specialize others, for a mark
-/// for each declaration beside each of these chains, and for the lines.
-pub(crate) fn push_of_twice<V: View>(
+/// for each declaration beside each of these chains, and for the lines. It answers whether there is no such fault.
+pub fn push_of_twice<V: View>(
     alloc: Global,
     view: &V,
     faults: &mut Vec<Fault>,
-) -> Result<(), AllocError>
-    ensures { OnOk result (faults.new.items ≡ faults.old.items ++ specialized_twice (V.list view.now)) }
+) -> Result<bool, AllocError>
+    ensures faults { OnOk result (faults.new.items ≡ faults.old.items ++ specialized_twice (V.list view.now)) }
+    ensures apart { IfOk result (λ apart. apart ≡ true → HaveNoneTwice (V.list view.now) (V.list view.now)) }
 {
+    let before = faults.len();
     let chains = chains_of(alloc, view)?;
     let lines = lines_between(alloc, &chains)?;
-    push_all(lines, faults)
+    push_all(lines, faults)?;
+    Ok(faults.len() == before)
+}
+
+/// Whether no enabled bean of some declarations says that it specializes another. It takes no memory, and looks at these alone.
+pub fn are_chainless<V: View>(view: &V, decls: &[&Decl]) -> bool
+    ensures { result ≡ list_all (is_chainless (V.list view.now)) (map (λ d. d.now) decls.now) }
+{
+    for decl in decls {
+        if specializes(view, *decl) {
+            return false;
+        }
+    }
+    true
+}
+
+/// Whether a declaration is that of an enabled bean that says that it specializes another.
+fn specializes<V: View>(view: &V, decl: &Decl) -> bool
+    ensures { result ≡ not (is_chainless (V.list view.now) decl.now) }
+{
+    match decl {
+        Decl::Bean(bean) => bean.specializes && is_first_enabled(view.records(&bean.name)),
+        _ => false,
+    }
 }
 
 /// The chains of the enabled beans that say that they specialize others, in the order of their declarations.

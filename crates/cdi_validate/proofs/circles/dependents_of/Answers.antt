@@ -1,9 +1,13 @@
-use Rattle.std.proofs.Common.{◌≡◌, ◌++◌, [], ◌∷◌, fold, sym, subst, ap, ◌∙◌, append_assoc}
+use Rattle.std.proofs.Common.{◌≡◌, ◌++◌, [], ◌∷◌, true, fold, sym, subst, ap, ◌∙◌, append_assoc, append-nil}
 use Rattle.std.specs.List.{flat_map}
 use Rattle.std.proofs.lemmas.List.Sums.{fold-append}
+use Rattle.cdi_model.specs.Decl.{name_of_decl}
 use Rattle.cdi_model.specs.DeclList.{AreDistinct}
+use Rattle.cdi_model.specs.Grammar.{is_name}
 use Rattle.cdi_effective.specs.Beans.{entries}
 use Rattle.cdi_validate.specs.Circles.{dependents_by_text, with_dependent}
+use Rattle.cdi_validate.specs.Together.{AreNamed}
+use Rattle.cdi_validate.proofs.ApartLemmas.{all-append}
 use Rattle.cdi_validate.proofs.FoundLemmas.{all-gone, records-next}
 use Rattle.cdi_validate.proofs.circles.dependents_of.Goals as goal
 
@@ -24,11 +28,18 @@ loop-decl-preserved g c =
           ∙ sym (fold-append with_dependent [] before own)
           ∙ ap dependents_by_text (records-next ds es rest d own
           (subst AreDistinct c.decls.ensures c.iter-decl-items.ensures.distinct) split c.records_of.ensures),
+      all-append (λ e. is_name (name_of_decl e) ≡ true) es (d ∷ []) gone.3
+          (subst (λ name. is_name name ≡ true) c.name.ensures c.as_bytes.ensures.grammar, tt),
     )
 
-pub returns : goal.returns
-returns g c =
+pub returns-clause-value : goal.returns-clause-value
+returns-clause-value g c =
     let gone = c.loop-decl.invariant in
     gone.2
     ∙ ap dependents_by_text
     (all-gone (g.V.View.list c.args.view.now) gone.0 c.loop-decl.decl-iterator c.in-None.ensures.steps.0 gone.1)
+
+pub returns-clause-named : goal.returns-clause-named
+returns-clause-named g c =
+    let gone = c.loop-decl.invariant in
+    subst AreNamed (sym (append-nil gone.0) ∙ ap (λ left. gone.0 ++ left) (sym c.in-None.ensures.steps.0) ∙ gone.1) gone.3

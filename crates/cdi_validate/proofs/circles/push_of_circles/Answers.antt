@@ -1,20 +1,17 @@
-use Rattle.std.proofs.Common.{◌++◌, ap, sym, ◌∙◌}
-use Rattle.std.proofs.lemmas.List.{append-nil}
-use Rattle.std.proofs.lemmas.Result.{IfOk-weaker}
-use Rattle.cdi_validate.proofs.CircleLemmas.{circles_found, no_circles}
+use Rattle.std.proofs.Common.{◌≡◌, ◌+◌, length, ap, ◌∙◌, arith}
+use Rattle.std.proofs.lemmas.Bool.{eqb-true}
+use Rattle.std.proofs.lemmas.List.{length-append, nil_from_length}
+use Rattle.cdi_validate.specs.Faults.{circles}
+use Rattle.cdi_validate.proofs.CirclelessLemmas.{faultless_circles}
 use Rattle.cdi_validate.proofs.circles.push_of_circles.Goals as goal
 
-pub returns-then-is_empty : goal.returns-then-is_empty
-returns-then-is_empty g c =
-    sym (ap (λ fs. c.args.faults.now.items ++ fs) (no_circles (g.V.View.list c.args.view.now) c.in_ok-dependents.dependents
-    c.in_ok-dependents.ensures (c.is_empty.ensures.0 c.if-is_empty.true)) ∙ append-nil c.args.faults.now.items)
-
-pub returns : goal.returns
-returns g c =
-    let ds = g.V.View.list c.args.view.now in
-    let dependents = c.in_ok-dependents.dependents in
-    let edges = c.in_ok-edges.edges in
-    IfOk-weaker c.push_circles.result _ _ (λ done e. e ∙ ap (λ fs. c.args.faults.now.items ++ fs)
-    (circles_found ds dependents edges c.in_ok-dependents.ensures
-    c.in_ok-edges.ensures))
-    c.push_circles.ensures
+pub returns-clause-apart : goal.returns-clause-apart
+returns-clause-apart g c = λ apart.
+    let found = circles (g.V.View.list c.args.view.now) in
+    let old = c.args.faults.now in
+    let new = c.push_all_circles.new.faults in
+    let same : c.len.result ≡ c.len-before.result = eqb-true c.len.result c.len-before.result apart in
+    let both : length new.items ≡ length old.items + length found =
+    ap length c.in_ok-push_all_circles.ensures.faults ∙ length-append old.items found in
+    faultless_circles (g.V.View.list c.args.view.now)
+    (nil_from_length found (omega (arith, same, both, c.len.ensures, c.len-before.ensures, new.ok.0, old.ok.0)))

@@ -8,8 +8,8 @@ use Rattle.cdi_validate.proofs.deployment.push_of_several.Goals as goal
 pub returns-clause-faults : goal.returns-clause-faults
 returns-clause-faults g c =
     let ds = g.V.View.list c.args.view.now in
-    c.in_ok-push_of_twice.ensures
-    ∙ ap (λ fs. fs ++ specialized_twice ds) (c.in_ok-push_of_circles.ensures
+    c.in_ok-push_of_twice.ensures.faults
+    ∙ ap (λ fs. fs ++ specialized_twice ds) (c.in_ok-push_of_circles.ensures.faults
     ∙ ap (λ fs. fs ++ circles ds) c.in_ok-push_of_names.ensures.faults)
 
 pub returns-clause-prefixes : goal.returns-clause-prefixes

@@ -1,13 +1,17 @@
-use Rattle.std.proofs.Common.{◌≡◌, ◌++◌, ap, sym, ◌∙◌}
+use Rattle.std.proofs.Common.{◌≡◌, ◌++◌, true, nat_le, [], length, ap, sym, ◌∙◌, append_assoc, arith}
 use Rattle.std.specs.List.{flat_map}
-use Rattle.std.proofs.lemmas.Result.{IfOk-weaker}
+use Rattle.std.proofs.lemmas.Bool.{eqb-true, leb-true}
+use Rattle.std.proofs.lemmas.List.{length-map}
 use Rattle.cdi_match.proofs.OrderLemmas.{in_order-rises}
 use Rattle.cdi_effective.specs.Beans.{beans}
 use Rattle.cdi_validate.specs.Faults.{enabled_name, enabled_names, name_clashes, name_prefixes}
 use Rattle.cdi_validate.specs.Names.{prefix_pairs}
 use Rattle.cdi_validate.proofs.ClashLemmas.{clashes-led, keys-named}
+use Rattle.cdi_validate.proofs.CountLemmas.{apart-if_as_many}
 use Rattle.cdi_validate.proofs.NameLemmas.{pairs-behind}
+use Rattle.cdi_validate.proofs.PushLemmas.{none-behind, none-pushed}
 use Rattle.cdi_validate.proofs.names.push_of_names.Goals as goal
+use Rattle.cdi_validate.proofs.names.push_of_names.Goals.{then-len-before, else-len-before}
 
 pub returns-clause-faults : goal.returns-clause-faults
 returns-clause-faults g c =
@@ -21,5 +25,28 @@ returns-clause-faults g c =
     ∙ keys-named bs leaders.entries rise c.in_ok-leaders.ensures.led in
     let pairs : prefix_pairs c.as_slice.result.now ≡ name_prefixes bs =
     ap prefix_pairs all ∙ sym (pairs-behind (enabled_names bs) (in_order-rises (flat_map enabled_name bs))) in
-    IfOk-weaker c.push_prefixes.result _ _ (λ done e. e ∙ ap (λ l. l ++ prefix_pairs c.as_slice.result.now) clashes
-    ∙ ap (λ l. faults ++ name_clashes bs ++ l) pairs) c.push_prefixes.ensures
+    c.in_ok-push_prefixes.ensures ∙ ap (λ l. l ++ prefix_pairs c.as_slice.result.now) clashes
+    ∙ ap (λ l. faults ++ name_clashes bs ++ l) pairs
+
+pub returns-clause-apart : goal.returns-clause-apart
+returns-clause-apart g c = λ apart.
+    let bs = beans (g.V.View.list c.args.view.now) in
+    let leaders = c.in_ok-leaders.leaders in
+    let old = c.args.faults.now in
+    let new = c.push_prefixes.new.faults in
+    elim c.if-len-before.branch [
+      | then-len-before w ↦ (
+          let as_long : length new.items ≡ length old.items =
+          omega (arith, w.if-len-before.true, c.len.ensures, c.len-before.ensures, old.ok.0, new.ok.0) in
+          let none : name_clashes bs ++ name_prefixes bs ≡ [] = none-pushed old.items (name_clashes bs ++ name_prefixes bs) new.items
+          (returns-clause-faults g c ∙ append_assoc old.items (name_clashes bs) (name_prefixes bs)) as_long in
+          let many : nat_le (length (flat_map enabled_name bs)) (length leaders.entries) ≡ true =
+          ap (nat_le (length (flat_map enabled_name bs))) (sym w.len-then-len-before.ensures.len) ∙ sym w.have_names_at_most.ensures
+          ∙ sym w.result-is ∙ apart in
+          let as_many = leb-true (length (flat_map enabled_name bs)) (length leaders.entries) many in
+          let keys = ap length (keys-named bs leaders.entries c.in_ok-push_clashes.ensures.order c.in_ok-leaders.ensures.led) in
+          let entries = length-map leaders.entries (λ e. e.0) in
+          apart-if_as_many (g.V.View.list c.args.view.now) (omega (arith, as_many, keys, entries))
+          (none-behind (name_clashes bs) (name_prefixes bs) none))
+      | else-len-before w ↦ absurd (w.if-len-before.false (eqb-true c.len.result c.len-before.result (sym w.result-is ∙ apart)))
+    ]

@@ -12,7 +12,8 @@ use Rattle.cdi_validate.specs.Twice.{specialized_twice}
 use Rattle.cdi_model.specs.Decl.{key_of}
 use Rattle.cdi_model.specs.DeclKey.{same_key}
 use Rattle.cdi_observe.specs.Wanted.{wanted}
-use Rattle.cdi_report.specs.Settled.{has_faults, open_of, AreSettled}
+use Rattle.cdi_validate.proofs.OnceLemmas.{faults_stand_once}
+use Rattle.cdi_report.specs.Settled.{closed_of, has_faults, open_of, AreSettled, HaveNoneTogether}
 use Rattle.cdi_report.specs.declared.unsettled.Unsettled.{Unsettled}
 use Rattle.cdi_report.proofs.SettledLemmas.{all-knew, all-knows, all-knows-list, rest-asked, settled-now, settled-still, some-still, tells-all}
 use Rattle.cdi_report.proofs.unsettled.Unsettled.report.Goals as goal
@@ -41,13 +42,18 @@ returns-in_err-ask_open-clause-settled g c =
     (settled-still ds old.knows new.knows book c.args.self.now (some-still ds old new c.requires.keeps c.in_err-ask_open.ensures.err)
     c.requires.settled)
 
-pub find-requires : goal.find-requires
-find-requires g c =
+pub find-requires-clause-known : goal.find-requires-clause-known
+find-requires-clause-known g c =
     let ds = g.V.View.list c.args.view.now in
     let old = g.V.View.kept c.args.view.now in
     let new = g.V.View.kept c.ask_open.new.view in
     subst (λ l. list_all new.knows (wanted l) ≡ true) (sym c.in_ok-ask_open.ensures.list)
     (all-knows-list ds old new c.requires.keeps c.in_ok-ask_open.ensures.ok)
+
+pub find-requires-clause-apart : goal.find-requires-clause-apart
+find-requires-clause-apart g c =
+    let u = c.args.self.now in
+    subst (λ l. HaveNoneTogether l (closed_of u l) u.anew) (sym c.in_ok-ask_open.ensures.list) c.requires.settled.apart
 
 pub returns-in_err-found-clause-err : goal.returns-in_err-found-clause-err
 returns-in_err-found-clause-err g c =
@@ -82,7 +88,7 @@ returns-clause-faults = told
 pub returns-clause-once : goal.returns-clause-once
 returns-clause-once g c =
     subst (AllPairs (λ f g. f ≢ g)) (sym (told g c))
-    (c.in_ok-found.ensures.once (g.V.View.list c.args.view.now) (g.B.Bodies.promises c.args.book.now)
+    (faults_stand_once (g.V.View.list c.args.view.now) (g.B.Bodies.promises c.args.book.now)
     (subst AreDistinct c.decls.ensures c.iter.ensures.distinct))
 
 pub returns-clause-settled : goal.returns-clause-settled
@@ -91,9 +97,10 @@ returns-clause-settled g c =
     let old = g.V.View.kept c.args.view.now in
     let new = g.V.View.kept c.ask_open.new.view in
     let book = g.B.Bodies.promises c.args.book.now in
-    let made : Unsettled = record { is_each = false; keys = c.in_ok-found.found.keys } in
+    let made : Unsettled = record { is_each = false; keys = c.in_ok-found.found.keys; anew = c.in_ok-found.found.anew } in
     subst (λ l. AreSettled l new.knows book made) (sym c.in_ok-ask_open.ensures.list)
     (settled-now ds old.knows book c.args.self.now c.requires.settled new.knows made
     (all-knows ds old new c.requires.keeps c.in_ok-ask_open.ensures.ok) refl
     (λ k. c.in_ok-found.ensures.keys k
-    ∙ ap (λ l. list_any (λ d. same_key (key_of d) k && has_faults l book d) (open_of c.args.self.now l)) c.in_ok-ask_open.ensures.list))
+    ∙ ap (λ l. list_any (λ d. same_key (key_of d) k && has_faults l book d) (open_of c.args.self.now l)) c.in_ok-ask_open.ensures.list)
+    (subst (λ l. HaveNoneTogether l l made.anew) c.in_ok-ask_open.ensures.list c.in_ok-found.ensures.together))

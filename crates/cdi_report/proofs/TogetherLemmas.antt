@@ -1,0 +1,175 @@
+-- Declarations that have no faults together.
+use Rattle.std.proofs.Common.{◌≡◌, Bool, true, false, not, cond, List, [], ◌∷◌, ◌++◌, append-nil, filter, None, Some, refl, sym, ap, subst, ◌∙◌}
+use Rattle.std.specs.List.{list_all, AllByRecursion}
+use Rattle.std.proofs.lemmas.Bool.{and_parts, false≢true}
+use Rattle.cdi_bodies.specs.Book.{Promised}
+use Rattle.cdi_model.specs.Decl.{key_of}
+use Rattle.cdi_model.specs.DeclList.{AreDistinct}
+use Rattle.cdi_model.specs.declared.decl.Decl.{Decl}
+use Rattle.cdi_model.specs.declared.key.DeclKey.{DeclKey}
+use Rattle.cdi_observe.specs.Keys.{Key}
+use Rattle.cdi_validate.specs.Alike.{IsAlike}
+use Rattle.cdi_validate.specs.Together.{is_chainless, is_nameless, is_needless, AreNamed, AreNamesApart, HaveNoCircle, HaveNoClash, HaveNoneTwice}
+use Rattle.cdi_validate.specs.Twice.{faults_of_two}
+use Rattle.cdi_validate.proofs.ApartLemmas.{apart-pairs}
+use Rattle.cdi_validate.proofs.ChainlessLemmas.{twice_filtered, twice_stays, twice_whole}
+use Rattle.cdi_validate.proofs.CirclelessLemmas.{circle_whole}
+use Rattle.cdi_validate.proofs.CircleStayLemmas.{circle_filtered, circle_stays, named_outside}
+use Rattle.cdi_validate.proofs.NamelessLemmas.{clash_filtered, clash_stays, clash_whole}
+use Rattle.cdi_report.specs.Settled.{closed_of, is_open, open_of, AreSettled, HaveNoneTogether, IsSettledAnyway, LooksAtMore}
+use Rattle.cdi_report.specs.Settled.{MoreIsSettled}
+use Rattle.cdi_report.specs.declared.unsettled.Anew.{Anew}
+use Rattle.cdi_report.specs.declared.unsettled.Unsettled.{Unsettled}
+
+-- ---- lists of which some are left out
+
+-- what a second test leaves it leaves of what a first one does, where none of it fails that
+pub filter-filter : {A : Type 0} (p q : A → Bool) (xs : List A) → ((x : A) → q x ≡ true → p x ≡ true) → filter q (filter p xs) ≡ filter q xs
+filter-filter p q [] less = refl
+filter-filter p q (x ∷ xs) less = by (p x) (q x) refl refl (filter-filter p q xs less)
+  where
+    by : (a b : Bool) → p x ≡ a → q x ≡ b → filter q (filter p xs) ≡ filter q xs
+        → filter q (cond a (x ∷ filter p xs) (filter p xs)) ≡ cond b (x ∷ filter q xs) (filter q xs)
+    by true true e f rest = ap (λ c. cond c (x ∷ filter q (filter p xs)) (filter q (filter p xs))) f ∙ ap (λ l. x ∷ l) rest
+    by true false e f rest = ap (λ c. cond c (x ∷ filter q (filter p xs)) (filter q (filter p xs))) f ∙ rest
+    by false true e f rest = absurd (false≢true (sym e ∙ less x f))
+    by false false e f rest = rest
+
+-- what holds of each that passes holds of those that are left
+pub all-passed : {A : Type 0} (P : A → Type 0) (p : A → Bool) (xs : List A) → AllByRecursion (λ x. p x ≡ true → P x) xs
+    → AllByRecursion P (filter p xs)
+all-passed P p [] all = tt
+all-passed P p (x ∷ xs) all = by (p x) refl (all-passed P p xs all.1)
+  where
+    by : (b : Bool) → p x ≡ b → AllByRecursion P (filter p xs) → AllByRecursion P (cond b (x ∷ filter p xs) (filter p xs))
+    by true e rest = (all.0 e, rest)
+    by false e rest = rest
+
+pub not-false : (b : Bool) → not b ≡ true → b ≡ false
+not-false false e = refl
+not-false true e = absurd (false≢true e)
+
+pub not-not : (b : Bool) → not b ≡ false → b ≡ true
+not-not true e = refl
+not-not false e = absurd (false≢true (sym e))
+
+false-not : (b : Bool) → b ≡ false → not b ≡ true
+false-not false e = refl
+false-not true e = absurd (false≢true (sym e))
+
+-- nothing is appended where both lists are empty
+pub none-behind : {A : Type 0} (old xs ys : List A) → xs ≡ [] → ys ≡ [] → old ++ xs ++ ys ≡ old
+none-behind old xs ys first second =
+    ap (λ l. old ++ l ++ ys) first ∙ ap (λ l. l ++ ys) (append-nil old) ∙ ap (λ l. old ++ l) second ∙ append-nil old
+
+-- ---- declarations
+
+-- fewer have none together where more have none
+pub together-filtered : (ds own : List Decl) (anew : Anew) (p : Decl → Bool) → HaveNoneTogether ds own anew
+    → HaveNoneTogether ds (filter p own) anew
+together-filtered ds own anew p apart = record {
+  names = λ known. clash_filtered ds own p (apart.names known);
+  circles = λ known. ((apart.circles known).0, circle_filtered ds own p (apart.circles known).1);
+  chains = λ known. twice_filtered ds own p (apart.chains known);
+}
+
+-- edits leave those alike that have none together
+pub together-stay : (ds es : List Decl) (u : Unsettled) → AreDistinct ds → AreDistinct es → closed_of u ds ≡ closed_of u es
+    → AllByRecursion (IsAlike ds es) (closed_of u es) → (AreNamed ds → AreNamed es) → HaveNoneTogether ds (closed_of u ds) u.anew
+    → HaveNoneTogether es (closed_of u es) u.anew
+together-stay ds es u before after same alike named apart = record {
+  names = λ known. clash_stays ds es (closed_of u es) alike (subst (λ own. HaveNoClash ds own) same (apart.names known));
+  circles = λ known.
+      let p : Decl → Bool = λ d. not (is_open u (key_of d)) in
+      let names : AreNamed es = named (apart.circles known).0 in
+      (names, circle_stays ds es p before after same alike (named_outside es p names) (apart.circles known).1);
+  chains = λ known. twice_stays ds es (closed_of u es) alike (subst (λ own. HaveNoneTwice ds own) same (apart.chains known));
+}
+
+-- ---- where those at which it looks can have none together
+
+-- each of those that pass a test passes another
+passed-all : {A : Type 0} (p f : A → Bool) (xs : List A) → list_all f (filter p xs) ≡ true
+    → AllByRecursion (λ x. not (p x) ≡ false → f x ≡ true) xs
+passed-all p f [] all = tt
+passed-all p f (x ∷ xs) all = by (p x) refl all (passed-all p f xs)
+  where
+    by : (b : Bool) → p x ≡ b → list_all f (cond b (x ∷ filter p xs) (filter p xs)) ≡ true
+        → (list_all f (filter p xs) ≡ true → AllByRecursion (λ x. not (p x) ≡ false → f x ≡ true) xs)
+        → AllByRecursion (λ x. not (p x) ≡ false → f x ≡ true) (x ∷ xs)
+    by true e all rest =
+        let parts = and_parts (f x) (list_all f (filter p xs)) all in
+        (λ passed. parts.0, rest parts.1)
+    by false e all rest = (λ passed. absurd (false≢true (sym passed ∙ ap not e)), rest all)
+
+module _ (ds : List Decl) (u : Unsettled) where
+  pub whole-names : HaveNoClash ds (closed_of u ds) → list_all (is_nameless ds) (open_of u ds) ≡ true → HaveNoClash ds ds
+  whole-names apart all = clash_whole ds ds (λ d. not (is_open u (key_of d))) (passed-all (λ d. is_open u (key_of d)) (is_nameless ds) ds all) apart
+
+  pub whole-circles : AreDistinct ds → AreNamed ds → HaveNoCircle ds (closed_of u ds) → list_all (is_needless ds) (open_of u ds) ≡ true
+      → HaveNoCircle ds ds
+  whole-circles distinct named apart all =
+      circle_whole ds (λ d. not (is_open u (key_of d))) distinct named (passed-all (λ d. is_open u (key_of d)) (is_needless ds) ds all) apart
+
+  pub whole-chains : HaveNoneTwice ds (closed_of u ds) → list_all (is_chainless ds) (open_of u ds) ≡ true → HaveNoneTwice ds ds
+  whole-chains apart all = twice_whole ds ds (λ d. not (is_open u (key_of d))) (passed-all (λ d. is_open u (key_of d)) (is_chainless ds) ds all) apart
+
+-- ---- at what a report looks
+
+module _ (less more : Unsettled) (looks : LooksAtMore less more) where
+  -- where it looks at no more, it looked at no less
+  known-before : (a b : Bool) → (a ≡ true → b ≡ true) → b ≡ false → a ≡ false
+  known-before false b still e = refl
+  known-before true b still e = absurd (false≢true (sym e ∙ still refl))
+
+  shut-before : (k : DeclKey) → is_open more k ≡ false → is_open less k ≡ false
+  shut-before k = known-before (is_open less k) (is_open more k) (looks.at k)
+
+  closed-less : (ds : List Decl) → closed_of more ds ≡ filter (λ d. not (is_open more (key_of d))) (closed_of less ds)
+  closed-less ds = sym (filter-filter (λ d. not (is_open less (key_of d))) (λ d. not (is_open more (key_of d))) ds
+      (λ d shut. false-not (is_open less (key_of d)) (shut-before (key_of d) (not-false (is_open more (key_of d)) shut))))
+
+  more-together : (ds : List Decl) → HaveNoneTogether ds (closed_of less ds) less.anew → HaveNoneTogether ds (closed_of more ds) more.anew
+  more-together ds apart =
+      let left : HaveNoneTogether ds (closed_of more ds) less.anew =
+      subst (λ own. HaveNoneTogether ds own less.anew) (sym (closed-less ds))
+      (together-filtered ds (closed_of less ds) less.anew (λ d. not (is_open more (key_of d))) apart) in
+      record {
+        names = λ known. left.names (known-before less.anew.names more.anew.names looks.names known);
+        circles = λ known. left.circles (known-before less.anew.circles more.anew.circles looks.circles known);
+        chains = λ known. left.chains (known-before less.anew.chains more.anew.chains looks.chains known);
+      }
+
+pub more_is_settled : MoreIsSettled
+more_is_settled ds knows book less more looks settled = record {
+  each = λ d found shut. settled.each d found (shut-before less more looks (key_of d) shut);
+  apart = more-together less more looks ds settled.apart;
+}
+
+-- ---- where nothing is left
+
+none-together : (anew : Anew) → HaveNoneTogether [] [] anew
+none-together anew = record {
+  names = λ known. apart-pairs AreNamesApart [] tt;
+  circles = λ known. (tt, λ x circle. absurd (false≢true circle.1.1));
+  chains = λ known. apart-pairs (λ a b. faults_of_two [] a b ≡ []) [] tt;
+}
+
+-- where a report looks at each declaration, and at all anew
+pub settled_anyway : (u : Unsettled) → ((k : DeclKey) → is_open u k ≡ true) → u.anew.names ≡ true → u.anew.circles ≡ true
+    → u.anew.chains ≡ true → IsSettledAnyway u
+settled_anyway u each names circles chains ds knows book = record {
+  each = λ d found shut. absurd (false≢true (sym shut ∙ each (key_of d)));
+  apart = record {
+    names = λ known. absurd (false≢true (sym known ∙ names));
+    circles = λ known. absurd (false≢true (sym known ∙ circles));
+    chains = λ known. absurd (false≢true (sym known ∙ chains));
+  };
+}
+
+-- so it is where there is no declaration
+pub none_settled : (knows : Key → Bool) (book : List Promised) (u : Unsettled) → AreSettled [] knows book u
+none_settled knows book u = record {
+  each = λ d found shut. absurd (let no : None ≡ Some d = found in cc);
+  apart = none-together u.anew;
+}

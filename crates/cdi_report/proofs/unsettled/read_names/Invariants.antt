@@ -1,0 +1,7 @@
+use Rattle.std.proofs.Common.{◌≡◌, true, take}
+use Rattle.cdi_model.specs.Edits.{is_among}
+use Rattle.cdi_model.specs.Grammar.{is_name}
+use Rattle.cdi_report.proofs.unsettled.read_names.Given as goal
+
+abbrev pub invariant-loop-key : goal.invariant-loop-key
+invariant-loop-key l = (k : _) → is_among (take l.key-index l.keys) k ≡ true → is_name k.name ≡ true

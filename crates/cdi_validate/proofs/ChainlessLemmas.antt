@@ -1,0 +1,158 @@
+-- Declarations of which no two enabled beans specialize one.
+use Rattle.std.proofs.Common.{◌≡◌, ℕ, Bool, true, false, not, cond, ◌&&◌, List, [], ◌∷◌, ◌++◌, length, map, filter}
+use Rattle.std.proofs.Common.{refl, sym, subst, ap, ◌∙◌, append_assoc}
+use Rattle.std.specs.List.{AllByRecursion, AllPairs, find, flat_map}
+use Rattle.std.specs.Option.{option_to_list}
+use Rattle.std.specs.Str.{bytes_eq}
+use Rattle.std.proofs.lemmas.Bool.{eqb-true, false≢true, or_left}
+use Rattle.std.proofs.lemmas.List.{nil_from_length}
+use Rattle.std.proofs.lemmas.List.Elements.{filter-append}
+use Rattle.cdi_model.specs.DeclList.{AreDistinct}
+use Rattle.cdi_model.specs.declared.decl.BeanDecl.{BeanDecl}
+use Rattle.cdi_model.specs.declared.decl.Decl.{Decl}
+use Rattle.cdi_model.specs.declared.decl.Decl.TheVariants as decls
+use Rattle.cdi_match.specs.Chain.{has}
+use Rattle.cdi_match.proofs.Names.{same_text}
+use Rattle.cdi_effective.specs.Records.{records_in}
+use Rattle.cdi_effective.specs.Specialized.{chain, class_names}
+use Rattle.cdi_faults.specs.FaultText.{text_of_fault}
+use Rattle.cdi_faults.specs.declared.fault.Fault.{Fault}
+use Rattle.cdi_validate.specs.Alike.{IsAlike}
+use Rattle.cdi_validate.specs.Linked.{is_first_enabled, specializing, specializing_by}
+use Rattle.cdi_validate.specs.Together.{is_chainless, HaveNoneTwice}
+use Rattle.cdi_validate.specs.Twice.{enabled_bean, enabled_beans, faults_of_pairs, faults_of_two, in_line_order, of_pairs}
+use Rattle.cdi_validate.specs.Twice.{specialized_twice, twice}
+use Rattle.cdi_validate.proofs.ApartLemmas.{Apart, all-more, apart-by, apart-filter, apart-more, apart-pairs, flat-all, flat-left}
+use Rattle.cdi_validate.proofs.ApartLemmas.{flat-same, pairs-apart, pairs-left}
+use Rattle.cdi_validate.proofs.FoundLemmas.{records-of-found}
+use Rattle.cdi_validate.proofs.LinkLemmas.{filtered, specializing-own}
+use Rattle.cdi_validate.proofs.TwiceLemmas.{behind_two, both-apart, lines_of, lines-told, pairs-behind, two-of-enabled}
+
+-- they have no fault together
+abbrev AreFaultless : List Decl → BeanDecl → BeanDecl → Type 0
+AreFaultless ds a b = faults_of_two ds a b ≡ []
+
+-- ---- declarations that are alike
+
+specializing-alike : (ds es : List Decl) (d : Decl) → IsAlike ds es d → specializing_by ds d ≡ specializing_by es d
+specializing-alike ds es (decls.Bean b) alike =
+    let same : records_in ds b.name ≡ records_in es b.name = records-of-found ds (decls.Bean b) alike.before ∙ sym alike.records
+    ∙ sym (records-of-found es (decls.Bean b) alike.after) in
+    ap (λ bs. cond (b.specializes && is_first_enabled bs) (b ∷ []) []) same
+specializing-alike ds es other alike = refl
+
+-- the bean has the same chain
+abbrev HasSameChain : List Decl → List Decl → BeanDecl → Type 0
+HasSameChain ds es b = chain es b ≡ chain ds b
+
+same-chains : (ds es : List Decl) (d : Decl) → IsAlike ds es d → AllByRecursion (HasSameChain ds es) (specializing_by ds d)
+same-chains ds es (decls.Bean b) alike = by (b.specializes && is_first_enabled (records_in ds b.name))
+  where
+    by : (t : Bool) → AllByRecursion (HasSameChain ds es) (cond t (b ∷ []) [])
+    by true = (alike.chains b refl, tt)
+    by false = tt
+same-chains ds es other alike = tt
+
+-- the fault of two beans with these chains
+abbrev two_by : BeanDecl → BeanDecl → List BeanDecl → List BeanDecl → List Fault
+two_by a b of_a of_b = cond (not (has (class_names of_b) a.name) && not (has (class_names of_a) b.name))
+    (map (twice a.name b.name) (option_to_list (find (has (class_names of_b)) (class_names of_a)))) []
+
+two-alike : (ds es : List Decl) (a b : BeanDecl) → HasSameChain ds es a → HasSameChain ds es b → AreFaultless ds a b → AreFaultless es a b
+two-alike ds es a b of_a of_b none =
+    ap (λ of. two_by a b of (chain es b)) of_a ∙ ap (λ of. two_by a b (chain ds a) of) of_b ∙ none
+
+-- beans that have no fault together have none where the declarations are alike
+pub twice_stays : (ds es own : List Decl) → AllByRecursion (IsAlike ds es) own → HaveNoneTwice ds own → HaveNoneTwice es own
+twice_stays ds es own alike none =
+    let bs = flat_map (specializing_by ds) own in
+    let chains : AllByRecursion (HasSameChain ds es) bs = flat-all (HasSameChain ds es) (specializing_by ds) own
+    (all-more (IsAlike ds es) (λ d. AllByRecursion (HasSameChain ds es) (specializing_by ds d)) (same-chains ds es) own alike) in
+    let same : bs ≡ flat_map (specializing_by es) own = flat-same (specializing_by ds) (specializing_by es) own
+    (all-more (IsAlike ds es) (λ d. specializing_by ds d ≡ specializing_by es d) (specializing-alike ds es) own alike) in
+    subst (AllPairs (AreFaultless es)) same (apart-pairs (AreFaultless es) bs
+    (apart-by (AreFaultless ds) (AreFaultless es) (HasSameChain ds es) (two-alike ds es) bs chains (pairs-apart (AreFaultless ds) bs none)))
+
+-- and where some are left out
+pub twice_filtered : (ds own : List Decl) (p : Decl → Bool) → HaveNoneTwice ds own → HaveNoneTwice ds (filter p own)
+twice_filtered ds own p none = pairs-left (specializing_by ds) p (AreFaultless ds) own none
+
+-- they have none with those that are left out, where these say of no bean that it specializes another
+pub twice_whole : (ds own : List Decl) (p : Decl → Bool) → AllByRecursion (λ d. p d ≡ false → is_chainless ds d ≡ true) own
+    → HaveNoneTwice ds (filter p own) → HaveNoneTwice ds own
+twice_whole ds own p chainless none =
+    let nothing : AllByRecursion (λ d. p d ≡ false → specializing_by ds d ≡ []) own =
+    all-more (λ d. p d ≡ false → is_chainless ds d ≡ true) (λ d. p d ≡ false → specializing_by ds d ≡ [])
+    (λ d empty out. nil_from_length (specializing_by ds d) (eqb-true (length (specializing_by ds d)) 0 (empty out))) own chainless in
+    subst (AllPairs (AreFaultless ds)) (flat-left (specializing_by ds) p own nothing) none
+
+-- ---- all declarations
+
+specializing-rest : (ds es rest : List Decl) → AreDistinct ds → es ++ rest ≡ ds
+    → flat_map (specializing_by ds) rest ≡ filtered (flat_map (enabled_bean ds) rest)
+specializing-rest ds es [] distinct split = refl
+specializing-rest ds es (d ∷ rest) distinct split =
+    ap (λ bs. bs ++ flat_map (specializing_by ds) rest) (specializing-own ds es rest d distinct split)
+    ∙ ap (λ bs. filtered (enabled_bean ds d) ++ bs)
+    (specializing-rest ds (es ++ d ∷ []) rest distinct (append_assoc es (d ∷ []) rest ∙ split))
+    ∙ sym (filter-append (λ b. b.specializes) (enabled_bean ds d) (flat_map (enabled_bean ds) rest))
+
+-- those that say so, declaration by declaration, are all of them
+specializing-all : (ds : List Decl) → AreDistinct ds → flat_map (specializing_by ds) ds ≡ specializing ds
+specializing-all ds distinct = specializing-rest ds [] ds distinct refl
+
+-- ---- what pairs give
+
+module _ {X Y : Type 0} (f : X → X → List Y) where
+  none-behind : (x : X) (ys : List X) → AllByRecursion (λ y. f x y ≡ []) ys → flat_map (f x) ys ≡ []
+  none-behind x [] none = refl
+  none-behind x (y ∷ ys) none = ap (λ l. l ++ flat_map (f x) ys) none.0 ∙ none-behind x ys none.1
+
+  pairs-none : (xs : List X) → Apart (λ x y. f x y ≡ []) xs → of_pairs f xs ≡ []
+  pairs-none [] none = refl
+  pairs-none (x ∷ xs) none = ap (λ l. l ++ of_pairs f xs) (none-behind x xs none.0) ∙ pairs-none xs none.1
+
+  both-none : (ks ls : List Y) → ks ++ ls ≡ [] → (ks ≡ []) × (ls ≡ [])
+  both-none [] ls none = (refl, none)
+  both-none (k ∷ ks) ls some = absurd (let no : k ∷ (ks ++ ls) ≡ [] = some in cc)
+
+  each-behind : (x : X) (ys : List X) → flat_map (f x) ys ≡ [] → AllByRecursion (λ y. f x y ≡ []) ys
+  each-behind x [] none = tt
+  each-behind x (y ∷ ys) none =
+      let both = both-none (f x y) (flat_map (f x) ys) none in (both.0, each-behind x ys both.1)
+
+  none-pairs : (xs : List X) → of_pairs f xs ≡ [] → Apart (λ x y. f x y ≡ []) xs
+  none-pairs [] none = tt
+  none-pairs (x ∷ xs) none =
+      let both = both-none (flat_map (f x) xs) (of_pairs f xs) none in (each-behind x xs both.0, none-pairs xs both.1)
+
+-- where no two beans have a fault there is none
+pub no_twice_faults : (ds : List Decl) → AreDistinct ds → HaveNoneTwice ds ds → specialized_twice ds ≡ []
+unfolding specialized_twice
+no_twice_faults ds distinct none =
+    let bs = specializing ds in
+    let Behind : BeanDecl → BeanDecl → Type 0 = λ a b. behind_two ds a b ≡ [] in
+    let Same : BeanDecl → BeanDecl → Type 0 = λ a b. faults_of_two ds a b ≡ behind_two ds a b in
+    let apart : Apart (AreFaultless ds) bs =
+    pairs-apart (AreFaultless ds) bs (subst (AllPairs (AreFaultless ds)) (specializing-all ds distinct) none) in
+    let same : Apart Same bs = apart-filter Same (λ b. b.specializes) (enabled_beans ds) (two-of-enabled ds distinct) in
+    let behind : Apart Behind bs = apart-more (λ a b. AreFaultless ds a b × Same a b) Behind (λ a b both. sym both.1 ∙ both.0) bs
+    (both-apart (AreFaultless ds) Same bs apart same) in
+    ap in_line_order (sym (pairs-behind ds distinct) ∙ pairs-none (behind_two ds) bs behind)
+
+-- where no lines are told there is no fault
+no-lines : (fs gs : List Fault) → ((line : List ℕ) → has (lines_of fs) line ≡ true → has (lines_of gs) line ≡ true) → gs ≡ [] → fs ≡ []
+no-lines [] gs told none = refl
+no-lines (f ∷ fs) gs told none =
+    let line = text_of_fault f in
+    absurd (false≢true (ap (λ l. has (lines_of l) line) (sym none)
+    ∙ told line (or_left (bytes_eq line line) (has (lines_of fs) line) (same_text line line refl))))
+
+-- and where there is none no two beans have one
+pub faultless_twice : (ds : List Decl) → AreDistinct ds → specialized_twice ds ≡ [] → HaveNoneTwice ds ds
+faultless_twice ds distinct none =
+    let bs = specializing ds in
+    let all = none-pairs (faults_of_two ds) (enabled_beans ds)
+    (no-lines (faults_of_pairs ds) (specialized_twice ds) (lines-told ds) none) in
+    subst (AllPairs (AreFaultless ds)) (sym (specializing-all ds distinct))
+    (apart-pairs (AreFaultless ds) bs (apart-filter (AreFaultless ds) (λ b. b.specializes) (enabled_beans ds) all))

@@ -1,0 +1,604 @@
+-- Where no dependent bean needs itself, and that beans that need nothing are on no circle.
+use Rattle.std.proofs.Common.{◌≡◌, ℕ, zero, suc, Bool, true, false, not, cond, ◌&&◌, ◌||◌, List, [], ◌∷◌, ◌++◌, length, map, filter}
+use Rattle.std.proofs.Common.{Option, Some, None, refl, sym, subst, ap, ◌∙◌, inl, inr}
+use Rattle.std.specs.Prelude.{◌==◌}
+use Rattle.std.specs.List.{AllByRecursion, flat_map, list_any, slice_get}
+use Rattle.std.specs.Map.{keys_of}
+use Rattle.std.specs.Str.{bytes_eq}
+use Rattle.std.proofs.lemmas.Bool.{and_parts, eqb-true, false_from_ne_true, false≢true, or_cases, or_left, or_right}
+use Rattle.std.proofs.lemmas.List.{nil_from_length}
+use Rattle.std.proofs.lemmas.List.Folds.{list_any-append}
+use Rattle.std.proofs.lemmas.Option.{none-some, same_Some}
+use Rattle.cdi_model.specs.Bytes.{dot, slash}
+use Rattle.cdi_model.specs.Decl.{name_of_decl}
+use Rattle.cdi_model.specs.DeclList.{find_decl, AreDistinct}
+use Rattle.cdi_model.specs.Grammar.{begins, continues, goes_on as continues_name, is_letter, is_name, is_word}
+use Rattle.cdi_model.specs.declared.decl.Attributes.{Attributes}
+use Rattle.cdi_model.specs.declared.decl.BeanDecl.{BeanDecl}
+use Rattle.cdi_model.specs.declared.decl.Decl.{Decl}
+use Rattle.cdi_model.specs.declared.decl.Decl.TheVariants as decls
+use Rattle.cdi_model.specs.declared.decl.DisposerDecl.{DisposerDecl}
+use Rattle.cdi_model.specs.declared.decl.EventDecl.{EventDecl}
+use Rattle.cdi_model.specs.declared.decl.InterceptorDecl.{InterceptorDecl}
+use Rattle.cdi_model.specs.declared.decl.Kind.TheVariants as kinds
+use Rattle.cdi_model.specs.declared.decl.MethodDecl.{MethodDecl}
+use Rattle.cdi_model.specs.declared.decl.ObserverDecl.{ObserverDecl}
+use Rattle.cdi_model.specs.declared.decl.PartDecl.{PartDecl}
+use Rattle.cdi_model.specs.declared.decl.PointDecl.{PointDecl}
+use Rattle.cdi_model.specs.declared.decl.UseKind.TheVariants as uses
+use Rattle.cdi_model.specs.declared.mention.PointPlace.TheVariants as points
+use Rattle.cdi_model.specs.declared.mention.TypePlace.TheVariants as places
+use Rattle.cdi_model.specs.declared.place.PartPlace.{PartPlace}
+use Rattle.cdi_model.specs.declared.place.PartPlace.TheVariants as parts
+use Rattle.cdi_model.specs.declared.quals.Qual.{Qual}
+use Rattle.cdi_model.specs.Mentions.{Mention, BodyOf, CallOf, PointOf, StereotypeOf, TypeIn, UseOf}
+use Rattle.cdi_model.specs.Mentions.{listed_types, mentions, of_attributes, of_bindings, of_disposer, of_event, of_method, of_observer}
+use Rattle.cdi_model.specs.Mentions.{of_part, of_parts, of_point, of_producer, of_qualifiers}
+use Rattle.cdi_match.specs.Chain.{has, leads, Steps}
+use Rattle.cdi_match.proofs.Names.{one_name}
+use Rattle.cdi_effective.specs.Beans.{beans, effective, entries, product_where, records_where}
+use Rattle.cdi_effective.specs.BeanText.{text_of_id, text_of_producer}
+use Rattle.cdi_effective.specs.Specialized.{is_replaced}
+use Rattle.cdi_effective.specs.declared.records.BeanId.{BeanId}
+use Rattle.cdi_effective.specs.declared.records.Effective.{Effective}
+use Rattle.cdi_effective.proofs.PlaceLemmas.{own-found}
+use Rattle.cdi_intercept.specs.Chains.{is_enabled, stands_around}
+use Rattle.cdi_observe.specs.Around.{names_of_bean}
+use Rattle.cdi_observe.proofs.AroundLemmas.{stands-named}
+use Rattle.cdi_validate.specs.Circles.{Need, chosen_for, circular, dependents, dependents_by_text}
+use Rattle.cdi_validate.specs.Circles.{is_dependent, managed_id, need_around, need_in, needed_by, needs_in, needs_itself, needs_to_run}
+use Rattle.cdi_validate.specs.Faults.{circle, circles}
+use Rattle.cdi_validate.specs.Together.{dependents_in, is_empty, is_needless, next_in, AreNamed, HaveNoCircle}
+use Rattle.cdi_validate.proofs.ApartLemmas.{all-append, all-each, all-map}
+use Rattle.cdi_validate.proofs.CircleLemmas.{needs_itself_on_circle}
+use Rattle.cdi_validate.proofs.NeedLemmas.{has-by_text}
+
+-- ---- no circle, no fault
+
+filter-none : {X : Type 0} (test : X → Bool) → ((x : X) → test x ≡ false) → (xs : List X) → filter test xs ≡ []
+filter-none test none [] = refl
+filter-none test none (x ∷ xs) = rw (none x) (filter-none test none xs)
+
+-- where no dependent bean needs itself there is no fault, and the other way round
+pub no_circle_faults : (ds : List Decl) → HaveNoCircle ds ds → circles ds ≡ []
+unfolding beans circular
+no_circle_faults ds none =
+    ap (λ es. map circle (map (λ e. e.1) es))
+    (filter-none (λ e. needs_itself ds e.0)
+    (λ e. false_from_ne_true (needs_itself ds e.0) (λ is. none e.0 ((needs_itself_on_circle ds e.0).0 is)))
+    (dependents_by_text (beans ds)))
+
+one-left : (test : List ℕ → Bool) (es : List (List ℕ × BeanId)) (x : List ℕ) → has (keys_of es) x ≡ true → test x ≡ true
+    → map circle (map (λ e. e.1) (filter (λ e. test e.0) es)) ≡ [] → ⊥
+one-left test [] x among is none = false≢true among
+one-left test (e ∷ es) x among is none = by (test e.0) refl (λ later left. one-left test es x later is left) none
+  where
+    by : (b : Bool) → test e.0 ≡ b
+        → (has (keys_of es) x ≡ true → map circle (map (λ e. e.1) (filter (λ e. test e.0) es)) ≡ [] → ⊥)
+        → map circle (map (λ e. e.1) (cond b (e ∷ filter (λ e. test e.0) es) (filter (λ e. test e.0) es))) ≡ [] → ⊥
+    by true here rest none = let no : circle e.1 ∷ map circle (map (λ e. e.1) (filter (λ e. test e.0) es)) ≡ [] = none in absurd (cc)
+    by false here rest none = elim (or_cases (bytes_eq e.0 x) (has (keys_of es) x) among) [
+      | inl first ↦ false≢true (sym here ∙ ap test (one_name e.0 x first) ∙ is)
+      | inr later ↦ rest later none
+    ]
+
+-- ---- edges
+
+between-has : (nodes : List (List ℕ)) (xs : List (List ℕ)) (v : List ℕ) → has (filter (has nodes) xs) v ≡ true
+    → (has nodes v ≡ true) × (has xs v ≡ true)
+between-has nodes [] v is = absurd (false≢true is)
+between-has nodes (x ∷ xs) v is = by (has nodes x) refl (between-has nodes xs v) is
+  where
+    by : (b : Bool) → has nodes x ≡ b
+        → (has (filter (has nodes) xs) v ≡ true → (has nodes v ≡ true) × (has xs v ≡ true))
+        → has (cond b (x ∷ filter (has nodes) xs) (filter (has nodes) xs)) v ≡ true
+        → (has nodes v ≡ true) × ((bytes_eq x v || has xs v) ≡ true)
+    by true e rest is = elim (or_cases (bytes_eq x v) (has (filter (has nodes) xs) v) is) [
+      | inl here ↦ (sym (ap (has nodes) (one_name x v here)) ∙ e, or_left (bytes_eq x v) (has xs v) here)
+      | inr there ↦ ((rest there).0, or_right (bytes_eq x v) (has xs v) (rest there).1)
+    ]
+    by false e rest is = ((rest is).0, or_right (bytes_eq x v) (has xs v) (rest is).1)
+
+has-between : (nodes : List (List ℕ)) (xs : List (List ℕ)) (v : List ℕ) → has nodes v ≡ true → has xs v ≡ true
+    → has (filter (has nodes) xs) v ≡ true
+has-between nodes [] v node is = is
+has-between nodes (x ∷ xs) v node is = by (has nodes x) refl (has-between nodes xs v node)
+  where
+    by : (b : Bool) → has nodes x ≡ b → (has xs v ≡ true → has (filter (has nodes) xs) v ≡ true)
+        → has (cond b (x ∷ filter (has nodes) xs) (filter (has nodes) xs)) v ≡ true
+    by true e rest = elim (or_cases (bytes_eq x v) (has xs v) is) [
+      | inl here ↦ or_left (bytes_eq x v) (has (filter (has nodes) xs) v) here
+      | inr there ↦ or_right (bytes_eq x v) (has (filter (has nodes) xs) v) (rest there)
+    ]
+    by false e rest = elim (or_cases (bytes_eq x v) (has xs v) is) [
+      | inl here ↦ absurd (false≢true (sym e ∙ ap (has nodes) (one_name x v here) ∙ node))
+      | inr there ↦ rest there
+    ]
+
+any-flat : {X Y : Type 0} (q : Y → Bool) (f : X → List Y) (xs : List X) → list_any q (flat_map f xs) ≡ list_any (λ x. list_any q (f x)) xs
+any-flat q f [] = refl
+any-flat q f (x ∷ xs) = list_any-append q (f x) (flat_map f xs) ∙ ap (λ b. list_any q (f x) || b) (any-flat q f xs)
+
+-- a need is of a bean, and another is among what it needs
+abbrev is_need_of : List ℕ → List ℕ → Need → Bool
+is_need_of u v need = has (cond (bytes_eq need.0 u) need.1 []) v
+
+-- a declaration gives a bean that need
+abbrev gives : List Decl → List ℕ → List ℕ → Decl → Bool
+gives ds u v d = list_any (is_need_of u v) (needs_in ds d)
+
+-- a dependent bean of a declaration has the text
+abbrev is_node : List Decl → List ℕ → Decl → Bool
+is_node ds u d = list_any (λ b. is_dependent b && bytes_eq (text_of_id b.id) u) (entries ds d)
+
+has-dependents : (bs : List Effective) (u : List ℕ)
+    → has (dependents bs) u ≡ list_any (λ b. is_dependent b && bytes_eq (text_of_id b.id) u) bs
+has-dependents [] u = refl
+has-dependents (b ∷ bs) u = by (is_dependent b) (has-dependents bs u)
+  where
+    by : (t : Bool) → has (dependents bs) u ≡ list_any (λ b. is_dependent b && bytes_eq (text_of_id b.id) u) bs
+        → has (map (λ b. text_of_id b.id) (cond t (b ∷ filter is_dependent bs) (filter is_dependent bs))) u
+        ≡ ((t && bytes_eq (text_of_id b.id) u) || list_any (λ b. is_dependent b && bytes_eq (text_of_id b.id) u) bs)
+    by true rest = ap (λ t. bytes_eq (text_of_id b.id) u || t) rest
+    by false rest = rest
+
+node-of : (ds own : List Decl) (u : List ℕ) → has (dependents_in ds own) u ≡ list_any (is_node ds u) own
+node-of ds own u = has-dependents (flat_map (entries ds) own) u
+    ∙ any-flat (λ b. is_dependent b && bytes_eq (text_of_id b.id) u) (entries ds) own
+
+given-by : (ds own : List Decl) (u v : List ℕ) → has (needed_by (flat_map (needs_in ds) own) u) v ≡ list_any (gives ds u v) own
+given-by ds own u v =
+    any-flat (λ n. bytes_eq n v) (λ (need : Need). cond (bytes_eq need.0 u) need.1 []) (flat_map (needs_in ds) own)
+    ∙ any-flat (is_need_of u v) (needs_in ds) own
+
+-- an edge leads from a dependent bean of some declarations to another where one of these gives it that need
+record IsEdge (ds own : List Decl) (u v : List ℕ) : Type 0 where
+  from : list_any (is_node ds u) own ≡ true
+  to : list_any (is_node ds v) own ≡ true
+  given : list_any (gives ds u v) own ≡ true
+
+edge-is : (ds own : List Decl) (u v : List ℕ) → leads (next_in ds own) u v ≡ true → IsEdge ds own u v
+edge-is ds own u v is = by (has nodes u) refl is
+  where
+    nodes : List (List ℕ)
+    nodes = dependents_in ds own
+
+    by : (b : Bool) → has nodes u ≡ b → has (cond b (filter (has nodes) (needed_by (flat_map (needs_in ds) own) u)) []) v ≡ true
+        → IsEdge ds own u v
+    by true e is = let both = between-has nodes (needed_by (flat_map (needs_in ds) own) u) v is in record {
+      from = sym (node-of ds own u) ∙ e;
+      to = sym (node-of ds own v) ∙ both.0;
+      given = sym (given-by ds own u v) ∙ both.1;
+    }
+    by false e is = absurd (false≢true is)
+
+is-edge : (ds own : List Decl) (u v : List ℕ) → IsEdge ds own u v → leads (next_in ds own) u v ≡ true
+is-edge ds own u v edge =
+    let nodes = dependents_in ds own in
+    let needed = needed_by (flat_map (needs_in ds) own) u in
+    ap (λ b. has (cond b (filter (has nodes) needed) []) v) (node-of ds own u ∙ edge.from)
+    ∙ has-between nodes needed v (node-of ds own v ∙ edge.to) (given-by ds own u v ∙ edge.given)
+
+pub faultless_circles : (ds : List Decl) → circles ds ≡ [] → HaveNoCircle ds ds
+unfolding beans circular
+faultless_circles ds none x circle =
+    let edge = edge-is ds ds x ((circle.1).0) ((circle.1).1) in
+    one-left (needs_itself ds) (dependents_by_text (beans ds)) x
+    (has-by_text (beans ds) x ∙ node-of ds ds x ∙ edge.from)
+    ((needs_itself_on_circle ds x).1 circle) none
+
+-- ---- lists
+
+none-empty : {X : Type 0} (xs : List X) → is_empty xs ≡ true → xs ≡ []
+none-empty xs none = nil_from_length xs (eqb-true (length xs) 0 none)
+
+all-got : {X : Type 0} (P : X → Type 0) (xs : List X) (k : ℕ) (x : X) → AllByRecursion P xs → slice_get xs k ≡ Some x → P x
+all-got P [] k x all at = absurd (none-some x at)
+all-got P (y ∷ ys) zero x all at = subst P (same_Some y x at) all.0
+all-got P (y ∷ ys) (suc k) x all at = all-got P ys k x all.1 at
+
+-- one that passes a test, and where it stands
+record Passes {X : Type 0} (test : X → Bool) (xs : List X) : Type 0 where
+  place : ℕ
+  one : X
+  at : slice_get xs place ≡ Some one
+  is : test one ≡ true
+
+any-at : {X : Type 0} (test : X → Bool) (xs : List X) → list_any test xs ≡ true → Passes test xs
+any-at test [] some = absurd (false≢true some)
+any-at test (x ∷ xs) some = elim (or_cases (test x) (list_any test xs) some) [
+  | inl here ↦ record { place = zero; one = x; at = refl; is = here }
+  | inr there ↦ (let rest = any-at test xs there in record { place = suc rest.place; one = rest.one; at = rest.at; is = rest.is })
+]
+
+kept-any : {X : Type 0} (test p : X → Bool) (xs : List X) (k : ℕ) (x : X) → slice_get xs k ≡ Some x → p x ≡ true → test x ≡ true
+    → list_any test (filter p xs) ≡ true
+kept-any test p [] k x at kept is = absurd (none-some x at)
+kept-any test p (y ∷ ys) zero x at kept is =
+    let same : x ≡ y = sym (same_Some y x at) in
+    let here : p y ≡ true = sym (ap p same) ∙ kept in
+    ap (λ b. list_any test (cond b (y ∷ filter p ys) (filter p ys))) here
+    ∙ or_left (test y) (list_any test (filter p ys)) (sym (ap test same) ∙ is)
+kept-any test p (y ∷ ys) (suc k) x at kept is = by (p y) (kept-any test p ys k x at kept is)
+  where
+    by : (b : Bool) → list_any test (filter p ys) ≡ true → list_any test (cond b (y ∷ filter p ys) (filter p ys)) ≡ true
+    by true rest = or_right (test y) (list_any test (filter p ys)) rest
+    by false rest = rest
+
+all-flat : {X Y : Type 0} (P : Y → Type 0) (f : X → List Y) → ((x : X) → AllByRecursion P (f x)) → (xs : List X)
+    → AllByRecursion P (flat_map f xs)
+all-flat P f each [] = tt
+all-flat P f each (x ∷ xs) = all-append P (f x) (flat_map f xs) (each x) (all-flat P f each xs)
+
+any-more : {X : Type 0} (test more : X → Bool) → ((x : X) → test x ≡ true → more x ≡ true) → (xs : List X) → list_any test xs ≡ true
+    → list_any more xs ≡ true
+any-more test more each [] some = some
+any-more test more each (x ∷ xs) some = elim (or_cases (test x) (list_any test xs) some) [
+  | inl here ↦ or_left (more x) (list_any more xs) (each x here)
+  | inr there ↦ or_right (more x) (list_any more xs) (any-more test more each xs there)
+]
+
+flat-empty : {X Y : Type 0} (f : X → List Y) (xs : List X) → AllByRecursion (λ x. f x ≡ []) xs → flat_map f xs ≡ []
+flat-empty f [] none = refl
+flat-empty f (x ∷ xs) none = ap (λ ys. ys ++ flat_map f xs) none.0 ∙ flat-empty f xs none.1
+
+-- ---- the class of a bean in the text of its id
+
+abbrev HasNoSlash : List ℕ → Type 0
+HasNoSlash name = AllByRecursion (λ b. (b == slash) ≡ false) name
+
+letter-not : (b : ℕ) → is_letter b ≡ true → (b == slash) ≡ false
+letter-not b is = false_from_ne_true (b == slash) (λ e. false≢true (subst (λ n. is_letter n ≡ true) (eqb-true b slash e) is))
+
+word-not : (b : ℕ) → is_word b ≡ true → (b == slash) ≡ false
+word-not b is = false_from_ne_true (b == slash) (λ e. false≢true (subst (λ n. is_word n ≡ true) (eqb-true b slash e) is))
+
+dot-not : (b : ℕ) → (b == dot) ≡ true → (b == slash) ≡ false
+dot-not b is = ap (λ n. n == slash) (eqb-true b dot is)
+
+continued-slashless : (starts : Bool) (bytes : List ℕ) → continues starts bytes ≡ true → HasNoSlash bytes
+continued-slashless starts [] is = tt
+continued-slashless true (b ∷ bs) is =
+    let (letter, rest) = and_parts (is_letter b) (continues_name bs) is in (letter-not b letter, continued-slashless false bs rest)
+continued-slashless false (b ∷ bs) is = by (b == dot) refl (continued-slashless true bs) (continued-slashless false bs)
+  where
+    by : (t : Bool) → (b == dot) ≡ t → (begins bs ≡ true → HasNoSlash bs) → (continues_name bs ≡ true → HasNoSlash bs)
+        → HasNoSlash (b ∷ bs)
+    by true e starts rest = (dot-not b e, starts (rw e at is))
+    by false e starts rest = let (word, more) = and_parts (is_word b) (continues_name bs) (rw e at is) in (word-not b word, rest more)
+
+name-slashless : (name : List ℕ) → is_name name ≡ true → HasNoSlash name
+name-slashless [] is = tt
+name-slashless (b ∷ bs) is = continued-slashless true (b ∷ bs) (and_parts (begins (b ∷ bs)) _ is).0
+
+-- what stands before the first slash
+abbrev before_slash : List ℕ → List ℕ
+before_slash [] = []
+before_slash (b ∷ bs) = cond (b == slash) [] (b ∷ before_slash bs)
+
+class-before : (name : List ℕ) (producer : Option (List ℕ)) → HasNoSlash name → before_slash (name ++ text_of_producer producer) ≡ name
+class-before [] None none = refl
+class-before [] (Some producer) none = refl
+class-before (b ∷ bs) producer none = rw none.0 (ap (λ rest. b ∷ rest) (class-before bs producer none.1))
+
+-- the text is that of the id of a bean of the class
+abbrev IsText : List ℕ → BeanDecl → Type 0
+IsText text b = (producer : Option (List ℕ)) × (text ≡ text_of_id (record { class = b.name; producer = producer }))
+
+one-class : (ds : List Decl) (k j : ℕ) (b c : BeanDecl) (text : List ℕ) → AreDistinct ds → AreNamed ds
+    → slice_get ds k ≡ Some (decls.Bean b) → slice_get ds j ≡ Some (decls.Bean c) → IsText text b → IsText text c → b ≡ c
+one-class ds k j b c text distinct named at_b at_c of_b of_c =
+    let slashless : (i : ℕ) (d : BeanDecl) → slice_get ds i ≡ Some (decls.Bean d) → HasNoSlash d.name =
+    λ i d at. name-slashless d.name (all-got (λ e. is_name (name_of_decl e) ≡ true) ds i (decls.Bean d) named at) in
+    let same : b.name ≡ c.name = sym (class-before b.name of_b.0 (slashless k b at_b))
+    ∙ ap before_slash (sym of_b.1 ∙ of_c.1)
+    ∙ class-before c.name of_c.0 (slashless j c at_c) in
+    let both : Some (decls.Bean b) ≡ Some (decls.Bean c) = sym (own-found ds k (decls.Bean b) distinct at_b)
+    ∙ ap (λ name. find_decl kinds.Bean name ds) same
+    ∙ own-found ds j (decls.Bean c) distinct at_c in
+    cc
+
+-- ---- a bean has needs and records of its class
+
+need-own : (u v : List ℕ) (need : Need) → is_need_of u v need ≡ true → (need.0 ≡ u) × (has need.1 v ≡ true)
+need-own u v need is = by (bytes_eq need.0 u) refl is
+  where
+    by : (b : Bool) → bytes_eq need.0 u ≡ b → has (cond b need.1 []) v ≡ true → (need.0 ≡ u) × (has need.1 v ≡ true)
+    by true e is = (one_name need.0 u e, is)
+    by false e is = absurd (false≢true is)
+
+need-classed : (ds : List Decl) (b : BeanDecl) (m : Mention) → AllByRecursion (λ need. IsText need.0 b) (need_in ds b m)
+need-classed ds b (PointOf points.Constructor p) = ((None, refl), tt)
+need-classed ds b (PointOf (points.Producer name) p) = ((Some name, refl), tt)
+need-classed ds b (PointOf (points.Observer name) p) = tt
+need-classed ds b (BodyOf (parts.Producer name) body) = ((Some name, refl), tt)
+need-classed ds b (BodyOf place body) = tt
+need-classed ds b other = tt
+
+given-classed : (ds : List Decl) (b : BeanDecl) (u v : List ℕ) → gives ds u v (decls.Bean b) ≡ true → IsText u b
+given-classed ds b u v is =
+    let all = needs_in ds (decls.Bean b) in
+    let found = any-at (is_need_of u v) all is in
+    let text = all-got (λ need. IsText need.0 b) all found.place found.one
+    (all-flat (λ need. IsText need.0 b) (need_in ds b) (need-classed ds b) (mentions (decls.Bean b))) found.at in
+    (text.0, sym (need-own u v found.one found.is).0 ∙ text.1)
+
+abbrev IsRecordOf : BeanDecl → Effective → Type 0
+IsRecordOf b r = (producer : Option (List ℕ)) × (r.id ≡ record { class = b.name; producer = producer })
+
+records-classed : (ds : List Decl) (b : BeanDecl) (offered : Bool) → AllByRecursion (IsRecordOf b) (records_where ds b offered)
+unfolding effective
+records-classed ds b offered = (
+  (None, refl),
+  all-map (IsRecordOf b) (product_where ds b offered) b.producers (all-each _ (λ p. (Some p.name, refl)) b.producers),
+)
+
+node-classed : (ds : List Decl) (b : BeanDecl) (u : List ℕ) → is_node ds u (decls.Bean b) ≡ true
+    → IsText u b × (list_any is_dependent (entries ds (decls.Bean b)) ≡ true)
+node-classed ds b u is =
+    let all = entries ds (decls.Bean b) in
+    let test : Effective → Bool = λ r. is_dependent r && bytes_eq (text_of_id r.id) u in
+    let found = any-at test all is in
+    let of = all-got (IsRecordOf b) all found.place found.one (records-classed ds b (not (is_replaced ds b.name))) found.at in (
+      (of.0, sym (one_name (text_of_id found.one.id) u (and_parts (is_dependent found.one) _ found.is).1) ∙ ap text_of_id of.1),
+      any-more test is_dependent (λ r both. (and_parts (is_dependent r) _ both).0) all is,
+    )
+
+-- ---- a bean without points and producers needs nothing by its declaration
+
+module _ (ds : List Decl) (b : BeanDecl) where
+  abbrev IsQuiet : Mention → Type 0
+  IsQuiet m = need_in ds b m ≡ []
+
+  abbrev AreQuiet : List Mention → Type 0
+  AreQuiet ms = AllByRecursion IsQuiet ms
+
+  quiet-qualifiers : (quals : List Qual) → AreQuiet (of_qualifiers quals)
+  quiet-qualifiers quals = all-map IsQuiet (UseOf uses.Qualifier) quals (all-each _ (λ q. refl) quals)
+
+  quiet-bindings : (quals : List Qual) → AreQuiet (of_bindings quals)
+  quiet-bindings quals = all-map IsQuiet (UseOf uses.Binding) quals (all-each _ (λ q. refl) quals)
+
+  quiet-attributes : (a : Attributes) → AreQuiet (of_attributes a)
+  quiet-attributes a =
+      let types = map (TypeIn places.Listed) (listed_types a) in
+      all-append IsQuiet (types ++ of_qualifiers a.qualifiers) (map StereotypeOf a.stereotypes)
+      (all-append IsQuiet types (of_qualifiers a.qualifiers)
+      (all-map IsQuiet (TypeIn places.Listed) (listed_types a) (all-each _ (λ t. refl) (listed_types a)))
+      (quiet-qualifiers a.qualifiers))
+      (all-map IsQuiet StereotypeOf a.stereotypes (all-each _ (λ s. refl) a.stereotypes))
+
+  quiet-event : (e : EventDecl) → AreQuiet (of_event e)
+  quiet-event e = (refl, (refl, quiet-qualifiers e.qualifiers))
+
+  quiet-part : (place : PartPlace) (params : List PointDecl) (part : PartDecl) → needs_to_run b place ≡ []
+      → AreQuiet (of_part place params part)
+  quiet-part place params part none = (
+    none,
+    all-append IsQuiet (map (CallOf place params) part.calls) (flat_map of_event part.fires)
+        (all-map IsQuiet (CallOf place params) part.calls (all-each _ (λ c. refl) part.calls))
+        (all-flat IsQuiet of_event quiet-event part.fires),
+  )
+
+  quiet-parts : (place : PartPlace) (part : Option PartDecl) → needs_to_run b place ≡ [] → AreQuiet (of_parts place part)
+  quiet-parts place None none = tt
+  quiet-parts place (Some part) none = quiet-part place [] part none
+
+  quiet-method : (m : MethodDecl) → AreQuiet (of_method m)
+  quiet-method m = (
+    refl,
+    all-append IsQuiet (of_bindings m.bindings) (of_part (parts.Method m.name) [] m.part) (quiet-bindings m.bindings)
+        (quiet-part (parts.Method m.name) [] m.part refl),
+  )
+
+  quiet-disposer : (s : DisposerDecl) → AreQuiet (of_disposer s)
+  quiet-disposer s = (
+    refl,
+    all-append IsQuiet (of_qualifiers s.qualifiers) (BodyOf (parts.Disposer s.name) s.body ∷ []) (quiet-qualifiers s.qualifiers)
+        (refl, tt),
+  )
+
+  quiet-param : (name : List ℕ) (p : PointDecl) → AreQuiet (of_point (points.Observer name) p)
+  quiet-param name p = (refl, (refl, quiet-qualifiers p.qualifiers))
+
+  quiet-observer : (o : ObserverDecl) → AreQuiet (of_observer o)
+  quiet-observer o =
+      let quals = of_qualifiers o.qualifiers in
+      let bindings = of_bindings o.bindings in
+      let params = flat_map (of_point (points.Observer o.name)) o.params in (
+        refl,
+        all-append IsQuiet (quals ++ bindings ++ params) (of_part (parts.Observer o.name) o.params o.part)
+            (all-append IsQuiet (quals ++ bindings) params
+            (all-append IsQuiet quals bindings (quiet-qualifiers o.qualifiers) (quiet-bindings o.bindings))
+            (all-flat IsQuiet (of_point (points.Observer o.name)) (quiet-param o.name) o.params))
+            (quiet-part (parts.Observer o.name) o.params o.part refl),
+      )
+
+  quiet-bean : b.points ≡ [] → b.producers ≡ [] → AreQuiet (mentions (decls.Bean b))
+  unfolding mentions
+  quiet-bean pointless productless =
+      let attributes = of_attributes b.attributes in
+      let bindings = of_bindings b.bindings in
+      let constructed = flat_map (of_point points.Constructor) b.points in
+      let construct = of_parts parts.Construct b.construct in
+      let post = of_parts parts.Post b.post in
+      let pre = of_parts parts.Pre b.pre in
+      let methods = flat_map of_method b.methods in
+      let producers = flat_map of_producer b.producers in
+      let disposers = flat_map of_disposer b.disposers in
+      let first = attributes ++ bindings ++ constructed ++ (construct ++ post ++ pre) in (
+        refl,
+        all-append IsQuiet (first ++ methods ++ producers ++ disposers) (flat_map of_observer b.observers)
+            (all-append IsQuiet (first ++ methods ++ producers) disposers
+            (all-append IsQuiet (first ++ methods) producers
+            (all-append IsQuiet first methods
+            (all-append IsQuiet (attributes ++ bindings ++ constructed) (construct ++ post ++ pre)
+            (all-append IsQuiet (attributes ++ bindings) constructed
+            (all-append IsQuiet attributes bindings (quiet-attributes b.attributes) (quiet-bindings b.bindings))
+            (subst (λ ps. AreQuiet (flat_map (of_point points.Constructor) ps)) (sym pointless) tt))
+            (all-append IsQuiet (construct ++ post) pre
+            (all-append IsQuiet construct post (quiet-parts parts.Construct b.construct refl) (quiet-parts parts.Post b.post refl))
+            (quiet-parts parts.Pre b.pre refl)))
+            (all-flat IsQuiet of_method quiet-method b.methods))
+            (subst (λ ps. AreQuiet (flat_map of_producer ps)) (sym productless) tt))
+            (all-flat IsQuiet of_disposer quiet-disposer b.disposers))
+            (all-flat IsQuiet of_observer quiet-observer b.observers),
+      )
+
+  needs-none : b.points ≡ [] → b.producers ≡ [] → needs_in ds (decls.Bean b) ≡ []
+  needs-none pointless productless = flat-empty (need_in ds b) (mentions (decls.Bean b)) (quiet-bean pointless productless)
+
+-- ---- what an interceptor gives
+
+-- it stands around a bean that is declared, which needs what is chosen for its points
+record Surrounds (ds : List Decl) (i : InterceptorDecl) (u v : List ℕ) : Type 0 where
+  place : ℕ
+  bean : BeanDecl
+  at : slice_get ds place ≡ Some (decls.Bean bean)
+  around : stands_around ds i bean ≡ true
+  text : text_of_id (managed_id bean) ≡ u
+  chosen : has (chosen_for ds i.points) v ≡ true
+
+given-around : (ds : List Decl) (i : InterceptorDecl) (u v : List ℕ) → gives ds u v (decls.Interceptor i) ≡ true → Surrounds ds i u v
+given-around ds i u v is =
+    let test : Decl → Bool = λ d. list_any (is_need_of u v) (need_around ds i (chosen_for ds i.points) d) in
+    let found = any-at test ds (sym (any-flat (is_need_of u v) (need_around ds i (chosen_for ds i.points)) ds) ∙ is) in
+    by found.place found.one found.at found.is
+  where
+    by : (k : ℕ) (d : Decl) → slice_get ds k ≡ Some d → list_any (is_need_of u v) (need_around ds i (chosen_for ds i.points) d) ≡ true
+        → Surrounds ds i u v
+    by k (decls.Bean b) at is = where_it_stands (stands_around ds i b) refl is
+      where
+        need : Need
+        need = (text_of_id (managed_id b), chosen_for ds i.points)
+
+        where_it_stands : (t : Bool) → stands_around ds i b ≡ t → list_any (is_need_of u v) (cond t (need ∷ []) []) ≡ true
+            → Surrounds ds i u v
+        where_it_stands true e is = elim (or_cases (is_need_of u v need) false is) [
+          | inl own ↦ (let both = need-own u v need own in
+              record { place = k; bean = b; at = at; around = e; text = both.0; chosen = both.1 })
+          | inr none ↦ absurd (false≢true none)
+        ]
+        where_it_stands false e is = absurd (false≢true is)
+    by k other at is = absurd (false≢true is)
+
+around-enabled : (ds : List Decl) (i : InterceptorDecl) (b : BeanDecl) → stands_around ds i b ≡ true → is_enabled i ≡ true
+unfolding stands_around
+around-enabled ds i b is = (and_parts (is_enabled i) _ is).0
+
+-- ---- no edge leaves a bean that needs nothing
+
+or-other : (x y : Bool) → (not x || y) ≡ true → x ≡ true → y ≡ true
+or-other x y some is = elim (or_cases (not x) y some) [
+  | inl off ↦ absurd (false≢true (sym (ap not is) ∙ off))
+  | inr on ↦ on
+]
+
+module _ (ds : List Decl) (distinct : AreDistinct ds) (named : AreNamed ds) where
+  bean-leaves_none : (k : ℕ) (b : BeanDecl) (u v : List ℕ) → slice_get ds k ≡ Some (decls.Bean b) → is_needless ds (decls.Bean b) ≡ true
+      → is_node ds u (decls.Bean b) ≡ true → list_any (gives ds u v) ds ≡ true → ⊥
+  bean-leaves_none k b u v at needless node given =
+      let found = any-at (gives ds u v) ds given in by found.place found.one found.at found.is
+    where
+      text : IsText u b
+      text = (node-classed ds b u node).0
+
+      nothing : ((is_empty b.points && is_empty b.producers) && is_empty (names_of_bean ds b)) ≡ true
+      nothing = or-other (list_any is_dependent (entries ds (decls.Bean b))) _ needless (node-classed ds b u node).1
+
+      own : (is_empty b.points ≡ true) × (is_empty b.producers ≡ true)
+      own = and_parts (is_empty b.points) (is_empty b.producers)
+          (and_parts (is_empty b.points && is_empty b.producers) (is_empty (names_of_bean ds b)) nothing).0
+
+      alone : names_of_bean ds b ≡ []
+      alone = none-empty (names_of_bean ds b)
+          (and_parts (is_empty b.points && is_empty b.producers) (is_empty (names_of_bean ds b)) nothing).1
+
+      by : (j : ℕ) (e : Decl) → slice_get ds j ≡ Some e → gives ds u v e ≡ true → ⊥
+      by j (decls.Bean c) there is =
+          let same = one-class ds k j b c u distinct named at there text (given-classed ds c u v is) in
+          let gives_own : gives ds u v (decls.Bean b) ≡ true = ap (λ d. gives ds u v (decls.Bean d)) same ∙ is in
+          false≢true (sym (ap (list_any (is_need_of u v)) (needs-none ds b (none-empty b.points own.0) (none-empty b.producers own.1)))
+          ∙ gives_own)
+      by j (decls.Interceptor i) there is =
+          let stands = given-around ds i u v is in
+          let same = one-class ds k stands.place b stands.bean u distinct named at stands.at text (None, sym stands.text) in
+          let around : stands_around ds i b ≡ true = ap (stands_around ds i) same ∙ stands.around in
+          false≢true (sym (ap (λ names. has names i.name) alone)
+          ∙ stands-named ds b j i distinct there (around-enabled ds i b around) ∙ around)
+      by j other there is = false≢true is
+
+  leaves_none : (k : ℕ) (d : Decl) (u v : List ℕ) → slice_get ds k ≡ Some d → is_needless ds d ≡ true → is_node ds u d ≡ true
+      → list_any (gives ds u v) ds ≡ true → ⊥
+  leaves_none k (decls.Bean b) u v at needless node given = bean-leaves_none k b u v at needless node given
+  leaves_none k other u v at needless node given = false≢true node
+
+  gives_none : (j : ℕ) (e : Decl) (u v : List ℕ) → slice_get ds j ≡ Some e → is_needless ds e ≡ true → gives ds u v e ≡ true
+      → list_any (is_node ds u) ds ≡ true → list_any (gives ds u v) ds ≡ true → ⊥
+  gives_none j (decls.Bean c) u v there needless is node given =
+      let found = any-at (is_node ds u) ds node in by found.place found.one found.at found.is
+    where
+      by : (k : ℕ) (d : Decl) → slice_get ds k ≡ Some d → is_node ds u d ≡ true → ⊥
+      by k (decls.Bean b) at node =
+          let same = one-class ds k j b c u distinct named at there (node-classed ds b u node).0 (given-classed ds c u v is) in
+          bean-leaves_none j c u v there needless (sym (ap (λ d. is_node ds u (decls.Bean d)) same) ∙ node) given
+      by k other at node = false≢true node
+  gives_none j (decls.Interceptor i) u v there needless is node given =
+      let stands = given-around ds i u v is in
+      let none = none-empty i.points (or-other (is_enabled i) (is_empty i.points) needless
+      (around-enabled ds i stands.bean stands.around)) in
+      false≢true (sym (ap (λ ps. has (chosen_for ds ps) v) none) ∙ stands.chosen)
+  gives_none j other u v there needless is node given = false≢true is
+
+  -- ---- circles stay within the others
+
+  module _ (p : Decl → Bool) (others : AllByRecursion (λ d. p d ≡ false → is_needless ds d ≡ true) ds) where
+    node-kept : (u v : List ℕ) → list_any (is_node ds u) ds ≡ true → list_any (gives ds u v) ds ≡ true
+        → list_any (is_node ds u) (filter p ds) ≡ true
+    node-kept u v node given = let found = any-at (is_node ds u) ds node in by found.place found.one found.at found.is (p found.one) refl
+      where
+        by : (k : ℕ) (d : Decl) → slice_get ds k ≡ Some d → is_node ds u d ≡ true → (b : Bool) → p d ≡ b
+            → list_any (is_node ds u) (filter p ds) ≡ true
+        by k d at is true kept = kept-any (is_node ds u) p ds k d at kept is
+        by k d at is false out =
+            absurd (leaves_none k d u v at (all-got (λ d. p d ≡ false → is_needless ds d ≡ true) ds k d others at out) is given)
+
+    given-kept : (u v : List ℕ) → list_any (is_node ds u) ds ≡ true → list_any (gives ds u v) ds ≡ true
+        → list_any (gives ds u v) (filter p ds) ≡ true
+    given-kept u v node given = let found = any-at (gives ds u v) ds given in by found.place found.one found.at found.is (p found.one) refl
+      where
+        by : (j : ℕ) (e : Decl) → slice_get ds j ≡ Some e → gives ds u v e ≡ true → (b : Bool) → p e ≡ b
+            → list_any (gives ds u v) (filter p ds) ≡ true
+        by j e there is true kept = kept-any (gives ds u v) p ds j e there kept is
+        by j e there is false out =
+            absurd (gives_none j e u v there (all-got (λ d. p d ≡ false → is_needless ds d ≡ true) ds j e others there out) is node given)
+
+    edge-kept : (u v w : List ℕ) → leads (next_in ds ds) u v ≡ true → leads (next_in ds ds) v w ≡ true
+        → leads (next_in ds (filter p ds)) u v ≡ true
+    edge-kept u v w first second =
+        let edge = edge-is ds ds u v first in
+        let next = edge-is ds ds v w second in
+        is-edge ds (filter p ds) u v (record {
+          from = node-kept u v edge.from edge.given;
+          to = node-kept v w next.from next.given;
+          given = given-kept u v edge.from edge.given;
+        })
+
+    goes-on : (n : ℕ) (u y w : List ℕ) → Steps (leads (next_in ds ds)) n u y → leads (next_in ds ds) y w ≡ true
+        → (z : List ℕ) × (leads (next_in ds ds) u z ≡ true)
+    goes-on zero u y w steps out = (w, subst (λ x. leads (next_in ds ds) x w ≡ true) (sym steps) out)
+    goes-on (suc n) u y w steps out = (steps.0, steps.1)
+
+    steps-kept : (n : ℕ) (x y w : List ℕ) → Steps (leads (next_in ds ds)) n x y → leads (next_in ds ds) y w ≡ true
+        → Steps (leads (next_in ds (filter p ds))) n x y
+    steps-kept zero x y w steps out = steps
+    steps-kept (suc n) x y w (u, first, rest) out =
+        let next = goes-on n u y w rest out in
+        (u, edge-kept x u next.0 first next.1, steps-kept n u y w rest out)
+
+-- no circle goes through what needs nothing, so where the others have none there is none
+pub circle_whole : (ds : List Decl) (p : Decl → Bool) → AreDistinct ds → AreNamed ds
+    → AllByRecursion (λ d. p d ≡ false → is_needless ds d ≡ true) ds
+    → HaveNoCircle ds (filter p ds) → HaveNoCircle ds ds
+circle_whole ds p distinct named needless none x circle =
+    none x (circle.0, steps-kept ds distinct named p needless (suc circle.0) x x ((circle.1).0) circle.1 ((circle.1).1))

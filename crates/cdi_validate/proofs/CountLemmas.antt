@@ -1,0 +1,201 @@
+-- Names of enabled beans, as they are counted.
+use Rattle.std.proofs.Common.{◌≡◌, ◌≤◌, ◌<◌, ◌+◌, ℕ, suc, Bool, true, false, cond, ◌&&◌, ◌||◌, nat_eq, List, [], ◌∷◌, ◌++◌, length, map}
+use Rattle.std.proofs.Common.{filter, drop, get_or}
+use Rattle.std.proofs.Common.{Ordering, Less, Equal, Greater, Some, refl, sym, subst, ap, ◌∙◌, inl, inr, arith}
+use Rattle.std.specs.List.{AllByRecursion, AllPairs, flat_map, list_all}
+use Rattle.std.specs.BTreeSet.{insert_key}
+use Rattle.std.specs.Str.{bytes_eq}
+use Rattle.std.proofs.lemmas.Bool.{false≢true, or_cases, or_left, or_right}
+use Rattle.std.proofs.lemmas.Grind.{flat_map-append}
+use Rattle.std.proofs.lemmas.List.{at_drop_more, length-append}
+use Rattle.cdi_model.specs.Bytes.{byte_order}
+use Rattle.cdi_model.specs.Decl.{kind_of, name_of_decl}
+use Rattle.cdi_model.specs.DeclList.{find_decl, AreDistinct}
+use Rattle.cdi_model.specs.declared.decl.Decl.{Decl}
+use Rattle.cdi_match.specs.Chain.{has}
+use Rattle.cdi_match.specs.Order.{in_order}
+use Rattle.cdi_match.proofs.Names.{one_name, same_text}
+use Rattle.cdi_match.proofs.OrderLemmas.{in_order-has, in_order-rises, one_order}
+use Rattle.cdi_effective.specs.Beans.{beans, entries}
+use Rattle.cdi_effective.specs.declared.records.Effective.{Effective}
+use Rattle.cdi_faults.specs.declared.fault.Fault.{Fault}
+use Rattle.cdi_faults.specs.declared.fault.Fault.TheVariants as faults_are
+use Rattle.cdi_validate.specs.Faults.{enabled_name, enabled_names, goes_on, name_prefixes}
+use Rattle.cdi_validate.specs.Records.{records_by}
+use Rattle.cdi_validate.specs.Together.{is_nameless, names_by, AreNamesApart, HaveNoClash}
+use Rattle.cdi_validate.proofs.ApartLemmas.{Apart, apart-by, apart-pairs}
+use Rattle.cdi_validate.proofs.FoundLemmas.{records-next, records-of-found}
+
+-- ---- names among others
+
+-- what holds of all of some names holds of one that is among them
+pub all-has : (P : List ℕ → Type 0) (names : List (List ℕ)) (s : List ℕ) → AllByRecursion P names → has names s ≡ true → P s
+all-has P [] s all among = absurd (false≢true among)
+all-has P (n ∷ ns) s all among = elim (or_cases (bytes_eq n s) (has ns s) among) [
+  | inl here ↦ subst P (one_name n s here) all.0
+  | inr later ↦ all-has P ns s all.1 later
+]
+
+pub has-all : (P : List ℕ → Type 0) (names : List (List ℕ)) → ((s : List ℕ) → has names s ≡ true → P s) → AllByRecursion P names
+has-all P [] each = tt
+has-all P (n ∷ ns) each = (
+  each n (or_left (bytes_eq n n) (has ns n) (same_text n n refl)),
+  has-all P ns (λ s among. each s (or_right (bytes_eq n s) (has ns s) among)),
+)
+
+abbrev pub Differ : List ℕ → List ℕ → Type 0
+Differ x y = bytes_eq x y ≡ false
+
+not-has : (n : List ℕ) (names : List (List ℕ)) → has names n ≡ false → AllByRecursion (Differ n) names
+not-has n names none = has-all (Differ n) names (λ m among. by m among (bytes_eq n m) refl)
+  where
+    by : (m : List ℕ) → has names m ≡ true → (b : Bool) → bytes_eq n m ≡ b → b ≡ false
+    by m among true e = absurd (false≢true (sym none ∙ ap (has names) (one_name n m e) ∙ among))
+    by m among false e = refl
+
+-- ---- the names of the bean list
+
+-- they are those of the bean list
+names-listed : (ds es : List Decl) → flat_map enabled_name (flat_map (entries ds) es) ≡ flat_map (names_by ds) es
+names-listed ds [] = refl
+names-listed ds (e ∷ es) =
+    flat_map-append enabled_name (entries ds e) (flat_map (entries ds) es) ∙ ap (λ names. names_by ds e ++ names) (names-listed ds es)
+
+pub names-all : (ds : List Decl) → flat_map enabled_name (beans ds) ≡ flat_map (names_by ds) ds
+unfolding beans
+names-all ds = names-listed ds ds
+
+-- ---- what gives nothing
+
+all-fail : (p : List ℕ → Bool) (names : List (List ℕ)) → filter p names ≡ [] → AllByRecursion (λ n. p n ≡ false) names
+all-fail p [] none = tt
+all-fail p (n ∷ ns) none = by (p n) refl none (all-fail p ns)
+  where
+    by : (b : Bool) → p n ≡ b → cond b (n ∷ filter p ns) (filter p ns) ≡ []
+        → (filter p ns ≡ [] → AllByRecursion (λ m. p m ≡ false) ns) → (p n ≡ false) × AllByRecursion (λ m. p m ≡ false) ns
+    by true e some rest = absurd (let no : n ∷ filter p ns ≡ [] = some in cc)
+    by false e none rest = (e, rest none)
+
+each-none : {X : Type 0} (f : List ℕ → List X) (names : List (List ℕ)) → flat_map f names ≡ [] → AllByRecursion (λ n. f n ≡ []) names
+each-none f [] none = tt
+each-none f (n ∷ ns) none = by (f n) refl none (each-none f ns)
+  where
+    by : (xs : List _) → f n ≡ xs → xs ++ flat_map f ns ≡ [] → (flat_map f ns ≡ [] → AllByRecursion (λ m. f m ≡ []) ns)
+        → (f n ≡ []) × AllByRecursion (λ m. f m ≡ []) ns
+    by [] e rest later = (e, later rest)
+    by (x ∷ xs) e some later = absurd (let no : x ∷ (xs ++ flat_map f ns) ≡ [] = some in cc)
+
+none-mapped : {X Y : Type 0} (f : X → Y) (xs : List X) → map f xs ≡ [] → xs ≡ []
+none-mapped f [] none = refl
+none-mapped f (x ∷ xs) some = absurd (let no : f x ∷ map f xs ≡ [] = some in cc)
+
+-- ---- no name continues another
+
+-- none of some names continues one of them
+abbrev pub NoneGoesOn : List (List ℕ) → Type 0
+NoneGoesOn names = (x y : List ℕ) → has names x ≡ true → has names y ≡ true → goes_on x y ≡ false
+
+none-by_prefixes : (bs : List Effective) → name_prefixes bs ≡ [] → NoneGoesOn (flat_map enabled_name bs)
+none-by_prefixes bs none x y first second =
+    let names = flat_map enabled_name bs in
+    let all = enabled_names bs in
+    let pairs : List ℕ → List Fault = λ z. map (faults_are.NamePrefix z) (filter (goes_on z) all) in
+    let behind : pairs x ≡ [] = all-has (λ z. pairs z ≡ []) all x (each-none pairs all none) (in_order-has names x ∙ first) in
+    all-has (λ z. goes_on x z ≡ false) all y
+    (all-fail (goes_on x) all (none-mapped (faults_are.NamePrefix x) (filter (goes_on x) all) behind)) (in_order-has names y ∙ second)
+
+-- ---- as many names in order as names
+
+insert-length : (k : List ℕ) (ms : List (List ℕ)) → length (insert_key byte_order ms k) ≤ suc (length ms)
+insert-length k [] = omega arith
+insert-length k (m ∷ ms) = by (byte_order k m) refl (insert-length k ms)
+  where
+    by : (o : Ordering) → byte_order k m ≡ o → length (insert_key byte_order ms k) ≤ suc (length ms)
+        → length (insert_key byte_order (m ∷ ms) k) ≤ suc (suc (length ms))
+    by Less e rest = rw e (omega arith)
+    by Equal e rest = rw e (omega arith)
+    by Greater e rest = rw e (omega (arith, rest))
+
+order-length : (names : List (List ℕ)) → length (in_order names) ≤ length names
+order-length [] = omega arith
+order-length (n ∷ ns) =
+    let one = insert-length n (in_order ns) in
+    let rest = order-length ns in
+    omega (arith, one, rest)
+
+-- a name that is among the others adds none
+order-again : (n : List ℕ) (ns : List (List ℕ)) → has ns n ≡ true → in_order (n ∷ ns) ≡ in_order ns
+order-again n ns among = one_order (in_order (n ∷ ns)) (in_order ns) (in_order-rises (n ∷ ns)) (in_order-rises ns)
+    (λ s. in_order-has (n ∷ ns) s ∙ by s (bytes_eq n s) refl ∙ sym (in_order-has ns s))
+  where
+    by : (s : List ℕ) (b : Bool) → bytes_eq n s ≡ b → (bytes_eq n s || has ns s) ≡ has ns s
+    by s true e = rw e (sym (ap (has ns) (sym (one_name n s e)) ∙ among))
+    by s false e = rw e refl
+
+-- so where there are as many, they differ
+names-differ : (names : List (List ℕ)) → length names ≤ length (in_order names) → Apart Differ names
+names-differ [] many = tt
+names-differ (n ∷ ns) many = by (has ns n) refl (names-differ ns)
+  where
+    by : (b : Bool) → has ns n ≡ b → (length ns ≤ length (in_order ns) → Apart Differ ns) → AllByRecursion (Differ n) ns × Apart Differ ns
+    by true e rest =
+        let again = subst (λ l. suc (length ns) ≤ length l) (order-again n ns e) many in
+        let fewer = order-length ns in
+        absurd (omega (arith, again, fewer))
+    by false e rest =
+        let one = insert-length n (in_order ns) in
+        (not-has n ns e, rest (omega (arith, one, many)))
+
+-- and where none continues another besides, they are apart
+pub apart-if_as_many : (ds : List Decl) → length (flat_map enabled_name (beans ds)) ≤ length (enabled_names (beans ds))
+    → name_prefixes (beans ds) ≡ [] → HaveNoClash ds ds
+apart-if_as_many ds many none =
+    let names = flat_map enabled_name (beans ds) in
+    let on = none-by_prefixes (beans ds) none in
+    let apart : Apart AreNamesApart names = apart-by Differ AreNamesApart (λ x. has names x ≡ true)
+    (λ x y first second other. record { differ = other; onward = on x y first second; back = on y x second first }) names
+    (has-all (λ x. has names x ≡ true) names (λ x among. among)) (names-differ names many) in
+    subst (AllPairs AreNamesApart) (names-all ds) (apart-pairs AreNamesApart names apart)
+
+-- ---- declarations without names, as they are found
+
+pub nameless-by : (ds : List Decl) (d : Decl) (records : List Effective) (count : ℕ)
+    → find_decl (kind_of d) (name_of_decl d) ds ≡ Some d → records ≡ records_by ds d → count ≡ length (flat_map enabled_name records)
+    → is_nameless ds d ≡ nat_eq count 0
+nameless-by ds d records count found are counted =
+    ap (λ bs. nat_eq (length (flat_map enabled_name bs)) 0) (sym (are ∙ records-of-found ds d found))
+    ∙ ap (λ n. nat_eq n 0) (sym counted)
+
+-- whether all of some are so, from one of them on
+pub all-from : {X : Type 0} (p : Decl → Bool) (now : X → Decl) (xs : List X) (i : ℕ) (x : X) (b : Bool) → i < length xs
+    → x ≡ get_or xs i x → p (now x) ≡ b → list_all p (map now (drop i xs)) ≡ (b && list_all p (map now (drop (i + 1) xs)))
+all-from p now xs i x b within at is =
+    at_drop_more (λ l. list_all p (map now l)) xs i x within
+    ∙ ap (λ y. p (now y) && list_all p (map now (drop (i + 1) xs))) (sym at)
+    ∙ ap (λ t. t && list_all p (map now (drop (i + 1) xs))) is
+
+-- ---- how many names there are
+
+-- the names of enabled beans of some declarations
+abbrev listed : List Decl → List Decl → List (List ℕ)
+listed ds es = flat_map enabled_name (flat_map (entries ds) es)
+
+-- with those of one more declaration
+pub count-next : (ds es rest : List Decl) (d : Decl) (records : List Effective) (count : ℕ) → AreDistinct ds → es ++ d ∷ rest ≡ ds
+    → records ≡ records_by ds d → count ≡ length (flat_map enabled_name records)
+    → length (listed ds es) + count ≡ length (listed ds (es ++ d ∷ []))
+count-next ds es rest d records count distinct split are counted =
+    ap (λ n. length (listed ds es) + n) counted
+    ∙ sym (length-append (listed ds es) (flat_map enabled_name records))
+    ∙ ap length (sym (flat_map-append enabled_name (flat_map (entries ds) es) records)
+    ∙ ap (flat_map enabled_name) (records-next ds es rest d records distinct split are))
+
+-- there are no fewer in all
+pub count-gone : (ds es rest : List Decl) → es ++ rest ≡ ds → length (listed ds es) ≤ length (flat_map enabled_name (beans ds))
+unfolding beans
+count-gone ds es rest split =
+    let whole : flat_map enabled_name (beans ds) ≡ listed ds es ++ listed ds rest =
+    ap (listed ds) (sym split) ∙ ap (flat_map enabled_name) (flat_map-append (entries ds) es rest)
+    ∙ flat_map-append enabled_name (flat_map (entries ds) es) (flat_map (entries ds) rest) in
+    let sum = ap length whole ∙ length-append (listed ds es) (listed ds rest) in
+    omega (arith, sum)

@@ -1,0 +1,11 @@
+use Rattle.std.proofs.Common.{map, sym, ap, ◌∙◌, arith}
+use Rattle.std.specs.List.{list_all}
+use Rattle.std.proofs.lemmas.List.{drop_all}
+use Rattle.cdi_validate.specs.Together.{is_needless}
+use Rattle.cdi_validate.proofs.circles.are_needless.Goals as goal
+
+pub returns : goal.returns
+returns g c =
+    ap (λ left. list_all (is_needless (g.V.View.list c.args.view.now)) (map (λ d. d.now) left))
+    (sym (drop_all c.loop-decl.decl-index c.args.decls.now (omega (arith, c.loop-decl-test.false))))
+    ∙ c.loop-decl.invariant

@@ -1,0 +1,48 @@
+use Rattle.std.proofs.Common.{◌≡◌, ◌++◌, [], ◌∷◌, length, sym, subst, ap, ◌∙◌, append_assoc, arith}
+use Rattle.std.specs.List.{flat_map}
+use Rattle.std.proofs.lemmas.Bool.{le-leb, lt-leb}
+use Rattle.cdi_model.specs.DeclList.{AreDistinct}
+use Rattle.cdi_effective.specs.Beans.{beans}
+use Rattle.cdi_validate.specs.Faults.{enabled_name}
+use Rattle.cdi_validate.proofs.FoundLemmas.{all-gone}
+use Rattle.cdi_validate.proofs.CountLemmas.{count-gone, count-next}
+use Rattle.cdi_validate.proofs.names.have_names_at_most.Goals as goal
+
+pub returns-then-count-left : goal.returns-then-count-left
+returns-then-count-left g c =
+    let ds = g.V.View.list c.args.view.now in
+    let gone = c.loop-decl.invariant in
+    let d = c.in-Some.decl.now in
+    let rest = c.next.new.self in
+    let split : gone.0 ++ d ∷ rest ≡ ds = ap (λ left. gone.0 ++ left) (sym c.in-Some.ensures.steps) ∙ gone.1 in
+    let next = count-next ds gone.0 rest d c.records_of.result.now c.count_of_names_in-count.result
+    (subst AreDistinct c.decls.ensures c.iter-decl-items.ensures.distinct) split c.records_of.ensures c.count_of_names_in-count.ensures in
+    let all = count-gone ds (gone.0 ++ d ∷ []) rest (append_assoc gone.0 (d ∷ []) rest ∙ split) in
+    let left = gone.2 in
+    let more = c.if-count-left.true in
+    sym (lt-leb (length (flat_map enabled_name (beans ds))) c.args.most (omega (arith, next, all, left, more)))
+
+pub loop-decl-preserved : goal.loop-decl-preserved
+loop-decl-preserved g c =
+    let ds = g.V.View.list c.args.view.now in
+    let gone = c.loop-decl.invariant in
+    let d = c.in-Some.decl.now in
+    let rest = c.next.new.self in
+    let split : gone.0 ++ d ∷ rest ≡ ds = ap (λ left. gone.0 ++ left) (sym c.in-Some.ensures.steps) ∙ gone.1 in
+    let next = count-next ds gone.0 rest d c.records_of.result.now c.count_of_names_in-count.result
+    (subst AreDistinct c.decls.ensures c.iter-decl-items.ensures.distinct) split c.records_of.ensures c.count_of_names_in-count.ensures in
+    let left = gone.2 in
+    let fewer = c.if-count-left.false in (
+      gone.0 ++ d ∷ [],
+      append_assoc gone.0 (d ∷ []) rest ∙ split,
+      omega (arith, next, left, fewer),
+    )
+
+pub returns : goal.returns
+returns g c =
+    let ds = g.V.View.list c.args.view.now in
+    let gone = c.loop-decl.invariant in
+    let all = ap (λ bs. length (flat_map enabled_name bs))
+    (all-gone ds gone.0 c.loop-decl.decl-iterator c.in-None.ensures.steps.0 gone.1) in
+    let left = gone.2 in
+    sym (le-leb (length (flat_map enabled_name (beans ds))) c.args.most (omega (arith, all, left)))
