@@ -10,6 +10,7 @@ import copy
 
 from batches import BAD_COMMAND, batch, is_full, put_block
 from chains import CALLBACKS, PARTS, places_of
+from reading import LIST_LIMIT
 from spoiling import tables_of
 from texts import ANY, DEFAULT, KEYS_OF_USES, Event, line_of, text_of_declaration, text_of_put
 
@@ -339,7 +340,8 @@ class Touching:
             return word, name, tuple(self.spelt_otherwise("qualifier", uses))
         uses = self.other_uses("qualifier", uses)
         further = self.chance.choice([ANY, DEFAULT, ("Named", "a")])
-        return word, name, tuple(uses + [further] * (self.maybe(0.3) and further[0] not in {use[0] for use in uses}))
+        is_further = len(uses) < LIST_LIMIT and self.maybe(0.3) and further[0] not in {use[0] for use in uses}
+        return word, name, tuple(uses + [further] * is_further)
 
     def a_place(self, name):
         declaration = self.model.find("bean", name)
