@@ -18,7 +18,7 @@ use Rattle.cdi_legal.specs.declared.entry.Entry.{Entry}
 use Rattle.cdi_legal.proofs.Following.{ends_follow, runs_follow, then}
 use Rattle.cdi_legal.proofs.Growing.{ends_grow, runs_grow}
 use Rattle.cdi_legal.proofs.Settling.{Settled, context_settled, runs_settled, sound_apart}
-use Rattle.cdi_legal.proofs.Sharing.{by_ends, runs_single}
+use Rattle.cdi_legal.proofs.Sharing.{ends_single, runs_single}
 
 -- ---- at most one instance of each bean with a normal scope
 
@@ -31,11 +31,11 @@ run_single {s} {c} {a} {t} {o} {b} l q = single_of s b l.end.standing l.leaves (
 
 pub request_end_single : {s : Scene} {a : Standing} {t : List Entry} {b : Standing} → LegalRequestEnd s a t b
     → IsSingle s a.live → IsSingle s b.live
-request_end_single {s} {a} {t} {b} l q = single_of s b (closed l.end.standing) l.leaves (by_ends l.ends q)
+request_end_single {s} {a} {t} {b} l q = single_of s b (closed l.end.standing) l.leaves (ends_single l.ends q)
 
 pub end_single : {s : Scene} {a : Standing} {t : List Entry} {b : Standing} → LegalEnd s a t b
     → IsSingle s a.live → IsSingle s b.live
-end_single {s} {a} {t} {b} l q = single_of s b (closed l.end.standing) l.leaves (by_ends l.then (by_ends l.first q))
+end_single {s} {a} {t} {b} l q = single_of s b (closed l.end.standing) l.leaves (ends_single l.then (ends_single l.first q))
 
 pub commands_keep_single : CommandsKeepSingle
 commands_keep_single = record {

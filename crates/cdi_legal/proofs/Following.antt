@@ -10,9 +10,9 @@ use Rattle.cdi_legal.specs.LegalRun.{Runs, Command}
 use Rattle.cdi_legal.specs.Moment.{Moment, step, put, ask_more}
 use Rattle.cdi_legal.specs.declared.entry.Entry.{Entry}
 use Rattle.cdi_legal.specs.declared.entry.Entry.TheVariants.{Create}
-use Rattle.cdi_legal.proofs.Along.{IsAlong, ends_along, legal_along, runs_along}
+use Rattle.cdi_legal.proofs.Along.{begins_any, Asked, IsAlong, IsKept, ends_along, legal_along, runs_along}
 
-after-append : (s : Standing) (xs ys : List Entry) → after s (xs ++ ys) ≡ after (after s xs) ys
+pub after-append : (s : Standing) (xs ys : List Entry) → after s (xs ++ ys) ≡ after (after s xs) ys
 after-append s [] ys = refl
 after-append s (x ∷ xs) ys = after-append (step s x) xs ys
 
@@ -44,17 +44,25 @@ asking m m' h = record {
   standing = ap (λ (x : Moment). x.standing) h;
 }
 
-follows_along : IsAlong Follows
-follows_along = record {
-  keeps = record { none = none; then = then; entry = λ e m m' other h. entry e m m' h; asking = asking };
-  create = λ i o m m' h. entry (Create i o) m m' h;
+follows_kept : IsKept Follows
+follows_kept = record { none = none; then = then; entry = λ e m m' other h. entry e m m' h }
+
+abbrev Nothing : Asked
+Nothing b o m = Unit {0}
+
+follows_along : (s : Scene) → IsAlong s Nothing Follows
+follows_along s = record {
+  keeps = follows_kept;
+  asking = λ m m' few h. asking m m' h;
+  may = λ b o m may. tt;
+  create = λ b i o m m' may room of_bean h. entry (Create i o) m m' h;
 }
 
 pub ends_follow : {s : Scene} {e : End} {m m' : Moment} → Ends s e m m' → Follows m m'
-ends_follow e = ends_along follows_along.keeps e
+ends_follow e = ends_along follows_kept e
 
 pub legal_follows : {s : Scene} {k : ℕ} {x : Node} {a : Answer} {m m' : Moment} → Legal s k x m a m' → Follows m m'
-legal_follows l = legal_along follows_along l
+legal_follows {s} {k} {x} {a} {m} l = legal_along (follows_along s) l (begins_any Nothing (λ b o m. tt) x m)
 
 pub runs_follow : {s : Scene} {c : Command} {m : Moment} {o : Outcome} {m' : Moment} → Runs s c m o m' → Follows m m'
-runs_follow r = runs_along follows_along r
+runs_follow {s} r = runs_along (follows_along s) r

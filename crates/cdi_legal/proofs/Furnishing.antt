@@ -26,7 +26,8 @@ use Rattle.cdi_legal.specs.Ends.{Ends, End, Held}
 use Rattle.cdi_legal.specs.Ends as ends
 use Rattle.cdi_legal.specs.Furnished.{HasDependents}
 use Rattle.cdi_legal.specs.Keeps.{IsStill}
-use Rattle.cdi_legal.specs.Moment.{Moment, step, put, is_create}
+use Rattle.cdi_legal.specs.Moment as effects
+use Rattle.cdi_legal.specs.Moment.{applied, effect, is_beginning, is_create, put, step, Effect, Moment}
 use Rattle.cdi_legal.specs.declared.entry.Entry.{Entry}
 use Rattle.cdi_legal.specs.declared.entry.Entry.TheVariants as entries
 use Rattle.cdi_legal.proofs.Along.{IsKept, ends_along, touch_along}
@@ -136,29 +137,20 @@ inside K n actor p Nobody e k out = cc
 -- ---- steps of ends
 
 -- what holds of each live instance by its id and owner is kept where none begins
+all-after : (P : InstanceId → Owner → Type 0) (x : Effect) (s : Standing) → is_beginning x ≡ false
+    → AllByRecursion (λ i. P i.id i.owner) s.live → AllByRecursion (λ i. P i.id i.owner) (applied s x).live
+all-after P (effects.begins id owner) s h a = cc
+all-after P (effects.readies number product) s h a =
+    all-map _ _ (finish number product) s.live (λ i p. rw ((same-finish number product i).0, (same-finish number product i).1) p) a
+all-after P (effects.ends number) s h a = all-without _ number s.live a
+all-after P (effects.stores number Target value) s h a =
+    all-map _ _ (keep number value) s.live (λ i p. rw ((same-keep number value i).0, (same-keep number value i).1) p) a
+all-after P (effects.stores number (Interceptor q) value) s h a = a
+all-after P effects.none s h a = a
+
 pub all-step : (P : InstanceId → Owner → Type 0) (e : Entry) (s : Standing) → is_create e ≡ false
     → AllByRecursion (λ i. P i.id i.owner) s.live → AllByRecursion (λ i. P i.id i.owner) (step s e).live
-all-step P (entries.Create id owner) s h a = cc
-all-step P (entries.Ready id product) s h a =
-    all-map _ _ (finish id.number product) s.live (λ i p. rw (
-      (same-finish id.number product i).0,
-      (same-finish
-          id.number product i).1,
-    ) p) a
-all-step P (entries.Broken id failure) s h a = all-without _ id.number s.live a
-all-step P (entries.Stored number Target value) s h a =
-    all-map _ _ (keep number value) s.live (λ i p. rw ((same-keep number value i).0, (same-keep number value i).1) p) a
-all-step P (entries.Stored number (Interceptor q) value) s h a = a
-all-step P (entries.Gone id) s h a = all-without _ id.number s.live a
-all-step P (entries.Enter seat arg) s h a = a
-all-step P (entries.Loaded value) s h a = a
-all-step P (entries.Called seat site arg) s h a = a
-all-step P (entries.Fired seat site arg) s h a = a
-all-step P (entries.Proceeded arg) s h a = a
-all-step P (entries.Got outcome) s h a = a
-all-step P (entries.Leave outcome) s h a = a
-all-step P (entries.Skip observer) s h a = a
-all-step P (entries.Destroy id) s h a = a
+all-step P e s h a = all-after P (effect e) s h a
 
 abbrev LeavesAll : (InstanceId → Owner → Type 0) → Moment → Moment → Type 0
 LeavesAll P m m' = AllByRecursion (λ i. P i.id i.owner) m.standing.live
@@ -171,73 +163,50 @@ all-kept P = record {
   entry = λ e m m' other h a.
       subst (λ (x : Moment). AllByRecursion (λ i. P i.id i.owner) x.standing.live) (sym h) (all-step P e m.standing
       other a);
-  asking = λ m m' h a. subst (λ (x : Moment). AllByRecursion (λ i. P i.id i.owner) x.standing.live) (sym h) a;
 }
 
 pub ends-all : (P : InstanceId → Owner → Type 0) {s : Scene} {e : End} {m m' : Moment} → Ends s e m m'
     → LeavesAll P m m'
 ends-all P p = ends_along (all-kept P) p
 
-rises-step : (e : Entry) (s : Standing) → is_create e ≡ false → Rises s → Rises (step s e)
-rises-step (entries.Create id owner) s h r = cc
-rises-step (entries.Ready id product) s h r = IsRising-finished s.given id.number product s.live r
-rises-step (entries.Broken id failure) s h r = IsRising-without s.given id.number s.live r
-rises-step (entries.Stored number Target value) s h r = IsRising-stored s.given number value s.live r
-rises-step (entries.Stored number (Interceptor q) value) s h r = r
-rises-step (entries.Gone id) s h r = IsRising-without s.given id.number s.live r
-rises-step (entries.Enter seat arg) s h r = r
-rises-step (entries.Loaded value) s h r = r
-rises-step (entries.Called seat site arg) s h r = r
-rises-step (entries.Fired seat site arg) s h r = r
-rises-step (entries.Proceeded arg) s h r = r
-rises-step (entries.Got outcome) s h r = r
-rises-step (entries.Leave outcome) s h r = r
-rises-step (entries.Skip observer) s h r = r
-rises-step (entries.Destroy id) s h r = r
+rises-after : (x : Effect) (s : Standing) → is_beginning x ≡ false → Rises s → Rises (applied s x)
+rises-after (effects.begins id owner) s h r = cc
+rises-after (effects.readies number product) s h r = IsRising-finished s.given number product s.live r
+rises-after (effects.ends number) s h r = IsRising-without s.given number s.live r
+rises-after (effects.stores number Target value) s h r = IsRising-stored s.given number value s.live r
+rises-after (effects.stores number (Interceptor q) value) s h r = r
+rises-after effects.none s h r = r
 
 pub rises-kept : IsKept (λ m m'. Rises m.standing → Rises m'.standing)
 rises-kept = record {
   none = λ m r. r;
   then = λ x y z p q r. q (p r);
-  entry = λ e m m' other h r. subst (λ (x : Moment). Rises x.standing) (sym h) (rises-step e m.standing other r);
-  asking = λ m m' h r. subst (λ (x : Moment). Rises x.standing) (sym h) r;
+  entry = λ e m m' other h r. subst (λ (x : Moment). Rises x.standing) (sym h) (rises-after (effect e) m.standing other r);
 }
 
 pub ends-rise : {s : Scene} {e : End} {m m' : Moment} → Ends s e m m' → Rises m.standing → Rises m'.standing
 ends-rise p = ends_along rises-kept p
 
--- the entry takes no instance away, begins none and makes none ready
+-- the effect takes no instance away, begins none and makes none ready
+abbrev IsPlainEffect : Effect → Type 0
+IsPlainEffect (effects.begins id owner) = ⊥
+IsPlainEffect (effects.readies number product) = ⊥
+IsPlainEffect (effects.ends number) = ⊥
+IsPlainEffect (effects.stores number actor value) = Unit {0}
+IsPlainEffect effects.none = Unit {0}
+
 abbrev pub IsPlain : Entry → Type 0
-IsPlain (entries.Create id owner) = ⊥
-IsPlain (entries.Ready id product) = ⊥
-IsPlain (entries.Broken id failure) = ⊥
-IsPlain (entries.Stored number actor value) = Unit {0}
-IsPlain (entries.Gone id) = ⊥
-IsPlain (entries.Enter seat arg) = Unit {0}
-IsPlain (entries.Loaded value) = Unit {0}
-IsPlain (entries.Called seat site arg) = Unit {0}
-IsPlain (entries.Fired seat site arg) = Unit {0}
-IsPlain (entries.Proceeded arg) = Unit {0}
-IsPlain (entries.Got outcome) = Unit {0}
-IsPlain (entries.Leave outcome) = Unit {0}
-IsPlain (entries.Skip observer) = Unit {0}
-IsPlain (entries.Destroy id) = Unit {0}
+IsPlain e = IsPlainEffect (effect e)
+
+plain-begins : (x : Effect) → IsPlainEffect x → is_beginning x ≡ false
+plain-begins (effects.begins id owner) p = absurd p
+plain-begins (effects.readies number product) p = refl
+plain-begins (effects.ends number) p = refl
+plain-begins (effects.stores number actor value) p = refl
+plain-begins effects.none p = refl
 
 pub is_plain_kept : (e : Entry) → IsPlain e → is_create e ≡ false
-is_plain_kept (entries.Create id owner) p = absurd p
-is_plain_kept (entries.Ready id product) p = refl
-is_plain_kept (entries.Broken id failure) p = refl
-is_plain_kept (entries.Stored number actor value) p = refl
-is_plain_kept (entries.Gone id) p = refl
-is_plain_kept (entries.Enter seat arg) p = refl
-is_plain_kept (entries.Loaded value) p = refl
-is_plain_kept (entries.Called seat site arg) p = refl
-is_plain_kept (entries.Fired seat site arg) p = refl
-is_plain_kept (entries.Proceeded arg) p = refl
-is_plain_kept (entries.Got outcome) p = refl
-is_plain_kept (entries.Leave outcome) p = refl
-is_plain_kept (entries.Skip observer) p = refl
-is_plain_kept (entries.Destroy id) p = refl
+is_plain_kept e p = plain-begins (effect e) p
 
 furnished-keep : (K : ℕ → Type 0) (s : Scene) (n : ℕ) (v : Val) (live : List Instance) → AreFurnished K s live
     → AreFurnished K s (map (keep n v) live)
@@ -256,29 +225,20 @@ furnished-keep K s n v live a =
     kept i true e h = rw e (λ k r. has i (h k r))
     kept i false e h = rw e (λ k r. has i (h k r))
 
-furnished-plain : (K : ℕ → Type 0) (s : Scene) (e : Entry) (m : Standing) → IsPlain e → AreFurnished K s m.live
-    → AreFurnished K s (step m e).live
-furnished-plain K s (entries.Create id owner) m h a = absurd h
-furnished-plain K s (entries.Ready id product) m h a = absurd h
-furnished-plain K s (entries.Broken id failure) m h a = absurd h
-furnished-plain K s (entries.Stored number Target value) m h a = furnished-keep K s number value m.live a
-furnished-plain K s (entries.Stored number (Interceptor q) value) m h a = a
-furnished-plain K s (entries.Gone id) m h a = absurd h
-furnished-plain K s (entries.Enter seat arg) m h a = a
-furnished-plain K s (entries.Loaded value) m h a = a
-furnished-plain K s (entries.Called seat site arg) m h a = a
-furnished-plain K s (entries.Fired seat site arg) m h a = a
-furnished-plain K s (entries.Proceeded arg) m h a = a
-furnished-plain K s (entries.Got outcome) m h a = a
-furnished-plain K s (entries.Leave outcome) m h a = a
-furnished-plain K s (entries.Skip observer) m h a = a
-furnished-plain K s (entries.Destroy id) m h a = a
+furnished-plain : (K : ℕ → Type 0) (s : Scene) (x : Effect) (m : Standing) → IsPlainEffect x → AreFurnished K s m.live
+    → AreFurnished K s (applied m x).live
+furnished-plain K s (effects.begins id owner) m h a = absurd h
+furnished-plain K s (effects.readies number product) m h a = absurd h
+furnished-plain K s (effects.ends number) m h a = absurd h
+furnished-plain K s (effects.stores number Target value) m h a = furnished-keep K s number value m.live a
+furnished-plain K s (effects.stores number (Interceptor q) value) m h a = a
+furnished-plain K s effects.none m h a = a
 
 pub plain : (K : ℕ → Type 0) (s : Scene) (e : Entry) (m m' : Moment) → m' ≡ put e m → IsPlain e
     → AreFurnished K s m.standing.live
     → AreFurnished K s m'.standing.live
 plain K s e m m' h p a =
-    subst (λ (x : Moment). AreFurnished K s x.standing.live) (sym h) (furnished-plain K s e m.standing p a)
+    subst (λ (x : Moment). AreFurnished K s x.standing.live) (sym h) (furnished-plain K s (effect e) m.standing p a)
 
 pub touch-furnished : (K : ℕ → Type 0) (s : Scene) (n : ℕ) (actor : Actor) (x : Act) (m : Moment) (o : Outcome) (m' :
     Moment)

@@ -29,7 +29,8 @@ use Rattle.cdi_legal.specs.Keeps.{IsStill, Keeps}
 use Rattle.cdi_legal.specs.Legal as nodes
 use Rattle.cdi_legal.specs.Legal.{Legal, Node, Answer, for_param, create, made_is, held_is}
 use Rattle.cdi_legal.specs.LegalRun.{Uses, Use, Runs, Command}
-use Rattle.cdi_legal.specs.Moment.{Moment, step, put, ask_more}
+use Rattle.cdi_legal.specs.Moment as effects
+use Rattle.cdi_legal.specs.Moment.{applied, ask_more, effect, put, step, Effect, Moment}
 use Rattle.cdi_legal.specs.declared.entry.Entry.{Entry}
 use Rattle.cdi_legal.specs.declared.entry.Entry.TheVariants as entries
 use Rattle.cdi_legal.specs.declared.entry.Made.TheVariants.{Instance as Obtained}
@@ -199,22 +200,16 @@ hold-keep t n v false i e h = rw e h
 
 -- ---- entries
 
--- the entry takes away no instance with a number up to this one, and begins none
+-- the effect takes away no instance with a number up to this one, and begins none
+abbrev SparesAfter : ℕ → Effect → Type 0
+SparesAfter g (effects.begins id owner) = ⊥
+SparesAfter g (effects.readies number product) = g < number
+SparesAfter g (effects.ends number) = g < number
+SparesAfter g (effects.stores number actor value) = Unit {0}
+SparesAfter g effects.none = Unit {0}
+
 abbrev Spares : ℕ → Entry → Type 0
-Spares g (entries.Create id owner) = ⊥
-Spares g (entries.Ready id product) = g < id.number
-Spares g (entries.Broken id failure) = g < id.number
-Spares g (entries.Stored number actor value) = Unit {0}
-Spares g (entries.Gone id) = g < id.number
-Spares g (entries.Enter seat arg) = Unit {0}
-Spares g (entries.Loaded value) = Unit {0}
-Spares g (entries.Called seat site arg) = Unit {0}
-Spares g (entries.Fired seat site arg) = Unit {0}
-Spares g (entries.Proceeded arg) = Unit {0}
-Spares g (entries.Got outcome) = Unit {0}
-Spares g (entries.Leave outcome) = Unit {0}
-Spares g (entries.Skip observer) = Unit {0}
-Spares g (entries.Destroy id) = Unit {0}
+Spares g e = SparesAfter g (effect e)
 
 abbrev pub Rises : Standing → Type 0
 Rises s = IsRising s.given s.live
@@ -230,45 +225,29 @@ pub record Older (t : Terms) (old new : Standing) : Type 0 where
 unchanged : (t : Terms) (s : Standing) → Rises s → Older t s s
 unchanged t s r = record { rises = r; grows = omega arith; keeps = λ f i low h. still f s.live i h; all = λ a. a }
 
-step_older : (t : Terms) (s : Standing) (e : Entry) → Spares t.low e → Rises s → Older t s (step s e)
-step_older g s (entries.Create id owner) p r = absurd p
-step_older g s (entries.Ready id product) p r = record {
-  rises = IsRising-finished s.given id.number product s.live r;
+older-after : (t : Terms) (s : Standing) (x : Effect) → SparesAfter t.low x → Rises s → Older t s (applied s x)
+older-after g s (effects.begins id owner) p r = absurd p
+older-after g s (effects.readies number product) p r = record {
+  rises = IsRising-finished s.given number product s.live r;
   grows = omega arith;
-  keeps = λ f i low h. still-finish f id.number product s.live i h;
-  all = λ a. all-map _ _ (finish id.number product) s.live (λ i h. hold-finish g id.number product (i.id.number ==
-      id.number) i refl p h) a;
+  keeps = λ f i low h. still-finish f number product s.live i h;
+  all = λ a. all-map _ _ (finish number product) s.live (λ i h. hold-finish g number product (i.id.number == number) i refl p h) a;
 }
-step_older g s (entries.Broken id failure) p r = record {
-  rises = IsRising-without s.given id.number s.live r;
+older-after g s (effects.ends number) p r = record {
+  rises = IsRising-without s.given number s.live r;
   grows = omega arith;
-  keeps = λ f i low h. still-without f id.number s.live i (λ e. absurd (omega arith)) h;
-  all = λ a. all-without _ id.number s.live a;
+  keeps = λ f i low h. still-without f number s.live i (λ e. absurd (omega arith)) h;
+  all = λ a. all-without _ number s.live a;
 }
-step_older g s (entries.Stored number Target value) p r = record {
+older-after g s (effects.stores number Target value) p r = record {
   rises = IsRising-stored s.given number value s.live r;
   grows = omega arith;
   keeps = λ f i low h. still-keep f number value s.live i h;
-  all = λ a. all-map _ _ (keep number value) s.live (λ i h. hold-keep g number value (i.id.number == number) i refl
-      h) a;
+  all = λ a. all-map _ _ (keep number value) s.live (λ i h. hold-keep g number value (i.id.number == number) i refl h) a;
 }
-step_older g s (entries.Stored number (Interceptor q) value) p r =
+older-after g s (effects.stores number (Interceptor q) value) p r =
     record { rises = r; grows = omega arith; keeps = λ f i low h. still f s.live i h; all = λ a. a }
-step_older g s (entries.Gone id) p r = record {
-  rises = IsRising-without s.given id.number s.live r;
-  grows = omega arith;
-  keeps = λ f i low h. still-without f id.number s.live i (λ e. absurd (omega arith)) h;
-  all = λ a. all-without _ id.number s.live a;
-}
-step_older g s (entries.Enter seat arg) p r = unchanged g s r
-step_older g s (entries.Loaded value) p r = unchanged g s r
-step_older g s (entries.Called seat site arg) p r = unchanged g s r
-step_older g s (entries.Fired seat site arg) p r = unchanged g s r
-step_older g s (entries.Proceeded arg) p r = unchanged g s r
-step_older g s (entries.Got outcome) p r = unchanged g s r
-step_older g s (entries.Leave outcome) p r = unchanged g s r
-step_older g s (entries.Skip observer) p r = unchanged g s r
-step_older g s (entries.Destroy id) p r = unchanged g s r
+older-after g s effects.none p r = unchanged g s r
 
 -- an instance that begins may have this owner
 abbrev pub Admits : Terms → Owner → Type 0
@@ -324,7 +303,7 @@ along : (g : Terms) (m x m' : Moment) → m' ≡ x → Older g m.standing x.stan
 along g m x m' e h = subst (λ (y : Moment). Older g m.standing y.standing) (sym e) h
 
 entry : (g : Terms) (e : Entry) (m m' : Moment) → m' ≡ put e m → Spares g.low e → Stretch g m m'
-entry g e m m' h p l r = along g m (put e m) m' h (step_older g m.standing e p r)
+entry g e m m' h p l r = along g m (put e m) m' h (older-after g m.standing (effect e) p r)
 
 begin : (t : Terms) (i : InstanceId) (o : Owner) (m m' : Moment) → m' ≡ put (entries.Create i o) m
     → IsOwnerOf (m.standing.given + 1) o × Admits t o → Stretch t m m'

@@ -1,9 +1,11 @@
 pub mod Along
 pub mod Following
 pub mod Growing
+pub mod Everywhere
 pub mod Sharing
 pub mod Keeping
 pub mod Furnishing
+pub mod Bounding
 pub mod Commands
 pub mod Injecting
 pub mod Settling

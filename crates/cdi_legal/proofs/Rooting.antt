@@ -23,10 +23,10 @@ use Rattle.cdi_scene.specs.declared.scene.Scene.{Scene}
 use Rattle.cdi_legal.specs.Acts.{Touches}
 use Rattle.cdi_legal.specs.Ends.{Ends, End, Held, destroy, dependents, held, context}
 use Rattle.cdi_legal.specs.Keeps.{IsStill}
-use Rattle.cdi_legal.specs.Moment.{Moment, step, put, is_create}
+use Rattle.cdi_legal.specs.Moment as effects
+use Rattle.cdi_legal.specs.Moment.{applied, effect, is_beginning, is_create, put, step, Effect, Moment}
 use Rattle.cdi_legal.specs.Rooted.{IsHome}
 use Rattle.cdi_legal.specs.declared.entry.Entry.{Entry}
-use Rattle.cdi_legal.specs.declared.entry.Entry.TheVariants as entries
 use Rattle.cdi_legal.proofs.Keeping.{Test, all-without, still-finish, still-keep, still-without}
 use Rattle.cdi_legal.proofs.Furnishing.{all-both, all-imply, all-step, ends-all, found-such, none-left}
 use Rattle.cdi_legal.proofs.Injecting.{nat_cases}
@@ -103,58 +103,39 @@ narrower L M live none a =
 
 -- ---- entries
 
--- the entry begins no instance and takes none away
+-- the effect begins no instance and takes none away
+abbrev IsCalmEffect : Effect → Type 0
+IsCalmEffect (effects.begins id owner) = ⊥
+IsCalmEffect (effects.readies number product) = Unit {0}
+IsCalmEffect (effects.ends number) = ⊥
+IsCalmEffect (effects.stores number actor value) = Unit {0}
+IsCalmEffect effects.none = Unit {0}
+
 abbrev pub IsCalm : Entry → Type 0
-IsCalm (entries.Create id owner) = ⊥
-IsCalm (entries.Ready id product) = Unit {0}
-IsCalm (entries.Broken id failure) = ⊥
-IsCalm (entries.Stored number actor value) = Unit {0}
-IsCalm (entries.Gone id) = ⊥
-IsCalm (entries.Enter seat arg) = Unit {0}
-IsCalm (entries.Loaded value) = Unit {0}
-IsCalm (entries.Called seat site arg) = Unit {0}
-IsCalm (entries.Fired seat site arg) = Unit {0}
-IsCalm (entries.Proceeded arg) = Unit {0}
-IsCalm (entries.Got outcome) = Unit {0}
-IsCalm (entries.Leave outcome) = Unit {0}
-IsCalm (entries.Skip observer) = Unit {0}
-IsCalm (entries.Destroy id) = Unit {0}
+IsCalm e = IsCalmEffect (effect e)
+
+calm-after : (x : Effect) → IsCalmEffect x → is_beginning x ≡ false
+calm-after (effects.begins id owner) p = absurd p
+calm-after (effects.readies number product) p = refl
+calm-after (effects.ends number) p = absurd p
+calm-after (effects.stores number actor value) p = refl
+calm-after effects.none p = refl
 
 pub calm-begins : (e : Entry) → IsCalm e → is_create e ≡ false
-calm-begins (entries.Create id owner) p = absurd p
-calm-begins (entries.Ready id product) p = refl
-calm-begins (entries.Broken id failure) p = refl
-calm-begins (entries.Stored number actor value) p = refl
-calm-begins (entries.Gone id) p = refl
-calm-begins (entries.Enter seat arg) p = refl
-calm-begins (entries.Loaded value) p = refl
-calm-begins (entries.Called seat site arg) p = refl
-calm-begins (entries.Fired seat site arg) p = refl
-calm-begins (entries.Proceeded arg) p = refl
-calm-begins (entries.Got outcome) p = refl
-calm-begins (entries.Leave outcome) p = refl
-calm-begins (entries.Skip observer) p = refl
-calm-begins (entries.Destroy id) p = refl
+calm-begins e p = calm-after (effect e) p
+
+stay-after : (x : Effect) (s : Standing) → IsCalmEffect x → Stay s.live (applied s x).live
+stay-after (effects.begins id owner) s p = absurd p
+stay-after (effects.readies number product) s p =
+    stay-still s.live (map (finish number product) s.live) (λ n i h. still-finish (of_number n) number product s.live i h)
+stay-after (effects.ends number) s p = absurd p
+stay-after (effects.stores number Target value) s p =
+    stay-still s.live (map (keep number value) s.live) (λ n i h. still-keep (of_number n) number value s.live i h)
+stay-after (effects.stores number (Interceptor q) value) s p = λ n h. h
+stay-after effects.none s p = λ n h. h
 
 stay-step : (e : Entry) (s : Standing) → IsCalm e → Stay s.live (step s e).live
-stay-step (entries.Create id owner) s p = absurd p
-stay-step (entries.Ready id product) s p =
-    stay-still s.live (map (finish id.number product) s.live)
-    (λ n i h. still-finish (of_number n) id.number product s.live i h)
-stay-step (entries.Broken id failure) s p = absurd p
-stay-step (entries.Stored number Target value) s p =
-    stay-still s.live (map (keep number value) s.live) (λ n i h. still-keep (of_number n) number value s.live i h)
-stay-step (entries.Stored number (Interceptor q) value) s p = λ n h. h
-stay-step (entries.Gone id) s p = absurd p
-stay-step (entries.Enter seat arg) s p = λ n h. h
-stay-step (entries.Loaded value) s p = λ n h. h
-stay-step (entries.Called seat site arg) s p = λ n h. h
-stay-step (entries.Fired seat site arg) s p = λ n h. h
-stay-step (entries.Proceeded arg) s p = λ n h. h
-stay-step (entries.Got outcome) s p = λ n h. h
-stay-step (entries.Leave outcome) s p = λ n h. h
-stay-step (entries.Skip observer) s p = λ n h. h
-stay-step (entries.Destroy id) s p = λ n h. h
+stay-step e s p = stay-after (effect e) s p
 
 home-step : (L : Free) (e : Entry) (s : Standing) → IsCalm e → AreHome L s.live → AreHome L (step s e).live
 home-step L e s p a =

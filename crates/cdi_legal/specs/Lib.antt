@@ -10,3 +10,4 @@ pub mod Keeps
 pub mod Rooted
 pub mod Laws
 pub mod Furnished
+pub mod Throughout

@@ -4,8 +4,8 @@ ghost use Rattle.cdi_bodies.specs.Shown.{first_shown};
 ghost use Rattle.cdi_contexts.specs.Standing.{IsFull, IsLive, numbered, found, made_for, last_of, last_in, state_of};
 ghost use Rattle.cdi_contexts.specs.Standing.{begun, opened, closed, cleared};
 ghost use Rattle.cdi_contexts.specs.Rising.{IsOwnerOf, IsRising};
-ghost use Rattle.cdi_legal.specs.Laws.{BothEndsLeaveNothing, CommandsKeepFurnished, CommandsKeepRooted, CommandsKeepSingle};
-ghost use Rattle.cdi_legal.specs.Laws.{CommandsRaiseGiven, EmptyEnds};
+ghost use Rattle.cdi_legal.specs.Laws.{BothEndsLeaveNothing, CommandsKeepBudget, CommandsKeepFurnished, CommandsKeepRooted};
+ghost use Rattle.cdi_legal.specs.Laws.{CommandsKeepSingle, CommandsKeepThroughout, CommandsRaiseGiven, EmptyEnds};
 ghost use Rattle.cdi_legal.specs.Moment.{Moment, Track, put, ask_more, beginning, is_create};
 ghost use Rattle.cdi_legal.specs.declared.entry.Entry.TheVariants.{Create};
 
@@ -252,6 +252,8 @@ impl Run {
         ensures standing { result.0.standing ≡ self.moment.standing }
         ensures trace { result.1.items ≡ self.moment.trace }
         ensures single { CommandsKeepSingle }
+        ensures throughout { CommandsKeepThroughout }
+        ensures budget { CommandsKeepBudget }
         ensures given { CommandsRaiseGiven }
         ensures furnished { CommandsKeepFurnished }
         ensures empty { EmptyEnds }

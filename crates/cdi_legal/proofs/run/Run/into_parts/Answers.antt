@@ -1,4 +1,5 @@
 use Rattle.cdi_legal.proofs.Commands.{commands_keep_furnished, commands_keep_single, commands_raise_given, empty_ends}
+use Rattle.cdi_legal.proofs.Bounding.{commands_keep_budget, commands_keep_throughout}
 use Rattle.cdi_legal.proofs.Housing.{both_ends_leave_nothing, commands_keep_rooted}
 use Rattle.cdi_legal.proofs.run.Run.into_parts.Goals as goal
 
@@ -19,3 +20,9 @@ returns-clause-rooted c = commands_keep_rooted
 
 pub returns-clause-nothing : goal.returns-clause-nothing
 returns-clause-nothing c = both_ends_leave_nothing
+
+pub returns-clause-throughout : goal.returns-clause-throughout
+returns-clause-throughout c = commands_keep_throughout
+
+pub returns-clause-budget : goal.returns-clause-budget
+returns-clause-budget c = commands_keep_budget

@@ -1,0 +1,153 @@
+-- The limits of a command: how often it asks bodies, and what is live at each point of its trace.
+use Rattle.std.proofs.Common.{◌≡◌, ℕ, suc, ◌+◌, ◌<◌, ◌≤◌, inl, inr, Bool, true, false, List, [], ◌∷◌, length}
+use Rattle.std.proofs.Common.{refl, arith, ap, subst, sym, ◌∙◌}
+use Rattle.std.specs.List.{AllByRecursion}
+use Rattle.std.proofs.lemmas.Bool.{cases_Bool, false≢true}
+use Rattle.std.proofs.lemmas.List.{length-append}
+use Rattle.cdi_model.specs.declared.decl.Scope.{Scope}
+use Rattle.cdi_model.specs.declared.decl.Scope.TheVariants as scopes
+use Rattle.cdi_contexts.specs.Owned.{context_of}
+use Rattle.cdi_contexts.specs.Standing.{Standing, IsFull}
+use Rattle.cdi_contexts.specs.declared.instance.Actor.TheVariants.{Target, Interceptor}
+use Rattle.cdi_contexts.specs.declared.instance.Instance.{Instance}
+use Rattle.cdi_contexts.specs.declared.instance.InstanceId.{InstanceId}
+use Rattle.cdi_contexts.specs.declared.instance.Owner.{Owner}
+use Rattle.cdi_contexts.specs.declared.instance.Owner.TheVariants.{Request, Application, Point, Nobody}
+use Rattle.cdi_scene.specs.declared.scene.Scene.{Scene}
+use Rattle.cdi_legal.specs.Ends.{End, Ends}
+use Rattle.cdi_legal.specs.Laws.{CommandsKeepBudget, CommandsKeepThroughout, IsKeptThroughout, IsRequested, IsSingleAt, IsWithinLimit}
+use Rattle.cdi_legal.specs.Legal.{is_normal}
+use Rattle.cdi_legal.specs.Moment as effects
+use Rattle.cdi_legal.specs.Moment.{applied, beginning, effect, is_create, put, step, Effect, Moment}
+use Rattle.cdi_legal.specs.Throughout.{Throughout}
+use Rattle.cdi_legal.specs.declared.entry.Entry.{Entry}
+use Rattle.cdi_legal.specs.declared.entry.Entry.TheVariants.{Create}
+use Rattle.cdi_legal.proofs.Along.{ends_along, runs_along, Asked, IsAlong, IsOutside, MayBegin}
+use Rattle.cdi_legal.proofs.Everywhere.{everywhere, kept_everywhere, then, Holds, Lasts}
+use Rattle.cdi_legal.proofs.Furnishing.{all-step}
+use Rattle.cdi_legal.proofs.Keeping.{all-more}
+use Rattle.cdi_legal.proofs.Sharing.{count, fewer_after, single-calm, single_along, Test}
+
+-- ---- how often it asks
+
+abbrev WithinBudget : Moment → Moment → Type 0
+WithinBudget m m' = m.asked ≤ 20000 → m'.asked ≤ 20000
+
+abbrev asked_of : Moment → ℕ
+asked_of m = m.asked
+
+abbrev Nothing : Asked
+Nothing b o m = Unit {0}
+
+budget_along : (s : Scene) → IsAlong s Nothing WithinBudget
+budget_along s = record {
+  keeps = record {
+    none = λ m h. h;
+    then = λ a b c p q h. q (p h);
+    entry = λ e m m' other is h. omega (arith, ap asked_of is, h);
+  };
+  asking = λ m m' few is h. omega (arith, ap asked_of is, few);
+  may = λ b o m may. tt;
+  create = λ b i o m m' may room of_bean is h. omega (arith, ap asked_of is, h);
+}
+
+pub commands_keep_budget : CommandsKeepBudget
+commands_keep_budget s command before trace outcome after l = runs_along (budget_along s) l.runs (omega arith)
+
+-- ---- traces
+
+module _ (P : Scene → Standing → Type 0) (calm : (s : Scene) (e : Entry) (x : Standing) → is_create e ≡ false → P s x → P s (step x e))
+    (along : (s : Scene) → IsAlong s (MayBegin s) (Holds (P s))) where
+  traced : (s : Scene) (before : Standing) (trace : List Entry) (m : Moment) → trace ≡ m.trace → Lasts (P s) (beginning before) m
+      → Throughout (P s) before trace
+  traced s before trace m is lasts = subst (Throughout (P s) before) (sym (is ∙ lasts.trace)) lasts.points
+
+  ends : (s : Scene) {e : End} {m m' : Moment} → Ends s e m m' → Holds (P s) m m'
+  ends s p = ends_along (kept_everywhere (P s) (calm s)) p
+
+  pub throughout : IsKeptThroughout P
+  throughout = record {
+    run = λ s command before trace outcome after l holds.
+        traced s before trace l.end l.pushed (runs_along (along s) l.runs holds);
+    request_end = λ s before trace after l holds. traced s before trace l.end l.pushed (ends s l.ends holds);
+    end = λ s before trace after l holds.
+        traced s before trace l.end l.pushed (then (P s) (beginning before) l.middle l.end (ends s l.first) (ends s l.then) holds);
+  }
+
+-- ---- how many are live
+
+abbrev each : Test
+each id o = true
+
+all-counted : (live : List Instance) → count each live ≡ length live
+all-counted [] = refl
+all-counted (i ∷ is) = ap suc (all-counted is)
+
+limit-calm : (s : Scene) (e : Entry) (x : Standing) → is_create e ≡ false → IsWithinLimit s x → IsWithinLimit s (step x e)
+limit-calm s e x h within =
+    omega (arith, fewer_after (effect e) x each h, all-counted x.live, all-counted (step x e).live, within)
+
+fewer-than : (n : ℕ) → (1024 ≤ n → ⊥) → n < 1024
+fewer-than n h = omega (arith, h)
+
+limit-begins : (s : Scene) (i : InstanceId) (o : Owner) (x : Standing) → (IsFull x → ⊥) → IsWithinLimit s (step x (Create i o))
+limit-begins s i o x room =
+    let few : length x.live < 1024 = fewer-than (length x.live) (λ full. room (inl full)) in
+    let more : length (step x (Create i o)).live ≡ length x.live + 1 = length-append x.live _ in
+    omega (arith, few, more)
+
+limit_along : (s : Scene) → IsAlong s (MayBegin s) (Holds (IsWithinLimit s))
+limit_along s = everywhere (IsWithinLimit s) (limit-calm s) s (λ b i o m may room of_bean within. limit-begins s i o m.standing room)
+
+-- ---- requests
+
+still-active : (x : Effect) (s : Standing) → (applied s x).active ≡ s.active
+still-active (effects.begins id owner) s = refl
+still-active (effects.readies number product) s = refl
+still-active (effects.ends number) s = refl
+still-active (effects.stores number Target value) s = refl
+still-active (effects.stores number (Interceptor q) value) s = refl
+still-active effects.none s = refl
+
+requested-calm : (s : Scene) (e : Entry) (x : Standing) → is_create e ≡ false → IsRequested s x → IsRequested s (step x e)
+requested-calm s e x h requested =
+    subst (λ (b : Bool). AllByRecursion (λ i. i.owner ≡ Request → b ≡ true) (step x e).live) (sym (still-active (effect e) x))
+    (all-step (λ id o. o ≡ Request → x.active ≡ true) e x h requested)
+
+-- an owner that is the request context begins an instance only while a request is active
+active-where : (s : Scene) (b : ℕ) (o : Owner) (m : Moment) → MayBegin s b o m → o ≡ Request → m.standing.active ≡ true
+active-where s b o m may is = by may.bean.scope refl
+  where
+    of-request : (e : may.bean.scope ≡ scopes.Request) → m.standing.active ≡ true
+    of-request e = elim (cases_Bool m.standing.active) [
+      | inl active ↦ active
+      | inr inactive ↦ absurd (may.active (ap is_normal e) (record { request = e; inactive = inactive }))
+    ]
+
+    by : (scope : Scope) → may.bean.scope ≡ scope → m.standing.active ≡ true
+    by scopes.Request e = of-request e
+    by scopes.Application e =
+        let other : Application ≡ Request = sym (may.owner (ap is_normal e) ∙ ap context_of e) ∙ is in cc
+    by scopes.Dependent e = absurd (false≢true (sym (outside-request o is (may.outside (ap is_normal e)))))
+      where
+        outside-request : (o : Owner) → o ≡ Request → IsOutside o → true ≡ false
+        outside-request Request e out = out scopes.Request
+        outside-request Application e out = let never : Application ≡ Request = e in cc
+        outside-request (Point n actor p) e out = let never : Point n actor p ≡ Request = e in cc
+        outside-request Nobody e out = let never : Nobody ≡ Request = e in cc
+
+requested-begins : (s : Scene) (b : ℕ) (i : InstanceId) (o : Owner) (m : Moment) → MayBegin s b o m → IsRequested s m.standing
+    → IsRequested s (step m.standing (Create i o))
+requested-begins s b i o m may requested =
+    all-more (λ z. z.owner ≡ Request → m.standing.active ≡ true) m.standing.live _ requested (active-where s b o m may)
+
+requested_along : (s : Scene) → IsAlong s (MayBegin s) (Holds (IsRequested s))
+requested_along s = everywhere (IsRequested s) (requested-calm s) s
+    (λ b i o m may room of_bean requested. requested-begins s b i o m may requested)
+
+pub commands_keep_throughout : CommandsKeepThroughout
+commands_keep_throughout = record {
+  single = throughout IsSingleAt single-calm single_along;
+  limit = throughout IsWithinLimit limit-calm limit_along;
+  requested = throughout IsRequested requested-calm requested_along;
+}

@@ -1,0 +1,84 @@
+-- What each entry keeps holds at each point of a trace.
+use Rattle.std.proofs.Common.{◌≡◌, ℕ, false, List, [], ◌∷◌, ◌++◌, refl, sym, ap, subst, ◌∙◌, append_assoc, append-nil}
+use Rattle.cdi_contexts.specs.Standing.{Standing, IsFull}
+use Rattle.cdi_contexts.specs.declared.instance.InstanceId.{InstanceId}
+use Rattle.cdi_contexts.specs.declared.instance.Owner.{Owner}
+use Rattle.cdi_scene.specs.declared.scene.Scene.{Scene}
+use Rattle.cdi_legal.specs.Follows.{after}
+use Rattle.cdi_legal.specs.Moment.{ask_more, is_create, put, step, Moment}
+use Rattle.cdi_legal.specs.Throughout.{Throughout}
+use Rattle.cdi_legal.specs.declared.entry.Entry.{Entry}
+use Rattle.cdi_legal.specs.declared.entry.Entry.TheVariants.{Create}
+use Rattle.cdi_legal.proofs.Along.{IsAlong, IsKept, MayBegin}
+use Rattle.cdi_legal.proofs.Following.{after-append}
+
+-- it held, and holds after each entry that was added
+pub record Lasts (P : Standing → Type 0) (old new : Moment) : Type 0 where
+  pub pushed : List Entry
+  pub trace : new.trace ≡ old.trace ++ pushed
+  pub standing : new.standing ≡ after old.standing pushed
+  pub points : Throughout P old.standing pushed
+  pub end : P new.standing
+
+abbrev pub Holds : (Standing → Type 0) → Moment → Moment → Type 0
+Holds P old new = P old.standing → Lasts P old new
+
+both : (P : Standing → Type 0) (s : Standing) (xs ys : List Entry) → Throughout P s xs → Throughout P (after s xs) ys
+    → Throughout P s (xs ++ ys)
+both P s [] ys first second = second
+both P s (x ∷ xs) ys first second = (first.0, both P (step s x) xs ys first.1 second)
+
+module _ (P : Standing → Type 0) where
+  none : (m : Moment) → Holds P m m
+  none m holds = record { pushed = []; trace = sym (append-nil m.trace); standing = refl; points = tt; end = holds }
+
+  pub then : (a b c : Moment) → Holds P a b → Holds P b c → Holds P a c
+  then a b c p q holds =
+      let first = p holds in
+      let second = q first.end in
+      record {
+        pushed = first.pushed ++ second.pushed;
+        trace = second.trace ∙ ap (λ l. l ++ second.pushed) first.trace ∙ append_assoc a.trace first.pushed second.pushed;
+        standing = second.standing ∙ ap (λ (s : Standing). after s second.pushed) first.standing
+            ∙ sym (after-append a.standing first.pushed second.pushed);
+        points = both P a.standing first.pushed second.pushed first.points
+            (subst (λ (s : Standing). Throughout P s second.pushed) first.standing second.points);
+        end = second.end;
+      }
+
+  one : (e : Entry) (m m' : Moment) → m' ≡ put e m → P (step m.standing e) → Holds P m m'
+  one e m m' h next holds = record {
+    pushed = e ∷ [];
+    trace = ap (λ (x : Moment). x.trace) h;
+    standing = ap (λ (x : Moment). x.standing) h;
+    points = (next, tt);
+    end = subst (λ (x : Moment). P x.standing) (sym h) next;
+  }
+
+  asking : (m m' : Moment) → m' ≡ ask_more m → Holds P m m'
+  asking m m' h holds = record {
+    pushed = [];
+    trace = ap (λ (x : Moment). x.trace) h ∙ sym (append-nil m.trace);
+    standing = ap (λ (x : Moment). x.standing) h;
+    points = tt;
+    end = subst (λ (x : Moment). P x.standing) (sym h) holds;
+  }
+
+  module _ (calm : (e : Entry) (s : Standing) → is_create e ≡ false → P s → P (step s e)) where
+    pub kept_everywhere : IsKept (Holds P)
+    kept_everywhere = record {
+      none = none;
+      then = then;
+      entry = λ e m m' other h holds. one e m m' h (calm e m.standing other holds) holds;
+    }
+
+    pub everywhere : (s : Scene)
+        → ((b : ℕ) (i : InstanceId) (o : Owner) (m : Moment) → MayBegin s b o m → (IsFull m.standing → ⊥) → i.bean ≡ b → P m.standing
+        → P (step m.standing (Create i o)))
+        → IsAlong s (MayBegin s) (Holds P)
+    everywhere s begin = record {
+      keeps = kept_everywhere;
+      asking = λ m m' few h. asking m m' h;
+      may = λ b o m may. may;
+      create = λ b i o m m' may room of_bean h holds. one (Create i o) m m' h (begin b i o m may room of_bean holds) holds;
+    }
