@@ -1,4 +1,4 @@
-"""The bodies that the program stores, what they promise, and what a place of a bean allows.
+"""The bodies that the program stores, those that worked rows have beside them, what they promise, and what a place allows.
 
 A body is a generator: it yields an act and is sent the answer, or has the failure thrown into it. `bench/compare` uses
 them, by `runs.py`.
@@ -114,6 +114,36 @@ def swallow(argument, _calls, _fires):
         return None
 
 
+# Bodies that make one act for ever, whatever is answered. Worked rows have them, and the program has not.
+def stores_for_ever(_argument, _calls, _fires):
+    while True:
+        yield "store", 1
+
+
+def calls_for_ever(argument, calls, _fires):
+    while calls:
+        try:
+            yield "call", (0, argument)
+        except Failed:
+            pass
+
+
+def fires_for_ever(argument, _calls, fires):
+    while fires:
+        try:
+            yield "fire", (0, argument)
+        except Failed:
+            pass
+
+
+def proceeds_for_ever(argument, _calls, _fires):
+    while True:
+        try:
+            yield "proceed", argument
+        except Failed:
+            pass
+
+
 BODIES = {
     "unit": unit,
     "zero": zero,
@@ -130,9 +160,13 @@ BODIES = {
     "guard": guard,
     "retry": retry,
     "swallow": swallow,
+    "stores_for_ever": stores_for_ever,
+    "calls_for_ever": calls_for_ever,
+    "fires_for_ever": fires_for_ever,
+    "proceeds_for_ever": proceeds_for_ever,
 }
 
-# What each of them promises, and below what is allowed at a place of a bean.
+# What each body of the program promises, and what each further one of the rows does. Below is what a place of a bean allows.
 PROMISES = {
     "unit": "",
     "zero": "",
@@ -149,6 +183,12 @@ PROMISES = {
     "boom": "FAIL",
     "flaky": "LOAD STORE FAIL",
     "spin": "LOAD",
+}
+ROW_PROMISES = {
+    "stores_for_ever": "STORE",
+    "calls_for_ever": "CALL",
+    "fires_for_ever": "FIRE",
+    "proceeds_for_ever": "PROCEED",
 }
 AT_INSTANCE = "LOAD STORE CALL FIRE FAIL"
 ALLOWED = {"pre": "LOAD STORE FAIL", "static producer": "CALL FIRE FAIL", "disposer": "FAIL"}

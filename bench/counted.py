@@ -17,7 +17,7 @@ def read_counted(lines):
     for line in lines:
         count, text = line.removeprefix("> ").split(" ", 1)
         if line.startswith("> "):
-            wanted += [text] * int(count)
+            wanted += text.split("\\n") * int(count)
         else:
             script += [meant(text, number) for number in range(1, int(count) + 1)]
     return "".join(script), wanted

@@ -16,3 +16,4 @@ mod Playing
 mod RunAnswered
 mod NamingLemmas
 mod Committing
+mod LawfulLemmas

@@ -1,129 +1,225 @@
--- Behind a legal history at most one instance of each bean with a normal scope is live.
-use Rattle.std.proofs.Common.{◌≡◌, List, [], ◌∷◌, refl, ap, sym, ◌∙◌, subst, Bool, true, false, arith}
+-- What stands behind each step of a legal history: at most one instance of each bean with a normal scope is live, among others.
+use Rattle.std.proofs.Common.{◌≡◌, List, [], ◌∷◌, Option, Some, None, refl, ap, sym, ◌∙◌, subst, Bool, true, false, arith}
 use Rattle.std.specs.Prelude.{Result, Ok, Err, if◌then◌else◌}
 use Rattle.std.specs.declared.alloc.AllocError.{AllocError}
 use Rattle.cdi_model.specs.declared.edit.Edit.{Edit as Change}
+use Rattle.cdi_model.specs.declared.outcome.Outcome.{Outcome}
 use Rattle.cdi_model.specs.declared.refusal.Refusal.{Refusal}
 use Rattle.cdi_contexts.specs.Rising.{IsRising}
+use Rattle.cdi_contexts.specs.Standing.{Standing, opened}
 use Rattle.cdi_contexts.specs.declared.instance.Instance.{Instance}
+use Rattle.cdi_contexts.specs.declared.instance.Owner.TheVariants.{Request}
 use Rattle.cdi_scene.specs.declared.scene.Scene.{Scene}
-use Rattle.cdi_legal.specs.LegalRun.{Command as Run}
+use Rattle.cdi_legal.specs.Laws.{HoldsOfCommands, IsRequested, IsSingleAt, IsWithinLimit}
+use Rattle.cdi_legal.specs.LegalRun.{Command as Run, LegalRun, LegalRequestEnd, LegalEnd}
 use Rattle.cdi_legal.specs.Rooted.{IsRooted}
 use Rattle.cdi_legal.specs.Single.{IsSingle}
-use Rattle.cdi_legal.proofs.Commands.{run_single, request_end_single, end_single}
-use Rattle.cdi_legal.proofs.Housing.{run_rises, run_rooted, request_end_rises, request_end_rooted, end_rises, end_rooted}
-use Rattle.cdi_legal.proofs.Housing.{both_ends_leave_nothing}
-use Rattle.cdi_observe.specs.Keys.{Key}
+use Rattle.cdi_legal.specs.declared.entry.Entry.{Entry}
+use Rattle.cdi_legal.proofs.Bounding.{commands_keep_limit, commands_keep_requested}
+use Rattle.cdi_legal.proofs.Commands.{commands_keep_single}
+use Rattle.cdi_legal.proofs.Furnishing.{all-imply}
+use Rattle.cdi_legal.proofs.Housing.{both_ends_leave_nothing, commands_keep_rooted}
 use Rattle.cdi_lines.specs.declared.command.Command.{Command}
 use Rattle.cdi_lines.specs.declared.command.Command.TheVariants as commands
 use Rattle.cdi_lines.specs.declared.command.Command.TheVariants.{Edit, Batch, Choose, Named, Chain, Observers, Report, LookUp, Call, Fire}
 use Rattle.cdi_lines.specs.declared.command.Command.TheVariants.{BeginRequest, EndRequest}
 use Rattle.cdi_lines.specs.declared.command.Command.TheVariants.{Stop, Unreadable}
 use Rattle.cdi_container.specs.declared.answer.Answer.{Answer}
-use Rattle.cdi_container.specs.declared.answer.Answer.TheVariants.{Done, Chosen, Intercepted, Observed, Reported, Counted, Worked, Given, Refused}
-use Rattle.cdi_container.specs.History.{State, asked, empty, emptied, evaluates, untold, scene, Acts, EditsFrom, EndsContexts, IsRunFrom, RunsFrom}
-use Rattle.cdi_container.specs.History.{LegalAnswer, History, LegalHistory, runs}
+use Rattle.cdi_container.specs.declared.answer.Answer.TheVariants.{Done, Chosen, Intercepted, Observed, Reported, Counted, Worked}
+use Rattle.cdi_container.specs.declared.answer.Answer.TheVariants.{Given, Refused}
+use Rattle.cdi_container.specs.History.{State, empty, emptied, scene, untold, with_request, Acts, EditsFrom, EndsContexts, EndsRequest}
+use Rattle.cdi_container.specs.History.{IsRunFrom, RunsFrom, LegalAnswer, LegalStep, Step, History, LegalHistory, runs, trace_behind}
 use Rattle.cdi_container.specs.History.{SharesInstances}
 use Rattle.cdi_container.specs.Editing.{changes_of, changes_of_all}
 use Rattle.cdi_container.proofs.HistoryLemmas.{after_asking}
 
--- what holds of a state: at most one instance of each bean with a normal scope is live, numbers rise along the live instances, and
--- each stands in a context or was made for a point of a live one
-record Holds (state : State) : Type 0 where
-  single : IsSingle (scene state) state.standing.live
-  rises : IsRising state.standing.given state.standing.live
-  rooted : IsRooted state.standing.live
+-- ---- what stands
+
+-- At most one instance of each bean with a normal scope is live, at most 1,024 are, and those of the request context only while a request
+-- is active; numbers rise along the live instances, and each stands in a context or was made for a point of a live one.
+pub record Stands (s : Scene) (x : Standing) : Type 0 where
+  pub single : IsSingleAt s x
+  pub limit : IsWithinLimit s x
+  pub requested : IsRequested s x
+  pub rises : IsRising x.given x.live
+  pub rooted : IsRooted x.live
+
+abbrev pub Holds : State → Type 0
+Holds state = Stands (scene state) state.standing
 
 nothing_single : (s : Scene) → IsSingle s []
 nothing_single s = record { one = λ b x there normal. omega arith; shared = λ b x there normal. refl }
 
 -- it holds where nothing is live
-nothing_holds : (state : State) → state.standing.live ≡ [] → Holds state
-nothing_holds state e = record {
-  single = subst (λ (live : List Instance). IsSingle (scene state) live) (sym e) (nothing_single (scene state));
-  rises = subst (λ (live : List Instance). IsRising state.standing.given live) (sym e) (omega arith);
-  rooted = subst (λ (live : List Instance). IsRooted live) (sym e) tt;
+pub nothing_stands : (s : Scene) (x : Standing) → x.live ≡ [] → Stands s x
+nothing_stands s x e =
+    subst (Stands s) (sym (ap (λ (live : List Instance). record x { live = live }) e)) (record {
+      single = nothing_single s;
+      limit = omega arith;
+      requested = tt;
+      rises = omega arith;
+      rooted = tt;
+    })
+
+-- and where a request is active from now on
+request_stands : (s : Scene) (x : Standing) → Stands s x → Stands s (opened x)
+request_stands s x q = record {
+  single = q.single;
+  limit = q.limit;
+  requested = all-imply (λ i. i.owner ≡ Request → x.active ≡ true) (λ i. i.owner ≡ Request → true ≡ true) x.live
+      (λ i active is. refl) q.requested;
+  rises = q.rises;
+  rooted = q.rooted;
+}
+
+-- ---- the ways of steps
+
+-- From what stands, a step has this outcome of a run, this trace, and leaves this: it has no entries, or a run or an end is legal.
+pub data Way (s : Scene) (before : Standing) : Option Outcome → List Entry → Standing → Type 0 where
+  without_entries : Way s before None [] before
+  by_run : (run : Run) (outcome : Outcome) (trace : List Entry) (after : Standing) → LegalRun s run before trace outcome after
+      → Way s before (Some outcome) trace after
+  by_request_end : (trace : List Entry) (after : Standing) → LegalRequestEnd s before trace after → Way s before None trace after
+  by_end : (trace : List Entry) (after : Standing) → LegalEnd s before trace after → Way s before None trace after
+
+-- what holds of commands, and without entries, holds of each way
+pub way_holds : {R : Scene → Standing → List Entry → Standing → Type 0} → HoldsOfCommands R → ((s : Scene) (x : Standing) → R s x [] x)
+    → {s : Scene} {before : Standing} {given : Option Outcome} {trace : List Entry} {after : Standing} → Way s before given trace after
+    → R s before trace after
+way_holds laws none {s} {before} without_entries = none s before
+way_holds laws none {s} {before} (by_run run outcome trace after l) = laws.run s run before trace outcome after l
+way_holds laws none {s} {before} (by_request_end trace after l) = laws.request_end s before trace after l
+way_holds laws none {s} {before} (by_end trace after l) = laws.end s before trace after l
+
+way_stands : {s : Scene} {before : Standing} {given : Option Outcome} {trace : List Entry} {after : Standing}
+    → Way s before given trace after → Stands s before → Stands s after
+way_stands way q =
+    let rests = way_holds commands_keep_rooted (λ s x r h. (r, h)) way q.rises q.rooted in
+    record {
+      single = way_holds commands_keep_single (λ s x h. h) way q.single;
+      limit = way_holds commands_keep_limit (λ s x h. h) way q.limit;
+      requested = way_holds commands_keep_requested (λ s x h. h) way q.requested;
+      rises = rests.0;
+      rooted = rests.1;
+    }
+
+-- the outcome that is answered
+abbrev pub outcome_in : Result Answer AllocError → Option Outcome
+outcome_in (Ok (Given outcome)) = Some outcome
+outcome_in answer = None
+
+-- a step with this answer and trace goes from what stands to this state
+pub record Goes (s : Scene) (before : Standing) (answer : Result Answer AllocError) (trace : List Entry) (new : State) : Type 0 where
+  pub after : Standing
+  pub way : Way s before (outcome_in answer) trace after
+  pub holds : Stands s before → Stands s after → Holds new
+
+-- ---- what is carried out
+
+abbrev GoesTo : State → Answer → State → Type 0
+GoesTo old answer new = Goes (scene old) old.standing (Ok answer) new.trace new
+
+-- where it answers like this, and behind it are this trace and what is left by a way
+to : (old new : State) {answer like : Answer} {trace : List Entry} {after : Standing} → answer ≡ like → new.trace ≡ trace
+    → Way (scene old) old.standing (outcome_in (Ok like)) trace after → (Holds old → Stands (scene old) after → Holds new)
+    → GoesTo old answer new
+to old new {like = like} {after = after} is traced way holds = record {
+  after = after;
+  way = subst (λ (a : Answer). Way (scene old) old.standing (outcome_in (Ok a)) new.trace after) (sym is)
+      (subst (λ (t : List Entry). Way (scene old) old.standing (outcome_in (Ok like)) t after) (sym traced) way);
+  holds = holds;
 }
 
 -- a run leaves the scene
-behind : (old new : State) → IsRunFrom old new → IsSingle (scene old) new.standing.live
-    → IsRising new.standing.given new.standing.live × IsRooted new.standing.live → Holds new
-behind old new rest q r = record {
-  single = subst (λ (s : Scene). IsSingle s new.standing.live) (sym (ap scene rest)) q;
-  rises = r.0;
-  rooted = r.1;
-}
+behind : (old new : State) → IsRunFrom old new → Stands (scene old) new.standing → Holds new
+behind old new rest r = subst (λ (s : Scene). Stands s new.standing) (sym (ap scene rest)) r
 
-run_holds : (old new : State) (begun : Result Run Refusal) (answer : Answer) → RunsFrom old begun answer new → Holds old → Holds new
-run_holds old new begun answer h q =
-    behind old new h.rest (run_single h.legal q.single)
-    (run_rises h.legal q.rises q.rooted, run_rooted h.legal q.rises q.rooted)
+untold_goes : (old new : State) {answer like : Answer} → answer ≡ like → outcome_in (Ok like) ≡ None → new ≡ untold old
+    → GoesTo old answer new
+untold_goes old new is none h =
+    to old new is (ap (λ (s : State). s.trace) h)
+    (subst (λ (o : Option Outcome). Way (scene old) old.standing o [] old.standing) (sym none) without_entries)
+    (λ q r. subst Holds (sym h) q)
 
-stop_holds : (old new : State) (answer : Answer) → EndsContexts old answer new → Holds old → Holds new
-stop_holds old new answer h q =
-    behind old new h.rest (end_single h.legal q.single) (end_rises h.legal q.rises q.rooted, end_rooted h.legal q.rises q.rooted)
+run_goes : (old new : State) (begun : Result Run Refusal) (answer : Answer) → RunsFrom old begun answer new → GoesTo old answer new
+run_goes old new begun answer h =
+    to old new h.given refl (by_run h.run h.outcome new.trace new.standing h.legal) (λ q r. behind old new h.rest r)
+
+request_end_goes : (old new : State) (answer : Answer) → EndsRequest old answer new → GoesTo old answer new
+request_end_goes old new answer h =
+    to old new h.done refl (by_request_end new.trace new.standing h.legal) (λ q r. behind old new h.rest r)
+
+stop_goes : (old new : State) (answer : Answer) → EndsContexts old answer new → GoesTo old answer new
+stop_goes old new answer h = to old new h.done refl (by_end new.trace new.standing h.legal) (λ q r. behind old new h.rest r)
 
 -- nothing is live behind an edit
-edit_holds : (old new : State) (changes : List Change) → EditsFrom old changes new → Holds old → Holds new
-edit_holds old new changes h q =
-    nothing_holds new
-    (ap (λ (s : State). s.standing.live) h.rest
-    ∙ both_ends_leave_nothing (scene old) old.standing h.stopped.trace h.stopped.standing q.rises q.rooted h.ends.legal)
+edit_goes : (old new : State) (changes : List Change) (answer : Answer) → answer ≡ Done → EditsFrom old changes new → GoesTo old answer new
+edit_goes old new changes answer is h =
+    to old new is (ap (λ (s : State). s.trace) h.rest) (by_end h.stopped.trace h.stopped.standing h.ends.legal)
+    (λ q r. nothing_stands (scene new) new.standing (ap (λ (s : State). s.standing.live) h.rest
+    ∙ both_ends_leave_nothing (scene old) old.standing h.stopped.trace h.stopped.standing q.rises q.rooted h.ends.legal))
 
--- the same but for the trace
-untold_holds : (old new : State) → new ≡ untold old → Holds old → Holds new
-untold_holds old new h q =
-    subst Holds (sym h) (record { single = q.single; rises = q.rises; rooted = q.rooted })
+begin_goes : (old new : State) (answer : Answer) → answer ≡ Done → new ≡ with_request old → GoesTo old answer new
+begin_goes old new answer is h =
+    to old new is (ap (λ (s : State). s.trace) h) without_entries
+    (λ q r. subst Holds (sym h) (request_stands (scene old) old.standing q))
 
--- what is evaluated touches nothing that is live
-asked_holds : (old : State) (keys : List Key) → Holds old → Holds (asked old keys)
-asked_holds old keys q = record { single = q.single; rises = q.rises; rooted = q.rooted }
+acts_go : (old new : State) (command : Command) (answer : Answer) → Acts old command answer new → GoesTo old answer new
+acts_go old new (Edit edit) answer h = edit_goes old new (changes_of edit) answer h.0 h.1
+acts_go old new (Batch edits) answer h = edit_goes old new (changes_of_all edits) answer h.0 h.1
+acts_go old new (Choose t quals) answer h = untold_goes old new h.0 refl h.1
+acts_go old new (Named name) answer h = untold_goes old new h.0 refl h.1
+acts_go old new (Chain bean place) answer h = untold_goes old new h.given refl h.rest
+acts_go old new (Observers t quals) answer h = untold_goes old new h.0 refl h.1
+acts_go old new Report answer h = untold_goes old new h.0 refl h.1
+acts_go old new commands.Counts answer h = untold_goes old new h.0 refl h.1
+acts_go old new commands.Work answer h = untold_goes old new h.0 refl h.1
+acts_go old new (LookUp t quals) answer h = run_goes old new _ answer h
+acts_go old new (Call method arg t quals) answer h = run_goes old new _ answer h
+acts_go old new (Fire arg t quals) answer h = run_goes old new _ answer h
+acts_go old new BeginRequest answer h = begin_goes old new answer h.0 h.1
+acts_go old new EndRequest answer h = request_end_goes old new answer h
+acts_go old new Stop answer h = stop_goes old new answer h
+acts_go old new Unreadable answer h = absurd h
 
-acts_hold : (old new : State) (command : Command) (answer : Answer) → Acts old command answer new → Holds old → Holds new
-acts_hold old new (Edit edit) answer h q = edit_holds old new (changes_of edit) h.1 q
-acts_hold old new (Batch edits) answer h q = edit_holds old new (changes_of_all edits) h.1 q
-acts_hold old new (Choose t quals) answer h q = untold_holds old new h.1 q
-acts_hold old new (Named name) answer h q = untold_holds old new h.1 q
-acts_hold old new (Chain bean place) answer h q = untold_holds old new h.rest q
-acts_hold old new (Observers t quals) answer h q = untold_holds old new h.1 q
-acts_hold old new Report answer h q = untold_holds old new h.1 q
-acts_hold old new commands.Counts answer h q = untold_holds old new h.1 q
-acts_hold old new commands.Work answer h q = untold_holds old new h.1 q
-acts_hold old new (LookUp t quals) answer h q = run_holds old new _ answer h q
-acts_hold old new (Call method arg t quals) answer h q = run_holds old new _ answer h q
-acts_hold old new (Fire arg t quals) answer h q = run_holds old new _ answer h q
-acts_hold old new BeginRequest answer h q =
-    subst Holds (sym h.1) (record { single = q.single; rises = q.rises; rooted = q.rooted })
-acts_hold old new EndRequest answer h q =
-    behind old new h.rest (request_end_single h.legal q.single)
-    (request_end_rises h.legal q.rises q.rooted, request_end_rooted h.legal q.rises q.rooted)
-acts_hold old new Stop answer h q = stop_holds old new answer h q
-acts_hold old new Unreadable answer h q = absurd h
+-- ---- steps
 
 unserved_holds : (old : State) (b : Bool) → Holds old → Holds (if b then emptied old else old)
-unserved_holds old true q = nothing_holds (emptied old) refl
+unserved_holds old true q = nothing_stands (scene old) (emptied old).standing refl
 unserved_holds old false q = q
 
-step_holds : (old new : State) (command : Command) (answer : Result Answer AllocError) → LegalAnswer old command answer new
-    → Holds old → Holds new
-step_holds old new command (Ok Done) h q = acts_hold (after_asking old command) new command Done h.1 (asked_holds old (evaluates old command) q)
-step_holds old new command (Ok (Chosen choice)) h q = acts_hold (after_asking old command) new command (Chosen choice) h.1 (asked_holds old (evaluates old command) q)
-step_holds old new command (Ok (Intercepted names)) h q = acts_hold (after_asking old command) new command (Intercepted names) h.1 (asked_holds old (evaluates old command) q)
-step_holds old new command (Ok (Observed ids)) h q = acts_hold (after_asking old command) new command (Observed ids) h.1 (asked_holds old (evaluates old command) q)
-step_holds old new command (Ok (Reported list)) h q = acts_hold (after_asking old command) new command (Reported list) h.1 (asked_holds old (evaluates old command) q)
-step_holds old new command (Ok (Counted counts)) h q = acts_hold (after_asking old command) new command (Counted counts) h.1 (asked_holds old (evaluates old command) q)
-step_holds old new command (Ok (Worked done)) h q = acts_hold (after_asking old command) new command (Worked done) h.1 (asked_holds old (evaluates old command) q)
-step_holds old new command (Ok (Given outcome)) h q = acts_hold (after_asking old command) new command (Given outcome) h.1 (asked_holds old (evaluates old command) q)
-step_holds old new command (Ok (Refused refusal edit)) h q =
-    untold_holds (after_asking old command) new h.1 (asked_holds old (evaluates old command) q)
-step_holds old new command (Err error) h q =
-    subst Holds (sym h.rest) (unserved_holds h.left (runs command) (subst Holds (sym h.asks.are) (asked_holds old h.asks.some q)))
+-- what a command evaluates touches nothing that stands
+answer_goes : (old new : State) (command : Command) (answer : Result Answer AllocError) → LegalAnswer old command answer new
+    → Goes (scene old) old.standing answer (trace_behind answer new) new
+answer_goes old new command (Ok Done) h = acts_go (after_asking old command) new command Done h.1
+answer_goes old new command (Ok (Chosen choice)) h = acts_go (after_asking old command) new command (Chosen choice) h.1
+answer_goes old new command (Ok (Intercepted names)) h = acts_go (after_asking old command) new command (Intercepted names) h.1
+answer_goes old new command (Ok (Observed ids)) h = acts_go (after_asking old command) new command (Observed ids) h.1
+answer_goes old new command (Ok (Reported list)) h = acts_go (after_asking old command) new command (Reported list) h.1
+answer_goes old new command (Ok (Counted counts)) h = acts_go (after_asking old command) new command (Counted counts) h.1
+answer_goes old new command (Ok (Worked done)) h = acts_go (after_asking old command) new command (Worked done) h.1
+answer_goes old new command (Ok (Given outcome)) h = acts_go (after_asking old command) new command (Given outcome) h.1
+answer_goes old new command (Ok (Refused refusal edit)) h = untold_goes (after_asking old command) new refl refl h.1
+answer_goes old new command (Err error) h = record {
+  after = old.standing;
+  way = without_entries;
+  holds = λ q r. subst Holds (sym h.rest) (unserved_holds h.left (runs command) (subst Holds (sym h.asks.are) q));
+}
+
+pub step_goes : (old new : State) (step : Step) → LegalStep old step new → Goes (scene old) old.standing step.answer step.trace new
+step_goes old new step h =
+    subst (λ (t : List Entry). Goes (scene old) old.standing step.answer t new) (sym h.trace)
+    (answer_goes old new step.command step.answer h.answered)
+
+pub step_holds : (old new : State) (step : Step) → LegalStep old step new → Holds old → Holds new
+step_holds old new step h q = let goes = step_goes old new step h in goes.holds q (way_stands goes.way q)
+
+-- ---- histories
 
 history_holds : (old new : State) (history : History) → LegalHistory old history new → Holds old → Holds new
 history_holds old new [] h q = subst Holds (sym h) q
-history_holds old new (step ∷ steps) h q =
-    history_holds h.0 new steps h.2 (step_holds old h.0 step.command step.answer h.1.answered q)
+history_holds old new (step ∷ steps) h q = history_holds h.0 new steps h.2 (step_holds old h.0 step h.1 q)
 
 pub shares_instances : (history : History) → SharesInstances history
 shares_instances history book state h =
-    (history_holds (empty book) state history h (nothing_holds (empty book) refl)).single
+    (history_holds (empty book) state history h (nothing_stands (scene (empty book)) (empty book).standing refl)).single

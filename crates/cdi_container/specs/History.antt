@@ -1,5 +1,5 @@
 -- The state of a container, and its legal steps and histories.
-use Rattle.std.specs.Prelude.{◌≡◌, ◌≢◌, ℕ, Bool, true, false, List, [], ◌∷◌, ◌++◌, AllPairs, Option, None, Some, Result, Ok, Err, if◌then◌else◌}
+use Rattle.std.specs.Prelude.{◌≡◌, ◌≢◌, ◌≤◌, ℕ, Bool, true, false, List, [], ◌∷◌, ◌++◌, AllPairs, Option, None, Some, Result, Ok, Err, if◌then◌else◌}
 use Rattle.std.specs.List.{list_all}
 use Rattle.std.specs.declared.alloc.AllocError.{AllocError}
 use Rattle.cdi_model.specs.declared.decl.Decl.{Decl}
@@ -13,9 +13,12 @@ use Rattle.cdi_model.specs.declared.edit.Edit.{Edit as Change}
 use Rattle.cdi_model.specs.Edits.{edited_all, edited_keys}
 use Rattle.cdi_bodies.specs.Book.{Promised}
 use Rattle.cdi_contexts.specs.Standing.{Standing, opened, cleared}
+use Rattle.cdi_scene.specs.Sound.{IsSound}
 use Rattle.cdi_scene.specs.declared.scene.Scene.{Scene}
+use Rattle.cdi_legal.specs.Laws.{HasCause, IsFaultless, IsOrdered, IsRequested, IsSingleAt, IsWithinLimit}
 use Rattle.cdi_legal.specs.LegalRun.{Command as Run, LegalRun, LegalRequestEnd, LegalEnd}
 use Rattle.cdi_legal.specs.Single.{IsSingle}
+use Rattle.cdi_legal.specs.Throughout.{Throughout}
 use Rattle.cdi_legal.specs.declared.entry.Entry.{Entry}
 use Rattle.cdi_effective.specs.Beans.{beans}
 use Rattle.cdi_index.specs.Counted.{counted}
@@ -345,3 +348,35 @@ CountsAcceptedEdits history = (book : List Promised) (state : State) → LegalHi
 abbrev pub SharesInstances : History → Type 0
 SharesInstances history = (book : List Promised) (state : State) → LegalHistory (empty book) history state
     → IsSingle (scene state) state.standing.live
+
+-- ---- what traces keep
+
+-- It is the outcome of a legal look-up, call or event with this trace: bodies were asked at most 20,000 times outside destruction, and a
+-- failure has its cause.
+pub record RanWithin (old : State) (trace : List Entry) (outcome : Outcome) : Type 0 where
+  pub run : Run
+  pub after : Standing
+  pub legal : LegalRun (scene old) run old.standing trace outcome after
+  pub budget : legal.end.asked ≤ 20000
+  pub cause : HasCause (scene old) old.standing legal.end outcome
+
+-- The trace of a step keeps the limits of what is open, and each entry is in its place. In a sound scene each body that runs is one of the
+-- book, at a place that allows it. At each point at most one instance of each bean with a normal scope is live, at most 1,024 are, and
+-- those of the request context only while a request is active.
+pub record IsLawful (old : State) (step : Step) : Type 0 where
+  pub ordered : IsOrdered (scene old) step.trace
+  pub faultless : IsSound old.book (scene old) → IsFaultless old.book (scene old) step.trace
+  pub single : Throughout (IsSingleAt (scene old)) old.standing step.trace
+  pub limit : Throughout (IsWithinLimit (scene old)) old.standing step.trace
+  pub requested : Throughout (IsRequested (scene old)) old.standing step.trace
+  pub ran : (outcome : Outcome) → step.answer ≡ Ok (Given outcome) → RanWithin old step.trace outcome
+
+-- it holds of each step, on the state before it
+abbrev pub EachStep : (State → Step → Type 0) → (old : State) (history : History) (new : State) → LegalHistory old history new → Type 0
+EachStep P old [] new legal = Unit {0}
+EachStep P old (step ∷ steps) new legal = P old step × EachStep P legal.0 steps new legal.2
+
+-- so it is of each step of a legal history
+abbrev pub HasLawfulTraces : History → Type 0
+HasLawfulTraces history = (book : List Promised) (state : State) (legal : LegalHistory (empty book) history state)
+    → EachStep IsLawful (empty book) history state legal

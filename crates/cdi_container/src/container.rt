@@ -16,7 +16,7 @@ ghost use Rattle.cdi_validate.specs.Faults.{faults};
 ghost use Rattle.cdi_index.specs.State.{IsEdited};
 ghost use Rattle.cdi_container.specs.Wired.{IsShortEdit, staged_by};
 ghost use Rattle.cdi_staging.specs.Naming.{names_of};
-ghost use Rattle.cdi_container.specs.History.{AsksSome, EditsFrom, Redeploys, History, asked, left_by, untold, RestsOnAcceptedEdits, CountsAcceptedEdits, SharesInstances};
+ghost use Rattle.cdi_container.specs.History.{AsksSome, EditsFrom, Redeploys, History, asked, left_by, untold, RestsOnAcceptedEdits, CountsAcceptedEdits, HasLawfulTraces, SharesInstances};
 ghost use Rattle.cdi_container.specs.Known.{work_with, worked};
 ghost use Rattle.cdi_container.specs.Named.{NamesTrace};
 ghost use Rattle.cdi_container.specs.Points.{points_told};
@@ -524,7 +524,7 @@ impl<B: Bodies> Container<B> {
 }
 
 /// The laws of legal histories, for proofs: a proof that needs one calls this. It does nothing when it runs.
-#[tactic(auto, using(crate::proofs::HistoryLemmas::rests_on_accepted_edits, crate::proofs::HistoryLemmas::counts_accepted_edits, crate::proofs::SharingLemmas::shares_instances))]
+#[tactic(auto, using(crate::proofs::HistoryLemmas::rests_on_accepted_edits, crate::proofs::HistoryLemmas::counts_accepted_edits, crate::proofs::SharingLemmas::shares_instances, crate::proofs::LawfulLemmas::has_lawful_traces))]
 pub fn history_laws()
     // The declarations after a legal history are what its accepted edits make of none, whatever else was asked.
     ensures edits { (history : History) → RestsOnAcceptedEdits history }
@@ -534,6 +534,9 @@ pub fn history_laws()
 
     // At most one instance of each bean with a normal scope is live.
     ensures shared { (history : History) → SharesInstances history }
+
+    // Traces keep the limits, each entry is in its place, and each failure of a run has its cause.
+    ensures lawful { (history : History) → HasLawfulTraces history }
 
     // What is live, what it holds and whether a request is active follow from the commands, answers and traces.
     ensures told { (history : History) → IsTold history }

@@ -6,8 +6,8 @@ use Rattle.std.proofs.lemmas.Bool.{cases_Bool, false≢true}
 use Rattle.std.proofs.lemmas.List.{length-append}
 use Rattle.cdi_model.specs.declared.decl.Scope.{Scope}
 use Rattle.cdi_model.specs.declared.decl.Scope.TheVariants as scopes
-use Rattle.cdi_contexts.specs.Owned.{context_of}
-use Rattle.cdi_contexts.specs.Standing.{Standing, IsFull}
+use Rattle.cdi_contexts.specs.Owned.{context_of, is_of}
+use Rattle.cdi_contexts.specs.Standing.{Standing, closed, IsFull}
 use Rattle.cdi_contexts.specs.declared.instance.Actor.TheVariants.{Target, Interceptor}
 use Rattle.cdi_contexts.specs.declared.instance.Instance.{Instance}
 use Rattle.cdi_contexts.specs.declared.instance.InstanceId.{InstanceId}
@@ -15,17 +15,20 @@ use Rattle.cdi_contexts.specs.declared.instance.Owner.{Owner}
 use Rattle.cdi_contexts.specs.declared.instance.Owner.TheVariants.{Request, Application, Point, Nobody}
 use Rattle.cdi_scene.specs.declared.scene.Scene.{Scene}
 use Rattle.cdi_legal.specs.Ends.{End, Ends}
-use Rattle.cdi_legal.specs.Laws.{CommandsKeepBudget, CommandsKeepThroughout, IsKeptThroughout, IsRequested, IsSingleAt, IsWithinLimit}
+use Rattle.cdi_legal.specs.Laws.{CommandsKeepBudget, CommandsKeepThroughout, IsKeptByCommands, IsKeptThroughout}
+use Rattle.cdi_legal.specs.Laws.{IsRequested, IsSingleAt, IsWithinLimit}
 use Rattle.cdi_legal.specs.Legal.{is_normal}
 use Rattle.cdi_legal.specs.Moment as effects
-use Rattle.cdi_legal.specs.Moment.{applied, beginning, effect, is_create, put, step, Effect, Moment}
+use Rattle.cdi_legal.specs.Moment.{applied, beginning, effect, is_create, step, Effect, Moment}
 use Rattle.cdi_legal.specs.Throughout.{Throughout}
 use Rattle.cdi_legal.specs.declared.entry.Entry.{Entry}
 use Rattle.cdi_legal.specs.declared.entry.Entry.TheVariants.{Create}
-use Rattle.cdi_legal.proofs.Along.{ends_along, runs_along, Asked, IsAlong, IsOutside, MayBegin}
-use Rattle.cdi_legal.proofs.Everywhere.{everywhere, kept_everywhere, then, Holds, Lasts}
-use Rattle.cdi_legal.proofs.Furnishing.{all-step}
+use Rattle.cdi_legal.proofs.Along.{ends_along, runs_along, IsAlong, Nothing}
+use Rattle.cdi_legal.proofs.Course.{IsOutside, MayBegin}
+use Rattle.cdi_legal.proofs.Everywhere.{each_point, everywhere, kept_everywhere, then, Holds, HoldsAfterEach, Lasts}
+use Rattle.cdi_legal.proofs.Furnishing.{all-imply, all-step, ends-all}
 use Rattle.cdi_legal.proofs.Keeping.{all-more}
+use Rattle.cdi_legal.proofs.Rooting.{context-gone}
 use Rattle.cdi_legal.proofs.Sharing.{count, fewer_after, single-calm, single_along, Test}
 
 -- ---- how often it asks
@@ -35,9 +38,6 @@ WithinBudget m m' = m.asked ≤ 20000 → m'.asked ≤ 20000
 
 abbrev asked_of : Moment → ℕ
 asked_of m = m.asked
-
-abbrev Nothing : Asked
-Nothing b o m = Unit {0}
 
 budget_along : (s : Scene) → IsAlong s Nothing WithinBudget
 budget_along s = record {
@@ -58,9 +58,10 @@ commands_keep_budget s command before trace outcome after l = runs_along (budget
 
 module _ (P : Scene → Standing → Type 0) (calm : (s : Scene) (e : Entry) (x : Standing) → is_create e ≡ false → P s x → P s (step x e))
     (along : (s : Scene) → IsAlong s (MayBegin s) (Holds (P s))) where
-  traced : (s : Scene) (before : Standing) (trace : List Entry) (m : Moment) → trace ≡ m.trace → Lasts (P s) (beginning before) m
-      → Throughout (P s) before trace
-  traced s before trace m is lasts = subst (Throughout (P s) before) (sym (is ∙ lasts.trace)) lasts.points
+  traced : (s : Scene) (before : Standing) (trace : List Entry) (m : Moment) → trace ≡ m.trace → P s before
+      → Lasts (P s) (beginning before) m → Throughout (P s) before trace
+  traced s before trace m is holds lasts =
+      each_point (P s) before trace holds (subst (HoldsAfterEach (P s) before) (sym (is ∙ lasts.trace)) lasts.points)
 
   ends : (s : Scene) {e : End} {m m' : Moment} → Ends s e m m' → Holds (P s) m m'
   ends s p = ends_along (kept_everywhere (P s) (calm s)) p
@@ -68,10 +69,19 @@ module _ (P : Scene → Standing → Type 0) (calm : (s : Scene) (e : Entry) (x 
   pub throughout : IsKeptThroughout P
   throughout = record {
     run = λ s command before trace outcome after l holds.
-        traced s before trace l.end l.pushed (runs_along (along s) l.runs holds);
-    request_end = λ s before trace after l holds. traced s before trace l.end l.pushed (ends s l.ends holds);
+        traced s before trace l.end l.pushed holds (runs_along (along s) l.runs holds);
+    request_end = λ s before trace after l holds. traced s before trace l.end l.pushed holds (ends s l.ends holds);
     end = λ s before trace after l holds.
-        traced s before trace l.end l.pushed (then (P s) (beginning before) l.middle l.end (ends s l.first) (ends s l.then) holds);
+        traced s before trace l.end l.pushed holds (then (P s) (beginning before) l.middle l.end (ends s l.first) (ends s l.then) holds);
+  }
+
+  -- and behind each command, where no more is asked once no request is active
+  pub behind : ((s : Scene) (x : Standing) → P s x → P s (closed x)) → IsKeptByCommands (λ s before after. P s before → P s after)
+  behind close = record {
+    run = λ s command before trace outcome after l holds. subst (P s) (sym l.leaves) (runs_along (along s) l.runs holds).end;
+    request_end = λ s before trace after l holds. subst (P s) (sym l.leaves) (close s l.end.standing (ends s l.ends holds).end);
+    end = λ s before trace after l holds.
+        subst (P s) (sym l.leaves) (close s l.end.standing (ends s l.then (ends s l.first holds).end).end);
   }
 
 -- ---- how many are live
@@ -98,6 +108,9 @@ limit-begins s i o x room =
 
 limit_along : (s : Scene) → IsAlong s (MayBegin s) (Holds (IsWithinLimit s))
 limit_along s = everywhere (IsWithinLimit s) (limit-calm s) s (λ b i o m may room of_bean within. limit-begins s i o m.standing room)
+
+pub commands_keep_limit : IsKeptByCommands (λ s before after. IsWithinLimit s before → IsWithinLimit s after)
+commands_keep_limit = behind IsWithinLimit limit-calm limit_along (λ s x within. within)
 
 -- ---- requests
 
@@ -144,6 +157,25 @@ requested-begins s b i o m may requested =
 requested_along : (s : Scene) → IsAlong s (MayBegin s) (Holds (IsRequested s))
 requested_along s = everywhere (IsRequested s) (requested-calm s) s
     (λ b i o m may room of_bean requested. requested-begins s b i o m may requested)
+
+-- none is live once the request context has ended
+unrequested : (s : Scene) (x : Standing) → AllByRecursion (λ z. is_of scopes.Request z.owner ≡ false) x.live → IsRequested s (closed x)
+unrequested s x none =
+    all-imply (λ z. is_of scopes.Request z.owner ≡ false) (λ z. z.owner ≡ Request → false ≡ true) x.live
+    (λ z other is. sym other ∙ ap (is_of scopes.Request) is) none
+
+pub commands_keep_requested : IsKeptByCommands (λ s before after. IsRequested s before → IsRequested s after)
+commands_keep_requested = record {
+  run = λ s command before trace outcome after l requested.
+      subst (IsRequested s) (sym l.leaves) (runs_along (requested_along s) l.runs requested).end;
+  request_end = λ s before trace after l requested.
+      subst (IsRequested s) (sym l.leaves) (unrequested s l.end.standing (context-gone l.ends));
+  end = λ s before trace after l requested.
+      subst (IsRequested s) (sym l.leaves) (unrequested s l.end.standing
+      (ends-all (λ id o. is_of scopes.Request o ≡ false) l.then (context-gone l.first)));
+}
+
+-- ---- at each point
 
 pub commands_keep_throughout : CommandsKeepThroughout
 commands_keep_throughout = record {

@@ -4,27 +4,47 @@ use Rattle.cdi_contexts.specs.Standing.{Standing, IsFull}
 use Rattle.cdi_contexts.specs.declared.instance.InstanceId.{InstanceId}
 use Rattle.cdi_contexts.specs.declared.instance.Owner.{Owner}
 use Rattle.cdi_scene.specs.declared.scene.Scene.{Scene}
+use Rattle.cdi_legal.specs.Follows as Follows
 use Rattle.cdi_legal.specs.Follows.{after}
 use Rattle.cdi_legal.specs.Moment.{ask_more, is_create, put, step, Moment}
 use Rattle.cdi_legal.specs.Throughout.{Throughout}
 use Rattle.cdi_legal.specs.declared.entry.Entry.{Entry}
 use Rattle.cdi_legal.specs.declared.entry.Entry.TheVariants.{Create}
-use Rattle.cdi_legal.proofs.Along.{IsAlong, IsKept, MayBegin}
+use Rattle.cdi_legal.proofs.Along.{IsAlong, IsKept}
+use Rattle.cdi_legal.proofs.Course.{MayBegin}
 use Rattle.cdi_legal.proofs.Following.{after-append}
+
+-- it holds after each of these entries
+abbrev pub HoldsAfterEach : (Standing → Type 0) → Standing → List Entry → Type 0
+HoldsAfterEach P s [] = Unit {0}
+HoldsAfterEach P s (e ∷ es) = P (step s e) × HoldsAfterEach P (step s e) es
+
+pub each_point : (P : Standing → Type 0) (s : Standing) (trace : List Entry) → P s → HoldsAfterEach P s trace → Throughout P s trace
+each_point P s trace holds after [] later is = holds
+each_point P s [] holds after (x ∷ earlier) later is = cc
+each_point P s (e ∷ trace) holds after (x ∷ earlier) later is =
+    subst (λ (y : Entry). P (Follows.after (step s y) earlier)) (head-of e x trace (earlier ++ later) is)
+    (each_point P (step s e) trace after.0 after.1 earlier later (rest-of e x trace (earlier ++ later) is))
+  where
+    head-of : (x y : Entry) (xs ys : List Entry) → x ∷ xs ≡ y ∷ ys → x ≡ y
+    head-of x y xs ys h = cc
+
+    rest-of : (x y : Entry) (xs ys : List Entry) → x ∷ xs ≡ y ∷ ys → xs ≡ ys
+    rest-of x y xs ys h = cc
 
 -- it held, and holds after each entry that was added
 pub record Lasts (P : Standing → Type 0) (old new : Moment) : Type 0 where
   pub pushed : List Entry
   pub trace : new.trace ≡ old.trace ++ pushed
   pub standing : new.standing ≡ after old.standing pushed
-  pub points : Throughout P old.standing pushed
+  pub points : HoldsAfterEach P old.standing pushed
   pub end : P new.standing
 
 abbrev pub Holds : (Standing → Type 0) → Moment → Moment → Type 0
 Holds P old new = P old.standing → Lasts P old new
 
-both : (P : Standing → Type 0) (s : Standing) (xs ys : List Entry) → Throughout P s xs → Throughout P (after s xs) ys
-    → Throughout P s (xs ++ ys)
+both : (P : Standing → Type 0) (s : Standing) (xs ys : List Entry) → HoldsAfterEach P s xs → HoldsAfterEach P (after s xs) ys
+    → HoldsAfterEach P s (xs ++ ys)
 both P s [] ys first second = second
 both P s (x ∷ xs) ys first second = (first.0, both P (step s x) xs ys first.1 second)
 
@@ -42,7 +62,7 @@ module _ (P : Standing → Type 0) where
         standing = second.standing ∙ ap (λ (s : Standing). after s second.pushed) first.standing
             ∙ sym (after-append a.standing first.pushed second.pushed);
         points = both P a.standing first.pushed second.pushed first.points
-            (subst (λ (s : Standing). Throughout P s second.pushed) first.standing second.points);
+            (subst (λ (s : Standing). HoldsAfterEach P s second.pushed) first.standing second.points);
         end = second.end;
       }
 

@@ -10,7 +10,7 @@ use Rattle.cdi_legal.specs.LegalRun.{Runs, Command}
 use Rattle.cdi_legal.specs.Moment.{Moment, step, put, ask_more}
 use Rattle.cdi_legal.specs.declared.entry.Entry.{Entry}
 use Rattle.cdi_legal.specs.declared.entry.Entry.TheVariants.{Create}
-use Rattle.cdi_legal.proofs.Along.{begins_any, Asked, IsAlong, IsKept, ends_along, legal_along, runs_along}
+use Rattle.cdi_legal.proofs.Along.{ends_along, given_any, legal_along, runs_along, IsAlong, IsKept, Nothing}
 
 pub after-append : (s : Standing) (xs ys : List Entry) → after s (xs ++ ys) ≡ after (after s xs) ys
 after-append s [] ys = refl
@@ -44,13 +44,10 @@ asking m m' h = record {
   standing = ap (λ (x : Moment). x.standing) h;
 }
 
-follows_kept : IsKept Follows
+pub follows_kept : IsKept Follows
 follows_kept = record { none = none; then = then; entry = λ e m m' other h. entry e m m' h }
 
-abbrev Nothing : Asked
-Nothing b o m = Unit {0}
-
-follows_along : (s : Scene) → IsAlong s Nothing Follows
+pub follows_along : (s : Scene) → IsAlong s Nothing Follows
 follows_along s = record {
   keeps = follows_kept;
   asking = λ m m' few h. asking m m' h;
@@ -62,7 +59,7 @@ pub ends_follow : {s : Scene} {e : End} {m m' : Moment} → Ends s e m m' → Fo
 ends_follow e = ends_along follows_kept e
 
 pub legal_follows : {s : Scene} {k : ℕ} {x : Node} {a : Answer} {m m' : Moment} → Legal s k x m a m' → Follows m m'
-legal_follows {s} {k} {x} {a} {m} l = legal_along (follows_along s) l (begins_any Nothing (λ b o m. tt) x m)
+legal_follows {s} {k} {x} {a} {m} l = legal_along (follows_along s) l (given_any Nothing (λ b o m. tt) x m)
 
 pub runs_follow : {s : Scene} {c : Command} {m : Moment} {o : Outcome} {m' : Moment} → Runs s c m o m' → Follows m m'
 runs_follow {s} r = runs_along (follows_along s) r

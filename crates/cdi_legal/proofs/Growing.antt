@@ -12,7 +12,7 @@ use Rattle.cdi_legal.specs.Moment as effects
 use Rattle.cdi_legal.specs.Moment.{applied, effect, put, Effect, Moment}
 use Rattle.cdi_legal.specs.declared.entry.Entry.{Entry}
 use Rattle.cdi_legal.specs.declared.entry.Entry.TheVariants as entries
-use Rattle.cdi_legal.proofs.Along.{begins_any, Asked, IsAlong, IsKept, ends_along, legal_along, runs_along}
+use Rattle.cdi_legal.proofs.Along.{ends_along, given_any, legal_along, runs_along, IsAlong, IsKept, Nothing}
 
 grows : (s : Standing) (x : Effect) → s.given ≤ (applied s x).given
 grows s (effects.begins id owner) = omega arith
@@ -35,9 +35,6 @@ grows_kept = record {
   entry = λ e m m' other h. grows_by e m m' h;
 }
 
-abbrev Nothing : Asked
-Nothing b o m = Unit {0}
-
 grows_along : (s : Scene) → IsAlong s Nothing Grows
 grows_along s = record {
   keeps = grows_kept;
@@ -50,7 +47,7 @@ pub ends_grow : {s : Scene} {e : End} {m m' : Moment} → Ends s e m m' → Grow
 ends_grow e = ends_along grows_kept e
 
 pub legal_grows : {s : Scene} {k : ℕ} {x : Node} {a : Answer} {m m' : Moment} → Legal s k x m a m' → Grows m m'
-legal_grows {s} {k} {x} {a} {m} l = legal_along (grows_along s) l (begins_any Nothing (λ b o m. tt) x m)
+legal_grows {s} {k} {x} {a} {m} l = legal_along (grows_along s) l (given_any Nothing (λ b o m. tt) x m)
 
 pub runs_grow : {s : Scene} {c : Command} {m : Moment} {o : Outcome} {m' : Moment} → Runs s c m o m' → Grows m m'
 runs_grow {s} r = runs_along (grows_along s) r

@@ -1,3 +1,4 @@
+pub mod Course
 pub mod Along
 pub mod Following
 pub mod Growing
@@ -13,3 +14,7 @@ pub mod Reaching
 pub mod Supplying
 pub mod Rooting
 pub mod Housing
+pub mod Points
+pub mod Ordering
+pub mod Faultless
+pub mod Causing

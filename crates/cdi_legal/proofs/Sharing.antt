@@ -25,7 +25,8 @@ use Rattle.cdi_legal.specs.Moment.{applied, effect, is_beginning, is_create, put
 use Rattle.cdi_legal.specs.Single.{IsSingle, instances_of, strays_of}
 use Rattle.cdi_legal.specs.declared.entry.Entry.{Entry}
 use Rattle.cdi_legal.specs.declared.entry.Entry.TheVariants as entries
-use Rattle.cdi_legal.proofs.Along.{ends_along, legal_along, runs_along, Begins, IsAlong, MayBegin}
+use Rattle.cdi_legal.proofs.Along.{asks_for, ends_along, legal_along, runs_along, IsAlong}
+use Rattle.cdi_legal.proofs.Course.{Given, MayBegin}
 use Rattle.cdi_legal.proofs.Everywhere.{everywhere, kept_everywhere, Holds}
 
 -- ---- how many live instances have such an id and such an owner
@@ -201,7 +202,7 @@ single_along s = everywhere (SingleAt s) (single-calm s) s
 pub ends_single : {s : Scene} {e : End} {m m' : Moment} → Ends s e m m' → IsSingle s m.standing.live → IsSingle s m'.standing.live
 ends_single {s} p q = (ends_along (kept_everywhere (SingleAt s) (single-calm s)) p q).end
 
-pub legal_single : {s : Scene} {k : ℕ} {x : Node} {a : Answer} {m m' : Moment} → Legal s k x m a m' → Begins (MayBegin s) x m
+pub legal_single : {s : Scene} {k : ℕ} {x : Node} {a : Answer} {m m' : Moment} → Legal s k x m a m' → Given (asks_for (MayBegin s)) x m
     → IsSingle s m.standing.live → IsSingle s m'.standing.live
 legal_single {s} l begins q = (legal_along (single_along s) l begins q).end
 

@@ -11,3 +11,6 @@ pub mod Rooted
 pub mod Laws
 pub mod Furnished
 pub mod Throughout
+pub mod Opened
+pub mod Placed
+pub mod Causes

@@ -1,10 +1,17 @@
--- What holds at each point of a trace.
-use Rattle.std.specs.Prelude.{List, [], ◌∷◌}
+-- What holds at each point of a trace, and of each of its entries.
+use Rattle.std.specs.Prelude.{◌≡◌, List, ◌∷◌, ◌++◌}
 use Rattle.cdi_contexts.specs.Standing.{Standing}
-use Rattle.cdi_legal.specs.Moment.{step}
+use Rattle.cdi_legal.specs.Follows.{after}
 use Rattle.cdi_legal.specs.declared.entry.Entry.{Entry}
 
--- it holds of what stands after each of these entries
+-- it holds before the first entry, between any two, and after the last
+abbrev pub AtEachPoint : (List Entry → Type 0) → List Entry → Type 0
+AtEachPoint P trace = (earlier later : List Entry) → trace ≡ earlier ++ later → P earlier
+
+-- it holds of each entry, after those before it
+abbrev pub AtEachEntry : (List Entry → Entry → Type 0) → List Entry → Type 0
+AtEachEntry P trace = (earlier : List Entry) (entry : Entry) (later : List Entry) → trace ≡ earlier ++ entry ∷ later → P earlier entry
+
+-- it holds of what stands at each point, where this stands before the first entry
 abbrev pub Throughout : (Standing → Type 0) → Standing → List Entry → Type 0
-Throughout P s [] = Unit {0}
-Throughout P s (e ∷ es) = P (step s e) × Throughout P (step s e) es
+Throughout P before trace = AtEachPoint (λ earlier. P (after before earlier)) trace

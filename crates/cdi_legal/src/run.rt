@@ -6,6 +6,7 @@ ghost use Rattle.cdi_contexts.specs.Standing.{begun, opened, closed, cleared};
 ghost use Rattle.cdi_contexts.specs.Rising.{IsOwnerOf, IsRising};
 ghost use Rattle.cdi_legal.specs.Laws.{BothEndsLeaveNothing, CommandsKeepBudget, CommandsKeepFurnished, CommandsKeepRooted};
 ghost use Rattle.cdi_legal.specs.Laws.{CommandsKeepSingle, CommandsKeepThroughout, CommandsRaiseGiven, EmptyEnds};
+ghost use Rattle.cdi_legal.specs.Laws.{CommandsAreFaultless, CommandsAreOrdered, CommandsFailForCauses};
 ghost use Rattle.cdi_legal.specs.Moment.{Moment, Track, put, ask_more, beginning, is_create};
 ghost use Rattle.cdi_legal.specs.declared.entry.Entry.TheVariants.{Create};
 
@@ -254,6 +255,9 @@ impl Run {
         ensures single { CommandsKeepSingle }
         ensures throughout { CommandsKeepThroughout }
         ensures budget { CommandsKeepBudget }
+        ensures ordered { CommandsAreOrdered }
+        ensures faultless { CommandsAreFaultless }
+        ensures causes { CommandsFailForCauses }
         ensures given { CommandsRaiseGiven }
         ensures furnished { CommandsKeepFurnished }
         ensures empty { EmptyEnds }

@@ -6,6 +6,7 @@ ghost use Rattle.cdi_contexts.specs.Standing.{closed, cleared};
 ghost use Rattle.cdi_legal.specs.Follows.{Follows, after};
 ghost use Rattle.cdi_legal.specs.Furnished.{HasDependents, IsFurnished};
 ghost use Rattle.cdi_legal.specs.Keeps.{Keeps};
+ghost use Rattle.cdi_legal.specs.Laws.{HasCause, IsFaultless, IsOrdered};
 ghost use Rattle.cdi_legal.specs.LegalRun.{LegalRun, LegalRequestEnd, LegalEnd, Runs, Uses, use_bean, notify_all};
 ghost use Rattle.cdi_legal.specs.Moment.{beginning};
 ghost use Rattle.cdi_legal.specs.Rooted.{IsRooted};
@@ -58,6 +59,10 @@ impl<'a, B: Bodies> Player<'a, B> {
         ensures kept { OnOk result (Keeps (beginning run.old.moment.standing) run.new.moment) }
         ensures furnished { IsFurnished self.now.stage.scene run.new.moment.standing.live }
         ensures rooted { StaysRooted (beginning run.old.moment.standing) run.new.moment }
+        ensures ordered { OnOk result (IsOrdered self.now.stage.scene run.new.moment.trace) }
+        ensures faultless { OnOk result (IsFaultless self.now.stage.promises self.now.stage.scene run.new.moment.trace) }
+        ensures budget { OnOk result (run.new.moment.asked ≤ 20000) }
+        ensures cause { IfOk result (HasCause self.now.stage.scene run.old.moment.standing run.new.moment) }
         ensures out_of_memory { OnErr result (run.new.moment ≡ beginning (cleared run.old.moment.standing.given)) }
     {
         let given = run.given();
@@ -90,6 +95,10 @@ impl<'a, B: Bodies> Player<'a, B> {
         ensures kept { OnOk result (Keeps (beginning run.old.moment.standing) run.new.moment) }
         ensures furnished { IsFurnished self.now.stage.scene run.new.moment.standing.live }
         ensures rooted { StaysRooted (beginning run.old.moment.standing) run.new.moment }
+        ensures ordered { OnOk result (IsOrdered self.now.stage.scene run.new.moment.trace) }
+        ensures faultless { OnOk result (IsFaultless self.now.stage.promises self.now.stage.scene run.new.moment.trace) }
+        ensures budget { OnOk result (run.new.moment.asked ≤ 20000) }
+        ensures cause { IfOk result (HasCause self.now.stage.scene run.old.moment.standing run.new.moment) }
         ensures out_of_memory { OnErr result (run.new.moment ≡ beginning (cleared run.old.moment.standing.given)) }
     {
         let given = run.given();
@@ -116,10 +125,13 @@ impl<'a, B: Bodies> Player<'a, B> {
         ensures single { OnOk result (StaysSingle self.now.stage.scene (beginning run.old.moment.standing) run.new.moment) }
         ensures furnished { StaysFurnished self.now.stage.scene (beginning run.old.moment.standing) run.new.moment }
         ensures rooted { StaysRooted (beginning run.old.moment.standing) run.new.moment }
+        ensures ordered { OnOk result (IsOrdered self.now.stage.scene run.new.moment.trace) }
+        ensures faultless { OnOk result (IsFaultless self.now.stage.promises self.now.stage.scene run.new.moment.trace) }
         ensures out_of_memory { OnErr result (run.new.moment ≡ run.old.moment) }
     {
-        // Owners are older than what was made for them.
+        // Owners are older than what was made for them, and the scene is sound: the proof reads it here.
         let _rising = run.given();
+        let _ = self.stage.scene();
         self.stage.reserve_ends(run)?;
         run.restart();
         match self.stage.end_context(run, Scope::Request) {
@@ -143,10 +155,13 @@ impl<'a, B: Bodies> Player<'a, B> {
         ensures furnished { StaysFurnished self.now.stage.scene (beginning run.old.moment.standing) run.new.moment }
         ensures rooted { StaysRooted (beginning run.old.moment.standing) run.new.moment }
         ensures nothing { OnOk result (IsRooted run.old.moment.standing.live → run.new.moment.standing.live ≡ []) }
+        ensures ordered { OnOk result (IsOrdered self.now.stage.scene run.new.moment.trace) }
+        ensures faultless { OnOk result (IsFaultless self.now.stage.promises self.now.stage.scene run.new.moment.trace) }
         ensures out_of_memory { OnErr result (run.new.moment ≡ run.old.moment) }
     {
-        // Owners are older than what was made for them.
+        // Owners are older than what was made for them, and the scene is sound: the proof reads it here.
         let _rising = run.given();
+        let _ = self.stage.scene();
         self.stage.reserve_ends(run)?;
         run.restart();
         match self.end_both(run) {

@@ -29,12 +29,30 @@ pub(crate) fn fault_of(ending: Result<Summary, RunFault>) -> Result<Option<RunFa
 
 /// What the run of a script with these bodies prints.
 pub(crate) fn printed(alloc: Global, script: &[u8], bodies: Vec<Body>) -> Result<Vec<u8>, Fail> {
+    printed_by(alloc, Options { quiet: false }, script, bodies)
+}
+
+/// The same without traces.
+pub(crate) fn printed_quietly(
+    alloc: Global,
+    script: &[u8],
+    bodies: Vec<Body>,
+) -> Result<Vec<u8>, Fail> {
+    printed_by(alloc, Options { quiet: true }, script, bodies)
+}
+
+/// The same by these options.
+fn printed_by(
+    alloc: Global,
+    options: Options,
+    script: &[u8],
+    bodies: Vec<Body>,
+) -> Result<Vec<u8>, Fail> {
     let Ok(book) = Book::new(bodies) else {
         return Err(Fail::new("no book"));
     };
     let mut reader = Counted::new(script);
     let mut writer = Counted::new(empty_page(alloc)?);
-    let options = Options { quiet: false };
     let mut console = Console::new(&mut reader, &mut writer);
     run(alloc, &mut console, options, book)?;
     Ok(writer.into_inner())

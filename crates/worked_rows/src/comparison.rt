@@ -2,8 +2,9 @@
 ghost use Rattle.std.specs.Prelude.{◌≡◌, ◌≢◌, ◌<◌, ◌↔◌, IfOk, IfSome, IsNone, slice_get, take};
 
 use crate::difference::Difference;
+use crate::for_ever::FOR_EVER;
 use crate::rows::{Row, rows_of};
-use cdi_bodies::{Bodies, Book};
+use cdi_bodies::{Bodies, Body, Book, Frame};
 use cdi_script::{Console, Counted, Options, run};
 use cdi_stock::stock_bodies;
 use std::alloc::{AllocError, Global};
@@ -19,9 +20,16 @@ pub fn check_page(alloc: Global, text: &str) -> Result<usize, Difference<'_>>
     Ok(rows.len())
 }
 
-/// Runs the script of a row from an empty container with the program's bodies, and compares.
+/// Runs the script of a row from an empty container with the program's bodies and those that make one act for ever, and
+/// compares.
 fn check_row<'t>(alloc: Global, row: &Row<'t>) -> Result<(), Difference<'t>> {
-    let Ok(book) = Book::new(stock_bodies!(alloc)) else {
+    let mut bodies = stock_bodies!(alloc);
+    for body in &FOR_EVER {
+        let body = *body;
+        let asks = Box::new(alloc, move |frame: &Frame| body.ask(frame))?;
+        bodies.push(Body::new(body.name(), body.promise(), asks))?;
+    }
+    let Ok(book) = Book::new(bodies) else {
         return Err(Difference::OutOfMemory);
     };
     run_row(alloc, row, book)

@@ -8,6 +8,7 @@
 mod comparison;
 mod counted;
 mod difference;
+mod for_ever;
 mod markdown;
 mod rows;
 

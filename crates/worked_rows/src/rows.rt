@@ -90,12 +90,20 @@ impl<'t> Row<'t> {
         }
     }
 
-    /// Wants an answer so many times.
+    /// Wants some answers so many times.
     fn want_times(&mut self, times: Times<'t>) -> Result<bool, AllocError> {
         for _ in 0..times.count {
-            self.push(BlockLine::Answer(times.text))?;
+            self.want_each(times.text)?;
         }
         Ok(true)
+    }
+
+    /// Wants the answers that `\n` separates.
+    fn want_each(&mut self, answers: &'t str) -> Result<(), AllocError> {
+        for answer in answers.split("\\n") {
+            self.push(BlockLine::Answer(answer))?;
+        }
+        Ok(())
     }
 }
 

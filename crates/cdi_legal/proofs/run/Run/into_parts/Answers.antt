@@ -1,5 +1,8 @@
 use Rattle.cdi_legal.proofs.Commands.{commands_keep_furnished, commands_keep_single, commands_raise_given, empty_ends}
 use Rattle.cdi_legal.proofs.Bounding.{commands_keep_budget, commands_keep_throughout}
+use Rattle.cdi_legal.proofs.Causing.{commands_fail_for_causes}
+use Rattle.cdi_legal.proofs.Faultless.{commands_are_faultless}
+use Rattle.cdi_legal.proofs.Ordering.{commands_are_ordered}
 use Rattle.cdi_legal.proofs.Housing.{both_ends_leave_nothing, commands_keep_rooted}
 use Rattle.cdi_legal.proofs.run.Run.into_parts.Goals as goal
 
@@ -26,3 +29,12 @@ returns-clause-throughout c = commands_keep_throughout
 
 pub returns-clause-budget : goal.returns-clause-budget
 returns-clause-budget c = commands_keep_budget
+
+pub returns-clause-ordered : goal.returns-clause-ordered
+returns-clause-ordered c = commands_are_ordered
+
+pub returns-clause-faultless : goal.returns-clause-faultless
+returns-clause-faultless c = commands_are_faultless
+
+pub returns-clause-causes : goal.returns-clause-causes
+returns-clause-causes c = commands_fail_for_causes

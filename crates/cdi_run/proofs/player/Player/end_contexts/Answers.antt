@@ -4,6 +4,8 @@ use Rattle.cdi_scene.specs.declared.scene.Scene.{Scene}
 use Rattle.cdi_legal.specs.LegalRun.{LegalEnd}
 use Rattle.cdi_legal.specs.Moment.{Moment, beginning}
 use Rattle.cdi_legal.proofs.Commands.{end_follows, end_single}
+use Rattle.cdi_legal.proofs.Faultless.{commands_are_faultless}
+use Rattle.cdi_legal.proofs.Ordering.{commands_are_ordered}
 use Rattle.cdi_run.specs.Known.{EndsAll}
 use Rattle.cdi_legal.proofs.Housing.{both_ends_leave_nothing, end_rooted}
 use Rattle.cdi_run.proofs.Staying.{end_stays}
@@ -48,3 +50,15 @@ returns-clause-nothing g c = λ h.
     both_ends_leave_nothing _ _ _ _ c.given-rising.ensures.rising h
     (ended _ _ _ _ _ (rw c.in_ok-reserve_ends.ensures.same at c.restart.ensures.moment) c.in-Ok.ensures.ends
     c.close.ensures)
+
+pub returns-clause-ordered : goal.returns-clause-ordered
+returns-clause-ordered g c =
+    commands_are_ordered.end _ _ _ _
+    (ended _ _ _ _ _ (rw c.in_ok-reserve_ends.ensures.same at c.restart.ensures.moment) c.in-Ok.ensures.ends
+    c.close.ensures)
+
+pub returns-clause-faultless : goal.returns-clause-faultless
+returns-clause-faultless g c =
+    (commands_are_faultless _).end _ _ _ _
+    (ended _ _ _ _ _ (rw c.in_ok-reserve_ends.ensures.same at c.restart.ensures.moment) c.in-Ok.ensures.ends
+    c.close.ensures) c.scene.ensures.sound

@@ -7,6 +7,8 @@ use Rattle.cdi_legal.specs.LegalRun.{LegalRequestEnd}
 use Rattle.cdi_legal.specs.Moment.{Moment, beginning}
 use Rattle.cdi_legal.proofs.Commands.{request_end_follows, request_end_single}
 use Rattle.cdi_legal.proofs.Housing.{request_end_rooted}
+use Rattle.cdi_legal.proofs.Faultless.{commands_are_faultless}
+use Rattle.cdi_legal.proofs.Ordering.{commands_are_ordered}
 use Rattle.cdi_run.proofs.Staying.{request_end_stays}
 use Rattle.cdi_run.proofs.player.Player.end_request.Goals as goal
 
@@ -44,3 +46,15 @@ returns-clause-rooted g c = λ h.
     request_end_rooted
     (ended _ _ _ _ _ (rw c.in_ok-reserve_ends.ensures.same at c.restart.ensures.moment) c.in-Ok.ensures.legal
     c.close.ensures) c.given-rising.ensures.rising h
+
+pub returns-clause-ordered : goal.returns-clause-ordered
+returns-clause-ordered g c =
+    commands_are_ordered.request_end _ _ _ _
+    (ended _ _ _ _ _ (rw c.in_ok-reserve_ends.ensures.same at c.restart.ensures.moment) c.in-Ok.ensures.legal
+    c.close.ensures)
+
+pub returns-clause-faultless : goal.returns-clause-faultless
+returns-clause-faultless g c =
+    (commands_are_faultless _).request_end _ _ _ _
+    (ended _ _ _ _ _ (rw c.in_ok-reserve_ends.ensures.same at c.restart.ensures.moment) c.in-Ok.ensures.legal
+    c.close.ensures) c.scene.ensures.sound

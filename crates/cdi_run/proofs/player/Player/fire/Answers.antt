@@ -6,6 +6,7 @@ use Rattle.cdi_legal.proofs.Housing.{runs_rooted}
 use Rattle.cdi_legal.proofs.Keeping.{runs_keep}
 use Rattle.cdi_legal.proofs.Sharing.{legal_single}
 use Rattle.cdi_run.specs.Known.{IsSettled}
+use Rattle.cdi_run.proofs.Ran.{run_budget, run_cause, run_faultless, run_ordered}
 use Rattle.cdi_run.proofs.Staying.{settled_after, settled_same}
 use Rattle.cdi_run.proofs.player.Player.fire.Goals as goal
 
@@ -38,3 +39,15 @@ returns-in-Ok-clause-furnished g c =
 pub returns-in-Ok-clause-rooted : goal.returns-in-Ok-clause-rooted
 returns-in-Ok-clause-rooted g c = λ h.
     runs_rooted (Runs.fired _ _ _ _ _ (rw c.restart.ensures.moment at c.in-Ok.ensures)) c.given-given.ensures.rising h
+
+pub returns-in-Ok-clause-ordered : goal.returns-in-Ok-clause-ordered
+returns-in-Ok-clause-ordered g c = run_ordered (Runs.fired _ _ _ _ _ (rw c.restart.ensures.moment at c.in-Ok.ensures))
+
+pub returns-in-Ok-clause-faultless : goal.returns-in-Ok-clause-faultless
+returns-in-Ok-clause-faultless g c = run_faultless (Runs.fired _ _ _ _ _ (rw c.restart.ensures.moment at c.in-Ok.ensures)) _ c.scene.ensures.sound
+
+pub returns-in-Ok-clause-budget : goal.returns-in-Ok-clause-budget
+returns-in-Ok-clause-budget g c = run_budget (Runs.fired _ _ _ _ _ (rw c.restart.ensures.moment at c.in-Ok.ensures))
+
+pub returns-in-Ok-clause-cause : goal.returns-in-Ok-clause-cause
+returns-in-Ok-clause-cause g c = run_cause (Runs.fired _ _ _ _ _ (rw c.restart.ensures.moment at c.in-Ok.ensures))

@@ -1,0 +1,63 @@
+-- In a sound scene bodies run at sound seats alone.
+use Rattle.std.proofs.Common.{◌≡◌, ℕ, Option, Some, None, List, refl, subst}
+use Rattle.std.proofs.lemmas.Option.{same_Some}
+use Rattle.cdi_bodies.specs.declared.act.Act.{Act}
+use Rattle.cdi_scene.specs.Scene.{as_product, bean_at, product_at}
+use Rattle.cdi_scene.specs.Sound.{Bodies, IsSound, IsSoundAt, IsSoundForm, IsSoundProduct}
+use Rattle.cdi_scene.specs.declared.place.Seat.{Seat}
+use Rattle.cdi_scene.specs.declared.scene.Bean.{Bean}
+use Rattle.cdi_scene.specs.declared.scene.Form.{Form}
+use Rattle.cdi_scene.specs.declared.scene.Form.TheVariants as forms
+use Rattle.cdi_scene.specs.declared.scene.Product.{Product}
+use Rattle.cdi_scene.specs.declared.scene.Scene.{Scene}
+use Rattle.cdi_legal.specs.Laws.{CommandsAreFaultless, IsFaultless, IsOrdered}
+use Rattle.cdi_legal.specs.Opened.{opened, Opening}
+use Rattle.cdi_legal.specs.Placed as placed
+use Rattle.cdi_legal.specs.Placed.{disposer, link, need, producer, target, IsCalledAt, IsMet, MayAct, Need}
+use Rattle.cdi_legal.specs.declared.entry.Entry.{Entry}
+use Rattle.cdi_legal.proofs.Ordering.{commands_are_ordered}
+
+module _ (book : Bodies) (s : Scene) (sound : IsSound book s) where
+  of_form : (b : ℕ) (form : Form) (x : Product) → as_product form ≡ Some x → IsSoundForm book s b form → IsSoundProduct book s b x
+  of_form b (forms.Managed managed) x is form = let never : None ≡ Some x = is in cc
+  of_form b (forms.Product product) x is form = subst (IsSoundProduct book s b) (same_Some product x is) form
+
+  product : (b : ℕ) (x : Product) → product_at s b ≡ Some x → IsSoundProduct book s b x
+  product b x is = of_bean (bean_at s b) refl is
+    where
+      of_bean : (o : Option Bean) → bean_at s b ≡ o → (elim o [ Some bean ↦ as_product bean.form | None ↦ None ]) ≡ Some x
+          → IsSoundProduct book s b x
+      of_bean None there h = let never : None ≡ Some x = h in cc
+      of_bean (Some bean) there h = of_form b bean.form x h (sound.beans b bean there)
+
+  sound_seat : (seat : Seat) → IsCalledAt s seat → IsSoundAt book s seat
+  sound_seat _ (link i place x l q there linked) = (sound.invocables i.bean place x there).links l q i.number linked
+  sound_seat _ (target i place x part there own) = (sound.invocables i.bean place x there).target part i.number own
+  sound_seat _ (producer b x there static) = (product b x there).producer static
+  sound_seat _ (disposer b x part there own) = (product b x there).disposer part own
+
+  sound_act : (seat : Seat) (act : Act) (xs : List Opening) → MayAct s (IsCalledAt s) seat act xs
+      → MayAct s (IsSoundAt book s) seat act xs
+  sound_act seat act xs may = record { runs = may.runs; sort = sound_seat seat may.sort; permits = may.permits }
+
+  sound_need : (xs : List Opening) (n : Need) → IsMet s (IsCalledAt s) xs n → IsMet s (IsSoundAt book s) xs n
+  sound_need xs (placed.needs_bean b) h = h
+  sound_need xs (placed.needs_creation id) h = h
+  sound_need xs (placed.needs_destruction id) h = h
+  sound_need xs (placed.needs_seat seat) h = sound_seat seat h
+  sound_need xs placed.needs_frame h = h
+  sound_need xs (placed.needs_act act) h = (h.0, sound_act h.0 act xs h.1)
+  sound_need xs (placed.needs_act_at seat act) h = sound_act seat act xs h
+  sound_need xs (placed.needs_act_of number actor act) h = (h.0, h.1, sound_act h.0 act xs h.2)
+  sound_need xs (placed.needs_observer o) h = h
+  sound_need xs placed.needs_nothing h = h
+
+  faultless : (trace : List Entry) → IsOrdered s trace → IsFaultless book s trace
+  faultless trace ordered earlier e later is = sound_need (opened earlier) (need e) (ordered.places earlier e later is)
+
+pub commands_are_faultless : CommandsAreFaultless
+commands_are_faultless book = record {
+  run = λ s c before trace o after l sound. faultless book s sound trace (commands_are_ordered.run s c before trace o after l);
+  request_end = λ s before trace after l sound. faultless book s sound trace (commands_are_ordered.request_end s before trace after l);
+  end = λ s before trace after l sound. faultless book s sound trace (commands_are_ordered.end s before trace after l);
+}
