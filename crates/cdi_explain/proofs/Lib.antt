@@ -1,0 +1,2 @@
+mod PriorityLemmas
+mod VerdictLemmas
