@@ -40,7 +40,8 @@ use cdi_index::{Counts, Draft};
 use cdi_legal::{Entry, Run};
 use cdi_lines::{Command, Edit};
 use cdi_model::{
-    BeanPlace, Decl, Edit as Change, Error, Iter as DeclIter, Kind, Name, Quals, Refusal, Seq,
+    BeanPlace, Decl, Decls, Edit as Change, Error, Iter as DeclIter, Kind, Name, Quals, Refusal,
+    Seq,
 };
 use cdi_observe::ObserverId;
 use cdi_resolve::Choice;
@@ -496,6 +497,13 @@ impl<B: Bodies> Container<B> {
         ensures { result ≡ self.now.decls }
     {
         self.deployment.decls()
+    }
+
+    /// The same as a list, which finds a declaration by its kind and name. It is no command, and takes no memory.
+    pub fn present(&self) -> &Decls
+        ensures { result.now ≡ self.now.decls }
+    {
+        self.deployment.present()
     }
 
     /// The records of the bean list, in order. It is no command. It takes memory for the list of all beans.

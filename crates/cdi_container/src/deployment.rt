@@ -41,7 +41,9 @@ use cdi_faults::Fault;
 use cdi_index::{Counts, Draft};
 use cdi_lines::Edit;
 use cdi_live::Live;
-use cdi_model::{BeanPlace, Edit as Change, Error, Iter as DeclIter, Name, Quals, Refusal, Seq};
+use cdi_model::{
+    BeanPlace, Decls, Edit as Change, Error, Iter as DeclIter, Name, Quals, Refusal, Seq,
+};
 use cdi_observe::{ObserverId, evaluate};
 use cdi_report::Unsettled;
 use cdi_resolve::{BeanList, Choice};
@@ -163,6 +165,13 @@ impl<B: Bodies> Deployment<B> {
         ensures { result ≡ self.now.decls }
     {
         self.live.decls().iter()
+    }
+
+    /// The same as a list.
+    pub(crate) fn present(&self) -> &Decls
+        ensures { result.now ≡ self.now.decls }
+    {
+        self.live.decls()
     }
 
     /// How many records were computed.

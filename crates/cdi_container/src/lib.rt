@@ -36,7 +36,7 @@ pub use cdi_model::{
 pub use cdi_observe::ObserverId;
 pub use cdi_resolve::Choice;
 pub use cdi_scene::{Notified, Place, Seat};
-pub use cdi_text::{read_decl, read_qualifier};
+pub use cdi_text::{Explanation, Path, Step, explain_refusal, read_decl, read_qualifier};
 pub use cdi_trace::{NamedEntries, NamedEntry, NamedInstance, NamedInstances};
 pub use container::{Container, history_laws};
 pub use points::{InjectionPoint, PointIter, Points};

@@ -1,2 +1,6 @@
+mod InterceptorLemmas
+mod NameLemmas
+mod NearLemmas
 mod PriorityLemmas
+mod ReplacerLemmas
 mod VerdictLemmas

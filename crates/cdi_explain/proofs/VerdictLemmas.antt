@@ -1,5 +1,5 @@
 -- Verdicts by the greatest priority, and that the beans which are chosen or tied are those of the answer.
-use Rattle.std.proofs.Common.{◌≡◌, ℕ, ℤ, ◌==◌, Bool, true, false, not, ◌&&◌, is_none, List, [], ◌∷◌, filter, length, map, position, Option, Some, None}
+use Rattle.std.proofs.Common.{◌≡◌, ℕ, ◌==◌, Bool, true, false, not, ◌&&◌, is_none, List, [], ◌∷◌, filter, length, map, position, Option, Some, None}
 use Rattle.std.proofs.Common.{if◌then◌else◌, refl, sym, ap, ◌∙◌}
 use Rattle.std.specs.List.{list_all}
 use Rattle.std.proofs.lemmas.List.Elements.{filter_agree}
@@ -12,33 +12,26 @@ use Rattle.cdi_effective.specs.declared.records.Effective.{Effective}
 use Rattle.cdi_resolve.specs.Choices.{alternatives, among, candidate, choice_of, chosen, eligible, greatest, ids, is_eligible, is_greatest, only}
 use Rattle.cdi_resolve.specs.Choices.{Candidate}
 use Rattle.cdi_resolve.specs.Eligible.{is_eligible_for}
-use Rattle.cdi_explain.specs.Verdicts.{ids_in, is_kept, is_kept_among, is_kept_by, is_taken, kept, lacking, left, taken, top, verdict}
-use Rattle.cdi_explain.specs.Verdicts.{verdict_among, verdict_by, verdict_if, TakenAreTheAnswer}
+use Rattle.cdi_explain.specs.Verdicts.{among_by, ids_in, is_kept, is_kept_among, is_kept_by, is_taken, kept, lacking, left, rivals_of, taken, top}
+use Rattle.cdi_explain.specs.Verdicts.{verdict, verdict_among, verdict_by, verdict_if, TakenAreTheAnswer}
+use Rattle.cdi_explain.specs.declared.rivals.Rivals.{Rivals}
 use Rattle.cdi_explain.specs.declared.verdict.Verdict.TheVariants as verdicts
 use Rattle.cdi_explain.proofs.PriorityLemmas.{kept_by_top, not_itself}
 
 -- ---- by the greatest priority
 
-abbrev rivals : List Decl → List Effective → List ℕ → List Qual → List Candidate
-rivals ds beans t asked_for = map candidate (filter (is_eligible_for ds t asked_for) beans)
+abbrev eligible_in : List Decl → List Effective → List ℕ → List Qual → List Candidate
+eligible_in ds beans t asked_for = map candidate (filter (is_eligible_for ds t asked_for) beans)
 
-pub verdict_same : (ds : List Decl) (beans : List Effective) (t : List ℕ) (quals : List Qual) (bean : Effective)
-    → let cs = rivals ds beans t (required quals) in
-    verdict_by ds t (required quals) (top (alternatives cs)) (length (filter (is_kept_by (top (alternatives cs))) cs)) bean
-    ≡ verdict ds beans t quals bean
-unfolding verdict_by verdict eligible
-verdict_same ds beans t quals bean =
-    let cs = rivals ds beans t (required quals) in
-    ap (λ kept. verdict_if ds t (required quals) bean
-    (if is_kept_by (top (alternatives cs)) (candidate bean) then taken (length kept) else left (candidate bean).is_alternative))
+pub among_same : (cs : List Candidate) (c : Candidate) → among_by (rivals_of cs) c ≡ verdict_among cs c
+among_same cs c =
+    ap (λ kept. if is_kept_by (top (alternatives cs)) c then taken (length kept) else left c.is_alternative)
     (filter_agree (is_kept_by (top (alternatives cs))) (is_kept cs) (kept_by_top (alternatives cs)) cs)
-    ∙ ap (λ b. verdict_if ds t (required quals) bean
-    (if b then taken (length (kept cs)) else left (candidate bean).is_alternative))
-    (kept_by_top (alternatives cs) (candidate bean))
+    ∙ ap (λ b. if b then taken (length (kept cs)) else left c.is_alternative) (kept_by_top (alternatives cs) c)
 
 -- ---- lists
 
-filter_both : {X : Type 0} (f g : X → Bool) (xs : List X) → filter (λ x. f x && g x) xs ≡ filter g (filter f xs)
+pub filter_both : {X : Type 0} (f g : X → Bool) (xs : List X) → filter (λ x. f x && g x) xs ≡ filter g (filter f xs)
 filter_both f g [] = refl
 filter_both f g (x ∷ xs) = by (f x) refl (filter_both f g xs)
   where
@@ -51,7 +44,7 @@ filter_both f g (x ∷ xs) = by (f x) refl (filter_both f g xs)
         by_second false k = rw (e, k) rest
     by false e rest = rw e rest
 
-map_filter : {X Y : Type 0} (f : X → Y) (g : Y → Bool) (xs : List X) → map f (filter (λ x. g (f x)) xs) ≡ filter g (map f xs)
+pub map_filter : {X Y : Type 0} (f : X → Y) (g : Y → Bool) (xs : List X) → map f (filter (λ x. g (f x)) xs) ≡ filter g (map f xs)
 map_filter f g [] = refl
 map_filter f g (x ∷ xs) = by (g (f x)) refl (map_filter f g xs)
   where
@@ -60,7 +53,11 @@ map_filter f g (x ∷ xs) = by (g (f x)) refl (map_filter f g xs)
     by true e rest = rw e (ap (λ l. f x ∷ l) rest)
     by false e rest = rw e rest
 
-map_map : {X Y Z : Type 0} (f : X → Y) (g : Y → Z) (xs : List X) → map (λ x. g (f x)) xs ≡ map g (map f xs)
+pub map_same : {X Y : Type 0} (f g : X → Y) → ((x : X) → f x ≡ g x) → (xs : List X) → map f xs ≡ map g xs
+map_same f g same [] = refl
+map_same f g same (x ∷ xs) = rw (same x) (ap (λ l. g x ∷ l) (map_same f g same xs))
+
+pub map_map : {X Y Z : Type 0} (f : X → Y) (g : Y → Z) (xs : List X) → map (λ x. g (f x)) xs ≡ map g (map f xs)
 map_map f g [] = refl
 map_map f g (x ∷ xs) = ap (λ l. g (f x) ∷ l) (map_map f g xs)
 
@@ -90,7 +87,7 @@ among_ids cs (a ∷ more) e =
     ∙ ap (λ some. ids (filter (is_greatest (a ∷ more)) some)) (sym e)
     ∙ ap ids (sym (filter_both (λ (c : Candidate). c.is_alternative) (is_greatest (a ∷ more)) cs))
 
-choice_ids : (cs : List Candidate) → ids_in (choice_of cs) ≡ ids (kept cs)
+pub choice_ids : (cs : List Candidate) → ids_in (choice_of cs) ≡ ids (kept cs)
 unfolding choice_of
 choice_ids [] = refl
 choice_ids (c ∷ []) = ap ids (sym (only_kept c))
@@ -98,7 +95,7 @@ choice_ids (c ∷ d ∷ cs) = among_ids (c ∷ d ∷ cs) (alternatives (c ∷ d 
 
 -- ---- taken beans
 
-lacking_all : {X : Type 0} (f : X → Bool) (xs : List X) → is_none (position (λ x. not (f x)) xs) ≡ list_all f xs
+pub lacking_all : {X : Type 0} (f : X → Bool) (xs : List X) → is_none (position (λ x. not (f x)) xs) ≡ list_all f xs
 lacking_all f [] = refl
 lacking_all f (x ∷ xs) = by (f x) refl (position (λ x. not (f x)) xs) refl (lacking_all f xs)
   where
@@ -108,26 +105,26 @@ lacking_all f (x ∷ xs) = by (f x) refl (position (λ x. not (f x)) xs) refl (l
     by true e (Some i) k rest = rw (position-cons (λ x. not (f x)) x xs, e, k) (sym (sym rest ∙ ap is_none k))
     by false e o k rest = rw (position-cons (λ x. not (f x)) x xs, e) refl
 
+pub taken_kept : (b : Bool) → is_taken (if b then verdicts.Chosen else verdicts.Tied) ≡ true
+taken_kept true = refl
+taken_kept false = refl
+
+pub left_out : (b : Bool) → is_taken (if b then verdicts.LowerPriority else verdicts.NoAlternative) ≡ false
+left_out true = refl
+left_out false = refl
+
 taken_here : (ds : List Decl) (beans : List Effective) (t : List ℕ) (quals : List Qual) (bean : Effective)
     → is_taken (verdict ds beans t quals bean)
-    ≡ (is_eligible ds t quals bean && is_kept (rivals ds beans t (required quals)) (candidate bean))
+    ≡ (is_eligible ds t quals bean && is_kept (eligible_in ds beans t (required quals)) (candidate bean))
 unfolding verdict eligible
 taken_here ds beans t quals bean =
     by (has bean.types t) refl (lacking ds bean.qualifiers (required quals)) refl bean.is_enabled refl (is_kept cs (candidate bean)) refl
   where
     cs : List Candidate
-    cs = rivals ds beans t (required quals)
+    cs = eligible_in ds beans t (required quals)
 
     covered : cover_all ds bean.qualifiers (required quals) ≡ is_none (lacking ds bean.qualifiers (required quals))
     covered = sym (lacking_all (some_covers ds bean.qualifiers) (required quals))
-
-    one : (b : Bool) → is_taken (if b then verdicts.Chosen else verdicts.Tied) ≡ true
-    one true = refl
-    one false = refl
-
-    other : (b : Bool) → is_taken (if b then verdicts.LowerPriority else verdicts.NoAlternative) ≡ false
-    other true = refl
-    other false = refl
 
     by : (h : Bool) → has bean.types t ≡ h → (o : Option ℕ) → lacking ds bean.qualifiers (required quals) ≡ o
         → (e : Bool) → bean.is_enabled ≡ e → (k : Bool) → is_kept cs (candidate bean) ≡ k
@@ -138,8 +135,8 @@ taken_here ds beans t quals bean =
     by true p (Some i) q true r k u = rw (covered, p, q, r) refl
     by true p (Some i) q false r k u = rw (covered, p, q, r) refl
     by true p None q false r k u = rw (covered, p, q, r) refl
-    by true p None q true r true u = rw (covered, p, q, r, u) (one (length (kept cs) == 1))
-    by true p None q true r false u = rw (covered, p, q, r, u) (other (candidate bean).is_alternative)
+    by true p None q true r true u = rw (covered, p, q, r, u) (taken_kept (length (kept cs) == 1))
+    by true p None q true r false u = rw (covered, p, q, r, u) (left_out (candidate bean).is_alternative)
 
 pub taken_are_the_answer : TakenAreTheAnswer
 unfolding chosen eligible
@@ -160,16 +157,15 @@ taken_are_the_answer ds beans t quals =
 
 -- ---- code
 
-pub verdicts_same : (ds : List Decl) (beans : List Effective) (t : List ℕ) (quals : List Qual) (some : List Effective)
-    → let cs = rivals ds beans t (required quals) in
-    map (verdict_by ds t (required quals) (top (alternatives cs)) (length (filter (is_kept_by (top (alternatives cs))) cs))) some
-    ≡ map (verdict ds beans t quals) some
-verdicts_same ds beans t quals [] = refl
-verdicts_same ds beans t quals (b ∷ some) = rw (verdict_same ds beans t quals b) (ap (λ l. verdict ds beans t quals b ∷ l) (verdicts_same ds beans t quals some))
-
 -- by what the code finds of the others
-pub judged : (ds : List Decl) (beans : List Effective) (t : List ℕ) (quals asked_for : List Qual) (p : Option (Option ℤ)) (count : ℕ)
-    → asked_for ≡ required quals → p ≡ top (alternatives (rivals ds beans t asked_for))
-    → count ≡ length (filter (is_kept_by p) (rivals ds beans t asked_for))
-    → map (verdict_by ds t asked_for p count) beans ≡ map (verdict ds beans t quals) beans
-judged ds beans t quals asked_for p count asked highest counted = rw (counted, highest, asked) (verdicts_same ds beans t quals beans)
+pub judged : (ds : List Decl) (beans : List Effective) (t : List ℕ) (quals asked_for : List Qual) (some : List Effective) (rivals : Rivals)
+    → asked_for ≡ required quals → some ≡ filter (is_eligible_for ds t asked_for) beans → rivals ≡ rivals_of (map candidate some)
+    → map (verdict_by ds t asked_for rivals) beans ≡ map (verdict ds beans t quals) beans
+unfolding verdict_by verdict eligible
+judged ds beans t quals asked_for some rivals asked found told =
+    rw (told, found, asked) (map_same (λ bean. verdict_if ds t (required quals) bean (among_by (rivals_of cs) (candidate bean)))
+    (λ bean. verdict_if ds t (required quals) bean (verdict_among cs (candidate bean)))
+    (λ bean. ap (verdict_if ds t (required quals) bean) (among_same cs (candidate bean))) beans)
+  where
+    cs : List Candidate
+    cs = map candidate (filter (is_eligible_for ds t (required quals)) beans)

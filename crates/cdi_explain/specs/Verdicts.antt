@@ -12,6 +12,7 @@ use Rattle.cdi_effective.specs.declared.records.Effective.{Effective}
 use Rattle.cdi_resolve.specs.declared.choice.Choice.{Choice}
 use Rattle.cdi_resolve.specs.declared.choice.Choice.TheVariants.{Ambiguous, One, Unsatisfied}
 use Rattle.cdi_resolve.specs.Choices.{alternatives, candidate, chosen, eligible, is_greatest, is_less, Candidate}
+use Rattle.cdi_explain.specs.declared.rivals.Rivals.{Rivals}
 use Rattle.cdi_explain.specs.declared.verdict.Disabled.{Disabled}
 use Rattle.cdi_explain.specs.declared.verdict.Disabled.TheVariants as disabled
 use Rattle.cdi_explain.specs.declared.verdict.Verdict.{Verdict}
@@ -63,13 +64,17 @@ otherwise_disabled bean = elim bean.id.producer [ Some producer ↦ disabled.Dec
 abbrev pub why_disabled : Effective → Disabled
 why_disabled bean = if bean.is_alternative && is_none bean.priority then disabled.NoPriority else otherwise_disabled bean
 
+-- of a bean, where this is the verdict if it is enabled
+abbrev pub unless_disabled : Effective → Verdict → Verdict
+unless_disabled bean among = if bean.is_enabled then among else verdicts.Disabled (why_disabled bean)
+
 -- ---- the verdict
 
 -- of a bean that has the type, by which qualifier it lacks, where this is the verdict if it is eligible
 abbrev pub verdict_where : Option ℕ → List Qual → Effective → Verdict → Verdict
 verdict_where (Some wanted) asked_for bean among =
     verdicts.LacksQualifier wanted (in_place_at bean.qualifiers (slice_get asked_for wanted))
-verdict_where None asked_for bean among = if bean.is_enabled then among else verdicts.Disabled (why_disabled bean)
+verdict_where None asked_for bean among = unless_disabled bean among
 
 abbrev pub verdict_if : List Decl → List ℕ → List Qual → Effective → Verdict → Verdict
 verdict_if ds t asked_for bean among =
@@ -96,9 +101,16 @@ abbrev pub is_kept_by : Option (Option ℤ) → Candidate → Bool
 is_kept_by None c = true
 is_kept_by (Some p) c = c.is_alternative && not (is_less c.priority p)
 
-unfoldable pub verdict_by : List Decl → List ℕ → List Qual → Option (Option ℤ) → ℕ → Effective → Verdict
-verdict_by ds t asked_for p count bean =
-    verdict_if ds t asked_for bean (if is_kept_by p (candidate bean) then taken count else left (candidate bean).is_alternative)
+-- what is told of some candidates: that priority of the alternatives, and how many are kept
+abbrev pub rivals_of : List Candidate → Rivals
+rivals_of cs = record { top = top (alternatives cs); kept = length (filter (is_kept_by (top (alternatives cs))) cs) }
+
+-- the verdict on one of them
+abbrev pub among_by : Rivals → Candidate → Verdict
+among_by rivals c = if is_kept_by rivals.top c then taken rivals.kept else left c.is_alternative
+
+unfoldable pub verdict_by : List Decl → List ℕ → List Qual → Rivals → Effective → Verdict
+verdict_by ds t asked_for rivals bean = verdict_if ds t asked_for bean (among_by rivals (candidate bean))
 
 -- ---- the answer
 

@@ -9,4 +9,5 @@ mod script;
 pub use cdi_bodies::{Bodies, Book, PromiseBook};
 pub use cdi_container::Container;
 pub use cdi_devices::{Console, Counted, RunFault, SCRIPT_LIMIT};
+pub use mode::Mode;
 pub use script::{Options, READ_BYTES, Summary, run, run_on};

@@ -1,5 +1,5 @@
 //! What has begun and takes further lines: a put block, and a batch.
-ghost use Rattle.std.specs.Prelude.{◌≡◌, [], ◌∷◌, None, Some, Ok, IfOk, OnOk, if◌then◌else◌};
+ghost use Rattle.std.specs.Prelude.{◌≡◌, [], ◌∷◌, None, Some, Ok, IfOk, OnOk, if◌then◌else◌, is_some};
 ghost use Rattle.cdi_script.specs.Commands.{outside, taken, taken_said, taken_in_put, edited, commanded, batch_begun, batch_ended, unclosed};
 ghost use Rattle.cdi_script.specs.Commands.{with_edit, command_of_batch, Edits, Spoiled};
 ghost use Rattle.cdi_script.specs.Begun.{ServesOpen, ServesTaken};
@@ -71,8 +71,8 @@ impl OpenBatch {
     }
 }
 
-/// What is open where a line begins.
-pub(crate) struct Mode {
+/// What is open where a line of a script begins: a batch, a put block, or neither.
+pub struct Mode {
     batch: Option<OpenBatch>,
     /// What is kept of a put block.
     block: Option<Block>,
@@ -94,7 +94,7 @@ impl Model for Mode {
 
 impl Mode {
     /// Nothing is open.
-    pub(crate) fn new() -> Mode
+    pub fn new() -> Mode
         ensures { result ≡ outside }
     {
         Mode {
@@ -104,19 +104,23 @@ impl Mode {
     }
 
     /// Whether a batch or a put block is open.
-    pub(crate) fn is_open(&self) -> bool
+    pub fn is_open(&self) -> bool
         ensures { unclosed self.now ≡ (if result then Unreadable ∷ [] else []) }
     {
         self.batch.is_some() || self.block.is_some()
     }
 
-    /// Takes a whole line, and gives the command that it completes. It takes memory for the qualifiers of a question or a
-    /// run, for a line of a put block, and for an edit of a batch; a batch keeps 257 edits at most.
-    pub(crate) fn take_line(
-        &mut self,
-        alloc: Global,
-        line: &[u8],
-    ) -> Result<Option<Command>, AllocError>
+    /// Whether a put block is open.
+    pub fn is_in_put(&self) -> bool
+        ensures { result ≡ is_some self.now.text }
+    {
+        self.block.is_some()
+    }
+
+    /// Takes a whole line without its line feed, and gives the command that it completes. It takes memory for the qualifiers
+    /// of a question or a run, for a line of a put block, and for an edit of a batch; a batch keeps 257 edits at most. At `Err`
+    /// what is open is lost in part, so nothing more may be taken.
+    pub fn take_line(&mut self, alloc: Global, line: &[u8]) -> Result<Option<Command>, AllocError>
         ensures { IfOk result (λ command. ServesTaken command self.new (taken self.old line.now)) }
     {
         match self.block.take() {

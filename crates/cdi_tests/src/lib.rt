@@ -1,5 +1,5 @@
-//! Tests of calls below the container that no script makes, of verdicts on beans, of the program's bodies by their table, and of the faults of a
-//! plain view.
+//! Tests of calls below the container that no script makes: verdicts on beans, the places of refused texts, ways along edges,
+//! the faults of a plain view, and the program's bodies by their table.
 #![tactic(auto)]
 
 #[cfg(test)]
@@ -9,4 +9,8 @@ mod explained;
 #[cfg(test)]
 mod faulty;
 #[cfg(test)]
+mod refused_texts;
+#[cfg(test)]
 mod stock;
+#[cfg(test)]
+mod ways;

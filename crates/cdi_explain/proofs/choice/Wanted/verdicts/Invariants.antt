@@ -4,6 +4,5 @@ use Rattle.cdi_explain.proofs.choice.Wanted.verdicts.Given as goal
 
 abbrev pub invariant-loop-bean : goal.invariant-loop-bean
 invariant-loop-bean l =
-    l.verdicts.items ++ map (verdict_by l.self.decls.now l.self.bean_type l.self.asked_for.now l.rivals.top l.rivals.kept)
-    (drop l.bean-index l.beans)
-    ≡ map (verdict_by l.self.decls.now l.self.bean_type l.self.asked_for.now l.rivals.top l.rivals.kept) l.beans
+    l.verdicts.items ++ map (verdict_by l.self.decls.now l.self.bean_type l.self.asked_for.now l.rivals) (drop l.bean-index l.beans)
+    ≡ map (verdict_by l.self.decls.now l.self.bean_type l.self.asked_for.now l.rivals) l.beans

@@ -1,0 +1,62 @@
+-- The interceptors that are called at a place are those of its chain.
+use Rattle.std.proofs.Common.{◌≡◌, ℕ, Bool, true, false, not, ◌&&◌, List, [], ◌∷◌, filter, length, nat_eq, is_none, is_some, Option, Some, None}
+use Rattle.std.proofs.Common.{refl, sym, ap, ◌∙◌}
+use Rattle.std.specs.List.{list_all, AllByRecursion}
+use Rattle.cdi_model.specs.declared.decl.InterceptorDecl.{InterceptorDecl}
+use Rattle.cdi_effective.proofs.SortLemmas.{all_sorted}
+use Rattle.cdi_intercept.specs.Chains.{chain_by, covered_in, in_order, interceptors, is_before, is_enabled, part_for, surrounds}
+use Rattle.cdi_explain.specs.Interceptors.{interceptor_verdict, is_called, uncovered, CalledAreTheChain, CalledSurround}
+use Rattle.cdi_explain.proofs.VerdictLemmas.{lacking_all}
+
+pub called_surround : CalledSurround
+called_surround ds set place i =
+    by (is_some (part_for place i)) refl (nat_eq (length i.bindings) 0) refl (uncovered ds set i.bindings) refl (is_enabled i) refl
+  where
+    all_covered : list_all (covered_in ds set) i.bindings ≡ is_none (uncovered ds set i.bindings)
+    all_covered = sym (lacking_all (covered_in ds set) i.bindings)
+
+    by : (b : Bool) → is_some (part_for place i) ≡ b → (n : Bool) → nat_eq (length i.bindings) 0 ≡ n
+        → (o : Option ℕ) → uncovered ds set i.bindings ≡ o → (e : Bool) → is_enabled i ≡ e
+        → is_called (interceptor_verdict ds set place i)
+        ≡ (is_enabled i && (is_some (part_for place i) && (not (nat_eq (length i.bindings) 0) && list_all (covered_in ds set) i.bindings)))
+    by false p n q o r true u = rw (all_covered, p, u) refl
+    by false p n q o r false u = rw (all_covered, p, u) refl
+    by true p true q o r true u = rw (all_covered, p, q, u) refl
+    by true p true q o r false u = rw (all_covered, p, q, u) refl
+    by true p false q (Some k) r true u = rw (all_covered, p, q, r, u) refl
+    by true p false q (Some k) r false u = rw (all_covered, p, q, r, u) refl
+    by true p false q None r true u = rw (all_covered, p, q, r, u) refl
+    by true p false q None r false u = rw (all_covered, p, q, r, u) refl
+
+-- ---- those in order
+
+filter_where : {X : Type 0} (f g : X → Bool) (xs : List X) → AllByRecursion (λ x. f x ≡ g x) xs → filter f xs ≡ filter g xs
+filter_where f g [] all = refl
+filter_where f g (x ∷ xs) all = by (g x) refl (filter_where f g xs all.1)
+  where
+    by : (b : Bool) → g x ≡ b → filter f xs ≡ filter g xs → filter f (x ∷ xs) ≡ filter g (x ∷ xs)
+    by true e rest = rw (all.0, e) (ap (λ l. x ∷ l) rest)
+    by false e rest = rw (all.0, e) rest
+
+all_kept : {X : Type 0} (p : X → Bool) (P : X → Type 0) → ((x : X) → p x ≡ true → P x) → (xs : List X) → AllByRecursion P (filter p xs)
+all_kept p P here [] = tt
+all_kept p P here (x ∷ xs) = by (p x) refl (all_kept p P here xs)
+  where
+    by : (b : Bool) → p x ≡ b → AllByRecursion P (filter p xs) → AllByRecursion P (filter p (x ∷ xs))
+    by true e rest = rw e (here x e, rest)
+    by false e rest = rw e rest
+
+pub called_are_the_chain : CalledAreTheChain
+unfolding in_order chain_by
+called_are_the_chain ds set place =
+    filter_where called (surrounds ds set place) (in_order ds)
+    (all_sorted alike is_before (filter is_enabled (interceptors ds)) (all_kept is_enabled alike enabled (interceptors ds)))
+  where
+    called : InterceptorDecl → Bool
+    called i = is_called (interceptor_verdict ds set place i)
+
+    alike : InterceptorDecl → Type 0
+    alike i = called i ≡ surrounds ds set place i
+
+    enabled : (i : InterceptorDecl) → is_enabled i ≡ true → alike i
+    enabled i e = called_surround ds set place i ∙ ap (λ b. b && surrounds ds set place i) e

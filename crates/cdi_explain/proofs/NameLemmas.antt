@@ -1,0 +1,55 @@
+-- Where the bean of a name is wanted, those that are chosen or tied are those of the answer.
+use Rattle.std.proofs.Common.{◌≡◌, ℕ, ◌==◌, Bool, true, false, ◌&&◌, List, filter, length, map, refl, sym, ap, ◌∙◌}
+use Rattle.std.proofs.lemmas.List.Elements.{filter_agree}
+use Rattle.cdi_effective.specs.declared.records.Effective.{Effective}
+use Rattle.cdi_resolve.specs.Choices.{candidate, chosen_by_name, ids, is_named, named, Candidate}
+use Rattle.cdi_explain.specs.declared.rivals.Rivals.{Rivals}
+use Rattle.cdi_explain.specs.Names.{has_name, name_verdict, name_verdict_by, name_verdict_if, TakenAreTheNamed}
+use Rattle.cdi_explain.specs.Verdicts.{among_by, is_kept, is_taken, kept, rivals_of, verdict_among}
+use Rattle.cdi_explain.proofs.VerdictLemmas.{among_same, choice_ids, filter_both, left_out, map_filter, map_map, map_same, taken_kept}
+
+taken_here : (beans : List Effective) (n : List ℕ) (bean : Effective)
+    → is_taken (name_verdict beans n bean) ≡ (has_name n bean && is_kept (map candidate (named beans n)) (candidate bean))
+unfolding name_verdict
+taken_here beans n bean = by (is_named n bean.name) refl bean.is_enabled refl (is_kept cs (candidate bean)) refl
+  where
+    cs : List Candidate
+    cs = map candidate (named beans n)
+
+    by : (h : Bool) → is_named n bean.name ≡ h → (e : Bool) → bean.is_enabled ≡ e → (k : Bool) → is_kept cs (candidate bean) ≡ k
+        → is_taken (name_verdict_if n bean (verdict_among cs (candidate bean)))
+        ≡ ((bean.is_enabled && is_named n bean.name) && is_kept cs (candidate bean))
+    by false p true r k u = rw (p, r) refl
+    by false p false r k u = rw (p, r) refl
+    by true p false r k u = rw (p, r) refl
+    by true p true r true u = rw (p, r, u) (taken_kept (length (kept cs) == 1))
+    by true p true r false u = rw (p, r, u) (left_out (candidate bean).is_alternative)
+
+pub taken_are_the_named : TakenAreTheNamed
+unfolding chosen_by_name named
+taken_are_the_named beans n =
+    ap (map (λ (b : Effective). b.id))
+    (filter_agree (λ (b : Effective). is_taken (name_verdict beans n b)) (λ (b : Effective). has_name n b && is_kept cs (candidate b))
+    (taken_here beans n) beans
+    ∙ filter_both (has_name n) (λ (b : Effective). is_kept cs (candidate b)) beans)
+    ∙ map_map candidate (λ (c : Candidate). c.id) (filter (λ (b : Effective). is_kept cs (candidate b)) some)
+    ∙ ap ids (map_filter candidate (is_kept cs) some)
+    ∙ sym (choice_ids cs)
+  where
+    some : List Effective
+    some = filter (has_name n) beans
+
+    cs : List Candidate
+    cs = map candidate some
+
+-- by what the code finds of the others
+pub judged : (beans : List Effective) (n : List ℕ) (some : List Effective) (rivals : Rivals) → some ≡ filter (has_name n) beans
+    → rivals ≡ rivals_of (map candidate some) → map (name_verdict_by n rivals) beans ≡ map (name_verdict beans n) beans
+unfolding name_verdict_by name_verdict named
+judged beans n some rivals found told =
+    rw (told, found) (map_same (λ bean. name_verdict_if n bean (among_by (rivals_of cs) (candidate bean)))
+    (λ bean. name_verdict_if n bean (verdict_among cs (candidate bean)))
+    (λ bean. ap (name_verdict_if n bean) (among_same cs (candidate bean))) beans)
+  where
+    cs : List Candidate
+    cs = map candidate (filter (has_name n) beans)

@@ -1,0 +1,7 @@
+use Rattle.std.proofs.Common.{◌≡◌, ◌++◌, drop, filter}
+use Rattle.cdi_explain.specs.Lent.{lent_in}
+use Rattle.cdi_explain.specs.Names.{has_name}
+use Rattle.cdi_explain.proofs.named.named.Given as goal
+
+abbrev pub invariant-loop-bean : goal.invariant-loop-bean
+invariant-loop-bean l = lent_in l.named.items ++ filter (has_name l.name) (drop l.bean-index l.beans) ≡ filter (has_name l.name) l.beans

@@ -1,0 +1,101 @@
+//! The shortest circles through nodes of small graphs.
+use cdi_ways::{Edge, circle_through};
+use std::alloc::{AllocError, Global};
+use std::test::Fail;
+
+const LAST: usize = usize::MAX;
+
+/// An edge between two nodes.
+fn edge(from: usize, to: usize) -> Edge {
+    Edge { from, to }
+}
+
+/// Whether the edges at some positions are the shortest circle that is found, or none is found where there are no positions.
+fn finds(
+    alloc: Global,
+    edges: &[Edge],
+    start: usize,
+    wanted: &[usize],
+) -> Result<bool, AllocError> {
+    match circle_through(alloc, edges, start)? {
+        Some(way) => Ok(way.as_slice() == wanted),
+        None => Ok(wanted.is_empty()),
+    }
+}
+
+#[test]
+fn a_loop_of_one_edge(rt: HostRuntime) -> Result<(), Fail> {
+    let edges = [edge(7, 8), edge(8, 7), edge(7, 7)];
+    assert!(rt; finds(rt.alloc(), &edges, 7, &[2])?);
+    Ok(())
+}
+
+#[test]
+fn the_shorter_of_two_circles(rt: HostRuntime) -> Result<(), Fail> {
+    let edges = [edge(1, 2), edge(2, 3), edge(3, 1), edge(1, 4), edge(4, 1)];
+    assert!(rt; finds(rt.alloc(), &edges, 1, &[3, 4])?);
+    assert!(rt; finds(rt.alloc(), &edges, 2, &[1, 2, 0])?);
+    Ok(())
+}
+
+#[test]
+fn no_circle(rt: HostRuntime) -> Result<(), Fail> {
+    let edges = [edge(1, 2), edge(1, 3), edge(2, 4), edge(3, 4)];
+    assert!(rt; finds(rt.alloc(), &edges, 1, &[])?);
+    assert!(rt; finds(rt.alloc(), &[], 1, &[])?);
+    Ok(())
+}
+
+#[test]
+fn a_circle_that_leaves_out_the_start(rt: HostRuntime) -> Result<(), Fail> {
+    let edges = [edge(1, 2), edge(2, 3), edge(3, 2)];
+    assert!(rt; finds(rt.alloc(), &edges, 1, &[])?);
+    assert!(rt; finds(rt.alloc(), &edges, 3, &[2, 1])?);
+    Ok(())
+}
+
+#[test]
+fn parallel_edges(rt: HostRuntime) -> Result<(), Fail> {
+    let edges = [edge(1, 2), edge(1, 2), edge(2, 1), edge(2, 1)];
+    let way = circle_through(rt.alloc(), &edges, 1)?.ok_or("no circle")?;
+    assert!(rt; way.len() == 2);
+    Ok(())
+}
+
+#[test]
+fn nodes_that_are_not_reached(rt: HostRuntime) -> Result<(), Fail> {
+    let edges = [edge(5, 6), edge(6, 5), edge(5, 1), edge(1, 2), edge(2, 1)];
+    assert!(rt; finds(rt.alloc(), &edges, 1, &[3, 4])?);
+    assert!(rt; finds(rt.alloc(), &edges, 9, &[])?);
+    Ok(())
+}
+
+#[test]
+fn the_greatest_number(rt: HostRuntime) -> Result<(), Fail> {
+    let edges = [edge(0, LAST), edge(LAST, 1), edge(1, LAST)];
+    assert!(rt; finds(rt.alloc(), &edges, LAST, &[1, 2])?);
+    assert!(rt; finds(rt.alloc(), &edges, 0, &[])?);
+    Ok(())
+}
+
+/// A ring: each node leads to the one before it, and the first to the last.
+fn ring(alloc: Global, count: usize) -> Result<Vec<Edge>, AllocError> {
+    let mut edges = Vec::new(alloc);
+    let mut before = LAST;
+    for node in 0..count {
+        edges.push(edge(node, before))?;
+        before = node;
+    }
+    edges.push(edge(LAST, before))?;
+    Ok(edges)
+}
+
+#[test]
+fn a_ring(rt: HostRuntime) -> Result<(), Fail> {
+    let edges = ring(rt.alloc(), 999)?;
+    let way = circle_through(rt.alloc(), edges.as_slice(), 500)?.ok_or("no circle")?;
+    assert!(rt; way.len() == 1_000);
+    assert!(rt; way.first() == Some(&500));
+    assert!(rt; way.last() == Some(&501));
+    Ok(())
+}

@@ -1,0 +1,7 @@
+use Rattle.std.proofs.Common.{◌∷◌, ap, ◌∙◌}
+use Rattle.cdi_text.specs.declared.steps.Step.TheVariants.{Key}
+use Rattle.cdi_text.proofs.explanations.explain_kind.Goals as goal
+
+pub returns-clause-path : goal.returns-clause-path
+returns-clause-path c =
+    let by = c.in_ok-to_key.ensures in (by.0, by.2 ∙ ap (λ way. Key by.0 ∷ way) c.new.ensures.items, by.1)

@@ -1,0 +1,6 @@
+use Rattle.cdi_ways.specs.Leaving.{leaving_at}
+use Rattle.cdi_ways.proofs.LeavingLemmas.{AreRight, AreWholeBelow}
+use Rattle.cdi_ways.proofs.leaving.leaving.Given as goal
+
+abbrev pub invariant-loop-position : goal.invariant-loop-position
+invariant-loop-position l = AreRight l.edges (leaving_at l.leaving) × AreWholeBelow l.edges (leaving_at l.leaving) l.position

@@ -1,0 +1,15 @@
+use Rattle.std.proofs.Common.{None, ap, sym, subst, ◌∙◌}
+use Rattle.cdi_ways.specs.Leaving.{leaving_at}
+use Rattle.cdi_ways.specs.Search.{IsSearch}
+use Rattle.cdi_ways.proofs.StepLemmas.{with_steps}
+use Rattle.cdi_ways.proofs.SearchLemmas.{search_begun}
+use Rattle.cdi_ways.proofs.search.Search.new.Goals as goal
+
+pub returns : goal.returns
+returns c =
+    let edges = c.args.edges.now in
+    let left' = leaving_at c.follow.new.self.left in
+    let left = leaving_at c.in_ok-leaving.field-0 in
+    subst (λ steps. IsSearch edges c.args.start left' steps 0)
+    (sym (c.in_ok-follow.ensures.steps ∙ ap (λ steps. with_steps steps None 1 (left c.args.start)) c.new.ensures.items))
+    (search_begun edges c.args.start left left' c.in_ok-leaving.ensures c.in_ok-follow.ensures.left)
