@@ -1,0 +1,256 @@
+//! Ways from a bean, or from what is declared, back to itself.
+ghost use Rattle.std.specs.Prelude.{◌≡◌};
+ghost use Rattle.cdi_intercept.specs.Chains.{in_order};
+ghost use Rattle.cdi_intercept.specs.Lent.{lent_in};
+
+use crate::adviser::Adviser;
+use cdi_bodies::Bodies;
+use cdi_effective::{BeanId, Effective};
+use cdi_intercept::{around_any, in_order};
+use cdi_model::{BeanDecl, Decl, Ident, InterceptorDecl, Kind, Name, PointDecl, Scope, Work};
+use cdi_resolve::Choice;
+use cdi_ways::{Edge, circle_through};
+use std::alloc::AllocError;
+use std::fmt;
+
+/// What leads from a bean to one that it needs.
+#[derive(Clone, Copy)]
+enum Link {
+    /// A point of its constructor.
+    Point(Ident),
+    /// A parameter of the producer method whose product it is.
+    Param(Ident),
+    /// The producer method runs on the bean that declares it.
+    Producer(Ident),
+    /// A point of an interceptor around a place of it.
+    Interceptor(Name, Ident),
+}
+
+impl fmt::Display for Link {
+    fn fmt<W: fmt::Write>(&self, f: &mut fmt::Formatter<W>) -> fmt::Result {
+        match self {
+            Link::Point(name) => write!(f, "point {name}"),
+            Link::Param(name) => write!(f, "param {name}"),
+            Link::Producer(name) => write!(f, "producer {name}"),
+            Link::Interceptor(interceptor, name) => {
+                write!(f, "interceptor {interceptor} point {name}")
+            }
+        }
+    }
+}
+
+/// The edges from dependent beans to those that they need, each with what leads there.
+#[derive(Drop)]
+struct Needs {
+    edges: Vec<Edge>,
+    links: Vec<Link>,
+}
+
+impl Needs {
+    fn push(&mut self, edge: Edge, link: Link) -> Result<(), AllocError> {
+        self.edges.push(edge)?;
+        self.links.push(link)?;
+        Ok(())
+    }
+
+    /// Adds what is chosen for a point, where it is a dependent bean.
+    fn push_point<B: Bodies>(
+        &mut self,
+        adviser: &Adviser<'_, B>,
+        from: usize,
+        point: &PointDecl,
+        link: Link,
+    ) -> Result<(), AllocError> {
+        let alloc = adviser.alloc;
+        let (wanted, quals) = (point.required_type, &point.qualifiers);
+        let mut work = Work::new();
+        let choice = adviser
+            .beans
+            .choose(alloc, adviser.decls, wanted, quals, &mut work)?;
+        let Choice::One(id) = choice else {
+            return Ok(());
+        };
+        match adviser.beans.position(id) {
+            Some(to) if is_dependent_at(adviser, to) => self.push(Edge { from, to }, link),
+            _ => Ok(()),
+        }
+    }
+
+    /// Adds what a managed bean needs. The interceptors are all that are enabled, in order.
+    fn push_managed<B: Bodies>(
+        &mut self,
+        adviser: &Adviser<'_, B>,
+        from: usize,
+        record: &Effective,
+        bean: &BeanDecl,
+        order: &[&InterceptorDecl],
+    ) -> Result<(), AllocError>
+        requires { lent_in order.now ≡ in_order adviser.now.decls.now }
+    {
+        for point in bean.points.as_slice() {
+            self.push_point(adviser, from, point, Link::Point(point.name))?;
+        }
+        let class = record.bindings.as_slice();
+        for interceptor in around_any(adviser.alloc, adviser.decls, order, class, bean)? {
+            for point in interceptor.points.as_slice() {
+                let link = Link::Interceptor(interceptor.name, point.name);
+                self.push_point(adviser, from, point, link)?;
+            }
+        }
+        Ok(())
+    }
+
+    /// Adds what the product of a producer method needs.
+    fn push_product<B: Bodies>(
+        &mut self,
+        adviser: &Adviser<'_, B>,
+        from: usize,
+        bean: &BeanDecl,
+        producer: Ident,
+    ) -> Result<(), AllocError> {
+        for declared in bean.producers.as_slice() {
+            if declared.name == producer {
+                for point in declared.params.as_slice() {
+                    self.push_point(adviser, from, point, Link::Param(point.name))?;
+                }
+                let declaring = BeanId {
+                    class: bean.name,
+                    producer: None,
+                };
+                if let Some(to) = adviser.beans.position(declaring) {
+                    if !declared.is_static && is_dependent_at(adviser, to) {
+                        self.push(Edge { from, to }, Link::Producer(producer))?;
+                    }
+                }
+            }
+        }
+        Ok(())
+    }
+}
+
+/// Whether the bean at a position of the bean list is an enabled dependent one.
+fn is_dependent_at<B: Bodies>(adviser: &Adviser<'_, B>, position: usize) -> bool {
+    match adviser.beans.as_slice().get(position) {
+        Some(bean) => is_dependent(bean),
+        None => false,
+    }
+}
+
+fn is_dependent(bean: &Effective) -> bool {
+    bean.is_enabled && bean.scope == Scope::Dependent
+}
+
+/// What the dependent beans need.
+fn needs_of<B: Bodies>(adviser: &Adviser<'_, B>) -> Result<Needs, AllocError> {
+    let alloc = adviser.alloc;
+    let order = in_order(alloc, adviser.decls)?;
+    let mut needs = Needs {
+        edges: Vec::new(alloc),
+        links: Vec::new(alloc),
+    };
+    for (from, record) in adviser.beans.as_slice().iter().enumerate() {
+        if !is_dependent(record) {
+            continue;
+        }
+        let Some(bean) = adviser.bean(&record.id.class) else {
+            continue;
+        };
+        match record.id.producer {
+            None => needs.push_managed(adviser, from, record, bean, &order)?,
+            Some(producer) => needs.push_product(adviser, from, bean, producer)?,
+        }
+    }
+    Ok(needs)
+}
+
+/// The shortest way from a dependent bean back to itself, if there is one, as `Cart (point till) -> Till (point cart) -> Cart`.
+pub(crate) fn circle_of_needs<B: Bodies>(
+    adviser: &Adviser<'_, B>,
+    id: BeanId,
+) -> Result<Option<String>, AllocError> {
+    let alloc = adviser.alloc;
+    let Some(start) = adviser.beans.position(id) else {
+        return Ok(None);
+    };
+    let needs = needs_of(adviser)?;
+    let Some(way) = circle_through(alloc, &needs.edges, start)? else {
+        return Ok(None);
+    };
+    let mut text = format!(in alloc; "{id}")?;
+    for position in way {
+        if let (Some(edge), Some(link)) = (needs.edges.get(position), needs.links.get(position)) {
+            if let Some(bean) = adviser.beans.as_slice().get(edge.to) {
+                let (link, id) = (*link, bean.id);
+                let step = format!(in alloc; " ({link}) -> {id}")?;
+                text.push_str(step.as_str())?;
+            }
+        }
+    }
+    Ok(Some(text))
+}
+
+/// The shortest way from a type, a stereotype or a binding type back to itself, if there is one, as `Corner -> Market -> Corner`.
+pub(crate) fn circle_of_names<B: Bodies>(
+    adviser: &Adviser<'_, B>,
+    kind: Kind,
+    name: Name,
+) -> Result<Option<String>, AllocError> {
+    let alloc = adviser.alloc;
+    let Some(start) = adviser.decls.position(kind, &name) else {
+        return Ok(None);
+    };
+    let edges = edges_of_names(adviser, kind)?;
+    let Some(way) = circle_through(alloc, &edges, start)? else {
+        return Ok(None);
+    };
+    let mut text = format!(in alloc; "{name}")?;
+    for position in way {
+        if let Some(edge) = edges.get(position) {
+            if let Some(decl) = adviser.decls.at(edge.to) {
+                let next = decl.name();
+                let step = format!(in alloc; " -> {next}")?;
+                text.push_str(step.as_str())?;
+            }
+        }
+    }
+    Ok(Some(text))
+}
+
+/// The edges between declarations of a kind, by their positions.
+fn edges_of_names<B: Bodies>(
+    adviser: &Adviser<'_, B>,
+    kind: Kind,
+) -> Result<Vec<Edge>, AllocError> {
+    let mut edges = Vec::new(adviser.alloc);
+    for (from, decl) in adviser.decls.iter().enumerate() {
+        if decl.kind() == kind {
+            for name in next_names(adviser, decl)? {
+                if let Some(to) = adviser.decls.position(kind, &name) {
+                    edges.push(Edge { from, to })?;
+                }
+            }
+        }
+    }
+    Ok(edges)
+}
+
+/// The names to which a declaration leads.
+fn next_names<B: Bodies>(adviser: &Adviser<'_, B>, decl: &Decl) -> Result<Vec<Name>, AllocError> {
+    let mut names = Vec::new(adviser.alloc);
+    match decl {
+        Decl::Type(decl) => {
+            if let Some(name) = decl.extends {
+                names.push(name)?;
+            }
+            names.extend_from_slice(decl.implements.as_slice())?;
+        }
+        Decl::Stereotype(decl) => names.extend_from_slice(decl.stereotypes.as_slice())?,
+        Decl::Binding(decl) => {
+            for qual in decl.declares.as_slice() {
+                names.push(qual.name)?;
+            }
+        }
+        _ => {}
+    }
+    Ok(names)
+}

@@ -1,0 +1,17 @@
+//! What to do about a fault: which beans were considered, why each was taken or left, and what to write.
+#![tactic(auto)]
+
+mod advice;
+mod adviser;
+mod beans;
+mod bodies;
+mod choices;
+mod circles;
+mod declared;
+mod names;
+mod types;
+mod uses;
+mod words;
+
+pub use advice::{Advice, Candidate};
+pub use adviser::Adviser;

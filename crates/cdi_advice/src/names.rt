@@ -1,0 +1,76 @@
+//! Names of beans that clash.
+use crate::advice::{Advice, Candidate};
+use crate::adviser::Adviser;
+use crate::choices::text_of_verdict;
+use cdi_bodies::Bodies;
+use cdi_explain::{Verdict, verdicts_on_name};
+use cdi_model::Name;
+use std::alloc::AllocError;
+
+/// Several beans have a name, and none of them is chosen for it.
+pub(crate) fn clash<B: Bodies>(adviser: &Adviser<'_, B>, name: Name) -> Result<Advice, AllocError> {
+    let alloc = adviser.alloc;
+    let beans = adviser.beans.as_slice();
+    let mut candidates = Vec::new(alloc);
+    let mut others = 0usize;
+    for (bean, verdict) in beans.iter().zip(verdicts_on_name(alloc, beans, name)?) {
+        if verdict == Verdict::LacksName {
+            others = others.saturating_add(1);
+        } else {
+            candidates.push(Candidate {
+                bean: bean.id,
+                verdict,
+                text: text_of_verdict(adviser, bean, verdict, &[])?,
+            })?;
+        }
+    }
+    Ok(Advice {
+        wanted: Some(format!(in alloc; "name {name}")?),
+        candidates,
+        others,
+        help: String::from_str(
+            alloc,
+            "give one of them another name, or make one an alternative with a greater priority",
+        )?,
+    })
+}
+
+/// The name of a bean is that of another, a dot and a name.
+pub(crate) fn prefix<B: Bodies>(
+    adviser: &Adviser<'_, B>,
+    name: Name,
+    longer: Name,
+) -> Result<Advice, AllocError> {
+    let alloc = adviser.alloc;
+    let mut advice = of_names(adviser, &[name, longer])?;
+    advice.help = format!(in alloc;
+        "{longer} is read as a property of {name}: give one of them another name"
+    )?;
+    Ok(advice)
+}
+
+/// The enabled beans that have one of some names.
+fn of_names<B: Bodies>(adviser: &Adviser<'_, B>, names: &[Name]) -> Result<Advice, AllocError> {
+    let alloc = adviser.alloc;
+    let mut candidates = Vec::new(alloc);
+    let mut others = 0usize;
+    for bean in adviser.beans.as_slice() {
+        match bean.name {
+            Some(name) if bean.is_enabled && names.contains(&name) => {
+                let text = format!(in alloc; "has the name {name}")?;
+                candidates.push(Candidate {
+                    bean: bean.id,
+                    verdict: Verdict::Tied,
+                    text,
+                })?;
+            }
+            _ => others = others.saturating_add(1),
+        }
+    }
+    Ok(Advice {
+        wanted: None,
+        candidates,
+        others,
+        help: String::new(alloc),
+    })
+}

@@ -1,0 +1,100 @@
+//! Types.
+use crate::advice::Advice;
+use crate::adviser::{Adviser, Part};
+use crate::circles::circle_of_names;
+use crate::words::listed;
+use cdi_bodies::Bodies;
+use cdi_faults::Subject;
+use cdi_match::closure;
+use cdi_model::{Decl, Form, Ident, Name};
+use std::alloc::AllocError;
+
+/// A type, a stereotype or a binding type reaches itself.
+pub(crate) fn cycle<B: Bodies>(
+    adviser: &Adviser<'_, B>,
+    part: Part<'_>,
+) -> Result<Advice, AllocError> {
+    let name = part.decl.name();
+    let keys = match part.decl {
+        Decl::Type(_) => "extends and implements",
+        Decl::Stereotype(_) => "stereotypes",
+        _ => "declares",
+    };
+    let alloc = adviser.alloc;
+    let help = format!(in alloc; "leave a step of {keys} out")?;
+    Ok(Advice::of_help(match circle_of_names(adviser, part.decl.kind(), *name)? {
+        Some(way) => format!(in alloc; "{way}: {help}")?,
+        None => format!(in alloc; "{name} leads back to itself: {help}")?,
+    }))
+}
+
+/// A class is named where an interface is needed, or the other way round.
+pub(crate) fn bad_kind<B: Bodies>(
+    adviser: &Adviser<'_, B>,
+    part: Part<'_>,
+) -> Result<Advice, AllocError> {
+    let alloc = adviser.alloc;
+    let name = part.decl.name();
+    Ok(Advice::of_help(match part.subject {
+        Subject::Extends(other) if is_interface(part.decl) => {
+            format!(in alloc;
+                "the interface {name} names what it extends in implements: write {other} there"
+            )?
+        }
+        Subject::Extends(other) => {
+            format!(in alloc; "{other} is an interface: write it in implements")?
+        }
+        Subject::Implements(other) => {
+            format!(in alloc;
+                "{other} is a class: name it in extends, or give it form = \"interface\""
+            )?
+        }
+        _ => {
+            format!(in alloc;
+                "the type {name} is an interface: declare the bean for a class that implements it"
+            )?
+        }
+    }))
+}
+
+fn is_interface(decl: &Decl) -> bool {
+    match decl {
+        Decl::Type(decl) => decl.form == Form::Interface,
+        _ => false,
+    }
+}
+
+/// A bean is restricted to a type that it does not have.
+pub(crate) fn typed<B: Bodies>(
+    adviser: &Adviser<'_, B>,
+    part: Part<'_>,
+) -> Result<Advice, AllocError> {
+    let alloc = adviser.alloc;
+    let Subject::Typed { producer, name } = part.subject else {
+        return adviser.help("list types that the bean has");
+    };
+    let Some(class) = product_type(part.decl, producer) else {
+        return adviser.help("list types that the bean has");
+    };
+    let types = closure(alloc, adviser.decls, class)?;
+    let types = listed(alloc, types.as_slice())?;
+    Ok(Advice::of_help(format!(in alloc; "{class} has no type {name}; list some of: {types}")?))
+}
+
+/// The type whose types a bean has: its class, or what its producer method returns.
+fn product_type(decl: &Decl, producer: &Option<Ident>) -> Option<Name> {
+    let Decl::Bean(bean) = decl else {
+        return None;
+    };
+    match producer {
+        None => Some(bean.name),
+        Some(name) => {
+            let producer = bean
+                .producers
+                .as_slice()
+                .iter()
+                .find(|producer| producer.name == *name)?;
+            Some(producer.product_type)
+        }
+    }
+}

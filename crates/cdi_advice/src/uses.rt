@@ -1,0 +1,94 @@
+//! Uses of qualifiers and of bindings.
+use crate::advice::Advice;
+use crate::adviser::{Adviser, Part};
+use crate::words::listed;
+use cdi_bodies::Bodies;
+use cdi_faults::Subject;
+use cdi_intercept::bindings_at;
+use cdi_model::{BeanPlace, Decl, Error, MemberDecl, PartPlace, Qual, Seq, UseKind};
+use std::alloc::{AllocError, Global};
+use std::fmt;
+
+/// A member, as it is to be written.
+#[derive(Clone, Copy)]
+struct MemberText<'a>(&'a MemberDecl);
+
+impl fmt::Display for MemberText<'_> {
+    fn fmt<W: fmt::Write>(&self, f: &mut fmt::Formatter<W>) -> fmt::Result {
+        let name = self.0.name;
+        match self.0.default {
+            Some(value) => write!(f, "{name} (else {value})"),
+            None => write!(f, "{name}"),
+        }
+    }
+}
+
+/// Two bindings of one type differ.
+pub(crate) fn conflict<B: Bodies>(
+    adviser: &Adviser<'_, B>,
+    part: Part<'_>,
+) -> Result<Advice, AllocError> {
+    let alloc = adviser.alloc;
+    let place = match part.subject {
+        Subject::Part(PartPlace::Method(name)) => BeanPlace::Method(*name),
+        Subject::Part(PartPlace::Producer(name)) => BeanPlace::Producer(*name),
+        Subject::Part(PartPlace::Observer(name)) => BeanPlace::Observer(*name),
+        _ => BeanPlace::Construct,
+    };
+    let uses = match bindings_at(alloc, adviser.decls, *part.decl.name(), &place) {
+        Ok(uses) => uses,
+        Err(Error::OutOfMemory) => return Err(AllocError),
+        Err(Error::Refused(_)) => Seq::new(alloc),
+    };
+    let opposed = repeated_of(alloc, uses.as_slice())?;
+    let opposed = listed(alloc, opposed.as_slice())?;
+    let subject = part.subject;
+    Ok(Advice::of_help(format!(in alloc;
+        "{subject} has {opposed}: write one there that settles it, or leave one out"
+    )?))
+}
+
+/// Those of some uses that have the name of another.
+fn repeated_of(alloc: Global, uses: &[Qual]) -> Result<Vec<&Qual>, AllocError> {
+    let mut repeated = Vec::new(alloc);
+    for one in uses {
+        if uses.iter().filter(|other| other.name == one.name).count() > 1 {
+            repeated.push(one)?;
+        }
+    }
+    Ok(repeated)
+}
+
+/// A use does not fit its declaration.
+pub(crate) fn member<B: Bodies>(
+    adviser: &Adviser<'_, B>,
+    part: Part<'_>,
+) -> Result<Advice, AllocError> {
+    let alloc = adviser.alloc;
+    let Subject::Use(kind, qual) = part.subject else {
+        return adviser.help("write the members that are declared");
+    };
+    let mut members = Vec::new(alloc);
+    for member in members_of(adviser, *kind, part) {
+        members.push(MemberText(member))?;
+    }
+    let members = listed(alloc, members.as_slice())?;
+    let name = qual.name;
+    Ok(Advice::of_help(format!(in alloc; "the members of {name} are: {members}")?))
+}
+
+/// The members of what is used.
+fn members_of<'a, B: Bodies>(
+    adviser: &Adviser<'a, B>,
+    kind: UseKind,
+    part: Part<'_>,
+) -> &'a [MemberDecl] {
+    let Subject::Use(_, qual) = part.subject else {
+        return &[];
+    };
+    match adviser.decls.get(kind.declared_as(), &qual.name) {
+        Some(Decl::Qualifier(decl)) => decl.members.as_slice(),
+        Some(Decl::Binding(decl)) => decl.members.as_slice(),
+        _ => &[],
+    }
+}

@@ -1,0 +1,15 @@
+//! Deployments that are put together of files: what each file puts and drops, what of it is refused and where, and in which
+//! file each declaration is.
+#![tactic(auto)]
+
+mod assembly;
+mod findings;
+mod origins;
+mod problem;
+mod steps;
+
+pub use assembly::{Assembly, assemble};
+pub use findings::{Files, Telling, findings_of_faults, findings_of_problems};
+pub use origins::Origins;
+pub use problem::{Problem, Refused, Repeated};
+pub use steps::{Step, steps_of};

@@ -1,0 +1,111 @@
+//! The commands of a script, with the lines at which they begin.
+
+ghost use Rattle.std.specs.Prelude.{◌<◌, IfSome, length};
+
+use cdi_container::{Command, Said, read_line};
+use cdi_lines::find_feed;
+use cdi_script::Mode;
+use std::alloc::{AllocError, Global};
+use std::mem;
+
+/// A command of a script.
+#[derive(Debug, Drop)]
+pub struct Step {
+    /// The line at which it begins, from 1.
+    pub line: usize,
+    /// Of a batch, the lines at which its edits begin.
+    pub edit_lines: Vec<usize>,
+    pub command: Command,
+}
+
+/// The commands that a script spells, in order. It takes memory for all of them.
+pub fn steps_of(alloc: Global, script: &[u8]) -> Result<Vec<Step>, AllocError> {
+    let mut reading = Reading::new(alloc);
+    let mut rest = script;
+    while let Some((line, after)) = split_line(rest) {
+        reading.take_line(line)?;
+        rest = after;
+    }
+    if !rest.is_empty() {
+        reading.take_line(rest)?;
+    }
+    reading.into_steps()
+}
+
+/// The first line of a text and what comes after it, if a line feed ends it.
+fn split_line(text: &[u8]) -> Option<(&[u8], &[u8])>
+    ensures { IfSome result (λ split. length split.1.now < length text.now) }
+{
+    let end = find_feed(text)?;
+    Some((&text[..end], &text[end + 1..]))
+}
+
+/// What was read of a script.
+#[derive(Drop)]
+struct Reading {
+    alloc: Global,
+    mode: Mode,
+    /// How many lines were read.
+    line: usize,
+    /// The line at which begins what is open.
+    begin: usize,
+    edit_lines: Vec<usize>,
+    steps: Vec<Step>,
+}
+
+impl Reading {
+    fn new(alloc: Global) -> Reading {
+        Reading {
+            alloc,
+            mode: Mode::new(),
+            line: 0,
+            begin: 0,
+            edit_lines: Vec::new(alloc),
+            steps: Vec::new(alloc),
+        }
+    }
+
+    fn take_line(&mut self, line: &[u8]) -> Result<(), AllocError> {
+        self.line = self.line.saturating_add(1);
+        if !self.mode.is_open() {
+            self.begin = self.line;
+        } else if !self.mode.is_in_put() && begins_edit(self.alloc, line)? {
+            self.edit_lines.push(self.line)?;
+        }
+        if let Some(command) = self.mode.take_line(self.alloc, line)? {
+            self.push(command)?;
+        }
+        Ok(())
+    }
+
+    /// Appends a command that is complete.
+    fn push(&mut self, command: Command) -> Result<(), AllocError> {
+        let edit_lines = mem::replace(&mut self.edit_lines, Vec::new(self.alloc));
+        self.steps.push(Step {
+            line: self.begin,
+            edit_lines,
+            command,
+        })?;
+        Ok(())
+    }
+
+    /// The commands, where no line is left. A batch or a put block without its end is none.
+    fn into_steps(mut self) -> Result<Vec<Step>, AllocError> {
+        if self.mode.is_open() {
+            self.push(Command::Unreadable)?;
+        }
+        Ok(self.steps)
+    }
+}
+
+/// Whether a line outside a put block begins an edit.
+fn begins_edit(alloc: Global, line: &[u8]) -> Result<bool, AllocError> {
+    match read_line(alloc, line) {
+        Ok(Said::PutBegins) | Ok(Said::Edit(_)) => Ok(true),
+        Ok(_) => Ok(false),
+        Err(error) => match error {
+            cdi_container::Error::OutOfMemory => Err(AllocError),
+            cdi_container::Error::Refused(_) => Ok(false),
+        },
+    }
+}

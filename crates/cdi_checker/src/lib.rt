@@ -1,0 +1,8 @@
+//! What the program `container_check` does with its words.
+#![tactic(auto)]
+
+mod bodies;
+mod options;
+mod program;
+
+pub use program::run;

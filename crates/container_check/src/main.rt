@@ -1,0 +1,16 @@
+//! The program: checks the deployment that some files declare.
+#![tactic(auto)]
+
+use cdi_checker::run;
+use cdi_sources::{Ending, status_of, words};
+use std::process::ExitCode;
+
+fn main(rt: HostRuntime) -> ExitCode {
+    ExitCode::from(status_of(&rt, check(&rt)))
+}
+
+/// Checks what the words of the system name, and answers the status.
+fn check(rt: &HostRuntime) -> Result<u8, Ending> {
+    let words = words(rt)?;
+    run(rt, words.as_slice())
+}
