@@ -1,0 +1,2 @@
+mod RedLemmas
+mod SortLemmas

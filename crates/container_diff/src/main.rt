@@ -1,0 +1,14 @@
+//! The program: what a change does to the wiring of a deployment.
+#![tactic(auto)]
+
+mod options;
+mod passage;
+mod program;
+mod wiring;
+
+use crate::program::run;
+use std::process::ExitCode;
+
+fn main(rt: HostRuntime) -> ExitCode {
+    ExitCode::from(run(&rt))
+}

@@ -1,0 +1,55 @@
+//! The command line.
+use clap::{Arg, ArgAction, Command, Error};
+use std::alloc::{AllocError, Global};
+
+/// What the words say.
+#[derive(Clone, Copy, Debug)]
+pub(crate) struct CommandLine<'a> {
+    /// The path of the deployment before the change.
+    pub(crate) before: &'a str,
+    /// The path of the deployment after it.
+    pub(crate) after: &'a str,
+}
+
+const EXAMPLE: &str = "Example: container_diff main/shop branch/shop
+
+A path is a folder, which stands for each file below it that ends in .toml, one declaration each.
+It may also be one such file, or a script of put blocks, drops and batches.
+
+  point bean Till point shop: one Corner -> one Market
+  chain Till method sell: - -> Audit
+  observers Order Online: - -> Journal/note
+  - F21 bean Till point bank
+  + F20 bean Till point shop
+
+A dash is written where there is none. Then come the faults that go and that come.
+What is refused or repeated is told on the standard error, and left out.
+
+Status: 0 nothing differs, 1 something differs, 2 bad arguments, 3 a path cannot be read, 4 out of memory";
+
+fn command<'a>(alloc: Global) -> Result<Command<'a>, AllocError> {
+    let before = Arg::new(alloc, "before")
+        .action(ArgAction::Set)
+        .required(true)
+        .value_name("BEFORE")
+        .help("The deployment before the change");
+    let after = Arg::new(alloc, "after")
+        .action(ArgAction::Set)
+        .required(true)
+        .value_name("AFTER")
+        .help("The deployment after the change");
+    Command::new(alloc, "container_diff")
+        .about("Tells what a change does to the wiring of a deployment")
+        .after_help(EXAMPLE)
+        .arg(before)?
+        .arg(after)
+}
+
+/// What the words say, or `clap`'s error.
+pub(crate) fn options<'a>(alloc: Global, words: &'a [String]) -> Result<CommandLine<'a>, Error> {
+    let matches = command(alloc)?.try_get_matches_from(words)?;
+    Ok(CommandLine {
+        before: matches.get_str("before").unwrap_or(""),
+        after: matches.get_str("after").unwrap_or(""),
+    })
+}

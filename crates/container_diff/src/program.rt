@@ -1,0 +1,110 @@
+//! A run of the program.
+use crate::options::{CommandLine, options};
+use crate::passage::bring;
+use crate::wiring::{is_fault, wiring_of};
+use cdi_assembly::{assemble, findings_of_problems};
+use cdi_container::Container;
+use cdi_differences::{Difference, differences};
+use cdi_findings::text_of;
+use cdi_sources::{Ending, Readings, Source, read_sources, status_of, words};
+use cdi_stock::StockBodies;
+use clap::error::ErrorKind;
+use std::alloc::{AllocError, Global};
+use std::io;
+use std::io::Write;
+
+/// Runs the program on the words that the system gives, and answers its status.
+pub(crate) fn run(rt: &HostRuntime) -> u8 {
+    status_of(rt, run_words(rt))
+}
+
+fn run_words(rt: &HostRuntime) -> Result<u8, Ending> {
+    let words = words(rt)?;
+    match options(rt.alloc(), words.as_slice()) {
+        Ok(options) => compare(rt, options),
+        Err(error) => {
+            if error.kind() == ErrorKind::OutOfMemory {
+                return Err(Ending::OutOfMemory);
+            }
+            error.print(rt)?;
+            if error.kind() == ErrorKind::DisplayHelp {
+                return Ok(0);
+            }
+            Err(Ending::Words)
+        }
+    }
+}
+
+/// Compares the deployments at two paths, prints what differs, and answers the status.
+fn compare(rt: &HostRuntime, options: CommandLine<'_>) -> Result<u8, Ending> {
+    let before = read_sources(rt, &[options.before])?;
+    let after = read_sources(rt, &[options.after])?;
+    let (is_before_read, is_after_read) = (before.tell_failed(rt), after.tell_failed(rt));
+    if !is_before_read || !is_after_read {
+        return Err(Ending::Unreadable);
+    }
+    let text = text_of_change(rt, &before, &after)?;
+    let mut output = io::writer(rt);
+    output.write_all(text.as_bytes())?;
+    output.flush()?;
+    Ok(u8::from(!text.is_empty()))
+}
+
+/// The lines that say what differs. One container goes from the declarations before to those after, so that it asks anew only
+/// what the change touches. Another one finds which declarations are accepted after it.
+fn text_of_change(
+    rt: &HostRuntime,
+    before: &Readings,
+    after: &Readings,
+) -> Result<String, AllocError> {
+    let alloc = rt.alloc();
+    let mut container = container_of(rt, before.sources.as_slice())?;
+    let mut wanted = container_of(rt, after.sources.as_slice())?;
+    let old = wiring_of(alloc, &mut container)?;
+    let is_brought = bring(alloc, &mut container, &wanted, after.sources.as_slice())?;
+    let new = if is_brought {
+        wiring_of(alloc, &mut container)?
+    } else {
+        wiring_of(alloc, &mut wanted)?
+    };
+    text_of_differences(alloc, differences(alloc, &old, &new)?.as_slice())
+}
+
+/// The deployment that some files declare. What is refused or repeated is told on the standard error.
+fn container_of(
+    rt: &HostRuntime,
+    sources: &[Source],
+) -> Result<Container<StockBodies>, AllocError> {
+    let alloc = rt.alloc();
+    let mut container = Container::new(alloc, StockBodies);
+    let assembly = assemble(alloc, &mut container, sources)?;
+    let findings = findings_of_problems(alloc, sources, &assembly.problems)?;
+    let text = text_of(alloc, findings.as_slice())?;
+    let _ = eprint!(rt; "{text}");
+    Ok(container)
+}
+
+/// Differences as lines, in order.
+fn text_of_differences(
+    alloc: Global,
+    differences: &[Difference<'_>],
+) -> Result<String, AllocError> {
+    let mut text = String::new(alloc);
+    for difference in differences {
+        let line = line_of(alloc, difference)?;
+        text.push_str(line.as_str())?;
+    }
+    Ok(text)
+}
+
+/// The line of a difference: of a fault whether it comes or goes, and else both texts.
+fn line_of(alloc: Global, difference: &Difference<'_>) -> Result<String, AllocError> {
+    let key = difference.key;
+    if is_fault(key) {
+        let sign = if difference.after.is_some() { "+" } else { "-" };
+        return format!(in alloc; "{sign} {key}\n");
+    }
+    let before = difference.before.unwrap_or("-");
+    let after = difference.after.unwrap_or("-");
+    format!(in alloc; "{key}: {before} -> {after}\n")
+}
