@@ -1,6 +1,7 @@
 //! What is told of a fault.
 use cdi_effective::BeanId;
 use cdi_explain::Verdict;
+use std::alloc::Global;
 
 /// What is told of a fault.
 #[derive(Debug, Drop)]
@@ -19,15 +20,15 @@ pub struct Advice {
 #[derive(Debug, Drop)]
 pub struct Candidate {
     pub bean: BeanId,
-    pub verdict: Verdict,
-    /// The verdict in words.
+    /// Why it was taken or left; none where no bean is wanted.
+    pub verdict: Option<Verdict>,
+    /// The same in words.
     pub text: String,
 }
 
 impl Advice {
     /// A line of help alone.
-    pub(crate) fn of_help(help: String) -> Advice {
-        let alloc = *help.allocator();
+    pub(crate) fn of_help(alloc: Global, help: String) -> Advice {
         Advice {
             wanted: None,
             candidates: Vec::new(alloc),

@@ -1,20 +1,25 @@
 //! What is told of a fault, by its code.
 use crate::advice::Advice;
+use crate::words::filled;
 use crate::{beans, bodies, choices, declared, names, types, uses};
 use cdi_bodies::Bodies;
 use cdi_effective::Effective;
 use cdi_faults::{Code, Fault, Subject};
-use cdi_model::{BeanDecl, Decl, Decls, Kind, Name};
+use cdi_model::{BeanDecl, Decl, Decls, Ident, Kind, Name};
 use cdi_resolve::BeanList;
 use std::alloc::{AllocError, Global};
 
-/// What faults of a deployment are told by: its declarations, its bean list, and its book of stored bodies.
+/// What faults of a deployment are told by.
 #[derive(Drop)]
 pub struct Adviser<'a, B> {
-    pub(crate) alloc: Global,
-    pub(crate) decls: &'a Decls,
-    pub(crate) beans: &'a BeanList,
-    pub(crate) book: &'a B,
+    pub alloc: Global,
+    pub decls: &'a Decls,
+    /// The bean list of the declarations.
+    pub beans: &'a BeanList,
+    /// The stored bodies.
+    pub book: &'a B,
+    /// The names of stored bodies that help may name.
+    pub body_names: &'a [Ident],
 }
 
 /// A part of a declaration that is at fault.
@@ -25,26 +30,6 @@ pub(crate) struct Part<'a> {
 }
 
 impl<'a, B: Bodies> Adviser<'a, B> {
-    /// What is told of the faults of these declarations, with this bean list and this book.
-    pub fn new(
-        alloc: Global,
-        decls: &'a Decls,
-        beans: &'a BeanList,
-        book: &'a B,
-    ) -> Adviser<'a, B> {
-        Adviser {
-            alloc,
-            decls,
-            beans,
-            book,
-        }
-    }
-
-    /// The bean list.
-    pub fn beans(&self) -> &'a [Effective] {
-        self.beans.as_slice()
-    }
-
     /// What is told of a fault. It takes memory for its texts, and time near the number of declarations and beans.
     pub fn advise(&self, fault: &Fault) -> Result<Advice, AllocError> {
         match fault {
@@ -55,7 +40,7 @@ impl<'a, B: Bodies> Adviser<'a, B> {
                 subject,
             } => match self.decls.get(*kind, name) {
                 Some(decl) => self.advise_on_part(*code, Part { decl, subject }),
-                None => self.help("the declaration is not there any more"),
+                None => self.help("the declaration is not there any more", &[]),
             },
             Fault::NameClash(name) => names::clash(self, *name),
             Fault::NamePrefix(name, longer) => names::prefix(self, *name, *longer),
@@ -64,7 +49,7 @@ impl<'a, B: Bodies> Adviser<'a, B> {
                 specialized,
                 first,
                 second,
-            } => beans::specialized_twice(self, *specialized, *first, *second),
+            } => beans::specialized_twice(self, specialized, first, second),
         }
     }
 
@@ -78,23 +63,28 @@ impl<'a, B: Bodies> Adviser<'a, B> {
             Code::BindingConflict => uses::conflict(self, part),
             Code::Member => uses::member(self, part),
             Code::Disposer => beans::disposer(self, part),
-            Code::ConditionalDependent => beans::conditional(self, part),
+            Code::ConditionalDependent => beans::conditional(self),
             Code::Body => bodies::unfit(self, part),
-            Code::NoBinding => self.help("list what it binds to, as bindings = [\"Log\"]"),
+            Code::NoBinding => self.help("list what it binds to, as bindings = [\"Log\"]", &[]),
             Code::Unsatisfied => choices::unsatisfied(self, part),
             Code::Ambiguous => choices::ambiguous(self, part),
             Code::Unproxyable => choices::unproxyable(self, part),
             Code::Site => choices::site(self, part),
             Code::NoSpecialized => beans::no_specialized(self, part),
             Code::SpecializedType => beans::specialized_type(self, part),
-            Code::SpecializedName => beans::specialized_name(self, part),
-            _ => self.help("see the declaration"),
+            Code::SpecializedName => beans::specialized_name(self),
+            _ => self.see(),
         }
     }
 
-    /// A line of help alone.
-    pub(crate) fn help(&self, text: &str) -> Result<Advice, AllocError> {
-        Ok(Advice::of_help(String::from_str(self.alloc, text)?))
+    /// A line of help alone: a text with each `{}` replaced by the next of some words.
+    pub(crate) fn help(&self, form: &str, words: &[&str]) -> Result<Advice, AllocError> {
+        Ok(Advice::of_help(self.alloc, filled(self.alloc, form, words)?))
+    }
+
+    /// What is told where there is nothing to tell.
+    pub(crate) fn see(&self) -> Result<Advice, AllocError> {
+        self.help("see the declaration", &[])
     }
 
     /// The declaration of a bean, if there is one.
@@ -103,5 +93,10 @@ impl<'a, B: Bodies> Adviser<'a, B> {
             Some(Decl::Bean(bean)) => Some(bean),
             _ => None,
         }
+    }
+
+    /// The record of a bean, if there is one.
+    pub(crate) fn record(&self, position: Option<usize>) -> Option<&'a Effective> {
+        self.beans.as_slice().get(position?)
     }
 }

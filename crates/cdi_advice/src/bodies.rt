@@ -1,9 +1,12 @@
 //! Stored bodies that do not fit.
 use crate::advice::Advice;
 use crate::adviser::{Adviser, Part};
-use cdi_bodies::Bodies;
+use crate::near::nearest_ident;
+use crate::words::text_of;
+use cdi_bodies::{Bodies, Promise};
 use cdi_faults::Subject;
 use cdi_model::{Ident, Mention, PartPlace};
+use cdi_subjects::allowed_in;
 use std::alloc::AllocError;
 
 /// A body that is not in the book, or that may do more than is allowed where it runs.
@@ -12,20 +15,52 @@ pub(crate) fn unfit<B: Bodies>(
     part: Part<'_>,
 ) -> Result<Advice, AllocError> {
     let Subject::Part(place) = part.subject else {
-        return adviser.help("name another body");
+        return adviser.see();
     };
     let Some(body) = body_in(part, place) else {
-        return adviser.help("name another body");
+        return adviser.see();
     };
+    match adviser.book.promise(body) {
+        None => unknown(adviser, body),
+        Some(promise) => forbidden(adviser, part, place, body, promise),
+    }
+}
+
+/// A body that is not in the book.
+fn unknown<B: Bodies>(adviser: &Adviser<'_, B>, body: &Ident) -> Result<Advice, AllocError> {
+    match nearest_ident(adviser.alloc, body, adviser.body_names)? {
+        Some(near) => adviser.help(
+            "no body has the name {}: write {} if that is meant, or name another that the book has",
+            &[body.as_str(), near.as_str()],
+        ),
+        None => adviser.help(
+            "no body has the name {}: name one that the book has",
+            &[body.as_str()],
+        ),
+    }
+}
+
+/// A body that may do more than is allowed in a place.
+fn forbidden<B: Bodies>(
+    adviser: &Adviser<'_, B>,
+    part: Part<'_>,
+    place: &PartPlace,
+    body: &Ident,
+    promise: Promise,
+) -> Result<Advice, AllocError> {
     let alloc = adviser.alloc;
-    Ok(Advice::of_help(match adviser.book.promise(body) {
-        None => format!(in alloc; "no body has the name {body}: name one that the book has")?,
-        Some(promise) => {
-            format!(in alloc;
-                "the body {body} may do more ({promise}) than is allowed at {place}: name another"
-            )?
-        }
-    }))
+    let allowed = text_of(alloc, &allowed_in(part.decl, place))?;
+    let place = text_of(alloc, place)?;
+    let promise = text_of(alloc, &promise)?;
+    adviser.help(
+        "the body {} may do {}; allowed at {} is {}: name another",
+        &[
+            body.as_str(),
+            promise.as_str(),
+            place.as_str(),
+            allowed.as_str(),
+        ],
+    )
 }
 
 /// The name of the body that runs in a place.

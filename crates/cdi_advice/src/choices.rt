@@ -1,13 +1,15 @@
 //! Injection points and call sites.
 use crate::advice::{Advice, Candidate};
 use crate::adviser::{Adviser, Part};
-use crate::words::listed;
+use crate::near::nearest_ident;
+use crate::verdicts::text_of_verdict;
+use crate::words::{filled, listed, text_of};
 use cdi_bodies::Bodies;
 use cdi_effective::{BeanId, Effective};
-use cdi_explain::{Disabled, Verdict, replacer_of, verdicts_on_choice};
+use cdi_explain::{Disabled, Verdict, verdicts_on_choice};
 use cdi_faults::Subject;
 use cdi_model::{
-    BeanDecl, Decl, Form, Ident, Kind, Mention, Name, PartPlace, PointDecl, PointPlace, Qual,
+    BeanDecl, Decl, Form, Ident, Kind, Mention, Name, PartPlace, PointDecl, PointPlace, Quals,
     TypeDecl,
 };
 use std::alloc::AllocError;
@@ -18,7 +20,7 @@ pub(crate) fn unsatisfied<B: Bodies>(
     part: Part<'_>,
 ) -> Result<Advice, AllocError> {
     let Some(point) = point_at_fault(part) else {
-        return adviser.help("declare a bean that fits");
+        return adviser.see();
     };
     let mut advice = on_point(adviser, point)?;
     advice.help = help_for_unsatisfied(adviser, point, advice.candidates.as_slice())?;
@@ -31,14 +33,15 @@ pub(crate) fn ambiguous<B: Bodies>(
     part: Part<'_>,
 ) -> Result<Advice, AllocError> {
     let Some(point) = point_at_fault(part) else {
-        return adviser.help("declare a qualifier for one of the beans, and ask for it");
+        return adviser.see();
     };
     let mut advice = on_point(adviser, point)?;
     let tied = tied_among(adviser, advice.candidates.as_slice())?;
     let tied = listed(adviser.alloc, tied.as_slice())?;
-    let name = point.name;
-    advice.help = format!(in adviser.alloc;
-        "make one of {tied} an alternative with a greater priority than the others, or ask at {name} for a qualifier that one of them alone has"
+    advice.help = filled(
+        adviser.alloc,
+        "make one of {} an alternative with a greater priority than the others, or ask at {} for a qualifier that one of them alone has",
+        &[tied.as_str(), point.name.as_str()],
     )?;
     Ok(advice)
 }
@@ -49,19 +52,19 @@ pub(crate) fn unproxyable<B: Bodies>(
     part: Part<'_>,
 ) -> Result<Advice, AllocError> {
     let Some(point) = point_at_fault(part) else {
-        return adviser.help("ask for a type that is not final");
+        return adviser.see();
     };
     let mut advice = on_point(adviser, point)?;
-    let wanted = point.required_type;
-    advice.help = match chosen_among(adviser, advice.candidates.as_slice()) {
-        Some(bean) => {
-            let id = bean.id;
-            format!(in adviser.alloc;
-                "leave final out of the type {wanted}, or ask for an interface of {id}; or give {id} the scope dependent and no interceptor"
-            )?
-        }
-        None => format!(in adviser.alloc; "leave final out of the type {wanted}")?,
+    let Some(chosen) = chosen_among(adviser, advice.candidates.as_slice()) else {
+        return Ok(advice);
     };
+    let bean = text_of(adviser.alloc, &chosen.id)?;
+    let bean = bean.as_str();
+    advice.help = filled(
+        adviser.alloc,
+        "leave final out of the type {}, or ask for an interface of {}; or give {} the scope dependent and no interceptor",
+        &[point.required_type.as_str(), bean, bean],
+    )?;
     Ok(advice)
 }
 
@@ -72,30 +75,84 @@ pub(crate) fn site<B: Bodies>(
 ) -> Result<Advice, AllocError> {
     let Subject::Call {
         place,
-        point: name,
+        point,
         method,
     } = part.subject
     else {
-        return adviser.help("name a point and one of its methods");
+        return adviser.see();
     };
-    let alloc = adviser.alloc;
-    let Some(point) = point_seen(part, place, name) else {
-        let seen = points_seen(adviser, part, place)?;
-        let seen = listed(alloc, seen.as_slice())?;
-        return Ok(Advice::of_help(format!(in alloc;
-            "{place} sees no point {name}; it sees: {seen}"
-        )?));
-    };
+    match point_seen(part, place, point) {
+        Some(point) => lacking_method(adviser, point, method),
+        None => unseen_point(adviser, part, place, point),
+    }
+}
+
+/// A call site names a point that its body does not see.
+fn unseen_point<B: Bodies>(
+    adviser: &Adviser<'_, B>,
+    part: Part<'_>,
+    place: &PartPlace,
+    point: &Ident,
+) -> Result<Advice, AllocError> {
+    let seen = points_seen(adviser, part, place)?;
+    let list = listed(adviser.alloc, seen.as_slice())?;
+    let place = text_of(adviser.alloc, place)?;
+    match nearest_ident(adviser.alloc, point, seen.as_slice())? {
+        Some(near) => adviser.help(
+            "{} sees no point {}: write {} if that is meant; it sees: {}",
+            &[
+                place.as_str(),
+                point.as_str(),
+                near.as_str(),
+                list.as_str(),
+            ],
+        ),
+        None => adviser.help(
+            "{} sees no point {}; it sees: {}",
+            &[place.as_str(), point.as_str(), list.as_str()],
+        ),
+    }
+}
+
+/// A call site names a method that the bean chosen for its point does not have.
+fn lacking_method<B: Bodies>(
+    adviser: &Adviser<'_, B>,
+    point: &PointDecl,
+    method: &Ident,
+) -> Result<Advice, AllocError> {
     let mut advice = on_point(adviser, point)?;
     let methods = match chosen_among(adviser, advice.candidates.as_slice()) {
         Some(chosen) => methods_of(adviser, adviser.bean(&chosen.id.class))?,
-        None => Vec::new(alloc),
+        None => Vec::new(adviser.alloc),
     };
-    let methods = listed(alloc, methods.as_slice())?;
-    advice.help = format!(in alloc;
-        "what is chosen for {name} has no method {method}; it has: {methods}"
-    )?;
+    advice.help = help_for_lacking_method(adviser, &point.name, method, methods.as_slice())?;
     Ok(advice)
+}
+
+fn help_for_lacking_method<B: Bodies>(
+    adviser: &Adviser<'_, B>,
+    point: &Ident,
+    method: &Ident,
+    methods: &[Ident],
+) -> Result<String, AllocError> {
+    let list = listed(adviser.alloc, methods)?;
+    match nearest_ident(adviser.alloc, method, methods)? {
+        Some(near) => filled(
+            adviser.alloc,
+            "what is chosen for {} has no method {}: write {} if that is meant; it has: {}",
+            &[
+                point.as_str(),
+                method.as_str(),
+                near.as_str(),
+                list.as_str(),
+            ],
+        ),
+        None => filled(
+            adviser.alloc,
+            "what is chosen for {} has no method {}; it has: {}",
+            &[point.as_str(), method.as_str(), list.as_str()],
+        ),
+    }
 }
 
 /// The injection point that is at fault.
@@ -188,16 +245,15 @@ fn on_point<B: Bodies>(adviser: &Adviser<'_, B>, point: &PointDecl) -> Result<Ad
         if verdict == Verdict::LacksType {
             others = others.saturating_add(1);
         } else {
-            let text = text_of_verdict(adviser, bean, verdict, quals.as_slice())?;
             candidates.push(Candidate {
                 bean: bean.id,
-                verdict,
-                text,
+                verdict: Some(verdict),
+                text: text_of_verdict(adviser, bean, verdict, quals.as_slice())?,
             })?;
         }
     }
     Ok(Advice {
-        wanted: Some(text_of_wanted(adviser, wanted, quals.as_slice())?),
+        wanted: Some(text_of_wanted(adviser, wanted, quals)?),
         candidates,
         others,
         help: String::new(alloc),
@@ -208,82 +264,17 @@ fn on_point<B: Bodies>(adviser: &Adviser<'_, B>, point: &PointDecl) -> Result<Ad
 fn text_of_wanted<B: Bodies>(
     adviser: &Adviser<'_, B>,
     wanted: &Name,
-    quals: &[Qual],
+    quals: &Quals,
 ) -> Result<String, AllocError> {
-    let mut text = format!(in adviser.alloc; "{wanted}")?;
-    for qual in quals {
-        let qual = format!(in adviser.alloc; " {qual}")?;
-        text.push_str(qual.as_str())?;
+    if quals.is_empty() {
+        return String::from_str(adviser.alloc, wanted.as_str());
     }
-    Ok(text)
-}
-
-/// A verdict in words.
-pub(crate) fn text_of_verdict<B: Bodies>(
-    adviser: &Adviser<'_, B>,
-    bean: &Effective,
-    verdict: Verdict,
-    quals: &[Qual],
-) -> Result<String, AllocError> {
-    let alloc = adviser.alloc;
-    match verdict {
-        Verdict::Chosen => String::from_str(alloc, "is chosen"),
-        Verdict::Tied => String::from_str(alloc, "fits, and so do others"),
-        Verdict::LowerPriority => {
-            String::from_str(alloc, "is an alternative of a lower priority")
-        }
-        Verdict::NoAlternative => { String::from_str(alloc, "is no alternative, and one is there") }
-        Verdict::LacksType => String::from_str(alloc, "lacks the type"),
-        Verdict::LacksName => String::from_str(alloc, "lacks the name"),
-        Verdict::LacksQualifier { wanted, has } => {
-            text_of_lacking(adviser, bean, quals.get(wanted), has)
-        }
-        Verdict::Disabled(why) => text_of_disabled(adviser, bean, why),
-    }
-}
-
-/// Which qualifier a bean lacks, and what it has in its place. None is written where `Default` is wanted.
-fn text_of_lacking<B: Bodies>(
-    adviser: &Adviser<'_, B>,
-    bean: &Effective,
-    wanted: Option<&Qual>,
-    has: Option<usize>,
-) -> Result<String, AllocError> {
-    let alloc = adviser.alloc;
-    let has = match has {
-        Some(position) => bean.qualifiers.as_slice().get(position),
-        None => None,
-    };
-    match (wanted, has) {
-        (Some(wanted), Some(has)) => Ok(format!(in alloc; "lacks {wanted}, and has {has}")?),
-        (Some(wanted), None) => Ok(format!(in alloc; "lacks {wanted}")?),
-        (None, _) => {
-            let quals = listed(alloc, bean.qualifiers.as_slice())?;
-            Ok(format!(in alloc; "lacks Default, since it has qualifiers of its own ({quals})")?)
-        }
-    }
-}
-
-/// Why a bean is disabled.
-fn text_of_disabled<B: Bodies>(
-    adviser: &Adviser<'_, B>,
-    bean: &Effective,
-    why: Disabled,
-) -> Result<String, AllocError> {
-    let alloc = adviser.alloc;
-    match why {
-        Disabled::NoPriority => {
-            String::from_str(alloc, "is disabled, as an alternative without a priority")
-        }
-        Disabled::Specialized => Ok(match replacer_of(alloc, adviser.decls, bean.id.class)? {
-            Some(other) => format!(in alloc; "is disabled, as {other} specializes it")?,
-            None => format!(in alloc; "is disabled, as another bean specializes it")?,
-        }),
-        Disabled::Declaring => {
-            let declaring = bean.declaring_bean;
-            Ok(format!(in alloc; "is disabled, as its bean {declaring} is")?)
-        }
-    }
+    let quals = text_of(adviser.alloc, quals)?;
+    filled(
+        adviser.alloc,
+        "{} {}",
+        &[wanted.as_str(), quals.as_str()],
+    )
 }
 
 /// The tied beans among some.
@@ -293,7 +284,7 @@ fn tied_among<B: Bodies>(
 ) -> Result<Vec<BeanId>, AllocError> {
     let mut tied = Vec::new(adviser.alloc);
     for candidate in candidates {
-        if candidate.verdict == Verdict::Tied {
+        if candidate.verdict == Some(Verdict::Tied) {
             tied.push(candidate.bean)?;
         }
     }
@@ -307,9 +298,8 @@ fn chosen_among<'a, B: Bodies>(
 ) -> Option<&'a Effective> {
     let chosen = candidates
         .iter()
-        .find(|candidate| candidate.verdict == Verdict::Chosen)?;
-    let position = adviser.beans.position(chosen.bean)?;
-    adviser.beans.as_slice().get(position)
+        .find(|candidate| candidate.verdict == Some(Verdict::Chosen))?;
+    adviser.record(adviser.beans.position(chosen.bean))
 }
 
 /// What to write where no bean fits.
@@ -318,38 +308,74 @@ fn help_for_unsatisfied<B: Bodies>(
     point: &PointDecl,
     candidates: &[Candidate],
 ) -> Result<String, AllocError> {
-    let alloc = adviser.alloc;
-    let wanted = point.required_type;
     for candidate in candidates {
-        let bean = candidate.bean;
-        if let Verdict::LacksQualifier { wanted, .. } = candidate.verdict {
-            let name = point.name;
-            return Ok(match point.qualifiers.as_slice().get(wanted) {
-                Some(qual) => {
-                    format!(in alloc;
-                        "give {bean} the qualifier \"{qual}\", or ask for one that it has at {name}"
-                    )?
-                }
-                None => {
-                    format!(in alloc;
-                        "ask at {name} for a qualifier that {bean} has, or give {bean} the qualifier \"Default\""
-                    )?
-                }
-            });
-        }
-        if candidate.verdict == Verdict::Disabled(Disabled::NoPriority) {
-            return Ok(format!(in alloc; "give {bean} a priority, or make it no alternative")?);
+        match candidate.verdict {
+            Some(Verdict::LacksQualifier { wanted, .. }) => {
+                return help_for_qualifier(adviser, point, candidate.bean, wanted);
+            }
+            Some(Verdict::Disabled(Disabled::NoPriority)) => {
+                let bean = text_of(adviser.alloc, &candidate.bean)?;
+                return filled(
+                    adviser.alloc,
+                    "give {} a priority, or make it no alternative",
+                    &[bean.as_str()],
+                );
+            }
+            _ => {}
         }
     }
-    if wanted.as_str() != "Object" && adviser.decls.get(Kind::Type, &wanted).is_none() {
-        return Ok(format!(in alloc; "no type {wanted} is declared")?);
-    }
-    Ok(match class_of_type(adviser, &wanted) {
-        Some(class) => {
-            format!(in alloc; "declare a bean of the class {class}, which has the type {wanted}")?
+    help_for_type(adviser, &point.required_type)
+}
+
+/// What to write where a bean lacks a qualifier alone. None is written where `Default` is wanted.
+fn help_for_qualifier<B: Bodies>(
+    adviser: &Adviser<'_, B>,
+    point: &PointDecl,
+    bean: BeanId,
+    wanted: usize,
+) -> Result<String, AllocError> {
+    let alloc = adviser.alloc;
+    let bean = text_of(alloc, &bean)?;
+    let (bean, point_name) = (bean.as_str(), point.name.as_str());
+    match point.qualifiers.as_slice().get(wanted) {
+        Some(qual) => {
+            let qual = text_of(alloc, qual)?;
+            filled(
+                alloc,
+                "give {} the qualifier \"{}\", or ask for one that it has at {}",
+                &[bean, qual.as_str(), point_name],
+            )
         }
-        None => format!(in alloc; "declare a class that has the type {wanted}, and a bean of it")?,
-    })
+        None => filled(
+            alloc,
+            "ask at {} for a qualifier that {} has, or give {} the qualifier \"Default\"",
+            &[point_name, bean, bean],
+        ),
+    }
+}
+
+/// What to write where no bean has a type.
+fn help_for_type<B: Bodies>(
+    adviser: &Adviser<'_, B>,
+    wanted: &Name,
+) -> Result<String, AllocError> {
+    let alloc = adviser.alloc;
+    let name = wanted.as_str();
+    if name != "Object" && adviser.decls.get(Kind::Type, wanted).is_none() {
+        return filled(alloc, "no type {} is declared", &[name]);
+    }
+    match class_of_type(adviser, wanted) {
+        Some(class) => filled(
+            alloc,
+            "declare a bean of the class {}, which has the type {}",
+            &[class.as_str(), name],
+        ),
+        None => filled(
+            alloc,
+            "declare a class that has the type {}, and a bean of it",
+            &[name],
+        ),
+    }
 }
 
 /// The first declared class that is a type, or extends or implements it, and has no bean.

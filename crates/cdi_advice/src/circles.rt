@@ -4,14 +4,14 @@ ghost use Rattle.cdi_intercept.specs.Chains.{in_order};
 ghost use Rattle.cdi_intercept.specs.Lent.{lent_in};
 
 use crate::adviser::Adviser;
+use crate::words::{filled, text_of};
 use cdi_bodies::Bodies;
 use cdi_effective::{BeanId, Effective};
 use cdi_intercept::{around_any, in_order};
 use cdi_model::{BeanDecl, Decl, Ident, InterceptorDecl, Kind, Name, PointDecl, Scope, Work};
 use cdi_resolve::Choice;
 use cdi_ways::{Edge, circle_through};
-use std::alloc::AllocError;
-use std::fmt;
+use std::alloc::{AllocError, Global};
 
 /// What leads from a bean to one that it needs.
 #[derive(Clone, Copy)]
@@ -26,15 +26,17 @@ enum Link {
     Interceptor(Name, Ident),
 }
 
-impl fmt::Display for Link {
-    fn fmt<W: fmt::Write>(&self, f: &mut fmt::Formatter<W>) -> fmt::Result {
+impl Link {
+    fn text(&self, alloc: Global) -> Result<String, AllocError> {
         match self {
-            Link::Point(name) => write!(f, "point {name}"),
-            Link::Param(name) => write!(f, "param {name}"),
-            Link::Producer(name) => write!(f, "producer {name}"),
-            Link::Interceptor(interceptor, name) => {
-                write!(f, "interceptor {interceptor} point {name}")
-            }
+            Link::Point(name) => filled(alloc, "point {}", &[name.as_str()]),
+            Link::Param(name) => filled(alloc, "param {}", &[name.as_str()]),
+            Link::Producer(name) => filled(alloc, "producer {}", &[name.as_str()]),
+            Link::Interceptor(interceptor, name) => filled(
+                alloc,
+                "interceptor {} point {}",
+                &[interceptor.as_str(), name.as_str()],
+            ),
         }
     }
 }
@@ -130,7 +132,7 @@ impl Needs {
 
 /// Whether the bean at a position of the bean list is an enabled dependent one.
 fn is_dependent_at<B: Bodies>(adviser: &Adviser<'_, B>, position: usize) -> bool {
-    match adviser.beans.as_slice().get(position) {
+    match adviser.record(Some(position)) {
         Some(bean) => is_dependent(bean),
         None => false,
     }
@@ -176,12 +178,12 @@ pub(crate) fn circle_of_needs<B: Bodies>(
     let Some(way) = circle_through(alloc, &needs.edges, start)? else {
         return Ok(None);
     };
-    let mut text = format!(in alloc; "{id}")?;
+    let mut text = text_of(alloc, &id)?;
     for position in way {
         if let (Some(edge), Some(link)) = (needs.edges.get(position), needs.links.get(position)) {
-            if let Some(bean) = adviser.beans.as_slice().get(edge.to) {
-                let (link, id) = (*link, bean.id);
-                let step = format!(in alloc; " ({link}) -> {id}")?;
+            if let Some(bean) = adviser.record(Some(edge.to)) {
+                let (link, id) = (link.text(alloc)?, text_of(alloc, &bean.id)?);
+                let step = filled(alloc, " ({}) -> {}", &[link.as_str(), id.as_str()])?;
                 text.push_str(step.as_str())?;
             }
         }
@@ -203,13 +205,12 @@ pub(crate) fn circle_of_names<B: Bodies>(
     let Some(way) = circle_through(alloc, &edges, start)? else {
         return Ok(None);
     };
-    let mut text = format!(in alloc; "{name}")?;
+    let mut text = String::from_str(alloc, name.as_str())?;
     for position in way {
         if let Some(edge) = edges.get(position) {
             if let Some(decl) = adviser.decls.at(edge.to) {
-                let next = decl.name();
-                let step = format!(in alloc; " -> {next}")?;
-                text.push_str(step.as_str())?;
+                text.push_str(" -> ")?;
+                text.push_str(decl.name().as_str())?;
             }
         }
     }

@@ -1,6 +1,7 @@
 //! Names that are not declared.
 use crate::advice::Advice;
 use crate::adviser::{Adviser, Part};
+use crate::words::text_of;
 use cdi_bodies::Bodies;
 use cdi_explain::nearest_name;
 use cdi_faults::Subject;
@@ -12,22 +13,26 @@ pub(crate) fn unknown<B: Bodies>(
     adviser: &Adviser<'_, B>,
     part: Part<'_>,
 ) -> Result<Advice, AllocError> {
-    let alloc = adviser.alloc;
     let (kind, name) = match part.subject {
         Subject::Type(name) => (Kind::Type, *name),
         Subject::Used(kind, name) => (kind.declared_as(), *name),
         Subject::Stereotype(name) => (Kind::Stereotype, *name),
-        _ => return adviser.help("declare what it names"),
+        _ => return adviser.see(),
     };
     let declared = declared_names(adviser, kind)?;
-    Ok(Advice::of_help(match nearest_name(alloc, name, declared.as_slice())? {
-        Some(near) => {
-            format!(in alloc;
-                "write {near} if that is meant, or declare it: kind = \"{kind}\", name = \"{name}\""
-            )?
-        }
-        None => format!(in alloc; "declare it: kind = \"{kind}\", name = \"{name}\"")?,
-    }))
+    let near = nearest_name(adviser.alloc, name, declared.as_slice())?;
+    let kind = text_of(adviser.alloc, &kind)?;
+    let kind = kind.as_str();
+    match near {
+        Some(near) => adviser.help(
+            "write {} if that is meant, or declare it: kind = \"{}\", name = \"{}\"",
+            &[near.as_str(), kind, name.as_str()],
+        ),
+        None => adviser.help(
+            "declare it: kind = \"{}\", name = \"{}\"",
+            &[kind, name.as_str()],
+        ),
+    }
 }
 
 /// The declared names of a kind.

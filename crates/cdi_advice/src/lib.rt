@@ -9,8 +9,10 @@ mod choices;
 mod circles;
 mod declared;
 mod names;
+mod near;
 mod types;
 mod uses;
+mod verdicts;
 mod words;
 
 pub use advice::{Advice, Candidate};

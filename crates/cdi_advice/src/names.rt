@@ -1,7 +1,8 @@
 //! Names of beans that clash.
 use crate::advice::{Advice, Candidate};
 use crate::adviser::Adviser;
-use crate::choices::text_of_verdict;
+use crate::verdicts::text_of_verdict;
+use crate::words::filled;
 use cdi_bodies::Bodies;
 use cdi_explain::{Verdict, verdicts_on_name};
 use cdi_model::Name;
@@ -19,13 +20,13 @@ pub(crate) fn clash<B: Bodies>(adviser: &Adviser<'_, B>, name: Name) -> Result<A
         } else {
             candidates.push(Candidate {
                 bean: bean.id,
-                verdict,
+                verdict: Some(verdict),
                 text: text_of_verdict(adviser, bean, verdict, &[])?,
             })?;
         }
     }
     Ok(Advice {
-        wanted: Some(format!(in alloc; "name {name}")?),
+        wanted: Some(filled(alloc, "name {}", &[name.as_str()])?),
         candidates,
         others,
         help: String::from_str(
@@ -43,8 +44,10 @@ pub(crate) fn prefix<B: Bodies>(
 ) -> Result<Advice, AllocError> {
     let alloc = adviser.alloc;
     let mut advice = of_names(adviser, &[name, longer])?;
-    advice.help = format!(in alloc;
-        "{longer} is read as a property of {name}: give one of them another name"
+    advice.help = filled(
+        alloc,
+        "{} is read as a property of {}: give one of them another name",
+        &[longer.as_str(), name.as_str()],
     )?;
     Ok(advice)
 }
@@ -57,11 +60,10 @@ fn of_names<B: Bodies>(adviser: &Adviser<'_, B>, names: &[Name]) -> Result<Advic
     for bean in adviser.beans.as_slice() {
         match bean.name {
             Some(name) if bean.is_enabled && names.contains(&name) => {
-                let text = format!(in alloc; "has the name {name}")?;
                 candidates.push(Candidate {
                     bean: bean.id,
-                    verdict: Verdict::Tied,
-                    text,
+                    verdict: None,
+                    text: filled(alloc, "has the name {}", &[name.as_str()])?,
                 })?;
             }
             _ => others = others.saturating_add(1),

@@ -20,12 +20,15 @@ pub(crate) fn cycle<B: Bodies>(
         Decl::Stereotype(_) => "stereotypes",
         _ => "declares",
     };
-    let alloc = adviser.alloc;
-    let help = format!(in alloc; "leave a step of {keys} out")?;
-    Ok(Advice::of_help(match circle_of_names(adviser, part.decl.kind(), *name)? {
-        Some(way) => format!(in alloc; "{way}: {help}")?,
-        None => format!(in alloc; "{name} leads back to itself: {help}")?,
-    }))
+    let way = match circle_of_names(adviser, part.decl.kind(), *name)? {
+        Some(way) => way,
+        None => String::from_str(adviser.alloc, name.as_str())?,
+    };
+    let keys = String::from_str(adviser.alloc, keys)?;
+    adviser.help(
+        "{}: leave a step of {} out",
+        &[way.as_str(), keys.as_str()],
+    )
 }
 
 /// A class is named where an interface is needed, or the other way round.
@@ -33,28 +36,25 @@ pub(crate) fn bad_kind<B: Bodies>(
     adviser: &Adviser<'_, B>,
     part: Part<'_>,
 ) -> Result<Advice, AllocError> {
-    let alloc = adviser.alloc;
-    let name = part.decl.name();
-    Ok(Advice::of_help(match part.subject {
-        Subject::Extends(other) if is_interface(part.decl) => {
-            format!(in alloc;
-                "the interface {name} names what it extends in implements: write {other} there"
-            )?
-        }
-        Subject::Extends(other) => {
-            format!(in alloc; "{other} is an interface: write it in implements")?
-        }
-        Subject::Implements(other) => {
-            format!(in alloc;
-                "{other} is a class: name it in extends, or give it form = \"interface\""
-            )?
-        }
-        _ => {
-            format!(in alloc;
-                "the type {name} is an interface: declare the bean for a class that implements it"
-            )?
-        }
-    }))
+    let name = part.decl.name().as_str();
+    match part.subject {
+        Subject::Extends(other) if is_interface(part.decl) => adviser.help(
+            "the interface {} names what it extends in implements: write {} there",
+            &[name, other.as_str()],
+        ),
+        Subject::Extends(other) => adviser.help(
+            "{} is an interface: write it in implements",
+            &[other.as_str()],
+        ),
+        Subject::Implements(other) => adviser.help(
+            "{} is a class: name it in extends, or give it form = \"interface\"",
+            &[other.as_str()],
+        ),
+        _ => adviser.help(
+            "the type {} is an interface: declare the bean for a class that implements it",
+            &[name],
+        ),
+    }
 }
 
 fn is_interface(decl: &Decl) -> bool {
@@ -71,14 +71,17 @@ pub(crate) fn typed<B: Bodies>(
 ) -> Result<Advice, AllocError> {
     let alloc = adviser.alloc;
     let Subject::Typed { producer, name } = part.subject else {
-        return adviser.help("list types that the bean has");
+        return adviser.see();
     };
     let Some(class) = product_type(part.decl, producer) else {
-        return adviser.help("list types that the bean has");
+        return adviser.see();
     };
     let types = closure(alloc, adviser.decls, class)?;
     let types = listed(alloc, types.as_slice())?;
-    Ok(Advice::of_help(format!(in alloc; "{class} has no type {name}; list some of: {types}")?))
+    adviser.help(
+        "{} has no type {}; list some of: {}",
+        &[class.as_str(), name.as_str(), types.as_str()],
+    )
 }
 
 /// The type whose types a bean has: its class, or what its producer method returns.

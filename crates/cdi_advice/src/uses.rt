@@ -1,27 +1,12 @@
 //! Uses of qualifiers and of bindings.
 use crate::advice::Advice;
 use crate::adviser::{Adviser, Part};
-use crate::words::listed;
+use crate::words::{filled, listed, text_of};
 use cdi_bodies::Bodies;
 use cdi_faults::Subject;
 use cdi_intercept::bindings_at;
 use cdi_model::{BeanPlace, Decl, Error, MemberDecl, PartPlace, Qual, Seq, UseKind};
 use std::alloc::{AllocError, Global};
-use std::fmt;
-
-/// A member, as it is to be written.
-#[derive(Clone, Copy)]
-struct MemberText<'a>(&'a MemberDecl);
-
-impl fmt::Display for MemberText<'_> {
-    fn fmt<W: fmt::Write>(&self, f: &mut fmt::Formatter<W>) -> fmt::Result {
-        let name = self.0.name;
-        match self.0.default {
-            Some(value) => write!(f, "{name} (else {value})"),
-            None => write!(f, "{name}"),
-        }
-    }
-}
 
 /// Two bindings of one type differ.
 pub(crate) fn conflict<B: Bodies>(
@@ -42,10 +27,11 @@ pub(crate) fn conflict<B: Bodies>(
     };
     let opposed = repeated_of(alloc, uses.as_slice())?;
     let opposed = listed(alloc, opposed.as_slice())?;
-    let subject = part.subject;
-    Ok(Advice::of_help(format!(in alloc;
-        "{subject} has {opposed}: write one there that settles it, or leave one out"
-    )?))
+    let subject = text_of(alloc, part.subject)?;
+    adviser.help(
+        "{} has {}: write one there that settles it, or leave one out",
+        &[subject.as_str(), opposed.as_str()],
+    )
 }
 
 /// Those of some uses that have the name of another.
@@ -66,15 +52,32 @@ pub(crate) fn member<B: Bodies>(
 ) -> Result<Advice, AllocError> {
     let alloc = adviser.alloc;
     let Subject::Use(kind, qual) = part.subject else {
-        return adviser.help("write the members that are declared");
+        return adviser.see();
     };
     let mut members = Vec::new(alloc);
     for member in members_of(adviser, *kind, part) {
-        members.push(MemberText(member))?;
+        members.push(text_of_member(alloc, member)?)?;
     }
     let members = listed(alloc, members.as_slice())?;
-    let name = qual.name;
-    Ok(Advice::of_help(format!(in alloc; "the members of {name} are: {members}")?))
+    adviser.help(
+        "the members of {} are: {}",
+        &[qual.name.as_str(), members.as_str()],
+    )
+}
+
+/// A member, as it is to be written.
+fn text_of_member(alloc: Global, member: &MemberDecl) -> Result<String, AllocError> {
+    match member.default {
+        Some(value) => {
+            let value = text_of(alloc, &value)?;
+            filled(
+                alloc,
+                "{} (else {})",
+                &[member.name.as_str(), value.as_str()],
+            )
+        }
+        None => String::from_str(alloc, member.name.as_str()),
+    }
 }
 
 /// The members of what is used.

@@ -7,7 +7,7 @@ ghost use Rattle.cdi_assembly.specs.Told.{faults_told, is_told};
 use crate::origins::Origins;
 use crate::problem::Problem;
 use cdi_advice::{Advice, Adviser, Candidate};
-use cdi_container::{Bodies, Code, Container, Effective, Fault, Kind, Name};
+use cdi_container::{Bodies, Code, Container, Effective, Fault, Ident, Kind, Name};
 use cdi_findings::{Considered, Finding, Reasons};
 use cdi_resolve::BeanList;
 use cdi_sources::Source;
@@ -39,39 +39,45 @@ pub fn findings_of_problems<'a>(
 
 /// How faults are told.
 #[derive(Clone, Copy)]
-pub struct Telling {
+pub struct Telling<'a> {
     /// Whether each is explained.
     pub explains: bool,
     /// Whether faults of stored bodies are left out.
     pub takes_any_body: bool,
+    /// The names of stored bodies that help may name.
+    pub body_names: &'a [Ident],
 }
 
-/// The faults of a deployment as findings, in the order of a report. The book `same` is as that of the container. It takes memory
-/// for the report and the findings.
-pub fn findings_of_faults<'a, B: Bodies, C: Bodies>(
+/// The faults of a deployment as findings, in the order of a report. It takes memory for the report and the findings.
+pub fn findings_of_faults<'a, B: Bodies>(
     alloc: Global,
     container: &mut Container<B>,
     files: Files<'a>,
-    same: &C,
-    telling: Telling,
+    telling: Telling<'_>,
 ) -> Result<Vec<Finding<'a>>, AllocError>
     ensures texts { IfOk result (λ list. map (λ f. string_bytes f.text) list.items
-        ≡ map text_of_fault (faults_told telling (faults container.old.decls container.old.book))) }
+        ≡ map text_of_fault (faults_told telling.entry (faults container.old.decls container.old.book))) }
 {
     let faults = container.report()?;
     let beans = BeanList::of(alloc, container.present())?;
     let teller = Teller {
         alloc,
         files,
-        adviser: Adviser::new(alloc, container.present(), &beans, same),
+        adviser: Adviser {
+            alloc,
+            decls: container.present(),
+            beans: &beans,
+            book: container.book(),
+            body_names: telling.body_names,
+        },
         telling,
     };
     teller.findings(faults.as_slice())
 }
 
 /// Whether a fault is told.
-fn is_told(telling: Telling, fault: &Fault) -> bool
-    ensures { result ≡ is_told telling fault.now }
+fn is_told(telling: Telling<'_>, fault: &Fault) -> bool
+    ensures { result ≡ is_told telling.entry fault.now }
 {
     !telling.takes_any_body || !matches!(fault.code(), Code::Body)
 }
@@ -82,7 +88,7 @@ struct Teller<'a, 'b, C> {
     alloc: Global,
     files: Files<'a>,
     adviser: Adviser<'b, C>,
-    telling: Telling,
+    telling: Telling<'b>,
 }
 
 impl<'a, C: Bodies> Teller<'a, '_, C> {
@@ -104,7 +110,7 @@ impl<'a, C: Bodies> Teller<'a, '_, C> {
         ensures { IfOk result (λ f. string_bytes f.text ≡ text_of_fault fault.now) }
     {
         let alloc = self.alloc;
-        let beans = self.adviser.beans();
+        let beans = self.adviser.beans.as_slice();
         let mut finding = Finding::fault(alloc, self.files.of_fault(fault, beans), fault)?;
         if self.telling.explains {
             let advice = self.adviser.advise(fault)?;

@@ -1,10 +1,11 @@
 //! A run of the program.
-use crate::bodies::{BodiesError, read_bodies};
+use crate::bodies::{BodiesError, ListedBodies, names_of_stock, read_bodies};
 use crate::options::{CommandLine, Format, options};
 use cdi_assembly::{Files, Problem, Telling, assemble, findings_of_faults, findings_of_problems};
 use cdi_bodies::Bodies;
 use cdi_container::Container;
 use cdi_findings::{Finding, json_of, text_of};
+use cdi_model::Ident;
 use cdi_sources::{Ending, Source, read_sources};
 use cdi_stock::StockBodies;
 use clap::error::ErrorKind;
@@ -30,11 +31,18 @@ pub fn run(rt: &HostRuntime, words: &[String]) -> Result<u8, Ending> {
     }
 }
 
-/// Checks with the book that the options name.
+/// Checks with the bodies that the options name.
 fn check(rt: &HostRuntime, options: &CommandLine<'_>) -> Result<u8, Ending> {
     let Some(path) = options.bodies else {
-        return check_with(rt, options, StockBodies, &StockBodies);
+        let names = names_of_stock(rt.alloc())?;
+        return check_with(rt, options, StockBodies, names.as_slice());
     };
+    let ListedBodies { book, names } = bodies_of_file(rt, path)?;
+    check_with(rt, options, book, names.as_slice())
+}
+
+/// The bodies that a file lists. Why there are none is told on the standard error.
+fn bodies_of_file(rt: &HostRuntime, path: &str) -> Result<ListedBodies, Ending> {
     let text = match fs::read(rt, path) {
         Ok(text) => text,
         Err(error) => {
@@ -42,12 +50,8 @@ fn check(rt: &HostRuntime, options: &CommandLine<'_>) -> Result<u8, Ending> {
             return Err(error.into());
         }
     };
-    let alloc = rt.alloc();
-    match read_bodies(alloc, text.as_slice()) {
-        Ok(book) => match read_bodies(alloc, text.as_slice()) {
-            Ok(same) => check_with(rt, options, book, &same),
-            Err(_) => Err(Ending::OutOfMemory),
-        },
+    match read_bodies(rt.alloc(), text.as_slice()) {
+        Ok(bodies) => Ok(bodies),
         Err(BodiesError::OutOfMemory) => Err(Ending::OutOfMemory),
         Err(BodiesError::Unreadable) => {
             let _ = eprintln!(rt;
@@ -58,18 +62,28 @@ fn check(rt: &HostRuntime, options: &CommandLine<'_>) -> Result<u8, Ending> {
     }
 }
 
-/// Checks what the paths declare, with a book and one that is the same.
-fn check_with<B: Bodies + Drop, C: Bodies>(
+/// Checks what the paths declare, with a book of these names.
+fn check_with<B: Bodies + Drop>(
     rt: &HostRuntime,
     options: &CommandLine<'_>,
     book: B,
-    same: &C,
+    body_names: &[Ident],
+) -> Result<u8, Ending> {
+    let mut container = Container::new(rt.alloc(), book);
+    check_in(rt, options, &mut container, body_names)
+}
+
+/// Checks what the paths declare in an empty container.
+fn check_in<B: Bodies>(
+    rt: &HostRuntime,
+    options: &CommandLine<'_>,
+    container: &mut Container<B>,
+    body_names: &[Ident],
 ) -> Result<u8, Ending> {
     let alloc = rt.alloc();
     let readings = read_sources(rt, options.paths.as_slice())?;
-    let mut container = Container::new(alloc, book);
     let sources = readings.sources.as_slice();
-    let assembly = assemble(alloc, &mut container, sources)?;
+    let assembly = assemble(alloc, container, sources)?;
     let files = Files {
         sources,
         origins: &assembly.origins,
@@ -77,8 +91,9 @@ fn check_with<B: Bodies + Drop, C: Bodies>(
     let telling = Telling {
         explains: options.explains,
         takes_any_body: options.takes_any_body,
+        body_names,
     };
-    let faults = findings_of_faults(alloc, &mut container, files, same, telling)?;
+    let faults = findings_of_faults(alloc, container, files, telling)?;
     let findings = with_problems(alloc, sources, &assembly.problems, faults)?;
     let status = print(rt, options, findings)?;
     if !readings.tell_failed(rt) {

@@ -506,6 +506,13 @@ impl<B: Bodies> Container<B> {
         self.deployment.present()
     }
 
+    /// The stored bodies. It is no command, and takes no memory.
+    pub fn book(&self) -> &B
+        ensures { B.promises result.now ≡ self.now.book }
+    {
+        self.deployment.book()
+    }
+
     /// The records of the bean list, in order. It is no command. It takes memory for the list of all beans.
     pub fn beans(&self) -> Result<Beans, AllocError>
         ensures { IfOk result (λ list. list ≡ beans self.now.decls) }

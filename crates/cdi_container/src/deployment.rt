@@ -174,6 +174,13 @@ impl<B: Bodies> Deployment<B> {
         self.live.decls()
     }
 
+    /// The stored bodies.
+    pub(crate) fn book(&self) -> &B
+        ensures { B.promises result.now ≡ self.now.book }
+    {
+        &self.book
+    }
+
     /// How many records were computed.
     pub(crate) fn counts(&self) -> Counts
         ensures { result ≡ self.now.counts }

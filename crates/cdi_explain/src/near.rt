@@ -7,7 +7,7 @@ ghost use Rattle.cdi_explain.specs.Near.{nearest_name};
 
 use cdi_model::Name;
 use std::alloc::{AllocError, Global};
-use strsim::generic_levenshtein;
+use strsim::osa_distance;
 
 /// A name, and how many characters it is away from the wanted one.
 #[derive(Clone, Copy)]
@@ -17,9 +17,10 @@ struct Near {
 }
 
 /// Of some declared names the one that may have been meant by a wanted name: the first other one with the same last
-/// identifier, and else the first of the nearest. A name is as far away as characters are put in, taken away or changed
-/// (Levenshtein). It is near if that is at most 2, and less than half of the wanted name's length. There is none where no
-/// other name is near. It takes memory while it compares, and time near the number of declared names.
+/// identifier, and else the first of the nearest. A name is as far away as characters are put in, taken away or changed, or
+/// two neighbours are swapped (optimal string alignment). It is near if that is at most 2, and less than half of the wanted
+/// name's length. There is none where no other name is near. It takes memory while it compares, and time near the number of
+/// declared names.
 #[tactic(auto, unfolding(crate::specs::Near::nearest_name))]
 pub fn nearest_name(
     alloc: Global,
@@ -108,11 +109,11 @@ fn nearer(
     Ok(best)
 }
 
-/// How many characters are to be put in, taken away or changed.
+/// How many characters are to be put in, taken away or changed, or swapped with the next one.
 fn distance(alloc: Global, wanted: &Name, name: &Name) -> Result<usize, AllocError>
     ensures { IfOk result (λ count. count ≡ distance wanted.now name.now) }
 {
-    generic_levenshtein(alloc, wanted.as_bytes(), name.as_bytes())
+    osa_distance(alloc, wanted.as_str(), name.as_str())
 }
 
 /// Whether one at a distance is near, or nearer than another.

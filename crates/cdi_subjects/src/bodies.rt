@@ -48,8 +48,8 @@ fn is_fit<B: Bodies>(book: &B, allowed: Promise, body: &Ident) -> bool
     }
 }
 
-/// What a body may do in a place of a declaration.
-fn allowed_in(decl: &Decl, place: &PartPlace) -> Promise
+/// What a stored body may do in a place of a declaration (profile). It takes no memory.
+pub fn allowed_in(decl: &Decl, place: &PartPlace) -> Promise
     ensures { result.0 ≡ allowed_in decl.now place.now }
 {
     match decl {

@@ -18,6 +18,7 @@ mod typing;
 mod unknown;
 mod used;
 
+pub use bodies::allowed_in;
 pub use glance::Glance;
 pub use sites::has_method;
 pub use subjects::subjects_at_fault;

@@ -50,38 +50,47 @@ fn compare(rt: &HostRuntime, options: CommandLine<'_>) -> Result<u8, Ending> {
     Ok(u8::from(!text.is_empty()))
 }
 
-/// The lines that say what differs. One container goes from the declarations before to those after, so that it asks anew only
-/// what the change touches. Another one finds which declarations are accepted after it.
+/// The lines that say what differs between two deployments.
 fn text_of_change(
     rt: &HostRuntime,
     before: &Readings,
     after: &Readings,
 ) -> Result<String, AllocError> {
+    let mut container = Container::new(rt.alloc(), StockBodies);
+    let mut wanted = Container::new(rt.alloc(), StockBodies);
+    text_between(rt, &mut container, &mut wanted, before, after)
+}
+
+/// The same in two empty containers. One goes from the declarations before to those after, so that it asks anew only what the
+/// change touches. The other one finds which declarations are accepted after it.
+fn text_between(
+    rt: &HostRuntime,
+    container: &mut Container<StockBodies>,
+    wanted: &mut Container<StockBodies>,
+    before: &Readings,
+    after: &Readings,
+) -> Result<String, AllocError> {
     let alloc = rt.alloc();
-    let mut container = container_of(rt, before.sources.as_slice())?;
-    let mut wanted = container_of(rt, after.sources.as_slice())?;
-    let old = wiring_of(alloc, &mut container)?;
-    let is_brought = bring(alloc, &mut container, &wanted, after.sources.as_slice())?;
-    let new = if is_brought {
-        wiring_of(alloc, &mut container)?
-    } else {
-        wiring_of(alloc, &mut wanted)?
-    };
+    declare(rt, container, before.sources.as_slice())?;
+    declare(rt, wanted, after.sources.as_slice())?;
+    let old = wiring_of(alloc, container)?;
+    let is_brought = bring(alloc, container, wanted, after.sources.as_slice())?;
+    let new = wiring_of(alloc, if is_brought { container } else { wanted })?;
     text_of_differences(alloc, differences(alloc, &old, &new)?.as_slice())
 }
 
-/// The deployment that some files declare. What is refused or repeated is told on the standard error.
-fn container_of(
+/// Declares what some files declare. What is refused or repeated is told on the standard error.
+fn declare(
     rt: &HostRuntime,
+    container: &mut Container<StockBodies>,
     sources: &[Source],
-) -> Result<Container<StockBodies>, AllocError> {
+) -> Result<(), AllocError> {
     let alloc = rt.alloc();
-    let mut container = Container::new(alloc, StockBodies);
-    let assembly = assemble(alloc, &mut container, sources)?;
+    let assembly = assemble(alloc, container, sources)?;
     let findings = findings_of_problems(alloc, sources, &assembly.problems)?;
     let text = text_of(alloc, findings.as_slice())?;
     let _ = eprint!(rt; "{text}");
-    Ok(container)
+    Ok(())
 }
 
 /// Differences as lines, in order.
