@@ -100,12 +100,7 @@ fn unseen_point<B: Bodies>(
     match nearest_ident(adviser.alloc, point, seen.as_slice())? {
         Some(near) => adviser.help(
             "{} sees no point {}: write {} if that is meant; it sees: {}",
-            &[
-                place.as_str(),
-                point.as_str(),
-                near.as_str(),
-                list.as_str(),
-            ],
+            &[place.as_str(), point.as_str(), near.as_str(), list.as_str()],
         ),
         None => adviser.help(
             "{} sees no point {}; it sees: {}",
@@ -270,11 +265,7 @@ fn text_of_wanted<B: Bodies>(
         return String::from_str(adviser.alloc, wanted.as_str());
     }
     let quals = text_of(adviser.alloc, quals)?;
-    filled(
-        adviser.alloc,
-        "{} {}",
-        &[wanted.as_str(), quals.as_str()],
-    )
+    filled(adviser.alloc, "{} {}", &[wanted.as_str(), quals.as_str()])
 }
 
 /// The tied beans among some.
@@ -355,10 +346,7 @@ fn help_for_qualifier<B: Bodies>(
 }
 
 /// What to write where no bean has a type.
-fn help_for_type<B: Bodies>(
-    adviser: &Adviser<'_, B>,
-    wanted: &Name,
-) -> Result<String, AllocError> {
+fn help_for_type<B: Bodies>(adviser: &Adviser<'_, B>, wanted: &Name) -> Result<String, AllocError> {
     let alloc = adviser.alloc;
     let name = wanted.as_str();
     if name != "Object" && adviser.decls.get(Kind::Type, wanted).is_none() {

@@ -25,10 +25,7 @@ pub(crate) fn cycle<B: Bodies>(
         None => String::from_str(adviser.alloc, name.as_str())?,
     };
     let keys = String::from_str(adviser.alloc, keys)?;
-    adviser.help(
-        "{}: leave a step of {} out",
-        &[way.as_str(), keys.as_str()],
-    )
+    adviser.help("{}: leave a step of {} out", &[way.as_str(), keys.as_str()])
 }
 
 /// A class is named where an interface is needed, or the other way round.

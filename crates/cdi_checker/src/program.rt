@@ -123,10 +123,13 @@ fn print(
     findings: Vec<Finding<'_>>,
 ) -> Result<u8, Ending> {
     let alloc = rt.alloc();
-    let text = match options.format {
+    let mut text = match options.format {
         Format::Text => text_of(alloc, findings.as_slice())?,
         Format::Json => json_of(alloc, &findings)?,
     };
+    if options.format == Format::Json {
+        text.push_str("\n")?;
+    }
     let mut output = io::writer(rt);
     output.write_all(text.as_bytes())?;
     output.flush()?;

@@ -1,2 +1,4 @@
 pub mod Differences
+pub mod Holds
 pub mod Laws
+pub mod Wiring

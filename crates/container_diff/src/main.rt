@@ -4,7 +4,6 @@
 mod options;
 mod passage;
 mod program;
-mod wiring;
 
 use crate::program::run;
 use std::process::ExitCode;

@@ -1,10 +1,9 @@
 //! A run of the program.
 use crate::options::{CommandLine, options};
 use crate::passage::bring;
-use crate::wiring::{is_fault, wiring_of};
 use cdi_assembly::{assemble, findings_of_problems};
 use cdi_container::Container;
-use cdi_differences::{Difference, differences};
+use cdi_differences::{Difference, differences, wiring_of};
 use cdi_findings::text_of;
 use cdi_sources::{Ending, Readings, Source, read_sources, status_of, words};
 use cdi_stock::StockBodies;
@@ -116,4 +115,9 @@ fn line_of(alloc: Global, difference: &Difference<'_>) -> Result<String, AllocEr
     let before = difference.before.unwrap_or("-");
     let after = difference.after.unwrap_or("-");
     format!(in alloc; "{key}: {before} -> {after}\n")
+}
+
+/// Whether a key is that of a fault: it begins with the code of one.
+fn is_fault(key: &str) -> bool {
+    key.starts_with("F")
 }

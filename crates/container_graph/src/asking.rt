@@ -1,5 +1,5 @@
 //! What is asked of a container for a picture of its wiring.
-use cdi_container::{Bodies, Container, Decl, Error, Fault, Name, Points, Quals};
+use cdi_container::{Bodies, Choice, Container, Decl, Error, Fault, Name, Quals};
 use cdi_graph::{Fired, Notified, Surrounded, Wire};
 use cdi_intercept::places_of;
 use cdi_model::{BeanPlace, Decls, Mention, Seq};
@@ -8,16 +8,19 @@ use std::alloc::{AllocError, Global};
 /// A question.
 #[derive(Drop)]
 enum Question {
+    /// What is chosen for an injection point.
+    Choice(Name, Quals),
     /// The interceptors around a place of a bean.
     Chain(Name, BeanPlace),
     /// The observer methods of an event.
     Observers(Name, Quals),
 }
 
-/// The answers but those for injection points, in the order in which declarations ask for them.
+/// The answers, in the order in which declarations ask for them.
 #[derive(Drop)]
 pub(crate) struct Answers {
     pub(crate) faults: Vec<Fault>,
+    pub(crate) choices: Vec<Choice>,
     pub(crate) surrounded: Vec<Surrounded>,
     pub(crate) notified: Vec<Seq<Notified>>,
 }
@@ -29,11 +32,15 @@ pub(crate) fn ask<B: Bodies>(
 ) -> Result<Answers, AllocError> {
     let mut answers = Answers {
         faults: container.report()?,
+        choices: Vec::new(alloc),
         surrounded: Vec::new(alloc),
         notified: Vec::new(alloc),
     };
     for question in questions(alloc, container.present())? {
         match question {
+            Question::Choice(bean_type, quals) => {
+                answers.choices.push(container.choose(bean_type, &quals)?)?;
+            }
             Question::Chain(bean, place) => {
                 if let Some(interceptors) = chain(container, bean, &place)? {
                     answers.surrounded.push(Surrounded {
@@ -90,9 +97,16 @@ fn questions(alloc: Global, decls: &Decls) -> Result<Vec<Question>, AllocError> 
     let mut list = Vec::new(alloc);
     for decl in decls.iter() {
         for mention in decl.mentions() {
-            if let Mention::Event(event) = mention {
-                let quals = event.qualifiers.copy()?;
-                list.push(Question::Observers(event.event_type, quals))?;
+            match mention {
+                Mention::Point(_, point) => {
+                    let quals = point.qualifiers.copy()?;
+                    list.push(Question::Choice(point.required_type, quals))?;
+                }
+                Mention::Event(event) => {
+                    let quals = event.qualifiers.copy()?;
+                    list.push(Question::Observers(event.event_type, quals))?;
+                }
+                _ => {}
             }
         }
         if let Decl::Bean(bean) = decl {
@@ -105,15 +119,26 @@ fn questions(alloc: Global, decls: &Decls) -> Result<Vec<Question>, AllocError> 
 }
 
 /// The injection points, each with what is chosen for it.
-pub(crate) fn wires<'a>(alloc: Global, points: Points<'a>) -> Result<Vec<Wire<'a>>, AllocError> {
-    let mut wires = Vec::new(alloc);
-    for point in points {
-        wires.extend_from_slice(&[Wire {
-            owner: point.owner,
-            place: point.place,
-            point: point.point,
-            choice: point.choice,
-        }])?;
+pub(crate) fn wires<'a>(
+    alloc: Global,
+    decls: &'a Decls,
+    choices: &'a [Choice],
+) -> Result<Vec<Wire<'a>>, AllocError> {
+    let mut wires = Vec::with_capacity(alloc, choices.len())?;
+    for owner in decls.iter() {
+        for mention in owner.mentions() {
+            if let Mention::Point(place, point) = mention {
+                if let Some(choice) = choices.get(wires.len()) {
+                    let wire = Wire {
+                        owner,
+                        place,
+                        point,
+                        choice,
+                    };
+                    wires.extend_from_slice(&[wire])?;
+                }
+            }
+        }
     }
     Ok(wires)
 }

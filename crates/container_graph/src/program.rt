@@ -34,69 +34,26 @@ pub(crate) fn draw(rt: &HostRuntime) -> Result<u8, Ending> {
 
 /// Draws what the paths declare. What is refused is told on the standard error, and left out.
 fn draw_paths(rt: &HostRuntime, options: &CommandLine<'_>) -> Result<u8, Ending> {
-    let mut container = Container::new(rt.alloc(), StockBodies);
-    draw_in(rt, options, &mut container)
-}
-
-/// The same in an empty container.
-fn draw_in(
-    rt: &HostRuntime,
-    options: &CommandLine<'_>,
-    container: &mut Container<StockBodies>,
-) -> Result<u8, Ending> {
     let alloc = rt.alloc();
     let readings = read_sources(rt, options.paths.as_slice())?;
     let sources = readings.sources.as_slice();
-    let assembly = assemble(alloc, container, sources)?;
+    let mut container = Container::new(alloc, StockBodies);
+    let assembly = assemble(alloc, &mut container, sources)?;
     let findings = findings_of_problems(alloc, sources, &assembly.problems)?;
     let told = text_of(alloc, findings.as_slice())?;
+    let told = told.as_str();
     let _ = eprint!(rt; "{told}");
-    let around = bean_around(rt, options, container)?;
-    let whole = whole_graph(alloc, container)?;
-    let text = part_of(alloc, options, whole, around)?.dot(alloc, options.has_points)?;
-    let mut output = io::writer(rt);
-    output.write_all(text.as_bytes())?;
-    output.flush()?;
-    if !readings.tell_failed(rt) {
-        return Err(Ending::Unreadable);
-    }
-    Ok(u8::from(!findings.is_empty()))
-}
-
-/// The bean that the options name. That there is no such bean is told on the standard error.
-fn bean_around(
-    rt: &HostRuntime,
-    options: &CommandLine<'_>,
-    container: &Container<StockBodies>,
-) -> Result<Option<BeanId>, Ending> {
-    let Some(text) = options.around else {
-        return Ok(None);
-    };
-    let beans = BeanList::of(rt.alloc(), container.present())?;
-    match bean_of(text).filter(|id| beans.position(*id).is_some()) {
-        Some(id) => Ok(Some(id)),
-        None => {
-            let _ = eprintln!(rt; "error: there is no bean {text}");
-            Err(Ending::Words)
-        }
-    }
-}
-
-/// The graph of all that a container declares.
-fn whole_graph(
-    alloc: Global,
-    container: &mut Container<StockBodies>,
-) -> Result<Graph, AllocError> {
     let Answers {
         faults,
+        choices,
         surrounded,
         notified,
-    } = ask(alloc, container)?;
-    let decls = container.present().copy()?;
-    let beans = BeanList::of(alloc, &decls)?;
-    let fired = fired(alloc, &decls, notified)?;
-    let wires = wires(alloc, container.points()?)?;
-    graph_of(
+    } = ask(alloc, &mut container)?;
+    let decls = container.present();
+    let beans = BeanList::of(alloc, decls)?;
+    let wires = wires(alloc, decls, choices.as_slice())?;
+    let fired = fired(alloc, decls, notified)?;
+    let whole = graph_of(
         alloc,
         &Plan {
             beans: beans.as_slice(),
@@ -105,7 +62,25 @@ fn whole_graph(
             surrounded: surrounded.as_slice(),
             fired: fired.as_slice(),
         },
-    )
+    )?;
+    let around = match options.around {
+        Some(text) => match bean_of(text).filter(|id| beans.position(*id).is_some()) {
+            Some(id) => Some(id),
+            None => {
+                let _ = eprintln!(rt; "error: there is no bean {text}");
+                return Err(Ending::Words);
+            }
+        },
+        None => None,
+    };
+    let text = part_of(alloc, options, whole, around)?.dot(alloc, options.has_points)?;
+    let mut output = io::writer(rt);
+    output.write_all(text.as_bytes())?;
+    output.flush()?;
+    if !readings.tell_failed(rt) {
+        return Err(Ending::Unreadable);
+    }
+    Ok(u8::from(!findings.is_empty()))
 }
 
 /// The part of a graph that the options ask for.
