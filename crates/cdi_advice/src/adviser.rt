@@ -10,14 +10,12 @@ use cdi_resolve::BeanList;
 use std::alloc::{AllocError, Global};
 
 /// What faults of a deployment are told by.
-#[derive(Drop)]
-pub struct Adviser<'a, B> {
+#[derive(Clone, Copy)]
+pub struct Adviser<'a> {
     pub alloc: Global,
     pub decls: &'a Decls,
     /// The bean list of the declarations.
     pub beans: &'a BeanList,
-    /// The stored bodies.
-    pub book: &'a B,
     /// The names of stored bodies that help may name.
     pub body_names: &'a [Ident],
 }
@@ -29,9 +27,10 @@ pub(crate) struct Part<'a> {
     pub(crate) subject: &'a Subject,
 }
 
-impl<'a, B: Bodies> Adviser<'a, B> {
-    /// What is told of a fault. It takes memory for its texts, and time near the number of declarations and beans.
-    pub fn advise(&self, fault: &Fault) -> Result<Advice, AllocError> {
+impl<'a> Adviser<'a> {
+    /// What is told of a fault of a deployment with these stored bodies. It takes memory for its texts, and time near the number of
+    /// declarations and beans.
+    pub fn advise<B: Bodies>(&self, book: &B, fault: &Fault) -> Result<Advice, AllocError> {
         match fault {
             Fault::Declared {
                 code,
@@ -39,7 +38,7 @@ impl<'a, B: Bodies> Adviser<'a, B> {
                 name,
                 subject,
             } => match self.decls.get(*kind, name) {
-                Some(decl) => self.advise_on_part(*code, Part { decl, subject }),
+                Some(decl) => self.advise_in(book, *code, Part { decl, subject }),
                 None => self.help("the declaration is not there any more", &[]),
             },
             Fault::NameClash(name) => names::clash(self, *name),
@@ -50,6 +49,18 @@ impl<'a, B: Bodies> Adviser<'a, B> {
                 first,
                 second,
             } => beans::specialized_twice(self, specialized, first, second),
+        }
+    }
+
+    fn advise_in<B: Bodies>(
+        &self,
+        book: &B,
+        code: Code,
+        part: Part<'_>,
+    ) -> Result<Advice, AllocError> {
+        match code {
+            Code::Body => bodies::unfit(self, book, part),
+            _ => self.advise_on_part(code, part),
         }
     }
 
@@ -64,7 +75,6 @@ impl<'a, B: Bodies> Adviser<'a, B> {
             Code::Member => uses::member(self, part),
             Code::Disposer => beans::disposer(self, part),
             Code::ConditionalDependent => beans::conditional(self),
-            Code::Body => bodies::unfit(self, part),
             Code::NoBinding => self.help("list what it binds to, as bindings = [\"Log\"]", &[]),
             Code::Unsatisfied => choices::unsatisfied(self, part),
             Code::Ambiguous => choices::ambiguous(self, part),

@@ -3,21 +3,19 @@ use crate::advice::Advice;
 use crate::adviser::{Adviser, Part};
 use crate::circles::circle_of_needs;
 use crate::words::{filled, listed, text_of};
-use cdi_bodies::Bodies;
 use cdi_effective::BeanId;
 use cdi_faults::Subject;
-use cdi_model::{Decl, Ident, Kind, Mention, Name, Scope};
-use std::alloc::AllocError;
+use cdi_model::{Decl, Decls, Ident, Kind, Mention, Name, Scope};
+use std::alloc::{AllocError, Global};
 
 /// Two stereotypes give different scopes.
-pub(crate) fn scope_conflict<B: Bodies>(
-    adviser: &Adviser<'_, B>,
-    part: Part<'_>,
-) -> Result<Advice, AllocError> {
+pub(crate) fn scope_conflict(adviser: &Adviser<'_>, part: Part<'_>) -> Result<Advice, AllocError> {
     let mut given = Vec::new(adviser.alloc);
     for mention in part.decl.mentions() {
-        if let Some(scope) = given_scope(adviser, mention)? {
-            given.push(scope)?;
+        if let Mention::Stereotype(name) = mention {
+            if let Some(scope) = given_scope(adviser.alloc, adviser.decls, name)? {
+                given.push(scope)?;
+            }
         }
     }
     let given = listed(adviser.alloc, given.as_slice())?;
@@ -28,14 +26,8 @@ pub(crate) fn scope_conflict<B: Bodies>(
 }
 
 /// The scope that a stereotype gives, as `Action gives request`.
-fn given_scope<B: Bodies>(
-    adviser: &Adviser<'_, B>,
-    mention: Mention<'_>,
-) -> Result<Option<String>, AllocError> {
-    let Mention::Stereotype(name) = mention else {
-        return Ok(None);
-    };
-    let Some(Decl::Stereotype(stereotype)) = adviser.decls.get(Kind::Stereotype, name) else {
+fn given_scope(alloc: Global, decls: &Decls, name: &Name) -> Result<Option<String>, AllocError> {
+    let Some(Decl::Stereotype(stereotype)) = decls.get(Kind::Stereotype, name) else {
         return Ok(None);
     };
     let form = match stereotype.scope {
@@ -44,14 +36,11 @@ fn given_scope<B: Bodies>(
         Some(Scope::Request) => "{} gives request",
         Some(Scope::Application) => "{} gives application",
     };
-    Ok(Some(filled(adviser.alloc, form, &[name.as_str()])?))
+    Ok(Some(filled(alloc, form, &[name.as_str()])?))
 }
 
 /// A disposer matches no producer, or two match one.
-pub(crate) fn disposer<B: Bodies>(
-    adviser: &Adviser<'_, B>,
-    part: Part<'_>,
-) -> Result<Advice, AllocError> {
+pub(crate) fn disposer(adviser: &Adviser<'_>, part: Part<'_>) -> Result<Advice, AllocError> {
     match part.subject {
         Subject::Disposer(name) => adviser.help(
             "no producer of the bean has the type and the qualifiers of {}: write those of one, or leave the disposer out",
@@ -66,7 +55,7 @@ pub(crate) fn disposer<B: Bodies>(
 }
 
 /// An observer is conditional, and its bean is dependent.
-pub(crate) fn conditional<B: Bodies>(adviser: &Adviser<'_, B>) -> Result<Advice, AllocError> {
+pub(crate) fn conditional(adviser: &Adviser<'_>) -> Result<Advice, AllocError> {
     adviser.help(
         "give the bean scope = \"request\" or \"application\", or leave conditional out",
         &[],
@@ -74,10 +63,7 @@ pub(crate) fn conditional<B: Bodies>(adviser: &Adviser<'_, B>) -> Result<Advice,
 }
 
 /// A bean has `specializes`, and there is no bean that it specializes.
-pub(crate) fn no_specialized<B: Bodies>(
-    adviser: &Adviser<'_, B>,
-    part: Part<'_>,
-) -> Result<Advice, AllocError> {
+pub(crate) fn no_specialized(adviser: &Adviser<'_>, part: Part<'_>) -> Result<Advice, AllocError> {
     adviser.help(
         "let the type {} extend the class of a bean, or leave specializes out",
         &[part.decl.name().as_str()],
@@ -85,8 +71,8 @@ pub(crate) fn no_specialized<B: Bodies>(
 }
 
 /// A bean lacks a type of the bean that it specializes.
-pub(crate) fn specialized_type<B: Bodies>(
-    adviser: &Adviser<'_, B>,
+pub(crate) fn specialized_type(
+    adviser: &Adviser<'_>,
     part: Part<'_>,
 ) -> Result<Advice, AllocError> {
     match part.subject {
@@ -99,7 +85,7 @@ pub(crate) fn specialized_type<B: Bodies>(
 }
 
 /// A bean has a name of its own, and the bean that it specializes has one.
-pub(crate) fn specialized_name<B: Bodies>(adviser: &Adviser<'_, B>) -> Result<Advice, AllocError> {
+pub(crate) fn specialized_name(adviser: &Adviser<'_>) -> Result<Advice, AllocError> {
     adviser.help(
         "leave named out: the bean has the name of the one that it specializes",
         &[],
@@ -107,8 +93,8 @@ pub(crate) fn specialized_name<B: Bodies>(adviser: &Adviser<'_, B>) -> Result<Ad
 }
 
 /// Two beans specialize one.
-pub(crate) fn specialized_twice<B: Bodies>(
-    adviser: &Adviser<'_, B>,
+pub(crate) fn specialized_twice(
+    adviser: &Adviser<'_>,
     specialized: &Name,
     first: &Name,
     second: &Name,
@@ -120,8 +106,8 @@ pub(crate) fn specialized_twice<B: Bodies>(
 }
 
 /// A dependent bean needs itself.
-pub(crate) fn circle<B: Bodies>(
-    adviser: &Adviser<'_, B>,
+pub(crate) fn circle(
+    adviser: &Adviser<'_>,
     class: Name,
     producer: Option<Ident>,
 ) -> Result<Advice, AllocError> {

@@ -11,7 +11,8 @@ use std::alloc::AllocError;
 
 /// A body that is not in the book, or that may do more than is allowed where it runs.
 pub(crate) fn unfit<B: Bodies>(
-    adviser: &Adviser<'_, B>,
+    adviser: &Adviser<'_>,
+    book: &B,
     part: Part<'_>,
 ) -> Result<Advice, AllocError> {
     let Subject::Part(place) = part.subject else {
@@ -20,14 +21,14 @@ pub(crate) fn unfit<B: Bodies>(
     let Some(body) = body_in(part, place) else {
         return adviser.see();
     };
-    match adviser.book.promise(body) {
+    match book.promise(body) {
         None => unknown(adviser, body),
         Some(promise) => forbidden(adviser, part, place, body, promise),
     }
 }
 
 /// A body that is not in the book.
-fn unknown<B: Bodies>(adviser: &Adviser<'_, B>, body: &Ident) -> Result<Advice, AllocError> {
+fn unknown(adviser: &Adviser<'_>, body: &Ident) -> Result<Advice, AllocError> {
     match nearest_ident(adviser.alloc, body, adviser.body_names)? {
         Some(near) => adviser.help(
             "no body has the name {}: write {} if that is meant, or name another that the book has",
@@ -41,8 +42,8 @@ fn unknown<B: Bodies>(adviser: &Adviser<'_, B>, body: &Ident) -> Result<Advice, 
 }
 
 /// A body that may do more than is allowed in a place.
-fn forbidden<B: Bodies>(
-    adviser: &Adviser<'_, B>,
+fn forbidden(
+    adviser: &Adviser<'_>,
     part: Part<'_>,
     place: &PartPlace,
     body: &Ident,

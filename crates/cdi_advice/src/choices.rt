@@ -4,7 +4,6 @@ use crate::adviser::{Adviser, Part};
 use crate::near::nearest_ident;
 use crate::verdicts::text_of_verdict;
 use crate::words::{filled, listed, text_of};
-use cdi_bodies::Bodies;
 use cdi_effective::{BeanId, Effective};
 use cdi_explain::{Disabled, Verdict, verdicts_on_choice};
 use cdi_faults::Subject;
@@ -12,13 +11,10 @@ use cdi_model::{
     BeanDecl, Decl, Form, Ident, Kind, Mention, Name, PartPlace, PointDecl, PointPlace, Quals,
     TypeDecl,
 };
-use std::alloc::AllocError;
+use std::alloc::{AllocError, Global};
 
 /// No bean fits an injection point.
-pub(crate) fn unsatisfied<B: Bodies>(
-    adviser: &Adviser<'_, B>,
-    part: Part<'_>,
-) -> Result<Advice, AllocError> {
+pub(crate) fn unsatisfied(adviser: &Adviser<'_>, part: Part<'_>) -> Result<Advice, AllocError> {
     let Some(point) = point_at_fault(part) else {
         return adviser.see();
     };
@@ -28,15 +24,12 @@ pub(crate) fn unsatisfied<B: Bodies>(
 }
 
 /// Several beans fit an injection point.
-pub(crate) fn ambiguous<B: Bodies>(
-    adviser: &Adviser<'_, B>,
-    part: Part<'_>,
-) -> Result<Advice, AllocError> {
+pub(crate) fn ambiguous(adviser: &Adviser<'_>, part: Part<'_>) -> Result<Advice, AllocError> {
     let Some(point) = point_at_fault(part) else {
         return adviser.see();
     };
     let mut advice = on_point(adviser, point)?;
-    let tied = tied_among(adviser, advice.candidates.as_slice())?;
+    let tied = tied_among(adviser.alloc, advice.candidates.as_slice())?;
     let tied = listed(adviser.alloc, tied.as_slice())?;
     advice.help = filled(
         adviser.alloc,
@@ -47,10 +40,7 @@ pub(crate) fn ambiguous<B: Bodies>(
 }
 
 /// What is chosen for an injection point cannot be put behind its type.
-pub(crate) fn unproxyable<B: Bodies>(
-    adviser: &Adviser<'_, B>,
-    part: Part<'_>,
-) -> Result<Advice, AllocError> {
+pub(crate) fn unproxyable(adviser: &Adviser<'_>, part: Part<'_>) -> Result<Advice, AllocError> {
     let Some(point) = point_at_fault(part) else {
         return adviser.see();
     };
@@ -69,10 +59,7 @@ pub(crate) fn unproxyable<B: Bodies>(
 }
 
 /// A call site names a point that its body does not see, or a method that the chosen bean does not have.
-pub(crate) fn site<B: Bodies>(
-    adviser: &Adviser<'_, B>,
-    part: Part<'_>,
-) -> Result<Advice, AllocError> {
+pub(crate) fn site(adviser: &Adviser<'_>, part: Part<'_>) -> Result<Advice, AllocError> {
     let Subject::Call {
         place,
         point,
@@ -88,13 +75,13 @@ pub(crate) fn site<B: Bodies>(
 }
 
 /// A call site names a point that its body does not see.
-fn unseen_point<B: Bodies>(
-    adviser: &Adviser<'_, B>,
+fn unseen_point(
+    adviser: &Adviser<'_>,
     part: Part<'_>,
     place: &PartPlace,
     point: &Ident,
 ) -> Result<Advice, AllocError> {
-    let seen = points_seen(adviser, part, place)?;
+    let seen = points_seen(adviser.alloc, part, place)?;
     let list = listed(adviser.alloc, seen.as_slice())?;
     let place = text_of(adviser.alloc, place)?;
     match nearest_ident(adviser.alloc, point, seen.as_slice())? {
@@ -110,30 +97,31 @@ fn unseen_point<B: Bodies>(
 }
 
 /// A call site names a method that the bean chosen for its point does not have.
-fn lacking_method<B: Bodies>(
-    adviser: &Adviser<'_, B>,
+fn lacking_method(
+    adviser: &Adviser<'_>,
     point: &PointDecl,
     method: &Ident,
 ) -> Result<Advice, AllocError> {
     let mut advice = on_point(adviser, point)?;
     let methods = match chosen_among(adviser, advice.candidates.as_slice()) {
-        Some(chosen) => methods_of(adviser, adviser.bean(&chosen.id.class))?,
+        Some(chosen) => methods_of(adviser.alloc, adviser.bean(&chosen.id.class))?,
         None => Vec::new(adviser.alloc),
     };
-    advice.help = help_for_lacking_method(adviser, &point.name, method, methods.as_slice())?;
+    advice.help = help_for_lacking_method(adviser.alloc, &point.name, method, methods.as_slice())?;
     Ok(advice)
 }
 
-fn help_for_lacking_method<B: Bodies>(
-    adviser: &Adviser<'_, B>,
+/// What to write where a bean has no such method.
+fn help_for_lacking_method(
+    alloc: Global,
     point: &Ident,
     method: &Ident,
     methods: &[Ident],
 ) -> Result<String, AllocError> {
-    let list = listed(adviser.alloc, methods)?;
-    match nearest_ident(adviser.alloc, method, methods)? {
+    let list = listed(alloc, methods)?;
+    match nearest_ident(alloc, method, methods)? {
         Some(near) => filled(
-            adviser.alloc,
+            alloc,
             "what is chosen for {} has no method {}: write {} if that is meant; it has: {}",
             &[
                 point.as_str(),
@@ -143,7 +131,7 @@ fn help_for_lacking_method<B: Bodies>(
             ],
         ),
         None => filled(
-            adviser.alloc,
+            alloc,
             "what is chosen for {} has no method {}; it has: {}",
             &[point.as_str(), method.as_str(), list.as_str()],
         ),
@@ -170,42 +158,24 @@ fn point_in<'a>(part: Part<'a>, place: &PointPlace, name: &Ident) -> Option<&'a 
     None
 }
 
-/// The injection point that a body in a place sees under a name: a parameter of its method, or else of the constructor.
+/// The injection point that a body in a place sees under a name.
 fn point_seen<'a>(part: Part<'a>, place: &PartPlace, name: &Ident) -> Option<&'a PointDecl> {
-    if let Some(method) = method_place(place) {
-        if let Some(point) = point_in(part, &method, name) {
-            return Some(point);
+    for mention in part.decl.mentions() {
+        if let Mention::Point(at, point) = mention {
+            if is_seen(place, at) && point.name == *name {
+                return Some(point);
+            }
         }
     }
-    match place {
-        PartPlace::StaticProducer(_) => None,
-        _ => point_in(part, &PointPlace::Constructor, name),
-    }
-}
-
-/// Where the parameters are of the method that runs in a place.
-fn method_place(place: &PartPlace) -> Option<PointPlace> {
-    match place {
-        PartPlace::Producer(name) | PartPlace::StaticProducer(name) => {
-            Some(PointPlace::Producer(*name))
-        }
-        PartPlace::Observer(name) => Some(PointPlace::Observer(*name)),
-        _ => None,
-    }
+    None
 }
 
 /// The names of the points that a body in a place sees.
-fn points_seen<B: Bodies>(
-    adviser: &Adviser<'_, B>,
-    part: Part<'_>,
-    place: &PartPlace,
-) -> Result<Vec<Ident>, AllocError> {
-    let own = method_place(place);
-    let is_static = matches!(place, PartPlace::StaticProducer(_));
-    let mut names = Vec::new(adviser.alloc);
+fn points_seen(alloc: Global, part: Part<'_>, place: &PartPlace) -> Result<Vec<Ident>, AllocError> {
+    let mut names = Vec::new(alloc);
     for mention in part.decl.mentions() {
         if let Mention::Point(at, point) = mention {
-            if own == Some(at) || (at == PointPlace::Constructor && !is_static) {
+            if is_seen(place, at) {
                 names.push(point.name)?;
             }
         }
@@ -213,12 +183,25 @@ fn points_seen<B: Bodies>(
     Ok(names)
 }
 
+/// Whether a body in a place sees the points that are parameters in another: those of its own method, and those of the
+/// constructor unless the method is static.
+fn is_seen(place: &PartPlace, at: PointPlace) -> bool {
+    match at {
+        PointPlace::Constructor => !matches!(place, PartPlace::StaticProducer(_)),
+        PointPlace::Producer(name) => match place {
+            PartPlace::Producer(own) | PartPlace::StaticProducer(own) => name == *own,
+            _ => false,
+        },
+        PointPlace::Observer(name) => match place {
+            PartPlace::Observer(own) => name == *own,
+            _ => false,
+        },
+    }
+}
+
 /// The names of the methods of a bean.
-fn methods_of<B: Bodies>(
-    adviser: &Adviser<'_, B>,
-    bean: Option<&BeanDecl>,
-) -> Result<Vec<Ident>, AllocError> {
-    let mut names = Vec::new(adviser.alloc);
+fn methods_of(alloc: Global, bean: Option<&BeanDecl>) -> Result<Vec<Ident>, AllocError> {
+    let mut names = Vec::new(alloc);
     if let Some(bean) = bean {
         for method in bean.methods.as_slice() {
             names.push(method.name)?;
@@ -228,7 +211,7 @@ fn methods_of<B: Bodies>(
 }
 
 /// The beans that have the type that an injection point requires, with their verdicts.
-fn on_point<B: Bodies>(adviser: &Adviser<'_, B>, point: &PointDecl) -> Result<Advice, AllocError> {
+fn on_point(adviser: &Adviser<'_>, point: &PointDecl) -> Result<Advice, AllocError> {
     let alloc = adviser.alloc;
     let wanted = &point.required_type;
     let quals = &point.qualifiers;
@@ -248,7 +231,7 @@ fn on_point<B: Bodies>(adviser: &Adviser<'_, B>, point: &PointDecl) -> Result<Ad
         }
     }
     Ok(Advice {
-        wanted: Some(text_of_wanted(adviser, wanted, quals)?),
+        wanted: Some(text_of_wanted(alloc, wanted, quals)?),
         candidates,
         others,
         help: String::new(alloc),
@@ -256,24 +239,17 @@ fn on_point<B: Bodies>(adviser: &Adviser<'_, B>, point: &PointDecl) -> Result<Ad
 }
 
 /// A type and qualifiers, as a question writes them.
-fn text_of_wanted<B: Bodies>(
-    adviser: &Adviser<'_, B>,
-    wanted: &Name,
-    quals: &Quals,
-) -> Result<String, AllocError> {
+fn text_of_wanted(alloc: Global, wanted: &Name, quals: &Quals) -> Result<String, AllocError> {
     if quals.is_empty() {
-        return String::from_str(adviser.alloc, wanted.as_str());
+        return String::from_str(alloc, wanted.as_str());
     }
-    let quals = text_of(adviser.alloc, quals)?;
-    filled(adviser.alloc, "{} {}", &[wanted.as_str(), quals.as_str()])
+    let quals = text_of(alloc, quals)?;
+    filled(alloc, "{} {}", &[wanted.as_str(), quals.as_str()])
 }
 
 /// The tied beans among some.
-fn tied_among<B: Bodies>(
-    adviser: &Adviser<'_, B>,
-    candidates: &[Candidate],
-) -> Result<Vec<BeanId>, AllocError> {
-    let mut tied = Vec::new(adviser.alloc);
+fn tied_among(alloc: Global, candidates: &[Candidate]) -> Result<Vec<BeanId>, AllocError> {
+    let mut tied = Vec::new(alloc);
     for candidate in candidates {
         if candidate.verdict == Some(Verdict::Tied) {
             tied.push(candidate.bean)?;
@@ -283,26 +259,25 @@ fn tied_among<B: Bodies>(
 }
 
 /// The chosen bean among some.
-fn chosen_among<'a, B: Bodies>(
-    adviser: &Adviser<'a, B>,
-    candidates: &[Candidate],
-) -> Option<&'a Effective> {
-    let chosen = candidates
-        .iter()
-        .find(|candidate| candidate.verdict == Some(Verdict::Chosen))?;
-    adviser.record(adviser.beans.position(chosen.bean))
+fn chosen_among<'a>(adviser: &Adviser<'a>, candidates: &[Candidate]) -> Option<&'a Effective> {
+    for candidate in candidates {
+        if candidate.verdict == Some(Verdict::Chosen) {
+            return adviser.record(adviser.beans.position(candidate.bean));
+        }
+    }
+    None
 }
 
 /// What to write where no bean fits.
-fn help_for_unsatisfied<B: Bodies>(
-    adviser: &Adviser<'_, B>,
+fn help_for_unsatisfied(
+    adviser: &Adviser<'_>,
     point: &PointDecl,
     candidates: &[Candidate],
 ) -> Result<String, AllocError> {
     for candidate in candidates {
         match candidate.verdict {
             Some(Verdict::LacksQualifier { wanted, .. }) => {
-                return help_for_qualifier(adviser, point, candidate.bean, wanted);
+                return help_for_qualifier(adviser.alloc, point, candidate.bean, wanted);
             }
             Some(Verdict::Disabled(Disabled::NoPriority)) => {
                 let bean = text_of(adviser.alloc, &candidate.bean)?;
@@ -319,13 +294,12 @@ fn help_for_unsatisfied<B: Bodies>(
 }
 
 /// What to write where a bean lacks a qualifier alone. None is written where `Default` is wanted.
-fn help_for_qualifier<B: Bodies>(
-    adviser: &Adviser<'_, B>,
+fn help_for_qualifier(
+    alloc: Global,
     point: &PointDecl,
     bean: BeanId,
     wanted: usize,
 ) -> Result<String, AllocError> {
-    let alloc = adviser.alloc;
     let bean = text_of(alloc, &bean)?;
     let (bean, point_name) = (bean.as_str(), point.name.as_str());
     match point.qualifiers.as_slice().get(wanted) {
@@ -346,7 +320,7 @@ fn help_for_qualifier<B: Bodies>(
 }
 
 /// What to write where no bean has a type.
-fn help_for_type<B: Bodies>(adviser: &Adviser<'_, B>, wanted: &Name) -> Result<String, AllocError> {
+fn help_for_type(adviser: &Adviser<'_>, wanted: &Name) -> Result<String, AllocError> {
     let alloc = adviser.alloc;
     let name = wanted.as_str();
     if name != "Object" && adviser.decls.get(Kind::Type, wanted).is_none() {
@@ -367,7 +341,7 @@ fn help_for_type<B: Bodies>(adviser: &Adviser<'_, B>, wanted: &Name) -> Result<S
 }
 
 /// The first declared class that is a type, or extends or implements it, and has no bean.
-fn class_of_type<B: Bodies>(adviser: &Adviser<'_, B>, wanted: &Name) -> Option<Name> {
+fn class_of_type(adviser: &Adviser<'_>, wanted: &Name) -> Option<Name> {
     for decl in adviser.decls.iter() {
         if let Decl::Type(class) = decl {
             if class.form == Form::Class

@@ -5,10 +5,11 @@ ghost use Rattle.cdi_intercept.specs.Lent.{lent_in};
 
 use crate::adviser::Adviser;
 use crate::words::{filled, text_of};
-use cdi_bodies::Bodies;
 use cdi_effective::{BeanId, Effective};
 use cdi_intercept::{around_any, in_order};
-use cdi_model::{BeanDecl, Decl, Ident, InterceptorDecl, Kind, Name, PointDecl, Scope, Work};
+use cdi_model::{
+    BeanDecl, Decl, Decls, Ident, InterceptorDecl, Kind, Name, PointDecl, Scope, Work,
+};
 use cdi_resolve::Choice;
 use cdi_ways::{Edge, circle_through};
 use std::alloc::{AllocError, Global};
@@ -56,9 +57,9 @@ impl Needs {
     }
 
     /// Adds what is chosen for a point, where it is a dependent bean.
-    fn push_point<B: Bodies>(
+    fn push_point(
         &mut self,
-        adviser: &Adviser<'_, B>,
+        adviser: &Adviser<'_>,
         from: usize,
         point: &PointDecl,
         link: Link,
@@ -79,9 +80,9 @@ impl Needs {
     }
 
     /// Adds what a managed bean needs. The interceptors are all that are enabled, in order.
-    fn push_managed<B: Bodies>(
+    fn push_managed(
         &mut self,
-        adviser: &Adviser<'_, B>,
+        adviser: &Adviser<'_>,
         from: usize,
         record: &Effective,
         bean: &BeanDecl,
@@ -103,9 +104,9 @@ impl Needs {
     }
 
     /// Adds what the product of a producer method needs.
-    fn push_product<B: Bodies>(
+    fn push_product(
         &mut self,
-        adviser: &Adviser<'_, B>,
+        adviser: &Adviser<'_>,
         from: usize,
         bean: &BeanDecl,
         producer: Ident,
@@ -131,7 +132,7 @@ impl Needs {
 }
 
 /// Whether the bean at a position of the bean list is an enabled dependent one.
-fn is_dependent_at<B: Bodies>(adviser: &Adviser<'_, B>, position: usize) -> bool {
+fn is_dependent_at(adviser: &Adviser<'_>, position: usize) -> bool {
     match adviser.record(Some(position)) {
         Some(bean) => is_dependent(bean),
         None => false,
@@ -143,7 +144,7 @@ fn is_dependent(bean: &Effective) -> bool {
 }
 
 /// What the dependent beans need.
-fn needs_of<B: Bodies>(adviser: &Adviser<'_, B>) -> Result<Needs, AllocError> {
+fn needs_of(adviser: &Adviser<'_>) -> Result<Needs, AllocError> {
     let alloc = adviser.alloc;
     let order = in_order(alloc, adviser.decls)?;
     let mut needs = Needs {
@@ -166,8 +167,8 @@ fn needs_of<B: Bodies>(adviser: &Adviser<'_, B>) -> Result<Needs, AllocError> {
 }
 
 /// The shortest way from a dependent bean back to itself, if there is one, as `Cart (point till) -> Till (point cart) -> Cart`.
-pub(crate) fn circle_of_needs<B: Bodies>(
-    adviser: &Adviser<'_, B>,
+pub(crate) fn circle_of_needs(
+    adviser: &Adviser<'_>,
     id: BeanId,
 ) -> Result<Option<String>, AllocError> {
     let alloc = adviser.alloc;
@@ -192,8 +193,8 @@ pub(crate) fn circle_of_needs<B: Bodies>(
 }
 
 /// The shortest way from a type, a stereotype or a binding type back to itself, if there is one, as `Corner -> Market -> Corner`.
-pub(crate) fn circle_of_names<B: Bodies>(
-    adviser: &Adviser<'_, B>,
+pub(crate) fn circle_of_names(
+    adviser: &Adviser<'_>,
     kind: Kind,
     name: Name,
 ) -> Result<Option<String>, AllocError> {
@@ -201,7 +202,7 @@ pub(crate) fn circle_of_names<B: Bodies>(
     let Some(start) = adviser.decls.position(kind, &name) else {
         return Ok(None);
     };
-    let edges = edges_of_names(adviser, kind)?;
+    let edges = edges_of_names(alloc, adviser.decls, kind)?;
     let Some(way) = circle_through(alloc, &edges, start)? else {
         return Ok(None);
     };
@@ -218,26 +219,35 @@ pub(crate) fn circle_of_names<B: Bodies>(
 }
 
 /// The edges between declarations of a kind, by their positions.
-fn edges_of_names<B: Bodies>(
-    adviser: &Adviser<'_, B>,
-    kind: Kind,
-) -> Result<Vec<Edge>, AllocError> {
-    let mut edges = Vec::new(adviser.alloc);
-    for (from, decl) in adviser.decls.iter().enumerate() {
+fn edges_of_names(alloc: Global, decls: &Decls, kind: Kind) -> Result<Vec<Edge>, AllocError> {
+    let mut edges = Vec::new(alloc);
+    for (from, decl) in decls.iter().enumerate() {
         if decl.kind() == kind {
-            for name in next_names(adviser, decl)? {
-                if let Some(to) = adviser.decls.position(kind, &name) {
-                    edges.push(Edge { from, to })?;
-                }
-            }
+            push_edges(alloc, decls, from, decl, &mut edges)?;
         }
     }
     Ok(edges)
 }
 
+/// Appends the edges from a declaration at a position.
+fn push_edges(
+    alloc: Global,
+    decls: &Decls,
+    from: usize,
+    decl: &Decl,
+    edges: &mut Vec<Edge>,
+) -> Result<(), AllocError> {
+    for name in next_names(alloc, decl)? {
+        if let Some(to) = decls.position(decl.kind(), &name) {
+            edges.push(Edge { from, to })?;
+        }
+    }
+    Ok(())
+}
+
 /// The names to which a declaration leads.
-fn next_names<B: Bodies>(adviser: &Adviser<'_, B>, decl: &Decl) -> Result<Vec<Name>, AllocError> {
-    let mut names = Vec::new(adviser.alloc);
+fn next_names(alloc: Global, decl: &Decl) -> Result<Vec<Name>, AllocError> {
+    let mut names = Vec::new(alloc);
     match decl {
         Decl::Type(decl) => {
             if let Some(name) = decl.extends {

@@ -2,24 +2,20 @@
 use crate::advice::Advice;
 use crate::adviser::{Adviser, Part};
 use crate::words::text_of;
-use cdi_bodies::Bodies;
 use cdi_explain::nearest_name;
 use cdi_faults::Subject;
-use cdi_model::{Kind, Name};
-use std::alloc::AllocError;
+use cdi_model::{Decls, Kind, Name};
+use std::alloc::{AllocError, Global};
 
 /// A name is written that is neither declared nor built in.
-pub(crate) fn unknown<B: Bodies>(
-    adviser: &Adviser<'_, B>,
-    part: Part<'_>,
-) -> Result<Advice, AllocError> {
+pub(crate) fn unknown(adviser: &Adviser<'_>, part: Part<'_>) -> Result<Advice, AllocError> {
     let (kind, name) = match part.subject {
         Subject::Type(name) => (Kind::Type, *name),
         Subject::Used(kind, name) => (kind.declared_as(), *name),
         Subject::Stereotype(name) => (Kind::Stereotype, *name),
         _ => return adviser.see(),
     };
-    let declared = declared_names(adviser, kind)?;
+    let declared = declared_names(adviser.alloc, adviser.decls, kind)?;
     let near = nearest_name(adviser.alloc, name, declared.as_slice())?;
     let kind = text_of(adviser.alloc, &kind)?;
     let kind = kind.as_str();
@@ -36,12 +32,9 @@ pub(crate) fn unknown<B: Bodies>(
 }
 
 /// The declared names of a kind.
-fn declared_names<B: Bodies>(
-    adviser: &Adviser<'_, B>,
-    kind: Kind,
-) -> Result<Vec<Name>, AllocError> {
-    let mut names = Vec::new(adviser.alloc);
-    for decl in adviser.decls.iter() {
+fn declared_names(alloc: Global, decls: &Decls, kind: Kind) -> Result<Vec<Name>, AllocError> {
+    let mut names = Vec::new(alloc);
+    for decl in decls.iter() {
         if decl.kind() == kind {
             names.push(*decl.name())?;
         }

@@ -3,13 +3,12 @@ use crate::advice::{Advice, Candidate};
 use crate::adviser::Adviser;
 use crate::verdicts::text_of_verdict;
 use crate::words::filled;
-use cdi_bodies::Bodies;
 use cdi_explain::{Verdict, verdicts_on_name};
 use cdi_model::Name;
 use std::alloc::AllocError;
 
 /// Several beans have a name, and none of them is chosen for it.
-pub(crate) fn clash<B: Bodies>(adviser: &Adviser<'_, B>, name: Name) -> Result<Advice, AllocError> {
+pub(crate) fn clash(adviser: &Adviser<'_>, name: Name) -> Result<Advice, AllocError> {
     let alloc = adviser.alloc;
     let beans = adviser.beans.as_slice();
     let mut candidates = Vec::new(alloc);
@@ -37,8 +36,8 @@ pub(crate) fn clash<B: Bodies>(adviser: &Adviser<'_, B>, name: Name) -> Result<A
 }
 
 /// The name of a bean is that of another, a dot and a name.
-pub(crate) fn prefix<B: Bodies>(
-    adviser: &Adviser<'_, B>,
+pub(crate) fn prefix(
+    adviser: &Adviser<'_>,
     name: Name,
     longer: Name,
 ) -> Result<Advice, AllocError> {
@@ -53,7 +52,7 @@ pub(crate) fn prefix<B: Bodies>(
 }
 
 /// The enabled beans that have one of some names.
-fn of_names<B: Bodies>(adviser: &Adviser<'_, B>, names: &[Name]) -> Result<Advice, AllocError> {
+fn of_names(adviser: &Adviser<'_>, names: &[Name]) -> Result<Advice, AllocError> {
     let alloc = adviser.alloc;
     let mut candidates = Vec::new(alloc);
     let mut others = 0usize;

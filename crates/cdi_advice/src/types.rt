@@ -3,17 +3,13 @@ use crate::advice::Advice;
 use crate::adviser::{Adviser, Part};
 use crate::circles::circle_of_names;
 use crate::words::listed;
-use cdi_bodies::Bodies;
 use cdi_faults::Subject;
 use cdi_match::closure;
 use cdi_model::{Decl, Form, Ident, Name};
 use std::alloc::AllocError;
 
 /// A type, a stereotype or a binding type reaches itself.
-pub(crate) fn cycle<B: Bodies>(
-    adviser: &Adviser<'_, B>,
-    part: Part<'_>,
-) -> Result<Advice, AllocError> {
+pub(crate) fn cycle(adviser: &Adviser<'_>, part: Part<'_>) -> Result<Advice, AllocError> {
     let name = part.decl.name();
     let keys = match part.decl {
         Decl::Type(_) => "extends and implements",
@@ -29,10 +25,7 @@ pub(crate) fn cycle<B: Bodies>(
 }
 
 /// A class is named where an interface is needed, or the other way round.
-pub(crate) fn bad_kind<B: Bodies>(
-    adviser: &Adviser<'_, B>,
-    part: Part<'_>,
-) -> Result<Advice, AllocError> {
+pub(crate) fn bad_kind(adviser: &Adviser<'_>, part: Part<'_>) -> Result<Advice, AllocError> {
     let name = part.decl.name().as_str();
     match part.subject {
         Subject::Extends(other) if is_interface(part.decl) => adviser.help(
@@ -62,10 +55,7 @@ fn is_interface(decl: &Decl) -> bool {
 }
 
 /// A bean is restricted to a type that it does not have.
-pub(crate) fn typed<B: Bodies>(
-    adviser: &Adviser<'_, B>,
-    part: Part<'_>,
-) -> Result<Advice, AllocError> {
+pub(crate) fn typed(adviser: &Adviser<'_>, part: Part<'_>) -> Result<Advice, AllocError> {
     let alloc = adviser.alloc;
     let Subject::Typed { producer, name } = part.subject else {
         return adviser.see();

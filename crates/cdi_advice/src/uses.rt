@@ -2,17 +2,13 @@
 use crate::advice::Advice;
 use crate::adviser::{Adviser, Part};
 use crate::words::{filled, listed, text_of};
-use cdi_bodies::Bodies;
 use cdi_faults::Subject;
 use cdi_intercept::bindings_at;
-use cdi_model::{BeanPlace, Decl, Error, MemberDecl, PartPlace, Qual, Seq, UseKind};
+use cdi_model::{BeanPlace, Decl, Error, MemberDecl, Name, PartPlace, Qual, Seq, UseKind};
 use std::alloc::{AllocError, Global};
 
 /// Two bindings of one type differ.
-pub(crate) fn conflict<B: Bodies>(
-    adviser: &Adviser<'_, B>,
-    part: Part<'_>,
-) -> Result<Advice, AllocError> {
+pub(crate) fn conflict(adviser: &Adviser<'_>, part: Part<'_>) -> Result<Advice, AllocError> {
     let alloc = adviser.alloc;
     let place = match part.subject {
         Subject::Part(PartPlace::Method(name)) => BeanPlace::Method(*name),
@@ -38,18 +34,26 @@ pub(crate) fn conflict<B: Bodies>(
 fn repeated_of(alloc: Global, uses: &[Qual]) -> Result<Vec<&Qual>, AllocError> {
     let mut repeated = Vec::new(alloc);
     for one in uses {
-        if uses.iter().filter(|other| other.name == one.name).count() > 1 {
+        if count_of(uses, &one.name) > 1 {
             repeated.push(one)?;
         }
     }
     Ok(repeated)
 }
 
+/// How many of some uses have a name.
+fn count_of(uses: &[Qual], name: &Name) -> usize {
+    let mut count = 0usize;
+    for one in uses {
+        if one.name == *name {
+            count = count.saturating_add(1);
+        }
+    }
+    count
+}
+
 /// A use does not fit its declaration.
-pub(crate) fn member<B: Bodies>(
-    adviser: &Adviser<'_, B>,
-    part: Part<'_>,
-) -> Result<Advice, AllocError> {
+pub(crate) fn member(adviser: &Adviser<'_>, part: Part<'_>) -> Result<Advice, AllocError> {
     let alloc = adviser.alloc;
     let Subject::Use(kind, qual) = part.subject else {
         return adviser.see();
@@ -81,11 +85,7 @@ fn text_of_member(alloc: Global, member: &MemberDecl) -> Result<String, AllocErr
 }
 
 /// The members of what is used.
-fn members_of<'a, B: Bodies>(
-    adviser: &Adviser<'a, B>,
-    kind: UseKind,
-    part: Part<'_>,
-) -> &'a [MemberDecl] {
+fn members_of<'a>(adviser: &Adviser<'a>, kind: UseKind, part: Part<'_>) -> &'a [MemberDecl] {
     let Subject::Use(_, qual) = part.subject else {
         return &[];
     };

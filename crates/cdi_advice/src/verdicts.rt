@@ -1,22 +1,21 @@
 //! Verdicts in words.
 use crate::adviser::Adviser;
 use crate::words::{filled, listed, text_of};
-use cdi_bodies::Bodies;
 use cdi_effective::Effective;
 use cdi_explain::{Disabled, Verdict, replacer_of};
 use cdi_model::Qual;
-use std::alloc::AllocError;
+use std::alloc::{AllocError, Global};
 
 /// A verdict on a bean in words, where these qualifiers are wanted.
-pub(crate) fn text_of_verdict<B: Bodies>(
-    adviser: &Adviser<'_, B>,
+pub(crate) fn text_of_verdict(
+    adviser: &Adviser<'_>,
     bean: &Effective,
     verdict: Verdict,
     quals: &[Qual],
 ) -> Result<String, AllocError> {
     let words = match verdict {
         Verdict::LacksQualifier { wanted, has } => {
-            return text_of_lacking(adviser, bean, quals.get(wanted), has);
+            return text_of_lacking(adviser.alloc, bean, quals.get(wanted), has);
         }
         Verdict::Disabled(why) => return text_of_disabled(adviser, bean, why),
         Verdict::Chosen => "is chosen",
@@ -30,13 +29,12 @@ pub(crate) fn text_of_verdict<B: Bodies>(
 }
 
 /// Which qualifier a bean lacks, and what it has in its place. None is written where `Default` is wanted.
-fn text_of_lacking<B: Bodies>(
-    adviser: &Adviser<'_, B>,
+fn text_of_lacking(
+    alloc: Global,
     bean: &Effective,
     wanted: Option<&Qual>,
     has: Option<usize>,
 ) -> Result<String, AllocError> {
-    let alloc = adviser.alloc;
     let Some(wanted) = wanted else {
         let quals = listed(alloc, bean.qualifiers.as_slice())?;
         return filled(
@@ -65,8 +63,8 @@ fn qualifier_at(bean: &Effective, position: Option<usize>) -> Option<&Qual> {
 }
 
 /// Why a bean is disabled.
-fn text_of_disabled<B: Bodies>(
-    adviser: &Adviser<'_, B>,
+fn text_of_disabled(
+    adviser: &Adviser<'_>,
     bean: &Effective,
     why: Disabled,
 ) -> Result<String, AllocError> {

@@ -75,19 +75,29 @@ impl Assembly {
         script: &[u8],
     ) -> Result<(), AllocError> {
         for step in steps_of(self.alloc, script)? {
-            let Step {
-                line,
-                edit_lines,
-                command,
-            } = step;
-            let begin = Begin { source, line };
-            match command {
-                Command::Edit(edit) => self.make(container, begin, edit)?,
-                Command::Batch(edits) => self.make_batch(container, begin, edit_lines, edits)?,
-                _ => self.refuse(begin, Refusal::BadCommand)?,
-            }
+            self.take_step(container, source, step)?;
         }
         Ok(())
+    }
+
+    /// Carries out a command, if it is an edit or a batch.
+    fn take_step<B: Bodies>(
+        &mut self,
+        container: &mut Container<B>,
+        source: usize,
+        step: Step,
+    ) -> Result<(), AllocError> {
+        let Step {
+            line,
+            edit_lines,
+            command,
+        } = step;
+        let begin = Begin { source, line };
+        match command {
+            Command::Edit(edit) => self.make(container, begin, edit),
+            Command::Batch(edits) => self.make_batch(container, begin, &edit_lines, edits),
+            _ => self.refuse(begin, Refusal::BadCommand),
+        }
     }
 
     /// Makes an edit.
@@ -144,21 +154,34 @@ impl Assembly {
         &mut self,
         container: &mut Container<B>,
         begin: Begin,
-        edit_lines: Vec<usize>,
+        edit_lines: &[usize],
         edits: Seq<Edit>,
     ) -> Result<(), AllocError> {
         let edits = edits.into_vec();
-        let changes = changes_of(self.alloc, begin, &edit_lines, &edits)?;
+        let changes = changes_of(self.alloc, begin, edit_lines, &edits)?;
         match container.batch(edits) {
             Ok(()) => self.note_changes(begin.source, &changes),
             Err(BatchError::OutOfMemory) => Err(AllocError),
-            Err(BatchError::Refused { refusal, edit }) => match change_at(changes, edit) {
-                Some(Change::IsRefused(problem)) => {
-                    self.problems.push(problem)?;
-                    Ok(())
-                }
-                _ => self.refuse(begin_of_edit(begin, &edit_lines, edit), refusal),
-            },
+            Err(BatchError::Refused { refusal, edit }) => {
+                let begin = begin_of_edit(begin, edit_lines, edit);
+                self.refuse_edit(begin, refusal, change_at(changes, edit))
+            }
+        }
+    }
+
+    /// Notes that a batch is refused for an edit, or for itself.
+    fn refuse_edit(
+        &mut self,
+        begin: Begin,
+        refusal: Refusal,
+        change: Option<Change>,
+    ) -> Result<(), AllocError> {
+        match change {
+            Some(Change::IsRefused(problem)) => {
+                self.problems.push(problem)?;
+                Ok(())
+            }
+            _ => self.refuse(begin, refusal),
         }
     }
 

@@ -67,9 +67,9 @@ pub fn findings_of_faults<'a, B: Bodies>(
             alloc,
             decls: container.present(),
             beans: &beans,
-            book: container.book(),
             body_names: telling.body_names,
         },
+        book: container.book(),
         telling,
     };
     teller.findings(faults.as_slice())
@@ -87,7 +87,8 @@ fn is_told(telling: Telling<'_>, fault: &Fault) -> bool
 struct Teller<'a, 'b, C> {
     alloc: Global,
     files: Files<'a>,
-    adviser: Adviser<'b, C>,
+    adviser: Adviser<'b>,
+    book: &'b C,
     telling: Telling<'b>,
 }
 
@@ -113,7 +114,7 @@ impl<'a, C: Bodies> Teller<'a, '_, C> {
         let beans = self.adviser.beans.as_slice();
         let mut finding = Finding::fault(alloc, self.files.of_fault(fault, beans), fault)?;
         if self.telling.explains {
-            let advice = self.adviser.advise(fault)?;
+            let advice = self.adviser.advise(self.book, fault)?;
             finding.reasons = Some(self.files.reasons(alloc, advice)?);
         }
         Ok(finding)

@@ -3,12 +3,14 @@
 #![tactic(auto)]
 
 mod assembly;
+mod declaring;
 mod findings;
 mod origins;
 mod problem;
 mod steps;
 
 pub use assembly::{Assembly, assemble};
+pub use declaring::declare;
 pub use findings::{Files, Telling, findings_of_faults, findings_of_problems};
 pub use origins::Origins;
 pub use problem::{Problem, Refused, Repeated};

@@ -1,5 +1,6 @@
 //! The command line.
-use clap::{Arg, ArgAction, Command, Error};
+use cdi_command_line::{flag, paths, paths_of, valued};
+use clap::{Arg, Command, Error};
 use std::alloc::{AllocError, Global};
 
 /// How findings are printed.
@@ -27,53 +28,37 @@ Any other file is a script of put blocks, drops and batches.
 
 Status: 0 no problem, 1 problems, 2 bad arguments, 3 a path cannot be read, 4 out of memory";
 
-fn command<'a>(alloc: Global) -> Result<Command<'a>, AllocError> {
-    let explain = Arg::new(alloc, "explain")
-        .long("explain")
-        .action(ArgAction::SetTrue)
-        .help("Says of each fault which beans were considered, and what to write");
-    let format = Arg::new(alloc, "format")
-        .long("format")
-        .action(ArgAction::Set)
-        .value_name("FORMAT")
+/// The option for the form of what is printed.
+fn format<'a>(alloc: Global) -> Arg<'a> {
+    valued(alloc, "format", "FORMAT", "How findings are printed")
         .value_parser(["text", "json"].as_slice())
         .default_value("text")
-        .help("How findings are printed");
-    let bodies = Arg::new(alloc, "bodies")
-        .long("bodies")
-        .action(ArgAction::Set)
-        .value_name("FILE")
-        .help("A TOML file that lists the stored bodies, as count = [\"LOAD\", \"STORE\"]");
-    let any = Arg::new(alloc, "any-body")
-        .long("any-body")
-        .action(ArgAction::SetTrue)
-        .conflicts_with("bodies")?
-        .help("Takes any name of a stored body");
-    let paths = Arg::new(alloc, "path")
-        .action(ArgAction::Append)
-        .required(true)
-        .num_args(1..)
-        .value_name("PATH")
-        .help("A folder, a declaration (*.toml), or a script");
+}
+
+fn command<'a>(alloc: Global) -> Result<Command<'a>, AllocError> {
+    let any_body = flag(alloc, "any-body", "Takes any name of a stored body");
     Command::new(alloc, "container_check")
         .about("Checks the deployment that some files declare, and tells all that is wrong with it")
         .after_help(EXAMPLE)
-        .arg(explain)?
-        .arg(format)?
-        .arg(bodies)?
-        .arg(any)?
-        .arg(paths)
+        .arg(flag(
+            alloc,
+            "explain",
+            "Says of each fault which beans were considered, and what to write",
+        ))?
+        .arg(format(alloc))?
+        .arg(valued(
+            alloc,
+            "bodies",
+            "FILE",
+            "A TOML file that lists the stored bodies, as count = [\"LOAD\", \"STORE\"]",
+        ))?
+        .arg(any_body.conflicts_with("bodies")?)?
+        .arg(paths(alloc))
 }
 
 /// What the words say, or `clap`'s error.
 pub(crate) fn options<'a>(alloc: Global, words: &'a [String]) -> Result<CommandLine<'a>, Error> {
     let matches = command(alloc)?.try_get_matches_from(words)?;
-    let mut paths = Vec::new(alloc);
-    if let Some(given) = matches.get_strs("path") {
-        for path in given {
-            paths.push(*path)?;
-        }
-    }
     let format = match matches.get_str("format") {
         Some("json") => Format::Json,
         _ => Format::Text,
@@ -83,6 +68,6 @@ pub(crate) fn options<'a>(alloc: Global, words: &'a [String]) -> Result<CommandL
         format,
         bodies: matches.get_str("bodies"),
         takes_any_body: matches.get_flag("any-body"),
-        paths,
+        paths: paths_of(alloc, &matches)?,
     })
 }

@@ -3,31 +3,21 @@ use crate::bodies::{BodiesError, ListedBodies, names_of_stock, read_bodies};
 use crate::options::{CommandLine, Format, options};
 use cdi_assembly::{Files, Problem, Telling, assemble, findings_of_faults, findings_of_problems};
 use cdi_bodies::Bodies;
+use cdi_command_line::{Ending, ending_of_words, write_out};
 use cdi_container::Container;
 use cdi_findings::{Finding, json_of, text_of};
 use cdi_model::Ident;
-use cdi_sources::{Ending, Source, read_sources};
+use cdi_sources::{Source, read_sources};
 use cdi_stock::StockBodies;
-use clap::error::ErrorKind;
 use std::alloc::{AllocError, Global};
-use std::io::Write;
-use std::{fs, io};
+use std::fs;
 
 /// Runs the program on these words, the program's name first. It prints what it finds, and answers the status: 0 without
 /// problems, and 1 with some. Any other status is that of an `Ending`.
 pub fn run(rt: &HostRuntime, words: &[String]) -> Result<u8, Ending> {
     match options(rt.alloc(), words) {
         Ok(options) => check(rt, &options),
-        Err(error) => {
-            if error.kind() == ErrorKind::OutOfMemory {
-                return Err(Ending::OutOfMemory);
-            }
-            error.print(rt)?;
-            if error.kind() == ErrorKind::DisplayHelp {
-                return Ok(0);
-            }
-            Err(Ending::Words)
-        }
+        Err(error) => ending_of_words(rt, error),
     }
 }
 
@@ -130,8 +120,6 @@ fn print(
     if options.format == Format::Json {
         text.push_str("\n")?;
     }
-    let mut output = io::writer(rt);
-    output.write_all(text.as_bytes())?;
-    output.flush()?;
+    write_out(rt, text.as_str())?;
     Ok(u8::from(!findings.is_empty()))
 }

@@ -27,6 +27,9 @@ or_none false = refl
 
 -- ---- one fault
 
+nothing-else : {X : Type 0} (p : PointId) → None ≡ Some p → X
+nothing-else p h = cc
+
 this-exact : (p : PointId) (o : Option PointId) → is_this p o ≡ true → o ≡ Some p
 this-exact p None h = absurd (false≢true h)
 this-exact p (Some q) h = ap Some ((same_point-decides q p).0 h)
@@ -37,19 +40,19 @@ declared-exact : (code : Code) (kind : Kind) (name : List ℕ) (s : Subject) (p 
 declared-exact code kind name (subjects.Point place point) p h =
     ap (λ (q : PointId). faults.Declared code q.owner.kind q.owner.name (subjects.Point q.place q.name))
     (same_Some (record { owner = key_at kind name; place = place; name = point }) p h)
-declared-exact code kind name other p h = cc
+declared-exact code kind name other p h = nothing-else p h
 
 unsatisfied-exact : (p : PointId) (f : Fault) → unsatisfied_at f ≡ Some p
     → f ≡ faults.Declared codes.Unsatisfied p.owner.kind p.owner.name (subjects.Point p.place p.name)
 unsatisfied-exact p (faults.Declared codes.Unsatisfied kind name s) h = declared-exact codes.Unsatisfied kind name s p h
-unsatisfied-exact p (faults.Declared code kind name s) h = cc
-unsatisfied-exact p other h = cc
+unsatisfied-exact p (faults.Declared code kind name s) h = nothing-else p h
+unsatisfied-exact p other h = nothing-else p h
 
 ambiguous-exact : (p : PointId) (f : Fault) → ambiguous_at f ≡ Some p
     → f ≡ faults.Declared codes.Ambiguous p.owner.kind p.owner.name (subjects.Point p.place p.name)
 ambiguous-exact p (faults.Declared codes.Ambiguous kind name s) h = declared-exact codes.Ambiguous kind name s p h
-ambiguous-exact p (faults.Declared code kind name s) h = cc
-ambiguous-exact p other h = cc
+ambiguous-exact p (faults.Declared code kind name s) h = nothing-else p h
+ambiguous-exact p other h = nothing-else p h
 
 -- ---- among some faults
 

@@ -1,9 +1,11 @@
 //! The part of a graph around a bean.
 ghost use Rattle.std.specs.Prelude.{◌≡◌, ◌&&◌, filter, IfOk};
+ghost use Rattle.std.specs.List.{list_any};
 ghost use Rattle.indexmap.specs.IndexSet.{contains};
 ghost use Rattle.cdi_graph.specs.Around.{same_node, IsPart};
 ghost use Rattle.cdi_graph.specs.Edges.{from, to};
 ghost use Rattle.cdi_graph.specs.Nodes.{id_of_node};
+ghost use Rattle.cdi_graph.specs.declared.node.NodeId.TheVariants as ids;
 
 use crate::edge::Edge;
 use crate::graph::Graph;
@@ -16,6 +18,16 @@ use std::alloc::{AllocError, Global};
 type Beside = IndexMap<NodeId, Vec<NodeId>>;
 
 impl Graph {
+    /// Whether a bean is among its nodes.
+    pub fn has_bean(&self, bean: BeanId) -> bool
+        ensures { result ≡ list_any (λ n. same_node (id_of_node n) (ids.Bean bean)) self.now.nodes.items }
+    {
+        self.nodes
+            .as_slice()
+            .iter()
+            .any(|node| node.id() == NodeId::Bean(bean))
+    }
+
     /// The nodes near a bean, and the edges between them: what so many steps reach from the bean. Two edges count as one step,
     /// along them or against them. So a step leads over a point to the bean that is chosen for it. It takes memory for the edges,
     /// and time near the size of the graph.

@@ -144,9 +144,10 @@ struct Firing {
 
 /// The bean or the interceptor that a declaration declares.
 fn declared(owner: &Decl) -> NodeId {
-    match owner {
-        Decl::Interceptor(interceptor) => NodeId::Interceptor(interceptor.name),
-        _ => managed(*owner.name()),
+    let name = *owner.name();
+    match owner.kind() {
+        Kind::Interceptor => NodeId::Interceptor(name),
+        _ => managed(name),
     }
 }
 

@@ -12,7 +12,7 @@ use crate::node::{BeanNode, EventNode, Node, PointId, PointNode};
 use crate::plan::{Fired, Plan, Wire};
 use crate::red::Red;
 use cdi_effective::Effective;
-use cdi_model::{Decl, Name};
+use cdi_model::{Decl, Kind, Name};
 use indexmap::IndexSet;
 use std::alloc::{AllocError, Global};
 
@@ -138,8 +138,8 @@ fn interceptors(alloc: Global, plan: &Plan<'_>) -> Result<IndexSet<Name>, AllocE
 
 /// Adds the name of a declaration if it is that of an interceptor.
 fn add_if_interceptor(decl: &Decl, names: &mut IndexSet<Name>) -> Result<(), AllocError> {
-    if let Decl::Interceptor(interceptor) = decl {
-        names.insert(interceptor.name)?;
+    if decl.kind() == Kind::Interceptor {
+        names.insert(*decl.name())?;
     }
     Ok(())
 }

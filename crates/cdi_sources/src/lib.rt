@@ -1,10 +1,8 @@
 //! The files that the words of a command line name, with what is in them: texts of declarations, and scripts.
 #![tactic(auto)]
 
-mod ending;
 mod read;
 mod source;
 
-pub use ending::{Ending, status_of, words};
 pub use read::{PathError, Readings, read_sources};
 pub use source::{Form, Source};

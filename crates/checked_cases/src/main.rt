@@ -3,7 +3,7 @@
 #![tactic(auto)]
 
 use cdi_checker::run;
-use cdi_sources::{Ending, status_of, words};
+use cdi_command_line::{Ending, status_of, words};
 use std::alloc::{AllocError, Global};
 use std::fs;
 use std::process::ExitCode;

@@ -2,7 +2,7 @@
 #![tactic(auto)]
 
 use cdi_checker::run;
-use cdi_sources::{Ending, status_of, words};
+use cdi_command_line::{Ending, status_of, words};
 use std::process::ExitCode;
 
 fn main(rt: HostRuntime) -> ExitCode {

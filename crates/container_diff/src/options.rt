@@ -1,5 +1,6 @@
 //! The command line.
-use clap::{Arg, ArgAction, Command, Error};
+use cdi_command_line::path;
+use clap::{Command, Error};
 use std::alloc::{AllocError, Global};
 
 /// What the words say.
@@ -28,21 +29,16 @@ What is refused or repeated is told on the standard error, and left out.
 Status: 0 nothing differs, 1 something differs, 2 bad arguments, 3 a path cannot be read, 4 out of memory";
 
 fn command<'a>(alloc: Global) -> Result<Command<'a>, AllocError> {
-    let before = Arg::new(alloc, "before")
-        .action(ArgAction::Set)
-        .required(true)
-        .value_name("BEFORE")
-        .help("The deployment before the change");
-    let after = Arg::new(alloc, "after")
-        .action(ArgAction::Set)
-        .required(true)
-        .value_name("AFTER")
-        .help("The deployment after the change");
     Command::new(alloc, "container_diff")
         .about("Tells what a change does to the wiring of a deployment")
         .after_help(EXAMPLE)
-        .arg(before)?
-        .arg(after)
+        .arg(path(
+            alloc,
+            "before",
+            "BEFORE",
+            "The deployment before the change",
+        ))?
+        .arg(path(alloc, "after", "AFTER", "The deployment after the change"))
 }
 
 /// What the words say, or `clap`'s error.

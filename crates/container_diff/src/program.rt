@@ -1,16 +1,13 @@
 //! A run of the program.
 use crate::options::{CommandLine, options};
 use crate::passage::bring;
-use cdi_assembly::{assemble, findings_of_problems};
+use cdi_assembly::declare;
+use cdi_command_line::{Ending, ending_of_words, status_of, words, write_out};
 use cdi_container::Container;
 use cdi_differences::{Difference, differences, wiring_of};
-use cdi_findings::text_of;
-use cdi_sources::{Ending, Readings, Source, read_sources, status_of, words};
+use cdi_sources::{Readings, read_sources};
 use cdi_stock::StockBodies;
-use clap::error::ErrorKind;
 use std::alloc::{AllocError, Global};
-use std::io;
-use std::io::Write;
 
 /// Runs the program on the words that the system gives, and answers its status.
 pub(crate) fn run(rt: &HostRuntime) -> u8 {
@@ -21,16 +18,7 @@ fn run_words(rt: &HostRuntime) -> Result<u8, Ending> {
     let words = words(rt)?;
     match options(rt.alloc(), words.as_slice()) {
         Ok(options) => compare(rt, options),
-        Err(error) => {
-            if error.kind() == ErrorKind::OutOfMemory {
-                return Err(Ending::OutOfMemory);
-            }
-            error.print(rt)?;
-            if error.kind() == ErrorKind::DisplayHelp {
-                return Ok(0);
-            }
-            Err(Ending::Words)
-        }
+        Err(error) => ending_of_words(rt, error),
     }
 }
 
@@ -43,9 +31,7 @@ fn compare(rt: &HostRuntime, options: CommandLine<'_>) -> Result<u8, Ending> {
         return Err(Ending::Unreadable);
     }
     let text = text_of_change(rt, &before, &after)?;
-    let mut output = io::writer(rt);
-    output.write_all(text.as_bytes())?;
-    output.flush()?;
+    write_out(rt, text.as_str())?;
     Ok(u8::from(!text.is_empty()))
 }
 
@@ -56,12 +42,22 @@ fn text_of_change(
     after: &Readings,
 ) -> Result<String, AllocError> {
     let mut container = Container::new(rt.alloc(), StockBodies);
-    let mut wanted = Container::new(rt.alloc(), StockBodies);
-    text_between(rt, &mut container, &mut wanted, before, after)
+    text_from(rt, &mut container, before, after)
 }
 
-/// The same in two empty containers. One goes from the declarations before to those after, so that it asks anew only what the
-/// change touches. The other one finds which declarations are accepted after it.
+/// The same in an empty container. It goes from the declarations before to those after, so that it asks anew only what the change
+/// touches.
+fn text_from(
+    rt: &HostRuntime,
+    container: &mut Container<StockBodies>,
+    before: &Readings,
+    after: &Readings,
+) -> Result<String, AllocError> {
+    let mut wanted = Container::new(rt.alloc(), StockBodies);
+    text_between(rt, container, &mut wanted, before, after)
+}
+
+/// The same with another empty container, which finds the declarations that are accepted after the change.
 fn text_between(
     rt: &HostRuntime,
     container: &mut Container<StockBodies>,
@@ -76,20 +72,6 @@ fn text_between(
     let is_brought = bring(alloc, container, wanted, after.sources.as_slice())?;
     let new = wiring_of(alloc, if is_brought { container } else { wanted })?;
     text_of_differences(alloc, differences(alloc, &old, &new)?.as_slice())
-}
-
-/// Declares what some files declare. What is refused or repeated is told on the standard error.
-fn declare(
-    rt: &HostRuntime,
-    container: &mut Container<StockBodies>,
-    sources: &[Source],
-) -> Result<(), AllocError> {
-    let alloc = rt.alloc();
-    let assembly = assemble(alloc, container, sources)?;
-    let findings = findings_of_problems(alloc, sources, &assembly.problems)?;
-    let text = text_of(alloc, findings.as_slice())?;
-    let _ = eprint!(rt; "{text}");
-    Ok(())
 }
 
 /// Differences as lines, in order.

@@ -1,12 +1,11 @@
 //! The program: draws the wiring of the deployment that some files declare, as DOT text for graphviz.
 #![tactic(auto)]
 
-mod asking;
 mod options;
 mod program;
 
 use crate::program::draw;
-use cdi_sources::status_of;
+use cdi_command_line::status_of;
 use std::process::ExitCode;
 
 fn main(rt: HostRuntime) -> ExitCode {

@@ -1,5 +1,6 @@
 //! The command line.
-use clap::{Arg, ArgAction, Command, Error, value_parser};
+use cdi_command_line::{flag, paths, paths_of, valued};
+use clap::{Arg, Command, Error, value_parser};
 use std::alloc::{AllocError, Global};
 
 /// What the words say.
@@ -24,33 +25,14 @@ const EXAMPLE: &str =
 Beans are boxes, and disabled ones dashed. An edge leads from a bean to the bean that is chosen
 for an injection point of it. Points without a bean are red.";
 
-/// A flag.
-fn flag<'a>(alloc: Global, name: &'a str, help: &'a str) -> Arg<'a> {
-    Arg::new(alloc, name)
-        .long(name)
-        .action(ArgAction::SetTrue)
-        .help(help)
+/// The option for how much is shown around a bean.
+fn depth<'a>(alloc: Global) -> Arg<'a> {
+    valued(alloc, "depth", "N", "How many beans away from it")
+        .value_parser(value_parser!(u16))
+        .default_value("1")
 }
 
 fn graph_command<'a>(alloc: Global) -> Result<Command<'a>, AllocError> {
-    let around = Arg::new(alloc, "around")
-        .long("around")
-        .action(ArgAction::Set)
-        .value_name("BEAN")
-        .help("Shows what is near to a bean alone");
-    let depth = Arg::new(alloc, "depth")
-        .long("depth")
-        .action(ArgAction::Set)
-        .value_name("N")
-        .value_parser(value_parser!(u16))
-        .default_value("1")
-        .help("How many beans away from it");
-    let paths = Arg::new(alloc, "path")
-        .action(ArgAction::Append)
-        .required(true)
-        .num_args(1..)
-        .value_name("PATH")
-        .help("A folder, a declaration (*.toml), or a script");
     Command::new(alloc, "container_graph")
         .about(
             "Draws the wiring of the deployment that some files declare, as DOT text for graphviz",
@@ -63,20 +45,19 @@ fn graph_command<'a>(alloc: Global) -> Result<Command<'a>, AllocError> {
             "events",
             "Shows the events that bodies may fire, and their observers",
         ))?
-        .arg(around)?
-        .arg(depth)?
-        .arg(paths)
+        .arg(valued(
+            alloc,
+            "around",
+            "BEAN",
+            "Shows what is near to a bean alone",
+        ))?
+        .arg(depth(alloc))?
+        .arg(paths(alloc))
 }
 
 /// What the words say, or `clap`'s error.
 pub(crate) fn options<'a>(alloc: Global, words: &'a [String]) -> Result<CommandLine<'a>, Error> {
     let matches = graph_command(alloc)?.try_get_matches_from(words)?;
-    let mut paths = Vec::new(alloc);
-    if let Some(given) = matches.get_strs("path") {
-        for path in given {
-            paths.push(*path)?;
-        }
-    }
     let depth = matches.get_one::<u16>("depth").unwrap_or(1);
     Ok(CommandLine {
         has_points: matches.get_flag("points"),
@@ -84,6 +65,6 @@ pub(crate) fn options<'a>(alloc: Global, words: &'a [String]) -> Result<CommandL
         has_events: matches.get_flag("events"),
         around: matches.get_str("around"),
         depth: usize::from(depth),
-        paths,
+        paths: paths_of(alloc, &matches)?,
     })
 }

@@ -1,5 +1,8 @@
 //! How a program ends that cannot do what its words ask for.
+use clap::Error;
+use clap::error::ErrorKind;
 use std::alloc::AllocError;
+use std::io::Write;
 use std::{env, io};
 
 /// Why a program ends before it is done.
@@ -49,6 +52,26 @@ pub fn words(rt: &HostRuntime) -> Result<Vec<String>, Ending> {
             Err(Ending::Words)
         }
     }
+}
+
+/// How a program ends whose words are no command line, or ask for help. Why, or the help, is printed, unless memory ran out.
+pub fn ending_of_words(rt: &HostRuntime, error: Error) -> Result<u8, Ending> {
+    if error.kind() == ErrorKind::OutOfMemory {
+        return Err(Ending::OutOfMemory);
+    }
+    error.print(rt)?;
+    if error.kind() == ErrorKind::DisplayHelp {
+        return Ok(0);
+    }
+    Err(Ending::Words)
+}
+
+/// Writes a text to the standard output.
+pub fn write_out(rt: &HostRuntime, text: &str) -> Result<(), Ending> {
+    let mut output = io::writer(rt);
+    output.write_all(text.as_bytes())?;
+    output.flush()?;
+    Ok(())
 }
 
 /// The status of a program with this ending; that it is out of memory is told on the standard error.

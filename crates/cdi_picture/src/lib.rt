@@ -1,0 +1,8 @@
+//! The graph of what a container declares.
+#![tactic(auto)]
+
+mod asking;
+mod picture;
+mod wires;
+
+pub use picture::picture_of;
