@@ -6,6 +6,7 @@ mod assembly;
 mod declaring;
 mod findings;
 mod origins;
+mod passage;
 mod problem;
 mod steps;
 
@@ -13,5 +14,5 @@ pub use assembly::{Assembly, assemble};
 pub use declaring::declare;
 pub use findings::{Files, Telling, findings_of_faults, findings_of_problems};
 pub use origins::Origins;
+pub use passage::bring;
 pub use problem::{Problem, Refused, Repeated};
-pub use steps::{Step, steps_of};

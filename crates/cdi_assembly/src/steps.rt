@@ -10,16 +10,16 @@ use std::mem;
 
 /// A command of a script.
 #[derive(Debug, Drop)]
-pub struct Step {
+pub(crate) struct Step {
     /// The line at which it begins, from 1.
-    pub line: usize,
+    pub(crate) line: usize,
     /// Of a batch, the lines at which its edits begin.
-    pub edit_lines: Vec<usize>,
-    pub command: Command,
+    pub(crate) edit_lines: Vec<usize>,
+    pub(crate) command: Command,
 }
 
 /// The commands that a script spells, in order. It takes memory for all of them.
-pub fn steps_of(alloc: Global, script: &[u8]) -> Result<Vec<Step>, AllocError> {
+pub(crate) fn steps_of(alloc: Global, script: &[u8]) -> Result<Vec<Step>, AllocError> {
     let mut reading = Reading::new(alloc);
     let mut rest = script;
     while let Some((line, after)) = split_line(rest) {

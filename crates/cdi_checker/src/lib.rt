@@ -2,7 +2,6 @@
 #![tactic(auto)]
 
 mod bodies;
-mod options;
 mod program;
 
 pub use program::run;

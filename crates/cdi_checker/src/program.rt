@@ -1,9 +1,8 @@
 //! A run of the program.
 use crate::bodies::{BodiesError, ListedBodies, names_of_stock, read_bodies};
-use crate::options::{CommandLine, Format, options};
 use cdi_assembly::{Files, Problem, Telling, assemble, findings_of_faults, findings_of_problems};
 use cdi_bodies::Bodies;
-use cdi_command_line::{Ending, ending_of_words, write_out};
+use cdi_command_line::{CheckLine, Ending, Format, check_line, write_out};
 use cdi_container::Container;
 use cdi_findings::{Finding, json_of, text_of};
 use cdi_model::Ident;
@@ -15,20 +14,20 @@ use std::fs;
 /// Runs the program on these words, the program's name first. It prints what it finds, and answers the status: 0 without
 /// problems, and 1 with some. Any other status is that of an `Ending`.
 pub fn run(rt: &HostRuntime, words: &[String]) -> Result<u8, Ending> {
-    match options(rt.alloc(), words) {
-        Ok(options) => check(rt, &options),
-        Err(error) => ending_of_words(rt, error),
+    match check_line(rt, words)? {
+        Some(line) => check(rt, &line),
+        None => Ok(0),
     }
 }
 
-/// Checks with the bodies that the options name.
-fn check(rt: &HostRuntime, options: &CommandLine<'_>) -> Result<u8, Ending> {
-    let Some(path) = options.bodies else {
+/// Checks with the bodies that the words name.
+fn check(rt: &HostRuntime, line: &CheckLine<'_>) -> Result<u8, Ending> {
+    let Some(path) = line.bodies else {
         let names = names_of_stock(rt.alloc())?;
-        return check_with(rt, options, StockBodies, names.as_slice());
+        return check_with(rt, line, StockBodies, names.as_slice());
     };
     let ListedBodies { book, names } = bodies_of_file(rt, path)?;
-    check_with(rt, options, book, names.as_slice())
+    check_with(rt, line, book, names.as_slice())
 }
 
 /// The bodies that a file lists. Why there are none is told on the standard error.
@@ -55,23 +54,23 @@ fn bodies_of_file(rt: &HostRuntime, path: &str) -> Result<ListedBodies, Ending> 
 /// Checks what the paths declare, with a book of these names.
 fn check_with<B: Bodies + Drop>(
     rt: &HostRuntime,
-    options: &CommandLine<'_>,
+    line: &CheckLine<'_>,
     book: B,
     body_names: &[Ident],
 ) -> Result<u8, Ending> {
     let mut container = Container::new(rt.alloc(), book);
-    check_in(rt, options, &mut container, body_names)
+    check_in(rt, line, &mut container, body_names)
 }
 
 /// Checks what the paths declare in an empty container.
 fn check_in<B: Bodies>(
     rt: &HostRuntime,
-    options: &CommandLine<'_>,
+    line: &CheckLine<'_>,
     container: &mut Container<B>,
     body_names: &[Ident],
 ) -> Result<u8, Ending> {
     let alloc = rt.alloc();
-    let readings = read_sources(rt, options.paths.as_slice())?;
+    let readings = read_sources(rt, line.paths.as_slice())?;
     let sources = readings.sources.as_slice();
     let assembly = assemble(alloc, container, sources)?;
     let files = Files {
@@ -79,13 +78,13 @@ fn check_in<B: Bodies>(
         origins: &assembly.origins,
     };
     let telling = Telling {
-        explains: options.explains,
-        takes_any_body: options.takes_any_body,
+        explains: line.explains,
+        takes_any_body: line.takes_any_body,
         body_names,
     };
     let faults = findings_of_faults(alloc, container, files, telling)?;
     let findings = with_problems(alloc, sources, &assembly.problems, faults)?;
-    let status = print(rt, options, findings)?;
+    let status = print(rt, line, findings)?;
     if !readings.tell_failed(rt) {
         return Err(Ending::Unreadable);
     }
@@ -97,27 +96,21 @@ fn with_problems<'a>(
     alloc: Global,
     sources: &'a [Source],
     problems: &[Problem],
-    faults: Vec<Finding<'a>>,
+    mut faults: Vec<Finding<'a>>,
 ) -> Result<Vec<Finding<'a>>, AllocError> {
     let mut findings = findings_of_problems(alloc, sources, problems)?;
-    for fault in faults {
-        findings.push(fault)?;
-    }
+    findings.append(&mut faults)?;
     Ok(findings)
 }
 
 /// Prints findings, and answers the status.
-fn print(
-    rt: &HostRuntime,
-    options: &CommandLine<'_>,
-    findings: Vec<Finding<'_>>,
-) -> Result<u8, Ending> {
+fn print(rt: &HostRuntime, line: &CheckLine<'_>, findings: Vec<Finding<'_>>) -> Result<u8, Ending> {
     let alloc = rt.alloc();
-    let mut text = match options.format {
+    let mut text = match line.format {
         Format::Text => text_of(alloc, findings.as_slice())?,
         Format::Json => json_of(alloc, &findings)?,
     };
-    if options.format == Format::Json {
+    if line.format == Format::Json {
         text.push_str("\n")?;
     }
     write_out(rt, text.as_str())?;

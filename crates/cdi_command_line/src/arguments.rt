@@ -3,7 +3,7 @@ use clap::{Arg, ArgAction, ArgMatches};
 use std::alloc::{AllocError, Global};
 
 /// An option without a value.
-pub fn flag<'a>(alloc: Global, name: &'a str, help: &'a str) -> Arg<'a> {
+pub(crate) fn flag<'a>(alloc: Global, name: &'a str, help: &'a str) -> Arg<'a> {
     Arg::new(alloc, name)
         .long(name)
         .action(ArgAction::SetTrue)
@@ -11,7 +11,12 @@ pub fn flag<'a>(alloc: Global, name: &'a str, help: &'a str) -> Arg<'a> {
 }
 
 /// An option with a value, which its help calls by this name.
-pub fn valued<'a>(alloc: Global, name: &'a str, value_name: &'a str, help: &'a str) -> Arg<'a> {
+pub(crate) fn valued<'a>(
+    alloc: Global,
+    name: &'a str,
+    value_name: &'a str,
+    help: &'a str,
+) -> Arg<'a> {
     Arg::new(alloc, name)
         .long(name)
         .action(ArgAction::Set)
@@ -19,8 +24,18 @@ pub fn valued<'a>(alloc: Global, name: &'a str, value_name: &'a str, help: &'a s
         .help(help)
 }
 
+/// The same, with the value that it has where it is left out.
+pub(crate) fn with_default<'a>(argument: Arg<'a>, value: &'a str) -> Arg<'a> {
+    argument.default_value(value)
+}
+
 /// A path that has to be given.
-pub fn path<'a>(alloc: Global, name: &'a str, value_name: &'a str, help: &'a str) -> Arg<'a> {
+pub(crate) fn path<'a>(
+    alloc: Global,
+    name: &'a str,
+    value_name: &'a str,
+    help: &'a str,
+) -> Arg<'a> {
     Arg::new(alloc, name)
         .action(ArgAction::Set)
         .required(true)
@@ -29,7 +44,7 @@ pub fn path<'a>(alloc: Global, name: &'a str, value_name: &'a str, help: &'a str
 }
 
 /// The paths of a deployment, of which one has to be given.
-pub fn paths<'a>(alloc: Global) -> Arg<'a> {
+pub(crate) fn paths<'a>(alloc: Global) -> Arg<'a> {
     Arg::new(alloc, "path")
         .action(ArgAction::Append)
         .required(true)
@@ -39,7 +54,10 @@ pub fn paths<'a>(alloc: Global) -> Arg<'a> {
 }
 
 /// The paths of a deployment that were given, in order.
-pub fn paths_of<'a>(alloc: Global, matches: &ArgMatches<'a>) -> Result<Vec<&'a str>, AllocError> {
+pub(crate) fn paths_of<'a>(
+    alloc: Global,
+    matches: &ArgMatches<'a>,
+) -> Result<Vec<&'a str>, AllocError> {
     let mut paths = Vec::new(alloc);
     if let Some(given) = matches.get_strs("path") {
         for path in given {

@@ -54,14 +54,22 @@ pub fn words(rt: &HostRuntime) -> Result<Vec<String>, Ending> {
     }
 }
 
-/// How a program ends whose words are no command line, or ask for help. Why, or the help, is printed, unless memory ran out.
-pub fn ending_of_words(rt: &HostRuntime, error: Error) -> Result<u8, Ending> {
+/// What the words of a program say. None where they ask for help, which is printed. Why they say nothing is told on the standard
+/// error.
+pub(crate) fn told<T: Drop>(
+    rt: &HostRuntime,
+    parsed: Result<T, Error>,
+) -> Result<Option<T>, Ending> {
+    let error = match parsed {
+        Ok(line) => return Ok(Some(line)),
+        Err(error) => error,
+    };
     if error.kind() == ErrorKind::OutOfMemory {
         return Err(Ending::OutOfMemory);
     }
     error.print(rt)?;
     if error.kind() == ErrorKind::DisplayHelp {
-        return Ok(0);
+        return Ok(None);
     }
     Err(Ending::Words)
 }

@@ -1,8 +1,6 @@
 //! The program: what a change does to the wiring of a deployment.
 #![tactic(auto)]
 
-mod options;
-mod passage;
 mod program;
 
 use crate::program::run;

@@ -1,8 +1,6 @@
 //! A run of the program.
-use crate::options::{CommandLine, options};
-use crate::passage::bring;
-use cdi_assembly::declare;
-use cdi_command_line::{Ending, ending_of_words, status_of, words, write_out};
+use cdi_assembly::{bring, declare};
+use cdi_command_line::{DiffLine, Ending, diff_line, status_of, words, write_out};
 use cdi_container::Container;
 use cdi_differences::{Difference, differences, wiring_of};
 use cdi_sources::{Readings, read_sources};
@@ -16,16 +14,16 @@ pub(crate) fn run(rt: &HostRuntime) -> u8 {
 
 fn run_words(rt: &HostRuntime) -> Result<u8, Ending> {
     let words = words(rt)?;
-    match options(rt.alloc(), words.as_slice()) {
-        Ok(options) => compare(rt, options),
-        Err(error) => ending_of_words(rt, error),
+    match diff_line(rt, words.as_slice())? {
+        Some(line) => compare(rt, line),
+        None => Ok(0),
     }
 }
 
 /// Compares the deployments at two paths, prints what differs, and answers the status.
-fn compare(rt: &HostRuntime, options: CommandLine<'_>) -> Result<u8, Ending> {
-    let before = read_sources(rt, &[options.before])?;
-    let after = read_sources(rt, &[options.after])?;
+fn compare(rt: &HostRuntime, line: DiffLine<'_>) -> Result<u8, Ending> {
+    let before = read_sources(rt, &[line.before])?;
+    let after = read_sources(rt, &[line.after])?;
     let (is_before_read, is_after_read) = (before.tell_failed(rt), after.tell_failed(rt));
     if !is_before_read || !is_after_read {
         return Err(Ending::Unreadable);

@@ -1,7 +1,6 @@
 //! The program: draws the wiring of the deployment that some files declare, as DOT text for graphviz.
 #![tactic(auto)]
 
-mod options;
 mod program;
 
 use crate::program::draw;

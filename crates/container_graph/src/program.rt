@@ -1,7 +1,6 @@
 //! A run of the program.
-use crate::options::{CommandLine, options};
 use cdi_assembly::declare;
-use cdi_command_line::{Ending, ending_of_words, words, write_out};
+use cdi_command_line::{Ending, GraphLine, graph_line, words, write_out};
 use cdi_container::{BeanId, Container, Ident, Name};
 use cdi_graph::Graph;
 use cdi_picture::picture_of;
@@ -13,17 +12,17 @@ use std::alloc::AllocError;
 /// an `Ending`.
 pub(crate) fn draw(rt: &HostRuntime) -> Result<u8, Ending> {
     let words = words(rt)?;
-    match options(rt.alloc(), words.as_slice()) {
-        Ok(options) => draw_paths(rt, &options),
-        Err(error) => ending_of_words(rt, error),
+    match graph_line(rt, words.as_slice())? {
+        Some(line) => draw_paths(rt, &line),
+        None => Ok(0),
     }
 }
 
 /// Draws what the paths declare. What is refused is told on the standard error, and left out.
-fn draw_paths(rt: &HostRuntime, options: &CommandLine<'_>) -> Result<u8, Ending> {
-    let readings = read_sources(rt, options.paths.as_slice())?;
+fn draw_paths(rt: &HostRuntime, line: &GraphLine<'_>) -> Result<u8, Ending> {
+    let readings = read_sources(rt, line.paths.as_slice())?;
     let wiring = wiring_of(rt, readings.sources.as_slice())?;
-    let text = part_of(rt, options, wiring.graph)?.dot(rt.alloc(), options.has_points)?;
+    let text = part_of(rt, line, wiring.graph)?.dot(rt.alloc(), line.has_points)?;
     write_out(rt, text.as_str())?;
     if !readings.tell_failed(rt) {
         return Err(Ending::Unreadable);
@@ -55,20 +54,20 @@ fn wiring_in(
     Ok(Wiring { graph, is_whole })
 }
 
-/// The part of a graph that the options ask for.
-fn part_of(rt: &HostRuntime, options: &CommandLine<'_>, whole: Graph) -> Result<Graph, Ending> {
-    let graph = if options.has_chains {
+/// The part of a graph that the words ask for.
+fn part_of(rt: &HostRuntime, line: &GraphLine<'_>, whole: Graph) -> Result<Graph, Ending> {
+    let graph = if line.has_chains {
         whole
     } else {
         whole.without_chains()
     };
-    let graph = if options.has_events {
+    let graph = if line.has_events {
         graph
     } else {
         graph.without_events()
     };
-    match options.around {
-        Some(text) => around(rt, text, options.depth, graph),
+    match line.around {
+        Some(text) => around(rt, text, line.depth, graph),
         None => Ok(graph),
     }
 }

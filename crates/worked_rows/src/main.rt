@@ -1,10 +1,12 @@
 //! The program: runs the worked rows of the files that its words name through the container, and compares what each
-//! prints with what the row wants. It prints one line for each file.
+//! prints with what the row wants. It prints one line for each file. Of a file that ends in `.cases` it runs each line as a command
+//! line of `container_check`, and prints what that prints.
 //!
 //! A row is a fenced block of a Markdown page whose info string begins with the word `script`. `data/README.md` has the
 //! format, and what stands where.
 #![tactic(auto)]
 
+mod cases;
 mod comparison;
 mod counted;
 mod difference;
@@ -12,6 +14,7 @@ mod for_ever;
 mod markdown;
 mod rows;
 
+use cases::run_cases;
 use comparison::check_page;
 use std::process::ExitCode;
 use std::{env, fs, io};
@@ -23,7 +26,7 @@ fn main(rt: HostRuntime) -> ExitCode {
     }
 }
 
-/// Whether each file that the words name has rows, and each of them prints what it wants.
+/// Whether each file that the words name has rows, and each of them prints what it wants, or is one of cases.
 fn check_files(rt: &HostRuntime) -> io::Result<bool> {
     let mut all_well = true;
     for file in env::args(rt)?.skip(1) {
@@ -34,8 +37,15 @@ fn check_files(rt: &HostRuntime) -> io::Result<bool> {
     Ok(all_well)
 }
 
-/// Whether a file has rows, and each of them prints what it wants. Prints their number or the first difference.
 fn check_file(rt: &HostRuntime, file: &str) -> io::Result<bool> {
+    if file.ends_with(".cases") {
+        return run_cases(rt, file);
+    }
+    check_rows(rt, file)
+}
+
+/// Whether a file has rows, and each of them prints what it wants. Prints their number or the first difference.
+fn check_rows(rt: &HostRuntime, file: &str) -> io::Result<bool> {
     let Ok(text) = fs::read_to_string(rt, file) else {
         println!(rt; "{file}: it cannot be read")?;
         return Ok(false);

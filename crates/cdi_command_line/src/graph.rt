@@ -1,22 +1,23 @@
-//! The command line.
-use cdi_command_line::{flag, paths, paths_of, valued};
+//! The command line of `container_graph`.
+use crate::arguments::{flag, paths, paths_of, valued, with_default};
+use crate::ending::{Ending, told};
 use clap::{Arg, Command, Error, value_parser};
 use std::alloc::{AllocError, Global};
 
 /// What the words say.
 #[derive(Debug, Drop)]
-pub(crate) struct CommandLine<'a> {
+pub struct GraphLine<'a> {
     /// Whether each injection point is a node of its own.
-    pub(crate) has_points: bool,
+    pub has_points: bool,
     /// Whether interceptors are shown.
-    pub(crate) has_chains: bool,
+    pub has_chains: bool,
     /// Whether events are shown.
-    pub(crate) has_events: bool,
+    pub has_events: bool,
     /// The bean around which the wiring is shown, as its class or as its class, a slash and its producer method.
-    pub(crate) around: Option<&'a str>,
+    pub around: Option<&'a str>,
     /// How many steps around it.
-    pub(crate) depth: usize,
-    pub(crate) paths: Vec<&'a str>,
+    pub depth: usize,
+    pub paths: Vec<&'a str>,
 }
 
 const EXAMPLE: &str =
@@ -26,13 +27,12 @@ Beans are boxes, and disabled ones dashed. An edge leads from a bean to the bean
 for an injection point of it. Points without a bean are red.";
 
 /// The option for how much is shown around a bean.
-fn depth<'a>(alloc: Global) -> Arg<'a> {
-    valued(alloc, "depth", "N", "How many beans away from it")
-        .value_parser(value_parser!(u16))
-        .default_value("1")
+fn depth_argument<'a>(alloc: Global) -> Arg<'a> {
+    let depth = valued(alloc, "depth", "N", "How many beans away from it");
+    with_default(depth.value_parser(value_parser!(u16)), "1")
 }
 
-fn graph_command<'a>(alloc: Global) -> Result<Command<'a>, AllocError> {
+fn command<'a>(alloc: Global) -> Result<Command<'a>, AllocError> {
     Command::new(alloc, "container_graph")
         .about(
             "Draws the wiring of the deployment that some files declare, as DOT text for graphviz",
@@ -51,15 +51,22 @@ fn graph_command<'a>(alloc: Global) -> Result<Command<'a>, AllocError> {
             "BEAN",
             "Shows what is near to a bean alone",
         ))?
-        .arg(depth(alloc))?
+        .arg(depth_argument(alloc))?
         .arg(paths(alloc))
 }
 
-/// What the words say, or `clap`'s error.
-pub(crate) fn options<'a>(alloc: Global, words: &'a [String]) -> Result<CommandLine<'a>, Error> {
-    let matches = graph_command(alloc)?.try_get_matches_from(words)?;
+/// What the words say, as `check_line` does.
+pub fn graph_line<'a>(
+    rt: &HostRuntime,
+    words: &'a [String],
+) -> Result<Option<GraphLine<'a>>, Ending> {
+    told(rt, parsed(rt.alloc(), words))
+}
+
+fn parsed<'a>(alloc: Global, words: &'a [String]) -> Result<GraphLine<'a>, Error> {
+    let matches = command(alloc)?.try_get_matches_from(words)?;
     let depth = matches.get_one::<u16>("depth").unwrap_or(1);
-    Ok(CommandLine {
+    Ok(GraphLine {
         has_points: matches.get_flag("points"),
         has_chains: matches.get_flag("chains"),
         has_events: matches.get_flag("events"),

@@ -1,10 +1,10 @@
 //! How a container is brought to the declarations of another.
 
-use cdi_assembly::steps_of;
+use crate::steps::steps_of;
 use cdi_container::{BATCH_LIMIT, BatchError, Bodies, Command, Container, Edit, Error, read_decl};
 use cdi_model::{Decl, DeclKey, Decls};
 use cdi_sources::{Form, Source};
-use indexmap::{IndexMap, IndexSet};
+use indexmap::IndexMap;
 use std::alloc::{AllocError, Global};
 use std::mem;
 
@@ -17,7 +17,7 @@ type Pool = IndexMap<String, Decl>;
 /// A put appends a declaration, or replaces one where it stands. So what stays is the longest beginning of the wanted list that
 /// the container has in this order. The rest is removed first, and then what is wanted is put: in its place where it stays but
 /// is another, and at the end what comes after.
-pub(crate) fn bring<B: Bodies, C: Bodies>(
+pub fn bring<B: Bodies, C: Bodies>(
     alloc: Global,
     container: &mut Container<B>,
     wanted: &Container<C>,
@@ -95,54 +95,63 @@ fn edits_between(
     wanted: &Decls,
     pool: &mut Pool,
 ) -> Result<Option<Vec<Edit>>, AllocError> {
-    let kept = kept_of(alloc, present, wanted)?;
+    let kept = count_kept(present, wanted);
     let mut edits = Vec::new(alloc);
     for decl in present.iter() {
-        let key = decl.key();
-        if !kept.contains(&key) {
-            let DeclKey { kind, name } = key;
+        if !is_kept(wanted, kept, decl) {
+            let DeclKey { kind, name } = decl.key();
             edits.push(Edit::Remove { kind, name })?;
         }
     }
-    for decl in wanted.iter() {
-        if kept.contains(&decl.key()) && is_same(alloc, present, decl)? {
+    for (position, decl) in wanted.iter().enumerate() {
+        if position < kept && is_same(alloc, present, decl)? {
             continue;
         }
-        let text = text_of(alloc, decl)?;
-        let Some(decl) = pool.swap_remove(text.as_str()) else {
+        let Some(put) = put_of(alloc, decl, pool)? else {
             return Ok(None);
         };
-        let decl = Box::new(alloc, decl)?;
-        edits.push(Edit::PutDecl { decl })?;
+        edits.push(put)?;
     }
     Ok(Some(edits))
 }
 
-/// The keys of the longest beginning of a wanted list that is present in its order.
-fn kept_of(
-    alloc: Global,
-    present: &Decls,
-    wanted: &Decls,
-) -> Result<IndexSet<DeclKey>, AllocError> {
-    let mut kept = IndexSet::new(alloc);
-    let mut next = 0;
+/// The edit that puts a declaration, which is taken from the pool. None where it is not there.
+fn put_of(alloc: Global, decl: &Decl, pool: &mut Pool) -> Result<Option<Edit>, AllocError> {
+    let text = text_of(alloc, decl)?;
+    let Some(decl) = pool.swap_remove(text.as_str()) else {
+        return Ok(None);
+    };
+    let decl = Box::new(alloc, decl)?;
+    Ok(Some(Edit::PutDecl { decl }))
+}
+
+/// How many declarations the longest beginning of a wanted list has that is present in its order.
+fn count_kept(present: &Decls, wanted: &Decls) -> usize {
+    let mut count = 0usize;
+    let mut next = 0usize;
     for decl in wanted.iter() {
-        let key = decl.key();
-        match present.position(key.kind, &key.name) {
+        match present.position(decl.kind(), decl.name()) {
             Some(position) if position >= next => {
                 next = position.saturating_add(1);
-                kept.insert(key)?;
+                count = count.saturating_add(1);
             }
             _ => break,
         }
     }
-    Ok(kept)
+    count
+}
+
+/// Whether a declaration is of a kind and name that one of the first of a wanted list has.
+fn is_kept(wanted: &Decls, kept: usize, decl: &Decl) -> bool {
+    match wanted.position(decl.kind(), decl.name()) {
+        Some(position) => position < kept,
+        None => false,
+    }
 }
 
 /// Whether a declaration is present as it is.
 fn is_same(alloc: Global, present: &Decls, decl: &Decl) -> Result<bool, AllocError> {
-    let key = decl.key();
-    let Some(old) = present.get(key.kind, &key.name) else {
+    let Some(old) = present.get(decl.kind(), decl.name()) else {
         return Ok(false);
     };
     let (old, new) = (text_of(alloc, old)?, text_of(alloc, decl)?);

@@ -1,24 +1,25 @@
-//! The command line.
-use cdi_command_line::{flag, paths, paths_of, valued};
+//! The command line of `container_check`.
+use crate::arguments::{flag, paths, paths_of, valued, with_default};
+use crate::ending::{Ending, told};
 use clap::{Arg, Command, Error};
 use std::alloc::{AllocError, Global};
 
 /// How findings are printed.
 #[derive(Clone, Copy, Debug, PartialEq, Eq)]
-pub(crate) enum Format {
+pub enum Format {
     Text,
     Json,
 }
 
 /// What the words say.
 #[derive(Debug, Drop)]
-pub(crate) struct CommandLine<'a> {
-    pub(crate) explains: bool,
-    pub(crate) format: Format,
+pub struct CheckLine<'a> {
+    pub explains: bool,
+    pub format: Format,
     /// The path of the file that lists the stored bodies.
-    pub(crate) bodies: Option<&'a str>,
-    pub(crate) takes_any_body: bool,
-    pub(crate) paths: Vec<&'a str>,
+    pub bodies: Option<&'a str>,
+    pub takes_any_body: bool,
+    pub paths: Vec<&'a str>,
 }
 
 const EXAMPLE: &str = "Example: container_check --explain examples/shop
@@ -29,10 +30,9 @@ Any other file is a script of put blocks, drops and batches.
 Status: 0 no problem, 1 problems, 2 bad arguments, 3 a path cannot be read, 4 out of memory";
 
 /// The option for the form of what is printed.
-fn format<'a>(alloc: Global) -> Arg<'a> {
-    valued(alloc, "format", "FORMAT", "How findings are printed")
-        .value_parser(["text", "json"].as_slice())
-        .default_value("text")
+fn format_argument<'a>(alloc: Global) -> Arg<'a> {
+    let format = valued(alloc, "format", "FORMAT", "How findings are printed");
+    with_default(format.value_parser(["text", "json"].as_slice()), "text")
 }
 
 fn command<'a>(alloc: Global) -> Result<Command<'a>, AllocError> {
@@ -45,7 +45,7 @@ fn command<'a>(alloc: Global) -> Result<Command<'a>, AllocError> {
             "explain",
             "Says of each fault which beans were considered, and what to write",
         ))?
-        .arg(format(alloc))?
+        .arg(format_argument(alloc))?
         .arg(valued(
             alloc,
             "bodies",
@@ -56,14 +56,22 @@ fn command<'a>(alloc: Global) -> Result<Command<'a>, AllocError> {
         .arg(paths(alloc))
 }
 
-/// What the words say, or `clap`'s error.
-pub(crate) fn options<'a>(alloc: Global, words: &'a [String]) -> Result<CommandLine<'a>, Error> {
+/// What the words say, the program's name first. None where they ask for help, which is printed. Why they say nothing is told on
+/// the standard error.
+pub fn check_line<'a>(
+    rt: &HostRuntime,
+    words: &'a [String],
+) -> Result<Option<CheckLine<'a>>, Ending> {
+    told(rt, parsed(rt.alloc(), words))
+}
+
+fn parsed<'a>(alloc: Global, words: &'a [String]) -> Result<CheckLine<'a>, Error> {
     let matches = command(alloc)?.try_get_matches_from(words)?;
     let format = match matches.get_str("format") {
         Some("json") => Format::Json,
         _ => Format::Text,
     };
-    Ok(CommandLine {
+    Ok(CheckLine {
         explains: matches.get_flag("explain"),
         format,
         bodies: matches.get_str("bodies"),

@@ -1,15 +1,16 @@
-//! The command line.
-use cdi_command_line::path;
+//! The command line of `container_diff`.
+use crate::arguments::path;
+use crate::ending::{Ending, told};
 use clap::{Command, Error};
 use std::alloc::{AllocError, Global};
 
 /// What the words say.
 #[derive(Clone, Copy, Debug)]
-pub(crate) struct CommandLine<'a> {
+pub struct DiffLine<'a> {
     /// The path of the deployment before the change.
-    pub(crate) before: &'a str,
+    pub before: &'a str,
     /// The path of the deployment after it.
-    pub(crate) after: &'a str,
+    pub after: &'a str,
 }
 
 const EXAMPLE: &str = "Example: container_diff main/shop branch/shop
@@ -41,10 +42,17 @@ fn command<'a>(alloc: Global) -> Result<Command<'a>, AllocError> {
         .arg(path(alloc, "after", "AFTER", "The deployment after the change"))
 }
 
-/// What the words say, or `clap`'s error.
-pub(crate) fn options<'a>(alloc: Global, words: &'a [String]) -> Result<CommandLine<'a>, Error> {
+/// What the words say, as `check_line` does.
+pub fn diff_line<'a>(
+    rt: &HostRuntime,
+    words: &'a [String],
+) -> Result<Option<DiffLine<'a>>, Ending> {
+    told(rt, parsed(rt.alloc(), words))
+}
+
+fn parsed<'a>(alloc: Global, words: &'a [String]) -> Result<DiffLine<'a>, Error> {
     let matches = command(alloc)?.try_get_matches_from(words)?;
-    Ok(CommandLine {
+    Ok(DiffLine {
         before: matches.get_str("before").unwrap_or(""),
         after: matches.get_str("after").unwrap_or(""),
     })
