@@ -1,4 +1,7 @@
 //! Putting a deployment together of files.
+ghost use Rattle.std.specs.Prelude.{◌≡◌, true, IfOk, OnOk};
+ghost use Rattle.std.specs.List.{list_all};
+ghost use Rattle.cdi_assembly.specs.Put.{is_declaration, put_source, put_sources, put_text, Settles};
 
 use crate::origins::Origins;
 use crate::problem::{Begin, Problem, Repeated};
@@ -25,7 +28,11 @@ pub fn assemble<B: Bodies>(
     alloc: Global,
     container: &mut Container<B>,
     sources: &[Source],
-) -> Result<Assembly, AllocError> {
+) -> Result<Assembly, AllocError>
+    ensures decls { IfOk result (λ a. list_all is_declaration sources.now ≡ true
+        → container.new.decls ≡ put_sources container.old.decls sources.now) }
+    ensures book { OnOk result (container.new.book ≡ container.old.book) }
+{
     let mut assembly = Assembly {
         alloc,
         origins: Origins::new(alloc),
@@ -53,7 +60,11 @@ impl Assembly {
         container: &mut Container<B>,
         position: usize,
         source: &Source,
-    ) -> Result<(), AllocError> {
+    ) -> Result<(), AllocError>
+        ensures decls { OnOk result (is_declaration source.now ≡ true
+            → container.new.decls ≡ put_source container.old.decls source.now) }
+        ensures book { OnOk result (container.new.book ≡ container.old.book) }
+    {
         let text = source.text.as_slice();
         match source.form {
             Form::Declaration => {
@@ -73,7 +84,9 @@ impl Assembly {
         container: &mut Container<B>,
         source: usize,
         script: &[u8],
-    ) -> Result<(), AllocError> {
+    ) -> Result<(), AllocError>
+        ensures { OnOk result (container.new.book ≡ container.old.book) }
+    {
         for step in steps_of(self.alloc, script)? {
             self.take_step(container, source, step)?;
         }
@@ -86,7 +99,9 @@ impl Assembly {
         container: &mut Container<B>,
         source: usize,
         step: Step,
-    ) -> Result<(), AllocError> {
+    ) -> Result<(), AllocError>
+        ensures { OnOk result (container.new.book ≡ container.old.book) }
+    {
         let Step {
             line,
             edit_lines,
@@ -106,7 +121,9 @@ impl Assembly {
         container: &mut Container<B>,
         begin: Begin,
         edit: Edit,
-    ) -> Result<(), AllocError> {
+    ) -> Result<(), AllocError>
+        ensures { OnOk result (container.new.book ≡ container.old.book) }
+    {
         match edit {
             Edit::Put { text } => self.put(container, begin, text.as_slice()),
             Edit::Remove { kind, name } => self.remove(container, begin, DeclKey { kind, name }),
@@ -120,7 +137,10 @@ impl Assembly {
         container: &mut Container<B>,
         begin: Begin,
         text: &[u8],
-    ) -> Result<(), AllocError> {
+    ) -> Result<(), AllocError>
+        ensures decls { OnOk result (container.new.decls ≡ put_text container.old.decls text.now) }
+        ensures book { OnOk result (container.new.book ≡ container.old.book) }
+    {
         match put_decl(self.alloc, container, text) {
             Ok(key) => self.note_put(begin.source, key),
             Err(Error::OutOfMemory) => Err(AllocError),
@@ -138,7 +158,9 @@ impl Assembly {
         container: &mut Container<B>,
         begin: Begin,
         key: DeclKey,
-    ) -> Result<(), AllocError> {
+    ) -> Result<(), AllocError>
+        ensures { OnOk result (container.new.book ≡ container.old.book) }
+    {
         match container.remove(key.kind, key.name) {
             Ok(()) => {
                 self.origins.remove(&key);
@@ -156,7 +178,9 @@ impl Assembly {
         begin: Begin,
         edit_lines: &[usize],
         edits: Seq<Edit>,
-    ) -> Result<(), AllocError> {
+    ) -> Result<(), AllocError>
+        ensures { OnOk result (container.new.book ≡ container.old.book) }
+    {
         let edits = edits.into_vec();
         let changes = changes_of(self.alloc, begin, edit_lines, &edits)?;
         match container.batch(edits) {
@@ -226,7 +250,10 @@ fn put_decl<B: Bodies>(
     alloc: Global,
     container: &mut Container<B>,
     text: &[u8],
-) -> Result<DeclKey, Error> {
+) -> Result<DeclKey, Error>
+    ensures decls { Settles result (container.new.decls ≡ put_text container.old.decls text.now) }
+    ensures book { container.new.book ≡ container.old.book }
+{
     let decl = read_decl(alloc, text)?;
     let key = decl.key();
     container.put_decl(decl)?;
