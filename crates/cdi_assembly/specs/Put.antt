@@ -1,5 +1,5 @@
 -- What the texts of declarations leave that are put one after another.
-use Rattle.std.specs.Prelude.{Bool, true, false, ℕ, List, fold, Result, Ok, Err}
+use Rattle.std.specs.Prelude.{◌≡◌, Bool, true, false, ℕ, ◌+◌, List, [], ◌∷◌, ◌++◌, flat_map, fold, Result, Ok, Err}
 use Rattle.cdi_model.specs.declared.decl.Decl.{Decl}
 use Rattle.cdi_model.specs.declared.edit.Edit.{Edit as Change}
 use Rattle.cdi_model.specs.declared.refusal.Error.{Error}
@@ -8,6 +8,8 @@ use Rattle.cdi_model.specs.declared.refusal.Refusal.{Refusal}
 use Rattle.cdi_model.specs.Edits.{edited_all}
 use Rattle.cdi_container.specs.Editing.{changes_in, put_of}
 use Rattle.cdi_container.specs.Seen.{answer_of_change}
+use Rattle.cdi_assembly.specs.declared.problem.Problem.{Problem}
+use Rattle.cdi_assembly.specs.declared.problem.Problem.TheVariants as problems
 use Rattle.cdi_sources.specs.declared.source.Form.{Form}
 use Rattle.cdi_sources.specs.declared.source.Form.TheVariants as forms
 use Rattle.cdi_sources.specs.declared.source.Source.{Source}
@@ -26,6 +28,10 @@ left_by_change ds asked = left_of (answer_of_change ds asked) ds (edited_all ds 
 abbrev pub put_text : List Decl → List ℕ → List Decl
 put_text ds text = left_by_change ds (put_of (decl_of text))
 
+-- why the text is refused on some declarations, if it is
+abbrev pub answer_to_text : List Decl → List ℕ → Result (Unit {0}) Refusal
+answer_to_text ds text = answer_of_change ds (put_of (decl_of text))
+
 abbrev pub is_declaration_form : Form → Bool
 is_declaration_form forms.Declaration = true
 is_declaration_form forms.Script = false
@@ -40,6 +46,39 @@ put_source ds source = put_text ds source.text.items
 -- the declarations after those of some files, in order
 abbrev pub put_sources : List Decl → List Source → List Decl
 put_sources ds sources = fold put_source ds sources
+
+-- ---- what is refused
+
+-- the position of a file, and why it is refused
+abbrev pub Refused : Type 0
+Refused = ℕ × Refusal
+
+-- where a file is refused that is answered so
+abbrev pub refused_as : ℕ → Result (Unit {0}) Refusal → List Refused
+refused_as position (Ok done) = []
+refused_as position (Err refusal) = (position, refusal) ∷ []
+
+-- those of some files that are put in order, of which the first has this position
+abbrev pub refused_from : ℕ → List Decl → List Source → List Refused
+refused_from position ds [] = []
+refused_from position ds (source ∷ rest) = refused_as position (answer_to_text ds source.text.items)
+    ++ refused_from (position + 1) (put_source ds source) rest
+
+-- what a problem tells of a refusal
+abbrev pub told_in : Problem → List Refused
+told_in (problems.Refused refused) = (refused.source, refused.refusal) ∷ []
+told_in (problems.Repeated repeated) = []
+
+abbrev pub told : List Problem → List Refused
+told list = flat_map told_in list
+
+-- ---- answers
+
+-- a put answers so, unless memory ran out
+abbrev pub AnswersPut : {X : Type 0} → Result X Error → Result (Unit {0}) Refusal → Type 0
+AnswersPut (Ok x) said = said ≡ Ok tt
+AnswersPut (Err errors.OutOfMemory) said = Unit {0}
+AnswersPut (Err (errors.Refused refusal)) said = said ≡ Err refusal
 
 -- so it is, unless memory ran out
 abbrev pub Settles : {X : Type 0} → Result X Error → Type 0 → Type 0

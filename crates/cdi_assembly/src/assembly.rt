@@ -1,7 +1,8 @@
 //! Putting a deployment together of files.
-ghost use Rattle.std.specs.Prelude.{◌≡◌, true, IfOk, OnOk};
+ghost use Rattle.std.specs.Prelude.{◌≡◌, ◌++◌, true, IfOk, OnOk};
 ghost use Rattle.std.specs.List.{list_all};
 ghost use Rattle.cdi_assembly.specs.Put.{is_declaration, put_source, put_sources, put_text, Settles};
+ghost use Rattle.cdi_assembly.specs.Put.{answer_to_text, refused_as, refused_from, told, AnswersPut};
 
 use crate::origins::Origins;
 use crate::problem::{Begin, Problem, Repeated};
@@ -31,6 +32,8 @@ pub fn assemble<B: Bodies>(
 ) -> Result<Assembly, AllocError>
     ensures decls { IfOk result (λ a. list_all is_declaration sources.now ≡ true
         → container.new.decls ≡ put_sources container.old.decls sources.now) }
+    ensures told { IfOk result (λ a. list_all is_declaration sources.now ≡ true
+        → told a.problems.items ≡ refused_from 0 container.old.decls sources.now) }
     ensures book { OnOk result (container.new.book ≡ container.old.book) }
 {
     let mut assembly = Assembly {
@@ -63,6 +66,8 @@ impl Assembly {
     ) -> Result<(), AllocError>
         ensures decls { OnOk result (is_declaration source.now ≡ true
             → container.new.decls ≡ put_source container.old.decls source.now) }
+        ensures told { OnOk result (is_declaration source.now ≡ true → told self.new.problems.items
+            ≡ told self.old.problems.items ++ refused_as position (answer_to_text container.old.decls source.now.text.items)) }
         ensures book { OnOk result (container.new.book ≡ container.old.book) }
     {
         let text = source.text.as_slice();
@@ -139,6 +144,8 @@ impl Assembly {
         text: &[u8],
     ) -> Result<(), AllocError>
         ensures decls { OnOk result (container.new.decls ≡ put_text container.old.decls text.now) }
+        ensures told { OnOk result (told self.new.problems.items
+            ≡ told self.old.problems.items ++ refused_as begin.source (answer_to_text container.old.decls text.now)) }
         ensures book { OnOk result (container.new.book ≡ container.old.book) }
     {
         match put_decl(self.alloc, container, text) {
@@ -210,7 +217,9 @@ impl Assembly {
     }
 
     /// Notes where a declaration is that was put.
-    fn note_put(&mut self, source: usize, key: DeclKey) -> Result<(), AllocError> {
+    fn note_put(&mut self, source: usize, key: DeclKey) -> Result<(), AllocError>
+        ensures { OnOk result (told self.new.problems.items ≡ told self.old.problems.items) }
+    {
         let DeclKey { kind, name } = key;
         match self.origins.insert(key, source)? {
             Some(before) if before != source => {
@@ -252,6 +261,7 @@ fn put_decl<B: Bodies>(
     text: &[u8],
 ) -> Result<DeclKey, Error>
     ensures decls { Settles result (container.new.decls ≡ put_text container.old.decls text.now) }
+    ensures answer { AnswersPut result (answer_to_text container.old.decls text.now) }
     ensures book { container.new.book ≡ container.old.book }
 {
     let decl = read_decl(alloc, text)?;

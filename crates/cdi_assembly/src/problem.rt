@@ -1,4 +1,6 @@
 //! What is refused or repeated where a deployment is put together.
+ghost use Rattle.std.specs.Prelude.{◌≡◌, [], ◌∷◌, IfOk};
+ghost use Rattle.cdi_assembly.specs.Put.{told_in};
 
 use cdi_container::{Kind, Name, Refusal, explain_refusal};
 use std::alloc::{AllocError, Global};
@@ -43,7 +45,9 @@ pub(crate) struct Begin {
 
 impl Begin {
     /// A refusal of the whole command.
-    pub(crate) fn refused(self, alloc: Global, refusal: Refusal) -> Problem {
+    pub(crate) fn refused(self, alloc: Global, refusal: Refusal) -> Problem
+        ensures { told_in result ≡ (self.source, refusal) ∷ [] }
+    {
         Problem::Refused(Refused {
             source: self.source,
             line: self.line_if_known(),
@@ -58,7 +62,9 @@ impl Begin {
         alloc: Global,
         text: &[u8],
         refusal: Refusal,
-    ) -> Result<Problem, AllocError> {
+    ) -> Result<Problem, AllocError>
+        ensures { IfOk result (λ problem. told_in problem ≡ (self.source, refusal) ∷ []) }
+    {
         let Some(explanation) = explain_refusal(alloc, text)? else {
             return Ok(self.refused(alloc, refusal));
         };

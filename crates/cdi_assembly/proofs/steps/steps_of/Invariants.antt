@@ -1,4 +1,4 @@
-use Rattle.std.proofs.Common.{ℕ, length}
+use Rattle.std.proofs.Common.{length}
 use Rattle.cdi_assembly.proofs.steps.steps_of.Given as goal
 
 abbrev pub decreases-loop-line : goal.decreases-loop-line
