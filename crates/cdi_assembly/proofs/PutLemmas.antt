@@ -6,17 +6,17 @@ use Rattle.std.proofs.lemmas.Bool.{false≢true}
 use Rattle.std.proofs.lemmas.List.Folds.{list_all_at}
 use Rattle.cdi_model.specs.declared.decl.Decl.{Decl}
 use Rattle.cdi_sources.specs.declared.source.Source.{Source}
-use Rattle.cdi_assembly.specs.Put.{answer_to_text, is_declaration, put_source, put_sources, refused_as, refused_from, Refused}
+use Rattle.cdi_assembly.specs.Put.{answer_to_text, is_declaration, left_by_source, left_by_sources, refused_as, refused_from, Refused}
 
-module _ (ds after : List Decl) (s : Source) (rest left : List Source) (put : after ≡ put_source ds s) (next : left ≡ s ∷ rest) where
-  pub one_put : (all : List Decl) → put_sources ds left ≡ all → put_sources after rest ≡ all
-  one_put all held = ap (λ d. put_sources d rest) put ∙ ap (put_sources ds) (sym next) ∙ held
+module _ (ds after : List Decl) (s : Source) (rest left : List Source) (put : after ≡ left_by_source ds s) (next : left ≡ s ∷ rest) where
+  pub one_put : (all : List Decl) → left_by_sources ds left ≡ all → left_by_sources after rest ≡ all
+  one_put all held = ap (λ d. left_by_sources d rest) put ∙ ap (left_by_sources ds) (sym next) ∙ held
 
   pub one_told : (position : ℕ) (told more all : List Refused) → more ≡ told ++ refused_as position (answer_to_text ds s.text.items)
       → told ++ refused_from position ds left ≡ all → more ++ refused_from (position + 1) after rest ≡ all
   one_told position told more all one held =
       ap₂ (λ list d. list ++ refused_from (position + 1) d rest) one put
-      ∙ append_assoc told (refused_as position (answer_to_text ds s.text.items)) (refused_from (position + 1) (put_source ds s) rest)
+      ∙ append_assoc told (refused_as position (answer_to_text ds s.text.items)) (refused_from (position + 1) (left_by_source ds s) rest)
       ∙ ap (λ files. told ++ refused_from position ds files) (sym next) ∙ held
 
 -- each of some declarations is one

@@ -1,12 +1,15 @@
--- What the texts of declarations leave that are put one after another.
+-- Which declarations some files leave, and which files are refused.
 use Rattle.std.specs.Prelude.{◌≡◌, Bool, true, false, ℕ, ◌+◌, List, [], ◌∷◌, ◌++◌, flat_map, fold, Result, Ok, Err}
 use Rattle.cdi_model.specs.declared.decl.Decl.{Decl}
-use Rattle.cdi_model.specs.declared.edit.Edit.{Edit as Change}
 use Rattle.cdi_model.specs.declared.refusal.Error.{Error}
 use Rattle.cdi_model.specs.declared.refusal.Error.TheVariants as errors
 use Rattle.cdi_model.specs.declared.refusal.Refusal.{Refusal}
-use Rattle.cdi_model.specs.Edits.{edited_all}
-use Rattle.cdi_container.specs.Editing.{changes_in, put_of}
+use Rattle.cdi_container.specs.Editing.{put_of}
+use Rattle.cdi_lines.specs.declared.command.Command.{Command}
+use Rattle.cdi_lines.specs.declared.command.Command.TheVariants.{Edit as EditCommand}
+use Rattle.cdi_lines.specs.declared.edit.Edit.TheVariants as edits
+use Rattle.cdi_script.specs.Commands.{commands}
+use Rattle.cdi_script.specs.Left.{left_by_all, left_by_change}
 use Rattle.cdi_container.specs.Seen.{answer_of_change}
 use Rattle.cdi_assembly.specs.declared.problem.Problem.{Problem}
 use Rattle.cdi_assembly.specs.declared.problem.Problem.TheVariants as problems
@@ -14,15 +17,6 @@ use Rattle.cdi_sources.specs.declared.source.Form.{Form}
 use Rattle.cdi_sources.specs.declared.source.Form.TheVariants as forms
 use Rattle.cdi_sources.specs.declared.source.Source.{Source}
 use Rattle.cdi_text.specs.Reading.{decl_of}
-
--- what is there after an edit with this answer, of what is there before and after an accepted one
-abbrev pub left_of : Result (Unit {0}) Refusal → List Decl → List Decl → List Decl
-left_of (Ok done) before after = after
-left_of (Err refusal) before after = before
-
--- what is there after a change was asked for, or none
-abbrev pub left_by_change : List Decl → Result Change Refusal → List Decl
-left_by_change ds asked = left_of (answer_of_change ds asked) ds (edited_all ds (changes_in asked))
 
 -- a text that is refused leaves all as it is
 abbrev pub put_text : List Decl → List ℕ → List Decl
@@ -40,12 +34,21 @@ is_declaration_form forms.Script = false
 abbrev pub is_declaration : Source → Bool
 is_declaration source = is_declaration_form source.form
 
-abbrev pub put_source : List Decl → Source → List Decl
-put_source ds source = put_text ds source.text.items
+-- the commands of a file
+abbrev pub commands_of_form : Form → List ℕ → List Command
+commands_of_form forms.Declaration text = EditCommand (edits.Put text) ∷ []
+commands_of_form forms.Script text = commands text
 
--- the declarations after those of some files, in order
-abbrev pub put_sources : List Decl → List Source → List Decl
-put_sources ds sources = fold put_source ds sources
+abbrev pub commands_of_source : Source → List Command
+commands_of_source source = commands_of_form source.form source.text.items
+
+-- the declarations that its edits and batches leave
+abbrev pub left_by_source : List Decl → Source → List Decl
+left_by_source ds source = left_by_all ds (commands_of_source source)
+
+-- those of some files, in order
+abbrev pub left_by_sources : List Decl → List Source → List Decl
+left_by_sources ds sources = fold left_by_source ds sources
 
 -- ---- what is refused
 
@@ -62,7 +65,7 @@ refused_as position (Err refusal) = (position, refusal) ∷ []
 abbrev pub refused_from : ℕ → List Decl → List Source → List Refused
 refused_from position ds [] = []
 refused_from position ds (source ∷ rest) = refused_as position (answer_to_text ds source.text.items)
-    ++ refused_from (position + 1) (put_source ds source) rest
+    ++ refused_from (position + 1) (left_by_source ds source) rest
 
 -- what a problem tells of a refusal
 abbrev pub told_in : Problem → List Refused

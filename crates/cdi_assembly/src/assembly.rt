@@ -1,14 +1,19 @@
 //! Putting a deployment together of files.
-ghost use Rattle.std.specs.Prelude.{◌≡◌, ◌++◌, true, IfOk, OnOk};
+ghost use Rattle.std.specs.Prelude.{◌≡◌, ◌++◌, true, IfOk, OnOk, Ok};
+ghost use Rattle.cdi_model.specs.declared.edit.Edit.TheVariants.{Remove as RemoveEdit};
+ghost use Rattle.cdi_admission.specs.Admission.{refusal_of_decl};
+ghost use Rattle.cdi_container.specs.Editing.{admitted, change_of, put_of};
+ghost use Rattle.cdi_script.specs.Commands.{commands};
+ghost use Rattle.cdi_script.specs.Left.{left_by, left_by_all, left_by_batch, left_by_change};
 ghost use Rattle.std.specs.List.{list_all};
-ghost use Rattle.cdi_assembly.specs.Put.{is_declaration, put_source, put_sources, put_text, Settles};
+ghost use Rattle.cdi_assembly.specs.Put.{is_declaration, left_by_source, left_by_sources, put_text, Settles};
 ghost use Rattle.cdi_assembly.specs.Put.{answer_to_text, refused_as, refused_from, told, AnswersPut};
 
 use crate::origins::Origins;
 use crate::problem::{Begin, Problem, Repeated};
 use crate::steps::{Step, steps_of};
 use cdi_container::{BatchError, Bodies, Command, Container, Edit, Error, Refusal, Seq, read_decl};
-use cdi_model::DeclKey;
+use cdi_model::{Decl, DeclKey};
 use cdi_sources::{Form, Source};
 use std::alloc::{AllocError, Global};
 
@@ -30,8 +35,7 @@ pub fn assemble<B: Bodies>(
     container: &mut Container<B>,
     sources: &[Source],
 ) -> Result<Assembly, AllocError>
-    ensures decls { IfOk result (λ a. list_all is_declaration sources.now ≡ true
-        → container.new.decls ≡ put_sources container.old.decls sources.now) }
+    ensures decls { OnOk result (container.new.decls ≡ left_by_sources container.old.decls sources.now) }
     ensures told { IfOk result (λ a. list_all is_declaration sources.now ≡ true
         → told a.problems.items ≡ refused_from 0 container.old.decls sources.now) }
     ensures book { OnOk result (container.new.book ≡ container.old.book) }
@@ -64,8 +68,7 @@ impl Assembly {
         position: usize,
         source: &Source,
     ) -> Result<(), AllocError>
-        ensures decls { OnOk result (is_declaration source.now ≡ true
-            → container.new.decls ≡ put_source container.old.decls source.now) }
+        ensures decls { OnOk result (container.new.decls ≡ left_by_source container.old.decls source.now) }
         ensures told { OnOk result (is_declaration source.now ≡ true → told self.new.problems.items
             ≡ told self.old.problems.items ++ refused_as position (answer_to_text container.old.decls source.now.text.items)) }
         ensures book { OnOk result (container.new.book ≡ container.old.book) }
@@ -90,7 +93,8 @@ impl Assembly {
         source: usize,
         script: &[u8],
     ) -> Result<(), AllocError>
-        ensures { OnOk result (container.new.book ≡ container.old.book) }
+        ensures decls { OnOk result (container.new.decls ≡ left_by_all container.old.decls (commands script.now)) }
+        ensures book { OnOk result (container.new.book ≡ container.old.book) }
     {
         for step in steps_of(self.alloc, script)? {
             self.take_step(container, source, step)?;
@@ -105,7 +109,8 @@ impl Assembly {
         source: usize,
         step: Step,
     ) -> Result<(), AllocError>
-        ensures { OnOk result (container.new.book ≡ container.old.book) }
+        ensures decls { OnOk result (container.new.decls ≡ left_by container.old.decls step.command) }
+        ensures book { OnOk result (container.new.book ≡ container.old.book) }
     {
         let Step {
             line,
@@ -127,12 +132,13 @@ impl Assembly {
         begin: Begin,
         edit: Edit,
     ) -> Result<(), AllocError>
-        ensures { OnOk result (container.new.book ≡ container.old.book) }
+        ensures decls { OnOk result (container.new.decls ≡ left_by_change container.old.decls (change_of edit)) }
+        ensures book { OnOk result (container.new.book ≡ container.old.book) }
     {
         match edit {
             Edit::Put { text } => self.put(container, begin, text.as_slice()),
             Edit::Remove { kind, name } => self.remove(container, begin, DeclKey { kind, name }),
-            Edit::PutDecl { .. } => Ok(()),
+            Edit::PutDecl { decl } => self.put_made(container, begin, Box::into_inner(decl)),
         }
     }
 
@@ -159,6 +165,25 @@ impl Assembly {
         }
     }
 
+    /// Puts a declaration that a program made.
+    fn put_made<B: Bodies>(
+        &mut self,
+        container: &mut Container<B>,
+        begin: Begin,
+        decl: Decl,
+    ) -> Result<(), AllocError>
+        ensures decls { OnOk result (container.new.decls
+            ≡ left_by_change container.old.decls (put_of (admitted (refusal_of_decl decl) decl))) }
+        ensures book { OnOk result (container.new.book ≡ container.old.book) }
+    {
+        let key = decl.key();
+        match container.put_decl(decl) {
+            Ok(()) => self.note_put(begin.source, key),
+            Err(Error::OutOfMemory) => Err(AllocError),
+            Err(Error::Refused(refusal)) => self.refuse(begin, refusal),
+        }
+    }
+
     /// Removes the declaration of a key.
     fn remove<B: Bodies>(
         &mut self,
@@ -166,7 +191,8 @@ impl Assembly {
         begin: Begin,
         key: DeclKey,
     ) -> Result<(), AllocError>
-        ensures { OnOk result (container.new.book ≡ container.old.book) }
+        ensures decls { OnOk result (container.new.decls ≡ left_by_change container.old.decls (Ok (RemoveEdit key.kind key.name))) }
+        ensures book { OnOk result (container.new.book ≡ container.old.book) }
     {
         match container.remove(key.kind, key.name) {
             Ok(()) => {
@@ -186,7 +212,8 @@ impl Assembly {
         edit_lines: &[usize],
         edits: Seq<Edit>,
     ) -> Result<(), AllocError>
-        ensures { OnOk result (container.new.book ≡ container.old.book) }
+        ensures decls { OnOk result (container.new.decls ≡ left_by_batch container.old.decls edits) }
+        ensures book { OnOk result (container.new.book ≡ container.old.book) }
     {
         let edits = edits.into_vec();
         let changes = changes_of(self.alloc, begin, edit_lines, &edits)?;

@@ -1,7 +1,6 @@
 //! Putting a deployment together, with what is refused told at once.
-ghost use Rattle.std.specs.Prelude.{◌≡◌, true, OnOk};
-ghost use Rattle.std.specs.List.{list_all};
-ghost use Rattle.cdi_assembly.specs.Put.{is_declaration, put_sources};
+ghost use Rattle.std.specs.Prelude.{◌≡◌, OnOk};
+ghost use Rattle.cdi_assembly.specs.Put.{left_by_sources};
 
 use crate::assembly::assemble;
 use crate::findings::findings_of_problems;
@@ -18,8 +17,7 @@ pub fn declare<B: Bodies>(
     container: &mut Container<B>,
     sources: &[Source],
 ) -> Result<bool, AllocError>
-    ensures decls { OnOk result (list_all is_declaration sources.now ≡ true
-        → container.new.decls ≡ put_sources container.old.decls sources.now) }
+    ensures decls { OnOk result (container.new.decls ≡ left_by_sources container.old.decls sources.now) }
     ensures book { OnOk result (container.new.book ≡ container.old.book) }
 {
     let assembly = assemble(rt.alloc(), container, sources)?;

@@ -1,6 +1,12 @@
 //! The commands of a script, with the lines at which they begin.
 
-ghost use Rattle.std.specs.Prelude.{◌<◌, IfSome, length};
+ghost use Rattle.std.specs.Prelude.{◌≡◌, ◌<◌, ◌++◌, [], ◌∷◌, List, IfOk, IfSome, MatchOption, OnOk, length};
+ghost use Rattle.cdi_lines.specs.Lines.{NoFeed, lines};
+ghost use Rattle.cdi_model.specs.Bytes.{feed};
+ghost use Rattle.cdi_lines.specs.declared.command.Command.{Command as AnyCommand};
+ghost use Rattle.cdi_script.specs.Commands.{commands, outside, unclosed};
+ghost use Rattle.cdi_script.specs.Reads.{Reads};
+ghost use Rattle.cdi_assembly.specs.Steps.{commands_of_steps, LeaveAlike, TakesOne};
 
 use cdi_container::{Command, Said, read_line};
 use cdi_lines::find_feed;
@@ -19,22 +25,23 @@ pub(crate) struct Step {
 }
 
 /// The commands that a script spells, in order. It takes memory for all of them.
-pub(crate) fn steps_of(alloc: Global, script: &[u8]) -> Result<Vec<Step>, AllocError> {
+pub(crate) fn steps_of(alloc: Global, script: &[u8]) -> Result<Vec<Step>, AllocError>
+    ensures { IfOk result (λ steps. LeaveAlike (commands_of_steps steps.items) (commands script.now)) }
+{
     let mut reading = Reading::new(alloc);
     let mut rest = script;
     while let Some((line, after)) = split_line(rest) {
         reading.take_line(line)?;
         rest = after;
     }
-    if !rest.is_empty() {
-        reading.take_line(rest)?;
-    }
-    reading.into_steps()
+    reading.end(rest)
 }
 
 /// The first line of a text and what comes after it, if a line feed ends it.
 fn split_line(text: &[u8]) -> Option<(&[u8], &[u8])>
-    ensures { IfSome result (λ split. length split.1.now < length text.now) }
+    ensures shorter { IfSome result (λ split. length split.1.now < length text.now) }
+    ensures cut { MatchOption result (NoFeed text.now)
+        (λ split. NoFeed split.0.now × (text.now ≡ split.0.now ++ feed ∷ split.1.now)) }
 {
     let end = find_feed(text)?;
     Some((&text[..end], &text[end + 1..]))
@@ -54,7 +61,10 @@ struct Reading {
 }
 
 impl Reading {
-    fn new(alloc: Global) -> Reading {
+    fn new(alloc: Global) -> Reading
+        ensures mode { result.mode ≡ outside }
+        ensures steps { result.steps.items ≡ [] }
+    {
         Reading {
             alloc,
             mode: Mode::new(),
@@ -65,21 +75,37 @@ impl Reading {
         }
     }
 
-    fn take_line(&mut self, line: &[u8]) -> Result<(), AllocError> {
+    /// Takes a line.
+    fn take_line(&mut self, line: &[u8]) -> Result<(), AllocError>
+        ensures { OnOk result (TakesOne self.old self.new line.now) }
+    {
+        self.note_line(line)?;
+        match self.mode.take_line(self.alloc, line)? {
+            Some(command) => self.push(command),
+            None => Ok(()),
+        }
+    }
+
+    /// Notes where the next line is, and what it begins.
+    fn note_line(&mut self, line: &[u8]) -> Result<(), AllocError>
+        ensures mode { OnOk result (self.new.mode ≡ self.old.mode) }
+        ensures steps { OnOk result (self.new.steps ≡ self.old.steps) }
+    {
         self.line = self.line.saturating_add(1);
         if !self.mode.is_open() {
             self.begin = self.line;
         } else if !self.mode.is_in_put() && begins_edit(self.alloc, line)? {
             self.edit_lines.push(self.line)?;
         }
-        if let Some(command) = self.mode.take_line(self.alloc, line)? {
-            self.push(command)?;
-        }
         Ok(())
     }
 
     /// Appends a command that is complete.
-    fn push(&mut self, command: Command) -> Result<(), AllocError> {
+    fn push(&mut self, command: Command) -> Result<(), AllocError>
+        ensures mode { OnOk result (self.new.mode ≡ self.old.mode) }
+        ensures steps { OnOk result (commands_of_steps self.new.steps.items
+            ≡ commands_of_steps self.old.steps.items ++ command ∷ []) }
+    {
         let edit_lines = mem::replace(&mut self.edit_lines, Vec::new(self.alloc));
         self.steps.push(Step {
             line: self.begin,
@@ -89,8 +115,23 @@ impl Reading {
         Ok(())
     }
 
+    /// The commands, where this is left, in which no line ends.
+    fn end(mut self, rest: &[u8]) -> Result<Vec<Step>, AllocError>
+        requires { NoFeed rest.now }
+        ensures { (whole : List AnyCommand) → Reads self.mode (commands_of_steps self.steps.items) (lines rest.now) whole
+            → IfOk result (λ steps. LeaveAlike (commands_of_steps steps.items) whole) }
+    {
+        if rest.is_empty() {
+            return self.into_steps();
+        }
+        self.take_line(rest)?;
+        self.into_steps()
+    }
+
     /// The commands, where no line is left. A batch or a put block without its end is none.
-    fn into_steps(mut self) -> Result<Vec<Step>, AllocError> {
+    fn into_steps(mut self) -> Result<Vec<Step>, AllocError>
+        ensures { IfOk result (λ steps. commands_of_steps steps.items ≡ commands_of_steps self.steps.items ++ unclosed self.mode) }
+    {
         if self.mode.is_open() {
             self.push(Command::Unreadable)?;
         }

@@ -17,6 +17,9 @@ use Rattle.cdi_container.specs.declared.answer.Answer.TheVariants.{Done, Chosen,
 use Rattle.cdi_container.specs.Editing.{Reason, alone, put_of, change_of, changes_in, asked_by, refusal_of_change, first_refusal, refusal_of_batch}
 use Rattle.cdi_container.specs.History.{State, Acts, AsksSome, EditsFrom, LegalAnswer, asked, emptied, evaluates, refusal_of, runs, untold}
 use Rattle.cdi_script.specs.Runner.{RunnerOn, Runs, RunsStep, Tries}
+use Rattle.cdi_model.specs.Edits.{edited_all}
+use Rattle.cdi_container.specs.Editing.{changes_of_all}
+use Rattle.cdi_script.specs.Left.{left_by_change, left_unless}
 use Rattle.cdi_script.specs.Begun.{ServesEdits, ServesCommand, ServesCompleted}
 use Rattle.cdi_script.proofs.Runs.{runs_none, runs_one}
 
@@ -59,9 +62,12 @@ alike old new kept command (Err error) one other refused acts same h = record {
 
 -- edits that ask for the same
 pub serves_edit : (kept edit : Edit) → change_of kept ≡ change_of edit → ServesCommand (EditCommand kept) (EditCommand edit)
-serves_edit kept edit same old new answer h = alike old new (EditCommand kept) (EditCommand edit) answer refl refl
-    (ap (λ asked. alone (refusal_of_change old.decls asked)) same)
-    (λ given none acts. (acts.0, subst (λ asked. EditsFrom old (changes_in asked) new) same acts.1)) refl h
+serves_edit kept edit same = (
+  λ old new answer h. alike old new (EditCommand kept) (EditCommand edit) answer refl refl
+      (ap (λ asked. alone (refusal_of_change old.decls asked)) same)
+      (λ given none acts. (acts.0, subst (λ asked. EditsFrom old (changes_in asked) new) same acts.1)) refl h,
+  λ ds. ap (left_by_change ds) same,
+)
 
 -- batches whose edits ask for the same
 pub asked_alike : (kept es : List Edit) → asked_by kept ≡ asked_by es → length kept ≡ length es
@@ -78,12 +84,19 @@ refused_many : (ds : List Decl) (es : List Edit) → 256 < length es → refusal
 refused_many ds es many = rw (lt-ltb 256 (length es) many) refl
 
 pub serves_batch : (kept es : List Edit) → ServesEdits kept es → ServesCommand (BatchCommand kept) (BatchCommand es)
-serves_batch kept es (inl same) old new answer h = alike old new (BatchCommand kept) (BatchCommand es) answer refl refl
-    (judged_alike old.decls kept es same)
-    (λ given none acts. (acts.0, subst (λ asked. EditsFrom old (flat_map changes_in asked) new) same acts.1)) refl h
-serves_batch kept es (inr many) old new answer h = alike old new (BatchCommand kept) (BatchCommand es) answer refl refl
-    (refused_many old.decls kept many.0 ∙ sym (refused_many old.decls es many.1))
-    (λ given none acts. absurd (let e : too_many ≡ None = sym (refused_many old.decls kept many.0) ∙ none in cc)) refl h
+serves_batch kept es (inl same) = (
+  λ old new answer h. alike old new (BatchCommand kept) (BatchCommand es) answer refl refl
+      (judged_alike old.decls kept es same)
+      (λ given none acts. (acts.0, subst (λ asked. EditsFrom old (flat_map changes_in asked) new) same acts.1)) refl h,
+  λ ds. ap₂ (λ reason asked. left_unless reason ds (edited_all ds (flat_map changes_in asked))) (judged_alike ds kept es same) same,
+)
+serves_batch kept es (inr many) = (
+  λ old new answer h. alike old new (BatchCommand kept) (BatchCommand es) answer refl refl
+      (refused_many old.decls kept many.0 ∙ sym (refused_many old.decls es many.1))
+      (λ given none acts. absurd (let e : too_many ≡ None = sym (refused_many old.decls kept many.0) ∙ none in cc)) refl h,
+  λ ds. ap (λ reason. left_unless reason ds (edited_all ds (changes_of_all kept))) (refused_many ds kept many.0)
+      ∙ sym (ap (λ reason. left_unless reason ds (edited_all ds (changes_of_all es))) (refused_many ds es many.1)),
+)
 
 -- what is kept of the text of a put block asks for what all of it does
 too_long : (text : List ℕ) → 65536 < length text → decl_of text ≡ Err TooLong
@@ -102,7 +115,7 @@ serves_step old new kept command serves r = record {
   command_is = refl;
   memory = r.memory;
   legal = record {
-    answered = serves old.container new.container r.step.answer
+    answered = serves.0 old.container new.container r.step.answer
         (subst (λ c. LegalAnswer old.container c r.step.answer new.container) r.command_is r.legal.answered);
     trace = r.legal.trace;
     names = r.legal.names;
@@ -119,7 +132,7 @@ serves_tried old new kept command serves (inr t) = inr (
   record t.0 { command = command },
   ([], refl),
   record {
-    answered = serves old new t.0.answer
+    answered = serves.0 old new t.0.answer
         (let k = t.1.1 in let head : t.0.command ≡ kept = cc in subst (λ c. LegalAnswer old c t.0.answer new) head t.2.answered);
     trace = t.2.trace;
     names = t.2.names;

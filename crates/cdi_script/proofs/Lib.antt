@@ -7,3 +7,4 @@ mod Trying
 mod Taking
 mod Feeding
 mod Going
+pub mod StepLemmas

@@ -81,7 +81,7 @@ serves_serving_block (Some a) (Some b) (Some c) h k = serves_serving_text a b c 
 -- ---- what a line does
 
 pub command_itself : (command : Command) → ServesCommand command command
-command_itself command old new answer h = h
+command_itself command = (λ old new answer h. h, λ ds. refl)
 
 abbrev pub ServesSame : Taken → Taken → Type 0
 ServesSame kept taken = ServesTaken kept.command kept.mode taken
@@ -92,7 +92,8 @@ serves_serving_completed None None (Some c) h k = absurd k
 serves_serving_completed None (Some b) c h k = absurd h
 serves_serving_completed (Some a) None c h k = absurd h
 serves_serving_completed (Some a) (Some b) None h k = absurd k
-serves_serving_completed (Some a) (Some b) (Some c) h k = λ old new answer legal. k old new answer (h old new answer legal)
+serves_serving_completed (Some a) (Some b) (Some c) h k =
+    (λ old new answer legal. k.0 old new answer (h.0 old new answer legal), λ ds. h.1 ds ∙ k.1 ds)
 
 -- what serves for what serves
 pub serves_serving_taken : (command : Option Command) (mode : Mode) (a b : Taken) → ServesTaken command mode a → ServesSame a b

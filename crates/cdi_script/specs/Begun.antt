@@ -7,6 +7,8 @@ use Rattle.cdi_lines.specs.Kept.{ServesText}
 use Rattle.cdi_container.specs.declared.answer.Answer.{Answer}
 use Rattle.cdi_container.specs.Editing.{asked_by}
 use Rattle.cdi_container.specs.History.{State, LegalAnswer}
+use Rattle.cdi_model.specs.declared.decl.Decl.{Decl}
+use Rattle.cdi_script.specs.Left.{left_by}
 use Rattle.cdi_script.specs.Commands.{OpenBatch, Edits, Spoiled, Mode, Taken}
 
 -- so for the edits of a batch: they ask for the same changes, or both are too many
@@ -33,10 +35,16 @@ pub record ServesMode (kept mode : Mode) : Type 0 where
   pub batch : ServesBatch kept.batch mode.batch
   pub text : ServesBlock kept.text mode.text
 
--- a command serves for another: whatever is a legal answer to it is one to the other
-abbrev pub ServesCommand : Command → Command → Type 0
-ServesCommand kept command = (old new : State) (answer : Result Answer AllocError) → LegalAnswer old kept answer new
+-- a command serves for another: whatever is a legal answer to it is one to the other, and it leaves the same declarations
+abbrev pub AnsweredAlike : Command → Command → Type 0
+AnsweredAlike kept command = (old new : State) (answer : Result Answer AllocError) → LegalAnswer old kept answer new
     → LegalAnswer old command answer new
+
+abbrev pub LeavesAlike : Command → Command → Type 0
+LeavesAlike kept command = (ds : List Decl) → left_by ds kept ≡ left_by ds command
+
+abbrev pub ServesCommand : Command → Command → Type 0
+ServesCommand kept command = AnsweredAlike kept command × LeavesAlike kept command
 
 abbrev pub ServesCompleted : Option Command → Option Command → Type 0
 ServesCompleted None None = Unit {0}

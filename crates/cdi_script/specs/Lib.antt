@@ -1,9 +1,11 @@
-pub mod Commands
-pub mod Text
-pub mod Runner
 pub mod Begun
+pub mod Commands
 pub mod Intake
+pub mod Left
+pub mod Reads
 pub mod Run
+pub mod Runner
+pub mod Text
 pub use Rattle.cdi_model.specs.Bytes
 pub use Rattle.cdi_lines.specs.Lines
 pub use Rattle.cdi_lines.specs.Words
