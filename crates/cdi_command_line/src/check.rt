@@ -27,7 +27,7 @@ const EXAMPLE: &str = "Example: container_check --explain examples/shop
 A folder stands for each file below it that ends in .toml, which is one declaration.
 Any other file is a script of put blocks, drops and batches.
 
-Status: 0 no problem, 1 problems, 2 bad arguments, 3 a path cannot be read, 4 out of memory";
+Status: 0 no problem, 1 problems, 2 bad arguments, 3 a failed read or write, 4 out of memory";
 
 /// The option for the form of what is printed.
 fn format_argument<'a>(alloc: Global) -> Arg<'a> {

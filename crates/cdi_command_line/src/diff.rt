@@ -27,7 +27,7 @@ It may also be one such file, or a script of put blocks, drops and batches.
 A dash is written where there is none. Then come the faults that go and that come.
 What is refused or repeated is told on the standard error, and left out.
 
-Status: 0 nothing differs, 1 something differs, 2 bad arguments, 3 a path cannot be read, 4 out of memory";
+Status: 0 nothing differs, 1 something differs, 2 bad arguments, 3 a failed read or write, 4 out of memory";
 
 fn command<'a>(alloc: Global) -> Result<Command<'a>, AllocError> {
     Command::new(alloc, "container_diff")

@@ -1,8 +1,8 @@
 //! How a program ends that cannot do what its words ask for.
+use cdi_devices::{Counted, write_and_flush};
 use clap::Error;
 use clap::error::ErrorKind;
 use std::alloc::AllocError;
-use std::io::Write;
 use std::{env, io};
 
 /// Why a program ends before it is done.
@@ -10,8 +10,10 @@ use std::{env, io};
 pub enum Ending {
     /// Its words are no command line.
     Words,
-    /// A path cannot be read, or the output not written.
+    /// A path cannot be read.
     Unreadable,
+    /// What it prints cannot be written.
+    Unwritable,
     OutOfMemory,
 }
 
@@ -20,8 +22,17 @@ impl Ending {
     pub fn status(self) -> u8 {
         match self {
             Ending::Words => 2,
-            Ending::Unreadable => 3,
+            Ending::Unreadable | Ending::Unwritable => 3,
             Ending::OutOfMemory => 4,
+        }
+    }
+
+    /// What is told of it on the standard error. The words and the paths are told where they are read.
+    fn complaint(self) -> Option<&'static str> {
+        match self {
+            Ending::Words | Ending::Unreadable => None,
+            Ending::Unwritable => Some("error: write failed"),
+            Ending::OutOfMemory => Some("error: out of memory"),
         }
     }
 }
@@ -29,16 +40,6 @@ impl Ending {
 impl From<AllocError> for Ending {
     fn from(_error: AllocError) -> Ending {
         Ending::OutOfMemory
-    }
-}
-
-impl From<io::Error> for Ending {
-    fn from(error: io::Error) -> Ending {
-        if error.kind() == io::ErrorKind::OutOfMemory {
-            Ending::OutOfMemory
-        } else {
-            Ending::Unreadable
-        }
     }
 }
 
@@ -67,28 +68,33 @@ pub(crate) fn told<T: Drop>(
     if error.kind() == ErrorKind::OutOfMemory {
         return Err(Ending::OutOfMemory);
     }
-    error.print(rt)?;
     if error.kind() == ErrorKind::DisplayHelp {
+        let help = format!(in rt.alloc(); "{error}")?;
+        write_out(rt, help.as_str())?;
         return Ok(None);
     }
-    Err(Ending::Words)
+    match error.print(rt) {
+        Ok(()) => Err(Ending::Words),
+        Err(_) => Err(Ending::Unwritable),
+    }
 }
 
 /// Writes a text to the standard output.
 pub fn write_out(rt: &HostRuntime, text: &str) -> Result<(), Ending> {
-    let mut output = io::writer(rt);
-    output.write_all(text.as_bytes())?;
-    output.flush()?;
-    Ok(())
+    let mut output = Counted::new(io::writer(rt));
+    match write_and_flush(&mut output, text.as_bytes()) {
+        Ok(()) => Ok(()),
+        Err(_) => Err(Ending::Unwritable),
+    }
 }
 
-/// The status of a program with this ending; that it is out of memory is told on the standard error.
+/// The status of a program with this ending. That it could not write, or is out of memory, is told on the standard error.
 pub fn status_of(rt: &HostRuntime, ended: Result<u8, Ending>) -> u8 {
     match ended {
         Ok(status) => status,
         Err(ending) => {
-            if ending == Ending::OutOfMemory {
-                let _ = eprintln!(rt; "error: out of memory");
+            if let Some(complaint) = ending.complaint() {
+                let _ = eprintln!(rt; "{complaint}");
             }
             ending.status()
         }

@@ -1,8 +1,10 @@
 //! A reader and a writer of which it is noted what was sent before more was read.
-ghost use Rattle.std.specs.Prelude.{◌≡◌, ◌+◌, ◌-◌, ◌^◌, min, length, false, true, MatchResult};
+ghost use Rattle.std.specs.Prelude.{◌≡◌, ◌≢◌, ◌+◌, ◌-◌, ◌^◌, min, length, false, true, IfErr, MatchResult};
 ghost use Rattle.std.specs.Borrow.{sem};
 ghost use Rattle.std.specs.Io.{ReadsAtMost};
 ghost use Rattle.std.specs.Io.KnownBytes.{ReadConsumes};
+ghost use Rattle.std.specs.IoError.{error_kind};
+ghost use Rattle.std.specs.declared.io.ErrorKind.{ErrorKind};
 ghost use Rattle.cdi_devices.specs.Counted.{inner_of, bytes_of, has_failed, is_flushed, NotesReadBehind};
 
 use crate::counted::Counted;
@@ -55,6 +57,7 @@ impl<R: Read, W> Console<'_, R, W> {
             (R.remaining (inner_of (reader_of self.new))) result buf.new }
         ensures noted { NotesReadBehind (bytes_of (writer_of self.old)) (is_flushed (writer_of self.old))
             (reader_of self.old) (reader_of self.new) result }
+        ensures retried { IfErr result (λ e. error_kind e ≢ ErrorKind.Interrupted) }
         ensures writer { writer_of self.new ≡ writer_of self.old }
         ensures streams { KeepsStreams self.old self.new }
     {

@@ -1,14 +1,17 @@
 //! A reader or a writer that notes what its calls answered.
-ghost use Rattle.std.specs.Prelude.{◌≡◌, ◌+◌, ◌-◌, ◌^◌, min, length, false, true, MatchResult};
+ghost use Rattle.std.specs.Prelude.{◌≡◌, ◌≢◌, ◌+◌, ◌-◌, ◌^◌, min, length, false, true, IfErr, MatchResult};
 ghost use Rattle.std.specs.Io.{ReadsAtMost, WritesAtMost};
 ghost use Rattle.std.specs.Io.KnownBytes.{Keeps, ReadConsumes, WriteAppends};
+ghost use Rattle.std.specs.IoError.{error_kind};
+ghost use Rattle.std.specs.declared.io.ErrorKind.{ErrorKind};
 
+use crate::again::{flush_again, read_again, write_again};
 use std::io::{Read, Write};
 use std::{fmt, io};
 
 /// A reader or a writer, with a count of the bytes that went through and notes: whether a call answered an error or a
 /// write of some bytes took none, whether all that was written has been flushed, and of a reader what its `Console` had
-/// sent before each read. It takes no memory.
+/// sent before each read. A call that a signal interrupts is made again, so that is no error. It takes no memory.
 #[derive(Drop)]
 pub struct Counted<T> {
     inner: T,
@@ -96,10 +99,11 @@ impl<R: Read> Counted<R> {
         ensures bound { ReadsAtMost result buf.new }
         ensures bytes { ReadConsumes (R.remaining (inner_of self.old)) (R.remaining (inner_of self.new)) result buf.new }
         ensures noted { NotesReadBehind sent flushed self.old self.new result }
+        ensures retried { IfErr result (λ e. error_kind e ≢ ErrorKind.Interrupted) }
     {
         self.settled = self.settled && flushed && !self.failed;
         self.sent_before = sent;
-        match self.inner.read(buf) {
+        match read_again(&mut self.inner, buf) {
             Ok(n) => {
                 self.bytes = self.bytes.saturating_add(n as u64);
                 Ok(n)
@@ -122,6 +126,7 @@ impl<R: Read> Read for Counted<R> {
         ensures bound { ReadsAtMost result buf.new }
         ensures bytes { ReadConsumes (R.remaining (inner_of self.old)) (R.remaining (inner_of self.new)) result buf.new }
         ensures noted { NotesRead self.old self.new result }
+        ensures retried { IfErr result (λ e. error_kind e ≢ ErrorKind.Interrupted) }
     {
         self.read_behind(self.sent_before, false, buf)
     }
@@ -136,8 +141,9 @@ impl<W: Write> Write for Counted<W> {
         ensures bound { WritesAtMost result buf.now }
         ensures bytes { WriteAppends (W.contents (inner_of self.old)) (W.contents (inner_of self.new)) result buf.now }
         ensures noted { NotesWrite self.old self.new result }
+        ensures retried { IfErr result (λ e. error_kind e ≢ ErrorKind.Interrupted) }
     {
-        match self.inner.write(buf) {
+        match write_again(&mut self.inner, buf) {
             Ok(n) => {
                 self.bytes = self.bytes.saturating_add(n as u64);
                 if n == 0 {
@@ -157,8 +163,9 @@ impl<W: Write> Write for Counted<W> {
     fn flush(&mut self) -> io::Result<()>
         ensures bytes { Keeps (W.contents (inner_of self.old)) (W.contents (inner_of self.new)) }
         ensures noted { NotesFlush self.old self.new result }
+        ensures retried { IfErr result (λ e. error_kind e ≢ ErrorKind.Interrupted) }
     {
-        match self.inner.flush() {
+        match flush_again(&mut self.inner) {
             Ok(()) => {
                 self.flushed = true;
                 Ok(())

@@ -1,6 +1,7 @@
 //! Reading from any reader and writing to any writer, with a count and a note of failures.
 #![tactic(auto)]
 
+mod again;
 mod console;
 mod counted;
 mod devices;

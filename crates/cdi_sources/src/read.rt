@@ -1,41 +1,96 @@
 //! Reading files and folders.
 
-use crate::source::{Form, Source};
-use std::alloc::AllocError;
-use std::fs::DirEntry;
-use std::{fs, io};
+use crate::disk::{Disk, Sort};
+use crate::escaped::{Escaped, text_of_bytes};
+use crate::names::names_at;
+use crate::source::{Form, PathForm, Source};
+use cdi_devices::SCRIPT_LIMIT;
+use std::alloc::{AllocError, Global};
+use std::io::{ErrorKind, Read};
+use std::{fmt, io};
 
-/// How deep folders may be within a folder.
-const DEPTH_LIMIT: u32 = 64;
+/// How many bytes the text of a declaration may have at most.
+const TEXT_LIMIT: u64 = 65_536;
+
+/// Why a path cannot be read.
+#[derive(Debug, Drop)]
+pub enum Cause {
+    Device(io::Error),
+    /// It has more bytes than this, which is the limit of a script.
+    TooLong(u64),
+}
+
+impl Cause {
+    /// Whether there was no memory to read it.
+    pub fn is_out_of_memory(&self) -> bool {
+        match self {
+            Cause::Device(error) => error.kind() == ErrorKind::OutOfMemory,
+            Cause::TooLong(_) => false,
+        }
+    }
+}
+
+impl From<io::Error> for Cause {
+    fn from(error: io::Error) -> Cause {
+        Cause::Device(error)
+    }
+}
+
+impl fmt::Display for Cause {
+    fn fmt<W: fmt::Write>(&self, f: &mut fmt::Formatter<W>) -> fmt::Result {
+        match self {
+            Cause::Device(error) => write!(f, "{error}"),
+            Cause::TooLong(limit) => write!(f, "more than {limit} bytes"),
+        }
+    }
+}
 
 /// A path that cannot be read, and why.
 #[derive(Debug, Drop)]
 pub struct PathError {
+    /// The path. Where a name in it is not UTF-8, it has escapes such as `\xff`.
     pub path: String,
-    pub error: io::Error,
+    pub cause: Cause,
 }
 
 /// What was read, and what could not be.
 #[derive(Debug, Drop)]
 pub struct Readings {
+    alloc: Global,
     pub sources: Vec<Source>,
     pub failed: Vec<PathError>,
 }
 
-/// Reads the files that some paths name, in order: of a folder each file below it whose name ends in `.toml`, in the byte
+/// What is found below a folder.
+#[derive(Drop)]
+struct Found {
+    /// The folders that are still to be gone through.
+    folders: Vec<String>,
+    /// The declarations.
+    files: Vec<String>,
+}
+
+/// Reads the files that some paths name, in order: of a folder each regular file below it whose name ends in `.toml`, in the byte
 /// order of their paths, and else the file itself. What ends in `.toml` is the text of a declaration, and any other file a
-/// script. A link to a folder within a folder is not followed, and folders within folders are read 64 deep.
+/// script. A link to a folder within a folder is not followed. At most one byte more is read of a file than it may have.
 ///
-/// It takes memory for the paths and the texts. A path that cannot be read is among `failed`, and the others are read.
-pub fn read_sources(rt: &HostRuntime, paths: &[&str]) -> Result<Readings, AllocError> {
+/// It takes memory for the paths and the texts. A path that cannot be read is among `failed`, and the others are read. So is a
+/// script that is too long.
+pub fn read_sources<D: Disk>(
+    disk: &D,
+    alloc: Global,
+    paths: &[&str],
+    path_form: PathForm,
+) -> Result<Readings, AllocError> {
     let mut readings = Readings {
-        sources: Vec::new(rt.alloc()),
-        failed: Vec::new(rt.alloc()),
+        alloc,
+        sources: Vec::new(alloc),
+        failed: Vec::new(alloc),
     };
     for path in paths {
-        let files = readings.files_of(rt, path)?;
+        let files = readings.files_of(disk, path)?;
         for file in files {
-            readings.push_file(rt, file)?;
+            readings.push_file(disk, file, path_form)?;
         }
     }
     Ok(readings)
@@ -45,112 +100,163 @@ impl Readings {
     /// Tells the paths that cannot be read on the standard error. Whether there is none.
     pub fn tell_failed(&self, rt: &HostRuntime) -> bool {
         for failed in self.failed.iter() {
-            let PathError { path, error } = failed;
-            let _ = eprintln!(rt; "error: {path}: {error}");
+            let PathError { path, cause } = failed;
+            let path = Escaped(path.as_str());
+            let _ = eprintln!(rt; "error: {path}: {cause}");
         }
         self.failed.is_empty()
     }
 
     /// The files that a path names, in order.
-    fn files_of(&mut self, rt: &HostRuntime, path: &str) -> Result<Vec<String>, AllocError> {
-        let mut files = Vec::new(rt.alloc());
-        let is_folder = match fs::metadata(rt, path) {
-            Ok(metadata) => metadata.is_dir(),
-            Err(error) => {
-                self.push_error(rt, path, error)?;
-                return Ok(files);
+    fn files_of<D: Disk>(&mut self, disk: &D, path: &str) -> Result<Vec<String>, AllocError> {
+        let mut files = Vec::new(self.alloc);
+        let own_path = String::from_str(self.alloc, path)?;
+        match disk.sort_at(path) {
+            Ok(Sort::Folder) => {
+                files = self.files_below(disk, own_path)?;
+                files.sort()?;
             }
-        };
-        if is_folder {
-            self.push_files_below(rt, path, DEPTH_LIMIT, &mut files)?;
-            files.sort()?;
-        } else {
-            files.push(String::from_str(rt.alloc(), path)?)?;
+            Ok(_) => files.push(own_path)?,
+            Err(error) => self.push_failed(own_path, error.into())?,
         }
         Ok(files)
     }
 
-    /// Appends the files below a folder that are declarations, in the order in which the system lists them.
-    #[cycle(below)]
-    fn push_files_below(
+    /// The files below a folder that are declarations.
+    fn files_below<D: Disk>(
         &mut self,
-        rt: &HostRuntime,
-        folder: &str,
-        depth: u32,
-        files: &mut Vec<String>,
-    ) -> Result<(), AllocError> {
-        let entries = match fs::read_dir(rt, folder) {
-            Ok(entries) => entries,
-            Err(error) => return self.push_error(rt, folder, error),
+        disk: &D,
+        folder: String,
+    ) -> Result<Vec<String>, AllocError> {
+        let mut found = Found {
+            folders: Vec::new(self.alloc),
+            files: Vec::new(self.alloc),
         };
-        for entry in entries {
-            match entry {
-                Ok(entry) => self.push_entry(rt, &entry, depth, files)?,
-                Err(error) => self.push_error(rt, folder, error)?,
+        found.folders.push(folder)?;
+        for _ in 0..u64::MAX {
+            let Some(folder) = found.folders.pop() else {
+                break;
+            };
+            self.find_in(disk, folder, &mut found)?;
+        }
+        Ok(found.files)
+    }
+
+    /// Finds the folders in a folder, and its files that are declarations.
+    fn find_in<D: Disk>(
+        &mut self,
+        disk: &D,
+        folder: String,
+        found: &mut Found,
+    ) -> Result<(), AllocError> {
+        let mut prefix = String::from_str(self.alloc, folder.as_str())?;
+        if !prefix.ends_with('/') {
+            prefix.push_str("/")?;
+        }
+        let names = match names_at(disk, self.alloc, prefix.as_str()) {
+            Ok(names) => names,
+            Err(error) => return self.push_failed(folder, error.into()),
+        };
+        for name in names.as_slice().split(|byte| *byte == 0) {
+            if !matches!(name, b"" | b"." | b"..") {
+                self.find_entry(disk, prefix.as_str(), name, found)?;
             }
         }
         Ok(())
     }
 
-    /// Appends an entry of a folder: the files below it, where it is one itself.
-    #[cycle(below)]
-    fn push_entry(
+    /// Finds an entry of a folder, if it is a folder itself, or a regular file that is a declaration.
+    fn find_entry<D: Disk>(
         &mut self,
-        rt: &HostRuntime,
-        entry: &DirEntry,
-        depth: u32,
-        files: &mut Vec<String>,
+        disk: &D,
+        prefix: &str,
+        name: &[u8],
+        found: &mut Found,
     ) -> Result<(), AllocError> {
-        let path = entry.path().as_str();
-        let is_folder = match entry.file_type() {
-            Ok(file_type) => file_type.is_dir(),
-            Err(error) => return self.push_error(rt, path, error),
-        };
-        if is_folder {
-            if depth == 0 {
-                return self.push_error(rt, path, io::ErrorKind::InvalidFilename.into());
-            }
-            return self.push_files_below(rt, path, depth - 1, files);
+        let name_text = text_of_bytes(self.alloc, name)?;
+        let mut path = String::from_str(self.alloc, prefix)?;
+        path.push_str(name_text.as_str())?;
+        if str::from_utf8(name).is_err() {
+            let cause = Cause::Device(ErrorKind::InvalidFilename.into());
+            return self.push_failed(path, cause);
         }
-        if path.ends_with(".toml") {
-            files.push(String::from_str(rt.alloc(), path)?)?;
+        match sort_of_entry(disk, path.as_str()) {
+            Ok(Sort::Folder) => found.folders.push(path)?,
+            Ok(Sort::File) => found.files.push(path)?,
+            Ok(Sort::Other) => {}
+            Err(error) => self.push_failed(path, error.into())?,
         }
         Ok(())
     }
 
     /// Reads a file.
-    fn push_file(&mut self, rt: &HostRuntime, path: String) -> Result<(), AllocError> {
-        match fs::read(rt, path.as_str()) {
-            Ok(text) => {
-                let form = form_of(path.as_str());
-                self.sources.push(Source { path, form, text })?;
-                Ok(())
-            }
-            Err(error) => self.push_error(rt, path.as_str(), error),
-        }
+    fn push_file<D: Disk>(
+        &mut self,
+        disk: &D,
+        path: String,
+        path_form: PathForm,
+    ) -> Result<(), AllocError> {
+        let form = Form::of_path(path.as_str());
+        let text = match read_as(disk, self.alloc, path.as_str(), form) {
+            Ok(text) => text,
+            Err(cause) => return self.push_failed(path, cause),
+        };
+        let path = match path_form {
+            PathForm::Exact => path,
+            PathForm::Escaped => escaped(self.alloc, path.as_str())?,
+        };
+        self.sources.push(Source { path, form, text })?;
+        Ok(())
     }
 
     /// Notes a path that cannot be read, unless there was no memory to read it.
-    fn push_error(
-        &mut self,
-        rt: &HostRuntime,
-        path: &str,
-        error: io::Error,
-    ) -> Result<(), AllocError> {
-        if error.kind() == io::ErrorKind::OutOfMemory {
+    fn push_failed(&mut self, path: String, cause: Cause) -> Result<(), AllocError> {
+        if cause.is_out_of_memory() {
             return Err(AllocError);
         }
-        let path = String::from_str(rt.alloc(), path)?;
-        self.failed.push(PathError { path, error })?;
+        self.failed.push(PathError { path, cause })?;
         Ok(())
     }
 }
 
-/// What a file is, by its path.
-fn form_of(path: &str) -> Form {
-    if path.ends_with(".toml") {
-        Form::Declaration
-    } else {
-        Form::Script
+/// What stands at the path of an entry of a folder: a folder, a declaration, or what is left out.
+fn sort_of_entry<D: Disk>(disk: &D, path: &str) -> io::Result<Sort> {
+    if disk.own_sort_at(path)? == Sort::Folder {
+        return Ok(Sort::Folder);
     }
+    if !path.ends_with(".toml") || disk.sort_at(path)? != Sort::File {
+        return Ok(Sort::Other);
+    }
+    Ok(Sort::File)
+}
+
+/// The bytes of a file of this form, or of a declaration that is too long one more than it may have.
+fn read_as<D: Disk>(disk: &D, alloc: Global, path: &str, form: Form) -> Result<Vec<u8>, Cause> {
+    match form {
+        Form::Declaration => Ok(read_front(disk, alloc, path, TEXT_LIMIT)?),
+        Form::Script => read_limited(disk, alloc, path),
+    }
+}
+
+/// The bytes of a file, if they are no more than a script may have.
+pub fn read_limited<D: Disk>(disk: &D, alloc: Global, path: &str) -> Result<Vec<u8>, Cause> {
+    let text = read_front(disk, alloc, path, SCRIPT_LIMIT)?;
+    if text.len() as u64 > SCRIPT_LIMIT {
+        return Err(Cause::TooLong(SCRIPT_LIMIT));
+    }
+    Ok(text)
+}
+
+/// The bytes of a file from its front, at most one more than a limit.
+fn read_front<D: Disk>(disk: &D, alloc: Global, path: &str, limit: u64) -> io::Result<Vec<u8>> {
+    let mut text = Vec::new(alloc);
+    let file = disk.open(path)?;
+    file.take(limit.saturating_add(1)).read_to_end(&mut text)?;
+    Ok(text)
+}
+
+/// A path as lines print it.
+fn escaped(alloc: Global, path: &str) -> Result<String, AllocError> {
+    let path = Escaped(path);
+    format!(in alloc; "{path}")
 }
