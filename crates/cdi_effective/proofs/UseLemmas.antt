@@ -1,14 +1,16 @@
 -- Uses in the byte order of their texts, each once.
-use Rattle.std.proofs.Common.{arith, suc, zero}
+use Rattle.std.proofs.Common.{arith, suc, zero, ◌<◌, ◌+◌, length, drop, get_or}
 use Rattle.std.proofs.Common.{◌≡◌, ℕ, Bool, true, false, cond, ◌||◌, List, [], ◌∷◌, ◌++◌, map, fold}
 use Rattle.std.proofs.Common.{Ordering, Less, Equal, Greater, refl, sym, ap, ◌∙◌, inl, inr}
 use Rattle.std.proofs.Math.Bool.{or_assoc, or-false, or-true}
+use Rattle.std.specs.Borrow.{Bor}
 use Rattle.std.specs.Cmp.{IsStrictWeakOrder}
 use Rattle.std.specs.Cmp.Lexicographic.{nat_list_cmp_total}
 use Rattle.std.specs.List.{AllByRecursion, AllPairs, IsDistinct, list_any}
 use Rattle.std.specs.List.Sorted.{IsStrictlySortedBy}
 use Rattle.std.specs.Ordering.{is_lt}
 use Rattle.std.proofs.lemmas.Bool.{false≢true, false_from_ne_true, or_cases, or_left, or_right}
+use Rattle.std.proofs.lemmas.List.{at_drop_more, map-append}
 use Rattle.std.proofs.lemmas.List.Elements.{All-from_recursion}
 use Rattle.std.proofs.lemmas.List.Folds.{list_any-append}
 use Rattle.std.proofs.lemmas.List.Sorted.{ranks_by}
@@ -19,6 +21,7 @@ use Rattle.cdi_model.specs.SameUse.{same_qual, same_qual-decides, same_qual_equi
 use Rattle.cdi_model.specs.UseText.{text_of_use}
 use Rattle.cdi_model.specs.declared.quals.Qual.{Qual}
 use Rattle.cdi_model.proofs.QualLemmas.{before-all, same_name, turned_order}
+use Rattle.cdi_match.specs.Bindings.{uses_in}
 use Rattle.cdi_match.proofs.OrderLemmas.{or-left_comm}
 use Rattle.cdi_effective.specs.Sorting.{put, sorted_by}
 use Rattle.cdi_effective.specs.TextOrder.{has_use, with_use, each_once, is_before_in_text, in_text_order, TextsTellApart, AreInTextOrder}
@@ -254,3 +257,28 @@ are_in_text_order us = record {
   in_turn = order-in_turn us;
   rise = order-rises us;
 }
+
+-- ---- the uses that a table has
+
+any-lent : (p : Qual → Bool) (us : List (Bor Qual)) → list_any (λ v. p v.now) us ≡ list_any p (uses_in us)
+any-lent p [] = refl
+any-lent p (u ∷ us) = ap (λ b. p u.now || b) (any-lent p us)
+
+-- one more use is put into it where it is not there
+lent-with : (found : List (Bor Qual)) (u : Bor Qual) (b : Bool) → b ≡ has_use (uses_in found) u.now
+    → uses_in (cond b found (found ++ u ∷ [])) ≡ with_use (uses_in found) u.now
+lent-with found u true e = ap (λ b. cond b (uses_in found) (uses_in found ++ u.now ∷ [])) e
+lent-with found u false e = map-append (λ (v : Bor Qual). v.now) found (u ∷ [])
+    ∙ ap (λ b. cond b (uses_in found) (uses_in found ++ u.now ∷ [])) e
+
+pub once-next : (us : List (Bor Qual)) (i : ℕ) (u : Bor Qual) (found after : List (Bor Qual)) (all : List Qual) → i < length us
+    → u ≡ get_or us i u
+    → after ≡ cond (list_any (λ v. same_qual u.now v.now) found) found (found ++ u ∷ [])
+    → fold with_use (uses_in found) (uses_in (drop i us)) ≡ all
+    → fold with_use (uses_in after) (uses_in (drop (i + 1) us)) ≡ all
+once-next us i u found after all lt is put before =
+    ap (λ ks. fold with_use ks (uses_in (drop (i + 1) us)))
+    (ap uses_in put ∙ lent-with found u (list_any (λ v. same_qual u.now v.now) found) (any-lent (same_qual u.now) found))
+    ∙ ap (λ v. fold with_use (uses_in found) (uses_in (v ∷ drop (i + 1) us))) is
+    ∙ sym (at_drop_more (λ vs. fold with_use (uses_in found) (uses_in vs)) us i u lt)
+    ∙ before

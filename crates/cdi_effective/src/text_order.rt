@@ -8,7 +8,11 @@ ghost use Rattle.cdi_effective.specs.TextOrder.{is_before_in_text, tell_order, t
 
 use crate::written::Written;
 use cdi_model::{Name, Qual, Seq};
+use indexmap::IndexSet;
 use std::alloc::{AllocError, Global};
+
+/// So many uses are compared each with each, which takes less than a table of them.
+const FEW: usize = 16;
 
 /// Uses, each once, in the byte order of their texts. It takes memory for the list, and for the texts where two have one
 /// name.
@@ -79,6 +83,9 @@ fn by_texts<'a>(alloc: Global, uses: &[&'a Qual]) -> Result<Vec<&'a Qual>, Alloc
 fn each_once<'a>(alloc: Global, uses: &[&'a Qual]) -> Result<Vec<&'a Qual>, AllocError>
     ensures { IfOk result (λ list. uses_in list.items ≡ each_once (uses_in uses.now)) }
 {
+    if uses.len() > FEW {
+        return once_of_many(alloc, uses);
+    }
     let mut list = Vec::new(alloc);
     for binding in uses {
         if !has_use(&list, binding) {
@@ -86,6 +93,17 @@ fn each_once<'a>(alloc: Global, uses: &[&'a Qual]) -> Result<Vec<&'a Qual>, Allo
         }
     }
     Ok(list)
+}
+
+/// The same, by a table of those that are found.
+fn once_of_many<'a>(alloc: Global, uses: &[&'a Qual]) -> Result<Vec<&'a Qual>, AllocError>
+    ensures { IfOk result (λ list. uses_in list.items ≡ each_once (uses_in uses.now)) }
+{
+    let mut found = IndexSet::new(alloc);
+    for binding in uses {
+        found.insert(*binding)?;
+    }
+    Vec::from_slice(alloc, found.as_slice())
 }
 
 /// Whether a use is among some as it is written.

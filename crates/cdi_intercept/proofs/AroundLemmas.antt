@@ -46,7 +46,7 @@ pub any-sorted : {X : Type 0} (p : X → Bool) (lt : X → X → Bool) (xs : Lis
 any-sorted p lt [] = refl
 any-sorted p lt (x ∷ xs) = any-put p lt x (sorted_by lt xs) ∙ ap (λ b. p x || b) (any-sorted p lt xs)
 
-any-none : {X : Type 0} (xs : List X) → list_any (λ x. false) xs ≡ false
+pub any-none : {X : Type 0} (xs : List X) → list_any (λ x. false) xs ≡ false
 any-none [] = refl
 any-none (x ∷ xs) = any-none xs
 
@@ -56,7 +56,7 @@ or-both false true true d = refl
 or-both false true false d = refl
 or-both false false c d = refl
 
-any-or : {X : Type 0} (p q : X → Bool) (xs : List X) → list_any (λ x. p x || q x) xs ≡ (list_any p xs || list_any q xs)
+pub any-or : {X : Type 0} (p q : X → Bool) (xs : List X) → list_any (λ x. p x || q x) xs ≡ (list_any p xs || list_any q xs)
 any-or p q [] = refl
 any-or p q (x ∷ xs) = ap (λ b. (p x || q x) || b) (any-or p q xs) ∙ or-both (p x) (q x) (list_any p xs) (list_any q xs)
 

@@ -2,5 +2,5 @@ pub mod OrderLemmas
 pub mod ChainLemmas
 pub mod UseLemmas
 pub mod SeenLemmas
-mod SetLemmas
+mod ConflictLemmas
 pub mod AroundLemmas

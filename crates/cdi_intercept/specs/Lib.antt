@@ -5,4 +5,3 @@ pub mod Chains
 pub mod Sees
 pub mod Conflicts
 pub mod Lent
-pub mod PlaceSets

@@ -6,8 +6,8 @@ ghost use Rattle.cdi_intercept.specs.Chains.{chain_of};
 ghost use Rattle.cdi_intercept.specs.Sees.{ChainRestsOnSeen, ToldRestsOnSeen};
 
 use crate::chain::{chain_among, in_order};
-use crate::set::{has_place, set_by};
-use cdi_effective::class_bindings;
+use crate::set::{has_place, set_among};
+use cdi_effective::class_uses;
 use cdi_model::{BeanPlace, Decl, Decls, Error, Kind, Name, Refusal, Seq, Work};
 use std::alloc::Global;
 
@@ -28,8 +28,8 @@ pub fn chain_of(
     if !has_place(bean, place) {
         return Err(Refusal::NoMethod.into());
     }
-    let class_set = class_bindings(alloc, decls, bean)?;
-    let set = set_by(alloc, decls, class_set.as_slice(), bean, place)?;
+    let class_set = class_uses(alloc, decls, bean)?;
+    let set = set_among(alloc, decls, class_set, bean, place)?;
     let order = in_order(alloc, decls)?;
     let mut names = Seq::new(alloc);
     for interceptor in chain_among(alloc, decls, &order, &set, place)? {

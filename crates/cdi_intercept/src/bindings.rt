@@ -6,8 +6,8 @@ ghost use Rattle.cdi_effective.specs.TextOrder.{in_text_order};
 ghost use Rattle.cdi_intercept.specs.Bindings.{bindings_at, BindingsAreThose, set_at};
 ghost use Rattle.cdi_intercept.specs.Sets.{set_by};
 
-use crate::set::{has_place, set_by};
-use cdi_effective::{class_bindings, copies, in_text_order};
+use crate::set::{has_place, set_among};
+use cdi_effective::{class_uses, copies, in_text_order};
 use cdi_model::{BeanDecl, BeanPlace, Decl, Decls, Error, Kind, Name, Qual, Refusal, Seq};
 use std::alloc::{AllocError, Global};
 
@@ -59,8 +59,8 @@ fn bindings_of(
     ensures { IfOk result (λ list. list
         ≡ in_text_order (set_by decls.now (class_bindings decls.now bean.now) bean.now place.now)) }
 {
-    let class_set = class_bindings(alloc, decls, bean)?;
-    let set = set_by(alloc, decls, class_set.as_slice(), bean, place)?;
+    let class = class_uses(alloc, decls, bean)?;
+    let set = set_among(alloc, decls, class, bean, place)?;
     let bindings = in_text_order(alloc, &set)?;
     copies(alloc, &bindings)
 }

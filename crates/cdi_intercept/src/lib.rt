@@ -5,7 +5,6 @@ mod asked;
 mod bindings;
 mod chain;
 mod conflict;
-mod place_set;
 mod seen;
 mod set;
 

@@ -26,8 +26,21 @@ pub fn set_by<'a>(
 ) -> Result<Vec<&'a Qual>, AllocError>
     ensures { IfOk result (λ set. uses_in set.items ≡ set_by decls.now class.now bean.now place.now) }
 {
+    set_among(alloc, decls, lent(alloc, class)?, bean, place)
+}
+
+/// The same, where those of the class are lent.
+pub(crate) fn set_among<'a>(
+    alloc: Global,
+    decls: &'a Decls,
+    class: Vec<&'a Qual>,
+    bean: &'a BeanDecl,
+    place: &BeanPlace,
+) -> Result<Vec<&'a Qual>, AllocError>
+    ensures { IfOk result (λ set. uses_in set.items ≡ set_by decls.now (uses_in class.entry.items) bean.now place.now) }
+{
     match place {
-        BeanPlace::Construct | BeanPlace::Post | BeanPlace::Pre => lent(alloc, class),
+        BeanPlace::Construct | BeanPlace::Post | BeanPlace::Pre => Ok(class),
         BeanPlace::Method(name) => around_method(alloc, decls, class, of_method(bean, *name)),
         BeanPlace::Producer(name) => around_method(alloc, decls, class, of_producer(bean, *name)),
         BeanPlace::Observer(name) => around_method(alloc, decls, class, of_observer(bean, *name)),
@@ -135,7 +148,7 @@ pub fn has_place(bean: &BeanDecl, place: &BeanPlace) -> bool
 }
 
 /// The bindings that a place declares of its own, if the bean has it: none at the constructor and the callbacks.
-pub(crate) fn own_at<'a>(bean: &'a BeanDecl, place: &BeanPlace) -> Option<&'a [Qual]>
+fn own_at<'a>(bean: &'a BeanDecl, place: &BeanPlace) -> Option<&'a [Qual]>
     ensures { option_copied result ≡ own_at bean.now place.now }
 {
     match place {
@@ -150,16 +163,17 @@ pub(crate) fn own_at<'a>(bean: &'a BeanDecl, place: &BeanPlace) -> Option<&'a [Q
 fn around_method<'a>(
     alloc: Global,
     decls: &'a Decls,
-    class: &'a [Qual],
+    class: Vec<&'a Qual>,
     own: Option<&'a [Qual]>,
 ) -> Result<Vec<&'a Qual>, AllocError>
-    ensures { IfOk result (λ set. uses_in set.items ≡ around_method decls.now class.now (option_copied own.entry)) }
+    ensures { IfOk result (λ set. uses_in set.items
+        ≡ around_method decls.now (uses_in class.entry.items) (option_copied own.entry)) }
 {
     let Some(own) = own else {
         return Ok(Vec::new(alloc));
     };
     let own = with_brought(alloc, decls, lent(alloc, own)?)?;
-    in_place_of(lent(alloc, class)?, own)
+    in_place_of(alloc, class, own)
 }
 
 fn lent<'a>(alloc: Global, uses: &'a [Qual]) -> Result<Vec<&'a Qual>, AllocError>

@@ -1,15 +1,13 @@
 -- The search that keeps positions: what one more found declaration changes, and what is found when none is left.
-use Rattle.std.proofs.Common.{◌≡◌, ◌≢◌, ◌<◌, ◌+◌, ◌↔◌, ℕ, zero, suc, Bool, true, false, not, cond, List, [], ◌∷◌, ◌++◌, length}
+use Rattle.std.proofs.Common.{◌≡◌, ◌≢◌, ◌<◌, ◌+◌, ℕ, zero, suc, Bool, true, false, not, cond, List, [], ◌∷◌, ◌++◌, length}
 use Rattle.std.proofs.Common.{Option, Some, None, is_some, option_map, refl, sym, ◌∙◌, subst, inl, inr, ap, arith, length-append, zero-add, ◌⊎◌, position, slice_get}
 use Rattle.std.proofs.Common.{slice_index_or, slice_set}
-use Rattle.std.specs.List.{Contains, filter}
+use Rattle.std.specs.List.{filter}
 use Rattle.std.specs.Option.{option_to_list}
 use Rattle.std.specs.Str.{bytes_eq}
 use Rattle.std.proofs.lemmas.Bool.{or_cases, or_left, or_right, cases_Bool, cases_eq, false≢true, both_ways}
 use Rattle.std.proofs.lemmas.Bool.Decides.{same_from_decides}
 use Rattle.std.proofs.lemmas.List.{get_or-set_same, get_or-set_other, length-set}
-use Rattle.std.proofs.lemmas.List.Elements.{Contains-append_cases, Contains-append_left, Contains-append_right, Contains-push}
-use Rattle.std.proofs.lemmas.List.Elements.{Contains-push_cases}
 use Rattle.std.proofs.lemmas.List.Concat.{flat_map-append}
 use Rattle.cdi_positions.specs.Marks.{marked_count, marked_from}
 use Rattle.cdi_positions.proofs.MarkLemmas.{length-marked_from, marked_from-none, marked_from-set, marked_from-unset, HasOneMore}
@@ -23,7 +21,7 @@ use Rattle.cdi_match.specs.declared.followers.Links.TheVariants as links
 use Rattle.cdi_match.specs.declared.walk.Walk.{Walk}
 use Rattle.cdi_match.specs.Chain.{ChainFromOne, Steps, has, leads}
 use Rattle.cdi_match.specs.Search.{Adds, Closing, is_led_to, kind_of, listed_by, next_of}
-use Rattle.cdi_match.specs.Walk.{declared_among, has_met, has_mark, HasPositions, IsPlaced, IsWalking, Meets}
+use Rattle.cdi_match.specs.Walk.{declared_among, has_met, has_mark, IsWalking, Meets}
 use Rattle.cdi_match.specs.Walk.{HasMarks, names_at, names_left, next_declared, tasks}
 use Rattle.cdi_match.proofs.Names.{one_name, same_text}
 use Rattle.cdi_match.proofs.SearchLemmas.{Adds-again, Adds-new, Adds-none, Adds-then, Closing-all, Closing-start, Closing-step}
@@ -180,10 +178,6 @@ Meets-new which ds name old new i at bound has unmarked marked put =
           let marks : length (filter not new.marks) ≡ length (filter not (slice_set old.marks i true)) =
           ap (λ ms. length (filter not ms)) marked in
           omega (arith, fewer, marks, longer i old.left new.left one);
-      placed = λ were j is. elim (cases_eq j i) [
-        | inl same ↦ (name, at ∙ ap Some (sym same))
-        | inr other ↦ were j (sym (marked_at old.marks i j other) ∙ sym (ap (λ ms. slice_index_or ms j false) marked) ∙ is)
-      ];
     }
   where
     not_left : (b : Bool) → slice_index_or old.left i false ≡ b → slice_index_or old.left i false ≡ false
@@ -203,7 +197,6 @@ Meets-again which ds name w i at was =
           (marked-again kind ds w.marks name found) found refl);
       kept = λ has. has;
       same_tasks = refl;
-      placed = λ were. were;
     }
 
 pub Meets-none : (which : Links) (ds : List Decl) (w : Walk) → Meets which ds [] w w
@@ -211,7 +204,6 @@ Meets-none which ds w = record {
   adds = Adds-none (has_met which ds w) (names_left ds w);
   kept = λ has. has;
   same_tasks = refl;
-  placed = λ were. were;
 }
 
 -- a name is found, and then others
@@ -224,7 +216,6 @@ Meets-cons which ds name names a b c m n = record {
       (has_met which ds b) (names_left ds b) (has_met which ds c) (names_left ds c) m.adds n.adds);
   kept = λ has. n.kept (m.kept has);
   same_tasks = n.same_tasks ∙ m.same_tasks;
-  placed = λ were. n.placed (m.placed were);
 }
 
 -- ---- a walk
@@ -377,67 +368,6 @@ walk-all which ds starts w s walking empty is =
     )
     (is_led_to_decides which ds starts s)
 
--- ---- where the found declarations stand
-
--- a position is among those that are marked just where its mark is set
-abbrev IsMarkedFrom : ℕ → List Bool → ℕ → Type 0
-IsMarkedFrom n ms i = (k : ℕ) × (i ≡ n + k) × (slice_index_or ms k false ≡ true)
-
-marked_from-has : (n : ℕ) (ms : List Bool) (i : ℕ) → Contains (marked_from n ms) i ↔ IsMarkedFrom n ms i
-marked_from-has n [] i = (λ c. absurd (omega (arith, c.1)), λ m. absurd (false≢true m.2))
-marked_from-has n (true ∷ ms) i =
-    let rest = marked_from-has (n + 1) ms i in (
-      λ c. elim (Contains-append_cases (n ∷ []) (marked_from (n + 1) ms) i c) [
-        | inl here ↦ (0, first here, refl)
-        | inr later ↦ (let more = rest.0 later in (suc more.0, omega (arith, more.1), more.2))
-      ],
-      λ m. at rest.1 m.0 m.1 m.2,
-    )
-  where
-    first : Contains (n ∷ []) i → i ≡ n + 0
-    first here = elim (Contains-push_cases [] n i here) [
-      | inl none ↦ absurd (omega (arith, none.1))
-      | inr same ↦ omega (arith, same)
-    ]
-
-    at : (IsMarkedFrom (n + 1) ms i → Contains (marked_from (n + 1) ms) i) → (k : ℕ) → i ≡ n + k
-        → slice_index_or (true ∷ ms) k false ≡ true → Contains (n ∷ marked_from (n + 1) ms) i
-    at more zero e is =
-        let same : n ≡ i = omega (arith, e) in
-        Contains-append_left (n ∷ []) (marked_from (n + 1) ms) i (subst (Contains (n ∷ [])) same (Contains-push [] n))
-    at more (suc k) e is = Contains-append_right (n ∷ []) (marked_from (n + 1) ms) i (more (k, omega (arith, e), is))
-marked_from-has n (false ∷ ms) i =
-    let rest = marked_from-has (n + 1) ms i in (
-      λ c. (let more = rest.0 c in (suc more.0, omega (arith, more.1), more.2)),
-      λ m. at rest.1 m.0 m.1 m.2,
-    )
-  where
-    at : (IsMarkedFrom (n + 1) ms i → Contains (marked_from (n + 1) ms) i) → (k : ℕ) → i ≡ n + k
-        → slice_index_or (false ∷ ms) k false ≡ true → Contains (marked_from (n + 1) ms) i
-    at more zero e is = absurd (false≢true is)
-    at more (suc k) e is = more (k, omega (arith, e), is)
-
--- where none is left, those that are marked are the declarations to which chains lead
-pub walk-positions : (which : Links) (ds : List Decl) (starts : List (List ℕ)) (marks : List Bool) → IsPlaced which ds marks
-    → ((s : List ℕ) → is_some (find_decl (kind_of which) s ds) ≡ true
-    → has_mark marks (position (is_of (kind_of which) s) ds) ≡ is_led_to which ds starts s)
-    → HasPositions which ds starts (marked_from 0 marks)
-walk-positions which ds starts marks placed found i =
-    let marked = marked_from-has 0 marks i in (
-      λ c.
-          let at = marked.0 c in
-          let is : slice_index_or marks i false ≡ true = same_mark (omega (arith, at.1)) at.2 in
-          let named = placed i is in
-          (named.0, named.1, sym (found named.0 (declared named.0 named.1)) ∙ ap (has_mark marks) named.1 ∙ is),
-      λ led. marked.1 (i, omega arith, sym (ap (has_mark marks) led.1) ∙ found led.0 (declared led.0 led.1) ∙ led.2),
-    )
-  where
-    same_mark : {k : ℕ} → i ≡ k → slice_index_or marks k false ≡ true → slice_index_or marks i false ≡ true
-    same_mark same is = ap (λ k. slice_index_or marks k false) same ∙ is
-
-    declared : (s : List ℕ) → position (is_of (kind_of which) s) ds ≡ Some i → is_some (find_decl (kind_of which) s ds) ≡ true
-    declared s at = sym (position-found (kind_of which) s ds) ∙ ap is_some at
-
 -- ---- where no start is declared
 
 -- no chain leads to what is declared
@@ -460,17 +390,6 @@ back-none which ds s none = elim (cases_Bool (is_some (find_decl (kind_of which)
   | inr is ↦ ap (λ names. is_led_to which ds names s) (next-undeclared which ds s is)
 ]
 
--- where nothing is declared, no position is marked
-pub unmarked-positions : (which : Links) (ds : List Decl) (starts : List (List ℕ)) (marks : List Bool) → declared_among which ds starts ≡ []
-    → ((i : ℕ) → slice_index_or marks i false ≡ false) → HasPositions which ds starts (marked_from 0 marks)
-unmarked-positions which ds starts marks none blank =
-    walk-positions which ds starts marks (λ i is. absurd (false≢true (sym (blank i) ∙ is)))
-    (λ s is. unmarked (position (is_of (kind_of which) s) ds) ∙ sym (led-none which ds starts s none is))
-  where
-    unmarked : (o : Option ℕ) → has_mark marks o ≡ false
-    unmarked None = refl
-    unmarked (Some i) = blank i
-
 -- ---- the first that is declared
 
 among-one : (which : Links) (ds : List Decl) (name : List ℕ) (names : List (List ℕ))
@@ -489,5 +408,4 @@ Meets-first which ds name names all i a b c at first m n =
           (among-one which ds name names is ∙ sym first) both.adds;
       kept = both.kept;
       same_tasks = both.same_tasks;
-      placed = both.placed;
     }

@@ -1,6 +1,5 @@
 -- The bindings that uses of binding types bring with them (Interceptors 2.1, Interceptor Binding Types).
 use Rattle.std.specs.Prelude.{◌↔◌, ◌⊎◌, ℕ, Bool, List, [], ◌++◌, map, length, filter, flat_map, Contains, Option, Some, None}
-use Rattle.std.specs.Prelude.{slice_get}
 use Rattle.std.specs.Borrow.{Bor}
 use Rattle.cdi_model.specs.Quals.{name_of_use}
 use Rattle.cdi_model.specs.declared.decl.BindingDecl.{BindingDecl}
@@ -54,18 +53,6 @@ with_brought ds uses = uses ++ flat_map (brought ds) (types_brought ds (map name
 -- A use is one of them, or the declaration of a binding type declares it that they bring.
 abbrev pub HasBinding : List Decl → List Qual → Qual → Type 0
 HasBinding ds uses u = Contains uses u ⊎ ((b : List ℕ) × BringsType ds (map name_of_use uses) b × Contains (brought ds b) u)
-
--- the uses that the binding type declares which stands at a position
-abbrev pub declared_at : List Decl → ℕ → List Qual
-declared_at ds position = brought_by (as_binding (slice_get ds position))
-
--- some uses, and behind them those that are declared by the binding types at some positions
-abbrev pub with_declared : List Decl → List Qual → List ℕ → List Qual
-with_declared ds uses positions = uses ++ flat_map (declared_at ds) positions
-
--- Two lists have the same uses.
-abbrev pub HaveTheSame : List Qual → List Qual → Type 0
-HaveTheSame uses others = (u : Qual) → Contains uses u ↔ Contains others u
 
 -- the uses that are lent
 abbrev pub uses_in : List (Bor Qual) → List Qual

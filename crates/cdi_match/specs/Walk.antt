@@ -1,5 +1,5 @@
 -- The search for declared names that chains lead to, which keeps positions of declarations.
-use Rattle.std.specs.Prelude.{◌≡◌, ◌+◌, ◌↔◌, ℕ, Bool, true, false, not, List, length, flat_map, Contains}
+use Rattle.std.specs.Prelude.{◌≡◌, ◌+◌, ℕ, Bool, true, false, not, List, length, flat_map}
 use Rattle.std.specs.Prelude.{Option, Some, None, is_some, option_map}
 use Rattle.std.specs.Prelude.{position, slice_get}
 use Rattle.std.specs.List.{filter}
@@ -10,7 +10,7 @@ use Rattle.cdi_model.specs.DeclList.{find_decl, is_of, limit}
 use Rattle.cdi_model.specs.declared.decl.Decl.{Decl}
 use Rattle.cdi_match.specs.declared.followers.Links.{Links}
 use Rattle.cdi_match.specs.declared.walk.Walk.{Walk}
-use Rattle.cdi_match.specs.Search.{Adds, Closing, is_led_to, kind_of, next_of}
+use Rattle.cdi_match.specs.Search.{Adds, Closing, kind_of, next_of}
 
 -- the position is marked, if there is one
 abbrev pub has_mark : List Bool → Option ℕ → Bool
@@ -56,19 +56,9 @@ pub record HasMarks (w : Walk) : Type 0 where
 abbrev pub has_none_left : Walk → Type 0
 has_none_left w = marked_count w.left ≡ 0
 
--- each position that is marked is that of the declaration of a name
-abbrev pub IsPlaced : Links → List Decl → List Bool → Type 0
-IsPlaced which ds marks = (i : ℕ) → is_marked marks i ≡ true → (s : List ℕ) × (position (is_of (kind_of which) s) ds ≡ Some i)
-
 -- the declarations of some names were found, and those that are new are left to be taken
 pub record Meets (which : Links) (ds : List Decl) (names : List (List ℕ)) (old new : Walk) : Type 0 where
   pub adds : Adds (declared_among which ds names) (has_met which ds old) (names_left ds old) (has_met which ds new)
       (names_left ds new)
   pub kept : HasMarks old → HasMarks new
   pub same_tasks : tasks new ≡ tasks old
-  pub placed : IsPlaced which ds old.marks → IsPlaced which ds new.marks
-
--- The positions are just those of the declarations of the names to which chains lead from the starts.
-abbrev pub HasPositions : Links → List Decl → List (List ℕ) → List ℕ → Type 0
-HasPositions which ds starts positions = (i : ℕ) → Contains positions i
-    ↔ ((s : List ℕ) × (position (is_of (kind_of which) s) ds ≡ Some i) × (is_led_to which ds starts s ≡ true))

@@ -51,17 +51,6 @@ impl<'a> Model for Followers<'a> {
 }
 
 impl<'a> Followers<'a> {
-    /// The types of some uses.
-    pub(crate) fn of_uses(uses: &'a [Qual]) -> Followers<'a>
-        ensures { result ≡ map name_of_use uses.now }
-    {
-        Followers {
-            first: None,
-            names: &[],
-            uses,
-        }
-    }
-
     /// What a declaration lists, if there is one.
     fn of(links: Links, decl: Option<&'a Decl>) -> Followers<'a>
         ensures { result ≡ listed_by links (option_copied decl.entry) }

@@ -1,11 +1,10 @@
 //! The search for declared names to which chains lead, which takes no memory.
 ghost use Rattle.std.specs.Prelude.{◌≡◌, ◌<◌, ◌∷◌, [], List, ℕ, Option, Some, Bool, true, false, position, IfSome, IfNone};
-ghost use Rattle.cdi_positions.specs.Marks.{marked_from};
 ghost use Rattle.cdi_model.specs.declared.decl.Decl.{Decl as AnyDecl};
 ghost use Rattle.cdi_model.specs.DeclList.{is_of, limit};
 ghost use Rattle.cdi_match.specs.declared.followers.Links.{Links as AnyLinks};
 ghost use Rattle.cdi_match.specs.Search.{is_led_to, kind_of, next_of};
-ghost use Rattle.cdi_match.specs.Walk.{declared_among, has_mark, has_none_left, tasks, HasMarks, HasPositions, IsPlaced, IsWalking};
+ghost use Rattle.cdi_match.specs.Walk.{declared_among, has_mark, has_none_left, tasks, HasMarks, IsWalking};
 ghost use Rattle.cdi_match.specs.Walk.{Meets};
 
 use crate::followers::{Followers, Links, following};
@@ -36,7 +35,6 @@ impl Walk {
     fn from(decls: &Decls, links: Links, names: Followers<'_>) -> Option<Walk>
         ensures none { IfNone result (declared_among links decls.now names.entry ≡ []) }
         ensures walking { IfSome result (λ walk. IsWalking links decls.now names.entry walk) }
-        ensures placed { IfSome result (λ walk. IsPlaced links decls.now walk.marks) }
         ensures kept { IfSome result (λ walk. HasMarks walk) }
     {
         let mut names = names;
@@ -84,7 +82,6 @@ impl Walk {
         requires { HasMarks self.old }
         ensures walking { (starts : List (List ℕ)) → IsWalking links decls.now starts self.old
             → IsWalking links decls.now starts self.new }
-        ensures placed { IsPlaced links decls.now self.old.marks → IsPlaced links decls.now self.new.marks }
         ensures kept { HasMarks self.new }
         ensures less { result ≡ true → tasks self.new < tasks self.old }
         ensures end { result ≡ false → has_none_left self.old }
@@ -131,18 +128,4 @@ pub(crate) fn reaches_itself(decls: &Decls, links: Links, name: &Name) -> bool
         }
     }
     true
-}
-
-/// The positions of the declarations to which chains lead from some names. It takes no memory.
-pub(crate) fn positions_from(decls: &Decls, links: Links, names: Followers<'_>) -> PositionSet
-    ensures { HasPositions links decls.now names.entry (marked_from 0 result) }
-{
-    let Some(mut walk) = Walk::from(decls, links, names) else {
-        return PositionSet::new();
-    };
-    'taken: loop {
-        if !walk.take_one(decls, links) {
-            return walk.marks;
-        }
-    }
 }

@@ -21,13 +21,14 @@ pub(crate) fn binding_conflicts(
     let mut subjects = Vec::new(alloc);
     if let (Decl::Bean(bean), Some(managed)) = (decl, beans.first()) {
         let class = managed.bindings.as_slice();
-        push_conflicts(decls, class, bean, &mut subjects)?;
+        push_conflicts(alloc, decls, class, bean, &mut subjects)?;
     }
     Ok(subjects)
 }
 
 /// Appends those of a bean whose class has these bindings.
 fn push_conflicts(
+    alloc: Global,
     decls: &Decls,
     class: &[Qual],
     bean: &BeanDecl,
@@ -35,21 +36,22 @@ fn push_conflicts(
 ) -> Result<(), AllocError>
     ensures { OnOk result (subjects.new.items ≡ subjects.old.items ++ conflicts_in decls.now class.now bean.now) }
 {
-    push_if_opposed(decls, class, bean, &BeanPlace::Construct, subjects)?;
+    push_if_opposed(alloc, decls, class, bean, &BeanPlace::Construct, subjects)?;
     for method in bean.methods.as_slice() {
         let place = BeanPlace::Method(method.name);
-        push_if_opposed(decls, class, bean, &place, subjects)?;
+        push_if_opposed(alloc, decls, class, bean, &place, subjects)?;
     }
-    push_of_producers(decls, class, bean, subjects)?;
+    push_of_producers(alloc, decls, class, bean, subjects)?;
     for observer in bean.observers.as_slice() {
         let place = BeanPlace::Observer(observer.name);
-        push_if_opposed(decls, class, bean, &place, subjects)?;
+        push_if_opposed(alloc, decls, class, bean, &place, subjects)?;
     }
     Ok(())
 }
 
 /// Appends the producer methods that are not static at which two differ.
 fn push_of_producers(
+    alloc: Global,
     decls: &Decls,
     class: &[Qual],
     bean: &BeanDecl,
@@ -60,7 +62,7 @@ fn push_of_producers(
     for producer in bean.producers.as_slice() {
         if !producer.is_static {
             let place = BeanPlace::Producer(producer.name);
-            push_if_opposed(decls, class, bean, &place, subjects)?;
+            push_if_opposed(alloc, decls, class, bean, &place, subjects)?;
         }
     }
     Ok(())
@@ -68,6 +70,7 @@ fn push_of_producers(
 
 /// Appends the part at a place, where two bindings there differ.
 fn push_if_opposed(
+    alloc: Global,
     decls: &Decls,
     class: &[Qual],
     bean: &BeanDecl,
@@ -76,7 +79,7 @@ fn push_if_opposed(
 ) -> Result<(), AllocError>
     ensures { OnOk result (subjects.new.items ≡ subjects.old.items ++ conflict_at decls.now class.now bean.now place.now) }
 {
-    if has_conflict_at(decls, class, bean, place) {
+    if has_conflict_at(alloc, decls, class, bean, place)? {
         subjects.push(part_at(place))?;
     }
     Ok(())

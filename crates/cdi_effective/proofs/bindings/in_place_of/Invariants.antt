@@ -1,12 +1,10 @@
-use Rattle.std.proofs.Common.{◌≡◌, ◌++◌, not, filter, take}
+use Rattle.std.proofs.Common.{◌≡◌, ◌++◌, not, filter}
 use Rattle.cdi_match.specs.Bindings.{uses_in}
 use Rattle.cdi_effective.specs.Bindings.{in_place_of}
 use Rattle.cdi_effective.specs.Qualifiers.{uses_one}
 use Rattle.cdi_effective.proofs.bindings.in_place_of.Given as goal
 
 abbrev pub invariant-loop-binding : goal.invariant-loop-binding
-invariant-loop-binding l = record {
-  front : take l.count l.list.items ≡ l.fn.own.items;
-  rest : uses_in l.list.items ++ filter (λ u. not (uses_one (uses_in l.fn.own.items) u.name)) (uses_in l.binding-iterator.rest.items)
-      ≡ in_place_of (uses_in l.fn.others.items) (uses_in l.fn.own.items);
-}
+invariant-loop-binding l =
+    uses_in l.list.items ++ filter (λ u. not (uses_one (uses_in l.fn.own.items) u.name)) (uses_in l.binding-iterator.rest.items)
+    ≡ in_place_of (uses_in l.fn.others.items) (uses_in l.fn.own.items)

@@ -1,9 +1,12 @@
-use Rattle.std.proofs.Common.{◌≡◌}
-use Rattle.std.specs.List.{list_any}
-use Rattle.cdi_intercept.specs.Conflicts.{are_opposed, has_conflict}
-use Rattle.cdi_intercept.specs.PlaceSets.{uses_left, uses_of}
+use Rattle.std.proofs.Common.{◌≡◌, drop}
+use Rattle.std.specs.BTreeMap.{get}
+use Rattle.cdi_model.specs.Bytes.{byte_order}
+use Rattle.cdi_match.specs.Bindings.{uses_in}
+use Rattle.cdi_intercept.specs.Conflicts.{has_conflict, use_at}
+use Rattle.cdi_intercept.proofs.ConflictLemmas.{differ_after}
 use Rattle.cdi_intercept.proofs.conflict.has_conflict.Given as goal
 
-abbrev pub invariant-loop-binding : goal.invariant-loop-binding
-invariant-loop-binding l =
-    list_any (λ u. list_any (are_opposed l.decls u) (uses_of l.set)) (uses_left l.binding-iterator) ≡ has_conflict l.decls (uses_of l.set)
+abbrev pub invariant-loop-index : goal.invariant-loop-index
+invariant-loop-index l =
+    differ_after l.decls (λ name. use_at (uses_in l.uses) (get byte_order l.latest name)) (uses_in (drop l.index l.uses))
+    ≡ has_conflict l.decls (uses_in l.uses)

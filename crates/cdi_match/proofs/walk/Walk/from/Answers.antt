@@ -1,5 +1,3 @@
-use Rattle.std.proofs.Common.{Some, ◌∙◌, sym}
-use Rattle.std.proofs.lemmas.Bool.{false≢true}
 use Rattle.cdi_match.proofs.WalkLemmas.{walk-start, Meets-first}
 use Rattle.cdi_match.proofs.walk.Walk.from.Goals as goal
 
@@ -10,9 +8,3 @@ returns-clause-walking c =
     walk-start c.args.links ds c.args.names c.new-walk.result c.add_all.new.self c.new-walk.ensures.marks c.new-walk.ensures.left
     (Meets-first c.args.links ds first.0 c.first_declared.new.names c.args.names c.in_ok-first.first c.new-walk.result c.find.new.self
     c.add_all.new.self first.1 first.2 (c.find.ensures c.args.links ds first.0 first.1) c.add_all.ensures)
-
-pub returns-clause-placed : goal.returns-clause-placed
-returns-clause-placed c =
-    let first = c.in_ok-first.ensures.some in
-    c.add_all.ensures.placed ((c.find.ensures c.args.links c.args.decls.now first.0 first.1).placed (λ i is.
-    absurd (false≢true (sym (c.new-walk.ensures.marks (Some i)) ∙ is))))
