@@ -1,5 +1,6 @@
 //! What is told of a fault, by its code.
 use crate::advice::Advice;
+use crate::notes::Notes;
 use crate::words::filled;
 use crate::{beans, bodies, choices, declared, names, types, uses};
 use cdi_bodies::Bodies;
@@ -28,9 +29,14 @@ pub(crate) struct Part<'a> {
 }
 
 impl<'a> Adviser<'a> {
-    /// What is told of a fault of a deployment with these stored bodies. It takes memory for its texts, and time near the number of
-    /// declarations and beans.
-    pub fn advise<B: Bodies>(&self, book: &B, fault: &Fault) -> Result<Advice, AllocError> {
+    /// What is told of a fault of a deployment with these stored bodies, by notes on other faults of the same deployment too. It takes
+    /// memory for its texts and for what it notes, and time near the number of declarations and beans.
+    pub fn advise<B: Bodies>(
+        &self,
+        notes: &mut Notes,
+        book: &B,
+        fault: &Fault,
+    ) -> Result<Advice, AllocError> {
         match fault {
             Fault::Declared {
                 code,
@@ -38,12 +44,12 @@ impl<'a> Adviser<'a> {
                 name,
                 subject,
             } => match self.decls.get(*kind, name) {
-                Some(decl) => self.advise_in(book, *code, Part { decl, subject }),
+                Some(decl) => self.advise_in(notes, book, *code, Part { decl, subject }),
                 None => self.help("the declaration is not there any more", &[]),
             },
             Fault::NameClash(name) => names::clash(self, *name),
             Fault::NamePrefix(name, longer) => names::prefix(self, *name, *longer),
-            Fault::Circular { class, producer } => beans::circle(self, *class, *producer),
+            Fault::Circular { class, producer } => beans::circle(self, notes, *class, *producer),
             Fault::SpecializedTwice {
                 specialized,
                 first,
@@ -54,20 +60,26 @@ impl<'a> Adviser<'a> {
 
     fn advise_in<B: Bodies>(
         &self,
+        notes: &mut Notes,
         book: &B,
         code: Code,
         part: Part<'_>,
     ) -> Result<Advice, AllocError> {
         match code {
-            Code::Body => bodies::unfit(self, book, part),
-            _ => self.advise_on_part(code, part),
+            Code::Body => bodies::unfit(self, notes, book, part),
+            _ => self.advise_on_part(notes, code, part),
         }
     }
 
-    fn advise_on_part(&self, code: Code, part: Part<'_>) -> Result<Advice, AllocError> {
+    fn advise_on_part(
+        &self,
+        notes: &mut Notes,
+        code: Code,
+        part: Part<'_>,
+    ) -> Result<Advice, AllocError> {
         match code {
-            Code::UnknownName => declared::unknown(self, part),
-            Code::Cycle => types::cycle(self, part),
+            Code::UnknownName => declared::unknown(self, notes, part),
+            Code::Cycle => types::cycle(self, notes, part),
             Code::BadKind => types::bad_kind(self, part),
             Code::Typed => types::typed(self, part),
             Code::ScopeConflict => beans::scope_conflict(self, part),
@@ -76,10 +88,10 @@ impl<'a> Adviser<'a> {
             Code::Disposer => beans::disposer(self, part),
             Code::ConditionalDependent => beans::conditional(self),
             Code::NoBinding => self.help("list what it binds to, as bindings = [\"Log\"]", &[]),
-            Code::Unsatisfied => choices::unsatisfied(self, part),
-            Code::Ambiguous => choices::ambiguous(self, part),
-            Code::Unproxyable => choices::unproxyable(self, part),
-            Code::Site => choices::site(self, part),
+            Code::Unsatisfied => choices::unsatisfied(self, notes, part),
+            Code::Ambiguous => choices::ambiguous(self, notes, part),
+            Code::Unproxyable => choices::unproxyable(self, notes, part),
+            Code::Site => choices::site(self, notes, part),
             Code::NoSpecialized => beans::no_specialized(self, part),
             Code::SpecializedType => beans::specialized_type(self, part),
             Code::SpecializedName => beans::specialized_name(self),

@@ -2,6 +2,7 @@
 use crate::advice::Advice;
 use crate::adviser::{Adviser, Part};
 use crate::circles::circle_of_needs;
+use crate::notes::Notes;
 use crate::words::{filled, listed, text_of};
 use cdi_effective::BeanId;
 use cdi_faults::Subject;
@@ -108,11 +109,12 @@ pub(crate) fn specialized_twice(
 /// A dependent bean needs itself.
 pub(crate) fn circle(
     adviser: &Adviser<'_>,
+    notes: &mut Notes,
     class: Name,
     producer: Option<Ident>,
 ) -> Result<Advice, AllocError> {
     let id = BeanId { class, producer };
-    let way = match circle_of_needs(adviser, id)? {
+    let way = match circle_of_needs(adviser, notes, id)? {
         Some(way) => way,
         None => text_of(adviser.alloc, &id)?,
     };

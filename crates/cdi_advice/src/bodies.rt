@@ -1,7 +1,8 @@
 //! Stored bodies that do not fit.
 use crate::advice::Advice;
 use crate::adviser::{Adviser, Part};
-use crate::near::nearest_ident;
+use crate::near::nearest_body;
+use crate::notes::Notes;
 use crate::words::text_of;
 use cdi_bodies::{Bodies, Promise};
 use cdi_faults::Subject;
@@ -12,6 +13,7 @@ use std::alloc::AllocError;
 /// A body that is not in the book, or that may do more than is allowed where it runs.
 pub(crate) fn unfit<B: Bodies>(
     adviser: &Adviser<'_>,
+    notes: &mut Notes,
     book: &B,
     part: Part<'_>,
 ) -> Result<Advice, AllocError> {
@@ -22,14 +24,14 @@ pub(crate) fn unfit<B: Bodies>(
         return adviser.see();
     };
     match book.promise(body) {
-        None => unknown(adviser, body),
+        None => unknown(adviser, notes, body),
         Some(promise) => forbidden(adviser, part, place, body, promise),
     }
 }
 
 /// A body that is not in the book.
-fn unknown(adviser: &Adviser<'_>, body: &Ident) -> Result<Advice, AllocError> {
-    match nearest_ident(adviser.alloc, body, adviser.body_names)? {
+fn unknown(adviser: &Adviser<'_>, notes: &mut Notes, body: &Ident) -> Result<Advice, AllocError> {
+    match nearest_body(adviser, notes, body)? {
         Some(near) => adviser.help(
             "no body has the name {}: write {} if that is meant, or name another that the book has",
             &[body.as_str(), near.as_str()],

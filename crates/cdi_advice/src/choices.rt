@@ -1,65 +1,89 @@
 //! Injection points and call sites.
-use crate::advice::{Advice, Candidate};
+use crate::advice::{Advice, Beans};
 use crate::adviser::{Adviser, Part};
 use crate::near::nearest_ident;
+use crate::notes::Notes;
 use crate::verdicts::text_of_verdict;
-use crate::words::{filled, listed, text_of};
-use cdi_effective::{BeanId, Effective};
+use crate::words::{List, filled, listed, text_of};
+use cdi_effective::BeanId;
 use cdi_explain::{Disabled, Verdict, verdicts_on_choice};
 use cdi_faults::Subject;
 use cdi_model::{
     BeanDecl, Decl, Form, Ident, Kind, Mention, Name, PartPlace, PointDecl, PointPlace, Quals,
     TypeDecl,
 };
+use indexmap::IndexSet;
 use std::alloc::{AllocError, Global};
 
 /// No bean fits an injection point.
-pub(crate) fn unsatisfied(adviser: &Adviser<'_>, part: Part<'_>) -> Result<Advice, AllocError> {
+pub(crate) fn unsatisfied(
+    adviser: &Adviser<'_>,
+    notes: &mut Notes,
+    part: Part<'_>,
+) -> Result<Advice, AllocError> {
     let Some(point) = point_at_fault(part) else {
         return adviser.see();
     };
-    let mut advice = on_point(adviser, point)?;
-    advice.help = help_for_unsatisfied(adviser, point, advice.candidates.as_slice())?;
-    Ok(advice)
+    let considered = considered_at(adviser, notes, point)?;
+    let help = help_for_unsatisfied(adviser, point, &considered)?;
+    Ok(considered.into_advice(help))
 }
 
 /// Several beans fit an injection point.
-pub(crate) fn ambiguous(adviser: &Adviser<'_>, part: Part<'_>) -> Result<Advice, AllocError> {
+pub(crate) fn ambiguous(
+    adviser: &Adviser<'_>,
+    notes: &mut Notes,
+    part: Part<'_>,
+) -> Result<Advice, AllocError> {
     let Some(point) = point_at_fault(part) else {
         return adviser.see();
     };
-    let mut advice = on_point(adviser, point)?;
-    let tied = tied_among(adviser.alloc, advice.candidates.as_slice())?;
-    let tied = listed(adviser.alloc, tied.as_slice())?;
-    advice.help = filled(
+    let considered = considered_at(adviser, notes, point)?;
+    let help = filled(
         adviser.alloc,
         "make one of {} an alternative with a greater priority than the others, or ask at {} for a qualifier that one of them alone has",
-        &[tied.as_str(), point.name.as_str()],
+        &[considered.tied.as_str(), point.name.as_str()],
     )?;
-    Ok(advice)
+    Ok(considered.into_advice(help))
 }
 
 /// What is chosen for an injection point cannot be put behind its type.
-pub(crate) fn unproxyable(adviser: &Adviser<'_>, part: Part<'_>) -> Result<Advice, AllocError> {
+pub(crate) fn unproxyable(
+    adviser: &Adviser<'_>,
+    notes: &mut Notes,
+    part: Part<'_>,
+) -> Result<Advice, AllocError> {
     let Some(point) = point_at_fault(part) else {
         return adviser.see();
     };
-    let mut advice = on_point(adviser, point)?;
-    let Some(chosen) = chosen_among(adviser, advice.candidates.as_slice()) else {
-        return Ok(advice);
+    let considered = considered_at(adviser, notes, point)?;
+    let help = help_for_unproxyable(adviser.alloc, &point.required_type, considered.chosen)?;
+    Ok(considered.into_advice(help))
+}
+
+/// What to write where the bean that is chosen for a type cannot be put behind it.
+fn help_for_unproxyable(
+    alloc: Global,
+    required_type: &Name,
+    chosen: Option<BeanId>,
+) -> Result<String, AllocError> {
+    let Some(chosen) = chosen else {
+        return Ok(String::new(alloc));
     };
-    let bean = text_of(adviser.alloc, &chosen.id)?;
-    let bean = bean.as_str();
-    advice.help = filled(
-        adviser.alloc,
+    let bean = text_of(alloc, &chosen)?;
+    filled(
+        alloc,
         "leave final out of the type {}, or ask for an interface of {}; or give {} the scope dependent and no interceptor",
-        &[point.required_type.as_str(), bean, bean],
-    )?;
-    Ok(advice)
+        &[required_type.as_str(), bean.as_str(), bean.as_str()],
+    )
 }
 
 /// A call site names a point that its body does not see, or a method that the chosen bean does not have.
-pub(crate) fn site(adviser: &Adviser<'_>, part: Part<'_>) -> Result<Advice, AllocError> {
+pub(crate) fn site(
+    adviser: &Adviser<'_>,
+    notes: &mut Notes,
+    part: Part<'_>,
+) -> Result<Advice, AllocError> {
     let Subject::Call {
         place,
         point,
@@ -69,7 +93,7 @@ pub(crate) fn site(adviser: &Adviser<'_>, part: Part<'_>) -> Result<Advice, Allo
         return adviser.see();
     };
     match point_seen(part, place, point) {
-        Some(point) => lacking_method(adviser, point, method),
+        Some(point) => lacking_method(adviser, notes, point, method),
         None => unseen_point(adviser, part, place, point),
     }
 }
@@ -99,16 +123,25 @@ fn unseen_point(
 /// A call site names a method that the bean chosen for its point does not have.
 fn lacking_method(
     adviser: &Adviser<'_>,
+    notes: &mut Notes,
     point: &PointDecl,
     method: &Ident,
 ) -> Result<Advice, AllocError> {
-    let mut advice = on_point(adviser, point)?;
-    let methods = match chosen_among(adviser, advice.candidates.as_slice()) {
-        Some(chosen) => methods_of(adviser.alloc, adviser.bean(&chosen.id.class))?,
-        None => Vec::new(adviser.alloc),
-    };
-    advice.help = help_for_lacking_method(adviser.alloc, &point.name, method, methods.as_slice())?;
-    Ok(advice)
+    let considered = considered_at(adviser, notes, point)?;
+    let methods = methods_of_chosen(adviser, considered.chosen)?;
+    let help = help_for_lacking_method(adviser.alloc, &point.name, method, methods.as_slice())?;
+    Ok(considered.into_advice(help))
+}
+
+/// The methods of a bean that is chosen, if one is.
+fn methods_of_chosen(
+    adviser: &Adviser<'_>,
+    chosen: Option<BeanId>,
+) -> Result<Vec<Ident>, AllocError> {
+    match chosen {
+        Some(chosen) => methods_of(adviser.alloc, adviser.bean(&chosen.class)),
+        None => Ok(Vec::new(adviser.alloc)),
+    }
 }
 
 /// What to write where a bean has no such method.
@@ -210,32 +243,135 @@ fn methods_of(alloc: Global, bean: Option<&BeanDecl>) -> Result<Vec<Ident>, Allo
     Ok(names)
 }
 
-/// The beans that have the type that an injection point requires, with their verdicts.
-fn on_point(adviser: &Adviser<'_>, point: &PointDecl) -> Result<Advice, AllocError> {
-    let alloc = adviser.alloc;
-    let wanted = &point.required_type;
-    let quals = &point.qualifiers;
-    let beans = adviser.beans.as_slice();
-    let verdicts = verdicts_on_choice(alloc, adviser.decls, beans, *wanted, quals)?;
-    let mut candidates = Vec::new(alloc);
-    let mut others = 0usize;
-    for (bean, verdict) in beans.iter().zip(verdicts) {
-        if verdict == Verdict::LacksType {
-            others = others.saturating_add(1);
-        } else {
-            candidates.push(Candidate {
-                bean: bean.id,
-                verdict: Some(verdict),
-                text: text_of_verdict(adviser, bean, verdict, quals.as_slice())?,
-            })?;
+/// What is told of the beans that have a type, where one with some qualifiers is wanted.
+#[derive(Drop)]
+pub(crate) struct Considered {
+    wanted: String,
+    beans: Beans,
+    /// The beans that fit as well as others, as a list.
+    tied: String,
+    chosen: Option<BeanId>,
+    /// The first bean to which little is wanting: a qualifier, or a priority.
+    nearly: Option<(BeanId, Verdict)>,
+}
+
+impl Considered {
+    fn of(adviser: &Adviser<'_>, wanted: &Name, quals: &Quals) -> Result<Considered, AllocError> {
+        let alloc = adviser.alloc;
+        let beans = adviser.beans.as_slice();
+        let verdicts = verdicts_on_choice(alloc, adviser.decls, beans, *wanted, quals)?;
+        let mut told = Beans::new(alloc);
+        let mut tied = List::new(alloc);
+        let mut chosen = None;
+        let mut nearly = None;
+        for (bean, verdict) in beans.iter().zip(verdicts) {
+            if verdict != Verdict::LacksType && told.has_room() {
+                told.push(
+                    bean.id,
+                    text_of_verdict(adviser, bean, verdict, quals.as_slice())?,
+                )?;
+            } else {
+                told.pass();
+            }
+            match verdict {
+                Verdict::Tied => tied.push(&bean.id)?,
+                Verdict::Chosen => chosen = Some(bean.id),
+                _ if is_nearly(verdict) && nearly.is_none() => nearly = Some((bean.id, verdict)),
+                _ => {}
+            }
+        }
+        Ok(Considered {
+            wanted: text_of_wanted(alloc, wanted, quals)?,
+            beans: told,
+            tied: tied.into_text()?,
+            chosen,
+            nearly,
+        })
+    }
+
+    /// The same where no bean has the type.
+    fn of_none(
+        adviser: &Adviser<'_>,
+        wanted: &Name,
+        quals: &Quals,
+    ) -> Result<Considered, AllocError> {
+        let alloc = adviser.alloc;
+        let mut beans = Beans::new(alloc);
+        beans.others = adviser.beans.as_slice().len();
+        Ok(Considered {
+            wanted: text_of_wanted(alloc, wanted, quals)?,
+            beans,
+            tied: List::new(alloc).into_text()?,
+            chosen: None,
+            nearly: None,
+        })
+    }
+
+    fn copy(&self, alloc: Global) -> Result<Considered, AllocError> {
+        Ok(Considered {
+            wanted: self.wanted.clone()?,
+            beans: self.beans.copy(alloc)?,
+            tied: self.tied.clone()?,
+            chosen: self.chosen,
+            nearly: self.nearly,
+        })
+    }
+
+    fn into_advice(self, help: String) -> Advice {
+        Advice {
+            wanted: Some(self.wanted),
+            beans: self.beans,
+            help,
         }
     }
-    Ok(Advice {
-        wanted: Some(text_of_wanted(alloc, wanted, quals)?),
-        candidates,
-        others,
-        help: String::new(alloc),
-    })
+}
+
+/// Whether little is wanting to a bean with a verdict.
+fn is_nearly(verdict: Verdict) -> bool {
+    matches!(
+        verdict,
+        Verdict::LacksQualifier { .. } | Verdict::Disabled(Disabled::NoPriority)
+    )
+}
+
+/// What is told of the beans that have the type that an injection point requires. Points that ask for the same share it.
+fn considered_at(
+    adviser: &Adviser<'_>,
+    notes: &mut Notes,
+    point: &PointDecl,
+) -> Result<Considered, AllocError> {
+    let alloc = adviser.alloc;
+    let (wanted, quals) = (&point.required_type, &point.qualifiers);
+    if let Some(considered) = notes.points.get(wanted, quals) {
+        return considered.copy(alloc);
+    }
+    if !is_type_of_bean(adviser, notes, wanted)? {
+        return Considered::of_none(adviser, wanted, quals);
+    }
+    let considered = Considered::of(adviser, wanted, quals)?;
+    let kept = considered.copy(alloc)?;
+    notes.points.keep(*wanted, quals.copy()?, kept)?;
+    Ok(considered)
+}
+
+/// Whether a bean has a type, enabled or not.
+fn is_type_of_bean(
+    adviser: &Adviser<'_>,
+    notes: &mut Notes,
+    wanted: &Name,
+) -> Result<bool, AllocError> {
+    if let Some(types) = &notes.types {
+        return Ok(types.contains(wanted));
+    }
+    let mut types = IndexSet::new(adviser.alloc);
+    for bean in adviser.beans.as_slice() {
+        for name in bean.types.as_slice() {
+            types.insert(*name)?;
+        }
+    }
+    let is_type = types.contains(wanted);
+    notes.types = Some(types);
+    Ok(is_type)
 }
 
 /// A type and qualifiers, as a question writes them.
@@ -247,50 +383,26 @@ fn text_of_wanted(alloc: Global, wanted: &Name, quals: &Quals) -> Result<String,
     filled(alloc, "{} {}", &[wanted.as_str(), quals.as_str()])
 }
 
-/// The tied beans among some.
-fn tied_among(alloc: Global, candidates: &[Candidate]) -> Result<Vec<BeanId>, AllocError> {
-    let mut tied = Vec::new(alloc);
-    for candidate in candidates {
-        if candidate.verdict == Some(Verdict::Tied) {
-            tied.push(candidate.bean)?;
-        }
-    }
-    Ok(tied)
-}
-
-/// The chosen bean among some.
-fn chosen_among<'a>(adviser: &Adviser<'a>, candidates: &[Candidate]) -> Option<&'a Effective> {
-    for candidate in candidates {
-        if candidate.verdict == Some(Verdict::Chosen) {
-            return adviser.record(adviser.beans.position(candidate.bean));
-        }
-    }
-    None
-}
-
 /// What to write where no bean fits.
 fn help_for_unsatisfied(
     adviser: &Adviser<'_>,
     point: &PointDecl,
-    candidates: &[Candidate],
+    considered: &Considered,
 ) -> Result<String, AllocError> {
-    for candidate in candidates {
-        match candidate.verdict {
-            Some(Verdict::LacksQualifier { wanted, .. }) => {
-                return help_for_qualifier(adviser.alloc, point, candidate.bean, wanted);
-            }
-            Some(Verdict::Disabled(Disabled::NoPriority)) => {
-                let bean = text_of(adviser.alloc, &candidate.bean)?;
-                return filled(
-                    adviser.alloc,
-                    "give {} a priority, or make it no alternative",
-                    &[bean.as_str()],
-                );
-            }
-            _ => {}
+    match considered.nearly {
+        Some((bean, Verdict::LacksQualifier { wanted, .. })) => {
+            help_for_qualifier(adviser.alloc, point, bean, wanted)
         }
+        Some((bean, _)) => {
+            let bean = text_of(adviser.alloc, &bean)?;
+            filled(
+                adviser.alloc,
+                "give {} a priority, or make it no alternative",
+                &[bean.as_str()],
+            )
+        }
+        None => help_for_type(adviser, &point.required_type),
     }
-    help_for_type(adviser, &point.required_type)
 }
 
 /// What to write where a bean lacks a qualifier alone. None is written where `Default` is wanted.

@@ -4,6 +4,7 @@ ghost use Rattle.cdi_intercept.specs.Chains.{in_order};
 ghost use Rattle.cdi_intercept.specs.Lent.{lent_in};
 
 use crate::adviser::Adviser;
+use crate::notes::Notes;
 use crate::words::{filled, text_of};
 use cdi_effective::{BeanId, Effective};
 use cdi_intercept::{around_any, in_order};
@@ -11,7 +12,7 @@ use cdi_model::{
     BeanDecl, Decl, Decls, Ident, InterceptorDecl, Kind, Name, PointDecl, Scope, Work,
 };
 use cdi_resolve::Choice;
-use cdi_ways::{Edge, circle_through};
+use cdi_ways::{Edge, Ways};
 use std::alloc::{AllocError, Global};
 
 /// What leads from a bean to one that it needs.
@@ -44,12 +45,66 @@ impl Link {
 
 /// The edges from dependent beans to those that they need, each with what leads there.
 #[derive(Drop)]
-struct Needs {
-    edges: Vec<Edge>,
+pub(crate) struct Needs {
+    ways: Ways,
     links: Vec<Link>,
 }
 
 impl Needs {
+    /// What the dependent beans need.
+    fn of(adviser: &Adviser<'_>) -> Result<Needs, AllocError> {
+        let steps = steps_of(adviser)?;
+        Ok(Needs {
+            ways: Ways::of(adviser.alloc, steps.edges)?,
+            links: steps.links,
+        })
+    }
+
+    /// The shortest way from a bean back to itself, if there is one.
+    fn circle(&self, adviser: &Adviser<'_>, id: BeanId) -> Result<Option<String>, AllocError> {
+        let alloc = adviser.alloc;
+        let Some(start) = adviser.beans.position(id) else {
+            return Ok(None);
+        };
+        let Some(way) = self.ways.circle_through(alloc, start)? else {
+            return Ok(None);
+        };
+        let mut text = text_of(alloc, &id)?;
+        for position in way {
+            self.push_step(adviser, position, &mut text)?;
+        }
+        Ok(Some(text))
+    }
+
+    /// Appends the edge at a position, as ` (point till) -> Till`.
+    fn push_step(
+        &self,
+        adviser: &Adviser<'_>,
+        position: usize,
+        text: &mut String,
+    ) -> Result<(), AllocError> {
+        let alloc = adviser.alloc;
+        let (Some(edge), Some(link)) = (self.ways.edges().get(position), self.links.get(position))
+        else {
+            return Ok(());
+        };
+        if let Some(bean) = adviser.record(Some(edge.to)) {
+            let (link, id) = (link.text(alloc)?, text_of(alloc, &bean.id)?);
+            let step = filled(alloc, " ({}) -> {}", &[link.as_str(), id.as_str()])?;
+            text.push_str(step.as_str())?;
+        }
+        Ok(())
+    }
+}
+
+/// Such edges, while they are looked for.
+#[derive(Drop)]
+struct Steps {
+    edges: Vec<Edge>,
+    links: Vec<Link>,
+}
+
+impl Steps {
     fn push(&mut self, edge: Edge, link: Link) -> Result<(), AllocError> {
         self.edges.push(edge)?;
         self.links.push(link)?;
@@ -144,10 +199,10 @@ fn is_dependent(bean: &Effective) -> bool {
 }
 
 /// What the dependent beans need.
-fn needs_of(adviser: &Adviser<'_>) -> Result<Needs, AllocError> {
+fn steps_of(adviser: &Adviser<'_>) -> Result<Steps, AllocError> {
     let alloc = adviser.alloc;
     let order = in_order(alloc, adviser.decls)?;
-    let mut needs = Needs {
+    let mut steps = Steps {
         edges: Vec::new(alloc),
         links: Vec::new(alloc),
     };
@@ -159,42 +214,51 @@ fn needs_of(adviser: &Adviser<'_>) -> Result<Needs, AllocError> {
             continue;
         };
         match record.id.producer {
-            None => needs.push_managed(adviser, from, record, bean, &order)?,
-            Some(producer) => needs.push_product(adviser, from, bean, producer)?,
+            None => steps.push_managed(adviser, from, record, bean, &order)?,
+            Some(producer) => steps.push_product(adviser, from, bean, producer)?,
         }
     }
-    Ok(needs)
+    Ok(steps)
 }
 
 /// The shortest way from a dependent bean back to itself, if there is one, as `Cart (point till) -> Till (point cart) -> Cart`.
 pub(crate) fn circle_of_needs(
     adviser: &Adviser<'_>,
+    notes: &mut Notes,
     id: BeanId,
 ) -> Result<Option<String>, AllocError> {
-    let alloc = adviser.alloc;
-    let Some(start) = adviser.beans.position(id) else {
-        return Ok(None);
-    };
-    let needs = needs_of(adviser)?;
-    let Some(way) = circle_through(alloc, &needs.edges, start)? else {
-        return Ok(None);
-    };
-    let mut text = text_of(alloc, &id)?;
-    for position in way {
-        if let (Some(edge), Some(link)) = (needs.edges.get(position), needs.links.get(position)) {
-            if let Some(bean) = adviser.record(Some(edge.to)) {
-                let (link, id) = (link.text(alloc)?, text_of(alloc, &bean.id)?);
-                let step = filled(alloc, " ({}) -> {}", &[link.as_str(), id.as_str()])?;
-                text.push_str(step.as_str())?;
-            }
-        }
+    if let Some(needs) = &notes.needs {
+        return needs.circle(adviser, id);
     }
-    Ok(Some(text))
+    let needs = Needs::of(adviser)?;
+    let text = needs.circle(adviser, id)?;
+    notes.needs = Some(needs);
+    Ok(text)
 }
 
 /// The shortest way from a type, a stereotype or a binding type back to itself, if there is one, as `Corner -> Market -> Corner`.
 pub(crate) fn circle_of_names(
     adviser: &Adviser<'_>,
+    notes: &mut Notes,
+    kind: Kind,
+    name: Name,
+) -> Result<Option<String>, AllocError> {
+    for (of, ways) in &notes.ways {
+        if *of == kind {
+            return circle_along(adviser, ways, kind, name);
+        }
+    }
+    let edges = edges_of_names(adviser.alloc, adviser.decls, kind)?;
+    let ways = Ways::of(adviser.alloc, edges)?;
+    let text = circle_along(adviser, &ways, kind, name)?;
+    notes.ways.push((kind, ways))?;
+    Ok(text)
+}
+
+/// The same, along these ways between the declarations of the kind.
+fn circle_along(
+    adviser: &Adviser<'_>,
+    ways: &Ways,
     kind: Kind,
     name: Name,
 ) -> Result<Option<String>, AllocError> {
@@ -202,13 +266,12 @@ pub(crate) fn circle_of_names(
     let Some(start) = adviser.decls.position(kind, &name) else {
         return Ok(None);
     };
-    let edges = edges_of_names(alloc, adviser.decls, kind)?;
-    let Some(way) = circle_through(alloc, &edges, start)? else {
+    let Some(way) = ways.circle_through(alloc, start)? else {
         return Ok(None);
     };
     let mut text = String::from_str(alloc, name.as_str())?;
     for position in way {
-        if let Some(edge) = edges.get(position) {
+        if let Some(edge) = ways.edges().get(position) {
             if let Some(decl) = adviser.decls.at(edge.to) {
                 text.push_str(" -> ")?;
                 text.push_str(decl.name().as_str())?;

@@ -10,10 +10,12 @@ mod circles;
 mod declared;
 mod names;
 mod near;
+mod notes;
 mod types;
 mod uses;
 mod verdicts;
 mod words;
 
-pub use advice::{Advice, Candidate};
+pub use advice::{Advice, Beans, Candidate};
 pub use adviser::Adviser;
+pub use notes::Notes;

@@ -1,5 +1,5 @@
 //! Names of beans that clash.
-use crate::advice::{Advice, Candidate};
+use crate::advice::{Advice, Beans};
 use crate::adviser::Adviser;
 use crate::verdicts::text_of_verdict;
 use crate::words::filled;
@@ -11,23 +11,17 @@ use std::alloc::AllocError;
 pub(crate) fn clash(adviser: &Adviser<'_>, name: Name) -> Result<Advice, AllocError> {
     let alloc = adviser.alloc;
     let beans = adviser.beans.as_slice();
-    let mut candidates = Vec::new(alloc);
-    let mut others = 0usize;
+    let mut told = Beans::new(alloc);
     for (bean, verdict) in beans.iter().zip(verdicts_on_name(alloc, beans, name)?) {
-        if verdict == Verdict::LacksName {
-            others = others.saturating_add(1);
+        if verdict != Verdict::LacksName && told.has_room() {
+            told.push(bean.id, text_of_verdict(adviser, bean, verdict, &[])?)?;
         } else {
-            candidates.push(Candidate {
-                bean: bean.id,
-                verdict: Some(verdict),
-                text: text_of_verdict(adviser, bean, verdict, &[])?,
-            })?;
+            told.pass();
         }
     }
     Ok(Advice {
         wanted: Some(filled(alloc, "name {}", &[name.as_str()])?),
-        candidates,
-        others,
+        beans: told,
         help: String::from_str(
             alloc,
             "give one of them another name, or make one an alternative with a greater priority",
@@ -54,24 +48,18 @@ pub(crate) fn prefix(
 /// The enabled beans that have one of some names.
 fn of_names(adviser: &Adviser<'_>, names: &[Name]) -> Result<Advice, AllocError> {
     let alloc = adviser.alloc;
-    let mut candidates = Vec::new(alloc);
-    let mut others = 0usize;
+    let mut told = Beans::new(alloc);
     for bean in adviser.beans.as_slice() {
         match bean.name {
-            Some(name) if bean.is_enabled && names.contains(&name) => {
-                candidates.push(Candidate {
-                    bean: bean.id,
-                    verdict: None,
-                    text: filled(alloc, "has the name {}", &[name.as_str()])?,
-                })?;
+            Some(name) if bean.is_enabled && names.contains(&name) && told.has_room() => {
+                told.push(bean.id, filled(alloc, "has the name {}", &[name.as_str()])?)?;
             }
-            _ => others = others.saturating_add(1),
+            _ => told.pass(),
         }
     }
     Ok(Advice {
         wanted: None,
-        candidates,
-        others,
+        beans: told,
         help: String::new(alloc),
     })
 }

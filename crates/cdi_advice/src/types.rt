@@ -2,6 +2,7 @@
 use crate::advice::Advice;
 use crate::adviser::{Adviser, Part};
 use crate::circles::circle_of_names;
+use crate::notes::Notes;
 use crate::words::listed;
 use cdi_faults::Subject;
 use cdi_match::closure;
@@ -9,14 +10,18 @@ use cdi_model::{Decl, Form, Ident, Name};
 use std::alloc::AllocError;
 
 /// A type, a stereotype or a binding type reaches itself.
-pub(crate) fn cycle(adviser: &Adviser<'_>, part: Part<'_>) -> Result<Advice, AllocError> {
+pub(crate) fn cycle(
+    adviser: &Adviser<'_>,
+    notes: &mut Notes,
+    part: Part<'_>,
+) -> Result<Advice, AllocError> {
     let name = part.decl.name();
     let keys = match part.decl {
         Decl::Type(_) => "extends and implements",
         Decl::Stereotype(_) => "stereotypes",
         _ => "declares",
     };
-    let way = match circle_of_names(adviser, part.decl.kind(), *name)? {
+    let way = match circle_of_names(adviser, notes, part.decl.kind(), *name)? {
         Some(way) => way,
         None => String::from_str(adviser.alloc, name.as_str())?,
     };

@@ -6,7 +6,7 @@ ghost use Rattle.cdi_assembly.specs.Told.{faults_told, is_told};
 
 use crate::origins::Origins;
 use crate::problem::Problem;
-use cdi_advice::{Advice, Adviser, Candidate};
+use cdi_advice::{Advice, Adviser, Candidate, Notes};
 use cdi_container::{Bodies, Code, Container, Effective, Fault, Ident, Kind, Name};
 use cdi_findings::{Considered, Finding, Reasons};
 use cdi_resolve::BeanList;
@@ -99,22 +99,23 @@ impl<'a, C: Bodies> Teller<'a, '_, C> {
             ≡ map text_of_fault (faults_told self.now.telling faults.now)) }
     {
         let mut findings = Vec::with_capacity(self.alloc, faults.len())?;
+        let mut notes = Notes::new(self.alloc);
         for fault in faults {
             if is_told(self.telling, fault) {
-                findings.push(self.finding(fault)?)?;
+                findings.push(self.finding(&mut notes, fault)?)?;
             }
         }
         Ok(findings)
     }
 
-    fn finding(&self, fault: &Fault) -> Result<Finding<'a>, AllocError>
+    fn finding(&self, notes: &mut Notes, fault: &Fault) -> Result<Finding<'a>, AllocError>
         ensures { IfOk result (λ f. string_bytes f.text ≡ text_of_fault fault.now) }
     {
         let alloc = self.alloc;
         let beans = self.adviser.beans.as_slice();
         let mut finding = Finding::fault(alloc, self.files.of_fault(fault, beans), fault)?;
         if self.telling.explains {
-            let advice = self.adviser.advise(self.book, fault)?;
+            let advice = self.adviser.advise(notes, self.book, fault)?;
             finding.reasons = Some(self.files.reasons(alloc, advice)?);
         }
         Ok(finding)
@@ -153,12 +154,12 @@ impl<'a> Files<'a> {
     fn reasons(self, alloc: Global, advice: Advice) -> Result<Reasons<'a>, AllocError> {
         let Advice {
             wanted,
-            candidates,
-            others,
+            beans: told,
             help,
         } = advice;
-        let mut beans = Vec::with_capacity(alloc, candidates.len())?;
-        for candidate in candidates {
+        let others = told.others;
+        let mut beans = Vec::with_capacity(alloc, told.candidates.len())?;
+        for candidate in told.candidates {
             beans.push(self.considered(alloc, candidate)?)?;
         }
         Ok(Reasons {
@@ -174,7 +175,7 @@ impl<'a> Files<'a> {
         alloc: Global,
         candidate: Candidate,
     ) -> Result<Considered<'a>, AllocError> {
-        let Candidate { bean, text, .. } = candidate;
+        let Candidate { bean, text } = candidate;
         Ok(Considered {
             bean: format!(in alloc; "{bean}")?,
             file: self.of_decl(Kind::Bean, bean.class),

@@ -1,3 +1,5 @@
+mod CountLemmas
+mod FarLemmas
 mod InterceptorLemmas
 mod NameLemmas
 mod NearLemmas

@@ -1,3 +1,4 @@
+pub mod Counts
 pub mod Interceptors
 pub mod Lent
 pub mod Names

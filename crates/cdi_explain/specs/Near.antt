@@ -1,5 +1,5 @@
 -- Which declared name is near to one that was looked for.
-use Rattle.std.specs.Prelude.{◌≡◌, ◌*◌, ℕ, true, false, nat_le, nat_lt, Bool, not, ◌&&◌, List, filter, fold, length, Option, Some, None}
+use Rattle.std.specs.Prelude.{◌≡◌, ◌*◌, ℕ, map, true, false, nat_le, nat_lt, Bool, not, ◌&&◌, List, filter, fold, length, Option, Some, None}
 use Rattle.std.specs.Prelude.{if◌then◌else◌, option_map, All, IfSome}
 use Rattle.std.specs.List.{find}
 use Rattle.std.specs.Option.{option_or}
@@ -7,6 +7,7 @@ use Rattle.std.specs.Str.{bytes_eq, chars}
 use Rattle.strsim.specs.Edits.{osa_table}
 use Rattle.cdi_model.specs.BeanName.{last_identifier}
 use Rattle.cdi_match.specs.Chain.{has}
+use Rattle.cdi_explain.specs.declared.known.Known.{Known}
 use Rattle.cdi_explain.specs.declared.near.Near.{Near}
 
 abbrev pub is_other : List ℕ → List ℕ → Bool
@@ -19,6 +20,9 @@ is_namesake wanted name = is_other wanted name && bytes_eq (last_identifier name
 -- how many characters are to be put in, taken away or changed, or swapped with the next one (optimal string alignment)
 abbrev pub distance : List ℕ → List ℕ → ℕ
 distance wanted name = (osa_table (chars wanted) (chars name)).last_row (length (chars name))
+
+abbrev pub known_in : List Known → List (List ℕ)
+known_in list = map (λ known. known.name) list
 
 -- at most 2, and less than half of the wanted name's length
 abbrev pub is_near : List ℕ → ℕ → Bool

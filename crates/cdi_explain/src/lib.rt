@@ -5,6 +5,7 @@
 
 mod choice;
 mod interceptors;
+mod known;
 mod named;
 mod near;
 mod priority;
@@ -15,6 +16,6 @@ mod verdict;
 pub use choice::verdicts_on_choice;
 pub use interceptors::verdicts_on_interceptors;
 pub use named::verdicts_on_name;
-pub use near::nearest_name;
+pub use near::KnownNames;
 pub use replacer::replacer_of;
 pub use verdict::{Disabled, InterceptorVerdict, Verdict};

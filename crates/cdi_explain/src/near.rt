@@ -1,13 +1,58 @@
 //! Which declared name is near to one that was looked for.
-ghost use Rattle.std.specs.Prelude.{◌≡◌, None, filter, fold, option_map, IfOk};
+ghost use Rattle.std.specs.Prelude.{◌≡◌, None, filter, fold, option_map, true, IfOk, IfSome};
 ghost use Rattle.std.specs.List.{find};
-ghost use Rattle.cdi_model.specs.BeanName.{last_identifier};
 ghost use Rattle.cdi_explain.specs.Near.{NearestIsNear, distance, is_namesake, is_near, is_nearer, is_other, nearer, nearest};
-ghost use Rattle.cdi_explain.specs.Near.{nearest_name};
+ghost use Rattle.cdi_explain.specs.Near.{known_in, nearest_name};
 
+use crate::known::{Known, are_apart};
 use cdi_model::Name;
 use std::alloc::{AllocError, Global};
+use std::marker::Model;
 use strsim::osa_distance;
+
+/// Declared names, among which the one is found that may have been meant by another.
+#[derive(Drop)]
+pub struct KnownNames {
+    list: Vec<Known>,
+}
+
+impl Model for KnownNames {
+    ghost use Rattle.std.specs.Prelude.{ℕ, List};
+    ghost use Rattle.cdi_explain.specs.Near.{known_in};
+
+    ghost Value = { List (List ℕ) };
+
+    ghost view = { λ k. known_in k.list.items };
+}
+
+impl KnownNames {
+    /// These names. It takes memory for them, and for counts of the characters of each.
+    pub fn of(alloc: Global, declared: &[Name]) -> Result<KnownNames, AllocError>
+        ensures { IfOk result (λ known. known ≡ declared.now) }
+    {
+        let mut list = Vec::with_capacity(alloc, declared.len())?;
+        for name in declared {
+            list.push(Known::of(alloc, *name)?)?;
+        }
+        Ok(KnownNames { list })
+    }
+
+    /// The one that may have been meant by a wanted name: the first other one with the same last identifier, and else the first
+    /// of the nearest. A name is as far away as characters are put in, taken away or changed, or two neighbours are swapped
+    /// (optimal string alignment). It is near if that is at most 2, and less than half of the wanted name's length. There is
+    /// none where no other name is near. It takes memory while it compares, and time near the number of names.
+    #[tactic(auto, unfolding(crate::specs::Near::nearest_name))]
+    pub fn nearest(&self, alloc: Global, wanted: Name) -> Result<Option<Name>, AllocError>
+        ensures value { IfOk result (λ found. found ≡ nearest_name wanted self.now) }
+        ensures near { NearestIsNear }
+    {
+        let wanted = Known::of(alloc, wanted)?;
+        match namesake(&wanted, &self.list) {
+            Some(name) => Ok(Some(name)),
+            None => closest(alloc, &wanted, &self.list),
+        }
+    }
+}
 
 /// A name, and how many characters it is away from the wanted one.
 #[derive(Clone, Copy)]
@@ -16,78 +61,63 @@ struct Near {
     distance: usize,
 }
 
-/// Of some declared names the one that may have been meant by a wanted name: the first other one with the same last
-/// identifier, and else the first of the nearest. A name is as far away as characters are put in, taken away or changed, or
-/// two neighbours are swapped (optimal string alignment). It is near if that is at most 2, and less than half of the wanted
-/// name's length. There is none where no other name is near. It takes memory while it compares, and time near the number of
-/// declared names.
-#[tactic(auto, unfolding(crate::specs::Near::nearest_name))]
-pub fn nearest_name(
-    alloc: Global,
-    wanted: Name,
-    declared: &[Name],
-) -> Result<Option<Name>, AllocError>
-    ensures value { IfOk result (λ found. found ≡ nearest_name wanted declared.now) }
-    ensures near { NearestIsNear }
-{
-    match namesake(&wanted, declared) {
-        Some(name) => Ok(Some(name)),
-        None => closest(alloc, &wanted, declared),
-    }
-}
-
 /// The first other name with the same last identifier.
-fn namesake(wanted: &Name, declared: &[Name]) -> Option<Name>
-    ensures { result ≡ find (is_namesake wanted.now) declared.now }
+fn namesake(wanted: &Known, declared: &[Known]) -> Option<Name>
+    ensures { result ≡ find (is_namesake wanted.now.name) (known_in declared.now) }
 {
-    for name in declared {
-        if is_namesake(wanted, name) {
-            return Some(*name);
+    for known in declared {
+        if is_namesake(wanted, known) {
+            return Some(known.name);
         }
     }
     None
 }
 
 /// Whether a name is another one with the same last identifier.
-fn is_namesake(wanted: &Name, name: &Name) -> bool
-    ensures { result ≡ is_namesake wanted.now name.now }
+fn is_namesake(wanted: &Known, known: &Known) -> bool
+    ensures { result ≡ is_namesake wanted.now.name known.now.name }
 {
-    name != wanted && last_identifier(name.as_bytes()) == last_identifier(wanted.as_bytes())
-}
-
-/// What follows the last dot, or all of a name without one.
-fn last_identifier(name: &[u8]) -> &[u8]
-    ensures { result.now ≡ last_identifier name.now }
-{
-    let mut begin = 0;
-    for (index, byte) in name.iter().enumerate() {
-        if *byte == b'.' {
-            begin = index + 1;
-        }
-    }
-    &name[begin..]
+    known.name != wanted.name && known.last_identifier() == wanted.last_identifier()
 }
 
 /// The first of the nearest other names, if one is near.
-fn closest(alloc: Global, wanted: &Name, declared: &[Name]) -> Result<Option<Name>, AllocError>
-    ensures { IfOk result (λ found. found
-        ≡ option_map (λ near. near.name) (nearest wanted.now (filter (is_other wanted.now) declared.now))) }
+fn closest(alloc: Global, wanted: &Known, declared: &[Known]) -> Result<Option<Name>, AllocError>
+    ensures { IfOk result (λ found. found ≡ option_map (λ near. near.name)
+        (nearest wanted.now.name (filter (is_other wanted.now.name) (known_in declared.now)))) }
 {
     let nearest = nearest(alloc, wanted, declared)?;
     Ok(nearest.map(|near| near.name))
 }
 
 /// The same, with how far it is.
-fn nearest(alloc: Global, wanted: &Name, declared: &[Name]) -> Result<Option<Near>, AllocError>
-    ensures { IfOk result (λ near. near ≡ nearest wanted.now (filter (is_other wanted.now) declared.now)) }
+fn nearest(alloc: Global, wanted: &Known, declared: &[Known]) -> Result<Option<Near>, AllocError>
+    ensures { IfOk result (λ near. near
+        ≡ nearest wanted.now.name (filter (is_other wanted.now.name) (known_in declared.now))) }
 {
     let mut best = None;
-    for name in declared {
-        if name != wanted {
-            best = nearer(alloc, wanted, best, name)?;
+    for known in declared {
+        if known.name != wanted.name {
+            best = nearer_known(alloc, wanted, best, known)?;
         }
     }
     Ok(best)
+}
+
+/// The nearest, with one more.
+fn nearer_known(
+    alloc: Global,
+    wanted: &Known,
+    best: Option<Near>,
+    known: &Known,
+) -> Result<Option<Near>, AllocError>
+    requires { IfSome best (λ near. is_near wanted.now.name near.distance ≡ true) }
+    ensures near { IfOk result (λ near. near ≡ nearer wanted.now.name best known.now.name) }
+    ensures still { IfOk result (λ found. IfSome found (λ near. is_near wanted.now.name near.distance ≡ true)) }
+{
+    if are_apart(&wanted.counts, &known.counts) {
+        return Ok(best);
+    }
+    nearer(alloc, &wanted.name, best, &known.name)
 }
 
 /// The nearest, with one more.

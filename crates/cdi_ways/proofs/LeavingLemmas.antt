@@ -1,11 +1,15 @@
 -- One more edge among those that leave nodes.
-use Rattle.std.proofs.Common.{◌≡◌, ◌+◌, ◌<◌, ℕ, zero, suc, nat_eq, List, [], ◌∷◌, ◌++◌, cond, length, inl, inr, refl, ap, sym, subst, ◌∙◌, arith}
-use Rattle.std.specs.List.{slice_get}
+use Rattle.std.proofs.Common.{◌≡◌, ◌+◌, ◌-◌, ◌<◌, ℕ, zero, suc, nat_eq, List, [], ◌∷◌, ◌++◌, cond, get_or, length, map, set, inl, inr, refl, ap, sym, subst, ◌∙◌, arith}
+use Rattle.std.proofs.Common.{get_or-set_other, get_or-set_same}
+use Rattle.std.specs.Borrow.{Bor}
+use Rattle.std.specs.List.{slice_get, sum_by}
 use Rattle.std.proofs.lemmas.Bool.Decides.{eqb_tells}
 use Rattle.std.proofs.lemmas.Bool.{cases_lt, eq-eqb}
+use Rattle.std.proofs.lemmas.List.{length-map, map-set}
+use Rattle.std.proofs.lemmas.List.Sums.{sum_by-set}
 use Rattle.std.proofs.lemmas.Option.{none-some, same_Some}
 use Rattle.cdi_ways.specs.declared.edge.Edge.{Edge}
-use Rattle.cdi_ways.specs.Leaving.{Has, Leaves}
+use Rattle.cdi_ways.specs.Leaving.{at_node, Has, Leaves}
 use Rattle.cdi_ways.proofs.ListLemmas.{at_first, at_second, at_joined}
 
 abbrev pub AreRight : List Edge → (ℕ → List ℕ) → Type 0
@@ -65,3 +69,44 @@ put_whole edges at at' from p puts leaves whole = λ node q below other. elim (c
       subst (λ r. Has (at' node) r) same (subst (λ n. Has (at' n) p)
       (leaves_one edges from node p leaves (subst (λ r. Leaves edges node r) (sym same) other)) (has_put at at' from p puts))
 ]
+
+-- ---- positions for each node
+
+pub set_at : (each : List (List ℕ)) (node n : ℕ) (ps : List ℕ) → node < length each
+    → at_node (set each node ps) n ≡ cond (nat_eq node n) ps (at_node each n)
+set_at each node n ps within = elim (eqb_tells node n) [
+  | inl same ↦
+      ap (λ m. get_or (set each node ps) m []) (sym same.1) ∙ get_or-set_same each node ps [] within
+      ∙ ap (λ b. cond b ps (at_node each n)) (sym same.0)
+  | inr other ↦
+      get_or-set_other each node n ps [] (λ e. other.1 (sym e)) ∙ ap (λ b. cond b ps (at_node each n)) (sym other.0)
+]
+
+-- a value is put in place of one at a node
+pub set_mapped : {X : Type 0} (positions : X → List ℕ) (xs : List X) (node n : ℕ) (x : X) → node < length xs
+    → at_node (map positions (set xs node x)) n ≡ cond (nat_eq node n) (positions x) (at_node (map positions xs) n)
+set_mapped positions xs node n x within =
+    let as_many : length (map positions xs) ≡ length xs = length-map xs positions in
+    ap (λ each. at_node each n) (map-set positions xs node x)
+    ∙ set_at (map positions xs) node n (positions x) (omega (arith, as_many, within))
+
+-- what is read at a node has a position more
+pub more_at : (old mid : ℕ → List ℕ) (here : List ℕ) (node n p : ℕ) → ((m : ℕ) → mid m ≡ old m) → here ≡ mid node ++ p ∷ []
+    → cond (nat_eq node n) here (mid n) ≡ cond (nat_eq node n) (old n ++ p ∷ []) (old n)
+more_at old mid here node n p same is = elim (eqb_tells node n) [
+  | inl one ↦
+      ap (λ b. cond b here (mid n)) one.0 ∙ is ∙ ap (λ ps. ps ++ p ∷ []) (ap mid one.1 ∙ same n)
+      ∙ ap (λ b. cond b (old n ++ p ∷ []) (old n)) (sym one.0)
+  | inr other ↦ ap (λ b. cond b here (mid n)) other.0 ∙ same n ∙ ap (λ b. cond b (old n ++ p ∷ []) (old n)) (sym other.0)
+]
+
+-- where nothing is left at a node, so many positions more are taken
+pub fewer_left : (left : List (Bor (List ℕ))) (node steps : ℕ) (none here : Bor (List ℕ)) → node < length left → here ≡ get_or left node here
+    → none.now ≡ [] → sum_by (λ ps. length ps.now) (set left node none) + steps + (length here.now - 0)
+    ≡ sum_by (λ ps. length ps.now) left + steps
+fewer_left left node steps none here within is empty = omega (
+  arith,
+  sum_by-set (λ (ps : Bor (List ℕ)). length ps.now) left node none here within,
+  ap (λ (ps : Bor (List ℕ)). length ps.now) is,
+  ap length empty,
+)

@@ -1,10 +1,9 @@
 -- The search along edges, in breadth.
 use Rattle.std.specs.Prelude.{◌≡◌, ◌≢◌, ◌⊎◌, ◌+◌, ◌≤◌, ◌<◌, ℕ, nat_eq, List, [], ◌++◌, map, Option, Some, None, length, slice_get, sum_by, if◌then◌else◌}
-use Rattle.std.specs.BTreeMap.{values}
 use Rattle.cdi_ways.specs.declared.edge.Edge.{Edge}
 use Rattle.cdi_ways.specs.declared.search.Search.{Search}
 use Rattle.cdi_ways.specs.declared.search.Step.{Step}
-use Rattle.cdi_ways.specs.Leaving.{leaving_at, Has, Leaves}
+use Rattle.cdi_ways.specs.Leaving.{left_at, Has, Leaves}
 use Rattle.cdi_ways.specs.Ways.{IsWay}
 
 -- ---- steps
@@ -53,12 +52,12 @@ pub record IsWayTo (steps : List Step) (i : ℕ) (ps : List ℕ) : Type 0 where
 
 -- how many edges are followed, or are left
 abbrev pub edges_of : Search → ℕ
-edges_of search = sum_by (λ positions. length positions.items) (values search.left) + length search.steps.items
+edges_of search = sum_by (λ positions. length positions.now) search.left.items + length search.steps.items
 
 -- the edges that are left at a node are followed, and are left no more
 pub record Follows (node : ℕ) (before : Option ℕ) (depth : ℕ) (old new : Search) : Type 0 where
-  pub steps : new.steps.items ≡ old.steps.items ++ map (step_along before depth) (leaving_at old.left node)
-  pub left : (n : ℕ) → leaving_at new.left n ≡ (if nat_eq node n then [] else leaving_at old.left n)
+  pub steps : new.steps.items ≡ old.steps.items ++ map (step_along before depth) (left_at old.left.items node)
+  pub left : (n : ℕ) → left_at new.left.items n ≡ (if nat_eq node n then [] else left_at old.left.items n)
   pub edges : edges_of new ≡ edges_of old
 
 -- a step follows an edge
@@ -86,4 +85,4 @@ pub record IsSearch (edges : List Edge) (start : ℕ) (left : ℕ → List ℕ) 
   pub small : (i : ℕ) (s : Step) → IsAt steps i s → s.depth ≤ i + 1
 
 abbrev pub SearchesFrom : List Edge → ℕ → Search → ℕ → Type 0
-SearchesFrom edges start search place = IsSearch edges start (leaving_at search.left) search.steps.items place
+SearchesFrom edges start search place = IsSearch edges start (left_at search.left.items) search.steps.items place

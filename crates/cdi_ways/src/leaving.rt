@@ -1,19 +1,15 @@
 //! The edges that leave each node.
-ghost use Rattle.std.specs.Prelude.{◌≡◌, ◌++◌, ◌∷◌, [], ℕ, nat_eq, OnOk, IfOk, if◌then◌else◌};
+ghost use Rattle.std.specs.Prelude.{◌≡◌, ◌<◌, ◌++◌, ◌∷◌, [], ℕ, nat_eq, vec_len, OnOk, IfOk, if◌then◌else◌};
 ghost use Rattle.cdi_ways.specs.Leaving.{leaving_at, HoldsLeaving};
 
 use crate::edge::Edge;
 use std::alloc::{AllocError, Global};
-use std::collections::BTreeMap;
 
-/// The positions of the edges that leave each node.
-pub(crate) fn leaving(
-    alloc: Global,
-    edges: &[Edge],
-) -> Result<BTreeMap<usize, Vec<usize>>, AllocError>
-    ensures { IfOk result (HoldsLeaving edges.now) }
+/// The positions of the edges that leave each node. It takes memory up to the greatest node that an edge leaves.
+pub(crate) fn leaving(alloc: Global, edges: &[Edge]) -> Result<Vec<Vec<usize>>, AllocError>
+    ensures { IfOk result (λ leaving. HoldsLeaving edges.now leaving.items) }
 {
-    let mut leaving = BTreeMap::new(alloc);
+    let mut leaving = Vec::new(alloc);
     for (position, edge) in edges.iter().enumerate() {
         add(alloc, edge.from, position, &mut leaving)?;
     }
@@ -25,13 +21,23 @@ fn add(
     alloc: Global,
     node: usize,
     position: usize,
-    leaving: &mut BTreeMap<usize, Vec<usize>>,
+    leaving: &mut Vec<Vec<usize>>,
 ) -> Result<(), AllocError>
-    ensures { OnOk result ((n : ℕ) → leaving_at leaving.new n
-        ≡ (if nat_eq node n then leaving_at leaving.old n ++ position ∷ [] else leaving_at leaving.old n)) }
+    ensures { OnOk result ((n : ℕ) → leaving_at leaving.new.items n
+        ≡ (if nat_eq node n then leaving_at leaving.old.items n ++ position ∷ [] else leaving_at leaving.old.items n)) }
 {
-    let mut positions = leaving.remove(&node).unwrap_or(Vec::new(alloc));
-    positions.push(position)?;
-    leaving.insert(node, positions)?;
+    make_place(alloc, node, leaving)?;
+    leaving[node].push(position)?;
+    Ok(())
+}
+
+/// Makes a place for a node, if there is none.
+fn make_place(alloc: Global, node: usize, leaving: &mut Vec<Vec<usize>>) -> Result<(), AllocError>
+    ensures same { OnOk result ((n : ℕ) → leaving_at leaving.new.items n ≡ leaving_at leaving.old.items n) }
+    ensures place { OnOk result (node < vec_len leaving.new) }
+{
+    'places: while leaving.len() <= node {
+        leaving.push(Vec::new(alloc))?;
+    }
     Ok(())
 }

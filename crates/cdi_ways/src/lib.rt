@@ -6,4 +6,4 @@ mod leaving;
 mod search;
 
 pub use edge::Edge;
-pub use search::circle_through;
+pub use search::Ways;

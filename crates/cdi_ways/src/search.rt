@@ -1,12 +1,65 @@
 //! The search for the shortest way from a node back to itself.
-ghost use Rattle.std.specs.Prelude.{◌<◌, OnOk, IfOk, IfSome, IfNone, length};
+ghost use Rattle.std.specs.Prelude.{◌≡◌, ◌<◌, OnOk, IfOk, IfSome, IfNone, length, map};
+ghost use Rattle.cdi_ways.specs.Leaving.{HoldsLeaving};
 ghost use Rattle.cdi_ways.specs.Search.{Follows, IsLinked, IsWayTo, SearchesFrom};
 ghost use Rattle.cdi_ways.specs.Ways.{HasNoCircle, IsCircle, IsShortest};
 
 use crate::edge::Edge;
 use crate::leaving::leaving;
 use std::alloc::{AllocError, Global};
-use std::collections::BTreeMap;
+use std::marker::Model;
+
+/// Edges between nodes, in which circles are looked for. A node is a small number, as the position of a bean: the memory for
+/// them goes up to the greatest node that an edge leaves.
+#[derive(Drop)]
+pub struct Ways {
+    edges: Vec<Edge>,
+    /// The positions of the edges that leave each node.
+    leaving: Vec<Vec<usize>>,
+}
+
+impl Model for Ways {
+    ghost use Rattle.std.specs.Prelude.{List};
+    ghost use Rattle.cdi_ways.specs.Leaving.{HoldsLeaving};
+    ghost use Rattle.cdi_ways.specs.declared.edge.Edge.{Edge as AnEdge};
+
+    ghost Value = { List AnEdge };
+
+    ghost view = { λ w. w.edges.items };
+
+    ghost invariant = { λ w. HoldsLeaving w.edges.items w.leaving.items };
+}
+
+impl Ways {
+    /// These edges.
+    pub fn of(alloc: Global, edges: Vec<Edge>) -> Result<Ways, AllocError>
+        ensures { IfOk result (λ ways. ways ≡ edges.items) }
+    {
+        let leaving = leaving(alloc, &edges)?;
+        Ok(Ways { edges, leaving })
+    }
+
+    /// The edges, in order.
+    pub fn edges(&self) -> &[Edge]
+        ensures { result.now ≡ self.now }
+    {
+        &self.edges
+    }
+
+    /// The positions of the edges of a shortest way from a node back to itself, if there is one. The first edge leaves the node,
+    /// each next leaves where the one before leads, and the last leads to the node. It takes time near the number of edges.
+    pub fn circle_through(
+        &self,
+        alloc: Global,
+        start: usize,
+    ) -> Result<Option<Vec<usize>>, AllocError>
+        ensures way { IfOk result (λ found. IfSome found (λ way. IsCircle self.now start way.items)) }
+        ensures none { IfOk result (λ found. IfNone found (HasNoCircle self.now start)) }
+        ensures shortest { IfOk result (λ found. IfSome found (λ way. IsShortest self.now start way.items)) }
+    {
+        circle_through(alloc, &self.edges, &self.leaving, start)
+    }
+}
 
 /// A step of a search: an edge that is followed.
 #[derive(Clone, Copy)]
@@ -21,18 +74,26 @@ struct Step {
 
 /// The positions of the edges that leave each node and are not followed yet, and the steps in the order in which they were taken.
 #[derive(Drop)]
-struct Search {
-    left: BTreeMap<usize, Vec<usize>>,
+struct Search<'a> {
+    left: Vec<&'a [usize]>,
     steps: Vec<Step>,
 }
 
-impl Search {
+impl<'a> Search<'a> {
     /// A search from a node: the edges that leave it are followed.
-    fn new(alloc: Global, edges: &[Edge], start: usize) -> Result<Search, AllocError>
+    fn new(
+        alloc: Global,
+        edges: &[Edge],
+        leaving: &'a [Vec<usize>],
+        start: usize,
+    ) -> Result<Search<'a>, AllocError>
+        requires { HoldsLeaving edges.now leaving.now }
         ensures { IfOk result (λ search. SearchesFrom edges.now start search 0) }
     {
+        // No effect at run time. The proof reads the edges here.
+        let _ = edges.len();
         let mut search = Search {
-            left: leaving(alloc, edges)?,
+            left: lent(alloc, leaving)?,
             steps: Vec::new(alloc),
         };
         search.follow(start, None, 1)?;
@@ -43,18 +104,31 @@ impl Search {
     fn follow(&mut self, node: usize, before: Option<usize>, depth: usize) -> Result<(), AllocError>
         ensures { OnOk result (Follows node before depth self.old self.new) }
     {
-        let Some(positions) = self.left.remove(&node) else {
+        if node >= self.left.len() {
             return Ok(());
-        };
+        }
+        let positions = self.left[node];
+        self.left[node] = &[];
         for edge in positions {
             self.steps.push(Step {
-                edge,
+                edge: *edge,
                 before,
                 depth,
             })?;
         }
         Ok(())
     }
+}
+
+/// The positions of the edges that leave each node, lent.
+fn lent(alloc: Global, leaving: &[Vec<usize>]) -> Result<Vec<&[usize]>, AllocError>
+    ensures { IfOk result (λ list. map (λ positions. positions.now) list.items ≡ map (λ positions. positions.items) leaving.now) }
+{
+    let mut list = Vec::with_capacity(alloc, leaving.len())?;
+    for positions in leaving {
+        list.push(positions.as_slice())?;
+    }
+    Ok(list)
 }
 
 /// The positions of the edges of the way that ends with a step, from the start on.
@@ -74,19 +148,20 @@ fn way_to(alloc: Global, steps: &[Step], place: usize) -> Result<Vec<usize>, All
     Ok(way)
 }
 
-/// The positions of the edges of a shortest way from a node back to itself, if there is one. The first edge leaves the node, each
-/// next leaves where the one before leads, and the last leads to the node. It takes memory for all edges, and the time of a few
-/// lookups of a node for each edge.
-pub fn circle_through(
+/// The positions of the edges of a shortest way from a node back to itself, where these are the positions of the edges that leave
+/// each node.
+fn circle_through(
     alloc: Global,
     edges: &[Edge],
+    leaving: &[Vec<usize>],
     start: usize,
 ) -> Result<Option<Vec<usize>>, AllocError>
+    requires { HoldsLeaving edges.now leaving.now }
     ensures way { IfOk result (λ found. IfSome found (λ way. IsCircle edges.now start way.items)) }
     ensures none { IfOk result (λ found. IfNone found (HasNoCircle edges.now start)) }
     ensures shortest { IfOk result (λ found. IfSome found (λ way. IsShortest edges.now start way.items)) }
 {
-    let mut search = Search::new(alloc, edges, start)?;
+    let mut search = Search::new(alloc, edges, leaving, start)?;
     let mut place = 0;
     'taken: while place < search.steps.len() {
         let step = search.steps[place];

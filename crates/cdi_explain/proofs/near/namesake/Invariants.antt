@@ -1,7 +1,8 @@
 use Rattle.std.proofs.Common.{◌≡◌, drop}
 use Rattle.std.specs.List.{find}
-use Rattle.cdi_explain.specs.Near.{is_namesake}
+use Rattle.cdi_explain.specs.Near.{is_namesake, known_in}
 use Rattle.cdi_explain.proofs.near.namesake.Given as goal
 
-abbrev pub invariant-loop-name : goal.invariant-loop-name
-invariant-loop-name l = find (is_namesake l.wanted) (drop l.name-index l.declared) ≡ find (is_namesake l.wanted) l.declared
+abbrev pub invariant-loop-known : goal.invariant-loop-known
+invariant-loop-known l =
+    find (is_namesake l.wanted.name) (known_in (drop l.known-index l.declared)) ≡ find (is_namesake l.wanted.name) (known_in l.declared)

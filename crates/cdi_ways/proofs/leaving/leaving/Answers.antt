@@ -9,9 +9,9 @@ loop-position-preserved c =
     let edges = c.args.edges.now in
     let position = c.loop-position.position in
     let leaves : Leaves edges _ position = (_, slice_get-get_or edges position _ c.loop-position-test.true, refl) in (
-      put_right edges (leaving_at c.loop-position.leaving) (leaving_at c.add.new.leaving) _ position c.in_ok-add.ensures leaves
+      put_right edges (leaving_at c.loop-position.leaving.items) (leaving_at c.add.new.leaving.items) _ position c.in_ok-add.ensures leaves
           c.loop-position.invariant.0,
-      put_whole edges (leaving_at c.loop-position.leaving) (leaving_at c.add.new.leaving) _ position c.in_ok-add.ensures leaves
+      put_whole edges (leaving_at c.loop-position.leaving.items) (leaving_at c.add.new.leaving.items) _ position c.in_ok-add.ensures leaves
           c.loop-position.invariant.1,
     )
 

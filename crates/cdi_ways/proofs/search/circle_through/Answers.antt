@@ -4,7 +4,7 @@ use Rattle.std.proofs.lemmas.Option.{slice_get_read}
 use Rattle.cdi_ways.specs.declared.edge.Edge.{Edge}
 use Rattle.cdi_ways.specs.declared.search.Search.{Search}
 use Rattle.cdi_ways.specs.declared.search.Step.{Step}
-use Rattle.cdi_ways.specs.Leaving.{leaving_at}
+use Rattle.cdi_ways.specs.Leaving.{left_at}
 use Rattle.cdi_ways.specs.Search.{IsAt, IsSearch, IsWayTo}
 use Rattle.cdi_ways.proofs.SearchLemmas.{circle_found, edge_read, no_circle, search_next, shortest_found}
 use Rattle.cdi_ways.proofs.search.circle_through.Goals as goal
@@ -24,7 +24,7 @@ returns-then-to-start-clause-way c =
     let place : ℕ = c.taken.place in
     let s : Step = c.index-step.result.now in
     let at : IsAt steps place s = is_there c.taken.search place s (omega (arith, c.taken-test.true, c.len.ensures)) c.index-step.ensures in
-    circle_found edges c.args.start (leaving_at c.taken.search.left) steps place s (edge_at edges s.edge) c.in_ok-way_to.field-0.items
+    circle_found edges c.args.start (left_at c.taken.search.left.items) steps place s (edge_at edges s.edge) c.in_ok-way_to.field-0.items
     c.taken.invariant.0 at (edge_read edges c.args.start steps place s (record { from = 0; to = 0 }) c.taken.invariant.0.led at)
     c.if-to-start.true (subst (λ ss. IsWayTo ss place c.in_ok-way_to.field-0.items) c.as_slice.ensures.value c.in_ok-way_to.ensures)
 
@@ -34,7 +34,7 @@ returns-then-to-start-clause-shortest c =
     let place : ℕ = c.taken.place in
     let s : Step = c.index-step.result.now in
     let at : IsAt steps place s = is_there c.taken.search place s (omega (arith, c.taken-test.true, c.len.ensures)) c.index-step.ensures in
-    shortest_found c.args.edges.now c.args.start (leaving_at c.taken.search.left) steps place s c.in_ok-way_to.field-0.items
+    shortest_found c.args.edges.now c.args.start (left_at c.taken.search.left.items) steps place s c.in_ok-way_to.field-0.items
     c.taken.invariant.0 at (subst (λ ss. IsWayTo ss place c.in_ok-way_to.field-0.items) c.as_slice.ensures.value c.in_ok-way_to.ensures)
 
 pub overflow_add-step : goal.overflow_add-step
@@ -64,13 +64,13 @@ taken-preserved c =
     let at : IsAt steps place s = is_there old place s within c.index-step.ensures in
     let is : slice_get edges s.edge ≡ Some (edge_at edges s.edge) =
     edge_read edges c.args.start steps place s (record { from = 0; to = 0 }) c.taken.invariant.0.led at in (
-      subst (λ ss. IsSearch edges c.args.start (leaving_at new.left) ss (place + 1)) (sym c.in_ok-follow.ensures.steps)
-          (search_next edges c.args.start (leaving_at old.left) (leaving_at new.left) steps place s (edge_at edges s.edge) c.taken.invariant.0
+      subst (λ ss. IsSearch edges c.args.start (left_at new.left.items) ss (place + 1)) (sym c.in_ok-follow.ensures.steps)
+          (search_next edges c.args.start (left_at old.left.items) (left_at new.left.items) steps place s (edge_at edges s.edge) c.taken.invariant.0
           at is c.if-to-start.false c.in_ok-follow.ensures.left),
       omega (arith, ap length c.in_ok-follow.ensures.steps ∙ length-append steps _, old.steps.ok.0, new.steps.ok.0, within),
     )
 
 pub returns-clause-none : goal.returns-clause-none
 returns-clause-none c =
-    no_circle c.args.edges.now c.args.start (leaving_at c.taken.search.left) c.taken.search.steps.items c.taken.place c.taken.invariant.0
+    no_circle c.args.edges.now c.args.start (left_at c.taken.search.left.items) c.taken.search.steps.items c.taken.place c.taken.invariant.0
     (omega (arith, c.taken-test.false, c.len.ensures, c.taken.search.steps.ok.0))

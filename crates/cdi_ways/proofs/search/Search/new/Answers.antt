@@ -1,5 +1,5 @@
 use Rattle.std.proofs.Common.{None, ap, sym, subst, ◌∙◌}
-use Rattle.cdi_ways.specs.Leaving.{leaving_at}
+use Rattle.cdi_ways.specs.Leaving.{at_node, left_at, AreLeaving}
 use Rattle.cdi_ways.specs.Search.{IsSearch}
 use Rattle.cdi_ways.proofs.StepLemmas.{with_steps}
 use Rattle.cdi_ways.proofs.SearchLemmas.{search_begun}
@@ -8,8 +8,9 @@ use Rattle.cdi_ways.proofs.search.Search.new.Goals as goal
 pub returns : goal.returns
 returns c =
     let edges = c.args.edges.now in
-    let left' = leaving_at c.follow.new.self.left in
-    let left = leaving_at c.in_ok-leaving.field-0 in
+    let left' = left_at c.follow.new.self.left.items in
+    let left = left_at c.in_ok-lent.field-0.items in
     subst (λ steps. IsSearch edges c.args.start left' steps 0)
     (sym (c.in_ok-follow.ensures.steps ∙ ap (λ steps. with_steps steps None 1 (left c.args.start)) c.new.ensures.items))
-    (search_begun edges c.args.start left left' c.in_ok-leaving.ensures c.in_ok-follow.ensures.left)
+    (search_begun edges c.args.start left left' (subst (λ each. AreLeaving edges (at_node each)) (sym c.in_ok-lent.ensures) c.requires)
+    c.in_ok-follow.ensures.left)

@@ -1,6 +1,6 @@
 use Rattle.std.proofs.Common.{◌≡◌, ◌≤◌, cond, drop}
 use Rattle.cdi_model.specs.BeanName.{has_dot, last_identifier}
-use Rattle.cdi_explain.proofs.near.last_identifier.Given as goal
+use Rattle.cdi_explain.proofs.known.last_begin.Given as goal
 
 abbrev pub invariant-loop-index : goal.invariant-loop-index
 invariant-loop-index l =
