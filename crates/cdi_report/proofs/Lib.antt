@@ -4,5 +4,6 @@ mod StillLemmas
 pub mod StayLemmas
 mod PositionLemmas
 pub mod TogetherLemmas
+mod ForgottenLemmas
 pub mod SettledLemmas
 pub mod KeptLemmas

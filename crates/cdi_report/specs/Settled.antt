@@ -1,6 +1,6 @@
 -- At which declarations a report looks.
-use Rattle.std.specs.Prelude.{◌≡◌, ◌||◌, nat_lt, not, Bool, true, false, List, [], length, filter, Some}
-use Rattle.indexmap.specs.IndexSet.{contains}
+use Rattle.std.specs.Prelude.{◌≡◌, ◌||◌, ◌+◌, ◌*◌, nat_lt, not, Bool, true, false, List, [], length, filter, is_some, Some}
+use Rattle.indexmap.specs.IndexSet.{contains, index_set_len}
 use Rattle.cdi_bodies.specs.Book.{Promised}
 use Rattle.cdi_model.specs.Decl.{key_of, kind_of, name_of_decl}
 use Rattle.cdi_model.specs.DeclKey.{same_key}
@@ -17,6 +17,14 @@ use Rattle.cdi_report.specs.declared.unsettled.Unsettled.{Unsettled}
 -- a report looks at the declaration of the key
 abbrev pub is_open : Unsettled → DeclKey → Bool
 is_open u k = u.is_each || contains same_key u.keys k
+
+-- the declaration of the key is there
+abbrev pub is_present : List Decl → DeclKey → Bool
+is_present ds k = is_some (find_decl k.kind k.name ds)
+
+-- there are many more keys than declarations
+abbrev pub are_many : Unsettled → List Decl → Bool
+are_many u ds = nat_lt (2 * length ds + 64) (index_set_len u.keys)
 
 -- the declarations at which it looks, in order
 abbrev pub open_of : Unsettled → List Decl → List Decl

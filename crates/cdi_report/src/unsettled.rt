@@ -4,13 +4,17 @@ ghost use Rattle.indexmap.specs.IndexSet.{contains};
 ghost use Rattle.cdi_model.specs.DeclKey.{same_key};
 ghost use Rattle.cdi_model.specs.Edits.{is_among};
 ghost use Rattle.cdi_model.specs.Grammar.{is_name};
-ghost use Rattle.cdi_report.specs.Settled.{is_open, open_of, IsSettledAnyway, LooksAtMore, MoreIsSettled};
+ghost use Rattle.cdi_report.specs.Settled.{are_many, is_open, is_present, open_of, AreSettled, IsSettledAnyway, LooksAtMore};
+ghost use Rattle.cdi_report.specs.Settled.{MoreIsSettled};
 ghost use Rattle.cdi_report.specs.Stays.{SettledStay};
 
 use crate::positions::{all_decls, decls_at, positions_of};
 use cdi_model::{Decl, DeclKey, Decls};
 use indexmap::IndexSet;
 use std::alloc::{AllocError, Global};
+
+/// So many keys of gone declarations are kept in any case.
+const SPARE_KEYS: usize = 64;
 
 /// Whether all declarations are looked at anew for the faults that several have together.
 #[derive(Clone, Copy)]
@@ -76,6 +80,21 @@ impl Unsettled {
         };
     }
 
+    /// Lets the keys go whose declarations are not there, where there are more keys than twice the declarations and 64. So the
+    /// memory for keys does not grow with the names that come and go. It takes none, and for each key that was added the time of a
+    /// few lookups.
+    pub fn forget_gone(&mut self, decls: &Decls)
+        ensures gone { are_many self.old decls.now ≡ true → (k : _) → contains same_key self.new.keys k ≡ true → is_present decls.now k ≡ true }
+        ensures settled { (knows : _) (book : _) → AreSettled decls.now knows book self.old → AreSettled decls.now knows book self.new }
+    {
+        // No effect at run time. The proof reads here that no two declarations have one kind and name.
+        let _ = decls.iter();
+        let are_many = self.keys.len() > 2 * decls.len() + SPARE_KEYS;
+        if are_many {
+            self.keys.retain(|key| is_present(decls, key));
+        }
+    }
+
     /// Those of some declarations, in order. It takes memory for a list of them, and looks at no others unless it is all.
     pub(crate) fn among<'a>(
         &self,
@@ -100,6 +119,13 @@ fn add_keys(set: &mut IndexSet<DeclKey>, keys: &[DeclKey]) -> Result<(), AllocEr
         set.insert(*key)?;
     }
     Ok(())
+}
+
+/// Whether the declaration of a key is there.
+fn is_present(decls: &Decls, key: &DeclKey) -> bool
+    ensures { result ≡ is_present decls.now key.now }
+{
+    decls.position(key.kind, &key.name).is_some()
 }
 
 /// Has no effect at run time. The proof reads here that the names of some keys are names by the grammar.

@@ -1,0 +1,78 @@
+-- What is settled stays so where the keys go whose declarations are not there.
+use Rattle.std.proofs.Common.{◌≡◌, Bool, true, false, not, cond, ◌||◌, List, [], ◌∷◌, filter, is_some, refl, sym, ap, subst, ◌∙◌, inl, inr}
+use Rattle.std.specs.List.{list_any, AllByRecursion}
+use Rattle.std.proofs.lemmas.Bool.{cases_Bool, false≢true}
+use Rattle.indexmap.specs.IndexSet.{contains}
+use Rattle.cdi_bodies.specs.Book.{Promised}
+use Rattle.cdi_model.specs.Decl.{key_of}
+use Rattle.cdi_model.specs.DeclKey.{same_key}
+use Rattle.cdi_model.specs.DeclList.{AreDistinct}
+use Rattle.cdi_model.specs.declared.decl.Decl.{Decl}
+use Rattle.cdi_model.specs.declared.key.DeclKey.{DeclKey}
+use Rattle.cdi_model.proofs.EntryLemmas.{key_exact}
+use Rattle.cdi_observe.specs.Keys.{Key}
+use Rattle.cdi_observe.proofs.RestLemmas.{IsFound}
+use Rattle.cdi_report.specs.Settled.{closed_of, is_open, is_present, AreSettled, HaveNoneTogether}
+use Rattle.cdi_report.specs.declared.unsettled.Unsettled.{Unsettled}
+use Rattle.cdi_report.proofs.SettledLemmas.{each-found, each-weaker}
+
+-- ---- the keys that are left
+
+-- a key that passes is there where it was
+left : (p : DeclKey → Bool) (ks : List DeclKey) (k : DeclKey) → p k ≡ true → list_any (same_key k) (filter p ks) ≡ list_any (same_key k) ks
+left p [] k passes = refl
+left p (l ∷ ks) k passes = by (p l) refl (left p ks k passes)
+  where
+    by : (b : Bool) → p l ≡ b → list_any (same_key k) (filter p ks) ≡ list_any (same_key k) ks
+        → list_any (same_key k) (cond b (l ∷ filter p ks) (filter p ks)) ≡ (same_key k l || list_any (same_key k) ks)
+    by true e rest = ap (λ b. same_key k l || b) rest
+    by false e rest = elim (cases_Bool (same_key k l)) [
+      | inl same ↦ absurd (false≢true (sym e ∙ ap p (sym (key_exact k l same)) ∙ passes))
+      | inr other ↦ rest ∙ ap (λ b. b || list_any (same_key k) ks) (sym other)
+    ]
+
+-- each that is left passes
+passes-left : (p : DeclKey → Bool) (ks : List DeclKey) (k : DeclKey) → list_any (same_key k) (filter p ks) ≡ true → p k ≡ true
+passes-left p [] k has = absurd (false≢true has)
+passes-left p (l ∷ ks) k has = by (p l) refl has (passes-left p ks k)
+  where
+    by : (b : Bool) → p l ≡ b → list_any (same_key k) (cond b (l ∷ filter p ks) (filter p ks)) ≡ true
+        → (list_any (same_key k) (filter p ks) ≡ true → p k ≡ true) → p k ≡ true
+    by true e has rest = here (same_key k l) refl has
+      where
+        here : (b : Bool) → same_key k l ≡ b → (b || list_any (same_key k) (filter p ks)) ≡ true → p k ≡ true
+        here true same has = ap p (key_exact k l same) ∙ e
+        here false other has = rest has
+    by false e has rest = rest has
+
+pub left-are-present : (ds : List Decl) (old new : List DeclKey) (k : DeclKey) → new ≡ filter (is_present ds) old
+    → list_any (same_key k) new ≡ true → is_present ds k ≡ true
+left-are-present ds old new k are has = passes-left (is_present ds) old k (ap (list_any (same_key k)) (sym are) ∙ has)
+
+-- ---- the declarations
+
+closed-same : (ds es : List Decl) (old new : Unsettled) → AllByRecursion (λ d. is_open old (key_of d) ≡ is_open new (key_of d)) es
+    → closed_of old es ≡ closed_of new es
+closed-same ds [] old new same = refl
+closed-same ds (d ∷ es) old new same =
+    ap (λ b. cond (not b) (d ∷ closed_of old es) (closed_of old es)) same.0
+    ∙ ap (λ l. cond (not (is_open new (key_of d))) (d ∷ l) l) (closed-same ds es old new same.1)
+
+pub settled-forgotten : (ds : List Decl) (old new : Unsettled) → AreDistinct ds → new.is_each ≡ old.is_each → new.anew ≡ old.anew
+    → new.keys.keys ≡ filter (is_present ds) old.keys.keys → (knows : Key → Bool) (book : List Promised) → AreSettled ds knows book old
+    → AreSettled ds knows book new
+settled-forgotten ds old new distinct each anew are knows book settled = record {
+  each = λ d found shut. settled.each d found (open-same d found ∙ shut);
+  apart = subst (λ own. HaveNoneTogether ds own new.anew) closed
+      (subst (λ a. HaveNoneTogether ds (closed_of old ds) a) (sym anew) settled.apart);
+}
+  where
+    open-same : (d : Decl) → IsFound ds d → is_open old (key_of d) ≡ is_open new (key_of d)
+    open-same d found =
+        ap (λ b. b || contains same_key old.keys (key_of d)) (sym each)
+        ∙ ap (λ b. new.is_each || b)
+        (sym (left (is_present ds) old.keys.keys (key_of d) (ap is_some found)) ∙ ap (list_any (same_key (key_of d))) (sym are))
+
+    closed : closed_of old ds ≡ closed_of new ds
+    closed = closed-same ds ds old new
+        (each-weaker (IsFound ds) (λ d. is_open old (key_of d) ≡ is_open new (key_of d)) ds open-same (each-found ds distinct))
