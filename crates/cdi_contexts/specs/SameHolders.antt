@@ -10,7 +10,7 @@ abbrev pub same_holder : Holder → Holder → Bool
 same_holder a b = (b.number == a.number) && (b.interceptor == a.interceptor)
 
 abbrev pub holder_input : Holder → fed.HashWrites
-holder_input a = fed.u64 a.number ++ fed.usize a.interceptor
+holder_input a = fed.u64 a.number ++ fed.u32 a.interceptor
 
 -- two holders are one where they are alike
 pub same_holder_decides : (a b : Holder) → Decides (same_holder a b) (a ≡ b)

@@ -26,9 +26,9 @@ actor_number Target = 0
 actor_number (Interceptor q) = q
 
 abbrev pub home_input : Home → fed.HashWrites
-home_input (Request b) = fed.usize b
-home_input (Application b) = fed.usize b
-home_input (Point n actor p) = fed.u64 n ++ fed.usize (actor_number actor) ++ fed.usize p
+home_input (Request b) = fed.u32 b
+home_input (Application b) = fed.u32 b
+home_input (Point n actor p) = fed.u64 n ++ fed.u32 (actor_number actor) ++ fed.u32 p
 
 pub same_number : (a b : ℕ) → Decides (a == b) (a ≡ b)
 same_number a b = (λ e. grind (arith, nat_tests, e), λ e. grind (arith, nat_tests, e))

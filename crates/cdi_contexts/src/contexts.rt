@@ -146,7 +146,7 @@ impl Contexts {
 
     /// The instance of a bean in the context of its scope, being created or ready; none for the dependent pseudo-scope
     /// (CDI 4.0, Normal scopes and pseudo-scopes). Its time is that of `numbered`. It takes no memory.
-    pub fn find(&self, scope: Scope, bean: usize) -> Option<Instance>
+    pub fn find(&self, scope: Scope, bean: u32) -> Option<Instance>
         ensures { result ≡ found self.now.standing.live scope bean }
     {
         match scope {
@@ -158,7 +158,7 @@ impl Contexts {
 
     /// The instance that was made for this point of this actor of an instance (CDI 4.0, Dependent objects). Its time is
     /// that of `numbered`. It takes no memory.
-    pub fn made_for(&self, owner: u64, actor: Actor, point: usize) -> Option<Instance>
+    pub fn made_for(&self, owner: u64, actor: Actor, point: u32) -> Option<Instance>
         ensures { result ≡ made_for self.now.standing.live owner actor point }
     {
         self.living_at(Home::Point {
@@ -225,7 +225,7 @@ impl Contexts {
 
     /// Starts a new instance, which has the next number and is being created; none where no further one may be made. It
     /// may take memory; an error leaves all as it was.
-    pub fn start(&mut self, bean: usize, owner: Owner) -> Result<Option<u64>, AllocError>
+    pub fn start(&mut self, bean: u32, owner: Owner) -> Result<Option<u64>, AllocError>
         requires owned { IsOwnerOf (self.old.standing.given + 1) owner }
         ensures possible { IfOk result (λ number. IsSome number → IsFull self.old.standing → ⊥) }
         ensures ok { let s = self.old.standing in

@@ -14,12 +14,12 @@ use std::hash::{Hash, Hasher};
 /// of an instance for which it was made.
 #[derive(Clone, Copy, Debug)]
 pub(crate) enum Home {
-    Request(usize),
-    Application(usize),
+    Request(u32),
+    Application(u32),
     Point {
         instance: u64,
         actor: Actor,
-        point: usize,
+        point: u32,
     },
 }
 
@@ -31,7 +31,7 @@ pub(crate) struct Homes {
 
 impl Home {
     /// Where an instance of a bean lives, by its owner.
-    pub(crate) fn of(bean: usize, owner: Owner) -> Option<Home>
+    pub(crate) fn of(bean: u32, owner: Owner) -> Option<Home>
         ensures { result ≡ home_of bean owner }
     {
         match owner {
@@ -121,15 +121,15 @@ impl Hash for Home {
 
     fn hash<H: Hasher>(&self, state: &mut H) {
         match *self {
-            Home::Request(bean) | Home::Application(bean) => state.write_usize(bean),
+            Home::Request(bean) | Home::Application(bean) => state.write_u32(bean),
             Home::Point {
                 instance,
                 actor,
                 point,
             } => {
                 state.write_u64(instance);
-                state.write_usize(actor.place());
-                state.write_usize(point);
+                state.write_u32(actor.place());
+                state.write_u32(point);
             }
         }
     }

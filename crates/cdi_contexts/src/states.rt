@@ -12,7 +12,7 @@ use std::hash::{Hash, Hasher};
 #[derive(Clone, Copy, Debug)]
 pub(crate) struct Holder {
     number: u64,
-    interceptor: usize,
+    interceptor: u32,
 }
 
 /// What instances hold for interceptors, in the order in which each was first stored.
@@ -49,7 +49,7 @@ impl Hash for Holder {
 
     fn hash<H: Hasher>(&self, state: &mut H) {
         state.write_u64(self.number);
-        state.write_usize(self.interceptor);
+        state.write_u32(self.interceptor);
     }
 }
 
@@ -64,7 +64,7 @@ impl States {
     }
 
     /// What an instance holds for an interceptor: null where nothing was stored.
-    pub(crate) fn held_for(&self, number: u64, interceptor: usize) -> Val
+    pub(crate) fn held_for(&self, number: u64, interceptor: u32) -> Val
         ensures { result ≡ held_for (states_in self.now) number interceptor }
     {
         let holder = Holder {
@@ -82,7 +82,7 @@ impl States {
     pub(crate) fn store(
         &mut self,
         number: u64,
-        interceptor: usize,
+        interceptor: u32,
         value: Val,
     ) -> Result<(), AllocError>
         ensures ok { OnOk result (states_in self.new ≡ with_state number interceptor value (states_in self.old)) }

@@ -14,3 +14,5 @@ pub mod Throughout
 pub mod Opened
 pub mod Placed
 pub mod Causes
+pub mod Packed
+pub mod Traced

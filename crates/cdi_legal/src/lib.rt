@@ -3,7 +3,10 @@
 #![tactic(auto)]
 
 mod entry;
+mod packed;
 mod run;
+mod trace;
 
 pub use entry::{Answered, Entry, Made};
 pub use run::{BUDGET, Run};
+pub use trace::{Entries, Trace};

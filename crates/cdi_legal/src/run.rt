@@ -11,10 +11,11 @@ ghost use Rattle.cdi_legal.specs.Moment.{Moment, Track, put, ask_more, beginning
 ghost use Rattle.cdi_legal.specs.declared.entry.Entry.TheVariants.{Create};
 
 use crate::entry::Entry;
+use crate::trace::{Entries, Trace};
 use cdi_bodies::{Frame, SpareFrames};
 use cdi_contexts::{Actor, Contexts, Instance, InstanceId, Owner, RequestError};
 use cdi_model::{Scope, Val};
-use std::alloc::AllocError;
+use std::alloc::{AllocError, Global};
 use std::marker::Model;
 
 /// How often a command may ask bodies outside destruction (profile).
@@ -24,43 +25,48 @@ pub const BUDGET: u32 = 20_000;
 #[derive(Drop)]
 pub struct Run {
     contexts: Contexts,
-    trace: Vec<Entry>,
+    trace: Trace,
     asked: u32,
     /// Frames that have ended, in this run and in runs before it: at most as many as were open at once.
     spare: SpareFrames,
 }
 
 impl Model for Run {
-    ghost use Rattle.std.specs.Prelude.{◌-◌, min};
-    ghost use Rattle.std.specs.Vec.{vec_len, vec_capacity};
+    ghost use Rattle.std.specs.Prelude.{min};
     ghost use Rattle.cdi_legal.specs.Moment.{Track};
 
     ghost Value = { Track };
 
     ghost view = { λ run. record {
-      moment = record { standing = run.contexts.standing; trace = run.trace.items; asked = run.asked };
-      room = min (vec_capacity run.trace - vec_len run.trace) run.contexts.room;
+      moment = record { standing = run.contexts.standing; trace = run.trace.entries; asked = run.asked };
+      room = min run.trace.room run.contexts.room;
     } };
 }
 
 impl Run {
-    /// The beginning of a run over some contexts. The entries of the run before are cleared, and their memory is used again.
-    pub fn new(contexts: Contexts, trace: Vec<Entry>) -> Run
+    /// The beginning of a run over some contexts. It takes no memory.
+    pub fn new(alloc: Global, contexts: Contexts) -> Run
         ensures { result.moment ≡ beginning contexts.standing }
     {
-        let mut trace = trace;
-        trace.clear();
-        let spare = SpareFrames::new(*trace.allocator());
         Run {
             contexts,
-            trace,
+            trace: Trace::new(alloc),
             asked: 0,
-            spare,
+            spare: SpareFrames::new(alloc),
         }
     }
 
-    /// A command begins: the entries of the command before and its askings are cleared. It takes no memory.
+    /// A command begins: the entries of the command before and its askings are cleared, and of their memory what is beyond
+    /// 4 MiB is given back. It takes no memory.
     pub fn restart(&mut self)
+        ensures { self.new.moment ≡ beginning self.old.moment.standing }
+    {
+        self.trace.give_back();
+        self.asked = 0;
+    }
+
+    /// The same, but the room stays.
+    pub fn restart_in_room(&mut self)
         ensures moment { self.new.moment ≡ beginning self.old.moment.standing }
         ensures room { self.old.room ≤ self.new.room }
     {
@@ -109,7 +115,7 @@ impl Run {
 
     /// Begins an instance, and pushes its entry; none where no further one may be made. It may take memory. What it leaves
     /// where memory runs out is not said.
-    pub fn begin(&mut self, bean: usize, owner: Owner) -> Result<Option<InstanceId>, AllocError>
+    pub fn begin(&mut self, bean: u32, owner: Owner) -> Result<Option<InstanceId>, AllocError>
         requires owned { IsOwnerOf (self.old.moment.standing.given + 1) owner }
         ensures possible { IfOk result (λ id. IsSome id → IsFull self.old.moment.standing → ⊥) }
         ensures ok { let m = self.old.moment in
@@ -194,14 +200,14 @@ impl Run {
     }
 
     /// The instance of a bean in the context of its scope.
-    pub fn find(&self, scope: Scope, bean: usize) -> Option<Instance>
+    pub fn find(&self, scope: Scope, bean: u32) -> Option<Instance>
         ensures { result ≡ found self.now.moment.standing.live scope bean }
     {
         self.contexts.find(scope, bean)
     }
 
     /// The instance that was made for this point of this actor of an instance.
-    pub fn made_for(&self, owner: u64, actor: Actor, point: usize) -> Option<Instance>
+    pub fn made_for(&self, owner: u64, actor: Actor, point: u32) -> Option<Instance>
         ensures { result ≡ made_for self.now.moment.standing.live owner actor point }
     {
         self.contexts.made_for(owner, actor, point)
@@ -233,10 +239,10 @@ impl Run {
     }
 
     /// The entries that it has pushed.
-    pub fn trace(&self) -> &[Entry]
-        ensures { result.now ≡ self.now.moment.trace }
+    pub fn trace(&self) -> Entries<'_>
+        ensures { result ≡ self.now.moment.trace }
     {
-        self.trace.as_slice()
+        self.trace.iter()
     }
 
     /// No instance is live, no request active, and the trace is empty; numbers go on after this one. It takes no memory.
@@ -244,14 +250,14 @@ impl Run {
         ensures { self.new.moment ≡ beginning (cleared given) }
     {
         self.contexts.clear(given);
-        self.trace.clear();
+        self.trace.give_back();
         self.asked = 0;
     }
 
     /// The contexts and the entries. The contexts that commands leave keep the laws of whole commands.
-    pub fn into_parts(self) -> (Contexts, Vec<Entry>)
+    pub fn into_parts(self) -> (Contexts, Trace)
         ensures standing { result.0.standing ≡ self.moment.standing }
-        ensures trace { result.1.items ≡ self.moment.trace }
+        ensures trace { result.1.entries ≡ self.moment.trace }
         ensures single { CommandsKeepSingle }
         ensures throughout { CommandsKeepThroughout }
         ensures budget { CommandsKeepBudget }

@@ -9,7 +9,7 @@ use cdi_contexts::Actor;
 
 impl Invocable {
     /// The interceptor at a link of the chain, counted from 0 (Interceptors 2.1, Interceptor Ordering).
-    pub fn link(&self, position: usize) -> usize
+    pub fn link(&self, position: usize) -> u32
         requires { position < length self.now.chain }
         ensures { slice_get self.now.chain position ≡ Some result }
     {
@@ -34,14 +34,14 @@ impl Interceptor {
 
 impl Scene {
     /// The bean at a position.
-    pub fn bean(&self, position: usize) -> Option<&Bean>
+    pub fn bean(&self, position: u32) -> Option<&Bean>
         ensures { option_map (λ bean. bean.now) result ≡ bean_at self.now position }
     {
-        self.beans.as_slice().get(position)
+        self.beans.as_slice().get(position as usize)
     }
 
     /// The managed bean at a position; none where a product is there, or nothing.
-    pub fn managed(&self, position: usize) -> Option<&Managed>
+    pub fn managed(&self, position: u32) -> Option<&Managed>
         ensures { option_map (λ managed. managed.now) result ≡ managed_at self.now position }
     {
         match &self.bean(position)?.form {
@@ -51,7 +51,7 @@ impl Scene {
     }
 
     /// The product at a position; none where a managed bean is there, or nothing.
-    pub fn product(&self, position: usize) -> Option<&Product>
+    pub fn product(&self, position: u32) -> Option<&Product>
         ensures { option_map (λ product. product.now) result ≡ product_at self.now position }
     {
         match &self.bean(position)?.form {
@@ -61,15 +61,18 @@ impl Scene {
     }
 
     /// The observer method of a bean at a position there; none for a product.
-    pub fn observer(&self, bean: usize, position: usize) -> Option<&Observer>
+    pub fn observer(&self, bean: u32, position: u32) -> Option<&Observer>
         ensures { option_map (λ observer. observer.now) result ≡ observer_at self.now bean position }
     {
-        self.managed(bean)?.observers.as_slice().get(position)
+        self.managed(bean)?
+            .observers
+            .as_slice()
+            .get(position as usize)
     }
 
     /// What is invoked at a place of a bean: interceptors and the bean's own body. A disposer method is not intercepted, so
     /// it has no interceptors here (Interceptors 2.1, Method Interceptors).
-    pub fn invocable(&self, bean: usize, place: Place) -> Option<&Invocable>
+    pub fn invocable(&self, bean: u32, place: Place) -> Option<&Invocable>
         ensures { option_map (λ invocable. invocable.now) result ≡ invocable_at self.now bean place }
     {
         match place {
@@ -81,14 +84,14 @@ impl Scene {
     }
 
     /// The interceptor at a position.
-    pub fn interceptor(&self, position: usize) -> Option<&Interceptor>
+    pub fn interceptor(&self, position: u32) -> Option<&Interceptor>
         ensures { option_map (λ interceptor. interceptor.now) result ≡ interceptor_at self.now position }
     {
-        self.interceptors.as_slice().get(position)
+        self.interceptors.as_slice().get(position as usize)
     }
 
     /// The disposer method of a product (CDI 4.0, Disposer method resolution).
-    pub fn disposer(&self, product: usize) -> Option<&Part>
+    pub fn disposer(&self, product: u32) -> Option<&Part>
         ensures { option_map (λ part. part.now) result ≡ disposer_at self.now product }
     {
         self.product(product)?.disposer.as_ref()
@@ -117,7 +120,7 @@ impl Managed {
             Place::Construct => Some(&self.construct),
             Place::Post => Some(&self.post),
             Place::Pre => Some(&self.pre),
-            Place::Method(position) => self.methods.as_slice().get(position),
+            Place::Method(position) => self.methods.as_slice().get(position as usize),
             _ => None,
         }
     }

@@ -7,7 +7,7 @@ mod find;
 mod place;
 mod scene;
 
-pub use place::{Place, Seat};
+pub use place::{Place, Seat, position_at};
 pub use scene::{
     Bean, CallSite, Form, Injection, Interceptor, Invocable, Managed, Notified, Observer, Part,
     Product, Scene, Via,

@@ -9,9 +9,9 @@ use cdi_model::{Scope, Seq};
 #[derive(Clone, Copy, PartialEq, Eq, Debug)]
 pub enum Via {
     /// An injection point of whoever runs: of the bean, or of the interceptor.
-    Own(usize),
+    Own(u32),
     /// A parameter of the method that runs.
-    Param(usize),
+    Param(u32),
 }
 
 /// A call site: an injection point, the bean that is chosen for it (CDI 4.0, Performing typesafe resolution), and a method
@@ -19,15 +19,15 @@ pub enum Via {
 #[derive(Clone, Copy, PartialEq, Eq, Debug)]
 pub struct CallSite {
     pub via: Via,
-    pub bean: usize,
-    pub method: usize,
+    pub bean: u32,
+    pub method: u32,
 }
 
 /// An observer method that is notified, by its bean and its position there (CDI 4.0, Observer resolution).
 #[derive(Clone, Copy, PartialEq, Eq, Debug)]
 pub struct Notified {
-    pub bean: usize,
-    pub observer: usize,
+    pub bean: u32,
+    pub observer: u32,
 }
 
 /// A stored body at a place, with what its call sites call and whom its fire sites notify, in order (CDI 4.0, Observer
@@ -47,7 +47,7 @@ pub struct Part {
 #[derive(Drop)]
 pub struct Invocable {
     /// The interceptors, in the order in which they run.
-    pub chain: Seq<usize>,
+    pub chain: Seq<u32>,
     /// The bean's own body. Where it has none, a value comes back and nothing runs.
     pub part: Option<Part>,
 }
@@ -57,8 +57,8 @@ pub struct Invocable {
 #[derive(Clone, Copy, PartialEq, Eq, Debug)]
 pub struct Injection {
     pub actor: Actor,
-    pub point: usize,
-    pub bean: usize,
+    pub point: u32,
+    pub bean: u32,
 }
 
 /// An observer method.
@@ -67,7 +67,7 @@ pub struct Observer {
     /// Whether it is notified only where its bean has an instance (CDI 4.0, Conditional observer methods).
     pub is_conditional: bool,
     /// The beans that are chosen for its parameters.
-    pub params: Seq<usize>,
+    pub params: Seq<u32>,
     pub invocable: Invocable,
 }
 
@@ -87,11 +87,11 @@ pub struct Managed {
 #[derive(Drop)]
 pub struct Product {
     /// The bean that declares the method.
-    pub declaring: usize,
+    pub declaring: u32,
     /// Whether the method runs without an instance of that bean.
     pub is_static: bool,
     /// The beans that are chosen for its parameters.
-    pub params: Seq<usize>,
+    pub params: Seq<u32>,
     /// The producer method. That of a static one has no interceptors.
     pub invocable: Invocable,
     /// The disposer method that matches it, if there is one (CDI 4.0, Disposer method resolution).

@@ -18,7 +18,7 @@ use cdi_contexts::Actor;
 use cdi_model::{BeanDecl, BeanPlace, Decl, Decls, InterceptorDecl, Name, ProducerDecl, Qual, Seq};
 use cdi_observe::{View, chain_at, interceptors_of};
 use cdi_resolve::{BeanList, Choice};
-use cdi_scene::{Injection, Interceptor};
+use cdi_scene::{Injection, Interceptor, position_at};
 use std::alloc::{AllocError, Global};
 use std::rc::Rc;
 
@@ -84,7 +84,7 @@ impl<'a> Class<'a> {
         alloc: Global,
         view: &V,
         place: &BeanPlace,
-    ) -> Result<Seq<usize>, AllocError>
+    ) -> Result<Seq<u32>, AllocError>
         requires class { IsClassOf (V.list view.now) (class_in self) }
         requires place { has_place self.bean.now place.now ≡ true }
         ensures { IfOk result (λ chain. chain ≡ class_chain (V.list view.now) (class_in self.entry) place.now) }
@@ -102,7 +102,7 @@ impl<'a> Class<'a> {
         alloc: Global,
         view: &V,
         producer: &ProducerDecl,
-    ) -> Result<Seq<usize>, AllocError>
+    ) -> Result<Seq<u32>, AllocError>
         requires class { IsClassOf (V.list view.now) (class_in self) }
         requires place { HasProducer self.bean.now producer.now }
         ensures { IfOk result (λ chain. chain ≡ producer_chain (V.list view.now) (class_in self.entry) producer.now) }
@@ -129,7 +129,7 @@ impl<'a> Class<'a> {
         let mut list = Seq::new(alloc);
         for (position, around) in self.around.iter().enumerate() {
             if names.contains(&around.decl.name) {
-                let actor = Actor::Interceptor(position);
+                let actor = Actor::Interceptor(position_at(position)?);
                 push_injections(actor, around.targets.as_slice(), &mut list)?;
             }
         }
@@ -143,7 +143,7 @@ fn positions_named(
     alloc: Global,
     around: &[Around<'_>],
     names: &[Name],
-) -> Result<Seq<usize>, AllocError>
+) -> Result<Seq<u32>, AllocError>
     requires { names.now ≡ names_among names.now (map around_in around.now) }
     ensures { IfOk result (λ positions. positions
         ≡ places_from (λ a. has names.now a.0.name) 0 (map around_in around.now)) }
@@ -152,7 +152,7 @@ fn positions_named(
     let mut left = names;
     for (position, around) in around.iter().enumerate() {
         if let Some(others) = after_first(left, around.decl.name) {
-            positions.push(position)?;
+            positions.push(position_at(position)?)?;
             left = others;
         }
     }
@@ -179,8 +179,8 @@ fn push_injections(
     for (point, target) in targets.iter().enumerate() {
         list.push(Injection {
             actor,
-            point,
-            bean: target.bean,
+            point: position_at(point)?,
+            bean: position_at(target.bean)?,
         })?;
     }
     Ok(())

@@ -19,16 +19,16 @@ use cdi_model::{
 };
 use cdi_observe::View;
 use cdi_resolve::BeanList;
-use cdi_scene::{Bean, Form, Managed, Observer, Part, Product};
+use cdi_scene::{Bean, Form, Managed, Observer, Part, Product, position_at};
 use std::alloc::{AllocError, Global};
 
 /// The positions of some beans.
-fn positions(alloc: Global, targets: &[Target]) -> Result<Seq<usize>, AllocError>
+fn positions(alloc: Global, targets: &[Target]) -> Result<Seq<u32>, AllocError>
     ensures { IfOk result (λ list. list ≡ map (λ target. target.bean) targets.now) }
 {
     let mut positions = Seq::new(alloc);
     for target in targets {
-        positions.push(target.bean)?;
+        positions.push(position_at(target.bean)?)?;
     }
     Ok(positions)
 }
@@ -59,16 +59,16 @@ fn unused_managed(alloc: Global) -> Managed
 }
 
 /// The placeholder for a product that is not enabled.
-fn unused_product(alloc: Global, beans: &BeanList, bean: &BeanDecl) -> Product
-    ensures { result ≡ unused_product beans.now bean.now }
+fn unused_product(alloc: Global, beans: &BeanList, bean: &BeanDecl) -> Result<Product, AllocError>
+    ensures { IfOk result (λ made. made ≡ unused_product beans.now bean.now) }
 {
-    Product {
-        declaring: position_of_class(beans, bean.name),
+    Ok(Product {
+        declaring: position_at(position_of_class(beans, bean.name))?,
         is_static: false,
         params: Seq::new(alloc),
         invocable: empty_place(alloc),
         disposer: None,
-    }
+    })
 }
 
 /// What a method with these parameters sees, where its bean sees this.
@@ -196,7 +196,7 @@ impl<'a, V: View, B: Bodies> Stage<'a, V, B> {
         let sight = method_sight(producer.is_static, own, producer.params.as_slice(), targets);
         let chain = class.producer_chain(self.alloc, self.view, producer)?;
         Ok(Product {
-            declaring: position_of_class(self.beans, class.bean.name),
+            declaring: position_at(position_of_class(self.beans, class.bean.name))?,
             is_static: producer.is_static,
             params: positions(self.alloc, targets)?,
             invocable: self.invocable(sight, chain, Some(&producer.part))?,
@@ -250,7 +250,7 @@ impl<'a, V: View, B: Bodies> Stage<'a, V, B> {
         let product = if effective.is_enabled {
             self.product_form(own, class, effective, producer, targets)?
         } else {
-            unused_product(self.alloc, self.beans, class.bean)
+            unused_product(self.alloc, self.beans, class.bean)?
         };
         Ok(Bean {
             scope: effective.scope,

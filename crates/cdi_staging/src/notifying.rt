@@ -8,7 +8,7 @@ use crate::target::position_of_class;
 use cdi_model::{Decl, Decls, EventDecl, Ident, Kind, Name, ObserverDecl, Qual, Seq};
 use cdi_observe::{ObserverId, View, notified_of};
 use cdi_resolve::BeanList;
-use cdi_scene::Notified;
+use cdi_scene::{Notified, position_at};
 use std::alloc::{AllocError, Global};
 
 fn observer_named(observers: &[ObserverDecl], name: Ident) -> Option<usize>
@@ -53,14 +53,14 @@ impl<'a> Host<'a> {
         }
     }
 
-    fn notified(&self, name: Ident) -> Notified
-        ensures { result ≡ notified_in self.now name }
+    fn notified(&self, name: Ident) -> Result<Notified, AllocError>
+        ensures { IfOk result (λ made. made ≡ notified_in self.now name) }
     {
         let place = observer_named(self.observers, name);
-        Notified {
-            bean: self.bean,
-            observer: place.unwrap_or(self.observers.len()),
-        }
+        Ok(Notified {
+            bean: position_at(self.bean)?,
+            observer: position_at(place.unwrap_or(self.observers.len()))?,
+        })
     }
 }
 
@@ -83,7 +83,7 @@ pub fn positions_of(
         if host.class != id.class {
             host = Host::of(decls, beans, id.class);
         }
-        list.push(host.notified(id.observer))?;
+        list.push(host.notified(id.observer)?)?;
     }
     Ok(list)
 }

@@ -78,7 +78,7 @@ impl<'a, V: View, B: Bodies> Stage<'a, V, B> {
     pub(crate) fn invocable(
         &self,
         sight: Visible<'_>,
-        chain: Seq<usize>,
+        chain: Seq<u32>,
         part: Option<&PartDecl>,
     ) -> Result<Invocable, AllocError>
         ensures { IfOk result (λ made. made

@@ -7,7 +7,7 @@ ghost use Rattle.cdi_staging.specs.Sites.{target_at, site_of};
 use crate::target::{Target, nowhere};
 use cdi_model::{CallDecl, Decl, Decls, Ident, Kind, MethodDecl, Name, PointDecl, Seq};
 use cdi_resolve::BeanList;
-use cdi_scene::{CallSite, Via};
+use cdi_scene::{CallSite, Via, position_at};
 use std::alloc::{AllocError, Global};
 
 /// What a body sees: the injection points of whoever runs and the parameters of the method that runs, with what is
@@ -68,14 +68,14 @@ pub fn method_of(decls: &Decls, class: Option<Name>, name: Ident) -> usize
 }
 
 #[tactic(auto, unfolding(crate::specs::Sites::site_at))]
-fn site_at(decls: &Decls, via: Via, target: Target, name: Ident) -> CallSite
-    ensures { result ≡ site_at decls.now via target name }
+fn site_at(decls: &Decls, via: Via, target: Target, name: Ident) -> Result<CallSite, AllocError>
+    ensures { IfOk result (λ site. site ≡ site_at decls.now via target name) }
 {
-    CallSite {
+    Ok(CallSite {
         via,
-        bean: target.bean,
-        method: method_of(decls, target.class, name),
-    }
+        bean: position_at(target.bean)?,
+        method: position_at(method_of(decls, target.class, name))?,
+    })
 }
 
 fn target_at(beans: &BeanList, targets: &[Target], position: usize) -> Target
@@ -88,16 +88,21 @@ fn target_at(beans: &BeanList, targets: &[Target], position: usize) -> Target
 }
 
 #[tactic(auto, unfolding(crate::specs::Sites::site_of))]
-fn site_of(decls: &Decls, beans: &BeanList, sight: Visible<'_>, call: CallDecl) -> CallSite
-    ensures { result ≡ site_of decls.now beans.now (sight_in sight.entry) call }
+fn site_of(
+    decls: &Decls,
+    beans: &BeanList,
+    sight: Visible<'_>,
+    call: CallDecl,
+) -> Result<CallSite, AllocError>
+    ensures { IfOk result (λ site. site ≡ site_of decls.now beans.now (sight_in sight.entry) call) }
 {
     if let Some(place) = point_named(sight.params, call.point) {
         let target = target_at(beans, sight.param_targets, place);
-        return site_at(decls, Via::Param(place), target, call.method);
+        return site_at(decls, Via::Param(position_at(place)?), target, call.method);
     }
     let place = point_named(sight.points, call.point).unwrap_or(sight.points.len());
     let target = target_at(beans, sight.targets, place);
-    site_at(decls, Via::Own(place), target, call.method)
+    site_at(decls, Via::Own(position_at(place)?), target, call.method)
 }
 
 /// Where each of some call sites leads.
@@ -112,7 +117,7 @@ pub(crate) fn sites_of(
 {
     let mut sites = Seq::new(alloc);
     for call in calls {
-        sites.push(site_of(decls, beans, sight, *call))?;
+        sites.push(site_of(decls, beans, sight, *call)?)?;
     }
     Ok(sites)
 }

@@ -9,7 +9,7 @@ use crate::lookup::{bean_in, call_in, fire_in, interceptor_in, method_in, observ
 use crate::parts::{CallText, ClassText, FireText, InstanceText, OutcomeText, PlaceText, SeatText};
 use cdi_contexts::Actor;
 use cdi_effective::BeanId;
-use cdi_legal::Entry;
+use cdi_legal::{Entries, Entry};
 use cdi_model::{CallDecl, EventDecl, Name, PartPlace};
 use cdi_scene::{Place, Seat};
 use cdi_staging::Names;
@@ -224,7 +224,7 @@ impl fmt::Debug for NamedEntry<'_> {
 #[derive(Drop)]
 pub struct NamedEntries<'a> {
     names: Option<&'a Names>,
-    rest: &'a [Entry],
+    rest: Entries<'a>,
 }
 
 impl<'a> Model for NamedEntries<'a> {
@@ -233,15 +233,15 @@ impl<'a> Model for NamedEntries<'a> {
 
     ghost Value = { List Shown };
 
-    ghost view = { λ e. all_shown (option_copied e.names) e.rest.now };
+    ghost view = { λ e. all_shown (option_copied e.names) e.rest };
 }
 
 impl<'a> NamedEntries<'a> {
     ghost use Rattle.cdi_trace.specs.Entries.{Shown};
 
     /// These entries, by these names.
-    pub fn new(names: &'a Names, entries: &'a [Entry]) -> NamedEntries<'a>
-        ensures { result ≡ map (λ entry. record { names = names.now; entry = entry }) entries.now }
+    pub fn new(names: &'a Names, entries: Entries<'a>) -> NamedEntries<'a>
+        ensures { result ≡ map (λ entry. record { names = names.now; entry = entry }) entries.entry }
     {
         NamedEntries {
             names: Some(names),
@@ -255,7 +255,7 @@ impl<'a> NamedEntries<'a> {
     {
         NamedEntries {
             names: None,
-            rest: &[],
+            rest: Entries::none(),
         }
     }
 }
@@ -269,12 +269,8 @@ impl<'a> Iterator for NamedEntries<'a> {
 
     fn next(&mut self) -> Option<NamedEntry<'a>> {
         let names = self.names?;
-        let (entry, rest) = self.rest.split_first()?;
-        self.rest = rest;
-        Some(NamedEntry {
-            names,
-            entry: *entry,
-        })
+        let entry = self.rest.next()?;
+        Some(NamedEntry { names, entry })
     }
 }
 
@@ -286,8 +282,12 @@ impl fmt::Debug for NamedEntries<'_> {
 
 /// Appends the text of entries, each on a line of its own after two spaces. It takes memory for the text; at `Err`
 /// nothing is appended. Each name is found by its position.
-pub fn push_entries(text: &mut Vec<u8>, names: &Names, entries: &[Entry]) -> Result<(), AllocError>
-    ensures ok { OnOk result (text.new.items ≡ text.old.items ++ text_of_entries names.now entries.now) }
+pub fn push_entries(
+    text: &mut Vec<u8>,
+    names: &Names,
+    entries: Entries<'_>,
+) -> Result<(), AllocError>
+    ensures ok { OnOk result (text.new.items ≡ text.old.items ++ text_of_entries names.now entries.entry) }
     ensures err { OnErr result (text.new.items ≡ text.old.items) }
 {
     let own = text_of_entries(*text.allocator(), names, entries)?;
@@ -295,15 +295,16 @@ pub fn push_entries(text: &mut Vec<u8>, names: &Names, entries: &[Entry]) -> Res
 }
 
 /// The text of entries.
-fn text_of_entries(alloc: Global, names: &Names, entries: &[Entry]) -> Result<Vec<u8>, AllocError>
-    ensures { IfOk result (λ own. own.items ≡ text_of_entries names.now entries.now) }
+fn text_of_entries(
+    alloc: Global,
+    names: &Names,
+    entries: Entries<'_>,
+) -> Result<Vec<u8>, AllocError>
+    ensures { IfOk result (λ own. own.items ≡ text_of_entries names.now entries.entry) }
 {
     let mut own = Vec::new(alloc);
     for entry in entries {
-        let entry = NamedEntry {
-            names,
-            entry: *entry,
-        };
+        let entry = NamedEntry { names, entry };
         writeln!(own, "  {entry}").map_err(|_| AllocError)?;
     }
     Ok(own)

@@ -8,34 +8,34 @@ use cdi_model::{CallDecl, EventDecl};
 use cdi_scene::{Place, Seat};
 use cdi_staging::{BeanNames, InterceptorNames, MethodNames, Names, SiteNames};
 
-pub(crate) fn bean_in(names: &Names, position: usize) -> Option<&BeanNames>
+pub(crate) fn bean_in(names: &Names, position: u32) -> Option<&BeanNames>
     ensures { option_copied result ≡ bean_told names.now position }
 {
-    names.beans.as_slice().get(position)
+    names.beans.as_slice().get(position as usize)
 }
 
-pub(crate) fn method_in(names: &Names, bean: usize, position: usize) -> Option<&MethodNames>
+pub(crate) fn method_in(names: &Names, bean: u32, position: u32) -> Option<&MethodNames>
     ensures { option_copied result ≡ method_told names.now bean position }
 {
     let bean = bean_in(names, bean)?;
-    bean.methods.as_slice().get(position)
+    bean.methods.as_slice().get(position as usize)
 }
 
-pub(crate) fn observer_in(names: &Names, bean: usize, position: usize) -> Option<&MethodNames>
+pub(crate) fn observer_in(names: &Names, bean: u32, position: u32) -> Option<&MethodNames>
     ensures { option_copied result ≡ observer_told names.now bean position }
 {
     let bean = bean_in(names, bean)?;
-    bean.observers.as_slice().get(position)
+    bean.observers.as_slice().get(position as usize)
 }
 
-pub(crate) fn interceptor_in(names: &Names, position: usize) -> Option<&InterceptorNames>
+pub(crate) fn interceptor_in(names: &Names, position: u32) -> Option<&InterceptorNames>
     ensures { option_copied result ≡ interceptor_told names.now position }
 {
-    names.interceptors.as_slice().get(position)
+    names.interceptors.as_slice().get(position as usize)
 }
 
 /// The sites at a place of a bean.
-fn sites_at(names: &Names, bean: usize, place: Place) -> Option<&SiteNames>
+fn sites_at(names: &Names, bean: u32, place: Place) -> Option<&SiteNames>
     ensures { option_copied result ≡ sites_told names.now bean place }
 {
     match place {
@@ -50,7 +50,7 @@ fn sites_at(names: &Names, bean: usize, place: Place) -> Option<&SiteNames>
 }
 
 /// The sites of an interceptor's part for a place.
-fn sites_around(names: &Names, position: usize, place: Place) -> Option<&SiteNames>
+fn sites_around(names: &Names, position: u32, place: Place) -> Option<&SiteNames>
     ensures { option_copied result ≡ option_map (sites_around place) (interceptor_told names.now position) }
 {
     let interceptor = interceptor_in(names, position)?;

@@ -31,7 +31,7 @@ impl fmt::Display for InstanceText<'_> {
 #[derive(Clone, Copy)]
 pub(crate) struct ClassText<'a> {
     pub(crate) names: &'a Names,
-    pub(crate) bean: usize,
+    pub(crate) bean: u32,
 }
 
 impl fmt::Display for ClassText<'_> {
@@ -112,7 +112,7 @@ impl fmt::Display for DisposerText<'_> {
 #[derive(Clone, Copy)]
 pub(crate) struct PlaceText<'a> {
     pub(crate) names: &'a Names,
-    pub(crate) bean: usize,
+    pub(crate) bean: u32,
     pub(crate) place: Place,
 }
 
@@ -142,7 +142,7 @@ impl fmt::Display for PlaceText<'_> {
 #[derive(Clone, Copy)]
 struct HostText<'a> {
     names: &'a Names,
-    bean: usize,
+    bean: u32,
     number: Option<u64>,
 }
 

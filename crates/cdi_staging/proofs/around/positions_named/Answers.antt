@@ -1,10 +1,10 @@
-use Rattle.std.proofs.Common.{◌≡◌, ◌+◌, ◌∷◌, ◌++◌, drop, map, sym, ap, ◌∙◌}
+use Rattle.std.proofs.Common.{◌≡◌, ◌+◌, [], ◌∷◌, ◌++◌, drop, map, sym, ap, ◌∙◌}
 use Rattle.std.proofs.lemmas.List.{drop_more}
 use Rattle.cdi_match.specs.Chain.{has}
 use Rattle.cdi_staging.specs.Shown.{around_in, names_among}
 use Rattle.cdi_staging.specs.Staged.{Around, places_from}
 use Rattle.cdi_staging.proofs.ClassLemmas.{named-next, not-named-next, places-next, places-past}
-use Rattle.cdi_staging.proofs.around.positions_named.Goals.{in-Some+in_ok-push, in_default}
+use Rattle.cdi_staging.proofs.around.positions_named.Goals.{in-Some+in_ok-position_at+in_ok-push, in_default}
 use Rattle.cdi_staging.proofs.around.positions_named.Goals as goal
 
 pub loop-position-preserved : goal.loop-position-preserved
@@ -22,11 +22,12 @@ loop-position-preserved c =
     let before : c.loop-position.positions ++ places_from test n (around_in item ∷ rest) ≡ places_from test 0 (map around_in around) =
     ap (λ list. c.loop-position.positions ++ places_from test n (map around_in list)) (sym next) ∙ c.loop-position.invariant.positions in
     elim c.match-after_first.branch [
-      | in-Some+in_ok-push w ↦
+      | in-Some+in_ok-position_at+in_ok-push w ↦
           let one = named-next names c.loop-position.left.now w.in-Some.others.now (around_in item) rest left w.in-Some.ensures.some in
           record {
             left = ap (λ r. r.now) w.left-is ∙ one.1;
-            positions = ap (λ list. list ++ places_from test (n + 1) rest) (w.positions-is ∙ w.in_ok-push.ensures.ok)
+            positions = ap (λ list. list ++ places_from test (n + 1) rest) (w.positions-is ∙ w.in_ok-push.ensures.ok
+                ∙ ap (λ p. c.loop-position.positions ++ p ∷ []) w.in_ok-position_at.ensures.value)
                 ∙ places-next test n (around_in item) rest c.loop-position.positions _ one.0 before;
           }
       | in_default w ↦

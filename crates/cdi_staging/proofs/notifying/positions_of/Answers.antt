@@ -53,8 +53,8 @@ loop-id-preserved c =
       )
     ] in
     record {
-      found = pushed (notified_as ds beans) c.loop-id.list c.push.new.self c.args.ids.now c.loop-id.id-index id c.notified.result
-          c.loop-id-test.true c.id-item.is (c.notified.ensures ∙ named ds beans c.if-ne.host id one.0 one.1) c.in_ok-push.ensures.ok
+      found = pushed (notified_as ds beans) c.loop-id.list c.push.new.self c.args.ids.now c.loop-id.id-index id c.in_ok-notified.field-0
+          c.loop-id-test.true c.id-item.is (c.in_ok-notified.ensures ∙ named ds beans c.if-ne.host id one.0 one.1) c.in_ok-push.ensures.ok
           c.loop-id.invariant.found;
       host = one.0;
     }

@@ -6,7 +6,7 @@ use Rattle.cdi_match.specs.Chain.{has}
 use Rattle.cdi_staging.specs.Shown.{around_in, class_in}
 use Rattle.cdi_staging.specs.Staged.{injections_around, injections_from}
 use Rattle.cdi_staging.proofs.ClassLemmas.{injected-next, injected-past, injections-named}
-use Rattle.cdi_staging.proofs.around.Class.injections.Goals.{else-contains, then-contains+in_ok-push_injections}
+use Rattle.cdi_staging.proofs.around.Class.injections.Goals.{else-contains, then-contains+in_ok-position_at+in_ok-push_injections}
 use Rattle.cdi_staging.proofs.around.Class.injections.Goals as goal
 
 pub loop-position-preserved : goal.loop-position-preserved
@@ -24,9 +24,10 @@ loop-position-preserved g c =
     let value : has names item.decl.now.name ≡ c.contains.result =
     sym (c.contains.ensures.value ∙ ap (λ list. has list item.decl.now.name) c.deref.ensures.value) in
     elim c.if-contains.branch [
-      | then-contains+in_ok-push_injections w ↦
+      | then-contains+in_ok-position_at+in_ok-push_injections w ↦
           injected-next test n (around_in item) rest c.loop-position.list c.if-contains.list _ (value ∙ w.if-contains.true)
           (w.list-is ∙ w.in_ok-push_injections.ensures
+          ∙ ap (λ p. c.loop-position.list ++ injections_from (By p) 0 w.as_slice.result.now) w.in_ok-position_at.ensures.value
           ∙ ap (λ own. c.loop-position.list ++ injections_from (By n) 0 own) w.as_slice.ensures.value) before
       | else-contains w ↦
           ap (λ list. list ++ injections_around test (n + 1) rest) w.list-is
