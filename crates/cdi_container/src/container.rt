@@ -37,7 +37,7 @@ use cdi_bodies::Bodies;
 use cdi_contexts::Contexts;
 use cdi_faults::Fault;
 use cdi_index::{Counts, Draft};
-use cdi_legal::{Entry, Run};
+use cdi_legal::{Entries, Run};
 use cdi_lines::{Command, Edit};
 use cdi_model::{
     BeanPlace, Decl, Decls, Edit as Change, Error, Iter as DeclIter, Kind, Name, Quals, Refusal,
@@ -118,7 +118,7 @@ impl<B: Bodies> Container<B> {
         Container {
             alloc,
             deployment: Deployment::new(alloc, book),
-            run: Run::new(Contexts::new(alloc), Vec::new(alloc)),
+            run: Run::new(alloc, Contexts::new(alloc)),
             told: None,
         }
     }
@@ -457,8 +457,8 @@ impl<B: Bodies> Container<B> {
     }
 
     /// The entries of the last command that was answered, by positions. It takes no memory.
-    pub fn trace(&self) -> &[Entry]
-        ensures { result.now ≡ self.now.trace }
+    pub fn trace(&self) -> Entries<'_>
+        ensures { result ≡ self.now.trace }
     {
         self.run.trace()
     }

@@ -35,8 +35,8 @@ pub(crate) fn stage_looked(
     }
 }
 
-/// What is staged is taken over, if anything is. If it is not readied, the next report looks at all declarations. It takes no
-/// memory.
+/// What is staged is taken over, if anything is. If it is not readied, the next report looks at all declarations. Else the keys of
+/// gone declarations do not gather among those at which it looks. It takes no memory.
 #[tactic(auto, using(crate::proofs::Committing::committed_short))]
 pub(crate) fn take_over(live: &mut Live, unsettled: &mut Unsettled, is_readied: bool)
     requires short { AreShort live.old.decls }
@@ -54,7 +54,9 @@ pub(crate) fn take_over(live: &mut Live, unsettled: &mut Unsettled, is_readied: 
     let _ = live.decls().iter();
     live.commit();
     let _ = live.decls().iter();
-    if !is_readied {
+    if is_readied {
+        unsettled.forget_gone(live.decls());
+    } else {
         unsettled.add_each();
     }
 }

@@ -24,7 +24,7 @@ pub use cdi_contexts::{Actor, InstanceId, Owner};
 pub use cdi_effective::{BeanId, Effective};
 pub use cdi_faults::{Code, Fault, Subject};
 pub use cdi_index::Counts;
-pub use cdi_legal::Entry;
+pub use cdi_legal::{Entries, Entry};
 pub use cdi_lines::{Command, Edit, Said, read_line, read_quals};
 pub use cdi_model::{
     Arguments, Attributes, BeanDecl, BeanPlace, BindingDecl, CallDecl, Decl, DisposerDecl, Error,

@@ -1,5 +1,5 @@
 -- What the code of pre-destroy callbacks rests on.
-use Rattle.std.specs.Prelude.{◌≡◌, ℕ, ◌+◌, ◌*◌, Bool, true, false, Some, slice_get}
+use Rattle.std.specs.Prelude.{◌≡◌, ℕ, ◌<◌, Bool, true, false, Some, slice_get, length, ◌++◌, ◌∷◌, []}
 use Rattle.cdi_model.specs.declared.outcome.Outcome.{Outcome}
 use Rattle.cdi_model.specs.declared.outcome.Val.{Val}
 use Rattle.cdi_bodies.specs.Flags as flags
@@ -15,11 +15,13 @@ use Rattle.cdi_scene.specs.declared.place.Seat.{Seat}
 use Rattle.cdi_scene.specs.declared.scene.Managed.{Managed}
 use Rattle.cdi_scene.specs.declared.scene.Part.{Part}
 use Rattle.cdi_scene.specs.declared.scene.Scene.{Scene}
-use Rattle.cdi_legal.specs.Acts.{Touches}
-use Rattle.cdi_legal.specs.Ends.{Ends, seat_on, invoke_back}
+use Rattle.cdi_legal.specs.Acts.{Permits}
+use Rattle.cdi_legal.specs.Ends.{Ends, seat_on, invoke_back, asks_back}
 use Rattle.cdi_legal.specs.Moment.{Moment, put}
 use Rattle.cdi_legal.specs.declared.entry.Entry.TheVariants.{Proceeded, Got}
 use Rattle.cdi_ending.specs.Staged.{Staged}
+use Rattle.cdi_ending.specs.declared.shared.Shared.{Shared}
+use Rattle.cdi_bodies.specs.declared.act.Frame.{Frame}
 
 abbrev pub is_proceeding : Act → Bool
 is_proceeding acts.Load = false
@@ -72,27 +74,20 @@ pub record Proceeds (s : Scene) (i : InstanceId) (link : ℕ) (v : Val) (m : Mom
   pub invoked : Ends s (invoke_back i v link r) begun ended
   pub last : m' ≡ put (Got r) ended
 
--- what an act of a callback that does not end its frame does
-abbrev pub DoesBack : Scene → InstanceId → Actor → ℕ → Act → Moment → Outcome → Moment → Type 0
-DoesBack s i actor link acts.Load m r m' = Touches i.number actor acts.Load m r m'
-DoesBack s i actor link (acts.Store v) m r m' = Touches i.number actor (acts.Store v) m r m'
-DoesBack s i actor link (acts.Proceed v) m r m' = Proceeds s i link v m r m'
-DoesBack s i actor link (acts.Call site arg) m r m' = ⊥
-DoesBack s i actor link (acts.Fire site arg) m r m' = ⊥
-DoesBack s i actor link (acts.Return v) m r m' = ⊥
-DoesBack s i actor link (acts.Fail f) m r m' = ⊥
+-- the frame, with one answer more
+abbrev pub with_answer : Outcome → Frame → Frame
+with_answer answer shown = record shown { answers = record { items = shown.answers.items ++ answer ∷ [] } }
 
--- how many entries an act takes, where so many frames may begin within
-abbrev pub spent_by : Act → ℕ → ℕ
-spent_by acts.Load frames = 1
-spent_by (acts.Store v) frames = 1
-spent_by (acts.Call site arg) frames = 1
-spent_by (acts.Fire site arg) frames = 1
-spent_by (acts.Proceed arg) frames = 2 + 11 * frames
-spent_by (acts.Return v) frames = 1
-spent_by (acts.Fail f) frames = 1
+-- After so many answers a callback makes acts until it would proceed, for the first time. What follows from there follows.
+pub record Pauses (s : Scene) (seat : Seat) (j : ℕ) (p : Bool) (m : Moment) (shared : Shared) (m' : Moment) : Type 0 where
+  pub first : p ≡ false
+  pub only : IsInterceptor seat.actor
+  pub permitted : Permits s seat (acts.Proceed shared.argument)
+  pub few : length shared.shown.answers.items < 8
+  pub rest : (k : ℕ) (o : Outcome) (m₁ : Moment) → Ends s (asks_back seat k (length shared.shown.answers.items) false o) m' m₁
+      → Ends s (asks_back seat k j false o) m m₁
 
--- how many a frame has taken for its proceeding so far
-abbrev pub spent_before : Bool → ℕ → ℕ
-spent_before true frames = 1 + 11 * frames
-spent_before false frames = 0
+-- After so many answers a callback makes acts until it pauses, or until it ends.
+abbrev pub Halts : Scene → InstanceId → Actor → ℕ → Bool → Moment → Bool → Shared → Moment → Type 0
+Halts s i actor j p m true shared m' = Pauses s (seat_on i actor Pre) j p m shared m'
+Halts s i actor j p m false shared m' = (k : ℕ) → Ends s (asks_back (seat_on i actor Pre) k j p shared.outcome) m m'

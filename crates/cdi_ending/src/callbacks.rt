@@ -1,15 +1,18 @@
 //! What runs before an instance is destroyed: the pre-destroy callbacks of a managed bean (Interceptors 2.1, Interceptors
 //! for Lifecycle Event Callbacks), and the disposer method of a product (CDI 4.0, Lifecycle of producer methods). Each
 //! contract says at most how many entries it takes: 11 a frame, since a frame makes at most 8 acts of which one proceeds, and
-//! 2 for a disposer method.
-ghost use Rattle.std.specs.Prelude.{◌≡◌, ◌&&◌, ◌||◌, ◌+◌, ◌*◌, ◌≤◌, false, IfOk, OnOk, IsOk, Some};
+//! 2 for a disposer method. The callbacks call each other as deep as their chain is long, so what need not be on the stack
+//! meanwhile is in functions that are not inlined.
+ghost use Rattle.std.specs.Prelude.{◌≡◌, ◌&&◌, ◌+◌, ◌*◌, ◌<◌, ◌≤◌, false, IfOk, OnOk, IsOk, Some, length};
 ghost use Rattle.cdi_scene.specs.Scene.{managed_at};
 ghost use Rattle.cdi_scene.specs.declared.place.Place.TheVariants.{Pre};
 ghost use Rattle.cdi_legal.specs.Ends.{Ends, callback, invoke_back, frame_back, asks_back, seat_on};
 ghost use Rattle.cdi_ending.specs.Room.{IsSteady, frames_from, frames_within, callback_cost};
-ghost use Rattle.cdi_ending.specs.Back.{ActsBefore, IsBack, is_proceeding, GoesOn, DoesBack, spent_by, IsOwnDisposal};
+ghost use Rattle.cdi_ending.specs.Back.{ActsBefore, IsBack, is_proceeding, Proceeds, Halts, with_answer, IsOwnDisposal};
 
 use crate::asking::{ending, touch};
+use crate::paused::Paused;
+use crate::shared::Shared;
 use crate::stage::Stage;
 use cdi_bodies::{Act, Bodies};
 use cdi_contexts::{Actor, InstanceId};
@@ -18,9 +21,17 @@ use cdi_model::{Failure, Outcome, Val};
 use cdi_scene::{Managed, Part, Place, Seat};
 use std::alloc::AllocError;
 
+/// An instance that is destroyed, with its managed bean.
+#[derive(Clone, Copy)]
+struct Leaving<'m> {
+    id: InstanceId,
+    managed: &'m Managed,
+}
+
 impl<'a, B: Bodies> Stage<'a, B> {
     /// What runs before the destruction of an instance: the pre-destroy callbacks of a managed bean, or the disposer method
     /// of a product.
+    #[inline(never)]
     pub(crate) fn call_back(&self, run: &mut Run, id: InstanceId) -> Result<(), AllocError>
         ensures legal { OnOk result (Ends self.now.scene (callback id) run.old.moment run.new.moment) }
         ensures steady { OnOk result (IsSteady run.old.moment.standing run.new.moment.standing) }
@@ -29,7 +40,12 @@ impl<'a, B: Bodies> Stage<'a, B> {
     {
         let scene = self.scene();
         if let Some(managed) = scene.managed(id.bean) {
-            self.invoke_back(run, id, managed, Val::Null, 0)?;
+            if managed.pre.chain.is_empty() && managed.pre.part.is_none() {
+                return Ok(());
+            }
+            let mut shared = Shared::new();
+            let leaving = Leaving { id, managed };
+            self.invoke_back(run, &mut shared, &leaving, 0)?;
             return Ok(());
         }
         let Some(product) = scene.product(id.bean) else {
@@ -71,142 +87,169 @@ impl<'a, B: Bodies> Stage<'a, B> {
 
     /// The pre-destroy callbacks of an instance from a link of their chain on.
     #[cycle(back)]
+    #[inline(always)]
     fn invoke_back(
         &self,
         run: &mut Run,
-        id: InstanceId,
-        managed: &Managed,
-        arg: Val,
+        shared: &mut Shared,
+        leaving: &Leaving<'_>,
         link: usize,
-    ) -> Result<Outcome, AllocError>
-        requires managed { managed_at self.now.scene id.bean ≡ Some managed.now }
-        ensures legal { IfOk result (λ outcome.
-            Ends self.now.scene (invoke_back id arg link outcome) run.old.moment run.new.moment) }
+    ) -> Result<(), AllocError>
+        requires managed { managed_at self.now.scene leaving.now.id.bean ≡ Some leaving.now.managed.now }
+        ensures legal { OnOk result (Ends self.now.scene
+            (invoke_back leaving.now.id shared.old.argument link shared.new.outcome) run.old.moment run.new.moment) }
         ensures steady { OnOk result (IsSteady run.old.moment.standing run.new.moment.standing) }
-        ensures possible { 11 * frames_from managed.now.pre link ≤ run.old.room → IsOk result }
-        ensures room { run.old.room ≤ run.new.room + 11 * frames_from managed.now.pre link }
+        ensures possible { 11 * frames_from leaving.now.managed.now.pre link ≤ run.old.room → IsOk result }
+        ensures room { run.old.room ≤ run.new.room + 11 * frames_from leaving.now.managed.now.pre link }
     {
-        if link < managed.pre.chain.len() {
-            let actor = Actor::Interceptor(managed.pre.link(link));
-            let outcome = self.frame_back(run, id, managed, actor, arg, link + 1)?;
-            return Ok(outcome);
+        if link < leaving.managed.pre.chain.len() {
+            let actor = Actor::Interceptor(leaving.managed.pre.link(link));
+            self.frame_back(run, shared, leaving, actor, link + 1)?;
+            return Ok(());
         }
-        if managed.pre.part.is_none() {
-            return Ok(Outcome::Value(Val::Null));
+        if leaving.managed.pre.part.is_none() {
+            shared.outcome = Outcome::Value(Val::Null);
+            return Ok(());
         }
-        let outcome = self.frame_back(run, id, managed, Actor::Target, arg, link)?;
-        Ok(outcome)
+        self.frame_back(run, shared, leaving, Actor::Target, link)?;
+        Ok(())
     }
 
-    /// A frame of the pre-destroy callbacks, of an interceptor or of the bean.
+    /// A frame of a callback, before which so many links were entered.
     #[cycle(back)]
     fn frame_back(
         &self,
         run: &mut Run,
-        id: InstanceId,
-        managed: &Managed,
+        shared: &mut Shared,
+        leaving: &Leaving<'_>,
         actor: Actor,
-        arg: Val,
         link: usize,
-    ) -> Result<Outcome, AllocError>
-        requires managed { managed_at self.now.scene id.bean ≡ Some managed.now }
-        requires acts { ActsBefore managed.now actor }
-        ensures legal { IfOk result (λ outcome.
-            Ends self.now.scene (frame_back (seat_on id actor Pre) arg link outcome) run.old.moment run.new.moment) }
+    ) -> Result<(), AllocError>
+        requires managed { managed_at self.now.scene leaving.now.id.bean ≡ Some leaving.now.managed.now }
+        requires acts { ActsBefore leaving.now.managed.now actor }
+        ensures legal { OnOk result (Ends self.now.scene
+            (frame_back (seat_on leaving.now.id actor Pre) shared.old.argument link shared.new.outcome)
+            run.old.moment run.new.moment) }
         ensures steady { OnOk result (IsSteady run.old.moment.standing run.new.moment.standing) }
-        ensures possible { 11 + 11 * frames_within actor managed.now.pre link ≤ run.old.room → IsOk result }
-        ensures room { run.old.room ≤ run.new.room + 11 + 11 * frames_within actor managed.now.pre link }
+        ensures possible { 11 + 11 * frames_within actor leaving.now.managed.now.pre link ≤ run.old.room → IsOk result }
+        ensures room { run.old.room ≤ run.new.room + 11 + 11 * frames_within actor leaving.now.managed.now.pre link }
     {
-        let seat = Seat {
-            bean: id.bean,
-            number: Some(id.number),
-            actor,
-            place: Place::Pre,
-        };
-        run.note(Entry::Enter { seat, arg })?;
-        let outcome = self.ask_back(run, id, managed, actor, arg, link)?;
-        run.note(Entry::Leave { outcome })?;
-        Ok(outcome)
+        shared.note_beginning(run, leaving.id, actor)?;
+        self.ask_back(run, shared, leaving, actor, link)?;
+        shared.note_end(run)?;
+        Ok(())
     }
 
-    /// Asks a callback's body until it ends: after 8 answers, or where it would proceed a second time, it fails (profile).
+    /// Asks the body of a callback until it ends. It may let the rest of the chain run once.
     #[cycle(back)]
+    #[inline(always)]
     fn ask_back(
         &self,
         run: &mut Run,
-        id: InstanceId,
-        managed: &Managed,
+        shared: &mut Shared,
+        leaving: &Leaving<'_>,
         actor: Actor,
-        arg: Val,
         link: usize,
-    ) -> Result<Outcome, AllocError>
-        requires managed { managed_at self.now.scene id.bean ≡ Some managed.now }
-        requires acts { ActsBefore managed.now actor }
-        ensures legal { IfOk result (λ outcome.
-            Ends self.now.scene (asks_back (seat_on id actor Pre) link 0 false outcome) run.old.moment run.new.moment) }
+    ) -> Result<(), AllocError>
+        requires managed { managed_at self.now.scene leaving.now.id.bean ≡ Some leaving.now.managed.now }
+        requires acts { ActsBefore leaving.now.managed.now actor }
+        ensures legal { OnOk result (Ends self.now.scene
+            (asks_back (seat_on leaving.now.id actor Pre) link 0 false shared.new.outcome) run.old.moment run.new.moment) }
         ensures steady { OnOk result (IsSteady run.old.moment.standing run.new.moment.standing) }
-        ensures possible { 9 + 11 * frames_within actor managed.now.pre link ≤ run.old.room → IsOk result }
-        ensures room { run.old.room ≤ run.new.room + 9 + 11 * frames_within actor managed.now.pre link }
+        ensures possible { 9 + 11 * frames_within actor leaving.now.managed.now.pre link ≤ run.old.room → IsOk result }
+        ensures room { run.old.room ≤ run.new.room + 9 + 11 * frames_within actor leaving.now.managed.now.pre link }
     {
-        let part = self.part_before(id, managed, actor);
-        let mut shown = self.first_shown(part, arg);
-        let mut has_proceeded = false;
-        'asking: loop {
-            let act = self.ask(part, &shown);
-            if let Some(outcome) = ending(act) {
-                return Ok(outcome);
-            }
-            if shown.answers.len() == 8 {
-                return Ok(Outcome::Failed(Failure::Steps));
-            }
-            if is_second(act, has_proceeded) {
-                return Ok(Outcome::Failed(Failure::Steps));
-            }
-            has_proceeded = with_proceeding(act, has_proceeded);
-            let answer = self.act_back(run, id, managed, actor, act, link)?;
-            shown.answers.push(answer);
+        let part = self.part_before(leaving, actor);
+        shared.begin(part);
+        if self.ask_on(run, shared, part, leaving.id, actor, false)? {
+            self.proceed_back(run, shared, leaving, link)?;
+            self.ask_on(run, shared, part, leaving.id, actor, true)?;
         }
+        Ok(())
     }
 
-    /// Does an act that does not end its frame.
+    /// Lets the rest of the chain run, and shows the callback how it ended.
     #[cycle(back)]
-    fn act_back(
+    #[inline(always)]
+    fn proceed_back(
         &self,
         run: &mut Run,
-        id: InstanceId,
-        managed: &Managed,
-        actor: Actor,
-        act: Act,
+        shared: &mut Shared,
+        leaving: &Leaving<'_>,
         link: usize,
-    ) -> Result<Outcome, AllocError>
-        requires managed { managed_at self.now.scene id.bean ≡ Some managed.now }
-        requires goes_on { GoesOn actor act }
-        ensures legal { IfOk result (λ answer.
-            DoesBack self.now.scene id actor link act run.old.moment answer run.new.moment) }
+    ) -> Result<(), AllocError>
+        requires managed { managed_at self.now.scene leaving.now.id.bean ≡ Some leaving.now.managed.now }
+        requires few { length shared.old.shown.answers.items < 8 }
+        ensures legal { OnOk result (Proceeds self.now.scene leaving.now.id link shared.old.argument run.old.moment
+            shared.new.outcome run.new.moment) }
+        ensures shown { OnOk result (shared.new.shown ≡ with_answer shared.new.outcome shared.old.shown) }
         ensures steady { OnOk result (IsSteady run.old.moment.standing run.new.moment.standing) }
-        ensures possible { spent_by act (frames_within actor managed.now.pre link) ≤ run.old.room → IsOk result }
-        ensures room { run.old.room ≤ run.new.room + spent_by act (frames_within actor managed.now.pre link) }
+        ensures possible { 2 + 11 * frames_from leaving.now.managed.now.pre link ≤ run.old.room → IsOk result }
+        ensures room { run.old.room ≤ run.new.room + 2 + 11 * frames_from leaving.now.managed.now.pre link }
     {
-        match act {
-            Act::Proceed(value) => {
-                run.note(Entry::Proceeded { arg: value })?;
-                let outcome = self.invoke_back(run, id, managed, value, link)?;
-                run.note(Entry::Got { outcome })?;
-                Ok(outcome)
+        let mut kept = Paused::new();
+        kept.keep(&shared.shown);
+        shared.note_proceeding(run)?;
+        self.invoke_back(run, shared, leaving, link)?;
+        kept.resume(&mut shared.shown);
+        shared.answer(run)?;
+        Ok(())
+    }
+
+    /// Asks the body of a callback until it ends, or lets the rest of the chain run for the first time. Says whether it does.
+    #[inline(never)]
+    fn ask_on(
+        &self,
+        run: &mut Run,
+        shared: &mut Shared,
+        part: &Part,
+        id: InstanceId,
+        actor: Actor,
+        has_proceeded: bool,
+    ) -> Result<bool, AllocError>
+        requires back { IsBack self.now id actor part.now }
+        requires calls { shared.old.shown.calls ≡ length part.now.calls }
+        requires fires { shared.old.shown.fires ≡ length part.now.fires }
+        requires few { length shared.old.shown.answers.items ≤ 8 }
+        ensures halts { IfOk result (λ proceeds. Halts self.now.scene id actor (length shared.old.shown.answers.items) has_proceeded
+            run.old.moment proceeds shared.new run.new.moment) }
+        ensures calls { OnOk result (shared.new.shown.calls ≡ length part.now.calls) }
+        ensures fires { OnOk result (shared.new.shown.fires ≡ length part.now.fires) }
+        ensures steady { OnOk result (IsSteady run.old.moment.standing run.new.moment.standing) }
+        ensures possible { 8 ≤ run.old.room + length shared.old.shown.answers.items → IsOk result }
+        ensures spent { OnOk result (run.old.room + length shared.old.shown.answers.items
+            ≤ run.new.room + length shared.new.shown.answers.items) }
+        ensures room { run.old.room + length shared.old.shown.answers.items ≤ run.new.room + 8 }
+    {
+        'asking: loop {
+            let act = self.ask(part, &shared.shown);
+            if let Some(outcome) = ending(act) {
+                shared.outcome = outcome;
+                return Ok(false);
             }
-            _ => touch(run, id.number, actor, act),
+            if shared.shown.answers.len() == 8 || is_second(act, has_proceeded) {
+                shared.outcome = Outcome::Failed(Failure::Steps);
+                return Ok(false);
+            }
+            if let Act::Proceed(value) = act {
+                shared.argument = value;
+                return Ok(true);
+            }
+            let answer = touch(run, id.number, actor, act)?;
+            shared.shown.answers.push(answer);
         }
     }
 
     /// The body that runs before the destruction of an instance for an actor.
-    fn part_before(&self, id: InstanceId, managed: &Managed, actor: Actor) -> &'a Part
-        requires managed { managed_at self.now.scene id.bean ≡ Some managed.now }
-        requires acts { ActsBefore managed.now actor }
-        ensures { IsBack self.now id actor result.now }
+    #[inline(never)]
+    fn part_before(&self, leaving: &Leaving<'_>, actor: Actor) -> &'a Part
+        requires managed { managed_at self.now.scene leaving.now.id.bean ≡ Some leaving.now.managed.now }
+        requires acts { ActsBefore leaving.now.managed.now actor }
+        ensures { IsBack self.now leaving.now.id actor result.now }
     {
         let seat = Seat {
-            bean: id.bean,
-            number: Some(id.number),
+            bean: leaving.id.bean,
+            number: Some(leaving.id.number),
             actor,
             place: Place::Pre,
         };
@@ -222,11 +265,4 @@ fn is_second(act: Act, has_proceeded: bool) -> bool
     ensures { result ≡ (is_proceeding act && has_proceeded) }
 {
     matches!(act, Act::Proceed(_)) && has_proceeded
-}
-
-/// Whether it has proceeded after the act.
-fn with_proceeding(act: Act, has_proceeded: bool) -> bool
-    ensures { result ≡ (has_proceeded || is_proceeding act) }
-{
-    has_proceeded || matches!(act, Act::Proceed(_))
 }

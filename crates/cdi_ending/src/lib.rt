@@ -5,7 +5,9 @@
 mod asking;
 mod callbacks;
 mod destroying;
+mod paused;
 mod reserving;
+mod shared;
 mod stage;
 
 pub use asking::{ending, touch};

@@ -35,7 +35,7 @@ impl<'a, B: Bodies> Stage<'a, B> {
     }
 
     /// The same of an instance of a bean, without what was made for its points.
-    fn bean_cost(&self, bean: usize) -> Option<usize>
+    fn bean_cost(&self, bean: u32) -> Option<usize>
         ensures { IfSome result (λ cost. cost ≡ bean_cost self.now.scene bean) }
     {
         match self.scene().bean(bean) {

@@ -34,7 +34,7 @@ pub(crate) struct Supplied {
 impl<'a, B: Bodies> Player<'a, B> {
     /// The instance of a bean with a normal scope.
     #[cycle(run)]
-    pub(crate) fn obtain(&self, run: &mut Run, levels: u32, bean: usize) -> Result<Made, AllocError>
+    pub(crate) fn obtain(&self, run: &mut Run, levels: u32, bean: u32) -> Result<Made, AllocError>
         requires there { IsSome (bean_at self.now.stage.scene bean) }
         requires settled { IsSettled self.now.stage run.old.moment }
         ensures { IfOk result (λ answer. Leads self.now.stage levels (obtain bean) run.old (made_is answer) run.new) }
@@ -64,7 +64,7 @@ impl<'a, B: Bodies> Player<'a, B> {
         &self,
         run: &mut Run,
         levels: u32,
-        bean: usize,
+        bean: u32,
         owner: Owner,
     ) -> Result<Made, AllocError>
         requires there { IsSome (bean_at self.now.stage.scene bean) }
@@ -313,7 +313,7 @@ impl<'a, B: Bodies> Player<'a, B> {
         run: &mut Run,
         levels: u32,
         product: Option<InstanceId>,
-        params: &[usize],
+        params: &[u32],
     ) -> Result<Supplied, AllocError>
         requires beans { AreBeans self.now.stage.scene params.now }
         requires few { length params.now ≤ list_limit }
@@ -329,7 +329,7 @@ impl<'a, B: Bodies> Player<'a, B> {
                 held.push(None);
                 continue;
             }
-            let owner = owner_of_param(product, param);
+            let owner = owner_of_param(product, param as u32);
             match self.create(run, levels, bean, owner)? {
                 Made::Instance(number) => held.push(Some(InstanceId { bean, number })),
                 Made::Refused(failure) => {

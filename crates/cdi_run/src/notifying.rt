@@ -132,7 +132,7 @@ impl<'a, B: Bodies> Player<'a, B> {
         run: &mut Run,
         levels: u32,
         id: InstanceId,
-        position: usize,
+        position: u32,
         observer: &Observer,
         arg: Val,
     ) -> Result<Outcome, AllocError>

@@ -19,7 +19,7 @@ pub struct Player<'a, B: Bodies> {
 
 impl<'a, B: Bodies> Player<'a, B> {
     /// The managed bean at a position.
-    pub(crate) fn managed(&self, bean: usize) -> Option<&'a Managed>
+    pub(crate) fn managed(&self, bean: u32) -> Option<&'a Managed>
         ensures found { option_map (λ managed. managed.now) result ≡ managed_at self.now.stage.scene bean }
         ensures sound { IfSome result (λ managed. IsManaged self.now.stage bean managed.now) }
     {
@@ -27,7 +27,7 @@ impl<'a, B: Bodies> Player<'a, B> {
     }
 
     /// The product at a position.
-    pub(crate) fn product(&self, bean: usize) -> Option<&'a Product>
+    pub(crate) fn product(&self, bean: u32) -> Option<&'a Product>
         ensures found { option_map (λ product. product.now) result ≡ product_at self.now.stage.scene bean }
         ensures sound { IfSome result (λ product. IsProduct self.now.stage bean product.now) }
     {
@@ -35,7 +35,7 @@ impl<'a, B: Bodies> Player<'a, B> {
     }
 
     /// The observer method of a bean at a position there.
-    pub(crate) fn observer(&self, bean: usize, position: usize) -> Option<&'a Observer>
+    pub(crate) fn observer(&self, bean: u32, position: u32) -> Option<&'a Observer>
         ensures found { option_map (λ observer. observer.now) result ≡ observer_at self.now.stage.scene bean position }
         ensures sound { IfSome result (λ observer. IsObserver self.now.stage bean position observer.now) }
     {
@@ -43,7 +43,7 @@ impl<'a, B: Bodies> Player<'a, B> {
     }
 
     /// What is invoked at a place of a bean.
-    pub(crate) fn invocable(&self, bean: usize, place: Place) -> Option<&'a Invocable>
+    pub(crate) fn invocable(&self, bean: u32, place: Place) -> Option<&'a Invocable>
         ensures found { option_map (λ invocable. invocable.now) result ≡ invocable_at self.now.stage.scene bean place }
         ensures sound { IfSome result (λ invocable. IsInvocable self.now.stage bean place invocable.now) }
     {
@@ -51,7 +51,7 @@ impl<'a, B: Bodies> Player<'a, B> {
     }
 
     /// The scope of a bean.
-    pub(crate) fn scope_of(&self, bean: usize) -> Scope
+    pub(crate) fn scope_of(&self, bean: u32) -> Scope
         requires { IsSome (bean_at self.now.stage.scene bean) }
         ensures { HasScope self.now.stage.scene bean result }
     {
@@ -62,7 +62,7 @@ impl<'a, B: Bodies> Player<'a, B> {
     }
 
     /// What a product holds once it is ready.
-    pub(crate) fn product_of(&self, bean: usize, value: Val) -> Option<Val>
+    pub(crate) fn product_of(&self, bean: u32, value: Val) -> Option<Val>
         ensures { IfSome (bean_at self.now.stage.scene bean) (λ x. result ≡ product_of x.form value) }
     {
         match self.stage.scene().bean(bean) {

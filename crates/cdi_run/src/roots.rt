@@ -21,7 +21,7 @@ use cdi_bodies::Bodies;
 use cdi_contexts::{Actor, InstanceId, Owner};
 use cdi_legal::{Made, Run};
 use cdi_model::{Outcome, Scope, Val};
-use cdi_scene::{Notified, Place};
+use cdi_scene::{Notified, Place, position_at};
 use std::alloc::AllocError;
 
 /// How many creations and frames may be open (profile).
@@ -133,7 +133,7 @@ impl<'a, B: Bodies> Player<'a, B> {
         let _rising = run.given();
         let _ = self.stage.scene();
         self.stage.reserve_ends(run)?;
-        run.restart();
+        run.restart_in_room();
         match self.stage.end_context(run, Scope::Request) {
             Ok(()) => {
                 run.close();
@@ -163,7 +163,7 @@ impl<'a, B: Bodies> Player<'a, B> {
         let _rising = run.given();
         let _ = self.stage.scene();
         self.stage.reserve_ends(run)?;
-        run.restart();
+        run.restart_in_room();
         match self.end_both(run) {
             Ok(()) => {
                 run.close();
@@ -186,6 +186,7 @@ impl<'a, B: Bodies> Player<'a, B> {
         ensures { IfOk result (λ outcome.
             Runs self.now.stage.scene (use_bean bean (use_of purpose)) run.old.moment outcome run.new.moment) }
     {
+        let bean = position_at(bean)?;
         if is_normal(self.scope_of(bean)) {
             return match self.obtain(run, DEPTH, bean)? {
                 Made::Refused(failure) => Ok(Outcome::Failed(failure)),
@@ -225,7 +226,7 @@ impl<'a, B: Bodies> Player<'a, B> {
                 if self.product(id.bean).is_some() {
                     return Ok(Outcome::Value(run.load(id.number, Actor::Target)));
                 }
-                let place = Place::Method(method);
+                let place = Place::Method(position_at(method)?);
                 let given = self.invoke(run, DEPTH, id, place, &[], Passed { arg, link: 0 })?;
                 Ok(given.outcome)
             }

@@ -112,7 +112,7 @@ pub(crate) fn dependent_of(
             },
             None => None,
         },
-        Via::Param(param) => match held.get(param) {
+        Via::Param(param) => match held.get(param as usize) {
             Some(Some(id)) => Some(id.number),
             _ => None,
         },
@@ -132,7 +132,7 @@ pub(crate) fn seat_on(id: InstanceId, actor: Actor, place: Place) -> Seat
 }
 
 /// Whom the instance for a parameter belongs to: the product, or nobody where an observer is notified.
-pub(crate) fn owner_of_param(product: Option<InstanceId>, param: usize) -> Owner
+pub(crate) fn owner_of_param(product: Option<InstanceId>, param: u32) -> Owner
     ensures { result ≡ for_param product param }
 {
     match product {
@@ -197,7 +197,7 @@ pub(crate) fn injection_in(injections: &[Injection], position: usize) -> Injecti
 }
 
 /// The bean for a parameter.
-pub(crate) fn bean_in(params: &[usize], param: usize) -> usize
+pub(crate) fn bean_in(params: &[u32], param: usize) -> u32
     requires { param < length params.now }
     ensures { slice_get params.now param ≡ Some result }
 {

@@ -9,4 +9,4 @@ returns-clause-legal g c =
     let m = c.args.run.now.moment in
     ends_nothing (scene_of d.decls d.book) m c.close.new.self.moment
     (c.requires.nothing_lives (sym c.is_wired.ensures ∙ c.if-is_wired.false))
-    (is_closed m c.restart.new.self.moment c.close.new.self.moment c.restart.ensures.moment c.close.ensures)
+    (is_closed m c.restart.new.self.moment c.close.new.self.moment c.restart.ensures c.close.ensures)

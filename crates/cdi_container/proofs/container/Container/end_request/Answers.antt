@@ -10,7 +10,7 @@ returns-clause-ok g c =
     let m = c.self.inside.run.moment in
     ends_no_request d (trace_names d c.self.inside.told) c.args.self.now m c.close.new.self.moment c.self.view_is
     (c.self.invariant.nothing_lives (sym c.is_wired.ensures ∙ c.if-is_wired.false))
-    (is_closed m c.restart-2.new.self.moment c.close.new.self.moment c.restart-2.ensures.moment c.close.ensures)
+    (is_closed m c.restart-2.new.self.moment c.close.new.self.moment c.restart-2.ensures c.close.ensures)
 
 pub returns-clause-step : goal.returns-clause-step
 returns-clause-step g c =

@@ -13,5 +13,5 @@ returns-then-not-is_wired g c =
 pub returns : goal.returns
 returns g c =
     let d = c.self.inside.deployment in
-    names_present d c.self.inside.told c.args.self.now c.self.inside.run.moment c.names.result.now c.trace-2.result.now c.new-2.result
+    names_present d c.self.inside.told c.args.self.now c.self.inside.run.moment c.names.result.now c.trace-2.result c.new-2.result
     c.self.view_is c.in_default.is c.names.ensures c.trace-2.ensures c.new-2.ensures

@@ -18,13 +18,13 @@ invariant_of-self g c =
 pub invariant_of-self-in-Ok : goal.invariant_of-self-in-Ok
 invariant_of-self-in-Ok g c =
     rests_ran c.aim.new.self c.player-player.result.stage.scene c.self.inside.run.moment c.restart.new.self.moment
-    c.use_one.new.run.moment c.in-Ok.ensures.wired c.player-player.ensures.scene c.restart.ensures.moment c.self.invariant.rooted
+    c.use_one.new.run.moment c.in-Ok.ensures.wired c.player-player.ensures.scene c.restart.ensures c.self.invariant.rooted
     c.use_one.ensures.rooted c.use_one.ensures.furnished
 
 pub invariant_of-self-in-Err : goal.invariant_of-self-in-Err
 invariant_of-self-in-Err g c =
     rests_unplayed c.self.inside.deployment c.aim.new.self c.self.inside.run.moment c.restart.new.self.moment c.self.inside.told
-    c.self.invariant c.restart.ensures.moment (λ w. c.aim.ensures.wired_still w) c.aim.ensures.decls c.aim.ensures.book
+    c.self.invariant c.restart.ensures (λ w. c.aim.ensures.wired_still w) c.aim.ensures.decls c.aim.ensures.book
 
 pub returns-in_err-outcome-in-Ok : goal.returns-in_err-outcome-in-Ok
 returns-in_err-outcome-in-Ok g c =
@@ -37,7 +37,7 @@ returns-in_err-outcome-in-Ok g c =
     (leaves_run d c.aim.new.self names (trace_names c.aim.new.self None) c.self.inside.run.moment c.use_one.new.run.moment (keys_of_use d.decls d.book c.args.bean_type c.args.quals.now)
     (some-all (keys_of_use d.decls d.book c.args.bean_type c.args.quals.now) d c.aim.new.self (use-apart d c.args.bean_type c.args.quals.now) c.in-Ok.ensures.asked)
     (c.in_err-outcome-in-Ok.ensures.out_of_memory
-    ∙ ap (λ (x : Moment). beginning (cleared x.standing.given)) c.restart.ensures.moment)))
+    ∙ ap (λ (x : Moment). beginning (cleared x.standing.given)) c.restart.ensures)))
 
 pub returns-in_ok-outcome-in-Ok : goal.returns-in_ok-outcome-in-Ok
 returns-in_ok-outcome-in-Ok g c =
@@ -46,7 +46,7 @@ returns-in_ok-outcome-in-Ok g c =
     (standing_at c.aim.new.self (trace_names c.aim.new.self None) c.use_one.new.run.moment)) c.self.view_is
     (ran d c.aim.new.self c.player-player.result.stage.scene (trace_names d c.self.inside.told) c.self.inside.run.moment
     c.restart.new.self.moment c.use_one.new.run.moment (keys_of_use d.decls d.book c.args.bean_type c.args.quals.now) (run_of_use d.decls d.book (asked_for c.args.bean_type c.args.quals.now c.args.message)) (run_at c.in-Ok.aim) c.in_ok-outcome-in-Ok.outcome
-    c.in-Ok.ensures.asked c.restart.ensures.moment c.player-player.ensures.scene (ap (run_by run_at) c.in-Ok.ensures.answer) c.in_ok-outcome-in-Ok.ensures.legal)
+    c.in-Ok.ensures.asked c.restart.ensures c.player-player.ensures.scene (ap (run_by run_at) c.in-Ok.ensures.answer) c.in_ok-outcome-in-Ok.ensures.legal)
 
 pub returns-in-Err : goal.returns-in-Err
 returns-in-Err g c =
@@ -54,5 +54,5 @@ returns-in-Err g c =
     subst (λ (s : State). RunAnswers s (keys_of_use s.decls s.book c.args.bean_type c.args.quals.now) (run_of_use s.decls s.book (asked_for c.args.bean_type c.args.quals.now c.args.message)) (Err c.leave_unplayed.result)
     c.leave_unplayed.new.self) c.self.view_is
     (run_left d c.aim.new.self (trace_names d c.self.inside.told) (trace_names c.aim.new.self None) c.self.inside.run.moment
-    c.restart.new.self.moment (keys_of_use d.decls d.book c.args.bean_type c.args.quals.now) (run_of_use d.decls d.book (asked_for c.args.bean_type c.args.quals.now c.args.message)) c.in-Err.error c.leave_unplayed.result c.leave_unplayed.new.self c.restart.ensures.moment
+    c.restart.new.self.moment (keys_of_use d.decls d.book c.args.bean_type c.args.quals.now) (run_of_use d.decls d.book (asked_for c.args.bean_type c.args.quals.now c.args.message)) c.in-Err.error c.leave_unplayed.result c.leave_unplayed.new.self c.restart.ensures
     (refused_by run_at (aim_of d.decls d.book (asked_for c.args.bean_type c.args.quals.now c.args.message)) c.in-Err.error c.in-Err.ensures.answer) c.in-Err.ensures.asked c.leave_unplayed.ensures.same c.leave_unplayed.ensures.left)

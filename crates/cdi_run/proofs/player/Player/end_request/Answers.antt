@@ -26,35 +26,35 @@ ended s before old end new began ends closes = record {
 pub returns-clause-follows : goal.returns-clause-follows
 returns-clause-follows g c =
     request_end_follows
-    (ended _ _ _ _ _ (rw c.in_ok-reserve_ends.ensures.same at c.restart.ensures.moment) c.in-Ok.ensures.legal
+    (ended _ _ _ _ _ (rw c.in_ok-reserve_ends.ensures.same at c.restart_in_room.ensures.moment) c.in-Ok.ensures.legal
     c.close.ensures)
 
 pub returns-clause-single : goal.returns-clause-single
 returns-clause-single g c =
     request_end_single
-    (ended _ _ _ _ _ (rw c.in_ok-reserve_ends.ensures.same at c.restart.ensures.moment) c.in-Ok.ensures.legal
+    (ended _ _ _ _ _ (rw c.in_ok-reserve_ends.ensures.same at c.restart_in_room.ensures.moment) c.in-Ok.ensures.legal
     c.close.ensures)
 
 pub returns-clause-furnished : goal.returns-clause-furnished
 returns-clause-furnished g c = λ f.
     request_end_stays
-    (ended _ _ _ _ _ (rw c.in_ok-reserve_ends.ensures.same at c.restart.ensures.moment) c.in-Ok.ensures.legal
+    (ended _ _ _ _ _ (rw c.in_ok-reserve_ends.ensures.same at c.restart_in_room.ensures.moment) c.in-Ok.ensures.legal
     c.close.ensures) c.given-rising.ensures.rising f
 
 pub returns-clause-rooted : goal.returns-clause-rooted
 returns-clause-rooted g c = λ h.
     request_end_rooted
-    (ended _ _ _ _ _ (rw c.in_ok-reserve_ends.ensures.same at c.restart.ensures.moment) c.in-Ok.ensures.legal
+    (ended _ _ _ _ _ (rw c.in_ok-reserve_ends.ensures.same at c.restart_in_room.ensures.moment) c.in-Ok.ensures.legal
     c.close.ensures) c.given-rising.ensures.rising h
 
 pub returns-clause-ordered : goal.returns-clause-ordered
 returns-clause-ordered g c =
     commands_are_ordered.request_end _ _ _ _
-    (ended _ _ _ _ _ (rw c.in_ok-reserve_ends.ensures.same at c.restart.ensures.moment) c.in-Ok.ensures.legal
+    (ended _ _ _ _ _ (rw c.in_ok-reserve_ends.ensures.same at c.restart_in_room.ensures.moment) c.in-Ok.ensures.legal
     c.close.ensures)
 
 pub returns-clause-faultless : goal.returns-clause-faultless
 returns-clause-faultless g c =
     (commands_are_faultless _).request_end _ _ _ _
-    (ended _ _ _ _ _ (rw c.in_ok-reserve_ends.ensures.same at c.restart.ensures.moment) c.in-Ok.ensures.legal
+    (ended _ _ _ _ _ (rw c.in_ok-reserve_ends.ensures.same at c.restart_in_room.ensures.moment) c.in-Ok.ensures.legal
     c.close.ensures) c.scene.ensures.sound

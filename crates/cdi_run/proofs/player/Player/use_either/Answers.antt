@@ -8,26 +8,34 @@ pub returns-in-Refused : goal.returns-in-Refused
 returns-in-Refused g c =
     let h = c.scope_of.ensures in
     let normal : is_normal h.bean.scope ≡ true = rw h.scoped (grind arith) in
-    Runs.refused_shared _ _ _ _ _ _ h.there normal (rw c.in-Refused.is at c.in_ok-failure.ensures)
+    let e : c.in_ok-bean.bean ≡ c.args.bean = c.in_ok-bean.ensures.value in
+    rw (← e)
+    (Runs.refused_shared _ _ _ _ _ _ h.there normal (rw c.in-Refused.is at c.in_ok-failure.ensures))
 
 pub returns-in_ok-outcome-in-Instance : goal.returns-in_ok-outcome-in-Instance
 returns-in_ok-outcome-in-Instance g c =
     let h = c.scope_of.ensures in
     let normal : is_normal h.bean.scope ≡ true = rw h.scoped (grind arith) in
-    Runs.used_shared _ _ _ _ _ _ _ _ h.there normal (rw c.in-Instance.is at c.in_ok-failure.ensures) c.in_ok-outcome-in-Instance.ensures
+    let e : c.in_ok-bean.bean ≡ c.args.bean = c.in_ok-bean.ensures.value in
+    rw (← e)
+    (Runs.used_shared _ _ _ _ _ _ _ _ h.there normal (rw c.in-Instance.is at c.in_ok-failure.ensures) c.in_ok-outcome-in-Instance.ensures)
 
 pub returns-in-Refused-2 : goal.returns-in-Refused-2
 returns-in-Refused-2 g c =
     let h = c.scope_of.ensures in
     let own : is_normal h.bean.scope ≡ false = rw h.scoped (grind arith) in
-    Runs.refused_own _ _ _ _ _ _ h.there own (rw c.in-Refused-2.is at c.in_ok-failure-2.ensures)
+    let e : c.in_ok-bean.bean ≡ c.args.bean = c.in_ok-bean.ensures.value in
+    rw (← e)
+    (Runs.refused_own _ _ _ _ _ _ h.there own (rw c.in-Refused-2.is at c.in_ok-failure-2.ensures))
 
 pub returns-in_ok-destroy-in-Instance-2 : goal.returns-in_ok-destroy-in-Instance-2
 returns-in_ok-destroy-in-Instance-2 g c =
     let h = c.scope_of.ensures in
     let own : is_normal h.bean.scope ≡ false = rw h.scoped (grind arith) in
-    Runs.used_own _ _ _ _ _ _ _ _ _ h.there own (rw c.in-Instance-2.is at c.in_ok-failure-2.ensures)
-    c.in_ok-outcome-in-Instance-2.ensures c.in_ok-destroy-in-Instance-2.ensures.legal
+    let e : c.in_ok-bean.bean ≡ c.args.bean = c.in_ok-bean.ensures.value in
+    rw (← e)
+    (Runs.used_own _ _ _ _ _ _ _ _ _ h.there own (rw c.in-Instance-2.is at c.in_ok-failure-2.ensures)
+    c.in_ok-outcome-in-Instance-2.ensures c.in_ok-destroy-in-Instance-2.ensures.legal)
 
 pub use_instance-requires-clause-settled : goal.use_instance-requires-clause-settled
 use_instance-requires-clause-settled g c =

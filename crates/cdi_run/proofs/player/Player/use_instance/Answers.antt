@@ -32,4 +32,5 @@ invoke-requires g c =
 pub returns-in_ok-given-in-Answer : goal.returns-in_ok-given-in-Answer
 returns-in_ok-given-in-Answer g c =
     let none : product_at c.args.self.now.stage.scene c.args.id.bean ≡ None = grind (arith, common_steps) in
-    rw c.in-Answer.is (Uses.called _ _ _ _ _ _ none c.in_ok-given-in-Answer.ensures)
+    let e : c.in_ok-position_at-in-Answer.field-0 ≡ c.in-Answer.method = c.in_ok-position_at-in-Answer.ensures.value in
+    rw (c.in-Answer.is, ← e) (Uses.called _ _ _ _ _ _ none c.in_ok-given-in-Answer.ensures)
