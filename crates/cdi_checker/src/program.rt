@@ -6,10 +6,9 @@ use cdi_command_line::{CheckLine, Ending, Format, check_line, write_out};
 use cdi_container::Container;
 use cdi_findings::{Finding, json_of, text_of};
 use cdi_model::Ident;
-use cdi_sources::{Source, read_sources};
+use cdi_sources::{Cause, Escaped, PathForm, Source, read_limited, read_sources};
 use cdi_stock::StockBodies;
 use std::alloc::{AllocError, Global};
-use std::fs;
 
 /// Runs the program on these words, the program's name first. It prints what it finds, and answers the status: 0 without
 /// problems, and 1 with some. Any other status is that of an `Ending`.
@@ -32,23 +31,31 @@ fn check(rt: &HostRuntime, line: &CheckLine<'_>) -> Result<u8, Ending> {
 
 /// The bodies that a file lists. Why there are none is told on the standard error.
 fn bodies_of_file(rt: &HostRuntime, path: &str) -> Result<ListedBodies, Ending> {
-    let text = match fs::read(rt, path) {
+    let text = match read_limited(rt, rt.alloc(), path) {
         Ok(text) => text,
-        Err(error) => {
-            let _ = eprintln!(rt; "error: {path}: {error}");
-            return Err(error.into());
-        }
+        Err(cause) => return Err(unread(rt, path, &cause)),
     };
     match read_bodies(rt.alloc(), text.as_slice()) {
         Ok(bodies) => Ok(bodies),
         Err(BodiesError::OutOfMemory) => Err(Ending::OutOfMemory),
         Err(BodiesError::Unreadable) => {
+            let path = Escaped(path);
             let _ = eprintln!(rt;
                 "error: {path}: it does not list stored bodies with their promises"
             );
             Err(Ending::Words)
         }
     }
+}
+
+/// The ending of a program that cannot read a path, which is told on the standard error unless there was no memory for it.
+fn unread(rt: &HostRuntime, path: &str, cause: &Cause) -> Ending {
+    if cause.is_out_of_memory() {
+        return Ending::OutOfMemory;
+    }
+    let path = Escaped(path);
+    let _ = eprintln!(rt; "error: {path}: {cause}");
+    Ending::Unreadable
 }
 
 /// Checks what the paths declare, with a book of these names.
@@ -70,7 +77,11 @@ fn check_in<B: Bodies>(
     body_names: &[Ident],
 ) -> Result<u8, Ending> {
     let alloc = rt.alloc();
-    let readings = read_sources(rt, line.paths.as_slice())?;
+    let path_form = match line.format {
+        Format::Text => PathForm::Escaped,
+        Format::Json => PathForm::Exact,
+    };
+    let readings = read_sources(rt, alloc, line.paths.as_slice(), path_form)?;
     let sources = readings.sources.as_slice();
     let assembly = assemble(alloc, container, sources)?;
     let files = Files {
@@ -84,11 +95,11 @@ fn check_in<B: Bodies>(
     };
     let faults = findings_of_faults(alloc, container, files, telling)?;
     let findings = with_problems(alloc, sources, &assembly.problems, faults)?;
-    let status = print(rt, line, findings)?;
-    if !readings.tell_failed(rt) {
+    let printed = print(rt, line, findings);
+    if !readings.tell_failed(rt) && printed.is_ok() {
         return Err(Ending::Unreadable);
     }
-    Ok(status)
+    printed
 }
 
 /// What is refused or repeated, and then the faults.

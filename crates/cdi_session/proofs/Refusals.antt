@@ -28,7 +28,7 @@ module _ {O E : Type 0} (told : E → Option (List ℕ)) (output output_after : 
       → RefusesWords told (kind ∷ []) output output_after errors errors_after status
       → RefusesWords told kinds output output_after errors errors_after status
   answers kinds kind among (inl shows) = inl
-      (record { asks = subst (λ k. IsAmong k kinds) (sym (only _ _ shows.asks)) among; silent = shows.silent; status_is = shows.status_is })
+      (record { asks = subst (λ k. IsAmong k kinds) (sym (only _ _ shows.asks)) among; answer = shows.answer })
   answers kinds kind among (inr (inl misuses)) = inr (inl (record {
     cause = misuses.cause;
     mistake = subst (λ k. IsAmong k kinds) (sym (only _ _ misuses.mistake)) among;

@@ -136,12 +136,25 @@ module _ {I File O E : Type 0} (contents_at : Text → Option (List ℕ)) (refus
     pub complaint : MatchResult ending (λ _. errors_after ≡ errors) (λ fault. Tells told errors errors_after (text_of_fault fault))
     pub status_is : status ≡ status_of options.strict ending
 
-module _ {E : Type 0} where
-  -- the kinds of `clap` ask for help, nothing is complained of, and the status is 0
-  pub record ShowsHelp (kinds : Kinds) (errors errors_after : Counted E) (status : ℕ) : Type 0 where
-    pub asks : IsAmong DisplayHelp kinds
+module _ {O E : Type 0} where
+  -- no write of the help failed, all of it is flushed, nothing is complained of, and the status is 0
+  pub record ShowsHelp (output_after : Counted O) (errors errors_after : Counted E) (status : ℕ) : Type 0 where
+    pub written : has_failed output_after ≡ false
+    pub flushed : is_flushed output_after ≡ true
     pub silent : errors_after ≡ errors
     pub status_is : status ≡ 0
+
+  -- the writer of the help failed, that was told, and the status is 3
+  pub record LosesHelp (told : E → Option (List ℕ)) (output_after : Counted O) (errors errors_after : Counted E) (status : ℕ) : Type 0 where
+    pub failed : has_failed output_after ≡ true
+    pub complaint : Tells told errors errors_after (text_of_fault Write)
+    pub status_is : status ≡ 3
+
+  -- the kinds of `clap` ask for help, which was shown, or could not be written
+  pub record AnswersHelp (told : E → Option (List ℕ)) (kinds : Kinds) (output_after : Counted O) (errors errors_after : Counted E)
+      (status : ℕ) : Type 0 where
+    pub asks : IsAmong DisplayHelp kinds
+    pub answer : ShowsHelp output_after errors errors_after status ⊎ LosesHelp told output_after errors errors_after status
 
 module _ {O : Type 0} where
   -- the kinds of `clap` are those of a mistake, nothing is written to the output, and the status is 2
@@ -162,5 +175,5 @@ module _ {O E : Type 0} (told : E → Option (List ℕ)) where
 
   -- words that are no command line are answered by help, as a mistake, or by want of memory
   abbrev pub RefusesWords : Kinds → Counted O → Counted O → Counted E → Counted E → ℕ → Type 0
-  RefusesWords kinds output output_after errors errors_after status = ShowsHelp kinds errors errors_after status
+  RefusesWords kinds output output_after errors errors_after status = AnswersHelp told kinds output_after errors errors_after status
       ⊎ (Misuses kinds output output_after status ⊎ LacksMemory output output_after errors errors_after status)

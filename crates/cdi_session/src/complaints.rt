@@ -1,8 +1,8 @@
 //! What goes to the standard error.
-ghost use Rattle.std.specs.Prelude.{◌≡◌, ◌∷◌, [], codes};
+ghost use Rattle.std.specs.Prelude.{◌≡◌, ◌⊎◌, ◌∷◌, [], codes};
 ghost use Rattle.std.specs.IoError.{error_kind};
 ghost use Rattle.clap.specs.Values.{kind_of};
-ghost use Rattle.cdi_session.specs.Session.{line, text_of_fault, fault_of_open, status_of_words, text_of_words, Tells, RefusesWords};
+ghost use Rattle.cdi_session.specs.Session.{line, text_of_fault, fault_of_open, status_of_words, text_of_words, Tells, ShowsHelp, LosesHelp, RefusesWords};
 
 use cdi_devices::write_out;
 use cdi_script::{Counted, RunFault};
@@ -35,7 +35,7 @@ pub fn fault_of_open(error: &io::Error) -> RunFault
 }
 
 /// Shows the help that the words ask for on `output`, or says what is wrong with them on `errors`, and answers the
-/// status. No clause says what the text of `clap` is, nor that it was written.
+/// status. No clause says what the text of `clap` is.
 pub fn refuse_line<O: Write, E: Write>(
     error: &Error,
     output: &mut Counted<O>,
@@ -48,11 +48,27 @@ pub fn refuse_line<O: Write, E: Write>(
         return 4;
     }
     if error.kind() == ErrorKind::DisplayHelp {
-        let _ = write!(output, "{error}");
-        return 0;
+        return show_help(error, output, errors);
     }
     let _ = write!(errors, "{error}");
     2
+}
+
+/// Writes the help and flushes it, and answers the status: 3 where the writer failed, which is told, and else 0.
+fn show_help<O: Write, E: Write>(
+    help: &Error,
+    output: &mut Counted<O>,
+    errors: &mut Counted<E>,
+) -> u8
+    ensures { ShowsHelp output.new errors.old errors.new result ⊎ LosesHelp E.contents output.new errors.old errors.new result }
+{
+    let _ = write!(output, "{help}");
+    let _ = output.flush();
+    if output.has_failed() {
+        tell_fault(RunFault::Write, errors);
+        return 3;
+    }
+    0
 }
 
 /// Says why the words of the command line could not be had, and answers the status: 4 when out of memory, and else 2.

@@ -3,6 +3,7 @@
 
 use cdi_checker::run;
 use cdi_command_line::{Ending, status_of, words};
+use cdi_stack_room::take_stack;
 use std::process::ExitCode;
 
 fn main(rt: HostRuntime) -> ExitCode {
@@ -12,5 +13,6 @@ fn main(rt: HostRuntime) -> ExitCode {
 /// Checks what the words of the system name, and answers the status.
 fn check(rt: &HostRuntime) -> Result<u8, Ending> {
     let words = words(rt)?;
+    take_stack(rt, words.len())?;
     run(rt, words.as_slice())
 }

@@ -3,7 +3,8 @@ use cdi_assembly::{bring, declare};
 use cdi_command_line::{DiffLine, Ending, diff_line, status_of, words, write_out};
 use cdi_container::Container;
 use cdi_differences::{Difference, differences, wiring_of};
-use cdi_sources::{Readings, read_sources};
+use cdi_sources::{PathForm, Readings, read_sources};
+use cdi_stack_room::take_stack;
 use cdi_stock::StockBodies;
 use std::alloc::{AllocError, Global};
 
@@ -14,6 +15,7 @@ pub(crate) fn run(rt: &HostRuntime) -> u8 {
 
 fn run_words(rt: &HostRuntime) -> Result<u8, Ending> {
     let words = words(rt)?;
+    take_stack(rt, words.len())?;
     match diff_line(rt, words.as_slice())? {
         Some(line) => compare(rt, line),
         None => Ok(0),
@@ -22,8 +24,8 @@ fn run_words(rt: &HostRuntime) -> Result<u8, Ending> {
 
 /// Compares the deployments at two paths, prints what differs, and answers the status.
 fn compare(rt: &HostRuntime, line: DiffLine<'_>) -> Result<u8, Ending> {
-    let before = read_sources(rt, &[line.before])?;
-    let after = read_sources(rt, &[line.after])?;
+    let before = read_sources(rt, rt.alloc(), &[line.before], PathForm::Escaped)?;
+    let after = read_sources(rt, rt.alloc(), &[line.after], PathForm::Escaped)?;
     let (is_before_read, is_after_read) = (before.tell_failed(rt), after.tell_failed(rt));
     if !is_before_read || !is_after_read {
         return Err(Ending::Unreadable);

@@ -4,7 +4,8 @@ use cdi_command_line::{Ending, GraphLine, graph_line, words, write_out};
 use cdi_container::{BeanId, Container, Ident, Name};
 use cdi_graph::Graph;
 use cdi_picture::picture_of;
-use cdi_sources::{Source, read_sources};
+use cdi_sources::{PathForm, Source, read_sources};
+use cdi_stack_room::take_stack;
 use cdi_stock::StockBodies;
 use std::alloc::AllocError;
 
@@ -12,6 +13,7 @@ use std::alloc::AllocError;
 /// an `Ending`.
 pub(crate) fn draw(rt: &HostRuntime) -> Result<u8, Ending> {
     let words = words(rt)?;
+    take_stack(rt, words.len())?;
     match graph_line(rt, words.as_slice())? {
         Some(line) => draw_paths(rt, &line),
         None => Ok(0),
@@ -20,13 +22,14 @@ pub(crate) fn draw(rt: &HostRuntime) -> Result<u8, Ending> {
 
 /// Draws what the paths declare. What is refused is told on the standard error, and left out.
 fn draw_paths(rt: &HostRuntime, line: &GraphLine<'_>) -> Result<u8, Ending> {
-    let readings = read_sources(rt, line.paths.as_slice())?;
+    let readings = read_sources(rt, rt.alloc(), line.paths.as_slice(), PathForm::Escaped)?;
     let wiring = wiring_of(rt, readings.sources.as_slice())?;
     let text = part_of(rt, line, wiring.graph)?.dot(rt.alloc(), line.has_points)?;
-    write_out(rt, text.as_str())?;
-    if !readings.tell_failed(rt) {
+    let written = write_out(rt, text.as_str());
+    if !readings.tell_failed(rt) && written.is_ok() {
         return Err(Ending::Unreadable);
     }
+    written?;
     Ok(u8::from(!wiring.is_whole))
 }
 

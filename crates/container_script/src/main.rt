@@ -9,6 +9,7 @@ ghost use Rattle.container_script.specs.Program.{RunsProgram};
 use cdi_bodies::Book;
 use cdi_script::{Counted, READ_BYTES, RunFault, SCRIPT_LIMIT};
 use cdi_session::{Files, refuse_words, session, tell_fault};
+use cdi_stack_room::take_stack;
 use cdi_stock::{Body, Frame, Stock};
 use std::alloc::{AllocError, Global};
 use std::convert::AsStr;
@@ -27,6 +28,10 @@ fn run_words(rt: &HostRuntime) -> u8
     let mut errors = Counted::new(rt.stderr());
     match words(rt) {
         Ok(words) => {
+            if take_stack(rt, words.len()).is_err() {
+                tell_fault(RunFault::Memory, &mut errors);
+                return 4;
+            }
             let mut input = Counted::new(rt.reader());
             let mut output = Counted::new(io::writer(rt));
             let words = words.as_slice();
