@@ -244,3 +244,60 @@ fn writes_that_fail(rt: HostRuntime) -> Result<(), Fail> {
     }
     Ok(())
 }
+
+/// A reader of five bytes at a time, or a writer that takes as many, of which each call but every third is interrupted.
+#[derive(Drop)]
+struct Halting<T> {
+    inner: T,
+    calls: usize,
+}
+
+impl<T> Halting<T> {
+    fn halt(&mut self) -> io::Result<()> {
+        self.calls = self.calls.wrapping_add(1);
+        if self.calls % 3 == 0 {
+            Ok(())
+        } else {
+            Err(io::Error::from(ErrorKind::Interrupted))
+        }
+    }
+}
+
+impl<R: Read> Read for Halting<R> {
+    fn read(&mut self, buf: &mut [u8]) -> io::Result<usize> {
+        self.halt()?;
+        let most = buf.len().min(5);
+        self.inner.read(&mut buf[..most])
+    }
+}
+
+impl<W: Write> Write for Halting<W> {
+    fn write(&mut self, buf: &[u8]) -> io::Result<usize> {
+        self.halt()?;
+        let most = buf.len().min(5);
+        self.inner.write(&buf[..most])
+    }
+
+    fn flush(&mut self) -> io::Result<()> {
+        self.halt()?;
+        self.inner.flush()
+    }
+}
+
+#[test]
+fn interrupted_calls_are_made_again(rt: HostRuntime) -> Result<(), Fail> {
+    let mut reader = Counted::new(Halting {
+        inner: STORED_SCRIPT,
+        calls: 0,
+    });
+    let mut writer = Counted::new(Halting {
+        inner: empty_page(rt.alloc())?,
+        calls: 0,
+    });
+    let mut console = Console::new(&mut reader, &mut writer);
+    let fault = fault_of(run(rt.alloc(), &mut console, OPTIONS, Echo))?;
+    assert!(rt; fault == None && !reader.has_failed() && !writer.has_failed());
+    let written = writer.into_inner().inner;
+    assert_text(&rt, written.as_slice(), STORED_TEXT, &"interrupted");
+    Ok(())
+}

@@ -2,7 +2,7 @@
 //! specialized, and names near to others.
 use cdi_effective::beans;
 use cdi_explain::{
-    Disabled, InterceptorVerdict, Verdict, nearest_name, replacer_of, verdicts_on_choice,
+    Disabled, InterceptorVerdict, KnownNames, Verdict, replacer_of, verdicts_on_choice,
     verdicts_on_interceptors, verdicts_on_name,
 };
 use cdi_fixtures::{declared, name, quals};
@@ -207,7 +207,7 @@ fn is_nearest(alloc: Global, wanted: &[u8], nearest: Option<Name>) -> Result<boo
         name(b"shop.Drawer")?,
         name(b"shop.Drawers")?,
     ];
-    Ok(nearest_name(alloc, name(wanted)?, &declared)? == nearest)
+    Ok(KnownNames::of(alloc, &declared)?.nearest(alloc, name(wanted)?)? == nearest)
 }
 
 #[test]

@@ -170,7 +170,7 @@ fn trace_text<B: Bodies>(alloc: Global, container: &Container<B>) -> Result<Vec<
 
 /// How many entries a container shows.
 fn entries_of<B: Bodies>(container: &Container<B>) -> usize {
-    container.trace().len()
+    container.trace().count()
 }
 
 /// Whether a container shows this trace, with an entry for each line.
@@ -201,7 +201,7 @@ fn refused<B: Bodies>(alloc: Global, container: &mut Container<B>, step: &Step) 
         Put(_) | PutDecl(_) | Batch(_) | Remove(_) | End | Stop => {
             repeats(alloc, container, step) == Ok(true)
         }
-        _ => container.trace().is_empty(),
+        _ => container.trace().next().is_none(),
     };
     if is_right {
         Going::Refused
