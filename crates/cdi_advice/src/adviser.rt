@@ -29,8 +29,8 @@ pub(crate) struct Part<'a> {
 }
 
 impl<'a> Adviser<'a> {
-    /// What is told of a fault of a deployment with these stored bodies, by notes on other faults of the same deployment too. It takes
-    /// memory for its texts and for what it notes, and time near the number of declarations and beans.
+    /// What is told of a fault of a deployment with these stored bodies, by notes on other faults of the same deployment too.
+    /// It takes memory for its texts and for what it notes, and time near the number of declarations and beans.
     pub fn advise<B: Bodies>(
         &self,
         notes: &mut Notes,

@@ -170,7 +170,8 @@ fn is_told(alloc: Global, flag: &str, status: u8) -> bool {
         && ran.errors.is_empty() == (status == 0)
 }
 
-/// Whether a run with this word, whose output has room for eight bytes, says that a write failed. What it wrote is left in `page`.
+/// Whether a run with this word, whose output has room for eight bytes, says that a write failed. What it wrote is left in
+/// `page`.
 fn fills_its_output(alloc: Global, word: &str, page: &mut [u8; 8]) -> bool {
     let mut input = Counted::new(REFUSED);
     let mut output = Counted::new(&mut page[..]);
