@@ -73,11 +73,9 @@ fn count_of(name: &Name, class: u32) -> usize
 pub(crate) fn are_apart(counts: &[usize], others: &[usize]) -> bool
     ensures { result ≡ true → AreApart counts.now others.now }
 {
-    for (class, count) in counts.iter().enumerate() {
-        if let Some(other) = others.get(class) {
-            if count.abs_diff(*other) > 2 {
-                return true;
-            }
+    for (count, other) in counts.iter().zip(others) {
+        if count.abs_diff(*other) > 2 {
+            return true;
         }
     }
     false

@@ -77,7 +77,8 @@ fn namesake(wanted: &Known, declared: &[Known]) -> Option<Name>
 fn is_namesake(wanted: &Known, known: &Known) -> bool
     ensures { result ≡ is_namesake wanted.now.name known.now.name }
 {
-    known.name != wanted.name && known.last_identifier() == wanted.last_identifier()
+    let (last, other) = (wanted.last_identifier(), known.last_identifier());
+    last.first() == other.first() && last == other && known.name != wanted.name
 }
 
 /// The first of the nearest other names, if one is near.
