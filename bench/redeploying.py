@@ -26,6 +26,7 @@ CHOICE = "choose C3\n"
 TOGGLED = 70
 TOGGLED_CHOICE = f"choose I{TOGGLED}\n"
 REPORT = "report\n"
+CALL = "call run 1 C3\n"
 
 
 def interface(place, *keys):
@@ -117,6 +118,7 @@ KINDS = {
     "reported_interfaces": (with_face, changed_interfaces, REPORT),
     "reported_stereotypes": (furnished, changed_stereotypes, REPORT),
     "reported_interceptors": (furnished, changed_interceptors, REPORT),
+    "called_beans": (deployed, equal_beans, CALL),
 }
 NAMES = [f"{kind}_{declarations}" for kind in KINDS for declarations in INTERFACES]
 
