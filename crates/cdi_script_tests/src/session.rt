@@ -170,9 +170,9 @@ fn is_told(alloc: Global, flag: &str, status: u8) -> bool {
         && ran.errors.is_empty() == (status == 0)
 }
 
-/// Whether a run with this word, whose output has room for eight bytes, says that a write failed. What it wrote is left in
-/// `page`.
-fn fills_its_output(alloc: Global, word: &str, page: &mut [u8; 8]) -> bool {
+/// Whether a run with this word, whose output has room for eight bytes, writes these, and says that a write failed.
+fn fills_its_output(alloc: Global, word: &str, wanted: &[u8]) -> bool {
+    let mut page = [0u8; 8];
     let mut input = Counted::new(REFUSED);
     let mut output = Counted::new(&mut page[..]);
     let mut errors = Counted::new(Vec::new(alloc));
@@ -188,7 +188,9 @@ fn fills_its_output(alloc: Global, word: &str, page: &mut [u8; 8]) -> bool {
         &mut errors,
     );
     let complaint = errors.into_inner();
-    status == 3 && complaint.as_slice() == b"error: write failed\n".as_slice()
+    status == 3
+        && complaint.as_slice() == b"error: write failed\n".as_slice()
+        && page.as_slice() == wanted
 }
 
 #[test]
@@ -199,11 +201,8 @@ fn devices_that_fail(rt: HostRuntime) -> Result<(), Fail> {
     let ran = run_program(&files, rt.alloc(), words.as_slice(), input);
     let complete = "refused E11 Absent\nunsatisfied\n";
     assert!(rt; is_run(&ran, 3, complete, "error: read failed\n"));
-    let mut page = [0u8; 8];
-    let fills = fills_its_output(rt.alloc(), "-", &mut page);
-    assert!(rt; fills && page.as_slice() == b"ok\nrefus".as_slice());
-    let fills = fills_its_output(rt.alloc(), "--help", &mut page);
-    assert!(rt; fills && page.as_slice() == b"Runs a s".as_slice());
+    assert!(rt; fills_its_output(rt.alloc(), "-", b"ok\nrefus".as_slice()));
+    assert!(rt; fills_its_output(rt.alloc(), "--help", b"Runs a s".as_slice()));
     Ok(())
 }
 
