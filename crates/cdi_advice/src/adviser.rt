@@ -7,7 +7,6 @@ use cdi_bodies::Bodies;
 use cdi_effective::Effective;
 use cdi_faults::{Code, Fault, Subject};
 use cdi_model::{BeanDecl, Decl, Decls, Ident, Kind, Name};
-use cdi_resolve::BeanList;
 use std::alloc::{AllocError, Global};
 
 /// What faults of a deployment are told by.
@@ -15,8 +14,8 @@ use std::alloc::{AllocError, Global};
 pub struct Adviser<'a> {
     pub alloc: Global,
     pub decls: &'a Decls,
-    /// The bean list of the declarations.
-    pub beans: &'a BeanList,
+    /// The records of their beans, in the order of the bean list.
+    pub beans: &'a [&'a Effective],
     /// The names of stored bodies that help may name.
     pub body_names: &'a [Ident],
 }
@@ -119,6 +118,6 @@ impl<'a> Adviser<'a> {
 
     /// The record of a bean, if there is one.
     pub(crate) fn record(&self, position: Option<usize>) -> Option<&'a Effective> {
-        self.beans.as_slice().get(position?)
+        self.beans.get(position?).copied()
     }
 }

@@ -258,7 +258,7 @@ pub(crate) struct Considered {
 impl Considered {
     fn of(adviser: &Adviser<'_>, wanted: &Name, quals: &Quals) -> Result<Considered, AllocError> {
         let alloc = adviser.alloc;
-        let beans = adviser.beans.as_slice();
+        let beans = adviser.beans;
         let verdicts = verdicts_on_choice(alloc, adviser.decls, beans, *wanted, quals)?;
         let mut told = Beans::new(alloc);
         let mut tied = List::new(alloc);
@@ -297,7 +297,7 @@ impl Considered {
     ) -> Result<Considered, AllocError> {
         let alloc = adviser.alloc;
         let mut beans = Beans::new(alloc);
-        beans.others = adviser.beans.as_slice().len();
+        beans.others = adviser.beans.len();
         Ok(Considered {
             wanted: text_of_wanted(alloc, wanted, quals)?,
             beans,
@@ -364,7 +364,7 @@ fn is_type_of_bean(
         return Ok(types.contains(wanted));
     }
     let mut types = IndexSet::new(adviser.alloc);
-    for bean in adviser.beans.as_slice() {
+    for bean in adviser.beans {
         for name in bean.types.as_slice() {
             types.insert(*name)?;
         }

@@ -11,8 +11,9 @@ use cdi_intercept::{around_any, in_order};
 use cdi_model::{
     BeanDecl, Decl, Decls, Ident, InterceptorDecl, Kind, Name, PointDecl, Scope, Work,
 };
-use cdi_resolve::Choice;
+use cdi_resolve::{Choice, choose_from};
 use cdi_ways::{Edge, Ways};
+use indexmap::IndexMap;
 use std::alloc::{AllocError, Global};
 
 /// What leads from a bean to one that it needs.
@@ -43,9 +44,66 @@ impl Link {
     }
 }
 
+/// Where beans are in the bean list, by their ids and by their types.
+#[derive(Drop)]
+struct Places {
+    ids: IndexMap<BeanId, usize>,
+    types: IndexMap<Name, Vec<usize>>,
+}
+
+impl Places {
+    fn of(adviser: &Adviser<'_>) -> Result<Places, AllocError> {
+        let alloc = adviser.alloc;
+        let mut places = Places {
+            ids: IndexMap::new(alloc),
+            types: IndexMap::new(alloc),
+        };
+        for (place, bean) in adviser.beans.iter().enumerate() {
+            places.ids.insert(bean.id, place)?;
+            for name in bean.types.as_slice() {
+                add_place(alloc, &mut places.types, *name, place)?;
+            }
+        }
+        Ok(places)
+    }
+
+    fn of_id(&self, id: &BeanId) -> Option<usize> {
+        self.ids.get(id).copied()
+    }
+
+    /// The beans that have a type, in order.
+    fn having<'a>(
+        &self,
+        adviser: &Adviser<'a>,
+        name: &Name,
+    ) -> Result<Vec<&'a Effective>, AllocError> {
+        let mut beans = Vec::new(adviser.alloc);
+        if let Some(places) = self.types.get(name) {
+            for place in places {
+                if let Some(bean) = adviser.record(Some(*place)) {
+                    beans.push(bean)?;
+                }
+            }
+        }
+        Ok(beans)
+    }
+}
+
+/// Adds a place to those of a type.
+fn add_place(
+    alloc: Global,
+    types: &mut IndexMap<Name, Vec<usize>>,
+    name: Name,
+    place: usize,
+) -> Result<(), AllocError> {
+    types.entry(name)?.or_insert(Vec::new(alloc)).push(place)?;
+    Ok(())
+}
+
 /// The edges from dependent beans to those that they need, each with what leads there.
 #[derive(Drop)]
 pub(crate) struct Needs {
+    places: Places,
     ways: Ways,
     links: Vec<Link>,
 }
@@ -54,16 +112,22 @@ impl Needs {
     /// What the dependent beans need.
     fn of(adviser: &Adviser<'_>) -> Result<Needs, AllocError> {
         let steps = steps_of(adviser)?;
+        let Steps {
+            places,
+            edges,
+            links,
+        } = steps;
         Ok(Needs {
-            ways: Ways::of(adviser.alloc, steps.edges)?,
-            links: steps.links,
+            places,
+            ways: Ways::of(adviser.alloc, edges)?,
+            links,
         })
     }
 
     /// The shortest way from a bean back to itself, if there is one.
     fn circle(&self, adviser: &Adviser<'_>, id: BeanId) -> Result<Option<String>, AllocError> {
         let alloc = adviser.alloc;
-        let Some(start) = adviser.beans.position(id) else {
+        let Some(start) = self.places.of_id(&id) else {
             return Ok(None);
         };
         let Some(way) = self.ways.circle_through(alloc, start)? else {
@@ -100,6 +164,7 @@ impl Needs {
 /// Such edges, while they are looked for.
 #[derive(Drop)]
 struct Steps {
+    places: Places,
     edges: Vec<Edge>,
     links: Vec<Link>,
 }
@@ -111,6 +176,14 @@ impl Steps {
         Ok(())
     }
 
+    /// What is chosen for a point.
+    fn choice(&self, adviser: &Adviser<'_>, point: &PointDecl) -> Result<Choice, AllocError> {
+        let (alloc, wanted) = (adviser.alloc, point.required_type);
+        let candidates = self.places.having(adviser, &wanted)?;
+        let (decls, quals) = (adviser.decls, &point.qualifiers);
+        choose_from(alloc, decls, &candidates, wanted, quals, &mut Work::new())
+    }
+
     /// Adds what is chosen for a point, where it is a dependent bean.
     fn push_point(
         &mut self,
@@ -119,16 +192,10 @@ impl Steps {
         point: &PointDecl,
         link: Link,
     ) -> Result<(), AllocError> {
-        let alloc = adviser.alloc;
-        let (wanted, quals) = (point.required_type, &point.qualifiers);
-        let mut work = Work::new();
-        let choice = adviser
-            .beans
-            .choose(alloc, adviser.decls, wanted, quals, &mut work)?;
-        let Choice::One(id) = choice else {
+        let Choice::One(id) = self.choice(adviser, point)? else {
             return Ok(());
         };
-        match adviser.beans.position(id) {
+        match self.places.of_id(&id) {
             Some(to) if is_dependent_at(adviser, to) => self.push(Edge { from, to }, link),
             _ => Ok(()),
         }
@@ -175,7 +242,7 @@ impl Steps {
                     class: bean.name,
                     producer: None,
                 };
-                if let Some(to) = adviser.beans.position(declaring) {
+                if let Some(to) = self.places.of_id(&declaring) {
                     if !declared.is_static && is_dependent_at(adviser, to) {
                         self.push(Edge { from, to }, Link::Producer(producer))?;
                     }
@@ -203,10 +270,11 @@ fn steps_of(adviser: &Adviser<'_>) -> Result<Steps, AllocError> {
     let alloc = adviser.alloc;
     let order = in_order(alloc, adviser.decls)?;
     let mut steps = Steps {
+        places: Places::of(adviser)?,
         edges: Vec::new(alloc),
         links: Vec::new(alloc),
     };
-    for (from, record) in adviser.beans.as_slice().iter().enumerate() {
+    for (from, record) in adviser.beans.iter().enumerate() {
         if !is_dependent(record) {
             continue;
         }

@@ -10,7 +10,7 @@ use std::alloc::AllocError;
 /// Several beans have a name, and none of them is chosen for it.
 pub(crate) fn clash(adviser: &Adviser<'_>, name: Name) -> Result<Advice, AllocError> {
     let alloc = adviser.alloc;
-    let beans = adviser.beans.as_slice();
+    let beans = adviser.beans;
     let mut told = Beans::new(alloc);
     for (bean, verdict) in beans.iter().zip(verdicts_on_name(alloc, beans, name)?) {
         if verdict != Verdict::LacksName && told.has_room() {
@@ -49,7 +49,7 @@ pub(crate) fn prefix(
 fn of_names(adviser: &Adviser<'_>, names: &[Name]) -> Result<Advice, AllocError> {
     let alloc = adviser.alloc;
     let mut told = Beans::new(alloc);
-    for bean in adviser.beans.as_slice() {
+    for bean in adviser.beans {
         match bean.name {
             Some(name) if bean.is_enabled && names.contains(&name) && told.has_room() => {
                 told.push(bean.id, filled(alloc, "has the name {}", &[name.as_str()])?)?;

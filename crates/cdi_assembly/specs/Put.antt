@@ -1,16 +1,14 @@
 -- Which declarations some files leave, and which files are refused.
 use Rattle.std.specs.Prelude.{◌≡◌, Bool, true, false, ℕ, ◌+◌, List, [], ◌∷◌, ◌++◌, flat_map, fold, Result, Ok, Err}
 use Rattle.cdi_model.specs.declared.decl.Decl.{Decl}
-use Rattle.cdi_model.specs.declared.refusal.Error.{Error}
-use Rattle.cdi_model.specs.declared.refusal.Error.TheVariants as errors
 use Rattle.cdi_model.specs.declared.refusal.Refusal.{Refusal}
-use Rattle.cdi_container.specs.Editing.{put_of}
+use Rattle.cdi_container.specs.Editing.{answer_of_put, put_of}
 use Rattle.cdi_lines.specs.declared.command.Command.{Command}
 use Rattle.cdi_lines.specs.declared.command.Command.TheVariants.{Edit as EditCommand}
 use Rattle.cdi_lines.specs.declared.edit.Edit.TheVariants as edits
 use Rattle.cdi_script.specs.Commands.{commands}
 use Rattle.cdi_script.specs.Left.{left_by_all, left_by_change}
-use Rattle.cdi_container.specs.Seen.{answer_of_change}
+use Rattle.cdi_container.specs.declared.answer.PutDone.{PutDone}
 use Rattle.cdi_assembly.specs.declared.problem.Problem.{Problem}
 use Rattle.cdi_assembly.specs.declared.problem.Problem.TheVariants as problems
 use Rattle.cdi_sources.specs.declared.source.Form.{Form}
@@ -22,9 +20,9 @@ use Rattle.cdi_text.specs.Reading.{decl_of}
 abbrev pub put_text : List Decl → List ℕ → List Decl
 put_text ds text = left_by_change ds (put_of (decl_of text))
 
--- why the text is refused on some declarations, if it is
-abbrev pub answer_to_text : List Decl → List ℕ → Result (Unit {0}) Refusal
-answer_to_text ds text = answer_of_change ds (put_of (decl_of text))
+-- what a put of the text answers on some declarations
+abbrev pub answer_to_text : List Decl → List ℕ → Result PutDone Refusal
+answer_to_text ds text = answer_of_put ds (decl_of text)
 
 abbrev pub is_declaration_form : Form → Bool
 is_declaration_form forms.Declaration = true
@@ -57,8 +55,8 @@ abbrev pub Refused : Type 0
 Refused = ℕ × Refusal
 
 -- where a file is refused that is answered so
-abbrev pub refused_as : ℕ → Result (Unit {0}) Refusal → List Refused
-refused_as position (Ok done) = []
+abbrev pub refused_as : ℕ → Result PutDone Refusal → List Refused
+refused_as position (Ok put) = []
 refused_as position (Err refusal) = (position, refusal) ∷ []
 
 -- those of some files that are put in order, of which the first has this position
@@ -74,17 +72,3 @@ told_in (problems.Repeated repeated) = []
 
 abbrev pub told : List Problem → List Refused
 told list = flat_map told_in list
-
--- ---- answers
-
--- a put answers so, unless memory ran out
-abbrev pub AnswersPut : {X : Type 0} → Result X Error → Result (Unit {0}) Refusal → Type 0
-AnswersPut (Ok x) said = said ≡ Ok tt
-AnswersPut (Err errors.OutOfMemory) said = Unit {0}
-AnswersPut (Err (errors.Refused refusal)) said = said ≡ Err refusal
-
--- so it is, unless memory ran out
-abbrev pub Settles : {X : Type 0} → Result X Error → Type 0 → Type 0
-Settles (Ok x) Said = Said
-Settles (Err errors.OutOfMemory) Said = Unit {0}
-Settles (Err (errors.Refused refusal)) Said = Said

@@ -6,13 +6,15 @@ ghost use Rattle.cdi_container.specs.Editing.{admitted, change_of, put_of};
 ghost use Rattle.cdi_script.specs.Commands.{commands};
 ghost use Rattle.cdi_script.specs.Left.{left_by, left_by_all, left_by_batch, left_by_change};
 ghost use Rattle.std.specs.List.{list_all};
-ghost use Rattle.cdi_assembly.specs.Put.{is_declaration, left_by_source, left_by_sources, put_text, Settles};
-ghost use Rattle.cdi_assembly.specs.Put.{answer_to_text, refused_as, refused_from, told, AnswersPut};
+ghost use Rattle.cdi_assembly.specs.Put.{answer_to_text, is_declaration, left_by_source, left_by_sources, put_text};
+ghost use Rattle.cdi_assembly.specs.Put.{refused_as, refused_from, told};
 
 use crate::origins::Origins;
 use crate::problem::{Begin, Problem, Repeated};
 use crate::steps::{Step, steps_of};
-use cdi_container::{BatchError, Bodies, Command, Container, Edit, Error, Refusal, Seq, read_decl};
+use cdi_container::{
+    BatchError, Bodies, Command, Container, Edit, Error, PutDone, Refusal, Seq, read_decl,
+};
 use cdi_model::{Decl, DeclKey};
 use cdi_sources::{Form, Source};
 use std::alloc::{AllocError, Global};
@@ -154,8 +156,8 @@ impl Assembly {
             ≡ told self.old.problems.items ++ refused_as begin.source (answer_to_text container.old.decls text.now)) }
         ensures book { OnOk result (container.new.book ≡ container.old.book) }
     {
-        match put_decl(self.alloc, container, text) {
-            Ok(key) => self.note_put(begin.source, key),
+        match container.put(text) {
+            Ok(put) => self.note_put(begin.source, key_of(put)),
             Err(Error::OutOfMemory) => Err(AllocError),
             Err(Error::Refused(refusal)) => {
                 let problem = begin.refused_text(self.alloc, text, refusal)?;
@@ -176,9 +178,8 @@ impl Assembly {
             ≡ left_by_change container.old.decls (put_of (admitted (refusal_of_decl decl) decl))) }
         ensures book { OnOk result (container.new.book ≡ container.old.book) }
     {
-        let key = decl.key();
         match container.put_decl(decl) {
-            Ok(()) => self.note_put(begin.source, key),
+            Ok(put) => self.note_put(begin.source, key_of(put)),
             Err(Error::OutOfMemory) => Err(AllocError),
             Err(Error::Refused(refusal)) => self.refuse(begin, refusal),
         }
@@ -281,20 +282,12 @@ impl Assembly {
     }
 }
 
-/// Puts the declaration that a text spells, and answers its key.
-fn put_decl<B: Bodies>(
-    alloc: Global,
-    container: &mut Container<B>,
-    text: &[u8],
-) -> Result<DeclKey, Error>
-    ensures decls { Settles result (container.new.decls ≡ put_text container.old.decls text.now) }
-    ensures answer { AnswersPut result (answer_to_text container.old.decls text.now) }
-    ensures book { container.new.book ≡ container.old.book }
-{
-    let decl = read_decl(alloc, text)?;
-    let key = decl.key();
-    container.put_decl(decl)?;
-    Ok(key)
+/// The key of what was put.
+fn key_of(put: PutDone) -> DeclKey {
+    DeclKey {
+        kind: put.kind,
+        name: put.name,
+    }
 }
 
 /// What each edit of a batch does.

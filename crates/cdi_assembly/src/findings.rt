@@ -9,7 +9,6 @@ use crate::problem::Problem;
 use cdi_advice::{Advice, Adviser, Candidate, Notes};
 use cdi_container::{Bodies, Code, Container, Effective, Fault, Ident, Kind, Name};
 use cdi_findings::{Considered, Finding, Reasons};
-use cdi_resolve::BeanList;
 use cdi_sources::Source;
 use std::alloc::{AllocError, Global};
 
@@ -59,7 +58,10 @@ pub fn findings_of_faults<'a, B: Bodies>(
         ≡ map text_of_fault (faults_told telling.entry (faults container.old.decls container.old.book))) }
 {
     let faults = container.report()?;
-    let beans = BeanList::of(alloc, container.present())?;
+    let mut beans = Vec::new(alloc);
+    for bean in container.beans() {
+        beans.push(bean)?;
+    }
     let teller = Teller {
         alloc,
         files,
@@ -112,8 +114,8 @@ impl<'a, C: Bodies> Teller<'a, '_, C> {
         ensures { IfOk result (λ f. string_bytes f.text ≡ text_of_fault fault.now) }
     {
         let alloc = self.alloc;
-        let beans = self.adviser.beans.as_slice();
-        let mut finding = Finding::fault(alloc, self.files.of_fault(fault, beans), fault)?;
+        let file = self.files.of_fault(fault, self.adviser.beans);
+        let mut finding = Finding::fault(alloc, file, fault)?;
         if self.telling.explains {
             let advice = self.adviser.advise(notes, self.book, fault)?;
             finding.reasons = Some(self.files.reasons(alloc, advice)?);
@@ -136,7 +138,7 @@ impl<'a> Files<'a> {
     }
 
     /// The path of the file of a fault: where a name clashes, that of the first enabled bean that has it.
-    fn of_fault(self, fault: &Fault, beans: &[Effective]) -> Option<&'a str> {
+    fn of_fault(self, fault: &Fault, beans: &[&Effective]) -> Option<&'a str> {
         match fault {
             Fault::Declared { kind, name, .. } => self.of_decl(*kind, *name),
             Fault::NameClash(name) | Fault::NamePrefix(name, _) => {

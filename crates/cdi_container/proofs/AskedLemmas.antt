@@ -271,10 +271,6 @@ module _ (d : Deployed) (t : List ℕ) (quals : List Qual) where
 pub some-all : (keys : List Key) (d e : Deployed) → AllPairs (λ k l. k ≢ l) keys → IsAsked keys d e → IsAskedSome keys d e
 some-all keys d e apart h = record { some = keys; among = all-within (has_key keys) keys (λ k i. i); apart = apart; are = h }
 
--- no key is some of them
-pub some-none : (keys : List Key) (d : Deployed) → IsAskedSome keys d d
-some-none keys d = record { some = []; among = refl; apart = apart-none; are = record { rest = refl; wired = λ h. h } }
-
 -- ---- how a call ends
 
 pub ends_without_memory : {X : Type 0} (r : Result X Error) (keys : List Key) (d e : Deployed) → IsErrAnd r (λ error. error ≡ errors.OutOfMemory)

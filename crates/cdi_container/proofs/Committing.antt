@@ -11,12 +11,9 @@ use Rattle.cdi_model.specs.Short.{AreShort}
 use Rattle.cdi_model.specs.declared.decl.Decl.{Decl}
 use Rattle.cdi_model.specs.declared.edit.Edit.{Edit as Change}
 use Rattle.cdi_model.specs.declared.refusal.Error.{Error}
-use Rattle.cdi_legal.specs.Furnished.{IsFurnished}
 use Rattle.cdi_legal.specs.LegalRun.{LegalEnd}
 use Rattle.cdi_legal.specs.Moment.{Moment}
-use Rattle.cdi_legal.specs.Rooted.{IsRooted}
 use Rattle.cdi_legal.specs.declared.entry.Entry.{Entry}
-use Rattle.cdi_contexts.specs.declared.instance.Instance.{Instance}
 use Rattle.cdi_staging.specs.Naming.{names_of}
 use Rattle.cdi_staging.specs.Staged.{scene_of}
 use Rattle.cdi_staging.specs.declared.names.Names.{Names}
@@ -27,7 +24,7 @@ use Rattle.cdi_bodies.specs.Book.{Promised}
 use Rattle.cdi_wiring.specs.Wired.{IsWiringOf}
 use Rattle.cdi_wiring.specs.declared.verdict.Wiring.{Wiring}
 use Rattle.cdi_wiring.specs.declared.verdict.Wiring.TheVariants as wirings
-use Rattle.cdi_container.specs.Wired.{Deployed, RestsOnScene, is_sound, names_if, names_in, redeployed, redeployed_to, staged_by, trace_names, with_staged}
+use Rattle.cdi_container.specs.Wired.{Deployed, is_sound, names_if, names_in, redeployed, redeployed_to, staged_by, trace_names, with_staged}
 use Rattle.cdi_container.specs.Known.{known_still}
 use Rattle.cdi_container.proofs.Ending.{standing_at}
 use Rattle.cdi_container.proofs.KnownLemmas.{same-knows}
@@ -40,30 +37,6 @@ pub is_edited : (ds : List Decl) (change : Change) (result : Result Drafted Erro
 is_edited ds change (Ok draft) h =
     record { edits = change ∷ []; decls = ap (λ (d : Drafted). d.decls) h; keys = ap (λ (d : Drafted). d.keys) h }
 is_edited ds change (Err error) h = tt
-
--- ---- behind the end of both contexts
-
-pub rests_ended : (d : Deployed) (n : Moment) (before : Option Names) → n.standing.live ≡ []
-    → (d.is_wired ≡ false → before ≡ None → n.trace ≡ []) → (d.is_wired ≡ true → before ≡ None) → RestsOnScene d n before
-rests_ended d n before none untraced told = record {
-  nothing_lives = λ w. none;
-  nothing_told = untraced;
-  told_now = told;
-  rooted = subst (λ (live : List Instance). IsRooted live) (sym none) tt;
-  furnished = subst (λ (live : List Instance). IsFurnished (scene_of d.decls d.book) live) (sym none) tt;
-}
-
--- ---- behind what stages, or lets go of what was staged
-
-pub rests_staged : (d e : Deployed) (staged : Option Staged) (m : Moment) (before : Option Names) → e ≡ with_staged d staged
-    → RestsOnScene d m before → RestsOnScene e m before
-rests_staged d e staged m before is r = subst (λ (x : Deployed). RestsOnScene x m before) (sym is) (record {
-  nothing_lives = r.nothing_lives;
-  nothing_told = r.nothing_told;
-  told_now = r.told_now;
-  rooted = r.rooted;
-  furnished = r.furnished;
-})
 
 -- ---- behind a commit
 
@@ -124,23 +97,6 @@ commits old new book wired within is = by old.staged refl is
       book = book;
       is_wired = false;
     }
-
-unwired : (d : Deployed) (staged : Option Staged) → (redeployed_to d staged).is_wired ≡ false
-unwired d None = refl
-unwired d (Some next) = refl
-
-no_names : (d : Deployed) (b : Bool) → d.is_wired ≡ b → names_if d ≡ None → d.is_wired ≡ false
-no_names d true w none = absurd (let no : Some (names_of d.decls) ≡ None = rw w at none in cc)
-no_names d false w none = w
-
--- the scene is gone; without it nothing was traced, and nothing is told
-pub rests_committed : (d e : Deployed) (n : Moment) (told : Option Names) → e ≡ redeployed d → told ≡ names_if d
-    → n.standing.live ≡ [] → (d.is_wired ≡ false → n.trace ≡ []) → RestsOnScene e n told
-rests_committed d e n told is names none untraced =
-    let gone : e.is_wired ≡ false = ap (λ (x : Deployed). x.is_wired) is ∙ unwired d d.staged in
-    rests_ended e n told none
-    (λ w t. untraced (no_names d d.is_wired refl (sym names ∙ t)))
-    (λ w. absurd (let no : false ≡ true = sym gone ∙ w in cc))
 
 -- what is told by names from before, if there are any, and is nothing if there are none
 told_before : (b : Bool) (before now : Names) (trace : List Entry) → (b ≡ false → trace ≡ [])

@@ -1,15 +1,13 @@
 -- What is kept of a deployment is right still after questions, and after edits.
-use Rattle.std.proofs.Common.{◌≡◌, Bool, true, false, ◌||◌, List, Option, None, Some, inl, inr, refl, sym, ap, ◌∙◌, subst}
+use Rattle.std.proofs.Common.{◌≡◌, Bool, true, false, ◌||◌, List, Option, None, Some, refl, sym, ap, ◌∙◌, subst}
 use Rattle.std.specs.Prelude.{IfSome, OnOk, OnErr, Result, Ok, Err}
-use Rattle.std.proofs.lemmas.Bool.{cases_Bool, false≢true, or_left, or_right}
-use Rattle.cdi_model.specs.Decl.{key_of}
+use Rattle.std.proofs.lemmas.Bool.{false≢true, or_left, or_right}
 use Rattle.cdi_model.specs.DeclList.{AreDistinct}
 use Rattle.cdi_model.specs.Short.{AreShort}
 use Rattle.cdi_model.specs.declared.decl.Decl.{Decl}
-use Rattle.cdi_model.specs.declared.key.DeclKey.{DeclKey}
 use Rattle.cdi_bodies.specs.Book.{Promised}
 use Rattle.cdi_index.specs.State.{Staged}
-use Rattle.cdi_live.specs.State.{State as Live, empty, kept_in, knows, with_staged, Commits, CommitsTo}
+use Rattle.cdi_live.specs.State.{State as Live, kept_in, knows, with_staged, Commits, CommitsTo}
 use Rattle.cdi_observe.specs.Kept.{Kept, after_key, evaluated, EvaluatesSome}
 use Rattle.cdi_observe.specs.Keys.{Key, has_key}
 use Rattle.cdi_observe.specs.Wanted.{wanted, is_wanted}
@@ -19,7 +17,7 @@ use Rattle.cdi_report.specs.Stays.{IsReadied}
 use Rattle.cdi_report.specs.declared.unsettled.Unsettled.{Unsettled}
 use Rattle.cdi_report.proofs.KeptLemmas.{settled_stay}
 use Rattle.cdi_report.proofs.SettledLemmas.{settled-still}
-use Rattle.cdi_report.proofs.TogetherLemmas.{more_is_settled, none_settled}
+use Rattle.cdi_report.proofs.TogetherLemmas.{more_is_settled}
 use Rattle.cdi_wiring.specs.Wired.{IsWiringOf}
 use Rattle.cdi_wiring.specs.declared.verdict.Wiring.{Wiring}
 use Rattle.cdi_container.specs.Kept.{IsKept, IsWiredRight}
@@ -80,15 +78,6 @@ wires_right old new book before w u now readied same is all settled kept = recor
 }
 
 -- ---- after edits
-
--- of no declarations
-pub nothing_right : (live : Live) (book : List Promised) (u : Unsettled) → live ≡ empty → IsKept live book None u false
-nothing_right live book u is = subst (λ (l : Live). IsKept l book None u false) (sym is) (record {
-  short = λ i d found. absurd (let no : ◌≡◌ {A = Option Decl} None (Some d) = found in cc);
-  wired = tt;
-  settled = none_settled (knows empty) book u;
-  readied = not_readied;
-})
 
 readied_with : (live : Live) (next : Staged) (u : Unsettled) (staged : Option Staged) → IsReadied live next u
     → IsReadied (with_staged live staged) next u

@@ -1,20 +1,25 @@
 -- What an edit and a batch answer and leave makes a step.
-use Rattle.std.proofs.Common.{◌≡◌, ℕ, List, [], Option, None, Some, refl, ap, sym, subst, ◌∙◌}
+use Rattle.std.proofs.Common.{◌≡◌, ℕ, Bool, true, false, List, [], Option, None, Some, refl, ap, sym, subst, ◌∙◌}
 use Rattle.std.specs.Prelude.{Result, Ok, Err, OnOk, IfErr}
 use Rattle.cdi_model.specs.declared.decl.Decl.{Decl}
 use Rattle.cdi_model.specs.declared.refusal.Error.{Error}
 use Rattle.cdi_model.specs.declared.refusal.Error.TheVariants as errors
 use Rattle.cdi_model.specs.declared.refusal.Refusal.{Refusal}
+use Rattle.cdi_model.specs.declared.refusal.Refusal.TheVariants.{TooMany}
+use Rattle.cdi_model.specs.DeclList.{is_too_many}
 use Rattle.cdi_model.specs.declared.edit.Edit.{Edit as Change}
+use Rattle.cdi_model.specs.declared.edit.Edit.TheVariants as changes
 use Rattle.cdi_model.specs.Edits.{refusal_of_edit, answer_of_edit}
 use Rattle.cdi_model.specs.Answering.{Answers}
 use Rattle.cdi_admission.specs.Admission.{refusal_of_decl}
 use Rattle.cdi_text.specs.Reading.{decl_of}
+use Rattle.cdi_lines.specs.declared.command.Command.TheVariants.{Edit as EditCommand}
 use Rattle.cdi_lines.specs.declared.edit.Edit.{Edit}
 use Rattle.cdi_lines.specs.declared.edit.Edit.TheVariants as edits
-use Rattle.cdi_container.specs.Editing.{admitted, alone, change_of, changes_in, changes_of, changes_of_all, put_of, refusal_of_batch, refusal_of_change}
+use Rattle.cdi_container.specs.Editing.{admitted, alone, answer_of_put, change_of, changes_in, changes_of, changes_of_all, put_among, put_of, refusal_of_batch, refusal_of_change}
 use Rattle.cdi_container.specs.History.{State, AsksSome, EditsFrom, left_by}
-use Rattle.cdi_container.specs.Seen.{EditStep, PutStep, PutDeclStep, BatchStep, AnswersBatch, answer_of_change, left_by_batch}
+use Rattle.cdi_container.specs.Seen.{EditStep, IsStep, PutStep, PutDeclStep, BatchStep, AnswersBatch, answer_of_change, left_by_batch, put_answer}
+use Rattle.cdi_container.specs.declared.answer.PutDone.{PutDone}
 use Rattle.cdi_container.specs.declared.batch.BatchError.{BatchError}
 use Rattle.cdi_container.specs.declared.batch.BatchError.TheVariants as batch_errors
 use Rattle.cdi_container.proofs.AskedLemmas.{apart-none}
@@ -59,19 +64,72 @@ edit_step old new edit (Ok u) answer ok err = (ap alone (accepted_change old.dec
 edit_step old new edit (Err errors.OutOfMemory) answer ok err = record { left = old; asks = no_keys old; rest = err }
 edit_step old new edit (Err (errors.Refused r)) answer ok err = (ap alone (refused_change old.decls (change_of edit) r answer), err)
 
-pub put_step : (old new : State) (text : List ℕ) (result : Result (Unit {0}) Error)
-    → Answers result (answer_of_change old.decls (put_of (decl_of text)))
+-- ---- a put
+
+-- what a change of a declaration answers, a put of it answers with what was put
+pub put_accepted : (ds : List Decl) (d : Decl) (u : Unit {0}) → answer_of_edit ds (changes.Put d) ≡ Ok u
+    → answer_of_put ds (Ok d) ≡ Ok (put_among ds d)
+put_accepted ds d u h = by (is_too_many ds d) refl
+  where
+    by : (b : Bool) → is_too_many ds d ≡ b → answer_of_put ds (Ok d) ≡ Ok (put_among ds d)
+    by true e = absurd (let no : Err TooMany ≡ Ok u = rw e at h in cc)
+    by false e = rw e refl
+
+pub put_refused : (ds : List Decl) (d : Decl) (r : Refusal) → answer_of_edit ds (changes.Put d) ≡ Err r
+    → answer_of_put ds (Ok d) ≡ Err r
+put_refused ds d r h = by (is_too_many ds d) refl
+  where
+    by : (b : Bool) → is_too_many ds d ≡ b → answer_of_put ds (Ok d) ≡ Err r
+    by true e = rw e (rw e at h)
+    by false e = absurd (let no : Ok tt ≡ Err r = rw e at h in cc)
+
+-- and what a put answers, the change does
+change_accepted : (ds : List Decl) (asked : Result Decl Refusal) (p : PutDone) → answer_of_put ds asked ≡ Ok p
+    → answer_of_change ds (put_of asked) ≡ Ok tt
+change_accepted ds (Err r) p h = cc
+change_accepted ds (Ok d) p h = by (is_too_many ds d) refl
+  where
+    by : (b : Bool) → is_too_many ds d ≡ b → answer_of_edit ds (changes.Put d) ≡ Ok tt
+    by true e = absurd (let no : Err TooMany ≡ Ok p = rw e at h in cc)
+    by false e = rw e refl
+
+change_refused : (ds : List Decl) (asked : Result Decl Refusal) (r : Refusal) → answer_of_put ds asked ≡ Err r
+    → answer_of_change ds (put_of asked) ≡ Err r
+change_refused ds (Err s) r h = cc
+change_refused ds (Ok d) r h = by (is_too_many ds d) refl
+  where
+    by : (b : Bool) → is_too_many ds d ≡ b → answer_of_edit ds (changes.Put d) ≡ Err r
+    by true e = let same : Err TooMany ≡ Err r = rw e at h in rw e cc
+    by false e = absurd (let no : Ok (put_among ds d) ≡ Err r = rw e at h in cc)
+
+-- a put of what an edit puts is that edit
+puts_as_edit : (old new : State) (edit : Edit) (asked : Result Decl Refusal) (result : Result PutDone Error)
+    → change_of edit ≡ put_of asked → Answers result (answer_of_put old.decls asked)
+    → OnOk result (EditsFrom old (changes_of edit) new)
+    → IfErr result (λ error. new ≡ left_by error old) → IsStep old (EditCommand edit) (put_answer result) new
+puts_as_edit old new edit asked (Ok p) is answer ok err =
+    edit_step old new edit (Ok tt) (ap (answer_of_change old.decls) is ∙ change_accepted old.decls asked p answer) ok err
+puts_as_edit old new edit asked (Err errors.OutOfMemory) is answer ok err =
+    edit_step old new edit (Err errors.OutOfMemory) answer ok err
+puts_as_edit old new edit asked (Err (errors.Refused r)) is answer ok err =
+    edit_step old new edit (Err (errors.Refused r)) (ap (answer_of_change old.decls) is ∙ change_refused old.decls asked r answer) ok err
+
+pub put_step : (old new : State) (text : List ℕ) (result : Result PutDone Error)
+    → Answers result (answer_of_put old.decls (decl_of text))
     → OnOk result (EditsFrom old (changes_in (put_of (decl_of text))) new)
     → IfErr result (λ error. new ≡ left_by error old) → PutStep old text result new
-put_step old new text result answer ok err = edit_step old new (edits.Put text) result answer ok err
+put_step old new text result answer ok err = puts_as_edit old new (edits.Put text) (decl_of text) result refl answer ok err
 
-pub put_decl_step : (old new : State) (d : Decl) (result : Result (Unit {0}) Error)
-    → Answers result (answer_of_change old.decls (put_of (admitted (refusal_of_decl d) d)))
+pub put_decl_step : (old new : State) (d : Decl) (result : Result PutDone Error)
+    → Answers result (answer_of_put old.decls (admitted (refusal_of_decl d) d))
     → OnOk result (EditsFrom old (changes_in (put_of (admitted (refusal_of_decl d) d))) new)
     → IfErr result (λ error. new ≡ left_by error old) → PutDeclStep old d result new
-put_decl_step old new d result answer ok err boxed is = edit_step old new (edits.PutDecl boxed) result
-    (subst (λ x. Answers result (answer_of_change old.decls (put_of (admitted (refusal_of_decl x) x)))) (sym is) answer)
+put_decl_step old new d result answer ok err boxed is =
+    puts_as_edit old new (edits.PutDecl boxed) (admitted (refusal_of_decl boxed.value) boxed.value) result refl
+    (subst (λ x. Answers result (answer_of_put old.decls (admitted (refusal_of_decl x) x))) (sym is) answer)
     (subst (λ x. OnOk result (EditsFrom old (changes_in (put_of (admitted (refusal_of_decl x) x))) new)) (sym is) ok) err
+
+pub ruleset put_answered = (put_accepted, put_refused)
 
 pub batch_step : (old new : State) (edits : List Edit) (result : Result (Unit {0}) BatchError)
     → AnswersBatch result (refusal_of_batch old.decls edits)

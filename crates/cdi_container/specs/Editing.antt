@@ -1,16 +1,19 @@
 -- What an edit changes, and why one is refused: by itself, and in a batch.
-use Rattle.std.specs.Prelude.{ℕ, ◌+◌, nat_lt, List, [], ◌∷◌, ◌++◌, length, map, flat_map, Option, Some, None, Result, Ok, Err, if◌then◌else◌}
+use Rattle.std.specs.Prelude.{ℕ, ◌+◌, nat_lt, List, [], ◌∷◌, ◌++◌, length, map, flat_map, is_some, Option, Some, None, Result, Ok, Err, if◌then◌else◌}
 use Rattle.cdi_model.specs.declared.decl.Decl.{Decl}
 use Rattle.cdi_model.specs.declared.edit.Edit.{Edit as Change}
 use Rattle.cdi_model.specs.declared.edit.Edit.TheVariants as changes
 use Rattle.cdi_model.specs.declared.refusal.Refusal.{Refusal}
-use Rattle.cdi_model.specs.declared.refusal.Refusal.TheVariants.{BatchTooLong}
+use Rattle.cdi_model.specs.declared.refusal.Refusal.TheVariants.{BatchTooLong, TooMany}
+use Rattle.cdi_model.specs.Decl.{kind_of, name_of_decl}
+use Rattle.cdi_model.specs.DeclList.{find_decl, is_too_many}
 use Rattle.cdi_model.specs.Edits.{edited_all, edited_keys, refusal_of_edit}
 use Rattle.cdi_index.specs.State.{Drafted, drafted_from}
 use Rattle.cdi_admission.specs.Admission.{refusal_of_decl}
 use Rattle.cdi_text.specs.Reading.{decl_of}
 use Rattle.cdi_lines.specs.declared.edit.Edit.{Edit}
 use Rattle.cdi_lines.specs.declared.edit.Edit.TheVariants as edits
+use Rattle.cdi_container.specs.declared.answer.PutDone.{PutDone}
 
 -- ---- one edit
 
@@ -18,6 +21,19 @@ use Rattle.cdi_lines.specs.declared.edit.Edit.TheVariants as edits
 abbrev pub put_of : Result Decl Refusal → Result Change Refusal
 put_of (Ok d) = Ok (changes.Put d)
 put_of (Err refusal) = Err refusal
+
+-- what a put of a declaration into a list does
+abbrev pub put_among : List Decl → Decl → PutDone
+put_among ds d = record {
+  kind = kind_of d;
+  name = name_of_decl d;
+  has_replaced = is_some (find_decl (kind_of d) (name_of_decl d) ds);
+}
+
+-- what a put of a declaration answers, or of what is none
+abbrev pub answer_of_put : List Decl → Result Decl Refusal → Result PutDone Refusal
+answer_of_put ds (Ok d) = if is_too_many ds d then Err TooMany else Ok (put_among ds d)
+answer_of_put ds (Err refusal) = Err refusal
 
 -- a declaration that a program made, unless it is refused
 abbrev pub admitted : Option Refusal → Decl → Result Decl Refusal

@@ -9,6 +9,7 @@ pub mod Seen
 pub mod Points
 pub mod Lent
 pub mod PointsLent
+pub mod BeansLent
 pub mod Evaluated
 pub mod AnswerText
 pub use Rattle.cdi_bodies.specs.Within

@@ -28,6 +28,7 @@ use Rattle.cdi_lines.specs.declared.edit.Edit.{Edit as AnyEdit}
 use Rattle.cdi_lines.specs.declared.edit.Edit.TheVariants as edits
 use Rattle.cdi_container.specs.Editing.{Reason}
 use Rattle.cdi_container.specs.declared.answer.Answer.{Answer}
+use Rattle.cdi_container.specs.declared.answer.PutDone.{PutDone}
 use Rattle.cdi_container.specs.declared.answer.WorkDone.{WorkDone}
 use Rattle.cdi_container.specs.declared.batch.BatchError.{BatchError}
 use Rattle.cdi_container.specs.declared.batch.BatchError.TheVariants as batch_errors
@@ -53,6 +54,11 @@ failed_answer (errors.Refused refusal) = Ok (Refused refusal None)
 abbrev pub edit_answer : Result (Unit {0}) Error → Result Answer AllocError
 edit_answer (Ok u) = Ok Done
 edit_answer (Err error) = failed_answer error
+
+-- the answer of a call that puts a declaration
+abbrev pub put_answer : Result PutDone Error → Result Answer AllocError
+put_answer (Ok put) = Ok Done
+put_answer (Err error) = failed_answer error
 
 -- the answer of a batch
 abbrev pub batch_answer : Result (Unit {0}) BatchError → Result Answer AllocError
@@ -137,13 +143,13 @@ outcome_answer (Err error) = failed_answer error
 abbrev pub IsStep : State → Command → Result Answer AllocError → State → Type 0
 IsStep old command answer new = LegalAnswer old command answer new
 
-abbrev pub PutStep : State → List ℕ → Result (Unit {0}) Error → State → Type 0
-PutStep old text result new = IsStep old (Edit (edits.Put text)) (edit_answer result) new
+abbrev pub PutStep : State → List ℕ → Result PutDone Error → State → Type 0
+PutStep old text result new = IsStep old (Edit (edits.Put text)) (put_answer result) new
 
 -- whatever box the declaration is in
-abbrev pub PutDeclStep : State → Decl → Result (Unit {0}) Error → State → Type 0
+abbrev pub PutDeclStep : State → Decl → Result PutDone Error → State → Type 0
 PutDeclStep old decl result new = (boxed : Box Decl Global) → boxed.value ≡ decl
-    → IsStep old (Edit (edits.PutDecl boxed)) (edit_answer result) new
+    → IsStep old (Edit (edits.PutDecl boxed)) (put_answer result) new
 
 abbrev pub RemoveStep : State → Kind → List ℕ → Result (Unit {0}) Error → State → Type 0
 RemoveStep old kind name result new = IsStep old (Edit (edits.Remove kind name)) (edit_answer result) new

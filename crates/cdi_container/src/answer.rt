@@ -1,13 +1,13 @@
 //! What a command answers.
 ghost use Rattle.std.specs.Prelude.{◌≡◌, None};
-ghost use Rattle.cdi_container.specs.Seen.{failed_answer, edit_answer, batch_answer, plain_answer, end_answer};
+ghost use Rattle.cdi_container.specs.Seen.{failed_answer, edit_answer, put_answer, batch_answer, plain_answer, end_answer};
 ghost use Rattle.cdi_container.specs.declared.answer.Answer.TheVariants.{Refused};
 ghost use Rattle.cdi_container.specs.Seen.{chain_answer, choice_answer, observers_answer, outcome_answer, report_answer};
 
 use crate::batch::BatchError;
 use cdi_faults::Fault;
 use cdi_index::Counts;
-use cdi_model::{Error, Name, Outcome, Refusal, Seq};
+use cdi_model::{Error, Kind, Name, Outcome, Refusal, Seq};
 use cdi_observe::ObserverId;
 use cdi_resolve::Choice;
 use std::alloc::AllocError;
@@ -17,6 +17,17 @@ use std::alloc::AllocError;
 pub struct WorkDone {
     pub work: u64,
     pub known: usize,
+}
+
+/// What a put did.
+#[derive(Clone, Copy, Debug, PartialEq, Eq)]
+pub struct PutDone {
+    /// The kind of the declaration that was put.
+    pub kind: Kind,
+    /// Its name.
+    pub name: Name,
+    /// Whether one of this kind and name was there, in whose place it is now.
+    pub has_replaced: bool,
 }
 
 /// The answer of a command.
@@ -63,6 +74,16 @@ fn answer_of_failure(error: Error) -> Result<Answer, AllocError>
     match error {
         Error::OutOfMemory => Err(AllocError),
         Error::Refused(refusal) => Ok(refused(refusal)),
+    }
+}
+
+/// What a call that puts a declaration answers as an edit.
+pub(crate) fn without_put(called: Result<PutDone, Error>) -> Result<(), Error>
+    ensures { edit_answer result ≡ put_answer called }
+{
+    match called {
+        Ok(_) => Ok(()),
+        Err(error) => Err(error),
     }
 }
 

@@ -7,9 +7,9 @@ ghost use Rattle.cdi_container.specs.Asked.{names_default};
 
 use cdi_effective::BeanId;
 use cdi_model::{Decls, Ident, Name, Qual, Quals, Refusal, Val};
-use cdi_resolve::{BeanList, Choice};
+use cdi_resolve::Choice;
 use cdi_run::Purpose;
-use cdi_staging::{method_of, target_of};
+use cdi_staging::{ListedBeans, method_of, target_of};
 use cdi_subjects::{are_known, has_method};
 
 /// A method and its argument.
@@ -30,7 +30,7 @@ pub(crate) struct Aim {
 #[tactic(auto, unfolding(cdi_staging::specs::Sites::target_of))]
 pub(crate) fn aim_of_choice(
     decls: &Decls,
-    beans: &BeanList,
+    beans: &ListedBeans<'_>,
     choice: &Choice,
     message: Option<Message>,
 ) -> Result<Aim, Refusal>

@@ -1,6 +1,6 @@
 //! The container.
 ghost use Rattle.std.specs.Prelude.{◌≡◌, ◌≢◌, [], ◌∷◌, map, AllPairs, OnOk, OnErr, IfOk, IfErr};
-ghost use Rattle.cdi_model.specs.declared.edit.Edit.TheVariants.{Remove as RemoveEdit};
+ghost use Rattle.cdi_model.specs.declared.edit.Edit.TheVariants.{Put as PutEdit, Remove as RemoveEdit};
 ghost use Rattle.cdi_model.specs.Edits.{answer_of_edit as answer_of_removal, answer_of_edit};
 ghost use Rattle.cdi_model.specs.Answering.{Answers};
 ghost use Rattle.cdi_model.specs.Short.{AreShort};
@@ -24,8 +24,9 @@ ghost use Rattle.cdi_container.specs.PointsLent.{points_lent};
 ghost use Rattle.cdi_container.specs.Told.{IsTold};
 
 use crate::answer::{
-    Answer, WorkDone, answer_of_batch, answer_of_begin, answer_of_chain, answer_of_choice,
+    Answer, PutDone, WorkDone, answer_of_batch, answer_of_begin, answer_of_chain, answer_of_choice,
     answer_of_edit, answer_of_observers, answer_of_report, answer_of_run, answer_of_stop, refused,
+    without_put,
 };
 use crate::batch::BatchError;
 use crate::beans::Beans;
@@ -103,9 +104,9 @@ impl<B: Bodies> Model for Container<B> {
 impl<B: Bodies> Container<B> {
     ghost use Rattle.std.specs.Prelude.{◌++◌};
     ghost use Rattle.cdi_container.specs.History.{empty};
-    ghost use Rattle.cdi_container.specs.Seen.{answer_of_change, IsStep, EditStep, PutStep, PutDeclStep, RemoveStep, ChooseStep, NamedStep};
+    ghost use Rattle.cdi_container.specs.Seen.{IsStep, EditStep, PutStep, PutDeclStep, RemoveStep, ChooseStep, NamedStep};
     ghost use Rattle.cdi_container.specs.Seen.{left_by_batch, AnswersBatch, BatchStep};
-    ghost use Rattle.cdi_container.specs.Editing.{admitted, put_of, changes_in, changes_of_all, refusal_of_batch};
+    ghost use Rattle.cdi_container.specs.Editing.{admitted, answer_of_put, put_of, changes_in, changes_of_all, refusal_of_batch};
     ghost use Rattle.cdi_container.specs.Seen.{ChainStep, ObserversStep};
     ghost use Rattle.cdi_container.specs.Seen.{EvaluateStep, ReportStep, CountsStep, WorkStep};
     ghost use Rattle.std.specs.Borrow.{sem};
@@ -168,8 +169,8 @@ impl<B: Bodies> Container<B> {
         ensures { EditStep self.old edit result self.new }
     {
         match edit {
-            Edit::Put { text } => self.put(text.as_slice()),
-            Edit::PutDecl { decl } => self.put_decl(Box::into_inner(decl)),
+            Edit::Put { text } => without_put(self.put(text.as_slice())),
+            Edit::PutDecl { decl } => without_put(self.put_decl(Box::into_inner(decl))),
             Edit::Remove { kind, name } => self.remove(kind, name),
         }
     }
@@ -178,17 +179,17 @@ impl<B: Bodies> Container<B> {
     /// request context, if a request is active, and the application context end, as they do at a `stop`, on the declarations
     /// from before (profile). It takes memory for the declaration, for a copy of the list, whose size does not grow with the
     /// number of declarations, after 64 changes for an entry a declaration, and for the entries of its trace, all of it
-    /// before the first callback: if memory runs out, nothing has changed.
+    /// before the first callback: if memory runs out, nothing has changed. It answers what was put.
     #[tactic(auto, using(crate::proofs::Putting::put_step))]
-    pub fn put(&mut self, text: &[u8]) -> Result<(), Error>
-        ensures answer { Answers result (answer_of_change self.old.decls (put_of (decl_of text.now))) }
+    pub fn put(&mut self, text: &[u8]) -> Result<PutDone, Error>
+        ensures answer { Answers result (answer_of_put self.old.decls (decl_of text.now)) }
         ensures ok { OnOk result (EditsFrom self.old (changes_in (put_of (decl_of text.now))) self.new) }
         ensures nothing { OnOk result (self.new.standing.live ≡ []) }
         ensures err { IfErr result (λ error. self.new ≡ left_by error self.old) }
         ensures step { PutStep self.old text.now result self.new }
     {
         match read_decl(self.alloc, text) {
-            Ok(decl) => self.edit(Change::Put(decl)),
+            Ok(decl) => self.put_admitted(decl),
             Err(error) => Err(self.leave(error)),
         }
     }
@@ -200,17 +201,31 @@ impl<B: Bodies> Container<B> {
     /// `OutOfMemory`, or the first of these refusals that applies: `BadName`, `Twice` and `ListTooLong`, of what a text could
     /// not spell either; `TooMany`.
     #[tactic(auto, using(crate::proofs::Putting::put_decl_step))]
-    pub fn put_decl(&mut self, decl: Decl) -> Result<(), Error>
-        ensures answer { Answers result (answer_of_change self.old.decls (put_of (admitted (refusal_of_decl decl) decl))) }
+    pub fn put_decl(&mut self, decl: Decl) -> Result<PutDone, Error>
+        ensures answer { Answers result (answer_of_put self.old.decls (admitted (refusal_of_decl decl) decl)) }
         ensures ok { OnOk result (EditsFrom self.old (changes_in (put_of (admitted (refusal_of_decl decl) decl))) self.new) }
         ensures nothing { OnOk result (self.new.standing.live ≡ []) }
         ensures err { IfErr result (λ error. self.new ≡ left_by error self.old) }
         ensures step { PutDeclStep self.old decl result self.new }
     {
         match check_decl(self.alloc, &decl) {
-            Ok(()) => self.edit(Change::Put(decl)),
+            Ok(()) => self.put_admitted(decl),
             Err(error) => Err(self.leave(error)),
         }
+    }
+
+    /// Puts a declaration that nothing but its number may refuse.
+    #[tactic(auto, using(crate::proofs::Putting::put_answered))]
+    fn put_admitted(&mut self, decl: Decl) -> Result<PutDone, Error>
+        requires { IsShortEdit (PutEdit decl) }
+        ensures answer { Answers result (answer_of_put self.old.decls (Ok decl)) }
+        ensures ok { OnOk result (EditsFrom self.old (PutEdit decl ∷ []) self.new) }
+        ensures nothing { OnOk result (self.new.standing.live ≡ []) }
+        ensures err { IfErr result (λ error. self.new ≡ left_by error self.old) }
+    {
+        let put = self.deployment.put_among(&decl);
+        self.edit(Change::Put(decl))?;
+        Ok(put)
     }
 
     /// Removes the declaration of a kind and name. Contexts end first, as `put` says. It takes memory as that does.
@@ -513,11 +528,11 @@ impl<B: Bodies> Container<B> {
         self.deployment.book()
     }
 
-    /// The records of the bean list, in order. It is no command. It takes memory for the list of all beans.
-    pub fn beans(&self) -> Result<Beans, AllocError>
-        ensures { IfOk result (λ list. list ≡ beans self.now.decls) }
+    /// The records of the bean list, in order. It is no command, and takes no memory.
+    pub fn beans(&self) -> Beans<'_>
+        ensures { result ≡ beans self.now.decls }
     {
-        self.deployment.all_beans(self.alloc)
+        self.deployment.beans()
     }
 
     /// The live instances, oldest first, those that are being created too. It is no command, and takes no memory.

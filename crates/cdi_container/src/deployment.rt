@@ -3,7 +3,7 @@ ghost use Rattle.std.specs.Prelude.{◌≡◌, ◌≢◌, AllPairs, IfSome, None
 ghost use Rattle.std.specs.Option.{option_copied};
 ghost use Rattle.cdi_model.specs.Edits.{answer_of_edit};
 ghost use Rattle.cdi_index.specs.State.{IsEdited};
-ghost use Rattle.cdi_container.specs.Editing.{changes_of_all, drafted_by, refusal_of_batch};
+ghost use Rattle.cdi_container.specs.Editing.{changes_of_all, drafted_by, put_among, refusal_of_batch};
 ghost use Rattle.cdi_container.specs.History.{no_counts};
 ghost use Rattle.cdi_container.specs.Known.{keys_of_event, keys_of_use, worked, IsInOrder};
 ghost use Rattle.cdi_container.specs.Points.{points_told};
@@ -27,7 +27,7 @@ ghost use Rattle.cdi_scene.specs.Sound.{AreObservers};
 ghost use Rattle.cdi_container.specs.Wired.{AsksOwn, StandsIn, IsAsked, IsAskedSome, IsShortEdit, Evaluates, names_if, names_in, redeployed, staged_by, with_staged};
 ghost use Rattle.cdi_wiring.specs.Wired.{IsWiredOf};
 
-use crate::answer::WorkDone;
+use crate::answer::{PutDone, WorkDone};
 use crate::asked::{Aim, Message, aim_of_choice, can_be_fired};
 use crate::batch::{BatchError, draft_batch, draft_change};
 use crate::beans::Beans;
@@ -35,21 +35,20 @@ use crate::edited::{stage_looked, take_over};
 use crate::found::find_wiring;
 use crate::points::Points;
 use cdi_bodies::Bodies;
-use cdi_effective::beans;
 use cdi_ending::Stage;
 use cdi_faults::Fault;
 use cdi_index::{Counts, Draft};
 use cdi_lines::Edit;
 use cdi_live::Live;
 use cdi_model::{
-    BeanPlace, Decls, Edit as Change, Error, Iter as DeclIter, Name, Quals, Refusal, Seq,
+    BeanPlace, Decl, Decls, Edit as Change, Error, Iter as DeclIter, Name, Quals, Refusal, Seq,
 };
 use cdi_observe::{ObserverId, evaluate};
 use cdi_report::Unsettled;
-use cdi_resolve::{BeanList, Choice};
+use cdi_resolve::Choice;
 use cdi_run::Player;
 use cdi_scene::{Notified, Scene};
-use cdi_staging::{Names, positions_of};
+use cdi_staging::{ListedBeans, Names, Positions, positions_of};
 use cdi_subjects::are_known;
 use cdi_wiring::{Wired, Wiring};
 use std::alloc::{AllocError, Global};
@@ -59,12 +58,15 @@ use std::marker::Model;
 /// grow with the deployment.
 struct Stale {
     scene: Option<Scene>,
-    beans: Option<BeanList>,
+    positions: Option<Positions>,
 }
 
 impl Drop for Stale {
     fn drop(self) {
-        let Stale { scene: _, beans: _ } = self;
+        let Stale {
+            scene: _,
+            positions: _,
+        } = self;
     }
 }
 
@@ -72,18 +74,18 @@ impl Stale {
     fn none() -> Stale {
         Stale {
             scene: None,
-            beans: None,
+            positions: None,
         }
     }
 
-    /// A scene is stale, if there is one, with its bean list. Its names.
+    /// A scene is stale, if there is one, with its positions. Its names.
     fn take_wiring(&mut self, wiring: Option<Wiring>) -> Option<Names>
         ensures { result ≡ names_in wiring }
     {
         match wiring {
             Some(Wiring::Sound(wired)) => {
                 self.scene = Some(wired.scene);
-                self.beans = Some(wired.beans);
+                self.positions = Some(wired.positions);
                 Some(wired.names)
             }
             _ => None,
@@ -198,11 +200,22 @@ impl<B: Bodies> Deployment<B> {
         }
     }
 
-    /// The records of all beans, in order. It takes memory for them.
-    pub(crate) fn all_beans(&self, alloc: Global) -> Result<Beans, AllocError>
-        ensures { IfOk result (λ list. list ≡ beans self.now.decls) }
+    /// The records of all beans, in order.
+    pub(crate) fn beans(&self) -> Beans<'_>
+        ensures { result ≡ beans self.now.decls }
     {
-        Ok(Beans::new(beans(alloc, self.live.decls())?))
+        Beans::new(&self.live)
+    }
+
+    /// What a put of a declaration does.
+    pub(crate) fn put_among(&self, decl: &Decl) -> PutDone
+        ensures { result ≡ put_among self.now.decls decl.now }
+    {
+        PutDone {
+            kind: decl.kind(),
+            name: *decl.name(),
+            has_replaced: self.live.decls().get(decl.kind(), decl.name()).is_some(),
+        }
     }
 
     /// A draft of a change. It takes memory for what is put, and for a copy of the list.
@@ -451,7 +464,7 @@ impl<B: Bodies> Deployment<B> {
     {
         // No effect at run time. The proof reads here that no two declarations have one kind and name.
         let _ = self.live.decls().iter();
-        aim_of_choice(self.live.decls(), self.bean_list(), choice, message)
+        aim_of_choice(self.live.decls(), &self.listed_beans(), choice, message)
     }
 
     /// The observer methods that an event notifies. Where it is not refused, the scene is there from now on.
@@ -523,7 +536,7 @@ impl<B: Bodies> Deployment<B> {
     {
         // No effect at run time. The proof reads here that no two declarations have one kind and name.
         let _ = self.live.decls().iter();
-        positions_of(alloc, self.live.decls(), self.bean_list(), ids)
+        positions_of(alloc, self.live.decls(), &self.listed_beans(), ids)
     }
 
     /// The scene and its names, which are there.
@@ -537,12 +550,12 @@ impl<B: Bodies> Deployment<B> {
         }
     }
 
-    /// The bean list of the scene, which is there.
-    fn bean_list(&self) -> &BeanList
+    /// Where the beans of the scene are, which is there.
+    fn listed_beans(&self) -> ListedBeans<'_>
         requires { self.now.is_wired ≡ true }
-        ensures { result.now ≡ beans self.now.decls }
+        ensures { result ≡ beans self.now.decls }
     {
-        &self.wired().beans
+        ListedBeans::new(self.live.decls(), &self.wired().positions)
     }
 
     /// Whether the scene is there.

@@ -14,7 +14,7 @@ mod instances;
 mod points;
 mod printing;
 
-pub use answer::{Answer, WorkDone};
+pub use answer::{Answer, PutDone, WorkDone};
 pub use batch::{BATCH_LIMIT, BatchError};
 pub use beans::Beans;
 pub use cdi_bodies::{

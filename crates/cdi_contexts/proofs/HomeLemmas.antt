@@ -217,11 +217,6 @@ IsNobodys i = home_of i.id.bean i.owner ≡ None
 nobodys : (i : Instance) (h : Home) → IsNobodys i → lives_at h i ≡ false
 nobodys i h e = lives_home h i.id.bean i.owner ∙ ap (λ o. is_this o h) e
 
-pub left-nobodys : (i : Instance) (h : Home) (o next : Option ℕ) → None ≡ home_of i.id.bean i.owner
-    → o ≡ left_of o (lives_at h i) i.id.number next
-left-nobodys i h o next e =
-    sym (ap (λ b. left_of o b i.id.number next) (nobodys i h (sym e)) ∙ left-elsewhere o i.id.number next)
-
 pub joined-nobodys : (i : Instance) (h : Home) (o : Option ℕ) → None ≡ home_of i.id.bean i.owner
     → o ≡ joined o (lives_at h i) i.id.number
 joined-nobodys i h o e = by o ∙ sym (ap (λ b. joined o b i.id.number) (nobodys i h (sym e)))

@@ -1,24 +1,18 @@
 -- The bodies that run before the destruction of an instance.
-use Rattle.std.proofs.Common.{◌≡◌, ◌+◌, ◌<◌, ◌≤◌, length, ℕ, Bool, true, false, ◌&&◌, Option, Some, None}
-use Rattle.std.proofs.Common.{refl, arith, slice_get, ap, sym, ◌∙◌}
+use Rattle.std.proofs.Common.{◌≡◌, ℕ, Bool, true, false, ◌&&◌, Option, Some, None}
+use Rattle.std.proofs.Common.{refl, slice_get, ap, sym, ◌∙◌}
 use Rattle.cdi_contexts.specs.declared.instance.Actor.{Actor}
 use Rattle.cdi_contexts.specs.declared.instance.Actor.TheVariants.{Target, Interceptor}
 use Rattle.cdi_contexts.specs.declared.instance.InstanceId.{InstanceId}
 use Rattle.cdi_scene.specs.Scene.{managed_at, invocable_at, part_at, place_of}
-use Rattle.cdi_bodies.specs.Within.{Has}
-use Rattle.cdi_bodies.specs.declared.act.Act.{Act}
-use Rattle.cdi_bodies.specs.declared.act.Act.TheVariants.{Load, Store, Call, Fire, Proceed, Return, Fail}
-use Rattle.cdi_scene.specs.Sound.{Bodies, IsSound, IsSoundAt, KeepsToItself}
-use Rattle.cdi_scene.specs.declared.scene.Invocable.{Invocable}
-use Rattle.cdi_ending.specs.Room.{frames_from, frames_within}
+use Rattle.cdi_scene.specs.Sound.{Bodies, IsSound, IsSoundAt}
 use Rattle.cdi_scene.specs.declared.place.Place.TheVariants.{Pre}
 use Rattle.cdi_scene.specs.declared.place.Seat.{Seat}
 use Rattle.cdi_scene.specs.declared.scene.Managed.{Managed}
 use Rattle.cdi_scene.specs.declared.scene.Part.{Part}
 use Rattle.cdi_scene.specs.declared.scene.Scene.{Scene}
-use Rattle.cdi_legal.specs.Acts.{ending, PermitsIn}
 use Rattle.cdi_legal.specs.Ends.{seat_on}
-use Rattle.cdi_ending.specs.Back.{IsBack, ActsBefore, IsInterceptor, GoesOn}
+use Rattle.cdi_ending.specs.Back.{IsBack, ActsBefore}
 use Rattle.cdi_ending.specs.Staged.{Staged}
 
 pub both : (a b : Bool) → (a && b) ≡ true → (a ≡ true) × (b ≡ true)
@@ -52,33 +46,6 @@ pub runs_before : (x : Staged) (i : InstanceId) (actor : Actor) (part : Part) �
 runs_before x i actor part a h =
     let e : a.body ≡ part = cc in
     record { runs = h; sound = rw e at a.sound; quiet = rw e at a.allowed; own = rw e at a.own }
-
-only_interceptors_proceed : (actor : Actor) (part : Part) → KeepsToItself actor part → Has part.promise 16 → IsInterceptor actor
-only_interceptors_proceed Target part own has = absurd (own has)
-only_interceptors_proceed (Interceptor q) part own has = tt
-
--- what such a body does before it ends
-pub goes_on : (x : Staged) (i : InstanceId) (actor : Actor) (part : Part) (act : Act) → IsBack x i actor part → PermitsIn part act
-    → ending act ≡ None → GoesOn actor act
-goes_on x i actor part Load b p e = tt
-goes_on x i actor part (Store v) b p e = tt
-goes_on x i actor part (Call site arg) b p e = absurd (b.quiet.calls_nothing p.0)
-goes_on x i actor part (Fire site arg) b p e = absurd (b.quiet.fires_nothing p.0)
-goes_on x i actor part (Proceed arg) b p e = only_interceptors_proceed actor part b.own p
-goes_on x i actor part (Return v) b p e = cc
-goes_on x i actor part (Fail f) b p e = cc
-
--- only an interceptor proceeds
-pub proceeds_within : (actor : Actor) (x : Invocable) (link : ℕ) → IsInterceptor actor → frames_within actor x link ≡ frames_from x link
-proceeds_within Target x link h = absurd h
-proceeds_within (Interceptor q) x link h = refl
-
--- a link that is still to be entered begins one frame more than those behind it, and so does the bean's own body
-pub one_more_link : (x : Invocable) (link : ℕ) → link < length x.chain → frames_from x link ≡ frames_from x (link + 1) + 1
-one_more_link x link h = omega arith
-
-pub own_frame : (x : Invocable) (link : ℕ) (part : Part) → length x.chain ≤ link → x.part ≡ Some part → frames_from x link ≡ 1
-own_frame x link part h e = rw e (omega arith)
 
 pub record HasPart (o : Option Part) : Type 0 where
   pub part : Part

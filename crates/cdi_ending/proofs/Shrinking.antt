@@ -19,9 +19,6 @@ same_live floor a b g e =
       counted = λ s j h. rw e (omega arith);
     }
 
-pub Shrinks-refl : (floor : ℕ) (s : Standing) → Shrinks floor s s
-Shrinks-refl floor s = same_live floor s s refl refl
-
 pub Shrinks-trans : (floor : ℕ) (a b c : Standing) → Shrinks floor a b → Shrinks floor b c → Shrinks floor a c
 Shrinks-trans floor a b c p q =
     record {

@@ -56,16 +56,6 @@ abbrev pub IsInterceptor : Actor → Type 0
 IsInterceptor Target = ⊥
 IsInterceptor (Interceptor q) = Unit {0}
 
--- an act that may be made before the destruction and does not end its frame: only an interceptor proceeds
-abbrev pub GoesOn : Actor → Act → Type 0
-GoesOn actor acts.Load = Unit {0}
-GoesOn actor (acts.Store v) = Unit {0}
-GoesOn actor (acts.Proceed arg) = IsInterceptor actor
-GoesOn actor (acts.Call site arg) = ⊥
-GoesOn actor (acts.Fire site arg) = ⊥
-GoesOn actor (acts.Return v) = ⊥
-GoesOn actor (acts.Fail f) = ⊥
-
 -- a proceeding to a link, with its entries
 pub record Proceeds (s : Scene) (i : InstanceId) (link : ℕ) (v : Val) (m : Moment) (r : Outcome) (m' : Moment) : Type 0 where
   pub begun : Moment

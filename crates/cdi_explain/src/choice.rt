@@ -27,11 +27,12 @@ struct Wanted<'a> {
 pub fn verdicts_on_choice(
     alloc: Global,
     decls: &Decls,
-    beans: &[Effective],
+    beans: &[&Effective],
     bean_type: Name,
     quals: &Quals,
 ) -> Result<Vec<Verdict>, AllocError>
-    ensures verdicts { IfOk result (λ list. list.items ≡ map (verdict decls.now beans.now bean_type quals.now) beans.now) }
+    ensures verdicts { IfOk result (λ list. list.items
+        ≡ map (verdict decls.now (lent_in beans.now) bean_type quals.now) (lent_in beans.now)) }
     ensures answer { TakenAreTheAnswer }
 {
     let by_default = [default_use(alloc)];
@@ -58,15 +59,15 @@ impl Wanted<'_> {
     fn eligible<'b>(
         &self,
         alloc: Global,
-        beans: &'b [Effective],
+        beans: &[&'b Effective],
     ) -> Result<Vec<&'b Effective>, AllocError>
         ensures { let w = self.now in IfOk result (λ list.
-            lent_in list.items ≡ filter (is_eligible_for w.decls.now w.bean_type w.asked_for.now) beans.now) }
+            lent_in list.items ≡ filter (is_eligible_for w.decls.now w.bean_type w.asked_for.now) (lent_in beans.now)) }
     {
         let mut eligible = Vec::new(alloc);
         for bean in beans {
             if self.is_eligible(bean) {
-                eligible.push(bean)?;
+                eligible.push(*bean)?;
             }
         }
         Ok(eligible)
@@ -76,11 +77,11 @@ impl Wanted<'_> {
     fn verdicts(
         &self,
         alloc: Global,
-        beans: &[Effective],
+        beans: &[&Effective],
         rivals: Rivals,
     ) -> Result<Vec<Verdict>, AllocError>
         ensures { let w = self.now in IfOk result (λ list.
-            list.items ≡ map (verdict_by w.decls.now w.bean_type w.asked_for.now rivals) beans.now) }
+            list.items ≡ map (verdict_by w.decls.now w.bean_type w.asked_for.now rivals) (lent_in beans.now)) }
     {
         let mut verdicts = Vec::with_capacity(alloc, beans.len())?;
         for bean in beans {

@@ -15,10 +15,10 @@ use std::alloc::{AllocError, Global};
 #[tactic(auto, using(crate::proofs::NameLemmas::taken_are_the_named))]
 pub fn verdicts_on_name(
     alloc: Global,
-    beans: &[Effective],
+    beans: &[&Effective],
     name: Name,
 ) -> Result<Vec<Verdict>, AllocError>
-    ensures verdicts { IfOk result (λ list. list.items ≡ map (name_verdict beans.now name) beans.now) }
+    ensures verdicts { IfOk result (λ list. list.items ≡ map (name_verdict (lent_in beans.now) name) (lent_in beans.now)) }
     ensures answer { TakenAreTheNamed }
 {
     let named = named(alloc, beans, &name)?;
@@ -29,15 +29,15 @@ pub fn verdicts_on_name(
 /// The enabled ones of some beans that have a name.
 fn named<'a>(
     alloc: Global,
-    beans: &'a [Effective],
+    beans: &[&'a Effective],
     name: &Name,
 ) -> Result<Vec<&'a Effective>, AllocError>
-    ensures { IfOk result (λ list. lent_in list.items ≡ filter (has_name name.now) beans.now) }
+    ensures { IfOk result (λ list. lent_in list.items ≡ filter (has_name name.now) (lent_in beans.now)) }
 {
     let mut named = Vec::new(alloc);
     for bean in beans {
         if bean.is_enabled && is_named(bean, name) {
-            named.push(bean)?;
+            named.push(*bean)?;
         }
     }
     Ok(named)
@@ -46,11 +46,11 @@ fn named<'a>(
 /// The verdict on each of some beans.
 fn verdicts(
     alloc: Global,
-    beans: &[Effective],
+    beans: &[&Effective],
     name: &Name,
     rivals: Rivals,
 ) -> Result<Vec<Verdict>, AllocError>
-    ensures { IfOk result (λ list. list.items ≡ map (name_verdict_by name.now rivals) beans.now) }
+    ensures { IfOk result (λ list. list.items ≡ map (name_verdict_by name.now rivals) (lent_in beans.now)) }
 {
     let mut verdicts = Vec::with_capacity(alloc, beans.len())?;
     for bean in beans {

@@ -5,17 +5,17 @@ use Rattle.std.proofs.lemmas.List.{append-nil}
 use Rattle.std.proofs.lemmas.List.Elements.{filter-append}
 use Rattle.cdi_resolve.specs.declared.choice.Choice.{Choice}
 use Rattle.cdi_resolve.specs.declared.choice.Choice.TheVariants as choices
-use Rattle.cdi_effective.specs.declared.records.Effective.{Effective}
 use Rattle.cdi_faults.specs.declared.fault.Fault.{Fault}
 use Rattle.cdi_graph.specs.declared.edge.Edge.{Edge}
 use Rattle.cdi_graph.specs.declared.edge.Edge.TheVariants as edges
+use Rattle.cdi_graph.specs.declared.node.BeanNode.{BeanNode}
 use Rattle.cdi_graph.specs.declared.node.EventNode.{EventNode}
 use Rattle.cdi_graph.specs.declared.node.Node.{Node}
 use Rattle.cdi_graph.specs.declared.node.Node.TheVariants as nodes
 use Rattle.cdi_graph.specs.declared.node.PointId.{PointId}
 use Rattle.cdi_graph.specs.declared.plan.Wire.{Wire}
 use Rattle.cdi_graph.specs.Edges.{chosen, chosen_for, is_choice, is_owned, owned, point_of}
-use Rattle.cdi_graph.specs.Nodes.{bean_node, is_bean, is_point}
+use Rattle.cdi_graph.specs.Nodes.{is_bean, is_point}
 use Rattle.cdi_graph.specs.Red.{point_node}
 
 -- one that fails the test adds nothing to those that pass it
@@ -47,26 +47,26 @@ none-map p f fails [] = refl
 none-map p f fails (x ∷ xs) = rw (fails x) (none-map p f fails xs)
 
 -- of beans, points and interceptors behind each other
-pub points_among : (fs : List Fault) (beans : List Effective) (wires : List Wire) (names : List (List ℕ))
-    → filter is_point ((map bean_node beans ++ map (point_node fs) wires) ++ map nodes.Interceptor names) ≡ map (point_node fs) wires
+pub points_among : (fs : List Fault) (beans : List BeanNode) (wires : List Wire) (names : List (List ℕ))
+    → filter is_point ((map nodes.Bean beans ++ map (point_node fs) wires) ++ map nodes.Interceptor names) ≡ map (point_node fs) wires
 points_among fs beans wires names =
-    filter-append is_point (map bean_node beans ++ map (point_node fs) wires) (map nodes.Interceptor names)
-    ∙ ap (λ ys. filter is_point (map bean_node beans ++ map (point_node fs) wires) ++ ys) (none-map is_point nodes.Interceptor (λ n. refl) names)
+    filter-append is_point (map nodes.Bean beans ++ map (point_node fs) wires) (map nodes.Interceptor names)
+    ∙ ap (λ ys. filter is_point (map nodes.Bean beans ++ map (point_node fs) wires) ++ ys) (none-map is_point nodes.Interceptor (λ n. refl) names)
     ∙ append-nil _
-    ∙ filter-append is_point (map bean_node beans) (map (point_node fs) wires)
-    ∙ ap (λ ys. ys ++ filter is_point (map (point_node fs) wires)) (none-map is_point bean_node (λ b. refl) beans)
+    ∙ filter-append is_point (map nodes.Bean beans) (map (point_node fs) wires)
+    ∙ ap (λ ys. ys ++ filter is_point (map (point_node fs) wires)) (none-map is_point nodes.Bean (λ b. refl) beans)
     ∙ all-map is_point (point_node fs) (λ w. refl) wires
 
-pub beans_among : (fs : List Fault) (beans : List Effective) (wires : List Wire) (names : List (List ℕ))
-    → filter is_bean ((map bean_node beans ++ map (point_node fs) wires) ++ map nodes.Interceptor names) ≡ map bean_node beans
+pub beans_among : (fs : List Fault) (beans : List BeanNode) (wires : List Wire) (names : List (List ℕ))
+    → filter is_bean ((map nodes.Bean beans ++ map (point_node fs) wires) ++ map nodes.Interceptor names) ≡ map nodes.Bean beans
 beans_among fs beans wires names =
-    filter-append is_bean (map bean_node beans ++ map (point_node fs) wires) (map nodes.Interceptor names)
-    ∙ ap (λ ys. filter is_bean (map bean_node beans ++ map (point_node fs) wires) ++ ys) (none-map is_bean nodes.Interceptor (λ n. refl) names)
+    filter-append is_bean (map nodes.Bean beans ++ map (point_node fs) wires) (map nodes.Interceptor names)
+    ∙ ap (λ ys. filter is_bean (map nodes.Bean beans ++ map (point_node fs) wires) ++ ys) (none-map is_bean nodes.Interceptor (λ n. refl) names)
     ∙ append-nil _
-    ∙ filter-append is_bean (map bean_node beans) (map (point_node fs) wires)
-    ∙ ap (λ ys. filter is_bean (map bean_node beans) ++ ys) (none-map is_bean (point_node fs) (λ w. refl) wires)
+    ∙ filter-append is_bean (map nodes.Bean beans) (map (point_node fs) wires)
+    ∙ ap (λ ys. filter is_bean (map nodes.Bean beans) ++ ys) (none-map is_bean (point_node fs) (λ w. refl) wires)
     ∙ append-nil _
-    ∙ all-map is_bean bean_node (λ b. refl) beans
+    ∙ all-map is_bean nodes.Bean (λ b. refl) beans
 
 -- ---- edges
 

@@ -6,6 +6,7 @@ use Rattle.cdi_model.specs.declared.decl.Kind.{Kind}
 use Rattle.cdi_model.specs.declared.decl.Kind.TheVariants as kinds
 use Rattle.cdi_model.specs.declared.mention.PointPlace.{PointPlace}
 use Rattle.cdi_model.specs.declared.mention.PointPlace.TheVariants as places
+use Rattle.cdi_graph.specs.declared.node.BeanNode.{BeanNode}
 use Rattle.cdi_graph.specs.declared.node.Node.{Node}
 use Rattle.cdi_graph.specs.declared.node.Node.TheVariants as nodes
 use Rattle.cdi_graph.specs.declared.node.NodeId.{NodeId}
@@ -70,6 +71,6 @@ is_of_chain (ids.Point point) = is_interceptor point.owner.kind
 is_of_chain (ids.Interceptor name) = true
 is_of_chain (ids.Event place) = false
 
--- the node of a bean
-abbrev pub bean_node : Effective → Node
-bean_node bean = nodes.Bean (record { id = bean.id; scope = bean.scope; is_enabled = bean.is_enabled })
+-- what the node of a bean tells of it
+abbrev pub told_bean : Effective → BeanNode
+told_bean bean = record { id = bean.id; scope = bean.scope; is_enabled = bean.is_enabled }

@@ -1,7 +1,8 @@
 //! Graphs, and what of them to leave out.
 ghost use Rattle.std.specs.Prelude.{◌≡◌, filter, flat_map, map, not, IfOk};
 ghost use Rattle.cdi_graph.specs.Edges.{chosen, is_at, is_choice, is_owned, owned};
-ghost use Rattle.cdi_graph.specs.Nodes.{bean_node, id_of_node, is_bean, is_event, is_of_chain, is_point};
+ghost use Rattle.cdi_graph.specs.declared.node.Node.TheVariants as nodes_are;
+ghost use Rattle.cdi_graph.specs.Nodes.{id_of_node, is_bean, is_event, is_of_chain, is_point};
 ghost use Rattle.cdi_graph.specs.Red.{point_node};
 ghost use Rattle.cdi_graph.specs.RedLaws.{RedAreAtFault, UnsatisfiedAreAtFault};
 
@@ -29,7 +30,7 @@ pub fn graph_of(alloc: Global, plan: &Plan<'_>) -> Result<Graph, AllocError>
     ensures owned { IfOk result (λ graph. filter is_owned graph.edges.items ≡ map owned plan.now.wires.now) }
     ensures points { IfOk result (λ graph. filter is_point graph.nodes.items
         ≡ map (point_node plan.now.faults.now) plan.now.wires.now) }
-    ensures beans { IfOk result (λ graph. filter is_bean graph.nodes.items ≡ map bean_node plan.now.beans.now) }
+    ensures beans { IfOk result (λ graph. filter is_bean graph.nodes.items ≡ map nodes_are.Bean plan.now.beans.now) }
 {
     let sites = sites_of(alloc, plan.fired)?;
     Ok(Graph {

@@ -5,9 +5,9 @@ ghost use Rattle.cdi_graph.specs.Edges.{chosen, is_choice, is_owned, owned};
 use crate::edge::{Edge, managed};
 use crate::event::Site;
 use crate::making_nodes::point_of;
-use crate::node::{NodeId, PointId};
+use crate::node::{BeanNode, NodeId, PointId};
 use crate::plan::{Fired, Notified, Plan, Surrounded, Wire};
-use cdi_effective::{BeanId, Effective};
+use cdi_effective::BeanId;
 use cdi_model::{BeanPlace, Decl, DeclKey, Ident, Kind, PointPlace};
 use cdi_resolve::Choice;
 use indexmap::IndexSet;
@@ -57,7 +57,7 @@ fn push_other(edge: Edge, edges: &mut Vec<Edge>) -> Result<(), AllocError>
 }
 
 /// Adds the edges to products.
-fn add_products(beans: &[Effective], edges: &mut Vec<Edge>) -> Result<(), AllocError>
+fn add_products(beans: &[BeanNode], edges: &mut Vec<Edge>) -> Result<(), AllocError>
     ensures choices { OnOk result (filter is_choice edges.new.items ≡ filter is_choice edges.old.items) }
     ensures owned { OnOk result (filter is_owned edges.new.items ≡ filter is_owned edges.old.items) }
 {

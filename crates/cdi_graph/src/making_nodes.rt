@@ -2,7 +2,7 @@
 ghost use Rattle.std.specs.Prelude.{◌≡◌, ◌++◌, filter, map, IfOk, OnOk};
 ghost use Rattle.cdi_graph.specs.declared.node.Node.TheVariants as nodes_are;
 ghost use Rattle.cdi_graph.specs.Edges.{point_of};
-ghost use Rattle.cdi_graph.specs.Nodes.{bean_node, is_bean, is_point};
+ghost use Rattle.cdi_graph.specs.Nodes.{is_bean, is_point};
 ghost use Rattle.cdi_graph.specs.Red.{point_node, HoldsRed};
 ghost use Rattle.std.specs.Prelude.{List};
 ghost use Rattle.cdi_faults.specs.declared.fault.Fault.{Fault as AnyFault};
@@ -11,7 +11,6 @@ use crate::event::Site;
 use crate::node::{BeanNode, EventNode, Node, PointId, PointNode};
 use crate::plan::{Fired, Plan, Wire};
 use crate::red::Red;
-use cdi_effective::Effective;
 use cdi_model::{Decl, Kind, Name};
 use indexmap::IndexSet;
 use std::alloc::{AllocError, Global};
@@ -23,7 +22,7 @@ pub(crate) fn nodes_of(
     sites: &[Site],
 ) -> Result<Vec<Node>, AllocError>
     ensures points { IfOk result (λ nodes. filter is_point nodes.items ≡ map (point_node plan.now.faults.now) plan.now.wires.now) }
-    ensures beans { IfOk result (λ nodes. filter is_bean nodes.items ≡ map bean_node plan.now.beans.now) }
+    ensures beans { IfOk result (λ nodes. filter is_bean nodes.items ≡ map nodes_are.Bean plan.now.beans.now) }
 {
     let red = Red::of(alloc, plan.faults)?;
     let interceptors = interceptors(alloc, plan)?;
@@ -47,15 +46,11 @@ pub(crate) fn point_of(wire: &Wire<'_>) -> PointId
 }
 
 /// Adds the nodes of beans.
-fn add_beans(beans: &[Effective], nodes: &mut Vec<Node>) -> Result<(), AllocError>
-    ensures { OnOk result (nodes.new.items ≡ nodes.old.items ++ map bean_node beans.now) }
+fn add_beans(beans: &[BeanNode], nodes: &mut Vec<Node>) -> Result<(), AllocError>
+    ensures { OnOk result (nodes.new.items ≡ nodes.old.items ++ map nodes_are.Bean beans.now) }
 {
     for bean in beans {
-        nodes.push(Node::Bean(BeanNode {
-            id: bean.id,
-            scope: bean.scope,
-            is_enabled: bean.is_enabled,
-        }))?;
+        nodes.push(Node::Bean(*bean))?;
     }
     Ok(())
 }

@@ -1,9 +1,9 @@
 //! The nodes of a graph.
 ghost use Rattle.std.specs.Prelude.{◌≡◌};
-ghost use Rattle.cdi_graph.specs.Nodes.{id_of_node, is_event, is_of_chain, owner_of_point, producer_at};
+ghost use Rattle.cdi_graph.specs.Nodes.{id_of_node, is_event, is_of_chain, owner_of_point, producer_at, told_bean};
 ghost use Rattle.cdi_graph.specs.SamePoint.{same_place};
 
-use cdi_effective::BeanId;
+use cdi_effective::{BeanId, Effective};
 use cdi_model::{DeclKey, EventDecl, Ident, Kind, Name, PointPlace, Quals, Scope};
 use std::hash::{Hash, Hasher};
 
@@ -45,6 +45,19 @@ pub struct BeanNode {
     pub scope: Scope,
     /// Whether it can be chosen.
     pub is_enabled: bool,
+}
+
+impl BeanNode {
+    /// The node of a bean with this record.
+    pub fn of(bean: &Effective) -> BeanNode
+        ensures { result ≡ told_bean bean.now }
+    {
+        BeanNode {
+            id: bean.id,
+            scope: bean.scope,
+            is_enabled: bean.is_enabled,
+        }
+    }
 }
 
 /// An injection point.

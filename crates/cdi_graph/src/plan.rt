@@ -1,6 +1,6 @@
 //! What a graph is drawn of.
 
-use cdi_effective::Effective;
+use crate::node::BeanNode;
 use cdi_faults::Fault;
 use cdi_model::{BeanPlace, Decl, EventDecl, Ident, Name, PointDecl, PointPlace, Seq};
 use cdi_resolve::Choice;
@@ -44,11 +44,11 @@ pub struct Fired<'a> {
     pub observers: Seq<Notified>,
 }
 
-/// What a graph is drawn of: the bean list of a deployment, its points, its faults, its interceptors and its events.
+/// What a graph is drawn of: the beans of a deployment, its points, its faults, its interceptors and its events.
 #[derive(Clone, Copy)]
 pub struct Plan<'a> {
-    /// The beans, in the order of their declarations.
-    pub beans: &'a [Effective],
+    /// The beans, in the order of the bean list.
+    pub beans: &'a [BeanNode],
     /// The injection points with what is chosen for each.
     pub wires: &'a [Wire<'a>],
     pub faults: &'a [Fault],

@@ -52,14 +52,6 @@ module _ (n all : ℕ) (cs rest : List Change) (c : Change) (is : cs ≡ rest ++
     | inr between ↦ omega (arith, between.0, longer)
   ]
 
-  -- the slot of the last change is free
-  pub slot-free : kept_at shelf slot ≡ None
-  slot-free = by (kept_at shelf slot) refl
-    where
-      by : (o : Option Kept) → kept_at shelf slot ≡ o → o ≡ None
-      by None at = refl
-      by (Some e) at = absurd (apart e at)
-
   module _ (new : Shelf) (few : length cs ≤ all)
       (others : (s : ℕ) (e : Kept) → kept_at new s ≡ Some e → (s ≡ slot) ⊎ (kept_at shelf s ≡ Some e)) where
     -- those of the changes before it stay free

@@ -1,5 +1,5 @@
 -- The steps of loops over declarations, their words and their slots.
-use Rattle.std.proofs.Common.{◌≡◌, ◌<◌, ◌+◌, ◌⊎◌, ℕ, zero, suc, nat_eq, Bool, true, false, cond, ◌&&◌, ◌||◌, List, [], ◌∷◌, ◌++◌, length, map, take, get_or}
+use Rattle.std.proofs.Common.{◌≡◌, ◌<◌, ◌+◌, ◌⊎◌, ℕ, zero, suc, nat_eq, Bool, true, ◌&&◌, ◌||◌, List, [], ◌∷◌, ◌++◌, length, map, take, get_or}
 use Rattle.std.proofs.Common.{refl, sym, ap, ◌∙◌, inl, inr, Option, Some, None}
 use Rattle.std.specs.List.{list_any, slice_get}
 use Rattle.std.proofs.lemmas.Bool.{and_from, or_cases, or_left, or_right}
@@ -7,16 +7,13 @@ use Rattle.std.proofs.lemmas.List.{map-append, take_more}
 use Rattle.std.proofs.lemmas.List.Folds.{list_any_more}
 use Rattle.cdi_model.specs.declared.decl.Decl.{Decl}
 use Rattle.cdi_model.specs.declared.key.DeclKey.{DeclKey}
-use Rattle.cdi_model.specs.DeclKey.{same_key}
 use Rattle.cdi_postings.specs.declared.word.Word.{Word}
 use Rattle.cdi_postings.specs.Listing.{Listing, is_listed, Lists}
 use Rattle.cdi_postings.specs.Words.{same_word}
 use Rattle.cdi_index.specs.declared.change.Change.{Change}
 use Rattle.cdi_index.specs.declared.making.Made.{Made}
-use Rattle.cdi_index.specs.declared.shelf.Kept.{Kept}
-use Rattle.cdi_index.specs.Kept.{is_reader, is_reader_among, kept_at, Keeps}
-use Rattle.cdi_index.specs.declared.shelf.Shelf.{Shelf}
-use Rattle.cdi_index.specs.Made.{classes_have, has_word, keys_have, made_of, reads, words_have}
+use Rattle.cdi_index.specs.Kept.{Keeps}
+use Rattle.cdi_index.specs.Made.{classes_have, has_word, keys_have, made_of, words_have}
 use Rattle.cdi_index.specs.Next.{change_of}
 use Rattle.cdi_index.proofs.ShelfLemmas.{nat-same}
 
@@ -97,65 +94,3 @@ changes-next es keys i key made olds news lt at is pushed before =
     ∙ ap (λ k. map (change_of es) (take i keys) ++ change_of es k ∷ []) at
     ∙ sym (map-append (change_of es) (take i keys) (get_or keys i key ∷ []))
     ∙ ap (map (change_of es)) (sym (take_more keys i key lt))
-
--- ---- who reads
-
-pub affected-more : (old mid b s r : Bool) → mid ≡ (old || (b && s)) → (mid || r) ≡ (old || ((b && s) || r))
-affected-more old mid b s r is = ap (λ m. m || r) is ∙ assoc old (b && s) r
-  where
-    assoc : (x y z : Bool) → ((x || y) || z) ≡ (x || (y || z))
-    assoc true y z = refl
-    assoc false y z = refl
-
-or-again : (x y z : Bool) → ((x || y) || z) ≡ (x || (y || z))
-or-again true y z = refl
-or-again false y z = refl
-
-put-or : (b e : Bool) → cond e true b ≡ (b || e)
-put-or true true = refl
-put-or true false = refl
-put-or false true = refl
-put-or false false = refl
-
-or-false : (b : Bool) → b ≡ (b || false)
-or-false true = refl
-or-false false = refl
-
--- the declaration at one more slot is added where it reads the key, and nothing otherwise
-pub reader-next : (shelf : Shelf) (slots : List ℕ) (i : ℕ) (slot : ℕ) (key k : DeclKey) (first olds news : Bool)
-    → i < length slots → slot ≡ get_or slots i slot
-    → news ≡ (olds || is_reader (kept_at shelf slot) k key)
-    → olds ≡ (first || is_reader_among shelf (take i slots) k key)
-    → news ≡ (first || is_reader_among shelf (take (i + 1) slots) k key)
-reader-next shelf slots i slot key k first olds news lt at is before =
-    let p : ℕ → Bool = λ s. is_reader (kept_at shelf s) k key in
-    is ∙ ap (λ o. o || p slot) before ∙ or-again first (list_any p (take i slots)) (p slot)
-    ∙ ap (λ s. first || (list_any p (take i slots) || p s)) at
-    ∙ ap (λ b. first || b) (sym (list_any_more p slots i slot lt))
-
--- what is at the slot reads the key
-pub reader-put : (e : Kept) (kept : Option Kept) (k key : DeclKey) (olds news : Bool) → kept ≡ Some e
-    → reads (Some e.made) key ≡ true → news ≡ cond (same_key e.key k) true olds → news ≡ (olds || is_reader kept k key)
-reader-put e kept k key olds news at read put =
-    put ∙ put-or olds (same_key e.key k)
-    ∙ ap (λ b. olds || b) (and-true (same_key e.key k) ∙ ap (λ b. same_key e.key k && b) (sym read))
-    ∙ ap (λ o. olds || is_reader o k key) (sym at)
-  where
-    and-true : (b : Bool) → b ≡ (b && true)
-    and-true true = refl
-    and-true false = refl
-
--- it does not
-pub reader-not : (e : Kept) (kept : Option Kept) (k key : DeclKey) (olds : Bool) → kept ≡ Some e → reads (Some e.made) key ≡ false
-    → olds ≡ (olds || is_reader kept k key)
-reader-not e kept k key olds at read =
-    or-false olds ∙ ap (λ b. olds || b) (and-false (same_key e.key k) ∙ ap (λ b. same_key e.key k && b) (sym read))
-    ∙ ap (λ o. olds || is_reader o k key) (sym at)
-  where
-    and-false : (b : Bool) → false ≡ (b && false)
-    and-false true = refl
-    and-false false = refl
-
--- nothing is at the slot
-pub reader-none : (kept : Option Kept) (k key : DeclKey) (olds : Bool) → kept ≡ None → olds ≡ (olds || is_reader kept k key)
-reader-none kept k key olds none = or-false olds ∙ ap (λ o. olds || is_reader o k key) (sym none)

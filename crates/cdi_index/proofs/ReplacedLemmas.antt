@@ -225,10 +225,6 @@ any-map p f (x ∷ xs) = ap (λ b. p (f x) || b) (any-map p f xs)
 any-key : (p : DeclKey → Bool) (ks : List DeclKey) (k : DeclKey) → list_any (same_key k) ks ≡ true → p k ≡ true → list_any p ks ≡ true
 any-key p ks k among h = any-more (same_key k) p ks (λ l same. ap p (sym (key_exact k l same)) ∙ h) among
 
-none-any : {X : Type 0} (p : X → Bool) (xs : List X) (x : X) (q : X → Bool) → list_any p xs ≡ false → list_any q xs ≡ true
-    → ((y : X) → q y ≡ true → p y ≡ true) → ⊥
-none-any p xs x q none some h = false≢true (sym none ∙ any-more q p xs h some)
-
 module _ (ds es : List Decl) (ks : List DeclKey) (shelf : Shelf) (listings : List Listing) (distinct : AreDistinct ds) (apart : AreDistinct es)
     (is : IsShelf shelf) (exact : IsExact ds (stored shelf)) (sound : IsSound (stored shelf) listings)
     (others : (k : DeclKey) → list_any (same_key k) ks ≡ false → made_of es k ≡ made_of ds k) where

@@ -1,5 +1,5 @@
 -- What is kept at slots, where one is taken out or put in.
-use Rattle.std.proofs.Common.{◌≡◌, ◌⊎◌, ℕ, nat_eq, Bool, true, false, cond, Option, Some, None, option_map, refl, sym, ap, ◌∙◌, inl, inr}
+use Rattle.std.proofs.Common.{◌≡◌, ℕ, nat_eq, Bool, true, false, cond, Option, Some, None, option_map, refl, sym, ap, ◌∙◌}
 use Rattle.std.proofs.Common.{Result, Ok, Err}
 use Rattle.std.specs.Result.{IsOk, OnOk}
 use Rattle.std.proofs.lemmas.Bool.{false≢true, eqb-true}
@@ -100,13 +100,6 @@ module _ (f f' : Slots) (g g' : Entries) (key : DeclKey) (slot : ℕ) (entry : K
       by true e none = absurd (let no : None ≡ Some s = none in cc)
       by false e some = ap (option_map (λ (e : Kept). e.key)) (left s ∙ ap (λ b. cond b None (g s)) (other-slot k s e some)) ∙ owns k s some
 
-  pub take-others : (s : ℕ) (e : Kept) → g' s ≡ Some e → g s ≡ Some e
-  take-others s e h = by (nat_eq slot s) (sym (left s) ∙ h)
-    where
-      by : (b : Bool) → cond b None (g s) ≡ Some e → g s ≡ Some e
-      by true none = absurd (let no : None ≡ Some e = none in cc)
-      by false some = some
-
   pub take-owned : IsOwned f' g'
   take-owned s e h = by (nat_eq slot s) refl (sym (left s) ∙ h)
     where
@@ -120,12 +113,6 @@ module _ (f f' : Slots) (g g' : Entries) (key : DeclKey) (slot : ℕ) (entry : K
               let slots : slot ≡ s = cc in
               absurd (false≢true (sym is ∙ ap (nat_eq slot) (sym slots) ∙ nat-same slot))
           here false apart = taken e.key ∙ ap (λ b. cond b None (f e.key)) apart ∙ owned s e some
-
-  pub take-gone : f' key ≡ None
-  take-gone = taken key ∙ ap (λ b. cond b None (f key)) (same_key_equiv.refl key)
-
-  pub take-is : Some (slot, entry.made) ≡ stored_at g (f key)
-  take-is = sym (ap (stored_at g) at ∙ ap (option_map {U = Stored} (λ e. (slot, e.made))) there)
 
 -- ---- put in
 
@@ -167,13 +154,6 @@ module _ (f f' : Slots) (g g' : Entries) (key : DeclKey) (slot : ℕ) (made : Ma
           let same : slot ≡ s = cc in
           ap (option_map (λ (e : Kept). e.key)) (ap g' (sym same) ∙ there-now) ∙ ap Some (key_exact key k e)
       by false e at = ap (option_map (λ (e : Kept). e.key)) (stays-at k s at) ∙ owns k s at
-
-  pub put-others : (s : ℕ) (e : Kept) → g' s ≡ Some e → (s ≡ slot) ⊎ (g s ≡ Some e)
-  put-others s e h = by (nat_eq slot s) refl (sym (kept s) ∙ h)
-    where
-      by : (b : Bool) → nat_eq slot s ≡ b → cond b (Some entry) (g s) ≡ Some e → (s ≡ slot) ⊎ (g s ≡ Some e)
-      by true is some = inl (sym (eqb-true slot s is))
-      by false is some = inr some
 
   pub put-owned : IsOwned f' g'
   put-owned s e h = by (nat_eq slot s) refl (sym (kept s) ∙ h)

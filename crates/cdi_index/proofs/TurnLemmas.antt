@@ -1,7 +1,6 @@
 -- Turns that are taken over one after another, and those of some beans.
-use Rattle.std.proofs.Common.{◌≡◌, ◌<◌, ◌+◌, ℕ, Bool, true, false, cond, ◌||◌, List, [], ◌∷◌, ◌++◌, length, map, take, get_or, Option, refl, sym, ap, ◌∙◌}
+use Rattle.std.proofs.Common.{◌≡◌, ◌+◌, Bool, true, false, cond, ◌||◌, List, [], ◌∷◌, ◌++◌, map, Option, refl, sym, ap, ◌∙◌}
 use Rattle.std.specs.List.{list_any}
-use Rattle.std.proofs.lemmas.List.{map-append, take_more}
 use Rattle.cdi_model.specs.declared.key.DeclKey.{DeclKey}
 use Rattle.cdi_model.specs.DeclKey.{same_key, same_key_equiv}
 use Rattle.cdi_model.proofs.EntryLemmas.{key_exact}
@@ -42,13 +41,3 @@ turned-all after (l ∷ ks) f k = by (same_key l k) refl (turned-all after ks f 
     by true e more = ap after (key_exact l k e)
         ∙ ap (λ c. cond (c || list_any (same_key k) ks) (after k) (f k)) (sym (same_key_equiv.symm k l ∙ e))
     by false e more = more ∙ ap (λ c. cond (c || list_any (same_key k) ks) (after k) (f k)) (sym (same_key_equiv.symm k l ∙ e))
-
--- one more turn
-pub turns-next : (after : RecordsOf) (ks : List DeclKey) (i : ℕ) (k : DeclKey) (olds news : List Turn) → i < length ks
-    → k ≡ get_or ks i k → news ≡ olds ++ turn_to after k ∷ [] → olds ≡ map (turn_to after) (take i ks)
-    → news ≡ map (turn_to after) (take (i + 1) ks)
-turns-next after ks i k olds news lt at pushed before =
-    pushed ∙ ap (λ ts. ts ++ turn_to after k ∷ []) before
-    ∙ ap (λ l. map (turn_to after) (take i ks) ++ turn_to after l ∷ []) at
-    ∙ sym (map-append (turn_to after) (take i ks) (get_or ks i k ∷ []))
-    ∙ ap (map (turn_to after)) (sym (take_more ks i k lt))

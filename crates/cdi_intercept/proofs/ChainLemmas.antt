@@ -1,8 +1,7 @@
 -- Which interceptors are in order, and where they stand.
-use Rattle.std.proofs.Common.{◌≡◌, ℕ, zero, suc, Bool, true, false, not, ◌&&◌, ◌||◌, cond, List, [], ◌∷◌, ◌++◌, map, filter, length}
-use Rattle.std.proofs.Common.{Some, is_some, option_map, nat_eq, refl, sym, ap, subst, ◌∙◌, inl, inr}
-use Rattle.std.specs.List.{AllByRecursion, list_all, list_any, slice_get}
-use Rattle.std.proofs.Math.Bool.{and-false}
+use Rattle.std.proofs.Common.{◌≡◌, ℕ, zero, suc, Bool, true, false, not, ◌||◌, cond, List, [], ◌∷◌, ◌++◌, map, filter}
+use Rattle.std.proofs.Common.{Some, option_map, refl, sym, ap, subst, ◌∙◌, inl, inr}
+use Rattle.std.specs.List.{AllByRecursion, list_any, slice_get}
 use Rattle.std.proofs.lemmas.Bool.{cases_Bool}
 use Rattle.std.proofs.lemmas.Option.{none-some, same_Some, slice_get-map}
 use Rattle.cdi_model.specs.declared.decl.BeanDecl.{BeanDecl}
@@ -15,7 +14,7 @@ use Rattle.cdi_model.specs.declared.decl.ProducerDecl.{ProducerDecl}
 use Rattle.cdi_model.specs.declared.place.BeanPlace.{BeanPlace}
 use Rattle.cdi_model.specs.declared.place.BeanPlace.TheVariants as places
 use Rattle.cdi_model.specs.declared.quals.Qual.{Qual}
-use Rattle.cdi_intercept.specs.Chains.{covered_in, in_order, interceptors, is_before, is_enabled, part_for, surrounds, surrounds_one}
+use Rattle.cdi_intercept.specs.Chains.{in_order, interceptors, is_before, is_enabled, surrounds, surrounds_one}
 use Rattle.cdi_intercept.specs.Sets.{methods_of, producers_of, observers_of, places_of, set_by, sets_of}
 use Rattle.cdi_intercept.proofs.OrderLemmas.{all_sorted}
 
@@ -56,15 +55,6 @@ in_order-declared ds q i at =
     let found : InterceptorDecl → Type 0 = λ j. IsDeclared ds j × (is_enabled j ≡ true) in
     let enabled = filter is_enabled (interceptors ds) in
     all-at found _ q i (all_sorted found is_before enabled (all-kept (IsDeclared ds) is_enabled (interceptors ds) (all-declared ds))) at
-
--- ---- where there is no binding none stands
-
-none-covered : (ds : List Decl) (bindings : List Qual) → (not (nat_eq (length bindings) 0) && list_all (covered_in ds []) bindings) ≡ false
-none-covered ds [] = refl
-none-covered ds (b ∷ bs) = and-false (not (nat_eq (length (b ∷ bs)) 0))
-
-pub none_surround : (ds : List Decl) (place : BeanPlace) (i : InterceptorDecl) → surrounds ds [] place i ≡ false
-none_surround ds place i = ap (λ b. is_some (part_for place i) && b) (none-covered ds i.bindings) ∙ and-false (is_some (part_for place i))
 
 -- ---- one that stands around a place of a bean stands around some place of it
 

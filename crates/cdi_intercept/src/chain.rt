@@ -2,9 +2,10 @@
 ghost use Rattle.std.specs.Prelude.{◌≡◌, filter, map, IfOk};
 ghost use Rattle.std.specs.List.{list_all};
 ghost use Rattle.cdi_match.specs.Bindings.{uses_in};
-ghost use Rattle.cdi_intercept.specs.Chains.{around_any, binds, chain_by, covered_in, in_order, interceptors, is_enabled};
+ghost use Rattle.cdi_intercept.specs.Chains.{around_any, binds, chain_by, covered_in, in_order, interceptors, is_before, is_enabled};
 ghost use Rattle.cdi_intercept.specs.Chains.{part_for, surrounds, surrounds_one};
 ghost use Rattle.cdi_intercept.specs.Lent.{lent_in, uses_at};
+ghost use Rattle.cdi_intercept.specs.Sorting.{sorted_by};
 
 use crate::set::sets_of;
 use cdi_match::covers;
@@ -13,10 +14,20 @@ use std::alloc::{AllocError, Global};
 
 /// The interceptors that are enabled by their priorities, from the least on, and those of one priority in the order of
 /// their declarations. It takes memory for the list, and for sorting it where there are more than 20.
+#[tactic(auto, unfolding(crate::specs::Chains::in_order))]
 pub fn in_order<'a>(alloc: Global, decls: &'a Decls) -> Result<Vec<&'a InterceptorDecl>, AllocError>
     ensures { IfOk result (λ list. lent_in list.items ≡ in_order decls.now) }
 {
-    let mut list = enabled(alloc, decls)?;
+    sorted_by_priority(enabled(alloc, decls)?)
+}
+
+/// Interceptors from the least priority on, and those of one priority as they were. It takes memory where there are more
+/// than 20.
+pub fn sorted_by_priority(
+    mut list: Vec<&InterceptorDecl>,
+) -> Result<Vec<&InterceptorDecl>, AllocError>
+    ensures { IfOk result (λ sorted. lent_in sorted.items ≡ sorted_by is_before (lent_in list.entry.items)) }
+{
     list.sort_by_key(|interceptor| interceptor.priority)?;
     Ok(list)
 }

@@ -377,12 +377,6 @@ shared-spare K scope d s r e =
     let y = last_of_all (IsAlone s.live) (is_of scope) s.live d (all-alone 0 s.given s.live r) e in
     alone-spare K s.live y.0 d y.1 y.3 (outside-context K scope y.0.owner y.2)
 
-outside-fewer : (K : ℕ → Type 0) (n : ℕ) (o : Owner) → Outside K o → Outside (Others K n) o
-outside-fewer K n (Point m actor p) out = λ k. out k.0
-outside-fewer K n Request out = tt
-outside-fewer K n Application out = tt
-outside-fewer K n Nobody out = tt
-
 -- what ends leaves such instances with their dependent objects
 pub ends_furnished : {s : Scene} (K : ℕ → Type 0) {e : End} {m m' : Moment} → Ends s e m m' → Rises m.standing
     → Spares K e m.standing.live

@@ -15,7 +15,6 @@ use Rattle.cdi_bodies.specs.declared.act.Act.{Act}
 use Rattle.cdi_bodies.specs.declared.act.Act.TheVariants.{Call, Fire, Proceed}
 use Rattle.cdi_contexts.specs.Owned.{context_of}
 use Rattle.cdi_contexts.specs.Standing.{IsFull, found, made_for, own_state}
-use Rattle.cdi_contexts.specs.declared.instance.Actor.{Actor}
 use Rattle.cdi_contexts.specs.declared.instance.Actor.TheVariants.{Target, Interceptor}
 use Rattle.cdi_contexts.specs.declared.instance.Instance.{Instance}
 use Rattle.cdi_contexts.specs.declared.instance.InstanceId.{InstanceId}
@@ -49,11 +48,6 @@ use Rattle.cdi_legal.specs.declared.entry.Made.TheVariants.{Instance as Obtained
 
 -- ---- words
 
-abbrev pub is_request : Scope → Bool
-is_request scopes.Request = true
-is_request scopes.Dependent = false
-is_request scopes.Application = false
-
 -- the scope is that of requests, and none is active
 pub record IsInactive (scope : Scope) (m : Moment) : Type 0 where
   pub request : scope ≡ scopes.Request
@@ -86,10 +80,6 @@ produced scope (Failed f) = Failed f
 
 abbrev pub answered : Outcome → Bool → Answered
 answered o returned = record { outcome = o; has_returned = returned }
-
-abbrev pub is_own : Actor → Bool
-is_own Target = true
-is_own (Interceptor q) = false
 
 -- no ready instance of the bean stands in the context of its scope
 pub record IsAbsent (b : ℕ) (scope : Scope) (m : Moment) : Type 0 where

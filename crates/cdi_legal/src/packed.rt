@@ -337,6 +337,7 @@ impl Packed {
     }
 
     /// An entry.
+    #[inline(always)]
     pub(crate) fn of(entry: Entry) -> Packed
         ensures { entry_of result ≡ entry }
     {

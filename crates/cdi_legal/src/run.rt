@@ -93,6 +93,7 @@ impl Run {
     }
 
     /// Pushes an entry that begins no instance, and does to the contexts what it says. It takes no memory where there is room.
+    #[inline(always)]
     pub fn note(&mut self, entry: Entry) -> Result<(), AllocError>
         requires { is_create entry ≡ false }
         ensures ok { OnOk result (self.new.moment ≡ put entry self.old.moment) }

@@ -48,6 +48,7 @@ impl Trace {
     }
 
     /// Appends an entry. It takes no memory where there is room; an error leaves all entries as they were.
+    #[inline(always)]
     pub(crate) fn push(&mut self, entry: Entry) -> Result<(), AllocError>
         ensures ok { OnOk result (self.new.entries ≡ self.old.entries ++ entry ∷ []) }
         ensures err { OnErr result (self.new.entries ≡ self.old.entries) }

@@ -9,7 +9,6 @@ use Rattle.std.proofs.lemmas.List.Folds.{list_any-append}
 use Rattle.cdi_model.specs.declared.decl.BeanDecl.{BeanDecl}
 use Rattle.cdi_model.specs.declared.decl.Decl.{Decl}
 use Rattle.cdi_model.specs.declared.decl.Decl.TheVariants as decls
-use Rattle.cdi_model.specs.declared.decl.Kind.{Kind}
 use Rattle.cdi_model.specs.declared.decl.Kind.TheVariants as kinds
 use Rattle.cdi_model.specs.declared.decl.ObserverDecl.{ObserverDecl}
 use Rattle.cdi_model.specs.declared.decl.UseKind.TheVariants as uses
@@ -60,7 +59,7 @@ use Rattle.cdi_stakes.specs.Words.{names_under, types_observed}
 use Rattle.cdi_stakes.proofs.EventLemmas.{event_by_words, observers_by_declaration, observers_of}
 use Rattle.cdi_stakes.proofs.PresentLemmas.{all_present, each_all, found_any, witness}
 use Rattle.cdi_stakes.proofs.UseLemmas.{read_same}
-use Rattle.cdi_live.specs.EventCompared.{observer_in}
+use Rattle.cdi_observe.specs.Lent.{observer_in}
 use Rattle.cdi_live.specs.EventSuspects.{concerned_types, event_types, fired_at, fired_in, fired_types, is_fired, is_suspect, may_have, may_have_one}
 use Rattle.cdi_live.specs.EventSuspects.{observed_at, observed_by_key, observed_of, uses_edited, word_edited, words_edited}
 use Rattle.cdi_live.specs.Suspects.{holds}
@@ -111,21 +110,6 @@ same-passing : (p : List ℕ → Bool) (xs ys : List (List ℕ)) → ((x : List 
 same-passing p xs ys same = same-bool (list_any p xs) (list_any p ys)
     (λ h. let it = chosen p xs h in any_chosen p ys it.0 (sym (same it.0) ∙ is-held xs it.0 ∙ it.1) it.2)
     (λ h. let it = chosen p ys h in any_chosen p xs it.0 (sym (is-held xs it.0) ∙ same it.0 ∙ it.1) it.2)
-
--- ---- keys of types
-
--- the key of a type is one just where its name is
-pub type-key : (k : DeclKey) (t : List ℕ) → k.kind ≡ kinds.Type → same_key k (key_at kinds.Type t) ≡ bytes_eq k.name t
-type-key k t is = ap (λ kind. same_key (key_at kind k.name) (key_at kinds.Type t)) is
-
--- another is none
-pub no-type-key : (kind : Kind) (name t : List ℕ) → (kind ≡ kinds.Type → ⊥) → same_key (key_at kind name) (key_at kinds.Type t) ≡ false
-no-type-key kinds.Type name t other = absurd (other refl)
-no-type-key kinds.Qualifier name t other = refl
-no-type-key kinds.Binding name t other = refl
-no-type-key kinds.Stereotype name t other = refl
-no-type-key kinds.Bean name t other = refl
-no-type-key kinds.Interceptor name t other = refl
 
 -- ---- what is computed are the suspects
 

@@ -85,24 +85,6 @@ module _ (ds es : List Decl) (m new : Chains) (list : List GoneChain) (gone : Ar
       seen-chain (sees_at ds class place) (sees_at es class place) ((touched_where_seen_differs ds es (ChainKey class place)).0 parts.1) in
       there.1 ∙ ap Ok (sym (told_rests_on_seen ds es class place names there.0 seen (right class place names (sym it.same ∙ kept)) there.1))
 
-  pub known-chain : (class : List ℕ) (place : BeanPlace) → is_kept_chain new class place ≡ (is_kept_chain m class place && stays ds es class place)
-  known-chain class place = by (answer same_place m class place) refl (is_gone_chain list class place) refl
-    where
-      by : (o : Option (List (List ℕ))) → answer same_place m class place ≡ o → (b : Bool) → is_gone_chain list class place ≡ b
-          → is_kept_chain new class place ≡ (is_kept_chain m class place && stays ds es class place)
-      by None e true f = ap is_some (forgets class place) ∙ ap (λ b. is_some (if b then None else answer same_place m class place)) f
-          ∙ ap (λ o. is_some o && stays ds es class place) (sym e)
-      by None e false f = ap is_some (forgets class place) ∙ ap (λ b. is_some (if b then None else answer same_place m class place)) f
-          ∙ ap is_some e ∙ ap (λ o. is_some o && stays ds es class place) (sym e)
-      by (Some c) e b f =
-          ap is_some (forgets class place) ∙ ap (λ o. is_some (if is_gone_chain list class place then None else o)) e
-          ∙ ap (λ b. is_some (if b then None else Some c)) (gone class place (ap is_some e)) ∙ turned (stays ds es class place)
-          ∙ ap (λ o. is_some o && stays ds es class place) (sym e)
-        where
-          turned : (b : Bool) → is_some (if not b then None else Some c) ≡ b
-          turned true = refl
-          turned false = refl
-
 -- ---- after an evaluation
 
 module _ (ds : List Decl) (m new : Chains) (class : List ℕ) (place : BeanPlace) (names : List (List ℕ))

@@ -29,18 +29,18 @@ use Rattle.cdi_resolve.specs.declared.choice.Choice.{Choice}
 use Rattle.cdi_resolve.specs.Choices.{chosen, eligible}
 use Rattle.cdi_resolve.specs.Sees.{sees, Seen}
 use Rattle.cdi_resolve.proofs.SeenLemmas.{choice_rests_on_seen}
-use Rattle.cdi_seen.specs.Touched.{is_touched, still_known, ByChoice, ByEvent}
+use Rattle.cdi_seen.specs.Touched.{is_touched, ByChoice, ByEvent}
 use Rattle.cdi_seen.proofs.SameLemmas.{touched_where_seen_differs}
 use Rattle.cdi_live.specs.ChainGone.{Chains}
 use Rattle.cdi_live.specs.EventCompared.{Events}
 use Rattle.cdi_live.specs.Gone.{is_gone}
 use Rattle.cdi_live.specs.Kept.{AreGoing, Forgets}
 use Rattle.cdi_index.specs.State.{committed as index_committed, committed_to, State as IndexState}
-use Rattle.cdi_live.specs.State.{knows_in, AreKept, AreRight, HasDefault, IsDefaultOrNone, IsGoing, IsLive, KeepsNone, MayGo}
+use Rattle.cdi_live.specs.State.{knows_in, AreKept, AreRight, HasDefault, IsDefaultOrNone, IsGoing, IsLive, MayGo}
 use Rattle.cdi_live.specs.declared.gone.Gone.{Gone}
 use Rattle.cdi_live.specs.declared.memos.Going.{Going}
 use Rattle.cdi_live.specs.declared.memos.Memos.{Memos}
-use Rattle.cdi_live.proofs.LiveChainLemmas.{known-chain, known-chain-with, places-after, places-with, right-chains-after, right-chains-with}
+use Rattle.cdi_live.proofs.LiveChainLemmas.{known-chain-with, places-after, places-with, right-chains-after, right-chains-with}
 
 abbrev pub Choices : Type 0
 Choices = Answers (List Qual) Choice
@@ -93,24 +93,6 @@ module _ {A : Type 0} (key : List ℕ → List Qual → Key) (value : List Decl 
 
     wanted-after : Wanted es new
     wanted-after t us there = (and_parts (is_wanted es (key t us)) (not (is_touched ds es (key t us))) (stays t us there).stays_it).0
-
-    known-after : (t : List ℕ) (us : List Qual) → kept new t us ≡ (kept m t us && staying ds es t us)
-    known-after t us = by (answer same_quals m t us) refl (is_gone list t us) refl
-      where
-        by : (o : Option A) → answer same_quals m t us ≡ o → (b : Bool) → is_gone list t us ≡ b
-            → kept new t us ≡ (kept m t us && staying ds es t us)
-        by None e true f = ap is_some (forgets t us) ∙ ap (λ b. is_some (if b then None else answer same_quals m t us)) f
-            ∙ ap (λ o. is_some o && staying ds es t us) (sym e)
-        by None e false f = ap is_some (forgets t us) ∙ ap (λ b. is_some (if b then None else answer same_quals m t us)) f ∙ ap is_some e
-            ∙ ap (λ o. is_some o && staying ds es t us) (sym e)
-        by (Some c) e b f =
-            ap is_some (forgets t us) ∙ ap (λ o. is_some (if is_gone list t us then None else o)) e
-            ∙ ap (λ b. is_some (if b then None else Some c)) (gone t us (ap is_some e)) ∙ turned (staying ds es t us)
-            ∙ ap (λ o. is_some o && staying ds es t us) (sym e)
-          where
-            turned : (b : Bool) → is_some (if not b then None else Some c) ≡ b
-            turned true = refl
-            turned false = refl
 
   -- after an evaluation
   module _ (ds : List Decl) (m new : Answers (List Qual) A) (t : List ℕ) (us : List Qual) (a : A)
@@ -188,14 +170,6 @@ module _ (ds es : List Decl) (memos new : Memos) (going : Going) (are : AreGoing
     };
   }
 
-  pub known-after-commit : (k : Key) → knows_in new k ≡ still_known ds es (knows_in memos) k
-  known-after-commit (ChoiceKey t us) =
-      known-after ChoiceKey choice_of ds es (same-choice ds es) memos.choices new.choices going.choices.items are.choices forgets.choices t us
-  known-after-commit (ChainKey class place) =
-      known-chain ds es memos.chains new.chains going.chains.items are.chains forgets.chains class place
-  known-after-commit (EventKey t us) =
-      known-after EventKey ids_of ds es (same-ids ds es) memos.events new.events going.events.items are.events forgets.events t us
-
 none-either : (b : Bool) (o : Option Choice) → o ≡ None → (if b then None else o) ≡ None
 none-either true o h = refl
 none-either false o h = h
@@ -222,10 +196,6 @@ live-after index after memos new by_default before now going live was none is fo
     }
 
 -- ---- an evaluation
-
-required-again : (us : List Qual) → required (required us) ≡ required us
-required-again [] = refl
-required-again (u ∷ us) = refl
 
 -- a choice by what is required is the choice
 pub chosen-by-required : (ds : List Decl) (t : List ℕ) (us : List Qual) → choice_of ds t (required us) ≡ choice_of ds t us
@@ -324,18 +294,9 @@ module _ (ds : List Decl) (memos : Memos) (new : Chains) (class : List ℕ) (pla
     };
   }
 
--- `Default` where it is there, or none
-pub has-one : (us : List Qual) (m : Choices) → HasDefault us m → IsDefaultOrNone us
-has-one us m (inl is) = inl is
-has-one us m (inr nothing) = inr nothing.0
-
 pub default-there : (us : List Qual) → IsDefaultOrNone us → (length us == 0) ≡ false → us ≡ default_use ∷ []
 default-there us (inl is) some = is
 default-there us (inr none) some = absurd (let no : true ≡ false = ap (λ (l : List Qual). length l == 0) (sym none) ∙ some in cc)
-
-pub none-there : (us : List Qual) (m : Choices) → HasDefault us m → (length us == 0) ≡ true → KeepsNone m
-none-there us m (inl is) none = absurd (let no : false ≡ true = ap (λ (l : List Qual). length l == 0) (sym is) ∙ none in cc)
-none-there us m (inr nothing) none = nothing.1
 
 -- what is made where none is there
 pub made-default : (us : List Qual) (now : List Qual) → (length us == 0) ≡ true → now ≡ put_use us default_use → now ≡ default_use ∷ []

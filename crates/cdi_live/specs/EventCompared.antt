@@ -3,21 +3,16 @@ use Rattle.std.specs.Prelude.{◌≡◌, ℕ, Bool, ◌&&◌, List}
 use Rattle.std.specs.List.{list_any}
 use Rattle.std.specs.Str.{bytes_eq}
 use Rattle.cdi_model.specs.SameUse.{same_quals}
-use Rattle.cdi_model.specs.declared.decl.BeanDecl.{BeanDecl}
 use Rattle.cdi_model.specs.declared.decl.Decl.{Decl}
-use Rattle.cdi_model.specs.declared.decl.ObserverDecl.{ObserverDecl}
 use Rattle.cdi_model.specs.declared.quals.Qual.{Qual}
 use Rattle.cdi_effective.specs.Beans.{beans}
 use Rattle.cdi_memo.specs.Answers.{parts_under, Answers}
 use Rattle.cdi_observe.specs.declared.observers.ObserverId.{ObserverId}
 use Rattle.cdi_observe.specs.Keys.{EventKey}
-use Rattle.cdi_observe.specs.Observers.{Observer, observing}
-use Rattle.cdi_seen.specs.Lent.{lent_in}
+use Rattle.cdi_observe.specs.Lent.{lent_in}
+use Rattle.cdi_observe.specs.Observers.{observing}
 use Rattle.cdi_seen.specs.Touched.{is_touched}
 use Rattle.cdi_live.specs.declared.event_compare.Observed.{Observed}
-
-abbrev pub observer_in : BeanDecl → ObserverDecl → Observer
-observer_in bean method = record { bean = bean; method = method }
 
 -- the observer methods that are kept of events
 abbrev pub Events : Type 0

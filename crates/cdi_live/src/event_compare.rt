@@ -10,15 +10,14 @@ ghost use Rattle.cdi_postings.specs.declared.word.Reason.TheVariants as reasons;
 ghost use Rattle.cdi_postings.specs.Words.{word_at};
 ghost use Rattle.cdi_index.specs.Under.{observes_one, records_at};
 ghost use Rattle.cdi_observe.specs.Keys.{EventKey};
+ghost use Rattle.cdi_observe.specs.Lent.{lent_in};
 ghost use Rattle.cdi_observe.specs.Observers.{observing};
-ghost use Rattle.cdi_seen.specs.Lent.{lent_in};
 ghost use Rattle.cdi_seen.specs.Touched.{is_touched};
 ghost use Rattle.cdi_live.specs.Compared.{IsBetween};
 ghost use Rattle.cdi_live.specs.EventCompared.{is_touched_among, is_touched_of, AreObserved};
 ghost use Rattle.cdi_live.specs.Gone.{is_gone};
 
 use crate::compare::positions_after;
-use crate::event_observers::observers_in_order;
 use crate::gone::{Gone, push_gone};
 use crate::sides::Sides;
 use cdi_effective::Effective;
@@ -26,10 +25,10 @@ use cdi_index::{Index, NextIndex};
 use cdi_match::closure;
 use cdi_memo::Memo;
 use cdi_model::{Name, Quals, Seq};
-use cdi_observe::ObserverId;
+use cdi_observe::{LentObserver, ObserverId, observers_in_order, push_records};
 use cdi_positions::PositionSet;
 use cdi_postings::{Reason, Word};
-use cdi_seen::{LentObserver, is_event_touched};
+use cdi_seen::is_event_touched;
 use std::alloc::{AllocError, Global};
 
 // ---- before
@@ -97,19 +96,6 @@ fn positions_observing(
     let words = words_observed(alloc, types)?;
     let before = sides.index.positions_under(&words);
     Ok(positions_after(sides, &before, &words))
-}
-
-/// Appends some records.
-fn push_records<'a>(
-    records: &'a [Effective],
-    list: &mut Vec<&'a Effective>,
-) -> Result<(), AllocError>
-    ensures { OnOk result (map (λ bean. bean.now) list.new.items ≡ map (λ bean. bean.now) list.old.items ++ records.now) }
-{
-    for bean in records {
-        list.push(bean)?;
-    }
-    Ok(())
 }
 
 /// The beans after the draft of the declarations at some positions, in order.

@@ -1,13 +1,12 @@
 //! The interceptors that a chain sees, by the words of their bindings.
 ghost use Rattle.std.specs.Prelude.{◌≡◌, ◌++◌, false, Some, [], filter, flat_map, slice_get, IfOk, OnOk};
-ghost use Rattle.cdi_intercept.specs.Chains.{in_order, is_before};
+ghost use Rattle.cdi_intercept.specs.Chains.{in_order};
 ghost use Rattle.cdi_intercept.specs.Lent.{lent_in};
 ghost use Rattle.cdi_intercept.specs.Sees.{is_seen};
-ghost use Rattle.cdi_intercept.specs.Sorting.{sorted_by};
 ghost use Rattle.cdi_positions.specs.Marks.{is_marked, marked_from};
 ghost use Rattle.cdi_live.specs.ChainGone.{enabled_at, enabled_in, words_bound};
 
-use cdi_intercept::seen_around;
+use cdi_intercept::{seen_around, sorted_by_priority};
 use cdi_model::{BeanPlace, Decl, Decls, InterceptorDecl, Qual};
 use cdi_positions::PositionSet;
 use cdi_postings::{Reason, Word};
@@ -55,14 +54,6 @@ fn enabled_at<'a>(
     Ok(list)
 }
 
-/// The same, from the least priority on.
-fn in_order(mut list: Vec<&InterceptorDecl>) -> Result<Vec<&InterceptorDecl>, AllocError>
-    ensures { IfOk result (λ sorted. lent_in sorted.items ≡ sorted_by is_before (lent_in list.entry.items)) }
-{
-    list.sort_by_key(|interceptor| interceptor.priority)?;
-    Ok(list)
-}
-
 /// The interceptors that the chain around a place with some bindings sees, in order, where those at no other position are
 /// seen. It takes memory for those at the positions.
 pub(crate) fn seen_at<'a>(
@@ -76,6 +67,6 @@ pub(crate) fn seen_at<'a>(
         → filter (is_seen bindings.now place.now) (enabled_in d) ≡ [] }
     ensures { IfOk result (λ list. lent_in list.items ≡ filter (is_seen bindings.now place.now) (in_order decls.now)) }
 {
-    let list = in_order(enabled_at(alloc, decls, positions)?)?;
+    let list = sorted_by_priority(enabled_at(alloc, decls, positions)?)?;
     seen_around(alloc, &list, bindings, place)
 }

@@ -13,7 +13,6 @@ mod compare;
 mod dropped;
 mod event_compare;
 mod event_dropped;
-mod event_observers;
 mod event_stage;
 mod event_suspects;
 mod events;

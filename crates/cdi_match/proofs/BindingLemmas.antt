@@ -15,7 +15,7 @@ use Rattle.cdi_match.specs.Bindings.{brings_type, brought, brought_by, types_bro
 use Rattle.cdi_match.specs.Bindings.{BringsType, BroughtAreThese}
 use Rattle.cdi_match.specs.Chain.{has}
 use Rattle.cdi_match.specs.Filling.{as_binding}
-use Rattle.cdi_match.proofs.ClosureLemmas.{led_decides, led-rises, led-has, led-is}
+use Rattle.cdi_match.proofs.ClosureLemmas.{led_decides, led-has, led-is}
 use Rattle.cdi_match.proofs.Listed.{Lists}
 use Rattle.cdi_match.proofs.Names.{one_name, same_text}
 
@@ -26,10 +26,6 @@ bindings_in d = map name_of_use (brought_by (as_binding d))
 pub brings_type_decides : (ds : List Decl) (types : List (List ℕ)) (b : List ℕ) → Decides (brings_type ds types b) (BringsType ds types b)
 unfolding brings_type
 brings_type_decides ds types b = led_decides kinds.Binding bindings_in refl ds types b
-
-pub types_brought-rises : (ds : List Decl) (types : List (List ℕ)) → IsStrictlySortedBy byte_order (types_brought ds types)
-unfolding types_brought brings_type
-types_brought-rises ds types = led-rises kinds.Binding bindings_in refl ds types
 
 pub types_brought-has : (ds : List Decl) (types : List (List ℕ)) (b : List ℕ) → has (types_brought ds types) b ≡ brings_type ds types b
 unfolding types_brought brings_type

@@ -75,10 +75,6 @@ declared-one : (which : Links) (ds : List Decl) (name : List ℕ) → is_some (f
     → declared_among which ds (name ∷ []) ≡ name ∷ []
 declared-one which ds name is = rw is refl
 
-declared-none : (which : Links) (ds : List Decl) (name : List ℕ) → is_some (find_decl (kind_of which) name ds) ≡ false
-    → declared_among which ds (name ∷ []) ≡ []
-declared-none which ds name is = rw is refl
-
 declared-cons : (which : Links) (ds : List Decl) (name : List ℕ) (names : List (List ℕ))
     → declared_among which ds (name ∷ []) ++ declared_among which ds names ≡ declared_among which ds (name ∷ names)
 declared-cons which ds name names = by (is_some (find_decl (kind_of which) name ds)) refl

@@ -1,5 +1,5 @@
 -- The questions that have an answer: which they are, and how many.
-use Rattle.std.proofs.Common.{◌≡◌, ℕ, zero, suc, ◌+◌, ◌<◌, ◌≤◌, Bool, true, false, cond, ◌&&◌, ◌||◌, List, [], ◌∷◌, ◌++◌, length, map, filter, slice_get, Option, Some, None, unwrap_or, refl, sym, ap, ◌∙◌, subst, length-append, arith}
+use Rattle.std.proofs.Common.{◌≡◌, ℕ, suc, ◌+◌, ◌<◌, ◌≤◌, Bool, true, false, cond, ◌&&◌, ◌||◌, List, [], ◌∷◌, ◌++◌, length, map, filter, Option, Some, None, unwrap_or, refl, sym, ap, ◌∙◌, subst, length-append, arith}
 use Rattle.std.specs.Cmp.{IsEquivalence, and_equiv, on_equiv}
 use Rattle.std.specs.List.{AllByRecursion, IsDistinct, list_any}
 use Rattle.std.specs.Map.{keys_of, lookup}
@@ -11,7 +11,7 @@ use Rattle.std.proofs.lemmas.List.{length-map}
 use Rattle.std.proofs.lemmas.List.Folds.{list_any-append}
 use Rattle.std.proofs.lemmas.Map.{lookup-none}
 use Rattle.std.proofs.lemmas.Map.Entries.{none_past_head}
-use Rattle.std.proofs.lemmas.Map.Keys.{any_passes_from_place, IsDistinct-cons, IsDistinct-head, IsDistinct-tail}
+use Rattle.std.proofs.lemmas.Map.Keys.{IsDistinct-cons, IsDistinct-head, IsDistinct-tail}
 use Rattle.std.proofs.lemmas.Map.Made.{is_member-filter, is_some-lookup, length-from_same_keys}
 use Rattle.std.proofs.lemmas.Map.Steps.{list_any_congr}
 use Rattle.cdi_memo.specs.Answers.{answer, how_many, is_kept, parts_under, questions, same_question, Answers, Keeps, Question, Removes}
@@ -144,34 +144,7 @@ module _ {Q A : Type 0} (eq : Q → Q → Bool) where
       ∙ none-kept m (e.0, q) (no-more e m e.0 once.0 (nat_list_eq_equiv.refl e.0)))
       (questions-differ m (once-rest e m once))
 
--- where a test passes
-somewhere : {X : Type 0} (test : X → Bool) (xs : List X) → list_any test xs ≡ true
-    → (i : ℕ) × (x : X) × (slice_get xs i ≡ Some x) × (test x ≡ true)
-somewhere test [] h = absurd (false≢true h)
-somewhere {X} test (x ∷ xs) h = by (test x) refl h (somewhere test xs)
-  where
-    by : (b : Bool) → test x ≡ b → (b || list_any test xs) ≡ true
-        → (list_any test xs ≡ true → (i : ℕ) × (y : X) × (slice_get xs i ≡ Some y) × (test y ≡ true))
-        → (i : ℕ) × (y : X) × (slice_get (x ∷ xs) i ≡ Some y) × (test y ≡ true)
-    by true e f more = (zero, x, refl, e)
-    by false e f more = let at = more f in (suc at.0, at.1, at.2, at.3)
-
 -- ---- for callers
-
-module _ {Q A : Type 0} (eq : Q → Q → Bool) where
-  -- A part of which an answer is kept stands at some index.
-  pub part-somewhere : (m : Answers Q A) (n : List ℕ) (q : Q) → is_some (answer eq m n q) ≡ true
-      → (i : ℕ) × (p : Q) × (slice_get (parts_under m n) i ≡ Some p) × (eq q p ≡ true)
-  part-somewhere m n q h = somewhere (eq q) (parts_under m n) (sym (parts-kept eq m n q) ∙ h)
-
-  -- Of a part that stands at an index an answer is kept.
-  pub answer-of-part : IsEquivalence eq → (m : Answers Q A) (n : List ℕ) (i : ℕ) (p : Q) → slice_get (parts_under m n) i ≡ Some p
-      → is_some (answer eq m n p) ≡ true
-  answer-of-part laws m n i p at = parts-kept eq m n p ∙ any_passes_from_place (eq p) (parts_under m n) i p at (laws.refl p)
-
-  -- Parts that are the same have the same answer.
-  pub answer-congr : IsEquivalence eq → (m : Answers Q A) (n : List ℕ) (q r : Q) → eq q r ≡ true → answer eq m n q ≡ answer eq m n r
-  answer-congr laws m n q r same i = option_map_or (λ parts. lookup (λ x. laws.congr q r x same i) parts) (lookup (bytes_eq n) m) None
 
 module _ {Q A : Type 0} where
   have-rest : (e : List ℕ × List (Q × A)) (m : Answers Q A) → IsDistinct bytes_eq (keys_of (e ∷ m)) → NamesHaveParts (e ∷ m)

@@ -1,6 +1,6 @@
 -- Lists of declarations of which one stands after another.
-use Rattle.std.proofs.Common.{◌≡◌, ◌+◌, ◌-◌, ◌<◌, ◌≤◌, ℕ, zero, suc, Bool, true, false, cond, List, [], ◌∷◌, ◌++◌, length, Option, Some, None, is_some}
-use Rattle.std.proofs.Common.{refl, sym, ap, ◌∙◌, position, slice_get, arith, option_map, inl, inr}
+use Rattle.std.proofs.Common.{◌≡◌, ◌+◌, ◌-◌, ℕ, suc, Bool, true, false, cond, List, [], ◌∷◌, ◌++◌, length, Option, Some, None, is_some}
+use Rattle.std.proofs.Common.{refl, sym, ap, ◌∙◌, position, arith, option_map, inl, inr}
 use Rattle.std.specs.Option.{option_or}
 use Rattle.std.proofs.lemmas.Bool.{cases_Bool}
 use Rattle.cdi_model.specs.Decl.{key_of, kind_of, name_of_decl}
@@ -62,16 +62,6 @@ position-joined p (x ∷ xs) ys = rw (position-cons p x (xs ++ ys), position-con
     by false (Some i) q = refl
     by false None None = refl
     by false None (Some i) = ap Some (omega arith)
-
-pub get-joined_first : {X : Type 0} (xs ys : List X) (i : ℕ) → i < length xs → slice_get (xs ++ ys) i ≡ slice_get xs i
-get-joined_first [] ys i within = absurd (omega arith)
-get-joined_first (x ∷ xs) ys zero within = refl
-get-joined_first (x ∷ xs) ys (suc i) within = get-joined_first xs ys i (omega arith)
-
-pub get-joined_second : {X : Type 0} (xs ys : List X) (i : ℕ) → length xs ≤ i → slice_get (xs ++ ys) i ≡ slice_get ys (i - length xs)
-get-joined_second [] ys i past = ap (slice_get ys) (omega arith)
-get-joined_second (x ∷ xs) ys zero past = absurd (omega arith)
-get-joined_second (x ∷ xs) ys (suc i) past = get-joined_second xs ys i (omega arith) ∙ ap (slice_get ys) (omega arith)
 
 -- ---- what is found among them
 

@@ -90,17 +90,6 @@ keys-set d (e ∷ es) (suc p) at = ap (λ ks. key_of e ∷ ks) (keys-set d es p 
 
 -- ---- marks of the places
 
-pub marked-again : (marks : List Bool) (rs : List Replaced) (i : ℕ) (r : Replaced) → AreMarked marks rs → is_marked marks r.place ≡ true
-    → AreMarked marks (slice_set rs i r)
-marked-again marks [] i r all m = tt
-marked-again marks (s ∷ rs) zero r all m = (m, all.1)
-marked-again marks (s ∷ rs) (suc i) r all m = (all.0, marked-again marks rs i r all.1 m)
-
-pub marked-more : (marks : List Bool) (rs : List Replaced) (r : Replaced) → AreMarked marks rs → is_marked marks r.place ≡ true
-    → AreMarked marks (rs ++ r ∷ [])
-marked-more marks [] r all m = (m, tt)
-marked-more marks (s ∷ rs) r all m = (all.0, marked-more marks rs r all.1 m)
-
 marked-still : (marks : List Bool) (p q : ℕ) → is_marked marks q ≡ true → is_marked (slice_set marks p true) q ≡ true
 marked-still [] p q m = m
 marked-still (n ∷ ns) zero zero m = refl

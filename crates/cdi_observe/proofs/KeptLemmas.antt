@@ -54,11 +54,6 @@ evaluated-next ds es keys i key kept before after lt at same is next =
 
 -- ---- one key
 
--- a view that keeps no answer is left as it is
-pub after_key-plain : (ds : List Decl) (key : Key) (kept : Kept) → kept.keeps ≡ false → after_key ds key kept ≡ kept
-unfolding after_key
-after_key-plain ds key kept plain = rw plain refl
-
 -- what is known to start with stays known
 or_same : (b c : Bool) → (c ≡ true → b ≡ true) → (b || c) ≡ b
 or_same true c within = refl
@@ -82,11 +77,6 @@ after_known ds key kept known = by kept.keeps refl
       knows = λ k. or_same (kept.knows k) (is_wanted ds key && same_key key k) (within k (is_wanted ds key)) j;
       work = ap (λ b. cond b kept.work (with_one kept.work)) known j;
     }
-
-pub evaluated-plain : (ds : List Decl) (keys : List Key) (kept : Kept) → kept.keeps ≡ false → evaluated ds keys kept ≡ kept
-evaluated-plain ds [] kept plain = refl
-evaluated-plain ds (key ∷ keys) kept plain = ap (evaluated ds keys) (after_key-plain ds key kept plain)
-    ∙ evaluated-plain ds keys kept plain
 
 -- ---- keys that are known
 

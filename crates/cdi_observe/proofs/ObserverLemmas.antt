@@ -6,22 +6,7 @@ use Rattle.cdi_model.specs.declared.decl.Decl.{Decl}
 use Rattle.cdi_effective.specs.declared.records.Effective.{Effective}
 use Rattle.cdi_observe.specs.Observers.{Observer, declared_by, enabled_bean, observers}
 
--- those of one more bean, of which a test holds
-pub next-bean : (test : Observer → Bool) (ds : List Decl) (beans : List Effective) (i : ℕ) (b : Effective)
-    (before after all own : List Observer)
-    → i < length beans → b ≡ get_or beans i b → own ≡ declared_by (enabled_bean ds b) → after ≡ before ++ filter test own
-    → before ++ filter test (observers ds (drop i beans)) ≡ all → after ++ filter test (observers ds (drop (i + 1) beans)) ≡ all
-next-bean test ds beans i b before after all own less at are pushed is =
-    let behind = observers ds (drop (i + 1) beans) in
-    let next : suc i ≡ i + 1 = omega arith in
-    let left : drop i beans ≡ b ∷ drop (i + 1) beans =
-    drop-cons beans i b less ∙ ap (λ c. c ∷ drop (suc i) beans) (sym at) ∙ ap (λ n. b ∷ drop n beans) next in
-    ap (λ l. l ++ filter test behind) pushed ∙ append_assoc before (filter test own) (filter test behind)
-    ∙ ap (λ l. before ++ l) (sym (filter-append test own behind) ∙ ap (λ l. filter test (l ++ behind)) are
-    ∙ ap (λ l. filter test (observers ds l)) (sym left))
-    ∙ is
-
--- and of one more that is lent
+-- those of one more bean, which may be lent, of which a test holds
 pub next-lent : {X : Type 0} (bean : X → Effective) (test : Observer → Bool) (ds : List Decl) (beans : List X) (i : ℕ) (b : X)
     (before after all own : List Observer)
     → i < length beans → b ≡ get_or beans i b → own ≡ declared_by (enabled_bean ds (bean b)) → after ≡ before ++ filter test own

@@ -1,20 +1,17 @@
 //! The observer methods that are notified of an event (CDI 4.0, Observer resolution).
-ghost use Rattle.std.specs.Prelude.{◌≡◌, ◌++◌, ℕ, List, filter, map, IfOk, OnOk, OnErr};
+ghost use Rattle.std.specs.Prelude.{◌≡◌, ℕ, List, filter, map, IfOk, OnOk, OnErr};
 ghost use Rattle.std.specs.List.{list_all};
 ghost use Rattle.cdi_model.specs.Work.{with_one};
-ghost use Rattle.std.specs.Option.{option_copied};
-ghost use Rattle.cdi_match.specs.Chain.{has};
 ghost use Rattle.cdi_match.specs.Types.{types_of};
-ghost use Rattle.cdi_intercept.specs.Sorting.{sorted_by};
 ghost use Rattle.cdi_effective.specs.Qualifiers.{some_covers};
 ghost use Rattle.cdi_observe.specs.Lent.{lent_in};
-ghost use Rattle.cdi_observe.specs.Observers.{declared_by, enabled_bean, event_has, notified, observers, observes};
-ghost use Rattle.cdi_observe.specs.Observers.{is_before, is_notified, observer_id, priority_of};
+ghost use Rattle.cdi_observe.specs.Observers.{event_has, is_notified, notified, observer_id};
 ghost use Rattle.cdi_observe.specs.Sees.{NotifiedRestOnSeen};
 
+use crate::lent_observers::{LentObserver, observers_in_order};
 use cdi_effective::Effective;
 use cdi_match::{closure, covers};
-use cdi_model::{BeanDecl, Decl, Decls, Ident, Kind, Name, ObserverDecl, Qual, Seq, UseKind, Work};
+use cdi_model::{Decls, Ident, Name, ObserverDecl, Qual, Seq, UseKind, Work};
 use std::alloc::{AllocError, Global};
 use std::fmt;
 
@@ -36,16 +33,6 @@ impl fmt::Display for ObserverId {
     }
 }
 
-/// An observer method that was found, lent out of its bean.
-#[derive(Drop)]
-struct Found<'a> {
-    bean: &'a BeanDecl,
-    method: &'a ObserverDecl,
-}
-
-/// The priority of an observer method that declares none (CDI 4.0, Observer ordering).
-const DEFAULT_PRIORITY: i64 = 2500;
-
 /// The observer methods that are notified of an event of a type with some qualifiers, in order, where these are the beans:
 /// those of enabled beans which observe one of its types and of whose qualifiers it has each, from the least priority on
 /// (CDI 4.0, Observer resolution; Observer ordering). A type that is not declared has itself and `Object`. It takes memory
@@ -54,15 +41,15 @@ const DEFAULT_PRIORITY: i64 = 2500;
 pub fn notified_of(
     alloc: Global,
     decls: &Decls,
-    beans: &[Effective],
+    beans: &[&Effective],
     event_type: Name,
     quals: &[Qual],
 ) -> Result<Seq<ObserverId>, AllocError>
-    ensures { IfOk result (λ ids. ids ≡ notified decls.now beans.now event_type quals.now) }
+    ensures { IfOk result (λ ids. ids ≡ notified decls.now (map (λ bean. bean.now) beans.now) event_type quals.now) }
 {
     let types = closure(alloc, decls, event_type)?;
-    let found = of_types(alloc, decls, beans, &types)?;
-    notified_among(alloc, decls, found, quals)
+    let found = observers_in_order(alloc, decls, beans, &types)?;
+    notified_among(alloc, decls, &found, quals)
 }
 
 /// The same for an event that has these types, where the beans of which an observer method observes one are among these
@@ -83,118 +70,31 @@ pub fn evaluate_observers(
     ensures err { OnErr result (work.new ≡ work.old) }
     ensures seen { NotifiedRestOnSeen }
 {
-    let found = of_types_among(alloc, decls, candidates, types)?;
-    let ids = notified_among(alloc, decls, found, quals)?;
+    let found = observers_in_order(alloc, decls, candidates, types)?;
+    let ids = notified_among(alloc, decls, &found, quals)?;
     work.add_one();
     Ok(ids)
 }
 
-/// Those of some which are notified of an event with these qualifiers, from the least priority on.
+/// Those of some observer methods which are notified of an event with these qualifiers, as they are.
 fn notified_among(
     alloc: Global,
     decls: &Decls,
-    found: Vec<Found<'_>>,
+    found: &[LentObserver],
     quals: &[Qual],
 ) -> Result<Seq<ObserverId>, AllocError>
-    ensures { IfOk result (λ ids. ids
-        ≡ map observer_id (filter (is_notified decls.now quals.now) (sorted_by is_before (lent_in found.entry.items)))) }
+    ensures { IfOk result (λ ids. ids ≡ map observer_id (filter (is_notified decls.now quals.now) (lent_in found.now))) }
 {
     let mut ids = Seq::new(alloc);
-    for found in &in_order(found)? {
-        if is_notified(decls, quals, found.method) {
+    for observer in found {
+        if is_notified(decls, quals, observer.method) {
             ids.push(ObserverId {
-                class: found.bean.name,
-                observer: found.method.name,
+                class: observer.bean.name,
+                observer: observer.method.name,
             })?;
         }
     }
     Ok(ids)
-}
-
-/// The same, from the least priority on.
-fn in_order(mut list: Vec<Found<'_>>) -> Result<Vec<Found<'_>>, AllocError>
-    ensures { IfOk result (λ sorted. lent_in sorted.items ≡ sorted_by is_before (lent_in list.entry.items)) }
-{
-    list.sort_by_key(|found| priority_of(found.method))?;
-    Ok(list)
-}
-
-/// The observer methods of some beans which observe one of these types.
-fn of_types<'a>(
-    alloc: Global,
-    decls: &'a Decls,
-    beans: &[Effective],
-    types: &[Name],
-) -> Result<Vec<Found<'a>>, AllocError>
-    ensures { IfOk result (λ list. lent_in list.items ≡ filter (observes types.now) (observers decls.now beans.now)) }
-{
-    let mut list = Vec::new(alloc);
-    for bean in beans {
-        push_of_types(enabled_bean(decls, bean), types, &mut list)?;
-    }
-    Ok(list)
-}
-
-/// The same of beans that are lent.
-fn of_types_among<'a>(
-    alloc: Global,
-    decls: &'a Decls,
-    beans: &[&Effective],
-    types: &[Name],
-) -> Result<Vec<Found<'a>>, AllocError>
-    ensures { IfOk result (λ list. lent_in list.items
-        ≡ filter (observes types.now) (observers decls.now (map (λ bean. bean.now) beans.now))) }
-{
-    let mut list = Vec::new(alloc);
-    for bean in beans {
-        push_of_types(enabled_bean(decls, bean), types, &mut list)?;
-    }
-    Ok(list)
-}
-
-/// The declaration of a managed bean, where it is enabled.
-fn enabled_bean<'a>(decls: &'a Decls, bean: &Effective) -> Option<&'a BeanDecl>
-    ensures { option_copied result ≡ enabled_bean decls.now bean.now }
-{
-    if bean.id.producer.is_some() || !bean.is_enabled {
-        return None;
-    }
-    match decls.get(Kind::Bean, &bean.id.class) {
-        Some(Decl::Bean(declared)) => Some(declared),
-        _ => None,
-    }
-}
-
-/// Appends those of a bean, if there is one, which observe one of these types.
-fn push_of_types<'a>(
-    bean: Option<&'a BeanDecl>,
-    types: &[Name],
-    list: &mut Vec<Found<'a>>,
-) -> Result<(), AllocError>
-    ensures { OnOk result (lent_in list.new.items
-        ≡ lent_in list.old.items ++ filter (observes types.now) (declared_by (option_copied bean.entry))) }
-{
-    let Some(bean) = bean else {
-        return Ok(());
-    };
-    for method in bean.observers.as_slice() {
-        if observes(types, method) {
-            list.push(Found { bean, method })?;
-        }
-    }
-    Ok(())
-}
-
-fn observes(types: &[Name], method: &ObserverDecl) -> bool
-    ensures { result ≡ has types.now method.now.event_type }
-{
-    types.contains(&method.event_type)
-}
-
-fn priority_of(method: &ObserverDecl) -> i64
-    ensures { result ≡ priority_of method.now }
-{
-    method.priority.unwrap_or(DEFAULT_PRIORITY)
 }
 
 /// Whether an event with these qualifiers has each that an observer method observes.

@@ -12,6 +12,7 @@ ghost use Rattle.cdi_observe.specs.Kept.{Kept, after_key};
 ghost use Rattle.cdi_observe.specs.Observers.{notified};
 
 use crate::observers::{ObserverId, notified_of};
+use crate::records::push_records;
 use cdi_effective::Effective;
 use cdi_intercept::evaluate_chain;
 use cdi_model::{BeanPlace, Decls, Error, Name, Quals, Seq, Work};
@@ -188,7 +189,8 @@ impl<'a> View for PlainView<'a> {
         event_type: Name,
         quals: &Quals,
     ) -> Result<Seq<ObserverId>, AllocError> {
-        let beans = self.beans.as_slice();
-        notified_of(alloc, self.decls, beans, event_type, quals.as_slice())
+        let mut beans = Vec::new(alloc);
+        push_records(self.beans.as_slice(), &mut beans)?;
+        notified_of(alloc, self.decls, &beans, event_type, quals.as_slice())
     }
 }

@@ -1,6 +1,7 @@
 -- The nodes and edges of the injection points of declarations.
 use Rattle.std.specs.Prelude.{List}
 use Rattle.cdi_container.specs.Points.{ToldPoint}
+use Rattle.cdi_effective.specs.declared.records.Effective.{Effective}
 use Rattle.cdi_faults.specs.declared.fault.Fault.{Fault}
 use Rattle.cdi_graph.specs.declared.edge.Edge.{Edge}
 use Rattle.cdi_graph.specs.declared.edge.Edge.TheVariants as edges
@@ -9,6 +10,7 @@ use Rattle.cdi_graph.specs.declared.node.Node.TheVariants as nodes
 use Rattle.cdi_graph.specs.declared.node.PointId.{PointId}
 use Rattle.cdi_graph.specs.declared.plan.Wire.{Wire}
 use Rattle.cdi_graph.specs.Edges.{chosen_for}
+use Rattle.cdi_graph.specs.Nodes.{told_bean}
 use Rattle.cdi_graph.specs.Red.{state_of}
 use Rattle.cdi_model.specs.Decl.{key_of}
 
@@ -32,6 +34,10 @@ told_node fs t = nodes.Point (record {
   qualifiers = t.point.qualifiers;
   state = state_of fs (told_id t);
 })
+
+-- the node of a bean
+abbrev pub bean_node : Effective → Node
+bean_node bean = nodes.Bean (told_bean bean)
 
 -- what a wire says of its point
 abbrev pub told_wire : Wire → ToldPoint

@@ -3,15 +3,14 @@ ghost use Rattle.std.specs.Prelude.{◌≡◌, IfOk, filter, flat_map, map};
 ghost use Rattle.cdi_container.specs.Points.{points_told};
 ghost use Rattle.cdi_effective.specs.Beans.{beans};
 ghost use Rattle.cdi_graph.specs.Edges.{is_choice, is_owned};
-ghost use Rattle.cdi_graph.specs.Nodes.{bean_node, is_bean, is_point};
+ghost use Rattle.cdi_graph.specs.Nodes.{is_bean, is_point};
 ghost use Rattle.cdi_validate.specs.Faults.{faults};
-ghost use Rattle.cdi_picture.specs.Told.{told_choice, told_node, told_owned};
+ghost use Rattle.cdi_picture.specs.Told.{bean_node, told_choice, told_node, told_owned};
 
 use crate::asking::{faults_of, fired_of, surrounded_of};
-use crate::wires::{Rest, graph_at};
+use crate::wires::{Rest, graph_at, nodes_of_beans};
 use cdi_container::{Bodies, Container};
 use cdi_graph::Graph;
-use cdi_resolve::BeanList;
 use std::alloc::{AllocError, Global};
 
 /// The graph of what a container declares. An edge leads from an injection point to the bean that is chosen for it, and a point is
@@ -29,7 +28,7 @@ pub fn picture_of<B: Bodies>(
     ensures beans { IfOk result (λ graph. filter is_bean graph.nodes.items ≡ map bean_node (beans container.old.decls)) }
 {
     let decls = container.present().copy()?;
-    let beans = BeanList::of(alloc, &decls)?;
+    let beans = nodes_of_beans(alloc, container.beans())?;
     let surrounded = surrounded_of(alloc, &decls, container)?;
     let fired = fired_of(alloc, &decls, container)?;
     let faults = faults_of(container)?;

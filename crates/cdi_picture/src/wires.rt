@@ -3,17 +3,18 @@ ghost use Rattle.std.specs.Prelude.{◌≡◌, IfOk, filter, flat_map, map};
 ghost use Rattle.cdi_container.specs.Lent.{lent_at};
 ghost use Rattle.cdi_container.specs.PointsLent.{points_lent};
 ghost use Rattle.cdi_graph.specs.Edges.{is_choice, is_owned};
-ghost use Rattle.cdi_graph.specs.Nodes.{bean_node, is_bean, is_point};
-ghost use Rattle.cdi_picture.specs.Told.{told_choice, told_node, told_owned, told_wire};
+ghost use Rattle.cdi_graph.specs.Nodes.{is_bean, is_point};
+ghost use Rattle.cdi_graph.specs.declared.node.Node.TheVariants as nodes_are;
+ghost use Rattle.cdi_picture.specs.Told.{bean_node, told_choice, told_node, told_owned, told_wire};
 
-use cdi_container::{Effective, Fault, InjectionPoint, Points};
-use cdi_graph::{Fired, Graph, Plan, Surrounded, Wire, graph_of};
+use cdi_container::{Beans, Fault, InjectionPoint, Points};
+use cdi_graph::{BeanNode, Fired, Graph, Plan, Surrounded, Wire, graph_of};
 use std::alloc::{AllocError, Global};
 
 /// What a graph is drawn of beside injection points.
 #[derive(Clone, Copy)]
 pub(crate) struct Rest<'a> {
-    pub(crate) beans: &'a [Effective],
+    pub(crate) beans: &'a [BeanNode],
     pub(crate) faults: &'a [Fault],
     pub(crate) surrounded: &'a [Surrounded],
     pub(crate) fired: &'a [Fired<'a>],
@@ -29,7 +30,7 @@ pub(crate) fn graph_at(
     ensures owned { IfOk result (λ graph. filter is_owned graph.edges.items ≡ map told_owned (points_lent points.entry)) }
     ensures points { IfOk result (λ graph. filter is_point graph.nodes.items
         ≡ map (told_node rest.now.faults.now) (points_lent points.entry)) }
-    ensures beans { IfOk result (λ graph. filter is_bean graph.nodes.items ≡ map bean_node rest.now.beans.now) }
+    ensures beans { IfOk result (λ graph. filter is_bean graph.nodes.items ≡ map nodes_are.Bean rest.now.beans.now) }
 {
     let wires = wires_of(alloc, points)?;
     let plan = Plan {
@@ -40,6 +41,17 @@ pub(crate) fn graph_at(
         fired: rest.fired,
     };
     graph_of(alloc, &plan)
+}
+
+/// Beans as nodes.
+pub(crate) fn nodes_of_beans(alloc: Global, beans: Beans<'_>) -> Result<Vec<BeanNode>, AllocError>
+    ensures { IfOk result (λ nodes. map nodes_are.Bean nodes.items ≡ map bean_node beans.entry) }
+{
+    let mut nodes = Vec::new(alloc);
+    for bean in beans {
+        nodes.push(BeanNode::of(bean))?;
+    }
+    Ok(nodes)
 }
 
 /// Injection points as wires.

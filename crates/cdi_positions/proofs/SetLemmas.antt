@@ -157,17 +157,6 @@ zeros-all ws first used begins ends blank last i = at (dec_le used i) (dec_le fi
 pub BeginsAt-first : (ws : List ℕ) → length ws ≡ 32 → BeginsAt 0 ws
 BeginsAt-first ws sized = record { sized = sized; within = omega arith; before = λ i p. absurd (omega (arith, p)) }
 
-pub BeginsAt-next : (ws : List ℕ) (first : ℕ) → BeginsAt first ws → get_or ws first 0 ≡ 0 → first + 1 < 32 → BeginsAt (first + 1) ws
-BeginsAt-next ws first begins blank more = record {
-  sized = begins.sized;
-  within = more;
-  before = λ i p. at i p (dec_le first i);
-}
-  where
-    at : (i : ℕ) → i < first + 1 → Dec (first ≤ i) → get_or ws i 0 ≡ 0
-    at i p (yes le) = ap (λ k. get_or ws k 0) (let e : i ≡ first = omega (arith, p, le) in e) ∙ blank
-    at i p (no gt) = begins.before i (omega (arith, gt))
-
 -- another word at an index that is not before
 pub BeginsAt-set : (ws : List ℕ) (first index v least : ℕ) → BeginsAt first ws → least ≤ first → least ≤ index
     → BeginsAt least (set ws index v)

@@ -1,22 +1,18 @@
 -- Declarations that have no faults together.
-use Rattle.std.proofs.Common.{◌≡◌, Bool, true, false, not, cond, List, [], ◌∷◌, ◌++◌, append-nil, filter, None, Some, refl, sym, ap, subst, ◌∙◌}
+use Rattle.std.proofs.Common.{◌≡◌, Bool, true, false, not, cond, List, [], ◌∷◌, ◌++◌, append-nil, filter, refl, sym, ap, subst, ◌∙◌}
 use Rattle.std.specs.List.{list_all, AllByRecursion}
 use Rattle.std.proofs.lemmas.Bool.{and_parts, false≢true}
-use Rattle.cdi_bodies.specs.Book.{Promised}
 use Rattle.cdi_model.specs.Decl.{key_of}
 use Rattle.cdi_model.specs.DeclList.{AreDistinct}
 use Rattle.cdi_model.specs.declared.decl.Decl.{Decl}
 use Rattle.cdi_model.specs.declared.key.DeclKey.{DeclKey}
-use Rattle.cdi_observe.specs.Keys.{Key}
 use Rattle.cdi_validate.specs.Alike.{IsAlike}
-use Rattle.cdi_validate.specs.Together.{is_chainless, is_nameless, is_needless, AreNamed, AreNamesApart, HaveNoCircle, HaveNoClash, HaveNoneTwice}
-use Rattle.cdi_validate.specs.Twice.{faults_of_two}
-use Rattle.cdi_validate.proofs.ApartLemmas.{apart-pairs}
+use Rattle.cdi_validate.specs.Together.{is_chainless, is_nameless, is_needless, AreNamed, HaveNoCircle, HaveNoClash, HaveNoneTwice}
 use Rattle.cdi_validate.proofs.ChainlessLemmas.{twice_filtered, twice_stays, twice_whole}
 use Rattle.cdi_validate.proofs.CirclelessLemmas.{circle_whole}
 use Rattle.cdi_validate.proofs.CircleStayLemmas.{circle_filtered, circle_stays, named_outside}
 use Rattle.cdi_validate.proofs.NamelessLemmas.{clash_filtered, clash_stays, clash_whole}
-use Rattle.cdi_report.specs.Settled.{closed_of, is_open, open_of, AreSettled, HaveNoneTogether, IsSettledAnyway, LooksAtMore}
+use Rattle.cdi_report.specs.Settled.{closed_of, is_open, open_of, HaveNoneTogether, IsSettledAnyway, LooksAtMore}
 use Rattle.cdi_report.specs.Settled.{MoreIsSettled}
 use Rattle.cdi_report.specs.declared.unsettled.Anew.{Anew}
 use Rattle.cdi_report.specs.declared.unsettled.Unsettled.{Unsettled}
@@ -148,13 +144,6 @@ more_is_settled ds knows book less more looks settled = record {
 
 -- ---- where nothing is left
 
-none-together : (anew : Anew) → HaveNoneTogether [] [] anew
-none-together anew = record {
-  names = λ known. apart-pairs AreNamesApart [] tt;
-  circles = λ known. (tt, λ x circle. absurd (false≢true circle.1.1));
-  chains = λ known. apart-pairs (λ a b. faults_of_two [] a b ≡ []) [] tt;
-}
-
 -- where a report looks at each declaration, and at all anew
 pub settled_anyway : (u : Unsettled) → ((k : DeclKey) → is_open u k ≡ true) → u.anew.names ≡ true → u.anew.circles ≡ true
     → u.anew.chains ≡ true → IsSettledAnyway u
@@ -165,11 +154,4 @@ settled_anyway u each names circles chains ds knows book = record {
     circles = λ known. absurd (false≢true (sym known ∙ circles));
     chains = λ known. absurd (false≢true (sym known ∙ chains));
   };
-}
-
--- so it is where there is no declaration
-pub none_settled : (knows : Key → Bool) (book : List Promised) (u : Unsettled) → AreSettled [] knows book u
-none_settled knows book u = record {
-  each = λ d found shut. absurd (let no : None ≡ Some d = found in cc);
-  apart = none-together u.anew;
 }

@@ -6,12 +6,10 @@ ghost use Rattle.cdi_model.specs.Work.{with_one};
 ghost use Rattle.cdi_effective.specs.Beans.{beans};
 ghost use Rattle.cdi_effective.specs.Records.{is_of_class, is_product, with_products, records_among};
 ghost use Rattle.cdi_resolve.specs.Choices.{chosen, offers};
-ghost use Rattle.cdi_resolve.specs.Position.{is_told_by};
 
 use crate::choice::{Choice, choose_from};
 use crate::places::{places_of_classes, places_of_types};
-use crate::position::position_among;
-use cdi_effective::{BeanId, Effective, beans};
+use cdi_effective::{Effective, beans};
 use cdi_model::{Decls, Name, Quals, Work};
 use indexmap::IndexMap;
 use std::alloc::{AllocError, Global};
@@ -84,16 +82,6 @@ impl BeanList {
         ensures { result ≡ position (is_of_class class.now) self.now }
     {
         self.classes.get(class).copied()
-    }
-
-    /// The position of a bean in the list, if it is there. It takes no memory, and in the list of some declarations time
-    /// near the number of products of its class where it is there.
-    pub fn position(&self, id: BeanId) -> Option<usize>
-        ensures { result ≡ position (is_told_by id) self.now }
-    {
-        let first = self.place_of(&id.class)?;
-        let behind = position_among(&self.beans[first..], &id)?;
-        Some(first + behind)
     }
 
     /// The bean for a type and qualifiers, chosen as `choose_from` does from all. It takes memory for the beans that

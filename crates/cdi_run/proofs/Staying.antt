@@ -3,7 +3,6 @@ use Rattle.std.proofs.Common.{◌≡◌, ℕ, ◌+◌, ◌≤◌, List, [], Opti
 use Rattle.std.proofs.lemmas.Option.{slice_get_within}
 use Rattle.cdi_contexts.specs.Rising.{IsOwnerOf, IsRising}
 use Rattle.cdi_contexts.specs.Standing.{Standing}
-use Rattle.cdi_contexts.specs.declared.instance.Actor.{Actor}
 use Rattle.cdi_contexts.specs.declared.instance.Actor.TheVariants.{Target}
 use Rattle.cdi_contexts.specs.declared.instance.Instance.{Instance}
 use Rattle.cdi_contexts.specs.declared.instance.InstanceId.{InstanceId}
@@ -110,10 +109,6 @@ never_unmade x m seat held c h served named own none =
     cc
 
 -- ---- seats
-
-pub served_as : (s : Scene) (live : List Instance) (i : InstanceId) (place : Place) (actor by : Actor) (held : Held)
-    → IsServed s live (seat_on i actor place) held → IsServed s live (seat_on i by place) held
-served_as s live i place actor by held h = record { own = h.own; params = h.params }
 
 -- an instance with its dependent objects is served where parameters have theirs
 pub served_with : (s : Scene) (live : List Instance) (i : InstanceId) (place : Place) (held : Held) (ps : List ℕ)

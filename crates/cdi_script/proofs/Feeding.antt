@@ -161,14 +161,6 @@ module _ {W : Type 0} (contents : W → Option (List ℕ)) where
   pub feeds_none : (s : IntakeOn) (w : Counted W) → Feeds contents s s w w []
   feeds_none s w setting start given h = subst (Stands setting start (contents_of contents w) s) (sym (append-nil given)) h
 
-  pub feeds_advances : (old mid new : IntakeOn) (before after : Counted W) (done bytes : List ℕ)
-      → Feeds contents old mid before after done
-      → Advances mid new bytes → Feeds contents old new before after (done ++ bytes)
-  feeds_advances old mid new before after done bytes f a setting start given h =
-      subst (Stands setting start (contents_of contents after) new)
-      (append_assoc given done bytes)
-      (stands_advances setting start (contents_of contents after) mid new (given ++ done) bytes (f setting start given h) a)
-
   pub feeds_last : (old mid new : IntakeOn) (r : Runner) (before between after : Counted W) (done bytes : List ℕ)
       → Feeds contents old mid before between done → r.out.items ≡ mid.runner.out → TriesBytes mid new bytes
       → SendsLast contents r between after

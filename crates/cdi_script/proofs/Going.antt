@@ -8,7 +8,7 @@ use Rattle.std.proofs.lemmas.List.{append-nil, length-append, length-take}
 use Rattle.cdi_lines.specs.declared.command.Command.{Command}
 use Rattle.cdi_script.specs.Commands.{outside, complete_commands, commands, AreFirst}
 use Rattle.cdi_devices.specs.Counted.{inner_of, bytes_of, has_failed, is_flushed, is_settled}
-use Rattle.cdi_devices.specs.Devices.{Gives, ReadFails}
+use Rattle.cdi_devices.specs.Devices.{Gives}
 use Rattle.cdi_lines.specs.Kept.{ServesLine}
 use Rattle.cdi_staging.specs.Naming.{names_of}
 use Rattle.cdi_container.specs.History.{State, Unserved, runs as is_run}
@@ -17,12 +17,12 @@ use Rattle.cdi_script.specs.Runner.{Tries}
 use Rattle.cdi_script.specs.Begun.{ServesMode}
 use Rattle.cdi_script.specs.Intake.{IntakeOn, intake_on, IsFresh}
 use Rattle.cdi_script.specs.Run.{Setting, WroteAll, AnswersFirst, Leaves, RunsOutOfMemoryTo}
-use Rattle.cdi_script.specs.Run.{FailsToWriteTo, FailsToReadTo, RunsScriptTo, Goes, Feeds}
-use Rattle.cdi_script.specs.Run.{FeedsBeforeMemory, FeedsPart, Ends, EndsBeforeMemory, EndsPart}
+use Rattle.cdi_script.specs.Run.{FailsToWriteTo, Goes, Feeds}
+use Rattle.cdi_script.specs.Run.{FeedsBeforeMemory, FeedsPart, EndsBeforeMemory, EndsPart}
 use Rattle.cdi_devices.specs.declared.counted.Counted.{Counted}
 use Rattle.cdi_script.specs.declared.intake.Intake.{Intake}
 use Rattle.cdi_devices.proofs.Known.{Consumes-more}
-use Rattle.cdi_script.proofs.Feeding.{first_complete, printed_all}
+use Rattle.cdi_script.proofs.Feeding.{first_complete}
 use Rattle.cdi_script.proofs.Serving.{serves_itself}
 
 Appends-none : (known : Option (List ℕ)) → Appends known known []
@@ -83,9 +83,6 @@ behind_flush noted false failed is still = absurd (false≢true is)
 
 module _ {R W : Type 0} (remaining : R → Option (List ℕ)) (contents : W → Option (List ℕ)) (limit piece : ℕ)
     (setting : Setting) (r0 : Counted R) (w0 : Counted W) where
-  abbrev Goes-here : Counted R → Counted W → IntakeOn → Type 0
-  Goes-here r w s = Goes remaining contents limit setting r0 w0 r w s
-
   pub goes_first : (s : Intake) → IsFresh s → s.runner.quiet ≡ setting.quiet
       → bytes_of r0 ≡ 0
       → has_failed r0 ≡ false → has_failed w0 ≡ false
@@ -140,18 +137,6 @@ module _ {R W : Type 0} (remaining : R → Option (List ℕ)) (contents : W → 
     settled = stays_settled r r' w s h noted;
   }
 
-  pub fails_to_read : (r r' : Counted R) (w : Counted W) (s : IntakeOn) → Goes remaining contents limit setting r0 w0 r w s
-      → ReadFails remaining limit r r'
-      → FailsToReadTo remaining contents limit setting r0 r' w0 w s.runner.container
-  fails_to_read r r' w s h f = record {
-    given = h.given;
-    extra = f.bytes.0;
-    came = Consumes-more _ _ _ h.given f.bytes.0 h.came f.bytes.1;
-    within = let e = h.count in let b = h.within in omega arith;
-    behind = λ some. (sym h.count ∙ f.bytes.2 some, let one = f.bytes.3 in omega arith);
-    wrote = printed_all setting _ _ _ s.runner (complete_commands h.given) [] h.stands.printed (sym h.out) (Appends-none _);
-  }
-
   module _ (r r' : Counted R) (w w' : Counted W) (s t : IntakeOn) (h : Goes remaining contents limit setting r0 w0 r w s)
       (n : ℕ) (buffer : List ℕ) (g : Gives remaining limit r r' n buffer) where
     came : Consumes (remaining (inner_of r0)) (remaining (inner_of r')) (h.given ++ take n buffer)
@@ -163,17 +148,6 @@ module _ {R W : Type 0} (remaining : R → Option (List ℕ)) (contents : W → 
 
     none_came : n ≡ 0 → h.given ++ take n buffer ≡ h.given
     none_came none = ap (λ k. h.given ++ take k buffer) none ∙ append-nil h.given
-
-    pub ends_run : n ≡ 0 → (refused : Bool) → Ends contents s t w w' refused
-        → RunsScriptTo remaining contents limit setting r0 r' w0 w' refused t.runner.container
-    ends_run none refused e = record {
-      input = h.given;
-      came = subst (λ l. Consumes (remaining (inner_of r0)) (remaining (inner_of r')) l) (none_came none) came;
-      end = g.end none;
-      count = let a = h.count in let b = g.count in omega arith;
-      within = let a = h.count in let b = h.within in omega arith;
-      runs = e setting (contents (inner_of w0)) h.given h.stands;
-    }
 
     -- at the end these commands were answered, all that were complete before among them
     at_end : n ≡ 0 → (first : List Command) → AreFirst (complete_commands h.given) first → AreFirst first (commands h.given)

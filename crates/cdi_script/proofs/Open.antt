@@ -39,10 +39,6 @@ serves_serving_edits a b c (inr h) (inr k) = inr (h.0, k.1)
 
 -- ---- batches
 
-pub open_itself : (batch : OpenBatch) → ServesOpen batch batch
-open_itself (Edits es) = inl refl
-open_itself Spoiled = tt
-
 pub open_with_edit : (kept batch : OpenBatch) (a b : Edit) → ServesOpen kept batch → change_of a ≡ change_of b
     → ServesOpen (with_edit kept a) (with_edit batch b)
 open_with_edit (Edits kept) (Edits es) a b h asks = serves_with_edit kept es a b h asks
@@ -57,10 +53,6 @@ serves_serving_open (Edits a) Spoiled c h k = absurd h
 serves_serving_open Spoiled (Edits b) c h k = absurd h
 serves_serving_open Spoiled Spoiled (Edits c) h k = absurd k
 serves_serving_open Spoiled Spoiled Spoiled h k = tt
-
-pub batch_itself : (batch : Option OpenBatch) → ServesBatch batch batch
-batch_itself None = tt
-batch_itself (Some batch) = open_itself batch
 
 serves_serving_batch : (a b c : Option OpenBatch) → ServesBatch a b → ServesBatch b c → ServesBatch a c
 serves_serving_batch None None None h k = tt

@@ -1,14 +1,11 @@
 -- Runs of no command, of one, and one behind another.
-use Rattle.std.proofs.Common.{◌≡◌, List, [], ◌∷◌, ◌++◌, refl, subst, ap, sym, ◌∙◌, false, append_assoc}
+use Rattle.std.proofs.Common.{◌≡◌, List, [], ◌∷◌, ◌++◌, refl, subst, ap, sym, ◌∙◌, false}
 use Rattle.std.specs.Prelude.{Bool, ◌||◌}
-use Rattle.std.specs.List.{list_any}
-use Rattle.std.proofs.lemmas.List.{append-nil, map-append}
-use Rattle.std.proofs.lemmas.List.Folds.{list_any-append}
-use Rattle.std.proofs.lemmas.Grind.{flat_map-append}
-use Rattle.std.proofs.Math.Bool.{or-false, or_assoc}
+use Rattle.std.proofs.lemmas.List.{append-nil}
+use Rattle.std.proofs.Math.Bool.{or-false}
 use Rattle.cdi_lines.specs.declared.command.Command.{Command}
 use Rattle.cdi_container.specs.History.{State, History, LegalHistory}
-use Rattle.cdi_script.specs.Text.{text_of, text_of_step, is_refused, is_out_of_memory}
+use Rattle.cdi_script.specs.Text.{text_of_step, is_refused}
 use Rattle.cdi_script.specs.Runner.{RunnerOn, Runs, RunsStep}
 
 pub cc_append : {A : Type 0} (a b c d : List A) → a ≡ b → c ≡ d → a ++ c ≡ b ++ d
@@ -41,19 +38,4 @@ runs_one old new command r = record {
   text = r.text ∙ ap (λ l. old.out ++ l) (sym (append-nil (text_of_step old.quiet r.step)));
   refused = r.refused ∙ ap (λ b. old.refused || b) (sym (or-false (is_refused r.step.answer)));
   quiet = r.quiet;
-}
-
-pub runs_more : (a b c : RunnerOn) (xs ys : List Command) → Runs a b xs → Runs b c ys → Runs a c (xs ++ ys)
-runs_more a b c xs ys r s = record {
-  history = r.history ++ s.history;
-  commands_are = map-append (λ step. step.command) r.history s.history ∙ cc_append _ _ _ _ r.commands_are s.commands_are;
-  memory = list_any-append (λ step. is_out_of_memory step.answer) r.history s.history ∙ cc_or _ _ _ _ r.memory s.memory;
-  legal = LegalHistory-append _ _ _ r.history s.history r.legal s.legal;
-  text = s.text ∙ cc_append _ _ _ _ r.text (ap (λ q. text_of q s.history) r.quiet)
-      ∙ append_assoc a.out (text_of a.quiet r.history) (text_of a.quiet s.history)
-      ∙ ap (λ l. a.out ++ l) (sym (flat_map-append (text_of_step a.quiet) r.history s.history));
-  refused = s.refused ∙ ap (λ q. q || list_any (λ step. is_refused step.answer) s.history) r.refused
-      ∙ or_assoc a.refused (list_any (λ step. is_refused step.answer) r.history) (list_any (λ step. is_refused step.answer) s.history)
-      ∙ ap (λ q. a.refused || q) (sym (list_any-append (λ step. is_refused step.answer) r.history s.history));
-  quiet = s.quiet ∙ r.quiet;
 }

@@ -67,10 +67,6 @@ serves_serving a b c (inr h) (inr k) = inr
 pub serves_itself : (line : List ℕ) → ServesLine line line
 serves_itself line = inl refl
 
-pub serves_nothing : (line : List ℕ) → ServesLine [] line → line ≡ []
-serves_nothing line (inl h) = sym h
-serves_nothing line (inr h) = let b = h.kept_long in absurd (omega arith)
-
 pub serves_started : (kept line : List ℕ) → ServesLine kept line → (kept ≡ [] → ⊥) → line ≡ [] → ⊥
 serves_started kept line (inl h) some none = some (h ∙ none)
 serves_started kept line (inr h) some none = let b : 65540 ≤ length line = h.line_long in let z : length line

@@ -11,9 +11,9 @@ use Rattle.cdi_script.specs.Commands.{Mode, commands_of_line, commands_of_lines,
 use Rattle.cdi_script.specs.Begun.{ServesMode, ServesTaken}
 use Rattle.cdi_script.specs.Runner.{Runs, RunsStep, Tries}
 use Rattle.cdi_script.specs.Intake.{IntakeOn, TakesLine, Advances, EndsLastLine, EndsMode}
-use Rattle.cdi_script.specs.Intake.{Tried, TriesLine, TriesBytes, TriesLastLine, TriesMode}
+use Rattle.cdi_script.specs.Intake.{Tried, TriesLine, TriesBytes, TriesLastLine}
 use Rattle.cdi_script.proofs.Runs.{runs_none, runs_one}
-use Rattle.cdi_script.proofs.Serving.{serves_serving, serves_more, serves_itself, serves_nothing, serves_started}
+use Rattle.cdi_script.proofs.Serving.{serves_serving, serves_more, serves_itself, serves_started}
 use Rattle.cdi_script.proofs.Alike.{runs_no_command, runs_command, tries_command}
 use Rattle.cdi_script.proofs.Open.{serves_taken, serves_serving_taken, serves_unclosed}
 use Rattle.cdi_script.proofs.Trying.{tries_among}
@@ -105,25 +105,11 @@ ends_last old new some h = record {
   mode = λ mode line k. rw (last_of line (serves_started old.line line k.line_serves some)) ((h.keeps mode line k).mode_serves);
 }
 
-pub ends_none : (s : IntakeOn) → s.line ≡ [] → EndsLastLine s s
-ends_none s none = record {
-  runs = λ mode line k.
-      let is : line ≡ [] = serves_nothing line (subst (λ l. ServesLine l line) none k.line_serves) in
-      rw is (runs_none s.runner);
-  mode = λ mode line k.
-      let is : line ≡ [] = serves_nothing line (subst (λ l. ServesLine l line) none k.line_serves) in
-      rw is k.mode_serves;
-}
-
 -- what is open was refused
 pub refuses_open : (old new : IntakeOn) → unclosed old.mode ≡ Unreadable ∷ [] → RunsStep old.runner new.runner Unreadable
     → EndsMode old new
 refuses_open old new is step mode sm = subst (Runs old.runner new.runner) (sym is ∙ serves_unclosed old.mode mode sm)
     (runs_one old.runner new.runner Unreadable step)
-
--- nothing is open
-pub ends_closed : (s : IntakeOn) → unclosed s.mode ≡ [] → EndsMode s s
-ends_closed s is mode sm = subst (Runs s.runner s.runner) (sym is ∙ serves_unclosed s.mode mode sm) (runs_none s.runner)
 
 -- ---- what was carried out where memory was wanted
 
@@ -148,10 +134,6 @@ tries_end old mid new piece kept no_feed is same stays h mode line k =
 -- the last line
 pub tries_last : (old new : IntakeOn) → (old.line ≡ [] → ⊥) → TriesBytes old new (feed ∷ []) → TriesLastLine old new
 tries_last old new some h mode line k = rw (last_of line (serves_started old.line line k.line_serves some)) (h mode line k)
-
--- the refusal of what is open
-pub tries_refusal : (old new : IntakeOn) → unclosed old.mode ≡ Unreadable ∷ [] → Tried old new (Unreadable ∷ []) → TriesMode old new
-tries_refusal old new is h mode sm = subst (Tried old new) (sym is ∙ serves_unclosed old.mode mode sm) h
 
 -- a part of the bytes
 pub tries_more_bytes : (old new : IntakeOn) (front behind bytes : List ℕ) → bytes ≡ front ++ behind

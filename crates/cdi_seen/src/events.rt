@@ -3,22 +3,16 @@ ghost use Rattle.std.specs.Prelude.{◌≡◌, IfOk};
 ghost use Rattle.std.specs.List.{list_all};
 ghost use Rattle.cdi_effective.specs.Beans.{beans};
 ghost use Rattle.cdi_observe.specs.Keys.{EventKey};
+ghost use Rattle.cdi_observe.specs.Lent.{lent_at, lent_in};
 ghost use Rattle.cdi_observe.specs.Observers.{observing};
 ghost use Rattle.cdi_observe.specs.Sees.{seen_observer};
-ghost use Rattle.cdi_seen.specs.Lent.{lent_at, lent_in};
 ghost use Rattle.cdi_seen.specs.Touched.{declare_alike, is_touched, observers_alike, same_seen_observer, EventTouchedByParts};
 
 use crate::qualifiers::same_qualifier;
 use crate::uses::same_uses;
-use cdi_model::{BeanDecl, Decls, Name, ObserverDecl, Qual, UseKind};
+use cdi_model::{Decls, Name, Qual, UseKind};
+use cdi_observe::LentObserver;
 use std::alloc::{AllocError, Global};
-
-/// An observer method and the bean that declares it, lent.
-#[derive(Clone, Copy)]
-pub struct LentObserver<'a> {
-    pub bean: &'a BeanDecl,
-    pub method: &'a ObserverDecl,
-}
 
 /// Whether an edit touches the question for the observer methods of an event (CDI 4.0, Observer resolution). It sees the
 /// observer methods of enabled beans that observe a type of it, in order, with their qualifiers. It also sees the

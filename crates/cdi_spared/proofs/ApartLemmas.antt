@@ -51,11 +51,6 @@ words-front w xs ys none = (or_parts (words_have xs w) (words_have ys w) (sym (l
 words-back : (w : Word) (xs ys : List Word) → words_have (xs ++ ys) w ≡ false → words_have ys w ≡ false
 words-back w xs ys none = (or_parts (words_have xs w) (words_have ys w) (sym (list_any-append (λ v. same_word v w) xs ys) ∙ none)).1
 
-words-each : {A : Type 0} (w : Word) (f : A → List Word) (xs : List A) → words_have (flat_map f xs) w ≡ false
-    → AllByRecursion (λ x. words_have (f x) w ≡ false) xs
-words-each w f [] none = tt
-words-each w f (x ∷ xs) none = (words-front w (f x) (flat_map f xs) none, words-each w f xs (words-back w (f x) (flat_map f xs) none))
-
 -- a word is among those that begin with it
 pub first-has : (w : Word) (ws : List Word) → words_have (w ∷ ws) w ≡ true
 first-has w ws = or_left (same_word w w) (words_have ws w) (same_word_equiv.refl w)

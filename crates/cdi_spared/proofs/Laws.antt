@@ -2,19 +2,15 @@
 use Rattle.cdi_model.specs.Edits.{edited_all}
 use Rattle.cdi_subjects.proofs.RestLemmas.{faults_rest_on}
 use Rattle.cdi_spared.specs.Apart.{ApartAreSpared}
-use Rattle.cdi_spared.specs.Spared.{BeansStayAlike, SparedKeepFaults}
+use Rattle.cdi_spared.specs.Spared.{SparedKeepFaults}
 use Rattle.cdi_spared.specs.Unconcerned.{UnconcernedAreApart}
 use Rattle.cdi_spared.proofs.ApartLemmas.{apart-spared}
-use Rattle.cdi_spared.proofs.BeanLemmas.{bean-alike}
 use Rattle.cdi_spared.proofs.SparedLemmas.{seen-alike}
 use Rattle.cdi_spared.proofs.UnconcernedLemmas.{unconcerned-apart}
 
 pub spared_keep_faults : SparedKeepFaults
 spared_keep_faults edits ds told d found tells spared code book =
     faults_rest_on code ds (edited_all ds edits) book d (seen-alike edits ds told tells d found spared)
-
-pub beans_stay_alike : BeansStayAlike
-beans_stay_alike edits ds told id tells spared chains = bean-alike edits ds told tells id spared chains
 
 pub apart_are_spared : ApartAreSpared
 apart_are_spared edits ds told d found tells apart = apart-spared edits told ds d found tells apart

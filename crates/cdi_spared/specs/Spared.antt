@@ -1,7 +1,6 @@
 -- Which declarations edits spare: what their faults rest on stays.
-use Rattle.std.specs.Prelude.{◌≡◌, ⊤, ℕ, Bool, false, List, Option, Some, None, option_map, IfSome}
+use Rattle.std.specs.Prelude.{◌≡◌, ⊤, ℕ, false, List, Option, Some, None, IfSome}
 use Rattle.std.specs.List.{AllByRecursion}
-use Rattle.std.specs.Option.{option_map_or}
 use Rattle.cdi_bodies.specs.Book.{Promised}
 use Rattle.cdi_model.specs.Decl.{key_of, kind_of, name_of_decl}
 use Rattle.cdi_model.specs.DeclKey.{key_at}
@@ -16,26 +15,15 @@ use Rattle.cdi_model.specs.declared.decl.Kind.TheVariants as kinds
 use Rattle.cdi_model.specs.declared.decl.UseKind.TheVariants as uses
 use Rattle.cdi_model.specs.declared.edit.Edit.{Edit}
 use Rattle.cdi_model.specs.declared.key.DeclKey.{DeclKey}
-use Rattle.cdi_model.specs.declared.place.BeanPlace.{BeanPlace}
 use Rattle.cdi_match.specs.Locality.{stereotype_reads}
 use Rattle.cdi_effective.specs.Beans.{entries}
 use Rattle.cdi_effective.specs.Specialized.{specialized}
-use Rattle.cdi_effective.specs.declared.records.BeanId.{BeanId}
 use Rattle.cdi_effective.specs.declared.records.Effective.{Effective}
-use Rattle.cdi_intercept.specs.Chains.{chain_of}
 use Rattle.cdi_index.specs.Told.{Tells}
 use Rattle.cdi_observe.specs.Wanted.{points_of}
 use Rattle.cdi_faults.specs.declared.fault.Code.{Code}
-use Rattle.cdi_subjects.specs.Rests.{named_in, IsAnsweredAlike, IsBeanAlike}
+use Rattle.cdi_subjects.specs.Rests.{named_in, IsAnsweredAlike}
 use Rattle.cdi_subjects.specs.Subjects.{subjects_at_fault}
-
--- the kind and name of what is named in a place
-abbrev pub key_in : Mention → Option DeclKey
-key_in m = option_map (λ named. key_at named.0 named.1) (named_in m)
-
--- it is one of these
-abbrev pub writes_in : List DeclKey → Mention → Bool
-writes_in keys m = option_map_or (is_among keys) (key_in m) false
 
 -- what is named in a place is not edited
 abbrev pub IsNotEdited : List DeclKey → Option (Kind × List ℕ) → Type 0
@@ -84,11 +72,3 @@ SparedKeepFaults = (edits : List Edit) (ds : List Decl) (told : List DeclKey) (d
     → find_decl (kind_of d) (name_of_decl d) ds ≡ Some d → Tells ds (edited_all ds edits) (edited_keys edits) told
     → IsSpared ds edits told d → (code : Code) (book : List Promised)
     → subjects_at_fault code ds book d ≡ subjects_at_fault code (edited_all ds edits) book d
-
--- A bean that is not affected, whose places have the interceptors that they had, needs a subclass just where it did, and has the same
--- methods.
-abbrev pub BeansStayAlike : Type 0
-BeansStayAlike = (edits : List Edit) (ds : List Decl) (told : List DeclKey) (id : BeanId)
-    → Tells ds (edited_all ds edits) (edited_keys edits) told → is_among told (key_at kinds.Bean id.class) ≡ false
-    → ((place : BeanPlace) → chain_of (edited_all ds edits) id.class place ≡ chain_of ds id.class place)
-    → IsBeanAlike ds (edited_all ds edits) id

@@ -31,7 +31,7 @@ use Rattle.cdi_effective.specs.declared.records.BeanId.{BeanId}
 use Rattle.cdi_effective.specs.declared.records.Effective.{Effective}
 use Rattle.cdi_resolve.specs.Choices.{Candidate, candidate, choice_of, chosen, eligible, is_eligible, only, among}
 use Rattle.cdi_resolve.specs.Choices.{greatest, is_greatest, alternatives, offers}
-use Rattle.cdi_resolve.specs.Position.{is_told_by}
+use Rattle.cdi_staging.specs.Positions.{is_told_by}
 use Rattle.cdi_resolve.specs.declared.choice.Choice.TheVariants.{One}
 use Rattle.cdi_staging.specs.Sites.{position_of_bean, position_of_class}
 use Rattle.cdi_staging.specs.Staged.{class_of, scene_of, sight_of, staged_beans, staged_managed, staged_product, managed_form}

@@ -1,3 +1,4 @@
+mod PositionLemmas
 mod SplitLemmas
 mod BesideLemmas
 mod ChosenLemmas

@@ -42,7 +42,7 @@ use Rattle.cdi_scene.specs.declared.scene.Via.TheVariants.{Own, Param}
 use Rattle.cdi_effective.specs.Beans.{beans, effective, entries, managed, product}
 use Rattle.cdi_effective.specs.Disposers.{disposer_of}
 use Rattle.cdi_effective.specs.declared.records.BeanId.{BeanId}
-use Rattle.cdi_resolve.specs.Position.{is_told_by}
+use Rattle.cdi_staging.specs.Positions.{is_told_by}
 use Rattle.cdi_intercept.specs.Chains.{in_order, part_for, surrounds_one}
 use Rattle.cdi_intercept.specs.Sets.{set_by, sets_of}
 use Rattle.cdi_intercept.proofs.ChainLemmas.{IsPlace, construct_place, in_order-declared, method_place, post_place, pre_place}

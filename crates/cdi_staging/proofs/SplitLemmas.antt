@@ -185,30 +185,6 @@ product-pushed ds list book own c x xs xs' p ps ps' rest chosen left n olds news
     ∙ ap (λ qs. olds ++ products_by ds list book own c xs qs rest) (sym second)
     ∙ before
 
--- the records of the first declaration stand first
-pub first-records : (ds left others : List Decl) (d : Decl) (rest : List Effective) → left ≡ d ∷ others
-    → rest ≡ flat_map (entries ds) left → rest ≡ entries ds d ++ flat_map (entries ds) others
-first-records ds left others d rest begins are = are ∙ ap (flat_map (entries ds)) begins
-
-pub records-within : (ds left others : List Decl) (d : Decl) (rest : List Effective) (n : ℕ) → left ≡ d ∷ others
-    → rest ≡ flat_map (entries ds) left → n ≡ length (entries ds d) → n ≤ length rest
-records-within ds left others d rest n begins are count =
-    let all : length rest ≡ length (entries ds d) + length (flat_map (entries ds) others) =
-    ap length (first-records ds left others d rest begins are) ∙ length-append (entries ds d) (flat_map (entries ds) others) in
-    omega arith
-
-pub records-first : (ds left others : List Decl) (d : Decl) (rest : List Effective) (n : ℕ) → left ≡ d ∷ others
-    → rest ≡ flat_map (entries ds) left → n ≡ length (entries ds d) → take n rest ≡ entries ds d
-records-first ds left others d rest n begins are count =
-    ap (take n) (first-records ds left others d rest begins are)
-    ∙ take_at (entries ds d) (flat_map (entries ds) others) n (sym count)
-
-pub records-behind : (ds left others : List Decl) (d : Decl) (rest : List Effective) (n : ℕ) → left ≡ d ∷ others
-    → rest ≡ flat_map (entries ds) left → n ≡ length (entries ds d) → drop n rest ≡ flat_map (entries ds) others
-records-behind ds left others d rest n begins are count =
-    ap (drop n) (first-records ds left others d rest begins are)
-    ∙ drop_at (entries ds d) (flat_map (entries ds) others) n (sym count)
-
 -- the answers to the next declaration stand first
 pub first-answers : {L : Type 0} (value : L → List Choice) (ds left others : List Decl) (d : Decl) (lists rest : List L) (own : L)
     → lists ≡ own ∷ rest → left ≡ d ∷ others → map value lists ≡ map (answers_of ds) left

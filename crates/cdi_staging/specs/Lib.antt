@@ -1,3 +1,4 @@
+pub mod Positions
 pub mod Sites
 pub mod Notifying
 pub mod Staged

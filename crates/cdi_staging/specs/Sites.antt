@@ -13,7 +13,7 @@ use Rattle.cdi_scene.specs.declared.scene.Via.TheVariants.{Own, Param}
 use Rattle.cdi_effective.specs.Disposers.{find_bean}
 use Rattle.cdi_effective.specs.declared.records.BeanId.{BeanId}
 use Rattle.cdi_effective.specs.declared.records.Effective.{Effective}
-use Rattle.cdi_resolve.specs.Position.{is_told_by}
+use Rattle.cdi_staging.specs.Positions.{is_told_by}
 use Rattle.cdi_resolve.specs.declared.choice.Choice.{Choice}
 use Rattle.cdi_resolve.specs.declared.choice.Choice.TheVariants as choices
 use Rattle.cdi_staging.specs.declared.target.Target.{Target}

@@ -10,6 +10,7 @@ ghost use Rattle.cdi_staging.specs.Shown.{around_in, class_in, HasProducer, IsCl
 ghost use Rattle.cdi_staging.specs.Staged.{around_of, class_chain, injections_around, injections_from, places_from, producer_chain};
 ghost use Rattle.cdi_staging.specs.Staged.{staged_interceptor, targets};
 
+use crate::positions::ListedBeans;
 use crate::site::Visible;
 use crate::stage::Stage;
 use crate::target::{Target, targets_of};
@@ -17,7 +18,7 @@ use cdi_bodies::Bodies;
 use cdi_contexts::Actor;
 use cdi_model::{BeanDecl, BeanPlace, Decl, Decls, InterceptorDecl, Name, ProducerDecl, Qual, Seq};
 use cdi_observe::{View, chain_at, interceptors_of};
-use cdi_resolve::{BeanList, Choice};
+use cdi_resolve::Choice;
 use cdi_scene::{Injection, Interceptor, position_at};
 use std::alloc::{AllocError, Global};
 use std::rc::Rc;
@@ -41,7 +42,7 @@ pub(crate) struct Class<'a> {
 pub(crate) fn around_of<'a>(
     alloc: Global,
     decls: &'a Decls,
-    beans: &BeanList,
+    beans: &ListedBeans<'_>,
     answers: &[Vec<Rc<Choice>>],
 ) -> Result<Vec<Around<'a>>, AllocError>
     requires beans { beans.now ≡ beans_of decls.now }
@@ -57,7 +58,7 @@ pub(crate) fn around_of<'a>(
 fn enabled<'a>(
     alloc: Global,
     decls: &'a Decls,
-    beans: &BeanList,
+    beans: &ListedBeans<'_>,
     answers: &[Vec<Rc<Choice>>],
 ) -> Result<Vec<Around<'a>>, AllocError>
     requires beans { beans.now ≡ beans_of decls.now }

@@ -9,6 +9,7 @@ ghost use Rattle.cdi_staging.specs.Staged.{unused_managed, unused_product, manag
 
 use crate::around::Class;
 use crate::part::empty_place;
+use crate::positions::ListedBeans;
 use crate::site::Visible;
 use crate::stage::Stage;
 use crate::target::{Target, position_of_class};
@@ -18,7 +19,6 @@ use cdi_model::{
     BeanDecl, BeanPlace, DisposerDecl, Ident, ObserverDecl, PointDecl, ProducerDecl, Seq,
 };
 use cdi_observe::View;
-use cdi_resolve::BeanList;
 use cdi_scene::{Bean, Form, Managed, Observer, Part, Product, position_at};
 use std::alloc::{AllocError, Global};
 
@@ -59,7 +59,11 @@ fn unused_managed(alloc: Global) -> Managed
 }
 
 /// The placeholder for a product that is not enabled.
-fn unused_product(alloc: Global, beans: &BeanList, bean: &BeanDecl) -> Result<Product, AllocError>
+fn unused_product(
+    alloc: Global,
+    beans: &ListedBeans<'_>,
+    bean: &BeanDecl,
+) -> Result<Product, AllocError>
     ensures { IfOk result (λ made. made ≡ unused_product beans.now bean.now) }
 {
     Ok(Product {

@@ -7,6 +7,7 @@ mod bean;
 mod names;
 mod notifying;
 mod part;
+mod positions;
 mod scene;
 mod site;
 mod stage;
@@ -14,6 +15,7 @@ mod target;
 
 pub use names::{BeanNames, InterceptorNames, MethodNames, Names, SiteNames, names_of};
 pub use notifying::positions_of;
+pub use positions::{ListedBeans, Positions};
 pub use scene::scene_of;
 pub use site::method_of;
 pub use target::{Target, target_of};

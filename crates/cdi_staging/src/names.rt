@@ -1,21 +1,20 @@
 //! The names of what is in a scene, by position, for those who print a trace.
 ghost use Rattle.std.specs.Prelude.{◌≡◌, ◌++◌, List, length, map, IfOk, OnOk, option_copied};
 ghost use Rattle.std.specs.List.{flat_map};
-ghost use Rattle.cdi_effective.specs.Beans.{beans as beans_of, product};
+ghost use Rattle.cdi_effective.specs.Beans.{product};
 ghost use Rattle.cdi_effective.specs.Disposers.{disposer_of};
 ghost use Rattle.cdi_effective.specs.Beans.{entries};
 ghost use Rattle.cdi_intercept.specs.Chains.{in_order};
 ghost use Rattle.cdi_staging.specs.Naming.{interceptor_names, managed_names, method_names, names_in, names_of};
 ghost use Rattle.cdi_staging.specs.Naming.{no_sites, observer_names, product_names, sites_in, sites_of};
 
-use crate::scene::record_count;
 use cdi_effective::{BeanId, Effective, disposer_of};
 use cdi_intercept::in_order;
 use cdi_model::{
     BeanDecl, CallDecl, Decl, Decls, EventDecl, Ident, InterceptorDecl, MethodDecl, Name,
     ObserverDecl, PartDecl, ProducerDecl, Seq,
 };
-use cdi_resolve::BeanList;
+use cdi_observe::{View, records_of_decl};
 use std::alloc::{AllocError, Global};
 
 /// What a part writes at its call sites and at its fire sites.
@@ -229,19 +228,15 @@ fn push_names(
     push_products(alloc, decls, bean, &records[1..], list)
 }
 
-/// The names of some declarations whose bean list this is. It takes memory for them, and time near the size of the
-/// declarations.
+/// The names of the declarations of a view. It takes memory for them, and time near the size of the declarations.
 #[tactic(auto, unfolding(crate::specs::Naming::names_of))]
-pub fn names_of(alloc: Global, decls: &Decls, beans: &BeanList) -> Result<Names, AllocError>
-    requires { beans.now ≡ beans_of decls.now }
-    ensures { IfOk result (λ names. names ≡ names_of decls.now) }
+pub fn names_of<V: View>(alloc: Global, view: &V) -> Result<Names, AllocError>
+    ensures { IfOk result (λ names. names ≡ names_of (V.list view.now)) }
 {
-    let mut rest = beans.as_slice();
-    let mut list = Vec::with_capacity(alloc, rest.len())?;
+    let decls = view.decls();
+    let mut list = Vec::new(alloc);
     for decl in decls.iter() {
-        let (records, others) = rest.split_at(record_count(decl));
-        push_names(alloc, decls, decl, records, &mut list)?;
-        rest = others;
+        push_names(alloc, decls, decl, records_of_decl(view, decl), &mut list)?;
     }
     Ok(Names {
         beans: Seq::from_vec(list),

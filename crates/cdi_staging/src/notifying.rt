@@ -4,10 +4,10 @@ ghost use Rattle.cdi_effective.specs.Beans.{beans as beans_of};
 ghost use Rattle.cdi_effective.specs.Disposers.{find_bean};
 ghost use Rattle.cdi_staging.specs.Notifying.{fired_at, is_observer, notified_as, notified_at, notified_in, observer_declared, position_of_observer, IsHost};
 
+use crate::positions::ListedBeans;
 use crate::target::position_of_class;
 use cdi_model::{Decl, Decls, EventDecl, Ident, Kind, Name, ObserverDecl, Qual, Seq};
-use cdi_observe::{ObserverId, View, notified_of};
-use cdi_resolve::BeanList;
+use cdi_observe::{ObserverId, View, notified_of, records_of_all};
 use cdi_scene::{Notified, position_at};
 use std::alloc::{AllocError, Global};
 
@@ -42,7 +42,7 @@ struct Host<'a> {
 }
 
 impl<'a> Host<'a> {
-    fn of(decls: &'a Decls, beans: &BeanList, class: Name) -> Host<'a>
+    fn of(decls: &'a Decls, beans: &ListedBeans<'_>, class: Name) -> Host<'a>
         ensures host { IsHost decls.now beans.now result }
         ensures class { result.class ≡ class }
     {
@@ -69,7 +69,7 @@ impl<'a> Host<'a> {
 pub fn positions_of(
     alloc: Global,
     decls: &Decls,
-    beans: &BeanList,
+    beans: &ListedBeans<'_>,
     ids: &[ObserverId],
 ) -> Result<Seq<Notified>, AllocError>
     ensures { IfOk result (λ list. list ≡ map (notified_as decls.now beans.now) ids.now) }
@@ -92,16 +92,19 @@ pub fn positions_of(
 /// scene of the declarations whose bean list this is (CDI 4.0, Observer resolution; Observer ordering). It takes memory for
 /// them, for the types of the event and for the observer methods of these types.
 #[tactic(auto, unfolding(crate::specs::Notifying::notified_at))]
-fn notified_at(
+fn notified_at<V: View>(
     alloc: Global,
-    decls: &Decls,
-    beans: &BeanList,
-    event_type: Name,
-    quals: &[Qual],
+    view: &V,
+    beans: &ListedBeans<'_>,
+    event: &EventDecl,
 ) -> Result<Seq<Notified>, AllocError>
-    ensures { IfOk result (λ list. list ≡ notified_at decls.now beans.now event_type quals.now) }
+    requires { beans.now ≡ beans_of (V.list view.now) }
+    ensures { IfOk result (λ list. list ≡ fired_at (V.list view.now) beans.now event.now) }
 {
-    let ids = notified_of(alloc, decls, beans.as_slice(), event_type, quals)?;
+    let decls = view.decls();
+    let records = records_of_all(alloc, view)?;
+    let quals = event.qualifiers.as_slice();
+    let ids = notified_of(alloc, decls, &records, event.event_type, quals)?;
     positions_of(alloc, decls, beans, ids.as_slice())
 }
 
@@ -109,7 +112,7 @@ fn notified_at(
 pub(crate) fn fired_at<V: View>(
     alloc: Global,
     view: &V,
-    beans: &BeanList,
+    beans: &ListedBeans<'_>,
     fires: &[EventDecl],
 ) -> Result<Seq<Seq<Notified>>, AllocError>
     requires { beans.now ≡ beans_of (V.list view.now) }
@@ -127,7 +130,7 @@ pub(crate) fn fired_at<V: View>(
 fn notified_by<V: View>(
     alloc: Global,
     view: &V,
-    beans: &BeanList,
+    beans: &ListedBeans<'_>,
     event: &EventDecl,
 ) -> Result<Seq<Notified>, AllocError>
     requires { beans.now ≡ beans_of (V.list view.now) }
@@ -136,12 +139,6 @@ fn notified_by<V: View>(
     let decls = view.decls();
     match view.kept_observers(&event.event_type, &event.qualifiers) {
         Some(ids) => positions_of(alloc, decls, beans, ids.as_slice()),
-        None => notified_at(
-            alloc,
-            decls,
-            beans,
-            event.event_type,
-            event.qualifiers.as_slice(),
-        ),
+        None => notified_at(alloc, view, beans, event),
     }
 }

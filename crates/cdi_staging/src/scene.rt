@@ -1,9 +1,8 @@
 //! The scene of a deployment.
-ghost use Rattle.std.specs.Prelude.{◌≡◌, ◌++◌, List, Some, length, map, take, drop, IfOk, OnOk};
+ghost use Rattle.std.specs.Prelude.{◌≡◌, ◌++◌, Some, length, map, take, drop, IfOk, OnOk};
 ghost use Rattle.std.specs.List.{flat_map};
 ghost use Rattle.cdi_model.specs.Decl.{kind_of, name_of_decl};
 ghost use Rattle.cdi_model.specs.DeclList.{AreDistinct, find_decl};
-ghost use Rattle.cdi_model.specs.declared.decl.Decl.{Decl as AnyDecl};
 ghost use Rattle.cdi_effective.specs.Beans.{beans as beans_of, entries, records as records_of};
 ghost use Rattle.cdi_effective.specs.Disposers.{find_bean};
 ghost use Rattle.cdi_observe.specs.Answers.{answers as all_answers, answer_to};
@@ -16,14 +15,15 @@ ghost use Rattle.cdi_staging.specs.Sites.{sight_in};
 ghost use Rattle.cdi_staging.specs.Staged.{scene_of, staged_beans, beans_by, products_by};
 
 use crate::around::{Class, around_of};
+use crate::positions::ListedBeans;
 use crate::site::Visible;
 use crate::stage::Stage;
 use crate::target::{Target, targets_of};
 use cdi_bodies::Bodies;
 use cdi_effective::Effective;
 use cdi_model::{BeanDecl, Decl, ProducerDecl, Seq};
-use cdi_observe::View;
-use cdi_resolve::{BeanList, Choice};
+use cdi_observe::{View, records_of_decl};
+use cdi_resolve::Choice;
 use cdi_scene::{Bean, Scene};
 use std::alloc::{AllocError, Global};
 use std::rc::Rc;
@@ -38,7 +38,7 @@ use std::rc::Rc;
 pub fn scene_of<V: View, B: Bodies>(
     alloc: Global,
     view: &V,
-    beans: &BeanList,
+    beans: &ListedBeans<'_>,
     answers: &[Vec<Rc<Choice>>],
     book: &B,
 ) -> Result<Scene, AllocError>
@@ -63,16 +63,6 @@ pub fn scene_of<V: View, B: Bodies>(
     })
 }
 
-/// How many beans a declaration gives.
-pub(crate) fn record_count(decl: &Decl) -> usize
-    ensures { (ds : List AnyDecl) → result ≡ length (entries ds decl.now) }
-{
-    match decl {
-        Decl::Bean(bean) => 1 + bean.producers.as_slice().len(),
-        _ => 0,
-    }
-}
-
 /// Of what is chosen for the parameters of the producer methods of a bean and after them for those of its observer
 /// methods, that for the former and that for the latter.
 fn split_params<'a, T>(producers: &[ProducerDecl], chosen: &'a [T]) -> (&'a [T], &'a [T])
@@ -94,12 +84,10 @@ impl<'a, V: View, B: Bodies> Stage<'a, V, B> {
         ensures { IfOk result (λ list. list.items
             ≡ flat_map (staged_beans (V.list self.now.view.now) (B.promises self.now.book.now)) (V.list self.now.view.now)) }
     {
-        let mut rest = self.beans.as_slice();
-        let mut list = Vec::with_capacity(self.alloc, rest.len())?;
+        let mut list = Vec::with_capacity(self.alloc, self.beans.count())?;
         for (decl, own) in self.view.decls().iter().zip(answers) {
-            let (records, others) = rest.split_at(record_count(decl));
+            let records = records_of_decl(self.view, decl);
             self.push_of_decl(decl, records, own.as_slice(), &mut list)?;
-            rest = others;
         }
         Ok(list)
     }

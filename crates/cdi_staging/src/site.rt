@@ -4,9 +4,9 @@ ghost use Rattle.cdi_effective.specs.Disposers.{find_bean};
 ghost use Rattle.cdi_staging.specs.Sites.{sight_in, is_method, is_point, method_declared, method_of, site_at};
 ghost use Rattle.cdi_staging.specs.Sites.{target_at, site_of};
 
+use crate::positions::ListedBeans;
 use crate::target::{Target, nowhere};
 use cdi_model::{CallDecl, Decl, Decls, Ident, Kind, MethodDecl, Name, PointDecl, Seq};
-use cdi_resolve::BeanList;
 use cdi_scene::{CallSite, Via, position_at};
 use std::alloc::{AllocError, Global};
 
@@ -78,7 +78,7 @@ fn site_at(decls: &Decls, via: Via, target: Target, name: Ident) -> Result<CallS
     })
 }
 
-fn target_at(beans: &BeanList, targets: &[Target], position: usize) -> Target
+fn target_at(beans: &ListedBeans<'_>, targets: &[Target], position: usize) -> Target
     ensures { result ≡ target_at beans.now targets.now position }
 {
     match targets.get(position) {
@@ -90,7 +90,7 @@ fn target_at(beans: &BeanList, targets: &[Target], position: usize) -> Target
 #[tactic(auto, unfolding(crate::specs::Sites::site_of))]
 fn site_of(
     decls: &Decls,
-    beans: &BeanList,
+    beans: &ListedBeans<'_>,
     sight: Visible<'_>,
     call: CallDecl,
 ) -> Result<CallSite, AllocError>
@@ -109,7 +109,7 @@ fn site_of(
 pub(crate) fn sites_of(
     alloc: Global,
     decls: &Decls,
-    beans: &BeanList,
+    beans: &ListedBeans<'_>,
     sight: Visible<'_>,
     calls: &[CallDecl],
 ) -> Result<Seq<CallSite>, AllocError>

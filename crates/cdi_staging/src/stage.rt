@@ -5,9 +5,9 @@ ghost use Rattle.cdi_staging.specs.Shown.{around_in};
 ghost use Rattle.cdi_staging.specs.Staged.{around_of};
 
 use crate::around::Around;
+use crate::positions::ListedBeans;
 use cdi_bodies::Bodies;
 use cdi_observe::View;
-use cdi_resolve::BeanList;
 use std::alloc::Global;
 
 /// The declarations with the answers that are kept, their bean list, the interceptors that are enabled, and the book of
@@ -16,7 +16,7 @@ use std::alloc::Global;
 pub(crate) struct Stage<'a, V: View, B: Bodies> {
     pub(crate) alloc: Global,
     pub(crate) view: &'a V,
-    pub(crate) beans: &'a BeanList,
+    pub(crate) beans: &'a ListedBeans<'a>,
     pub(crate) around: &'a [Around<'a>],
     pub(crate) book: &'a B,
     ghost listed: { beans.now ≡ beans_of (V.list view.now) },

@@ -2,9 +2,10 @@
 ghost use Rattle.std.specs.Prelude.{◌≡◌, ◌<◌, map, IfOk};
 ghost use Rattle.cdi_staging.specs.Sites.{managed_class, nowhere, position_of_bean, position_of_class, target_of};
 
+use crate::positions::ListedBeans;
 use cdi_effective::BeanId;
 use cdi_model::Name;
-use cdi_resolve::{BeanList, Choice};
+use cdi_resolve::Choice;
 use std::alloc::{AllocError, Global};
 use std::rc::Rc;
 
@@ -18,29 +19,29 @@ pub struct Target {
 }
 
 /// The position of a bean, or the one after the last.
-fn position_of_bean(beans: &BeanList, id: BeanId) -> usize
-    ensures { result ≡ position_of_bean beans.now id }
+fn position_of_bean(beans: &ListedBeans<'_>, id: &BeanId) -> usize
+    ensures { result ≡ position_of_bean beans.now id.now }
 {
-    beans.position(id).unwrap_or(beans.as_slice().len())
+    beans.position(id).unwrap_or(beans.count())
 }
 
 /// The position of the managed bean of a class, or the one after the last.
-pub(crate) fn position_of_class(beans: &BeanList, class: Name) -> usize
+pub(crate) fn position_of_class(beans: &ListedBeans<'_>, class: Name) -> usize
     ensures { result ≡ position_of_class beans.now class }
 {
     let id = BeanId {
         class,
         producer: None,
     };
-    position_of_bean(beans, id)
+    position_of_bean(beans, &id)
 }
 
 /// No bean: the position after the last.
-pub(crate) fn nowhere(beans: &BeanList) -> Target
+pub(crate) fn nowhere(beans: &ListedBeans<'_>) -> Target
     ensures { result ≡ nowhere beans.now }
 {
     Target {
-        bean: beans.as_slice().len(),
+        bean: beans.count(),
         class: None,
     }
 }
@@ -57,12 +58,12 @@ fn managed_class(id: &BeanId) -> Option<Name>
 
 /// Where a choice leads. It takes no memory.
 #[tactic(auto, unfolding(crate::specs::Sites::target_of))]
-pub fn target_of(beans: &BeanList, choice: &Choice) -> Target
+pub fn target_of(beans: &ListedBeans<'_>, choice: &Choice) -> Target
     ensures { result ≡ target_of beans.now choice.now }
 {
     match choice {
         Choice::One(id) => Target {
-            bean: position_of_bean(beans, *id),
+            bean: position_of_bean(beans, id),
             class: managed_class(id),
         },
         Choice::Unsatisfied | Choice::Ambiguous(_) => nowhere(beans),
@@ -72,7 +73,7 @@ pub fn target_of(beans: &BeanList, choice: &Choice) -> Target
 /// The beans of some answers, in order.
 pub(crate) fn targets_of(
     alloc: Global,
-    beans: &BeanList,
+    beans: &ListedBeans<'_>,
     answers: &[Rc<Choice>],
 ) -> Result<Vec<Target>, AllocError>
     ensures { IfOk result (λ list. list.items ≡ map (λ answer. target_of beans.now answer.value) answers.now) }

@@ -1,6 +1,5 @@
 -- What all declarations give stays, where what is affected gives nothing and each other one gives the same.
-use Rattle.std.proofs.Common.{◌≡◌, Bool, true, false, not, ◌&&◌, List, [], ◌∷◌, ◌++◌, map, flat_map, refl, sym, ap, ◌∙◌, inl, inr}
-use Rattle.std.proofs.lemmas.Bool.{both_ways, cases_Bool}
+use Rattle.std.proofs.Common.{◌≡◌, Bool, true, false, not, ◌&&◌, List, [], ◌∷◌, ◌++◌, map, flat_map, refl, sym, ap, ◌∙◌}
 use Rattle.cdi_model.specs.Decl.{key_of, kind_of, name_of_decl}
 use Rattle.cdi_model.specs.DeclKey.{key_at}
 use Rattle.cdi_model.specs.DeclList.{AreDistinct}
@@ -16,14 +15,11 @@ use Rattle.cdi_effective.specs.Reads.{qualifier_reads, record_reads}
 use Rattle.cdi_effective.specs.Specialized.{is_replaced}
 use Rattle.cdi_effective.specs.declared.records.Effective.{Effective}
 use Rattle.cdi_effective.proofs.RecordLemmas.{edits_keep_own_records, records_are_own}
-use Rattle.cdi_observe.specs.Keys.{Key, has_key}
-use Rattle.cdi_observe.specs.Wanted.{is_wanted, wanted_by}
+use Rattle.cdi_observe.specs.Wanted.{wanted_by}
 use Rattle.cdi_model.specs.Giving.{LeaveGiven}
 use Rattle.cdi_model.proofs.GivingLemmas.{edits_keep_given}
 use Rattle.cdi_stakes.specs.Rests.{IsPresent, given_reads, method_reads, own_reads, rests, TellsAffected}
-use Rattle.cdi_stakes.specs.Stakes.{AreStakes}
-use Rattle.cdi_stakes.proofs.PresentLemmas.{all_present, each_all, witness}
-use Rattle.cdi_stakes.proofs.UseLemmas.{avoid_of}
+use Rattle.cdi_stakes.proofs.PresentLemmas.{all_present, each_all}
 
 -- ---- the parts of what a declaration rests on
 
@@ -36,15 +32,6 @@ unfolding rests
 avoid_given edits ds d avoid =
     avoid-first edits (given_reads ds d) (flat_map (own_reads ds) (wanted_by d))
     (avoid-second edits (key_of d ∷ []) (given_reads ds d ++ flat_map (own_reads ds) (wanted_by d)) avoid)
-
--- the own part of each key that it asks for
-pub avoid_asked : (edits : List Edit) (ds : List Decl) (d : Decl) (key : Key) → has_key (wanted_by d) key ≡ true
-    → Avoid (rests ds d) edits → Avoid (own_reads ds key) edits
-unfolding rests
-avoid_asked edits ds d key asks avoid =
-    avoid_of (own_reads ds) edits (wanted_by d) key asks
-    (avoid-second edits (given_reads ds d) (flat_map (own_reads ds) (wanted_by d))
-    (avoid-second edits (key_of d ∷ []) (given_reads ds d ++ flat_map (own_reads ds) (wanted_by d)) avoid))
 
 -- ---- of a bean
 
@@ -148,16 +135,3 @@ module _ (edits : List Edit) (ds : List Decl) (is_affected : Decl → Bool) (tel
   pub gather : {X : Type 0} (give : List Decl → Decl → List X) → AreDistinct ds → AreDistinct es → Leaves give ds es is_affected
       → flat_map (give es) es ≡ flat_map (give ds) ds
   gather give distinct distinct' h = edits_keep_given give edits ds (leave_given give distinct distinct' h)
-
-  -- what asks for a key that is not at stake is not affected
-  pub asker : (is_at_stake : Key → Bool) → AreDistinct ds → AreStakes ds es is_affected is_at_stake → (key : Key)
-      → is_wanted ds key ≡ true → is_at_stake key ≡ false
-      → (d : Decl) × IsPresent ds d × (has_key (wanted_by d) key ≡ true) × (is_affected d ≡ false)
-  unfolding is_wanted
-  asker is_at_stake distinct stakes key wanted not_at_stake =
-      let found = witness (IsPresent ds) (λ d. has_key (wanted_by d) key) ds (all_present ds distinct) wanted in
-      let apart : is_affected found.0 ≡ false = elim (cases_Bool (is_affected found.0)) [
-        | inl e ↦ absurd (both_ways (is_at_stake key) not_at_stake (stakes.asked found.0 found.1 e key found.2))
-        | inr e ↦ e
-      ] in
-      (found.0, found.1, found.2, apart)

@@ -7,9 +7,4 @@ pub mod ChainLemmas
 pub mod EventLemmas
 pub mod ChoiceLemmas
 pub mod StakeLemmas
-pub mod RestLemmas
-pub mod GiveLemmas
 pub mod NameLemmas
-pub mod WordLemmas
-pub mod CompareLemmas
-pub mod AffectedLemmas

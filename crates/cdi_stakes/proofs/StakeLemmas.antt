@@ -1,6 +1,5 @@
 -- A wanted key that is not at stake is not touched.
 use Rattle.std.proofs.Common.{◌≡◌, Bool, true, false, not, ◌&&◌, ◌||◌, List, refl, sym, ap, ◌∙◌}
-use Rattle.std.proofs.Math.Bool.{and-true}
 use Rattle.std.proofs.lemmas.Bool.{both_ways, false_from_ne_true}
 use Rattle.cdi_model.specs.Decl.{key_of, kind_of, name_of_decl}
 use Rattle.cdi_model.specs.Edits.{edited_all, edited_keys, is_among, Avoid}
@@ -12,15 +11,13 @@ use Rattle.cdi_observe.specs.Wanted.{is_wanted, wanted_by}
 use Rattle.cdi_seen.specs.Touched.{ByChain, ByChoice, ByEvent, is_touched, key_sees, still_known}
 use Rattle.cdi_seen.proofs.SameLemmas.{touched_where_seen_differs}
 use Rattle.cdi_stakes.specs.Rests.{IsPresent, own_reads}
-use Rattle.cdi_stakes.specs.Stakes.{IsUnmet, MetAreAtStake, OthersStayWanted, StakesAreAll, StakesDecideKnown, StakesLeaveKnown}
+use Rattle.cdi_stakes.specs.Stakes.{IsUnmet, MetAreAtStake, OthersStayWanted}
 use Rattle.cdi_stakes.specs.Stakes.{SuspectsDecideKnown, UnmetStayUntouched}
-use Rattle.cdi_stakes.specs.Words.{Asks, AskersAreListed, Bound, Fires, names_under, sought, sought_for}
+use Rattle.cdi_stakes.specs.Words.{sought}
 use Rattle.cdi_stakes.proofs.ChainLemmas.{chain_sees_same}
 use Rattle.cdi_stakes.proofs.ChoiceLemmas.{choice_sees_same}
 use Rattle.cdi_stakes.proofs.EventLemmas.{event_sees_same}
-use Rattle.cdi_stakes.proofs.GatherLemmas.{asker, avoid_asked, avoid_own}
 use Rattle.cdi_stakes.proofs.PresentLemmas.{all_present, found_any, witness}
-use Rattle.cdi_stakes.proofs.UseLemmas.{has_of}
 
 false-from-not : (b : Bool) → not b ≡ true → b ≡ false
 false-from-not false h = refl
@@ -44,46 +41,6 @@ unfolding is_wanted
 others_stay_wanted edits ds d key here apart asks =
     found_any (kind_of d) (name_of_decl d) (edited_all ds edits) d (λ f. has_key (wanted_by f) key)
     (edits_keep_decl edits ds (kind_of d) (name_of_decl d) apart ∙ here) asks
-
-pub stakes_are_all : StakesAreAll
-stakes_are_all edits ds is_affected is_at_stake distinct distinct' tells stakes key wanted apart =
-    let a = asker edits ds is_affected tells is_at_stake distinct stakes key wanted apart in
-    let stays = tells.apart a.0 a.1 a.3 in (
-      unmet_stay_untouched edits ds is_affected distinct distinct' tells key (avoid_asked edits ds a.0 key a.2 stays)
-          (unmet ds stakes.before) (unmet (edited_all ds edits) stakes.after),
-      others_stay_wanted edits ds a.0 key a.1 (avoid_own edits ds a.0 stays) a.2,
-    )
-  where
-    unmet : (list : List Decl) → MetAreAtStake ds list is_affected is_at_stake → IsUnmet ds list is_affected key
-    unmet list met d here e x under = false_from_ne_true (has (sought ds key) x)
-        (λ h. both_ways (is_at_stake key) apart (met d here e key wanted x under h))
-
-pub stakes_leave_known : StakesLeaveKnown
-stakes_leave_known edits ds is_affected is_at_stake distinct distinct' tells stakes knows within key apart = by (knows key) refl
-  where
-    es : List Decl
-    es = edited_all ds edits
-
-    by : (b : Bool) → knows key ≡ b → still_known ds es knows key ≡ knows key
-    by true e =
-        let stays = stakes_are_all edits ds is_affected is_at_stake distinct distinct' tells stakes key (within key e) apart in
-        ap (λ b. knows key && (b && not (is_touched ds es key))) stays.1 ∙ ap (λ b. knows key && not b) stays.0 ∙ and-true (knows key)
-    by false e = ap (λ b. b && (is_wanted es key && not (is_touched ds es key))) e ∙ sym e
-
-pub stakes_decide_known : StakesDecideKnown
-stakes_decide_known edits ds is_affected is_at_stake distinct distinct' tells stakes knows within key = by (is_at_stake key) refl
-  where
-    es : List Decl
-    es = edited_all ds edits
-
-    stays : Bool
-    stays = is_wanted es key && not (is_touched ds es key)
-
-    by : (b : Bool) → is_at_stake key ≡ b → (knows key && stays) ≡ (knows key && (not (is_at_stake key) || stays))
-    by true e = ap (λ b. knows key && (not b || stays)) (sym e)
-    by false e =
-        stakes_leave_known edits ds is_affected is_at_stake distinct distinct' tells stakes knows within key e
-        ∙ sym (and-true (knows key)) ∙ ap (λ b. knows key && (not b || stays)) (sym e)
 
 -- ---- finer
 
@@ -126,9 +83,3 @@ suspects_decide_known edits ds is_affected is_dropped is_suspect distinct distin
     by false e =
         let rest = (not (is_dropped key) || is_wanted es key) && (not (is_suspect key) || not (is_touched ds es key)) in
         ap (λ b. b && (is_wanted es key && not (is_touched ds es key))) e ∙ sym (ap (λ b. b && rest) e)
-
-pub askers_are_listed : AskersAreListed
-unfolding names_under
-askers_are_listed ds d (ChoiceKey t us) asks x h = has_of (sought_for Asks ds) (wanted_by d) (ChoiceKey t us) x asks h
-askers_are_listed ds d (ChainKey class place) asks x h = has_of (sought_for Bound ds) (wanted_by d) (ChainKey class place) x asks h
-askers_are_listed ds d (EventKey t us) asks x h = has_of (sought_for Fires ds) (wanted_by d) (EventKey t us) x asks h

@@ -1,26 +1,19 @@
 -- What each declaration gives to a chain and to an event.
-use Rattle.std.specs.Prelude.{◌≡◌, ℕ, ℤ, Bool, false, true, List, [], map, filter, flat_map, Option}
+use Rattle.std.specs.Prelude.{◌≡◌, ℕ, ℤ, Bool, List, map, filter, flat_map, Option}
 use Rattle.std.specs.Cmp.{IsStrictWeakOrder}
 use Rattle.std.specs.Option.{option_cmp, option_to_list}
 use Rattle.std.specs.Ordering.{int_cmp, is_lt}
-use Rattle.cdi_model.specs.Edits.{edited_all}
 use Rattle.cdi_model.specs.declared.decl.Decl.{Decl}
 use Rattle.cdi_model.specs.declared.decl.InterceptorDecl.{InterceptorDecl}
-use Rattle.cdi_model.specs.declared.edit.Edit.{Edit}
 use Rattle.cdi_model.specs.declared.place.BeanPlace.{BeanPlace}
 use Rattle.cdi_model.specs.declared.quals.Qual.{Qual}
-use Rattle.cdi_match.specs.Chain.{has}
 use Rattle.cdi_match.specs.Types.{types_of}
 use Rattle.cdi_effective.specs.Beans.{beans, entries}
-use Rattle.cdi_effective.specs.Qualifiers.{uses_one}
 use Rattle.cdi_intercept.specs.Chains.{as_interceptor, in_order, is_enabled}
 use Rattle.cdi_intercept.specs.Sees.{SeenInterceptor, is_seen, seen_interceptor}
 use Rattle.cdi_intercept.specs.Sorting.{sorted_by}
 use Rattle.cdi_observe.specs.Observers.{Observer, observers, observes, observing, priority_of}
 use Rattle.cdi_observe.specs.Sees.{SeenObserver, seen_observer}
-use Rattle.cdi_seen.specs.Contribution.{contribution}
-use Rattle.cdi_stakes.specs.Rests.{IsPresent, TellsAffected}
-use Rattle.cdi_stakes.specs.Words.{HasType, Intercepts, Observes, names_under}
 
 -- What is put in order and then filtered is what is filtered and then put in order.
 abbrev pub FilteredInOrder : Type 0 → Type 0
@@ -71,27 +64,3 @@ abbrev pub ObserversByDeclaration : Type 0
 ObserversByDeclaration = (ds : List Decl) (t : List ℕ)
     → map (seen_observer ds) (observing ds (beans ds) t)
     ≡ unranked (sorted_by is_before_observer (flat_map (observer_given (types_of ds t) ds) ds))
-
--- ---- which give something, and which give the same
-
--- What is listed under no name that a key seeks gives it nothing.
-pub record GivesByWords (ds : List Decl) (d : Decl) : Type 0 where
-  pub choice : (t : List ℕ) → has (names_under ds d HasType) t ≡ false → contribution ds t d ≡ []
-  pub chain : (set : List Qual) (place : BeanPlace)
-      → ((x : List ℕ) → has (names_under ds d Intercepts) x ≡ true → uses_one set x ≡ false) → interceptor_given set place ds d ≡ []
-  pub event : (types : List (List ℕ)) → ((x : List ℕ) → has (names_under ds d Observes) x ≡ true → has types x ≡ false)
-      → observer_given types ds d ≡ []
-
-abbrev pub GiversAreListed : Type 0
-GiversAreListed = (ds : List Decl) (d : Decl) → IsPresent ds d → GivesByWords ds d
-
--- a declaration gives the same by two lists
-pub record GivesTheSame (ds es : List Decl) (d : Decl) : Type 0 where
-  pub choice : (t : List ℕ) → contribution es t d ≡ contribution ds t d
-  pub chain : (set : List Qual) (place : BeanPlace) → interceptor_given set place es d ≡ interceptor_given set place ds d
-  pub event : (types : List (List ℕ)) → observer_given types es d ≡ observer_given types ds d
-
--- What edits don't affect gives the same after them.
-abbrev pub OthersGiveTheSame : Type 0
-OthersGiveTheSame = (ds : List Decl) (edits : List Edit) (is_affected : Decl → Bool) (d : Decl) → TellsAffected ds edits is_affected
-    → IsPresent ds d → is_affected d ≡ false → GivesTheSame ds (edited_all ds edits) d

@@ -2,4 +2,3 @@ pub mod Rests
 pub mod Words
 pub mod Gives
 pub mod Stakes
-pub mod Compared

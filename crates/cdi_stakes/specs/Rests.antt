@@ -1,7 +1,5 @@
 -- What declarations rest on: what they give to keys, and what the keys that they ask for see apart from what declarations give.
-use Rattle.std.specs.Prelude.{◌≡◌, Bool, false, true, not, ◌||◌, List, [], ◌∷◌, ◌++◌, map, flat_map, unwrap_or, Option, Some, None}
-use Rattle.std.specs.Bool.{beq}
-use Rattle.std.specs.List.{list_any}
+use Rattle.std.specs.Prelude.{◌≡◌, Bool, false, true, List, [], ◌∷◌, ◌++◌, map, flat_map, unwrap_or, Option, Some, None}
 use Rattle.cdi_model.specs.Decl.{declared_as, key_of, kind_of, name_of_decl}
 use Rattle.cdi_model.specs.DeclList.{find_decl}
 use Rattle.cdi_model.specs.DeclKey.{key_at}
@@ -21,8 +19,7 @@ use Rattle.cdi_match.specs.Locality.{binding_reads, type_reads}
 use Rattle.cdi_effective.specs.Beans.{entries, own_records}
 use Rattle.cdi_effective.specs.Disposers.{find_bean}
 use Rattle.cdi_effective.specs.Qualifiers.{required}
-use Rattle.cdi_effective.specs.Reads.{qualifier_reads, reads, record_reads}
-use Rattle.cdi_effective.specs.Specialized.{is_replaced}
+use Rattle.cdi_effective.specs.Reads.{qualifier_reads, record_reads}
 use Rattle.cdi_intercept.specs.Sets.{own_at}
 use Rattle.cdi_observe.specs.Keys.{Key, ChainKey, ChoiceKey, EventKey}
 use Rattle.cdi_observe.specs.Wanted.{wanted_by}
@@ -43,10 +40,6 @@ abbrev pub given_reads : List Decl → Decl → List DeclKey
 given_reads ds (decls.Bean b) = record_reads ds b ++ qualifier_reads (own_records ds b) ++ method_reads b.observers
 given_reads ds (decls.Interceptor i) = use_reads uses.Binding i.bindings
 given_reads ds other = []
-
--- What a bean gives rests on all that its records rest on, and on the qualifiers of its observer methods.
-abbrev pub BeansGiveByReads : Type 0
-BeansGiveByReads = (ds : List Decl) (b : BeanDecl) → given_reads ds (decls.Bean b) ≡ reads ds b ++ method_reads b.observers
 
 -- ---- what keys see apart from what is given
 
@@ -71,10 +64,6 @@ own_reads ds (EventKey t us) = type_reads ds t ++ use_reads uses.Qualifier us
 unfoldable pub rests : List Decl → Decl → List DeclKey
 rests ds d = key_of d ∷ given_reads ds d ++ flat_map (own_reads ds) (wanted_by d)
 
--- Edits of nothing that a declaration rests on leave what it rests on.
-abbrev pub EditsKeepRests : Type 0
-EditsKeepRests = (edits : List Edit) (ds : List Decl) (d : Decl) → Avoid (rests ds d) edits → rests (edited_all ds edits) d ≡ rests ds d
-
 -- ---- what is affected
 
 -- a declaration is found by its kind and name
@@ -91,27 +80,3 @@ pub record TellsAffected (ds : List Decl) (edits : List Edit) (is_affected : Dec
   pub edited : (d : Decl) → is_among (edited_keys edits) (key_of d) ≡ true → is_affected d ≡ true
   pub apart : (d : Decl) → IsPresent ds d → is_affected d ≡ false → Avoid (rests ds d) edits
   pub enabled : (d : Decl) → IsPresent ds d → is_affected d ≡ false → enabled_of (edited_all ds edits) d ≡ enabled_of ds d
-
--- a declaration rests on what edits put or remove
-unfoldable pub rests_on_edited : List Decl → List Edit → Decl → Bool
-rests_on_edited ds edits d = list_any (is_among (edited_keys edits)) (rests ds d)
-
--- it is a bean that another replaces before the edits or after them, and not both
-abbrev pub turns : List Decl → List Decl → Decl → Bool
-turns ds es (decls.Bean b) = not (beq (is_replaced ds b.name) (is_replaced es b.name))
-turns ds es other = false
-
--- a declaration rests on what edits put or remove, or turns
-abbrev pub rests_or_turns : List Decl → List Edit → Decl → Bool
-rests_or_turns ds edits d = rests_on_edited ds edits d || turns ds (edited_all ds edits) d
-
--- That tells what edits affect.
-abbrev pub RestsAndTurnsTellAffected : Type 0
-RestsAndTurnsTellAffected = (ds : List Decl) (edits : List Edit) → TellsAffected ds edits (rests_or_turns ds edits)
-
--- So does each test that is true of what is edited, and of each present declaration that rests on such or turns.
-abbrev pub WiderTestsTellAffected : Type 0
-WiderTestsTellAffected = (ds : List Decl) (edits : List Edit) (is_affected : Decl → Bool)
-    → ((d : Decl) → is_among (edited_keys edits) (key_of d) ≡ true → is_affected d ≡ true)
-    → ((d : Decl) → IsPresent ds d → rests_or_turns ds edits d ≡ true → is_affected d ≡ true)
-    → TellsAffected ds edits is_affected

@@ -1,21 +1,14 @@
 -- The words under which declarations are listed: a reason and a name.
-use Rattle.std.specs.Prelude.{◌≡◌, ℕ, true, List, [], ◌∷◌, map, flat_map, if◌then◌else◌}
-use Rattle.cdi_model.specs.Edits.{edited_all, Avoid}
+use Rattle.std.specs.Prelude.{ℕ, List, [], ◌∷◌, map, flat_map, if◌then◌else◌}
 use Rattle.cdi_model.specs.Quals.{name_of_use}
-use Rattle.cdi_model.specs.declared.edit.Edit.{Edit}
-use Rattle.cdi_model.specs.declared.decl.BeanDecl.{BeanDecl}
 use Rattle.cdi_model.specs.declared.decl.Decl.{Decl}
 use Rattle.cdi_model.specs.declared.decl.Decl.TheVariants as decls
-use Rattle.cdi_match.specs.Chain.{has}
 use Rattle.cdi_match.specs.Types.{types_of}
 use Rattle.cdi_effective.specs.Beans.{own_records}
-use Rattle.cdi_effective.specs.Bindings.{class_bindings}
 use Rattle.cdi_intercept.specs.Bindings.{set_at}
 use Rattle.cdi_intercept.specs.Chains.{is_enabled}
-use Rattle.cdi_intercept.specs.Sets.{places_of, set_by}
-use Rattle.cdi_observe.specs.Keys.{Key, ChainKey, ChoiceKey, EventKey, has_key}
-use Rattle.cdi_observe.specs.Wanted.{events_by, points_of, wanted_by}
-use Rattle.cdi_stakes.specs.Rests.{IsPresent, rests}
+use Rattle.cdi_observe.specs.Keys.{Key, ChainKey, ChoiceKey, EventKey}
+use Rattle.cdi_observe.specs.Wanted.{wanted_by}
 
 -- A bean of it has the type, enabled or not; an enabled interceptor that it is has a binding of the type; an observer method of it
 -- observes the type. A point of it asks for the type; a place of it has a binding of the type; an event that it may fire has the type.
@@ -58,12 +51,6 @@ given_for (ChoiceKey t us) = HasType
 given_for (ChainKey class place) = Intercepts
 given_for (EventKey t us) = Observes
 
--- and what asks for it is listed under each of them, for this one
-abbrev pub asked_for : Key → Reason
-asked_for (ChoiceKey t us) = Asks
-asked_for (ChainKey class place) = Bound
-asked_for (EventKey t us) = Fires
-
 -- the names that a key seeks where it is asked for by this reason
 abbrev pub sought_for : Reason → List Decl → Key → List (List ℕ)
 sought_for Asks ds (ChoiceKey t us) = sought ds (ChoiceKey t us)
@@ -79,33 +66,3 @@ names_under ds d HasType = types_had ds d
 names_under ds d Intercepts = types_bound_by d
 names_under ds d Observes = types_observed d
 names_under ds d reason = flat_map (sought_for reason ds) (wanted_by d)
-
--- What asks for a key is listed under each name that the key seeks.
-abbrev pub AskersAreListed : Type 0
-AskersAreListed = (ds : List Decl) (d : Decl) (key : Key) → has_key (wanted_by d) key ≡ true
-    → (x : List ℕ) → has (sought ds key) x ≡ true → has (names_under ds d (asked_for key)) x ≡ true
-
--- Edits of nothing that a declaration rests on leave the names under which it is listed, whether or not another bean replaces it.
-abbrev pub EditsKeepWords : Type 0
-EditsKeepWords = (edits : List Edit) (ds : List Decl) (d : Decl) → Avoid (rests ds d) edits
-    → (reason : Reason) → names_under (edited_all ds edits) d reason ≡ names_under ds d reason
-
--- ---- the words of a declaration that is present, in plain words
-
--- the types that its points require, and those of the events that it may fire
-pub record AskedWords (ds : List Decl) (d : Decl) : Type 0 where
-  pub asks : names_under ds d Asks ≡ map (λ point. point.required_type) (points_of d)
-  pub fires : names_under ds d Fires ≡ flat_map (sought ds) (events_by d)
-
--- Of a bean the types of its own records, those that its observer methods observe, and those of the bindings at its places.
-pub record WordsOfBean (ds : List Decl) (b : BeanDecl) : Type 0 where
-  pub has_type : names_under ds (decls.Bean b) HasType ≡ flat_map (λ r. r.types) (own_records ds b)
-  pub observes : names_under ds (decls.Bean b) Observes ≡ map (λ o. o.event_type) b.observers
-  pub bound : names_under ds (decls.Bean b) Bound
-      ≡ flat_map (λ place. map name_of_use (set_by ds (class_bindings ds b) b place)) (places_of b)
-
-abbrev pub WordsAreThese : Type 0
-WordsAreThese = (ds : List Decl) (d : Decl) → AskedWords ds d
-
-abbrev pub WordsOfBeans : Type 0
-WordsOfBeans = (ds : List Decl) (b : BeanDecl) → IsPresent ds (decls.Bean b) → WordsOfBean ds b

@@ -40,11 +40,3 @@ zip-map-empty f [] ys ends = refl
 zip-map-empty f (x ∷ xs) [] ends = refl
 zip-map-empty f (x ∷ xs) (y ∷ ys) (inl e) = cc
 zip-map-empty f (x ∷ xs) (y ∷ ys) (inr e) = cc
-
--- three lists are pushed
-pub pushed_thrice : {A : Type 0} (old one two three a b c : List A) → one ≡ old ++ a → two ≡ one ++ b → three ≡ two ++ c
-    → three ≡ old ++ (a ++ b ++ c)
-pushed_thrice old one two three a b c first second third =
-    third
-    ∙ ap (λ xs. xs ++ c) (second ∙ ap (λ xs. xs ++ b) first ∙ append_assoc old a b)
-    ∙ append_assoc old (a ++ b) c

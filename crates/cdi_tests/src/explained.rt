@@ -1,13 +1,14 @@
 //! The verdicts on the beans and interceptors of deployments that have one for each verdict, by which bean another is
 //! specialized, and names near to others.
-use cdi_effective::beans;
+use cdi_effective::{Effective, beans};
 use cdi_explain::{
     Disabled, InterceptorVerdict, KnownNames, Verdict, replacer_of, verdicts_on_choice,
     verdicts_on_interceptors, verdicts_on_name,
 };
 use cdi_fixtures::{declared, name, quals};
 use cdi_model::{BeanPlace, Error, Ident, Name, Refusal};
-use std::alloc::Global;
+use cdi_observe::push_records;
+use std::alloc::{AllocError, Global};
 use std::test::Fail;
 
 /// Shops: two alternatives with a priority, one without that makes a further shop, one that is none, one with a qualifier,
@@ -76,12 +77,19 @@ static OF_PAID: [Verdict; 8] = [
     Verdict::LacksType,
 ];
 
+fn lent(alloc: Global, beans: &[Effective]) -> Result<Vec<&Effective>, AllocError> {
+    let mut list = Vec::new(alloc);
+    push_records(beans, &mut list)?;
+    Ok(list)
+}
+
 /// Whether the verdicts on all beans are these, where a shop with some qualifiers is wanted.
 fn are_verdicts(alloc: Global, texts: &[&[u8]], wanted: &[Verdict]) -> Result<bool, Error> {
     let decls = declared(alloc, &SHOPS)?;
     let beans = beans(alloc, &decls)?;
+    let lent = lent(alloc, &beans)?;
     let quals = quals(alloc, texts)?;
-    let verdicts = verdicts_on_choice(alloc, &decls, &beans, name(b"Shop")?, &quals)?;
+    let verdicts = verdicts_on_choice(alloc, &decls, &lent, name(b"Shop")?, &quals)?;
     Ok(verdicts.as_slice() == wanted)
 }
 
@@ -115,8 +123,9 @@ static OF_TWINS: [Verdict; 2] = [Verdict::Tied, Verdict::Tied];
 fn twins_are_tied(rt: HostRuntime) -> Result<(), Fail> {
     let decls = declared(rt.alloc(), &TWINS)?;
     let beans = beans(rt.alloc(), &decls)?;
+    let lent = lent(rt.alloc(), &beans)?;
     let none = quals(rt.alloc(), &[])?;
-    let verdicts = verdicts_on_choice(rt.alloc(), &decls, &beans, name(b"Shop")?, &none)?;
+    let verdicts = verdicts_on_choice(rt.alloc(), &decls, &lent, name(b"Shop")?, &none)?;
     assert!(rt; verdicts.as_slice() == OF_TWINS.as_slice());
     Ok(())
 }
@@ -153,7 +162,8 @@ static OF_TILL: [Verdict; 5] = [
 fn a_till_is_wanted(rt: HostRuntime) -> Result<(), Fail> {
     let decls = declared(rt.alloc(), &TILLS)?;
     let beans = beans(rt.alloc(), &decls)?;
-    let verdicts = verdicts_on_name(rt.alloc(), &beans, name(b"till")?)?;
+    let lent = lent(rt.alloc(), &beans)?;
+    let verdicts = verdicts_on_name(rt.alloc(), &lent, name(b"till")?)?;
     assert!(rt; verdicts.as_slice() == OF_TILL.as_slice());
     Ok(())
 }

@@ -1,5 +1,5 @@
 -- The only place at which a word stands, and the line feeds before a place.
-use Rattle.std.proofs.Common.{◌≡◌, ℕ, suc, ◌+◌, ◌-◌, ◌<◌, ◌≤◌, Bool, true, false, List, [], ◌∷◌, ◌++◌, Option, Some, None, is_some, refl, ap, ◌∙◌, arith}
+use Rattle.std.proofs.Common.{◌≡◌, ℕ, suc, ◌+◌, ◌-◌, ◌<◌, Bool, true, false, List, [], ◌∷◌, ◌++◌, Option, Some, None, is_some, refl, ap, ◌∙◌, arith}
 use Rattle.std.proofs.lemmas.Bool.{false≢true}
 use Rattle.std.specs.List.{filter, range_with_len}
 use Rattle.cdi_text.specs.KeyLines.{only}
@@ -21,9 +21,6 @@ no_place test place count h e = ap (filter test) (next_place place count h) ∙ 
 pub one_place : (test : ℕ → Bool) (place count : ℕ) → place < count → test place ≡ true
     → filter test (range_with_len place (count - place)) ≡ place ∷ filter test (range_with_len (place + 1) (count - (place + 1)))
 one_place test place count h e = ap (filter test) (next_place place count h) ∙ rw e refl
-
-pub none_left : (test : ℕ → Bool) (place count : ℕ) → count ≤ place → filter test (range_with_len place (count - place)) ≡ []
-none_left test place count h = let e : count - place ≡ 0 = omega arith in rw e refl
 
 -- the places found so far are all that there are
 pub all_found : (found : Option ℕ) → found ≡ only (so_far found)

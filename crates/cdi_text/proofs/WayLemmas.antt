@@ -28,12 +28,6 @@ use Rattle.cdi_text.proofs.ParamLemmas.{item_at, same_entry}
 abbrev Way : Type 0
 Way = Vec Step Global
 
--- of a table by itself
-pub of_itself : (c : Condition) (schema : Schema) (ms : Members) (way : Way)
-    → Finds c (Some (One (Table schema))) (table ms) (table_has c schema ms) (Some way)
-    → Finds c (Some (One (Table schema))) (table ms) (holds c schema ms) (Some way)
-of_itself c schema ms way h = (ap (λ b. b || members_have c schema ms) h.0, h.1)
-
 -- by a key of a table
 pub by_key : (c : Condition) (schema : Schema) (ms : Members) (bytes : List ℕ) (d : Data) (way longer : Way) → HasKey bytes d ms
     → Finds c (shape_of schema bytes) d (value_has c (shape_of schema bytes) d || inside_has c (shape_of schema bytes) d) (Some way)
@@ -84,11 +78,6 @@ without_next c schema entries rest key v shape found e is none h =
     let test : Option Shape → Bool = λ s. value_has c s (view v) || inside_has c s (view v) in
     let no : false ≡ test (shape_of schema (string_bytes key)) = ap is_some (sym none) ∙ h.0 ∙ ap test is in
     ap (λ b. b || members_have c schema (members_view rest)) no ∙ sym (ap (λ es. members_have c schema (members_view es)) e)
-
--- no way in a table
-pub none_in_table : (c : Condition) (schema : Schema) (ms : Members) → false ≡ table_has c schema ms → members_have c schema ms ≡ false
-    → Finds c (Some (One (Table schema))) (table ms) (holds c schema ms) None
-none_in_table c schema ms none none_at = (rw (← none, none_at) refl, tt)
 
 -- ---- to params
 

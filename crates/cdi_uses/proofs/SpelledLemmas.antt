@@ -7,10 +7,9 @@ use Rattle.std.specs.BTreeMap.{insert_entry}
 use Rattle.std.specs.List.{AllByRecursion, join_with_byte}
 use Rattle.std.specs.List.Sorted.{IsStrictlySortedBy}
 use Rattle.std.specs.Map.{keys_of}
-use Rattle.std.specs.Ordering.{nat_cmp, is_eq, ordering_reverse}
-use Rattle.std.specs.Cmp.Lexicographic.{slice_cmp, nat_list_cmp_total, bytes_decides}
+use Rattle.std.specs.Ordering.{nat_cmp, ordering_reverse}
+use Rattle.std.specs.Cmp.Lexicographic.{slice_cmp, nat_list_cmp_total}
 use Rattle.std.proofs.lemmas.Bool.{cases_Bool, leb-true}
-use Rattle.std.proofs.lemmas.Map.Text.{is_eq-slice_cmp}
 use Rattle.std.proofs.lemmas.Option.{none-some, same_Some}
 use Rattle.cdi_model.specs.Bytes.{closing, comma, minus, opening}
 use Rattle.cdi_model.specs.declared.quals.Arguments.TheVariants as arguments
@@ -57,9 +56,6 @@ number_fits (c ∷ cs) z e = elim (cases_Bool (c == minus)) [
 
 turned : (k l : List ℕ) (o : Ordering) → order k l ≡ o → order l k ≡ ordering_reverse o
 turned k l o e = nat_list_cmp_total.antisymm l k ∙ ap ordering_reverse e
-
-same_key : (k l : List ℕ) → order k l ≡ Equal → k ≡ l
-same_key k l e = (bytes_decides k l).0 (sym (is_eq-slice_cmp k l) ∙ ap is_eq e)
 
 before_all : (k l : List ℕ) (ks : List (List ℕ)) → order k l ≡ Less → AllByRecursion (λ m. order l m ≡ Less) ks
     → AllByRecursion (λ m. order k m ≡ Less) ks

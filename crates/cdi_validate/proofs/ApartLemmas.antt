@@ -164,9 +164,6 @@ module _ {X T : Type 0} (tag : X → T) where
   abbrev pub Tagged : T → List X → Type 0
   Tagged t xs = AllByRecursion (λ x. tag x ≡ t) xs
 
-  other-tag : (t u : T) (x y : X) → t ≢ u → tag x ≡ t → tag y ≡ u → x ≢ y
-  other-tag t u x y differ of_x of_y e = differ (sym of_x ∙ ap tag e ∙ of_y)
-
   pub differ-append : (t : T) (xs ys : List X) → Tagged t xs → AllByRecursion (λ y. tag y ≢ t) ys → Differ xs → Differ ys → Differ (xs ++ ys)
   differ-append t [] ys tagged others apart rest = rest
   differ-append t (x ∷ xs) ys tagged others apart rest = (

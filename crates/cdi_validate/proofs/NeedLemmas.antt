@@ -204,10 +204,6 @@ adds_more nodes old new some more adds x =
     ∙ append_assoc (next_in old x) (between nodes some x) (between nodes more x)
     ∙ ap (λ ys. next_in old x ++ ys) (sym (between-append nodes some more x))
 
--- none add no edge
-pub adds_none : (nodes : List (List ℕ)) (edges : Edges) → AddsNeeds nodes [] edges edges
-adds_none nodes edges x = sym (append-nil (next_in edges x)) ∙ ap (λ ys. next_in edges x ++ ys) (sym (between-none nodes x))
-
 -- a bean whose entry has now these behind what it had
 pub need_added : (nodes : List (List ℕ)) (old new : List ℕ → List (List ℕ)) (node : List ℕ) (needed items : List (List ℕ))
     → has nodes node ≡ true → items ≡ old node ++ filter (has nodes) needed

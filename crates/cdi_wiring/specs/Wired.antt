@@ -5,6 +5,7 @@ use Rattle.cdi_bodies.specs.Book.{Promised}
 use Rattle.cdi_effective.specs.Beans.{beans}
 use Rattle.cdi_scene.specs.Sound.{IsSound}
 use Rattle.cdi_staging.specs.Naming.{names_of}
+use Rattle.cdi_staging.specs.Positions.{positions_in}
 use Rattle.cdi_staging.specs.Staged.{scene_of}
 use Rattle.cdi_validate.specs.Faults.{faults}
 use Rattle.cdi_wiring.specs.declared.verdict.Wired.{Wired}
@@ -15,12 +16,12 @@ abbrev pub count_of : Wiring → ℕ
 count_of (wirings.Faulty count) = count
 count_of (wirings.Sound wired) = 0
 
--- the scene of a deployment without faults, its bean list, and the names of its traces
+-- the scene of a deployment without faults, the positions of its beans, and the names of its traces
 pub record IsWiredOf (ds : List Decl) (book : List Promised) (wired : Wired) : Type 0 where
   pub faultless : faults ds book ≡ []
   pub scene : wired.scene ≡ scene_of ds book
   pub sound : IsSound book (scene_of ds book)
-  pub listed : wired.beans ≡ beans ds
+  pub listed : wired.positions ≡ positions_in (beans ds)
   pub names : wired.names ≡ names_of ds
 
 -- the number of faults, or that

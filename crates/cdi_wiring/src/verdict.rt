@@ -8,17 +8,16 @@ ghost use Rattle.cdi_wiring.specs.Laws.{FaultlessIsSound};
 ghost use Rattle.cdi_wiring.specs.Wired.{IsWiringOf, count_of};
 
 use cdi_bodies::Bodies;
-use cdi_observe::{View, all_kept_answers};
-use cdi_resolve::BeanList;
+use cdi_observe::{View, all_kept_answers, records_of_all};
 use cdi_scene::Scene;
-use cdi_staging::{Names, names_of, scene_of};
+use cdi_staging::{ListedBeans, Names, Positions, names_of, scene_of};
 use std::alloc::{AllocError, Global};
 
-/// The scene of a deployment without faults, the bean list by whose positions it names beans, and the names of its traces.
+/// The scene of a deployment without faults, the positions by which it names beans, and the names of its traces.
 #[derive(Drop)]
 pub struct Wired {
     pub scene: Scene,
-    pub beans: BeanList,
+    pub positions: Positions,
     pub names: Names,
 }
 
@@ -33,7 +32,7 @@ pub enum Wiring {
 
 impl Wiring {
     /// What the declarations of a view are that have so many faults where the bodies of this book are stored, and all of whose points
-    /// ask for what is known. It takes memory and time for the scene and its bean list, if there are no faults. The last clause
+    /// ask for what is known. It takes memory and time for the scene, if there are no faults. The last clause
     /// says that a deployment without faults has a sound scene.
     #[tactic(auto, using(crate::proofs::FaultLemmas::faultless_is_sound))]
     pub fn of<V: View, B: Bodies>(
@@ -55,11 +54,12 @@ impl Wiring {
         let decls = view.decls();
         // No effect at run time. The proof reads here that no two declarations have one kind and name.
         let _ = decls.iter();
-        let beans = BeanList::of(alloc, decls)?;
+        let positions = Positions::of(alloc, &records_of_all(alloc, view)?)?;
+        let beans = ListedBeans::new(decls, &positions);
         Ok(Wiring::Sound(Wired {
             scene: scene_of(alloc, view, &beans, answers.as_slice(), book)?,
-            names: names_of(alloc, decls, &beans)?,
-            beans,
+            names: names_of(alloc, view)?,
+            positions,
         }))
     }
 

@@ -75,7 +75,7 @@ fn put_text<B: Bodies>(
     deployment: &mut Container<B>,
 ) -> io::Result<bool> {
     match deployment.put(text) {
-        Ok(()) => Ok(true),
+        Ok(_) => Ok(true),
         Err(Error::Refused(refusal)) => {
             let (code, word) = (refusal.code(), refusal.word());
             println!(rt; "{name}: {code} {word}")?;

@@ -6,7 +6,7 @@ use cdi_container::Choice;
 use cdi_effective::{Effective, disposer_of, records_of};
 use cdi_fixtures::{name, quals};
 use cdi_model::{BeanDecl, Decl, Decls, Error, Ident, Kind, Name, Qual, Scope, Work};
-use cdi_observe::{PlainView, evaluate};
+use cdi_observe::{PlainView, evaluate, push_records};
 use cdi_resolve::{BeanList, choose_name};
 use cdi_seen::{offering, same_beans};
 use std::alloc::{AllocError, Global};
@@ -146,9 +146,7 @@ fn offering_of<'d>(
 
 fn references(alloc: Global, beans: &[Effective]) -> Result<Vec<&Effective>, AllocError> {
     let mut references = Vec::new(alloc);
-    for bean in beans {
-        references.push(bean)?;
-    }
+    push_records(beans, &mut references)?;
     Ok(references)
 }
 

@@ -256,7 +256,7 @@ fn books(alloc: Global) -> Result<Answered, Error> {
 
 fn beans<B: Bodies>(alloc: Global, container: &Container<B>) -> Result<Answered, Error> {
     let mut classes = Seq::new(alloc);
-    for bean in container.beans()? {
+    for bean in container.beans() {
         classes.push(bean.id.class)?;
     }
     Ok(Answered::Names(classes))
@@ -296,9 +296,9 @@ fn chain<B: Bodies>(
     Ok(Answered::Names(container.chain(name(text)?, &place)?))
 }
 
-fn nothing(outcome: Result<(), Error>) -> Result<Answered, Error> {
+fn nothing<T: Drop>(outcome: Result<T, Error>) -> Result<Answered, Error> {
     match outcome {
-        Ok(()) => Ok(Answered::Nothing),
+        Ok(_) => Ok(Answered::Nothing),
         Err(error) => Err(error),
     }
 }

@@ -95,7 +95,8 @@ fn end_contexts<B: Bodies>(container: &mut Container<B>) -> Reply {
 }
 
 fn declare_one<B: Bodies>(container: &mut Container<B>, text: &[u8]) -> Result<(), Error> {
-    container.put(text)
+    container.put(text)?;
+    Ok(())
 }
 
 fn put_decl<B: Bodies>(
@@ -103,7 +104,8 @@ fn put_decl<B: Bodies>(
     container: &mut Container<B>,
     text: &[u8],
 ) -> Result<(), Error> {
-    container.put_decl(read_decl(alloc, text)?)
+    container.put_decl(read_decl(alloc, text)?)?;
+    Ok(())
 }
 
 fn remove<B: Bodies>(container: &mut Container<B>, text: &[u8]) -> Result<(), Error> {

@@ -9,7 +9,7 @@ use Rattle.cdi_index.specs.Under.{observes_one, records_at}
 use Rattle.cdi_intercept.specs.Sorting.{sorted_by}
 use Rattle.cdi_observe.specs.Observers.{is_before, observers, observes, observing}
 use Rattle.cdi_positions.specs.Marks.{is_marked, marked_from}
-use Rattle.cdi_seen.specs.Lent.{lent_in}
+use Rattle.cdi_observe.specs.Lent.{lent_in}
 use Rattle.cdi_live.proofs.EventCompareLemmas.{seen-after}
 use Rattle.cdi_live.proofs.event_compare.observers_after.Goals as goal
 

@@ -7,7 +7,7 @@ use Rattle.cdi_effective.specs.declared.records.Effective.{Effective}
 use Rattle.cdi_index.specs.Under.{observes_one}
 use Rattle.cdi_intercept.specs.Sorting.{sorted_by}
 use Rattle.cdi_observe.specs.Observers.{is_before, observers, observes, observing}
-use Rattle.cdi_seen.specs.Lent.{lent_in}
+use Rattle.cdi_observe.specs.Lent.{lent_in}
 use Rattle.cdi_live.proofs.EventCompareLemmas.{seen-before}
 use Rattle.cdi_live.proofs.event_compare.observing_before.Goals as goal
 

@@ -1,31 +1,43 @@
-use Rattle.std.proofs.Common.{◌≡◌, ◌++◌, sym, ap, ◌∙◌}
+use Rattle.std.proofs.Common.{◌≡◌, ◌++◌, suc, Some, sym, ap, slice_get, subst, ◌∙◌, append_assoc}
 use Rattle.std.specs.List.{flat_map}
-use Rattle.cdi_effective.specs.Beans.{beans, entries}
+use Rattle.cdi_model.specs.DeclList.{AreDistinct}
+use Rattle.cdi_effective.specs.Beans.{entries}
 use Rattle.cdi_staging.specs.Naming.{names_in}
-use Rattle.cdi_staging.proofs.SplitLemmas.{records-within, records-first}
+use Rattle.cdi_staging.proofs.ChosenLemmas.{found-own}
 use Rattle.cdi_staging.proofs.names.names_of.Goals as goal
 
 pub loop-decl-init : goal.loop-decl-init
-unfolding beans
-loop-decl-init c =
-    let ds = c.args.decls.now in
+loop-decl-init g c =
+    let ds = g.V.View.list c.args.view.now in
     let same : c.into_iter-decl-iterator.result ≡ ds = c.into_iter-decl-iterator.ensures.into_iter_gives
-    ∙ c.iter-decl-items.ensures.value in
+    ∙ c.iter-decl-items.ensures.value ∙ c.decls-decls.ensures in
     record {
-      records = c.as_slice-rest.ensures ∙ c.requires ∙ ap (flat_map (entries ds)) (sym same);
-      names = ap (λ list. list ++ flat_map (names_in ds) c.into_iter-decl-iterator.result) c.in_ok-list.ensures.items
+      declared = λ k d at. found-own ds k d (subst AreDistinct c.decls-decls.ensures c.iter-decl-items.ensures.distinct)
+          (subst (λ es. slice_get es k ≡ Some d) same at);
+      names = ap (λ list. list ++ flat_map (names_in ds) c.into_iter-decl-iterator.result) c.new-list.ensures.items
           ∙ ap (flat_map (names_in ds)) same;
     }
 
-pub split_at-requires : goal.split_at-requires
-split_at-requires c =
-    let ds = c.args.decls.now in
-    records-within ds c.loop-decl.decl-iterator c.next.new.self c.in-Some.decl.now c.loop-decl.rest.now _
-    c.in-Some.ensures.steps c.loop-decl.invariant.records (c.record_count.ensures ds)
+pub records_of_decl-requires : goal.records_of_decl-requires
+records_of_decl-requires g c =
+    c.loop-decl.invariant.declared 0 c.in-Some.decl.now (ap (λ es. slice_get es 0) c.in-Some.ensures.steps)
 
 pub push_names-requires : goal.push_names-requires
-push_names-requires c =
-    let ds = c.args.decls.now in
-    c.split_at.ensures.front
-    ∙ records-first ds c.loop-decl.decl-iterator c.next.new.self c.in-Some.decl.now c.loop-decl.rest.now _
-    c.in-Some.ensures.steps c.loop-decl.invariant.records (c.record_count.ensures ds)
+push_names-requires g c =
+    c.records_of_decl.ensures ∙ ap (λ ds. entries ds c.in-Some.decl.now) (sym c.decls-decls.ensures)
+
+pub loop-decl-preserved : goal.loop-decl-preserved
+loop-decl-preserved g c =
+    let ds = g.V.View.list c.args.view.now in
+    let d = c.in-Some.decl.now in
+    let left = c.next.new.self in
+    let own = c.loop-decl.list.items in
+    record {
+      declared = λ k e at. c.loop-decl.invariant.declared (suc k) e
+          (ap (λ es. slice_get es (suc k)) c.in-Some.ensures.steps ∙ at);
+      names = ap (λ list. list ++ flat_map (names_in ds) left)
+          (c.in_ok-push_names.ensures ∙ ap (λ es. own ++ names_in es d) c.decls-decls.ensures)
+          ∙ append_assoc own (names_in ds d) (flat_map (names_in ds) left)
+          ∙ ap (λ es. own ++ flat_map (names_in ds) es) (sym c.in-Some.ensures.steps)
+          ∙ c.loop-decl.invariant.names;
+    }

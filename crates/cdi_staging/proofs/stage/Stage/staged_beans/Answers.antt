@@ -2,15 +2,14 @@ use Rattle.std.proofs.Common.{◌≡◌, ◌++◌, [], suc, Some, map, subst, sy
 use Rattle.std.specs.List.{flat_map, slice_get}
 use Rattle.std.specs.Slice.Iter.{iter_rest}
 use Rattle.cdi_model.specs.DeclList.{AreDistinct}
-use Rattle.cdi_effective.specs.Beans.{beans, entries}
 use Rattle.cdi_observe.specs.Answers.{answers, answers_of}
 use Rattle.cdi_staging.specs.Staged.{staged_beans}
 use Rattle.cdi_staging.proofs.ChosenLemmas.{found-own}
-use Rattle.cdi_staging.proofs.SplitLemmas.{first-answers, none-left, records-within, records-first, records-behind}
+use Rattle.cdi_staging.proofs.SplitLemmas.{first-answers, none-left}
 use Rattle.cdi_staging.proofs.stage.Stage.staged_beans.Goals as goal
 
 pub loop-decl-init : goal.loop-decl-init
-unfolding answers beans
+unfolding answers
 loop-decl-init g c =
     let self = c.args.self.now in
     let ds = g.V.View.list self.view.now in
@@ -20,18 +19,15 @@ loop-decl-init g c =
     ap (λ z. iter_rest z.b) c.into_iter-decl-iterator.ensures.into_iter_gives ∙ c.zip-decl-items.ensures.second.0 in
     record {
       declared = λ k d at. found-own ds k d (subst AreDistinct c.decls.ensures c.iter.ensures.distinct) (subst (λ es. slice_get es k ≡ Some d) same at);
-      records = c.as_slice-rest.ensures ∙ self.listed ∙ ap (flat_map (entries ds)) (sym same);
       answers = ap (map (λ list. map (λ answer. answer.value) list.items)) lists ∙ c.requires ∙ ap (map (answers_of ds)) (sym same);
       beans = ap (λ list. list ++ flat_map (staged_beans ds (g.B.Bodies.promises self.book.now)) c.into_iter-decl-iterator.result.a)
           c.in_ok-list.ensures.items
           ∙ ap (flat_map (staged_beans ds (g.B.Bodies.promises self.book.now))) same;
     }
 
-pub split_at-requires : goal.split_at-requires
-split_at-requires g c =
-    let ds = g.V.View.list c.args.self.now.view.now in
-    records-within ds c.loop-decl.decl-iterator.a c.next.new.self.a c.in-Some.decl.now c.loop-decl.rest.now _
-    c.in-Some.ensures.steps.0 c.loop-decl.invariant.records (c.record_count.ensures ds)
+pub records_of_decl-requires : goal.records_of_decl-requires
+records_of_decl-requires g c =
+    c.loop-decl.invariant.declared 0 c.in-Some.decl.now (ap (λ es. slice_get es 0) c.in-Some.ensures.steps.0)
 
 pub push_of_decl-requires-clause-distinct : goal.push_of_decl-requires-clause-distinct
 push_of_decl-requires-clause-distinct g c = subst AreDistinct c.decls.ensures c.iter.ensures.distinct
@@ -41,11 +37,7 @@ push_of_decl-requires-clause-declared g c =
     c.loop-decl.invariant.declared 0 c.in-Some.decl.now (ap (λ es. slice_get es 0) c.in-Some.ensures.steps.0)
 
 pub push_of_decl-requires-clause-records : goal.push_of_decl-requires-clause-records
-push_of_decl-requires-clause-records g c =
-    let ds = g.V.View.list c.args.self.now.view.now in
-    c.split_at.ensures.front
-    ∙ records-first ds c.loop-decl.decl-iterator.a c.next.new.self.a c.in-Some.decl.now c.loop-decl.rest.now _
-    c.in-Some.ensures.steps.0 c.loop-decl.invariant.records (c.record_count.ensures ds)
+push_of_decl-requires-clause-records g c = c.records_of_decl-records.ensures
 
 pub push_of_decl-requires-clause-answers : goal.push_of_decl-requires-clause-answers
 push_of_decl-requires-clause-answers g c =
@@ -64,9 +56,6 @@ loop-decl-preserved g c =
     record {
       declared = λ k e at. c.loop-decl.invariant.declared (suc k) e
           (ap (λ es. slice_get es (suc k)) c.in-Some.ensures.steps.0 ∙ at);
-      records = c.split_at.ensures.back
-          ∙ records-behind ds c.loop-decl.decl-iterator.a left d c.loop-decl.rest.now _
-          c.in-Some.ensures.steps.0 c.loop-decl.invariant.records (c.record_count.ensures ds);
       answers = (first-answers (λ list. map (λ answer. answer.value) list.items) ds c.loop-decl.decl-iterator.a left d
           (iter_rest c.loop-decl.decl-iterator.b) (iter_rest c.next.new.self.b) c.in-Some.own.now
           c.in-Some.ensures.steps.1 c.in-Some.ensures.steps.0 c.loop-decl.invariant.answers).1;

@@ -12,11 +12,12 @@ returns-clause-wiring g c =
     let ds = g.V.View.list c.args.view.now in
     let book = g.B.Bodies.promises c.args.book.now in
     let listed = c.decls-decls.ensures in
+    let records : map (λ bean. bean.now) c.deref.result.now ≡ beans ds = ap (map (λ bean. bean.now)) c.deref.ensures.value ∙ c.in_ok-records_of_all.ensures in
     let none : faults ds book ≡ [] = nil_from_length (faults ds book) (sym c.requires.count ∙ c.if-count-ne0.false) in
     record {
       faultless = none;
       scene = c.in_ok-scene_of.ensures.value;
       sound = faultless_is_sound ds book (subst AreDistinct listed c.iter.ensures.distinct) c.requires.short none;
-      listed = c.in_ok-beans.ensures ∙ ap beans listed;
-      names = c.in_ok-names_of.ensures ∙ ap names_of listed;
+      listed = c.in_ok-positions.ensures ∙ ap positions_in records;
+      names = c.in_ok-names_of.ensures;
     }

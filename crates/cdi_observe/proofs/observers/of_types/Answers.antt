@@ -1,9 +1,0 @@
-use Rattle.std.proofs.Common.{ap}
-use Rattle.cdi_observe.specs.Observers.{declared_by, observes}
-use Rattle.cdi_observe.proofs.ObserverLemmas.{next-bean}
-use Rattle.cdi_observe.proofs.observers.of_types.Goals as goal
-
-pub loop-bean-preserved : goal.loop-bean-preserved
-loop-bean-preserved c =
-    next-bean (observes c.args.types.now) c.args.decls.now c.args.beans.now c.loop-bean.bean-index c.bean-item.result _ _ _ _
-    c.loop-bean-test.true c.bean-item.is (ap declared_by c.enabled_bean.ensures) c.in_ok-push_of_types.ensures c.loop-bean.invariant

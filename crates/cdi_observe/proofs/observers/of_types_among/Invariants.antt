@@ -1,9 +1,0 @@
-use Rattle.std.proofs.Common.{◌≡◌, ◌++◌, drop, filter, map}
-use Rattle.cdi_observe.specs.Lent.{lent_in}
-use Rattle.cdi_observe.specs.Observers.{observers, observes}
-use Rattle.cdi_observe.proofs.observers.of_types_among.Given as goal
-
-abbrev pub invariant-loop-bean : goal.invariant-loop-bean
-invariant-loop-bean l =
-    lent_in l.list.items ++ filter (observes l.types) (observers l.decls (map (λ bean. bean.now) (drop l.bean-index l.beans)))
-    ≡ filter (observes l.types) (observers l.decls (map (λ bean. bean.now) l.beans))

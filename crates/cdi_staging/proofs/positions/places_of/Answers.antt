@@ -1,0 +1,19 @@
+use Rattle.std.proofs.Common.{◌≡◌, None, ap, sym, map, ◌∙◌, rules}
+use Rattle.std.specs.List.{position_from}
+use Rattle.std.specs.Option.{option_or}
+use Rattle.std.proofs.lemmas.Iterator.Adapters.{position_from-zero}
+use Rattle.indexmap.specs.IndexMap.{get}
+use Rattle.cdi_staging.specs.Positions.{is_told_by, same_id}
+use Rattle.cdi_staging.proofs.PositionLemmas.{place-next}
+use Rattle.cdi_staging.proofs.positions.places_of.Goals as goal
+
+pub loop-place-init : goal.loop-place-init
+loop-place-init c id =
+    let beans = map (λ b. b.now) c.args.beans.now in
+    let none : get same_id c.new-places.result id ≡ None = search rules in
+    ap (λ o. option_or o (position_from (is_told_by id) 0 beans)) none ∙ sym (position_from-zero (is_told_by id) beans)
+
+pub loop-place-preserved : goal.loop-place-preserved
+loop-place-preserved c id =
+    place-next (λ b. b.now) c.args.beans.now c.loop-place.place _ id (get same_id c.loop-place.places id) _
+    c.loop-place-test.true (c.in_ok-add_place.ensures id) (c.loop-place.invariant id)
