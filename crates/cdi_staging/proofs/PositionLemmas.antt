@@ -1,6 +1,6 @@
 -- The places of beans, noted one bean after another.
 use Rattle.std.proofs.Common.{◌≡◌, ◌<◌, ◌+◌, ℕ, Bool, true, false, cond, Option, Some, None}
-use Rattle.std.proofs.Common.{List, length, drop, get_or, map, refl, sym, ap, ◌∙◌}
+use Rattle.std.proofs.Common.{List, ◌∷◌, length, drop, get_or, map, refl, sym, ap, ◌∙◌}
 use Rattle.std.specs.Prelude.{position}
 use Rattle.std.specs.List.{position_from}
 use Rattle.std.specs.Option.{option_or}
@@ -17,13 +17,14 @@ place-more (Some p) e place rest = refl
 
 -- the place of one more bean that is lent is noted, unless one was
 pub place-next : {X : Type 0} (value : X → Effective) (beans : List X) (i : ℕ) (bean : X) (id : BeanId) (old new : Option ℕ)
-    → i < length beans
-    → new ≡ option_or old (cond (same_id (value (get_or beans i bean)).id id) (Some i) None)
+    → i < length beans → bean ≡ get_or beans i bean
+    → new ≡ option_or old (cond (same_id (value bean).id id) (Some i) None)
     → option_or old (position_from (is_told_by id) i (map value (drop i beans))) ≡ position (is_told_by id) (map value beans)
     → option_or new (position_from (is_told_by id) (i + 1) (map value (drop (i + 1) beans))) ≡ position (is_told_by id) (map value beans)
-place-next value beans i bean id old new lt noted before =
+place-next value beans i bean id old new lt is noted before =
     let rest = position_from (is_told_by id) (i + 1) (map value (drop (i + 1) beans)) in
     ap (λ o. option_or o rest) noted
-    ∙ place-more old (same_id (value (get_or beans i bean)).id id) i rest
+    ∙ place-more old (same_id (value bean).id id) i rest
+    ∙ ap (λ b. option_or old (position_from (is_told_by id) i (map value (b ∷ drop (i + 1) beans)))) is
     ∙ sym (at_drop_more (λ xs. option_or old (position_from (is_told_by id) i (map value xs))) beans i bean lt)
     ∙ before

@@ -1,4 +1,5 @@
 pub mod Positions
+pub mod Listed
 pub mod Sites
 pub mod Notifying
 pub mod Staged

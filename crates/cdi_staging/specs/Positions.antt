@@ -1,5 +1,5 @@
 -- Where beans stand in a bean list.
-use Rattle.std.specs.Prelude.{◌≡◌, ℕ, Bool, ◌&&◌, List, length, Option, position}
+use Rattle.std.specs.Prelude.{◌≡◌, ℕ, Bool, ◌&&◌, List, position}
 use Rattle.std.specs.Option.{option_eq}
 use Rattle.std.specs.Str.{bytes_eq}
 use Rattle.indexmap.specs.IndexMap.{IndexMap, get}
@@ -13,14 +13,6 @@ same_id i j = bytes_eq i.class j.class && option_eq bytes_eq i.producer j.produc
 -- an id tells a bean that has it
 abbrev pub is_told_by : BeanId → Effective → Bool
 is_told_by id bean = same_id bean.id id
-
--- the position of each bean, and how many there are
-pub record Listed : Type 0 where
-  pub place : BeanId → Option ℕ
-  pub count : ℕ
-
-abbrev pub positions_in : List Effective → Listed
-positions_in beans = record { place = λ id. position (is_told_by id) beans; count = length beans }
 
 -- each id has the position of the first bean that it tells
 abbrev pub ArePlaces : {S : Type 0} → List Effective → IndexMap BeanId ℕ S → Type 0

@@ -10,7 +10,7 @@ ghost use Rattle.cdi_staging.specs.Shown.{around_in, class_in, HasProducer, IsCl
 ghost use Rattle.cdi_staging.specs.Staged.{around_of, class_chain, injections_around, injections_from, places_from, producer_chain};
 ghost use Rattle.cdi_staging.specs.Staged.{staged_interceptor, targets};
 
-use crate::positions::ListedBeans;
+use crate::listed_beans::ListedBeans;
 use crate::site::Visible;
 use crate::stage::Stage;
 use crate::target::{Target, targets_of};

@@ -8,8 +8,8 @@ ghost use Rattle.cdi_staging.specs.Staged.{managed_form, staged_observer, observ
 ghost use Rattle.cdi_staging.specs.Staged.{unused_managed, unused_product, managed_bean, product_bean};
 
 use crate::around::Class;
+use crate::listed_beans::ListedBeans;
 use crate::part::empty_place;
-use crate::positions::ListedBeans;
 use crate::site::Visible;
 use crate::stage::Stage;
 use crate::target::{Target, position_of_class};

@@ -4,6 +4,7 @@
 
 mod around;
 mod bean;
+mod listed_beans;
 mod names;
 mod notifying;
 mod part;
@@ -13,9 +14,10 @@ mod site;
 mod stage;
 mod target;
 
+pub use listed_beans::ListedBeans;
 pub use names::{BeanNames, InterceptorNames, MethodNames, Names, SiteNames, names_of};
 pub use notifying::positions_of;
-pub use positions::{ListedBeans, Positions};
+pub use positions::Positions;
 pub use scene::scene_of;
 pub use site::method_of;
 pub use target::{Target, target_of};

@@ -4,7 +4,7 @@ ghost use Rattle.cdi_effective.specs.Beans.{beans as beans_of};
 ghost use Rattle.cdi_effective.specs.Disposers.{find_bean};
 ghost use Rattle.cdi_staging.specs.Notifying.{fired_at, is_observer, notified_as, notified_at, notified_in, observer_declared, position_of_observer, IsHost};
 
-use crate::positions::ListedBeans;
+use crate::listed_beans::ListedBeans;
 use crate::target::position_of_class;
 use cdi_model::{Decl, Decls, EventDecl, Ident, Kind, Name, ObserverDecl, Qual, Seq};
 use cdi_observe::{ObserverId, View, notified_of, records_of_all};

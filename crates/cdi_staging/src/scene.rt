@@ -15,7 +15,7 @@ ghost use Rattle.cdi_staging.specs.Sites.{sight_in};
 ghost use Rattle.cdi_staging.specs.Staged.{scene_of, staged_beans, beans_by, products_by};
 
 use crate::around::{Class, around_of};
-use crate::positions::ListedBeans;
+use crate::listed_beans::ListedBeans;
 use crate::site::Visible;
 use crate::stage::Stage;
 use crate::target::{Target, targets_of};

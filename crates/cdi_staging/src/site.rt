@@ -4,7 +4,7 @@ ghost use Rattle.cdi_effective.specs.Disposers.{find_bean};
 ghost use Rattle.cdi_staging.specs.Sites.{sight_in, is_method, is_point, method_declared, method_of, site_at};
 ghost use Rattle.cdi_staging.specs.Sites.{target_at, site_of};
 
-use crate::positions::ListedBeans;
+use crate::listed_beans::ListedBeans;
 use crate::target::{Target, nowhere};
 use cdi_model::{CallDecl, Decl, Decls, Ident, Kind, MethodDecl, Name, PointDecl, Seq};
 use cdi_scene::{CallSite, Via, position_at};

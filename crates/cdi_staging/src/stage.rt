@@ -5,7 +5,7 @@ ghost use Rattle.cdi_staging.specs.Shown.{around_in};
 ghost use Rattle.cdi_staging.specs.Staged.{around_of};
 
 use crate::around::Around;
-use crate::positions::ListedBeans;
+use crate::listed_beans::ListedBeans;
 use cdi_bodies::Bodies;
 use cdi_observe::View;
 use std::alloc::Global;

@@ -2,7 +2,7 @@
 ghost use Rattle.std.specs.Prelude.{◌≡◌, ◌<◌, map, IfOk};
 ghost use Rattle.cdi_staging.specs.Sites.{managed_class, nowhere, position_of_bean, position_of_class, target_of};
 
-use crate::positions::ListedBeans;
+use crate::listed_beans::ListedBeans;
 use cdi_effective::BeanId;
 use cdi_model::Name;
 use cdi_resolve::Choice;

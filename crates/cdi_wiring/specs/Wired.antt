@@ -5,7 +5,7 @@ use Rattle.cdi_bodies.specs.Book.{Promised}
 use Rattle.cdi_effective.specs.Beans.{beans}
 use Rattle.cdi_scene.specs.Sound.{IsSound}
 use Rattle.cdi_staging.specs.Naming.{names_of}
-use Rattle.cdi_staging.specs.Positions.{positions_in}
+use Rattle.cdi_staging.specs.Listed.{ArePositions}
 use Rattle.cdi_staging.specs.Staged.{scene_of}
 use Rattle.cdi_validate.specs.Faults.{faults}
 use Rattle.cdi_wiring.specs.declared.verdict.Wired.{Wired}
@@ -21,7 +21,7 @@ pub record IsWiredOf (ds : List Decl) (book : List Promised) (wired : Wired) : T
   pub faultless : faults ds book ≡ []
   pub scene : wired.scene ≡ scene_of ds book
   pub sound : IsSound book (scene_of ds book)
-  pub listed : wired.positions ≡ positions_in (beans ds)
+  pub listed : ArePositions (beans ds) wired.positions
   pub names : wired.names ≡ names_of ds
 
 -- the number of faults, or that

@@ -15,5 +15,5 @@ loop-place-init c id =
 
 pub loop-place-preserved : goal.loop-place-preserved
 loop-place-preserved c id =
-    place-next (λ b. b.now) c.args.beans.now c.loop-place.place _ id (get same_id c.loop-place.places id) _
-    c.loop-place-test.true (c.in_ok-add_place.ensures id) (c.loop-place.invariant id)
+    place-next (λ b. b.now) c.args.beans.now c.loop-place.place c.index-beans-place.result id (get same_id c.loop-place.places id) _
+    c.loop-place-test.true c.index-beans-place.is (c.in_ok-add_place.ensures id) (c.loop-place.invariant id)

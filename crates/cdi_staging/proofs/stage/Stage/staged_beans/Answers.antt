@@ -25,8 +25,8 @@ loop-decl-init g c =
           ∙ ap (flat_map (staged_beans ds (g.B.Bodies.promises self.book.now))) same;
     }
 
-pub records_of_decl-requires : goal.records_of_decl-requires
-records_of_decl-requires g c =
+pub records_of_decl-records-requires : goal.records_of_decl-records-requires
+records_of_decl-records-requires g c =
     c.loop-decl.invariant.declared 0 c.in-Some.decl.now (ap (λ es. slice_get es 0) c.in-Some.ensures.steps.0)
 
 pub push_of_decl-requires-clause-distinct : goal.push_of_decl-requires-clause-distinct
