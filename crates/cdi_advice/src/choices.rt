@@ -296,8 +296,9 @@ impl Considered {
         quals: &Quals,
     ) -> Result<Considered, AllocError> {
         let alloc = adviser.alloc;
+        let others = adviser.beans.len();
         let mut beans = Beans::new(alloc);
-        beans.others = adviser.beans.len();
+        beans.others = others;
         Ok(Considered {
             wanted: text_of_wanted(alloc, wanted, quals)?,
             beans,
