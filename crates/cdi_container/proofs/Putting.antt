@@ -80,7 +80,10 @@ pub put_refused : (ds : List Decl) (d : Decl) (r : Refusal) → answer_of_edit d
 put_refused ds d r h = by (is_too_many ds d) refl
   where
     by : (b : Bool) → is_too_many ds d ≡ b → answer_of_put ds (Ok d) ≡ Err r
-    by true e = rw e (rw e at h)
+    by true e =
+        let same : Err TooMany ≡ Err r = rw e at h in
+        let one : TooMany ≡ r = cc in
+        rw e (ap Err one)
     by false e = absurd (let no : Ok tt ≡ Err r = rw e at h in cc)
 
 -- and what a put answers, the change does
@@ -99,7 +102,10 @@ change_refused ds (Err s) r h = cc
 change_refused ds (Ok d) r h = by (is_too_many ds d) refl
   where
     by : (b : Bool) → is_too_many ds d ≡ b → answer_of_edit ds (changes.Put d) ≡ Err r
-    by true e = let same : Err TooMany ≡ Err r = rw e at h in rw e cc
+    by true e =
+        let same : Err TooMany ≡ Err r = rw e at h in
+        let one : TooMany ≡ r = cc in
+        rw e (ap Err one)
     by false e = absurd (let no : Ok (put_among ds d) ≡ Err r = rw e at h in cc)
 
 -- a put of what an edit puts is that edit
