@@ -1,10 +1,17 @@
 -- Files that are put one after another.
-use Rattle.std.proofs.Common.{◌≡◌, ℕ, ◌+◌, ◌<◌, Bool, true, false, List, ◌∷◌, ◌++◌, length, refl, ap, ap₂, sym, ◌∙◌, append_assoc}
+use Rattle.std.proofs.Common.{◌≡◌, Ok, Err, Result, ℕ, ◌+◌, ◌<◌, Bool, true, false, List, ◌∷◌, ◌++◌, length, refl, ap, ap₂, sym, ◌∙◌, append_assoc}
 use Rattle.std.specs.List.{list_all}
 use Rattle.std.specs.Prelude.{get_or}
 use Rattle.std.proofs.lemmas.Bool.{false≢true}
 use Rattle.std.proofs.lemmas.List.Folds.{list_all_at}
+use Rattle.cdi_container.specs.Editing.{answer_of_put, changes_in, put_among, put_of}
+use Rattle.cdi_container.specs.declared.answer.PutDone.{PutDone}
 use Rattle.cdi_model.specs.declared.decl.Decl.{Decl}
+use Rattle.cdi_model.specs.declared.refusal.Refusal.{Refusal}
+use Rattle.cdi_model.specs.declared.refusal.Refusal.TheVariants.{TooMany}
+use Rattle.cdi_model.specs.DeclList.{is_too_many}
+use Rattle.cdi_model.specs.Edits.{edited_all}
+use Rattle.cdi_script.specs.Left.{left_by_change}
 use Rattle.cdi_sources.specs.declared.source.Source.{Source}
 use Rattle.cdi_assembly.specs.Put.{answer_to_text, is_declaration, left_by_source, left_by_sources, refused_as, refused_from, Refused}
 
@@ -27,3 +34,23 @@ is_one sources n s within here all = by (is_declaration s) refl
     by : (b : Bool) → is_declaration s ≡ b → is_declaration s ≡ true
     by true e = e
     by false e = absurd (false≢true (sym (list_all_at is_declaration sources n s within (ap is_declaration here ∙ e)) ∙ all))
+
+-- ---- what a put leaves, by its answer
+
+pub left_if_accepted : (ds after : List Decl) (asked : Result Decl Refusal) (put : PutDone) → answer_of_put ds asked ≡ Ok put
+    → after ≡ edited_all ds (changes_in (put_of asked)) → after ≡ left_by_change ds (put_of asked)
+left_if_accepted ds after (Ok d) put h e = by (is_too_many ds d) refl
+  where
+    by : (b : Bool) → is_too_many ds d ≡ b → after ≡ left_by_change ds (put_of (Ok d))
+    by true t = absurd (let no : Err TooMany ≡ Ok put = rw t at h in cc)
+    by false t = rw t e
+left_if_accepted ds after (Err r) put h e = cc
+
+pub left_if_refused : (ds after : List Decl) (asked : Result Decl Refusal) (r : Refusal) → answer_of_put ds asked ≡ Err r
+    → after ≡ ds → after ≡ left_by_change ds (put_of asked)
+left_if_refused ds after (Ok d) r h e = by (is_too_many ds d) refl
+  where
+    by : (b : Bool) → is_too_many ds d ≡ b → after ≡ left_by_change ds (put_of (Ok d))
+    by true t = rw t e
+    by false t = absurd (let no : Ok (put_among ds d) ≡ Err r = rw t at h in cc)
+left_if_refused ds after (Err s) r h e = e

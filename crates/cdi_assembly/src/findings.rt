@@ -7,7 +7,7 @@ ghost use Rattle.cdi_assembly.specs.Told.{faults_told, is_told};
 use crate::origins::Origins;
 use crate::problem::Problem;
 use cdi_advice::{Advice, Adviser, Candidate, Notes};
-use cdi_container::{Bodies, Code, Container, Effective, Fault, Ident, Kind, Name};
+use cdi_container::{Beans, Bodies, Code, Container, Effective, Fault, Ident, Kind, Name};
 use cdi_findings::{Considered, Finding, Reasons};
 use cdi_sources::Source;
 use std::alloc::{AllocError, Global};
@@ -58,10 +58,7 @@ pub fn findings_of_faults<'a, B: Bodies>(
         ≡ map text_of_fault (faults_told telling.entry (faults container.old.decls container.old.book))) }
 {
     let faults = container.report()?;
-    let mut beans = Vec::new(alloc);
-    for bean in container.beans() {
-        beans.push(bean)?;
-    }
+    let beans = collect_beans(alloc, container.beans())?;
     let teller = Teller {
         alloc,
         files,
@@ -75,6 +72,17 @@ pub fn findings_of_faults<'a, B: Bodies>(
         telling,
     };
     teller.findings(faults.as_slice())
+}
+
+/// Beans that are lent, as a list.
+fn collect_beans<'a>(alloc: Global, beans: Beans<'a>) -> Result<Vec<&'a Effective>, AllocError>
+    ensures { IfOk result (λ list. map (λ bean. bean.now) list.items ≡ beans.entry) }
+{
+    let mut list = Vec::new(alloc);
+    for bean in beans {
+        list.push(bean)?;
+    }
+    Ok(list)
 }
 
 /// Whether a fault is told.
