@@ -65,7 +65,7 @@ impl Bodies for PromiseBook {
     }
 
     fn ask(&self, name: &Ident, _frame: &Frame) -> Option<Act> {
-        let _ = self.promise(name)?;
+        self.promise(name)?;
         Some(Act::Return(Val::Null))
     }
 }

@@ -64,20 +64,6 @@ impl<T> Counted<T> {
         self.flushed
     }
 
-    /// Whether each read so far came by a `Console`, while all that its writer had taken was flushed, and after no error.
-    pub fn is_settled(&self) -> bool
-        ensures { result ≡ is_settled self.now }
-    {
-        self.settled
-    }
-
-    /// How many bytes the writer of its `Console` had taken when a read last came by one, and 0 before.
-    pub fn sent_before(&self) -> u64
-        ensures { result ≡ sent_before self.now }
-    {
-        self.sent_before
-    }
-
     /// The reader or the writer itself.
     pub fn into_inner(self) -> T
         ensures { result ≡ inner_of self }

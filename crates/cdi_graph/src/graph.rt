@@ -23,14 +23,18 @@ pub struct Graph {
 
 /// The graph of a plan: nodes for its beans, points, interceptors and events, and the edges between them. They stand in the order
 /// of the plan. An interceptor is there if it surrounds something, has a point or may fire an event. An event is there once, and
-/// so is the edge to it from what may fire it. A point is unsatisfied or ambiguous where a fault of the plan says so. It takes
-/// memory for the nodes and edges, and time near the size of the plan.
+/// so is the edge to it from what may fire it. A point is unsatisfied or ambiguous where a fault of the plan says so: exactly
+/// where a fault of one of these two codes at it is among the faults, and unsatisfied exactly where one of that code is. It
+/// takes memory for the nodes and edges, and time near the size of the plan.
+#[tactic(auto, using(crate::proofs::RedLemmas::red_are_at_fault, crate::proofs::RedLemmas::unsatisfied_are_at_fault))]
 pub fn graph_of(alloc: Global, plan: &Plan<'_>) -> Result<Graph, AllocError>
     ensures choices { IfOk result (λ graph. filter is_choice graph.edges.items ≡ flat_map chosen plan.now.wires.now) }
     ensures owned { IfOk result (λ graph. filter is_owned graph.edges.items ≡ map owned plan.now.wires.now) }
     ensures points { IfOk result (λ graph. filter is_point graph.nodes.items
         ≡ map (point_node plan.now.faults.now) plan.now.wires.now) }
     ensures beans { IfOk result (λ graph. filter is_bean graph.nodes.items ≡ map nodes_are.Bean plan.now.beans.now) }
+    ensures red { RedAreAtFault }
+    ensures unsatisfied { UnsatisfiedAreAtFault }
 {
     let sites = sites_of(alloc, plan.fired)?;
     Ok(Graph {
@@ -38,13 +42,6 @@ pub fn graph_of(alloc: Global, plan: &Plan<'_>) -> Result<Graph, AllocError>
         edges: edges_of(alloc, plan, &sites)?,
     })
 }
-
-/// The laws of the states of points. A point is unsatisfied or ambiguous exactly where a fault of one of these two codes at it is
-/// among the faults, and unsatisfied exactly where one of that code is.
-pub fn red_laws()
-    ensures red { RedAreAtFault }
-    ensures unsatisfied { UnsatisfiedAreAtFault }
-{}
 
 impl Graph {
     /// The same without interceptors, without their points, and without the edges at these. It takes no memory.

@@ -15,6 +15,6 @@ mod plan;
 mod red;
 
 pub use edge::Edge;
-pub use graph::{Graph, graph_of, red_laws};
+pub use graph::{Graph, graph_of};
 pub use node::{BeanNode, EventNode, Node, NodeId, PointId, PointNode, PointState};
 pub use plan::{Fired, Notified, Plan, Surrounded, Wire};

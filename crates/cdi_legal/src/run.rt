@@ -44,9 +44,21 @@ impl Model for Run {
 }
 
 impl Run {
-    /// The beginning of a run over some contexts. It takes no memory.
+    /// The beginning of a run over some contexts. It takes no memory. The contexts that commands leave keep the laws of whole
+    /// commands.
     pub fn new(alloc: Global, contexts: Contexts) -> Run
-        ensures { result.moment ≡ beginning contexts.standing }
+        ensures moment { result.moment ≡ beginning contexts.standing }
+        ensures single { CommandsKeepSingle }
+        ensures throughout { CommandsKeepThroughout }
+        ensures budget { CommandsKeepBudget }
+        ensures ordered { CommandsAreOrdered }
+        ensures faultless { CommandsAreFaultless }
+        ensures causes { CommandsFailForCauses }
+        ensures given { CommandsRaiseGiven }
+        ensures furnished { CommandsKeepFurnished }
+        ensures empty { EmptyEnds }
+        ensures rooted { CommandsKeepRooted }
+        ensures nothing { BothEndsLeaveNothing }
     {
         Run {
             contexts,
@@ -253,24 +265,5 @@ impl Run {
         self.contexts.clear(given);
         self.trace.give_back();
         self.asked = 0;
-    }
-
-    /// The contexts and the entries. The contexts that commands leave keep the laws of whole commands.
-    pub fn into_parts(self) -> (Contexts, Trace)
-        ensures standing { result.0.standing ≡ self.moment.standing }
-        ensures trace { result.1.entries ≡ self.moment.trace }
-        ensures single { CommandsKeepSingle }
-        ensures throughout { CommandsKeepThroughout }
-        ensures budget { CommandsKeepBudget }
-        ensures ordered { CommandsAreOrdered }
-        ensures faultless { CommandsAreFaultless }
-        ensures causes { CommandsFailForCauses }
-        ensures given { CommandsRaiseGiven }
-        ensures furnished { CommandsKeepFurnished }
-        ensures empty { EmptyEnds }
-        ensures rooted { CommandsKeepRooted }
-        ensures nothing { BothEndsLeaveNothing }
-    {
-        (self.contexts, self.trace)
     }
 }

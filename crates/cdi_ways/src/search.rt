@@ -90,8 +90,6 @@ impl<'a> Search<'a> {
         requires { HoldsLeaving edges.now leaving.now }
         ensures { IfOk result (λ search. SearchesFrom edges.now start search 0) }
     {
-        // No effect at run time. The proof reads the edges here.
-        let _ = edges.len();
         let mut search = Search {
             left: lent(alloc, leaving)?,
             steps: Vec::new(alloc),

@@ -4,7 +4,7 @@ use Rattle.cdi_legal.proofs.Causing.{commands_fail_for_causes}
 use Rattle.cdi_legal.proofs.Faultless.{commands_are_faultless}
 use Rattle.cdi_legal.proofs.Ordering.{commands_are_ordered}
 use Rattle.cdi_legal.proofs.Housing.{both_ends_leave_nothing, commands_keep_rooted}
-use Rattle.cdi_legal.proofs.run.Run.into_parts.Goals as goal
+use Rattle.cdi_legal.proofs.run.Run.new.Goals as goal
 
 pub returns-clause-single : goal.returns-clause-single
 returns-clause-single c = commands_keep_single
