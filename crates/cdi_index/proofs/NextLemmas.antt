@@ -10,7 +10,7 @@ use Rattle.cdi_model.specs.declared.decl.Kind.{Kind}
 use Rattle.cdi_model.specs.declared.edit.Edit.{Edit}
 use Rattle.cdi_model.specs.declared.key.DeclKey.{DeclKey}
 use Rattle.cdi_model.specs.DeclKey.{same_key, same_key_equiv}
-use Rattle.cdi_model.specs.DeclList.{AreDistinct}
+use Rattle.cdi_model.specs.DeclList.{limit, AreDistinct}
 use Rattle.cdi_model.proofs.EntryLemmas.{key_exact}
 use Rattle.cdi_model.specs.Edits.{edited_all, edited_keys, is_among}
 use Rattle.cdi_postings.specs.declared.word.Word.{Word}
@@ -208,13 +208,15 @@ module _ (ds eds : List Decl) (edits : List Edit) (ekeys ks slice : List DeclKey
     exact-new : IsExact ds (stored new)
     exact-new = exact-same old new slots kept ds exact
 
-    pub prepared : IsFreeFrom next.first old → next.first + length next.changes.items < 2 ^ 64
+    pub prepared : AreDistinct next.decls → length next.decls ≤ limit → IsFreeFrom next.first old → next.first + length next.changes.items < 2 ^ 64
         → length next.changes.items ≤ spare new.slots → length next.changes.items ≤ spare new.kept
         → keys_changed next.changes.items ≡ next.affected.keys
         → AreReplaced next.decls (turned next.turns.list.items (get same_key new.replaced))
         → length next.turns.list.items ≤ spare new.replaced → keys_turned next.turns.list.items ≡ next.turns.beans.keys
         → IsNext new more next
-    prepared free numbers room_slots room_kept affected turns room_turns beans = record {
+    prepared distinct few free numbers room_slots room_kept affected turns room_turns beans = record {
+      distinct = distinct;
+      few = few;
       exact = λ k. ap (λ cs. made_in (applied next.first cs (stored new) k)) changed
           ∙ exact-next ds edits ks (stored new) next.first listings more exact-new sound-old keeps all-hits listed-new k
           ∙ ap (λ d. made_of d k) (sym (decls ∙ made));

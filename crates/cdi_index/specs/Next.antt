@@ -5,6 +5,7 @@ use Rattle.cdi_model.specs.declared.decl.Decl.{Decl}
 use Rattle.cdi_model.specs.declared.decl.Kind.{Kind}
 use Rattle.cdi_model.specs.declared.key.DeclKey.{DeclKey}
 use Rattle.cdi_model.specs.DeclKey.{same_key}
+use Rattle.cdi_model.specs.DeclList.{limit, AreDistinct}
 use Rattle.cdi_postings.specs.Listing.{Listing}
 use Rattle.cdi_index.specs.declared.change.Change.{Change}
 use Rattle.cdi_index.specs.declared.prepare.Next.{Next}
@@ -33,6 +34,8 @@ applied n (c ∷ cs) m k = cond (same_key c.key k) (stored_as n c) (applied (suc
 -- What is prepared: after the changes what is kept is exact, and each slot is listed under its words; after the turns the records of replaced
 -- beans are exact. The changes and the turns are found by their keys. The slots of the changes are free, and there is room.
 pub record IsNext (shelf : Shelf) (listings : List Listing) (next : Next) : Type 0 where
+  pub distinct : AreDistinct next.decls
+  pub few : length next.decls ≤ limit
   pub exact : IsExact next.decls (applied next.first next.changes.items (stored shelf))
   pub sound : IsSound (applied next.first next.changes.items (stored shelf)) listings
   pub free : IsFreeFrom next.first shelf
@@ -46,6 +49,7 @@ pub record IsNext (shelf : Shelf) (listings : List Listing) (next : Next) : Type
 
 -- After the changes what is kept is exact, and after the turns the records of replaced beans are. Both are found by their keys.
 pub record IsAfter (shelf : Shelf) (next : Next) : Type 0 where
+  pub distinct : AreDistinct next.decls
   pub exact : IsExact next.decls (applied next.first next.changes.items (stored shelf))
   pub affected : keys_changed next.changes.items ≡ next.affected.keys
   pub turned : AreReplaced next.decls (turned_by next.turns.list.items (get same_key shelf.replaced))

@@ -3,6 +3,7 @@ use Rattle.std.specs.Prelude.{◌≡◌, List, [], ◌∷◌, ◌++◌, Option, 
 use Rattle.cdi_model.specs.declared.decl.Decl.{Decl}
 use Rattle.cdi_model.specs.declared.edit.Edit.{Edit}
 use Rattle.cdi_model.specs.declared.key.DeclKey.{DeclKey}
+use Rattle.cdi_model.specs.DeclList.{AreDistinct}
 use Rattle.cdi_model.specs.Edits.{edited, edited_all, edited_key, edited_keys}
 use Rattle.cdi_postings.specs.Listing.{Listing}
 use Rattle.cdi_index.specs.Counted.{counted}
@@ -81,6 +82,7 @@ MayBeNext shelf listings (Some next) = IsNext shelf listings next
 
 -- What is kept is exact, each slot is listed under its words, and what is staged is prepared.
 pub record IsIndex (ds : List Decl) (shelf : Shelf) (listings : List Listing) (next : Option Next) : Type 0 where
+  pub distinct : AreDistinct ds
   pub shelved : IsShelf shelf
   pub free : IsFreeFrom shelf.given shelf
   pub exact : IsExact ds (stored shelf)

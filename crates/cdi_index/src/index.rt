@@ -1,10 +1,11 @@
 //! The declarations, with what is made of each.
-ghost use Rattle.std.specs.Prelude.{◌≡◌, false, filter, flat_map, map, slice_get, option_map, Some, None, IfOk, OnOk, OnErr};
+ghost use Rattle.std.specs.Prelude.{◌≡◌, false, filter, flat_map, map, slice_get, option_map, length, ◌≤◌, Some, None, IfOk, IfSome, OnOk, OnErr};
 ghost use Rattle.std.specs.Option.{option_copied, option_map_or};
 ghost use Rattle.cdi_positions.specs.Marks.{is_marked};
 ghost use Rattle.cdi_match.specs.Chain.{has};
 ghost use Rattle.cdi_effective.specs.Beans.{beans, entries};
 ghost use Rattle.cdi_effective.specs.Records.{records_in};
+ghost use Rattle.cdi_model.specs.DeclList.{limit, AreDistinct};
 ghost use Rattle.cdi_model.specs.Edits.{is_among};
 ghost use Rattle.cdi_index.specs.Made.{made_of, reads, types_declared};
 ghost use Rattle.cdi_index.specs.Replaced.{lent};
@@ -86,7 +87,8 @@ impl Index {
 
     /// The declarations. It takes no memory.
     pub fn decls(&self) -> &Decls
-        ensures { result.now ≡ self.now.decls }
+        ensures value { result.now ≡ self.now.decls }
+        ensures distinct { AreDistinct self.now.decls }
     {
         &self.decls
     }
@@ -137,8 +139,6 @@ impl Index {
     pub fn records_at(&self, position: usize) -> &[Effective]
         ensures { result.now ≡ records_at self.now.decls position }
     {
-        // No effect at run time. The proof reads here that no two declarations have one kind and name.
-        let _ = self.decls.iter();
         match self.decls.at(position) {
             Some(Decl::Bean(bean)) => self.records(&bean.name),
             _ => &[],
@@ -149,8 +149,6 @@ impl Index {
     pub fn positions_under(&self, words: &[Word]) -> PositionSet
         ensures { (p : _) → is_marked result p ≡ option_map_or (has_one self.now.decls words.now) (slice_get self.now.decls p) false }
     {
-        // No effect at run time. The proof reads here that no two declarations have one kind and name.
-        let _ = self.decls.iter();
         positions_under(&self.decls, &self.shelf, &self.postings, words)
     }
 
@@ -160,8 +158,6 @@ impl Index {
         ensures { result
             ≡ is_asked self.now.decls asked.entry.question asked.entry.name.now asked.entry.uses.now apart.now }
     {
-        // No effect at run time. The proof reads here that no two declarations have one kind and name.
-        let _ = self.decls.iter();
         is_asked_at(
             self.alloc,
             &self.decls,
@@ -177,7 +173,8 @@ impl Index {
     /// bindings, a bean what its records rest on. Each once, in no order. It takes memory for a list of them, and looks at
     /// them alone.
     pub fn readers(&self, alloc: Global, key: &DeclKey) -> Result<Vec<DeclKey>, AllocError>
-        ensures { IfOk result (λ list. (k : _) → is_among list.items k ≡ reads (made_of self.now.decls k) key.now) }
+        ensures value { IfOk result (λ list. (k : _) → is_among list.items k ≡ reads (made_of self.now.decls k) key.now) }
+        ensures distinct { AreDistinct self.now.decls }
     {
         readers_of(alloc, &self.shelf, &self.postings, key)
     }
@@ -192,8 +189,6 @@ impl Index {
         ensures { IfOk result (λ list. map (λ bean. bean.now) list.items
             ≡ filter (is_sought sought.entry) (beans_under self.now.decls words.now)) }
     {
-        // No effect at run time. The proof reads here that no two declarations have one kind and name.
-        let _ = self.decls.iter();
         if let Some((word, slot)) = only_slot(&self.postings, words) {
             return sought_at_slot(alloc, &self.shelf, sought, &word, slot);
         }
@@ -276,7 +271,10 @@ impl Index {
 
     /// The declarations after the draft that is staged, if one is. It takes no memory.
     pub fn next(&self) -> Option<NextIndex<'_>>
-        ensures { result ≡ option_map (λ staged. staged.decls) self.now.staged }
+        ensures value { result ≡ option_map (λ staged. staged.decls) self.now.staged }
+        ensures distinct { AreDistinct self.now.decls }
+        ensures apart { IfSome result AreDistinct }
+        ensures few { IfSome result (λ ds. length ds ≤ limit) }
     {
         match &self.next {
             Some(next) => Some(NextIndex::new(&self.shelf, next)),

@@ -1,5 +1,6 @@
 //! The declarations as they are after the next commit.
 ghost use Rattle.std.specs.Prelude.{◌≡◌};
+ghost use Rattle.cdi_model.specs.DeclList.{AreDistinct};
 ghost use Rattle.cdi_effective.specs.Records.{records_in};
 ghost use Rattle.cdi_index.specs.Asked.{is_asked_by};
 ghost use Rattle.cdi_index.specs.Next.{IsAfter};
@@ -44,7 +45,8 @@ impl<'a> NextIndex<'a> {
 
     /// The declarations. It takes no memory.
     pub fn decls(&self) -> &'a Decls
-        ensures { result.now ≡ self.now }
+        ensures value { result.now ≡ self.now }
+        ensures distinct { AreDistinct self.now }
     {
         &self.next.decls
     }
@@ -81,8 +83,6 @@ impl<'a> NextIndex<'a> {
     pub fn records_at(&self, position: usize) -> &'a [Effective]
         ensures { result.now ≡ records_at self.now position }
     {
-        // No effect at run time. The proof reads here that no two declarations have one kind and name.
-        let _ = self.next.decls.iter();
         match self.next.decls.at(position) {
             Some(Decl::Bean(bean)) => self.records(&bean.name),
             _ => &[],

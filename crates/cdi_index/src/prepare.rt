@@ -1,6 +1,7 @@
 //! Prepares what a draft leads to.
 ghost use Rattle.std.specs.Prelude.{◌≡◌, filter, length, IfOk};
 ghost use Rattle.cdi_model.specs.declared.decl.Kind.TheVariants as kinds;
+ghost use Rattle.cdi_model.specs.DeclList.{AreDistinct};
 ghost use Rattle.cdi_index.specs.Counted.{counted, raised};
 ghost use Rattle.cdi_index.specs.Kept.{stored, Keeps, IsExact, IsFreeFrom, IsShelf, IsSound};
 ghost use Rattle.cdi_index.specs.Next.{is_made, IsNext};
@@ -59,6 +60,7 @@ pub(crate) fn prepare(
     counts: Counts,
     draft: Draft,
 ) -> Result<Next, AllocError>
+    requires distinct { AreDistinct decls.now }
     requires edited { IsEdited decls.now draft }
     requires shelf { IsShelf shelf.old }
     requires free { IsFreeFrom shelf.old.given shelf.old }
@@ -75,8 +77,7 @@ pub(crate) fn prepare(
     ensures next { IfOk result (λ next. IsNext shelf.new postings.new next) }
     ensures told { IfOk result (λ next. Tells decls.now draft.decls draft.keys next.turns.beans.keys) }
 {
-    // No effect at run time. The proof reads here that no two declarations have one kind and name.
-    let _ = decls.iter();
+    // No effect at run time. The proof reads here that no two declarations of the draft have one kind and name.
     let _ = draft.decls.iter();
     let affected = affected_by(alloc, shelf, postings, draft.keys.as_slice())?;
     shelf.reserve(affected.len())?;

@@ -40,9 +40,6 @@ fn is_touched(
     requires { IsBetween sides.now }
     ensures { IfOk result (λ is. is ≡ is_touched sides.now.index.now.decls sides.now.next.now (ChainKey class place.now)) }
 {
-    // No effect at run time. The proof reads here that no two declarations have one kind and name.
-    let _ = sides.index.decls().iter();
-    let _ = sides.next.decls().iter();
     let olds = bindings_seen(alloc, sides.index.decls(), class, place)?;
     let news = bindings_seen(alloc, sides.next.decls(), class, place)?;
     let mut words = Vec::new(alloc);

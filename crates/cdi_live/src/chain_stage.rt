@@ -23,9 +23,6 @@ pub(crate) fn gone_chains_after(
     requires wanted { ArePlaces sides.now.index.now.decls chains.now }
     ensures { IfOk result (λ gone. AreGoneChains sides.now.index.now.decls sides.now.next.now chains.now gone.items) }
 {
-    // No effect at run time. The proof reads here that no two declarations have one kind and name.
-    let _ = sides.index.decls().iter();
-    let _ = sides.next.decls().iter();
     let classes = chain_suspects(alloc, sides)?;
     gone_of_classes(alloc, sides, chains, classes.as_slice())
 }

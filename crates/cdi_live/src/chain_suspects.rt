@@ -91,8 +91,6 @@ fn add_intercepted(
         kind: Kind::Binding,
         name: *binding,
     };
-    // No effect at run time. The proof reads here that no two declarations have one kind and name.
-    let _ = index.decls().iter();
     add_bound(index, binding, classes)?;
     let readers = index.readers(alloc, &key)?;
     add_bound_by(index, readers.as_slice(), classes)?;

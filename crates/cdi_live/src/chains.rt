@@ -7,6 +7,7 @@ ghost use Rattle.cdi_intercept.specs.Lent.{lent_in};
 ghost use Rattle.cdi_intercept.specs.Sees.{names_around};
 ghost use Rattle.cdi_memo.specs.Answers.{answer};
 ghost use Rattle.cdi_model.specs.Answering.{Answers};
+ghost use Rattle.cdi_model.specs.DeclList.{AreDistinct};
 ghost use Rattle.cdi_model.specs.Work.{with_one};
 ghost use Rattle.cdi_observe.specs.Keys.{same_place};
 ghost use Rattle.cdi_live.specs.ChainGone.{is_gone_chain, is_place_of};
@@ -68,6 +69,7 @@ fn names_around(
 fn chain(alloc: Global, index: &Index, class: Name, place: &BeanPlace) -> Result<Seq<Name>, Error>
     ensures chain { Answers result (chain_of index.now.decls class place.now) }
     ensures there { OnOk result (is_place_of index.now.decls class place.now ≡ true) }
+    ensures distinct { AreDistinct index.now.decls }
 {
     let Some(Decl::Bean(bean)) = index.decls().get(Kind::Bean, &class) else {
         return Err(Refusal::UnknownName.into());
@@ -98,6 +100,7 @@ pub(crate) fn evaluate_chain(
 ) -> Result<Seq<Name>, Error>
     ensures chain { Answers result (chain_of index.now.decls class place.now) }
     ensures there { OnOk result (is_place_of index.now.decls class place.now ≡ true) }
+    ensures distinct { AreDistinct index.now.decls }
     ensures kept { IfOk result (λ names. (c : _) (p : _) → answer same_place chains.new c p
         ≡ (if bytes_eq class c && same_place place.now p then Some names else answer same_place chains.old c p)) }
     ensures work { OnOk result (work.new ≡ with_one work.old) }

@@ -71,8 +71,6 @@ fn mark_affected(sides: &Sides<'_>, words: &[Word], marked: &mut PositionSet)
     ensures marks { (p : _) → is_marked marked.new p ≡ (is_marked marked.old p
         || list_any (λ w. is_listed sides.now.changed.now w p) words.now) }
 {
-    // No effect at run time. The proof reads here how many declarations there are at most.
-    let _ = sides.next.decls().iter();
     for word in words {
         mark_slots(sides.changed.under(*word), marked);
     }
@@ -101,9 +99,6 @@ fn positions_of_type(sides: &Sides<'_>, bean_type: &Name) -> PositionSet
     ensures { (p : _) (d : _) → slice_get sides.now.next.now p ≡ Some d → is_marked result p ≡ false
         → filter (λ b. has b.types bean_type.now) (entries sides.now.next.now d) ≡ [] }
 {
-    // No effect at run time. The proof reads here that no two declarations have one kind and name.
-    let _ = sides.index.decls().iter();
-    let _ = sides.next.decls().iter();
     let words = [Word {
         reason: Reason::HasType,
         name: *bean_type,

@@ -42,8 +42,6 @@ fn observing_before<'a>(
     ensures { IfOk result (λ list. (t : List ℕ) → types.now ≡ types_of index.now.decls t
         → lent_in list.items ≡ observing index.now.decls (beans index.now.decls) t) }
 {
-    // No effect at run time. The proof reads here that no two declarations have one kind and name.
-    let _ = index.decls().iter();
     let beans = index.beans_observing(alloc, types)?;
     observers_in_order(alloc, index.decls(), &beans, types)
 }
@@ -90,9 +88,6 @@ fn positions_observing(
     ensures { IfOk result (λ positions. (p : _) (d : _) → slice_get sides.now.next.now p ≡ Some d → is_marked positions p ≡ false
         → observes_one types.now d ≡ false) }
 {
-    // No effect at run time. The proof reads here that no two declarations have one kind and name.
-    let _ = sides.index.decls().iter();
-    let _ = sides.next.decls().iter();
     let words = words_observed(alloc, types)?;
     let before = sides.index.positions_under(&words);
     Ok(positions_after(sides, &before, &words))
@@ -124,8 +119,6 @@ fn observers_after<'a>(
     requires { IsBetween sides.now }
     ensures { IfOk result (λ list. lent_in list.items ≡ observing sides.now.next.now (beans sides.now.next.now) event_type) }
 {
-    // No effect at run time. The proof reads here that no two declarations have one kind and name.
-    let _ = sides.next.decls().iter();
     let types = closure(alloc, sides.next.decls(), event_type)?;
     let positions = positions_observing(alloc, sides, &types)?;
     let beans = records_at_all(alloc, sides.next, &positions)?;

@@ -23,9 +23,6 @@ pub(crate) fn gone_events_after(
     requires wanted { EventsAreWanted sides.now.index.now.decls events.now }
     ensures { IfOk result (λ gone. EventsAreGone sides.now.index.now.decls sides.now.next.now events.now gone.items) }
 {
-    // No effect at run time. The proof reads here that no two declarations have one kind and name.
-    let _ = sides.index.decls().iter();
-    let _ = sides.next.decls().iter();
     let types = event_suspects(alloc, sides, events)?;
     let mut gone = touched_of_types(alloc, sides, events, types.as_slice())?;
     let wants = EventWants { sides, events };

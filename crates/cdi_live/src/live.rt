@@ -7,6 +7,7 @@ ghost use Rattle.cdi_index.specs.State.{drafted_from, IsEdited};
 ghost use Rattle.cdi_observe.specs.Kept.{after_key};
 ghost use Rattle.cdi_intercept.specs.Chains.{chain_of};
 ghost use Rattle.cdi_model.specs.Answering.{Answers};
+ghost use Rattle.cdi_model.specs.DeclList.{AreDistinct};
 ghost use Rattle.cdi_observe.specs.Keys.{choice_key, ChainKey, EventKey};
 ghost use Rattle.cdi_observe.specs.Observers.{notified};
 ghost use Rattle.cdi_resolve.specs.Choices.{chosen, chosen_by_name};
@@ -81,7 +82,8 @@ impl Live {
 
     /// The declarations. It takes no memory.
     pub fn decls(&self) -> &Decls
-        ensures { result.now ≡ self.now.decls }
+        ensures value { result.now ≡ self.now.decls }
+        ensures distinct { AreDistinct self.now.decls }
     {
         self.index.decls()
     }
@@ -132,6 +134,7 @@ impl Live {
         ensures known { is_some result ≡ knows self.now (choice_key bean_type.now quals.now) }
         ensures choice { IfSome (option_copied result)
             (λ choice. choice ≡ chosen self.now.decls (beans self.now.decls) bean_type.now quals.now) }
+        ensures wanted { KnownAreWanted self.now }
     {
         if self.by_default.is_empty() {
             return None;
@@ -164,6 +167,7 @@ impl Live {
         ensures kept { OnOk result (kept_in self.new ≡ after_key self.old.decls (choice_key bean_type quals.now) (kept_in self.old)) }
         ensures err { OnErr result (self.new ≡ self.old) }
         ensures staged { knows self.old (choice_key bean_type quals.now) ≡ true → self.new.staged ≡ self.old.staged }
+        ensures wanted { KnownAreWanted self.old }
     {
         if let Some(choice) = self.kept_choice(&bean_type, quals) {
             let copy = choice.copy(alloc)?;
@@ -187,6 +191,7 @@ impl Live {
     pub fn kept_chain(&self, class: &Name, place: &BeanPlace) -> Option<&Seq<Name>>
         ensures known { is_some result ≡ knows self.now (ChainKey class.now place.now) }
         ensures chain { IfSome (option_copied result) (λ names. chain_of self.now.decls class.now place.now ≡ Ok names) }
+        ensures wanted { KnownAreWanted self.now }
     {
         self.memos.chains.get(class, &ChainPlace::new(*place))
     }
@@ -208,13 +213,12 @@ impl Live {
         ensures kept { OnOk result (kept_in self.new ≡ after_key self.old.decls (ChainKey class place.now) (kept_in self.old)) }
         ensures err { OnErr result (self.new ≡ self.old) }
         ensures staged { knows self.old (ChainKey class place.now) ≡ true → self.new.staged ≡ self.old.staged }
+        ensures wanted { KnownAreWanted self.old }
     {
         if let Some(names) = self.kept_chain(&class, place) {
             let copy = copy_names(alloc, names.as_slice())?;
             return Ok(copy);
         }
-        // No effect at run time. The proof reads here that no two declarations have one kind and name.
-        let _ = self.index.decls().iter();
         let names = evaluate_chain(
             alloc,
             &self.index,
@@ -233,6 +237,7 @@ impl Live {
         ensures known { is_some result ≡ knows self.now (EventKey event_type.now quals.now) }
         ensures observers { IfSome (option_copied result)
             (λ ids. ids ≡ notified self.now.decls (beans self.now.decls) event_type.now quals.now) }
+        ensures wanted { KnownAreWanted self.now }
     {
         self.memos.events.get(event_type, quals)
     }
@@ -253,6 +258,7 @@ impl Live {
         ensures kept { OnOk result (kept_in self.new ≡ after_key self.old.decls (EventKey event_type quals.now) (kept_in self.old)) }
         ensures err { OnErr result (self.new ≡ self.old) }
         ensures staged { knows self.old (EventKey event_type quals.now) ≡ true → self.new.staged ≡ self.old.staged }
+        ensures wanted { KnownAreWanted self.old }
     {
         if let Some(ids) = self.kept_observers(&event_type, quals) {
             let copy = copy_ids(alloc, ids)?;
@@ -302,7 +308,8 @@ impl Live {
     /// Takes over what is staged, if anything is. The answers that an edit touches, or for which nothing asks any more, are
     /// kept no longer, and no others. It takes no memory.
     pub fn commit(&mut self)
-        ensures { Commits self.old self.new }
+        ensures commits { Commits self.old self.new }
+        ensures wanted { KnownAreWanted self.old }
     {
         if let Some(going) = self.going.take() {
             self.memos.forget(going);

@@ -57,8 +57,6 @@ fn going_after(
     requires asked { AreAsked sides.now.index.now.decls kept.now.memos.now }
     ensures { IfOk result (λ going. AreGoing sides.now.index.now.decls sides.now.next.now kept.now.memos.now going) }
 {
-    // No effect at run time. The proof reads here that no two declarations have one kind and name.
-    let _ = sides.next.decls().iter();
     let wants = Wants {
         sides,
         choices: &kept.memos.choices,

@@ -17,9 +17,6 @@ pub(crate) fn gone_after(alloc: Global, wants: &Wants<'_>) -> Result<Vec<Gone>, 
     requires wanted { AreWanted wants.now.sides.now.index.now.decls wants.now.choices.now }
     ensures { IfOk result (λ gone. AreGone wants.now.sides.now.index.now.decls wants.now.sides.now.next.now wants.now.choices.now gone.items) }
 {
-    // No effect at run time. The proof reads here that no two declarations have one kind and name.
-    let _ = wants.sides.index.decls().iter();
-    let _ = wants.sides.next.decls().iter();
     let sides = wants.sides;
     let types = suspects(alloc, sides)?;
     let mut gone = gone_of_types(alloc, sides, wants.choices, types.as_slice())?;

@@ -5,7 +5,7 @@ ghost use Rattle.cdi_live.specs.State.{kept_in};
 use crate::live::Live;
 use cdi_effective::Effective;
 use cdi_model::{BeanPlace, Decls, Error, Name, Quals, Seq};
-use cdi_observe::{ObserverId, View};
+use cdi_observe::{Lent, ObserverId, View};
 use cdi_resolve::Choice;
 use std::alloc::{AllocError, Global};
 
@@ -36,6 +36,46 @@ impl View for Live {
 
     fn kept_observers(&self, event_type: &Name, quals: &Quals) -> Option<&Seq<ObserverId>> {
         Live::kept_observers(self, event_type, quals)
+    }
+
+    fn keeps(&self) -> bool {
+        true
+    }
+
+    fn lent_choice(
+        &self,
+        _alloc: Global,
+        bean_type: &Name,
+        quals: &Quals,
+    ) -> Result<Lent<'_, Choice>, AllocError> {
+        match Live::kept_choice(self, bean_type, quals) {
+            Some(choice) => Ok(Lent::Kept(choice)),
+            None => unreachable!(),
+        }
+    }
+
+    fn lent_chain(
+        &self,
+        _alloc: Global,
+        class: &Name,
+        place: &BeanPlace,
+    ) -> Result<Lent<'_, Seq<Name>>, AllocError> {
+        match Live::kept_chain(self, class, place) {
+            Some(names) => Ok(Lent::Kept(names)),
+            None => unreachable!(),
+        }
+    }
+
+    fn lent_observers(
+        &self,
+        _alloc: Global,
+        event_type: &Name,
+        quals: &Quals,
+    ) -> Result<Lent<'_, Seq<ObserverId>>, AllocError> {
+        match Live::kept_observers(self, event_type, quals) {
+            Some(ids) => Ok(Lent::Kept(ids)),
+            None => unreachable!(),
+        }
     }
 
     fn choose(

@@ -41,6 +41,11 @@ found-any f (e ∷ ds) d found passes = by (is_of (kind_of d) (name_of_decl d) e
     by true here rest = or_left (f e) (list_any f ds) (ap f (let some : Some e ≡ Some d = here in let same : e ≡ d = cc in same) ∙ passes)
     by false there rest = or_right (f e) (list_any f ds) (rest there passes)
 
+-- all declarations ask for each wanted key
+pub all-ask : (ds es : List Decl) (knows : Key → Bool) → es ≡ ds → AskForRest ds knows es
+unfolding is_wanted
+all-ask ds es knows are key wants new = ap (list_any (λ d. has_key (wanted_by d) key)) are ∙ wants
+
 module _ (ds es : List Decl) (found : AllByRecursion (IsFound ds) es) where
   abbrev choices : List Key
   choices = flat_map asked_by es

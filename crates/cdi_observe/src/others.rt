@@ -1,5 +1,5 @@
 //! The keys that declarations ask for beside choices.
-ghost use Rattle.std.specs.Prelude.{◌≡◌, ◌++◌, map, flat_map, IfOk, OnOk};
+ghost use Rattle.std.specs.Prelude.{◌≡◌, ◌++◌, map, OnOk};
 ghost use Rattle.cdi_model.specs.Mentions.{shown};
 ghost use Rattle.cdi_intercept.specs.Sets.{methods_of, observers_of, places_of, producers_of};
 ghost use Rattle.cdi_observe.specs.Keys.{ChainKey};
@@ -7,8 +7,7 @@ ghost use Rattle.cdi_observe.specs.Others.{other_key, others_by};
 ghost use Rattle.cdi_observe.specs.Wanted.{chains_by, event_in, events_by};
 
 use cdi_model::{BeanDecl, Decl, EventDecl, Ident, Mention, Name};
-use std::alloc::{AllocError, Global};
-use std::rc::Rc;
+use std::alloc::AllocError;
 
 /// What is asked beside choices: for the interceptors around a place of the bean of a class, or for the observer methods
 /// of an event.
@@ -21,21 +20,6 @@ pub(crate) enum OtherKey<'a> {
     Producer(&'a Name, &'a Ident),
     Observer(&'a Name, &'a Ident),
     Event(&'a EventDecl),
-}
-
-/// The keys that some declarations ask for beside choices, in their order: of each the places of its bean, and then the
-/// events that its bodies may fire. An event may occur twice. It takes memory for the list.
-pub(crate) fn other_keys<'a>(
-    alloc: Global,
-    decls: &'a [Rc<Decl>],
-) -> Result<Vec<OtherKey<'a>>, AllocError>
-    ensures { IfOk result (λ list. map other_key list.items ≡ flat_map others_by (map (λ d. d.value) decls.now)) }
-{
-    let mut list = Vec::new(alloc);
-    for decl in decls {
-        push_of_decl(&**decl, &mut list)?;
-    }
-    Ok(list)
 }
 
 /// Appends those of a declaration.

@@ -6,6 +6,7 @@ ghost use Rattle.cdi_model.specs.DeclList.{find_decl};
 ghost use Rattle.cdi_model.specs.Mentions.{shown};
 ghost use Rattle.cdi_observe.specs.Asked.{asked_key};
 ghost use Rattle.cdi_observe.specs.Kept.{after_key, evaluated, EvaluatesSome};
+ghost use Rattle.cdi_observe.specs.Lending.{IsEvaluated};
 ghost use Rattle.cdi_observe.specs.Others.{other_key, others_by};
 ghost use Rattle.cdi_observe.specs.Wanted.{asked_by, key_of_point, point_named, wanted, AskForRest};
 
@@ -31,6 +32,7 @@ pub fn evaluate_rest<V: View>(
     ensures ok { OnOk result (V.kept view.new ≡ evaluated (V.list view.old) (wanted (V.list view.old)) (V.kept view.old)) }
     ensures err { OnErr result (EvaluatesSome (V.list view.old) (V.kept view.old) (V.kept view.new)) }
     ensures staged { list_all (V.kept view.old).knows (wanted (V.list view.old)) ≡ true → V.staged view.new ≡ V.staged view.old }
+    ensures evaluated { OnOk result (IsEvaluated (V.list view.old) (V.kept view.new)) }
 {
     let choices = choices_of(alloc, decls)?;
     let others = others_of(alloc, decls)?;

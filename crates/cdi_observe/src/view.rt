@@ -1,7 +1,8 @@
 //! Views over present declarations.
-ghost use Rattle.std.specs.Prelude.{◌≡◌, ℕ, List, true, false, is_some, Option, None, Ok, IfOk, IfSome, OnOk, OnErr};
+ghost use Rattle.std.specs.Prelude.{◌≡◌, ℕ, List, true, false, is_some, Option, None, Ok, IfOk, IfSome, IsOk, OnOk, OnErr};
 ghost use Rattle.std.specs.Option.{option_copied};
 ghost use Rattle.cdi_model.specs.declared.decl.Decl.{Decl};
+ghost use Rattle.cdi_model.specs.DeclList.{AreDistinct};
 ghost use Rattle.cdi_effective.specs.Beans.{beans as beans_of};
 ghost use Rattle.cdi_effective.specs.Records.{records_in};
 ghost use Rattle.cdi_model.specs.Answering.{Answers};
@@ -9,8 +10,10 @@ ghost use Rattle.cdi_intercept.specs.Chains.{chain_of};
 ghost use Rattle.cdi_resolve.specs.Choices.{chosen};
 ghost use Rattle.cdi_observe.specs.Keys.{choice_key, ChainKey, EventKey};
 ghost use Rattle.cdi_observe.specs.Kept.{Kept, after_key};
+ghost use Rattle.cdi_observe.specs.Lending.{is_answerable, lent_value};
 ghost use Rattle.cdi_observe.specs.Observers.{notified};
 
+use crate::lent::Lent;
 use crate::observers::{ObserverId, notified_of};
 use crate::records::push_records;
 use cdi_effective::Effective;
@@ -36,12 +39,17 @@ pub trait View {
 
     /// The declarations.
     fn decls(&self) -> &Decls
-        ensures { result.now ≡ list self.now };
+        ensures value { result.now ≡ list self.now }
+        ensures distinct { AreDistinct (list self.now) };
 
     /// The records of the bean declaration of a class: its managed bean, and after it its products in order. None where
     /// no such bean is declared.
     fn records(&self, class: &Name) -> &[Effective]
         ensures { result.now ≡ records_in (list self.now) class.now };
+
+    /// Whether it keeps answers.
+    fn keeps(&self) -> bool
+        ensures { result ≡ (kept self.now).keeps };
 
     /// The bean for a type and qualifiers, where it is kept. It takes no memory.
     fn kept_choice(&self, bean_type: &Name, quals: &Quals) -> Option<&Choice>
@@ -60,6 +68,40 @@ pub trait View {
         ensures known { is_some result ≡ (kept self.now).knows (EventKey event_type.now quals.now) }
         ensures observers { IfSome (option_copied result)
             (λ ids. ids ≡ notified (list self.now) (beans_of (list self.now)) event_type.now quals.now) };
+
+    /// The bean for a type and qualifiers, which is known where the view keeps answers. It is lent where it is kept, and takes
+    /// memory where it is made.
+    fn lent_choice(
+        &self,
+        alloc: Global,
+        bean_type: &Name,
+        quals: &Quals,
+    ) -> Result<Lent<'_, Choice>, AllocError>
+        requires { is_answerable (kept self.now) (choice_key bean_type.now quals.now) ≡ true }
+        ensures { IfOk result
+            (λ answer. lent_value answer ≡ chosen (list self.now) (beans_of (list self.now)) bean_type.now quals.now) };
+
+    /// The names of the interceptors around a place that the bean of a class has, as `lent_choice` answers.
+    fn lent_chain(
+        &self,
+        alloc: Global,
+        class: &Name,
+        place: &BeanPlace,
+    ) -> Result<Lent<'_, Seq<Name>>, AllocError>
+        requires answerable { is_answerable (kept self.now) (ChainKey class.now place.now) ≡ true }
+        requires told { IsOk (chain_of (list self.now) class.now place.now) }
+        ensures { IfOk result (λ answer. chain_of (list self.now) class.now place.now ≡ Ok (lent_value answer)) };
+
+    /// The observer methods that are notified of an event of a type with some qualifiers, as `lent_choice` answers.
+    fn lent_observers(
+        &self,
+        alloc: Global,
+        event_type: &Name,
+        quals: &Quals,
+    ) -> Result<Lent<'_, Seq<ObserverId>>, AllocError>
+        requires { is_answerable (kept self.now) (EventKey event_type.now quals.now) ≡ true }
+        ensures { IfOk result
+            (λ answer. lent_value answer ≡ notified (list self.now) (beans_of (list self.now)) event_type.now quals.now) };
 
     /// The bean for a type and qualifiers (CDI 4.0, Performing typesafe resolution). Where the answer was not kept, a view
     /// that keeps answers counts one more, and keeps it if a declaration asks for it; an edit that is staged may be
@@ -145,11 +187,17 @@ impl<'a> View for PlainView<'a> {
     ghost counts = { λ v. (0, 0) };
 
     fn decls(&self) -> &Decls {
+        // No effect at run time. The proof reads here that no two declarations have one kind and name.
+        let _ = self.decls.iter();
         self.decls
     }
 
     fn records(&self, class: &Name) -> &[Effective] {
         self.beans.records(class)
+    }
+
+    fn keeps(&self) -> bool {
+        false
     }
 
     fn kept_choice(&self, _bean_type: &Name, _quals: &Quals) -> Option<&Choice> {
@@ -162,6 +210,45 @@ impl<'a> View for PlainView<'a> {
 
     fn kept_observers(&self, _event_type: &Name, _quals: &Quals) -> Option<&Seq<ObserverId>> {
         None
+    }
+
+    fn lent_choice(
+        &self,
+        alloc: Global,
+        bean_type: &Name,
+        quals: &Quals,
+    ) -> Result<Lent<'_, Choice>, AllocError> {
+        let mut work = Work::new();
+        let choice = self
+            .beans
+            .choose(alloc, self.decls, *bean_type, quals, &mut work)?;
+        Ok(Lent::Made(choice))
+    }
+
+    fn lent_chain(
+        &self,
+        alloc: Global,
+        class: &Name,
+        place: &BeanPlace,
+    ) -> Result<Lent<'_, Seq<Name>>, AllocError> {
+        let mut work = Work::new();
+        match evaluate_chain(alloc, self.decls, *class, place, &mut work) {
+            Ok(names) => Ok(Lent::Made(names)),
+            Err(Error::OutOfMemory) => Err(AllocError),
+            Err(Error::Refused(_)) => unreachable!(),
+        }
+    }
+
+    fn lent_observers(
+        &self,
+        alloc: Global,
+        event_type: &Name,
+        quals: &Quals,
+    ) -> Result<Lent<'_, Seq<ObserverId>>, AllocError> {
+        let mut beans = Vec::new(alloc);
+        push_records(self.beans.as_slice(), &mut beans)?;
+        let ids = notified_of(alloc, self.decls, &beans, *event_type, quals.as_slice())?;
+        Ok(Lent::Made(ids))
     }
 
     #[tactic(auto, unfolding(crate::specs::Kept::after_key))]

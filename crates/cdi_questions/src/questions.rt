@@ -78,8 +78,6 @@ fn observers_of_types(
     ensures work { OnOk result (work.new ≡ with_one work.old) }
     ensures err { OnErr result (work.new ≡ work.old) }
 {
-    // No effect at run time. The proof reads here that no two declarations have one kind and name.
-    let _ = index.decls().iter();
     let candidates = index.beans_observing(alloc, types)?;
     evaluate_observers(alloc, index.decls(), &candidates, types, quals, work)
 }

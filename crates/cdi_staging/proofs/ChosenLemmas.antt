@@ -1,21 +1,18 @@
 -- The bean that is chosen for an injection point stands in the scene.
-use Rattle.std.proofs.Common.{◌≡◌, ◌≢◌, ◌<◌, ℕ, zero, suc, Bool, true, false, ◌&&◌, cond, List, [], ◌∷◌, map, filter}
+use Rattle.std.proofs.Common.{◌≡◌, ◌≢◌, ℕ, zero, Bool, true, false, ◌&&◌, cond, List, [], ◌∷◌, map, filter}
 use Rattle.std.proofs.Common.{length, Option, Some, None, unwrap_or}
-use Rattle.std.proofs.Common.{refl, sym, subst, ap, ◌∙◌, ◌⊎◌, inl, inr, arith}
+use Rattle.std.proofs.Common.{refl, sym, subst, ap, ◌∙◌, ◌⊎◌, inl, inr}
 use Rattle.std.specs.List.{slice_get}
 use Rattle.std.specs.Option.{option_eq}
 use Rattle.std.specs.Str.{bytes_eq}
 use Rattle.std.proofs.lemmas.Bool.{and_parts, false≢true}
-use Rattle.std.proofs.lemmas.Option.{get_or_from_slice_get, same_Some, slice_get_within}
-use Rattle.cdi_model.specs.Decl.{key_of, kind_of, name_of_decl}
-use Rattle.cdi_model.specs.DeclKey.{same_key, same_key_equiv}
-use Rattle.cdi_model.specs.DeclList.{find_decl, AreDistinct}
+use Rattle.std.proofs.lemmas.Option.{same_Some}
+use Rattle.cdi_model.specs.DeclList.{AreDistinct}
 use Rattle.cdi_model.specs.declared.decl.BeanDecl.{BeanDecl}
 use Rattle.cdi_model.specs.declared.decl.Decl.{Decl}
 use Rattle.cdi_model.specs.declared.decl.Decl.TheVariants as decls
 use Rattle.cdi_model.specs.declared.decl.ProducerDecl.{ProducerDecl}
 use Rattle.cdi_model.specs.declared.quals.Qual.{Qual}
-use Rattle.cdi_model.proofs.EntryLemmas.{key_exact}
 use Rattle.cdi_match.specs.Chain.{has}
 use Rattle.cdi_match.proofs.Names.{one_name, same_text}
 use Rattle.cdi_bodies.specs.Book.{Promised}
@@ -27,6 +24,7 @@ use Rattle.cdi_scene.specs.Scene.{as_managed, bean_at}
 use Rattle.cdi_effective.specs.Beans.{beans, entries, managed, product, effective}
 use Rattle.cdi_effective.specs.Disposers.{as_bean, find_bean}
 use Rattle.cdi_effective.specs.Qualifiers.{required, cover_all}
+use Rattle.cdi_effective.proofs.PlaceLemmas.{own-found}
 use Rattle.cdi_effective.specs.declared.records.BeanId.{BeanId}
 use Rattle.cdi_effective.specs.declared.records.Effective.{Effective}
 use Rattle.cdi_resolve.specs.Choices.{Candidate, candidate, choice_of, chosen, eligible, is_eligible, only, among}
@@ -34,8 +32,7 @@ use Rattle.cdi_resolve.specs.Choices.{greatest, is_greatest, alternatives, offer
 use Rattle.cdi_staging.specs.Positions.{is_told_by}
 use Rattle.cdi_resolve.specs.declared.choice.Choice.TheVariants.{One}
 use Rattle.cdi_staging.specs.Sites.{position_of_bean, position_of_class}
-use Rattle.cdi_staging.specs.Staged.{class_of, scene_of, sight_of, staged_beans, staged_managed, staged_product, managed_form}
-use Rattle.cdi_staging.specs.Staged.{observers_of, unused_managed}
+use Rattle.cdi_staging.specs.Staged.{managed_form, scene_of, staged_beans, staged_managed, staged_product, unused_managed}
 use Rattle.cdi_staging.proofs.BesideLemmas.{Beside, beside-map, beside-flat, second-at, found, from-filter, from-map, in-flat}
 
 -- ---- the one that is chosen
@@ -151,31 +148,9 @@ all-stand ds book = beside-flat (Stands ds book) (entries ds) (staged_beans ds b
 
 -- ---- declarations by their names
 
-other-key : (d e : Decl) → key_of e ≢ key_of d → same_key (key_of d) (key_of e) ≡ false
-other-key d e other = by (same_key (key_of d) (key_of e)) refl
-  where
-    by : (b : Bool) → same_key (key_of d) (key_of e) ≡ b → b ≡ false
-    by false same = refl
-    by true same = absurd (other (sym (key_exact (key_of d) (key_of e) same)))
-
-pub found-own : (ds : List Decl) (k : ℕ) (d : Decl) → AreDistinct ds → slice_get ds k ≡ Some d
-    → find_decl (kind_of d) (name_of_decl d) ds ≡ Some d
-found-own [] k d distinct at = absurd (cc)
-found-own (e ∷ es) zero d distinct at =
-    let same : e ≡ d = cc in
-    ap (λ b. cond b (Some e) (find_decl (kind_of d) (name_of_decl d) es))
-    (subst (λ f. same_key (key_of d) (key_of f) ≡ true) (sym same) (same_key_equiv.refl (key_of d)))
-    ∙ ap Some same
-found-own (e ∷ es) (suc k) d distinct at =
-    let lt : k < length es = slice_get_within es k d at in
-    let apart = distinct zero (suc k) e (omega arith) (omega arith) in
-    let other : key_of e ≢ key_of d = subst (λ f. key_of e ≢ key_of f) (get_or_from_slice_get es k d e at) apart in
-    ap (λ b. cond b (Some e) (find_decl (kind_of d) (name_of_decl d) es)) (other-key d e other)
-    ∙ found-own es k d (λ i j f before within. distinct (suc i) (suc j) f (omega arith) (omega arith)) at
-
 pub bean-found : (ds : List Decl) (k : ℕ) (d : BeanDecl) → AreDistinct ds → slice_get ds k ≡ Some (decls.Bean d)
     → find_bean d.name ds ≡ Some d
-bean-found ds k d distinct at = ap as_bean (found-own ds k (decls.Bean d) distinct at)
+bean-found ds k d distinct at = ap as_bean (own-found ds k (decls.Bean d) distinct at)
 
 -- ---- what is chosen stands in the scene
 
@@ -204,15 +179,11 @@ of-some ds book x bean p (inl managed_one) some =
     let clash : None ≡ Some p = sym (managed-id ds managed_one.decl).1 ∙ sym (ap (λ y. y.id.producer) managed_one.is) ∙ some in
     absurd (cc)
 
--- what stands for a managed bean that is enabled
-abbrev pub used_form : List Decl → List Promised → BeanDecl → Managed
-used_form ds book d = managed_form ds (beans ds) book (sight_of ds d) (class_of ds d) (observers_of ds book d)
-
 -- the managed bean of a class and of an enabled bean of it
 pub record IsManagedOf (ds : List Decl) (book : List Promised) (class : List ℕ) (bean : Bean) : Type 0 where
   pub decl : BeanDecl
   pub is : find_bean class ds ≡ Some decl
-  pub form : bean.form ≡ forms.Managed (used_form ds book decl)
+  pub form : bean.form ≡ forms.Managed (managed_form ds book decl)
 
 pub record Reached (ds : List Decl) (book : List Promised) (id : BeanId) : Type 0 where
   pub bean : Bean
@@ -252,7 +223,7 @@ reached ds book id distinct offered =
             decl = m.decl;
             is = by_first;
             form = ap (λ b. b.form) m.made
-                ∙ ap (λ b. forms.Managed (cond b (used_form ds book m.decl) unused_managed)) enabled;
+                ∙ ap (λ b. forms.Managed (cond b (managed_form ds book m.decl) unused_managed)) enabled;
           };
       of_product = λ p some.
           let m = of-some ds book first.value staged.value p staged.fits (is.1 ∙ some) in
@@ -267,7 +238,7 @@ managed_in None = None
 
 -- a managed bean that is enabled stands at the position
 abbrev pub IsUsed : List Decl → List Promised → ℕ → BeanDecl → Type 0
-IsUsed ds book b d = managed_in (bean_at (scene_of ds book) b) ≡ Some (used_form ds book d)
+IsUsed ds book b d = managed_in (bean_at (scene_of ds book) b) ≡ Some (managed_form ds book d)
 
 -- the bean of an enabled declaration stands at the position of its class
 pub host-used : (ds : List Decl) (book : List Promised) (k : ℕ) (d : BeanDecl) → AreDistinct ds → slice_get ds k ≡ Some (decls.Bean d)
@@ -282,4 +253,4 @@ host-used ds book k d distinct at enabled =
     let m = r.of_managed refl in
     let same : m.decl ≡ d = same_Some m.decl d (sym m.is ∙ bean-found ds k d distinct at) in
     ap managed_in r.there ∙ ap as_managed m.form
-    ∙ ap (λ e. Some (used_form ds book e)) same
+    ∙ ap (λ e. Some (managed_form ds book e)) same

@@ -1,10 +1,11 @@
 -- The interceptors around the places of a bean that is declared, by the names that are told of them.
 use Rattle.std.proofs.Common.{◌≡◌, ◌≢◌, ◌+◌, ◌<◌, ℕ, zero, suc, Bool, true, false, cond, not, ◌&&◌, List, [], ◌∷◌, ◌++◌, map, filter, length}
-use Rattle.std.proofs.Common.{Some, Ok, Result, get_or, is_some, option_map, refl, sym, subst, ap, ◌∙◌, append_assoc}
+use Rattle.std.proofs.Common.{Some, Contains, get_or, is_some, option_map, refl, sym, subst, ap, ◌∙◌, append_assoc}
 use Rattle.std.specs.List.{slice_get}
 use Rattle.std.specs.Str.{bytes_eq}
 use Rattle.std.proofs.lemmas.Bool.{false≢true}
-use Rattle.std.proofs.lemmas.Option.{slice_get-get_or}
+use Rattle.std.proofs.lemmas.List.{map-id}
+use Rattle.std.proofs.lemmas.Option.{get_or_from_slice_get, slice_get-get_or, slice_get-map, slice_get_within}
 use Rattle.std.proofs.lemmas.Simd.{map-map}
 use Rattle.cdi_model.specs.DeclList.{AreDistinct}
 use Rattle.cdi_model.specs.declared.decl.BeanDecl.{BeanDecl}
@@ -15,20 +16,16 @@ use Rattle.cdi_model.specs.declared.decl.ObserverDecl.{ObserverDecl}
 use Rattle.cdi_model.specs.declared.decl.ProducerDecl.{ProducerDecl}
 use Rattle.cdi_model.specs.declared.place.BeanPlace.{BeanPlace}
 use Rattle.cdi_model.specs.declared.place.BeanPlace.TheVariants as spots
-use Rattle.cdi_model.specs.declared.quals.Qual.{Qual}
-use Rattle.cdi_model.specs.declared.refusal.Refusal.{Refusal}
 use Rattle.cdi_match.specs.Chain.{has}
 use Rattle.cdi_match.proofs.Names.{same_text}
-use Rattle.cdi_effective.specs.Beans.{effective, managed, records}
 use Rattle.cdi_effective.specs.Bindings.{class_bindings}
-use Rattle.cdi_effective.specs.Disposers.{find_bean}
-use Rattle.cdi_effective.specs.declared.records.Effective.{Effective}
-use Rattle.cdi_intercept.specs.Chains.{chain_by, chain_of, in_order, surrounds, surrounds_one}
+use Rattle.cdi_intercept.specs.Chains.{chain_by, in_order, surrounds, surrounds_one}
 use Rattle.cdi_intercept.specs.Sets.{has_place, set_by, sets_of}
 use Rattle.cdi_observe.specs.Around.{names_at, names_of_bean}
-use Rattle.cdi_observe.proofs.AroundLemmas.{has-names, has-names_at, told-names}
-use Rattle.cdi_staging.specs.Shown.{HasProducer, IsClassOf, names_among}
-use Rattle.cdi_staging.specs.Staged.{Around, Class, around_of, chain_at, class_chain, injections_around, injections_from, places_from, targets}
+use Rattle.cdi_observe.proofs.AroundLemmas.{has-names, has-names_at}
+use Rattle.cdi_staging.specs.Shown.{around_in, names_among}
+use Rattle.cdi_staging.specs.declared.around.Around.{Around as Shown}
+use Rattle.cdi_staging.specs.Staged.{Around, around_of, chain_at, injections_around, injections_from, places_from, targets}
 use Rattle.cdi_contexts.specs.declared.instance.Actor.TheVariants.{Interceptor as By}
 use Rattle.cdi_scene.specs.declared.scene.Injection.{Injection}
 use Rattle.cdi_staging.proofs.BesideLemmas.{found, from-map}
@@ -67,66 +64,70 @@ filter-mapped {X = X} f p (x ∷ xs) = by (p (f x)) (filter-mapped f p xs)
     by true more = ap (λ rest. f x ∷ rest) more
     by false more = more
 
--- ---- the interceptors around a place, by their names
+-- ---- the interceptors that are enabled, by their names
+
+-- an interceptor with what is chosen for its injection points
+abbrev with_targets : List Decl → InterceptorDecl → Around
+with_targets ds i = (i, targets ds i.points)
+
+-- each that the code has is one that is enabled
+shown-enabled : (ds : List Decl) (around : List Shown) → map around_in around ≡ around_of ds → map (λ a. a.decl.now) around ≡ in_order ds
+unfolding around_of
+shown-enabled ds around enabled =
+    sym (map-map (λ (a : Around). a.0) around_in around)
+    ∙ ap (map (λ (a : Around). a.0)) enabled
+    ∙ map-map (λ (a : Around). a.0) (with_targets ds) (in_order ds)
+    ∙ map-id (in_order ds)
+
+pub is-enabled : (ds : List Decl) (around : List Shown) (k : ℕ) (a : Shown) → map around_in around ≡ around_of ds → k < length around
+    → a ≡ get_or around k a → Contains (in_order ds) a.decl.now
+is-enabled ds around k a enabled within is =
+    let decl : Shown → InterceptorDecl = λ b. b.decl.now in
+    let at : slice_get (in_order ds) k ≡ Some a.decl.now = ap (λ list. slice_get list k) (sym (shown-enabled ds around enabled))
+    ∙ slice_get-map decl around k
+    ∙ ap (option_map decl) (slice_get-get_or around k a within ∙ ap Some (sym is)) in
+    (k, slice_get_within (in_order ds) k a.decl.now at, get_or_from_slice_get (in_order ds) k a.decl.now a.decl.now at)
 
 -- what the names tell of the interceptors that are enabled, they tell of these with what is chosen for them
 told : (ds : List Decl) (names : List (List ℕ)) (test : InterceptorDecl → Bool)
     → ((k : ℕ) (i : InterceptorDecl) → slice_get (in_order ds) k ≡ Some i → has names i.name ≡ test i)
-    → (around : List Around) → around ≡ around_of ds → (k : ℕ) (a : Around) → slice_get around k ≡ Some a
-    → has names a.0.name ≡ test a.0
+    → (k : ℕ) (a : Around) → slice_get (around_of ds) k ≡ Some a → has names a.0.name ≡ test a.0
 unfolding around_of
-told ds names test each around are k a at =
-    let shown : InterceptorDecl → Around = λ i. (i, targets ds i.points) in
-    let one = from-map shown (in_order ds) k a (subst (λ list. slice_get list k ≡ Some a) are at) in
+told ds names test each k a at =
+    let one = from-map (with_targets ds) (in_order ds) k a at in
     subst (λ (b : Around). has names b.0.name ≡ test b.0) one.2 (each k one.0 one.1)
 
+-- the interceptors that stand around a place
+abbrev stands_at : List Decl → BeanDecl → BeanPlace → InterceptorDecl → Bool
+stands_at ds bean place i = surrounds ds (set_by ds (class_bindings ds bean) bean place) place i
+
 -- the names at a place are those of the interceptors that they name
-pub names-at_place : (ds : List Decl) (c : Class) (place : BeanPlace) → IsClassOf ds c
-    → names_at ds c.bean place ≡ names_among (names_at ds c.bean place) c.around
+pub names-at_place : (ds : List Decl) (bean : BeanDecl) (place : BeanPlace) → AreDistinct ds
+    → names_at ds bean place ≡ names_among (names_at ds bean place) (around_of ds)
 unfolding around_of chain_by
-names-at_place ds c place of =
-    let names = names_at ds c.bean place in
+names-at_place ds bean place distinct =
+    let names = names_at ds bean place in
     let named : InterceptorDecl → Bool = λ i. has names i.name in
-    let shown : InterceptorDecl → Around = λ i. (i, targets ds i.points) in
-    let around : InterceptorDecl → Bool = surrounds ds (set_by ds (class_bindings ds c.bean) c.bean place) place in
-    ap (map (λ i. i.name)) (filter-same around named (in_order ds) (λ k i at. sym (has-names_at ds c.bean place k i of.distinct at)))
-    ∙ sym (map-map (λ (a : Around). a.0.name) shown (filter named (in_order ds)))
-    ∙ ap (map (λ (a : Around). a.0.name)) (sym (filter-mapped shown (λ (a : Around). has names a.0.name) (in_order ds)))
-    ∙ ap (names_among names) (sym of.around)
+    ap (map (λ i. i.name))
+    (filter-same (stands_at ds bean place) named (in_order ds) (λ k i at. sym (has-names_at ds bean place k i distinct at)))
+    ∙ sym (map-map (λ (a : Around). a.0.name) (with_targets ds) (filter named (in_order ds)))
+    ∙ ap (map (λ (a : Around). a.0.name)) (sym (filter-mapped (with_targets ds) (λ (a : Around). has names a.0.name) (in_order ds)))
 
 -- and the positions of these are the chain
-positions-at_place : (ds : List Decl) (c : Class) (place : BeanPlace) → IsClassOf ds c
-    → places_from (λ a. has (names_at ds c.bean place) a.0.name) 0 c.around ≡ class_chain ds c place
-positions-at_place ds c place of =
-    let names = names_at ds c.bean place in
-    let around : InterceptorDecl → Bool = surrounds ds (set_by ds (class_bindings ds c.bean) c.bean place) place in
-    places-same (λ (a : Around). has names a.0.name) (λ (a : Around). around a.0) 0 c.around
-    (told ds names around (λ k i at. has-names_at ds c.bean place k i of.distinct at) c.around of.around)
-    ∙ ap (λ bindings. chain_at ds c.around (set_by ds bindings c.bean place) place) (sym of.bindings)
-
-pub positions-among : (ds : List Decl) (c : Class) (place : BeanPlace) (names : List (List ℕ)) → IsClassOf ds c
-    → names ≡ names_at ds c.bean place → places_from (λ a. has names a.0.name) 0 c.around ≡ class_chain ds c place
-positions-among ds c place names of are =
-    ap (λ list. places_from (λ (a : Around). has list a.0.name) 0 c.around) are ∙ positions-at_place ds c place of
-
--- what is told of the place are these names
-one-value : (r : Result (List (List ℕ)) Refusal) (x y : List (List ℕ)) → r ≡ Ok x → r ≡ Ok y → x ≡ y
-one-value r x y first second = let both : Ok x ≡ Ok y = sym first ∙ second in cc
-
-pub names-told : (ds : List Decl) (c : Class) (place : BeanPlace) (names : List (List ℕ)) → IsClassOf ds c
-    → has_place c.bean place ≡ true → chain_of ds c.bean.name place ≡ Ok names → names ≡ names_at ds c.bean place
-names-told ds c place names of there is =
-    one-value (chain_of ds c.bean.name place) names (names_at ds c.bean place) is (told-names ds c.bean place of.declared there)
+pub positions-at_place : (ds : List Decl) (bean : BeanDecl) (place : BeanPlace) → AreDistinct ds
+    → places_from (λ a. has (names_at ds bean place) a.0.name) 0 (around_of ds) ≡ chain_at ds bean place
+positions-at_place ds bean place distinct =
+    places-same (λ (a : Around). has (names_at ds bean place) a.0.name) (λ (a : Around). stands_at ds bean place a.0) 0 (around_of ds)
+    (told ds (names_at ds bean place) (stands_at ds bean place) (λ k i at. has-names_at ds bean place k i distinct at))
 
 -- what is chosen for those around some place
-pub injections-named : (ds : List Decl) (c : Class) (names : List (List ℕ)) → IsClassOf ds c → names ≡ names_of_bean ds c.bean
-    → injections_around (λ i. has names i.name) 0 c.around
-    ≡ injections_around (surrounds_one ds (sets_of ds c.bindings c.bean)) 0 c.around
-injections-named ds c names of are =
-    let around : InterceptorDecl → Bool = surrounds_one ds (sets_of ds (class_bindings ds c.bean) c.bean) in
-    injections-same (λ i. has names i.name) around 0 c.around
-    (told ds names around (λ k i at. ap (λ list. has list i.name) are ∙ has-names ds c.bean k i of.distinct at) c.around of.around)
-    ∙ ap (λ bindings. injections_around (surrounds_one ds (sets_of ds bindings c.bean)) 0 c.around) (sym of.bindings)
+pub injections-named : (ds : List Decl) (bean : BeanDecl) → AreDistinct ds
+    → injections_around (λ i. has (names_of_bean ds bean) i.name) 0 (around_of ds)
+    ≡ injections_around (surrounds_one ds (sets_of ds (class_bindings ds bean) bean)) 0 (around_of ds)
+injections-named ds bean distinct =
+    let around : InterceptorDecl → Bool = surrounds_one ds (sets_of ds (class_bindings ds bean) bean) in
+    injections-same (λ i. has (names_of_bean ds bean) i.name) around 0 (around_of ds)
+    (told ds (names_of_bean ds bean) around (λ k i at. has-names ds bean k i distinct at))
 
 -- ---- names that are left
 
@@ -189,42 +190,25 @@ pub injected-past : (test : InterceptorDecl → Bool) (n : ℕ) (a : Around) (re
 injected-past test n a rest olds all is before =
     ap (λ b. olds ++ (cond b (injections_from (By n) 0 a.1) [] ++ injections_around test (n + 1) rest)) (sym is) ∙ before
 
--- ---- the class of a bean, and its places
+-- ---- the places of a bean
 
-first-bindings : (ds : List Decl) (bean : BeanDecl) (x : Effective) (xs : List Effective) → x ∷ xs ≡ records ds bean
-    → x.bindings ≡ class_bindings ds bean
-unfolding effective
-first-bindings ds bean x xs are =
-    let same : x ≡ managed ds bean = cc in
-    ap (λ y. y.bindings) same
-
--- the class of a declared bean by the record of its managed bean
-pub class-known : (ds : List Decl) (around : List Around) (bindings : List Qual) (bean : BeanDecl) (x : Effective) (xs : List Effective)
-    → AreDistinct ds → find_bean bean.name ds ≡ Some bean → around ≡ around_of ds → x ∷ xs ≡ records ds bean → bindings ≡ x.bindings
-    → IsClassOf ds (record { around = around; bindings = bindings; bean = bean })
-class-known ds around bindings bean x xs distinct declared are all own = record {
-  distinct = distinct;
-  declared = declared;
-  around = are;
-  bindings = own ∙ first-bindings ds bean x xs all;
-}
-
-pub has-method : (bean : BeanDecl) (k : ℕ) (m : MethodDecl) → k < length bean.methods → m ≡ get_or bean.methods k m
-    → has_place bean (spots.Method m.name) ≡ true
-has-method bean k m within at =
-    let one = found (λ (n : MethodDecl). bytes_eq n.name m.name) bean.methods k m (slice_get-get_or bean.methods k m within ∙ ap Some (sym at))
+pub has-method : (bean : BeanDecl) (m : MethodDecl) → Contains bean.methods m → has_place bean (spots.Method m.name) ≡ true
+has-method bean m (k, within, at) =
+    let one = found (λ (n : MethodDecl). bytes_eq n.name m.name) bean.methods k m (slice_get-get_or bean.methods k m within ∙ ap Some at)
     (same_text m.name m.name refl) in
     ap (λ o. is_some (option_map (λ (n : MethodDecl). n.bindings) o)) one.find_is
 
-pub has-observer : (bean : BeanDecl) (k : ℕ) (m : ObserverDecl) → k < length bean.observers → m ≡ get_or bean.observers k m
-    → has_place bean (spots.Observer m.name) ≡ true
-has-observer bean k m within at =
-    let one = found (λ (n : ObserverDecl). bytes_eq n.name m.name) bean.observers k m (slice_get-get_or bean.observers k m within ∙ ap Some (sym at))
+pub has-observer : (bean : BeanDecl) (m : ObserverDecl) → Contains bean.observers m → has_place bean (spots.Observer m.name) ≡ true
+has-observer bean m (k, within, at) =
+    let one = found (λ (n : ObserverDecl). bytes_eq n.name m.name) bean.observers k m (slice_get-get_or bean.observers k m within ∙ ap Some at)
     (same_text m.name m.name refl) in
     ap (λ o. is_some (option_map (λ (n : ObserverDecl). n.bindings) o)) one.find_is
 
-pub has-producer : (bean : BeanDecl) (k : ℕ) (p : ProducerDecl) → slice_get bean.producers k ≡ Some p → HasProducer bean p
-has-producer bean k p at own =
-    let one = found (λ (q : ProducerDecl). bytes_eq q.name p.name && not q.is_static) bean.producers k p at
+-- a producer method that is not static is a place
+pub has-producer : (bean : BeanDecl) (p : ProducerDecl) → Contains bean.producers p → p.is_static ≡ false
+    → has_place bean (spots.Producer p.name) ≡ true
+has-producer bean p (k, within, at) own =
+    let one = found (λ (q : ProducerDecl). bytes_eq q.name p.name && not q.is_static) bean.producers k p
+    (slice_get-get_or bean.producers k p within ∙ ap Some at)
     (ap (λ b. b && not p.is_static) (same_text p.name p.name refl) ∙ ap not own) in
     ap (λ o. is_some (option_map (λ (q : ProducerDecl). q.bindings) o)) one.find_is

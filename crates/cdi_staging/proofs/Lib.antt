@@ -1,5 +1,6 @@
 mod PositionLemmas
-mod SplitLemmas
+mod AnswerableLemmas
+mod ProductLemmas
 mod BesideLemmas
 mod ChosenLemmas
 mod ClassLemmas

@@ -12,7 +12,6 @@ use Rattle.cdi_model.specs.declared.decl.Decl.{Decl}
 use Rattle.cdi_model.specs.declared.decl.InterceptorDecl.{InterceptorDecl}
 use Rattle.cdi_model.specs.declared.decl.PartDecl.{PartDecl}
 use Rattle.cdi_model.specs.declared.place.BeanPlace.{BeanPlace}
-use Rattle.cdi_model.specs.declared.quals.Qual.{Qual}
 use Rattle.cdi_bodies.specs.Book.{Promised}
 use Rattle.cdi_bodies.specs.Flags as flags
 use Rattle.cdi_bodies.specs.Within.{Has}
@@ -28,20 +27,21 @@ use Rattle.cdi_scene.specs.declared.scene.Part.{Part}
 use Rattle.cdi_scene.specs.declared.scene.Via.{Via}
 use Rattle.cdi_scene.specs.declared.scene.Via.TheVariants.{Own, Param}
 use Rattle.cdi_effective.specs.Beans.{beans}
+use Rattle.cdi_effective.specs.Bindings.{class_bindings}
 use Rattle.cdi_intercept.specs.Chains.{in_order, surrounds, surrounds_one}
 use Rattle.cdi_intercept.specs.Chains.{part_for as declared_for}
-use Rattle.cdi_intercept.specs.Sets.{sets_of}
+use Rattle.cdi_intercept.specs.Sets.{set_by, sets_of}
 use Rattle.cdi_intercept.proofs.ChainLemmas.{in_order-declared}
 use Rattle.cdi_staging.specs.Faultless.{AreFineAround, IsFineAround, IsFinePart}
 use Rattle.cdi_staging.specs.Notifying.{fired_at}
 use Rattle.cdi_staging.specs.Sites.{site_of}
-use Rattle.cdi_staging.specs.Staged.{Around, around_of, chain_at, class_of, injections_around, injections_from, managed_form, places_from}
+use Rattle.cdi_staging.specs.Staged.{Around, around_of, chain_at, injections_around, injections_from, managed_form, places_from}
 use Rattle.cdi_staging.specs.Staged.{scene_of, staged_interceptor, staged_part, targets}
 use Rattle.cdi_staging.specs.declared.target.Target.{Target}
 use Rattle.cdi_staging.proofs.BesideLemmas.{from-map, in-append-left, in-append-right, in-one}
 use Rattle.cdi_staging.proofs.PartLemmas.{NamesVia, part-sound, seen}
 use Rattle.cdi_staging.proofs.SoundLemmas.{none-satisfied, part-there}
-use Rattle.cdi_staging.proofs.ChosenLemmas.{IsUsed, used_form}
+use Rattle.cdi_staging.proofs.ChosenLemmas.{IsUsed}
 
 -- ---- who stands in a chain
 
@@ -67,19 +67,20 @@ places-of {X = X} test n (x ∷ xs) k q e = by (test x) refl (λ i here. places-
     by true is rest (suc i) here = later (rest i here)
     by false is rest i here = later (rest i here)
 
--- the interceptor at a position stands around a place with these bindings
-pub record Link (ds : List Decl) (set : List Qual) (spot : BeanPlace) (q : ℕ) : Type 0 where
+-- the interceptor at a position stands around a place of a bean
+pub record Link (ds : List Decl) (bean : BeanDecl) (spot : BeanPlace) (q : ℕ) : Type 0 where
   pub decl : InterceptorDecl
   pub at : slice_get (in_order ds) q ≡ Some decl
-  pub stands : surrounds ds set spot decl ≡ true
+  pub stands : surrounds ds (set_by ds (class_bindings ds bean) bean spot) spot decl ≡ true
 
 abbrev with_targets : List Decl → InterceptorDecl → Around
 with_targets ds i = (i, targets ds i.points)
 
-pub link-of : (ds : List Decl) (set : List Qual) (spot : BeanPlace) (k q : ℕ)
-    → slice_get (chain_at ds (around_of ds) set spot) k ≡ Some q → Link ds set spot q
+pub link-of : (ds : List Decl) (bean : BeanDecl) (spot : BeanPlace) (k q : ℕ) → slice_get (chain_at ds bean spot) k ≡ Some q
+    → Link ds bean spot q
 unfolding around_of
-link-of ds set spot k q e =
+link-of ds bean spot k q e =
+    let set = set_by ds (class_bindings ds bean) bean spot in
     let found = places-of (λ a. surrounds ds set spot a.0) 0 (map (with_targets ds) (in_order ds)) k q e in
     let i = from-map (with_targets ds) (in_order ds) found.0 found.1 found.2 in
     let place : found.0 ≡ q = omega (arith, found.4) in
@@ -307,8 +308,8 @@ allowed-around (places.Disposer b) part is kept = absurd is
 allowed-around (places.Observer o) part is kept = tt
 
 staged-body : (ds : List Decl) (book : List Promised) (i : InterceptorDecl) (place : Place)
-    → part_for place (staged_interceptor ds (beans ds) book (i, targets ds i.points))
-    ≡ option_and_then (staged_part ds (beans ds) book (seen ds i.points [])) (body_of place i)
+    → part_for place (staged_interceptor ds book (i, targets ds i.points))
+    ≡ option_and_then (staged_part ds book (seen ds i.points [])) (body_of place i)
 unfolding staged_interceptor
 staged-body ds book i places.Construct = refl
 staged-body ds book i places.Post = refl
@@ -319,10 +320,10 @@ staged-body ds book i (places.Disposer b) = refl
 staged-body ds book i (places.Observer o) = refl
 
 interceptor-there : (ds : List Decl) (book : List Promised) (q : ℕ) (i : InterceptorDecl) → slice_get (in_order ds) q ≡ Some i
-    → interceptor_at (scene_of ds book) q ≡ Some (staged_interceptor ds (beans ds) book (i, targets ds i.points))
+    → interceptor_at (scene_of ds book) q ≡ Some (staged_interceptor ds book (i, targets ds i.points))
 unfolding scene_of around_of
 interceptor-there ds book q i at =
-    let made = staged_interceptor ds (beans ds) book in
+    let made = staged_interceptor ds book in
     slice_get-map made (map (with_targets ds) (in_order ds)) q
     ∙ ap (option_map made) (slice_get-map (with_targets ds) (in_order ds) q ∙ ap (option_map (with_targets ds)) at)
 
@@ -338,7 +339,7 @@ pub record AtHome (ds : List Decl) (book : List Promised) (b : ℕ) (place : Pla
   pub is : home_of (scene_of ds book) b place ≡ home
   pub bean : BeanDecl
   pub used : IsUsed ds book home bean
-  pub stands : surrounds_one ds (sets_of ds (class_of ds bean).bindings bean) i ≡ true
+  pub stands : surrounds_one ds (sets_of ds (class_bindings ds bean) bean) i ≡ true
 
 abbrev pub link_seat : ℕ → ℕ → Place → ℕ → Seat
 link_seat b q place n = record { bean = b; number = Some n; actor = By q; place = place }
@@ -349,14 +350,14 @@ link-point : (ds : List Decl) (book : List Promised) (b : ℕ) (place : Place) (
 unfolding managed_form around_of
 link-point ds book b place q n p c i t at host point same =
     let d = host.bean in
-    let test = surrounds_one ds (sets_of ds (class_of ds d).bindings d) in
+    let test = surrounds_one ds (sets_of ds (class_bindings ds d) d) in
     let among = slice_get-map (with_targets ds) (in_order ds) q ∙ ap (option_map (with_targets ds)) at in
     let found = around-there test 0 (map (with_targets ds) (in_order ds)) q (with_targets ds i) p t among host.stands point in
     let all = in-append-left (injections_around test 0 (map (with_targets ds) (in_order ds)))
     (injections_from ByTarget 0 (targets ds d.points)) found.0 (injected (By (0 + q)) p t.bean) found.1 in
     let place_is : 0 + q ≡ q = omega arith in
     record {
-      managed = used_form ds book d;
+      managed = managed_form ds book d;
       there = ap (managed_at (scene_of ds book)) host.is ∙ host.used;
       number = n;
       seated = refl;
@@ -370,12 +371,12 @@ link-leads : (ds : List Decl) (book : List Promised) (b : ℕ) (place : Place) (
 link-leads ds book b place q n c i (Own p) at host t = link-point ds book b place q n p c i t.0 at host t.1 t.2
 link-leads ds book b place q n c i (Param p) at host t = absurd (none-some t.0 t.1)
 
-pub link-sound : (ds : List Decl) (book : List Promised) (b : ℕ) (place : Place) (spot : BeanPlace) (set : List Qual) (q n : ℕ)
-    → AreDistinct ds → AreFineAround ds book → (link : Link ds set spot q) → declared_for spot link.decl ≡ body_of place link.decl
+pub link-sound : (ds : List Decl) (book : List Promised) (b : ℕ) (place : Place) (spot : BeanPlace) (d : BeanDecl) (q n : ℕ)
+    → AreDistinct ds → AreFineAround ds book → (link : Link ds d spot q) → declared_for spot link.decl ≡ body_of place link.decl
     → IsIntercepted place → AtHome ds book b place link.decl
     → IsSoundAt book (scene_of ds book) (link_seat b q place n)
 unfolding staged_part
-link-sound ds book b place spot set q n distinct fine link same intercepted host =
+link-sound ds book b place spot d q n distinct fine link same intercepted host =
     let i = link.decl in
     let declared = in_order-declared ds q i link.at in
     let own = fine declared.0.0 i declared.0.1 declared.1 in
@@ -391,7 +392,7 @@ link-sound ds book b place spot set q n distinct fine link same intercepted host
       body = made.0;
       runs = ap (λ o. elim o [ Some interceptor ↦ part_for place interceptor | None ↦ None ]) (interceptor-there ds book q i link.at)
           ∙ staged-body ds book i place
-          ∙ ap (option_and_then (staged_part ds (beans ds) book (seen ds i.points []))) body ∙ made.1;
+          ∙ ap (option_and_then (staged_part ds book (seen ds i.points []))) body ∙ made.1;
       sound = sound.sound;
       allowed = allowed-around place made.0 intercepted sound.kept;
       own = tt;

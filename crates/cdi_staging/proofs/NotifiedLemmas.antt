@@ -21,7 +21,7 @@ use Rattle.cdi_observe.specs.Observers.{observes, observing, resolved}
 use Rattle.cdi_staging.specs.Lookups.{NotifiedStand}
 use Rattle.cdi_staging.specs.Notifying.{is_observer, notified_as, notified_at, observer_declared}
 use Rattle.cdi_staging.specs.Sites.{position_of_class}
-use Rattle.cdi_staging.specs.Staged.{class_of, managed_form, scene_of, sight_of, staged_observer, targets}
+use Rattle.cdi_staging.specs.Staged.{managed_form, scene_of, staged_observer}
 use Rattle.cdi_staging.proofs.BesideLemmas.{found, from-filter, from-flat, from-map, from-sorted, second-at}
 use Rattle.cdi_staging.proofs.ChosenLemmas.{Stands, all-stand, bean-found, host-used, named-decl, of-none}
 
@@ -97,8 +97,7 @@ stands ds book o distinct of =
     ap (λ d. slice_get d.observers of.declared.place) same ∙ of.declared.method in
     let first = found (is_observer o.method.name) m.decl.observers of.declared.place o.method declared
     (same_text o.method.name o.method.name refl) in
-    let made : ObserverDecl → Observer = λ method. staged_observer ds (beans ds) book (sight_of ds m.decl) (class_of ds m.decl) method
-    (targets ds method.params) in
+    let made : ObserverDecl → Observer = staged_observer ds book m.decl in
     let place : observer_declared (find_bean m.decl.name ds) o.method.name ≡ first.place =
     ap (λ d. observer_declared d o.method.name) (bean-found ds m.place m.decl distinct m.there)
     ∙ ap (λ p. unwrap_or p (length m.decl.observers)) first.position_is in

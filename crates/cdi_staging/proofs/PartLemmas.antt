@@ -36,8 +36,8 @@ use Rattle.cdi_staging.specs.Faultless.{IsFit, IsSatisfied, AreSatisfied, IsLed,
 use Rattle.cdi_staging.specs.Notifying.{fired_at}
 use Rattle.cdi_staging.specs.Sites.{Sight, nowhere, target_of, class_with, method_declared, method_of, is_method}
 use Rattle.cdi_staging.specs.Sites.{is_point, position_of_bean, site_at, site_among, site_of, target_at}
-use Rattle.cdi_staging.specs.Staged.{part_of, part_with, staged_part, staged_method, managed_form, sight_of, scene_of}
-use Rattle.cdi_staging.specs.Staged.{class_of, targets}
+use Rattle.cdi_staging.specs.Staged.{part_of, part_with, staged_part, staged_method, managed_form, scene_of}
+use Rattle.cdi_staging.specs.Staged.{targets}
 use Rattle.cdi_staging.specs.declared.target.Target.{Target}
 use Rattle.cdi_staging.proofs.BesideLemmas.{of-find, no-position, find-append, from-map}
 use Rattle.cdi_staging.proofs.ChosenLemmas.{Reached, chosen-offered, reached}
@@ -142,7 +142,7 @@ method-there ds book id name r via has None e =
     let at = of-find (is_method name) m.decl.methods d.method found in
     let place : method_declared (find_bean id.class ds) name ≡ at.place = ap (λ o. method_declared o name) m.is
     ∙ ap (λ o. unwrap_or o (length m.decl.methods)) at.position_is in
-    let made = staged_method ds (beans ds) book (sight_of ds m.decl) (class_of ds m.decl) in
+    let made = staged_method ds book m.decl in
     subst (λ form. HasMethod (scene_of ds book)
     (record { via = via; bean = position_of_bean (beans ds) id; method = method_declared (find_bean id.class ds) name }) form)
     (sym m.form) (
@@ -237,7 +237,7 @@ pub record IsSoundFor (ds : List Decl) (book : List Promised) (allowed : ℕ) (p
 
 pub part-sound : (ds : List Decl) (book : List Promised) (allowed : ℕ) (points params : List PointDecl) (part : PartDecl) (made : Part)
     → AreDistinct ds → AreSatisfied ds points → AreSatisfied ds params → IsFinePart ds book allowed (params ++ points) part
-    → staged_part ds (beans ds) book (seen ds points params) part ≡ Some made → IsSoundFor ds book allowed points params made
+    → staged_part ds book (seen ds points params) part ≡ Some made → IsSoundFor ds book allowed points params made
 unfolding staged_part
 part-sound ds book allowed points params part made distinct own_points own_params fine e =
     let lead = site_of ds (beans ds) (seen ds points params) in

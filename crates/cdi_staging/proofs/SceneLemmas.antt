@@ -19,7 +19,6 @@ use Rattle.cdi_model.specs.declared.decl.PointDecl.{PointDecl}
 use Rattle.cdi_model.specs.declared.decl.ProducerDecl.{ProducerDecl}
 use Rattle.cdi_model.specs.declared.place.BeanPlace.{BeanPlace}
 use Rattle.cdi_model.specs.declared.place.BeanPlace.TheVariants as spots
-use Rattle.cdi_model.specs.declared.quals.Qual.{Qual}
 use Rattle.cdi_bodies.specs.Book.{Promised}
 use Rattle.cdi_bodies.specs.Flags as flags
 use Rattle.cdi_contexts.specs.declared.instance.Actor.TheVariants.{Target as ByTarget}
@@ -40,27 +39,27 @@ use Rattle.cdi_scene.specs.declared.scene.Scene.{Scene}
 use Rattle.cdi_scene.specs.declared.scene.Via.{Via}
 use Rattle.cdi_scene.specs.declared.scene.Via.TheVariants.{Own, Param}
 use Rattle.cdi_effective.specs.Beans.{beans, effective, entries, managed, product}
+use Rattle.cdi_effective.specs.Bindings.{class_bindings}
 use Rattle.cdi_effective.specs.Disposers.{disposer_of}
 use Rattle.cdi_effective.specs.declared.records.BeanId.{BeanId}
 use Rattle.cdi_staging.specs.Positions.{is_told_by}
 use Rattle.cdi_intercept.specs.Chains.{in_order, part_for, surrounds_one}
-use Rattle.cdi_intercept.specs.Sets.{set_by, sets_of}
+use Rattle.cdi_intercept.specs.Sets.{sets_of}
 use Rattle.cdi_intercept.proofs.ChainLemmas.{IsPlace, construct_place, in_order-declared, method_place, post_place, pre_place}
 use Rattle.cdi_intercept.proofs.ChainLemmas.{observer_place, producer_place, surrounds_some}
 use Rattle.cdi_observe.specs.Answers.{answer_to}
 use Rattle.cdi_staging.specs.Faultless.{AreFine, AreFineAround, AreSatisfied, IsFineManaged, IsFineProducer, IsFit}
 use Rattle.cdi_staging.specs.Sites.{position_of_bean, position_of_class, target_of}
 use Rattle.cdi_staging.specs.Staged.{disposer_for, disposer_named, disposer_part, injections_from, managed_form}
-use Rattle.cdi_staging.specs.Staged.{product_form, scene_of, sight_of, staged_observer, targets, unused_managed}
-use Rattle.cdi_staging.specs.Staged.{Around, around_of, chain_at, class_of, injections_around, unused_product}
+use Rattle.cdi_staging.specs.Staged.{product_form, scene_of, staged_observer, targets, unused_managed}
+use Rattle.cdi_staging.specs.Staged.{Around, around_of, chain_at, injections_around, unused_product}
 use Rattle.cdi_staging.specs.declared.target.Target.{Target}
 use Rattle.cdi_staging.proofs.BesideLemmas.{in-append-right, in-one, second-at, found, of-find, from-map, in-flat}
-use Rattle.cdi_staging.proofs.ChosenLemmas.{IsUsed, Stands, all-stand, host-used, managed_in, of-none, told-self, told-is, used_form}
+use Rattle.cdi_staging.proofs.ChosenLemmas.{IsUsed, Stands, all-stand, host-used, managed_in, of-none, told-self, told-is}
 use Rattle.cdi_staging.proofs.PartLemmas.{IsSoundFor, NamesVia, disposer-sound, point-reached}
-use Rattle.cdi_staging.proofs.SplitLemmas.{length-targets}
 use Rattle.cdi_staging.proofs.LinkLemmas.{IsIntercepted, OfAround, apart-own, body_of, from-around, injected, injection-of}
 use Rattle.cdi_staging.proofs.LinkLemmas.{injection-there, link-of, link-sound, link_seat}
-use Rattle.cdi_staging.proofs.SoundLemmas.{AreLinks, IsGood, IsProduced, IsSpot, LeadsBy, LeadsObserver, LinksAt, LinksOf, made_observer}
+use Rattle.cdi_staging.proofs.SoundLemmas.{AreLinks, IsGood, IsProduced, IsSpot, LeadsBy, LeadsObserver, LinksAt, LinksOf}
 use Rattle.cdi_staging.proofs.SoundLemmas.{disposer_in, fine-product, no-call-disposal, observer-good, observer_in, points_seen}
 use Rattle.cdi_staging.proofs.SoundLemmas.{no-fire-disposal, no-load-disposal, no-proceed-disposal, no-store-disposal}
 use Rattle.cdi_staging.proofs.SoundLemmas.{no-load-class, no-proceed-class, no-store-class, own-good, part_in}
@@ -122,11 +121,11 @@ own-point : (ds : List Decl) (book : List Promised) (home : ℕ) (d : BeanDecl) 
 unfolding managed_form
 own-point ds book home d seat n p b t used is seated own at same =
     let first : 0 + p ≡ p = omega arith in
-    let around = injections_around (surrounds_one ds (sets_of ds (class_of ds d).bindings d)) 0 (around_of ds) in
+    let around = injections_around (surrounds_one ds (sets_of ds (class_bindings ds d) d)) 0 (around_of ds) in
     let found = in-append-right around (injections_from ByTarget 0 (targets ds d.points)) p (injected ByTarget (0 + p) t.bean)
     (injection-there ByTarget 0 (targets ds d.points) p t at) in
     record {
-      managed = used_form ds book d;
+      managed = managed_form ds book d;
       there = ap (managed_at (scene_of ds book)) is ∙ used;
       number = n;
       seated = seated;
@@ -161,12 +160,9 @@ observer-leads : (ds : List Decl) (book : List Promised) (b o : ℕ) (d : BeanDe
 unfolding managed_form staged_observer
 observer-leads ds book b o d used observer at site names n = by site.via names
   where
-    made : ObserverDecl → Observer
-    made = made_observer ds book d
-
     there : params_at (scene_of ds book) b (places.Observer o) ≡ map (λ target. target.bean) (targets ds observer.params)
     there = ap (λ m. params_in (observer_in o m)) used
-        ∙ ap params_in (slice_get-map made d.observers o ∙ ap (option_map made) at)
+        ∙ ap params_in (slice_get-map (staged_observer ds book d) d.observers o ∙ ap (option_map (staged_observer ds book d)) at)
 
     by : (via : Via) → NamesVia (targets ds d.points) (targets ds observer.params) via site.bean
         → IsNamed (scene_of ds book) (own_seat b (places.Observer o) n) via site.bean
@@ -217,15 +213,14 @@ spot-body d (places.Observer o) spot i e = ap (λ s. part_for s i) e.2
 own-links : (ds : List Decl) (book : List Promised) (b : ℕ) (place : Place) (d : BeanDecl) → AreDistinct ds → AreFineAround ds book
     → home_of (scene_of ds book) b place ≡ b → IsIntercepted place → IsUsed ds book b d → LinksAt ds d place (LinkAt ds book b place)
 own-links ds book b place d distinct fine home intercepted used spot is k q e n =
-    let class = (class_of ds d).bindings in
-    let link = link-of ds (set_by ds class d spot) spot k q e in
-    link-sound ds book b place spot (set_by ds class d spot) q n distinct fine link (spot-body d place spot link.decl is) intercepted
+    let link = link-of ds d spot k q e in
+    link-sound ds book b place spot d q n distinct fine link (spot-body d place spot link.decl is) intercepted
     (record {
       home = b;
       is = home;
       bean = d;
       used = used;
-      stands = surrounds_some ds class d spot link.decl (spot-place d place spot is) link.stands;
+      stands = surrounds_some ds (class_bindings ds d) d spot link.decl (spot-place d place spot is) link.stands;
     })
 
 product-links : (ds : List Decl) (book : List Promised) (b q : ℕ) (d : BeanDecl) (p : ProducerDecl) → AreDistinct ds
@@ -236,21 +231,18 @@ product-links ds book b q d p distinct fine made = by p.is_static refl
     spot : BeanPlace
     spot = spots.Producer p.name
 
-    class : List Qual
-    class = (class_of ds d).bindings
-
     by : (s : Bool) → p.is_static ≡ s
-        → AreLinks (LinkAt ds book b (places.Producer q)) (cond s [] (chain_at ds (around_of ds) (set_by ds class d spot) spot))
+        → AreLinks (LinkAt ds book b (places.Producer q)) (cond s [] (chain_at ds d spot))
     by true is k r e n = absurd (none-some r e)
     by false is k r e n =
-        let link = link-of ds (set_by ds class d spot) spot k r e in
-        link-sound ds book b (places.Producer q) spot (set_by ds class d spot) r n distinct fine link refl tt
+        let link = link-of ds d spot k r e in
+        link-sound ds book b (places.Producer q) spot d r n distinct fine link refl tt
         (record {
           home = position_of_class (beans ds) d.name;
           is = ap (λ o. elim o [ Some x ↦ x.declaring | None ↦ b ]) made.product_is;
           bean = d;
           used = host-used ds book made.place d distinct made.there made.enabled;
-          stands = surrounds_some ds class d spot link.decl (producer_place d made.at p made.declared is) link.stands;
+          stands = surrounds_some ds (class_bindings ds d) d spot link.decl (producer_place d made.at p made.declared is) link.stands;
         })
 
 all-invocables : (ds : List Decl) (book : List Promised) (b : ℕ) (place : Place) (x : Invocable) → AreDistinct ds → AreFine ds book
@@ -309,6 +301,9 @@ around-stands ds book x distinct fine of =
     let bean = target-stands ds book i.0.points of.point of.target distinct own.points chosen in
     (bean.0, ap (λ j. bean_at (scene_of ds book) j.bean) of.is ∙ bean.1)
 
+length-targets : (ds : List Decl) (ps : List PointDecl) → length (targets ds ps) ≡ length ps
+length-targets ds ps = length-map (map (answer_to ds) ps) (target_of (beans ds)) ∙ length-map ps (answer_to ds)
+
 -- what is chosen for some parameters, of which there are few
 params-sound : (ds : List Decl) (book : List Promised) (params : List PointDecl) → AreDistinct ds → AreSatisfied ds params
     → length params ≤ list_limit
@@ -324,8 +319,8 @@ params-sound ds book params distinct satisfied few = (
 
 observer-sound : (ds : List Decl) (book : List Promised) (d : BeanDecl) (k : ℕ) (observer : ObserverDecl) → AreDistinct ds
     → IsFineManaged ds book d → slice_get d.observers k ≡ Some observer
-    → AreBeans (scene_of ds book) (made_observer ds book d observer).params
-    × (length (made_observer ds book d observer).params ≤ list_limit)
+    → AreBeans (scene_of ds book) (staged_observer ds book d observer).params
+    × (length (staged_observer ds book d observer).params ≤ list_limit)
 unfolding staged_observer
 observer-sound ds book d k observer distinct fine at =
     let own = fine.observers k observer at in
@@ -333,10 +328,10 @@ observer-sound ds book d k observer distinct fine at =
 
 managed-sound : (ds : List Decl) (book : List Promised) (d : BeanDecl) (e : Bool) → AreDistinct ds → AreFineAround ds book
     → (e ≡ true → IsFineManaged ds book d)
-    → IsSoundManaged (scene_of ds book) (cond e (used_form ds book d) unused_managed)
+    → IsSoundManaged (scene_of ds book) (cond e (managed_form ds book d) unused_managed)
 unfolding managed_form
 managed-sound ds book d true distinct around fine =
-    let test = surrounds_one ds (sets_of ds (class_of ds d).bindings d) in
+    let test = surrounds_one ds (sets_of ds (class_bindings ds d) d) in
     record {
       injections = λ k i at. elim (in-one (injections_around test 0 (around_of ds))
           (injections_from ByTarget 0 (targets ds d.points)) k i at) [
@@ -348,7 +343,7 @@ managed-sound ds book d true distinct around fine =
           ];
       apart = apart-own test (around_of ds) (targets ds d.points);
       observers = λ k o at.
-          let made = from-map (made_observer ds book d) d.observers k o at in
+          let made = from-map (staged_observer ds book d) d.observers k o at in
           subst (λ x. AreBeans (scene_of ds book) x.params × (length x.params ≤ list_limit)) made.2
           (observer-sound ds book d k made.0 distinct (fine refl) made.1);
     }
@@ -383,7 +378,7 @@ names-none (Param p) b t = none-some t.0 t.1
 static-leads : (ds : List Decl) (book : List Promised) (d : BeanDecl) (p : ProducerDecl) (seat : Seat) (b : ℕ) (via : Via) (c : ℕ)
     → seat.place ≡ places.Producer b
     → product_at (scene_of ds book) b
-    ≡ Some (product_form ds (beans ds) book (sight_of ds d) (class_of ds d) (product ds d p) p (targets ds p.params))
+    ≡ Some (product_form ds book d p)
     → NamesVia [] (targets ds p.params) via c → IsNamed (scene_of ds book) seat via c
 unfolding product_form
 static-leads ds book d p seat b (Own k) c is there t = absurd (none-some t.0 t.1)
@@ -420,11 +415,11 @@ product-sound : (ds : List Decl) (book : List Promised) (k : ℕ) (d : BeanDecl)
     → slice_get ds k ≡ Some (decls.Bean d)
     → (e ≡ true → AreSatisfied ds d.points × IsFineProducer ds book d p)
     → product_at (scene_of ds book) b
-    ≡ Some (cond e (product_form ds (beans ds) book (sight_of ds d) (class_of ds d) (product ds d p) p (targets ds p.params))
-    (unused_product (beans ds) d))
+    ≡ Some (cond e (product_form ds book d p)
+    (unused_product ds d))
     → IsSoundProduct book (scene_of ds book) b
-    (cond e (product_form ds (beans ds) book (sight_of ds d) (class_of ds d) (product ds d p) p (targets ds p.params))
-    (unused_product (beans ds) d))
+    (cond e (product_form ds book d p)
+    (unused_product ds d))
 unfolding product_form disposer_for
 product-sound ds book k d p b false distinct at fine there =
     let host = declaring-there ds book k d at in

@@ -36,9 +36,9 @@ use Rattle.cdi_staging.specs.Notifying.{fired_at}
 use Rattle.cdi_staging.specs.Sites.{method_sight, site_of}
 use Rattle.cdi_staging.specs.Staged.{empty_place, managed_form, part_of, part_with, product_form, scene_of, sight_of}
 use Rattle.cdi_staging.specs.Staged.{staged_method, staged_part, staged_place, targets, unused_managed}
-use Rattle.cdi_staging.specs.Staged.{class_chain, class_of, producer_chain, staged_observer, unused_product}
+use Rattle.cdi_staging.specs.Staged.{chain_at, producer_chain, staged_observer, unused_product}
 use Rattle.cdi_staging.proofs.BesideLemmas.{First, first-at, of-find, from-map}
-use Rattle.cdi_staging.proofs.ChosenLemmas.{IsUsed, Stands, all-stand, managed_in, used_form}
+use Rattle.cdi_staging.proofs.ChosenLemmas.{IsUsed, Stands, all-stand, managed_in}
 use Rattle.cdi_staging.proofs.PartLemmas.{IsSoundFor, Names, from-option, part-sound, seen}
 
 -- ---- what the places allow
@@ -120,7 +120,7 @@ good-place : (ds : List Decl) (book : List Promised) (allowed : ℕ) (place : Pl
     → AreDistinct ds → AreSatisfied ds points → AreSatisfied ds params
     → ((part : PartDecl) → o ≡ Some part → IsFinePart ds book allowed (params ++ points) part)
     → Takes ds book allowed place points params Leads → AreLinks Links chain
-    → IsGood ds book place Leads Links (staged_place ds (beans ds) book (seen ds points params) chain o)
+    → IsGood ds book place Leads Links (staged_place ds book (seen ds points params) chain o)
 unfolding staged_place
 good-place ds book allowed place points params Leads Links chain None distinct own_points own_params fine takes links = record {
   links = links;
@@ -170,11 +170,11 @@ IsSpot d place spot = ⊥
 
 -- each interceptor around the place is such
 abbrev pub LinksAt : List Decl → BeanDecl → Place → (ℕ → Type 0) → Type 0
-LinksAt ds d place Links = (spot : BeanPlace) → IsSpot d place spot → AreLinks Links (class_chain ds (class_of ds d) spot)
+LinksAt ds d place Links = (spot : BeanPlace) → IsSpot d place spot → AreLinks Links (chain_at ds d spot)
 
 good-form : (ds : List Decl) (book : List Promised) (d : BeanDecl) (place : Place) (Leads : CallSite → Type 0) (Links : ℕ → Type 0)
     (x : Invocable) → AreDistinct ds → IsFineManaged ds book d → LeadsBy ds d.points [] Leads → LinksAt ds d place Links
-    → place_of (used_form ds book d) place ≡ Some x → IsGood ds book place Leads Links x
+    → place_of (managed_form ds book d) place ≡ Some x → IsGood ds book place Leads Links x
 unfolding managed_form
 good-form ds book d places.Construct Leads Links x distinct fine lead link e =
     subst (IsGood ds book places.Construct Leads Links) (same_Some _ x e)
@@ -189,7 +189,7 @@ good-form ds book d places.Pre Leads Links x distinct fine lead link e =
     (good-place ds book flags.at_destruction places.Pre d.points [] Leads Links _ d.pre distinct fine.points (none-satisfied ds) fine.pre
     (at-destruction ds book d.points Leads lead) (link spots.Pre refl))
 good-form ds book d (places.Method m) Leads Links x distinct fine lead link e =
-    let at = from-map (staged_method ds (beans ds) book (sight_of ds d) (class_of ds d)) d.methods m x e in
+    let at = from-map (staged_method ds book d) d.methods m x e in
     subst (IsGood ds book (places.Method m) Leads Links) at.2
     (good-place ds book flags.at_instance (places.Method m) d.points [] Leads Links _ (Some at.0.part) distinct fine.points
     (none-satisfied ds)
@@ -215,7 +215,7 @@ good-unused ds book (places.Observer o) Leads Links x e = absurd (cc)
 good-managed : (ds : List Decl) (book : List Promised) (d : BeanDecl) (place : Place) (Leads : CallSite → Type 0) (Links : ℕ → Type 0)
     (x : Invocable) (e : Bool) → AreDistinct ds → (e ≡ true → IsFineManaged ds book d) → (e ≡ true → LeadsBy ds d.points [] Leads)
     → (e ≡ true → LinksAt ds d place Links)
-    → place_of (cond e (used_form ds book d) unused_managed) place ≡ Some x
+    → place_of (cond e (managed_form ds book d) unused_managed) place ≡ Some x
     → IsGood ds book place Leads Links x
 good-managed ds book d place Leads Links x true distinct fine lead link at =
     good-form ds book d place Leads Links x distinct (fine refl) (lead refl) (link refl) at
@@ -232,11 +232,6 @@ abbrev pub observed_in : Option Observer → Option Invocable
 observed_in (Some observer) = Some observer.invocable
 observed_in None = None
 
--- an observer method of a bean, with what is chosen for its parameters
-abbrev pub made_observer : List Decl → List Promised → BeanDecl → ObserverDecl → Observer
-made_observer ds book d observer =
-    staged_observer ds (beans ds) book (sight_of ds d) (class_of ds d) observer (targets ds observer.params)
-
 -- each call site is such that names an injection point of the bean or a parameter of an observer method of it
 abbrev pub LeadsObserver : List Decl → BeanDecl → ℕ → (CallSite → Type 0) → Type 0
 LeadsObserver ds d o Leads =
@@ -245,7 +240,7 @@ LeadsObserver ds d o Leads =
 good-staged : (ds : List Decl) (book : List Promised) (d : BeanDecl) (o : ℕ) (Leads : CallSite → Type 0) (Links : ℕ → Type 0)
     (observer : ObserverDecl) → AreDistinct ds → IsFineManaged ds book d → slice_get d.observers o ≡ Some observer
     → LeadsBy ds d.points observer.params Leads → LinksAt ds d (places.Observer o) Links
-    → IsGood ds book (places.Observer o) Leads Links (made_observer ds book d observer).invocable
+    → IsGood ds book (places.Observer o) Leads Links (staged_observer ds book d observer).invocable
 unfolding staged_observer
 good-staged ds book d o Leads Links observer distinct fine at lead link =
     let own = fine.observers o observer at in
@@ -263,12 +258,12 @@ from-observed (Some observer) x e = (observer, refl, same_Some observer.invocabl
 good-observer : (ds : List Decl) (book : List Promised) (d : BeanDecl) (o : ℕ) (Leads : CallSite → Type 0) (Links : ℕ → Type 0)
     (x : Invocable) (e : Bool) → AreDistinct ds → (e ≡ true → IsFineManaged ds book d) → (e ≡ true → LeadsObserver ds d o Leads)
     → (e ≡ true → LinksAt ds d (places.Observer o) Links)
-    → observed_in (observer_in o (Some (cond e (used_form ds book d) unused_managed))) ≡ Some x
+    → observed_in (observer_in o (Some (cond e (managed_form ds book d) unused_managed))) ≡ Some x
     → IsGood ds book (places.Observer o) Leads Links x
 unfolding managed_form
 good-observer ds book d o Leads Links x true distinct fine lead link at =
-    let one = from-observed (observer_in o (Some (used_form ds book d))) x at in
-    let declared = from-map (made_observer ds book d) d.observers o one.0 one.1 in
+    let one = from-observed (observer_in o (Some (managed_form ds book d))) x at in
+    let declared = from-map (staged_observer ds book d) d.observers o one.0 one.1 in
     subst (IsGood ds book (places.Observer o) Leads Links) (ap (λ y. y.invocable) declared.2 ∙ one.2)
     (good-staged ds book d o Leads Links declared.0 distinct (fine refl) declared.1 (lead refl declared.0 declared.1) (link refl))
 good-observer ds book d o Leads Links x false distinct fine lead link at = absurd (none-some x at)
@@ -290,7 +285,7 @@ good-by : (ds : List Decl) (book : List Promised) (d : BeanDecl) (p : ProducerDe
     → IsFinePart ds book (cond s flags.at_class flags.at_instance) (p.params ++ cond s [] d.points) p.part
     → LeadsBy ds (points_seen s d) p.params Leads → AreLinks Links chain
     → IsGood ds book (places.Producer b) Leads Links
-    (staged_place ds (beans ds) book (method_sight s (sight_of ds d) p.params (targets ds p.params)) chain (Some p.part))
+    (staged_place ds book (method_sight s (sight_of ds d) p.params (targets ds p.params)) chain (Some p.part))
 good-by ds book d p b Leads Links chain true distinct own_points own_params fine lead links =
     good-place ds book flags.at_class (places.Producer b) [] p.params Leads Links chain (Some p.part) distinct
     (none-satisfied ds) own_params
@@ -336,7 +331,7 @@ stands-at ds book b bean at = first-at (Stands ds book) (beans ds) (scene_of ds 
 
 used : (ds : List Decl) (book : List Promised) (b : ℕ) (d : BeanDecl) (e : Bool)
     → managed_in (bean_at (scene_of ds book) b) ≡ Some (cond e
-    (used_form ds book d) unused_managed)
+    (managed_form ds book d) unused_managed)
     → e ≡ true → IsUsed ds book b d
 used ds book b d true at is = at
 used ds book b d false at is = absurd (false≢true is)
@@ -384,15 +379,15 @@ observer-good ds book b o Leads Links x (Some bean) distinct fine lead link at e
 
 -- each interceptor around a producer method is such
 abbrev pub LinksOf : List Decl → BeanDecl → ProducerDecl → (ℕ → Type 0) → Type 0
-LinksOf ds d p Links = AreLinks Links (producer_chain ds (class_of ds d) p)
+LinksOf ds d p Links = AreLinks Links (producer_chain ds d p)
 
 good-product : (ds : List Decl) (book : List Promised) (d : BeanDecl) (p : ProducerDecl) (b : ℕ) (Leads : CallSite → Type 0)
     (Links : ℕ → Type 0) (e : Bool)
     → AreDistinct ds → (e ≡ true → AreSatisfied ds d.points × IsFineProducer ds book d p)
     → (e ≡ true → LeadsBy ds (points_seen p.is_static d) p.params Leads) → (e ≡ true → LinksOf ds d p Links)
     → IsGood ds book (places.Producer b) Leads Links
-    (cond e (product_form ds (beans ds) book (sight_of ds d) (class_of ds d) (product ds d p) p (targets ds p.params))
-    (unused_product (beans ds) d)).invocable
+    (cond e (product_form ds book d p)
+    (unused_product ds d)).invocable
 unfolding product_form
 good-product ds book d p b Leads Links true distinct fine lead link =
     let f = fine refl in
@@ -415,13 +410,13 @@ pub record IsProduced (ds : List Decl) (book : List Promised) (q : ℕ) (d : Bea
   pub declared : slice_get d.producers at ≡ Some p
   pub enabled : (managed ds d).is_enabled ≡ true
   pub product_is : product_in (bean_at (scene_of ds book) q)
-      ≡ Some (product_form ds (beans ds) book (sight_of ds d) (class_of ds d) (product ds d p) p (targets ds p.params))
+      ≡ Some (product_form ds book d p)
 
 is-produced : (ds : List Decl) (book : List Promised) (q : ℕ) (d : BeanDecl) (p : ProducerDecl) (k j : ℕ) (e : Bool)
     → slice_get ds k ≡ Some (decls.Bean d) → slice_get d.producers j ≡ Some p → (e ≡ true → (managed ds d).is_enabled ≡ true)
     → product_in (bean_at (scene_of ds book) q)
-    ≡ Some (cond e (product_form ds (beans ds) book (sight_of ds d) (class_of ds d) (product ds d p) p (targets ds p.params))
-    (unused_product (beans ds) d))
+    ≡ Some (cond e (product_form ds book d p)
+    (unused_product ds d))
     → e ≡ true → IsProduced ds book q d p
 is-produced ds book q d p k j true there declared enabled at is =
     record { place = k; there = there; at = j; declared = declared; enabled = enabled refl; product_is = at }
@@ -465,7 +460,7 @@ static-by : (ds : List Decl) (book : List Promised) (d : BeanDecl) (p : Producer
     → AreSatisfied ds p.params
     → IsFinePart ds book (cond s flags.at_class flags.at_instance) (p.params ++ cond s [] d.points) p.part → s ≡ true
     → (made : Part)
-    × ((staged_place ds (beans ds) book (method_sight s (sight_of ds d) p.params (targets ds p.params)) chain (Some p.part)).part
+    × ((staged_place ds book (method_sight s (sight_of ds d) p.params (targets ds p.params)) chain (Some p.part)).part
     ≡ Some made)
     × IsSoundFor ds book flags.at_class [] p.params made
 unfolding staged_place staged_part
@@ -480,7 +475,7 @@ static-by ds book d p chain false distinct own_params fine is = absurd (false≢
 pub static-part : (ds : List Decl) (book : List Promised) (d : BeanDecl) (p : ProducerDecl) → AreDistinct ds → IsFineProducer ds book d p
     → p.is_static ≡ true
     → (made : Part)
-    × ((product_form ds (beans ds) book (sight_of ds d) (class_of ds d) (product ds d p) p (targets ds p.params)).invocable.part
+    × ((product_form ds book d p).invocable.part
     ≡ Some made)
     × IsSoundFor ds book flags.at_class [] p.params made
 unfolding product_form

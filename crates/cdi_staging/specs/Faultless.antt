@@ -2,9 +2,8 @@
 use Rattle.std.specs.Prelude.{◌≡◌, ℕ, ◌≤◌, true, List, ◌++◌, length, Some, slice_get, if◌then◌else◌, []}
 use Rattle.std.specs.List.{find}
 use Rattle.std.specs.Int.RustNames.{bit_and}
-use Rattle.cdi_model.specs.DeclList.{AreDistinct}
 use Rattle.cdi_model.specs.Quals.{list_limit}
-use Rattle.cdi_model.specs.Short.{AreShort, IsShortPart}
+use Rattle.cdi_model.specs.Short.{IsShortPart}
 use Rattle.cdi_model.specs.declared.decl.BeanDecl.{BeanDecl}
 use Rattle.cdi_model.specs.declared.decl.CallDecl.{CallDecl}
 use Rattle.cdi_model.specs.declared.decl.Decl.{Decl}
@@ -20,7 +19,6 @@ use Rattle.cdi_bodies.specs.Book.{Promised, promise_of}
 use Rattle.cdi_bodies.specs.Flags as flags
 use Rattle.cdi_bodies.specs.Within.{Has}
 use Rattle.cdi_bodies.specs.declared.promise.Promise.{Promise}
-use Rattle.cdi_scene.specs.Sound.{IsSound}
 use Rattle.cdi_effective.specs.Beans.{managed, product}
 use Rattle.cdi_effective.specs.declared.records.BeanId.{BeanId}
 use Rattle.cdi_resolve.specs.declared.choice.Choice.TheVariants.{One}
@@ -28,7 +26,6 @@ use Rattle.cdi_intercept.specs.Chains.{is_enabled}
 use Rattle.cdi_observe.specs.Answers.{answer_to}
 use Rattle.cdi_subjects.specs.Sites.{has_method}
 use Rattle.cdi_staging.specs.Sites.{is_point}
-use Rattle.cdi_staging.specs.Staged.{scene_of}
 
 -- the book has a body of the name, and each act that it promises is one of those that are allowed
 pub record IsFit (book : List Promised) (allowed : ℕ) (name : List ℕ) : Type 0 where

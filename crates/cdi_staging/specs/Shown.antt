@@ -1,34 +1,29 @@
 -- What the code has of interceptors and classes, as the definitions have it, and what is known of it.
-use Rattle.std.specs.Prelude.{◌≡◌, ℕ, true, false, List, map, filter, Some}
-use Rattle.cdi_model.specs.DeclList.{AreDistinct}
-use Rattle.cdi_model.specs.declared.decl.BeanDecl.{BeanDecl}
+use Rattle.std.specs.Prelude.{◌≡◌, ℕ, true, List, map, filter, Some}
+use Rattle.cdi_model.specs.DeclList.{find_decl}
 use Rattle.cdi_model.specs.declared.decl.Decl.{Decl}
-use Rattle.cdi_model.specs.declared.decl.ProducerDecl.{ProducerDecl}
-use Rattle.cdi_model.specs.declared.place.BeanPlace.TheVariants as spots
+use Rattle.cdi_model.specs.declared.decl.Decl.TheVariants as decls
+use Rattle.cdi_model.specs.declared.decl.Kind.TheVariants as kinds
+use Rattle.cdi_model.specs.declared.decl.PartDecl.{PartDecl}
 use Rattle.cdi_match.specs.Chain.{has}
-use Rattle.cdi_effective.specs.Bindings.{class_bindings}
-use Rattle.cdi_effective.specs.Disposers.{find_bean}
-use Rattle.cdi_intercept.specs.Sets.{has_place}
-use Rattle.cdi_staging.specs.Staged.{Around, Class, around_of}
+use Rattle.cdi_observe.specs.Kept.{Kept}
+use Rattle.cdi_observe.specs.Lending.{are_answerable}
+use Rattle.cdi_observe.specs.Wanted.{key_of_event}
+use Rattle.cdi_staging.specs.Staged.{Around, targets}
 use Rattle.cdi_staging.specs.declared.around.Around.{Around as Shown}
-use Rattle.cdi_staging.specs.declared.around.Class.{Class as ShownClass}
+use Rattle.cdi_staging.specs.declared.class.Class.{Class}
 
 abbrev pub around_in : Shown → Around
 around_in a = (a.decl.now, a.targets.items)
 
-abbrev pub class_in : ShownClass → Class
-class_in c = record { around = map around_in c.around.now; bindings = c.bindings.now; bean = c.bean.now }
-
--- the class of a bean that is declared: its interceptors are those that are enabled, and its bindings those of the bean's class
+-- the bean is declared, and that is chosen for its injection points
 pub record IsClassOf (ds : List Decl) (c : Class) : Type 0 where
-  pub distinct : AreDistinct ds
-  pub declared : find_bean c.bean.name ds ≡ Some c.bean
-  pub around : c.around ≡ around_of ds
-  pub bindings : c.bindings ≡ class_bindings ds c.bean
+  pub declared : find_decl kinds.Bean c.bean.now.name ds ≡ Some (decls.Bean c.bean.now)
+  pub chosen : c.targets.now ≡ targets ds c.bean.now.points
 
--- a producer method that is not static is a place of the bean
-abbrev pub HasProducer : BeanDecl → ProducerDecl → Type 0
-HasProducer bean producer = producer.is_static ≡ false → has_place bean (spots.Producer producer.name) ≡ true
+-- whom each fire site of the part notifies may be asked for
+abbrev pub IsFireable : Kept → PartDecl → Type 0
+IsFireable kept part = are_answerable kept (map key_of_event part.fires) ≡ true
 
 -- of some interceptors, the names of those that have one of these names, in the order of the interceptors
 abbrev pub names_among : List (List ℕ) → List Around → List (List ℕ)

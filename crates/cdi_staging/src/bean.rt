@@ -1,23 +1,17 @@
 //! Managed beans and products.
-ghost use Rattle.std.specs.Prelude.{◌≡◌, true, length, map, flat_map, IfOk, option_copied};
-ghost use Rattle.cdi_model.specs.declared.place.BeanPlace.TheVariants as spots;
-ghost use Rattle.cdi_intercept.specs.Sets.{has_place};
-ghost use Rattle.cdi_staging.specs.Sites.{sight_in, method_sight};
-ghost use Rattle.cdi_staging.specs.Shown.{class_in, HasProducer, IsClassOf};
-ghost use Rattle.cdi_staging.specs.Staged.{managed_form, staged_observer, observers_by, disposer_named, disposer_for, product_form};
-ghost use Rattle.cdi_staging.specs.Staged.{unused_managed, unused_product, managed_bean, product_bean};
+ghost use Rattle.std.specs.Prelude.{◌≡◌, Contains, map, IfOk, option_copied};
+ghost use Rattle.cdi_effective.specs.Beans.{managed as managed_record, product as product_record};
+ghost use Rattle.cdi_staging.specs.Shown.{IsClassOf};
+ghost use Rattle.cdi_staging.specs.Staged.{disposer_for, disposer_named, managed_form, product_form, staged_managed, staged_observer};
+ghost use Rattle.cdi_staging.specs.Staged.{staged_product, unused_managed, unused_product};
 
-use crate::around::Class;
-use crate::listed_beans::ListedBeans;
+use crate::class::Class;
 use crate::part::empty_place;
-use crate::site::Visible;
 use crate::stage::Stage;
-use crate::target::{Target, position_of_class};
+use crate::target::{Target, position_of_class, targets_of};
 use cdi_bodies::Bodies;
 use cdi_effective::{Effective, disposer_of};
-use cdi_model::{
-    BeanDecl, BeanPlace, DisposerDecl, Ident, ObserverDecl, PointDecl, ProducerDecl, Seq,
-};
+use cdi_model::{BeanDecl, BeanPlace, DisposerDecl, Ident, ObserverDecl, ProducerDecl, Seq};
 use cdi_observe::View;
 use cdi_scene::{Bean, Form, Managed, Observer, Part, Product, position_at};
 use std::alloc::{AllocError, Global};
@@ -58,117 +52,58 @@ fn unused_managed(alloc: Global) -> Managed
     }
 }
 
-/// The placeholder for a product that is not enabled.
-fn unused_product(
-    alloc: Global,
-    beans: &ListedBeans<'_>,
-    bean: &BeanDecl,
-) -> Result<Product, AllocError>
-    ensures { IfOk result (λ made. made ≡ unused_product beans.now bean.now) }
-{
-    Ok(Product {
-        declaring: position_at(position_of_class(beans, bean.name))?,
-        is_static: false,
-        params: Seq::new(alloc),
-        invocable: empty_place(alloc),
-        disposer: None,
-    })
-}
-
-/// What a method with these parameters sees, where its bean sees this.
-fn method_sight<'a>(
-    is_static: bool,
-    own: Visible<'a>,
-    params: &'a [PointDecl],
-    targets: &'a [Target],
-) -> Visible<'a>
-    ensures { sight_in result ≡ method_sight is_static (sight_in own.entry) params.now targets.now }
-{
-    if is_static {
-        Visible {
-            points: &[],
-            targets: &[],
-            params,
-            param_targets: targets,
-        }
-    } else {
-        Visible {
-            points: own.points,
-            targets: own.targets,
-            params,
-            param_targets: targets,
-        }
-    }
-}
-
 impl<'a, V: View, B: Bodies> Stage<'a, V, B> {
     #[tactic(auto, unfolding(crate::specs::Staged::staged_observer))]
     fn staged_observer(
         &self,
-        own: Visible<'_>,
         class: Class<'_>,
         observer: &ObserverDecl,
-        targets: &[Target],
     ) -> Result<Observer, AllocError>
-        requires class { IsClassOf (V.list self.now.view.now) (class_in class) }
-        requires place { has_place class.bean.now (spots.Observer observer.now.name) ≡ true }
+        requires class { IsClassOf (V.list self.now.view.now) class }
+        requires observer { Contains class.bean.now.observers observer.now }
         ensures { IfOk result (λ made. made
-            ≡ staged_observer (V.list self.now.view.now) self.now.beans.now (B.promises self.now.book.now) (sight_in own.entry)
-            (class_in class.entry) observer.now targets.now) }
+            ≡ staged_observer (V.list self.now.view.now) (B.promises self.now.book.now) class.entry.bean.now observer.now) }
     {
-        let sight = method_sight(false, own, observer.params.as_slice(), targets);
+        let params = observer.params.as_slice();
+        let targets = targets_of(self.alloc, self.view, self.beans, params)?;
+        let sight = class.sight_with(false, params, targets.as_slice());
         let place = BeanPlace::Observer(observer.name);
         Ok(Observer {
             is_conditional: observer.is_conditional,
-            params: positions(self.alloc, targets)?,
-            invocable: self.staged_place(sight, class, &place, Some(&observer.part))?,
+            params: positions(self.alloc, targets.as_slice())?,
+            invocable: self.staged_place(sight, class.bean, &place, Some(&observer.part))?,
         })
     }
 
-    /// The observer methods of a bean that sees this, where these beans are chosen for their parameters.
-    fn observers(
-        &self,
-        own: Visible<'_>,
-        class: Class<'_>,
-        targets: &[Target],
-    ) -> Result<Seq<Observer>, AllocError>
-        requires class { IsClassOf (V.list self.now.view.now) (class_in class) }
-        requires targets { length targets.now ≡ length (flat_map (λ o. o.params) class.bean.now.observers) }
+    /// The observer methods of a bean.
+    fn observers(&self, class: Class<'_>) -> Result<Seq<Observer>, AllocError>
+        requires { IsClassOf (V.list self.now.view.now) class }
         ensures { IfOk result (λ made. made
-            ≡ observers_by (V.list self.now.view.now) self.now.beans.now (B.promises self.now.book.now) (sight_in own.entry)
-            (class_in class.entry) class.entry.bean.now.observers targets.now) }
+            ≡ map (staged_observer (V.list self.now.view.now) (B.promises self.now.book.now) class.entry.bean.now)
+            class.entry.bean.now.observers) }
     {
         let mut list = Seq::new(self.alloc);
-        let mut rest = targets;
         for observer in class.bean.observers.as_slice() {
-            let (chosen, others) = rest.split_at(observer.params.len());
-            list.push(self.staged_observer(own, class, observer, chosen)?)?;
-            rest = others;
+            list.push(self.staged_observer(class, observer)?)?;
         }
         Ok(list)
     }
 
     #[tactic(auto, unfolding(crate::specs::Staged::managed_form))]
-    fn managed_form(
-        &self,
-        sight: Visible<'_>,
-        class: Class<'_>,
-        observers: Seq<Observer>,
-    ) -> Result<Managed, AllocError>
-        requires { IsClassOf (V.list self.now.view.now) (class_in class) }
+    fn managed_form(&self, class: Class<'_>) -> Result<Managed, AllocError>
+        requires { IsClassOf (V.list self.now.view.now) class }
         ensures { IfOk result (λ made. made
-            ≡ managed_form (V.list self.now.view.now) self.now.beans.now (B.promises self.now.book.now)
-            (sight_in sight.entry) (class_in class.entry) observers) }
+            ≡ managed_form (V.list self.now.view.now) (B.promises self.now.book.now) class.entry.bean.now) }
     {
-        let bean = class.bean;
+        let (sight, bean) = (class.sight(), class.bean);
         let construct = BeanPlace::Construct;
         Ok(Managed {
-            injections: class.injections(self.alloc, self.view, sight.targets)?,
-            construct: self.staged_place(sight, class, &construct, bean.construct.as_ref())?,
-            post: self.staged_place(sight, class, &BeanPlace::Post, bean.post.as_ref())?,
-            pre: self.staged_place(sight, class, &BeanPlace::Pre, bean.pre.as_ref())?,
-            methods: self.staged_methods(sight, class)?,
-            observers,
+            injections: self.injections(class)?,
+            construct: self.staged_place(sight, bean, &construct, bean.construct.as_ref())?,
+            post: self.staged_place(sight, bean, &BeanPlace::Post, bean.post.as_ref())?,
+            pre: self.staged_place(sight, bean, &BeanPlace::Pre, bean.pre.as_ref())?,
+            methods: self.staged_methods(class)?,
+            observers: self.observers(class)?,
         })
     }
 
@@ -185,48 +120,55 @@ impl<'a, V: View, B: Bodies> Stage<'a, V, B> {
     #[tactic(auto, unfolding(crate::specs::Staged::product_form))]
     fn product_form(
         &self,
-        own: Visible<'_>,
         class: Class<'_>,
         effective: &Effective,
         producer: &ProducerDecl,
-        targets: &[Target],
     ) -> Result<Product, AllocError>
-        requires class { IsClassOf (V.list self.now.view.now) (class_in class) }
-        requires place { HasProducer class.bean.now producer.now }
+        requires class { IsClassOf (V.list self.now.view.now) class }
+        requires producer { Contains class.bean.now.producers producer.now }
+        requires record { effective.now ≡ product_record (V.list self.now.view.now) class.bean.now producer.now }
         ensures { IfOk result (λ made. made
-            ≡ product_form (V.list self.now.view.now) self.now.beans.now (B.promises self.now.book.now) (sight_in own.entry)
-            (class_in class.entry) effective.now producer.now targets.now) }
+            ≡ product_form (V.list self.now.view.now) (B.promises self.now.book.now) class.entry.bean.now producer.now) }
     {
-        let sight = method_sight(producer.is_static, own, producer.params.as_slice(), targets);
-        let chain = class.producer_chain(self.alloc, self.view, producer)?;
+        let params = producer.params.as_slice();
+        let targets = targets_of(self.alloc, self.view, self.beans, params)?;
+        let sight = class.sight_with(producer.is_static, params, targets.as_slice());
+        let chain = self.producer_chain(class.bean, producer)?;
         Ok(Product {
             declaring: position_at(position_of_class(self.beans, class.bean.name))?,
             is_static: producer.is_static,
-            params: positions(self.alloc, targets)?,
+            params: positions(self.alloc, targets.as_slice())?,
             invocable: self.invocable(sight, chain, Some(&producer.part))?,
             disposer: self.disposer_for(class.bean, effective),
         })
     }
 
-    /// A managed bean of this record, where these beans are chosen for the parameters of its observer methods.
+    /// The placeholder for a product that is not enabled.
+    fn unused_product(&self, bean: &BeanDecl) -> Result<Product, AllocError>
+        ensures { IfOk result (λ made. made ≡ unused_product (V.list self.now.view.now) bean.now) }
+    {
+        Ok(Product {
+            declaring: position_at(position_of_class(self.beans, bean.name))?,
+            is_static: false,
+            params: Seq::new(self.alloc),
+            invocable: empty_place(self.alloc),
+            disposer: None,
+        })
+    }
+
+    /// The managed bean of a class, which has this record.
     pub(crate) fn managed_bean(
         &self,
-        sight: Visible<'_>,
         class: Class<'_>,
         effective: &Effective,
-        targets: &[Target],
     ) -> Result<Bean, AllocError>
-        requires class { IsClassOf (V.list self.now.view.now) (class_in class) }
-        requires targets { length targets.now ≡ length (flat_map (λ o. o.params) class.bean.now.observers) }
+        requires class { IsClassOf (V.list self.now.view.now) class }
+        requires record { effective.now ≡ managed_record (V.list self.now.view.now) class.bean.now }
         ensures { IfOk result (λ made. made
-            ≡ managed_bean (V.list self.now.view.now) self.now.beans.now (B.promises self.now.book.now)
-            (sight_in sight.entry) (class_in class.entry) effective.now
-            (observers_by (V.list self.now.view.now) self.now.beans.now (B.promises self.now.book.now) (sight_in sight.entry)
-            (class_in class.entry) class.entry.bean.now.observers targets.now)) }
+            ≡ staged_managed (V.list self.now.view.now) (B.promises self.now.book.now) class.entry.bean.now) }
     {
         let managed = if effective.is_enabled {
-            let observers = self.observers(sight, class, targets)?;
-            self.managed_form(sight, class, observers)?
+            self.managed_form(class)?
         } else {
             unused_managed(self.alloc)
         };
@@ -236,25 +178,23 @@ impl<'a, V: View, B: Bodies> Stage<'a, V, B> {
         })
     }
 
-    /// The product of a producer method, with this record.
+    /// The product of a producer method, which has this record.
     pub(crate) fn product_bean(
         &self,
-        own: Visible<'_>,
         class: Class<'_>,
         effective: &Effective,
         producer: &ProducerDecl,
-        targets: &[Target],
     ) -> Result<Bean, AllocError>
-        requires class { IsClassOf (V.list self.now.view.now) (class_in class) }
-        requires place { HasProducer class.bean.now producer.now }
+        requires class { IsClassOf (V.list self.now.view.now) class }
+        requires producer { Contains class.bean.now.producers producer.now }
+        requires record { effective.now ≡ product_record (V.list self.now.view.now) class.bean.now producer.now }
         ensures { IfOk result (λ made. made
-            ≡ product_bean (V.list self.now.view.now) self.now.beans.now (B.promises self.now.book.now) (sight_in own.entry)
-            (class_in class.entry) effective.now producer.now targets.now) }
+            ≡ staged_product (V.list self.now.view.now) (B.promises self.now.book.now) class.entry.bean.now producer.now) }
     {
         let product = if effective.is_enabled {
-            self.product_form(own, class, effective, producer, targets)?
+            self.product_form(class, effective, producer)?
         } else {
-            unused_product(self.alloc, self.beans, class.bean)?
+            self.unused_product(class.bean)?
         };
         Ok(Bean {
             scope: effective.scope,

@@ -4,6 +4,7 @@
 
 mod around;
 mod bean;
+mod class;
 mod listed_beans;
 mod names;
 mod notifying;

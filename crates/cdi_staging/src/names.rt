@@ -1,6 +1,5 @@
 //! The names of what is in a scene, by position, for those who print a trace.
-ghost use Rattle.std.specs.Prelude.{◌≡◌, ◌++◌, List, length, map, IfOk, OnOk, option_copied};
-ghost use Rattle.std.specs.List.{flat_map};
+ghost use Rattle.std.specs.Prelude.{◌≡◌, ◌++◌, map, IfOk, OnOk, option_copied};
 ghost use Rattle.cdi_effective.specs.Beans.{product};
 ghost use Rattle.cdi_effective.specs.Disposers.{disposer_of};
 ghost use Rattle.cdi_effective.specs.Beans.{entries};

@@ -1,13 +1,15 @@
 //! Whom events notify.
-ghost use Rattle.std.specs.Prelude.{◌≡◌, ℕ, List, map, position, IfOk};
+ghost use Rattle.std.specs.Prelude.{◌≡◌, ℕ, true, List, map, position, IfOk};
 ghost use Rattle.cdi_effective.specs.Beans.{beans as beans_of};
 ghost use Rattle.cdi_effective.specs.Disposers.{find_bean};
-ghost use Rattle.cdi_staging.specs.Notifying.{fired_at, is_observer, notified_as, notified_at, notified_in, observer_declared, position_of_observer, IsHost};
+ghost use Rattle.cdi_observe.specs.Lending.{are_answerable, is_answerable};
+ghost use Rattle.cdi_observe.specs.Wanted.{key_of_event};
+ghost use Rattle.cdi_staging.specs.Notifying.{fired_at, is_observer, notified_as, notified_in, observer_declared, position_of_observer, IsHost};
 
 use crate::listed_beans::ListedBeans;
 use crate::target::position_of_class;
-use cdi_model::{Decl, Decls, EventDecl, Ident, Kind, Name, ObserverDecl, Qual, Seq};
-use cdi_observe::{ObserverId, View, notified_of, records_of_all};
+use cdi_model::{Decl, Decls, EventDecl, Ident, Kind, Name, ObserverDecl, Seq};
+use cdi_observe::{ObserverId, View};
 use cdi_scene::{Notified, position_at};
 use std::alloc::{AllocError, Global};
 
@@ -88,26 +90,6 @@ pub fn positions_of(
     Ok(list)
 }
 
-/// The observer methods that are notified of an event of a type with some qualifiers, in order, by their positions in the
-/// scene of the declarations whose bean list this is (CDI 4.0, Observer resolution; Observer ordering). It takes memory for
-/// them, for the types of the event and for the observer methods of these types.
-#[tactic(auto, unfolding(crate::specs::Notifying::notified_at))]
-fn notified_at<V: View>(
-    alloc: Global,
-    view: &V,
-    beans: &ListedBeans<'_>,
-    event: &EventDecl,
-) -> Result<Seq<Notified>, AllocError>
-    requires { beans.now ≡ beans_of (V.list view.now) }
-    ensures { IfOk result (λ list. list ≡ fired_at (V.list view.now) beans.now event.now) }
-{
-    let decls = view.decls();
-    let records = records_of_all(alloc, view)?;
-    let quals = event.qualifiers.as_slice();
-    let ids = notified_of(alloc, decls, &records, event.event_type, quals)?;
-    positions_of(alloc, decls, beans, ids.as_slice())
-}
-
 /// Whom each of some fire sites notifies.
 pub(crate) fn fired_at<V: View>(
     alloc: Global,
@@ -115,7 +97,8 @@ pub(crate) fn fired_at<V: View>(
     beans: &ListedBeans<'_>,
     fires: &[EventDecl],
 ) -> Result<Seq<Seq<Notified>>, AllocError>
-    requires { beans.now ≡ beans_of (V.list view.now) }
+    requires beans { beans.now ≡ beans_of (V.list view.now) }
+    requires answerable { are_answerable (V.kept view.now) (map key_of_event fires.now) ≡ true }
     ensures { IfOk result (λ sites. sites ≡ map (fired_at (V.list view.now) beans.now) fires.now) }
 {
     let mut sites = Seq::new(alloc);
@@ -125,7 +108,7 @@ pub(crate) fn fired_at<V: View>(
     Ok(sites)
 }
 
-/// Whom a fire site notifies: from the ids that the view keeps, or else computed.
+/// Whom a fire site notifies (CDI 4.0, Observer resolution; Observer ordering).
 #[tactic(auto, unfolding(crate::specs::Notifying::notified_at))]
 fn notified_by<V: View>(
     alloc: Global,
@@ -133,12 +116,10 @@ fn notified_by<V: View>(
     beans: &ListedBeans<'_>,
     event: &EventDecl,
 ) -> Result<Seq<Notified>, AllocError>
-    requires { beans.now ≡ beans_of (V.list view.now) }
+    requires beans { beans.now ≡ beans_of (V.list view.now) }
+    requires answerable { is_answerable (V.kept view.now) (key_of_event event.now) ≡ true }
     ensures { IfOk result (λ list. list ≡ fired_at (V.list view.now) beans.now event.now) }
 {
-    let decls = view.decls();
-    match view.kept_observers(&event.event_type, &event.qualifiers) {
-        Some(ids) => positions_of(alloc, decls, beans, ids.as_slice()),
-        None => notified_at(alloc, view, beans, event),
-    }
+    let ids = view.lent_observers(alloc, &event.event_type, &event.qualifiers)?;
+    positions_of(alloc, view.decls(), beans, ids.get().as_slice())
 }

@@ -1,17 +1,20 @@
 //! The bodies of a bean, and what is invoked at its places.
-ghost use Rattle.std.specs.Prelude.{◌≡◌, map, true, Some, IfOk, option_copied};
-ghost use Rattle.cdi_intercept.specs.Sets.{has_place};
-ghost use Rattle.cdi_staging.specs.Sites.{sight_in};
+ghost use Rattle.std.specs.Prelude.{◌≡◌, map, true, Some, IfOk, IfSome, option_copied};
 ghost use Rattle.std.specs.Option.{option_and_then};
-ghost use Rattle.cdi_staging.specs.Shown.{class_in, IsClassOf};
-ghost use Rattle.cdi_staging.specs.Staged.{class_chain, part_of, staged_part, staged_place, staged_method, empty_place};
+ghost use Rattle.cdi_model.specs.DeclList.{find_decl};
+ghost use Rattle.cdi_model.specs.declared.decl.Decl.TheVariants as decls;
+ghost use Rattle.cdi_model.specs.declared.decl.Kind.TheVariants as kinds;
+ghost use Rattle.cdi_intercept.specs.Sets.{has_place};
+ghost use Rattle.cdi_staging.specs.Shown.{IsClassOf, IsFireable};
+ghost use Rattle.cdi_staging.specs.Sites.{sight_in};
+ghost use Rattle.cdi_staging.specs.Staged.{chain_at, empty_place, part_of, staged_method, staged_part, staged_place};
 
-use crate::around::Class;
+use crate::class::Class;
 use crate::notifying::fired_at;
 use crate::site::{Visible, sites_of};
 use crate::stage::Stage;
 use cdi_bodies::Bodies;
-use cdi_model::{BeanPlace, Ident, PartDecl, Seq};
+use cdi_model::{BeanDecl, BeanPlace, Ident, PartDecl, Seq};
 use cdi_observe::View;
 use cdi_scene::{CallSite, Invocable, Notified, Part};
 use std::alloc::{AllocError, Global};
@@ -47,9 +50,9 @@ impl<'a, V: View, B: Bodies> Stage<'a, V, B> {
 
     #[tactic(auto, unfolding(crate::specs::Staged::staged_part))]
     fn staged_part(&self, sight: Visible<'_>, part: &PartDecl) -> Result<Option<Part>, AllocError>
+        requires { IsFireable (V.kept self.now.view.now) part.now }
         ensures { IfOk result (λ made. made
-            ≡ staged_part (V.list self.now.view.now) self.now.beans.now (B.promises self.now.book.now)
-            (sight_in sight.entry) part.now) }
+            ≡ staged_part (V.list self.now.view.now) (B.promises self.now.book.now) (sight_in sight.entry) part.now) }
     {
         let (decls, beans) = (self.view.decls(), self.beans);
         let calls = sites_of(self.alloc, decls, beans, sight, part.calls.as_slice())?;
@@ -63,8 +66,9 @@ impl<'a, V: View, B: Bodies> Stage<'a, V, B> {
         sight: Visible<'_>,
         part: Option<&PartDecl>,
     ) -> Result<Option<Part>, AllocError>
-        ensures { IfOk result (λ made. made ≡ option_and_then
-            (staged_part (V.list self.now.view.now) self.now.beans.now (B.promises self.now.book.now) (sight_in sight.entry))
+        requires { IfSome (option_copied part) (IsFireable (V.kept self.now.view.now)) }
+        ensures { IfOk result (λ made. made
+            ≡ option_and_then (staged_part (V.list self.now.view.now) (B.promises self.now.book.now) (sight_in sight.entry))
             (option_copied part.entry)) }
     {
         match part {
@@ -81,9 +85,10 @@ impl<'a, V: View, B: Bodies> Stage<'a, V, B> {
         chain: Seq<u32>,
         part: Option<&PartDecl>,
     ) -> Result<Invocable, AllocError>
+        requires { IfSome (option_copied part) (IsFireable (V.kept self.now.view.now)) }
         ensures { IfOk result (λ made. made
-            ≡ staged_place (V.list self.now.view.now) self.now.beans.now (B.promises self.now.book.now) (sight_in sight.entry)
-            chain (option_copied part.entry)) }
+            ≡ staged_place (V.list self.now.view.now) (B.promises self.now.book.now) (sight_in sight.entry) chain
+            (option_copied part.entry)) }
     {
         Ok(Invocable {
             chain,
@@ -91,39 +96,37 @@ impl<'a, V: View, B: Bodies> Stage<'a, V, B> {
         })
     }
 
-    /// What is invoked at a place of a class, where this part is declared or none.
+    /// What is invoked at a place of a bean that is declared, where this part is declared or none.
     pub(crate) fn staged_place(
         &self,
         sight: Visible<'_>,
-        class: Class<'_>,
+        bean: &BeanDecl,
         place: &BeanPlace,
         part: Option<&PartDecl>,
     ) -> Result<Invocable, AllocError>
-        requires class { IsClassOf (V.list self.now.view.now) (class_in class) }
-        requires place { has_place class.bean.now place.now ≡ true }
+        requires declared { find_decl kinds.Bean bean.now.name (V.list self.now.view.now) ≡ Some (decls.Bean bean.now) }
+        requires place { has_place bean.now place.now ≡ true }
+        requires part { IfSome (option_copied part) (IsFireable (V.kept self.now.view.now)) }
         ensures { IfOk result (λ made. made
-            ≡ staged_place (V.list self.now.view.now) self.now.beans.now (B.promises self.now.book.now) (sight_in sight.entry)
-            (class_chain (V.list self.now.view.now) (class_in class.entry) place.now) (option_copied part.entry)) }
+            ≡ staged_place (V.list self.now.view.now) (B.promises self.now.book.now) (sight_in sight.entry)
+            (chain_at (V.list self.now.view.now) bean.now place.now) (option_copied part.entry)) }
     {
-        let chain = class.chain(self.alloc, self.view, place)?;
+        let chain = self.chain(bean, place)?;
         self.invocable(sight, chain, part)
     }
 
     /// What is invoked at each of the methods of a class.
-    pub(crate) fn staged_methods(
-        &self,
-        sight: Visible<'_>,
-        class: Class<'_>,
-    ) -> Result<Seq<Invocable>, AllocError>
-        requires { IsClassOf (V.list self.now.view.now) (class_in class) }
+    pub(crate) fn staged_methods(&self, class: Class<'_>) -> Result<Seq<Invocable>, AllocError>
+        requires { IsClassOf (V.list self.now.view.now) class }
         ensures { IfOk result (λ made. made
-            ≡ map (staged_method (V.list self.now.view.now) self.now.beans.now (B.promises self.now.book.now)
-            (sight_in sight.entry) (class_in class.entry)) class.entry.bean.now.methods) }
+            ≡ map (staged_method (V.list self.now.view.now) (B.promises self.now.book.now) class.entry.bean.now)
+            class.entry.bean.now.methods) }
     {
+        let (sight, bean) = (class.sight(), class.bean);
         let mut places = Seq::new(self.alloc);
-        for method in class.bean.methods.as_slice() {
+        for method in bean.methods.as_slice() {
             let place = BeanPlace::Method(method.name);
-            places.push(self.staged_place(sight, class, &place, Some(&method.part))?)?;
+            places.push(self.staged_place(sight, bean, &place, Some(&method.part))?)?;
         }
         Ok(places)
     }

@@ -1,13 +1,18 @@
 //! What is chosen for injection points.
-ghost use Rattle.std.specs.Prelude.{◌≡◌, ◌<◌, map, IfOk};
+ghost use Rattle.std.specs.Prelude.{◌≡◌, true, map, IfOk};
+ghost use Rattle.cdi_effective.specs.Beans.{beans as beans_of};
+ghost use Rattle.cdi_observe.specs.Answers.{answer_to};
+ghost use Rattle.cdi_observe.specs.Lending.{are_answerable, is_answerable};
+ghost use Rattle.cdi_observe.specs.Wanted.{key_of_point};
 ghost use Rattle.cdi_staging.specs.Sites.{managed_class, nowhere, position_of_bean, position_of_class, target_of};
+ghost use Rattle.cdi_staging.specs.Staged.{targets};
 
 use crate::listed_beans::ListedBeans;
 use cdi_effective::BeanId;
-use cdi_model::Name;
+use cdi_model::{Name, PointDecl};
+use cdi_observe::View;
 use cdi_resolve::Choice;
 use std::alloc::{AllocError, Global};
-use std::rc::Rc;
 
 /// The bean that is chosen for an injection point (CDI 4.0, Performing typesafe resolution).
 #[derive(Clone, Copy)]
@@ -70,16 +75,35 @@ pub fn target_of(beans: &ListedBeans<'_>, choice: &Choice) -> Target
     }
 }
 
-/// The beans of some answers, in order.
-pub(crate) fn targets_of(
+/// The bean that is chosen for a point.
+fn target_for<V: View>(
     alloc: Global,
+    view: &V,
     beans: &ListedBeans<'_>,
-    answers: &[Rc<Choice>],
-) -> Result<Vec<Target>, AllocError>
-    ensures { IfOk result (λ list. list.items ≡ map (λ answer. target_of beans.now answer.value) answers.now) }
+    point: &PointDecl,
+) -> Result<Target, AllocError>
+    requires { is_answerable (V.kept view.now) (key_of_point point.now) ≡ true }
+    ensures { IfOk result (λ target. target ≡ target_of beans.now (answer_to (V.list view.now) point.now)) }
 {
-    answers
-        .iter()
-        .map(|answer| target_of(beans, answer))
-        .collect(alloc)
+    let choice = view.lent_choice(alloc, &point.required_type, &point.qualifiers)?;
+    Ok(target_of(beans, choice.get()))
+}
+
+/// The beans that are chosen for some points, in order. It takes memory for a list of them, and for the choices that the
+/// view makes.
+pub(crate) fn targets_of<V: View>(
+    alloc: Global,
+    view: &V,
+    beans: &ListedBeans<'_>,
+    points: &[PointDecl],
+) -> Result<Vec<Target>, AllocError>
+    requires beans { beans.now ≡ beans_of (V.list view.now) }
+    requires answerable { are_answerable (V.kept view.now) (map key_of_point points.now) ≡ true }
+    ensures { IfOk result (λ list. list.items ≡ targets (V.list view.now) points.now) }
+{
+    let mut list = Vec::with_capacity(alloc, points.len())?;
+    for point in points {
+        list.push(target_for(alloc, view, beans, point)?)?;
+    }
+    Ok(list)
 }

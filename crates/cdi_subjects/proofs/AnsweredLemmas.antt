@@ -1,10 +1,12 @@
--- What is at fault by the answers to the points of a declaration, in their order, is what is at fault by what is chosen for each.
-use Rattle.std.proofs.Common.{◌≡◌, ℕ, Bool, true, false, cond, ◌&&◌, ◌||◌, List, [], ◌∷◌, ◌++◌, map, Option, Some, None, option_map}
-use Rattle.std.proofs.Common.{refl, sym, ap, subst, ◌∙◌, append_assoc, append-nil}
-use Rattle.std.specs.List.{find, flat_map, list_any, zip}
-use Rattle.std.proofs.lemmas.Bool.{false≢true}
-use Rattle.std.specs.Option.{option_or, option_to_list}
-use Rattle.std.specs.Str.{bytes_eq}
+-- Of what a declaration names: its injection points stand in the order in which they are declared, and its call sites have no other
+-- parameters than them.
+use Rattle.std.proofs.Common.{◌≡◌, Bool, true, false, cond, List, [], ◌∷◌, ◌++◌, map, Option, Some, None, refl, sym, ap, subst, ◌∙◌}
+use Rattle.std.proofs.Common.{append-nil}
+use Rattle.std.specs.List.{find, flat_map, AllByRecursion}
+use Rattle.std.specs.Option.{option_to_list}
+use Rattle.std.proofs.lemmas.Bool.{and_from, and_parts}
+use Rattle.std.proofs.lemmas.Grind.{flat_map-append}
+use Rattle.std.proofs.lemmas.Option.{none-some, same_Some}
 use Rattle.cdi_model.specs.declared.decl.Attributes.{Attributes}
 use Rattle.cdi_model.specs.declared.decl.BeanDecl.{BeanDecl}
 use Rattle.cdi_model.specs.declared.decl.CallDecl.{CallDecl}
@@ -17,422 +19,239 @@ use Rattle.cdi_model.specs.declared.decl.ObserverDecl.{ObserverDecl}
 use Rattle.cdi_model.specs.declared.decl.PartDecl.{PartDecl}
 use Rattle.cdi_model.specs.declared.decl.PointDecl.{PointDecl}
 use Rattle.cdi_model.specs.declared.decl.ProducerDecl.{ProducerDecl}
-use Rattle.cdi_model.specs.declared.decl.UseKind.{UseKind}
 use Rattle.cdi_model.specs.declared.decl.UseKind.TheVariants as uses
 use Rattle.cdi_model.specs.declared.mention.PointPlace.{PointPlace}
 use Rattle.cdi_model.specs.declared.mention.PointPlace.TheVariants as points_are
-use Rattle.cdi_model.specs.declared.mention.TypePlace.{TypePlace}
 use Rattle.cdi_model.specs.declared.mention.TypePlace.TheVariants as types_are
 use Rattle.cdi_model.specs.declared.place.PartPlace.{PartPlace}
 use Rattle.cdi_model.specs.declared.place.PartPlace.TheVariants as parts_are
 use Rattle.cdi_model.specs.declared.quals.Qual.{Qual}
-use Rattle.cdi_model.specs.Mentions.{Mention, TypeIn, UseOf, StereotypeOf, PointOf, BodyOf, CallOf, mentions}
-use Rattle.cdi_model.specs.Mentions.{listed_types}
+use Rattle.cdi_model.specs.Mentions.{Mention, TypeIn, UseOf, StereotypeOf, CallOf, mentions, listed_types}
 use Rattle.cdi_model.specs.Mentions.{of_attributes, of_bindings, of_disposer, of_event, of_method, of_observer, of_part, of_parts, of_point}
 use Rattle.cdi_model.specs.Mentions.{of_producer, of_qualifiers, part_place_of}
-use Rattle.cdi_effective.specs.declared.records.Effective.{Effective}
-use Rattle.cdi_resolve.specs.declared.choice.Choice.{Choice}
-use Rattle.cdi_resolve.specs.declared.choice.Choice.TheVariants as choices_are
-use Rattle.cdi_observe.specs.Wanted.{point_named, points_of}
-use Rattle.cdi_faults.specs.declared.fault.Subject.{Subject}
-use Rattle.cdi_faults.specs.declared.fault.Subject.TheVariants as subjects
-use Rattle.cdi_subjects.specs.Answered.{call_by, calls_by, choice_beside, is_begin, points_by}
-use Rattle.cdi_subjects.specs.Filter.{found_in, is_enabled_in, producer_of_part, producer_of_point, some_if}
-use Rattle.cdi_subjects.specs.Sites.{choice_at, declared_points, is_lost_among, lost_in, lost_sites, observed, own_points, own_seen}
-use Rattle.cdi_subjects.specs.Sites.{params_of}
-use Rattle.cdi_subjects.specs.Subjects.{has_verdict, may_have, point_in, points_at_fault}
-use Rattle.cdi_subjects.specs.declared.points.Verdict.{Verdict}
-use Rattle.cdi_subjects.specs.declared.points.Verdict.TheVariants as verdicts
+use Rattle.cdi_observe.specs.Kept.{Kept}
+use Rattle.cdi_observe.specs.Lending.{are_answerable, is_answerable}
+use Rattle.cdi_observe.specs.Wanted.{asked_by, key_of_point, point_named, points_of}
+use Rattle.cdi_subjects.specs.Sites.{declared_points, own_points, observed, params_given, params_of}
 
--- ---- which points some mentions have, and which of them stand behind the beginning of the latest method
+-- ---- what holds of each
 
--- some points begin with others
-abbrev pub IsFront : List PointDecl → List PointDecl → Type 0
-IsFront params since = (rest : List PointDecl) × (since ≡ params ++ rest)
+pub all-append : {A : Type 0} (P : A → Type 0) (xs ys : List A) → AllByRecursion P xs → AllByRecursion P ys → AllByRecursion P (xs ++ ys)
+all-append P [] ys first second = second
+all-append P (x ∷ xs) ys first second = (first.0, all-append P xs ys first.1 second)
 
--- The points among some mentions are these, in order; and those since the latest method began, of which there are some already, begin
--- with the parameters at each call site.
-abbrev pub AreListed : List PointDecl → List PointDecl → List Mention → Type 0
-AreListed since points [] = points ≡ []
-AreListed since points (PointOf place p ∷ ms) = (rest : List PointDecl) × (points ≡ p ∷ rest) × AreListed (since ++ p ∷ []) rest ms
-AreListed since points (TypeIn place t ∷ ms) = AreListed (cond (is_begin place) [] since) points ms
-AreListed since points (CallOf place params call ∷ ms) = IsFront params since × AreListed since points ms
-AreListed since points (other ∷ ms) = AreListed since points ms
+pub all-parts : {A : Type 0} (P : A → Type 0) (xs ys : List A) → AllByRecursion P (xs ++ ys) → AllByRecursion P xs × AllByRecursion P ys
+all-parts P [] ys all = (tt, all)
+all-parts P (x ∷ xs) ys all = let (front, back) = all-parts P xs ys all.1 in ((all.0, front), back)
 
--- whatever stands before
-abbrev AreListedBehind : List PointDecl → List Mention → Type 0
-AreListedBehind points ms = (since : List PointDecl) → AreListed since points ms
+-- ---- what some mentions name
 
-nest : (since points : List PointDecl) (xs ys ms : List Mention) → AreListed since points (xs ++ (ys ++ ms))
-    → AreListed since points (xs ++ ys ++ ms)
-nest since points xs ys ms listed = subst (AreListed since points) (sym (append_assoc xs ys ms)) listed
+-- The points among them are these, in order; and what holds of each of these and of some others holds of each parameter at a call site.
+record Lists (P : PointDecl → Type 0) (others points : List PointDecl) (ms : List Mention) : Type 0 where
+  named : flat_map point_named ms ≡ points
+  given : AllByRecursion P others → AllByRecursion P points → AllByRecursion P (flat_map params_given ms)
 
-uses-listed : (since points : List PointDecl) (kind : UseKind) (us : List Qual) (ms : List Mention) → AreListed since points ms
-    → AreListed since points (map (UseOf kind) us ++ ms)
-uses-listed since points kind [] ms listed = listed
-uses-listed since points kind (u ∷ us) ms listed = uses-listed since points kind us ms listed
+-- what is neither a point nor a call site
+abbrev IsPlain : Mention → Type 0
+IsPlain m = (point_named m ≡ []) × (params_given m ≡ [])
 
-stereotypes-listed : (since points : List PointDecl) (ss : List (List ℕ)) (ms : List Mention) → AreListed since points ms
-    → AreListed since points (map StereotypeOf ss ++ ms)
-stereotypes-listed since points [] ms listed = listed
-stereotypes-listed since points (s ∷ ss) ms listed = stereotypes-listed since points ss ms listed
+module _ {P : PointDecl → Type 0} {others : List PointDecl} where
+  none-listed : Lists P others [] []
+  none-listed = record { named = refl; given = λ known all. tt }
 
-types-listed : (since points : List PointDecl) (place : TypePlace) (ts : List (List ℕ)) (ms : List Mention) → is_begin place ≡ false
-    → AreListed since points ms → AreListed since points (map (TypeIn place) ts ++ ms)
-types-listed since points place [] ms none listed = listed
-types-listed since points place (t ∷ ts) ms none listed =
-    subst (λ begins. AreListed (cond begins [] since) points (map (TypeIn place) ts ++ ms)) (sym none)
-    (types-listed since points place ts ms none listed)
+  both-listed : {ps qs : List PointDecl} {xs ys : List Mention} → Lists P others ps xs → Lists P others qs ys
+      → Lists P others (ps ++ qs) (xs ++ ys)
+  both-listed {ps} {qs} {xs} {ys} first second = record {
+    named =
+        flat_map-append point_named xs ys
+        ∙ ap (λ l. l ++ flat_map point_named ys) first.named
+        ∙ ap (λ l. ps ++ l) second.named;
+    given = λ known all.
+        let (front, back) = all-parts P ps qs all in
+        subst (AllByRecursion P) (sym (flat_map-append params_given xs ys))
+        (all-append P (flat_map params_given xs) (flat_map params_given ys) (first.given known front) (second.given known back));
+  }
 
-attributes-listed : (since points : List PointDecl) (a : Attributes) (ms : List Mention)
-    → AreListed since points ms → AreListed since points (of_attributes a ++ ms)
-attributes-listed since points a ms listed =
-    let types = map (TypeIn types_are.Listed) (listed_types a) in
-    let quals = of_qualifiers a.qualifiers in
-    let stereotypes = map StereotypeOf a.stereotypes in
-    nest since points (types ++ quals) stereotypes ms
-    (nest since points types quals (stereotypes ++ ms)
-    (types-listed since points types_are.Listed (listed_types a) (quals ++ (stereotypes ++ ms)) refl
-    (uses-listed since points uses.Qualifier a.qualifiers (stereotypes ++ ms)
-    (stereotypes-listed since points a.stereotypes ms listed))))
+  -- where the second has no points
+  front-listed : {ps : List PointDecl} {xs ys : List Mention} → Lists P others ps xs → Lists P others [] ys → Lists P others ps (xs ++ ys)
+  front-listed {ps} {xs} {ys} first second =
+      subst (λ points. Lists P others points (xs ++ ys)) (append-nil ps) (both-listed first second)
 
-points-listed : (since points : List PointDecl) (place : PointPlace) (ps : List PointDecl) (ms : List Mention)
-    → AreListed (since ++ ps) points ms → AreListed since (ps ++ points) (flat_map (of_point place) ps ++ ms)
-points-listed since points place [] ms listed = subst (λ s. AreListed s points ms) (append-nil since) listed
-points-listed since points place (p ∷ ps) ms listed = (
-  ps ++ points,
-  refl,
-  nest (since ++ p ∷ []) (ps ++ points) (of_qualifiers p.qualifiers) (flat_map (of_point place) ps) ms
-      (uses-listed (since ++ p ∷ []) (ps ++ points) uses.Qualifier p.qualifiers (flat_map (of_point place) ps ++ ms)
-      (points-listed (since ++ p ∷ []) points place ps ms
-      (subst (λ s. AreListed s points ms) (sym (append_assoc since (p ∷ []) ps)) listed))),
-)
+  more-listed : {ps : List PointDecl} {ms : List Mention} (m : Mention) → IsPlain m → Lists P others ps ms → Lists P others ps (m ∷ ms)
+  more-listed {ps} {ms} m (no_point, no_params) listed = record {
+    named = ap (λ l. l ++ flat_map point_named ms) no_point ∙ listed.named;
+    given = λ known all. subst (λ l. AllByRecursion P (l ++ flat_map params_given ms)) (sym no_params) (listed.given known all);
+  }
 
-events-listed : (since points : List PointDecl) (es : List EventDecl) (ms : List Mention) → AreListed since points ms
-    → AreListed since points (flat_map of_event es ++ ms)
-events-listed since points [] ms listed = listed
-events-listed since points (e ∷ es) ms listed =
-    nest since points (of_qualifiers e.qualifiers) (flat_map of_event es) ms
-    (uses-listed since points uses.Qualifier e.qualifiers (flat_map of_event es ++ ms) (events-listed since points es ms listed))
+  plain-listed : {A : Type 0} (f : A → Mention) → ((x : A) → IsPlain (f x)) → (xs : List A) → Lists P others [] (map f xs)
+  plain-listed f plain [] = none-listed
+  plain-listed f plain (x ∷ xs) = more-listed (f x) (plain x) (plain-listed f plain xs)
 
-calls-listed : (since points : List PointDecl) (place : PartPlace) (params : List PointDecl) (calls : List CallDecl) (ms : List Mention)
-    → IsFront params since → AreListed since points ms → AreListed since points (map (CallOf place params) calls ++ ms)
-calls-listed since points place params [] ms front listed = listed
-calls-listed since points place params (c ∷ calls) ms front listed =
-    (front, calls-listed since points place params calls ms front listed)
+  -- each of some parts
+  each-listed : {A : Type 0} (points : A → List PointDecl) (f : A → List Mention) → ((x : A) → Lists P others (points x) (f x))
+      → (xs : List A) → Lists P others (flat_map points xs) (flat_map f xs)
+  each-listed points f listed [] = none-listed
+  each-listed points f listed (x ∷ xs) = both-listed (listed x) (each-listed points f listed xs)
 
-part-listed : (since points : List PointDecl) (place : PartPlace) (params : List PointDecl) (part : PartDecl) (ms : List Mention)
-    → IsFront params since → AreListed since points ms → AreListed since points (of_part place params part ++ ms)
-part-listed since points place params part ms front listed =
-    nest since points (map (CallOf place params) part.calls) (flat_map of_event part.fires) ms
-    (calls-listed since points place params part.calls (flat_map of_event part.fires ++ ms) front
-    (events-listed since points part.fires ms listed))
+  -- each of some that have no points
+  others-listed : {A : Type 0} (f : A → List Mention) → ((x : A) → Lists P others [] (f x)) → (xs : List A)
+      → Lists P others [] (flat_map f xs)
+  others-listed f listed [] = none-listed
+  others-listed f listed (x ∷ xs) = both-listed (listed x) (others-listed f listed xs)
 
-parts-listed : (since points : List PointDecl) (place : PartPlace) (o : Option PartDecl) (ms : List Mention) → AreListed since points ms
-    → AreListed since points (of_parts place o ++ ms)
-parts-listed since points place None ms listed = listed
-parts-listed since points place (Some part) ms listed = part-listed since points place [] part ms (since, refl) listed
+  bindings-listed : (us : List Qual) → Lists P others [] (of_bindings us)
+  bindings-listed us = plain-listed (UseOf uses.Binding) (λ u. (refl, refl)) us
 
-methods-listed : (since points : List PointDecl) (xs : List MethodDecl) (ms : List Mention) → AreListed since points ms
-    → AreListed since points (flat_map of_method xs ++ ms)
-methods-listed since points [] ms listed = listed
-methods-listed since points (m ∷ xs) ms listed =
-    let bindings = of_bindings m.bindings in
-    let body = of_part (parts_are.Method m.name) [] m.part in
-    let others = flat_map of_method xs in
-    nest since points (bindings ++ body) others ms
-    (nest since points bindings body (others ++ ms)
-    (uses-listed since points uses.Binding m.bindings (body ++ (others ++ ms))
-    (part-listed since points (parts_are.Method m.name) [] m.part (others ++ ms) (since, refl)
-    (methods-listed since points xs ms listed))))
+  qualifiers-listed : (us : List Qual) → Lists P others [] (of_qualifiers us)
+  qualifiers-listed us = plain-listed (UseOf uses.Qualifier) (λ u. (refl, refl)) us
 
-producers-listed : (since points : List PointDecl) (xs : List ProducerDecl) (ms : List Mention) → AreListedBehind points ms
-    → AreListed since (params_of xs ++ points) (flat_map of_producer xs ++ ms)
-producers-listed since points [] ms listed = listed since
-producers-listed since points (p ∷ xs) ms listed =
-    let attributes = of_attributes p.attributes in
-    let bindings = of_bindings p.bindings in
-    let params = flat_map (of_point (points_are.Producer p.name)) p.params in
-    let body = of_part (part_place_of p) p.params p.part in
-    let others = flat_map of_producer xs in
-    let left = params_of xs ++ points in
-    subst (λ all. AreListed [] all (attributes ++ bindings ++ params ++ body ++ others ++ ms))
-    (sym (append_assoc p.params (params_of xs) points))
-    (nest [] (p.params ++ left) (attributes ++ bindings ++ params ++ body) others ms
-    (nest [] (p.params ++ left) (attributes ++ bindings ++ params) body (others ++ ms)
-    (nest [] (p.params ++ left) (attributes ++ bindings) params (body ++ (others ++ ms))
-    (nest [] (p.params ++ left) attributes bindings (params ++ (body ++ (others ++ ms)))
-    (attributes-listed [] (p.params ++ left) p.attributes (bindings ++ (params ++ (body ++ (others ++ ms))))
-    (uses-listed [] (p.params ++ left) uses.Binding p.bindings (params ++ (body ++ (others ++ ms)))
-    (points-listed [] left (points_are.Producer p.name) p.params (body ++ (others ++ ms))
-    (part-listed p.params left (part_place_of p) p.params p.part (others ++ ms) ([], sym (append-nil p.params))
-    (producers-listed p.params points xs ms listed)))))))))
+  attributes-listed : (a : Attributes) → Lists P others [] (of_attributes a)
+  attributes-listed a =
+      both-listed (both-listed (plain-listed (TypeIn types_are.Listed) (λ t. (refl, refl)) (listed_types a)) (qualifiers-listed a.qualifiers))
+      (plain-listed StereotypeOf (λ s. (refl, refl)) a.stereotypes)
 
-disposers-listed : (since points : List PointDecl) (xs : List DisposerDecl) (ms : List Mention) → AreListed since points ms
-    → AreListed since points (flat_map of_disposer xs ++ ms)
-disposers-listed since points [] ms listed = listed
-disposers-listed since points (s ∷ xs) ms listed =
-    let quals = of_qualifiers s.qualifiers in
-    let body = BodyOf (parts_are.Disposer s.name) s.body ∷ [] in
-    let others = flat_map of_disposer xs in
-    nest since points (quals ++ body) others ms
-    (nest since points quals body (others ++ ms)
-    (uses-listed since points uses.Qualifier s.qualifiers (body ++ (others ++ ms))
-    (disposers-listed since points xs ms listed)))
+  point-listed : (place : PointPlace) (p : PointDecl) → Lists P others (p ∷ []) (of_point place p)
+  point-listed place p =
+      let quals = qualifiers-listed p.qualifiers in
+      record { named = ap (λ l. p ∷ l) quals.named; given = λ known all. quals.given known tt }
 
-observers-listed : (since : List PointDecl) (xs : List ObserverDecl) → AreListed since (observed xs) (flat_map of_observer xs)
-observers-listed since [] = refl
-observers-listed since (o ∷ xs) =
-    let quals = of_qualifiers o.qualifiers in
-    let bindings = of_bindings o.bindings in
-    let params = flat_map (of_point (points_are.Observer o.name)) o.params in
-    let body = of_part (parts_are.Observer o.name) o.params o.part in
-    let others = flat_map of_observer xs in
-    let left = observed xs in
-    nest [] (o.params ++ left) (quals ++ bindings ++ params) body others
-    (nest [] (o.params ++ left) (quals ++ bindings) params (body ++ others)
-    (nest [] (o.params ++ left) quals bindings (params ++ (body ++ others))
-    (uses-listed [] (o.params ++ left) uses.Qualifier o.qualifiers (bindings ++ (params ++ (body ++ others)))
-    (uses-listed [] (o.params ++ left) uses.Binding o.bindings (params ++ (body ++ others))
-    (points-listed [] left (points_are.Observer o.name) o.params (body ++ others)
-    (part-listed o.params left (parts_are.Observer o.name) o.params o.part others ([], sym (append-nil o.params))
-    (observers-listed o.params xs)))))))
+  points-listed : (place : PointPlace) (ps : List PointDecl) → Lists P others ps (flat_map (of_point place) ps)
+  points-listed place [] = none-listed
+  points-listed place (p ∷ ps) = both-listed (point-listed place p) (points-listed place ps)
 
-bean-listed : (bean : BeanDecl) → AreListed [] (declared_points (decls.Bean bean)) (mentions (decls.Bean bean))
-unfolding mentions
-bean-listed bean =
-    let attributes = of_attributes bean.attributes in
-    let bindings = of_bindings bean.bindings in
-    let own = flat_map (of_point points_are.Constructor) bean.points in
-    let construct = of_parts parts_are.Construct bean.construct in
-    let post = of_parts parts_are.Post bean.post in
-    let pre = of_parts parts_are.Pre bean.pre in
-    let methods = flat_map of_method bean.methods in
-    let producers = flat_map of_producer bean.producers in
-    let disposers = flat_map of_disposer bean.disposers in
-    let observers = flat_map of_observer bean.observers in
-    let behind = params_of bean.producers ++ observed bean.observers in
-    let all = bean.points ++ behind in
-    let last = disposers ++ observers in
-    let members = methods ++ (producers ++ last) in
-    let bodies = construct ++ (post ++ (pre ++ members)) in
-    subst (λ ps. AreListed [] ps
-    (attributes ++ bindings ++ own ++ (construct ++ post ++ pre) ++ methods ++ producers ++ disposers ++ observers))
-    (sym (append_assoc bean.points (params_of bean.producers) (observed bean.observers)))
-    (nest [] all (attributes ++ bindings ++ own ++ (construct ++ post ++ pre) ++ methods ++ producers) disposers observers
-    (nest [] all (attributes ++ bindings ++ own ++ (construct ++ post ++ pre) ++ methods) producers last
-    (nest [] all (attributes ++ bindings ++ own ++ (construct ++ post ++ pre)) methods (producers ++ last)
-    (nest [] all (attributes ++ bindings ++ own) (construct ++ post ++ pre) members
-    (nest [] all (attributes ++ bindings) own (construct ++ post ++ pre ++ members)
-    (nest [] all attributes bindings (own ++ (construct ++ post ++ pre ++ members))
-    (attributes-listed [] all bean.attributes (bindings ++ (own ++ (construct ++ post ++ pre ++ members)))
-    (uses-listed [] all uses.Binding bean.bindings (own ++ (construct ++ post ++ pre ++ members))
-    (points-listed [] behind points_are.Constructor bean.points (construct ++ post ++ pre ++ members)
-    (nest bean.points behind (construct ++ post) pre members
-    (nest bean.points behind construct post (pre ++ members)
-    (parts-listed bean.points behind parts_are.Construct bean.construct (post ++ (pre ++ members))
-    (parts-listed bean.points behind parts_are.Post bean.post (pre ++ members)
-    (parts-listed bean.points behind parts_are.Pre bean.pre members
-    (methods-listed bean.points behind bean.methods (producers ++ last)
-    (producers-listed bean.points (observed bean.observers) bean.producers last
-    (λ since. disposers-listed since (observed bean.observers) bean.disposers observers
-    (observers-listed since bean.observers))))))))))))))))))
+  event-listed : (e : EventDecl) → Lists P others [] (of_event e)
+  event-listed e = more-listed _ (refl, refl) (more-listed _ (refl, refl) (qualifiers-listed e.qualifiers))
 
-end : (since : List PointDecl) (ms : List Mention) → AreListed since [] (ms ++ []) → AreListed since [] ms
-end since ms listed = subst (AreListed since []) (append-nil ms) listed
+-- ---- what a declaration names
 
-declared-listed : (d : Decl) → AreListed [] (declared_points d) (mentions d)
-unfolding mentions
-declared-listed (decls.Type d) =
-    types-listed [] [] types_are.Extends (option_to_list d.extends) (map (TypeIn types_are.Implements) d.implements) refl
-    (end [] (map (TypeIn types_are.Implements) d.implements) (types-listed [] [] types_are.Implements d.implements [] refl refl))
-declared-listed (decls.Qualifier d) = refl
-declared-listed (decls.Binding d) = end [] (of_bindings d.declares) (uses-listed [] [] uses.Binding d.declares [] refl)
-declared-listed (decls.Stereotype d) =
-    stereotypes-listed [] [] d.stereotypes (of_bindings d.bindings)
-    (end [] (of_bindings d.bindings) (uses-listed [] [] uses.Binding d.bindings [] refl))
-declared-listed (decls.Bean d) = bean-listed d
-declared-listed (decls.Interceptor d) =
-    let bindings = of_bindings d.bindings in
-    let own = flat_map (of_point points_are.Constructor) d.points in
-    let invoke = of_parts parts_are.AroundInvoke d.around_invoke in
-    let construct = of_parts parts_are.AroundConstruct d.around_construct in
-    let post = of_parts parts_are.Post d.post in
-    let pre = of_parts parts_are.Pre d.pre in
-    nest [] d.points bindings own (invoke ++ construct ++ post ++ pre)
-    (uses-listed [] d.points uses.Binding d.bindings (own ++ (invoke ++ construct ++ post ++ pre))
-    (subst (λ ps. AreListed [] ps (own ++ (invoke ++ construct ++ post ++ pre))) (append-nil d.points)
-    (points-listed [] [] points_are.Constructor d.points (invoke ++ construct ++ post ++ pre)
-    (nest d.points [] (invoke ++ construct) post pre
-    (nest d.points [] invoke construct (post ++ pre)
-    (parts-listed d.points [] parts_are.AroundInvoke d.around_invoke (construct ++ (post ++ pre))
-    (parts-listed d.points [] parts_are.AroundConstruct d.around_construct (post ++ pre)
-    (parts-listed d.points [] parts_are.Post d.post pre
-    (end d.points pre (parts-listed d.points [] parts_are.Pre d.pre [] refl))))))))))
+module _ {P : PointDecl → Type 0} where
+  calls-listed : (place : PartPlace) (params : List PointDecl) (cs : List CallDecl) → Lists P params [] (map (CallOf place params) cs)
+  calls-listed place params [] = none-listed
+  calls-listed place params (c ∷ cs) =
+      let rest = calls-listed place params cs in
+      record {
+        named = rest.named;
+        given = λ known all. all-append P params (flat_map params_given (map (CallOf place params) cs)) known (rest.given known all);
+      }
 
--- those that are listed are those that are named
-listed-named : (since points : List PointDecl) (ms : List Mention) → AreListed since points ms → points ≡ flat_map point_named ms
-listed-named since points [] listed = listed
-listed-named since points (PointOf place p ∷ ms) (rest, is, listed) =
-    is ∙ ap (λ ps. p ∷ ps) (listed-named (since ++ p ∷ []) rest ms listed)
-listed-named since points (TypeIn place t ∷ ms) listed = listed-named (cond (is_begin place) [] since) points ms listed
-listed-named since points (CallOf place params call ∷ ms) (front, listed) = listed-named since points ms listed
-listed-named since points (other ∷ ms) listed = listed-named since points ms listed
+  body-listed : (place : PartPlace) (params : List PointDecl) (part : PartDecl) → Lists P params [] (of_part place params part)
+  body-listed place params part =
+      more-listed _ (refl, refl) (both-listed (calls-listed place params part.calls) (others-listed of_event event-listed part.fires))
+
+  part-listed : (place : PartPlace) (o : Option PartDecl) → Lists P [] [] (of_parts place o)
+  part-listed place None = none-listed
+  part-listed place (Some part) = body-listed place [] part
+
+  -- where the others are its own points
+  own-listed : {ps : List PointDecl} {ms : List Mention} → Lists P ps ps ms → Lists P [] ps ms
+  own-listed listed = record { named = listed.named; given = λ known all. listed.given all all }
+
+  method-listed : (m : MethodDecl) → Lists P [] [] (of_method m)
+  method-listed m = more-listed _ (refl, refl) (both-listed (bindings-listed m.bindings) (body-listed (parts_are.Method m.name) [] m.part))
+
+  producer-listed : (p : ProducerDecl) → Lists P [] p.params (of_producer p)
+  producer-listed p =
+      own-listed (front-listed
+      (more-listed _ (refl, refl) (both-listed (both-listed (attributes-listed p.attributes) (bindings-listed p.bindings))
+      (points-listed (points_are.Producer p.name) p.params)))
+      (body-listed (part_place_of p) p.params p.part))
+
+  disposer-listed : (s : DisposerDecl) → Lists P [] [] (of_disposer s)
+  disposer-listed s = more-listed _ (refl, refl) (both-listed (qualifiers-listed s.qualifiers) (more-listed _ (refl, refl) none-listed))
+
+  observer-listed : (o : ObserverDecl) → Lists P [] o.params (of_observer o)
+  observer-listed o =
+      own-listed (front-listed
+      (more-listed _ (refl, refl) (both-listed (both-listed (qualifiers-listed o.qualifiers) (bindings-listed o.bindings))
+      (points-listed (points_are.Observer o.name) o.params)))
+      (body-listed (parts_are.Observer o.name) o.params o.part))
+
+  bean-listed : (d : BeanDecl) → Lists P [] (declared_points (decls.Bean d)) (mentions (decls.Bean d))
+  unfolding mentions
+  bean-listed d =
+      let class : Lists P [] [] (TypeIn types_are.Class d.name ∷ of_attributes d.attributes ++ of_bindings d.bindings) =
+      more-listed _ (refl, refl) (both-listed (attributes-listed d.attributes) (bindings-listed d.bindings)) in
+      let own = both-listed class (points-listed points_are.Constructor d.points) in
+      let begun = both-listed (part-listed parts_are.Construct d.construct) (part-listed parts_are.Post d.post) in
+      let bodies = front-listed own (both-listed begun (part-listed parts_are.Pre d.pre)) in
+      let methods = front-listed bodies (others-listed of_method method-listed d.methods) in
+      let produced = both-listed methods (each-listed (λ p. p.params) of_producer producer-listed d.producers) in
+      let disposed = front-listed produced (others-listed of_disposer disposer-listed d.disposers) in
+      both-listed disposed (each-listed (λ o. o.params) of_observer observer-listed d.observers)
+
+  declared-listed : (d : Decl) → Lists P [] (declared_points d) (mentions d)
+  unfolding mentions
+  declared-listed (decls.Type d) =
+      both-listed (plain-listed (TypeIn types_are.Extends) (λ t. (refl, refl)) (option_to_list d.extends))
+      (plain-listed (TypeIn types_are.Implements) (λ t. (refl, refl)) d.implements)
+  declared-listed (decls.Qualifier d) = none-listed
+  declared-listed (decls.Binding d) = bindings-listed d.declares
+  declared-listed (decls.Stereotype d) =
+      both-listed (plain-listed StereotypeOf (λ s. (refl, refl)) d.stereotypes) (bindings-listed d.bindings)
+  declared-listed (decls.Bean d) = bean-listed d
+  declared-listed (decls.Interceptor d) =
+      let around = both-listed (part-listed parts_are.AroundInvoke d.around_invoke) (part-listed parts_are.AroundConstruct d.around_construct) in
+      front-listed (both-listed (bindings-listed d.bindings) (points-listed points_are.Constructor d.points))
+      (both-listed (both-listed around (part-listed parts_are.Post d.post)) (part-listed parts_are.Pre d.pre))
 
 -- the points of a declaration stand in the order in which they are declared
 pub points-declared : (d : Decl) → points_of d ≡ declared_points d
-points-declared d = sym (listed-named [] (declared_points d) (mentions d) (declared-listed d))
+points-declared d = (declared-listed {P = λ p. Unit {0}} d).named
 
-pub all-listed : (d : Decl) → AreListed [] (points_of d) (mentions d)
-all-listed d = subst (λ ps. AreListed [] ps (mentions d)) (sym (points-declared d)) (declared-listed d)
+-- ---- what holds of each point of a declaration
 
--- ---- injection points
+module _ (P : PointDecl → Type 0) where
+  -- holds of those of a bean or an interceptor itself
+  pub each-own : (d : Decl) → AllByRecursion P (points_of d) → AllByRecursion P (own_points d)
+  each-own d all = by d (subst (AllByRecursion P) (points-declared d) all)
+    where
+      by : (e : Decl) → AllByRecursion P (declared_points e) → AllByRecursion P (own_points e)
+      by (decls.Bean b) all =
+          let (front, observers) = all-parts P (b.points ++ params_of b.producers) (observed b.observers) all in
+          (all-parts P b.points (params_of b.producers) front).0
+      by (decls.Interceptor i) all = all
+      by other all = tt
 
-points-found : (test : PointDecl → Choice → Bool) (answer : PointDecl → Choice) (bs : List Effective) (d : Decl)
-    (since points : List PointDecl) (ms : List Mention) → AreListed since points ms
-    → points_by test bs d (map answer points) ms ≡ found_in (point_in test answer bs d) ms
-points-found test answer bs d since points [] listed = refl
-points-found test answer bs d since points (PointOf place p ∷ ms) (rest, is, listed) =
-    let own = option_to_list (some_if (is_enabled_in d bs (producer_of_point place) && test p (answer p)) (subjects.Point place p.name)) in
-    rw is (ap (λ l. own ++ l) (points-found test answer bs d (since ++ p ∷ []) rest ms listed))
-points-found test answer bs d since points (TypeIn place t ∷ ms) listed =
-    points-found test answer bs d (cond (is_begin place) [] since) points ms listed
-points-found test answer bs d since points (CallOf place params call ∷ ms) (front, listed) =
-    points-found test answer bs d since points ms listed
-points-found test answer bs d since points (other ∷ ms) listed = points-found test answer bs d since points ms listed
+  -- and of the parameters at its call sites
+  pub each-given : (d : Decl) → AllByRecursion P (points_of d) → AllByRecursion P (flat_map params_given (mentions d))
+  each-given d all = (declared-listed d).given tt (subst (AllByRecursion P) (points-declared d) all)
 
--- the points that are at fault by the answers in their order are those that are by what is chosen for each
-pub points_answered : (test : PointDecl → Choice → Bool) (answer : PointDecl → Choice) (bs : List Effective) (d : Decl)
-    → points_by test bs d (map answer (points_of d)) (mentions d) ≡ points_at_fault test answer bs d
-points_answered test answer bs d = points-found test answer bs d [] (points_of d) (mentions d) (all-listed d)
+-- ---- what may be asked for
 
--- where no choice may be such, none is
-never : (ds : List Decl) (verdict : Verdict) (p : PointDecl) (c : Choice) → may_have verdict c ≡ false → has_verdict ds verdict p c ≡ false
-never ds verdicts.Unsatisfied p c h = h
-never ds verdicts.Ambiguous p c h = h
-never ds verdicts.Unproxyable p (choices_are.One id) h = absurd (false≢true (sym h))
-never ds verdicts.Unproxyable p choices_are.Unsatisfied h = refl
-never ds verdicts.Unproxyable p (choices_are.Ambiguous ids) h = refl
+module _ (kept : Kept) where
+  abbrev IsAskable : PointDecl → Type 0
+  IsAskable p = is_answerable kept (key_of_point p) ≡ true
 
-pub none_such : (ds : List Decl) (verdict : Verdict) (bs : List Effective) (d : Decl) (choices : List Choice) (ms : List Mention)
-    → list_any (may_have verdict) choices ≡ false → points_by (has_verdict ds verdict) bs d choices ms ≡ []
-none_such ds verdict bs d choices [] h = refl
-none_such ds verdict bs d [] (PointOf place p ∷ ms) h = none_such ds verdict bs d [] ms h
-none_such ds verdict bs d (c ∷ cs) (PointOf place p ∷ ms) h =
-    let rest = none_such ds verdict bs d cs ms (others (may_have verdict c) (list_any (may_have verdict) cs) h) in
-    ap (λ b. option_to_list (some_if (is_enabled_in d bs (producer_of_point place) && b) (subjects.Point place p.name))
-    ++ points_by (has_verdict ds verdict) bs d cs ms) (never ds verdict p c (first (may_have verdict c) (list_any (may_have verdict) cs) h))
-    ∙ ap (λ o. option_to_list o ++ points_by (has_verdict ds verdict) bs d cs ms)
-    (apart (is_enabled_in d bs (producer_of_point place)) (subjects.Point place p.name)) ∙ rest
-  where
-    first : (a b : Bool) → (a || b) ≡ false → a ≡ false
-    first false b h = refl
-    first true b h = h
+  each-askable : (ps : List PointDecl) → are_answerable kept (map key_of_point ps) ≡ true → AllByRecursion IsAskable ps
+  each-askable [] all = tt
+  each-askable (p ∷ ps) all =
+      let (first, others) = and_parts (is_answerable kept (key_of_point p)) (are_answerable kept (map key_of_point ps)) all in
+      (first, each-askable ps others)
 
-    others : (a b : Bool) → (a || b) ≡ false → b ≡ false
-    others false b h = h
-    others true b h = absurd (false≢true (sym h))
+  all-askable : (ps : List PointDecl) → AllByRecursion IsAskable ps → are_answerable kept (map key_of_point ps) ≡ true
+  all-askable [] all = refl
+  all-askable (p ∷ ps) all =
+      and_from (is_answerable kept (key_of_point p)) (are_answerable kept (map key_of_point ps)) all.0 (all-askable ps all.1)
 
-    apart : (b : Bool) (s : Subject) → some_if (b && false) s ≡ None
-    apart true s = refl
-    apart false s = refl
-none_such ds verdict bs d choices (other ∷ ms) h = none_such ds verdict bs d choices ms h
+  pub own-answerable : (d : Decl) → are_answerable kept (asked_by d) ≡ true → are_answerable kept (map key_of_point (own_points d)) ≡ true
+  own-answerable d all = all-askable (own_points d) (each-own IsAskable d (each-askable (points_of d) all))
 
--- ---- call sites
+  pub params-answerable : (d : Decl) → are_answerable kept (asked_by d) ≡ true
+      → are_answerable kept (map key_of_point (flat_map params_given (mentions d))) ≡ true
+  params-answerable d all =
+      all-askable (flat_map params_given (mentions d)) (each-given IsAskable d (each-askable (points_of d) all))
 
-choice-beside : (answer : PointDecl → Choice) (ps others : List PointDecl) (name : List ℕ)
-    → choice_beside ps (map answer (ps ++ others)) name ≡ choice_at answer ps name
-choice-beside answer [] others name = refl
-choice-beside answer (p ∷ ps) others name = by (bytes_eq p.name name) (choice-beside answer ps others name)
-  where
-    by : (b : Bool) → choice_beside ps (map answer (ps ++ others)) name ≡ choice_at answer ps name
-        → option_map (λ z. z.1) (cond b (Some (p, answer p)) (find (λ z. bytes_eq z.0.name name) (zip ps (map answer (ps ++ others)))))
-        ≡ option_map answer (cond b (Some p) (find (λ p. bytes_eq p.name name) ps))
-    by true rest = refl
-    by false rest = rest
-
-choice-append : (answer : PointDecl → Choice) (ps qs : List PointDecl) (name : List ℕ)
-    → option_or (choice_at answer ps name) (choice_at answer qs name) ≡ choice_at answer (ps ++ qs) name
-choice-append answer [] qs name = refl
-choice-append answer (p ∷ ps) qs name = by (bytes_eq p.name name) (choice-append answer ps qs name)
-  where
-    by : (b : Bool) → option_or (choice_at answer ps name) (choice_at answer qs name) ≡ choice_at answer (ps ++ qs) name
-        → option_or (option_map answer (cond b (Some p) (find (λ p. bytes_eq p.name name) ps))) (choice_at answer qs name)
-        ≡ option_map answer (cond b (Some p) (find (λ p. bytes_eq p.name name) (ps ++ qs)))
-    by true rest = refl
-    by false rest = rest
-
-choice-seen : (answer : PointDecl → Choice) (place : PartPlace) (own others : List PointDecl) (name : List ℕ)
-    → choice_beside (own_seen place own) (map answer (own ++ others)) name ≡ choice_at answer (own_seen place own) name
-choice-seen answer (parts_are.StaticProducer n) own others name = refl
-choice-seen answer other own others name = choice-beside answer own others name
-
--- a call site in a declaration whose points are its own and behind them others
-call-found : (ds : List Decl) (answer : PointDecl → Choice) (bs : List Effective) (d : Decl) (others since points : List PointDecl)
-    (place : PartPlace) (params : List PointDecl) (call : CallDecl) → IsFront params since
-    → call_by ds bs d (own_points d) (map answer (own_points d ++ others)) (map answer (since ++ points)) place params call
-    ≡ lost_in ds answer bs d (CallOf place params call)
-call-found ds answer bs d others since points place params call (rest, is) =
-    let own = own_points d in
-    let name = call.point in
-    let lost = λ (choice : Option Choice). some_if
-    (is_enabled_in d bs (producer_of_part place) && is_lost_among ds call.method choice) (subjects.Call place name call.method) in
-    let here : choice_beside params (map answer (since ++ points)) name ≡ choice_at answer params name =
-    ap (λ ps. choice_beside params (map answer ps) name) (ap (λ s. s ++ points) is ∙ append_assoc params rest points)
-    ∙ choice-beside answer params (rest ++ points) name in
-    ap (λ param. lost (option_or param (choice_beside (own_seen place own) (map answer (own ++ others)) name))) here
-    ∙ ap (λ choice. lost (option_or (choice_at answer params name) choice)) (choice-seen answer place own others name)
-    ∙ ap lost (choice-append answer params (own_seen place own) name)
-
-calls-found : (ds : List Decl) (answer : PointDecl → Choice) (bs : List Effective) (d : Decl) (others since points : List PointDecl)
-    (ms : List Mention) → AreListed since points ms
-    → calls_by ds bs d (own_points d) (map answer (own_points d ++ others)) (map answer points) (map answer (since ++ points)) ms
-    ≡ found_in (lost_in ds answer bs d) ms
-calls-found ds answer bs d others since points [] listed = refl
-calls-found ds answer bs d others since points (PointOf place p ∷ ms) (rest, is, listed) =
-    let own = own_points d in
-    let all = map answer (own ++ others) in
-    rw is (ap (λ s. calls_by ds bs d own all (map answer rest) (map answer s) ms) (sym (append_assoc since (p ∷ []) rest))
-    ∙ calls-found ds answer bs d others (since ++ p ∷ []) rest ms listed)
-calls-found ds answer bs d others since points (TypeIn place t ∷ ms) listed =
-    by (is_begin place) (λ s listed. calls-found ds answer bs d others s points ms listed) listed
-  where
-    by : (b : Bool) → ((s : List PointDecl) → AreListed s points ms
-        → calls_by ds bs d (own_points d) (map answer (own_points d ++ others)) (map answer points) (map answer (s ++ points)) ms
-        ≡ found_in (lost_in ds answer bs d) ms)
-        → AreListed (cond b [] since) points ms
-        → calls_by ds bs d (own_points d) (map answer (own_points d ++ others)) (map answer points)
-        (cond b (map answer points) (map answer (since ++ points))) ms ≡ found_in (lost_in ds answer bs d) ms
-    by true each listed = each [] listed
-    by false each listed = each since listed
-calls-found ds answer bs d others since points (CallOf place params call ∷ ms) (front, listed) =
-    let own = own_points d in
-    let all = map answer (own ++ others) in
-    let here = map answer (since ++ points) in
-    ap (λ o. option_to_list o ++ calls_by ds bs d own all (map answer points) here ms)
-    (call-found ds answer bs d others since points place params call front)
-    ∙ ap (λ l. option_to_list (lost_in ds answer bs d (CallOf place params call)) ++ l)
-    (calls-found ds answer bs d others since points ms listed)
-calls-found ds answer bs d others since points (other ∷ ms) listed = calls-found ds answer bs d others since points ms listed
-
--- the points of a bean or an interceptor itself stand before the others of its declaration
-pub own-first : (d : Decl) → (others : List PointDecl) × (points_of d ≡ own_points d ++ others)
-own-first d = by d (points-declared d)
-  where
-    by : (e : Decl) → points_of e ≡ declared_points e → (others : List PointDecl) × (points_of e ≡ own_points e ++ others)
-    by (decls.Interceptor i) is = ([], is ∙ sym (append-nil i.points))
-    by (decls.Bean bean) is = (
-      params_of bean.producers ++ observed bean.observers,
-      is ∙ append_assoc bean.points (params_of bean.producers) (observed bean.observers),
-    )
-    by other is = ([], is)
-
--- the call sites that are lost by the answers in their order are those that are by what is chosen for each point
-pub calls_answered : (ds : List Decl) (answer : PointDecl → Choice) (bs : List Effective) (d : Decl)
-    → calls_by ds bs d (own_points d) (map answer (points_of d)) (map answer (points_of d)) (map answer (points_of d)) (mentions d)
-    ≡ lost_sites ds answer bs d
-calls_answered ds answer bs d =
-    let first = own-first d in
-    let ps = points_of d in
-    ap (λ all. calls_by ds bs d (own_points d) (map answer all) (map answer ps) (map answer ps) (mentions d)) first.1
-    ∙ calls-found ds answer bs d first.0 [] ps (mentions d) (all-listed d)
+  -- a point that is found among some, or else among others
+  pub found-answerable : (test : PointDecl → Bool) (ps qs : List PointDecl) (p : PointDecl) → find test (ps ++ qs) ≡ Some p
+      → are_answerable kept (map key_of_point ps) ≡ true → are_answerable kept (map key_of_point qs) ≡ true
+      → is_answerable kept (key_of_point p) ≡ true
+  found-answerable test ps qs p found first second =
+      within (ps ++ qs) found (all-append IsAskable ps qs (each-askable ps first) (each-askable qs second))
+    where
+      within : (rs : List PointDecl) → find test rs ≡ Some p → AllByRecursion IsAskable rs → IsAskable p
+      within [] found all = absurd (none-some p found)
+      within (r ∷ rs) found all = by (test r) found (λ later. within rs later all.1)
+        where
+          by : (t : Bool) → cond t (Some r) (find test rs) ≡ Some p → (find test rs ≡ Some p → IsAskable p) → IsAskable p
+          by true here later = subst IsAskable (same_Some r p here) all.0
+          by false there later = later there

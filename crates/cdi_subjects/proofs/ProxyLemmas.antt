@@ -1,5 +1,5 @@
 -- The record of a bean has the bindings of its class.
-use Rattle.std.proofs.Common.{◌≡◌, ℕ, Bool, true, false, cond, List, [], ◌∷◌, map, Option, Some, None, is_some, refl, sym, ap, ◌∙◌}
+use Rattle.std.proofs.Common.{◌≡◌, ℕ, Bool, true, false, cond, List, [], ◌∷◌, map, Some, is_some, sym, ap, ◌∙◌}
 use Rattle.std.specs.List.{find}
 use Rattle.std.proofs.lemmas.Bool.{false≢true}
 use Rattle.std.proofs.lemmas.Option.{none-some, same_Some}
@@ -12,16 +12,16 @@ use Rattle.cdi_model.specs.declared.decl.ProducerDecl.{ProducerDecl}
 use Rattle.cdi_model.proofs.PositionLemmas.{name-found}
 use Rattle.cdi_effective.specs.Beans.{effective, managed, product, records}
 use Rattle.cdi_effective.specs.Bindings.{class_bindings}
-use Rattle.cdi_effective.specs.Disposers.{as_bean, find_bean}
+use Rattle.cdi_effective.specs.Disposers.{as_bean}
 use Rattle.cdi_effective.specs.Records.{records_declared, records_in}
 use Rattle.cdi_effective.specs.declared.records.Effective.{Effective}
 
 -- a bean that is found by a name has it, and is found by its own
 pub found-own : (ds : List Decl) (name : List ℕ) (bean : BeanDecl) → find_decl kinds.Bean name ds ≡ Some (decls.Bean bean)
-    → find_bean bean.name ds ≡ Some bean
+    → find_decl kinds.Bean bean.name ds ≡ Some (decls.Bean bean)
 found-own ds name bean found =
     let own : bean.name ≡ name = name-found kinds.Bean name ds (decls.Bean bean) found in
-    ap (λ n. find_bean n ds) own ∙ ap as_bean found
+    ap (λ n. find_decl kinds.Bean n ds) own ∙ found
 
 -- and its records are these
 pub records-of : (ds : List Decl) (name : List ℕ) (bean : BeanDecl) → find_decl kinds.Bean name ds ≡ Some (decls.Bean bean)

@@ -33,10 +33,3 @@ zip-empty [] ys ends = refl
 zip-empty (x ∷ xs) [] ends = refl
 zip-empty (x ∷ xs) (y ∷ ys) (inl e) = cc
 zip-empty (x ∷ xs) (y ∷ ys) (inr e) = cc
-
--- the same where the second is read off another list
-pub zip-map-empty : {A B C : Type 0} (f : B → C) (xs : List A) (ys : List B) → (xs ≡ []) ⊎ (ys ≡ []) → zip xs (map f ys) ≡ []
-zip-map-empty f [] ys ends = refl
-zip-map-empty f (x ∷ xs) [] ends = refl
-zip-map-empty f (x ∷ xs) (y ∷ ys) (inl e) = cc
-zip-map-empty f (x ∷ xs) (y ∷ ys) (inr e) = cc

@@ -1,7 +1,7 @@
 -- The faults of a declaration rest on its records, the answers to its points, what the names that it writes are declared as, and the bean
 -- that it specializes.
 use Rattle.std.proofs.Common.{◌≡◌, ℕ, Bool, true, false, not, cond, ◌&&◌, ◌||◌, List, [], ◌∷◌, ◌++◌, map, filter, length, nat_lt, codes}
-use Rattle.std.proofs.Common.{Option, Some, None, is_some, option_map, refl, sym, ap, subst, ◌∙◌}
+use Rattle.std.proofs.Common.{Option, Some, None, is_some, option_map, refl, sym, ap, ◌∙◌}
 use Rattle.std.specs.List.{AllByRecursion, find, flat_map, list_any}
 use Rattle.std.specs.Option.{option_to_list, unwrap_or}
 use Rattle.std.specs.Str.{bytes_eq}
@@ -37,7 +37,7 @@ use Rattle.cdi_effective.specs.declared.records.Effective.{Effective}
 use Rattle.cdi_resolve.specs.declared.choice.Choice.{Choice}
 use Rattle.cdi_resolve.specs.declared.choice.Choice.TheVariants as choices
 use Rattle.cdi_observe.specs.Answers.{answer_to}
-use Rattle.cdi_observe.specs.Wanted.{points_of}
+use Rattle.cdi_observe.specs.Wanted.{point_named}
 use Rattle.cdi_faults.specs.declared.fault.Code.TheVariants as codes_of
 use Rattle.cdi_faults.specs.declared.fault.Subject.{Subject}
 use Rattle.cdi_faults.specs.declared.fault.Subject.TheVariants as subjects
@@ -46,13 +46,13 @@ use Rattle.cdi_subjects.specs.Proxies.{is_final_decl, is_unproxyable, needs_subc
 use Rattle.cdi_subjects.specs.Records.{conditional_by, conflict_at, conflicts_in, part_at, typed_by, with_two, without_product}
 use Rattle.cdi_subjects.specs.Rests.{AreAlike, DifferAlike, FaultsRestOn, HasQualifiersAlike, IsAnsweredAlike, IsBeanAlike, IsSeenAlike}
 use Rattle.cdi_subjects.specs.Rests.{AreProductsAlike, named_in, specialized_seen, types_and_name}
-use Rattle.cdi_subjects.specs.Sites.{is_lost_among, lacks_method, lost_in, own_points, own_seen, points_seen}
+use Rattle.cdi_subjects.specs.Sites.{is_lost_among, lacks_method, lost_in, own_points, own_seen, params_given, points_seen}
 use Rattle.cdi_subjects.specs.Specializing.{has_name, lacked_types, lacks_specialized, renames_specialized, specialized_bean, types_beyond}
 use Rattle.cdi_subjects.specs.Subjects.{bad_kind_in, bad_use_in, disposers_at_fault, form_of, has_verdict, is_class_form, is_interface_form}
 use Rattle.cdi_subjects.specs.Subjects.{is_known_in, point_in, scope_conflicts, subjects_at_fault, unknown_in, whole_if}
 use Rattle.cdi_subjects.specs.declared.points.Verdict.{Verdict}
 use Rattle.cdi_subjects.specs.declared.points.Verdict.TheVariants as verdicts
-use Rattle.cdi_subjects.proofs.AnsweredLemmas.{AreListed, all-listed, own-first}
+use Rattle.cdi_subjects.proofs.AnsweredLemmas.{all-append, all-parts, each-given, each-own}
 use Rattle.cdi_subjects.proofs.RecordLemmas.{conditional_by_entries, disposers_of_records, same_filter, typed_by_entries}
 
 -- ---- what holds of each
@@ -60,14 +60,6 @@ use Rattle.cdi_subjects.proofs.RecordLemmas.{conditional_by_entries, disposers_o
 all-weaker : {A : Type 0} (P Q : A → Type 0) (xs : List A) → ((x : A) → P x → Q x) → AllByRecursion P xs → AllByRecursion Q xs
 all-weaker P Q [] weaker all = tt
 all-weaker P Q (x ∷ xs) weaker all = (weaker x all.0, all-weaker P Q xs weaker all.1)
-
-all-append : {A : Type 0} (P : A → Type 0) (xs ys : List A) → AllByRecursion P xs → AllByRecursion P ys → AllByRecursion P (xs ++ ys)
-all-append P [] ys first second = second
-all-append P (x ∷ xs) ys first second = (first.0, all-append P xs ys first.1 second)
-
-all-front : {A : Type 0} (P : A → Type 0) (xs ys : List A) → AllByRecursion P (xs ++ ys) → AllByRecursion P xs
-all-front P [] ys all = tt
-all-front P (x ∷ xs) ys all = (all.0, all-front P xs ys all.1)
 
 found-same : (f g : Mention → Option Subject) (ms : List Mention) → AllByRecursion (λ m. f m ≡ g m) ms → found_in f ms ≡ found_in g ms
 found-same f g [] same = refl
@@ -247,23 +239,17 @@ IsTestAlike ds es t u = (p : PointDecl) → find_decl kinds.Type p.required_type
     → IsAnsweredAlike ds es p → t p (answer_to ds p) ≡ u p (answer_to es p)
 
 points-same : (ds es : List Decl) (t u : PointDecl → Choice → Bool) (bs : List Effective) (d : Decl) → IsTestAlike ds es t u
-    → (since points : List PointDecl) (ms : List Mention) → AreListed since points ms
-    → AllByRecursion (λ m. AreAlike ds es (named_in m)) ms → AllByRecursion (IsAnsweredAlike ds es) points
+    → (ms : List Mention) → AllByRecursion (λ m. AreAlike ds es (named_in m)) ms
+    → AllByRecursion (IsAnsweredAlike ds es) (flat_map point_named ms)
     → found_in (point_in t (answer_to ds) bs d) ms ≡ found_in (point_in u (answer_to es) bs d) ms
-points-same ds es t u bs d alike since points [] listed names answers = refl
-points-same ds es t u bs d alike since points (PointOf place p ∷ ms) (rest, is, listed) names answers =
-    let own = subst (AllByRecursion (IsAnsweredAlike ds es)) is answers in
+points-same ds es t u bs d alike [] names answers = refl
+points-same ds es t u bs d alike (PointOf place p ∷ ms) names answers =
     let others = found_in (point_in t (answer_to ds) bs d) ms in
     let enabled = is_enabled_in d bs (producer_of_point place) in
-    ap (λ b. option_to_list (some_if (enabled && b) (subjects.Point place p.name)) ++ others) (alike p names.0 own.0)
+    ap (λ b. option_to_list (some_if (enabled && b) (subjects.Point place p.name)) ++ others) (alike p names.0 answers.0)
     ∙ ap (λ l. option_to_list (some_if (enabled && u p (answer_to es p)) (subjects.Point place p.name)) ++ l)
-    (points-same ds es t u bs d alike (since ++ p ∷ []) rest ms listed names.1 own.1)
-points-same ds es t u bs d alike since points (TypeIn place x ∷ ms) listed names answers =
-    points-same ds es t u bs d alike _ points ms listed names.1 answers
-points-same ds es t u bs d alike since points (CallOf place params call ∷ ms) (front, listed) names answers =
-    points-same ds es t u bs d alike since points ms listed names.1 answers
-points-same ds es t u bs d alike since points (other ∷ ms) listed names answers =
-    points-same ds es t u bs d alike since points ms listed names.1 answers
+    (points-same ds es t u bs d alike ms names.1 answers.1)
+points-same ds es t u bs d alike (other ∷ ms) names answers = points-same ds es t u bs d alike ms names.1 answers
 
 proxy-same : (ds es : List Decl) (p : PointDecl) (c : Choice)
     → find_decl kinds.Type p.required_type ds ≡ find_decl kinds.Type p.required_type es
@@ -307,31 +293,21 @@ seen-alike P (places.StaticProducer n) own all = tt
 seen-alike P other own all = all
 
 calls-same : (ds es : List Decl) (bs : List Effective) (d : Decl) → AllByRecursion (IsAnsweredAlike ds es) (own_points d)
-    → (since points : List PointDecl) (ms : List Mention) → AreListed since points ms → AllByRecursion (IsAnsweredAlike ds es) since
-    → AllByRecursion (IsAnsweredAlike ds es) points
+    → (ms : List Mention) → AllByRecursion (IsAnsweredAlike ds es) (flat_map params_given ms)
     → found_in (lost_in ds (answer_to ds) bs d) ms ≡ found_in (lost_in es (answer_to es) bs d) ms
-calls-same ds es bs d own since points [] listed before answers = refl
-calls-same ds es bs d own since points (PointOf place p ∷ ms) (rest, is, listed) before answers =
-    let left = subst (AllByRecursion (IsAnsweredAlike ds es)) is answers in
-    calls-same ds es bs d own (since ++ p ∷ []) rest ms listed
-    (all-append (IsAnsweredAlike ds es) since (p ∷ []) before (left.0, tt)) left.1
-calls-same ds es bs d own since points (TypeIn types_are.Produced x ∷ ms) listed before answers =
-    calls-same ds es bs d own [] points ms listed tt answers
-calls-same ds es bs d own since points (TypeIn types_are.Observed x ∷ ms) listed before answers =
-    calls-same ds es bs d own [] points ms listed tt answers
-calls-same ds es bs d own since points (CallOf place params call ∷ ms) ((rest, is), listed) before answers =
+calls-same ds es bs d own [] given = refl
+calls-same ds es bs d own (CallOf place params call ∷ ms) given =
     let P = IsAnsweredAlike ds es in
-    let seen = all-append P params (own_seen place (own_points d))
-    (all-front P params rest (subst (AllByRecursion P) is before)) (seen-alike P place (own_points d) own) in
+    let (here, behind) = all-parts P params (flat_map params_given ms) given in
+    let seen = all-append P params (own_seen place (own_points d)) here (seen-alike P place (own_points d) own) in
     let enabled = is_enabled_in d bs (producer_of_part place) in
     let subject = subjects.Call place call.point call.method in
     let others = found_in (lost_in ds (answer_to ds) bs d) ms in
     ap (λ b. option_to_list (some_if (enabled && b) subject) ++ others)
     (lost-same ds es call.method call.point (points_seen place params (own_points d)) seen)
     ∙ ap (λ l. option_to_list (lost_in es (answer_to es) bs d (CallOf place params call)) ++ l)
-    (calls-same ds es bs d own since points ms listed before answers)
-calls-same ds es bs d own since points (other ∷ ms) listed before answers =
-    calls-same ds es bs d own since points ms listed before answers
+    (calls-same ds es bs d own ms behind)
+calls-same ds es bs d own (other ∷ ms) given = calls-same ds es bs d own ms given
 
 -- ---- the law
 
@@ -339,8 +315,8 @@ verdicts-same : (ds es : List Decl) (v : Verdict) (d : Decl) → IsSeenAlike ds 
     → found_in (point_in (has_verdict ds v) (answer_to ds) (entries ds d) d) (mentions d)
     ≡ found_in (point_in (has_verdict es v) (answer_to es) (entries es d) d) (mentions d)
 verdicts-same ds es v d alike =
-    points-same ds es (has_verdict ds v) (has_verdict es v) (entries ds d) d (verdict-same ds es v) [] (points_of d) (mentions d)
-    (all-listed d) alike.names alike.answers
+    points-same ds es (has_verdict ds v) (has_verdict es v) (entries ds d) d (verdict-same ds es v) (mentions d)
+    alike.names alike.answers
     ∙ ap (λ bs. found_in (point_in (has_verdict es v) (answer_to es) bs d) (mentions d)) alike.records
 
 binding-same : (ds es : List Decl) (book : List Promised) (d : Decl) → DifferAlike ds es d
@@ -371,10 +347,8 @@ faults_rest_on codes_of.Unsatisfied ds es book d alike = verdicts-same ds es ver
 faults_rest_on codes_of.Ambiguous ds es book d alike = verdicts-same ds es verdicts.Ambiguous d alike
 faults_rest_on codes_of.Unproxyable ds es book d alike = verdicts-same ds es verdicts.Unproxyable d alike
 faults_rest_on codes_of.Site ds es book d alike =
-    let first = own-first d in
-    let own = all-front (IsAnsweredAlike ds es) (own_points d) first.0
-    (subst (AllByRecursion (IsAnsweredAlike ds es)) first.1 alike.answers) in
-    calls-same ds es (entries ds d) d own [] (points_of d) (mentions d) (all-listed d) tt alike.answers
+    let P = IsAnsweredAlike ds es in
+    calls-same ds es (entries ds d) d (each-own P d alike.answers) (mentions d) (each-given P d alike.answers)
     ∙ ap (λ bs. found_in (lost_in es (answer_to es) bs d) (mentions d)) alike.records
 faults_rest_on codes_of.NoSpecialized ds es book d alike = ap whole_if (none-same ds es d alike.specialized)
 faults_rest_on codes_of.SpecializedType ds es book d alike = types-same ds es d alike.records alike.specialized

@@ -1,4 +1,3 @@
-pub mod Answered
 pub mod Asked
 pub mod Filter
 pub mod Glance

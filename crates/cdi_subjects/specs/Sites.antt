@@ -86,6 +86,11 @@ is_lost_among ds method (Some choice) = lacks_method ds method choice
 abbrev pub is_lost : List Decl → (PointDecl → Choice) → List PointDecl → CallDecl → Bool
 is_lost ds answer points call = is_lost_among ds call.method (choice_at answer points call.point)
 
+-- the parameters of the body of a call site
+abbrev pub params_given : Mention → List PointDecl
+params_given (CallOf place params call) = params
+params_given _ = []
+
 -- a call site of an enabled bean or interceptor, where it is lost
 abbrev pub lost_in : List Decl → (PointDecl → Choice) → List Effective → Decl → Mention → Option Subject
 lost_in ds answer bs d (CallOf place params call) = some_if

@@ -30,7 +30,7 @@ use Rattle.cdi_effective.specs.declared.records.BeanId.{BeanId}
 use Rattle.cdi_effective.specs.declared.records.Effective.{Effective}
 use Rattle.cdi_effective.specs.Bindings.{class_bindings}
 use Rattle.cdi_resolve.specs.declared.choice.Choice.{Choice}
-use Rattle.cdi_resolve.specs.declared.choice.Choice.TheVariants.{Unsatisfied, Ambiguous, One}
+use Rattle.cdi_resolve.specs.declared.choice.Choice.TheVariants.{Unsatisfied, Ambiguous}
 use Rattle.cdi_observe.specs.Answers.{answer_to}
 use Rattle.cdi_faults.specs.declared.fault.Code.{Code}
 use Rattle.cdi_faults.specs.declared.fault.Code.TheVariants as codes_of
@@ -188,20 +188,10 @@ abbrev pub is_ambiguous : Choice → Bool
 is_ambiguous (Ambiguous ids) = true
 is_ambiguous _ = false
 
-abbrev pub is_one : Choice → Bool
-is_one (One id) = true
-is_one _ = false
-
 abbrev pub has_verdict : List Decl → Verdict → PointDecl → Choice → Bool
 has_verdict ds verdicts.Unsatisfied point choice = is_unsatisfied choice
 has_verdict ds verdicts.Ambiguous point choice = is_ambiguous choice
 has_verdict ds verdicts.Unproxyable point choice = is_unproxyable ds point choice
-
--- a choice may be such for some point
-abbrev pub may_have : Verdict → Choice → Bool
-may_have verdicts.Unsatisfied choice = is_unsatisfied choice
-may_have verdicts.Ambiguous choice = is_ambiguous choice
-may_have verdicts.Unproxyable choice = is_one choice
 
 -- a point of an enabled bean or interceptor, where what is chosen for it is such
 abbrev pub point_in : (PointDecl → Choice → Bool) → (PointDecl → Choice) → List Effective → Decl → Mention → Option Subject

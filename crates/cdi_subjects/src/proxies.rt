@@ -1,10 +1,12 @@
 //! Injection points whose bean needs a proxy or a subclass that its type rules out (CDI 4.0, Unproxyable bean types).
 ghost use Rattle.std.specs.Prelude.{◌≡◌, false, is_some, Some, IfOk};
 ghost use Rattle.std.specs.List.{find};
-ghost use Rattle.std.specs.Option.{option_copied, option_eq};
-ghost use Rattle.std.specs.Str.{bytes_eq};
+ghost use Rattle.std.specs.Option.{option_copied};
+ghost use Rattle.cdi_model.specs.DeclList.{find_decl};
+ghost use Rattle.cdi_model.specs.declared.decl.Decl.TheVariants as declared;
+ghost use Rattle.cdi_model.specs.declared.decl.Kind.TheVariants as kinds;
 ghost use Rattle.cdi_effective.specs.Bindings.{class_bindings};
-ghost use Rattle.cdi_effective.specs.Disposers.{find_bean};
+ghost use Rattle.cdi_observe.specs.Lending.{IsEvaluated};
 ghost use Rattle.cdi_subjects.specs.Proxies.{is_final, is_normal, is_told_by, is_unproxyable, needs_subclass};
 ghost use Rattle.cdi_subjects.specs.Proxies.{needs_subclass_by};
 
@@ -22,6 +24,7 @@ pub(crate) fn is_unproxyable<V: View>(
     point: &PointDecl,
     choice: &Choice,
 ) -> Result<bool, AllocError>
+    requires { IsEvaluated (V.list view.now) (V.kept view.now) }
     ensures { IfOk result (λ found. found ≡ is_unproxyable (V.list view.now) point.now choice.now) }
 {
     match choice {
@@ -44,6 +47,7 @@ pub(crate) fn is_final(decls: &Decls, name: &Name) -> bool
 
 #[tactic(auto, unfolding(cdi_effective::specs::Records::records_in))]
 fn needs_subclass<V: View>(alloc: Global, view: &V, id: &BeanId) -> Result<bool, AllocError>
+    requires { IsEvaluated (V.list view.now) (V.kept view.now) }
     ensures { IfOk result (λ needs. needs ≡ needs_subclass (V.list view.now) id.now) }
 {
     let Some(Decl::Bean(bean)) = view.decls().get(Kind::Bean, &id.class) else {
@@ -74,7 +78,8 @@ fn needs_subclass_by<V: View>(
     bean: &BeanDecl,
     effective: &Effective,
 ) -> Result<bool, AllocError>
-    requires found { find_bean bean.now.name (V.list view.now) ≡ Some bean.now }
+    requires found { find_decl kinds.Bean bean.now.name (V.list view.now) ≡ Some (declared.Bean bean.now) }
+    requires evaluated { IsEvaluated (V.list view.now) (V.kept view.now) }
     requires own { is_some effective.now.id.producer ≡ false
         → effective.now.bindings ≡ class_bindings (V.list view.now) bean.now }
     ensures { IfOk result (λ needs. needs ≡ needs_subclass_by (V.list view.now) bean.now effective.now) }

@@ -1,8 +1,9 @@
 //! What is at fault of a declaration, for each code.
-ghost use Rattle.std.specs.Prelude.{◌≡◌, map, IfOk};
+ghost use Rattle.std.specs.Prelude.{◌≡◌, Some, IfOk};
+ghost use Rattle.cdi_model.specs.Decl.{kind_of, name_of_decl};
+ghost use Rattle.cdi_model.specs.DeclList.{find_decl};
 ghost use Rattle.cdi_effective.specs.Beans.{entries};
-ghost use Rattle.cdi_observe.specs.Answers.{answer_to};
-ghost use Rattle.cdi_observe.specs.Wanted.{points_of};
+ghost use Rattle.cdi_observe.specs.Lending.{IsEvaluated};
 ghost use Rattle.cdi_subjects.specs.Rests.{FaultsRestOn};
 ghost use Rattle.cdi_subjects.specs.Subjects.{subjects_at_fault};
 
@@ -23,15 +24,13 @@ use cdi_effective::Effective;
 use cdi_faults::{Code, Subject};
 use cdi_model::Decl;
 use cdi_observe::View;
-use cdi_resolve::Choice;
 use std::alloc::{AllocError, Global};
-use std::rc::Rc;
 
 /// The parts of a declaration that have a fault of a code (CDI 4.0, Problems detected automatically by the container),
-/// in the order in which they are declared. Its records and the answers to its injection points are given in their
-/// order; no part has a fault of a name, of a circle or of two beans, which are no declaration's. It takes memory for the
-/// parts that have one.
-#[tactic(auto, using(crate::proofs::Laws::by_entries, crate::proofs::RestLemmas::faults_rest_on))]
+/// in the order in which they are declared, where all that the declarations ask for is known or the view keeps nothing. Its
+/// records are given in their order. No part has a fault of a name, of a circle or of two beans, which are no declaration's.
+/// It takes memory for the parts that have one, and for answers that are made.
+#[tactic(auto, using(crate::proofs::Laws::by_entries, crate::proofs::Laws::asked, crate::proofs::RestLemmas::faults_rest_on))]
 pub fn subjects_at_fault<V: View, B: Bodies>(
     alloc: Global,
     code: Code,
@@ -39,10 +38,10 @@ pub fn subjects_at_fault<V: View, B: Bodies>(
     book: &B,
     decl: &Decl,
     beans: &[Effective],
-    answers: &[Rc<Choice>],
 ) -> Result<Vec<Subject>, AllocError>
+    requires found { find_decl (kind_of decl.now) (name_of_decl decl.now) (V.list view.now) ≡ Some decl.now }
+    requires evaluated { IsEvaluated (V.list view.now) (V.kept view.now) }
     requires beans { beans.now ≡ entries (V.list view.now) decl.now }
-    requires answers { map (λ answer. answer.value) answers.now ≡ map (answer_to (V.list view.now)) (points_of decl.now) }
     ensures subjects { IfOk result (λ list. list.items ≡ subjects_at_fault code (V.list view.now) (B.promises book.now) decl.now) }
     ensures rests { FaultsRestOn }
 {
@@ -59,16 +58,10 @@ pub fn subjects_at_fault<V: View, B: Bodies>(
         Code::ConditionalDependent => conditional_dependents(alloc, decl, beans),
         Code::Body => unfit_parts(alloc, book, decl),
         Code::NoBinding => unbound(alloc, decl),
-        Code::Unsatisfied => {
-            points_at_fault(alloc, view, decl, beans, answers, Verdict::Unsatisfied)
-        }
-        Code::Ambiguous => {
-            points_at_fault(alloc, view, decl, beans, answers, Verdict::Ambiguous)
-        }
-        Code::Unproxyable => {
-            points_at_fault(alloc, view, decl, beans, answers, Verdict::Unproxyable)
-        }
-        Code::Site => lost_sites(alloc, decls, decl, beans, answers),
+        Code::Unsatisfied => points_at_fault(alloc, view, decl, beans, Verdict::Unsatisfied),
+        Code::Ambiguous => points_at_fault(alloc, view, decl, beans, Verdict::Ambiguous),
+        Code::Unproxyable => points_at_fault(alloc, view, decl, beans, Verdict::Unproxyable),
+        Code::Site => lost_sites(alloc, view, decl, beans),
         Code::NoSpecialized => without_specialized(alloc, decls, decl),
         Code::SpecializedType => lacked_types(alloc, view, decl, beans),
         Code::SpecializedName => renamed(alloc, view, decl),

@@ -1,14 +1,13 @@
 //! What a deployment is found to be.
-ghost use Rattle.std.specs.Prelude.{◌≡◌, length, true, IfOk};
-ghost use Rattle.std.specs.List.{list_all};
+ghost use Rattle.std.specs.Prelude.{◌≡◌, length, IfOk};
 ghost use Rattle.cdi_model.specs.Short.{AreShort};
-ghost use Rattle.cdi_observe.specs.Wanted.{asked};
+ghost use Rattle.cdi_observe.specs.Lending.{IsEvaluated};
 ghost use Rattle.cdi_validate.specs.Faults.{faults};
 ghost use Rattle.cdi_wiring.specs.Laws.{FaultlessIsSound};
 ghost use Rattle.cdi_wiring.specs.Wired.{IsWiringOf, count_of};
 
 use cdi_bodies::Bodies;
-use cdi_observe::{View, all_kept_answers, records_of_all};
+use cdi_observe::{View, records_of_all};
 use cdi_scene::Scene;
 use cdi_staging::{ListedBeans, Names, Positions, names_of, scene_of};
 use std::alloc::{AllocError, Global};
@@ -31,9 +30,9 @@ pub enum Wiring {
 }
 
 impl Wiring {
-    /// What the declarations of a view are that have so many faults where the bodies of this book are stored, and all of whose points
-    /// ask for what is known. It takes memory and time for the scene, if there are no faults. The last clause
-    /// says that a deployment without faults has a sound scene.
+    /// What the declarations of a view are that have so many faults where the bodies of this book are stored. It takes
+    /// memory and time for the scene, if there are no faults. The last clause says that a deployment without faults has a
+    /// sound scene.
     #[tactic(auto, using(crate::proofs::FaultLemmas::faultless_is_sound))]
     pub fn of<V: View, B: Bodies>(
         alloc: Global,
@@ -43,21 +42,18 @@ impl Wiring {
     ) -> Result<Wiring, AllocError>
         requires short { AreShort (V.list view.now) }
         requires count { count ≡ length (faults (V.list view.now) (B.promises book.now)) }
-        requires known { list_all (V.kept view.now).knows (asked (V.list view.now)) ≡ true }
+        requires evaluated { IsEvaluated (V.list view.now) (V.kept view.now) }
         ensures wiring { IfOk result (λ wiring. IsWiringOf (V.list view.now) (B.promises book.now) wiring) }
         ensures sound { FaultlessIsSound }
     {
         if count != 0 {
             return Ok(Wiring::Faulty(count));
         }
-        let answers = all_kept_answers(alloc, view)?;
         let decls = view.decls();
-        // No effect at run time. The proof reads here that no two declarations have one kind and name.
-        let _ = decls.iter();
         let positions = Positions::of(alloc, &records_of_all(alloc, view)?)?;
         let beans = ListedBeans::new(decls, &positions);
         Ok(Wiring::Sound(Wired {
-            scene: scene_of(alloc, view, &beans, answers.as_slice(), book)?,
+            scene: scene_of(alloc, view, &beans, book)?,
             names: names_of(alloc, view)?,
             positions,
         }))

@@ -2,15 +2,15 @@
 use crate::answers::{Answer, is_choice};
 use crate::deployed::Deployed;
 use crate::texts::are_names;
-use cdi_container::Choice;
-use cdi_effective::{Effective, disposer_of, records_of};
+use cdi_effective::{Effective, disposer_of, own_records_of};
 use cdi_fixtures::{name, quals};
-use cdi_model::{BeanDecl, Decl, Decls, Error, Ident, Kind, Name, Qual, Scope, Work};
-use cdi_observe::{PlainView, evaluate, push_records};
+use cdi_model::{
+    BeanDecl, Decl, Decls, Error, Ident, Kind, Mention, Name, Qual, Scope, Work,
+};
+use cdi_observe::{PlainView, View, evaluate, push_records};
 use cdi_resolve::{BeanList, choose_name};
 use cdi_seen::{offering, same_beans};
 use std::alloc::{AllocError, Global};
-use std::rc::Rc;
 
 /// A question about beans, with its answer.
 #[derive(Clone, Copy)]
@@ -182,7 +182,7 @@ fn has_record(alloc: Global, decls: &Decls, class: &[u8], wanted: Recorded) -> R
     let Some(bean) = find_bean(decls, class)? else {
         return Ok(false);
     };
-    let records = records_of(alloc, decls, decls, bean, false)?;
+    let records = own_records_of(alloc, decls, decls, bean)?;
     Ok(begins_with(records.as_slice(), wanted))
 }
 
@@ -215,35 +215,24 @@ fn chooses_name(
     Ok(is_choice(&choice, answer))
 }
 
-/// Whether what is right for each injection point is what is wanted.
+/// Whether what is chosen for each injection point is what is wanted.
 fn evaluates(alloc: Global, decls: &Decls, wanted: &[Answer]) -> Result<bool, Error> {
     let list = BeanList::of(alloc, decls)?;
     let mut view = PlainView::new(decls, &list);
-    let found = evaluate(alloc, &mut view)?;
-    Ok(are_choices(found.as_slice(), wanted))
-}
-
-/// Whether the choices of each list, one list after another, are what is wanted.
-fn are_choices(found: &[Vec<Rc<Choice>>], wanted: &[Answer]) -> bool {
-    let mut left = wanted;
-    for own in found {
-        if left.len() < own.len() {
-            return false;
+    evaluate(alloc, &mut view)?;
+    let mut left = wanted.iter();
+    for decl in decls.iter() {
+        for mention in decl.mentions() {
+            if let Mention::Point(_, point) = mention {
+                let choice = view.lent_choice(alloc, &point.required_type, &point.qualifiers)?;
+                match left.next() {
+                    Some(answer) if is_choice(choice.get(), *answer) => {}
+                    _ => return Ok(false),
+                }
+            }
         }
-        let (next, others) = left.split_at(own.len());
-        if !are_those(own.as_slice(), next) {
-            return false;
-        }
-        left = others;
     }
-    left.is_empty()
-}
-
-fn are_those(found: &[Rc<Choice>], wanted: &[Answer]) -> bool {
-    found
-        .iter()
-        .zip(wanted.iter())
-        .all(|(choice, answer)| is_choice(choice, *answer))
+    Ok(left.next().is_none())
 }
 
 /// The declaration of a bean.

@@ -2,11 +2,11 @@
 use crate::deployed::decls_after_put;
 use crate::texts::{are_names, are_observers};
 use cdi_fixtures::name;
-use cdi_intercept::{bindings_at, in_order};
+use cdi_intercept::{bindings_at, bindings_seen, in_order, seen_around};
 use cdi_model::{BeanPlace, Decls, Error, Ident, Name, Qual, Quals, Refusal};
 use cdi_observe::{PlainView, View};
 use cdi_resolve::BeanList;
-use cdi_seen::is_chain_touched;
+use cdi_seen::is_chain_touched_by;
 use std::alloc::Global;
 
 /// A question about the audited bean, with its answer.
@@ -85,7 +85,12 @@ fn is_touched(alloc: Global, decls: &Decls, after: &Decls, called: &[u8]) -> Res
     let olds = in_order(alloc, decls)?;
     let news = in_order(alloc, after)?;
     let (class, place) = (name(b"S")?, method(called)?);
-    Ok(is_chain_touched(alloc, decls, &olds, after, &news, class, &place)?)
+    let bound = bindings_seen(alloc, decls, class, &place)?;
+    let old_seen = seen_around(alloc, &olds, bound.as_slice(), &place)?;
+    let bound = bindings_seen(alloc, after, class, &place)?;
+    let new_seen = seen_around(alloc, &news, bound.as_slice(), &place)?;
+    let is_touched = is_chain_touched_by(alloc, decls, &old_seen, after, &new_seen, class, &place)?;
+    Ok(is_touched)
 }
 
 fn is_observed(

@@ -13,6 +13,6 @@ returns c =
     let old = c.args.keys.now.items in
     on_ok_weaker c.push_keys_at.result
     (λ pushed. pushed
-    ∙ ap (λ es. old ++ flat_map (keys_at es) (marked_from 0 marks)) c.decls.ensures
+    ∙ ap (λ es. old ++ flat_map (keys_at es) (marked_from 0 marks)) c.decls.ensures.value
     ∙ ap (λ keys. old ++ keys) (keys-marked ds words marks c.positions_under.ensures))
     c.push_keys_at.ensures

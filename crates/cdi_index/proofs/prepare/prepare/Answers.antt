@@ -42,7 +42,7 @@ returns-clause-counts c =
     let decls : c.draft.inside.decls ≡ c.args.draft.decls = ap (λ (d : Drafted). d.decls) c.draft.view_is in
     let keys : c.as_slice.result.now ≡ c.args.draft.keys = c.as_slice.ensures.value ∙ ap (λ (d : Drafted). d.keys) c.draft.view_is in
     let changes = c.in_ok-changes.ensures.changes ∙ ap (λ d. map (change_of d) c.in_ok-affected.affected.keys) decls in
-    let distinct = subst AreDistinct decls c.iter-2.ensures.distinct in
+    let distinct = subst AreDistinct decls c.iter.ensures.distinct in
     let closures = c.after.ensures.closures
     ∙ ap (raised c.args.counts.closures) (counted c.args.decls.now c.args.draft.decls c.requires.edited.edits c.args.draft.keys
     c.in_ok-affected.affected.keys c.in_ok-affected.affected.keys c.args.shelf.now c.reserve.new.self c.args.postings.now c.change_affected.new.postings
@@ -78,12 +78,13 @@ returns-clause-next c =
     c.requires.exact c.requires.sound (decls ∙ c.requires.edited.decls) (keys ∙ c.requires.edited.keys) c.in_ok-affected.ensures
     refl c.reserve.ensures.entries c.reserve.ensures.others c.change_affected.ensures.kept _ refl
     c.in_ok-changes.ensures.changes c.in_ok-changes.ensures.listed
+    c.iter.ensures.distinct c.iter.ensures.bound
     (λ s e at. omega (arith, c.requires.free s e at, c.reserve.ensures.given))
     (omega (arith, c.in_ok-reserve.ensures.numbers, many))
     (omega (arith, c.in_ok-reserve.ensures.slots, many))
     (omega (arith, c.in_ok-reserve.ensures.kept, many))
     (ap keys_changed c.in_ok-changes.ensures.changes ∙ keys-made (λ (x : Change). x.key) (change_of c.draft.inside.decls) (λ k. refl) ks)
-    (turned-are c.args.decls.now c.draft.inside.decls ks c.reserve.new.self more c.iter.ensures.distinct c.iter-2.ensures.distinct
+    (turned-are c.args.decls.now c.draft.inside.decls ks c.reserve.new.self more c.requires.distinct c.iter.ensures.distinct
     (shelf-same c.args.shelf.now c.reserve.new.self c.reserve.ensures.entries c.reserve.ensures.others c.requires.shelf)
     (exact-same c.args.shelf.now c.reserve.new.self c.reserve.ensures.entries c.reserve.ensures.others c.args.decls.now c.requires.exact)
     (sound-same c.args.shelf.now c.reserve.new.self c.reserve.ensures.entries c.reserve.ensures.others c.args.postings.now more
@@ -114,7 +115,7 @@ returns-clause-told c =
     let told = c.in_ok-turns.turns.beans.keys in
     let decls : es ≡ c.args.draft.decls = ap (λ (d : Drafted). d.decls) c.draft.view_is in
     let keys : c.as_slice.result.now ≡ c.args.draft.keys = c.as_slice.ensures.value ∙ ap (λ (d : Drafted). d.keys) c.draft.view_is in
-    let it = tells ds es c.as_slice.result.now ks told new more c.iter.ensures.distinct c.iter-2.ensures.distinct
+    let it = tells ds es c.as_slice.result.now ks told new more c.requires.distinct c.iter.ensures.distinct
     (shelf-same old new c.reserve.ensures.entries c.reserve.ensures.others c.requires.shelf)
     (exact-same old new c.reserve.ensures.entries c.reserve.ensures.others ds c.requires.exact)
     (sound-same old new c.reserve.ensures.entries c.reserve.ensures.others before more c.change_affected.ensures.kept c.requires.sound)

@@ -2,7 +2,6 @@ use Rattle.std.proofs.Common.{◌≡◌, ◌||◌, false, List, ◌++◌, slice_
 use Rattle.std.specs.List.{list_any}
 use Rattle.std.specs.Option.{option_map_or}
 use Rattle.cdi_model.specs.declared.quals.Qual.{Qual}
-use Rattle.cdi_model.specs.DeclList.{AreDistinct}
 use Rattle.cdi_postings.specs.declared.word.Word.{Word}
 use Rattle.cdi_postings.specs.Listing.{is_listed}
 use Rattle.cdi_positions.specs.Marks.{marked_from}
@@ -24,7 +23,7 @@ seen_at-requires c p d at unmarked =
     ∙ ap (λ ws. ws ++ words_bound c.as_slice.result.now) c.new-words.ensures.items
     ∙ ap words_bound (c.as_slice.ensures ∙ sym c.as_slice-5.ensures)) in
     without-words ds words olds c.args.place.now d (subst (λ ws. Cover ws olds) (sym are) (cover-first olds news))
-    (sym (ap (λ o. option_map_or (has_one ds words) o false) (ap (λ l. slice_get l p) (sym c.decls-5.ensures) ∙ at))
+    (sym (ap (λ o. option_map_or (has_one ds words) o false) (ap (λ l. slice_get l p) (sym c.decls-3.ensures.value) ∙ at))
     ∙ sym (c.positions_under-before.ensures p) ∙ unmarked)
 
 pub seen_at-requires-2 : goal.seen_at-requires-2
@@ -38,10 +37,10 @@ seen_at-requires-2 c p d at unmarked =
     ∙ ap (λ ws. ws ++ words_bound c.as_slice-2.result.now) (c.in_ok-push_bound_words.ensures
     ∙ ap (λ ws. ws ++ words_bound olds) c.new-words.ensures.items)
     ∙ ap (λ us. words_bound olds ++ words_bound us) (c.as_slice-2.ensures ∙ sym c.as_slice-6.ensures) in
-    unmarked-seen sides c.requires (subst AreDistinct c.decls.ensures c.iter.ensures.distinct)
-    (subst AreDistinct c.decls-2.ensures c.iter-2.ensures.distinct) words c.positions_under-before.result c.positions_under-before.ensures
+    unmarked-seen sides c.requires c.requires.distinct
+    c.requires.apart words c.positions_under-before.result c.positions_under-before.ensures
     news c.args.place.now (subst (λ ws. Cover ws news) (sym are) (cover-second olds news)) p d
-    (ap (λ l. slice_get l p) (sym c.decls-6.ensures) ∙ at)
+    (ap (λ l. slice_get l p) (sym c.decls-4.ensures.value) ∙ at)
     (sym (c.positions_after-after.ensures p
     ∙ ap (λ ws. list_any (λ q. is_place_of_one sides.index.now.decls sides.next.now q p) (marked_from 0 c.positions_under-before.result)
     || list_any (λ w. is_listed sides.changed.now w p) ws) (c.as_slice-4.ensures.value ∙ sym c.as_slice-3.ensures.value))

@@ -3,7 +3,6 @@ use Rattle.std.specs.List.{list_any}
 use Rattle.std.specs.Str.{bytes_eq}
 use Rattle.std.proofs.lemmas.Result.{IfOk-weaker}
 use Rattle.cdi_model.specs.declared.place.BeanPlace.{BeanPlace}
-use Rattle.cdi_model.specs.DeclList.{AreDistinct}
 use Rattle.cdi_memo.specs.Answers.{parts_under}
 use Rattle.cdi_observe.specs.Keys.{same_place}
 use Rattle.cdi_live.specs.ChainGone.{goes, is_gone_chain, AreGoneChains}
@@ -22,7 +21,7 @@ returns c =
     ≡ list_any (λ n. bytes_eq k n && list_any (λ q. same_place p q && goes ds es n q) (parts_under m n)) classes)
     (λ gone. AreGoneChains ds es m gone.items)
     (λ gone are k p kept. are k p
-    ∙ chains-between sides c.requires.between (subst AreDistinct c.decls.ensures c.iter.ensures.distinct)
-    (subst AreDistinct c.decls-2.ensures c.iter-2.ensures.distinct) m c.requires.wanted classes
+    ∙ chains-between sides c.requires.between c.requires.between.distinct
+    c.requires.between.apart m c.requires.wanted classes
     (λ n. ap (list_any (bytes_eq n)) c.as_slice.ensures.keys ∙ c.in_ok-classes.ensures n) k p kept)
     c.gone_of_classes.ensures

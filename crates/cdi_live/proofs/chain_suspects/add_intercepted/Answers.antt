@@ -4,7 +4,6 @@ use Rattle.std.specs.Str.{bytes_eq}
 use Rattle.indexmap.specs.IndexSet.{contains}
 use Rattle.cdi_model.specs.declared.decl.Kind.TheVariants as kinds
 use Rattle.cdi_model.specs.DeclKey.{key_at}
-use Rattle.cdi_model.specs.DeclList.{AreDistinct}
 use Rattle.cdi_live.specs.ChainSuspects.{brings_to, classes_bound, is_bound_by}
 use Rattle.cdi_live.specs.Suspects.{holds}
 use Rattle.cdi_live.proofs.ReaderLemmas.{of-readers}
@@ -23,6 +22,6 @@ returns c t =
     c.in_ok-add_bound_by.ensures t
     ∙ ap (λ b. b || list_any (λ k. is_bound_by ds k t) c.as_slice.result.now) (c.in_ok-add_bound.ensures t)
     ∙ ap (λ ks. (old || own) || list_any (λ k. is_bound_by ds k t) ks) c.as_slice.ensures.value
-    ∙ ap (λ b. (old || own) || b) (of-readers ds (subst AreDistinct c.decls.ensures c.iter.ensures.distinct) (key_at kinds.Binding x)
-    c.in_ok-readers.readers.items (λ k. is_bound_by ds k t) c.in_ok-readers.ensures)
+    ∙ ap (λ b. (old || own) || b) (of-readers ds c.in_ok-readers.ensures.distinct (key_at kinds.Binding x)
+    c.in_ok-readers.readers.items (λ k. is_bound_by ds k t) c.in_ok-readers.ensures.value)
     ∙ grouped old own (list_any (brings_to ds x t) ds)

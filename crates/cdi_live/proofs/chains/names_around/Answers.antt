@@ -23,7 +23,7 @@ seen_at-requires c p d at unmarked =
     ∙ ap (λ ws. ws ++ words_bound c.as_slice.result.now) c.new-words.ensures.items
     ∙ ap words_bound (c.as_slice.ensures ∙ sym c.as_slice-3.ensures) in
     without-words ds words us c.args.place.now d (subst (λ ws. Cover ws us) (sym are) (cover-one us))
-    (sym (ap (λ o. option_map_or (has_one ds words) o false) (ap (λ l. slice_get l p) (sym c.decls-2.ensures) ∙ at))
+    (sym (ap (λ o. option_map_or (has_one ds words) o false) (ap (λ l. slice_get l p) (sym c.decls-2.ensures.value) ∙ at))
     ∙ sym (c.positions_under-positions.ensures p) ∙ unmarked)
 
 pub returns : goal.returns
@@ -33,15 +33,15 @@ returns c =
     let place = c.args.place.now in
     let us : List Qual = c.as_slice-4.result.now in
     let list : List Qual = in_text_order (set_at ds class place) in
-    let is : c.in_ok-bindings.bindings ≡ list = c.in_ok-bindings.ensures ∙ ap (λ l. in_text_order (set_at l class place)) c.decls.ensures in
+    let is : c.in_ok-bindings.bindings ≡ list = c.in_ok-bindings.ensures ∙ ap (λ l. in_text_order (set_at l class place)) c.decls.ensures.value in
     let seen : lent_in c.deref.result.now ≡ filter (is_seen list place) (in_order ds) =
     ap lent_in c.deref.ensures.value ∙ c.in_ok-seen.ensures
-    ∙ ap (λ l. filter (is_seen c.as_slice-3.result.now place) (in_order l)) c.decls-2.ensures
+    ∙ ap (λ l. filter (is_seen c.as_slice-3.result.now place) (in_order l)) c.decls-2.ensures.value
     ∙ ap (λ vs. filter (is_seen vs place) (in_order ds)) (c.as_slice-3.ensures ∙ is) in
     IfOk-weaker c.names_among.result
     (λ names. names ≡ map (λ i. i.name) (filter (surrounds c.decls-3.result.now us place) (lent_in c.deref.result.now)))
     (λ names. names ≡ names_around ds (set_at ds class place) place)
-    (λ names are. are ∙ ap (λ l. map (λ i. i.name) (filter (surrounds l us place) (lent_in c.deref.result.now))) c.decls-3.ensures
+    (λ names are. are ∙ ap (λ l. map (λ i. i.name) (filter (surrounds l us place) (lent_in c.deref.result.now))) c.decls-3.ensures.value
     ∙ ap (λ vs. map (λ i. i.name) (filter (surrounds ds vs place) (lent_in c.deref.result.now))) (c.as_slice-4.ensures ∙ is)
     ∙ ap (λ xs. map (λ i. i.name) (filter (surrounds ds list place) xs)) seen
     ∙ around-seen ds (set_at ds class place) place)

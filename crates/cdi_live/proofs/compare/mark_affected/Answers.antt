@@ -7,6 +7,5 @@ use Rattle.cdi_live.proofs.compare.mark_affected.Goals as goal
 pub mark_slots-requires-clause-within : goal.mark_slots-requires-clause-within
 mark_slots-requires-clause-within c =
     let sides = c.args.sides.now in
-    let few : length sides.next.now ≤ limit = subst (λ ds. length ds ≤ limit) c.decls.ensures c.iter.ensures.bound in
     subst (All (λ slot. slot < limit)) (sym c.under.ensures)
-    (slots-within sides.next.now sides.affected.now sides.changed.now c.requires.between.listed few c.word-item.result)
+    (slots-within sides.next.now sides.affected.now sides.changed.now c.requires.between.listed c.requires.between.few c.word-item.result)

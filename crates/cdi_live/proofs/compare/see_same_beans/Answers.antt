@@ -25,7 +25,7 @@ returns c =
     IfOk-weaker c.same_beans.result
     (λ is. is ≡ beans_alike c.decls.result.now olds c.decls-2.result.now news)
     (λ is. is ≡ see_same_beans ds es t)
-    (λ is same. same ∙ ap (λ d. beans_alike d olds c.decls-2.result.now news) c.decls.ensures
-    ∙ ap (λ e. beans_alike ds olds e news) c.decls-2.ensures
+    (λ is same. same ∙ ap (λ d. beans_alike d olds c.decls-2.result.now news) c.decls.ensures.value
+    ∙ ap (λ e. beans_alike ds olds e news) c.decls-2.ensures.value
     ∙ ap (λ xs. beans_alike ds xs es news) before ∙ ap (beans_alike ds (filter (offers t) (beans ds)) es) after)
     c.same_beans.ensures.same

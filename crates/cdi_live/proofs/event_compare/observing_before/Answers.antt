@@ -18,10 +18,10 @@ returns c =
     let candidates : List Effective = map (λ bean. bean.now) c.deref.result.now in
     let are : candidates ≡ flat_map (entries ds) (filter (observes_one types) ds) =
     ap (map (λ bean. bean.now)) c.deref.ensures.value ∙ c.in_ok-beans.ensures in
-    let distinct : AreDistinct ds = subst AreDistinct c.decls.ensures c.iter.ensures.distinct in
+    let distinct : AreDistinct ds = c.decls.ensures.distinct in
     IfOk-weaker c.observers_in_order.result
-    (λ list. lent_in list.items ≡ sorted_by is_before (filter (observes types) (observers c.decls-2.result.now candidates)))
+    (λ list. lent_in list.items ≡ sorted_by is_before (filter (observes types) (observers c.decls.result.now candidates)))
     (λ list. (t : List ℕ) → types ≡ types_of ds t → lent_in list.items ≡ observing ds (beans ds) t)
-    (λ list is t of. is ∙ ap (λ es. sorted_by is_before (filter (observes types) (observers es candidates))) c.decls-2.ensures
+    (λ list is t of. is ∙ ap (λ es. sorted_by is_before (filter (observes types) (observers es candidates))) c.decls.ensures.value
     ∙ ap (λ xs. sorted_by is_before (filter (observes types) (observers ds xs))) are ∙ seen-before ds types distinct t of)
     c.observers_in_order.ensures

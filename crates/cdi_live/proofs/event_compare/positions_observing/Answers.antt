@@ -1,7 +1,6 @@
 use Rattle.std.proofs.Common.{◌≡◌, ◌||◌, ℕ, false, map, slice_get, sym, ap, subst, ◌∙◌}
 use Rattle.std.specs.List.{list_any}
 use Rattle.std.specs.Option.{option_map_or}
-use Rattle.cdi_model.specs.DeclList.{AreDistinct}
 use Rattle.cdi_postings.specs.declared.word.Reason.TheVariants as reasons
 use Rattle.cdi_postings.specs.Listing.{is_listed}
 use Rattle.cdi_postings.specs.Words.{word_at}
@@ -20,8 +19,8 @@ returns c p d there none =
     let found : (q : ℕ) → is_marked before q ≡ option_map_or (has_one ds (map (word_at reasons.Observes) types)) (slice_get ds q) false =
     λ q. c.positions_under-before.ensures q
     ∙ ap (λ ws. option_map_or (has_one ds ws) (slice_get ds q) false) (c.deref.ensures.value ∙ c.in_ok-words.ensures) in
-    unobserved sides c.requires (subst AreDistinct c.decls.ensures c.iter.ensures.distinct)
-    (subst AreDistinct c.decls-2.ensures c.iter-2.ensures.distinct) types before found p d there
+    unobserved sides c.requires c.requires.distinct
+    c.requires.apart types before found p d there
     (sym (c.positions_after.ensures p
     ∙ ap (λ ws. list_any (λ q. is_place_of_one ds sides.next.now q p) (marked_from 0 before) || list_any (λ w. is_listed sides.changed.now w p) ws)
     (c.deref-2.ensures.value ∙ c.in_ok-words.ensures))

@@ -1,7 +1,6 @@
 use Rattle.std.proofs.Common.{◌||◌, refl, ap, subst, ◌∙◌}
 use Rattle.std.specs.List.{list_any}
 use Rattle.std.specs.Str.{bytes_eq}
-use Rattle.cdi_model.specs.DeclList.{AreDistinct}
 use Rattle.cdi_live.specs.EventDropped.{drops_before, is_dropped_at}
 use Rattle.cdi_live.specs.declared.event_dropped.EventWants.{EventWants}
 use Rattle.cdi_live.proofs.EventGoneLemmas.{gone-between}
@@ -15,7 +14,7 @@ returns c t us kept =
     let drops = drops_before wants in
     c.in_ok-push_dropped_events.ensures t us
     ∙ ap (λ b. b || list_any (is_dropped_at ds drops t us) sides.edited.now) (c.in_ok-gone.ensures t us)
-    ∙ gone-between sides c.requires.between (subst AreDistinct c.decls.ensures c.iter.ensures.distinct)
-    (subst AreDistinct c.decls-2.ensures c.iter-2.ensures.distinct) c.args.events.now c.requires.wanted drops (λ s vs. refl)
+    ∙ gone-between sides c.requires.between c.requires.between.distinct
+    c.requires.between.apart c.args.events.now c.requires.wanted drops (λ s vs. refl)
     c.as_slice.result.now
     (λ n. ap (list_any (bytes_eq n)) c.as_slice.ensures.keys ∙ c.in_ok-types.ensures n) t us kept

@@ -1,7 +1,6 @@
 use Rattle.std.proofs.Common.{◌||◌, refl, ap, subst, ◌∙◌}
 use Rattle.std.specs.List.{list_any}
 use Rattle.std.specs.Str.{bytes_eq}
-use Rattle.cdi_model.specs.DeclList.{AreDistinct}
 use Rattle.cdi_live.specs.Dropped.{asks_before, is_dropped_at}
 use Rattle.cdi_live.proofs.GoneLemmas.{gone-between}
 use Rattle.cdi_live.proofs.stage.gone_after.Goals as goal
@@ -16,6 +15,6 @@ returns c t us kept =
     let types = c.as_slice.result.now in
     c.in_ok-push_dropped.ensures t us
     ∙ ap (λ b. b || list_any (is_dropped_at (asks_before wants) t us) sides.edited.now) (c.in_ok-gone.ensures t us)
-    ∙ gone-between sides c.requires.between (subst AreDistinct c.decls.ensures c.iter.ensures.distinct)
-    (subst AreDistinct c.decls-2.ensures c.iter-2.ensures.distinct) m c.requires.wanted (asks_before wants) refl (λ s vs. refl) types
+    ∙ gone-between sides c.requires.between c.requires.between.distinct
+    c.requires.between.apart m c.requires.wanted (asks_before wants) refl (λ s vs. refl) types
     (λ n. ap (list_any (bytes_eq n)) c.as_slice.ensures.keys ∙ c.in_ok-types.ensures n) t us kept

@@ -8,9 +8,9 @@ pub loop-decl-init : goal.loop-decl-init
 loop-decl-init g c =
     let ds = g.V.View.list c.args.view.now in
     let same : c.into_iter-decl-iterator.result ≡ ds = c.into_iter-decl-iterator.ensures.into_iter_gives
-    ∙ c.iter-decl-items.ensures.value ∙ c.decls.ensures in
+    ∙ c.iter-decl-items.ensures.value ∙ c.decls.ensures.value in
     record {
-      declared = λ k d at. own-found ds k d (subst AreDistinct c.decls.ensures c.iter-decl-items.ensures.distinct)
+      declared = λ k d at. own-found ds k d (subst AreDistinct c.decls.ensures.value c.iter-decl-items.ensures.distinct)
           (subst (λ es. slice_get es k ≡ Some d) same at);
       beans = ap (λ list. map (λ bean. bean.now) list ++ flat_map (entries ds) c.into_iter-decl-iterator.result) c.new-list.ensures.items
           ∙ ap (flat_map (entries ds)) same;

@@ -5,7 +5,7 @@ use Rattle.cdi_observe.specs.declared.keys.AskedKey.{AskedKey}
 use Rattle.cdi_observe.specs.Asked.{asked_key}
 use Rattle.cdi_observe.specs.Kept.{Kept, evaluated}
 use Rattle.cdi_observe.proofs.KeptLemmas.{evaluated-next, known-next}
-use Rattle.cdi_observe.proofs.PlaceLemmas.{asked-at}
+use Rattle.cdi_observe.proofs.AskedLemmas.{asked-at}
 use Rattle.cdi_observe.proofs.rest.choose_all.Goals as goal
 
 -- the next key is known where all are

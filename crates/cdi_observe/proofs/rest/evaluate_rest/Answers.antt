@@ -6,6 +6,7 @@ use Rattle.cdi_observe.specs.Kept.{Kept, evaluated}
 use Rattle.cdi_observe.specs.Others.{is_told, other_key, others_by}
 use Rattle.cdi_observe.specs.Wanted.{asked_by}
 use Rattle.cdi_observe.proofs.KeptLemmas.{evaluated-known, where_err}
+use Rattle.cdi_observe.proofs.LendingLemmas.{evaluated-all}
 use Rattle.cdi_observe.proofs.RestLemmas.{choices-known, each-lent, others-known, others-told, rest-evaluated, some-choices, some-others, IsFound}
 use Rattle.cdi_observe.proofs.rest.evaluate_rest.Goals as goal
 
@@ -106,3 +107,7 @@ returns-clause-staged g c = λ all.
     c.in_ok-ask_each.ensures.staged (ap (λ (kept : Kept). list_all kept.knows (map other_key c.as_slice-2.result.now)) still
     ∙ ap (list_all old.knows) keys ∙ others-known ds es found old.knows all)
     ∙ c.in_ok-choose_all.ensures.staged first
+
+pub returns-clause-evaluated : goal.returns-clause-evaluated
+returns-clause-evaluated g c =
+    evaluated-all (g.V.View.list c.args.view.now) (g.V.View.kept c.args.view.now) (g.V.View.kept c.ask_each.new.view) (returns-clause-ok g c)

@@ -19,5 +19,5 @@ returns-clause-choice c =
     (λ choice. (bs : List Effective) → HasEnough t candidates bs → choice ≡ chosen c.decls.result.now bs t quals)
     (λ choice. choice ≡ chosen ds (beans ds) t quals)
     (λ choice is. is (beans ds) (subst (λ xs. HasEnough t xs (beans ds)) (sym are) (has_enough t (beans ds)))
-    ∙ ap (λ es. chosen es (beans ds) t quals) c.decls.ensures)
+    ∙ ap (λ es. chosen es (beans ds) t quals) c.decls.ensures.value)
     c.choose_from.ensures.choice

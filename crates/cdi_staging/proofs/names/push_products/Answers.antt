@@ -3,7 +3,7 @@ use Rattle.std.specs.Slice.Iter.{iter_rest}
 use Rattle.std.proofs.lemmas.Slice.Zip.{either_empty_from_Zip}
 use Rattle.cdi_effective.specs.Beans.{product}
 use Rattle.cdi_staging.specs.Naming.{product_names}
-use Rattle.cdi_staging.proofs.SplitLemmas.{first-product, pushed, unmapped}
+use Rattle.cdi_staging.proofs.ProductLemmas.{first-product, pushed, unmapped}
 use Rattle.cdi_staging.proofs.names.push_products.Goals as goal
 
 pub product_names-requires : goal.product_names-requires

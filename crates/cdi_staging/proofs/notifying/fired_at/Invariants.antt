@@ -1,7 +1,12 @@
-use Rattle.std.proofs.Common.{◌≡◌, ◌++◌, drop, map}
+use Rattle.std.proofs.Common.{◌≡◌, ◌++◌, true, drop, map}
+use Rattle.cdi_observe.specs.Lending.{are_answerable}
+use Rattle.cdi_observe.specs.Wanted.{key_of_event}
 use Rattle.cdi_staging.specs.Notifying.{fired_at}
 use Rattle.cdi_staging.proofs.notifying.fired_at.Given as goal
 
 abbrev pub invariant-loop-event : goal.invariant-loop-event
-invariant-loop-event g l =
-    l.sites ++ map (fired_at (g.V.View.list l.view) l.beans) (drop l.event-index l.fires) ≡ map (fired_at (g.V.View.list l.view) l.beans) l.fires
+invariant-loop-event g l = record {
+  answerable : are_answerable (g.V.View.kept l.view) (map key_of_event (drop l.event-index l.fires)) ≡ true;
+  notified : l.sites ++ map (fired_at (g.V.View.list l.view) l.beans) (drop l.event-index l.fires)
+      ≡ map (fired_at (g.V.View.list l.view) l.beans) l.fires;
+}

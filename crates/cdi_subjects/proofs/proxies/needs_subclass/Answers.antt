@@ -11,7 +11,7 @@ needs_subclass_by-requires-clause-found g c =
     let ds = g.V.View.list c.args.view.now in
     let name = c.args.id.now.class in
     found-own ds name c.in-Some-Bean.bean
-    (ap (find_decl kinds.Bean name) (sym c.decls.ensures) ∙ sym c.in-Some-Bean.ensures ∙ ap Some c.in-Some-Bean.field-0-is)
+    (ap (find_decl kinds.Bean name) (sym c.decls.ensures.value) ∙ sym c.in-Some-Bean.ensures ∙ ap Some c.in-Some-Bean.field-0-is)
 
 pub needs_subclass_by-requires-clause-own : goal.needs_subclass_by-requires-clause-own
 needs_subclass_by-requires-clause-own g c =
@@ -21,5 +21,5 @@ needs_subclass_by-requires-clause-own g c =
     let test = is_told_by c.args.id.now.producer in
     own-bindings ds bean test c.in-Some.record.now
     (ap (find test) (sym (records-of ds name bean
-    (ap (find_decl kinds.Bean name) (sym c.decls.ensures) ∙ sym c.in-Some-Bean.ensures ∙ ap Some c.in-Some-Bean.field-0-is)))
+    (ap (find_decl kinds.Bean name) (sym c.decls.ensures.value) ∙ sym c.in-Some-Bean.ensures ∙ ap Some c.in-Some-Bean.field-0-is)))
     ∙ ap (find test) (sym c.records.ensures) ∙ sym c.in-Some.ensures)

@@ -1,8 +1,18 @@
 use Rattle.std.proofs.Common.{◌≡◌, ◌||◌, ◌&&◌, false, not, nat_eq, length, is_some, sym, ap, ◌∙◌, arith}
-use Rattle.cdi_effective.specs.Bindings.{class_bindings}
+use Rattle.cdi_model.specs.declared.decl.Decl.TheVariants as decls
+use Rattle.cdi_effective.specs.Disposers.{as_bean}
 use Rattle.cdi_observe.proofs.AroundLemmas.{some-names}
+use Rattle.cdi_observe.proofs.LendingLemmas.{chains-answerable}
 use Rattle.cdi_subjects.specs.Proxies.{is_intercepted, is_normal}
 use Rattle.cdi_subjects.proofs.proxies.needs_subclass_by.Goals as goal
+
+pub interceptors_of-requires-clause-found : goal.interceptors_of-requires-clause-found
+interceptors_of-requires-clause-found g c = ap as_bean c.requires.found
+
+pub interceptors_of-requires-clause-answerable : goal.interceptors_of-requires-clause-answerable
+interceptors_of-requires-clause-answerable g c =
+    chains-answerable (g.V.View.list c.args.view.now) (g.V.View.kept c.args.view.now) (decls.Bean c.args.bean.now)
+    c.requires.found c.requires.evaluated
 
 pub returns : goal.returns
 returns g c =

@@ -9,4 +9,4 @@ returns-in-Some g c =
     c.first.ensures.value
     ∙ ap (λ rs. slice_get rs 0) c.records.ensures
     ∙ first_specialized (g.V.View.list c.args.view.now) bean c.in-Some.other.now
-    (ap (λ ds. specialized ds bean) (sym c.decls.ensures) ∙ sym c.in-Some.ensures)
+    (ap (λ ds. specialized ds bean) (sym c.decls.ensures.value) ∙ sym c.in-Some.ensures)

@@ -14,6 +14,7 @@ invariant_of-self c =
     let prepared : IsNext shelf c.self.inside.postings next =
     subst (MayBeNext shelf c.self.inside.postings) (sym c.in-Some.ensures.value) c.self.invariant.staged in
     record {
+      distinct = prepared.distinct;
       shelved = record { owns = c.install.ensures.shelf.owns; owned = c.install.ensures.shelf.owned };
       free = λ s e at. omega (arith, c.install.ensures.free s e at, c.install.ensures.given, c.len.ensures, next.changes.ok.0);
       exact = λ k. ap made_in (c.install.ensures.stored k) ∙ prepared.exact k;

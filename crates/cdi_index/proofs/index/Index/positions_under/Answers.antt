@@ -9,5 +9,5 @@ pub returns : goal.returns
 returns c p =
     c.positions_under.ensures p
     ∙ marked-are c.self.inside.decls c.self.inside.shelf c.self.inside.postings c.self.invariant.shelved c.self.invariant.exact
-    c.self.invariant.sound c.iter.ensures.distinct c.args.words.now p
+    c.self.invariant.sound c.self.invariant.distinct c.args.words.now p
     ∙ ap (λ (s : State). option_map_or (has_one s.decls c.args.words.now) (slice_get s.decls p) false) c.self.view_is

@@ -9,8 +9,8 @@ use Rattle.cdi_index.specs.State.{State}
 use Rattle.cdi_index.proofs.NextLemmas.{readers-are}
 use Rattle.cdi_index.proofs.index.Index.readers.Goals as goal
 
-pub returns : goal.returns
-returns c =
+pub returns-clause-value : goal.returns-clause-value
+returns-clause-value c =
     let key : DeclKey = c.args.key.now in
     let shelf = c.self.inside.shelf in
     IfOk-weaker c.readers_of.result

@@ -11,6 +11,6 @@ returns-in-Some-Bean c =
     let ds = c.self.inside.decls in
     c.records.ensures
     ∙ ap (λ (s : State). records_in s.decls c.in-Some-Bean.bean.name) (sym c.self.view_is)
-    ∙ records-of-bean ds c.args.position c.in-Some-Bean.bean c.iter.ensures.distinct
+    ∙ records-of-bean ds c.args.position c.in-Some-Bean.bean c.self.invariant.distinct
     (sym c.at.ensures ∙ ap option_copied c.in-Some-Bean.is ∙ ap Some c.in-Some-Bean.field-0-is)
     ∙ ap (λ (s : State). records_at s.decls c.args.position) c.self.view_is

@@ -22,7 +22,7 @@ returns-in-Some c =
     (λ list. map (λ bean. bean.now) list.items ≡ found (records_kept shelf w (kept_at shelf s)))
     (λ list. map (λ bean. bean.now) list.items ≡ found (beans_under c.args.self.now.decls words))
     (λ list are. are
-    ∙ ap found (under-one ds shelf c.self.inside.postings it.shelved it.exact it.sound c.iter.ensures.distinct it.replaced words w s
+    ∙ ap found (under-one ds shelf c.self.inside.postings it.shelved it.exact it.sound c.self.invariant.distinct it.replaced words w s
     c.in-Some.ensures)
     ∙ ap (λ (s : State). found (beans_under s.decls words)) c.self.view_is)
     c.sought_at_slot.ensures
@@ -41,6 +41,6 @@ returns c =
     ∙ ap found (walked ds words marks
     (λ p. c.positions_under-positions.ensures p
     ∙ marked-are ds c.self.inside.shelf c.self.inside.postings c.self.invariant.shelved c.self.invariant.exact c.self.invariant.sound
-    c.iter.ensures.distinct words p))
+    c.self.invariant.distinct words p))
     ∙ ap (λ (s : State). found (beans_under s.decls words)) c.self.view_is)
     c.sought_at_positions.ensures

@@ -20,6 +20,7 @@ invariant_of-self c =
     let old = c.self.inside.shelf in
     let new = c.prepare.new.shelf in
     record {
+      distinct = c.self.invariant.distinct;
       shelved = shelf-same old new c.prepare.ensures.slots c.prepare.ensures.kept c.self.invariant.shelved;
       free = λ s e at. omega (
         arith,
@@ -38,6 +39,7 @@ invariant_of-self-in_err-told c =
     let old = c.self.inside.shelf in
     let new = c.prepare.new.shelf in
     record {
+      distinct = c.self.invariant.distinct;
       shelved = shelf-same old new c.prepare.ensures.slots c.prepare.ensures.kept c.self.invariant.shelved;
       free = λ s e at. omega (
         arith,
@@ -56,6 +58,7 @@ invariant_of-self-2 c =
     let old = c.self.inside.shelf in
     let new = c.prepare.new.shelf in
     record {
+      distinct = c.self.invariant.distinct;
       shelved = shelf-same old new c.prepare.ensures.slots c.prepare.ensures.kept c.self.invariant.shelved;
       free = λ s e at. omega (
         arith,

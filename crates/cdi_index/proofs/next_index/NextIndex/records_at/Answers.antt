@@ -11,6 +11,6 @@ returns-in-Some-Bean c =
     let ds = c.self.inside.next.now.decls in
     c.records.ensures
     ∙ ap (λ (d : List Decl). records_in d c.in-Some-Bean.bean.name) (sym c.self.view_is)
-    ∙ records-of-bean ds c.args.position c.in-Some-Bean.bean c.iter.ensures.distinct
+    ∙ records-of-bean ds c.args.position c.in-Some-Bean.bean c.self.invariant.distinct
     (sym c.at.ensures ∙ ap option_copied c.in-Some-Bean.is ∙ ap Some c.in-Some-Bean.field-0-is)
     ∙ ap (λ (d : List Decl). records_at d c.args.position) c.self.view_is

@@ -1,5 +1,4 @@
 use Rattle.std.proofs.Common.{◌≡◌, true, sym, ap, subst, ◌∙◌}
-use Rattle.cdi_model.specs.DeclList.{AreDistinct}
 use Rattle.cdi_observe.specs.Kept.{after_key}
 use Rattle.cdi_observe.specs.Keys.{ChainKey}
 use Rattle.cdi_observe.specs.Wanted.{is_wanted}
@@ -20,7 +19,7 @@ invariant_of-self-2 c =
     let class = c.args.class in
     let place = c.args.place.now in
     let wanted : is_wanted ds (ChainKey class place) ≡ true =
-    wanted-place ds (subst AreDistinct c.decls.ensures c.iter.ensures.distinct) class place ∙ c.in_ok-names.ensures.there in
+    wanted-place ds c.in_ok-names.ensures.distinct class place ∙ c.in_ok-names.ensures.there in
     record {
       default = c.self.invariant.default;
       kept = kept-with-chain ds c.self.inside.memos c.evaluate_chain.new.chains class place c.in_ok-names.names wanted c.in_ok-names.ensures.kept
@@ -35,7 +34,7 @@ returns-clause-kept c =
     let class = c.args.class in
     let place = c.args.place.now in
     let wanted : is_wanted ds (ChainKey class place) ≡ true =
-    wanted-place ds (subst AreDistinct c.decls.ensures c.iter.ensures.distinct) class place ∙ c.in_ok-names.ensures.there in
+    wanted-place ds c.in_ok-names.ensures.distinct class place ∙ c.in_ok-names.ensures.there in
     let new : Memos = record { choices = memos.choices; chains = c.evaluate_chain.new.chains; events = memos.events } in
     subst (λ (s : State). keeping (knows_in new) c.evaluate_chain.new.work ≡ after_key s.decls (ChainKey class place) (kept_in s)) c.self.view_is
     (kept-after ds (knows_in memos) (knows_in new) c.self.inside.work c.evaluate_chain.new.work (ChainKey class place)

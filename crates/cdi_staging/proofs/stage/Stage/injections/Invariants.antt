@@ -1,0 +1,10 @@
+use Rattle.std.proofs.Common.{◌≡◌, ◌++◌, drop, map}
+use Rattle.cdi_match.specs.Chain.{has}
+use Rattle.cdi_staging.specs.Shown.{around_in}
+use Rattle.cdi_staging.specs.Staged.{injections_around}
+use Rattle.cdi_staging.proofs.stage.Stage.injections.Given as goal
+
+abbrev pub invariant-loop-position : goal.invariant-loop-position
+invariant-loop-position g l =
+    l.list ++ injections_around (λ i. has l.names.items i.name) l.position (map around_in (drop l.position l.self.around.now))
+    ≡ injections_around (λ i. has l.names.items i.name) 0 (map around_in l.self.around.now)
