@@ -282,8 +282,6 @@ impl<B: Bodies> Deployment<B> {
         ensures asked { OnOk result (IsAsked (choice_key bean_type quals.now ∷ []) self.old self.new) }
         ensures err { OnErr result (self.new ≡ self.old) }
     {
-        // No effect at run time. The proof reads here that each known key is wanted.
-        let _ = self.live.work();
         self.is_readied = false;
         self.live.choose(alloc, bean_type, quals)
     }
@@ -309,8 +307,6 @@ impl<B: Bodies> Deployment<B> {
         ensures asked { OnOk result (IsAsked (EventKey event_type quals.now ∷ []) self.old self.new) }
         ensures err { OnErr result (self.new ≡ self.old) }
     {
-        // No effect at run time. The proof reads here that each known key is wanted.
-        let _ = self.live.work();
         self.is_readied = false;
         self.live.observers(alloc, event_type, quals)
     }
@@ -327,8 +323,6 @@ impl<B: Bodies> Deployment<B> {
         ensures asked { OnOk result (IsAsked (ChainKey bean place.now ∷ []) self.old self.new) }
         ensures err { OnErr result (self.new ≡ self.old) }
     {
-        // No effect at run time. The proof reads here that each known key is wanted.
-        let _ = self.live.work();
         self.is_readied = false;
         self.live.chain(alloc, bean, place)
     }
@@ -451,8 +445,6 @@ impl<B: Bodies> Deployment<B> {
             ≡ chosen self.now.decls (beans self.now.decls) bean_type.now quals.now) }
         ensures asked { is_some result ≡ true → IsAsked (choice_key bean_type.now quals.now ∷ []) self.now self.now }
     {
-        // No effect at run time. The proof reads here that each known key is wanted.
-        let _ = self.live.work();
         self.live.kept_choice(bean_type, quals)
     }
 
@@ -462,8 +454,6 @@ impl<B: Bodies> Deployment<B> {
         ensures aim { result ≡ aim_of_choice self.now.decls message choice.now }
         ensures distinct { AreDistinct self.now.decls }
     {
-        // No effect at run time. The proof reads here that no two declarations have one kind and name.
-        let _ = self.live.decls().iter();
         aim_of_choice(self.live.decls(), &self.listed_beans(), choice, message)
     }
 
@@ -523,8 +513,6 @@ impl<B: Bodies> Deployment<B> {
             ≡ notified self.now.decls (beans self.now.decls) event_type.now quals.now) }
         ensures asked { is_some result ≡ true → IsAsked (EventKey event_type.now quals.now ∷ []) self.now self.now }
     {
-        // No effect at run time. The proof reads here that each known key is wanted.
-        let _ = self.live.work();
         self.live.kept_observers(event_type, quals)
     }
 
@@ -534,8 +522,6 @@ impl<B: Bodies> Deployment<B> {
         ensures list { IfOk result (λ list. list ≡ map (notified_as self.now.decls (beans self.now.decls)) ids.now) }
         ensures distinct { AreDistinct self.now.decls }
     {
-        // No effect at run time. The proof reads here that no two declarations have one kind and name.
-        let _ = self.live.decls().iter();
         positions_of(alloc, self.live.decls(), &self.listed_beans(), ids)
     }
 

@@ -48,12 +48,9 @@ pub(crate) fn take_over(live: &mut Live, unsettled: &mut Unsettled, is_readied: 
     ensures settled { (book : _) → AreSettled live.old.decls (knows live.old) book unsettled.old
         → AreSettled live.new.decls (knows live.new) book unsettled.new }
 {
-    // No effect at run time. The proof reads here that each known key is wanted.
-    let _ = live.work();
-    // No effect at run time. The proof reads here, and after the commit, that no two declarations have one kind and name.
-    let _ = live.decls().iter();
+    // No effect at run time. The proof reads here that no two declarations have one kind and name.
+    let _ = live.decls();
     live.commit();
-    let _ = live.decls().iter();
     if is_readied {
         unsettled.forget_gone(live.decls());
     } else {

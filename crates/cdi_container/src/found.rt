@@ -31,7 +31,5 @@ pub(crate) fn find_wiring<B: Bodies>(
     ensures settled { AreSettled live.new.decls (knows live.new) (B.promises book.now) unsettled.new }
 {
     let found = unsettled.report(alloc, live, book)?;
-    // No effect at run time. The proof reads here that no two declarations have one kind and name.
-    let _ = live.decls().iter();
     Wiring::of(alloc, &*live, book, found.as_slice().len())
 }

@@ -1,20 +1,19 @@
 -- What is settled stays so where the keys go whose declarations are not there.
-use Rattle.std.proofs.Common.{◌≡◌, Bool, true, false, not, cond, ◌||◌, List, [], ◌∷◌, filter, is_some, refl, sym, ap, subst, ◌∙◌, inl, inr}
+use Rattle.std.proofs.Common.{◌≡◌, Bool, true, false, not, cond, ◌||◌, List, [], ◌∷◌, filter, is_some, Option, Some, refl, sym, ap, subst, ◌∙◌, inl, inr}
 use Rattle.std.specs.List.{list_any, AllByRecursion}
 use Rattle.std.proofs.lemmas.Bool.{cases_Bool, false≢true}
 use Rattle.indexmap.specs.IndexSet.{contains}
 use Rattle.cdi_bodies.specs.Book.{Promised}
-use Rattle.cdi_model.specs.Decl.{key_of}
-use Rattle.cdi_model.specs.DeclKey.{same_key}
-use Rattle.cdi_model.specs.DeclList.{AreDistinct}
+use Rattle.cdi_model.specs.Decl.{key_of, kind_of, name_of_decl}
+use Rattle.cdi_model.specs.DeclKey.{same_key, same_key_equiv}
+use Rattle.cdi_model.specs.DeclList.{find_decl, is_of}
 use Rattle.cdi_model.specs.declared.decl.Decl.{Decl}
 use Rattle.cdi_model.specs.declared.key.DeclKey.{DeclKey}
 use Rattle.cdi_model.proofs.EntryLemmas.{key_exact}
 use Rattle.cdi_observe.specs.Keys.{Key}
-use Rattle.cdi_observe.proofs.RestLemmas.{IsFound}
 use Rattle.cdi_report.specs.Settled.{closed_of, is_open, is_present, AreSettled, HaveNoneTogether}
 use Rattle.cdi_report.specs.declared.unsettled.Unsettled.{Unsettled}
-use Rattle.cdi_report.proofs.SettledLemmas.{each-found, each-weaker}
+use Rattle.cdi_report.proofs.SettledLemmas.{each-weaker}
 
 -- ---- the keys that are left
 
@@ -51,6 +50,21 @@ left-are-present ds old new k are has = passes-left (is_present ds) old k (ap (l
 
 -- ---- the declarations
 
+-- each is there
+each-present : (ds : List Decl) → AllByRecursion (λ d. is_present ds (key_of d) ≡ true) ds
+each-present [] = tt
+each-present (d ∷ ds) = (
+  ap (λ b. is_some (cond b (Some d) (find_decl (kind_of d) (name_of_decl d) ds))) (same_key_equiv.refl (key_of d)),
+  each-weaker (λ e. is_present ds (key_of e) ≡ true) (λ e. is_present (d ∷ ds) (key_of e) ≡ true) ds more (each-present ds),
+)
+  where
+    by : (b : Bool) (o : Option Decl) → is_some o ≡ true → is_some (cond b (Some d) o) ≡ true
+    by true o there = refl
+    by false o there = there
+
+    more : (e : Decl) → is_present ds (key_of e) ≡ true → is_present (d ∷ ds) (key_of e) ≡ true
+    more e there = by (is_of (kind_of e) (name_of_decl e) d) (find_decl (kind_of e) (name_of_decl e) ds) there
+
 closed-same : (ds es : List Decl) (old new : Unsettled) → AllByRecursion (λ d. is_open old (key_of d) ≡ is_open new (key_of d)) es
     → closed_of old es ≡ closed_of new es
 closed-same ds [] old new same = refl
@@ -58,21 +72,21 @@ closed-same ds (d ∷ es) old new same =
     ap (λ b. cond (not b) (d ∷ closed_of old es) (closed_of old es)) same.0
     ∙ ap (λ l. cond (not (is_open new (key_of d))) (d ∷ l) l) (closed-same ds es old new same.1)
 
-pub settled-forgotten : (ds : List Decl) (old new : Unsettled) → AreDistinct ds → new.is_each ≡ old.is_each → new.anew ≡ old.anew
+pub settled-forgotten : (ds : List Decl) (old new : Unsettled) → new.is_each ≡ old.is_each → new.anew ≡ old.anew
     → new.keys.keys ≡ filter (is_present ds) old.keys.keys → (knows : Key → Bool) (book : List Promised) → AreSettled ds knows book old
     → AreSettled ds knows book new
-settled-forgotten ds old new distinct each anew are knows book settled = record {
-  each = λ d found shut. settled.each d found (open-same d found ∙ shut);
+settled-forgotten ds old new each anew are knows book settled = record {
+  each = λ d found shut. settled.each d found (open-same d (ap is_some found) ∙ shut);
   apart = subst (λ own. HaveNoneTogether ds own new.anew) closed
       (subst (λ a. HaveNoneTogether ds (closed_of old ds) a) (sym anew) settled.apart);
 }
   where
-    open-same : (d : Decl) → IsFound ds d → is_open old (key_of d) ≡ is_open new (key_of d)
-    open-same d found =
+    open-same : (d : Decl) → is_present ds (key_of d) ≡ true → is_open old (key_of d) ≡ is_open new (key_of d)
+    open-same d there =
         ap (λ b. b || contains same_key old.keys (key_of d)) (sym each)
         ∙ ap (λ b. new.is_each || b)
-        (sym (left (is_present ds) old.keys.keys (key_of d) (ap is_some found)) ∙ ap (list_any (same_key (key_of d))) (sym are))
+        (sym (left (is_present ds) old.keys.keys (key_of d) there) ∙ ap (list_any (same_key (key_of d))) (sym are))
 
     closed : closed_of old ds ≡ closed_of new ds
     closed = closed-same ds ds old new
-        (each-weaker (IsFound ds) (λ d. is_open old (key_of d) ≡ is_open new (key_of d)) ds open-same (each-found ds distinct))
+        (each-weaker (λ d. is_present ds (key_of d) ≡ true) (λ d. is_open old (key_of d) ≡ is_open new (key_of d)) ds open-same (each-present ds))

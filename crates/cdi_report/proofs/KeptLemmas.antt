@@ -25,7 +25,8 @@ use Rattle.cdi_validate.specs.Together.{AreNamed}
 use Rattle.cdi_report.specs.Settled.{closed_of, is_open, AreSettled, IsSettled}
 use Rattle.cdi_report.specs.Stays.{IsLeft, IsReadied, SettledStay}
 use Rattle.cdi_report.specs.declared.unsettled.Unsettled.{Unsettled}
-use Rattle.cdi_report.proofs.SettledLemmas.{each-found, each-weaker}
+use Rattle.cdi_validate.proofs.FoundLemmas.{each-found}
+use Rattle.cdi_report.proofs.SettledLemmas.{each-weaker}
 use Rattle.cdi_report.proofs.StayLemmas.{left_alike, left_stay, left_were_present}
 use Rattle.cdi_report.proofs.UnmovedLemmas.{not-edited}
 use Rattle.cdi_report.proofs.TogetherLemmas.{all-passed, filter-filter, not-false, together-stay}

@@ -1,11 +1,8 @@
 -- A report that looks at some declarations tells the faults of all.
 use Rattle.std.proofs.Common.{◌≡◌, Bool, true, false, not, cond, ◌&&◌, ◌||◌, List, [], ◌∷◌, ◌++◌, Some, None, filter, map}
-use Rattle.std.proofs.Common.{refl, sym, ap, subst, ◌∙◌, ◌⊎◌, inl, inr, length, nat_lt, get_or, arith}
+use Rattle.std.proofs.Common.{refl, sym, ap, ◌∙◌, ◌⊎◌, inl, inr, length, nat_lt, arith}
 use Rattle.std.specs.List.{All, AllByRecursion, flat_map, list_all, list_any}
 use Rattle.std.proofs.lemmas.Bool.{cases_Bool, and_from, and_parts, ltb-false, or_cases, or_left, or_right, false≢true}
-use Rattle.std.proofs.lemmas.List.Elements.{All-from_recursion, recursion_from_All}
-use Rattle.std.proofs.lemmas.List.Folds.{list_all-append, list_any-append}
-use Rattle.std.proofs.lemmas.Option.{slice_get-get_or}
 use Rattle.indexmap.specs.IndexSet.{contains}
 use Rattle.cdi_bodies.specs.Book.{Promised}
 use Rattle.cdi_model.specs.Decl.{key_of, kind_of, name_of_decl}
@@ -14,17 +11,17 @@ use Rattle.cdi_model.specs.DeclList.{find_decl, is_of, AreDistinct}
 use Rattle.cdi_model.specs.declared.decl.Decl.{Decl}
 use Rattle.cdi_model.specs.declared.key.DeclKey.{DeclKey}
 use Rattle.cdi_model.specs.declared.decl.PointDecl.{PointDecl}
-use Rattle.cdi_effective.proofs.PlaceLemmas.{own-found}
 use Rattle.cdi_observe.specs.Keys.{Key, ChainKey, has_key, same_key as same_ask}
 use Rattle.cdi_observe.specs.Kept.{Kept, evaluated, EvaluatesSome}
-use Rattle.cdi_observe.specs.Wanted.{asked, asked_by, chains_by, events_by, is_wanted, points_of, wanted, wanted_by, AskForRest}
+use Rattle.cdi_observe.specs.Wanted.{is_wanted, points_of, wanted, wanted_by, AskForRest}
 use Rattle.cdi_observe.proofs.KeyLemmas.{same_key-decides, same_key-equiv}
 use Rattle.cdi_observe.proofs.KeptLemmas.{evaluated-apart, knows_wanted}
 use Rattle.cdi_observe.proofs.RestLemmas.{found-any, IsFound}
-use Rattle.cdi_observe.proofs.WantedLemmas.{has-wanted}
 use Rattle.cdi_validate.specs.Faults.{faults_of}
+use Rattle.cdi_validate.specs.Among.{has_faults}
+use Rattle.cdi_validate.proofs.FoundLemmas.{all-lent, each-found}
 use Rattle.cdi_report.specs.Known.{AreChainsKnown, IsKnown}
-use Rattle.cdi_report.specs.Settled.{has_faults, is_open, open_of, AreSettled, HaveNoneTogether}
+use Rattle.cdi_report.specs.Settled.{is_open, open_of, AreSettled, HaveNoneTogether}
 use Rattle.cdi_report.specs.declared.unsettled.Unsettled.{Unsettled}
 use Rattle.cdi_report.proofs.TogetherLemmas.{together-filtered}
 
@@ -86,21 +83,9 @@ found-filter p f (e ∷ ds) d found passes holds = by (is_of (kind_of d) (name_o
 
 -- ---- each declaration of a list
 
-pub each-found : (ds : List Decl) → AreDistinct ds → AllByRecursion (IsFound ds) ds
-each-found ds distinct = recursion_from_All (IsFound ds) ds (λ i d lt. own-found ds i (get_or ds i d) distinct (slice_get-get_or ds i d lt))
-
 pub each-weaker : {A : Type 0} (P Q : A → Type 0) (xs : List A) → ((x : A) → P x → Q x) → AllByRecursion P xs → AllByRecursion Q xs
 each-weaker P Q [] weaker all = tt
 each-weaker P Q (x ∷ xs) weaker all = (weaker x all.0, each-weaker P Q xs weaker all.1)
-
--- what holds of each that is lent
-pub unmapped : {P : Type 0} (Q : Decl → Type 0) (value : P → Decl) (ps : List P) (ds : List Decl) → map value ps ≡ ds → AllByRecursion Q ds
-    → All (λ p. Q (value p)) ps
-unmapped {P = P} Q value ps ds are all = All-from_recursion (λ p. Q (value p)) ps (by ps (subst (AllByRecursion Q) (sym are) all))
-  where
-    by : (xs : List P) → AllByRecursion Q (map value xs) → AllByRecursion (λ p. Q (value p)) xs
-    by [] all = tt
-    by (x ∷ xs) all = (all.0, by xs all.1)
 
 -- ---- what is known
 
@@ -129,17 +114,7 @@ asked-wanted : (ds : List Decl) (d : Decl) → IsFound ds d → (key : Key) → 
 unfolding is_wanted
 asked-wanted ds d found key has = found-any (λ e. has_key (wanted_by e) key) ds d found has
 
--- what its points ask for it asks for
-point-asked : (d : Decl) (key : Key) → has_key (asked_by d) key ≡ true → has_key (wanted_by d) key ≡ true
-point-asked d key has =
-    list_any-append (same_ask key) (asked_by d ++ chains_by d) (events_by d)
-    ∙ or_left (has_key (asked_by d ++ chains_by d) key) (has_key (events_by d) key)
-    (list_any-append (same_ask key) (asked_by d) (chains_by d) ∙ or_left (has_key (asked_by d) key) (has_key (chains_by d) key) has)
-
 module _ (ds : List Decl) (knows : Key → Bool) (all : (key : Key) → is_wanted ds key ≡ true → knows key ≡ true) where
-  points-known : (d : Decl) → IsFound ds d → list_all knows (asked_by d) ≡ true
-  points-known d found = each-known knows (asked_by d) (λ key has. all key (asked-wanted ds d found key (point-asked d key has)))
-
   chains-known : (ps : List PointDecl) → AllByRecursion (AreChainsKnown ds knows) ps
   chains-known [] = tt
   chains-known (p ∷ ps) = (λ id one place wants. all (ChainKey id.class place) wants, chains-known ps)
@@ -149,23 +124,6 @@ module _ (ds : List Decl) (knows : Key → Bool) (all : (key : Key) → is_wante
     keys = each-known knows (wanted_by d) (λ key has. all key (asked-wanted ds d found key has));
     chains = chains-known (points_of d);
   }
-
-  each-asked : (es : List Decl) → AllByRecursion (IsFound ds) es → list_all knows (flat_map asked_by es) ≡ true
-  each-asked [] found = refl
-  each-asked (e ∷ es) found = list_all-append knows (asked_by e) (flat_map asked_by es)
-      ∙ and_from (list_all knows (asked_by e)) (list_all knows (flat_map asked_by es)) (points-known e found.0) (each-asked es found.1)
-
-  pub asked-known : AreDistinct ds → list_all knows (asked ds) ≡ true
-  asked-known distinct = each-asked ds (each-found ds distinct)
-
-  each-points : (es : List Decl) → AllByRecursion (IsFound ds) es → AllByRecursion (λ d. list_all knows (asked_by d) ≡ true) es
-  each-points [] found = tt
-  each-points (e ∷ es) found = (points-known e found.0, each-points es found.1)
-
--- all that is wanted is known, as a list
-pub list-known : (ds : List Decl) (knows : Key → Bool) → list_all knows (wanted ds) ≡ true → (key : Key) → is_wanted ds key ≡ true
-    → knows key ≡ true
-list-known ds knows all key wants = among-known knows (wanted ds) key all (has-wanted ds key ∙ wants)
 
 -- ---- evaluations
 
@@ -182,11 +140,6 @@ after-all ds old new keeps is key = ap (λ (kept : Kept). kept.knows key) (is �
 pub all-knows : (ds : List Decl) (old new : Kept) → old.keeps ≡ true → new ≡ evaluated ds (wanted ds) old → (key : Key)
     → is_wanted ds key ≡ true → new.knows key ≡ true
 all-knows ds old new keeps is key wants = after-all ds old new keeps is key ∙ or_right (old.knows key) (is_wanted ds key) wants
-
-pub all-knows-list : (ds : List Decl) (old new : Kept) → old.keeps ≡ true → new ≡ evaluated ds (wanted ds) old
-    → list_all new.knows (wanted ds) ≡ true
-all-knows-list ds old new keeps is =
-    each-known new.knows (wanted ds) (λ key has. all-knows ds old new keeps is key (sym (has-wanted ds key) ∙ has))
 
 pub all-knew : (ds : List Decl) (old new : Kept) → old.keeps ≡ true → new ≡ evaluated ds (wanted ds) old → (key : Key)
     → old.knows key ≡ true → new.knows key ≡ true
@@ -269,12 +222,5 @@ module _ (ds : List Decl) (knows : Key → Bool) (book : List Promised) (u : Uns
 -- the open ones are there
 pub open-found : {P : Type 0} (value : P → Decl) (ps : List P) (ds : List Decl) (u : Unsettled) → AreDistinct ds → map value ps ≡ open_of u ds
     → All (λ p. IsFound ds (value p)) ps
-open-found value ps ds u distinct are = unmapped (IsFound ds) value ps (open_of u ds) are
+open-found value ps ds u distinct are = all-lent (IsFound ds) value ps (open_of u ds) are
     (all-filter (IsFound ds) (λ d. is_open u (key_of d)) ds (each-found ds distinct))
-
-pub open-known : {P : Type 0} (value : P → Decl) (ps : List P) (ds : List Decl) (u : Unsettled) (knows : Key → Bool) → AreDistinct ds
-    → map value ps ≡ open_of u ds → ((key : Key) → is_wanted ds key ≡ true → knows key ≡ true)
-    → All (λ p. list_all knows (asked_by (value p)) ≡ true) ps
-open-known value ps ds u knows distinct are all = unmapped (λ d. list_all knows (asked_by d) ≡ true) value ps (open_of u ds) are
-    (all-filter (λ d. list_all knows (asked_by d) ≡ true) (λ d. is_open u (key_of d)) ds
-    (each-points ds knows all ds (each-found ds distinct)))

@@ -11,6 +11,7 @@ use Rattle.cdi_model.specs.declared.decl.Kind.TheVariants as kinds
 use Rattle.cdi_model.specs.declared.edit.Edit.{Edit}
 use Rattle.cdi_model.specs.declared.key.DeclKey.{DeclKey}
 use Rattle.cdi_model.proofs.EditLemmas.{edits_keep_decl}
+use Rattle.cdi_effective.specs.Beans.{entries}
 use Rattle.cdi_effective.specs.Disposers.{as_bean}
 use Rattle.cdi_effective.specs.Specialized.{chain}
 use Rattle.cdi_effective.proofs.RecordLemmas.{edits_keep_own_records}
@@ -19,12 +20,12 @@ use Rattle.cdi_index.specs.State.{Drafted, Staged}
 use Rattle.cdi_index.specs.Told.{Tells}
 use Rattle.cdi_subjects.specs.Subjects.{subjects_at_fault}
 use Rattle.cdi_observe.specs.Keys.{Key}
+use Rattle.cdi_observe.proofs.RestLemmas.{IsFound}
 use Rattle.cdi_seen.specs.Touched.{still_known}
 use Rattle.cdi_concern.specs.Concern.{is_concerned}
 use Rattle.cdi_concern.specs.declared.moved.Moved.{Moved}
 use Rattle.cdi_validate.specs.Alike.{IsAlike}
-use Rattle.cdi_validate.specs.Records.{records_by}
-use Rattle.cdi_validate.proofs.FoundLemmas.{records-of-found}
+use Rattle.cdi_validate.proofs.FoundLemmas.{bean-records}
 use Rattle.cdi_spared.proofs.Laws.{apart_are_spared, spared_keep_faults, unconcerned_are_apart}
 use Rattle.cdi_live.specs.State.{knows, State}
 use Rattle.cdi_report.specs.Known.{IsKnown}
@@ -98,7 +99,7 @@ module _ (old : State) (draft : Drafted) (next : Staged) (new : State) (keys : L
       subst (λ es. IsAlike ds es d) (sym after) record {
         before = present;
         after = ap (find_decl (kind_of d) (name_of_decl d)) (sym left.edited.decls) ∙ left.present;
-        records = sym (records-of-found (edited_all ds edits) d found-after) ∙ records-stay ∙ records-of-found ds d present;
+        records = records-stay d refl;
         answers = it.answers;
         around = λ b is place.
             own-chains-stay edits ds moved d (knows old) left.before distinct-after present clear tells given-up b is known.keys place;
@@ -108,16 +109,16 @@ module _ (old : State) (draft : Drafted) (next : Staged) (new : State) (keys : L
       found-after : find_decl (kind_of d) (name_of_decl d) (edited_all ds edits) ≡ Some d
       found-after = ap (find_decl (kind_of d) (name_of_decl d)) (sym left.edited.decls) ∙ left.present
 
-      records-stay : records_by (edited_all ds edits) d ≡ records_by ds d
-      records-stay = by d refl
-        where
-          by : (e : Decl) → d ≡ e → records_by (edited_all ds edits) e ≡ records_by ds e
-          by (decls.Bean b) is = tells.records b.name (ap (λ e. is_among moved.affected.now (key_of e)) (sym is) ∙ not-affected ds moved d clear)
-          by (decls.Type t) is = refl
-          by (decls.Qualifier q) is = refl
-          by (decls.Binding b) is = refl
-          by (decls.Stereotype s) is = refl
-          by (decls.Interceptor i) is = refl
+      records-stay : (e : Decl) → d ≡ e → entries (edited_all ds edits) e ≡ entries ds e
+      records-stay (decls.Bean b) is =
+          sym (bean-records (edited_all ds edits) b (subst (IsFound (edited_all ds edits)) is found-after))
+          ∙ tells.records b.name (ap (λ e. is_among moved.affected.now (key_of e)) (sym is) ∙ not-affected ds moved d clear)
+          ∙ bean-records ds b (subst (IsFound ds) is present)
+      records-stay (decls.Type t) is = refl
+      records-stay (decls.Qualifier q) is = refl
+      records-stay (decls.Binding b) is = refl
+      records-stay (decls.Stereotype s) is = refl
+      records-stay (decls.Interceptor i) is = refl
 
       chains-stay : (b : BeanDecl) → d ≡ decls.Bean b → chain (edited_all ds edits) b ≡ chain ds b
       chains-stay b is = (edits_keep_own_records edits ds b (λ key among.

@@ -41,7 +41,7 @@ use Rattle.cdi_observe.specs.Answers.{answer_to}
 use Rattle.cdi_observe.specs.Keys.{has_key, same_place, ChainKey, ChoiceKey, EventKey, Key}
 use Rattle.cdi_observe.specs.Wanted.{asked_by, chains_by, events_by, is_wanted, key_of_point, points_of, wanted_by}
 use Rattle.cdi_observe.proofs.BeanPlaceLemmas.{has-it}
-use Rattle.cdi_observe.proofs.PlaceLemmas.{chosen-required}
+use Rattle.cdi_observe.proofs.AskedLemmas.{chosen-required}
 use Rattle.cdi_stakes.proofs.NameLemmas.{only-chains}
 use Rattle.cdi_seen.specs.Touched.{is_touched, still_known, ByChain, ByChoice}
 use Rattle.cdi_seen.proofs.SameLemmas.{touched_where_seen_differs}

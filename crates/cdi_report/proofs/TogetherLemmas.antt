@@ -1,20 +1,24 @@
 -- Declarations that have no faults together.
-use Rattle.std.proofs.Common.{◌≡◌, Bool, true, false, not, cond, List, [], ◌∷◌, ◌++◌, append-nil, filter, refl, sym, ap, subst, ◌∙◌}
+use Rattle.std.proofs.Common.{◌≡◌, Bool, true, false, not, cond, List, [], ◌∷◌, ◌++◌, filter, refl, sym, ap, subst, ◌∙◌, inl, inr}
 use Rattle.std.specs.List.{list_all, AllByRecursion}
-use Rattle.std.proofs.lemmas.Bool.{and_parts, false≢true}
+use Rattle.std.proofs.lemmas.Bool.{and_parts, cases_Bool, false≢true}
 use Rattle.cdi_model.specs.Decl.{key_of}
 use Rattle.cdi_model.specs.DeclList.{AreDistinct}
 use Rattle.cdi_model.specs.declared.decl.Decl.{Decl}
 use Rattle.cdi_model.specs.declared.key.DeclKey.{DeclKey}
 use Rattle.cdi_validate.specs.Alike.{IsAlike}
+use Rattle.cdi_effective.specs.Beans.{beans}
+use Rattle.cdi_validate.specs.Among.{faults_together, looks_at_all, HaveNoneAnew}
+use Rattle.cdi_validate.specs.Faults.{circles, name_clashes, name_prefixes}
+use Rattle.cdi_validate.specs.Twice.{specialized_twice}
+use Rattle.cdi_validate.specs.declared.deployment.Together.{Together}
 use Rattle.cdi_validate.specs.Together.{is_chainless, is_nameless, is_needless, AreNamed, HaveNoCircle, HaveNoClash, HaveNoneTwice}
-use Rattle.cdi_validate.proofs.ChainlessLemmas.{twice_filtered, twice_stays, twice_whole}
-use Rattle.cdi_validate.proofs.CirclelessLemmas.{circle_whole}
+use Rattle.cdi_validate.proofs.ChainlessLemmas.{no_twice_faults, twice_filtered, twice_stays, twice_whole}
+use Rattle.cdi_validate.proofs.CirclelessLemmas.{circle_whole, no_circle_faults}
 use Rattle.cdi_validate.proofs.CircleStayLemmas.{circle_filtered, circle_stays, named_outside}
-use Rattle.cdi_validate.proofs.NamelessLemmas.{clash_filtered, clash_stays, clash_whole}
+use Rattle.cdi_validate.proofs.NamelessLemmas.{clash_filtered, clash_stays, clash_whole, no_name_faults}
 use Rattle.cdi_report.specs.Settled.{closed_of, is_open, open_of, HaveNoneTogether, IsSettledAnyway, LooksAtMore}
 use Rattle.cdi_report.specs.Settled.{MoreIsSettled}
-use Rattle.cdi_report.specs.declared.unsettled.Anew.{Anew}
 use Rattle.cdi_report.specs.declared.unsettled.Unsettled.{Unsettled}
 
 -- ---- lists of which some are left out
@@ -53,15 +57,10 @@ false-not : (b : Bool) → b ≡ false → not b ≡ true
 false-not false e = refl
 false-not true e = absurd (false≢true (sym e))
 
--- nothing is appended where both lists are empty
-pub none-behind : {A : Type 0} (old xs ys : List A) → xs ≡ [] → ys ≡ [] → old ++ xs ++ ys ≡ old
-none-behind old xs ys first second =
-    ap (λ l. old ++ l ++ ys) first ∙ ap (λ l. l ++ ys) (append-nil old) ∙ ap (λ l. old ++ l) second ∙ append-nil old
-
 -- ---- declarations
 
 -- fewer have none together where more have none
-pub together-filtered : (ds own : List Decl) (anew : Anew) (p : Decl → Bool) → HaveNoneTogether ds own anew
+pub together-filtered : (ds own : List Decl) (anew : Together) (p : Decl → Bool) → HaveNoneTogether ds own anew
     → HaveNoneTogether ds (filter p own) anew
 together-filtered ds own anew p apart = record {
   names = λ known. clash_filtered ds own p (apart.names known);
@@ -109,6 +108,36 @@ module _ (ds : List Decl) (u : Unsettled) where
 
   pub whole-chains : HaveNoneTwice ds (closed_of u ds) → list_all (is_chainless ds) (open_of u ds) ≡ true → HaveNoneTwice ds ds
   whole-chains apart all = twice_whole ds ds (λ d. not (is_open u (key_of d))) (passed-all (λ d. is_open u (key_of d)) (is_chainless ds) ds all) apart
+
+-- ---- what is told of all
+
+-- those that are passed over are none
+all-passed-over : {A : Type 0} (looks : Bool) (more : List A) → (looks ≡ false → more ≡ []) → cond looks more [] ≡ more
+all-passed-over true more none = refl
+all-passed-over false more none = sym (none refl)
+
+-- where a report does not look at all for faults there are none
+pub together-told : (ds : List Decl) (looked : Together) → AreDistinct ds → HaveNoneTogether ds ds looked
+    → faults_together ds looked ≡ faults_together ds looks_at_all
+together-told ds looked distinct apart =
+    let of_circles = cond looked.circles (circles ds) [] in
+    let of_chains = cond looked.chains (specialized_twice ds) [] in
+    ap (λ fs. fs ++ of_circles ++ of_chains)
+    (all-passed-over looked.names (name_clashes (beans ds) ++ name_prefixes (beans ds)) (λ passed.
+    let none = no_name_faults ds (apart.names passed) in ap (λ fs. fs ++ name_prefixes (beans ds)) none.0 ∙ none.1))
+    ∙ ap (λ fs. name_clashes (beans ds) ++ name_prefixes (beans ds) ++ fs ++ of_chains)
+    (all-passed-over looked.circles (circles ds) (λ passed. no_circle_faults ds (apart.circles passed).1))
+    ∙ ap (λ fs. name_clashes (beans ds) ++ name_prefixes (beans ds) ++ circles ds ++ fs)
+    (all-passed-over looked.chains (specialized_twice ds) (λ passed. no_twice_faults ds distinct (apart.chains passed)))
+
+-- nor is there any of which none is told
+pub none-anew : (ds : List Decl) (looked found : Together) → HaveNoneTogether ds ds looked → HaveNoneAnew ds looked found
+    → HaveNoneTogether ds ds found
+none-anew ds looked found apart anew = record {
+  names = λ none. elim (cases_Bool looked.names) [ inl looks ↦ anew.names.looked looks none | inr passed ↦ apart.names passed ];
+  circles = λ none. elim (cases_Bool looked.circles) [ inl looks ↦ anew.circles.looked looks none | inr passed ↦ apart.circles passed ];
+  chains = λ none. elim (cases_Bool looked.chains) [ inl looks ↦ anew.chains.looked looks none | inr passed ↦ apart.chains passed ];
+}
 
 -- ---- at what a report looks
 

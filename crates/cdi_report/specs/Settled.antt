@@ -10,8 +10,8 @@ use Rattle.cdi_model.specs.declared.key.DeclKey.{DeclKey}
 use Rattle.cdi_observe.specs.Keys.{Key}
 use Rattle.cdi_validate.specs.Faults.{faults_of}
 use Rattle.cdi_validate.specs.Together.{AreNamed, HaveNoCircle, HaveNoClash, HaveNoneTwice}
+use Rattle.cdi_validate.specs.declared.deployment.Together.{Together}
 use Rattle.cdi_report.specs.Known.{IsKnown}
-use Rattle.cdi_report.specs.declared.unsettled.Anew.{Anew}
 use Rattle.cdi_report.specs.declared.unsettled.Unsettled.{Unsettled}
 
 -- a report looks at the declaration of the key
@@ -34,10 +34,6 @@ open_of u ds = filter (λ d. is_open u (key_of d)) ds
 abbrev pub closed_of : Unsettled → List Decl → List Decl
 closed_of u ds = filter (λ d. not (is_open u (key_of d))) ds
 
--- the declaration has faults, where these bodies are stored
-abbrev pub has_faults : List Decl → List Promised → Decl → Bool
-has_faults ds book d = nat_lt 0 (length (faults_of ds book d))
-
 -- A declaration has no faults, and all is known on which that rests.
 pub record IsSettled (ds : List Decl) (knows : Key → Bool) (book : List Promised) (d : Decl) : Type 0 where
   pub known : IsKnown ds knows d
@@ -45,7 +41,7 @@ pub record IsSettled (ds : List Decl) (knows : Key → Bool) (book : List Promis
 
 -- Some declarations have no faults together, of those for which all are not looked at anew. Texts tell beans apart where all have a name
 -- by the grammar.
-pub record HaveNoneTogether (ds own : List Decl) (anew : Anew) : Type 0 where
+pub record HaveNoneTogether (ds own : List Decl) (anew : Together) : Type 0 where
   pub names : anew.names ≡ false → HaveNoClash ds own
   pub circles : anew.circles ≡ false → AreNamed ds × HaveNoCircle ds own
   pub chains : anew.chains ≡ false → HaveNoneTwice ds own

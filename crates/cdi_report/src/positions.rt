@@ -4,6 +4,7 @@ ghost use Rattle.std.specs.List.{list_any};
 ghost use Rattle.std.specs.Option.{option_map_or};
 ghost use Rattle.cdi_model.specs.Decl.{key_of};
 ghost use Rattle.cdi_model.specs.DeclKey.{same_key};
+ghost use Rattle.cdi_model.specs.DeclList.{AreDistinct};
 ghost use Rattle.cdi_positions.specs.Marks.{is_marked, limit, marked_from};
 ghost use Rattle.cdi_report.specs.Positions.{decls_at, is_at};
 
@@ -13,11 +14,10 @@ use std::alloc::{AllocError, Global};
 
 /// The positions of the declarations of some keys. It takes no memory, and looks at these alone.
 pub(crate) fn positions_of(decls: &Decls, keys: &[DeclKey]) -> PositionSet
+    requires { AreDistinct decls.now }
     ensures { (p : _) → is_marked result p
         ≡ option_map_or (λ d. list_any (same_key (key_of d)) keys.now) (slice_get decls.now p) false }
 {
-    // No effect at run time. The proof reads here that no two declarations have one kind and name.
-    let _ = decls.iter();
     let mut positions = PositionSet::new();
     for key in keys {
         mark(decls, key, &mut positions);
@@ -49,17 +49,6 @@ pub(crate) fn decls_at<'a>(
         if let Some(decl) = decls.at(position) {
             list.push(decl)?;
         }
-    }
-    Ok(list)
-}
-
-/// All declarations, in order. It takes memory for a list of them.
-pub(crate) fn all_decls<'a>(alloc: Global, decls: &'a Decls) -> Result<Vec<&'a Decl>, AllocError>
-    ensures { IfOk result (λ list. map (λ d. d.now) list.items ≡ decls.now) }
-{
-    let mut list = Vec::with_capacity(alloc, decls.len())?;
-    for decl in decls.iter() {
-        list.push(decl)?;
     }
     Ok(list)
 }

@@ -2,30 +2,21 @@
 ghost use Rattle.std.specs.Prelude.{◌≡◌, ◌||◌, true, false, map, IfOk, OnOk};
 ghost use Rattle.indexmap.specs.IndexSet.{contains};
 ghost use Rattle.cdi_model.specs.DeclKey.{same_key};
+ghost use Rattle.cdi_model.specs.DeclList.{AreDistinct};
 ghost use Rattle.cdi_model.specs.Edits.{is_among};
 ghost use Rattle.cdi_model.specs.Grammar.{is_name};
 ghost use Rattle.cdi_report.specs.Settled.{are_many, is_open, is_present, open_of, AreSettled, IsSettledAnyway, LooksAtMore};
 ghost use Rattle.cdi_report.specs.Settled.{MoreIsSettled};
 ghost use Rattle.cdi_report.specs.Stays.{SettledStay};
 
-use crate::positions::{all_decls, decls_at, positions_of};
+use crate::positions::{decls_at, positions_of};
 use cdi_model::{Decl, DeclKey, Decls};
+use cdi_validate::{Together, all_decls};
 use indexmap::IndexSet;
 use std::alloc::{AllocError, Global};
 
 /// So many keys of gone declarations are kept in any case.
 const SPARE_KEYS: usize = 64;
-
-/// Whether all declarations are looked at anew for the faults that several have together.
-#[derive(Clone, Copy)]
-pub(crate) struct Anew {
-    /// For the names that enabled beans share, or of which one continues another.
-    pub(crate) names: bool,
-    /// For the dependent beans that need themselves.
-    pub(crate) circles: bool,
-    /// For the beans that specialize one bean.
-    pub(crate) chains: bool,
-}
 
 /// The declarations at which a report looks: those that have faults, and those of which something on which their faults rest may
 /// have changed. No other has a fault, and all is known on which that rests. The others have no faults together either, unless
@@ -35,7 +26,7 @@ pub struct Unsettled {
     /// Whether these are all declarations.
     pub(crate) is_each: bool,
     pub(crate) keys: IndexSet<DeclKey>,
-    pub(crate) anew: Anew,
+    pub(crate) anew: Together,
 }
 
 impl Unsettled {
@@ -46,7 +37,7 @@ impl Unsettled {
         Unsettled {
             is_each: false,
             keys: IndexSet::new(alloc),
-            anew: Anew {
+            anew: Together {
                 names: false,
                 circles: false,
                 chains: false,
@@ -73,11 +64,7 @@ impl Unsettled {
         ensures { IsSettledAnyway self.new }
     {
         self.is_each = true;
-        self.anew = Anew {
-            names: true,
-            circles: true,
-            chains: true,
-        };
+        self.anew = Together::all();
     }
 
     /// Lets the keys go whose declarations are not there, where there are more keys than twice the declarations and 64. So the
@@ -87,8 +74,6 @@ impl Unsettled {
         ensures gone { are_many self.old decls.now ≡ true → (k : _) → contains same_key self.new.keys k ≡ true → is_present decls.now k ≡ true }
         ensures settled { (knows : _) (book : _) → AreSettled decls.now knows book self.old → AreSettled decls.now knows book self.new }
     {
-        // No effect at run time. The proof reads here that no two declarations have one kind and name.
-        let _ = decls.iter();
         let are_many = self.keys.len() > 2 * decls.len() + SPARE_KEYS;
         if are_many {
             self.keys.retain(|key| is_present(decls, key));
@@ -101,6 +86,7 @@ impl Unsettled {
         alloc: Global,
         decls: &'a Decls,
     ) -> Result<Vec<&'a Decl>, AllocError>
+        requires { AreDistinct decls.now }
         ensures { IfOk result (λ list. map (λ d. d.now) list.items ≡ open_of self.now decls.now) }
     {
         if self.is_each {

@@ -24,7 +24,7 @@ use Rattle.cdi_validate.specs.Twice.{enabled_bean, enabled_beans, faults_of_pair
 use Rattle.cdi_validate.specs.Twice.{specialized_twice, twice}
 use Rattle.cdi_validate.proofs.ApartLemmas.{Apart, all-more, apart-by, apart-filter, apart-more, apart-pairs, flat-all, flat-left}
 use Rattle.cdi_validate.proofs.ApartLemmas.{flat-same, pairs-apart, pairs-left}
-use Rattle.cdi_validate.proofs.FoundLemmas.{records-of-found}
+use Rattle.cdi_validate.proofs.FoundLemmas.{bean-records}
 use Rattle.cdi_validate.proofs.LinkLemmas.{filtered, specializing-own}
 use Rattle.cdi_validate.proofs.TwiceLemmas.{behind_two, both-apart, lines_of, lines-told, pairs-behind, two-of-enabled}
 
@@ -36,8 +36,8 @@ AreFaultless ds a b = faults_of_two ds a b ≡ []
 
 specializing-alike : (ds es : List Decl) (d : Decl) → IsAlike ds es d → specializing_by ds d ≡ specializing_by es d
 specializing-alike ds es (decls.Bean b) alike =
-    let same : records_in ds b.name ≡ records_in es b.name = records-of-found ds (decls.Bean b) alike.before ∙ sym alike.records
-    ∙ sym (records-of-found es (decls.Bean b) alike.after) in
+    let same : records_in ds b.name ≡ records_in es b.name = bean-records ds b alike.before ∙ sym alike.records
+    ∙ sym (bean-records es b alike.after) in
     ap (λ bs. cond (b.specializes && is_first_enabled bs) (b ∷ []) []) same
 specializing-alike ds es other alike = refl
 

@@ -2,6 +2,7 @@
 use Rattle.std.proofs.Common.{◌≡◌, ℕ, zero, suc, Bool, true, false, ◌&&◌, ◌==◌, cond, List, [], ◌∷◌, ◌++◌, map, filter, Some, refl, sym}
 use Rattle.std.proofs.Common.{◌⊎◌, inl, inr, ap, subst, ◌∙◌, append-nil, nat_le, length}
 use Rattle.std.specs.List.{AllByRecursion, flat_map, slice_get}
+use Rattle.std.specs.Option.{option_to_list}
 use Rattle.std.specs.Str.{bytes_eq}
 use Rattle.std.proofs.Math.Bool.{and-false}
 use Rattle.std.proofs.lemmas.Bool.{and_parts, cases_Bool, false≢true, or_cases, or_left, or_right}
@@ -17,7 +18,7 @@ use Rattle.cdi_model.specs.declared.decl.InterceptorDecl.{InterceptorDecl}
 use Rattle.cdi_model.specs.declared.decl.Kind.TheVariants as kinds
 use Rattle.cdi_model.specs.declared.decl.PointDecl.{PointDecl}
 use Rattle.cdi_model.specs.declared.place.BeanPlace.{BeanPlace}
-use Rattle.cdi_model.specs.Mentions.{mentions}
+use Rattle.cdi_model.specs.Mentions.{Mention, PointOf, mentions}
 use Rattle.cdi_match.specs.Chain.{has, leads, Circle, Steps}
 use Rattle.cdi_match.proofs.Names.{one_name, same_text}
 use Rattle.cdi_effective.specs.Beans.{effective, entries, managed, product_where}
@@ -29,16 +30,14 @@ use Rattle.cdi_intercept.specs.Chains.{is_enabled, stands_around}
 use Rattle.cdi_intercept.specs.Sets.{has_place, places_of}
 use Rattle.cdi_observe.specs.Answers.{answer_to}
 use Rattle.cdi_observe.specs.Around.{names_at, names_of_bean}
-use Rattle.cdi_observe.specs.Wanted.{points_of}
+use Rattle.cdi_observe.specs.Wanted.{point_named}
 use Rattle.cdi_observe.proofs.AroundLemmas.{stands-named, told-names, told-same}
 use Rattle.cdi_observe.proofs.BeanPlaceLemmas.{has-each_place}
 use Rattle.cdi_subjects.proofs.AnsweredLemmas.{points-declared}
 use Rattle.cdi_validate.specs.Alike.{IsAlike}
 use Rattle.cdi_validate.specs.Circles.{Need, between, chosen_for, chosen_one, dependents, is_dependent, managed_id, need_around, needed_by}
-use Rattle.cdi_validate.specs.Circles.{needs_in}
-use Rattle.cdi_validate.specs.Needed.{needs_along}
+use Rattle.cdi_validate.specs.Circles.{bean_of_point, need_in, needs_in}
 use Rattle.cdi_validate.specs.Together.{dependents_in, next_in, HaveNoCircle}
-use Rattle.cdi_validate.proofs.NeedLemmas.{needs_by_answers}
 
 -- ---- what is in a list
 
@@ -269,19 +268,19 @@ chosen-same ds es (point ∷ points) all =
     ap (λ c. chosen_one c ++ chosen_for es points) (sym all.0)
     ∙ ap (λ cs. chosen_one (answer_to ds point) ++ cs) (chosen-same ds es points all.1)
 
-answers-same : (ds es : List Decl) (points : List PointDecl) → AllByRecursion (λ point. answer_to ds point ≡ answer_to es point) points
-    → map (answer_to es) points ≡ map (answer_to ds) points
-answers-same ds es [] all = refl
-answers-same ds es (point ∷ points) all =
-    ap (λ c. c ∷ map (answer_to es) points) (sym all.0)
-    ∙ ap (λ cs. answer_to ds point ∷ cs) (answers-same ds es points all.1)
-
 -- so the beans of a declaration need the same for what it names
+named-same : (ds es : List Decl) (b : BeanDecl) (ms : List Mention)
+    → AllByRecursion (λ point. answer_to ds point ≡ answer_to es point) (flat_map point_named ms)
+    → flat_map (need_in es b) ms ≡ flat_map (need_in ds b) ms
+named-same ds es b [] all = refl
+named-same ds es b (PointOf place point ∷ ms) all =
+    ap (λ choice. map (λ id. (text_of_id id, chosen_one choice)) (option_to_list (bean_of_point b place)) ++ flat_map (need_in es b) ms)
+    (sym all.0)
+    ∙ ap (λ more. need_in ds b (PointOf place point) ++ more) (named-same ds es b ms all.1)
+named-same ds es b (other ∷ ms) all = ap (λ more. need_in es b other ++ more) (named-same ds es b ms all)
+
 own-same : (ds es : List Decl) (b : BeanDecl) → IsAlike ds es (decls.Bean b) → needs_in es (decls.Bean b) ≡ needs_in ds (decls.Bean b)
-own-same ds es b alike =
-    sym (needs_by_answers es (decls.Bean b))
-    ∙ ap (λ choices. needs_along b choices (mentions (decls.Bean b))) (answers-same ds es (points_of (decls.Bean b)) alike.answers)
-    ∙ needs_by_answers ds (decls.Bean b)
+own-same ds es b alike = named-same ds es b (mentions (decls.Bean b)) alike.answers
 
 -- and the same is chosen for the points of an interceptor
 given-same : (ds es : List Decl) (i : InterceptorDecl) → IsAlike ds es (decls.Interceptor i)

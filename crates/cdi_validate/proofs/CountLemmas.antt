@@ -1,7 +1,7 @@
 -- Names of enabled beans, as they are counted.
 use Rattle.std.proofs.Common.{◌≡◌, ◌≤◌, ◌<◌, ◌+◌, ℕ, suc, Bool, true, false, cond, ◌&&◌, ◌||◌, nat_eq, List, [], ◌∷◌, ◌++◌, length, map}
 use Rattle.std.proofs.Common.{filter, drop, get_or}
-use Rattle.std.proofs.Common.{Ordering, Less, Equal, Greater, Some, refl, sym, subst, ap, ◌∙◌, inl, inr, arith}
+use Rattle.std.proofs.Common.{Ordering, Less, Equal, Greater, refl, sym, subst, ap, ◌∙◌, inl, inr, arith}
 use Rattle.std.specs.List.{AllByRecursion, AllPairs, flat_map, list_all}
 use Rattle.std.specs.BTreeSet.{insert_key}
 use Rattle.std.specs.Str.{bytes_eq}
@@ -9,8 +9,6 @@ use Rattle.std.proofs.lemmas.Bool.{false≢true, or_cases, or_left, or_right}
 use Rattle.std.proofs.lemmas.Grind.{flat_map-append}
 use Rattle.std.proofs.lemmas.List.{at_drop_more, length-append}
 use Rattle.cdi_model.specs.Bytes.{byte_order}
-use Rattle.cdi_model.specs.Decl.{kind_of, name_of_decl}
-use Rattle.cdi_model.specs.DeclList.{find_decl, AreDistinct}
 use Rattle.cdi_model.specs.declared.decl.Decl.{Decl}
 use Rattle.cdi_match.specs.Chain.{has}
 use Rattle.cdi_match.specs.Order.{in_order}
@@ -21,10 +19,9 @@ use Rattle.cdi_effective.specs.declared.records.Effective.{Effective}
 use Rattle.cdi_faults.specs.declared.fault.Fault.{Fault}
 use Rattle.cdi_faults.specs.declared.fault.Fault.TheVariants as faults_are
 use Rattle.cdi_validate.specs.Faults.{enabled_name, enabled_names, goes_on, name_prefixes}
-use Rattle.cdi_validate.specs.Records.{records_by}
 use Rattle.cdi_validate.specs.Together.{is_nameless, names_by, AreNamesApart, HaveNoClash}
 use Rattle.cdi_validate.proofs.ApartLemmas.{Apart, apart-by, apart-pairs}
-use Rattle.cdi_validate.proofs.FoundLemmas.{records-next, records-of-found}
+use Rattle.cdi_validate.proofs.FoundLemmas.{records-next}
 
 -- ---- names among others
 
@@ -160,11 +157,9 @@ apart-if_as_many ds many none =
 -- ---- declarations without names, as they are found
 
 pub nameless-by : (ds : List Decl) (d : Decl) (records : List Effective) (count : ℕ)
-    → find_decl (kind_of d) (name_of_decl d) ds ≡ Some d → records ≡ records_by ds d → count ≡ length (flat_map enabled_name records)
-    → is_nameless ds d ≡ nat_eq count 0
-nameless-by ds d records count found are counted =
-    ap (λ bs. nat_eq (length (flat_map enabled_name bs)) 0) (sym (are ∙ records-of-found ds d found))
-    ∙ ap (λ n. nat_eq n 0) (sym counted)
+    → records ≡ entries ds d → count ≡ length (flat_map enabled_name records) → is_nameless ds d ≡ nat_eq count 0
+nameless-by ds d records count are counted =
+    ap (λ bs. nat_eq (length (flat_map enabled_name bs)) 0) (sym are) ∙ ap (λ n. nat_eq n 0) (sym counted)
 
 -- whether all of some are so, from one of them on
 pub all-from : {X : Type 0} (p : Decl → Bool) (now : X → Decl) (xs : List X) (i : ℕ) (x : X) (b : Bool) → i < length xs
@@ -181,14 +176,13 @@ abbrev listed : List Decl → List Decl → List (List ℕ)
 listed ds es = flat_map enabled_name (flat_map (entries ds) es)
 
 -- with those of one more declaration
-pub count-next : (ds es rest : List Decl) (d : Decl) (records : List Effective) (count : ℕ) → AreDistinct ds → es ++ d ∷ rest ≡ ds
-    → records ≡ records_by ds d → count ≡ length (flat_map enabled_name records)
-    → length (listed ds es) + count ≡ length (listed ds (es ++ d ∷ []))
-count-next ds es rest d records count distinct split are counted =
+pub count-next : (ds es : List Decl) (d : Decl) (records : List Effective) (count : ℕ) → records ≡ entries ds d
+    → count ≡ length (flat_map enabled_name records) → length (listed ds es) + count ≡ length (listed ds (es ++ d ∷ []))
+count-next ds es d records count are counted =
     ap (λ n. length (listed ds es) + n) counted
     ∙ sym (length-append (listed ds es) (flat_map enabled_name records))
     ∙ ap length (sym (flat_map-append enabled_name (flat_map (entries ds) es) records)
-    ∙ ap (flat_map enabled_name) (records-next ds es rest d records distinct split are))
+    ∙ ap (flat_map enabled_name) (ap (λ own. flat_map (entries ds) es ++ own) are ∙ records-next ds es d))
 
 -- there are no fewer in all
 pub count-gone : (ds es rest : List Decl) → es ++ rest ≡ ds → length (listed ds es) ≤ length (flat_map enabled_name (beans ds))

@@ -16,3 +16,4 @@ pub mod CountLemmas
 pub mod NamelessLemmas
 pub mod ChainlessLemmas
 pub mod CircleStayLemmas
+pub mod AmongLemmas

@@ -28,7 +28,7 @@ use Rattle.cdi_validate.specs.declared.twice.Link.{Link}
 use Rattle.cdi_validate.specs.Linked.{faults_between, faults_of_chains, first_marked, has_position, is_first_enabled, is_marked}
 use Rattle.cdi_validate.specs.Linked.{links_to, specializing, specializing_by, KeepsChain}
 use Rattle.cdi_validate.specs.Twice.{enabled_bean, in_line_order, of_pairs, specialized_twice, twice}
-use Rattle.cdi_validate.proofs.FoundLemmas.{records_found}
+use Rattle.cdi_validate.proofs.FoundLemmas.{bean-records, found-next}
 use Rattle.cdi_validate.proofs.TwiceLemmas.{behind_two, pairs-behind}
 
 -- ---- the beans of a chain are declared
@@ -197,7 +197,7 @@ filtered bs = filter (λ b. b.specializes) bs
 pub specializing-own : (ds es rest : List Decl) (d : Decl) → AreDistinct ds → es ++ d ∷ rest ≡ ds
     → specializing_by ds d ≡ filtered (enabled_bean ds d)
 specializing-own ds es rest (decls.Bean b) distinct split =
-    ap (λ t. cond (b.specializes && t) (b ∷ []) []) (ap is_first_enabled (records_found ds es rest (decls.Bean b) distinct split))
+    ap (λ t. cond (b.specializes && t) (b ∷ []) []) (ap is_first_enabled (bean-records ds b (found-next ds es rest (decls.Bean b) distinct split)))
     ∙ by b.specializes refl (managed ds b).is_enabled
   where
     by : (s : Bool) → b.specializes ≡ s → (t : Bool) → cond (s && t) (b ∷ []) [] ≡ filtered (cond t (b ∷ []) [])

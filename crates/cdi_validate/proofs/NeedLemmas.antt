@@ -6,7 +6,7 @@ use Rattle.std.specs.BTreeSet.{insert_key}
 use Rattle.std.specs.List.{AllByRecursion, flat_map}
 use Rattle.std.specs.List.Sorted.{IsStrictlySortedBy}
 use Rattle.std.specs.Map.{keys_of, lookup}
-use Rattle.std.specs.Option.{is_some, option_to_list}
+use Rattle.std.specs.Option.{is_some}
 use Rattle.std.specs.Str.{bytes_eq}
 use Rattle.std.proofs.Math.Bool.{or-false, or_assoc, or_comm}
 use Rattle.std.proofs.lemmas.Grind.{flat_map-append}
@@ -15,12 +15,10 @@ use Rattle.std.proofs.lemmas.List.Kept.{IsStrictlySortedBy-filter}
 use Rattle.std.proofs.lemmas.Map.Made.{is_some-lookup}
 use Rattle.cdi_model.proofs.QualLemmas.{same_name}
 use Rattle.cdi_model.specs.Bytes.{byte_order}
-use Rattle.cdi_model.specs.declared.decl.BeanDecl.{BeanDecl}
 use Rattle.cdi_model.specs.declared.decl.Decl.{Decl}
 use Rattle.cdi_model.specs.declared.decl.Decl.TheVariants as decls
 use Rattle.cdi_model.specs.declared.decl.InterceptorDecl.{InterceptorDecl}
 use Rattle.cdi_model.specs.declared.decl.PointDecl.{PointDecl}
-use Rattle.cdi_model.specs.Mentions.{Mention, BodyOf, CallOf, PointOf, TypeIn, mentions}
 use Rattle.cdi_match.specs.Chain.{has}
 use Rattle.cdi_match.specs.Order.{in_order}
 use Rattle.cdi_match.proofs.Names.{has-by_order, one_name}
@@ -32,13 +30,11 @@ use Rattle.cdi_effective.specs.declared.records.BeanId.{BeanId}
 use Rattle.cdi_effective.specs.declared.records.Effective.{Effective}
 use Rattle.cdi_intercept.specs.Chains.{is_enabled, stands_around}
 use Rattle.cdi_observe.specs.Answers.{answer_to}
-use Rattle.cdi_observe.specs.Wanted.{points_of}
-use Rattle.cdi_subjects.specs.Answered.{is_begin}
-use Rattle.cdi_subjects.proofs.AnsweredLemmas.{all-listed, points-declared, AreListed}
+use Rattle.cdi_resolve.specs.declared.choice.Choice.{Choice}
 use Rattle.cdi_validate.specs.Circles.{Need, between, chosen_for, chosen_one, circular, dependents, dependents_by_text}
-use Rattle.cdi_validate.specs.Circles.{bean_of_point, is_dependent, managed_id, need_around, need_in, needed_by, needs_in, needs_to_run}
+use Rattle.cdi_validate.specs.Circles.{is_dependent, managed_id, need_around, needed_by}
 use Rattle.cdi_validate.specs.Circles.{needs_itself, with_dependent}
-use Rattle.cdi_validate.specs.Needed.{needs_along, needs_by, AddsNeeds}
+use Rattle.cdi_validate.specs.Needed.{AddsNeeds}
 
 abbrev Entries : Type 0
 Entries = List (List ℕ × BeanId)
@@ -222,31 +218,11 @@ need_added nodes old new node needed items among are entries x = entries x ∙ b
 
 -- ---- needs by answers
 
+chosen-answers : (ds : List Decl) (points : List PointDecl) → flat_map chosen_one (map (answer_to ds) points) ≡ chosen_for ds points
+chosen-answers ds [] = refl
+chosen-answers ds (p ∷ ps) = ap (λ xs. chosen_one (answer_to ds p) ++ xs) (chosen-answers ds ps)
+
 -- the answers to some points choose what is chosen for them
-chosen_by_answers : (ds : List Decl) (points : List PointDecl)
-    → flat_map chosen_one (map (answer_to ds) points) ≡ chosen_for ds points
-chosen_by_answers ds [] = refl
-chosen_by_answers ds (p ∷ ps) = ap (λ xs. chosen_one (answer_to ds p) ++ xs) (chosen_by_answers ds ps)
-
--- along what a declaration names its beans need for each place what is chosen there, and what runs
-needs-found : (ds : List Decl) (d : BeanDecl) (since points : List PointDecl) (ms : List Mention) → AreListed since points ms
-    → needs_along d (map (answer_to ds) points) ms ≡ flat_map (need_in ds d) ms
-needs-found ds d since points [] listed = refl
-needs-found ds d since points (PointOf place p ∷ ms) (rest, is, listed) =
-    rw is (ap (λ chosen. map (λ id. (text_of_id id, chosen)) (option_to_list (bean_of_point d place))
-    ++ needs_along d (map (answer_to ds) rest) ms) (append-nil (chosen_one (answer_to ds p)))
-    ∙ ap (λ l. need_in ds d (PointOf place p) ++ l) (needs-found ds d (since ++ p ∷ []) rest ms listed))
-needs-found ds d since points (TypeIn place t ∷ ms) listed = needs-found ds d (cond (is_begin place) [] since) points ms listed
-needs-found ds d since points (CallOf place params call ∷ ms) (front, listed) = needs-found ds d since points ms listed
-needs-found ds d since points (BodyOf place body ∷ ms) listed =
-    ap (λ l. needs_to_run d place ++ l) (needs-found ds d since points ms listed)
-needs-found ds d since points (other ∷ ms) listed = needs-found ds d since points ms listed
-
--- by the answers to its points the beans of a declaration need what they need
-pub needs_by_answers : (ds : List Decl) (d : Decl) → needs_by ds d (map (answer_to ds) (points_of d)) ≡ needs_in ds d
-needs_by_answers ds (decls.Interceptor i) =
-    ap (λ points. flat_map (need_around ds i (flat_map chosen_one (map (answer_to ds) points))) ds) (points-declared (decls.Interceptor i))
-    ∙ ap (λ xs. flat_map (need_around ds i xs) ds) (chosen_by_answers ds i.points)
-needs_by_answers ds (decls.Bean d) =
-    needs-found ds d [] (points_of (decls.Bean d)) (mentions (decls.Bean d)) (all-listed (decls.Bean d))
-needs_by_answers ds other = refl
+pub chosen_by_answers : {L : Type 0} (value : L → Choice) (ds : List Decl) (points : List PointDecl) (answers : List L)
+    → map value answers ≡ map (answer_to ds) points → flat_map chosen_one (map value answers) ≡ chosen_for ds points
+chosen_by_answers value ds points answers are = ap (flat_map chosen_one) are ∙ chosen-answers ds points

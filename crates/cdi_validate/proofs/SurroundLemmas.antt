@@ -1,6 +1,6 @@
 -- Beans by the binding types at their places, and that an interceptor stands around none but those of its first binding type.
 use Rattle.std.proofs.Common.{◌≡◌, ◌<◌, ◌+◌, ℕ, zero, suc, Bool, true, false, ◌&&◌, ◌||◌, cond, List, [], ◌∷◌, ◌++◌, length, drop, get_or, map}
-use Rattle.std.proofs.Common.{filter, refl, sym, ap, ◌∙◌, append-nil, append_assoc, inl, inr, option_map, Option, Some, None, Vec, Global}
+use Rattle.std.proofs.Common.{filter, refl, sym, ap, ◌∙◌, append-nil, inl, inr, option_map, Option, Some, None, Vec, Global}
 use Rattle.std.specs.Borrow.{Bor}
 use Rattle.std.specs.List.{flat_map, list_all, slice_get}
 use Rattle.std.specs.List.Sorted.{IsStrictlySortedBy}
@@ -12,6 +12,7 @@ use Rattle.std.proofs.lemmas.Grind.{flat_map-append}
 use Rattle.std.proofs.lemmas.List.{map-append}
 use Rattle.std.proofs.lemmas.Option.{none-some, same_Some, slice_get-get_or, slice_get-map}
 use Rattle.cdi_model.specs.Bytes.{byte_order}
+use Rattle.cdi_model.specs.DeclList.{AreDistinct}
 use Rattle.cdi_model.specs.Quals.{name_of_use}
 use Rattle.cdi_model.specs.declared.decl.BeanDecl.{BeanDecl}
 use Rattle.cdi_model.specs.declared.decl.Decl.{Decl}
@@ -25,13 +26,14 @@ use Rattle.cdi_match.specs.Covering.{covers, covers_by}
 use Rattle.cdi_match.proofs.Names.{one_name}
 use Rattle.cdi_effective.specs.Bindings.{class_bindings}
 use Rattle.cdi_effective.specs.BeanText.{text_of_id}
+use Rattle.cdi_effective.proofs.PlaceLemmas.{own-found}
 use Rattle.cdi_intercept.specs.Chains.{binds, covered_in, is_enabled, stands_around, surrounds, surrounds_one}
 use Rattle.cdi_intercept.specs.Sets.{sets_of}
 use Rattle.cdi_resolve.proofs.PlaceLemmas.{next-left, none-after, rise-next}
+use Rattle.cdi_observe.proofs.RestLemmas.{IsFound}
 use Rattle.cdi_circles.specs.Edges.{Edges, next_in}
 use Rattle.cdi_validate.specs.Circles.{between, managed_id, need_around}
 use Rattle.cdi_validate.specs.Needed.{AddsNeeds}
-use Rattle.cdi_validate.specs.Records.{IsAmong}
 use Rattle.cdi_validate.specs.Surrounded.{beans_in, has_binding_at_place, has_binding_in, may_surround, with_binding}
 use Rattle.cdi_validate.specs.Surrounded.{AreByBinding, BeansByBinding}
 use Rattle.cdi_validate.proofs.NeedLemmas.{between-append, between-none}
@@ -249,35 +251,34 @@ adds-none-may ds nodes i chosen by_binding edges stand none x =
 
 -- ---- each of them is declared
 
-one-of : (nodes : List (List ℕ)) (ds : List Decl) (name : List ℕ) (before rest : List Decl) (k : ℕ) (b : BeanDecl) → before ++ rest ≡ ds
-    → slice_get (flat_map (with_binding nodes ds name) rest) k ≡ Some b → IsAmong ds (decls.Bean b)
-one-of nodes ds name before [] k b split at = absurd (none-some b at)
-one-of nodes ds name before (decls.Bean d ∷ rest) k b split at =
-    by (has nodes (text_of_id (managed_id d)) && has_binding_at_place ds name d)
-    (λ j there. one-of nodes ds name (before ++ decls.Bean d ∷ []) rest j b (append_assoc before (decls.Bean d ∷ []) rest ∙ split) there) k at
+one-at : (nodes : List (List ℕ)) (ds : List Decl) (name : List ℕ) (es : List Decl) (j : ℕ) (b : BeanDecl)
+    → slice_get (flat_map (with_binding nodes ds name) es) j ≡ Some b → (k : ℕ) × (slice_get es k ≡ Some (decls.Bean b))
+one-at nodes ds name [] j b at = absurd (none-some b at)
+one-at nodes ds name (decls.Bean d ∷ es) j b at =
+    by (has nodes (text_of_id (managed_id d)) && has_binding_at_place ds name d) (λ i there. one-at nodes ds name es i b there) j at
   where
-    by : (is : Bool) → ((j : ℕ) → slice_get (flat_map (with_binding nodes ds name) rest) j ≡ Some b → IsAmong ds (decls.Bean b))
-        → (j : ℕ) → slice_get (cond is (d ∷ []) [] ++ flat_map (with_binding nodes ds name) rest) j ≡ Some b → IsAmong ds (decls.Bean b)
-    by true later zero there =
-        let same : d ≡ b = same_Some d b there in
-        (before, rest, ap (λ x. before ++ decls.Bean x ∷ rest) (sym same) ∙ split)
-    by true later (suc j) there = later j there
-    by false later j there = later j there
-one-of nodes ds name before (d ∷ rest) k b split at =
-    one-of nodes ds name (before ++ d ∷ []) rest k b (append_assoc before (d ∷ []) rest ∙ split) at
+    by : (is : Bool) → ((i : ℕ) → slice_get (flat_map (with_binding nodes ds name) es) i ≡ Some b → (k : ℕ) × (slice_get es k ≡ Some (decls.Bean b)))
+        → (j : ℕ) → slice_get (cond is (d ∷ []) [] ++ flat_map (with_binding nodes ds name) es) j ≡ Some b
+        → (k : ℕ) × (slice_get (decls.Bean d ∷ es) k ≡ Some (decls.Bean b))
+    by true later zero there = (zero, ap (λ x. Some (decls.Bean x)) (same_Some d b there))
+    by true later (suc j) there = let at = later j there in (suc at.0, at.1)
+    by false later j there = let at = later j there in (suc at.0, at.1)
+one-at nodes ds name (d ∷ es) j b at = let there = one-at nodes ds name es j b at in (suc there.0, there.1)
 
-may-among : (ds : List Decl) (nodes : List (List ℕ)) (by_binding : BeansByBinding) (bindings : List Qual) (k : ℕ) (b : BeanDecl)
-    → AreByBinding nodes ds by_binding → slice_get (may_surround by_binding bindings) k ≡ Some b → IsAmong ds (decls.Bean b)
-may-among ds nodes by_binding [] k b are at = absurd (none-some b at)
-may-among ds nodes by_binding (binding ∷ bindings) k b are at =
-    one-of nodes ds binding.name [] ds k b refl (ap (λ beans. slice_get beans k) (sym (are binding.name)) ∙ at)
+may-at : (ds : List Decl) (nodes : List (List ℕ)) (by_binding : BeansByBinding) (bindings : List Qual) (k : ℕ) (b : BeanDecl)
+    → AreByBinding nodes ds by_binding → slice_get (may_surround by_binding bindings) k ≡ Some b
+    → (j : ℕ) × (slice_get ds j ≡ Some (decls.Bean b))
+may-at ds nodes by_binding [] k b are at = absurd (none-some b at)
+may-at ds nodes by_binding (binding ∷ bindings) k b are at =
+    one-at nodes ds binding.name ds k b (ap (λ beans. slice_get beans k) (sym (are binding.name)) ∙ at)
 
-pub bean-among : (ds : List Decl) (nodes : List (List ℕ)) (by_binding : BeansByBinding) (bindings : List Qual) (items : List (Bor BeanDecl)) (i : ℕ)
-    (bean : Bor BeanDecl) → AreByBinding nodes ds by_binding → map (λ b. b.now) items ≡ may_surround by_binding bindings → i < length items
-    → bean ≡ get_or items i bean → IsAmong ds (decls.Bean bean.now)
-bean-among ds nodes by_binding bindings items i bean are all lt is =
-    may-among ds nodes by_binding bindings i bean.now are
+pub bean-found : (ds : List Decl) (nodes : List (List ℕ)) (by_binding : BeansByBinding) (bindings : List Qual) (items : List (Bor BeanDecl)) (i : ℕ)
+    (bean : Bor BeanDecl) → AreDistinct ds → AreByBinding nodes ds by_binding → map (λ b. b.now) items ≡ may_surround by_binding bindings
+    → i < length items → bean ≡ get_or items i bean → IsFound ds (decls.Bean bean.now)
+bean-found ds nodes by_binding bindings items i bean distinct are all lt is =
+    let at = may-at ds nodes by_binding bindings i bean.now are
     (ap (λ beans. slice_get beans i) (sym all)
     ∙ slice_get-map (λ (b : Bor BeanDecl). b.now) items i
     ∙ ap (option_map (λ b. b.now)) (slice_get-get_or items i bean lt)
-    ∙ ap (λ b. Some b.now) (sym is))
+    ∙ ap (λ b. Some b.now) (sym is)) in
+    own-found ds at.0 (decls.Bean bean.now) distinct at.1

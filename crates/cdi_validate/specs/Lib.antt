@@ -1,6 +1,5 @@
 pub mod Faults
 pub mod Names
-pub mod Records
 pub mod Circles
 pub mod Needed
 pub mod Surrounded
@@ -8,3 +7,4 @@ pub mod Twice
 pub mod Linked
 pub mod Together
 pub mod Alike
+pub mod Among

@@ -1,5 +1,5 @@
 //! Dependent beans that need themselves before they can be made (profile).
-ghost use Rattle.std.specs.Prelude.{◌≡◌, ◌∷◌, [], ◌++◌, ℕ, List, true, All, Some, filter, fold, map, take, IfOk, OnOk};
+ghost use Rattle.std.specs.Prelude.{◌≡◌, ◌∷◌, [], ◌++◌, ℕ, List, true, All, Some, filter, fold, map, IfOk, OnOk};
 ghost use Rattle.std.specs.BTreeMap.{keys};
 ghost use Rattle.std.specs.List.{flat_map, list_all, list_any};
 ghost use Rattle.cdi_circles.specs.Edges.{is_on_circle, next_in};
@@ -10,48 +10,48 @@ ghost use Rattle.cdi_match.specs.Chain.{has};
 ghost use Rattle.cdi_model.specs.Decl.{kind_of, name_of_decl};
 ghost use Rattle.cdi_model.specs.DeclList.{find_decl, AreDistinct};
 ghost use Rattle.cdi_model.specs.declared.decl.Decl.TheVariants as declared;
+ghost use Rattle.cdi_model.specs.declared.decl.Kind.TheVariants as kinds;
 ghost use Rattle.cdi_model.specs.Mentions.{shown};
-ghost use Rattle.cdi_observe.specs.Answers.{answers as all_answers};
-ghost use Rattle.cdi_validate.specs.Circles.{bean_of_point, between, chosen_one, dependents_by_text, is_dependent, managed_id};
-ghost use Rattle.cdi_validate.specs.Circles.{need_around, needs, product_id, with_dependent};
+ghost use Rattle.cdi_observe.specs.Answers.{answer_to};
+ghost use Rattle.cdi_observe.specs.Lending.{are_answerable, is_answerable, lent_value, IsEvaluated};
+ghost use Rattle.cdi_observe.specs.Wanted.{key_of_point, point_named};
+ghost use Rattle.cdi_validate.specs.Circles.{bean_of_point, between, chosen_for, chosen_one, dependents_by_text, is_dependent, managed_id};
+ghost use Rattle.cdi_validate.specs.Circles.{need_around, need_in, needs, needs_in, product_id, with_dependent};
 ghost use Rattle.cdi_validate.specs.Faults.{circle, circles};
-ghost use Rattle.cdi_validate.specs.Records.{IsAmong};
-ghost use Rattle.cdi_validate.specs.Needed.{left_behind, need_by, needed_first, needs_along, needs_at, needs_by, AddsNeeds};
+ghost use Rattle.cdi_validate.specs.Needed.{need_by, needed_first, AddsNeeds};
 ghost use Rattle.cdi_validate.specs.Surrounded.{beans_at, with_binding, AreByBinding};
 ghost use Rattle.cdi_validate.specs.Together.{is_needless, AreNamed, HaveNoCircle};
 
-use crate::records::records_of;
 use crate::surrounded::{add_bean, may_surround};
 use cdi_circles::{Node, on_circles};
 use cdi_effective::{BeanId, Effective};
 use cdi_faults::Fault;
 use cdi_model::{
-    BeanDecl, Decl, Decls, Ident, InterceptorDecl, Mention, Mentions, Name, PartPlace, PointPlace,
-    Scope,
+    BeanDecl, Decl, Decls, Ident, InterceptorDecl, Mention, Mentions, Name, PartPlace, PointDecl,
+    PointPlace, Scope,
 };
-use cdi_observe::{View, interceptors_of};
+use cdi_observe::{Lent, View, interceptors_of, records_of_decl};
 use cdi_resolve::Choice;
 use std::alloc::{AllocError, Global};
 use std::collections::BTreeMap;
 use std::io::Write;
-use std::rc::Rc;
+use std::slice;
 
-/// Appends a fault for each dependent bean that needs itself, by the answers to the injection points of each declaration.
-/// It takes memory for the dependent beans, for the bindings at their places, for what they need, and for what is on
-/// circles. It answers whether there is no such fault.
-pub fn push_of_circles<V: View>(
+/// Appends a fault for each dependent bean that needs itself, where all that the declarations ask for is known or the view
+/// keeps nothing. It takes memory for the dependent beans, for the bindings at their places, for what they need, for answers
+/// that are made, and for what is on circles. It answers whether there is no such fault.
+pub(crate) fn push_of_circles<V: View>(
     alloc: Global,
     view: &V,
-    answers: &[Vec<Rc<Choice>>],
     faults: &mut Vec<Fault>,
 ) -> Result<bool, AllocError>
-    requires { map (λ list. map (λ answer. answer.value) list.items) answers.now ≡ all_answers (V.list view.now) }
+    requires { IsEvaluated (V.list view.now) (V.kept view.now) }
     ensures faults { OnOk result (faults.new.items ≡ faults.old.items ++ circles (V.list view.now)) }
     ensures apart { IfOk result (λ apart. apart ≡ true → HaveNoCircle (V.list view.now) (V.list view.now)) }
     ensures named { OnOk result (AreNamed (V.list view.now)) }
 {
     let before = faults.len();
-    push_all_circles(alloc, view, answers, faults)?;
+    push_all_circles(alloc, view, faults)?;
     Ok(faults.len() == before)
 }
 
@@ -59,10 +59,9 @@ pub fn push_of_circles<V: View>(
 fn push_all_circles<V: View>(
     alloc: Global,
     view: &V,
-    answers: &[Vec<Rc<Choice>>],
     faults: &mut Vec<Fault>,
 ) -> Result<(), AllocError>
-    requires { map (λ list. map (λ answer. answer.value) list.items) answers.now ≡ all_answers (V.list view.now) }
+    requires { IsEvaluated (V.list view.now) (V.kept view.now) }
     ensures faults { OnOk result (faults.new.items ≡ faults.old.items ++ circles (V.list view.now)) }
     ensures named { OnOk result (AreNamed (V.list view.now)) }
 {
@@ -70,14 +69,15 @@ fn push_all_circles<V: View>(
     if dependents.is_empty() {
         return Ok(());
     }
-    let edges = edges_between(alloc, view, &dependents, answers)?;
+    let edges = edges_between(alloc, view, &dependents)?;
     push_circles(alloc, &dependents, &edges, faults)
 }
 
 /// Whether no dependent bean of some declarations needs anything, and no interceptor among them gives a bean anything to need.
-/// It takes memory for the names of interceptors, and looks at these declarations alone.
+/// It takes memory for the names of interceptors and for answers that are made, and looks at these declarations alone.
 pub fn are_needless<V: View>(alloc: Global, view: &V, decls: &[&Decl]) -> Result<bool, AllocError>
-    requires { All (λ d. find_decl (kind_of d.now) (name_of_decl d.now) (V.list view.now) ≡ Some d.now) decls.now }
+    requires found { All (λ d. find_decl (kind_of d.now) (name_of_decl d.now) (V.list view.now) ≡ Some d.now) decls.now }
+    requires evaluated { IsEvaluated (V.list view.now) (V.kept view.now) }
     ensures { IfOk result (λ needless. needless ≡ list_all (is_needless (V.list view.now)) (map (λ d. d.now) decls.now)) }
 {
     for decl in decls {
@@ -90,12 +90,13 @@ pub fn are_needless<V: View>(alloc: Global, view: &V, decls: &[&Decl]) -> Result
 
 /// Whether no dependent bean of a declaration needs anything, or it is an interceptor that gives a bean nothing to need.
 fn is_needless<V: View>(alloc: Global, view: &V, decl: &Decl) -> Result<bool, AllocError>
-    requires { find_decl (kind_of decl.now) (name_of_decl decl.now) (V.list view.now) ≡ Some decl.now }
+    requires found { find_decl (kind_of decl.now) (name_of_decl decl.now) (V.list view.now) ≡ Some decl.now }
+    requires evaluated { IsEvaluated (V.list view.now) (V.kept view.now) }
     ensures { IfOk result (λ needless. needless ≡ is_needless (V.list view.now) decl.now) }
 {
     match decl {
         Decl::Bean(bean) => {
-            if !has_dependent(records_of(view, decl)) {
+            if !has_dependent(records_of_decl(view, decl)) {
                 return Ok(true);
             }
             if !bean.points.is_empty() || !bean.producers.is_empty() {
@@ -159,7 +160,7 @@ fn dependents_of<V: View>(alloc: Global, view: &V) -> Result<BTreeMap<Node, Bean
     for decl in view.decls().iter() {
         // No effect at run time. The proof reads here that the name is one by the grammar.
         let _ = decl.name().as_bytes();
-        add_dependents(alloc, records_of(view, decl), &mut dependents)?;
+        add_dependents(alloc, records_of_decl(view, decl), &mut dependents)?;
     }
     Ok(dependents)
 }
@@ -196,29 +197,20 @@ fn node_of(alloc: Global, id: BeanId) -> Result<Node, AllocError>
     Ok(Node::new(text))
 }
 
-/// The dependent beans that each dependent bean needs, by the answers to the injection points of each declaration.
+/// The dependent beans that each dependent bean needs.
 fn edges_between<V: View>(
     alloc: Global,
     view: &V,
     dependents: &BTreeMap<Node, BeanId>,
-    answers: &[Vec<Rc<Choice>>],
 ) -> Result<BTreeMap<Node, Vec<Node>>, AllocError>
-    requires { map (λ list. map (λ answer. answer.value) list.items) answers.now ≡ all_answers (V.list view.now) }
+    requires { IsEvaluated (V.list view.now) (V.kept view.now) }
     ensures { IfOk result (λ edges. (x : List ℕ) → next_in edges x ≡ between (keys dependents.now) (needs (V.list view.now)) x) }
 {
     let decls = view.decls();
     let by_binding = by_binding(alloc, dependents, decls)?;
     let mut edges = BTreeMap::new(alloc);
-    for (decl, own) in decls.iter().zip(answers) {
-        add_needs(
-            alloc,
-            view,
-            dependents,
-            &by_binding,
-            decl,
-            own.as_slice(),
-            &mut edges,
-        )?;
+    for decl in decls.iter() {
+        add_needs(alloc, view, dependents, &by_binding, decl, &mut edges)?;
     }
     Ok(edges)
 }
@@ -260,75 +252,65 @@ fn add_by_binding<'a>(
     add_bean(alloc, decls, bean, by_binding)
 }
 
-/// Adds what beans need by a declaration, which has these answers to its injection points.
+/// Adds what beans need by a declaration.
 fn add_needs<V: View>(
     alloc: Global,
     view: &V,
     dependents: &BTreeMap<Node, BeanId>,
     by_binding: &BTreeMap<Name, Vec<&BeanDecl>>,
     decl: &Decl,
-    answers: &[Rc<Choice>],
     edges: &mut BTreeMap<Node, Vec<Node>>,
 ) -> Result<(), AllocError>
+    requires distinct { AreDistinct (V.list view.now) }
+    requires evaluated { IsEvaluated (V.list view.now) (V.kept view.now) }
     requires by_binding { AreByBinding (keys dependents.now) (V.list view.now) by_binding.now }
-    requires among { IsAmong (V.list view.now) decl.now }
-    ensures { OnOk result (AddsNeeds (keys dependents.now)
-        (needs_by (V.list view.now) decl.now (map (λ answer. answer.value) answers.now)) edges.old edges.new) }
+    requires found { find_decl (kind_of decl.now) (name_of_decl decl.now) (V.list view.now) ≡ Some decl.now }
+    ensures { OnOk result (AddsNeeds (keys dependents.now) (needs_in (V.list view.now) decl.now) edges.old edges.new) }
 {
     match decl {
-        Decl::Bean(bean) => {
-            add_needs_along(alloc, dependents, bean, decl.mentions(), answers, edges)
-        }
+        Decl::Bean(bean) => add_needs_along(alloc, view, dependents, bean, decl.mentions(), edges),
         Decl::Interceptor(interceptor) => {
-            add_needs_around(
-                alloc,
-                view,
-                dependents,
-                by_binding,
-                interceptor,
-                answers,
-                edges,
-            )
+            add_needs_around(alloc, view, dependents, by_binding, interceptor, edges)
         }
         _ => Ok(()),
     }
 }
 
-/// Adds what the beans of a declaration need for all that it names, by the answers to its injection points in their order.
-fn add_needs_along(
+/// Adds what the beans of a declaration need for all that it names.
+fn add_needs_along<V: View>(
     alloc: Global,
+    view: &V,
     dependents: &BTreeMap<Node, BeanId>,
     bean: &BeanDecl,
     mentions: Mentions<'_>,
-    answers: &[Rc<Choice>],
     edges: &mut BTreeMap<Node, Vec<Node>>,
 ) -> Result<(), AllocError>
+    requires { are_answerable (V.kept view.now) (map key_of_point (flat_map point_named mentions)) ≡ true }
     ensures { OnOk result (AddsNeeds (keys dependents.now)
-        (needs_along bean.now (map (λ answer. answer.value) answers.now) mentions.entry) edges.old edges.new) }
+        (flat_map (need_in (V.list view.now) bean.now) mentions.entry) edges.old edges.new) }
 {
-    let mut left = answers;
     for mention in mentions {
-        add_needs_at(alloc, dependents, bean, left, &mention, edges)?;
-        left = left_behind(left, &mention);
+        add_needs_at(alloc, view, dependents, bean, &mention, edges)?;
     }
     Ok(())
 }
 
-/// Adds what they need for what is named in one place: the first of these answers is that to a point.
-fn add_needs_at(
+/// Adds what they need for what is named in one place.
+fn add_needs_at<V: View>(
     alloc: Global,
+    view: &V,
     dependents: &BTreeMap<Node, BeanId>,
     bean: &BeanDecl,
-    answers: &[Rc<Choice>],
     mention: &Mention<'_>,
     edges: &mut BTreeMap<Node, Vec<Node>>,
 ) -> Result<(), AllocError>
+    requires { are_answerable (V.kept view.now) (map key_of_point (point_named (shown mention.now))) ≡ true }
     ensures { OnOk result (AddsNeeds (keys dependents.now)
-        (needs_at bean.now (map (λ answer. answer.value) answers.now) (shown mention.now)) edges.old edges.new) }
+        (need_in (V.list view.now) bean.now (shown mention.now)) edges.old edges.new) }
 {
     match mention {
-        Mention::Point(place, _) => match bean_of_point(bean, place) {
-            Some(id) => add_need(alloc, dependents, id, None, first_of(answers), edges),
+        Mention::Point(place, point) => match bean_of_point(bean, place) {
+            Some(id) => add_need_at(alloc, view, dependents, id, point, edges),
             None => Ok(()),
         },
         Mention::Body(PartPlace::Producer(name), _) => {
@@ -339,21 +321,21 @@ fn add_needs_at(
     }
 }
 
-/// The first of the answers, if there is one.
-fn first_of(answers: &[Rc<Choice>]) -> &[Rc<Choice>]
-    ensures { result.now ≡ take 1 answers.now }
+/// Adds what a bean needs for a point that is there for it.
+fn add_need_at<V: View>(
+    alloc: Global,
+    view: &V,
+    dependents: &BTreeMap<Node, BeanId>,
+    id: BeanId,
+    point: &PointDecl,
+    edges: &mut BTreeMap<Node, Vec<Node>>,
+) -> Result<(), AllocError>
+    requires { is_answerable (V.kept view.now) (key_of_point point.now) ≡ true }
+    ensures { OnOk result (AddsNeeds (keys dependents.now)
+        ((text_of_id id, chosen_one (answer_to (V.list view.now) point.now)) ∷ []) edges.old edges.new) }
 {
-    answers.split_at(answers.len().min(1)).0
-}
-
-/// The answers that are left after what is named in a place.
-fn left_behind<'a>(answers: &'a [Rc<Choice>], mention: &Mention<'_>) -> &'a [Rc<Choice>]
-    ensures { map (λ answer. answer.value) result.now ≡ left_behind (map (λ answer. answer.value) answers.now) (shown mention.now) }
-{
-    match (mention, answers.split_first()) {
-        (Mention::Point(..), Some((_, others))) => others,
-        _ => answers,
-    }
+    let answer = view.lent_choice(alloc, &point.required_type, &point.qualifiers)?;
+    add_need(alloc, dependents, id, None, slice::from_ref(&answer), edges)
 }
 
 /// The bean for which a point is there: none waits for the parameters of an observer method.
@@ -367,55 +349,82 @@ fn bean_of_point(bean: &BeanDecl, place: &PointPlace) -> Option<BeanId>
     }
 }
 
-/// Adds what each managed bean needs for an interceptor that is around a place of it, by the answers to the
-/// interceptor's injection points.
+/// Adds what each managed bean needs for an interceptor that is around a place of it.
 fn add_needs_around<V: View>(
     alloc: Global,
     view: &V,
     dependents: &BTreeMap<Node, BeanId>,
     by_binding: &BTreeMap<Name, Vec<&BeanDecl>>,
     interceptor: &InterceptorDecl,
-    answers: &[Rc<Choice>],
     edges: &mut BTreeMap<Node, Vec<Node>>,
 ) -> Result<(), AllocError>
+    requires distinct { AreDistinct (V.list view.now) }
+    requires evaluated { IsEvaluated (V.list view.now) (V.kept view.now) }
     requires by_binding { AreByBinding (keys dependents.now) (V.list view.now) by_binding.now }
-    requires among { IsAmong (V.list view.now) (declared.Interceptor interceptor.now) }
+    requires found { find_decl kinds.Interceptor interceptor.now.name (V.list view.now) ≡ Some (declared.Interceptor interceptor.now) }
     ensures { OnOk result (AddsNeeds (keys dependents.now) (flat_map (need_around (V.list view.now) interceptor.now
-        (flat_map chosen_one (map (λ answer. answer.value) answers.now))) (V.list view.now)) edges.old edges.new) }
+        (chosen_for (V.list view.now) interceptor.now.points)) (V.list view.now)) edges.old edges.new) }
 {
     if interceptor.priority.is_none() {
-        return Ok(());
-    }
-    let mut chosen = Vec::new(alloc);
-    push_chosen(alloc, dependents, answers, &mut chosen)?;
-    if chosen.is_empty() {
         return Ok(());
     }
     let Some(beans) = may_surround(by_binding, interceptor) else {
         return Ok(());
     };
+    let answers = answers_to(alloc, view, interceptor.points.as_slice())?;
+    let mut chosen = Vec::new(alloc);
+    push_chosen(alloc, dependents, answers.as_slice(), &mut chosen)?;
+    if chosen.is_empty() {
+        return Ok(());
+    }
     for bean in beans.as_slice() {
-        add_need_around(alloc, view, dependents, interceptor, bean, answers, edges)?;
+        add_need_around(
+            alloc,
+            view,
+            dependents,
+            interceptor,
+            bean,
+            answers.as_slice(),
+            edges,
+        )?;
     }
     Ok(())
 }
 
+/// The answers to some points.
+fn answers_to<'a, V: View>(
+    alloc: Global,
+    view: &'a V,
+    points: &[PointDecl],
+) -> Result<Vec<Lent<'a, Choice>>, AllocError>
+    requires { are_answerable (V.kept view.now) (map key_of_point points.now) ≡ true }
+    ensures { IfOk result (λ answers. map lent_value answers.items ≡ map (answer_to (V.list view.now)) points.now) }
+{
+    let mut answers = Vec::with_capacity(alloc, points.len())?;
+    for point in points {
+        answers.push(view.lent_choice(alloc, &point.required_type, &point.qualifiers)?)?;
+    }
+    Ok(answers)
+}
+
 /// Adds what a managed bean needs for an interceptor that is enabled, if it is dependent, and the interceptor is around a
-/// place of it.
+/// place of it: what these answers to the interceptor's points choose.
 fn add_need_around<V: View>(
     alloc: Global,
     view: &V,
     dependents: &BTreeMap<Node, BeanId>,
     interceptor: &InterceptorDecl,
     bean: &BeanDecl,
-    answers: &[Rc<Choice>],
+    answers: &[Lent<'_, Choice>],
     edges: &mut BTreeMap<Node, Vec<Node>>,
 ) -> Result<(), AllocError>
-    requires around { IsAmong (V.list view.now) (declared.Interceptor interceptor.now) }
+    requires distinct { AreDistinct (V.list view.now) }
+    requires evaluated { IsEvaluated (V.list view.now) (V.kept view.now) }
+    requires around { find_decl kinds.Interceptor interceptor.now.name (V.list view.now) ≡ Some (declared.Interceptor interceptor.now) }
     requires enabled { is_enabled interceptor.now ≡ true }
-    requires bean { IsAmong (V.list view.now) (declared.Bean bean.now) }
+    requires bean { find_decl kinds.Bean bean.now.name (V.list view.now) ≡ Some (declared.Bean bean.now) }
     ensures { OnOk result (AddsNeeds (keys dependents.now) (need_around (V.list view.now) interceptor.now
-        (flat_map chosen_one (map (λ answer. answer.value) answers.now)) (declared.Bean bean.now)) edges.old edges.new) }
+        (flat_map chosen_one (map lent_value answers.now)) (declared.Bean bean.now)) edges.old edges.new) }
 {
     if !is_around(alloc, view, interceptor, bean)? {
         return Ok(());
@@ -430,14 +439,13 @@ fn is_around<V: View>(
     interceptor: &InterceptorDecl,
     bean: &BeanDecl,
 ) -> Result<bool, AllocError>
-    requires around { IsAmong (V.list view.now) (declared.Interceptor interceptor.now) }
+    requires distinct { AreDistinct (V.list view.now) }
+    requires evaluated { IsEvaluated (V.list view.now) (V.kept view.now) }
+    requires around { find_decl kinds.Interceptor interceptor.now.name (V.list view.now) ≡ Some (declared.Interceptor interceptor.now) }
     requires enabled { is_enabled interceptor.now ≡ true }
-    requires bean { IsAmong (V.list view.now) (declared.Bean bean.now) }
-    ensures value { IfOk result (λ around. around ≡ stands_around (V.list view.now) interceptor.now bean.now) }
-    ensures distinct { AreDistinct (V.list view.now) }
+    requires bean { find_decl kinds.Bean bean.now.name (V.list view.now) ≡ Some (declared.Bean bean.now) }
+    ensures { IfOk result (λ around. around ≡ stands_around (V.list view.now) interceptor.now bean.now) }
 {
-    // No effect at run time. The proof reads here that no two declarations have one kind and name.
-    let _ = view.decls().iter();
     let names = interceptors_of(alloc, view, bean)?;
     Ok(names.contains(&interceptor.name))
 }
@@ -466,10 +474,10 @@ fn add_need(
     dependents: &BTreeMap<Node, BeanId>,
     id: BeanId,
     first: Option<BeanId>,
-    answers: &[Rc<Choice>],
+    answers: &[Lent<'_, Choice>],
     edges: &mut BTreeMap<Node, Vec<Node>>,
 ) -> Result<(), AllocError>
-    ensures { OnOk result (AddsNeeds (keys dependents.now) (need_by id first (map (λ answer. answer.value) answers.now) ∷ [])
+    ensures { OnOk result (AddsNeeds (keys dependents.now) (need_by id first (map lent_value answers.now) ∷ [])
         edges.old edges.new) }
 {
     let node = node_of(alloc, id)?;
@@ -489,11 +497,11 @@ fn push_needed(
     alloc: Global,
     dependents: &BTreeMap<Node, BeanId>,
     first: Option<BeanId>,
-    answers: &[Rc<Choice>],
+    answers: &[Lent<'_, Choice>],
     next: &mut Vec<Node>,
 ) -> Result<(), AllocError>
     ensures { OnOk result (next.new.items ≡ next.old.items ++ filter (has (keys dependents.now))
-        (needed_first first (map (λ answer. answer.value) answers.now))) }
+        (needed_first first (map lent_value answers.now))) }
 {
     if let Some(id) = first {
         push_dependent(alloc, dependents, id, next)?;
@@ -505,14 +513,14 @@ fn push_needed(
 fn push_chosen(
     alloc: Global,
     dependents: &BTreeMap<Node, BeanId>,
-    answers: &[Rc<Choice>],
+    answers: &[Lent<'_, Choice>],
     next: &mut Vec<Node>,
 ) -> Result<(), AllocError>
     ensures { OnOk result (next.new.items ≡ next.old.items
-        ++ filter (has (keys dependents.now)) (flat_map chosen_one (map (λ answer. answer.value) answers.now))) }
+        ++ filter (has (keys dependents.now)) (flat_map chosen_one (map lent_value answers.now))) }
 {
     for answer in answers {
-        push_if_one(alloc, dependents, answer, next)?;
+        push_if_one(alloc, dependents, answer.get(), next)?;
     }
     Ok(())
 }

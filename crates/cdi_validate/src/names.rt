@@ -16,11 +16,10 @@ ghost use Rattle.cdi_validate.specs.Faults.{enabled_name, goes_on, name_clashes,
 ghost use Rattle.cdi_validate.specs.Names.{has_dot_at, prefix_pairs, with_bean, AreNames, AreLed};
 ghost use Rattle.cdi_validate.specs.Together.{is_nameless, HaveNoClash};
 
-use crate::records::records_of;
 use cdi_effective::Effective;
 use cdi_faults::Fault;
 use cdi_model::{Decl, Name};
-use cdi_observe::View;
+use cdi_observe::{View, records_of_decl};
 use cdi_resolve::{Choice, Leaders};
 use std::alloc::{AllocError, Global};
 use std::collections::BTreeMap;
@@ -28,7 +27,7 @@ use std::collections::BTreeMap;
 /// Appends the faults of names: each that several enabled beans have of which none is chosen, and each pair of which one
 /// continues the other. It goes through the beans once, or twice where there is no such fault, and takes memory for the names of
 /// enabled beans. It answers whether no two of these beans share a name, and there is no such fault.
-pub fn push_of_names<V: View>(
+pub(crate) fn push_of_names<V: View>(
     alloc: Global,
     view: &V,
     faults: &mut Vec<Fault>,
@@ -51,7 +50,7 @@ pub fn are_nameless<V: View>(view: &V, decls: &[&Decl]) -> bool
     ensures { result ≡ list_all (is_nameless (V.list view.now)) (map (λ d. d.now) decls.now) }
 {
     for decl in decls {
-        if count_of_names_in(records_of(view, *decl)) != 0 {
+        if count_of_names_in(records_of_decl(view, *decl)) != 0 {
             return false;
         }
     }
@@ -64,7 +63,7 @@ fn have_names_at_most<V: View>(view: &V, most: usize) -> bool
 {
     let mut left = most;
     for decl in view.decls().iter() {
-        let count = count_of_names_in(records_of(view, decl));
+        let count = count_of_names_in(records_of_decl(view, decl));
         if count > left {
             return false;
         }
@@ -93,7 +92,7 @@ fn leaders_of_names<V: View>(alloc: Global, view: &V) -> Result<BTreeMap<Name, L
 {
     let mut leaders = BTreeMap::new(alloc);
     for decl in view.decls().iter() {
-        add_all(alloc, &mut leaders, records_of(view, decl))?;
+        add_all(alloc, &mut leaders, records_of_decl(view, decl))?;
     }
     Ok(leaders)
 }

@@ -40,7 +40,7 @@ struct BeanChain {
 /// Appends a fault for each two enabled beans whose chains share a bean and of which neither is in the chain of the other,
 /// in the byte order of their lines. It takes memory for the chains of the enabled beans that specialize others, for a mark
 /// for each declaration beside each of these chains, and for the lines. It answers whether there is no such fault.
-pub fn push_of_twice<V: View>(
+pub(crate) fn push_of_twice<V: View>(
     alloc: Global,
     view: &V,
     faults: &mut Vec<Fault>,

@@ -1,5 +1,4 @@
 use Rattle.std.proofs.Common.{subst, sym}
-use Rattle.cdi_model.specs.DeclList.{AreDistinct}
 use Rattle.cdi_live.specs.State.{knows}
 use Rattle.cdi_report.specs.Settled.{AreSettled}
 use Rattle.cdi_container.proofs.KeepingLemmas.{settled_committed}
@@ -9,11 +8,11 @@ pub returns-then-is_readied-clause-settled : goal.returns-then-is_readied-clause
 returns-then-is_readied-clause-settled c = λ book settled.
     let live = c.commit.new.self in
     let committed = settled_committed c.args.live.now live book c.args.unsettled.now
-    (subst AreDistinct c.decls.ensures c.iter.ensures.distinct) (subst AreDistinct c.decls-2.ensures c.iter-2.ensures.distinct)
-    (c.requires.readied c.if-is_readied.true) c.commit.ensures settled in
-    subst (λ ds. AreSettled ds (knows live) book c.forget_gone.new.self) c.decls-then-is_readied.ensures
+    c.decls.ensures.distinct c.decls-then-is_readied.ensures.distinct
+    (c.requires.readied c.if-is_readied.true) c.commit.ensures.commits settled in
+    subst (λ ds. AreSettled ds (knows live) book c.forget_gone.new.self) c.decls-then-is_readied.ensures.value
     (c.forget_gone.ensures.settled (knows live) book
-    (subst (λ ds. AreSettled ds (knows live) book c.args.unsettled.now) (sym c.decls-then-is_readied.ensures) committed))
+    (subst (λ ds. AreSettled ds (knows live) book c.args.unsettled.now) (sym c.decls-then-is_readied.ensures.value) committed))
 
 pub returns-else-is_readied-clause-settled : goal.returns-else-is_readied-clause-settled
 returns-else-is_readied-clause-settled c = λ book settled.

@@ -1,10 +1,9 @@
 use Rattle.std.proofs.Common.{◌≡◌, length, refl, sym, subst, ap, ◌∙◌}
-use Rattle.cdi_model.specs.DeclList.{AreDistinct}
-use Rattle.cdi_live.specs.State.{kept_in, knows}
+use Rattle.cdi_live.specs.State.{kept_in}
 use Rattle.cdi_observe.specs.Kept.{EvaluatesSome}
-use Rattle.cdi_observe.specs.Wanted.{is_wanted}
+use Rattle.cdi_observe.specs.Lending.{IsEvaluated}
 use Rattle.cdi_observe.proofs.KeptLemmas.{evaluates_all, where_err}
-use Rattle.cdi_report.proofs.SettledLemmas.{all-knows, asked-known}
+use Rattle.cdi_observe.proofs.LendingLemmas.{evaluated-all}
 use Rattle.cdi_validate.specs.Faults.{faults}
 use Rattle.cdi_container.proofs.found.find_wiring.Goals as goal
 
@@ -16,12 +15,11 @@ of-requires-clause-count g c =
     ap length (c.as_slice.ensures.value ∙ c.in_ok-found.ensures.faults
     ∙ ap (λ ds. faults ds (g.B.Bodies.promises c.args.book.now)) (sym c.in_ok-found.ensures.list))
 
-pub of-requires-clause-known : goal.of-requires-clause-known
-of-requires-clause-known g c =
+pub of-requires-clause-evaluated : goal.of-requires-clause-evaluated
+of-requires-clause-evaluated g c =
     let old = c.args.live.now in
-    let new = c.report.new.view in
-    asked-known new.decls (knows new) (λ key wants. all-knows old.decls (kept_in old) (kept_in new) refl c.in_ok-found.ensures.ok key
-    (ap (λ ds. is_wanted ds key) (sym c.in_ok-found.ensures.list) ∙ wants)) (subst AreDistinct c.decls.ensures c.iter.ensures.distinct)
+    subst (λ ds. IsEvaluated ds (kept_in c.report.new.view)) (sym c.in_ok-found.ensures.list)
+    (evaluated-all old.decls (kept_in old) (kept_in c.report.new.view) c.in_ok-found.ensures.ok)
 
 pub returns-clause-err : goal.returns-clause-err
 returns-clause-err g c =

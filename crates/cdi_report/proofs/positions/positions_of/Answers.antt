@@ -12,4 +12,4 @@ returns c = λ p.
     let end : length keys ≤ c.loop-key.key-index = omega (arith, c.loop-key-test.false) in
     c.loop-key.invariant.marks p
     ∙ ap (list_any (λ k. is_at ds k p)) (take_all c.loop-key.key-index keys end)
-    ∙ at-keys ds c.iter.ensures.distinct keys p
+    ∙ at-keys ds c.requires keys p

@@ -1,37 +1,49 @@
-use Rattle.std.proofs.Common.{◌&&◌, map, subst, ap, ◌∙◌}
-use Rattle.std.specs.List.{list_any}
+use Rattle.std.proofs.Common.{◌&&◌, ◌++◌, map, subst, sym, ap, ◌∙◌}
+use Rattle.std.specs.List.{flat_map, list_any}
+use Rattle.std.proofs.lemmas.Result.{IfOk-weaker}
 use Rattle.cdi_model.specs.Decl.{key_of}
 use Rattle.cdi_model.specs.DeclKey.{same_key}
 use Rattle.cdi_model.specs.DeclList.{AreDistinct}
-use Rattle.cdi_report.specs.Settled.{has_faults, open_of}
-use Rattle.cdi_report.proofs.SettledLemmas.{list-known, open-found, open-known}
+use Rattle.cdi_validate.specs.Among.{faults_together, has_faults}
+use Rattle.cdi_validate.specs.Faults.{faults_of}
+use Rattle.cdi_report.specs.Settled.{open_of}
+use Rattle.cdi_report.proofs.SettledLemmas.{open-found}
+use Rattle.cdi_report.proofs.TogetherLemmas.{none-anew, together-told}
 use Rattle.cdi_report.proofs.report.find.Goals as goal
 
-pub push_of_each-requires-clause-found : goal.push_of_each-requires-clause-found
-push_of_each-requires-clause-found g c =
+pub among-requires : goal.among-requires
+among-requires g c = subst AreDistinct (sym c.decls.ensures.value) c.decls.ensures.distinct
+
+pub together-requires-clause-decls : goal.together-requires-clause-decls
+together-requires-clause-decls g c =
+    ap (map (λ d. d.now)) c.as_slice.ensures.value ∙ c.in_ok-list.ensures ∙ ap (open_of c.args.open.now) c.decls.ensures.value
+
+pub faults_among-requires-clause-found : goal.faults_among-requires-clause-found
+faults_among-requires-clause-found g c =
+    open-found (λ d. d.now) c.as_slice-2.result.now (g.V.View.list c.args.view.now) c.args.open.now c.decls.ensures.distinct
+    (ap (map (λ d. d.now)) c.as_slice-2.ensures.value ∙ c.in_ok-list.ensures ∙ ap (open_of c.args.open.now) c.decls.ensures.value)
+
+pub returns-clause-faults : goal.returns-clause-faults
+returns-clause-faults g c =
     let ds = g.V.View.list c.args.view.now in
-    open-found (λ d. d.now) c.as_slice.result.now ds c.args.open.now (subst AreDistinct c.decls-decls.ensures c.iter.ensures.distinct)
-    (ap (map (λ d. d.now)) c.as_slice.ensures.value ∙ c.in_ok-list.ensures ∙ ap (open_of c.args.open.now) c.decls-decls.ensures)
-
-pub push_of_each-requires-clause-known : goal.push_of_each-requires-clause-known
-push_of_each-requires-clause-known g c =
-    let ds = g.V.View.list c.args.view.now in
-    let knows = (g.V.View.kept c.args.view.now).knows in
-    open-known (λ d. d.now) c.as_slice.result.now ds c.args.open.now knows (subst AreDistinct c.decls-decls.ensures c.iter.ensures.distinct)
-    (ap (map (λ d. d.now)) c.as_slice.ensures.value ∙ c.in_ok-list.ensures ∙ ap (open_of c.args.open.now) c.decls-decls.ensures)
-    (list-known ds knows c.requires.known)
-
-pub push_of_several-requires-clause-distinct : goal.push_of_several-requires-clause-distinct
-push_of_several-requires-clause-distinct g c = subst AreDistinct c.decls-decls.ensures c.iter.ensures.distinct
-
-pub push_of_several-requires-clause-decls : goal.push_of_several-requires-clause-decls
-push_of_several-requires-clause-decls g c =
-    ap (map (λ d. d.now)) c.as_slice-2.ensures.value ∙ c.in_ok-list.ensures ∙ ap (open_of c.args.open.now) c.decls-decls.ensures
+    let of_decls = flat_map (faults_of ds (g.B.Bodies.promises c.args.book.now)) in
+    let looked = c.in_ok-together.together in
+    IfOk-weaker c.faults_among.result _ _ (λ found are. are
+    ∙ ap (λ es. of_decls es ++ faults_together ds looked)
+    (ap (map (λ d. d.now)) c.as_slice-2.ensures.value ∙ c.in_ok-list.ensures ∙ ap (open_of c.args.open.now) c.decls.ensures.value)
+    ∙ ap (λ fs. of_decls (open_of c.args.open.now ds) ++ fs) (together-told ds looked c.decls.ensures.distinct c.in_ok-together.ensures))
+    c.faults_among.ensures.faults
 
 pub returns-clause-keys : goal.returns-clause-keys
-returns-clause-keys g c = λ k.
+returns-clause-keys g c =
     let ds = g.V.View.list c.args.view.now in
     let book = g.B.Bodies.promises c.args.book.now in
-    c.in_ok-keys.ensures.keys k
+    IfOk-weaker c.faults_among.result _ _ (λ found are k. are k
     ∙ ap (list_any (λ d. same_key (key_of d) k && has_faults ds book d))
-    (ap (map (λ d. d.now)) c.as_slice.ensures.value ∙ c.in_ok-list.ensures ∙ ap (open_of c.args.open.now) c.decls-decls.ensures)
+    (ap (map (λ d. d.now)) c.as_slice-2.ensures.value ∙ c.in_ok-list.ensures ∙ ap (open_of c.args.open.now) c.decls.ensures.value))
+    c.faults_among.ensures.keys
+
+pub returns-clause-together : goal.returns-clause-together
+returns-clause-together g c =
+    IfOk-weaker c.faults_among.result _ _ (λ found anew. none-anew (g.V.View.list c.args.view.now) c.in_ok-together.together found.together
+    c.in_ok-together.ensures anew) c.faults_among.ensures.together

@@ -10,6 +10,7 @@ use Rattle.cdi_match.specs.Chain.{has}
 use Rattle.cdi_match.proofs.Names.{at_name}
 use Rattle.cdi_circles.specs.Edges.{Edges, next_in, texts_in}
 use Rattle.cdi_circles.proofs.EdgeLemmas.{left_in, texts_in-put}
+use Rattle.cdi_observe.specs.Lending.{lent_value}
 use Rattle.cdi_validate.specs.Circles.{between}
 use Rattle.cdi_validate.specs.Needed.{needed_first, AddsNeeds}
 use Rattle.cdi_validate.proofs.NeedLemmas.{need_added}
@@ -39,7 +40,7 @@ returns-in_ok-insert c =
     let node = c.in_ok-node.node in
     let old = c.args.edges.now in
     let between-edges = c.remove.new.self in
-    let needed = needed_first c.args.first (map (λ answer. answer.value) c.args.answers.now) in
+    let needed = needed_first c.args.first (map lent_value c.args.answers.now) in
     let next = c.push_needed.new.next in
     need_put nodes old c.insert.new.self node _ needed next.items c.new.result c.remove.result c.in_ok-node.ensures
     (sym c.is_among.ensures ∙ c.if-not-is_among.false) c.new.ensures.items c.remove.ensures.value
@@ -55,7 +56,7 @@ returns-else-not-is_empty c =
     let nodes = keys c.args.dependents.now in
     let node = c.in_ok-node.node in
     let old = c.args.edges.now in
-    let needed = needed_first c.args.first (map (λ answer. answer.value) c.args.answers.now) in
+    let needed = needed_first c.args.first (map lent_value c.args.answers.now) in
     let next = c.push_needed.new.next in
     let none : next.items ≡ [] = nil_from_length next.items
     (omega (arith, next.ok.0, eqb-true next.len 0 (sym c.is_empty.ensures ∙ c.if-not-is_empty.false))) in

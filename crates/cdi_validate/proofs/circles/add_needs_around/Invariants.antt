@@ -3,12 +3,12 @@ use Rattle.std.specs.BTreeMap.{keys}
 use Rattle.std.specs.List.{flat_map}
 use Rattle.cdi_circles.specs.Edges.{next_in}
 use Rattle.cdi_model.specs.declared.decl.Decl.TheVariants as declared
-use Rattle.cdi_validate.specs.Circles.{between, chosen_one, need_around}
+use Rattle.cdi_validate.specs.Circles.{between, chosen_for, need_around}
 use Rattle.cdi_validate.proofs.circles.add_needs_around.Given as goal
 
 abbrev pub invariant-loop-bean : goal.invariant-loop-bean
 invariant-loop-bean g l = (x : List ℕ) → next_in l.edges x ++ between (keys l.dependents)
-    (flat_map (need_around (g.V.View.list l.view) l.interceptor (flat_map chosen_one (map (λ a. a.value) l.answers)))
+    (flat_map (need_around (g.V.View.list l.view) l.interceptor (chosen_for (g.V.View.list l.view) l.interceptor.points))
     (map (λ bean. declared.Bean bean) (map (λ bean. bean.now) (drop l.bean-index l.bean-items)))) x
     ≡ next_in l.fn.edges x ++ between (keys l.dependents)
-    (flat_map (need_around (g.V.View.list l.view) l.interceptor (flat_map chosen_one (map (λ a. a.value) l.answers))) (g.V.View.list l.view)) x
+    (flat_map (need_around (g.V.View.list l.view) l.interceptor (chosen_for (g.V.View.list l.view) l.interceptor.points)) (g.V.View.list l.view)) x

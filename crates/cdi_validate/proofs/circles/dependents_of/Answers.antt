@@ -2,14 +2,20 @@ use Rattle.std.proofs.Common.{◌≡◌, ◌++◌, [], ◌∷◌, true, fold, sy
 use Rattle.std.specs.List.{flat_map}
 use Rattle.std.proofs.lemmas.List.Sums.{fold-append}
 use Rattle.cdi_model.specs.Decl.{name_of_decl}
-use Rattle.cdi_model.specs.DeclList.{AreDistinct}
 use Rattle.cdi_model.specs.Grammar.{is_name}
 use Rattle.cdi_effective.specs.Beans.{entries}
 use Rattle.cdi_validate.specs.Circles.{dependents_by_text, with_dependent}
 use Rattle.cdi_validate.specs.Together.{AreNamed}
 use Rattle.cdi_validate.proofs.ApartLemmas.{all-append}
-use Rattle.cdi_validate.proofs.FoundLemmas.{all-gone, records-next}
+use Rattle.cdi_validate.proofs.FoundLemmas.{all-gone, found-next, records-next}
 use Rattle.cdi_validate.proofs.circles.dependents_of.Goals as goal
+
+pub records_of_decl-requires : goal.records_of_decl-requires
+records_of_decl-requires g c =
+    let ds = g.V.View.list c.args.view.now in
+    let gone = c.loop-decl.invariant in
+    found-next ds gone.0 c.next.new.self c.in-Some.decl.now c.decls.ensures.distinct
+    (ap (λ left. gone.0 ++ left) (sym c.in-Some.ensures.steps) ∙ gone.1)
 
 pub loop-decl-preserved : goal.loop-decl-preserved
 loop-decl-preserved g c =
@@ -20,14 +26,13 @@ loop-decl-preserved g c =
     let rest = c.next.new.self in
     let split : es ++ d ∷ rest ≡ ds = ap (λ left. es ++ left) (sym c.in-Some.ensures.steps) ∙ gone.1 in
     let before = flat_map (entries ds) es in
-    let own = c.records_of.result.now in (
+    let own = c.records_of_decl.result.now in (
       es ++ d ∷ [],
       append_assoc es (d ∷ []) rest ∙ split,
       c.in_ok-add_dependents.ensures
           ∙ ap (λ dependents. fold with_dependent dependents own) gone.2
           ∙ sym (fold-append with_dependent [] before own)
-          ∙ ap dependents_by_text (records-next ds es rest d own
-          (subst AreDistinct c.decls.ensures c.iter-decl-items.ensures.distinct) split c.records_of.ensures),
+          ∙ ap dependents_by_text (ap (λ records. before ++ records) c.records_of_decl.ensures ∙ records-next ds es d),
       all-append (λ e. is_name (name_of_decl e) ≡ true) es (d ∷ []) gone.3
           (subst (λ name. is_name name ≡ true) c.name.ensures c.as_bytes.ensures.grammar, tt),
     )

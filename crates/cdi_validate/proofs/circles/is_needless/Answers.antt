@@ -1,28 +1,25 @@
-use Rattle.std.proofs.Common.{◌≡◌, Bool, true, false, not, ◌&&◌, ◌||◌, List, Some, length, refl, sym, ap, ◌∙◌, arith}
+use Rattle.std.proofs.Common.{◌≡◌, Bool, true, false, not, ◌&&◌, ◌||◌, List, length, subst, refl, sym, ap, ◌∙◌, arith}
 use Rattle.std.specs.Prelude.{◌==◌}
 use Rattle.std.specs.List.{list_any}
-use Rattle.cdi_model.specs.Decl.{kind_of, name_of_decl}
-use Rattle.cdi_model.specs.DeclList.{find_decl}
 use Rattle.cdi_model.specs.declared.decl.BeanDecl.{BeanDecl}
 use Rattle.cdi_model.specs.declared.decl.Decl.{Decl}
 use Rattle.cdi_model.specs.declared.decl.Decl.TheVariants as decls
 use Rattle.cdi_effective.specs.Beans.{entries}
+use Rattle.cdi_effective.specs.Disposers.{as_bean}
 use Rattle.cdi_effective.specs.declared.records.Effective.{Effective}
 use Rattle.cdi_observe.specs.Around.{names_of_bean}
+use Rattle.cdi_observe.proofs.LendingLemmas.{chains-answerable}
+use Rattle.cdi_observe.proofs.RestLemmas.{IsFound}
 use Rattle.cdi_validate.specs.Circles.{is_dependent}
-use Rattle.cdi_validate.specs.Records.{records_by}
 use Rattle.cdi_validate.specs.Together.{is_empty, is_needless}
-use Rattle.cdi_validate.proofs.FoundLemmas.{records-of-found}
 use Rattle.cdi_validate.proofs.circles.is_needless.Goals as goal
 use Rattle.cdi_validate.proofs.circles.is_needless.Goals.{then-not-is_empty-via-then-not-is_empty}
 use Rattle.cdi_validate.proofs.circles.is_needless.Goals.{then-not-is_empty-via-else-not-is_empty+then-not-is_empty-2}
 
--- what is found of the beans of the declaration that is found
-found-dependent : (ds : List Decl) (d : Decl) (records : List Effective) (has is : Bool) → records ≡ records_by ds d
-    → find_decl (kind_of d) (name_of_decl d) ds ≡ Some d → has ≡ list_any is_dependent records → has ≡ is
-    → list_any is_dependent (entries ds d) ≡ is
-found-dependent ds d records has is are found told same =
-    ap (list_any is_dependent) (sym (are ∙ records-of-found ds d found)) ∙ sym told ∙ same
+-- what is found of the beans of a declaration
+found-dependent : (ds : List Decl) (d : Decl) (records : List Effective) (has is : Bool) → records ≡ entries ds d
+    → has ≡ list_any is_dependent records → has ≡ is → list_any is_dependent (entries ds d) ≡ is
+found-dependent ds d records has is are told same = ap (list_any is_dependent) (sym are) ∙ sym told ∙ same
 
 -- a bean is needless where none of its beans is dependent, and else by what it has
 by-dependents : (ds : List Decl) (d : Decl) (b : BeanDecl) (some : Bool) → d ≡ decls.Bean b → list_any is_dependent (entries ds d) ≡ some
@@ -47,7 +44,7 @@ returns-then-not-has_dependent g c =
     let ds = g.V.View.list c.args.view.now in
     let d = c.args.decl.now in
     sym (by-dependents ds d c.in-Bean.bean false c.in-Bean.is
-    (found-dependent ds d c.records_of.result.now c.has_dependent.result false c.records_of.ensures c.requires c.has_dependent.ensures
+    (found-dependent ds d c.records_of_decl.result.now c.has_dependent.result false c.records_of_decl.ensures c.has_dependent.ensures
     c.if-not-has_dependent.true))
 
 pub returns-then-not-is_empty : goal.returns-then-not-is_empty
@@ -55,7 +52,7 @@ returns-then-not-is_empty g c =
     let ds = g.V.View.list c.args.view.now in
     let d = c.args.decl.now in
     let b = c.in-Bean.bean in
-    let has = found-dependent ds d c.records_of.result.now c.has_dependent.result true c.records_of.ensures c.requires
+    let has = found-dependent ds d c.records_of_decl.result.now c.has_dependent.result true c.records_of_decl.ensures
     c.has_dependent.ensures c.if-not-has_dependent.false in
     sym (by-dependents ds d b true c.in-Bean.is has ∙ elim c.then-not-is_empty.branch [
       | then-not-is_empty-via-then-not-is_empty w ↦ first-none (is_empty b.points) (is_empty b.producers) (is_empty (names_of_bean ds b))
@@ -65,13 +62,23 @@ returns-then-not-is_empty g c =
           (sym w.is_empty-else-not-is_empty.ensures ∙ w.if-not-is_empty-2.true)
     ])
 
+pub interceptors_of-requires-clause-found : goal.interceptors_of-requires-clause-found
+interceptors_of-requires-clause-found g c =
+    ap as_bean (subst (IsFound (g.V.View.list c.args.view.now)) c.in-Bean.is c.requires.found)
+
+pub interceptors_of-requires-clause-answerable : goal.interceptors_of-requires-clause-answerable
+interceptors_of-requires-clause-answerable g c =
+    let ds = g.V.View.list c.args.view.now in
+    chains-answerable ds (g.V.View.kept c.args.view.now) (decls.Bean c.in-Bean.bean) (subst (IsFound ds) c.in-Bean.is c.requires.found)
+    c.requires.evaluated
+
 pub returns-in_ok-interceptors_of-in-Bean : goal.returns-in_ok-interceptors_of-in-Bean
 returns-in_ok-interceptors_of-in-Bean g c =
     let ds = g.V.View.list c.args.view.now in
     let d = c.args.decl.now in
     let b = c.in-Bean.bean in
     let names = c.in_ok-interceptors_of-in-Bean.field-0 in
-    let has = found-dependent ds d c.records_of.result.now c.has_dependent.result true c.records_of.ensures c.requires
+    let has = found-dependent ds d c.records_of_decl.result.now c.has_dependent.result true c.records_of_decl.ensures
     c.has_dependent.ensures c.if-not-has_dependent.false in
     let long : names.len ≡ length names.items = omega (arith, names.ok.0) in
     c.is_empty-in-Bean.ensures

@@ -36,7 +36,7 @@ loop-code-preserved-then-not-may_find g c =
     let codes = c.all-code-items.result in
     let code = get_or codes i codes_of.UnknownName in
     let within = subst (λ cs. i < length cs) (sym c.all-code-items.ensures.value) c.loop-code-test.true in
-    let seen = c.at-glance.ensures.value ∙ ap (λ l. glance_at l book d) c.decls.ensures in
+    let seen = c.at-glance.ensures.value ∙ ap (λ l. glance_at l book d) c.decls.ensures.value in
     let none = c.at-glance.ensures.nothing ds book d code
     (ap (λ glance. may_find glance code) (sym seen) ∙ sym c.may_find.ensures ∙ c.if-not-may_find.true) in
     skipped (faults_of_code ds book d) codes i code c.loop-code.faults.items _ within

@@ -1,7 +1,5 @@
-use Rattle.std.proofs.Common.{◌≡◌, true, false, Some, sym, subst, ◌∙◌}
+use Rattle.std.proofs.Common.{◌≡◌, true, false, sym, ◌∙◌}
 use Rattle.std.proofs.lemmas.Bool.{eq-eqb, ne_eqb}
-use Rattle.cdi_model.specs.Decl.{kind_of, name_of_decl}
-use Rattle.cdi_model.specs.DeclList.{find_decl}
 use Rattle.cdi_validate.specs.Together.{is_nameless}
 use Rattle.cdi_validate.proofs.CountLemmas.{all-from, nameless-by}
 use Rattle.cdi_validate.proofs.names.are_nameless.Goals as goal
@@ -12,10 +10,8 @@ returns-then-count_of_names_in-ne0 g c =
     let item = c.decl-item.result in
     let i = c.loop-decl.decl-index in
     let count = c.count_of_names_in.result in
-    let found = subst (λ d. find_decl (kind_of d.now) (name_of_decl d.now) ds ≡ Some d.now) (sym c.decl-item.is)
-    (c.requires i item c.loop-decl-test.true) in
     let named : is_nameless ds item.now ≡ false =
-    nameless-by ds item.now c.records_of.result.now count found c.records_of.ensures c.count_of_names_in.ensures
+    nameless-by ds item.now c.records_of_decl.result.now count c.records_of_decl.ensures c.count_of_names_in.ensures
     ∙ ne_eqb count 0 c.if-count_of_names_in-ne0.true in
     sym (all-from (is_nameless ds) (λ d. d.now) c.args.decls.now i item false c.loop-decl-test.true c.decl-item.is named)
     ∙ c.loop-decl.invariant
@@ -26,10 +22,8 @@ loop-decl-preserved g c =
     let item = c.decl-item.result in
     let i = c.loop-decl.decl-index in
     let count = c.count_of_names_in.result in
-    let found = subst (λ d. find_decl (kind_of d.now) (name_of_decl d.now) ds ≡ Some d.now) (sym c.decl-item.is)
-    (c.requires i item c.loop-decl-test.true) in
     let nameless : is_nameless ds item.now ≡ true =
-    nameless-by ds item.now c.records_of.result.now count found c.records_of.ensures c.count_of_names_in.ensures
+    nameless-by ds item.now c.records_of_decl.result.now count c.records_of_decl.ensures c.count_of_names_in.ensures
     ∙ eq-eqb count 0 c.if-count_of_names_in-ne0.false in
     sym (all-from (is_nameless ds) (λ d. d.now) c.args.decls.now i item true c.loop-decl-test.true c.decl-item.is nameless)
     ∙ c.loop-decl.invariant

@@ -1,12 +1,17 @@
-use Rattle.std.proofs.Common.{◌≡◌, ◌++◌, [], ◌∷◌, length, sym, subst, ap, ◌∙◌, append_assoc, arith}
+use Rattle.std.proofs.Common.{◌≡◌, ◌++◌, [], ◌∷◌, length, sym, ap, ◌∙◌, append_assoc, arith}
 use Rattle.std.specs.List.{flat_map}
 use Rattle.std.proofs.lemmas.Bool.{le-leb, lt-leb}
-use Rattle.cdi_model.specs.DeclList.{AreDistinct}
 use Rattle.cdi_effective.specs.Beans.{beans}
 use Rattle.cdi_validate.specs.Faults.{enabled_name}
-use Rattle.cdi_validate.proofs.FoundLemmas.{all-gone}
+use Rattle.cdi_validate.proofs.FoundLemmas.{all-gone, found-next}
 use Rattle.cdi_validate.proofs.CountLemmas.{count-gone, count-next}
 use Rattle.cdi_validate.proofs.names.have_names_at_most.Goals as goal
+
+pub records_of_decl-requires : goal.records_of_decl-requires
+records_of_decl-requires g c =
+    let gone = c.loop-decl.invariant in
+    found-next (g.V.View.list c.args.view.now) gone.0 c.next.new.self c.in-Some.decl.now c.decls.ensures.distinct
+    (ap (λ left. gone.0 ++ left) (sym c.in-Some.ensures.steps) ∙ gone.1)
 
 pub returns-then-count-left : goal.returns-then-count-left
 returns-then-count-left g c =
@@ -15,8 +20,8 @@ returns-then-count-left g c =
     let d = c.in-Some.decl.now in
     let rest = c.next.new.self in
     let split : gone.0 ++ d ∷ rest ≡ ds = ap (λ left. gone.0 ++ left) (sym c.in-Some.ensures.steps) ∙ gone.1 in
-    let next = count-next ds gone.0 rest d c.records_of.result.now c.count_of_names_in-count.result
-    (subst AreDistinct c.decls.ensures c.iter-decl-items.ensures.distinct) split c.records_of.ensures c.count_of_names_in-count.ensures in
+    let next = count-next ds gone.0 d c.records_of_decl.result.now c.count_of_names_in-count.result c.records_of_decl.ensures
+    c.count_of_names_in-count.ensures in
     let all = count-gone ds (gone.0 ++ d ∷ []) rest (append_assoc gone.0 (d ∷ []) rest ∙ split) in
     let left = gone.2 in
     let more = c.if-count-left.true in
@@ -29,8 +34,8 @@ loop-decl-preserved g c =
     let d = c.in-Some.decl.now in
     let rest = c.next.new.self in
     let split : gone.0 ++ d ∷ rest ≡ ds = ap (λ left. gone.0 ++ left) (sym c.in-Some.ensures.steps) ∙ gone.1 in
-    let next = count-next ds gone.0 rest d c.records_of.result.now c.count_of_names_in-count.result
-    (subst AreDistinct c.decls.ensures c.iter-decl-items.ensures.distinct) split c.records_of.ensures c.count_of_names_in-count.ensures in
+    let next = count-next ds gone.0 d c.records_of_decl.result.now c.count_of_names_in-count.result c.records_of_decl.ensures
+    c.count_of_names_in-count.ensures in
     let left = gone.2 in
     let fewer = c.if-count-left.false in (
       gone.0 ++ d ∷ [],

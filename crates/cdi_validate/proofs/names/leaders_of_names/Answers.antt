@@ -6,14 +6,13 @@ use Rattle.std.specs.Map.{lookup}
 use Rattle.std.specs.Ordering.{nat_cmp}
 use Rattle.std.proofs.lemmas.Bool.{false≢true}
 use Rattle.std.proofs.lemmas.Grind.{flat_map-append}
-use Rattle.cdi_model.specs.DeclList.{AreDistinct}
 use Rattle.cdi_effective.specs.Beans.{entries}
 use Rattle.cdi_resolve.specs.Choices.{named}
 use Rattle.cdi_resolve.specs.declared.leaders.Leaders.{Leaders}
 use Rattle.cdi_validate.specs.Faults.{enabled_name}
 use Rattle.cdi_validate.specs.Names.{leaders_in, AreLed, AreNames}
 use Rattle.cdi_validate.proofs.ClashLemmas.{names-both}
-use Rattle.cdi_validate.proofs.FoundLemmas.{all-gone, records-next}
+use Rattle.cdi_validate.proofs.FoundLemmas.{all-gone, found-next, records-next}
 use Rattle.cdi_validate.proofs.names.leaders_of_names.Goals as goal
 
 none-led : (entries : List (List ℕ × Leaders)) → entries ≡ []
@@ -24,10 +23,16 @@ none-led entries none s = ap (lookup (is_at (slice_cmp nat_cmp s))) none
 pub loop-decl-init : goal.loop-decl-init
 loop-decl-init g c = (
   [],
-  c.into_iter-decl-iterator.ensures.into_iter_gives ∙ c.iter-decl-items.ensures.value ∙ c.decls.ensures,
+  c.into_iter-decl-iterator.ensures.into_iter_gives ∙ c.iter-decl-items.ensures.value ∙ c.decls.ensures.value,
   none-led c.new-leaders.result.entries c.new-leaders.ensures.empty,
   λ s among. absurd (false≢true among),
 )
+
+pub records_of_decl-requires : goal.records_of_decl-requires
+records_of_decl-requires g c =
+    let gone = c.loop-decl.invariant in
+    found-next (g.V.View.list c.args.view.now) gone.0 c.next.new.self c.in-Some.decl.now c.decls.ensures.distinct
+    (ap (λ left. gone.0 ++ left) (sym c.in-Some.ensures.steps) ∙ gone.1)
 
 pub loop-decl-preserved : goal.loop-decl-preserved
 loop-decl-preserved g c =
@@ -38,9 +43,9 @@ loop-decl-preserved g c =
     let rest = c.next.new.self in
     let split : es ++ d ∷ rest ≡ ds = ap (λ left. es ++ left) (sym c.in-Some.ensures.steps) ∙ gone.1 in
     let before = flat_map (entries ds) es in
-    let own = c.records_of.result.now in
-    let more : before ++ own ≡ flat_map (entries ds) (es ++ d ∷ []) = records-next ds es rest d own
-    (subst AreDistinct c.decls.ensures c.iter-decl-items.ensures.distinct) split c.records_of.ensures in (
+    let own = c.records_of_decl.result.now in
+    let more : before ++ own ≡ flat_map (entries ds) (es ++ d ∷ []) =
+    ap (λ records. before ++ records) c.records_of_decl.ensures ∙ records-next ds es d in (
       es ++ d ∷ [],
       append_assoc es (d ∷ []) rest ∙ split,
       subst (AreLed c.add_all.new.leaders) more (c.in_ok-add_all.ensures.led before gone.2),

@@ -1,6 +1,5 @@
 use Rattle.std.proofs.Common.{◌≡◌, ◌++◌, [], ◌∷◌, filter, sym, subst, ap, ◌∙◌, append_assoc}
 use Rattle.std.specs.List.{AllZip, flat_map}
-use Rattle.cdi_model.specs.DeclList.{AreDistinct}
 use Rattle.cdi_validate.specs.Linked.{KeepsChain}
 use Rattle.cdi_validate.specs.Twice.{enabled_bean}
 use Rattle.cdi_validate.proofs.LinkLemmas.{specializing-next}
@@ -17,6 +16,6 @@ loop-decl-preserved g c =
       es ++ d ∷ [],
       append_assoc es (d ∷ []) rest ∙ split,
       subst (AllZip (KeepsChain ds) c.push_of_decl.new.chains.items)
-          (specializing-next ds es rest d (subst AreDistinct c.decls.ensures c.iter-decl-items.ensures.distinct) split)
+          (specializing-next ds es rest d c.decls.ensures.distinct split)
           (c.in_ok-push_of_decl.ensures (filter (λ b. b.specializes) (flat_map (enabled_bean ds) es)) gone.2),
     )

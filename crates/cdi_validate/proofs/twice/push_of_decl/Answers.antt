@@ -15,4 +15,4 @@ returns g c = λ bs kept.
     subst (λ chains. AllZip (KeepsChain ds) chains (bs ++ specializing_by ds c.args.decl.now)) (sym c.in_ok-push.ensures.items)
     (subst (λ more. AllZip (KeepsChain ds) (c.args.chains.now.items ++ chain ∷ []) (bs ++ more)) (sym own)
     (zip-push (KeepsChain ds) c.args.chains.now.items bs chain b kept
-    (subst (λ ds. KeepsChain ds chain b) c.decls.ensures c.in_ok-chain_of.ensures)))
+    (subst (λ ds. KeepsChain ds chain b) c.decls.ensures.value c.in_ok-chain_of.ensures)))

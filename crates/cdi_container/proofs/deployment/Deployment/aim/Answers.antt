@@ -23,7 +23,7 @@ pub returns-then-not-are_known-clause-asked : goal.returns-then-not-are_known-cl
 returns-then-not-are_known-clause-asked g c =
     use-unknown c.args.self.now c.args.bean_type c.args.quals.now c.wire.new.self
     (sym (c.are_known.ensures ∙ ap (λ ds. are_known ds c.args.bean_type c.args.quals.now)
-    (c.decls.ensures ∙ ap (λ (d : Deployed). d.decls) c.self.view_is ∙ c.wire.ensures.decls)) ∙ c.if-not-are_known.true)
+    (c.decls.ensures.value ∙ ap (λ (d : Deployed). d.decls) c.self.view_is ∙ c.wire.ensures.decls)) ∙ c.if-not-are_known.true)
     c.in_ok-count.ensures.asked
 
 pub returns-clause-asked : goal.returns-clause-asked
@@ -36,6 +36,6 @@ returns-clause-asked g c =
     (λ asked. use-own d c.args.bean_type c.args.quals.now c.wire.new.self c.aim_wired.new.self c.wire.ensures.order
     (sym c.in_ok-count.ensures.count ∙ c.if-count-ne0.false)
     (sym (c.are_known.ensures ∙ ap (λ ds. are_known ds c.args.bean_type c.args.quals.now)
-    (c.decls.ensures ∙ ap (λ (x : Deployed). x.decls) c.self.view_is ∙ c.wire.ensures.decls)) ∙ c.if-not-are_known.false)
+    (c.decls.ensures.value ∙ ap (λ (x : Deployed). x.decls) c.self.view_is ∙ c.wire.ensures.decls)) ∙ c.if-not-are_known.false)
     c.in_ok-count.ensures.asked asked)
     (use-apart d c.args.bean_type c.args.quals.now) c.aim_wired.ensures.asked

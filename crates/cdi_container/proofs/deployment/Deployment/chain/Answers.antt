@@ -20,4 +20,4 @@ returns-clause-asked g c =
     on_ok_weaker c.chain.result
     (λ kept. subst (λ (d : Deployed). IsAsked (ChainKey c.args.bean c.args.place.now ∷ []) d (deployed_on c.chain.new.self book (is_sound c.self.inside.wiring))) c.self.view_is
     (asks_one c.self.inside.live c.chain.new.self book (is_sound c.self.inside.wiring) (ChainKey c.args.bean c.args.place.now) c.chain.ensures.decls
-    c.chain.ensures.counts c.work.ensures.wanted kept)) c.chain.ensures.kept
+    c.chain.ensures.counts c.chain.ensures.wanted kept)) c.chain.ensures.kept

@@ -20,4 +20,4 @@ returns-clause-asked g c =
     on_ok_weaker c.choose.result
     (λ kept. subst (λ (d : Deployed). IsAsked (choice_key c.args.bean_type c.args.quals.now ∷ []) d (deployed_on c.choose.new.self book (is_sound c.self.inside.wiring))) c.self.view_is
     (asks_one c.self.inside.live c.choose.new.self book (is_sound c.self.inside.wiring) (choice_key c.args.bean_type c.args.quals.now) c.choose.ensures.decls
-    c.choose.ensures.counts c.work.ensures.wanted kept)) c.choose.ensures.kept
+    c.choose.ensures.counts c.choose.ensures.wanted kept)) c.choose.ensures.kept

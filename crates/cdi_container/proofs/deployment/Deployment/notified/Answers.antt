@@ -23,7 +23,7 @@ pub returns-then-not-can_be_fired-clause-asked : goal.returns-then-not-can_be_fi
 returns-then-not-can_be_fired-clause-asked g c =
     event-unknown c.args.self.now c.args.event_type c.args.quals.now c.wire.new.self
     (sym (c.can_be_fired.ensures ∙ ap (λ ds. can_be_fired ds c.args.event_type c.args.quals.now)
-    (c.decls.ensures ∙ ap (λ (d : Deployed). d.decls) c.self.view_is ∙ c.wire.ensures.decls)) ∙ c.if-not-can_be_fired.true)
+    (c.decls.ensures.value ∙ ap (λ (d : Deployed). d.decls) c.self.view_is ∙ c.wire.ensures.decls)) ∙ c.if-not-can_be_fired.true)
     c.in_ok-count.ensures.asked
 
 pub returns-clause-asked : goal.returns-clause-asked
@@ -36,6 +36,6 @@ returns-clause-asked g c =
     (λ asked. event-own d c.args.event_type c.args.quals.now c.wire.new.self c.notified_wired.new.self c.wire.ensures.order
     (sym c.in_ok-count.ensures.count ∙ c.if-count-ne0.false)
     (sym (c.can_be_fired.ensures ∙ ap (λ ds. can_be_fired ds c.args.event_type c.args.quals.now)
-    (c.decls.ensures ∙ ap (λ (x : Deployed). x.decls) c.self.view_is ∙ c.wire.ensures.decls)) ∙ c.if-not-can_be_fired.false)
+    (c.decls.ensures.value ∙ ap (λ (x : Deployed). x.decls) c.self.view_is ∙ c.wire.ensures.decls)) ∙ c.if-not-can_be_fired.false)
     c.in_ok-count.ensures.asked asked)
     (event-apart d c.args.event_type c.args.quals.now) c.notified_wired.ensures.asked

@@ -20,4 +20,4 @@ returns-clause-asked g c =
     on_ok_weaker c.observers.result
     (λ kept. subst (λ (d : Deployed). IsAsked (EventKey c.args.event_type c.args.quals.now ∷ []) d (deployed_on c.observers.new.self book (is_sound c.self.inside.wiring))) c.self.view_is
     (asks_one c.self.inside.live c.observers.new.self book (is_sound c.self.inside.wiring) (EventKey c.args.event_type c.args.quals.now) c.observers.ensures.decls
-    c.observers.ensures.counts c.work.ensures.wanted kept)) c.observers.ensures.kept
+    c.observers.ensures.counts c.observers.ensures.wanted kept)) c.observers.ensures.kept

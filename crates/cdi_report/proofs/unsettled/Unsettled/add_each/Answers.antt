@@ -1,6 +1,8 @@
-use Rattle.std.proofs.Common.{refl}
+use Rattle.std.proofs.Common.{refl, ap}
+use Rattle.cdi_validate.specs.declared.deployment.Together.{Together}
 use Rattle.cdi_report.proofs.TogetherLemmas.{settled_anyway}
 use Rattle.cdi_report.proofs.unsettled.Unsettled.add_each.Goals as goal
 
 pub returns : goal.returns
-returns c = settled_anyway _ (λ k. refl) refl refl refl
+returns c = settled_anyway _ (λ k. refl) (ap (λ (t : Together). t.names) c.all-self.ensures) (ap (λ (t : Together). t.circles) c.all-self.ensures)
+    (ap (λ (t : Together). t.chains) c.all-self.ensures)

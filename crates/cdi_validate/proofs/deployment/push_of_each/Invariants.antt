@@ -4,8 +4,8 @@ use Rattle.indexmap.specs.IndexSet.{contains}
 use Rattle.cdi_model.specs.Decl.{key_of}
 use Rattle.cdi_model.specs.DeclKey.{same_key}
 use Rattle.cdi_validate.specs.Faults.{faults_of}
-use Rattle.cdi_report.specs.Settled.{has_faults}
-use Rattle.cdi_report.proofs.report.push_of_each.Given as goal
+use Rattle.cdi_validate.specs.Among.{has_faults}
+use Rattle.cdi_validate.proofs.deployment.push_of_each.Given as goal
 
 abbrev pub invariant-loop-decl : goal.invariant-loop-decl
 invariant-loop-decl g l = record {

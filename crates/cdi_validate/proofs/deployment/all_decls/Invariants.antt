@@ -1,5 +1,5 @@
 use Rattle.std.proofs.Common.{◌≡◌, ◌++◌, map}
-use Rattle.cdi_report.proofs.positions.all_decls.Given as goal
+use Rattle.cdi_validate.proofs.deployment.all_decls.Given as goal
 
 abbrev pub invariant-loop-decl : goal.invariant-loop-decl
 invariant-loop-decl l = map (λ d. d.now) l.list.items ++ l.decl-iterator ≡ l.decls

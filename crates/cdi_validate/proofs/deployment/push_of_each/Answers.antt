@@ -8,10 +8,10 @@ use Rattle.cdi_model.specs.Decl.{key_of}
 use Rattle.cdi_model.specs.DeclKey.{same_key}
 use Rattle.cdi_model.specs.declared.decl.Decl.{Decl}
 use Rattle.cdi_model.specs.declared.key.DeclKey.{DeclKey}
-use Rattle.cdi_observe.proofs.PlaceLemmas.{mapped-next}
+use Rattle.cdi_observe.proofs.AskedLemmas.{mapped-next}
 use Rattle.cdi_validate.specs.Faults.{faults_of}
-use Rattle.cdi_report.specs.Settled.{has_faults}
-use Rattle.cdi_report.proofs.report.push_of_each.Goals as goal
+use Rattle.cdi_validate.specs.Among.{has_faults}
+use Rattle.cdi_validate.proofs.deployment.push_of_each.Goals as goal
 
 pub loop-decl-preserved : goal.loop-decl-preserved
 loop-decl-preserved g c =

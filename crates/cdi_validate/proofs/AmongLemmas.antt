@@ -1,0 +1,22 @@
+-- What is found among some declarations is all that there is.
+use Rattle.std.proofs.Common.{◌≡◌, List, ◌++◌, sym, ap, ◌∙◌, append_assoc}
+use Rattle.std.specs.List.{flat_map}
+use Rattle.cdi_bodies.specs.Book.{Promised}
+use Rattle.cdi_model.specs.declared.decl.Decl.{Decl}
+use Rattle.cdi_effective.specs.Beans.{beans}
+use Rattle.cdi_validate.specs.Among.{faults_together, looks_at_all}
+use Rattle.cdi_validate.specs.Faults.{circles, faults, faults_of, name_clashes, name_prefixes}
+use Rattle.cdi_validate.specs.Twice.{specialized_twice}
+
+-- the faults of some declarations, where no other has any, and those that all have together
+pub told-all : (ds es : List Decl) (book : List Promised) → flat_map (faults_of ds book) es ≡ flat_map (faults_of ds book) ds
+    → flat_map (faults_of ds book) es ++ faults_together ds looks_at_all ≡ faults ds book
+unfolding faults
+told-all ds es book same =
+    let each = flat_map (faults_of ds book) es in
+    let clashes = name_clashes (beans ds) in
+    let prefixes = name_prefixes (beans ds) in
+    sym (append_assoc each (clashes ++ prefixes ++ circles ds) (specialized_twice ds))
+    ∙ ap (λ fs. fs ++ specialized_twice ds) (sym (append_assoc each (clashes ++ prefixes) (circles ds))
+    ∙ ap (λ fs. fs ++ circles ds) (sym (append_assoc each clashes prefixes)))
+    ∙ ap (λ fs. fs ++ clashes ++ prefixes ++ circles ds ++ specialized_twice ds) same
