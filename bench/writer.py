@@ -40,7 +40,9 @@ class Writer:
         self.random = random.Random(seed)
         self.new_model = new_model
         self.length = length
-        # Whether scripts ask for the work.
+        # The model of the latest script, and whether its end is cut.
+        self.model = None
+        self.is_cut = False
         # Whether most types extend another, and most beans specialize.
         self.specializes = False
 
@@ -305,7 +307,7 @@ class Writer:
     def script(self):
         """The lines, put blocks and batches of a script, and their answers; half of the scripts are of a sound deployment, and
         the end of a few cuts what it ends with."""
-        model = self.new_model()
+        model = self.model = self.new_model()
         is_sound = self.maybe(0.5)
         touching = Touching(self.random, model, is_sound)
         if is_sound:
@@ -313,7 +315,8 @@ class Writer:
         else:
             steps = self.random_script(model, touching)
         steps += touching.work(0.5)
-        if self.maybe(0.15):
+        self.is_cut = self.maybe(0.15)
+        if self.is_cut:
             steps.append(cut_off(self.random, model, self.edits(model)))
         return steps
 

@@ -4,9 +4,7 @@ use crate::deployed::Deployed;
 use crate::texts::are_names;
 use cdi_effective::{Effective, disposer_of, own_records_of};
 use cdi_fixtures::{name, quals};
-use cdi_model::{
-    BeanDecl, Decl, Decls, Error, Ident, Kind, Mention, Name, Qual, Scope, Work,
-};
+use cdi_model::{BeanDecl, Decl, Decls, Error, Ident, Kind, Mention, Name, Qual, Scope, Work};
 use cdi_observe::{PlainView, View, evaluate, push_records};
 use cdi_resolve::{BeanList, choose_name};
 use cdi_seen::{offering, same_beans};
