@@ -1,25 +1,16 @@
 -- What a look-up or a call aims at stands in the scene.
-use Rattle.std.proofs.Common.{◌≡◌, ℕ, List, Bool, true, false, Option, None, Some, map, refl, subst, sym}
-use Rattle.std.specs.Prelude.{Result, Ok, Err, if◌then◌else◌}
-use Rattle.cdi_model.specs.DeclList.{AreDistinct}
-use Rattle.cdi_model.specs.declared.decl.Decl.{Decl}
-use Rattle.cdi_model.specs.declared.quals.Qual.{Qual}
+use Rattle.cdi_container.proofs.Common.{◌≡◌, ℕ, List, Bool, true, false, Option, None, Some, map, refl, subst, sym, Result, Ok, Err}
+use Rattle.cdi_container.proofs.Common.{if◌then◌else◌, AreDistinct, Decl, Qual, Promised, beans, chosen, Choice, notified, ObserverId}
+use Rattle.cdi_container.proofs.Common.{scene_of, asked_for}
 use Rattle.cdi_model.specs.declared.refusal.Refusal.TheVariants.{NoMethod}
-use Rattle.cdi_bodies.specs.Book.{Promised}
-use Rattle.cdi_effective.specs.Beans.{beans}
 use Rattle.cdi_effective.specs.declared.records.BeanId.{BeanId}
-use Rattle.cdi_resolve.specs.Choices.{chosen}
-use Rattle.cdi_resolve.specs.declared.choice.Choice.{Choice}
 use Rattle.cdi_resolve.specs.declared.choice.Choice.TheVariants.{One, Unsatisfied, Ambiguous}
 use Rattle.cdi_run.specs.declared.roots.Purpose.TheVariants as purposes
 use Rattle.cdi_staging.specs.Sites.{managed_class, method_of, position_of_bean}
-use Rattle.cdi_observe.specs.Observers.{notified}
-use Rattle.cdi_observe.specs.declared.observers.ObserverId.{ObserverId}
 use Rattle.cdi_staging.specs.Notifying.{notified_as, notified_at}
-use Rattle.cdi_staging.specs.Staged.{scene_of}
 use Rattle.cdi_staging.proofs.LookupLemmas.{chosen-stands, chosen-has-methods}
 use Rattle.cdi_subjects.specs.Sites.{has_method}
-use Rattle.cdi_container.specs.Asked.{Asked, aim_for, aim_of_choice, aim_with, asked_for, purpose_of}
+use Rattle.cdi_container.specs.Asked.{Asked, aim_for, aim_of_choice, aim_with, purpose_of}
 use Rattle.cdi_container.specs.Wired.{StandsIn}
 use Rattle.cdi_container.specs.declared.asked.Aim.{Aim}
 use Rattle.cdi_container.specs.declared.asked.Message.{Message}
@@ -47,9 +38,8 @@ module _ (ds : List Decl) (book : List Promised) (t : List ℕ) (quals : List Qu
 
   chosen_stands : (choice : Choice) (message : Option Message) (aim : Aim) → chosen ds (beans ds) t quals ≡ choice
       → aim_of_choice ds message choice ≡ Ok aim → StandsIn (scene_of ds book) aim
-  chosen_stands Unsatisfied message aim one is = cc
-  chosen_stands (Ambiguous ids) message aim one is = cc
   chosen_stands (One id) message aim one is = stands_at id message aim one is
+  chosen_stands other message aim one is = cc
 
 pub aimed_stands : (ds : List Decl) (book : List Promised) (asked : Asked) (aim : Aim) → AreDistinct ds → aim_for ds asked ≡ Ok aim
     → StandsIn (scene_of ds book) aim

@@ -1,41 +1,27 @@
 -- What calls leave of a deployment that evaluate keys.
-use Rattle.std.proofs.Common.{inl, inr, ◌≡◌, ◌≢◌, Bool, true, false, ◌&&◌, ◌||◌, ◌==◌, ℕ, List, [], ◌∷◌, ◌++◌, ◌<◌, get_or, length, refl, sym, ap, ◌∙◌, subst}
-use Rattle.std.specs.Prelude.{AllPairs, Result, Ok, Err, if◌then◌else◌}
-use Rattle.std.specs.Result.{IsErrAnd}
-use Rattle.std.specs.List.{list_all, IsDistinct}
-use Rattle.std.proofs.lemmas.Bool.{and_from, and_parts, eqb-true, false≢true, or_left, or_right}
+use Rattle.cdi_container.proofs.Common.{◌≡◌, ℕ, List, Bool, true, false, refl, subst, sym, Result, Ok, Err, if◌then◌else◌, Decl, Qual}
+use Rattle.cdi_container.proofs.Common.{Promised, ◌≢◌, ◌&&◌, [], ◌∷◌, length, ap, ◌∙◌, AllPairs, IsErrAnd, list_all, Error, KnownAreWanted}
+use Rattle.cdi_container.proofs.Common.{known_of, kept_in, knows, after_key, evaluated, EvaluatesSome, Key, EventKey, choice_key, has_key}
+use Rattle.cdi_container.proofs.Common.{with_key, wanted, is_wanted, same_key-decides, has-wanted, are_known, faults, can_be_fired}
+use Rattle.cdi_container.proofs.Common.{keys_of_event, keys_of_use, known_with, work_with, IsInOrder, Deployed, Evaluates, IsAsked}
+use Rattle.cdi_container.proofs.Common.{IsAskedSome}
+use Rattle.std.proofs.Common.{inl, inr, ◌==◌, ◌<◌, get_or}
+use Rattle.std.specs.List.{IsDistinct}
+use Rattle.std.proofs.lemmas.Bool.{eqb-true}
 use Rattle.std.proofs.lemmas.List.Sums.{AllPass-from_list_all, list_all-from_AllPass}
-use Rattle.std.proofs.lemmas.Map.Keys.{IsDistinct-push}
 use Rattle.std.proofs.lemmas.Map.Made.{AllPairs-from_IsDistinct}
-use Rattle.cdi_model.specs.declared.decl.Decl.{Decl}
-use Rattle.cdi_model.specs.declared.quals.Qual.{Qual}
-use Rattle.cdi_model.specs.declared.refusal.Error.{Error}
 use Rattle.cdi_model.specs.declared.refusal.Error.TheVariants as errors
-use Rattle.cdi_bodies.specs.Book.{Promised}
-use Rattle.cdi_live.specs.Known.{KnownAreWanted, known_of}
-use Rattle.cdi_live.specs.State.{State as Live, kept_in, knows}
-use Rattle.cdi_observe.specs.Kept.{after_key, evaluated, EvaluatesSome}
-use Rattle.cdi_observe.specs.Keys.{Key, EventKey, choice_key, has_key, same_key, with_key}
-use Rattle.cdi_observe.specs.Wanted.{wanted, is_wanted}
+use Rattle.cdi_live.specs.State.{State as Live}
 use Rattle.cdi_observe.proofs.KeptLemmas.{after_known}
-use Rattle.cdi_observe.proofs.KeyLemmas.{same_key-decides, same_key-equiv}
-use Rattle.cdi_observe.proofs.WantedLemmas.{has-wanted, wanted-distinct}
-use Rattle.cdi_subjects.specs.Asked.{are_known}
-use Rattle.cdi_validate.specs.Faults.{faults}
-use Rattle.cdi_container.specs.Asked.{can_be_fired}
-use Rattle.cdi_container.specs.Known.{keys_of_event, keys_of_run, keys_of_use, known_with, work_with, IsInOrder}
-use Rattle.cdi_container.specs.Wired.{AsksOwn, Deployed, Evaluates, IsAsked, IsAskedSome}
+use Rattle.cdi_observe.proofs.KeyLemmas.{all-pass, each-passes}
+use Rattle.cdi_observe.proofs.WantedLemmas.{distinct-with_key, wanted-distinct}
+use Rattle.cdi_container.specs.Known.{keys_of_run}
+use Rattle.cdi_container.specs.Wired.{AsksOwn}
 use Rattle.cdi_container.proofs.Committing.{deployed_on}
-use Rattle.cdi_container.proofs.KnownLemmas.{KnowsAfter, asked_evaluated, asked_one, filter-all, has-with_key, known-then, known_with-wanted}
-use Rattle.cdi_container.proofs.KnownLemmas.{in_order, none-unknown, same-knows, work-then}
+use Rattle.cdi_container.proofs.KnownLemmas.{KnowsAfter, asked_evaluated, asked_one, filter-all, has-with_key, known-then}
+use Rattle.cdi_container.proofs.KnownLemmas.{known_with-wanted, in_order, none-unknown, same-knows, work-then}
 
 -- ---- lists of keys
-
-all-within : (p : Key → Bool) (keys : List Key) → ((k : Key) → has_key keys k ≡ true → p k ≡ true) → list_all p keys ≡ true
-all-within p [] each = refl
-all-within p (k ∷ keys) each =
-    and_from (p k) (list_all p keys) (each k (or_left (same_key k k) (has_key keys k) (same_key-equiv.refl k)))
-    (all-within p keys (λ l h. each l (or_right (same_key l k) (has_key keys l) h)))
 
 pub apart-none : AllPairs (λ (k l : Key). k ≢ l) []
 unfolding IsDistinct
@@ -46,26 +32,7 @@ wanted-apart ds = AllPairs-from_IsDistinct same_key-decides (wanted ds) (wanted-
 
 -- what passes one test passes another
 all-among : (p q : Key → Bool) (keys : List Key) → ((k : Key) → p k ≡ true → q k ≡ true) → list_all p keys ≡ true → list_all q keys ≡ true
-all-among p q [] each h = refl
-all-among p q (k ∷ keys) each h =
-    let parts = and_parts (p k) (list_all p keys) h in
-    and_from (q k) (list_all q keys) (each k parts.0) (all-among p q keys each parts.1)
-
--- each of some keys passes a test that all of them pass
-has-all : (p : Key → Bool) (keys : List Key) → list_all p keys ≡ true → (k : Key) → has_key keys k ≡ true → p k ≡ true
-has-all p [] all k h = absurd (false≢true h)
-has-all p (l ∷ keys) all k h = by (same_key k l) refl (has-all p keys (and_parts (p l) (list_all p keys) all).1 k)
-  where
-    by : (b : Bool) → same_key k l ≡ b → (has_key keys k ≡ true → p k ≡ true) → p k ≡ true
-    by true e more = ap p ((same_key-decides k l).0 e) ∙ (and_parts (p l) (list_all p keys) all).0
-    by false e more = more (sym (ap (λ b. b || has_key keys k) e) ∙ h)
-
-distinct-with_key : (keys : List Key) (key : Key) → IsDistinct same_key keys → IsDistinct same_key (with_key keys key)
-distinct-with_key keys key apart = by (has_key keys key) refl
-  where
-    by : (b : Bool) → has_key keys key ≡ b → IsDistinct same_key (if b then keys else keys ++ key ∷ [])
-    by true e = apart
-    by false e = IsDistinct-push same_key-equiv keys key apart e
+all-among p q keys each h = all-pass q keys (λ k has. each k (each-passes p keys k h has))
 
 -- the keys of a run stand apart, and all wanted ones are among them
 run-apart : (ds : List Decl) (count : ℕ) (known : Bool) (key : Key) → AllPairs (λ k l. k ≢ l) (keys_of_run ds count known key)
@@ -80,8 +47,8 @@ run-within : (ds : List Decl) (count : ℕ) (known : Bool) (key : Key)
 run-within ds count known key = by (count == 0 && known)
   where
     by : (b : Bool) → list_all (has_key (if b then with_key (wanted ds) key else wanted ds)) (wanted ds) ≡ true
-    by true = all-within (has_key (with_key (wanted ds) key)) (wanted ds) (λ k h. has-with_key (wanted ds) key k h)
-    by false = all-within (has_key (wanted ds)) (wanted ds) (λ k h. h)
+    by true = all-pass (has_key (with_key (wanted ds) key)) (wanted ds) (λ k h. has-with_key (wanted ds) key k h)
+    by false = all-pass (has_key (wanted ds)) (wanted ds) (λ k h. h)
 
 run-faulty : (ds : List Decl) (count : ℕ) (known : Bool) (key : Key) → (count == 0) ≡ false → keys_of_run ds count known key ≡ wanted ds
 run-faulty ds count known key h = rw h refl
@@ -136,7 +103,7 @@ asks_wanted old new book wired after same counted within are stays =
   where
     each-there : (i : ℕ) (d : Key) → i < length (wanted old.decls) → has_key (wanted old.decls) (get_or (wanted old.decls) i d) ≡ true
     each-there = AllPass-from_list_all (has_key (wanted old.decls)) (wanted old.decls)
-        (all-within (has_key (wanted old.decls)) (wanted old.decls) (λ k h. h))
+        (all-pass (has_key (wanted old.decls)) (wanted old.decls) (λ k h. h))
 
 pub asks_some : (old new : Live) (book : List Promised) (wired : Bool) → new.decls ≡ old.decls → new.counts ≡ old.counts
     → KnownAreWanted old → EvaluatesSome old.decls (kept_in old) (kept_in new)
@@ -244,7 +211,8 @@ module _ (d : Deployed) (t : List ℕ) (quals : List Qual) where
   use-some e h = record {
     some = h.some;
     among = all-among (has_key (wanted d.decls)) (has_key use_keys) h.some
-        (has-all (has_key use_keys) (wanted d.decls) (run-within d.decls (length (faults d.decls d.book)) (are_known d.decls t quals) (choice_key t quals))) h.among;
+        (λ k has. each-passes (has_key use_keys) (wanted d.decls) k
+        (run-within d.decls (length (faults d.decls d.book)) (are_known d.decls t quals) (choice_key t quals)) has) h.among;
     apart = h.apart;
     are = h.are;
   }
@@ -254,7 +222,8 @@ module _ (d : Deployed) (t : List ℕ) (quals : List Qual) where
   event-some e h = record {
     some = h.some;
     among = all-among (has_key (wanted d.decls)) (has_key event_keys) h.some
-        (has-all (has_key event_keys) (wanted d.decls) (run-within d.decls (length (faults d.decls d.book)) (can_be_fired d.decls t quals) (EventKey t quals))) h.among;
+        (λ k has. each-passes (has_key event_keys) (wanted d.decls) k
+        (run-within d.decls (length (faults d.decls d.book)) (can_be_fired d.decls t quals) (EventKey t quals)) has) h.among;
     apart = h.apart;
     are = h.are;
   }
@@ -269,7 +238,7 @@ module _ (d : Deployed) (t : List ℕ) (quals : List Qual) where
 
 -- all of these keys are some of them
 pub some-all : (keys : List Key) (d e : Deployed) → AllPairs (λ k l. k ≢ l) keys → IsAsked keys d e → IsAskedSome keys d e
-some-all keys d e apart h = record { some = keys; among = all-within (has_key keys) keys (λ k i. i); apart = apart; are = h }
+some-all keys d e apart h = record { some = keys; among = all-pass (has_key keys) keys (λ k i. i); apart = apart; are = h }
 
 -- ---- how a call ends
 

@@ -1,41 +1,20 @@
 -- What questions, reports and runs leave of a container.
-use Rattle.std.proofs.Common.{◌≡◌, [], ◌∷◌, ◌∙◌, ℕ, List, Option, None, refl, ap, sym, subst}
-use Rattle.std.specs.Prelude.{IfOk, Result, Ok, Err}
-use Rattle.std.specs.Result.{IsErr, IsErrAnd}
-use Rattle.std.specs.declared.alloc.AllocError.{AllocError}
+use Rattle.cdi_container.proofs.Common.{◌≡◌, ℕ, List, Option, None, refl, subst, sym, Result, Ok, Err, Qual, Choice, ObserverId, scene_of}
+use Rattle.cdi_container.proofs.Common.{[], ◌∷◌, ap, ◌∙◌, IsErrAnd, false≢true, Error, Key, Deployed, Evaluates, IsAsked}
+use Rattle.cdi_container.proofs.Common.{IsAskedSome, AllocError, Answers, Outcome, Refusal, cleared, LegalRun, Moment, beginning}
+use Rattle.cdi_container.proofs.Common.{Scene, ChainKey, chain_of, Names, Report, run_by, alone, State, AsksSome, RunAnswers, RunsFrom}
+use Rattle.cdi_container.proofs.Common.{asked, emptied, evaluates, left_by, untold, IsRefusedBy, trace_names, Given}
+use Rattle.std.specs.Result.{IsErr}
 use Rattle.std.specs.declared.alloc.Global.{Global}
 use Rattle.std.specs.declared.vec.Vec.{Vec}
-use Rattle.std.proofs.lemmas.Bool.{false≢true}
-use Rattle.cdi_model.specs.Answering.{Answers}
-use Rattle.cdi_model.specs.declared.outcome.Outcome.{Outcome}
 use Rattle.cdi_model.specs.declared.place.BeanPlace.{BeanPlace}
-use Rattle.cdi_model.specs.declared.quals.Qual.{Qual}
-use Rattle.cdi_model.specs.declared.refusal.Error.{Error}
 use Rattle.cdi_model.specs.declared.refusal.Error.TheVariants as errors
-use Rattle.cdi_model.specs.declared.refusal.Refusal.{Refusal}
-use Rattle.cdi_contexts.specs.Standing.{cleared}
 use Rattle.cdi_faults.specs.declared.fault.Fault.{Fault}
-use Rattle.cdi_legal.specs.LegalRun.{Command as Run, LegalRun}
-use Rattle.cdi_legal.specs.Moment.{Moment, beginning}
-use Rattle.cdi_scene.specs.declared.scene.Scene.{Scene}
-use Rattle.cdi_observe.specs.Keys.{Key, ChainKey}
-use Rattle.cdi_observe.specs.Wanted.{wanted}
-use Rattle.cdi_observe.specs.declared.observers.ObserverId.{ObserverId}
-use Rattle.cdi_resolve.specs.declared.choice.Choice.{Choice}
-use Rattle.cdi_intercept.specs.Chains.{chain_of}
-use Rattle.cdi_staging.specs.Staged.{scene_of}
-use Rattle.cdi_staging.specs.declared.names.Names.{Names}
-use Rattle.cdi_lines.specs.declared.command.Command.TheVariants.{Report}
-use Rattle.cdi_container.specs.Asked.{run_by}
-use Rattle.cdi_container.specs.Editing.{alone}
-use Rattle.cdi_container.specs.History.{State, AsksSome, LeavesRun, RunAnswers, RunsFrom}
-use Rattle.cdi_container.specs.History.{asked, emptied, evaluates, left_by, refusal_in, untold, IsRefusedBy}
-use Rattle.cdi_container.specs.Known.{keys_of_chain, IsInOrder}
+use Rattle.cdi_legal.specs.LegalRun.{Command as Run}
+use Rattle.cdi_container.specs.History.{LeavesRun, refusal_in}
+use Rattle.cdi_container.specs.Known.{keys_of_chain}
 use Rattle.cdi_container.specs.Seen.{ChainStep, ChooseStep, ObserversStep, EvaluateStep, ReportStep, unplayed}
-use Rattle.cdi_container.specs.Wired.{Deployed, Evaluates, IsAsked, IsAskedSome, trace_names}
-use Rattle.cdi_container.specs.declared.answer.Answer.TheVariants.{Given}
 use Rattle.cdi_container.proofs.AskedLemmas.{apart-none}
-use Rattle.cdi_container.proofs.KnownLemmas.{known_with-wanted}
 use Rattle.cdi_container.proofs.Ending.{standing_at}
 
 -- ---- questions and reports

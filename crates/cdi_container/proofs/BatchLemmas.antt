@@ -1,18 +1,14 @@
 -- The edits of a batch, one after another.
-use Rattle.std.proofs.Common.{◌≡◌, ℕ, ◌+◌, List, [], ◌∷◌, ◌++◌, Option, refl, ap, sym, ◌∙◌, append_assoc}
+use Rattle.cdi_container.proofs.Common.{◌≡◌, ℕ, List, Option, refl, sym, Ok, Err, Decl, [], ◌∷◌, ◌++◌, ap, ◌∙◌, Error, Answers, Refusal}
+use Rattle.cdi_container.proofs.Common.{◌+◌, edited, edited_all, Drafted, asked_by, change_of, changes_of, changes_of_all, drafted_all}
+use Rattle.cdi_container.proofs.Common.{first_refusal, SaysReason, answer_of_change, refused_at}
+use Rattle.std.proofs.Common.{append_assoc}
 use Rattle.std.proofs.lemmas.List.{map-append}
-use Rattle.std.specs.Prelude.{Ok, Err}
-use Rattle.cdi_model.specs.declared.decl.Decl.{Decl}
 use Rattle.cdi_model.specs.declared.edit.Edit.{Edit as Change}
-use Rattle.cdi_model.specs.declared.refusal.Error.{Error}
 use Rattle.cdi_model.specs.declared.refusal.Error.TheVariants as errors
-use Rattle.cdi_model.specs.declared.refusal.Refusal.{Refusal}
-use Rattle.cdi_model.specs.Answering.{Answers}
-use Rattle.cdi_model.specs.Edits.{edited, edited_all, edited_key, edited_keys}
-use Rattle.cdi_index.specs.State.{Drafted}
+use Rattle.cdi_model.specs.Edits.{edited_key, edited_keys}
 use Rattle.cdi_lines.specs.declared.edit.Edit.{Edit}
-use Rattle.cdi_container.specs.Editing.{asked_by, change_of, changes_of, changes_of_all, drafted_all, first_refusal, refused_first}
-use Rattle.cdi_container.specs.Seen.{SaysReason, answer_of_change, refused_at}
+use Rattle.cdi_container.specs.Editing.{refused_first}
 use Rattle.cdi_container.proofs.Putting.{accepted_change, refused_change}
 
 pub edited_all-append : (ds : List Decl) (es fs : List Change) → edited_all ds (es ++ fs) ≡ edited_all (edited_all ds es) fs

@@ -1,30 +1,17 @@
 -- What is staged is taken over behind the end of both contexts.
-use Rattle.std.proofs.Common.{◌≡◌, Bool, true, false, List, [], ◌∷◌, Option, None, Some, refl, ap, sym, subst, ◌∙◌}
-use Rattle.std.specs.Prelude.{ℕ, filter, IfOk, IfSome, Result, Ok, Err, unwrap_or, if◌then◌else◌}
-use Rattle.cdi_index.specs.State.{Drafted, IsEdited, Staged}
-use Rattle.cdi_live.specs.Known.{known_of, KnownAreWanted}
-use Rattle.cdi_live.specs.State.{State as Live, knows, Commits, CommitsTo, TakesOver}
-use Rattle.cdi_observe.specs.Keys.{Key}
-use Rattle.cdi_observe.specs.Wanted.{wanted}
+use Rattle.cdi_container.proofs.Common.{◌≡◌, List, Bool, true, false, Option, None, Some, refl, subst, sym, Result, Ok, Err, if◌then◌else◌}
+use Rattle.cdi_container.proofs.Common.{Decl, Promised, scene_of, [], ◌∷◌, ap, ◌∙◌, Error, KnownAreWanted, known_of, knows, Key, wanted}
+use Rattle.cdi_container.proofs.Common.{Deployed, IfOk, Moment, Names, State, trace_names, Drafted, filter, IfSome, IsEdited, Staged}
+use Rattle.cdi_container.proofs.Common.{Commits, CommitsTo, AreShort, LegalEnd, Entry, names_of, text_of_entries, IsWiringOf, Wiring}
+use Rattle.cdi_container.proofs.Common.{is_sound, redeployed}
+use Rattle.std.specs.Prelude.{ℕ, unwrap_or}
+use Rattle.cdi_live.specs.State.{State as Live, TakesOver}
 use Rattle.cdi_seen.specs.Touched.{still_known}
-use Rattle.cdi_model.specs.Short.{AreShort}
-use Rattle.cdi_model.specs.declared.decl.Decl.{Decl}
 use Rattle.cdi_model.specs.declared.edit.Edit.{Edit as Change}
-use Rattle.cdi_model.specs.declared.refusal.Error.{Error}
-use Rattle.cdi_legal.specs.LegalRun.{LegalEnd}
-use Rattle.cdi_legal.specs.Moment.{Moment}
-use Rattle.cdi_legal.specs.declared.entry.Entry.{Entry}
-use Rattle.cdi_staging.specs.Naming.{names_of}
-use Rattle.cdi_staging.specs.Staged.{scene_of}
-use Rattle.cdi_staging.specs.declared.names.Names.{Names}
-use Rattle.cdi_trace.specs.TraceText.{text_of_entries}
 use Rattle.cdi_container.specs.Editing.{drafted_by}
-use Rattle.cdi_container.specs.History.{State, Redeploys}
-use Rattle.cdi_bodies.specs.Book.{Promised}
-use Rattle.cdi_wiring.specs.Wired.{IsWiringOf}
-use Rattle.cdi_wiring.specs.declared.verdict.Wiring.{Wiring}
+use Rattle.cdi_container.specs.History.{Redeploys}
 use Rattle.cdi_wiring.specs.declared.verdict.Wiring.TheVariants as wirings
-use Rattle.cdi_container.specs.Wired.{Deployed, is_sound, names_if, names_in, redeployed, redeployed_to, staged_by, trace_names, with_staged}
+use Rattle.cdi_container.specs.Wired.{names_if, names_in, redeployed_to, staged_by, with_staged}
 use Rattle.cdi_container.specs.Known.{known_still}
 use Rattle.cdi_container.proofs.Ending.{standing_at}
 use Rattle.cdi_container.proofs.KnownLemmas.{same-knows}

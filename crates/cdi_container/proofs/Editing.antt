@@ -1,10 +1,7 @@
 -- What an edit leaves.
-use Rattle.std.proofs.Common.{List}
-use Rattle.cdi_model.specs.declared.decl.Decl.{Decl}
+use Rattle.cdi_container.proofs.Common.{List, Decl, edited, AreShort}
 use Rattle.cdi_model.specs.declared.edit.Edit.{Edit}
 use Rattle.cdi_model.specs.declared.edit.Edit.TheVariants.{Put, Remove}
-use Rattle.cdi_model.specs.Edits.{edited}
-use Rattle.cdi_model.specs.Short.{AreShort}
 use Rattle.cdi_model.proofs.ShortLemmas.{put_short, remove_short}
 use Rattle.cdi_container.specs.Wired.{IsShortEdit}
 

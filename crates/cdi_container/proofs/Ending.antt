@@ -1,16 +1,8 @@
 -- Where no instance is live, the end of a request and a stop are legal with no entry.
-use Rattle.std.proofs.Common.{◌≡◌, [], true, None, refl, sym, subst}
-use Rattle.cdi_contexts.specs.Standing.{closed}
-use Rattle.cdi_legal.specs.Moment.{Moment, beginning}
-use Rattle.cdi_legal.specs.LegalRun.{LegalEnd}
+use Rattle.cdi_container.proofs.Common.{◌≡◌, true, None, refl, subst, sym, [], Deployed, Moment, beginning, Scene, Names, State, LegalEnd}
+use Rattle.cdi_container.proofs.Common.{names_of, text_of_entries, closed, Done, EndsRequest, scene}
 use Rattle.cdi_legal.proofs.Commands.{empty_ends}
-use Rattle.cdi_scene.specs.declared.scene.Scene.{Scene}
-use Rattle.cdi_staging.specs.Naming.{names_of}
-use Rattle.cdi_staging.specs.declared.names.Names.{Names}
-use Rattle.cdi_trace.specs.TraceText.{text_of_entries}
-use Rattle.cdi_container.specs.declared.answer.Answer.TheVariants.{Done}
-use Rattle.cdi_container.specs.Wired.{Deployed}
-use Rattle.cdi_container.specs.History.{State, EndsRequest, refusal_of_end, scene}
+use Rattle.cdi_container.specs.History.{refusal_of_end}
 
 -- the state where a run stands so, and its trace is told by these names
 abbrev pub standing_at : Deployed → Names → Moment → State

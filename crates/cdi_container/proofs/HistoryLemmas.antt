@@ -1,21 +1,14 @@
 -- The declarations and the counts behind a legal history are what its accepted edits make.
-use Rattle.std.proofs.Common.{◌≡◌, List, [], ◌∷◌, refl, ap, sym, ◌∙◌, subst, Bool, true, false}
-use Rattle.std.specs.Prelude.{Result, Ok, Err, if◌then◌else◌}
-use Rattle.std.specs.declared.alloc.AllocError.{AllocError}
+use Rattle.cdi_container.proofs.Common.{◌≡◌, List, Bool, true, false, refl, subst, sym, Result, Ok, Err, if◌then◌else◌, [], ◌∷◌, ap, ◌∙◌}
+use Rattle.cdi_container.proofs.Common.{AllocError, Report, State, asked, emptied, evaluates, Given, edited_all, changes_of, changes_of_all}
+use Rattle.cdi_container.proofs.Common.{Done, Command, Edit, Batch, Choose, Named, Chain, Observers, LookUp, Call, Fire, BeginRequest}
+use Rattle.cdi_container.proofs.Common.{EndRequest, Stop, Unreadable, Answer, Chosen, Intercepted, Observed, Reported, Counted, Worked}
+use Rattle.cdi_container.proofs.Common.{Refused, empty, History, Acts, EditsFrom, LegalAnswer, LegalHistory, runs}
 use Rattle.cdi_model.specs.declared.edit.Edit.{Edit as Change}
-use Rattle.cdi_model.specs.Edits.{edited_all}
-use Rattle.cdi_lines.specs.declared.command.Command.{Command}
 use Rattle.cdi_lines.specs.declared.command.Command.TheVariants as commands
-use Rattle.cdi_lines.specs.declared.command.Command.TheVariants.{Edit, Batch, Choose, Named, Chain, Observers, Report, LookUp, Call, Fire}
-use Rattle.cdi_lines.specs.declared.command.Command.TheVariants.{BeginRequest, EndRequest}
-use Rattle.cdi_lines.specs.declared.command.Command.TheVariants.{Stop, Unreadable}
-use Rattle.cdi_container.specs.declared.answer.Answer.{Answer}
-use Rattle.cdi_container.specs.declared.answer.Answer.TheVariants.{Done, Chosen, Intercepted, Observed, Reported, Counted, Worked, Given, Refused}
-use Rattle.cdi_container.specs.Editing.{changes_of, changes_of_all}
 use Rattle.cdi_container.proofs.BatchLemmas.{edited_all-append}
-use Rattle.cdi_container.specs.History.{State, asked, empty, emptied, evaluates, History, Acts, EditsFrom, LegalAnswer, LegalHistory}
-use Rattle.cdi_container.specs.History.{accepted_changes, accepted_edits, RestsOnAcceptedEdits, runs}
-use Rattle.cdi_container.specs.History.{counts_behind, counts_of, counts_with, CountsAcceptedEdits}
+use Rattle.cdi_container.specs.History.{accepted_changes, accepted_edits, RestsOnAcceptedEdits, counts_behind, counts_of, counts_with}
+use Rattle.cdi_container.specs.History.{CountsAcceptedEdits}
 
 -- the state after what a command evaluates
 abbrev pub after_asking : State → Command → State

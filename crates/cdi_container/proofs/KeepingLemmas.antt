@@ -1,27 +1,18 @@
 -- What is kept of a deployment is right still after questions, and after edits.
-use Rattle.std.proofs.Common.{◌≡◌, Bool, true, false, ◌||◌, List, Option, None, Some, refl, sym, ap, ◌∙◌, subst}
-use Rattle.std.specs.Prelude.{IfSome, OnOk, OnErr, Result, Ok, Err}
-use Rattle.std.proofs.lemmas.Bool.{false≢true, or_left, or_right}
-use Rattle.cdi_model.specs.DeclList.{AreDistinct}
-use Rattle.cdi_model.specs.Short.{AreShort}
-use Rattle.cdi_model.specs.declared.decl.Decl.{Decl}
-use Rattle.cdi_bodies.specs.Book.{Promised}
-use Rattle.cdi_index.specs.State.{Staged}
-use Rattle.cdi_live.specs.State.{State as Live, kept_in, knows, with_staged, Commits, CommitsTo}
-use Rattle.cdi_observe.specs.Kept.{Kept, after_key, evaluated, EvaluatesSome}
-use Rattle.cdi_observe.specs.Keys.{Key, has_key}
-use Rattle.cdi_observe.specs.Wanted.{wanted, is_wanted}
-use Rattle.cdi_observe.proofs.KeptLemmas.{evaluated-apart, knows_wanted}
-use Rattle.cdi_report.specs.Settled.{AreSettled, LooksAtMore}
+use Rattle.cdi_container.proofs.Common.{◌≡◌, List, Bool, true, false, Option, None, Some, refl, subst, sym, Result, Ok, Err, AreDistinct}
+use Rattle.cdi_container.proofs.Common.{Decl, Promised, ◌||◌, ap, ◌∙◌, false≢true, or_left, or_right, kept_in, knows, after_key, evaluated}
+use Rattle.cdi_container.proofs.Common.{EvaluatesSome, Key, has_key, wanted, is_wanted, IfSome, Staged, Commits, CommitsTo, AreShort}
+use Rattle.cdi_container.proofs.Common.{IsWiringOf, Wiring, OnOk, Kept, evaluated-apart, AreSettled, KnowsAll}
+use Rattle.std.specs.Prelude.{OnErr}
+use Rattle.cdi_live.specs.State.{State as Live, with_staged}
+use Rattle.cdi_observe.proofs.KeptLemmas.{knows_wanted}
+use Rattle.cdi_report.specs.Settled.{LooksAtMore}
 use Rattle.cdi_report.specs.Stays.{IsReadied}
 use Rattle.cdi_report.specs.declared.unsettled.Unsettled.{Unsettled}
 use Rattle.cdi_report.proofs.KeptLemmas.{settled_stay}
 use Rattle.cdi_report.proofs.SettledLemmas.{settled-still}
 use Rattle.cdi_report.proofs.TogetherLemmas.{more_is_settled}
-use Rattle.cdi_wiring.specs.Wired.{IsWiringOf}
-use Rattle.cdi_wiring.specs.declared.verdict.Wiring.{Wiring}
 use Rattle.cdi_container.specs.Kept.{IsKept, IsWiredRight}
-use Rattle.cdi_container.specs.Wired.{KnowsAll}
 
 -- it knows all that it knew
 abbrev pub KnowsStill : Live → Live → Type 0

@@ -1,22 +1,17 @@
 -- The known keys as a list, and what evaluations make of it.
-use Rattle.std.proofs.Common.{zero, suc, ◌≡◌, ◌≢◌, Bool, true, false, cond, not, ◌&&◌, ◌||◌, ℕ, List, [], ◌∷◌, ◌++◌, length, refl, sym, ap, ◌∙◌}
-use Rattle.std.specs.Prelude.{All, AllPairs, filter}
+use Rattle.cdi_container.proofs.Common.{◌≡◌, ℕ, List, Bool, true, false, refl, sym, Decl, ◌≢◌, ◌&&◌, ◌||◌, [], ◌∷◌, ◌++◌, length, ap, ◌∙◌}
+use Rattle.cdi_container.proofs.Common.{AllPairs, and_parts, false≢true, or_left, or_right, KnownAreWanted, known_of, kept_in, knows}
+use Rattle.cdi_container.proofs.Common.{after_key, evaluated, Key, has_key, same_key, with_key, wanted, is_wanted, same_key-decides}
+use Rattle.cdi_container.proofs.Common.{same_key-equiv, has-wanted, known_with, work_with, IsInOrder, filter, Kept, evaluated-apart, suc}
+use Rattle.cdi_container.proofs.Common.{list_any-append}
+use Rattle.std.proofs.Common.{zero, cond, not}
+use Rattle.std.specs.Prelude.{All}
 use Rattle.std.specs.Fn.{iterate}
 use Rattle.std.proofs.Math.Bool.{or-false}
-use Rattle.std.proofs.lemmas.Bool.{and_parts, or_left, or_right, false≢true}
-use Rattle.std.proofs.lemmas.List.Folds.{list_any-append}
 use Rattle.std.proofs.lemmas.Map.Views.{any-filter_same}
-use Rattle.cdi_model.specs.declared.decl.Decl.{Decl}
 use Rattle.cdi_model.specs.Work.{with_one}
-use Rattle.cdi_live.specs.Known.{known_of, KnownAreWanted}
-use Rattle.cdi_live.specs.State.{State as Live, empty, kept_in, knows}
-use Rattle.cdi_observe.specs.Kept.{Kept, after_key, evaluated, unknown, with_all}
-use Rattle.cdi_observe.specs.Keys.{Key, has_key, same_key, with_key}
-use Rattle.cdi_observe.specs.Wanted.{wanted, is_wanted}
-use Rattle.cdi_observe.proofs.KeptLemmas.{evaluated-apart}
-use Rattle.cdi_observe.proofs.WantedLemmas.{has-wanted}
-use Rattle.cdi_observe.proofs.KeyLemmas.{same_key-decides, same_key-equiv}
-use Rattle.cdi_container.specs.Known.{known_with, work_with, IsInOrder}
+use Rattle.cdi_live.specs.State.{State as Live, empty}
+use Rattle.cdi_observe.specs.Kept.{unknown, with_all}
 
 -- ---- lists of keys
 

@@ -1,3 +1,4 @@
+mod Common
 mod Aiming
 mod KnownLemmas
 mod PointLemmas

@@ -1,13 +1,8 @@
 -- The entries of a trace, by the names by which its text is printed.
-use Rattle.std.proofs.Common.{◌≡◌, ◌∙◌, List, map, Option, None, ap, refl, sym, subst}
-use Rattle.cdi_legal.specs.Moment.{Moment}
-use Rattle.cdi_legal.specs.declared.entry.Entry.{Entry}
-use Rattle.cdi_staging.specs.Naming.{names_of}
-use Rattle.cdi_staging.specs.declared.names.Names.{Names}
+use Rattle.cdi_container.proofs.Common.{◌≡◌, List, Option, None, map, refl, subst, sym, ap, ◌∙◌, Deployed, Moment, Names, State}
+use Rattle.cdi_container.proofs.Common.{trace_names, Entry, names_of}
 use Rattle.cdi_trace.specs.Entries.{Shown}
-use Rattle.cdi_container.specs.History.{State}
 use Rattle.cdi_container.specs.Named.{NamesTrace}
-use Rattle.cdi_container.specs.Wired.{Deployed, trace_names}
 use Rattle.cdi_container.proofs.Ending.{standing_at}
 
 abbrev pub by_names : Names → List Entry → List Shown

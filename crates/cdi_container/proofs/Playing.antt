@@ -1,17 +1,8 @@
 -- What is kept rests on the scene behind a look-up, a call or an event, however it ended.
-use Rattle.std.proofs.Common.{◌≡◌, Bool, true, false, List, Option, None, refl, sym, subst, ◌∙◌}
-use Rattle.cdi_model.specs.declared.decl.Decl.{Decl}
-use Rattle.cdi_bodies.specs.Book.{Promised}
-use Rattle.cdi_contexts.specs.Standing.{cleared}
+use Rattle.cdi_container.proofs.Common.{◌≡◌, List, Bool, true, false, Option, None, refl, subst, sym, Decl, Promised, scene_of, ◌∙◌, Key}
+use Rattle.cdi_container.proofs.Common.{Deployed, IsAsked, cleared, Moment, beginning, Scene, Names, IsRooted, RestsOnScene}
 use Rattle.cdi_legal.specs.Furnished.{IsFurnished}
-use Rattle.cdi_legal.specs.Moment.{Moment, beginning}
-use Rattle.cdi_legal.specs.Rooted.{IsRooted}
-use Rattle.cdi_observe.specs.Keys.{Key}
 use Rattle.cdi_run.specs.Known.{StaysRooted}
-use Rattle.cdi_scene.specs.declared.scene.Scene.{Scene}
-use Rattle.cdi_staging.specs.Staged.{scene_of}
-use Rattle.cdi_staging.specs.declared.names.Names.{Names}
-use Rattle.cdi_container.specs.Wired.{Deployed, IsAsked, RestsOnScene}
 
 -- behind the beginning of a command
 rests_restarted : (d : Deployed) (m n : Moment) (before : Option Names) → RestsOnScene d m before → n ≡ beginning m.standing

@@ -1,17 +1,13 @@
 -- The answers for the injection points are known where each wanted key is.
-use Rattle.std.proofs.Common.{◌≡◌, Bool, true, ◌&&◌, ◌||◌, List, [], ◌∷◌, ◌++◌, map, refl, sym, ap, ◌∙◌}
-use Rattle.std.specs.List.{flat_map, list_all, list_any}
-use Rattle.std.proofs.lemmas.Bool.{and_from, or_left, or_right}
-use Rattle.std.proofs.lemmas.List.Folds.{list_all-append, list_any-append}
-use Rattle.cdi_model.specs.declared.decl.Decl.{Decl}
+use Rattle.cdi_container.proofs.Common.{◌≡◌, List, Bool, true, map, refl, Decl, [], ◌∷◌, ◌++◌, ◌∙◌, list_all, and_from}
+use Rattle.cdi_container.proofs.Common.{or_left, or_right, knows, Key, has_key, same_key, is_wanted, same_key-equiv, KnowsAll}
+use Rattle.cdi_container.proofs.Common.{list_any-append, AreKnown, placed_points}
+use Rattle.std.specs.List.{flat_map, list_any}
+use Rattle.std.proofs.lemmas.List.Folds.{list_all-append}
 use Rattle.cdi_model.specs.Mentions.{Mention, PointOf, mentions}
-use Rattle.cdi_live.specs.State.{State as Live, knows}
-use Rattle.cdi_observe.specs.Keys.{Key, has_key, same_key}
-use Rattle.cdi_observe.specs.Wanted.{asked_by, chains_by, events_by, is_wanted, key_of_point, point_named, wanted_by}
-use Rattle.cdi_observe.proofs.KeyLemmas.{same_key-equiv}
-use Rattle.cdi_container.specs.Lent.{AreKnown}
-use Rattle.cdi_container.specs.Points.{PlacedPoint, placed_points, point_in, points_in}
-use Rattle.cdi_container.specs.Wired.{KnowsAll}
+use Rattle.cdi_live.specs.State.{State as Live}
+use Rattle.cdi_observe.specs.Wanted.{asked_by, chains_by, events_by, key_of_point, point_named, wanted_by}
+use Rattle.cdi_container.specs.Points.{PlacedPoint, point_in, points_in}
 
 module _ (f : Key → Bool) where
   abbrev passes : PlacedPoint → Bool

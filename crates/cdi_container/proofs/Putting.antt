@@ -1,24 +1,20 @@
 -- What an edit and a batch answer and leave makes a step.
-use Rattle.std.proofs.Common.{◌≡◌, ℕ, Bool, true, false, List, [], Option, None, Some, refl, ap, sym, subst, ◌∙◌}
-use Rattle.std.specs.Prelude.{Result, Ok, Err, OnOk, IfErr}
-use Rattle.cdi_model.specs.declared.decl.Decl.{Decl}
-use Rattle.cdi_model.specs.declared.refusal.Error.{Error}
+use Rattle.cdi_container.proofs.Common.{◌≡◌, ℕ, List, Bool, true, false, Option, None, Some, refl, subst, sym, Result, Ok, Err, Decl, []}
+use Rattle.cdi_container.proofs.Common.{ap, ◌∙◌, Error, Answers, Refusal, alone, State, AsksSome, left_by, change_of, changes_of}
+use Rattle.cdi_container.proofs.Common.{changes_of_all, answer_of_change, EditsFrom, OnOk, IfErr, IsStep}
 use Rattle.cdi_model.specs.declared.refusal.Error.TheVariants as errors
-use Rattle.cdi_model.specs.declared.refusal.Refusal.{Refusal}
 use Rattle.cdi_model.specs.declared.refusal.Refusal.TheVariants.{TooMany}
 use Rattle.cdi_model.specs.DeclList.{is_too_many}
 use Rattle.cdi_model.specs.declared.edit.Edit.{Edit as Change}
 use Rattle.cdi_model.specs.declared.edit.Edit.TheVariants as changes
 use Rattle.cdi_model.specs.Edits.{refusal_of_edit, answer_of_edit}
-use Rattle.cdi_model.specs.Answering.{Answers}
 use Rattle.cdi_admission.specs.Admission.{refusal_of_decl}
 use Rattle.cdi_text.specs.Reading.{decl_of}
 use Rattle.cdi_lines.specs.declared.command.Command.TheVariants.{Edit as EditCommand}
 use Rattle.cdi_lines.specs.declared.edit.Edit.{Edit}
 use Rattle.cdi_lines.specs.declared.edit.Edit.TheVariants as edits
-use Rattle.cdi_container.specs.Editing.{admitted, alone, answer_of_put, change_of, changes_in, changes_of, changes_of_all, put_among, put_of, refusal_of_batch, refusal_of_change}
-use Rattle.cdi_container.specs.History.{State, AsksSome, EditsFrom, left_by}
-use Rattle.cdi_container.specs.Seen.{EditStep, IsStep, PutStep, PutDeclStep, BatchStep, AnswersBatch, answer_of_change, left_by_batch, put_answer}
+use Rattle.cdi_container.specs.Editing.{admitted, answer_of_put, changes_in, put_among, put_of, refusal_of_batch, refusal_of_change}
+use Rattle.cdi_container.specs.Seen.{EditStep, PutStep, PutDeclStep, BatchStep, AnswersBatch, left_by_batch, put_answer}
 use Rattle.cdi_container.specs.declared.answer.PutDone.{PutDone}
 use Rattle.cdi_container.specs.declared.batch.BatchError.{BatchError}
 use Rattle.cdi_container.specs.declared.batch.BatchError.TheVariants as batch_errors

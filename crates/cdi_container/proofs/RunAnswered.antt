@@ -1,14 +1,10 @@
 -- What a look-up, a call or an event answers, one fact each.
-use Rattle.std.proofs.Common.{List, Result, Ok, Err}
-use Rattle.std.specs.Prelude.{IfOk, IfErr}
-use Rattle.cdi_model.specs.declared.outcome.Outcome.{Outcome}
-use Rattle.cdi_model.specs.declared.refusal.Error.{Error}
+use Rattle.cdi_container.proofs.Common.{List, Error, Key, IfOk, Outcome, Refusal, State, RunAnswers, RunsFrom, asked, IsRefusedBy, Given}
+use Rattle.cdi_container.proofs.Common.{IfErr}
+use Rattle.std.proofs.Common.{Result, Ok, Err}
 use Rattle.cdi_model.specs.declared.refusal.Error.TheVariants as errors
-use Rattle.cdi_model.specs.declared.refusal.Refusal.{Refusal}
-use Rattle.cdi_observe.specs.Keys.{Key}
 use Rattle.cdi_legal.specs.LegalRun.{Command as Run}
-use Rattle.cdi_container.specs.History.{State, asked, Unplayed, IsRefusedBy, RunAnswers, RunsFrom}
-use Rattle.cdi_container.specs.declared.answer.Answer.TheVariants.{Given}
+use Rattle.cdi_container.specs.History.{Unplayed}
 
 pub answered_ok : (old new : State) (keys : List Key) (begun : Result Run Refusal) (r : Result Outcome Error)
     → RunAnswers old keys begun r new → IfOk r (λ outcome. RunsFrom (asked old keys) begun (Given outcome) new)

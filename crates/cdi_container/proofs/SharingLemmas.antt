@@ -1,36 +1,25 @@
 -- What stands behind each step of a legal history: at most one instance of each bean with a normal scope is live, among others.
-use Rattle.std.proofs.Common.{◌≡◌, List, [], ◌∷◌, Option, Some, None, refl, ap, sym, ◌∙◌, subst, Bool, true, false, arith}
-use Rattle.std.specs.Prelude.{Result, Ok, Err, if◌then◌else◌}
-use Rattle.std.specs.declared.alloc.AllocError.{AllocError}
+use Rattle.cdi_container.proofs.Common.{◌≡◌, List, Bool, true, false, Option, None, Some, refl, subst, sym, Result, Ok, Err, if◌then◌else◌}
+use Rattle.cdi_container.proofs.Common.{[], ◌∷◌, ap, ◌∙◌, AllocError, Outcome, Refusal, LegalRun, Scene, Report, State, RunsFrom, emptied}
+use Rattle.cdi_container.proofs.Common.{untold, Given, changes_of, changes_of_all, LegalEnd, Entry, Done, EndsRequest, scene, Command, Edit}
+use Rattle.cdi_container.proofs.Common.{Batch, Choose, Named, Chain, Observers, LookUp, Call, Fire, BeginRequest, EndRequest, Stop}
+use Rattle.cdi_container.proofs.Common.{Unreadable, Answer, Chosen, Intercepted, Observed, Reported, Counted, Worked, Refused, empty}
+use Rattle.cdi_container.proofs.Common.{History, Acts, EditsFrom, LegalAnswer, LegalHistory, runs, arith, Standing, IsRequested, IsSingleAt}
+use Rattle.cdi_container.proofs.Common.{IsWithinLimit, Step, LegalStep, IsRooted, trace_behind}
 use Rattle.cdi_model.specs.declared.edit.Edit.{Edit as Change}
-use Rattle.cdi_model.specs.declared.outcome.Outcome.{Outcome}
-use Rattle.cdi_model.specs.declared.refusal.Refusal.{Refusal}
 use Rattle.cdi_contexts.specs.Rising.{IsRising}
-use Rattle.cdi_contexts.specs.Standing.{Standing, opened}
+use Rattle.cdi_contexts.specs.Standing.{opened}
 use Rattle.cdi_contexts.specs.declared.instance.Instance.{Instance}
 use Rattle.cdi_contexts.specs.declared.instance.Owner.TheVariants.{Request}
-use Rattle.cdi_scene.specs.declared.scene.Scene.{Scene}
-use Rattle.cdi_legal.specs.Laws.{HoldsOfCommands, IsRequested, IsSingleAt, IsWithinLimit}
-use Rattle.cdi_legal.specs.LegalRun.{Command as Run, LegalRun, LegalRequestEnd, LegalEnd}
-use Rattle.cdi_legal.specs.Rooted.{IsRooted}
+use Rattle.cdi_legal.specs.Laws.{HoldsOfCommands}
+use Rattle.cdi_legal.specs.LegalRun.{Command as Run, LegalRequestEnd}
 use Rattle.cdi_legal.specs.Single.{IsSingle}
-use Rattle.cdi_legal.specs.declared.entry.Entry.{Entry}
 use Rattle.cdi_legal.proofs.Bounding.{commands_keep_limit, commands_keep_requested}
 use Rattle.cdi_legal.proofs.Commands.{commands_keep_single}
 use Rattle.cdi_legal.proofs.Furnishing.{all-imply}
 use Rattle.cdi_legal.proofs.Housing.{both_ends_leave_nothing, commands_keep_rooted}
-use Rattle.cdi_lines.specs.declared.command.Command.{Command}
 use Rattle.cdi_lines.specs.declared.command.Command.TheVariants as commands
-use Rattle.cdi_lines.specs.declared.command.Command.TheVariants.{Edit, Batch, Choose, Named, Chain, Observers, Report, LookUp, Call, Fire}
-use Rattle.cdi_lines.specs.declared.command.Command.TheVariants.{BeginRequest, EndRequest}
-use Rattle.cdi_lines.specs.declared.command.Command.TheVariants.{Stop, Unreadable}
-use Rattle.cdi_container.specs.declared.answer.Answer.{Answer}
-use Rattle.cdi_container.specs.declared.answer.Answer.TheVariants.{Done, Chosen, Intercepted, Observed, Reported, Counted, Worked}
-use Rattle.cdi_container.specs.declared.answer.Answer.TheVariants.{Given, Refused}
-use Rattle.cdi_container.specs.History.{State, empty, emptied, scene, untold, with_request, Acts, EditsFrom, EndsContexts, EndsRequest}
-use Rattle.cdi_container.specs.History.{IsRunFrom, RunsFrom, LegalAnswer, LegalStep, Step, History, LegalHistory, runs, trace_behind}
-use Rattle.cdi_container.specs.History.{SharesInstances}
-use Rattle.cdi_container.specs.Editing.{changes_of, changes_of_all}
+use Rattle.cdi_container.specs.History.{with_request, EndsContexts, IsRunFrom, SharesInstances}
 use Rattle.cdi_container.proofs.HistoryLemmas.{after_asking}
 
 -- ---- what stands
@@ -167,13 +156,7 @@ begin_goes old new answer is h =
 acts_go : (old new : State) (command : Command) (answer : Answer) → Acts old command answer new → GoesTo old answer new
 acts_go old new (Edit edit) answer h = edit_goes old new (changes_of edit) answer h.0 h.1
 acts_go old new (Batch edits) answer h = edit_goes old new (changes_of_all edits) answer h.0 h.1
-acts_go old new (Choose t quals) answer h = untold_goes old new h.0 refl h.1
-acts_go old new (Named name) answer h = untold_goes old new h.0 refl h.1
 acts_go old new (Chain bean place) answer h = untold_goes old new h.given refl h.rest
-acts_go old new (Observers t quals) answer h = untold_goes old new h.0 refl h.1
-acts_go old new Report answer h = untold_goes old new h.0 refl h.1
-acts_go old new commands.Counts answer h = untold_goes old new h.0 refl h.1
-acts_go old new commands.Work answer h = untold_goes old new h.0 refl h.1
 acts_go old new (LookUp t quals) answer h = run_goes old new _ answer h
 acts_go old new (Call method arg t quals) answer h = run_goes old new _ answer h
 acts_go old new (Fire arg t quals) answer h = run_goes old new _ answer h
@@ -181,6 +164,7 @@ acts_go old new BeginRequest answer h = begin_goes old new answer h.0 h.1
 acts_go old new EndRequest answer h = request_end_goes old new answer h
 acts_go old new Stop answer h = stop_goes old new answer h
 acts_go old new Unreadable answer h = absurd h
+acts_go old new other answer h = untold_goes old new h.0 refl h.1
 
 -- ---- steps
 

@@ -1,17 +1,12 @@
 -- The entries of a command are told by the names of the declarations before it.
-use Rattle.std.proofs.Common.{◌≡◌, refl, subst, sym, ap}
-use Rattle.std.specs.Prelude.{List, Ok}
+use Rattle.cdi_container.proofs.Common.{◌≡◌, refl, subst, sym, Ok, ap, Report, State, untold, Given, changes_of, changes_of_all, Done}
+use Rattle.cdi_container.proofs.Common.{Command, Edit, Batch, Choose, Named, Chain, Observers, LookUp, Call, Fire, BeginRequest, EndRequest}
+use Rattle.cdi_container.proofs.Common.{Stop, Unreadable, Answer, Chosen, Intercepted, Observed, Reported, Counted, Worked, Refused, Acts}
+use Rattle.cdi_container.proofs.Common.{EditsFrom, IsStep}
+use Rattle.std.specs.Prelude.{List}
 use Rattle.cdi_model.specs.declared.edit.Edit.{Edit as Change}
-use Rattle.cdi_lines.specs.declared.command.Command.{Command}
 use Rattle.cdi_lines.specs.declared.command.Command.TheVariants as commands
-use Rattle.cdi_lines.specs.declared.command.Command.TheVariants.{Edit, Batch, Choose, Named, Chain, Observers, Report, LookUp, Call, Fire}
-use Rattle.cdi_lines.specs.declared.command.Command.TheVariants.{BeginRequest, EndRequest}
-use Rattle.cdi_lines.specs.declared.command.Command.TheVariants.{Stop, Unreadable}
-use Rattle.cdi_container.specs.declared.answer.Answer.{Answer}
-use Rattle.cdi_container.specs.declared.answer.Answer.TheVariants.{Done, Chosen, Intercepted, Observed, Reported, Counted, Worked, Given, Refused}
-use Rattle.cdi_container.specs.Seen.{IsStep}
-use Rattle.cdi_container.specs.History.{State, Acts, EditsFrom, told_on, untold}
-use Rattle.cdi_container.specs.Editing.{changes_of, changes_of_all}
+use Rattle.cdi_container.specs.History.{told_on}
 use Rattle.cdi_container.proofs.HistoryLemmas.{after_asking}
 
 -- the entries of a command are told by the declarations before it
@@ -27,13 +22,7 @@ edit_tells old new changes h = subst (Tells old) (sym h.rest) (ap (λ s. s.text)
 pub acts_tell : (old new : State) (command : Command) (answer : Answer) → Acts old command answer new → Tells old new
 acts_tell old new (Edit edit) answer h = edit_tells old new (changes_of edit) h.1
 acts_tell old new (Batch edits) answer h = edit_tells old new (changes_of_all edits) h.1
-acts_tell old new (Choose t quals) answer h = untold_tells old new h.1
-acts_tell old new (Named name) answer h = untold_tells old new h.1
 acts_tell old new (Chain bean place) answer h = untold_tells old new h.rest
-acts_tell old new (Observers t quals) answer h = untold_tells old new h.1
-acts_tell old new Report answer h = untold_tells old new h.1
-acts_tell old new commands.Counts answer h = untold_tells old new h.1
-acts_tell old new commands.Work answer h = untold_tells old new h.1
 acts_tell old new (LookUp t quals) answer h = ap (λ s. s.text) h.rest
 acts_tell old new (Call method arg t quals) answer h = ap (λ s. s.text) h.rest
 acts_tell old new (Fire arg t quals) answer h = ap (λ s. s.text) h.rest
@@ -41,6 +30,7 @@ acts_tell old new BeginRequest answer h = subst (Tells old) (sym h.1) refl
 acts_tell old new EndRequest answer h = ap (λ s. s.text) h.rest
 acts_tell old new Stop answer h = ap (λ s. s.text) h.rest
 acts_tell old new Unreadable answer h = absurd h
+acts_tell old new other answer h = untold_tells old new h.1
 
 pub step_tells : (old new : State) (command : Command) (answer : Answer) → IsStep old command (Ok answer) new → Tells old new
 step_tells old new command Done h = acts_tell (after_asking old command) new command Done h.1

@@ -1,27 +1,15 @@
 -- The state behind a legal history is told by what was commanded, answered and traced.
-use Rattle.std.proofs.Common.{◌≡◌, ℕ, Bool, true, false, List, [], ◌∷◌, refl, ap, sym, ◌∙◌, subst}
-use Rattle.std.specs.Prelude.{Result, Ok, Err, if◌then◌else◌}
-use Rattle.std.specs.List.{list_all}
-use Rattle.std.proofs.lemmas.Bool.{and_parts, false≢true}
-use Rattle.std.specs.declared.alloc.AllocError.{AllocError}
+use Rattle.cdi_container.proofs.Common.{◌≡◌, ℕ, List, Bool, true, false, refl, subst, sym, Result, Ok, Err, if◌then◌else◌, [], ◌∷◌, ap, ◌∙◌}
+use Rattle.cdi_container.proofs.Common.{list_all, and_parts, false≢true, Key, AllocError, Names, Report, State, asked, emptied, Given}
+use Rattle.cdi_container.proofs.Common.{changes_of, changes_of_all, Entry, names_of, closed, Done, Command, Edit, Batch, Choose, Named}
+use Rattle.cdi_container.proofs.Common.{Chain, Observers, LookUp, Call, Fire, BeginRequest, EndRequest, Stop, Unreadable, Answer, Chosen}
+use Rattle.cdi_container.proofs.Common.{Intercepted, Observed, Reported, Counted, Worked, Refused, empty, History, Acts, EditsFrom}
+use Rattle.cdi_container.proofs.Common.{LegalAnswer, LegalHistory, runs, trace_behind}
 use Rattle.cdi_model.specs.declared.edit.Edit.{Edit as Change}
-use Rattle.cdi_contexts.specs.Standing.{closed}
 use Rattle.cdi_legal.specs.Follows.{after}
-use Rattle.cdi_legal.specs.declared.entry.Entry.{Entry}
 use Rattle.cdi_legal.proofs.Commands.{run_follows, request_end_follows, end_follows}
-use Rattle.cdi_observe.specs.Keys.{Key}
-use Rattle.cdi_staging.specs.Naming.{names_of}
-use Rattle.cdi_staging.specs.declared.names.Names.{Names}
-use Rattle.cdi_lines.specs.declared.command.Command.{Command}
 use Rattle.cdi_lines.specs.declared.command.Command.TheVariants as commands
-use Rattle.cdi_lines.specs.declared.command.Command.TheVariants.{Edit, Batch, Choose, Named, Chain, Observers, Report, LookUp, Call, Fire}
-use Rattle.cdi_lines.specs.declared.command.Command.TheVariants.{BeginRequest, EndRequest}
-use Rattle.cdi_lines.specs.declared.command.Command.TheVariants.{Stop, Unreadable}
-use Rattle.cdi_container.specs.declared.answer.Answer.{Answer}
-use Rattle.cdi_container.specs.declared.answer.Answer.TheVariants.{Done, Chosen, Intercepted, Observed, Reported, Counted, Worked, Given, Refused}
-use Rattle.cdi_container.specs.History.{State, Acts, EditsFrom, LegalAnswer, LegalHistory, History, asked, empty, emptied}
-use Rattle.cdi_container.specs.History.{left_unserved, runs, trace_behind}
-use Rattle.cdi_container.specs.Editing.{changes_of, changes_of_all}
+use Rattle.cdi_container.specs.History.{left_unserved}
 use Rattle.cdi_container.specs.Told.{standing_behind, carried_out, is_served, known_behind, told_behind, told_by, AreOneButKnown, IsTold}
 use Rattle.cdi_container.proofs.HistoryLemmas.{acts_count, acts_edits, after_asking}
 use Rattle.cdi_container.proofs.Telling.{acts_tell}
@@ -47,20 +35,14 @@ edit_book old new changes h = ap (λ s. s.book) h.rest ∙ ap (λ s. s.book) h.e
 acts_book : (old new : State) (command : Command) (answer : Answer) → Acts old command answer new → new.book ≡ old.book
 acts_book old new (Edit edit) answer h = edit_book old new (changes_of edit) h.1
 acts_book old new (Batch edits) answer h = edit_book old new (changes_of_all edits) h.1
-acts_book old new (Choose t quals) answer h = ap (λ s. s.book) h.1
-acts_book old new (Named name) answer h = ap (λ s. s.book) h.1
 acts_book old new (Chain bean place) answer h = ap (λ s. s.book) h.rest
-acts_book old new (Observers t quals) answer h = ap (λ s. s.book) h.1
-acts_book old new Report answer h = ap (λ s. s.book) h.1
-acts_book old new commands.Counts answer h = ap (λ s. s.book) h.1
-acts_book old new commands.Work answer h = ap (λ s. s.book) h.1
 acts_book old new (LookUp t quals) answer h = ap (λ s. s.book) h.rest
 acts_book old new (Call method arg t quals) answer h = ap (λ s. s.book) h.rest
 acts_book old new (Fire arg t quals) answer h = ap (λ s. s.book) h.rest
-acts_book old new BeginRequest answer h = ap (λ s. s.book) h.1
 acts_book old new EndRequest answer h = ap (λ s. s.book) h.rest
 acts_book old new Stop answer h = ap (λ s. s.book) h.rest
 acts_book old new Unreadable answer h = absurd h
+acts_book old new other answer h = ap (λ s. s.book) h.1
 
 -- ---- what stands is the fold of the entries
 
@@ -73,20 +55,14 @@ acts_standing : (old new : State) (command : Command) (answer : Answer) → Acts
     → new.standing ≡ standing_behind command old.standing new.trace
 acts_standing old new (Edit edit) answer h = edit_standing old new (changes_of edit) h.1
 acts_standing old new (Batch edits) answer h = edit_standing old new (changes_of_all edits) h.1
-acts_standing old new (Choose t quals) answer h = ap (λ s. s.standing) h.1
-acts_standing old new (Named name) answer h = ap (λ s. s.standing) h.1
 acts_standing old new (Chain bean place) answer h = ap (λ s. s.standing) h.rest
-acts_standing old new (Observers t quals) answer h = ap (λ s. s.standing) h.1
-acts_standing old new Report answer h = ap (λ s. s.standing) h.1
-acts_standing old new commands.Counts answer h = ap (λ s. s.standing) h.1
-acts_standing old new commands.Work answer h = ap (λ s. s.standing) h.1
 acts_standing old new (LookUp t quals) answer h = run_follows h.legal
 acts_standing old new (Call method arg t quals) answer h = run_follows h.legal
 acts_standing old new (Fire arg t quals) answer h = run_follows h.legal
-acts_standing old new BeginRequest answer h = ap (λ s. s.standing) h.1
 acts_standing old new EndRequest answer h = request_end_follows h.legal
 acts_standing old new Stop answer h = end_follows h.legal
 acts_standing old new Unreadable answer h = absurd h
+acts_standing old new other answer h = ap (λ s. s.standing) h.1
 
 -- ---- what is known, and the work
 
@@ -96,20 +72,14 @@ acts_known old new (Edit edit) answer h =
     subst (λ a. new.known ≡ known_behind old (Edit edit) a) (sym h.0) (ap (λ s. s.known) h.1.rest)
 acts_known old new (Batch edits) answer h =
     subst (λ a. new.known ≡ known_behind old (Batch edits) a) (sym h.0) (ap (λ s. s.known) h.1.rest)
-acts_known old new (Choose t quals) answer h = ap (λ s. s.known) h.1
-acts_known old new (Named name) answer h = ap (λ s. s.known) h.1
 acts_known old new (Chain bean place) answer h = ap (λ s. s.known) h.rest
-acts_known old new (Observers t quals) answer h = ap (λ s. s.known) h.1
-acts_known old new Report answer h = ap (λ s. s.known) h.1
-acts_known old new commands.Counts answer h = ap (λ s. s.known) h.1
-acts_known old new commands.Work answer h = ap (λ s. s.known) h.1
 acts_known old new (LookUp t quals) answer h = ap (λ s. s.known) h.rest
 acts_known old new (Call method arg t quals) answer h = ap (λ s. s.known) h.rest
 acts_known old new (Fire arg t quals) answer h = ap (λ s. s.known) h.rest
-acts_known old new BeginRequest answer h = ap (λ s. s.known) h.1
 acts_known old new EndRequest answer h = ap (λ s. s.known) h.rest
 acts_known old new Stop answer h = ap (λ s. s.known) h.rest
 acts_known old new Unreadable answer h = absurd h
+acts_known old new other answer h = ap (λ s. s.known) h.1
 
 edit_work : (old new : State) (changes : List Change) → EditsFrom old changes new → new.work ≡ old.work
 edit_work old new changes h = ap (λ s. s.work) h.rest ∙ ap (λ s. s.work) h.ends.rest
@@ -117,20 +87,14 @@ edit_work old new changes h = ap (λ s. s.work) h.rest ∙ ap (λ s. s.work) h.e
 acts_work : (old new : State) (command : Command) (answer : Answer) → Acts old command answer new → new.work ≡ old.work
 acts_work old new (Edit edit) answer h = edit_work old new (changes_of edit) h.1
 acts_work old new (Batch edits) answer h = edit_work old new (changes_of_all edits) h.1
-acts_work old new (Choose t quals) answer h = ap (λ s. s.work) h.1
-acts_work old new (Named name) answer h = ap (λ s. s.work) h.1
 acts_work old new (Chain bean place) answer h = ap (λ s. s.work) h.rest
-acts_work old new (Observers t quals) answer h = ap (λ s. s.work) h.1
-acts_work old new Report answer h = ap (λ s. s.work) h.1
-acts_work old new commands.Counts answer h = ap (λ s. s.work) h.1
-acts_work old new commands.Work answer h = ap (λ s. s.work) h.1
 acts_work old new (LookUp t quals) answer h = ap (λ s. s.work) h.rest
 acts_work old new (Call method arg t quals) answer h = ap (λ s. s.work) h.rest
 acts_work old new (Fire arg t quals) answer h = ap (λ s. s.work) h.rest
-acts_work old new BeginRequest answer h = ap (λ s. s.work) h.1
 acts_work old new EndRequest answer h = ap (λ s. s.work) h.rest
 acts_work old new Stop answer h = ap (λ s. s.work) h.rest
 acts_work old new Unreadable answer h = absurd h
+acts_work old new other answer h = ap (λ s. s.work) h.1
 
 -- ---- steps
 
@@ -180,14 +144,7 @@ but_known s known work = record s { known = known; work = work }
 told_but_known : (s : State) (known : List Key) (work : ℕ) (command : Command) (answer : Answer) (trace : List Entry) (names : Names)
     → AreOneButKnown (told_behind (but_known s known work) command (Ok answer) trace names) (told_behind s command (Ok answer) trace names)
 told_but_known s known work command Done trace names = refl
-told_but_known s known work command (Chosen choice) trace names = refl
-told_but_known s known work command (Intercepted list) trace names = refl
-told_but_known s known work command (Observed ids) trace names = refl
-told_but_known s known work command (Reported list) trace names = refl
-told_but_known s known work command (Counted counts) trace names = refl
-told_but_known s known work command (Worked done) trace names = refl
-told_but_known s known work command (Given outcome) trace names = refl
-told_but_known s known work command (Refused refusal edit) trace names = refl
+told_but_known s known work command other trace names = refl
 
 unserved_but_known : (s : State) (known : List Key) (work : ℕ) (b : Bool)
     → AreOneButKnown (if b then emptied (but_known s known work) else but_known s known work) (if b then emptied s else s)

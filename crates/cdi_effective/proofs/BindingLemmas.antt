@@ -1,18 +1,9 @@
 -- The bindings that stereotypes give, and those in the place of others.
-use Rattle.std.proofs.Common.{◌≡◌, ◌<◌, ◌+◌, ℕ, Bool, true, false, cond, ◌||◌, List, [], ◌∷◌, length, drop, get_or, flat_map}
-use Rattle.std.proofs.Common.{refl, sym, ap, ◌∙◌}
-use Rattle.std.proofs.Math.Bool.{or_assoc}
-use Rattle.std.specs.Borrow.{Bor}
-use Rattle.std.specs.Str.{bytes_eq}
-use Rattle.std.proofs.lemmas.List.{at_drop_more}
-use Rattle.std.specs.Option.{option_to_list}
-use Rattle.cdi_model.specs.declared.decl.Decl.{Decl}
-use Rattle.cdi_match.specs.Stereotypes.{find_stereotype, stereotype_decls, stereotypes_of}
-use Rattle.cdi_model.specs.declared.quals.Qual.{Qual}
-use Rattle.cdi_match.specs.Bindings.{uses_in}
-use Rattle.cdi_match.proofs.Names.{bytes_eq-turned}
-use Rattle.cdi_effective.specs.Bindings.{in_place_of, stereotype_bindings}
-use Rattle.cdi_effective.specs.Qualifiers.{uses_one}
+use Rattle.cdi_effective.proofs.Common.{◌≡◌, ◌<◌, ◌+◌, ℕ, Bool, true, false, cond, ◌||◌, List, [], ◌∷◌, length, drop, get_or, refl, sym, ap}
+use Rattle.cdi_effective.proofs.Common.{◌∙◌, or_assoc, Bor, bytes_eq, at_drop_more, option_to_list, Decl, find_stereotype, stereotype_decls}
+use Rattle.cdi_effective.proofs.Common.{Qual, uses_in, bytes_eq-turned, in_place_of, stereotype_bindings, uses_one}
+use Rattle.std.proofs.Common.{flat_map}
+use Rattle.cdi_match.specs.Stereotypes.{stereotypes_of}
 
 -- those of the stereotypes of what declares some
 pub given_by_stereotypes : (ds : List Decl) (declared names : List (List ℕ)) → names ≡ stereotypes_of ds declared

@@ -1,27 +1,19 @@
 -- In the chain of a bean are those to which steps of specialization lead from it, each once.
-use Rattle.std.proofs.Common.{◌≡◌, ◌≤◌, ◌<◌, ◌⊎◌, ℕ, zero, suc, Bool, true, false, cond, List, [], ◌∷◌, length, is_some}
-use Rattle.std.proofs.Common.{Option, Some, None, refl, sym, ap, ◌∙◌, subst, inl, inr, arith}
+use Rattle.cdi_effective.proofs.Common.{◌≡◌, ◌<◌, ℕ, Bool, true, false, cond, List, [], ◌∷◌, length, refl, sym, ap, ◌∙◌, bytes_eq}
+use Rattle.cdi_effective.proofs.Common.{option_to_list, Decl, bytes_eq-turned, ◌⊎◌, zero, suc, is_some, Option, Some, None, subst, inl, inr}
+use Rattle.cdi_effective.proofs.Common.{arith, AllByRecursion, IsDistinct, cases_Bool, false≢true, or_cases, or_left, or_right}
+use Rattle.cdi_effective.proofs.Common.{AllPairs-from_IsDistinct, key_of, name_of_decl, key_at, same_key, find_decl, limit, BeanDecl}
+use Rattle.cdi_effective.proofs.Common.{key_exact, has, one_name, same_text, as_bean, find_bean, extended, bean_named, specialized, on_from}
+use Rattle.cdi_effective.proofs.Common.{chain_behind, behind, chain, class_names}
+use Rattle.std.proofs.Common.{◌≤◌}
 use Rattle.std.specs.Cmp.Lexicographic.{bytes_decides}
-use Rattle.std.specs.List.{AllByRecursion, IsDistinct}
-use Rattle.std.specs.Option.{option_to_list}
-use Rattle.std.specs.Str.{bytes_eq}
-use Rattle.std.proofs.lemmas.Bool.{cases_Bool, false≢true, or_cases, or_left, or_parts, or_right}
-use Rattle.std.proofs.lemmas.Map.Made.{AllPairs-from_IsDistinct}
-use Rattle.cdi_model.specs.Decl.{key_of, name_of_decl}
-use Rattle.cdi_model.specs.DeclKey.{key_at, same_key}
-use Rattle.cdi_model.specs.DeclList.{find_decl, limit}
-use Rattle.cdi_model.specs.declared.decl.BeanDecl.{BeanDecl}
-use Rattle.cdi_model.specs.declared.decl.Decl.{Decl}
+use Rattle.std.proofs.lemmas.Bool.{or_parts}
 use Rattle.cdi_model.specs.declared.decl.Decl.TheVariants as decls
 use Rattle.cdi_model.specs.declared.decl.Kind.TheVariants as kinds
-use Rattle.cdi_model.proofs.EntryLemmas.{key_exact}
-use Rattle.cdi_match.specs.Chain.{Chain, Steps, has}
+use Rattle.cdi_match.specs.Chain.{Chain, Steps}
 use Rattle.cdi_match.proofs.Chains.{apart, apart_has, apart_shorter}
 use Rattle.cdi_match.proofs.Listed.{names_of, length-names_of}
-use Rattle.cdi_match.proofs.Names.{bytes_eq-turned, one_name, same_text}
-use Rattle.cdi_effective.specs.Disposers.{as_bean, find_bean}
-use Rattle.cdi_effective.specs.Specialized.{extended, bean_named, specialized, on_from, chain_behind, behind, chain, class_names, class_after}
-use Rattle.cdi_effective.specs.Specialized.{specializes, ChainsAreThese, IsChainOf}
+use Rattle.cdi_effective.specs.Specialized.{class_after, specializes, ChainsAreThese, IsChainOf}
 
 abbrev Names : Type 0
 Names = List (List ℕ)

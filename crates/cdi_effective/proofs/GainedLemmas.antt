@@ -1,11 +1,7 @@
 -- What a bean gets by its chain, one bean after another.
-use Rattle.std.proofs.Common.{◌≡◌, ℕ, List, [], ◌∷◌, ◌++◌, Option, Some, None, append_assoc, refl, ap, subst, ◌∙◌}
-use Rattle.std.specs.Option.{option_or}
-use Rattle.cdi_match.specs.Bindings.{uses_in}
-use Rattle.cdi_model.specs.declared.decl.BeanDecl.{BeanDecl}
-use Rattle.cdi_model.specs.declared.decl.Decl.{Decl}
-use Rattle.cdi_effective.specs.Places.{AddsGained, ArePlaces, IsPlace}
-use Rattle.cdi_effective.specs.Specialized.{all_declared, last_declared, last_name, name_alone}
+use Rattle.cdi_effective.proofs.Common.{◌≡◌, ℕ, List, [], ◌∷◌, refl, ap, ◌∙◌, Decl, uses_in, Option, Some, None, subst, BeanDecl, ◌++◌}
+use Rattle.cdi_effective.proofs.Common.{append_assoc, option_or, ArePlaces, IsPlace, all_declared, last_declared, last_name, name_alone}
+use Rattle.cdi_effective.specs.Places.{AddsGained}
 use Rattle.cdi_effective.specs.declared.gained.Gained.{Gained}
 
 -- with what these give it is what all of a chain give

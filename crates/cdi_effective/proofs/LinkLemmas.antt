@@ -1,32 +1,16 @@
 -- What a bean gets by its chain rests on the beans of the chain.
-use Rattle.std.proofs.Common.{◌≡◌, ℕ, zero, suc, Bool, true, false, cond, ◌||◌, List, [], ◌∷◌, ◌++◌, map, Option, Some, None, refl, ap, ◌∙◌}
-use Rattle.std.proofs.Common.{inl, inr}
-use Rattle.std.specs.Cmp.{nat_eq_equiv}
-use Rattle.std.specs.List.{flat_map}
-use Rattle.std.specs.Option.{option_or}
-use Rattle.std.specs.Str.{bytes_eq}
-use Rattle.std.proofs.lemmas.Bool.{cases_Bool, both_ways}
-use Rattle.cdi_model.proofs.EditLemmas.{edits_keep_decl, avoid-first, avoid-second, avoid-head}
-use Rattle.cdi_model.specs.BeanName.{default_name}
-use Rattle.cdi_model.specs.DeclKey.{key_at, kind_number}
-use Rattle.cdi_model.specs.DeclList.{find_decl, limit}
-use Rattle.cdi_model.specs.Edits.{edited_all, edited_keys, is_among, Avoid}
-use Rattle.cdi_model.specs.declared.decl.Attributes.{Attributes}
-use Rattle.cdi_model.specs.declared.decl.BeanDecl.{BeanDecl}
-use Rattle.cdi_model.specs.declared.decl.Decl.{Decl}
+use Rattle.cdi_effective.proofs.Common.{◌≡◌, ℕ, Bool, true, false, cond, ◌||◌, List, [], ◌∷◌, refl, ap, ◌∙◌, bytes_eq, Decl, zero, suc}
+use Rattle.cdi_effective.proofs.Common.{Option, Some, None, inl, inr, cases_Bool, key_at, find_decl, limit, BeanDecl, has, as_bean}
+use Rattle.cdi_effective.proofs.Common.{extended, bean_named, specialized, on_from, chain_behind, behind, ◌++◌, option_or, last_name}
+use Rattle.cdi_effective.proofs.Common.{name_alone, given_by, map, nat_eq_equiv, flat_map, edits_keep_decl, avoid-first, avoid-second}
+use Rattle.cdi_effective.proofs.Common.{avoid-head, default_name, edited_all, edited_keys, is_among, Avoid, Attributes, Edit}
+use Rattle.cdi_effective.proofs.Common.{stereotype_reads, type_reads, types_of, edits_keep_stereotypes, bean_keys, specialized_reads}
+use Rattle.cdi_effective.proofs.Common.{link_reads, chain_reads, given_of, name_of}
+use Rattle.std.proofs.lemmas.Bool.{both_ways}
+use Rattle.cdi_model.specs.DeclKey.{kind_number}
 use Rattle.cdi_model.specs.declared.decl.Kind.{Kind}
 use Rattle.cdi_model.specs.declared.decl.Kind.TheVariants as kinds
-use Rattle.cdi_model.specs.declared.edit.Edit.{Edit}
-use Rattle.cdi_match.specs.Chain.{has}
-use Rattle.cdi_match.specs.Locality.{stereotype_reads, type_reads}
-use Rattle.cdi_match.specs.Types.{types_of}
-use Rattle.cdi_match.proofs.LocalityLemmas.{edits_keep_stereotypes}
 use Rattle.cdi_match.proofs.TypeLemmas.{is_type_decides, types_of-has}
-use Rattle.cdi_effective.specs.Disposers.{as_bean}
-use Rattle.cdi_effective.specs.Given.{given_by}
-use Rattle.cdi_effective.specs.Reads.{bean_keys, specialized_reads, link_reads, chain_reads}
-use Rattle.cdi_effective.specs.Specialized.{extended, bean_named, specialized, on_from, chain_behind, behind, given_of, name_of}
-use Rattle.cdi_effective.specs.Specialized.{name_alone, last_name}
 
 -- a key of a kind is among those of some names exactly where its name is among these
 among-names : (kind : Kind) (names : List (List ℕ)) (s : List ℕ) → is_among (map (key_at kind) names) (key_at kind s) ≡ has names s

@@ -1,17 +1,10 @@
 -- The beans that are replaced, by their places.
-use Rattle.std.proofs.Common.{◌≡◌, ◌+◌, ℕ, zero, suc, Bool, false, ◌||◌, List, [], ◌∷◌, ◌++◌, append_assoc, length, drop, replicate, get_or}
-use Rattle.std.proofs.Common.{Some, option_map, slice_get, refl, sym, ap, ◌∙◌, arith}
-use Rattle.std.proofs.Math.Bool.{or_assoc, or-false}
-use Rattle.std.specs.List.{flat_map, list_any}
-use Rattle.std.proofs.lemmas.List.{get_or-replicate}
-use Rattle.cdi_model.specs.declared.decl.BeanDecl.{BeanDecl}
-use Rattle.cdi_model.specs.declared.decl.Decl.{Decl}
+use Rattle.cdi_effective.proofs.Common.{◌≡◌, ◌+◌, ℕ, Bool, false, ◌||◌, List, [], ◌∷◌, length, drop, get_or, refl, sym, ap, ◌∙◌, or_assoc}
+use Rattle.cdi_effective.proofs.Common.{Decl, zero, suc, Some, arith, BeanDecl, has, ◌++◌, append_assoc, list_any, or-false, flat_map}
+use Rattle.cdi_effective.proofs.Common.{given_of, replicate, option_map, slice_get, get_or-replicate, entries, records, Effective, link_of}
+use Rattle.cdi_effective.proofs.Common.{place_of, is_replaced, replaced_by}
 use Rattle.cdi_model.specs.declared.decl.Decl.TheVariants as decls
-use Rattle.cdi_match.specs.Chain.{has}
-use Rattle.cdi_effective.specs.Beans.{entries, records}
-use Rattle.cdi_effective.specs.declared.records.Effective.{Effective}
-use Rattle.cdi_effective.specs.Places.{link_of, place_of, MarksReplaced}
-use Rattle.cdi_effective.specs.Specialized.{given_of, is_replaced, replaced_by}
+use Rattle.cdi_effective.specs.Places.{MarksReplaced}
 use Rattle.cdi_effective.specs.declared.chains.Link.{Link}
 use Rattle.cdi_effective.proofs.WalkLemmas.{place-within}
 

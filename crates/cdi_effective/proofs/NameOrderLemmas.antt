@@ -1,27 +1,21 @@
 -- Uses in the order of their names, where these tell the order of their texts.
-use Rattle.std.proofs.Common.{◌≡◌, ◌⊎◌, ℕ, nat_eq, nat_lt, Bool, true, false, cond, List, [], ◌∷◌, ◌++◌}
-use Rattle.std.proofs.Common.{Ordering, Less, Equal, Greater, refl, sym, ap, subst, ◌∙◌, inl, inr, arith}
-use Rattle.std.specs.Cmp.{nat_cmp_is, IsStrictWeakOrder}
-use Rattle.std.specs.Cmp.Lexicographic.{nat_list_cmp_total}
-use Rattle.std.specs.List.{AllByRecursion}
-use Rattle.std.specs.Ordering.{is_lt, nat_cmp, ordering_then}
-use Rattle.std.proofs.lemmas.Bool.{and_parts, false≢true, or_cases, or_left, or_right, true≢false}
-use Rattle.std.specs.Cmp.{nat_eq_equiv}
-use Rattle.std.proofs.lemmas.Grind.{common_steps}
-use Rattle.std.proofs.lemmas.List.Sorted.{ranks_by}
-use Rattle.cdi_model.proofs.QualLemmas.{same_name, turned_order}
-use Rattle.cdi_model.specs.Bytes.{byte_order, opening}
-use Rattle.cdi_model.specs.UseText.{text_of_arguments, text_of_use}
+use Rattle.cdi_effective.proofs.Common.{◌≡◌, ℕ, Bool, true, false, cond, List, [], ◌∷◌, refl, sym, ap, ◌∙◌, Qual, ◌⊎◌, subst, inl, inr}
+use Rattle.cdi_effective.proofs.Common.{arith, AllByRecursion, false≢true, or_cases, or_left, or_right, ◌++◌, nat_eq_equiv, nat_eq}
+use Rattle.cdi_effective.proofs.Common.{Ordering, Less, Equal, Greater, IsStrictWeakOrder, nat_list_cmp_total, is_lt, true≢false}
+use Rattle.cdi_effective.proofs.Common.{common_steps, ranks_by, same_name, turned_order, byte_order, text_of_use, name_of_use, same_qual}
+use Rattle.cdi_effective.proofs.Common.{same_qual-decides, put, sorted_by, each_once, has_use, in_text_order, is_before_in_name}
+use Rattle.cdi_effective.proofs.Common.{is_before_in_text, tell_order}
+use Rattle.std.proofs.Common.{nat_lt}
+use Rattle.std.specs.Cmp.{nat_cmp_is}
+use Rattle.std.specs.Ordering.{nat_cmp, ordering_then}
+use Rattle.std.proofs.lemmas.Bool.{and_parts}
+use Rattle.cdi_model.specs.Bytes.{opening}
+use Rattle.cdi_model.specs.UseText.{text_of_arguments}
 use Rattle.cdi_model.specs.declared.quals.Arguments.{Arguments}
 use Rattle.cdi_model.specs.declared.quals.Arguments.TheVariants as arguments
-use Rattle.cdi_model.specs.declared.quals.Qual.{Qual}
-use Rattle.cdi_model.specs.Quals.{name_of_use}
-use Rattle.cdi_model.specs.SameUse.{same_qual, same_qual-decides}
-use Rattle.cdi_effective.specs.Sorting.{put, sorted_by}
 use Rattle.cdi_effective.proofs.SortLemmas.{all_sorted}
 use Rattle.cdi_effective.proofs.UseLemmas.{any-sorted, InTurn, sorted-in_turn}
-use Rattle.cdi_effective.specs.TextOrder.{each_once, has_use, in_text_order, is_before_in_name, is_before_in_text}
-use Rattle.cdi_effective.specs.TextOrder.{tell_order, tells_order}
+use Rattle.cdi_effective.specs.TextOrder.{tells_order}
 
 -- ---- the texts of two uses
 

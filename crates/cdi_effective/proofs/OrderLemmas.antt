@@ -1,24 +1,12 @@
 -- The types of each bean of the bean list stand in order.
-use Rattle.std.proofs.Common.{ℕ, not, List, [], ◌∷◌, ◌++◌, map, Option, Some, None}
-use Rattle.std.specs.List.{AllByRecursion, flat_map}
-use Rattle.std.specs.List.Sorted.{IsStrictlySortedBy}
-use Rattle.std.proofs.lemmas.List.Elements.{All-from_recursion}
+use Rattle.cdi_effective.proofs.Common.{ℕ, List, [], ◌∷◌, Decl, Qual, Option, Some, None, AllByRecursion, BeanDecl, ◌++◌, map, flat_map}
+use Rattle.cdi_effective.proofs.Common.{Attributes, types_of, entries, Effective, is_replaced, byte_order, not, IsStrictlySortedBy}
+use Rattle.cdi_effective.proofs.Common.{All-from_recursion, ProducerDecl, class_bindings, is_kept, effective, managed_origin}
+use Rattle.cdi_effective.proofs.Common.{product_origin, product, managed, beans, Origin}
 use Rattle.std.proofs.lemmas.List.Kept.{IsStrictlySortedBy-filter}
-use Rattle.cdi_model.specs.Bytes.{byte_order}
-use Rattle.cdi_model.specs.declared.decl.Attributes.{Attributes}
-use Rattle.cdi_model.specs.declared.decl.BeanDecl.{BeanDecl}
-use Rattle.cdi_model.specs.declared.decl.Decl.{Decl}
 use Rattle.cdi_model.specs.declared.decl.Decl.TheVariants as decls
-use Rattle.cdi_model.specs.declared.decl.ProducerDecl.{ProducerDecl}
-use Rattle.cdi_match.specs.Types.{types_of}
 use Rattle.cdi_match.proofs.TypeLemmas.{types_of-rises}
-use Rattle.cdi_model.specs.declared.quals.Qual.{Qual}
-use Rattle.cdi_effective.specs.Bindings.{class_bindings}
-use Rattle.cdi_effective.specs.Beans.{is_kept, restricted, effective, managed_origin, product_origin, product, managed}
-use Rattle.cdi_effective.specs.Beans.{entries, beans, TypesStandInOrder}
-use Rattle.cdi_effective.specs.Specialized.{is_replaced}
-use Rattle.cdi_effective.specs.declared.records.Effective.{Effective}
-use Rattle.cdi_effective.specs.declared.records.Origin.{Origin}
+use Rattle.cdi_effective.specs.Beans.{restricted, TypesStandInOrder}
 
 abbrev IsInOrder : Effective → Type 0
 IsInOrder bean = IsStrictlySortedBy byte_order bean.types

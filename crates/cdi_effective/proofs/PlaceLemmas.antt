@@ -1,24 +1,18 @@
 -- The places of beans among the declarations.
-use Rattle.std.proofs.Common.{◌≡◌, ◌≢◌, ◌<◌, ℕ, zero, suc, nat_eq, Bool, true, false, cond, ◌||◌, List, [], ◌∷◌, ◌++◌, length}
-use Rattle.std.proofs.Common.{Option, Some, None, is_some, option_map, slice_get, position, refl, sym, ap, subst, ◌∙◌, inl, inr, arith}
-use Rattle.std.specs.List.{AllByRecursion, list_any}
-use Rattle.std.specs.Str.{bytes_eq}
-use Rattle.std.proofs.lemmas.Bool.{cases_Bool, false≢true, true≢false}
-use Rattle.std.proofs.lemmas.Option.{get_or_from_slice_get, slice_get_within}
-use Rattle.cdi_model.proofs.EntryLemmas.{key_exact}
-use Rattle.cdi_model.proofs.PositionLemmas.{one_position, position-found, position-there}
-use Rattle.cdi_model.specs.Decl.{key_of, kind_of, name_of_decl}
-use Rattle.cdi_model.specs.DeclKey.{same_key, same_key_equiv}
-use Rattle.cdi_model.specs.DeclList.{find_decl, is_of, AreDistinct}
-use Rattle.cdi_model.specs.declared.decl.BeanDecl.{BeanDecl}
-use Rattle.cdi_model.specs.declared.decl.Decl.{Decl}
+use Rattle.cdi_effective.proofs.Common.{◌≡◌, ◌<◌, ℕ, Bool, true, false, cond, ◌||◌, List, [], ◌∷◌, length, refl, sym, ap, ◌∙◌, bytes_eq}
+use Rattle.cdi_effective.proofs.Common.{Decl, zero, suc, is_some, Option, Some, None, subst, inl, inr, arith, AllByRecursion, cases_Bool}
+use Rattle.cdi_effective.proofs.Common.{false≢true, key_of, name_of_decl, same_key, find_decl, BeanDecl, key_exact, has, one_name}
+use Rattle.cdi_effective.proofs.Common.{same_text, as_bean, find_bean, specialized, class_names, ◌++◌, ArePlaces, IsPlace, list_any}
+use Rattle.cdi_effective.proofs.Common.{option_map, slice_get, place_of, nat_eq, true≢false, slice_get_within, position-found}
+use Rattle.cdi_effective.proofs.Common.{position-there, place_of_next}
+use Rattle.std.proofs.Common.{◌≢◌, position}
+use Rattle.std.proofs.lemmas.Option.{get_or_from_slice_get}
+use Rattle.cdi_model.proofs.PositionLemmas.{one_position}
+use Rattle.cdi_model.specs.Decl.{kind_of}
+use Rattle.cdi_model.specs.DeclKey.{same_key_equiv}
+use Rattle.cdi_model.specs.DeclList.{is_of, AreDistinct}
 use Rattle.cdi_model.specs.declared.decl.Decl.TheVariants as decls
 use Rattle.cdi_model.specs.declared.decl.Kind.TheVariants as kinds
-use Rattle.cdi_match.specs.Chain.{has}
-use Rattle.cdi_match.proofs.Names.{one_name, same_text}
-use Rattle.cdi_effective.specs.Disposers.{as_bean, find_bean}
-use Rattle.cdi_effective.specs.Places.{place_of, place_of_next, ArePlaces, IsPlace}
-use Rattle.cdi_effective.specs.Specialized.{class_names, specialized}
 use Rattle.cdi_effective.proofs.ChainLemmas.{specialized-found}
 
 -- ---- a declaration is found at its own place

@@ -1,9 +1,6 @@
 -- A managed bean before its products.
-use Rattle.std.proofs.Common.{◌≡◌, Bool, List, [], ◌∷◌, ◌++◌, map, ap, ◌∙◌, append_assoc}
-use Rattle.cdi_model.specs.declared.decl.BeanDecl.{BeanDecl}
-use Rattle.cdi_model.specs.declared.decl.Decl.{Decl}
-use Rattle.cdi_effective.specs.Beans.{managed_where, product_of, records_where}
-use Rattle.cdi_effective.specs.declared.records.Effective.{Effective}
+use Rattle.cdi_effective.proofs.Common.{◌≡◌, Bool, List, [], ◌∷◌, ap, ◌∙◌, Decl, BeanDecl, ◌++◌, append_assoc, map, Effective}
+use Rattle.cdi_effective.proofs.Common.{managed_where, product_of, records_where}
 
 pub managed_pushed : (ds : List Decl) (bean : BeanDecl) (is_offered : Bool) (m : Effective) (old pushed : List Effective)
     → pushed ≡ old ++ m ∷ [] → m ≡ managed_where ds bean is_offered

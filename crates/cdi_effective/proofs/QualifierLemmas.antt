@@ -1,7 +1,7 @@
 -- Which qualifiers a bean has.
-use Rattle.std.proofs.Common.{◌≡◌, ℕ, List, [], ◌∷◌, ◌++◌, length, Option, Some, None, refl, arith}
-use Rattle.cdi_effective.specs.Qualifiers.{any_use, default_use, named_by, built_in_of, qualifiers_of, QualifiersAreThese}
-use Rattle.cdi_effective.specs.TextOrder.{in_text_order}
+use Rattle.cdi_effective.proofs.Common.{◌≡◌, ℕ, List, [], ◌∷◌, length, refl, Option, Some, None, arith, ◌++◌, in_text_order, built_in_of}
+use Rattle.cdi_effective.proofs.Common.{qualifiers_of}
+use Rattle.cdi_effective.specs.Qualifiers.{any_use, default_use, named_by, QualifiersAreThese}
 use Rattle.cdi_effective.proofs.UseLemmas.{are_in_text_order}
 
 pub qualifiers_are_these : QualifiersAreThese

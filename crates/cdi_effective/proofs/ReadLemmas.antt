@@ -1,24 +1,14 @@
 -- What records rest on stays where edits name none of it.
-use Rattle.std.proofs.Common.{◌≡◌, ℕ, false, cond, List, [], ◌∷◌, ◌++◌, map, refl, ap, ◌∙◌}
-use Rattle.std.specs.List.{flat_map}
-use Rattle.cdi_model.proofs.EditLemmas.{edits_keep_decl, avoid-first, avoid-second, avoid-head}
-use Rattle.cdi_model.specs.DeclKey.{key_at}
-use Rattle.cdi_model.specs.Edits.{edited_all, edited_keys, is_among, Avoid}
-use Rattle.cdi_model.specs.Quals.{name_of_use}
-use Rattle.cdi_model.specs.declared.decl.BeanDecl.{BeanDecl}
-use Rattle.cdi_model.specs.declared.decl.Decl.{Decl}
+use Rattle.cdi_effective.proofs.Common.{◌≡◌, ℕ, false, cond, List, [], ◌∷◌, refl, ap, ◌∙◌, Decl, stereotype_decls, Qual}
+use Rattle.cdi_effective.proofs.Common.{stereotype_bindings, key_at, BeanDecl, extended, behind, ◌++◌, map, flat_map, edits_keep_decl}
+use Rattle.cdi_effective.proofs.Common.{avoid-first, avoid-second, avoid-head, edited_all, edited_keys, is_among, Avoid, Edit}
+use Rattle.cdi_effective.proofs.Common.{stereotype_reads, type_reads, edits_keep_stereotypes, bean_keys, specialized_reads, link_reads}
+use Rattle.cdi_effective.proofs.Common.{chain_reads, name_of_use, ProducerDecl, binding_reads, edits_keep_closure, bean_reads, class_reads}
+use Rattle.cdi_effective.proofs.Common.{product_reads, record_reads}
 use Rattle.cdi_model.specs.declared.decl.Kind.TheVariants as kinds
-use Rattle.cdi_model.specs.declared.decl.ProducerDecl.{ProducerDecl}
-use Rattle.cdi_model.specs.declared.edit.Edit.{Edit}
-use Rattle.cdi_model.specs.declared.quals.Qual.{Qual}
 use Rattle.cdi_match.specs.Bindings.{brings_type, types_brought}
-use Rattle.cdi_match.specs.Locality.{binding_reads, type_reads, stereotype_reads}
-use Rattle.cdi_match.specs.Stereotypes.{stereotype_decls}
 use Rattle.cdi_match.proofs.BindingLemmas.{bindings_in}
-use Rattle.cdi_match.proofs.LocalityLemmas.{edits_keep_closure, edits_keep_stereotypes, keep_names}
-use Rattle.cdi_effective.specs.Bindings.{stereotype_bindings}
-use Rattle.cdi_effective.specs.Reads.{bean_keys, bean_reads, chain_reads, class_reads, link_reads, product_reads, record_reads, specialized_reads}
-use Rattle.cdi_effective.specs.Specialized.{behind, extended}
+use Rattle.cdi_match.proofs.LocalityLemmas.{keep_names}
 use Rattle.cdi_effective.proofs.LinkLemmas.{behind-stays, type-kept}
 
 module _ (edits : List Edit) (ds : List Decl) where

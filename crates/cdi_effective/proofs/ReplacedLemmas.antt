@@ -1,17 +1,12 @@
 -- Which edits leave a bean replaced or not.
-use Rattle.std.proofs.Common.{◌≡◌, ◌⊎◌, ℕ, Bool, true, false, cond, List, [], ◌∷◌, flat_map, refl, sym, ap, ◌∙◌, inl, inr}
-use Rattle.std.specs.List.{AllByRecursion, list_any}
-use Rattle.cdi_model.specs.Decl.{key_of}
-use Rattle.cdi_model.specs.Edits.{edited_all, edited_keys, is_among, Avoid}
+use Rattle.cdi_effective.proofs.Common.{◌≡◌, ℕ, Bool, true, false, cond, List, [], ◌∷◌, refl, sym, ap, ◌∙◌, Decl, ◌⊎◌, inl, inr}
+use Rattle.cdi_effective.proofs.Common.{AllByRecursion, key_of, has, list_any, edited_all, edited_keys, is_among, Avoid, Edit, is_replaced}
+use Rattle.cdi_effective.proofs.Common.{replaced_by, DeclKey}
+use Rattle.std.proofs.Common.{flat_map}
 use Rattle.cdi_model.specs.declared.decl.Decl.TheVariants as decls
-use Rattle.cdi_model.specs.declared.edit.Edit.{Edit}
-use Rattle.cdi_model.specs.declared.key.DeclKey.{DeclKey}
-use Rattle.cdi_model.specs.declared.decl.Decl.{Decl}
 use Rattle.cdi_model.proofs.GivingLemmas.{edits_keep_given}
-use Rattle.cdi_match.specs.Chain.{has}
 use Rattle.cdi_effective.specs.Locality.{decl_reads, replacing, EditsKeepReplaced, ReplacesNeither, SparedStay}
 use Rattle.cdi_effective.proofs.RecordLemmas.{leave-own}
-use Rattle.cdi_effective.specs.Specialized.{replaced_by, is_replaced}
 
 abbrev is_there : List Decl → Bool
 is_there [] = false

@@ -1,14 +1,12 @@
 -- A stable sort leaves what is put in order one by one.
-use Rattle.std.proofs.Common.{◌≡◌, true, false, Bool, not, ◌&&◌, cond, ◌<◌, ℕ, zero, suc, arith}
-use Rattle.std.proofs.Common.{List, [], ◌∷◌, length, map, refl, sym, ap, subst, ◌∙◌, inl, inr, true≢false}
+use Rattle.cdi_effective.proofs.Common.{◌≡◌, ◌<◌, ℕ, Bool, true, false, cond, List, [], ◌∷◌, length, refl, sym, ap, ◌∙◌, zero, suc, subst}
+use Rattle.cdi_effective.proofs.Common.{inl, inr, arith, AllByRecursion, cases_Bool, ◌&&◌, map, IsStrictWeakOrder, put, sorted_by, not}
+use Rattle.std.proofs.Common.{true≢false}
 use Rattle.std.specs.Prelude.{slice_index_or}
-use Rattle.std.specs.Cmp.{IsStrictWeakOrder}
-use Rattle.std.specs.List.{AllByRecursion, filter}
+use Rattle.std.specs.List.{filter}
 use Rattle.std.specs.List.Sorted.{IsSortedBy, IsStableBy, ties}
-use Rattle.std.proofs.lemmas.Bool.{cases_Bool}
 use Rattle.std.proofs.lemmas.List.Sorted.{sorted_far}
 use native.Mathlib.Numerals.{unary_clauses}
-use Rattle.cdi_effective.specs.Sorting.{put, sorted_by}
 
 both-not : (p q : Bool) → (not p && not q) ≡ true → (p ≡ false) × (q ≡ false)
 both-not false false h = (refl, refl)

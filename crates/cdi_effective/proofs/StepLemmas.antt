@@ -1,13 +1,10 @@
 -- A chain, step by step.
-use Rattle.std.proofs.Common.{◌≡◌, ℕ, zero, suc, Bool, true, false, cond, ◌||◌, List, [], ◌∷◌, ◌++◌, refl, ap, ◌∙◌}
-use Rattle.std.proofs.Common.{Some, None, append_assoc, append-nil, sym}
-use Rattle.cdi_model.specs.DeclList.{limit}
-use Rattle.cdi_model.specs.declared.decl.BeanDecl.{BeanDecl}
-use Rattle.cdi_model.specs.declared.decl.Decl.{Decl}
+use Rattle.cdi_effective.proofs.Common.{◌≡◌, ℕ, Bool, true, false, cond, ◌||◌, List, [], ◌∷◌, refl, sym, ap, ◌∙◌, Decl, zero, suc, Some}
+use Rattle.cdi_effective.proofs.Common.{None, limit, BeanDecl, has, specialized, on_from, chain_behind, behind, class_names, ◌++◌}
+use Rattle.cdi_effective.proofs.Common.{append_assoc, replaced_by}
+use Rattle.std.proofs.Common.{append-nil}
 use Rattle.cdi_model.specs.declared.decl.Decl.TheVariants as decls
-use Rattle.cdi_match.specs.Chain.{has}
-use Rattle.cdi_effective.specs.Specialized.{specialized, on_from, chain_behind, behind, class_names, is_offered}
-use Rattle.cdi_effective.specs.Specialized.{replaced_by}
+use Rattle.cdi_effective.specs.Specialized.{is_offered}
 
 abbrev Names : Type 0
 Names = List (List ℕ)

@@ -1,17 +1,11 @@
 -- The records of a declaration in the bean list.
-use Rattle.std.proofs.Common.{◌≡◌, ◌+◌, ℕ, suc, Bool, true, false, cond, List, [], ◌∷◌, ◌++◌, drop, map, refl, ap, ◌∙◌, arith}
-use Rattle.std.specs.List.{flat_map, position_or_len, take_while}
-use Rattle.std.specs.Str.{bytes_eq}
+use Rattle.cdi_effective.proofs.Common.{◌≡◌, ◌+◌, ℕ, Bool, true, false, cond, List, [], ◌∷◌, drop, refl, ap, ◌∙◌, bytes_eq, Decl}
+use Rattle.cdi_effective.proofs.Common.{bytes_eq-turned, suc, arith, BeanDecl, find_bean, ◌++◌, map, flat_map, entries, records, Effective}
+use Rattle.cdi_effective.proofs.Common.{ProducerDecl, effective, product, managed, beans}
+use Rattle.std.specs.List.{position_or_len, take_while}
 use Rattle.std.proofs.lemmas.List.Sums.{take_while-cons}
-use Rattle.cdi_model.specs.declared.decl.BeanDecl.{BeanDecl}
-use Rattle.cdi_model.specs.declared.decl.Decl.{Decl}
 use Rattle.cdi_model.specs.declared.decl.Decl.TheVariants as decls
-use Rattle.cdi_model.specs.declared.decl.ProducerDecl.{ProducerDecl}
-use Rattle.cdi_match.proofs.Names.{bytes_eq-turned}
-use Rattle.cdi_effective.specs.Beans.{effective, managed, product, records, entries, beans}
-use Rattle.cdi_effective.specs.Disposers.{find_bean}
 use Rattle.cdi_effective.specs.Records.{records_declared, records_in, is_of_class, is_product, with_products, RecordsStandTogether}
-use Rattle.cdi_effective.specs.declared.records.Effective.{Effective}
 
 -- from the first bean of a class on
 from_class : List ℕ → List Effective → List Effective

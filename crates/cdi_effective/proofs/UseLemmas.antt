@@ -1,30 +1,20 @@
 -- Uses in the byte order of their texts, each once.
-use Rattle.std.proofs.Common.{arith, suc, zero, ◌<◌, ◌+◌, length, drop, get_or}
-use Rattle.std.proofs.Common.{◌≡◌, ℕ, Bool, true, false, cond, ◌||◌, List, [], ◌∷◌, ◌++◌, map, fold}
-use Rattle.std.proofs.Common.{Ordering, Less, Equal, Greater, refl, sym, ap, ◌∙◌, inl, inr}
-use Rattle.std.proofs.Math.Bool.{or_assoc, or-false, or-true}
-use Rattle.std.specs.Borrow.{Bor}
-use Rattle.std.specs.Cmp.{IsStrictWeakOrder}
-use Rattle.std.specs.Cmp.Lexicographic.{nat_list_cmp_total}
-use Rattle.std.specs.List.{AllByRecursion, AllPairs, IsDistinct, list_any}
-use Rattle.std.specs.List.Sorted.{IsStrictlySortedBy}
-use Rattle.std.specs.Ordering.{is_lt}
-use Rattle.std.proofs.lemmas.Bool.{false≢true, false_from_ne_true, or_cases, or_left, or_right}
-use Rattle.std.proofs.lemmas.List.{at_drop_more, map-append}
-use Rattle.std.proofs.lemmas.List.Elements.{All-from_recursion}
+use Rattle.cdi_effective.proofs.Common.{◌≡◌, ◌<◌, ◌+◌, ℕ, Bool, true, false, cond, ◌||◌, List, [], ◌∷◌, length, drop, get_or, refl, sym, ap}
+use Rattle.cdi_effective.proofs.Common.{◌∙◌, or_assoc, Bor, at_drop_more, Qual, uses_in, zero, suc, inl, inr, arith, AllByRecursion}
+use Rattle.cdi_effective.proofs.Common.{IsDistinct, false≢true, or_cases, or_left, or_right, AllPairs-from_IsDistinct, ◌++◌, fold, list_any}
+use Rattle.cdi_effective.proofs.Common.{or-false, map, Ordering, Less, Equal, Greater, IsStrictWeakOrder, nat_list_cmp_total, is_lt}
+use Rattle.cdi_effective.proofs.Common.{ranks_by, same_name, turned_order, byte_order, text_of_use, same_qual, same_qual-decides, put}
+use Rattle.cdi_effective.proofs.Common.{sorted_by, each_once, has_use, in_text_order, is_before_in_text, IsStrictlySortedBy}
+use Rattle.cdi_effective.proofs.Common.{All-from_recursion, map-append, with_use}
+use Rattle.std.proofs.Math.Bool.{or-true}
+use Rattle.std.specs.List.{AllPairs}
+use Rattle.std.proofs.lemmas.Bool.{false_from_ne_true}
 use Rattle.std.proofs.lemmas.List.Folds.{list_any-append}
-use Rattle.std.proofs.lemmas.List.Sorted.{ranks_by}
 use Rattle.std.proofs.lemmas.Map.Keys.{IsDistinct-push}
-use Rattle.std.proofs.lemmas.Map.Made.{AllPairs-from_IsDistinct}
-use Rattle.cdi_model.specs.Bytes.{byte_order}
-use Rattle.cdi_model.specs.SameUse.{same_qual, same_qual-decides, same_qual_equiv}
-use Rattle.cdi_model.specs.UseText.{text_of_use}
-use Rattle.cdi_model.specs.declared.quals.Qual.{Qual}
-use Rattle.cdi_model.proofs.QualLemmas.{before-all, same_name, turned_order}
-use Rattle.cdi_match.specs.Bindings.{uses_in}
+use Rattle.cdi_model.specs.SameUse.{same_qual_equiv}
+use Rattle.cdi_model.proofs.QualLemmas.{before-all}
 use Rattle.cdi_match.proofs.OrderLemmas.{or-left_comm}
-use Rattle.cdi_effective.specs.Sorting.{put, sorted_by}
-use Rattle.cdi_effective.specs.TextOrder.{has_use, with_use, each_once, is_before_in_text, in_text_order, TextsTellApart, AreInTextOrder}
+use Rattle.cdi_effective.specs.TextOrder.{TextsTellApart, AreInTextOrder}
 
 -- ---- which uses they are
 

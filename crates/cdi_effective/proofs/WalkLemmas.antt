@@ -1,19 +1,14 @@
 -- The walk along the places of a chain.
-use Rattle.std.proofs.Common.{◌≡◌, ◌<◌, ℕ, suc, nat_eq, Bool, true, false, ◌||◌, List, [], ◌∷◌, ◌++◌, length, replicate}
-use Rattle.std.proofs.Common.{Option, Some, None, is_some, get_or, set, refl, sym, ap, subst, ◌∙◌, inl, inr, arith}
-use Rattle.std.specs.Str.{bytes_eq}
-use Rattle.std.proofs.lemmas.Bool.{cases_Bool, false≢true, true≢false}
-use Rattle.std.proofs.lemmas.Option.{slice_get-get_or, slice_get_within}
-use Rattle.std.proofs.lemmas.List.{get_or-replicate, get_or-set_same, get_or-set_other, length-replicate, length-set}
-use Rattle.cdi_model.proofs.PositionLemmas.{position-found, position-there}
-use Rattle.cdi_model.specs.DeclList.{find_decl, limit}
-use Rattle.cdi_model.specs.declared.decl.BeanDecl.{BeanDecl}
-use Rattle.cdi_model.specs.declared.decl.Decl.{Decl}
+use Rattle.cdi_effective.proofs.Common.{◌≡◌, ◌<◌, ℕ, Bool, true, false, ◌||◌, List, [], ◌∷◌, length, get_or, refl, sym, ap, ◌∙◌, bytes_eq}
+use Rattle.cdi_effective.proofs.Common.{Decl, suc, is_some, Option, Some, None, subst, inl, inr, arith, cases_Bool, false≢true, find_decl}
+use Rattle.cdi_effective.proofs.Common.{limit, BeanDecl, has, specialized, chain_behind, behind, ◌++◌, ArePlaces, IsPlace, replicate}
+use Rattle.cdi_effective.proofs.Common.{get_or-replicate, place_of, nat_eq, true≢false, slice_get_within, position-found, position-there}
+use Rattle.cdi_effective.proofs.Common.{place_of_next, set, length-replicate}
+use Rattle.std.proofs.lemmas.Option.{slice_get-get_or}
+use Rattle.std.proofs.lemmas.List.{get_or-set_same, get_or-set_other, length-set}
 use Rattle.cdi_model.specs.declared.decl.Decl.TheVariants as decls
 use Rattle.cdi_model.specs.declared.decl.Kind.TheVariants as kinds
-use Rattle.cdi_match.specs.Chain.{has}
-use Rattle.cdi_effective.specs.Places.{next_at, place_of, place_of_next, ArePlaces, IsPlace}
-use Rattle.cdi_effective.specs.Specialized.{behind, chain_behind, specialized}
+use Rattle.cdi_effective.specs.Places.{next_at}
 use Rattle.cdi_effective.proofs.PlaceLemmas.{apart-by-place, no-next, snoc-places, the-next}
 use Rattle.cdi_effective.proofs.StepLemmas.{all-behind, ended, ends-met, ends-none, no-steps, one-more}
 

@@ -22,13 +22,8 @@ use Rattle.cdi_ending.specs.declared.shared.Shared.{Shared}
 -- a frame that has proceeded ends where it would proceed again
 pub second_ends : (s : Scene) (seat : Seat) (k j : ℕ) (act : Act) (m : Moment) → Permits s seat act → is_proceeding act ≡ true
     → Ends s (asks_back seat k j true (Failed Steps)) m m
-second_ends s seat k j Load m h e = cc
-second_ends s seat k j (Store v) m h e = cc
-second_ends s seat k j (Call a b) m h e = cc
-second_ends s seat k j (Fire a b) m h e = cc
 second_ends s seat k j (Proceed v) m h e = Ends.proceeded_twice seat k j v m h
-second_ends s seat k j (Return v) m h e = cc
-second_ends s seat k j (Fail f) m h e = cc
+second_ends s seat k j other m h e = cc
 
 -- the same, where it has
 pub twice_ends : (s : Scene) (seat : Seat) (k j : ℕ) (p : Bool) (act : Act) (m : Moment) → Permits s seat act

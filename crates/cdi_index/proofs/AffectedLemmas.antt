@@ -1,37 +1,20 @@
 -- Which declarations edits affect, and that what is made of the others stays.
-use Rattle.std.proofs.Common.{◌≡◌, ℕ, Bool, true, false, ◌&&◌, ◌||◌, List, [], ◌∷◌, map, Option, Some, None, option_map}
-use Rattle.std.proofs.Common.{refl, sym, ap, ◌∙◌}
-use Rattle.std.specs.List.{list_any}
-use Rattle.std.proofs.lemmas.Bool.{or_parts}
-use Rattle.cdi_model.specs.declared.decl.BeanDecl.{BeanDecl}
-use Rattle.cdi_model.specs.declared.decl.BindingDecl.{BindingDecl}
-use Rattle.cdi_model.specs.declared.decl.Decl.{Decl}
-use Rattle.cdi_model.specs.declared.decl.Kind.{Kind}
+use Rattle.cdi_index.proofs.Common.{◌≡◌, ℕ, Bool, true, false, ◌&&◌, ◌||◌, List, [], ◌∷◌, map, Option, Some, None, option_map, refl, sym}
+use Rattle.cdi_index.proofs.Common.{ap, ◌∙◌, list_any, or_parts, BeanDecl, BindingDecl, Decl, Kind, Edit, DeclKey, key_at, same_key}
+use Rattle.cdi_index.proofs.Common.{find_decl, edited_all, edited_keys, is_among, edits_keep_decl, key_exact, Qual, name_of_use}
+use Rattle.cdi_index.proofs.Common.{find_binding, own_records, Effective, as_bean, find_bean, record_reads, replaced_by, Made, is_kept}
+use Rattle.cdi_index.proofs.Common.{made_of, made_of_bean, made_of_binding, made_of_interceptor, made_of_type, reads}
 use Rattle.cdi_model.specs.declared.decl.Kind.TheVariants as kinds
-use Rattle.cdi_model.specs.declared.edit.Edit.{Edit}
-use Rattle.cdi_model.specs.declared.key.DeclKey.{DeclKey}
-use Rattle.cdi_model.specs.DeclKey.{key_at, same_key}
-use Rattle.cdi_model.specs.DeclList.{find_decl}
-use Rattle.cdi_model.specs.Edits.{edited_all, edited_keys, is_among, Avoid}
-use Rattle.cdi_model.proofs.EditLemmas.{edits_keep_decl}
-use Rattle.cdi_model.proofs.EntryLemmas.{key_exact}
-use Rattle.cdi_model.specs.declared.quals.Qual.{Qual}
-use Rattle.cdi_model.specs.Quals.{name_of_use}
+use Rattle.cdi_model.specs.Edits.{Avoid}
 use Rattle.cdi_match.specs.Bindings.{brings_type, types_brought}
-use Rattle.cdi_match.specs.Filling.{as_binding, find_binding}
+use Rattle.cdi_match.specs.Filling.{as_binding}
 use Rattle.cdi_match.specs.Locality.{binding_reads}
 use Rattle.cdi_match.proofs.BindingLemmas.{bindings_in}
 use Rattle.cdi_match.proofs.LocalityLemmas.{edits_keep_closure, keep_names}
-use Rattle.cdi_effective.specs.Beans.{own_records}
-use Rattle.cdi_effective.specs.declared.records.Effective.{Effective}
-use Rattle.cdi_effective.specs.Disposers.{as_bean, find_bean}
-use Rattle.cdi_effective.specs.Reads.{record_reads}
-use Rattle.cdi_effective.specs.Specialized.{replaced_by}
 use Rattle.cdi_model.specs.declared.decl.Decl.TheVariants as decls
 use Rattle.cdi_effective.proofs.RecordLemmas.{edits_keep_own_records}
-use Rattle.cdi_index.specs.declared.making.Made.{Made}
 use Rattle.cdi_index.specs.declared.making.Given.TheVariants as given
-use Rattle.cdi_index.specs.Made.{is_kept, made_of, made_of_bean, made_of_binding, made_of_interceptor, made_of_type, reads, reads_in, words_of}
+use Rattle.cdi_index.specs.Made.{reads_in, words_of}
 use Rattle.cdi_index.proofs.ChangeLemmas.{any-either, any-same, none-of}
 
 -- an edit of a key affects a declaration

@@ -1,48 +1,26 @@
 -- The declarations that ask for a bean of a type, or for who observes an event of it, are found by its word.
-use Rattle.std.proofs.Common.{◌≡◌, ℕ, Bool, true, false, not, ◌&&◌, ◌||◌, List, [], ◌∷◌, ◌++◌, map, flat_map, Option, Some, None, option_map}
-use Rattle.std.proofs.Common.{refl, sym, ap, ◌∙◌}
+use Rattle.cdi_index.proofs.Common.{◌≡◌, ℕ, Bool, true, false, ◌&&◌, ◌||◌, List, [], ◌∷◌, map, Option, Some, None, option_map, refl, sym}
+use Rattle.cdi_index.proofs.Common.{ap, ◌∙◌, list_any, Decl, DeclKey, key_at, find_decl, is_among, Qual, own_records, as_bean, made_of_bean}
+use Rattle.cdi_index.proofs.Common.{made_of_interceptor, not, ◌++◌, flat_map, option_map_or, option_to_list, bytes_eq, and_from, and_parts}
+use Rattle.cdi_index.proofs.Common.{false≢true, or_cases, or_left, or_right, list_any-append, inl, inr, key_of, kind_of, name_of_decl}
+use Rattle.cdi_index.proofs.Common.{AreDistinct, mentions, Mention, BodyOf, CallOf, EventOf, MethodOf, PointOf, StereotypeOf, TypeIn, UseOf}
+use Rattle.cdi_index.proofs.Common.{bytes_eq-turned, required, Word, Listing, under, same_word, word_at, asks_for, asks_in, is_asked}
+use Rattle.cdi_index.proofs.Common.{is_asker_at, Asked, Kept, Shelf, kept_at, stored, IsExact, IsShelf, IsSound, words_have, words_named}
+use Rattle.cdi_index.proofs.Common.{words_named_in, words_of_observer, words_of_record, words_of_uses, words_by}
 use Rattle.std.specs.Cmp.Lexicographic.{pointwise}
-use Rattle.std.specs.List.{list_any}
-use Rattle.std.specs.Option.{option_map_or, option_to_list}
-use Rattle.std.specs.Str.{bytes_eq}
-use Rattle.std.proofs.lemmas.Bool.{and_from, and_parts, false≢true, or_cases, or_left, or_right}
-use Rattle.std.proofs.lemmas.List.Folds.{list_any-append}
-use Rattle.std.proofs.Common.{inl, inr}
-use Rattle.cdi_model.specs.declared.decl.Decl.{Decl}
 use Rattle.cdi_model.specs.declared.decl.Decl.TheVariants as decls
 use Rattle.cdi_model.specs.declared.decl.Kind.TheVariants as kinds
 use Rattle.cdi_model.specs.declared.decl.TypeDecl.{TypeDecl}
 use Rattle.cdi_model.specs.declared.decl.UseKind.{UseKind}
-use Rattle.cdi_model.specs.declared.key.DeclKey.{DeclKey}
 use Rattle.cdi_model.specs.declared.mention.TypePlace.{TypePlace}
 use Rattle.cdi_model.specs.declared.mention.TypePlace.TheVariants as places
 use Rattle.cdi_model.specs.declared.decl.UseKind.TheVariants as uses
-use Rattle.cdi_model.specs.declared.quals.Qual.{Qual}
-use Rattle.cdi_model.specs.Decl.{key_of, kind_of, name_of_decl}
-use Rattle.cdi_model.specs.DeclKey.{key_at}
-use Rattle.cdi_model.specs.DeclList.{find_decl, AreDistinct}
-use Rattle.cdi_model.specs.Edits.{is_among}
 use Rattle.cdi_model.specs.SameUse.{same_qual}
-use Rattle.cdi_model.specs.Mentions.{mentions, of_bindings, Mention, BodyOf, CallOf, EventOf, MethodOf, PointOf, StereotypeOf, TypeIn, UseOf}
-use Rattle.cdi_match.proofs.Names.{bytes_eq-turned}
-use Rattle.cdi_effective.specs.Beans.{own_records}
-use Rattle.cdi_effective.specs.Disposers.{as_bean}
-use Rattle.cdi_effective.specs.Qualifiers.{required}
+use Rattle.cdi_model.specs.Mentions.{of_bindings}
 use Rattle.cdi_postings.specs.declared.word.Reason.TheVariants as reasons
-use Rattle.cdi_postings.specs.declared.word.Word.{Word}
-use Rattle.cdi_postings.specs.Listing.{Listing, under}
-use Rattle.cdi_postings.specs.Words.{same_word, word_at}
-use Rattle.cdi_index.specs.Asked.{asks_for, asks_in, is_asked}
-use Rattle.cdi_index.specs.AskedAt.{is_asker, is_asker_at, reason_of}
-use Rattle.cdi_index.specs.declared.asked.Asked.{Asked}
+use Rattle.cdi_index.specs.AskedAt.{is_asker, reason_of}
 use Rattle.cdi_index.specs.declared.asked.Question.{Question}
 use Rattle.cdi_index.specs.declared.asked.Question.TheVariants as questions
-use Rattle.cdi_index.specs.declared.shelf.Kept.{Kept}
-use Rattle.cdi_index.specs.declared.shelf.Shelf.{Shelf}
-use Rattle.cdi_index.specs.Kept.{kept_at, stored, IsExact, IsShelf, IsSound}
-use Rattle.cdi_index.specs.Made.{made_of_bean, made_of_interceptor, words_have, words_named, words_named_in, words_of_observer, words_of_record}
-use Rattle.cdi_index.specs.Made.{words_of_uses}
-use Rattle.cdi_index.specs.Under.{words_by}
 use Rattle.cdi_index.proofs.CountLemmas.{keys-distinct}
 use Rattle.cdi_index.proofs.NamedLemmas.{among-named}
 use Rattle.cdi_index.proofs.NextLemmas.{any-elim, same-bool}

@@ -1,21 +1,9 @@
 -- Changes that are taken over one after another, and those that are made of declarations.
-use Rattle.std.proofs.Common.{◌≡◌, ℕ, suc, ◌+◌, Bool, true, false, cond, ◌&&◌, ◌||◌, List, [], ◌∷◌, ◌++◌, map, length, filter, Option, Some, None, option_map}
-use Rattle.std.proofs.Common.{is_some, refl, sym, ap, ◌∙◌}
-use Rattle.std.specs.List.{list_any, slice_get}
-use Rattle.std.proofs.lemmas.Bool.{or_left, or_right, false≢true}
+use Rattle.cdi_index.proofs.Common.{◌≡◌, ℕ, Bool, true, false, ◌&&◌, ◌||◌, List, [], ◌∷◌, map, Option, Some, None, option_map, refl, sym}
+use Rattle.cdi_index.proofs.Common.{ap, ◌∙◌, list_any, Decl, Kind, DeclKey, same_key, is_among, key_exact, Made, made_of, ◌++◌, false≢true}
+use Rattle.cdi_index.proofs.Common.{or_left, or_right, suc, ◌+◌, cond, length, filter, is_some, slice_get, same_key_equiv, Change}
+use Rattle.cdi_index.proofs.Common.{is_of_kind, Stored, made_in, applied, change_of, is_made, stored_as}
 use Rattle.std.proofs.Math.Nat.{add-zero, add-suc, suc-add}
-use Rattle.cdi_model.specs.declared.decl.Decl.{Decl}
-use Rattle.cdi_model.specs.declared.decl.Kind.{Kind}
-use Rattle.cdi_model.specs.declared.key.DeclKey.{DeclKey}
-use Rattle.cdi_model.specs.DeclKey.{same_key, same_key_equiv}
-use Rattle.cdi_model.specs.Edits.{is_among}
-use Rattle.cdi_model.proofs.EntryLemmas.{key_exact}
-use Rattle.cdi_index.specs.declared.change.Change.{Change}
-use Rattle.cdi_index.specs.declared.making.Made.{Made}
-use Rattle.cdi_index.specs.Counted.{is_of_kind}
-use Rattle.cdi_index.specs.Kept.{Stored, made_in}
-use Rattle.cdi_index.specs.Made.{made_of}
-use Rattle.cdi_index.specs.Next.{applied, change_of, is_made, stored_as}
 
 abbrev pub StoredBy : Type 0
 StoredBy = DeclKey → Option Stored

@@ -1,29 +1,17 @@
 -- As many records of a kind are made as are wanted after edits and were not before, or read an edited kind and name.
-use Rattle.std.proofs.Common.{◌≡◌, ◌≢◌, ◌<◌, ℕ, suc, nat_eq, Bool, true, false, cond, not, ◌&&◌, ◌||◌, List, [], ◌∷◌, map, length, filter, Option, Some, None}
-use Rattle.std.proofs.Common.{option_map, is_some, refl, sym, ap, ◌∙◌, arith}
+use Rattle.cdi_index.proofs.Common.{◌≡◌, ℕ, Bool, true, false, ◌&&◌, ◌||◌, List, [], ◌∷◌, map, Option, Some, None, option_map, refl, sym}
+use Rattle.cdi_index.proofs.Common.{ap, ◌∙◌, list_any, BeanDecl, Decl, Kind, Edit, DeclKey, key_at, same_key, find_decl, edited_all}
+use Rattle.cdi_index.proofs.Common.{edited_keys, is_among, edits_keep_decl, key_exact, find_bean, record_reads, made_of, made_of_bean}
+use Rattle.cdi_index.proofs.Common.{made_of_type, reads, not, false≢true, key_of, AreDistinct, suc, cond, length, filter, is_some}
+use Rattle.cdi_index.proofs.Common.{same_key_equiv, is_of_kind, change_of, is_made, ◌≢◌, ◌<◌, nat_eq, arith, AllByRecursion, IsDistinct}
+use Rattle.cdi_index.proofs.Common.{length-map, type_reads, computed, is_recorded}
 use Rattle.std.specs.Bool.{Decides}
-use Rattle.std.specs.List.{list_any, AllByRecursion, AllPairs, IsDistinct}
-use Rattle.std.proofs.lemmas.Bool.{false≢true}
-use Rattle.std.proofs.lemmas.List.{get_or-map, length-map}
+use Rattle.std.specs.List.{AllPairs}
+use Rattle.std.proofs.lemmas.List.{get_or-map}
 use Rattle.std.proofs.lemmas.Map.Made.{is_member-filter, length-from_same_keys, IsDistinct-from_AllPairs}
-use Rattle.cdi_model.specs.declared.decl.Decl.{Decl}
-use Rattle.cdi_model.specs.declared.decl.Kind.{Kind}
 use Rattle.cdi_model.specs.declared.decl.Kind.TheVariants as kinds
-use Rattle.cdi_model.specs.declared.edit.Edit.{Edit}
-use Rattle.cdi_model.specs.declared.key.DeclKey.{DeclKey}
-use Rattle.cdi_model.specs.Decl.{key_of}
-use Rattle.cdi_model.specs.DeclKey.{key_at, kind_number, same_key, same_key_equiv}
-use Rattle.cdi_match.specs.Locality.{type_reads}
-use Rattle.cdi_effective.specs.Reads.{record_reads}
-use Rattle.cdi_model.specs.DeclList.{find_decl, AreDistinct}
-use Rattle.cdi_model.specs.Edits.{edited_all, edited_keys, is_among}
-use Rattle.cdi_model.proofs.EditLemmas.{edits_keep_decl}
-use Rattle.cdi_model.proofs.EntryLemmas.{key_exact}
-use Rattle.cdi_model.specs.declared.decl.BeanDecl.{BeanDecl}
-use Rattle.cdi_effective.specs.Disposers.{find_bean}
-use Rattle.cdi_index.specs.Made.{made_of, made_of_bean, made_of_type, reads}
-use Rattle.cdi_index.specs.Counted.{computed, is_computed, is_computed_of, is_of_kind, is_recorded, reads_of}
-use Rattle.cdi_index.specs.Next.{change_of, is_made}
+use Rattle.cdi_model.specs.DeclKey.{kind_number}
+use Rattle.cdi_index.specs.Counted.{is_computed, is_computed_of, reads_of}
 use Rattle.cdi_index.proofs.AffectedLemmas.{hits, hit-parts}
 use Rattle.cdi_index.proofs.ChangeLemmas.{any-of, count-made}
 use Rattle.cdi_index.proofs.ReadLemmas.{bean-found, bean-itself, type-itself}

@@ -1,17 +1,8 @@
 -- Changes that are taken over one after another, from the last on.
-use Rattle.std.proofs.Common.{◌≡◌, ◌≢◌, ◌≤◌, ◌<◌, ◌+◌, ◌⊎◌, ℕ, suc, Bool, true, false, cond, List, [], ◌∷◌, ◌++◌, length}
-use Rattle.std.proofs.Common.{Option, Some, None, option_map, refl, sym, ap, ◌∙◌, inl, inr, arith, length-append}
-use Rattle.std.proofs.lemmas.Bool.{false≢true}
-use Rattle.cdi_model.specs.declared.key.DeclKey.{DeclKey}
-use Rattle.cdi_model.specs.DeclKey.{same_key, same_key_equiv}
-use Rattle.cdi_postings.specs.declared.word.Word.{Word}
-use Rattle.cdi_postings.specs.Listing.{Listing, is_listed}
-use Rattle.cdi_index.specs.declared.change.Change.{Change}
-use Rattle.cdi_index.specs.declared.making.Made.{Made}
-use Rattle.cdi_index.specs.declared.shelf.Kept.{Kept}
-use Rattle.cdi_index.specs.declared.shelf.Shelf.{Shelf}
-use Rattle.cdi_index.specs.Kept.{kept_at, slot_of, stored, IsShelf, IsSound, Stored}
-use Rattle.cdi_index.specs.Next.{applied, stored_as}
+use Rattle.cdi_index.proofs.Common.{◌≡◌, ℕ, Bool, true, false, List, [], ◌∷◌, Option, Some, None, option_map, refl, sym, ap, ◌∙◌, DeclKey}
+use Rattle.cdi_index.proofs.Common.{same_key, Made, ◌++◌, false≢true, inl, inr, Word, Listing, Kept, Shelf, kept_at, stored, IsShelf}
+use Rattle.cdi_index.proofs.Common.{IsSound, suc, ◌+◌, cond, length, same_key_equiv, Change, Stored, applied, stored_as, ◌≢◌, ◌<◌, arith}
+use Rattle.cdi_index.proofs.Common.{◌≤◌, ◌⊎◌, length-append, is_listed, slot_of}
 use Rattle.cdi_index.proofs.ChangeLemmas.{applied-next, one-stored, StoredBy}
 use Rattle.cdi_index.proofs.ShelfLemmas.{found}
 

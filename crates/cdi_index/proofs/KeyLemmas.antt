@@ -1,15 +1,8 @@
 -- What is found by the place of a key.
-use Rattle.std.proofs.Common.{◌≡◌, ℕ, zero, suc, false, cond, List, [], ◌∷◌, map, get_or, position, Option, Some, refl, sym, ap, ◌∙◌}
-use Rattle.std.specs.List.{list_any}
-use Rattle.std.proofs.lemmas.Bool.{or_parts}
-use Rattle.cdi_model.specs.declared.key.DeclKey.{DeclKey}
-use Rattle.cdi_model.specs.DeclKey.{same_key, same_key_equiv}
+use Rattle.cdi_index.proofs.Common.{◌≡◌, ℕ, false, List, [], ◌∷◌, map, Option, Some, refl, sym, ap, ◌∙◌, list_any, or_parts, DeclKey}
+use Rattle.cdi_index.proofs.Common.{same_key, Effective, Made, suc, cond, same_key_equiv, Change, zero, get_or, position, Turn}
+use Rattle.cdi_index.proofs.Common.{keys_changed, keys_turned, made_after, turned}
 use Rattle.cdi_model.proofs.PlaceLemmas.{position-map, First, First-position}
-use Rattle.cdi_effective.specs.declared.records.Effective.{Effective}
-use Rattle.cdi_index.specs.declared.change.Change.{Change}
-use Rattle.cdi_index.specs.declared.making.Made.{Made}
-use Rattle.cdi_index.specs.declared.replaced.Turn.{Turn}
-use Rattle.cdi_index.specs.Replaced.{keys_changed, keys_turned, made_after, turned}
 
 -- the place of a key is that of the first one that has it
 pub place-of : {X : Type 0} (key : X → DeclKey) (xs : List X) (ks : List DeclKey) (k : DeclKey) (i : ℕ) → map key xs ≡ ks

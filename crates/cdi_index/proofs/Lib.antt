@@ -1,3 +1,4 @@
+mod Common
 mod ReadLemmas
 mod ChangeLemmas
 mod AffectedLemmas

@@ -1,20 +1,9 @@
 -- The steps of loops over declarations, their words and their slots.
-use Rattle.std.proofs.Common.{◌≡◌, ◌<◌, ◌+◌, ◌⊎◌, ℕ, zero, suc, nat_eq, Bool, true, ◌&&◌, ◌||◌, List, [], ◌∷◌, ◌++◌, length, map, take, get_or}
-use Rattle.std.proofs.Common.{refl, sym, ap, ◌∙◌, inl, inr, Option, Some, None}
-use Rattle.std.specs.List.{list_any, slice_get}
-use Rattle.std.proofs.lemmas.Bool.{and_from, or_cases, or_left, or_right}
+use Rattle.cdi_index.proofs.Common.{◌≡◌, ℕ, Bool, true, ◌&&◌, ◌||◌, List, [], ◌∷◌, map, Option, Some, None, refl, sym, ap, ◌∙◌, list_any}
+use Rattle.cdi_index.proofs.Common.{Decl, DeclKey, Made, made_of, ◌++◌, and_from, or_cases, or_left, or_right, inl, inr, Word, Listing}
+use Rattle.cdi_index.proofs.Common.{same_word, words_have, suc, ◌+◌, length, slice_get, Change, change_of, ◌<◌, nat_eq, ◌⊎◌, is_listed}
+use Rattle.cdi_index.proofs.Common.{zero, get_or, take, list_any_more, Lists, Keeps, classes_have, has_word, keys_have}
 use Rattle.std.proofs.lemmas.List.{map-append, take_more}
-use Rattle.std.proofs.lemmas.List.Folds.{list_any_more}
-use Rattle.cdi_model.specs.declared.decl.Decl.{Decl}
-use Rattle.cdi_model.specs.declared.key.DeclKey.{DeclKey}
-use Rattle.cdi_postings.specs.declared.word.Word.{Word}
-use Rattle.cdi_postings.specs.Listing.{Listing, is_listed, Lists}
-use Rattle.cdi_postings.specs.Words.{same_word}
-use Rattle.cdi_index.specs.declared.change.Change.{Change}
-use Rattle.cdi_index.specs.declared.making.Made.{Made}
-use Rattle.cdi_index.specs.Kept.{Keeps}
-use Rattle.cdi_index.specs.Made.{classes_have, has_word, keys_have, made_of, words_have}
-use Rattle.cdi_index.specs.Next.{change_of}
 use Rattle.cdi_index.proofs.ShelfLemmas.{nat-same}
 
 -- ---- what is listed stays

@@ -1,12 +1,6 @@
 -- The words of what a declaration names, and of the names that it writes, are among its words.
-use Rattle.std.proofs.Common.{◌≡◌, true, List, flat_map, ◌∙◌}
-use Rattle.std.proofs.lemmas.Bool.{or_left, or_right}
-use Rattle.std.proofs.lemmas.List.Folds.{list_any-append}
-use Rattle.cdi_model.specs.declared.decl.Decl.{Decl}
-use Rattle.cdi_model.specs.Mentions.{mentions}
-use Rattle.cdi_postings.specs.declared.word.Word.{Word}
-use Rattle.cdi_postings.specs.Words.{same_word}
-use Rattle.cdi_index.specs.Made.{words_have, words_named, words_named_in, words_written_in}
+use Rattle.cdi_index.proofs.Common.{◌≡◌, true, List, ◌∙◌, Decl, flat_map, or_left, or_right, list_any-append, mentions, Word, same_word}
+use Rattle.cdi_index.proofs.Common.{words_have, words_named, words_named_in, words_written_in}
 
 pub among-named : (d : Decl) (w : Word) → words_have (flat_map words_named_in (mentions d)) w ≡ true → words_have (words_named d) w ≡ true
 unfolding words_named

@@ -1,30 +1,15 @@
 -- What is prepared of a draft, and how its changes are taken over.
-use Rattle.std.proofs.Common.{◌≡◌, ◌≤◌, ◌<◌, ◌+◌, ◌^◌, ℕ, nat_eq, Bool, true, false, cond, ◌&&◌, ◌||◌, List, [], ◌∷◌, length, map, filter}
-use Rattle.std.proofs.Common.{Option, Some, None, option_map, refl, sym, ap, ◌∙◌, subst}
-use Rattle.std.specs.List.{list_any, slice_get, IsDistinct}
-use Rattle.std.specs.Map.{lookup}
-use Rattle.std.proofs.lemmas.Bool.{and_from, and_parts, or_left, false≢true, eqb-true}
-use Rattle.indexmap.specs.IndexMap.{get, spare}
-use Rattle.cdi_model.specs.declared.decl.Decl.{Decl}
-use Rattle.cdi_model.specs.declared.decl.Kind.{Kind}
-use Rattle.cdi_model.specs.declared.edit.Edit.{Edit}
-use Rattle.cdi_model.specs.declared.key.DeclKey.{DeclKey}
-use Rattle.cdi_model.specs.DeclKey.{same_key, same_key_equiv}
-use Rattle.cdi_model.specs.DeclList.{limit, AreDistinct}
-use Rattle.cdi_model.proofs.EntryLemmas.{key_exact}
-use Rattle.cdi_model.specs.Edits.{edited_all, edited_keys, is_among}
-use Rattle.cdi_postings.specs.declared.word.Word.{Word}
-use Rattle.cdi_postings.specs.Listing.{Listing, is_listed, under}
-use Rattle.cdi_index.specs.declared.change.Change.{Change}
-use Rattle.cdi_index.specs.declared.making.Made.{Made}
-use Rattle.cdi_index.specs.declared.shelf.Kept.{Kept}
-use Rattle.cdi_index.specs.declared.shelf.Shelf.{Shelf}
-use Rattle.cdi_index.specs.Counted.{computed, is_recorded}
-use Rattle.cdi_index.specs.Kept.{is_reader, is_reader_among, kept_at, made_in, slot_of, stored, stored_at, touches, IsExact, IsFreeFrom, IsShelf, IsSound, Keeps, Stored}
-use Rattle.cdi_index.specs.Made.{classes_have, has_word, is_kept, made_of, reads, word_of, words_have}
-use Rattle.cdi_index.specs.Next.{applied, change_of, is_made, IsNext}
+use Rattle.cdi_index.proofs.Common.{◌≡◌, ℕ, Bool, true, false, ◌&&◌, ◌||◌, List, [], ◌∷◌, map, Option, Some, None, option_map, refl, sym}
+use Rattle.cdi_index.proofs.Common.{ap, ◌∙◌, list_any, Decl, Kind, Edit, DeclKey, same_key, edited_all, edited_keys, is_among, key_exact}
+use Rattle.cdi_index.proofs.Common.{Made, is_kept, made_of, reads, and_from, and_parts, false≢true, or_left, AreDistinct, Word, Listing}
+use Rattle.cdi_index.proofs.Common.{under, Kept, Shelf, kept_at, stored, IsExact, IsShelf, IsSound, words_have, ◌+◌, cond, length, filter}
+use Rattle.cdi_index.proofs.Common.{slice_get, same_key_equiv, Change, Stored, made_in, applied, change_of, is_made, ◌<◌, nat_eq}
+use Rattle.cdi_index.proofs.Common.{IsDistinct, computed, is_recorded, ◌≤◌, is_listed, slot_of, keys_changed, keys_turned, turned, Keeps}
+use Rattle.cdi_index.proofs.Common.{classes_have, has_word, subst, lookup, eqb-true, get, spare, limit, is_reader_among, stored_at, touches}
+use Rattle.cdi_index.proofs.Common.{word_of, IsNext, AreReplaced}
+use Rattle.std.proofs.Common.{◌^◌}
+use Rattle.cdi_index.specs.Kept.{is_reader, IsFreeFrom}
 use Rattle.cdi_index.specs.declared.prepare.Next.{Next}
-use Rattle.cdi_index.specs.Replaced.{keys_changed, keys_turned, turned, AreReplaced}
 use Rattle.cdi_index.proofs.AffectedLemmas.{hits, made-stays}
 use Rattle.cdi_index.proofs.ChangeLemmas.{among-turned, any-same, applied-comes, applied-made, Anew, Before, StoredBy}
 use Rattle.cdi_index.proofs.CountLemmas.{count-changes}

@@ -1,23 +1,11 @@
 -- A declaration is read by what is made of it.
-use Rattle.std.proofs.Common.{◌≡◌, ℕ, Bool, true, false, cond, ◌||◌, List, [], ◌∷◌, map, Some, None, is_some, refl, sym, ap, ◌∙◌, inr}
-use Rattle.std.specs.Str.{bytes_eq}
-use Rattle.std.proofs.lemmas.Bool.{or_left}
-use Rattle.cdi_model.proofs.EntryLemmas.{key_exact}
-use Rattle.cdi_model.specs.declared.decl.BeanDecl.{BeanDecl}
-use Rattle.cdi_model.specs.declared.decl.Decl.{Decl}
+use Rattle.cdi_index.proofs.Common.{◌≡◌, ℕ, Bool, true, false, ◌||◌, List, [], ◌∷◌, map, Some, None, refl, sym, ap, ◌∙◌, BeanDecl, Decl}
+use Rattle.cdi_index.proofs.Common.{DeclKey, key_at, same_key, find_decl, is_among, key_exact, as_bean, find_bean, record_reads, bytes_eq}
+use Rattle.cdi_index.proofs.Common.{or_left, inr, key_of, cond, is_some, same_key_equiv, type_reads, is_of, has}
 use Rattle.cdi_model.specs.declared.decl.Decl.TheVariants as decls
 use Rattle.cdi_model.specs.declared.decl.Kind.TheVariants as kinds
-use Rattle.cdi_model.specs.declared.key.DeclKey.{DeclKey}
-use Rattle.cdi_model.specs.Decl.{key_of}
-use Rattle.cdi_model.specs.DeclKey.{key_at, same_key, same_key_equiv}
-use Rattle.cdi_model.specs.DeclList.{find_decl, is_of}
-use Rattle.cdi_model.specs.Edits.{is_among}
-use Rattle.cdi_match.specs.Chain.{has}
-use Rattle.cdi_match.specs.Locality.{type_reads}
 use Rattle.cdi_match.specs.Types.{types_of}
 use Rattle.cdi_match.proofs.TypeLemmas.{is_type_decides, types_of-has}
-use Rattle.cdi_effective.specs.Disposers.{as_bean, find_bean}
-use Rattle.cdi_effective.specs.Reads.{record_reads}
 
 among-types : (names : List (List ℕ)) (name : List ℕ) → is_among (map (key_at kinds.Type) names) (key_at kinds.Type name) ≡ has names name
 among-types [] name = refl

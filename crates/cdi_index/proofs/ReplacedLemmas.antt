@@ -1,43 +1,22 @@
 -- Which beans are replaced after changes.
-use Rattle.std.proofs.Common.{◌&&◌, ◌≡◌, ℕ, nat_eq, Bool, true, false, cond, not, ◌||◌, List, [], ◌∷◌, map, Option, Some, None, option_map}
-use Rattle.std.proofs.Common.{refl, sym, ap, ◌∙◌, inl, inr}
-use Rattle.std.specs.List.{list_any, AllByRecursion, IsDistinct}
-use Rattle.std.specs.Str.{bytes_eq}
-use Rattle.std.proofs.lemmas.Bool.{and_from, and_parts, or_left, or_right, or_cases, false≢true, eqb-true}
-use Rattle.cdi_model.specs.declared.decl.BeanDecl.{BeanDecl}
-use Rattle.cdi_model.specs.declared.decl.Decl.{Decl}
+use Rattle.cdi_index.proofs.Common.{◌≡◌, ℕ, Bool, true, false, ◌&&◌, ◌||◌, List, [], ◌∷◌, map, Option, Some, None, option_map, refl, sym}
+use Rattle.cdi_index.proofs.Common.{ap, ◌∙◌, list_any, BeanDecl, BindingDecl, Decl, Kind, DeclKey, key_at, same_key, find_decl, is_among}
+use Rattle.cdi_index.proofs.Common.{key_exact, find_binding, own_records, Effective, as_bean, find_bean, replaced_by, Made, made_of}
+use Rattle.cdi_index.proofs.Common.{made_of_bean, made_of_binding, made_of_interceptor, made_of_type, not, bytes_eq, and_from, and_parts}
+use Rattle.cdi_index.proofs.Common.{false≢true, or_cases, or_left, or_right, inl, inr, key_of, kind_of, name_of_decl, AreDistinct, Word}
+use Rattle.cdi_index.proofs.Common.{Listing, under, same_word, word_at, Kept, Shelf, kept_at, stored, IsExact, IsShelf, IsSound, words_have}
+use Rattle.cdi_index.proofs.Common.{cond, same_key_equiv, Change, Stored, made_in, change_of, nat_eq, AllByRecursion, IsDistinct, slot_of}
+use Rattle.cdi_index.proofs.Common.{made_after, classes_have, has_word, keys_have, eqb-true, stored_at, AreReplaced, is_of, has}
+use Rattle.cdi_index.proofs.Common.{is_replaced, unless_replaced, records_declared, records_in, records_are_own, lent, is_at_stake}
+use Rattle.cdi_index.proofs.Common.{is_replaced_anew, is_replaced_still, records_after, replaced_records}
 use Rattle.cdi_model.specs.declared.decl.Decl.TheVariants as decls
-use Rattle.cdi_model.specs.declared.decl.Kind.{Kind}
 use Rattle.cdi_model.specs.declared.decl.Kind.TheVariants as kinds
-use Rattle.cdi_model.specs.declared.key.DeclKey.{DeclKey}
-use Rattle.cdi_model.specs.Decl.{key_of, kind_of, name_of_decl}
-use Rattle.cdi_model.specs.DeclKey.{key_at, same_key, same_key_equiv}
-use Rattle.cdi_model.specs.DeclList.{find_decl, is_of, AreDistinct}
-use Rattle.cdi_model.specs.Edits.{is_among}
-use Rattle.cdi_model.proofs.EntryLemmas.{key_exact}
-use Rattle.cdi_match.specs.Chain.{has}
-use Rattle.cdi_effective.specs.Disposers.{as_bean, find_bean}
-use Rattle.cdi_effective.specs.Specialized.{is_replaced, replaced_by}
-use Rattle.cdi_effective.specs.Beans.{own_records, records, unless_replaced}
-use Rattle.cdi_effective.specs.Records.{records_declared, records_in}
-use Rattle.cdi_effective.proofs.RecordLemmas.{records_are_own}
+use Rattle.cdi_effective.specs.Beans.{records}
 use Rattle.cdi_index.proofs.ReadLemmas.{found_name}
-use Rattle.cdi_effective.specs.declared.records.Effective.{Effective}
 use Rattle.cdi_postings.specs.declared.word.Reason.TheVariants as reasons
-use Rattle.cdi_postings.specs.declared.word.Word.{Word}
-use Rattle.cdi_postings.specs.Listing.{Listing, under}
-use Rattle.cdi_postings.specs.Words.{same_word, word_at, same_word_equiv}
-use Rattle.cdi_index.specs.declared.change.Change.{Change}
-use Rattle.cdi_index.specs.declared.making.Made.{Made}
-use Rattle.cdi_index.specs.declared.shelf.Kept.{Kept}
-use Rattle.cdi_index.specs.declared.shelf.Shelf.{Shelf}
-use Rattle.cdi_index.specs.Kept.{kept_at, made_in, slot_of, stored, stored_at, IsExact, IsShelf, IsSound, Stored}
-use Rattle.cdi_index.specs.Made.{classes_have, has_word, keys_have, made_of, made_of_bean, made_of_binding, made_of_interceptor}
-use Rattle.cdi_index.specs.Made.{made_of_type, replaces_in, words_have}
-use Rattle.cdi_match.specs.Filling.{find_binding}
-use Rattle.cdi_model.specs.declared.decl.BindingDecl.{BindingDecl}
-use Rattle.cdi_index.specs.Next.{change_of}
-use Rattle.cdi_index.specs.Replaced.{lent, disabled, AreReplaced, is_at_stake, is_other, is_replaced_after, is_replaced_anew, is_replaced_key, is_replaced_of, is_replaced_still, made_after, records_after, replaced_records, replaces, stakes}
+use Rattle.cdi_postings.specs.Words.{same_word_equiv}
+use Rattle.cdi_index.specs.Made.{replaces_in}
+use Rattle.cdi_index.specs.Replaced.{disabled, is_other, is_replaced_after, is_replaced_key, is_replaced_of, replaces, stakes}
 use Rattle.cdi_index.proofs.CountLemmas.{keys-distinct}
 use Rattle.cdi_index.proofs.NextLemmas.{any-elim, any-more, same-bool}
 use Rattle.cdi_index.proofs.ShelfLemmas.{found}

@@ -1,16 +1,11 @@
 -- What is kept at slots, where one is taken out or put in.
-use Rattle.std.proofs.Common.{◌≡◌, ℕ, nat_eq, Bool, true, false, cond, Option, Some, None, option_map, refl, sym, ap, ◌∙◌}
-use Rattle.std.proofs.Common.{Result, Ok, Err}
-use Rattle.std.specs.Result.{IsOk, OnOk}
-use Rattle.std.proofs.lemmas.Bool.{false≢true, eqb-true}
+use Rattle.cdi_index.proofs.Common.{◌≡◌, ℕ, Bool, true, false, Option, Some, None, option_map, refl, sym, ap, ◌∙◌, DeclKey, same_key}
+use Rattle.cdi_index.proofs.Common.{key_exact, Made, false≢true, Kept, cond, same_key_equiv, Stored, nat_eq, eqb-true, stored_at, Result}
+use Rattle.cdi_index.proofs.Common.{Ok, Err, OnOk}
+use Rattle.std.specs.Result.{IsOk}
 use Rattle.std.proofs.lemmas.Cmp.{nat_eq_equiv}
-use Rattle.cdi_model.specs.declared.key.DeclKey.{DeclKey}
-use Rattle.cdi_model.specs.DeclKey.{same_key, same_key_equiv}
-use Rattle.cdi_model.proofs.EntryLemmas.{key_exact}
-use Rattle.cdi_index.specs.declared.making.Made.{Made}
-use Rattle.cdi_index.specs.declared.shelf.Kept.{Kept}
 use Rattle.cdi_index.proofs.ChangeLemmas.{one-stored}
-use Rattle.cdi_index.specs.Kept.{stored_at, IsOwned, Owns, Stored}
+use Rattle.cdi_index.specs.Kept.{IsOwned, Owns}
 
 abbrev pub Slots : Type 0
 Slots = DeclKey → Option ℕ

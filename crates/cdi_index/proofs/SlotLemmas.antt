@@ -1,33 +1,17 @@
 -- The beans under words under which one slot alone is listed.
-use Rattle.std.proofs.Common.{◌≡◌, ℕ, zero, suc, nat_eq, Bool, true, false, cond, List, [], ◌∷◌, ◌++◌, flat_map, filter}
-use Rattle.std.proofs.Common.{Option, Some, None, is_some, option_map, position, slice_get, refl, sym, ap, ◌∙◌, arith}
-use Rattle.std.specs.List.{list_any}
-use Rattle.std.specs.Option.{option_map_or}
-use Rattle.std.proofs.lemmas.Bool.{false≢true, ne_eqb}
+use Rattle.cdi_index.proofs.Common.{◌≡◌, ℕ, Bool, true, false, List, [], ◌∷◌, Option, Some, None, option_map, refl, sym, ap, ◌∙◌, list_any}
+use Rattle.cdi_index.proofs.Common.{BindingDecl, Decl, Kind, key_at, same_key, find_decl, find_binding, as_bean, Made, made_of}
+use Rattle.cdi_index.proofs.Common.{made_of_bean, made_of_binding, made_of_interceptor, made_of_type, ◌++◌, flat_map, option_map_or}
+use Rattle.cdi_index.proofs.Common.{false≢true, key_of, AreDistinct, Word, Listing, under, Kept, Shelf, kept_at, stored, IsExact, IsShelf}
+use Rattle.cdi_index.proofs.Common.{IsSound, words_have, suc, cond, filter, is_some, same_key_equiv, nat_eq, arith, zero, position, get}
+use Rattle.cdi_index.proofs.Common.{AreReplaced, is_of, records_in, lent, replaced_records, position-there, entries, made_by, beans_under}
+use Rattle.cdi_index.proofs.Common.{has_one, is_at, records_at, records_kept}
+use Rattle.std.proofs.Common.{slice_get}
+use Rattle.std.proofs.lemmas.Bool.{ne_eqb}
 use Rattle.std.proofs.lemmas.List.{append-nil}
-use Rattle.indexmap.specs.IndexMap.{get}
-use Rattle.cdi_model.specs.declared.decl.BindingDecl.{BindingDecl}
-use Rattle.cdi_model.specs.declared.decl.Decl.{Decl}
 use Rattle.cdi_model.specs.declared.decl.Decl.TheVariants as decls
-use Rattle.cdi_model.specs.declared.decl.Kind.{Kind}
 use Rattle.cdi_model.specs.declared.decl.Kind.TheVariants as kinds
-use Rattle.cdi_model.specs.Decl.{key_of}
-use Rattle.cdi_model.specs.DeclKey.{key_at, same_key, same_key_equiv}
-use Rattle.cdi_model.specs.DeclList.{find_decl, is_of, AreDistinct}
-use Rattle.cdi_model.proofs.PositionLemmas.{name-found, position-found, position-there}
-use Rattle.cdi_match.specs.Filling.{find_binding}
-use Rattle.cdi_effective.specs.Beans.{entries}
-use Rattle.cdi_effective.specs.Disposers.{as_bean}
-use Rattle.cdi_effective.specs.Records.{records_in}
-use Rattle.cdi_postings.specs.declared.word.Word.{Word}
-use Rattle.cdi_postings.specs.Listing.{Listing, under}
-use Rattle.cdi_index.specs.declared.making.Made.{Made}
-use Rattle.cdi_index.specs.declared.shelf.Kept.{Kept}
-use Rattle.cdi_index.specs.declared.shelf.Shelf.{Shelf}
-use Rattle.cdi_index.specs.Kept.{kept_at, stored, IsExact, IsShelf, IsSound}
-use Rattle.cdi_index.specs.Made.{made_by, made_of, made_of_bean, made_of_binding, made_of_interceptor, made_of_type, words_have}
-use Rattle.cdi_index.specs.Replaced.{lent, replaced_records, AreReplaced}
-use Rattle.cdi_index.specs.Under.{beans_under, has_one, is_at, records_at, records_kept}
+use Rattle.cdi_model.proofs.PositionLemmas.{name-found, position-found}
 use Rattle.cdi_index.proofs.ReplacedLemmas.{lent-of}
 use Rattle.cdi_index.proofs.UnderLemmas.{key-found, made-at, marked-are, none-pass, records-of-bean, some-made}
 

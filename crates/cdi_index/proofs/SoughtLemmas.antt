@@ -1,32 +1,17 @@
 -- The beans that are sought are among those of the declarations that have the words.
-use Rattle.std.proofs.Common.{◌≡◌, ℕ, suc, Bool, true, false, cond, ◌||◌, List, [], ◌∷◌, ◌++◌, map, flat_map, filter, Option, Some, None}
-use Rattle.std.proofs.Common.{refl, sym, ap, ◌∙◌}
-use Rattle.std.specs.List.{list_any, slice_get}
-use Rattle.std.specs.Option.{option_to_list}
-use Rattle.std.specs.Str.{bytes_eq}
-use Rattle.std.proofs.lemmas.Bool.{or_parts}
+use Rattle.cdi_index.proofs.Common.{◌≡◌, ℕ, Bool, true, false, ◌||◌, List, [], ◌∷◌, map, Option, Some, None, refl, sym, ap, ◌∙◌, list_any}
+use Rattle.cdi_index.proofs.Common.{or_parts, BeanDecl, Decl, Qual, own_records, Effective, ◌++◌, flat_map, option_to_list, bytes_eq}
+use Rattle.cdi_index.proofs.Common.{list_any-append, mentions, Mention, BodyOf, CallOf, EventOf, MethodOf, PointOf, StereotypeOf, TypeIn}
+use Rattle.cdi_index.proofs.Common.{UseOf, bytes_eq-turned, required, Word, same_word, word_at, words_have, words_named, words_named_in}
+use Rattle.cdi_index.proofs.Common.{words_of_observer, words_of_record, words_of_uses, suc, cond, filter, slice_get, words_written_in, has}
+use Rattle.cdi_index.proofs.Common.{is_replaced, unless_replaced, records_are_own, entries, beans_under, has_one, beans, has_name}
+use Rattle.cdi_index.proofs.Common.{observes_one}
 use Rattle.std.proofs.lemmas.List.Elements.{filter-append}
-use Rattle.std.proofs.lemmas.List.Folds.{list_any-append}
-use Rattle.cdi_model.specs.declared.decl.BeanDecl.{BeanDecl}
-use Rattle.cdi_model.specs.declared.decl.Decl.{Decl}
 use Rattle.cdi_model.specs.declared.decl.Decl.TheVariants as decls
 use Rattle.cdi_model.specs.declared.decl.ObserverDecl.{ObserverDecl}
 use Rattle.cdi_model.specs.declared.decl.UseKind.TheVariants as uses
-use Rattle.cdi_model.specs.declared.quals.Qual.{Qual}
-use Rattle.cdi_model.specs.Mentions.{mentions, Mention, BodyOf, CallOf, EventOf, MethodOf, PointOf, StereotypeOf, TypeIn, UseOf}
-use Rattle.cdi_effective.specs.Qualifiers.{required}
-use Rattle.cdi_match.specs.Chain.{has}
-use Rattle.cdi_match.proofs.Names.{bytes_eq-turned}
-use Rattle.cdi_effective.specs.Beans.{beans, entries, own_records, unless_replaced}
-use Rattle.cdi_effective.specs.Specialized.{is_replaced}
-use Rattle.cdi_effective.specs.declared.records.Effective.{Effective}
-use Rattle.cdi_effective.proofs.RecordLemmas.{records_are_own}
 use Rattle.cdi_postings.specs.declared.word.Reason.TheVariants as reasons
-use Rattle.cdi_postings.specs.declared.word.Word.{Word}
-use Rattle.cdi_postings.specs.Words.{same_word, word_at}
-use Rattle.cdi_index.specs.Made.{words_have, words_named, words_named_in, words_of_bean, words_of_bindings, words_of_observer}
-use Rattle.cdi_index.specs.Made.{words_of_record, words_of_uses, words_written_in}
-use Rattle.cdi_index.specs.Under.{beans_under, has_name, has_one, observes_one}
+use Rattle.cdi_index.specs.Made.{words_of_bean, words_of_bindings}
 use Rattle.cdi_index.proofs.ChangeLemmas.{any-either, any-same}
 
 -- ---- where others give nothing that is sought

@@ -1,22 +1,9 @@
 -- What a stage tells, and the declarations after it.
-use Rattle.std.proofs.Common.{◌≡◌, ℕ, suc, Bool, true, false, cond, ◌&&◌, List, [], ◌∷◌, map, Option, Some, None, refl, sym, ap, ◌∙◌}
-use Rattle.std.specs.List.{list_any}
-use Rattle.std.proofs.lemmas.Bool.{and_from, or_left, or_parts}
-use Rattle.cdi_model.specs.declared.decl.Decl.{Decl}
+use Rattle.cdi_index.proofs.Common.{◌≡◌, ℕ, Bool, true, false, ◌&&◌, List, [], ◌∷◌, map, Option, Some, None, refl, sym, ap, ◌∙◌, list_any}
+use Rattle.cdi_index.proofs.Common.{or_parts, Decl, DeclKey, key_at, same_key, is_among, Made, is_kept, made_of, reads, and_from, or_left}
+use Rattle.cdi_index.proofs.Common.{AreDistinct, Listing, Shelf, stored, IsExact, IsShelf, IsSound, suc, cond, Change, Stored, made_in}
+use Rattle.cdi_index.proofs.Common.{applied, change_of, stored_as, made_after, lent, is_at_stake, replaced_records, Tells}
 use Rattle.cdi_model.specs.declared.decl.Kind.TheVariants as kinds
-use Rattle.cdi_model.specs.declared.key.DeclKey.{DeclKey}
-use Rattle.cdi_model.specs.DeclKey.{key_at, same_key}
-use Rattle.cdi_model.specs.DeclList.{AreDistinct}
-use Rattle.cdi_model.specs.Edits.{is_among}
-use Rattle.cdi_postings.specs.Listing.{Listing}
-use Rattle.cdi_index.specs.declared.change.Change.{Change}
-use Rattle.cdi_index.specs.declared.making.Made.{Made}
-use Rattle.cdi_index.specs.declared.shelf.Shelf.{Shelf}
-use Rattle.cdi_index.specs.Kept.{made_in, stored, IsExact, IsShelf, IsSound, Stored}
-use Rattle.cdi_index.specs.Made.{is_kept, made_of, reads}
-use Rattle.cdi_index.specs.Next.{applied, change_of, stored_as}
-use Rattle.cdi_index.specs.Replaced.{is_at_stake, lent, made_after, replaced_records}
-use Rattle.cdi_index.specs.Told.{Tells}
 use Rattle.cdi_index.proofs.AffectedLemmas.{hits, hit-parts}
 use Rattle.cdi_index.proofs.ChangeLemmas.{none-of}
 use Rattle.cdi_index.proofs.ReplacedLemmas.{flag-spared, lent-are, spared, unaffected}

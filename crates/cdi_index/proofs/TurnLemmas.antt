@@ -1,12 +1,6 @@
 -- Turns that are taken over one after another, and those of some beans.
-use Rattle.std.proofs.Common.{◌≡◌, ◌+◌, Bool, true, false, cond, ◌||◌, List, [], ◌∷◌, ◌++◌, map, Option, refl, sym, ap, ◌∙◌}
-use Rattle.std.specs.List.{list_any}
-use Rattle.cdi_model.specs.declared.key.DeclKey.{DeclKey}
-use Rattle.cdi_model.specs.DeclKey.{same_key, same_key_equiv}
-use Rattle.cdi_model.proofs.EntryLemmas.{key_exact}
-use Rattle.cdi_effective.specs.declared.records.Effective.{Effective}
-use Rattle.cdi_index.specs.declared.replaced.Turn.{Turn}
-use Rattle.cdi_index.specs.Replaced.{turned}
+use Rattle.cdi_index.proofs.Common.{◌≡◌, Bool, true, false, ◌||◌, List, [], ◌∷◌, map, Option, refl, sym, ap, ◌∙◌, list_any, DeclKey}
+use Rattle.cdi_index.proofs.Common.{same_key, key_exact, Effective, ◌++◌, ◌+◌, cond, same_key_equiv, Turn, turned}
 
 abbrev pub RecordsOf : Type 0
 RecordsOf = DeclKey → Option (List Effective)

@@ -1,36 +1,16 @@
 -- The declarations that are under words, by their positions.
-use Rattle.std.proofs.Common.{◌≡◌, ◌+◌, ℕ, suc, nat_eq, Bool, true, false, cond, ◌||◌, List, [], ◌∷◌, ◌++◌, flat_map, filter}
-use Rattle.std.proofs.Common.{Option, Some, None, option_map, position, slice_get, refl, sym, ap, ◌∙◌, arith}
-use Rattle.std.specs.List.{list_any}
-use Rattle.std.specs.Option.{option_map_or}
-use Rattle.std.proofs.lemmas.Bool.{false≢true, or_right, eqb-true}
-use Rattle.cdi_model.specs.declared.decl.BeanDecl.{BeanDecl}
-use Rattle.cdi_model.specs.declared.decl.BindingDecl.{BindingDecl}
-use Rattle.cdi_model.specs.declared.decl.Decl.{Decl}
+use Rattle.cdi_index.proofs.Common.{◌≡◌, ℕ, Bool, true, false, ◌||◌, List, [], ◌∷◌, Option, Some, None, option_map, refl, sym, ap, ◌∙◌}
+use Rattle.cdi_index.proofs.Common.{list_any, BeanDecl, BindingDecl, Decl, Kind, DeclKey, key_at, same_key, find_decl, key_exact}
+use Rattle.cdi_index.proofs.Common.{find_binding, as_bean, Made, made_of, made_of_bean, made_of_binding, made_of_interceptor, made_of_type}
+use Rattle.cdi_index.proofs.Common.{◌++◌, flat_map, option_map_or, false≢true, or_right, key_of, AreDistinct, Word, Listing, under, Kept}
+use Rattle.cdi_index.proofs.Common.{Shelf, kept_at, stored, IsExact, IsShelf, IsSound, words_have, words_by, suc, ◌+◌, cond, filter}
+use Rattle.cdi_index.proofs.Common.{same_key_equiv, Stored, made_in, nat_eq, arith, slot_of, position, classes_have, keys_have, eqb-true}
+use Rattle.cdi_index.proofs.Common.{stored_at, is_of, records_declared, records_in, position-there, entries, made_by, beans_under, has_one}
+use Rattle.cdi_index.proofs.Common.{is_at, records_at, is_marked, marked_from, is_at_slots, is_at_words}
+use Rattle.std.proofs.Common.{slice_get}
 use Rattle.cdi_model.specs.declared.decl.Decl.TheVariants as decls
-use Rattle.cdi_model.specs.declared.decl.Kind.{Kind}
 use Rattle.cdi_model.specs.declared.decl.Kind.TheVariants as kinds
-use Rattle.cdi_model.specs.declared.key.DeclKey.{DeclKey}
-use Rattle.cdi_model.specs.Decl.{key_of}
-use Rattle.cdi_model.specs.DeclKey.{key_at, same_key, same_key_equiv}
-use Rattle.cdi_model.specs.DeclList.{find_decl, is_of, AreDistinct}
-use Rattle.cdi_model.proofs.EntryLemmas.{key_exact}
-use Rattle.cdi_model.proofs.PositionLemmas.{position-there}
-use Rattle.cdi_positions.specs.Marks.{is_marked, marked_from}
-use Rattle.cdi_effective.specs.Beans.{entries}
-use Rattle.cdi_effective.specs.Disposers.{as_bean}
-use Rattle.cdi_effective.specs.Records.{records_declared, records_in}
 use Rattle.cdi_effective.proofs.PlaceLemmas.{own-found, own-place, own-position, place-found}
-use Rattle.cdi_postings.specs.declared.word.Word.{Word}
-use Rattle.cdi_postings.specs.Listing.{Listing, under}
-use Rattle.cdi_index.specs.declared.making.Made.{Made}
-use Rattle.cdi_index.specs.declared.shelf.Kept.{Kept}
-use Rattle.cdi_index.specs.declared.shelf.Shelf.{Shelf}
-use Rattle.cdi_index.specs.Kept.{kept_at, made_in, slot_of, stored, stored_at, IsExact, IsShelf, IsSound, Stored}
-use Rattle.cdi_index.specs.Made.{classes_have, keys_have, made_by, made_of, made_of_bean, made_of_binding, made_of_interceptor}
-use Rattle.cdi_index.specs.Made.{made_of_type, words_have}
-use Rattle.cdi_match.specs.Filling.{find_binding}
-use Rattle.cdi_index.specs.Under.{beans_under, has_one, is_at, is_at_slots, is_at_words, records_at, words_by}
 use Rattle.cdi_index.proofs.NextLemmas.{any-elim, any-more, same-bool}
 use Rattle.cdi_index.proofs.ShelfLemmas.{found, nat-same}
 

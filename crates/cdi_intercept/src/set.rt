@@ -1,11 +1,11 @@
 //! The bindings at a place of a bean (Interceptors 2.1, Binding an Interceptor to a Class; Binding an Interceptor to a
 //! Method).
-ghost use Rattle.std.specs.Prelude.{◌≡◌, ◌++◌, ◌∷◌, [], map, IfOk, OnOk};
+ghost use Rattle.std.specs.Prelude.{◌≡◌, ◌++◌, map, IfOk, OnOk};
 ghost use Rattle.std.specs.Option.{option_copied};
 ghost use Rattle.cdi_match.specs.Bindings.{uses_in};
 ghost use Rattle.cdi_intercept.specs.Sets.{around_method, has_place, of_method, of_observer, of_producer, own_at};
 ghost use Rattle.cdi_intercept.specs.Sets.{places_of, producers_of};
-ghost use Rattle.cdi_intercept.specs.Sets.{set_by, sets_of, with_set};
+ghost use Rattle.cdi_intercept.specs.Sets.{set_by, sets_of};
 ghost use Rattle.cdi_intercept.specs.Lent.{uses_at};
 
 use cdi_effective::in_place_of;
@@ -56,18 +56,10 @@ pub fn sets_of<'a>(
 ) -> Result<Vec<(BeanPlace, Vec<&'a Qual>)>, AllocError>
     ensures { IfOk result (λ sets. map uses_at sets.items ≡ sets_of decls.now class.now bean.now) }
 {
-    let mut sets = Vec::new(alloc);
-    push_set(alloc, decls, class, bean, BeanPlace::Construct, &mut sets)?;
-    push_set(alloc, decls, class, bean, BeanPlace::Post, &mut sets)?;
-    push_set(alloc, decls, class, bean, BeanPlace::Pre, &mut sets)?;
-    for method in bean.methods.as_slice() {
-        let place = BeanPlace::Method(method.name);
-        push_set(alloc, decls, class, bean, place, &mut sets)?;
-    }
-    push_sets_of_producers(alloc, decls, class, bean, &mut sets)?;
-    for observer in bean.observers.as_slice() {
-        let place = BeanPlace::Observer(observer.name);
-        push_set(alloc, decls, class, bean, place, &mut sets)?;
+    let places = places_of(alloc, bean)?;
+    let mut sets = Vec::with_capacity(alloc, places.len())?;
+    for place in places.as_slice() {
+        sets.push((*place, set_by(alloc, decls, class, bean, place)?))?;
     }
     Ok(sets)
 }
@@ -100,43 +92,6 @@ fn push_producers(bean: &BeanDecl, list: &mut Vec<BeanPlace>) -> Result<(), Allo
             list.push(BeanPlace::Producer(producer.name))?;
         }
     }
-    Ok(())
-}
-
-/// Appends the producer methods that are not static, each with the bindings there.
-fn push_sets_of_producers<'a>(
-    alloc: Global,
-    decls: &'a Decls,
-    class: &'a [Qual],
-    bean: &'a BeanDecl,
-    sets: &mut Vec<(BeanPlace, Vec<&'a Qual>)>,
-) -> Result<(), AllocError>
-    ensures { OnOk result (map uses_at sets.new.items
-        ≡ map uses_at sets.old.items ++ map (with_set decls.now class.now bean.now) (producers_of bean.now)) }
-{
-    for producer in bean.producers.as_slice() {
-        if !producer.is_static {
-            let place = BeanPlace::Producer(producer.name);
-            push_set(alloc, decls, class, bean, place, sets)?;
-        }
-    }
-    Ok(())
-}
-
-/// Appends a place with the bindings there.
-fn push_set<'a>(
-    alloc: Global,
-    decls: &'a Decls,
-    class: &'a [Qual],
-    bean: &'a BeanDecl,
-    place: BeanPlace,
-    sets: &mut Vec<(BeanPlace, Vec<&'a Qual>)>,
-) -> Result<(), AllocError>
-    ensures { OnOk result (map uses_at sets.new.items
-        ≡ map uses_at sets.old.items ++ (place, set_by decls.now class.now bean.now place) ∷ []) }
-{
-    let set = set_by(alloc, decls, class, bean, &place)?;
-    sets.push((place, set))?;
     Ok(())
 }
 

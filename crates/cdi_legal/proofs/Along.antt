@@ -1,24 +1,9 @@
 -- What each entry and each asking keeps is kept along a legal tree.
-use Rattle.std.proofs.Common.{◌≡◌, ◌<◌, ℕ, false, None, Some, refl}
-use Rattle.cdi_model.specs.declared.outcome.Outcome.{Outcome}
-use Rattle.cdi_bodies.specs.declared.act.Act.{Act}
-use Rattle.cdi_bodies.specs.declared.act.Act.TheVariants.{Load, Store, Call, Fire, Proceed, Return, Fail}
-use Rattle.cdi_contexts.specs.Standing.{IsFull}
-use Rattle.cdi_contexts.specs.declared.instance.Actor.{Actor}
-use Rattle.cdi_contexts.specs.declared.instance.InstanceId.{InstanceId}
-use Rattle.cdi_contexts.specs.declared.instance.Owner.{Owner}
-use Rattle.cdi_contexts.specs.declared.instance.Owner.TheVariants.{Nobody}
-use Rattle.cdi_scene.specs.declared.place.Seat.{Seat}
-use Rattle.cdi_scene.specs.declared.scene.Scene.{Scene}
-use Rattle.cdi_legal.specs.Acts.{Touches}
+use Rattle.cdi_legal.proofs.Common.{◌≡◌, ◌<◌, ℕ, false, None, Some, refl, Outcome, Act, Load, Store, Call, Fire, Proceed, Return, Fail}
+use Rattle.cdi_legal.proofs.Common.{IsFull, Actor, InstanceId, Owner, Nobody, Seat, Scene, Touches, Ends, End, Answer, Legal, Node, Uses}
+use Rattle.cdi_legal.proofs.Common.{Use, Runs, Command, Moment, put, ask_more, is_create, Entry, Create}
 use Rattle.cdi_legal.specs.Ends as ends
-use Rattle.cdi_legal.specs.Ends.{Ends, End}
 use Rattle.cdi_legal.specs.Legal as nodes
-use Rattle.cdi_legal.specs.Legal.{Answer, Legal, Node}
-use Rattle.cdi_legal.specs.LegalRun.{Uses, Use, Runs, Command}
-use Rattle.cdi_legal.specs.Moment.{Moment, put, ask_more, is_create}
-use Rattle.cdi_legal.specs.declared.entry.Entry.{Entry}
-use Rattle.cdi_legal.specs.declared.entry.Entry.TheVariants.{Create}
 use Rattle.cdi_legal.proofs.Course.{ends_course, legal_course, outside-nobody, own_begins, Claims, Closes, IsCourse, IsEnding, MayBegin}
 use Rattle.cdi_legal.proofs.Course.{Relations, Writes}
 use Rattle.cdi_legal.proofs.Course as course
@@ -49,11 +34,7 @@ pub touch_along : {R : Moment → Moment → Type 0} → IsKept R → (n : ℕ) 
     (m' : Moment) → Touches n actor x m o m' → R m m'
 touch_along law n actor Load m o m' h = law.entry _ _ _ refl h.1
 touch_along law n actor (Store v) m o m' h = law.entry _ _ _ refl h.1
-touch_along law n actor (Call site arg) m o m' h = absurd h
-touch_along law n actor (Fire site arg) m o m' h = absurd h
-touch_along law n actor (Proceed arg) m o m' h = absurd h
-touch_along law n actor (Return v) m o m' h = absurd h
-touch_along law n actor (Fail f) m o m' h = absurd h
+touch_along law n actor other m o m' h = absurd h
 
 -- ---- instances of the scheme
 
@@ -69,8 +50,7 @@ closing_calm i e (course.broken f) = refl
 
 writing_calm : (seat : Seat) (x : Act) (e : Entry) → Writes seat x e → is_create e ≡ false
 writing_calm seat x e (course.call site arg) = refl
-writing_calm seat x e (course.fire site arg) = refl
-writing_calm seat x e (course.proceed arg) = refl
+writing_calm seat x e other = refl
 
 module _ {R : Moment → Moment → Type 0} (law : IsKept R) where
   around : (e e' : Entry) (m m₁ m₂ m' : Moment) → is_create e ≡ false → m₁ ≡ put e m → R m₁ m₂ → is_create e' ≡ false → m' ≡ put e' m₂
@@ -115,40 +95,15 @@ course_along {s} {B} {R} law = record {
 
 led : (R : Moment → Moment → Type 0) (k : ℕ) (x : Node) (m m' : Moment) → course.Leads (everywhere R) k x m m' → R m m'
 led R k (nodes.obtain b) m m' p = p
-led R k (nodes.create b o) m m' p = p
-led R k (nodes.setup i) m m' p = p
-led R k (nodes.inject i ps q) m m' p = p
-led R k (nodes.supply i ps q h) m m' p = p
-led R k (nodes.produce i product host) m m' p = p
-led R k (nodes.invoke i place h arg l) m m' p = p
-led R k (nodes.frame seat h arg l) m m' p = p
-led R k (nodes.asks seat h l j c) m m' p = p
-led R k (nodes.does seat h l x) m m' p = p
-led R k (nodes.call seat h c arg) m m' p = p
-led R k (nodes.reach seat h c) m m' p = p
-led R k (nodes.fire os q arg) m m' p = p
-led R k (nodes.notify o arg) m m' p = p
-led R k (nodes.attend i q observer arg) m m' p = p
+led R k other m m' p = p
 
 end-given : (B : Asked) (e : End) → course.GivenEnd (asks_for B) e
 end-given B (ends.destroy i) = tt
-end-given B (ends.dependents n) = tt
-end-given B (ends.held h k) = tt
-end-given B (ends.context scope) = tt
-end-given B (ends.callback i) = tt
-end-given B (ends.invoke_back i arg k o) = tt
-end-given B (ends.frame_back seat arg k o) = tt
-end-given B (ends.asks_back seat k j p o) = tt
+end-given B other = tt
 
 end-led : (R : Moment → Moment → Type 0) (e : End) (m m' : Moment) → course.LeadsEnd (everywhere R) e m m' → R m m'
 end-led R (ends.destroy i) m m' p = p
-end-led R (ends.dependents n) m m' p = p
-end-led R (ends.held h k) m m' p = p
-end-led R (ends.context scope) m m' p = p
-end-led R (ends.callback i) m m' p = p
-end-led R (ends.invoke_back i arg k o) m m' p = p
-end-led R (ends.frame_back seat arg k o) m m' p = p
-end-led R (ends.asks_back seat k j b o) m m' p = p
+end-led R other m m' p = p
 
 pub ends_along : {R : Moment → Moment → Type 0} → IsKept R → {s : Scene} {e : End} {m m' : Moment} → Ends s e m m' → R m m'
 ends_along {R} law {s} {e} {m} {m'} p = end-led R e m m' (ends_course (ending_kept law s Nothing) p (end-given Nothing e))
@@ -159,22 +114,10 @@ legal_along {s} {B} {R} law {k} {x} {a} {m} {m'} p g = led R k x m m' (legal_cou
 
 -- where nothing is asked, of any node
 pub given_any : (B : Asked) → ((b : ℕ) (o : Owner) (m : Moment) → B b o m) → (x : Node) (m : Moment) → course.Given (asks_for B) x m
-given_any B all (nodes.obtain b) m = tt
 given_any B all (nodes.create b o) m = all b o m
-given_any B all (nodes.setup i) m = tt
-given_any B all (nodes.inject i ps p) m = tt
-given_any B all (nodes.supply i ps p h) m = tt
 given_any B all (nodes.produce i product (Some host)) m = tt
 given_any B all (nodes.produce i product None) m = tt
-given_any B all (nodes.invoke i place h arg l) m = tt
-given_any B all (nodes.frame seat h arg l) m = tt
-given_any B all (nodes.asks seat h l j c) m = tt
-given_any B all (nodes.does seat h l x) m = tt
-given_any B all (nodes.call seat h c arg) m = tt
-given_any B all (nodes.reach seat h c) m = tt
-given_any B all (nodes.fire os p arg) m = tt
-given_any B all (nodes.notify o arg) m = tt
-given_any B all (nodes.attend i p observer arg) m = tt
+given_any B all other m = tt
 
 -- ---- commands
 

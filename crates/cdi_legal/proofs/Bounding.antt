@@ -1,28 +1,14 @@
 -- The limits of a command: how often it asks bodies, and what is live at each point of its trace.
-use Rattle.std.proofs.Common.{◌≡◌, ℕ, suc, ◌+◌, ◌<◌, ◌≤◌, inl, inr, Bool, true, false, List, [], ◌∷◌, length}
-use Rattle.std.proofs.Common.{refl, arith, ap, subst, sym, ◌∙◌}
-use Rattle.std.specs.List.{AllByRecursion}
-use Rattle.std.proofs.lemmas.Bool.{cases_Bool, false≢true}
+use Rattle.cdi_legal.proofs.Common.{◌≡◌, ◌<◌, ℕ, false, refl, IsFull, InstanceId, Owner, Nobody, Scene, Ends, End, Moment, is_create, Entry}
+use Rattle.cdi_legal.proofs.Common.{Create, suc, ◌+◌, ◌≤◌, inl, inr, Bool, true, List, [], ◌∷◌, length, arith, ap, subst, sym, ◌∙◌}
+use Rattle.cdi_legal.proofs.Common.{AllByRecursion, false≢true, Scope, context_of, is_of, Standing, closed, Target, Interceptor, Instance}
+use Rattle.cdi_legal.proofs.Common.{Request, Application, Point, is_normal, applied, beginning, effect, step, Effect, Throughout}
+use Rattle.std.proofs.lemmas.Bool.{cases_Bool}
 use Rattle.std.proofs.lemmas.List.{length-append}
-use Rattle.cdi_model.specs.declared.decl.Scope.{Scope}
 use Rattle.cdi_model.specs.declared.decl.Scope.TheVariants as scopes
-use Rattle.cdi_contexts.specs.Owned.{context_of, is_of}
-use Rattle.cdi_contexts.specs.Standing.{Standing, closed, IsFull}
-use Rattle.cdi_contexts.specs.declared.instance.Actor.TheVariants.{Target, Interceptor}
-use Rattle.cdi_contexts.specs.declared.instance.Instance.{Instance}
-use Rattle.cdi_contexts.specs.declared.instance.InstanceId.{InstanceId}
-use Rattle.cdi_contexts.specs.declared.instance.Owner.{Owner}
-use Rattle.cdi_contexts.specs.declared.instance.Owner.TheVariants.{Request, Application, Point, Nobody}
-use Rattle.cdi_scene.specs.declared.scene.Scene.{Scene}
-use Rattle.cdi_legal.specs.Ends.{End, Ends}
-use Rattle.cdi_legal.specs.Laws.{CommandsKeepBudget, CommandsKeepThroughout, IsKeptByCommands, IsKeptThroughout}
-use Rattle.cdi_legal.specs.Laws.{IsRequested, IsSingleAt, IsWithinLimit}
-use Rattle.cdi_legal.specs.Legal.{is_normal}
+use Rattle.cdi_legal.specs.Laws.{CommandsKeepBudget, CommandsKeepThroughout, IsKeptByCommands, IsKeptThroughout, IsRequested, IsSingleAt}
+use Rattle.cdi_legal.specs.Laws.{IsWithinLimit}
 use Rattle.cdi_legal.specs.Moment as effects
-use Rattle.cdi_legal.specs.Moment.{applied, beginning, effect, is_create, step, Effect, Moment}
-use Rattle.cdi_legal.specs.Throughout.{Throughout}
-use Rattle.cdi_legal.specs.declared.entry.Entry.{Entry}
-use Rattle.cdi_legal.specs.declared.entry.Entry.TheVariants.{Create}
 use Rattle.cdi_legal.proofs.Along.{ends_along, runs_along, IsAlong, Nothing}
 use Rattle.cdi_legal.proofs.Course.{IsOutside, MayBegin}
 use Rattle.cdi_legal.proofs.Everywhere.{each_point, everywhere, kept_everywhere, then, Holds, HoldsAfterEach, Lasts}
@@ -115,12 +101,9 @@ commands_keep_limit = behind IsWithinLimit limit-calm limit_along (λ s x within
 -- ---- requests
 
 still-active : (x : Effect) (s : Standing) → (applied s x).active ≡ s.active
-still-active (effects.begins id owner) s = refl
-still-active (effects.readies number product) s = refl
-still-active (effects.ends number) s = refl
 still-active (effects.stores number Target value) s = refl
 still-active (effects.stores number (Interceptor q) value) s = refl
-still-active effects.none s = refl
+still-active other s = refl
 
 requested-calm : (s : Scene) (e : Entry) (x : Standing) → is_create e ≡ false → IsRequested s x → IsRequested s (step x e)
 requested-calm s e x h requested =

@@ -1,47 +1,32 @@
 -- Each failure of a run has its cause.
-use Rattle.std.proofs.Common.{◌≡◌, ℕ, ◌+◌, ◌<◌, ◌≤◌, Bool, true, false, List, ◌∷◌, Option, Some, None, IfSome}
-use Rattle.std.proofs.Common.{refl, sym, ap, subst, ◌∙◌, arith}
-use Rattle.cdi_model.specs.declared.decl.Scope.{Scope}
+use Rattle.cdi_legal.proofs.Common.{◌≡◌, ◌<◌, ℕ, false, None, Some, refl, Outcome, Act, Load, Store, Call, Fire, Proceed, Return, Fail}
+use Rattle.cdi_legal.proofs.Common.{IsFull, InstanceId, Owner, Nobody, Seat, Scene, Ends, End, Answer, Legal, Node, Uses, Use, Runs}
+use Rattle.cdi_legal.proofs.Common.{Command, Moment, put, ask_more, ◌+◌, ◌≤◌, Bool, true, List, ◌∷◌, arith, ap, subst, sym, ◌∙◌, Scope}
+use Rattle.cdi_legal.proofs.Common.{Standing, Point, is_normal, beginning, Option, Failure, Value, Val, Null, as_product, bean_at, Bean}
+use Rattle.cdi_legal.proofs.Common.{Product, Permits, Held, Follows, for_param, outcome_is, creation, frame, opened, Opening, link}
+use Rattle.cdi_legal.proofs.Common.{producer, target, IsCalledAt, Refused}
+use Rattle.std.proofs.Common.{IfSome}
 use Rattle.cdi_model.specs.declared.decl.Scope.TheVariants as scopes
-use Rattle.cdi_model.specs.declared.outcome.Failure.{Failure}
 use Rattle.cdi_model.specs.declared.outcome.Failure.TheVariants as failures
-use Rattle.cdi_model.specs.declared.outcome.Outcome.{Outcome}
-use Rattle.cdi_model.specs.declared.outcome.Outcome.TheVariants.{Failed, Value}
-use Rattle.cdi_model.specs.declared.outcome.Val.{Val}
-use Rattle.cdi_model.specs.declared.outcome.Val.TheVariants.{Int, Null}
-use Rattle.cdi_bodies.specs.declared.act.Act.{Act}
-use Rattle.cdi_bodies.specs.declared.act.Act.TheVariants.{Call, Fail, Fire, Load, Proceed, Return, Store}
-use Rattle.cdi_contexts.specs.Standing.{IsFull, Standing}
-use Rattle.cdi_contexts.specs.declared.instance.InstanceId.{InstanceId}
-use Rattle.cdi_contexts.specs.declared.instance.Owner.{Owner}
-use Rattle.cdi_contexts.specs.declared.instance.Owner.TheVariants.{Nobody, Point}
-use Rattle.cdi_scene.specs.Scene.{as_product, bean_at}
-use Rattle.cdi_scene.specs.declared.place.Seat.{Seat}
-use Rattle.cdi_scene.specs.declared.scene.Bean.{Bean}
-use Rattle.cdi_scene.specs.declared.scene.Product.{Product}
-use Rattle.cdi_scene.specs.declared.scene.Scene.{Scene}
-use Rattle.cdi_legal.specs.Acts.{ending, ignored, Permits}
+use Rattle.cdi_model.specs.declared.outcome.Outcome.TheVariants.{Failed}
+use Rattle.cdi_model.specs.declared.outcome.Val.TheVariants.{Int}
+use Rattle.cdi_legal.specs.Acts.{ending, ignored}
 use Rattle.cdi_legal.specs.Causes.{Cause, Passes}
-use Rattle.cdi_legal.specs.Ends.{End, Ends, Held}
-use Rattle.cdi_legal.specs.Follows.{Follows}
 use Rattle.cdi_legal.specs.Laws.{CommandsFailForCauses}
 use Rattle.cdi_legal.specs.Legal as nodes
-use Rattle.cdi_legal.specs.Legal.{answered, for_param, is_normal, outcome_is, produced, Answer, Legal, Node}
-use Rattle.cdi_legal.specs.LegalRun.{depth, Command, Runs, Use, Uses}
-use Rattle.cdi_legal.specs.Moment.{ask_more, beginning, put, Moment}
-use Rattle.cdi_legal.specs.Opened.{creation, frame, opened, Opening}
-use Rattle.cdi_legal.specs.Placed.{link, producer, target, IsCalledAt}
+use Rattle.cdi_legal.specs.Legal.{answered, produced}
+use Rattle.cdi_legal.specs.LegalRun.{depth}
 use Rattle.cdi_legal.specs.declared.entry.Answered.{Answered}
 use Rattle.cdi_legal.specs.declared.entry.Entry.TheVariants as entries
 use Rattle.cdi_legal.specs.declared.entry.Made.{Made}
-use Rattle.cdi_legal.specs.declared.entry.Made.TheVariants.{Instance as Obtained, Refused}
+use Rattle.cdi_legal.specs.declared.entry.Made.TheVariants.{Instance as Obtained}
 use Rattle.cdi_legal.proofs.Along.{ends_along, given_any, legal_along, IsAlong, IsKept, Nothing}
 use Rattle.cdi_legal.proofs.Bounding.{commands_keep_budget}
 use Rattle.cdi_legal.proofs.Course.{outside-nobody, outside-param, outside-point, own_begins, product_there, shared_begins, Given, MayBegin}
 use Rattle.cdi_legal.proofs.Course as course
 use Rattle.cdi_legal.proofs.Following.{follows_along, follows_kept, legal_follows}
-use Rattle.cdi_legal.proofs.Ordering.{asking, asking-opened, entered, legal_ordered, limits, nothing-open, order_claims, over}
-use Rattle.cdi_legal.proofs.Ordering.{room-more, step, there-bean, HasRoom, IsGood}
+use Rattle.cdi_legal.proofs.Ordering.{asking, asking-opened, entered, legal_ordered, limits, nothing-open, order_claims, over, room-more}
+use Rattle.cdi_legal.proofs.Ordering.{step, there-bean, HasRoom, IsGood}
 
 -- ---- failures
 
@@ -64,12 +49,7 @@ failure_in (nodes.held_is h f) = f
 -- what ends a frame with a failure is the act that returns it
 fails : (x : Act) (f : Failure) → ending x ≡ Some (Failed f) → x ≡ Fail f
 fails (Fail g) f e = let same : g ≡ f = cc in ap Fail same
-fails (Return v) f e = cc
-fails Load f e = cc
-fails (Store v) f e = cc
-fails (Call site arg) f e = cc
-fails (Fire site arg) f e = cc
-fails (Proceed arg) f e = cc
+fails other f e = cc
 
 -- ---- moments of a run
 

@@ -1,20 +1,9 @@
 -- The laws of whole commands.
-use Rattle.std.proofs.Common.{◌≡◌, ◌≤◌, List, [], refl, ap, ◌∙◌, arith, subst, sym}
-use Rattle.cdi_model.specs.declared.decl.Scope.{Scope}
+use Rattle.cdi_legal.proofs.Common.{◌≡◌, refl, Outcome, Scene, Ends, Command, Moment, Entry, ◌≤◌, List, [], arith, ap, subst, sym, ◌∙◌}
+use Rattle.cdi_legal.proofs.Common.{Scope, Standing, closed, Instance, beginning, Follows, last_in, context, after, IsRising, IsFurnished}
+use Rattle.cdi_legal.proofs.Common.{LegalRun, LegalRequestEnd, LegalEnd, IsSingle}
 use Rattle.cdi_model.specs.declared.decl.Scope.TheVariants as scopes
-use Rattle.cdi_model.specs.declared.outcome.Outcome.{Outcome}
-use Rattle.cdi_contexts.specs.Standing.{Standing, last_in, closed}
-use Rattle.cdi_contexts.specs.declared.instance.Instance.{Instance}
-use Rattle.cdi_scene.specs.declared.scene.Scene.{Scene}
-use Rattle.cdi_legal.specs.Ends.{Ends, context}
-use Rattle.cdi_legal.specs.Follows.{Follows, after}
-use Rattle.cdi_contexts.specs.Rising.{IsRising}
-use Rattle.cdi_legal.specs.Furnished.{IsFurnished}
 use Rattle.cdi_legal.specs.Laws.{CommandsKeepFurnished, CommandsKeepSingle, CommandsRaiseGiven, EmptyEnds}
-use Rattle.cdi_legal.specs.LegalRun.{Command, LegalRun, LegalRequestEnd, LegalEnd}
-use Rattle.cdi_legal.specs.Moment.{Moment, beginning}
-use Rattle.cdi_legal.specs.Single.{IsSingle}
-use Rattle.cdi_legal.specs.declared.entry.Entry.{Entry}
 use Rattle.cdi_legal.proofs.Following.{ends_follow, runs_follow, then}
 use Rattle.cdi_legal.proofs.Growing.{ends_grow, runs_grow}
 use Rattle.cdi_legal.proofs.Settling.{Settled, context_settled, runs_settled, sound_apart}

@@ -1,40 +1,20 @@
 -- The scheme of what holds along legal trees and ends: each case is gone through here, once.
-use Rattle.std.proofs.Common.{◌≡◌, ◌+◌, ◌<◌, ℕ, Bool, true, false, Option, Some, None, refl, sym, ap, ◌∙◌}
-use Rattle.std.proofs.lemmas.Bool.{false≢true}
-use Rattle.cdi_model.specs.declared.decl.Scope.{Scope}
+use Rattle.cdi_legal.proofs.Common.{◌≡◌, ◌<◌, ℕ, false, None, Some, refl, Outcome, Act, Call, Fire, Proceed, IsFull, Actor, InstanceId}
+use Rattle.cdi_legal.proofs.Common.{Owner, Nobody, Seat, Scene, Touches, Ends, End, Answer, Legal, Node, Moment, put, ask_more, Entry}
+use Rattle.cdi_legal.proofs.Common.{Create, ◌+◌, Bool, true, ap, sym, ◌∙◌, false≢true, Scope, context_of, is_of, Target, Point, is_normal}
+use Rattle.cdi_legal.proofs.Common.{Option, Failure, Val, as_product, bean_at, Bean, Product, Permits, for_param, link, producer, target}
+use Rattle.cdi_legal.proofs.Common.{IsCalledAt, found, managed_at, product_at, Injection, Managed, create, disposer, Destroy, Enter, Gone}
+use Rattle.cdi_legal.proofs.Common.{Got, Leave, Proceeded, Skip}
 use Rattle.cdi_model.specs.declared.decl.Scope.TheVariants as scopes
-use Rattle.cdi_model.specs.declared.outcome.Failure.{Failure}
-use Rattle.cdi_model.specs.declared.outcome.Outcome.{Outcome}
-use Rattle.cdi_model.specs.declared.outcome.Val.{Val}
-use Rattle.cdi_bodies.specs.declared.act.Act.{Act}
-use Rattle.cdi_bodies.specs.declared.act.Act.TheVariants.{Call, Fire, Proceed}
-use Rattle.cdi_contexts.specs.Owned.{context_of, is_of}
-use Rattle.cdi_contexts.specs.Standing.{found, IsFull}
-use Rattle.cdi_contexts.specs.declared.instance.Actor.{Actor}
-use Rattle.cdi_contexts.specs.declared.instance.Actor.TheVariants.{Target}
-use Rattle.cdi_contexts.specs.declared.instance.InstanceId.{InstanceId}
-use Rattle.cdi_contexts.specs.declared.instance.Owner.{Owner}
-use Rattle.cdi_contexts.specs.declared.instance.Owner.TheVariants.{Point, Nobody}
-use Rattle.cdi_scene.specs.Scene.{as_product, bean_at, invocable_at, managed_at, observer_at, place_of, product_at}
+use Rattle.cdi_scene.specs.Scene.{invocable_at, observer_at, place_of}
 use Rattle.cdi_scene.specs.declared.place.Place.TheVariants.{Pre, Producer}
-use Rattle.cdi_scene.specs.declared.place.Seat.{Seat}
-use Rattle.cdi_scene.specs.declared.scene.Bean.{Bean}
-use Rattle.cdi_scene.specs.declared.scene.Injection.{Injection}
-use Rattle.cdi_scene.specs.declared.scene.Managed.{Managed}
 use Rattle.cdi_scene.specs.declared.scene.Notified.{Notified}
 use Rattle.cdi_scene.specs.declared.scene.Observer.{Observer}
-use Rattle.cdi_scene.specs.declared.scene.Product.{Product}
-use Rattle.cdi_scene.specs.declared.scene.Scene.{Scene}
-use Rattle.cdi_legal.specs.Acts.{Permits, Touches}
 use Rattle.cdi_legal.specs.Ends as ends
-use Rattle.cdi_legal.specs.Ends.{seat_of_class, End, Ends}
+use Rattle.cdi_legal.specs.Ends.{seat_of_class}
 use Rattle.cdi_legal.specs.Legal as nodes
-use Rattle.cdi_legal.specs.Legal.{create, for_param, is_normal, Answer, IsInactive, Legal, Node}
-use Rattle.cdi_legal.specs.Moment.{Moment, put, ask_more}
-use Rattle.cdi_legal.specs.Placed.{disposer, link, producer, target, IsCalledAt}
-use Rattle.cdi_legal.specs.declared.entry.Entry.{Entry}
-use Rattle.cdi_legal.specs.declared.entry.Entry.TheVariants.{Broken, Called, Create, Destroy, Enter, Fired, Gone, Got, Leave, Proceeded}
-use Rattle.cdi_legal.specs.declared.entry.Entry.TheVariants.{Ready, Skip}
+use Rattle.cdi_legal.specs.Legal.{IsInactive}
+use Rattle.cdi_legal.specs.declared.entry.Entry.TheVariants.{Broken, Called, Fired, Ready}
 
 -- ---- what is known where steps begin
 
@@ -188,13 +168,11 @@ ends_course law (Ends.proceeded_back seat _ _ j v r _ m m₁ m₂ m₃ m' p0 p1 
 
 pub outside-nobody : IsOutside Nobody
 outside-nobody scopes.Request = refl
-outside-nobody scopes.Application = refl
-outside-nobody scopes.Dependent = refl
+outside-nobody other = refl
 
 pub outside-point : (n : ℕ) (actor : Actor) (p : ℕ) → IsOutside (Point n actor p)
 outside-point n actor p scopes.Request = refl
-outside-point n actor p scopes.Application = refl
-outside-point n actor p scopes.Dependent = refl
+outside-point n actor p other = refl
 
 pub outside-param : (product : Option InstanceId) (p : ℕ) → IsOutside (for_param product p)
 outside-param (Some product) p = outside-point product.number Target p
@@ -225,9 +203,8 @@ shared_begins s b x m there active none = record {
 }
   where
     outside-of : (scope : Scope) → is_normal scope ≡ false → IsOutside (context_of scope)
-    outside-of scopes.Request e = absurd (false≢true (sym e))
-    outside-of scopes.Application e = absurd (false≢true (sym e))
     outside-of scopes.Dependent e = outside-nobody
+    outside-of other e = absurd (false≢true (sym e))
 
 pub product_there : (s : Scene) (b : ℕ) (x : Bean) (product : Product) → bean_at s b ≡ Some x → as_product x.form ≡ Some product
     → product_at s b ≡ Some product

@@ -1,15 +1,8 @@
 -- What each entry keeps holds at each point of a trace.
-use Rattle.std.proofs.Common.{◌≡◌, ℕ, false, List, [], ◌∷◌, ◌++◌, refl, sym, ap, subst, ◌∙◌, append_assoc, append-nil}
-use Rattle.cdi_contexts.specs.Standing.{Standing, IsFull}
-use Rattle.cdi_contexts.specs.declared.instance.InstanceId.{InstanceId}
-use Rattle.cdi_contexts.specs.declared.instance.Owner.{Owner}
-use Rattle.cdi_scene.specs.declared.scene.Scene.{Scene}
+use Rattle.cdi_legal.proofs.Common.{◌≡◌, ℕ, false, refl, IsFull, InstanceId, Owner, Scene, Moment, put, ask_more, is_create, Entry, Create}
+use Rattle.cdi_legal.proofs.Common.{List, [], ◌∷◌, ap, subst, sym, ◌∙◌, Standing, step, Throughout, after, ◌++◌, append_assoc}
+use Rattle.std.proofs.Common.{append-nil}
 use Rattle.cdi_legal.specs.Follows as Follows
-use Rattle.cdi_legal.specs.Follows.{after}
-use Rattle.cdi_legal.specs.Moment.{ask_more, is_create, put, step, Moment}
-use Rattle.cdi_legal.specs.Throughout.{Throughout}
-use Rattle.cdi_legal.specs.declared.entry.Entry.{Entry}
-use Rattle.cdi_legal.specs.declared.entry.Entry.TheVariants.{Create}
 use Rattle.cdi_legal.proofs.Along.{IsAlong, IsKept}
 use Rattle.cdi_legal.proofs.Course.{MayBegin}
 use Rattle.cdi_legal.proofs.Following.{after-append}

@@ -1,20 +1,12 @@
 -- In a sound scene bodies run at sound seats alone.
-use Rattle.std.proofs.Common.{◌≡◌, ℕ, Option, Some, None, List, refl, subst}
-use Rattle.std.proofs.lemmas.Option.{same_Some}
-use Rattle.cdi_bodies.specs.declared.act.Act.{Act}
-use Rattle.cdi_scene.specs.Scene.{as_product, bean_at, product_at}
-use Rattle.cdi_scene.specs.Sound.{Bodies, IsSound, IsSoundAt, IsSoundForm, IsSoundProduct}
-use Rattle.cdi_scene.specs.declared.place.Seat.{Seat}
-use Rattle.cdi_scene.specs.declared.scene.Bean.{Bean}
-use Rattle.cdi_scene.specs.declared.scene.Form.{Form}
+use Rattle.cdi_legal.proofs.Common.{◌≡◌, ℕ, None, Some, refl, Act, Seat, Scene, Entry, List, subst, Option, as_product, bean_at, Bean}
+use Rattle.cdi_legal.proofs.Common.{Product, opened, Opening, link, producer, target, IsCalledAt, product_at, disposer, same_Some, Bodies}
+use Rattle.cdi_legal.proofs.Common.{IsSound, IsSoundForm, Form, IsOrdered, MayAct}
+use Rattle.cdi_scene.specs.Sound.{IsSoundAt, IsSoundProduct}
 use Rattle.cdi_scene.specs.declared.scene.Form.TheVariants as forms
-use Rattle.cdi_scene.specs.declared.scene.Product.{Product}
-use Rattle.cdi_scene.specs.declared.scene.Scene.{Scene}
-use Rattle.cdi_legal.specs.Laws.{CommandsAreFaultless, IsFaultless, IsOrdered}
-use Rattle.cdi_legal.specs.Opened.{opened, Opening}
+use Rattle.cdi_legal.specs.Laws.{CommandsAreFaultless, IsFaultless}
 use Rattle.cdi_legal.specs.Placed as placed
-use Rattle.cdi_legal.specs.Placed.{disposer, link, need, producer, target, IsCalledAt, IsMet, MayAct, Need}
-use Rattle.cdi_legal.specs.declared.entry.Entry.{Entry}
+use Rattle.cdi_legal.specs.Placed.{need, IsMet, Need}
 use Rattle.cdi_legal.proofs.Ordering.{commands_are_ordered}
 
 module _ (book : Bodies) (s : Scene) (sound : IsSound book s) where
@@ -41,16 +33,11 @@ module _ (book : Bodies) (s : Scene) (sound : IsSound book s) where
   sound_act seat act xs may = record { runs = may.runs; sort = sound_seat seat may.sort; permits = may.permits }
 
   sound_need : (xs : List Opening) (n : Need) → IsMet s (IsCalledAt s) xs n → IsMet s (IsSoundAt book s) xs n
-  sound_need xs (placed.needs_bean b) h = h
-  sound_need xs (placed.needs_creation id) h = h
-  sound_need xs (placed.needs_destruction id) h = h
   sound_need xs (placed.needs_seat seat) h = sound_seat seat h
-  sound_need xs placed.needs_frame h = h
   sound_need xs (placed.needs_act act) h = (h.0, sound_act h.0 act xs h.1)
   sound_need xs (placed.needs_act_at seat act) h = sound_act seat act xs h
   sound_need xs (placed.needs_act_of number actor act) h = (h.0, h.1, sound_act h.0 act xs h.2)
-  sound_need xs (placed.needs_observer o) h = h
-  sound_need xs placed.needs_nothing h = h
+  sound_need xs other h = h
 
   faultless : (trace : List Entry) → IsOrdered s trace → IsFaultless book s trace
   faultless trace ordered earlier e later is = sound_need (opened earlier) (need e) (ordered.places earlier e later is)

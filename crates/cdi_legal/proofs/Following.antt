@@ -1,15 +1,6 @@
 -- What stands along a legal tree is the fold of its entries.
-use Rattle.std.proofs.Common.{◌≡◌, ℕ, List, [], ◌∷◌, ◌++◌, refl, sym, ap, ◌∙◌, append_assoc}
-use Rattle.cdi_model.specs.declared.outcome.Outcome.{Outcome}
-use Rattle.cdi_contexts.specs.Standing.{Standing}
-use Rattle.cdi_scene.specs.declared.scene.Scene.{Scene}
-use Rattle.cdi_legal.specs.Ends.{Ends, End}
-use Rattle.cdi_legal.specs.Follows.{Follows, after}
-use Rattle.cdi_legal.specs.Legal.{Legal, Node, Answer}
-use Rattle.cdi_legal.specs.LegalRun.{Runs, Command}
-use Rattle.cdi_legal.specs.Moment.{Moment, step, put, ask_more}
-use Rattle.cdi_legal.specs.declared.entry.Entry.{Entry}
-use Rattle.cdi_legal.specs.declared.entry.Entry.TheVariants.{Create}
+use Rattle.cdi_legal.proofs.Common.{◌≡◌, ℕ, refl, Outcome, Scene, Ends, End, Answer, Legal, Node, Runs, Command, Moment, put, ask_more}
+use Rattle.cdi_legal.proofs.Common.{Entry, Create, List, [], ◌∷◌, ap, sym, ◌∙◌, Standing, step, Follows, after, ◌++◌, append_assoc}
 use Rattle.cdi_legal.proofs.Along.{ends_along, given_any, legal_along, runs_along, IsAlong, IsKept, Nothing}
 
 pub after-append : (s : Standing) (xs ys : List Entry) → after s (xs ++ ys) ≡ after (after s xs) ys

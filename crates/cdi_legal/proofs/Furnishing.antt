@@ -1,34 +1,16 @@
 -- Along runs each ready instance has its dependent objects.
-use Rattle.std.proofs.Common.{◌≡◌, ℕ, ◌<◌, ◌≤◌, Bool, true, false, not, ◌==◌, ◌&&◌, List, [], ◌∷◌}
-use Rattle.std.proofs.Common.{map, slice_get}
-use Rattle.std.proofs.Common.{zero, suc, Some, None, refl, arith, ap, subst, sym, ◌∙◌, if◌then◌else◌}
-use Rattle.std.specs.List.{AllByRecursion}
-use Rattle.std.proofs.lemmas.Bool.{and_parts}
-use Rattle.cdi_model.specs.declared.decl.Scope.{Scope}
-use Rattle.cdi_bodies.specs.declared.act.Act.{Act}
-use Rattle.cdi_bodies.specs.declared.act.Act.TheVariants.{Load, Store, Call, Fire, Proceed, Return, Fail}
-use Rattle.cdi_model.specs.declared.outcome.Outcome.{Outcome}
-use Rattle.cdi_model.specs.declared.outcome.Val.{Val}
-use Rattle.cdi_contexts.specs.Owned.{is_at, is_of, is_part_of, same_actor}
-use Rattle.cdi_contexts.specs.Rising.{RisesFrom, IsOwnerOf}
-use Rattle.cdi_contexts.specs.Standing.{Standing, without, keep, finish, last_of, last_in, made_for}
-use Rattle.cdi_contexts.specs.declared.instance.Actor.{Actor}
-use Rattle.cdi_contexts.specs.declared.instance.Actor.TheVariants.{Target, Interceptor}
-use Rattle.cdi_contexts.specs.declared.instance.Instance.{Instance}
-use Rattle.cdi_contexts.specs.declared.instance.InstanceId.{InstanceId}
-use Rattle.cdi_contexts.specs.declared.instance.Owner.{Owner}
-use Rattle.cdi_contexts.specs.declared.instance.Owner.TheVariants.{Request, Application, Point, Nobody}
+use Rattle.cdi_legal.proofs.Common.{◌≡◌, ◌<◌, ℕ, false, None, Some, refl, Outcome, Act, Load, Store, Call, Fire, Proceed, Return, Fail}
+use Rattle.cdi_legal.proofs.Common.{Actor, InstanceId, Owner, Nobody, Scene, Touches, Ends, End, Moment, put, is_create, Entry, suc, ◌≤◌}
+use Rattle.cdi_legal.proofs.Common.{Bool, true, List, [], ◌∷◌, arith, ap, subst, sym, ◌∙◌, AllByRecursion, Scope, is_of, Standing, Target}
+use Rattle.cdi_legal.proofs.Common.{Interceptor, Instance, Request, Application, Point, applied, effect, step, Effect, Val, Held, last_in}
+use Rattle.cdi_legal.proofs.Common.{not, ◌==◌, ◌&&◌, map, slice_get, zero, if◌then◌else◌, and_parts, is_at, is_part_of, same_actor}
+use Rattle.cdi_legal.proofs.Common.{IsOwnerOf, without, keep, finish, last_of, made_for, IsRising-without, IsRising-finished}
+use Rattle.cdi_legal.proofs.Common.{IsRising-stored, HasDependents, IsStill, is_beginning}
+use Rattle.cdi_contexts.specs.Rising.{RisesFrom}
 use Rattle.cdi_contexts.proofs.Last.{last_of_all}
-use Rattle.cdi_contexts.proofs.Rising.{IsRising-without, IsRising-finished, IsRising-stored, rises_bound}
-use Rattle.cdi_scene.specs.declared.scene.Scene.{Scene}
-use Rattle.cdi_legal.specs.Acts.{Touches}
-use Rattle.cdi_legal.specs.Ends.{Ends, End, Held}
+use Rattle.cdi_contexts.proofs.Rising.{rises_bound}
 use Rattle.cdi_legal.specs.Ends as ends
-use Rattle.cdi_legal.specs.Furnished.{HasDependents}
-use Rattle.cdi_legal.specs.Keeps.{IsStill}
 use Rattle.cdi_legal.specs.Moment as effects
-use Rattle.cdi_legal.specs.Moment.{applied, effect, is_beginning, is_create, put, step, Effect, Moment}
-use Rattle.cdi_legal.specs.declared.entry.Entry.{Entry}
 use Rattle.cdi_legal.specs.declared.entry.Entry.TheVariants as entries
 use Rattle.cdi_legal.proofs.Along.{IsKept, ends_along, touch_along}
 use Rattle.cdi_legal.proofs.Sharing.{same-keep, same-finish}
@@ -116,9 +98,7 @@ AreFurnished K s live = AllByRecursion (λ i. K i.id.number → i.is_ready ≡ t
 -- the owner is none of such a number
 abbrev pub Outside : (ℕ → Type 0) → Owner → Type 0
 Outside K (Point n actor p) = K n → ⊥
-Outside K Request = Unit {0}
-Outside K Application = Unit {0}
-Outside K Nobody = Unit {0}
+Outside K other = Unit {0}
 
 -- the instance of this number, if it is live, was made for none of such a number
 abbrev pub IsSpare : (ℕ → Type 0) → ℕ → List Instance → Type 0
@@ -131,8 +111,7 @@ inside K n actor p (Point m who q) e k out =
     let same : m ≡ n = grind (arith, first) in
     out (subst K (sym same) k)
 inside K n actor p Request e k out = cc
-inside K n actor p Application e k out = cc
-inside K n actor p Nobody e k out = cc
+inside K n actor p other e k out = cc
 
 -- ---- steps of ends
 
@@ -189,21 +168,16 @@ ends-rise p = ends_along rises-kept p
 
 -- the effect takes no instance away, begins none and makes none ready
 abbrev IsPlainEffect : Effect → Type 0
-IsPlainEffect (effects.begins id owner) = ⊥
-IsPlainEffect (effects.readies number product) = ⊥
-IsPlainEffect (effects.ends number) = ⊥
 IsPlainEffect (effects.stores number actor value) = Unit {0}
 IsPlainEffect effects.none = Unit {0}
+IsPlainEffect other = ⊥
 
 abbrev pub IsPlain : Entry → Type 0
 IsPlain e = IsPlainEffect (effect e)
 
 plain-begins : (x : Effect) → IsPlainEffect x → is_beginning x ≡ false
 plain-begins (effects.begins id owner) p = absurd p
-plain-begins (effects.readies number product) p = refl
-plain-begins (effects.ends number) p = refl
-plain-begins (effects.stores number actor value) p = refl
-plain-begins effects.none p = refl
+plain-begins other p = refl
 
 pub is_plain_kept : (e : Entry) → IsPlain e → is_create e ≡ false
 is_plain_kept e p = plain-begins (effect e) p
@@ -227,12 +201,10 @@ furnished-keep K s n v live a =
 
 furnished-plain : (K : ℕ → Type 0) (s : Scene) (x : Effect) (m : Standing) → IsPlainEffect x → AreFurnished K s m.live
     → AreFurnished K s (applied m x).live
-furnished-plain K s (effects.begins id owner) m h a = absurd h
-furnished-plain K s (effects.readies number product) m h a = absurd h
-furnished-plain K s (effects.ends number) m h a = absurd h
 furnished-plain K s (effects.stores number Target value) m h a = furnished-keep K s number value m.live a
 furnished-plain K s (effects.stores number (Interceptor q) value) m h a = a
 furnished-plain K s effects.none m h a = a
+furnished-plain K s other m h a = absurd h
 
 pub plain : (K : ℕ → Type 0) (s : Scene) (e : Entry) (m m' : Moment) → m' ≡ put e m → IsPlain e
     → AreFurnished K s m.standing.live
@@ -245,11 +217,7 @@ pub touch-furnished : (K : ℕ → Type 0) (s : Scene) (n : ℕ) (actor : Actor)
     → Touches n actor x m o m' → AreFurnished K s m.standing.live → AreFurnished K s m'.standing.live
 touch-furnished K s n actor Load m o m' h a = plain K s _ m m' h.1 tt a
 touch-furnished K s n actor (Store v) m o m' h a = plain K s _ m m' h.1 tt a
-touch-furnished K s n actor (Call site arg) m o m' h a = absurd h
-touch-furnished K s n actor (Fire site arg) m o m' h a = absurd h
-touch-furnished K s n actor (Proceed arg) m o m' h a = absurd h
-touch-furnished K s n actor (Return v) m o m' h a = absurd h
-touch-furnished K s n actor (Fail f) m o m' h a = absurd h
+touch-furnished K s n actor other m o m' h a = absurd h
 
 -- ---- an instance goes
 
@@ -336,25 +304,19 @@ abbrev pub Spares : (ℕ → Type 0) → End → List Instance → Type 0
 Spares K (ends.destroy i) live = IsSpare K i.number live
 Spares K (ends.dependents n) live = K n → ⊥
 Spares K (ends.held h k) live = AllSpare K h live
-Spares K (ends.context scope) live = Unit {0}
-Spares K (ends.callback i) live = Unit {0}
-Spares K (ends.invoke_back i arg k o) live = Unit {0}
-Spares K (ends.frame_back seat arg k o) live = Unit {0}
-Spares K (ends.asks_back seat k j p o) live = Unit {0}
+Spares K other live = Unit {0}
 
 outside-part : (K : ℕ → Type 0) (n : ℕ) (o : Owner) → is_part_of n o ≡ true → (K n → ⊥) → Outside K o
 outside-part K n (Point m actor p) e never =
     let same : m ≡ n = grind arith in
     λ k. never (subst K same k)
 outside-part K n Request e never = cc
-outside-part K n Application e never = cc
-outside-part K n Nobody e never = cc
+outside-part K n other e never = cc
 
 outside-context : (K : ℕ → Type 0) (scope : Scope) (o : Owner) → is_of scope o ≡ true → Outside K o
-outside-context K scope (Point m actor p) e = cc
 outside-context K scope Request e = tt
 outside-context K scope Application e = tt
-outside-context K scope Nobody e = cc
+outside-context K scope other e = cc
 
 alone-spare : (K : ℕ → Type 0) (live : List Instance) (i : Instance) (d : InstanceId) → IsAlone live i → i.id ≡ d
     → Outside K i.owner

@@ -1,26 +1,15 @@
 -- Numbers only rise along a legal tree.
-use Rattle.std.proofs.Common.{◌≡◌, ℕ, ◌≤◌, arith, ap}
-use Rattle.cdi_model.specs.declared.outcome.Outcome.{Outcome}
-use Rattle.cdi_contexts.specs.declared.instance.Actor.TheVariants.{Target, Interceptor}
-use Rattle.cdi_contexts.specs.Standing.{Standing}
-use Rattle.cdi_scene.specs.declared.scene.Scene.{Scene}
-use Rattle.cdi_legal.specs.Ends.{Ends, End}
+use Rattle.cdi_legal.proofs.Common.{◌≡◌, ℕ, Outcome, Scene, Ends, End, Answer, Legal, Node, Runs, Command, Moment, put, Entry, ◌≤◌, arith}
+use Rattle.cdi_legal.proofs.Common.{ap, Standing, Target, Interceptor, applied, effect, Effect}
 use Rattle.cdi_legal.specs.Grows.{Grows}
-use Rattle.cdi_legal.specs.Legal.{Legal, Node, Answer}
-use Rattle.cdi_legal.specs.LegalRun.{Runs, Command}
 use Rattle.cdi_legal.specs.Moment as effects
-use Rattle.cdi_legal.specs.Moment.{applied, effect, put, Effect, Moment}
-use Rattle.cdi_legal.specs.declared.entry.Entry.{Entry}
 use Rattle.cdi_legal.specs.declared.entry.Entry.TheVariants as entries
 use Rattle.cdi_legal.proofs.Along.{ends_along, given_any, legal_along, runs_along, IsAlong, IsKept, Nothing}
 
 grows : (s : Standing) (x : Effect) → s.given ≤ (applied s x).given
-grows s (effects.begins id owner) = omega arith
-grows s (effects.readies number product) = omega arith
-grows s (effects.ends number) = omega arith
 grows s (effects.stores number Target value) = omega arith
 grows s (effects.stores number (Interceptor q) value) = omega arith
-grows s effects.none = omega arith
+grows s other = omega arith
 
 abbrev given_of : Moment → ℕ
 given_of m = m.standing.given

@@ -1,45 +1,26 @@
 -- Along a legal tree each live instance has a home: its context, or the instance that it was made for.
-use Rattle.std.proofs.Common.{◌≡◌, ℕ, ◌+◌, ◌<◌, ◌≤◌, ◌⊎◌, inl, inr, Bool, true, false, ◌==◌, List, [], ◌∷◌, ◌++◌, length}
-use Rattle.std.proofs.Common.{slice_get, if◌then◌else◌, Option, Some, None, IsSome, refl, arith, ap, subst, sym, ◌∙◌}
-use Rattle.std.specs.List.{AllByRecursion}
-use Rattle.cdi_model.specs.declared.decl.Scope.{Scope}
+use Rattle.cdi_legal.proofs.Common.{◌≡◌, ◌<◌, ℕ, false, None, Some, refl, Outcome, Act, Actor, InstanceId, Owner, Nobody, Scene, Touches}
+use Rattle.cdi_legal.proofs.Common.{Ends, End, Answer, Legal, Node, Uses, Use, Runs, Command, Moment, put, ask_more, Entry, ◌+◌, ◌≤◌, inl}
+use Rattle.cdi_legal.proofs.Common.{inr, Bool, true, List, [], ◌∷◌, length, arith, ap, subst, sym, ◌∙◌, AllByRecursion, Scope, context_of}
+use Rattle.cdi_legal.proofs.Common.{is_of, Standing, Instance, Request, Application, Point, is_normal, beginning, Option, Failure, bean_at}
+use Rattle.cdi_legal.proofs.Common.{Bean, Held, for_param, Refused, IsRising, LegalRun, LegalRequestEnd, LegalEnd, create, ◌++◌, ◌==◌}
+use Rattle.cdi_legal.proofs.Common.{slice_get, if◌then◌else◌, is_part_of, IsOwnerOf, ◌⊎◌, IsSome, numbered, IsRising-more, destroy}
+use Rattle.cdi_legal.proofs.Common.{dependents, held, made_is, held_is, IsHome}
 use Rattle.cdi_model.specs.declared.decl.Scope.TheVariants as scopes
-use Rattle.cdi_model.specs.declared.outcome.Failure.{Failure}
-use Rattle.cdi_model.specs.declared.outcome.Outcome.{Outcome}
-use Rattle.cdi_bodies.specs.declared.act.Act.{Act}
-use Rattle.cdi_contexts.specs.Owned.{context_of, is_of, is_part_of}
-use Rattle.cdi_contexts.specs.Rising.{IsRising, IsOwnerOf}
-use Rattle.cdi_contexts.specs.Standing.{Standing, numbered}
-use Rattle.cdi_contexts.specs.declared.instance.Actor.{Actor}
-use Rattle.cdi_contexts.specs.declared.instance.Instance.{Instance}
-use Rattle.cdi_contexts.specs.declared.instance.InstanceId.{InstanceId}
-use Rattle.cdi_contexts.specs.declared.instance.Owner.{Owner}
-use Rattle.cdi_contexts.specs.declared.instance.Owner.TheVariants.{Request, Application, Point, Nobody}
-use Rattle.cdi_contexts.proofs.Rising.{IsRising-more}
-use Rattle.cdi_scene.specs.Scene.{bean_at}
-use Rattle.cdi_scene.specs.declared.scene.Bean.{Bean}
-use Rattle.cdi_scene.specs.declared.scene.Scene.{Scene}
-use Rattle.cdi_legal.specs.Acts.{Touches}
-use Rattle.cdi_legal.specs.Ends.{Ends, End, Held, destroy, dependents, held}
 use Rattle.cdi_legal.specs.Laws.{BothEndsLeaveNothing, CommandsKeepRooted}
 use Rattle.cdi_legal.specs.Legal as nodes
-use Rattle.cdi_legal.specs.Legal.{Legal, Node, Answer, create, is_normal, for_param, made_is, held_is}
-use Rattle.cdi_legal.specs.LegalRun.{Uses, Use, Runs, Command, LegalRun, LegalRequestEnd, LegalEnd}
-use Rattle.cdi_legal.specs.Moment.{Moment, beginning, put, ask_more}
-use Rattle.cdi_legal.specs.Rooted.{IsHome, IsRooted}
-use Rattle.cdi_legal.specs.declared.entry.Entry.{Entry}
+use Rattle.cdi_legal.specs.Rooted.{IsRooted}
 use Rattle.cdi_legal.specs.declared.entry.Entry.TheVariants as entries
-use Rattle.cdi_legal.specs.declared.entry.Made.TheVariants.{Instance as Obtained, Refused}
+use Rattle.cdi_legal.specs.declared.entry.Made.TheVariants.{Instance as Obtained}
 use Rattle.cdi_legal.proofs.Along.{touch_along}
 use Rattle.cdi_legal.proofs.Growing.{legal_grows}
-use Rattle.cdi_legal.proofs.Keeping.{Rises, all-more, begun, given-more, legal_older, older, owned-context}
-use Rattle.cdi_legal.proofs.Keeping.{owned-param, still-more}
+use Rattle.cdi_legal.proofs.Keeping.{Rises, all-more, begun, given-more, legal_older, older, owned-context, owned-param, still-more}
 use Rattle.cdi_legal.proofs.Furnishing.{all-above, all-given, all-imply, ends-all, ends-rise, found-such, none-left, rises-kept}
 use Rattle.cdi_legal.proofs.Settling.{Begins, owns, same-given, new_one}
 use Rattle.cdi_legal.proofs.Supplying.{kept-in, last-in}
-use Rattle.cdi_legal.proofs.Rooting.{AreHome, Also, AlsoParts, Free, IsCalm, IsIn, NoNumber, Stay, calm-begins}
-use Rattle.cdi_legal.proofs.Rooting.{context-gone, dependents-gone, destroyed-home, ends-home, held-home, home-entry, home-lost}
-use Rattle.cdi_legal.proofs.Rooting.{home-stay, home-touch, narrower, no-parts, of_number, some-of, stay-still, wider}
+use Rattle.cdi_legal.proofs.Rooting.{AreHome, Also, AlsoParts, Free, IsCalm, IsIn, NoNumber, Stay, calm-begins, context-gone}
+use Rattle.cdi_legal.proofs.Rooting.{dependents-gone, destroyed-home, ends-home, held-home, home-entry, home-lost, home-stay, home-touch}
+use Rattle.cdi_legal.proofs.Rooting.{narrower, no-parts, of_number, some-of, stay-still, wider}
 
 -- numbers rise, and each live instance has a home but these
 pub record Rests (L : Free) (m : Moment) : Type 0 where
@@ -225,9 +206,8 @@ shared s b d there normal x here =
     subst (λ (z : Bean). is_normal z.scope ≡ true) is normal
 
 home-context : (live : List Instance) (scope : Scope) → is_normal scope ≡ true → IsHome live (context_of scope)
-home-context live scopes.Request e = tt
-home-context live scopes.Application e = tt
 home-context live scopes.Dependent e = cc
+home-context live other e = tt
 
 -- what is asked where the node creates instances: their owners are homes, or they need none
 abbrev Needs : Scene → Free → Node → Answer → Moment → Type 0
@@ -237,15 +217,7 @@ Needs s L (nodes.setup i) a m = IsSome (numbered m.standing.live i.number)
 Needs s L (nodes.inject i ps p) a m = IsSome (numbered m.standing.live i.number)
 Needs s L (nodes.supply product ps p h) a m = Feeds L product a m.standing.live
 Needs s L (nodes.produce i product host) a m = IsSome (numbered m.standing.live i.number)
-Needs s L (nodes.invoke i place h arg l) a m = Unit {0}
-Needs s L (nodes.frame seat h arg l) a m = Unit {0}
-Needs s L (nodes.asks seat h l j c) a m = Unit {0}
-Needs s L (nodes.does seat h l x) a m = Unit {0}
-Needs s L (nodes.call seat h c arg) a m = Unit {0}
-Needs s L (nodes.reach seat h c) a m = Unit {0}
-Needs s L (nodes.fire os p arg) a m = Unit {0}
-Needs s L (nodes.notify o arg) a m = Unit {0}
-Needs s L (nodes.attend i p observer arg) a m = Unit {0}
+Needs s L other a m = Unit {0}
 
 pub legal_rests : {s : Scene} (L : Free) {k : ℕ} {x : Node} {answer : Answer} {m m' : Moment} → Legal s k x m answer m'
     → Begins x m → Needs s L x answer m → Path L m m'
@@ -341,9 +313,8 @@ legal_rests L (Legal.attended _ _ _ _ had _ _ _ m _ _ _ p0 p1 p2) b n h =
 -- ---- commands
 
 uses_rests : (L : Free) {s : Scene} {i : InstanceId} {u : Use} {m : Moment} {o : Outcome} {m' : Moment} → Uses s i u m o m' → Path L m m'
-uses_rests L (Uses.looked _ _ _) h = h
 uses_rests L (Uses.called _ _ _ _ _ _ _ p1) h = legal_rests L p1 tt tt h
-uses_rests L (Uses.called_product _ _ _ _ _ _) h = h
+uses_rests L other h = h
 
 pub runs_rests : (L : Free) {s : Scene} {c : Command} {m : Moment} {o : Outcome} {m' : Moment} → Runs s c m o m' → Path L m m'
 runs_rests L {s} (Runs.refused_shared b x _ _ _ _ p0 p1 p2) h = legal_rests L p2 tt (shared s b x p0 p1) h
@@ -435,9 +406,8 @@ none-stands (x ∷ xs) given r h a b = absurd (by x.owner h.0 r.1 a.0 b.0)
     by : (o : Owner) → IsHome (x ∷ xs) o → IsOwnerOf x.id.number o → is_of scopes.Request o ≡ false
         → is_of scopes.Application o ≡ false → ⊥
     by (Point n actor p) home owned p0 p1 = late n owned home
-    by Request home owned p0 p1 = cc
-    by Application home owned p0 p1 = cc
     by Nobody home owned p0 p1 = absurd home
+    by other home owned p0 p1 = cc
 
 pub both_ends_leave_nothing : BothEndsLeaveNothing
 both_ends_leave_nothing s a t b r h l =

@@ -1,34 +1,14 @@
 -- A new instance has its dependent objects once its injection has ended.
-use Rattle.std.proofs.Common.{◌≡◌, ℕ, ◌+◌, ◌<◌, ◌≤◌, ◌⊎◌, inl, inr, Bool, true, false, ◌==◌, ◌&&◌, List, [], ◌∷◌}
-use Rattle.std.proofs.Common.{◌++◌, length, map, slice_get, nat_lt}
-use Rattle.std.proofs.Common.{Option, Some, None, refl, arith, ap, subst, sym, ◌∙◌, if◌then◌else◌}
-use Rattle.std.specs.List.{AllByRecursion}
-use Rattle.std.proofs.lemmas.Bool.{and_parts}
-use Rattle.std.proofs.lemmas.Option.{slice_get_within}
-use Rattle.std.proofs.lemmas.Bool.Decides.{nat_tests}
-use Rattle.cdi_model.specs.declared.outcome.Val.{Val}
-use Rattle.cdi_model.specs.declared.outcome.Val.TheVariants.{Null}
-use Rattle.cdi_contexts.specs.Owned.{is_at, same_actor}
-use Rattle.cdi_contexts.specs.Rising.{IsOwnerOf}
-use Rattle.cdi_contexts.specs.Standing.{finish}
-use Rattle.cdi_contexts.proofs.Rising.{IsRising-more}
-use Rattle.cdi_contexts.specs.declared.instance.Actor.{Actor}
-use Rattle.cdi_contexts.specs.declared.instance.Actor.TheVariants.{Target, Interceptor}
-use Rattle.cdi_contexts.specs.declared.instance.Instance.{Instance}
-use Rattle.cdi_contexts.specs.declared.instance.InstanceId.{InstanceId}
-use Rattle.cdi_contexts.specs.declared.instance.Owner.{Owner}
-use Rattle.cdi_contexts.specs.declared.instance.Owner.TheVariants.{Request, Application, Point, Nobody}
-use Rattle.cdi_scene.specs.Scene.{bean_at}
-use Rattle.cdi_scene.specs.declared.scene.Bean.{Bean}
-use Rattle.cdi_scene.specs.declared.scene.Injection.{Injection}
-use Rattle.cdi_scene.specs.declared.scene.Scene.{Scene}
-use Rattle.cdi_legal.specs.Furnished.{IsDependent, IsMade}
-use Rattle.cdi_legal.specs.Legal.{Legal, create, inject, made_is, failure_is, is_normal, product_of}
-use Rattle.cdi_legal.specs.Moment.{Moment}
+use Rattle.cdi_legal.proofs.Common.{◌≡◌, ◌<◌, ℕ, false, None, Some, refl, Actor, InstanceId, Owner, Nobody, Scene, Legal, Moment, ◌+◌, ◌≤◌}
+use Rattle.cdi_legal.proofs.Common.{inl, inr, Bool, true, List, [], ◌∷◌, length, arith, ap, subst, sym, ◌∙◌, AllByRecursion, Target}
+use Rattle.cdi_legal.proofs.Common.{Interceptor, Instance, Request, Application, Point, is_normal, Option, Val, Null, bean_at, Bean}
+use Rattle.cdi_legal.proofs.Common.{Injection, create, ◌++◌, ◌==◌, ◌&&◌, map, slice_get, if◌then◌else◌, and_parts, is_at, same_actor}
+use Rattle.cdi_legal.proofs.Common.{IsOwnerOf, finish, ◌⊎◌, IsRising-more, made_is, nat_lt, slice_get_within, nat_tests, IsDependent}
+use Rattle.cdi_legal.specs.Furnished.{IsMade}
+use Rattle.cdi_legal.specs.Legal.{inject, failure_is, product_of}
 use Rattle.cdi_legal.specs.declared.entry.Made.TheVariants.{Instance as Obtained}
 use Rattle.cdi_legal.proofs.Growing.{legal_grows}
-use Rattle.cdi_legal.proofs.Keeping.{Terms, Test, found_by, IsFree, Rises, Older, legal_older, older}
-use Rattle.cdi_legal.proofs.Keeping.{begun}
+use Rattle.cdi_legal.proofs.Keeping.{Terms, Test, found_by, IsFree, Rises, Older, legal_older, older, begun}
 use Rattle.cdi_legal.proofs.Sharing.{same-finish}
 use Rattle.cdi_legal.proofs.Furnishing.{found-such, all-given, at}
 
@@ -155,9 +135,7 @@ refuted false h = refl
 
 not-free : (n : ℕ) (a : Actor) (p low : ℕ) (o : Owner) → n ≤ low → IsFree low o → is_at n a p o ≡ true → ⊥
 not-free n a p low (Point m b q) l free e = absurd (omega (arith, l, free, (at-same n a p m b q e).0))
-not-free n a p low Request l free e = cc
-not-free n a p low Application l free e = cc
-not-free n a p low Nobody l free e = cc
+not-free n a p low other l free e = cc
 
 -- no instance was made for this point
 abbrev pub IsOpen : ℕ → Actor → ℕ → List Instance → Type 0

@@ -1,37 +1,17 @@
 -- Along a legal tree each instance stays that was live before: what is destroyed was made within.
-use Rattle.std.proofs.Common.{◌≡◌, ℕ, ◌+◌, ◌<◌, ◌≤◌, Bool, true, false, not, ◌==◌, List, [], ◌∷◌, ◌++◌, map}
-use Rattle.std.proofs.Common.{slice_get}
-use Rattle.std.proofs.Common.{zero, suc, Option, Some, None, refl, arith, ap, subst, sym, ◌∙◌, if◌then◌else◌}
-use Rattle.std.specs.List.{find, AllByRecursion}
-use Rattle.cdi_model.specs.declared.decl.Scope.{Scope}
+use Rattle.cdi_legal.proofs.Common.{◌≡◌, ◌<◌, ℕ, false, None, Some, refl, Outcome, Act, Load, Store, Call, Fire, Proceed, Return, Fail}
+use Rattle.cdi_legal.proofs.Common.{Actor, InstanceId, Owner, Nobody, Scene, Touches, Ends, End, Answer, Legal, Node, Uses, Use, Runs}
+use Rattle.cdi_legal.proofs.Common.{Command, Moment, put, ask_more, Entry, suc, ◌+◌, ◌≤◌, Bool, true, List, [], ◌∷◌, arith, ap, subst, sym}
+use Rattle.cdi_legal.proofs.Common.{◌∙◌, AllByRecursion, Scope, context_of, Standing, Target, Interceptor, Instance, Request, Application}
+use Rattle.cdi_legal.proofs.Common.{Point, applied, effect, step, Effect, Option, Val, Null, Held, for_param, IsRising, create, ◌++◌, not}
+use Rattle.cdi_legal.proofs.Common.{◌==◌, map, slice_get, zero, if◌then◌else◌, IsOwnerOf, without, keep, finish, last_of, IsRising-without}
+use Rattle.cdi_legal.proofs.Common.{IsRising-finished, IsRising-stored, IsStill, numbered, IsRising-more, made_is, held_is, find}
 use Rattle.cdi_model.specs.declared.decl.Scope.TheVariants as scopes
-use Rattle.cdi_model.specs.declared.outcome.Outcome.{Outcome}
-use Rattle.cdi_model.specs.declared.outcome.Val.{Val}
-use Rattle.cdi_model.specs.declared.outcome.Val.TheVariants.{Null}
-use Rattle.cdi_bodies.specs.declared.act.Act.{Act}
-use Rattle.cdi_bodies.specs.declared.act.Act.TheVariants.{Load, Store, Call, Fire, Proceed, Return, Fail}
-use Rattle.cdi_contexts.specs.Owned.{context_of}
-use Rattle.cdi_contexts.specs.Rising.{IsRising, IsOwnerOf}
-use Rattle.cdi_contexts.specs.Standing.{Standing, numbered, without, keep, finish, last_of}
-use Rattle.cdi_contexts.specs.declared.instance.Actor.{Actor}
-use Rattle.cdi_contexts.specs.declared.instance.Actor.TheVariants.{Target, Interceptor}
-use Rattle.cdi_contexts.specs.declared.instance.Instance.{Instance}
-use Rattle.cdi_contexts.specs.declared.instance.InstanceId.{InstanceId}
-use Rattle.cdi_contexts.specs.declared.instance.Owner.{Owner}
-use Rattle.cdi_contexts.specs.declared.instance.Owner.TheVariants.{Request, Application, Point, Nobody}
 use Rattle.cdi_contexts.proofs.Last.{young_if}
-use Rattle.cdi_contexts.proofs.Rising.{IsRising-without, IsRising-finished, IsRising-stored, IsRising-more}
-use Rattle.cdi_scene.specs.declared.scene.Scene.{Scene}
-use Rattle.cdi_legal.specs.Acts.{Touches}
-use Rattle.cdi_legal.specs.Ends.{Ends, End, Held}
 use Rattle.cdi_legal.specs.Ends as ends
-use Rattle.cdi_legal.specs.Keeps.{IsStill, Keeps}
+use Rattle.cdi_legal.specs.Keeps.{Keeps}
 use Rattle.cdi_legal.specs.Legal as nodes
-use Rattle.cdi_legal.specs.Legal.{Legal, Node, Answer, for_param, create, made_is, held_is}
-use Rattle.cdi_legal.specs.LegalRun.{Uses, Use, Runs, Command}
 use Rattle.cdi_legal.specs.Moment as effects
-use Rattle.cdi_legal.specs.Moment.{applied, ask_more, effect, put, step, Effect, Moment}
-use Rattle.cdi_legal.specs.declared.entry.Entry.{Entry}
 use Rattle.cdi_legal.specs.declared.entry.Entry.TheVariants as entries
 use Rattle.cdi_legal.specs.declared.entry.Made.TheVariants.{Instance as Obtained}
 use Rattle.cdi_legal.proofs.Growing.{legal_grows}
@@ -144,9 +124,7 @@ still-finish f n product live i e = still-map f (finish n product) live i (stead
 -- the owner is no instance up to this one
 abbrev pub IsFree : ℕ → Owner → Type 0
 IsFree g (Point n actor point) = g < n
-IsFree g Request = Unit {0}
-IsFree g Application = Unit {0}
-IsFree g Nobody = Unit {0}
+IsFree g other = Unit {0}
 
 -- What is asked of each live instance, by its id, its owner and whether it is ready, beside a number of an instance: it
 -- holds of each younger one as it begins, and still once that is ready.
@@ -205,8 +183,7 @@ abbrev SparesAfter : ℕ → Effect → Type 0
 SparesAfter g (effects.begins id owner) = ⊥
 SparesAfter g (effects.readies number product) = g < number
 SparesAfter g (effects.ends number) = g < number
-SparesAfter g (effects.stores number actor value) = Unit {0}
-SparesAfter g effects.none = Unit {0}
+SparesAfter g other = Unit {0}
 
 abbrev Spares : ℕ → Entry → Type 0
 Spares g e = SparesAfter g (effect e)
@@ -316,11 +293,7 @@ touch : (g : Terms) (n : ℕ) (actor : Actor) (x : Act) (m : Moment) (o : Outcom
     → Touches n actor x m o m' → Stretch g m m'
 touch g n actor Load m o m' h = entry g _ m m' h.1 tt
 touch g n actor (Store v) m o m' h = entry g _ m m' h.1 tt
-touch g n actor (Call site arg) m o m' h = absurd h
-touch g n actor (Fire site arg) m o m' h = absurd h
-touch g n actor (Proceed arg) m o m' h = absurd h
-touch g n actor (Return v) m o m' h = absurd h
-touch g n actor (Fail f) m o m' h = absurd h
+touch g n actor other m o m' h = absurd h
 
 -- ---- what was made for parameters
 
@@ -370,10 +343,7 @@ Floor g (ends.destroy i) = g < i.number
 Floor g (ends.dependents n) = g ≤ n
 Floor g (ends.held h k) = AllAbove g h
 Floor g (ends.context scope) = ⊥
-Floor g (ends.callback i) = Unit {0}
-Floor g (ends.invoke_back i arg k o) = Unit {0}
-Floor g (ends.frame_back seat arg k o) = Unit {0}
-Floor g (ends.asks_back seat k j p o) = Unit {0}
+Floor g other = Unit {0}
 
 young : (g n : ℕ) (d : InstanceId) (s : Standing) → last_of s.live n ≡ Some d → Rises s → g ≤ n → g < d.number
 young g n d s e r l = omega (arith, (young_if s.given n s.live (Some d) r (sym e)).0, l)
@@ -457,21 +427,12 @@ begun i o m m' e h = omega (arith, e, ap (λ (x : Moment). x.standing.given) h)
 
 -- what is asked where the node creates instances: their owners are older, and instances that begin may belong to them
 abbrev pub Owns : Terms → Node → Moment → Type 0
-Owns t (nodes.obtain b) m = Unit {0}
 Owns t (create b o) m = IsOwnerOf (m.standing.given + 1) o × Admits t o
 Owns t (nodes.setup i) m = (i.number ≤ m.standing.given) × AdmitsPoints t i.number
 Owns t (nodes.inject i ps p) m = (i.number ≤ m.standing.given) × AdmitsPoints t i.number
 Owns t (nodes.supply product ps p h) m = WasGiven product m.standing.given × AdmitsFor t product
 Owns t (nodes.produce i product host) m = (i.number ≤ m.standing.given) × AdmitsPoints t i.number
-Owns t (nodes.invoke i place h arg l) m = Unit {0}
-Owns t (nodes.frame seat h arg l) m = Unit {0}
-Owns t (nodes.asks seat h l j c) m = Unit {0}
-Owns t (nodes.does seat h l x) m = Unit {0}
-Owns t (nodes.call seat h c arg) m = Unit {0}
-Owns t (nodes.reach seat h c) m = Unit {0}
-Owns t (nodes.fire os p arg) m = Unit {0}
-Owns t (nodes.notify o arg) m = Unit {0}
-Owns t (nodes.attend i p observer arg) m = Unit {0}
+Owns t other m = Unit {0}
 
 pub legal_older : (g : Terms) {s : Scene} {k : ℕ} {x : Node} {answer : Answer} {m m' : Moment} → Legal s k x m answer m'
     → Owns g x m → Stretch g m m'

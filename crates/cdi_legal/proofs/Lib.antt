@@ -1,3 +1,4 @@
+mod Common
 pub mod Course
 pub mod Along
 pub mod Following

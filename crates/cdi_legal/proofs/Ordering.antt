@@ -1,35 +1,17 @@
 -- The limits of what is open, and that each entry is in its place.
-use Rattle.std.proofs.Common.{◌≡◌, ℕ, ◌+◌, ◌<◌, ◌≤◌, Bool, true, false, IsSome, Option, List, [], ◌∷◌, ◌++◌, Some, drop, refl, sym, ap}
-use Rattle.std.proofs.Common.{subst, ◌∙◌, arith}
-use Rattle.std.specs.List.{AllByRecursion}
-use Rattle.cdi_model.specs.declared.outcome.Outcome.{Outcome}
-use Rattle.cdi_model.specs.declared.outcome.Val.{Val}
-use Rattle.cdi_bodies.specs.declared.act.Act.{Act}
-use Rattle.cdi_bodies.specs.declared.act.Act.TheVariants.{Call, Fail, Fire, Load, Proceed, Return, Store}
-use Rattle.cdi_contexts.specs.declared.instance.InstanceId.{InstanceId}
-use Rattle.cdi_contexts.specs.declared.instance.Owner.{Owner}
-use Rattle.cdi_contexts.specs.declared.instance.Owner.TheVariants.{Nobody}
-use Rattle.cdi_contexts.specs.Standing.{Standing}
-use Rattle.cdi_scene.specs.Scene.{bean_at}
-use Rattle.cdi_scene.specs.declared.place.Seat.{Seat}
-use Rattle.cdi_scene.specs.declared.scene.Bean.{Bean}
-use Rattle.cdi_scene.specs.declared.scene.Scene.{Scene}
-use Rattle.cdi_legal.specs.Acts.{Permits, Touches}
-use Rattle.cdi_legal.specs.Ends.{End, Ends}
-use Rattle.cdi_legal.specs.Laws.{CommandsAreOrdered, IsOrdered}
-use Rattle.cdi_legal.specs.Legal.{Answer, Legal, Node}
-use Rattle.cdi_legal.specs.LegalRun.{Command, Runs, Use, Uses}
-use Rattle.cdi_legal.specs.Moment.{Moment, ask_more, beginning, put}
-use Rattle.cdi_legal.specs.Opened.{acting, closes, creation, destruction, frame, is_ending, opened, opened_after, outside, proceeding}
-use Rattle.cdi_legal.specs.Opened.{turn, turned}
-use Rattle.cdi_legal.specs.Opened.{IsInLimits, IsWithin, Opening, Turn}
-use Rattle.cdi_legal.specs.Placed.{Creates, IsCalledAt, IsInPlace, MayAct, RunsAt}
-use Rattle.cdi_legal.specs.Throughout.{AtEachEntry, AtEachPoint}
-use Rattle.cdi_legal.specs.declared.entry.Entry.{Entry}
-use Rattle.cdi_legal.specs.declared.entry.Entry.TheVariants.{Create, Destroy, Enter, Gone, Got, Leave, Proceeded, Skip}
+use Rattle.cdi_legal.proofs.Common.{◌≡◌, ◌<◌, ℕ, false, Some, refl, Outcome, Act, Load, Store, Call, Fire, Proceed, Return, Fail}
+use Rattle.cdi_legal.proofs.Common.{InstanceId, Owner, Nobody, Seat, Scene, Touches, Ends, End, Answer, Legal, Node, Uses, Use, Runs}
+use Rattle.cdi_legal.proofs.Common.{Command, Moment, put, ask_more, Entry, Create, ◌+◌, ◌≤◌, Bool, true, List, [], ◌∷◌, arith, ap, subst}
+use Rattle.cdi_legal.proofs.Common.{sym, ◌∙◌, AllByRecursion, Standing, beginning, Option, Val, bean_at, Bean, Permits, creation, frame}
+use Rattle.cdi_legal.proofs.Common.{opened, Opening, IsCalledAt, Destroy, Enter, Gone, Got, Leave, Proceeded, Skip, ◌++◌, IsOrdered, MayAct}
+use Rattle.cdi_legal.proofs.Common.{IsSome, AtEachEntry, AtEachPoint}
+use Rattle.std.proofs.Common.{drop}
+use Rattle.cdi_legal.specs.Laws.{CommandsAreOrdered}
+use Rattle.cdi_legal.specs.Opened.{acting, closes, destruction, is_ending, opened_after, outside, proceeding, turn, turned, IsInLimits}
+use Rattle.cdi_legal.specs.Opened.{IsWithin, Turn}
+use Rattle.cdi_legal.specs.Placed.{Creates, IsInPlace, RunsAt}
 use Rattle.cdi_legal.proofs.Course.{ends_course, legal_course, outside-nobody, own_begins, Claims, Closes, Given, GivenEnd, Ground}
-use Rattle.cdi_legal.proofs.Course.{IsCourse, IsEnding, Leads, LeadsEnd, MayBegin, Relations}
-use Rattle.cdi_legal.proofs.Course.{Writes}
+use Rattle.cdi_legal.proofs.Course.{IsCourse, IsEnding, Leads, LeadsEnd, MayBegin, Relations, Writes}
 use Rattle.cdi_legal.proofs.Course as course
 use Rattle.cdi_legal.proofs.Points.{entry_more, point_more}
 
@@ -210,10 +192,7 @@ module _ (s : Scene) where
     place = λ xs may. (seat, record { instance = number; actor = refl }, may);
   }
   touched seat (Call site arg) n r m m' number h = absurd h
-  touched seat (Fire site arg) n r m m' number h = absurd h
-  touched seat (Proceed arg) n r m m' number h = absurd h
-  touched seat (Return v) n r m m' number h = absurd h
-  touched seat (Fail f) n r m m' number h = absurd h
+  touched seat other n r m m' number h = absurd h
 
   -- what is open after an act
   counted : (xs : List Opening) (t : Turn) (seat : Seat) (within : Bool) (j p : ℕ) (older : List Opening) → t ≡ acting
@@ -345,15 +324,13 @@ module _ (s : Scene) where
     now : turned (frame seat false j p ∷ older) (turn e) ≡ frame seat false (j + 1) proceedings ∷ older
 
   written : (seat : Seat) (x : Act) (e : Entry) → Writes seat x e → (j p : ℕ) (older : List Opening) → Written e seat j p older
-  written seat x e (course.call site arg) j p older = record { proceedings = p + 0; now = refl }
-  written seat x e (course.fire site arg) j p older = record { proceedings = p + 0; now = refl }
   written seat x e (course.proceed arg) j p older = record { proceedings = p + 1; now = refl }
+  written seat x e other j p older = record { proceedings = p + 0; now = refl }
 
   written-place : (seat : Seat) (x : Act) (e : Entry) (xs : List Opening) → Writes seat x e → MayAct s (IsCalledAt s) seat x xs
       → IsInPlace s (IsCalledAt s) xs e
-  written-place seat x e xs (course.call site arg) may = may
-  written-place seat x e xs (course.fire site arg) may = may
   written-place seat x e xs (course.proceed arg) may = (seat, may)
+  written-place seat x e xs other may = may
 
   acts : (k : ℕ) (seat : Seat) (x : Act) (e : Entry) (o : Outcome) (m m₁ m₂ m' : Moment) → Permits s seat x → Writes seat x e
       → m₁ ≡ put e m → over s (course.outside k) m₁ m₂ → m' ≡ put (Got o) m₂ → (order s).act k seat x m m'
@@ -430,9 +407,8 @@ on-end : {s : Scene} {m m' : Moment} → AllGood s m → over s course.ending m 
 on-end {s} {m} {m'} good p = let next = p good.0 (limits (room_of m good.1)) in (next.good, next.same ∙ good.1)
 
 uses_good : {s : Scene} {i : InstanceId} {u : Use} {m : Moment} {o : Outcome} {m' : Moment} → Uses s i u m o m' → AllGood s m → AllGood s m'
-uses_good (Uses.looked _ m _) good = good
 uses_good (Uses.called _ _ _ _ _ _ _ p) good = on good (legal_ordered p tt)
-uses_good (Uses.called_product _ _ _ m _ _) good = good
+uses_good other good = good
 
 runs_good : {s : Scene} {c : Command} {m : Moment} {o : Outcome} {m' : Moment} → Runs s c m o m' → AllGood s m → AllGood s m'
 runs_good (Runs.refused_shared _ _ _ _ _ _ _ _ p) good = on good (legal_ordered p tt)

@@ -1,7 +1,5 @@
 -- What holds at each point of a trace, where one more entry comes.
-use Rattle.std.proofs.Common.{◌≡◌, List, [], ◌∷◌, ◌++◌, refl, subst}
-use Rattle.cdi_legal.specs.Throughout.{AtEachEntry, AtEachPoint}
-use Rattle.cdi_legal.specs.declared.entry.Entry.{Entry}
+use Rattle.cdi_legal.proofs.Common.{◌≡◌, refl, Entry, List, [], ◌∷◌, subst, ◌++◌, AtEachEntry, AtEachPoint}
 
 head_of : (x y : Entry) (xs ys : List Entry) → x ∷ xs ≡ y ∷ ys → x ≡ y
 head_of x y xs ys h = cc

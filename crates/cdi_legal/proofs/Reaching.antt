@@ -1,17 +1,13 @@
 -- What a call site names is there: whoever runs has the dependent object that it leads to.
-use Rattle.std.proofs.Common.{◌≡◌, ℕ, true, List, Some, None, option_map, sym, ap, subst, ◌∙◌}
-use Rattle.cdi_contexts.specs.Standing.{made_for}
-use Rattle.cdi_contexts.specs.declared.instance.Instance.{Instance}
+use Rattle.cdi_legal.proofs.Common.{◌≡◌, ℕ, None, Some, Seat, Scene, Legal, Moment, true, List, ap, subst, sym, ◌∙◌, Instance, Held}
+use Rattle.cdi_legal.proofs.Common.{IsFurnished, made_for, HasDependents, made_is, IsDependent}
+use Rattle.std.proofs.Common.{option_map}
 use Rattle.cdi_scene.specs.Sound.{IsNamed}
-use Rattle.cdi_scene.specs.declared.place.Seat.{Seat}
 use Rattle.cdi_scene.specs.declared.scene.CallSite.{CallSite}
-use Rattle.cdi_scene.specs.declared.scene.Scene.{Scene}
 use Rattle.cdi_scene.specs.declared.scene.Via.{Via}
 use Rattle.cdi_scene.specs.declared.scene.Via.TheVariants.{Own, Param}
-use Rattle.cdi_legal.specs.Ends.{Held}
-use Rattle.cdi_legal.specs.Furnished.{IsDependent, IsFurnished, IsServed, HasDependents}
-use Rattle.cdi_legal.specs.Legal.{Legal, at, dependent_of, made_is, number_of, reach}
-use Rattle.cdi_legal.specs.Moment.{Moment}
+use Rattle.cdi_legal.specs.Furnished.{IsServed}
+use Rattle.cdi_legal.specs.Legal.{at, dependent_of, number_of, reach}
 use Rattle.cdi_legal.specs.declared.entry.Made.TheVariants.{Instance as Obtained}
 use Rattle.cdi_legal.proofs.Furnishing.{at as at_point, found-such}
 use Rattle.cdi_legal.proofs.Settling.{IsApart, Settled, obtained_has}

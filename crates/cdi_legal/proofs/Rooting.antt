@@ -1,32 +1,16 @@
 -- Along what ends, each live instance keeps its home: its context, or the instance that it was made for.
-use Rattle.std.proofs.Common.{◌≡◌, ℕ, ◌<◌, ◌⊎◌, inl, inr, Bool, true, false, ◌==◌, cond, List, [], ◌∷◌}
-use Rattle.std.proofs.Common.{map, reverse, length, slice_get}
-use Rattle.std.proofs.Common.{Option, Some, None, IsSome, refl, arith, ap, subst, sym, ◌∙◌}
-use Rattle.std.specs.List.{find, AllByRecursion}
+use Rattle.cdi_legal.proofs.Common.{◌≡◌, ◌<◌, ℕ, false, None, Some, refl, Outcome, Act, Load, Store, Call, Fire, Proceed, Return, Fail}
+use Rattle.cdi_legal.proofs.Common.{Actor, InstanceId, Owner, Nobody, Scene, Touches, Ends, End, Moment, put, is_create, Entry, inl, inr}
+use Rattle.cdi_legal.proofs.Common.{Bool, true, List, [], ◌∷◌, length, arith, ap, subst, sym, ◌∙◌, AllByRecursion, Scope, is_of, Standing}
+use Rattle.cdi_legal.proofs.Common.{Target, Interceptor, Instance, Request, Application, Point, applied, effect, step, Effect, Option, Held}
+use Rattle.cdi_legal.proofs.Common.{context, ◌==◌, map, slice_get, is_part_of, without, keep, finish, IsStill, is_beginning, ◌⊎◌, IsSome}
+use Rattle.cdi_legal.proofs.Common.{numbered, destroy, dependents, held, IsHome, slice_get_within, find}
+use Rattle.std.proofs.Common.{cond, reverse}
 use Rattle.std.specs.Option.{option_map, option_or}
 use Rattle.std.proofs.lemmas.List.{reverse-append}
 use Rattle.std.proofs.lemmas.List.Folds.{find-append}
-use Rattle.std.proofs.lemmas.Option.{slice_get_within}
-use Rattle.cdi_model.specs.declared.decl.Scope.{Scope}
-use Rattle.cdi_model.specs.declared.outcome.Outcome.{Outcome}
-use Rattle.cdi_bodies.specs.declared.act.Act.{Act}
-use Rattle.cdi_bodies.specs.declared.act.Act.TheVariants.{Load, Store, Call, Fire, Proceed, Return, Fail}
-use Rattle.cdi_contexts.specs.Owned.{is_of, is_part_of}
-use Rattle.cdi_contexts.specs.Standing.{Standing, numbered, without, keep, finish, last_where}
-use Rattle.cdi_contexts.specs.declared.instance.Actor.{Actor}
-use Rattle.cdi_contexts.specs.declared.instance.Actor.TheVariants.{Target, Interceptor}
-use Rattle.cdi_contexts.specs.declared.instance.Instance.{Instance}
-use Rattle.cdi_contexts.specs.declared.instance.InstanceId.{InstanceId}
-use Rattle.cdi_contexts.specs.declared.instance.Owner.{Owner}
-use Rattle.cdi_contexts.specs.declared.instance.Owner.TheVariants.{Request, Application, Point, Nobody}
-use Rattle.cdi_scene.specs.declared.scene.Scene.{Scene}
-use Rattle.cdi_legal.specs.Acts.{Touches}
-use Rattle.cdi_legal.specs.Ends.{Ends, End, Held, destroy, dependents, held, context}
-use Rattle.cdi_legal.specs.Keeps.{IsStill}
+use Rattle.cdi_contexts.specs.Standing.{last_where}
 use Rattle.cdi_legal.specs.Moment as effects
-use Rattle.cdi_legal.specs.Moment.{applied, effect, is_beginning, is_create, put, step, Effect, Moment}
-use Rattle.cdi_legal.specs.Rooted.{IsHome}
-use Rattle.cdi_legal.specs.declared.entry.Entry.{Entry}
 use Rattle.cdi_legal.proofs.Keeping.{Test, all-without, still-finish, still-keep, still-without}
 use Rattle.cdi_legal.proofs.Furnishing.{all-both, all-imply, all-step, ends-all, found-such, none-left}
 use Rattle.cdi_legal.proofs.Injecting.{nat_cases}
@@ -66,9 +50,8 @@ stay-still live after still n h =
 
 pub home-stay : (live after : List Instance) (o : Owner) → Stay live after → IsHome live o → IsHome after o
 home-stay live after (Point n actor p) stay h = stay n h
-home-stay live after Request stay h = tt
-home-stay live after Application stay h = tt
 home-stay live after Nobody stay h = absurd h
+home-stay live after other stay h = tt
 
 -- ---- which need none
 
@@ -106,20 +89,16 @@ narrower L M live none a =
 -- the effect begins no instance and takes none away
 abbrev IsCalmEffect : Effect → Type 0
 IsCalmEffect (effects.begins id owner) = ⊥
-IsCalmEffect (effects.readies number product) = Unit {0}
 IsCalmEffect (effects.ends number) = ⊥
-IsCalmEffect (effects.stores number actor value) = Unit {0}
-IsCalmEffect effects.none = Unit {0}
+IsCalmEffect other = Unit {0}
 
 abbrev pub IsCalm : Entry → Type 0
 IsCalm e = IsCalmEffect (effect e)
 
 calm-after : (x : Effect) → IsCalmEffect x → is_beginning x ≡ false
 calm-after (effects.begins id owner) p = absurd p
-calm-after (effects.readies number product) p = refl
 calm-after (effects.ends number) p = absurd p
-calm-after (effects.stores number actor value) p = refl
-calm-after effects.none p = refl
+calm-after other p = refl
 
 pub calm-begins : (e : Entry) → IsCalm e → is_create e ≡ false
 calm-begins e p = calm-after (effect e) p
@@ -152,11 +131,7 @@ pub home-touch : (L : Free) (n : ℕ) (actor : Actor) (x : Act) (m : Moment) (o 
     → Touches n actor x m o m' → AreHome L m.standing.live → AreHome L m'.standing.live
 home-touch L n actor Load m o m' h a = home-entry L _ m m' h.1 tt a
 home-touch L n actor (Store v) m o m' h a = home-entry L _ m m' h.1 tt a
-home-touch L n actor (Call site arg) m o m' h a = absurd h
-home-touch L n actor (Fire site arg) m o m' h a = absurd h
-home-touch L n actor (Proceed arg) m o m' h a = absurd h
-home-touch L n actor (Return v) m o m' h a = absurd h
-home-touch L n actor (Fail f) m o m' h a = absurd h
+home-touch L n actor other m o m' h a = absurd h
 
 -- ---- an instance goes
 
@@ -183,9 +158,8 @@ stay-without k n live other h =
 home-without : (k : ℕ) (live : List Instance) (o : Owner) → is_part_of k o ≡ false → IsHome live o → IsHome (without k live) o
 home-without k live (Point n actor p) e h =
     stay-without k n live (λ same. let clash : (n == k) ≡ true = grind arith in let no : true ≡ false = sym clash ∙ e in cc) h
-home-without k live Request e h = tt
-home-without k live Application e h = tt
 home-without k live Nobody e h = absurd h
+home-without k live other e h = tt
 
 -- what was made for it needs no home any more
 pub home-lost : (L : Free) (k : ℕ) (live : List Instance) → AreHome L live → AreHome (AlsoParts L k) (without k live)

@@ -1,56 +1,23 @@
 -- Along a legal tree each ready instance has its dependent objects.
-use Rattle.std.proofs.Common.{◌≡◌, ℕ, ◌+◌, ◌<◌, ◌≤◌, ◌⊎◌, inl, inr, Bool, true, false, ◌==◌, ◌&&◌, List, [], ◌∷◌}
-use Rattle.std.proofs.Common.{◌++◌, length, map, slice_get}
-use Rattle.std.proofs.Common.{nat_lt, Option, Some, None, refl, arith, ap, subst, sym, ◌∙◌}
-use Rattle.std.specs.List.{AllByRecursion}
-use Rattle.std.proofs.lemmas.Bool.{and_parts}
-use Rattle.std.proofs.lemmas.Bool.Decides.{nat_tests}
-use Rattle.std.proofs.lemmas.Option.{slice_get_within}
-use Rattle.cdi_model.specs.declared.decl.Scope.{Scope}
-use Rattle.cdi_model.specs.declared.outcome.Failure.{Failure}
-use Rattle.cdi_model.specs.declared.outcome.Outcome.{Outcome}
-use Rattle.cdi_model.specs.declared.outcome.Outcome.TheVariants.{Value}
-use Rattle.cdi_model.specs.declared.outcome.Val.{Val}
-use Rattle.cdi_model.specs.declared.outcome.Val.TheVariants.{Null}
-use Rattle.cdi_bodies.specs.declared.act.Act.{Act}
-use Rattle.cdi_contexts.specs.Owned.{is_at, is_of}
-use Rattle.cdi_contexts.specs.Rising.{IsOwnerOf}
-use Rattle.cdi_contexts.specs.Standing.{finish}
-use Rattle.cdi_contexts.proofs.Rising.{IsRising-more, IsRising-finished}
-use Rattle.cdi_contexts.specs.declared.instance.Actor.{Actor}
-use Rattle.cdi_contexts.specs.declared.instance.Instance.{Instance}
-use Rattle.cdi_contexts.specs.declared.instance.InstanceId.{InstanceId}
-use Rattle.cdi_contexts.specs.declared.instance.Owner.{Owner}
-use Rattle.cdi_contexts.specs.declared.instance.Owner.TheVariants.{Request, Application, Point, Nobody}
-use Rattle.cdi_scene.specs.Scene.{bean_at, managed_at, as_managed, as_product}
-use Rattle.cdi_scene.specs.Sound.{Bodies, IsSound, IsSoundForm}
-use Rattle.cdi_scene.specs.declared.scene.Bean.{Bean}
-use Rattle.cdi_scene.specs.declared.scene.Form.{Form}
+use Rattle.cdi_legal.proofs.Common.{◌≡◌, ◌<◌, ℕ, false, None, Some, refl, Outcome, Act, Actor, InstanceId, Owner, Nobody, Scene, Touches}
+use Rattle.cdi_legal.proofs.Common.{Ends, Answer, Legal, Node, Uses, Use, Runs, Command, Moment, put, ask_more, Entry, ◌+◌, ◌≤◌, inl, inr}
+use Rattle.cdi_legal.proofs.Common.{Bool, true, List, [], ◌∷◌, length, arith, ap, subst, sym, ◌∙◌, AllByRecursion, Scope, is_of, Instance}
+use Rattle.cdi_legal.proofs.Common.{Request, Application, Point, Option, Failure, Value, Val, Null, as_product, bean_at, Bean, Product}
+use Rattle.cdi_legal.proofs.Common.{Held, outcome_is, context, IsFurnished, managed_at, Managed, create, ◌++◌, Bodies, IsSound, IsSoundForm}
+use Rattle.cdi_legal.proofs.Common.{Form, ◌==◌, ◌&&◌, map, slice_get, and_parts, is_at, IsOwnerOf, finish, IsRising-finished, HasDependents}
+use Rattle.cdi_legal.proofs.Common.{◌⊎◌, IsRising-more, destroy, dependents, held, made_is, held_is, nat_lt, slice_get_within, nat_tests}
+use Rattle.cdi_scene.specs.Scene.{as_managed}
 use Rattle.cdi_scene.specs.declared.scene.Form.TheVariants as forms
-use Rattle.cdi_scene.specs.declared.scene.Managed.{Managed}
-use Rattle.cdi_scene.specs.declared.scene.Product.{Product}
-use Rattle.cdi_scene.specs.declared.scene.Scene.{Scene}
-use Rattle.cdi_legal.specs.Acts.{Touches}
-use Rattle.cdi_legal.specs.Ends.{Ends, Held, destroy, dependents, held, context}
-use Rattle.cdi_legal.specs.Furnished.{HasDependents, IsFurnished}
 use Rattle.cdi_legal.specs.Legal as nodes
-use Rattle.cdi_legal.specs.Legal.{Legal, Node, Answer, create, outcome_is, made_is, held_is}
-use Rattle.cdi_legal.specs.LegalRun.{Uses, Use, Runs, Command}
-use Rattle.cdi_legal.specs.Moment.{Moment, put, ask_more}
-use Rattle.cdi_legal.specs.declared.entry.Entry.{Entry}
 use Rattle.cdi_legal.specs.declared.entry.Entry.TheVariants as entries
 use Rattle.cdi_legal.specs.declared.entry.Made.TheVariants.{Instance as Obtained}
 use Rattle.cdi_legal.proofs.Along.{touch_along}
 use Rattle.cdi_legal.proofs.Growing.{legal_grows}
-use Rattle.cdi_legal.proofs.Keeping.{Admits, AdmitsFor, IsFree, Older, Owns, Rises, Terms, WasGiven}
-use Rattle.cdi_legal.proofs.Keeping.{all-more, all-map, begun, created, given-more}
-use Rattle.cdi_legal.proofs.Keeping.{legal_older, older, owned-context, owned-param, still-finish, still-more}
-use Rattle.cdi_legal.proofs.Keeping.{Test, uses_older}
+use Rattle.cdi_legal.proofs.Keeping.{Admits, AdmitsFor, IsFree, Older, Owns, Rises, Terms, WasGiven, all-more, all-map, begun, created}
+use Rattle.cdi_legal.proofs.Keeping.{given-more, legal_older, older, owned-context, owned-param, still-finish, still-more, Test, uses_older}
 use Rattle.cdi_legal.proofs.Sharing.{same-finish}
-use Rattle.cdi_legal.proofs.Furnishing.{AllSpare, AreFurnished, IsPlain, IsSpare, Others, Outside, all-both}
-use Rattle.cdi_legal.proofs.Furnishing.{all-given, all-imply, all-owned}
-use Rattle.cdi_legal.proofs.Furnishing.{at, ends-all, ends-rise, ends_furnished, fewer, found-such, furnished-without}
-use Rattle.cdi_legal.proofs.Furnishing.{has-still}
+use Rattle.cdi_legal.proofs.Furnishing.{AllSpare, AreFurnished, IsPlain, IsSpare, Others, Outside, all-both, all-given, all-imply}
+use Rattle.cdi_legal.proofs.Furnishing.{all-owned, at, ends-all, ends-rise, ends_furnished, fewer, found-such, furnished-without, has-still}
 use Rattle.cdi_legal.proofs.Furnishing.{none-left, plain, rises-kept, touch-furnished, is_plain_kept}
 use Rattle.cdi_legal.proofs.Injecting.{AreApart, at-same, injected, refuted}
 
@@ -60,42 +27,24 @@ IsApart s = (b : ℕ) (managed : Managed) → managed_at s b ≡ Some managed �
 
 -- what is asked where the node creates instances: their owners are older
 abbrev pub Begins : Node → Moment → Type 0
-Begins (nodes.obtain b) m = Unit {0}
 Begins (create b o) m = IsOwnerOf (m.standing.given + 1) o
 Begins (nodes.setup i) m = i.number ≤ m.standing.given
 Begins (nodes.inject i ps p) m = i.number ≤ m.standing.given
 Begins (nodes.supply product ps p h) m = WasGiven product m.standing.given
 Begins (nodes.produce i product host) m = i.number ≤ m.standing.given
-Begins (nodes.invoke i place h arg l) m = Unit {0}
-Begins (nodes.frame seat h arg l) m = Unit {0}
-Begins (nodes.asks seat h l j c) m = Unit {0}
-Begins (nodes.does seat h l x) m = Unit {0}
-Begins (nodes.call seat h c arg) m = Unit {0}
-Begins (nodes.reach seat h c) m = Unit {0}
-Begins (nodes.fire os p arg) m = Unit {0}
-Begins (nodes.notify o arg) m = Unit {0}
-Begins (nodes.attend i p observer arg) m = Unit {0}
+Begins other m = Unit {0}
 
 for-product : (t : Terms) (product : Option InstanceId) → ((o : Owner) → Admits t o) → AdmitsFor t product
 for-product t None admits = tt
 for-product t (Some i) admits = λ actor p. admits (Point i.number actor p)
 
 pub owns : (t : Terms) (x : Node) (m : Moment) → ((o : Owner) → Admits t o) → Begins x m → Owns t x m
-owns t (nodes.obtain b) m admits a = tt
 owns t (create b o) m admits a = (a, admits o)
 owns t (nodes.setup i) m admits a = (a, λ actor p. admits (Point i.number actor p))
 owns t (nodes.inject i ps p) m admits a = (a, λ actor p. admits (Point i.number actor p))
 owns t (nodes.supply product ps p h) m admits a = (a, for-product t product admits)
 owns t (nodes.produce i product host) m admits a = (a, λ actor p. admits (Point i.number actor p))
-owns t (nodes.invoke i place h arg l) m admits a = tt
-owns t (nodes.frame seat h arg l) m admits a = tt
-owns t (nodes.asks seat h l j c) m admits a = tt
-owns t (nodes.does seat h l x) m admits a = tt
-owns t (nodes.call seat h c arg) m admits a = tt
-owns t (nodes.reach seat h c) m admits a = tt
-owns t (nodes.fire os p arg) m admits a = tt
-owns t (nodes.notify o arg) m admits a = tt
-owns t (nodes.attend i p observer arg) m admits a = tt
+owns t other m admits a = tt
 
 -- numbers rise, and each ready instance has its dependent objects
 pub record Settled (s : Scene) (m : Moment) : Type 0 where
@@ -251,9 +200,7 @@ fresh m n actor p r e =
     by : (z : Instance) (o : Owner) → IsOwnerOf z.id.number o → z.id.number ≤ m.standing.given
         → is_at n actor p o ≡ true → ⊥
     by z (Point k who q) owned l is = absurd (omega (arith, owned, l, e, (at-same n actor p k who q is).0))
-    by z Request owned l is = cc
-    by z Application owned l is = cc
-    by z Nobody owned l is = cc
+    by z other owned l is = cc
 
 -- after the injection
 pub has-injected : {s : Scene} {k : ℕ} {i : InstanceId} {b : Managed} {m m' : Moment} → IsApart s
@@ -401,9 +348,7 @@ spare g n m r l =
   where
     by : (z : Instance) (o : Owner) → IsOwnerOf z.id.number o → z.id.number ≡ n → Outside (Above g) o
     by z (Point k who q) owned same = λ above. absurd (omega (arith, above, owned, same, l))
-    by z Request owned same = tt
-    by z Application owned same = tt
-    by z Nobody owned same = tt
+    by z other owned same = tt
 
 -- where one is destroyed that was made within, the younger ones keep their dependent objects
 ended : {s : Scene} {i : InstanceId} {m m' : Moment} (g : ℕ) → Ends s (destroy i) m m' → i.number ≡ g + 1 → Settled s m
@@ -472,9 +417,7 @@ spare-after {s} {k} {x} {answer} {m} {m'} g (Some i ∷ h) p b r a =
 
 new-outside : (K : ℕ → Type 0) (low n : ℕ) (o : Owner) → IsOwnerOf n o → IsFree low o → n ≡ low + 1 → Outside K o
 new-outside K low n (Point k actor p) owned free same = absurd (omega (arith, owned, free, same))
-new-outside K low n Request owned free same = tt
-new-outside K low n Application owned free same = tt
-new-outside K low n Nobody owned free same = tt
+new-outside K low n other owned free same = tt
 
 abbrev new_terms : (K : ℕ → Type 0) (low : ℕ) → Terms
 new_terms K low = record {
@@ -729,9 +672,8 @@ obtained_has apart (Legal.absent _ _ x _ m _ _ _ _ p3) h =
 uses_settled : {s : Scene} {i : InstanceId} {u : Use} {m : Moment} {o : Outcome} {m' : Moment} → IsApart s
     → Uses s i u m o m'
     → Settled s m → Settled s m'
-uses_settled apart (Uses.looked _ m _) h = h
 uses_settled apart (Uses.called _ _ _ _ _ _ _ p1) h = legal_settled apart p1 tt h
-uses_settled apart (Uses.called_product _ _ _ m _ _) h = h
+uses_settled apart other h = h
 
 pub runs_settled : {s : Scene} {c : Command} {m : Moment} {o : Outcome} {m' : Moment} → IsApart s
     → Runs s c m o m' → Settled s m

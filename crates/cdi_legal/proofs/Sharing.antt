@@ -1,29 +1,13 @@
 -- Along a legal tree at most one instance of a bean with a normal scope is live: one is created only where none is found.
-use Rattle.std.proofs.Common.{◌≡◌, ℕ, ◌+◌, ◌≤◌, Bool, true, false, not, ◌==◌, ◌&&◌, List, [], ◌∷◌, ◌++◌, length, filter, map}
-use Rattle.std.proofs.Common.{Option, Some, None, refl, arith, ap, subst, sym, ◌∙◌, if◌then◌else◌}
-use Rattle.std.proofs.lemmas.Bool.Decides.{nat_tests}
-use Rattle.std.proofs.lemmas.Option.{same_Some}
-use Rattle.cdi_model.specs.declared.decl.Scope.{Scope}
+use Rattle.cdi_legal.proofs.Common.{◌≡◌, ℕ, false, None, Some, refl, Outcome, InstanceId, Owner, Scene, Ends, End, Answer, Legal, Node}
+use Rattle.cdi_legal.proofs.Common.{Runs, Command, Moment, put, is_create, Entry, ◌+◌, ◌≤◌, Bool, true, List, [], ◌∷◌, length, arith, ap}
+use Rattle.cdi_legal.proofs.Common.{subst, sym, ◌∙◌, Scope, context_of, is_of, Standing, Target, Interceptor, Instance, is_normal, applied}
+use Rattle.cdi_legal.proofs.Common.{effect, step, Effect, Option, Val, Null, bean_at, Bean, IsSingle, found, ◌++◌, same_Some, not, ◌==◌}
+use Rattle.cdi_legal.proofs.Common.{◌&&◌, map, if◌then◌else◌, without, keep, finish, is_beginning, nat_tests}
+use Rattle.std.proofs.Common.{filter}
 use Rattle.cdi_model.specs.declared.decl.Scope.TheVariants as scopes
-use Rattle.cdi_model.specs.declared.outcome.Outcome.{Outcome}
-use Rattle.cdi_model.specs.declared.outcome.Val.{Val}
-use Rattle.cdi_model.specs.declared.outcome.Val.TheVariants.{Null}
-use Rattle.cdi_contexts.specs.Owned.{is_of, context_of}
-use Rattle.cdi_contexts.specs.Standing.{Standing, found, without, keep, finish}
-use Rattle.cdi_contexts.specs.declared.instance.Actor.TheVariants.{Target, Interceptor}
-use Rattle.cdi_contexts.specs.declared.instance.Instance.{Instance}
-use Rattle.cdi_contexts.specs.declared.instance.InstanceId.{InstanceId}
-use Rattle.cdi_contexts.specs.declared.instance.Owner.{Owner}
-use Rattle.cdi_scene.specs.Scene.{bean_at}
-use Rattle.cdi_scene.specs.declared.scene.Bean.{Bean}
-use Rattle.cdi_scene.specs.declared.scene.Scene.{Scene}
-use Rattle.cdi_legal.specs.Ends.{Ends, End}
-use Rattle.cdi_legal.specs.Legal.{Legal, Node, Answer, is_normal}
-use Rattle.cdi_legal.specs.LegalRun.{Runs, Command}
 use Rattle.cdi_legal.specs.Moment as effects
-use Rattle.cdi_legal.specs.Moment.{applied, effect, is_beginning, is_create, put, step, Effect, Moment}
-use Rattle.cdi_legal.specs.Single.{IsSingle, instances_of, strays_of}
-use Rattle.cdi_legal.specs.declared.entry.Entry.{Entry}
+use Rattle.cdi_legal.specs.Single.{instances_of, strays_of}
 use Rattle.cdi_legal.specs.declared.entry.Entry.TheVariants as entries
 use Rattle.cdi_legal.proofs.Along.{asks_for, ends_along, legal_along, runs_along, IsAlong}
 use Rattle.cdi_legal.proofs.Course.{Given, MayBegin}
@@ -176,9 +160,8 @@ none_found b scope (i ∷ is) e =
     omega (arith, rest, all, strays)
 
 in_context : (scope : Scope) → is_normal scope ≡ true → is_of scope (context_of scope) ≡ true
-in_context scopes.Request h = refl
-in_context scopes.Application h = refl
 in_context scopes.Dependent h = cc
+in_context other h = refl
 
 none_lives : (s : Scene) (b : ℕ) (o : Owner) (m : Moment) → MayBegin s b o m → IsSingle s m.standing.live → NoneLives s b o m.standing.live
 none_lives s b o m may q x there normal =

@@ -1,15 +1,9 @@
 -- What was made for parameters is there, with its dependent objects.
-use Rattle.std.proofs.Common.{◌≡◌, ℕ, ◌+◌, ◌<◌, ◌⊎◌, inl, inr, List, [], ◌∷◌, ◌++◌, length, slice_get}
-use Rattle.std.proofs.Common.{zero, suc, Option, Some, None, refl, arith, ap, subst, sym, ◌∙◌}
-use Rattle.std.proofs.lemmas.Option.{slice_get_within}
-use Rattle.cdi_contexts.specs.declared.instance.Instance.{Instance}
-use Rattle.cdi_contexts.specs.declared.instance.InstanceId.{InstanceId}
-use Rattle.cdi_scene.specs.declared.scene.Scene.{Scene}
-use Rattle.cdi_legal.specs.Ends.{Held}
-use Rattle.cdi_legal.specs.Furnished.{IsDependent, IsHeld}
+use Rattle.cdi_legal.proofs.Common.{◌≡◌, ◌<◌, ℕ, None, Some, refl, InstanceId, Scene, Answer, Legal, Node, Moment, suc, ◌+◌, inl, inr, List}
+use Rattle.cdi_legal.proofs.Common.{[], ◌∷◌, length, arith, ap, subst, sym, ◌∙◌, Instance, Option, Held, ◌++◌, slice_get, zero, ◌⊎◌}
+use Rattle.cdi_legal.proofs.Common.{held_is, slice_get_within, IsDependent}
+use Rattle.cdi_legal.specs.Furnished.{IsHeld}
 use Rattle.cdi_legal.specs.Legal as nodes
-use Rattle.cdi_legal.specs.Legal.{Legal, Answer, Node, held_is}
-use Rattle.cdi_legal.specs.Moment.{Moment}
 use Rattle.cdi_legal.proofs.Growing.{legal_grows}
 use Rattle.cdi_legal.proofs.Injecting.{nat_cases, shared-clash}
 use Rattle.cdi_legal.proofs.Keeping.{Rises, WasGiven, given-more, owned-param}

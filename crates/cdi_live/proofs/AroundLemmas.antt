@@ -1,24 +1,13 @@
 -- The interceptors around a place are among those that its chain sees.
-use Rattle.std.proofs.Common.{◌≡◌, Bool, true, false, cond, not, ◌&&◌, List, [], ◌∷◌, length, map, filter, nat_eq, is_some}
-use Rattle.std.proofs.Common.{refl, sym, ap, ◌∙◌, inl, inr}
-use Rattle.std.specs.List.{list_all, list_any}
-use Rattle.std.specs.Option.{option_eq}
-use Rattle.std.specs.Str.{bytes_eq}
-use Rattle.std.proofs.lemmas.Bool.{and_from, and_parts, false≢true, or_cases, or_left, or_right}
+use Rattle.cdi_live.proofs.Common.{◌≡◌, Bool, true, false, cond, not, ◌&&◌, List, [], ◌∷◌, length, map, filter, nat_eq, is_some, refl, sym}
+use Rattle.cdi_live.proofs.Common.{ap, ◌∙◌, inl, inr, list_all, list_any, option_eq, bytes_eq, and_from, and_parts, false≢true, or_cases}
+use Rattle.cdi_live.proofs.Common.{or_left, or_right, Decl, InterceptorDecl, BeanPlace, Qual, bytes_eq-turned, uses_one, in_text_order}
+use Rattle.cdi_live.proofs.Common.{chain_by, in_order, part_for, surrounds, is_seen, names_around, shares_type, any-in_text_order}
 use Rattle.std.proofs.lemmas.List.Elements.{filter_agree}
-use Rattle.cdi_model.specs.declared.decl.Decl.{Decl}
-use Rattle.cdi_model.specs.declared.decl.InterceptorDecl.{InterceptorDecl}
 use Rattle.cdi_model.specs.declared.decl.UseKind.TheVariants as use_kinds
-use Rattle.cdi_model.specs.declared.place.BeanPlace.{BeanPlace}
-use Rattle.cdi_model.specs.declared.quals.Qual.{Qual}
 use Rattle.cdi_match.specs.Covering.{agree, covers, covers_by, given_name}
 use Rattle.cdi_match.specs.Filling.{declared_of}
-use Rattle.cdi_match.proofs.Names.{bytes_eq-turned}
-use Rattle.cdi_effective.specs.Qualifiers.{uses_one}
-use Rattle.cdi_intercept.specs.Bindings.{in_text_order}
-use Rattle.cdi_intercept.specs.Chains.{binds, chain_by, covered_in, in_order, part_for, surrounds}
-use Rattle.cdi_intercept.specs.Sees.{is_seen, names_around, shares_type}
-use Rattle.cdi_intercept.proofs.UseLemmas.{any-in_text_order}
+use Rattle.cdi_intercept.specs.Chains.{binds, covered_in}
 
 covered-used : (ds : List Decl) (set : List Qual) (want : Qual) → covered_in ds set want ≡ true → uses_one set want.name ≡ true
 unfolding covers_by

@@ -1,30 +1,17 @@
 -- A choice, or who observes an event, is asked for after edits by a declaration that is not edited, or by one that is.
-use Rattle.std.proofs.Common.{◌≡◌, ℕ, Bool, true, false, not, ◌&&◌, ◌||◌, List, [], ◌∷◌, flat_map, Option, Some, None, refl, sym, ap, ◌∙◌}
-use Rattle.std.proofs.Common.{inl, inr}
-use Rattle.std.specs.List.{list_any}
-use Rattle.std.specs.Option.{option_map_or}
-use Rattle.std.proofs.lemmas.Bool.{and_from, and_parts, false≢true, or_cases, or_left, or_right}
-use Rattle.std.proofs.lemmas.List.Folds.{list_any-append}
-use Rattle.cdi_model.specs.declared.decl.Decl.{Decl}
-use Rattle.cdi_model.specs.declared.edit.Edit.{Edit}
-use Rattle.cdi_model.specs.declared.key.DeclKey.{DeclKey}
-use Rattle.cdi_model.specs.declared.quals.Qual.{Qual}
-use Rattle.cdi_model.specs.Decl.{key_of, kind_of, name_of_decl}
-use Rattle.cdi_model.specs.DeclKey.{same_key}
-use Rattle.cdi_model.specs.DeclList.{find_decl, AreDistinct}
-use Rattle.cdi_model.specs.Edits.{edited_all, edited_keys, is_among}
-use Rattle.cdi_model.specs.Mentions.{mentions, Mention, BodyOf, CallOf, EventOf, MethodOf, PointOf, StereotypeOf, TypeIn, UseOf}
-use Rattle.cdi_model.proofs.EditLemmas.{edits_keep_decl}
-use Rattle.cdi_model.proofs.EntryLemmas.{key_exact}
+use Rattle.cdi_live.proofs.Common.{◌≡◌, Bool, true, false, not, ◌&&◌, List, [], ◌∷◌, refl, sym, ap, ◌∙◌, inl, inr, list_any, and_from}
+use Rattle.cdi_live.proofs.Common.{and_parts, false≢true, or_cases, or_left, or_right, Decl, Qual, ℕ, ◌||◌, flat_map, Option, Some, None}
+use Rattle.cdi_live.proofs.Common.{option_map_or, list_any-append, Edit, DeclKey, key_of, kind_of, name_of_decl, same_key, find_decl}
+use Rattle.cdi_live.proofs.Common.{AreDistinct, edited_all, edited_keys, is_among, mentions, Mention, BodyOf, CallOf, EventOf, MethodOf}
+use Rattle.cdi_live.proofs.Common.{PointOf, StereotypeOf, TypeIn, UseOf, edits_keep_decl, key_exact, asks_for, asks_in, ChoiceKey}
+use Rattle.cdi_live.proofs.Common.{is_wanted, key_of_point, points_of, wanted_stand_once, IsPresent, all_present, found_any, witness}
+use Rattle.cdi_live.proofs.Common.{is_asked_after}
+use Rattle.cdi_live.proofs.ListedLemmas.{un-not}
 use Rattle.cdi_index.specs.declared.asked.Question.{Question}
 use Rattle.cdi_index.specs.declared.asked.Question.TheVariants as questions
-use Rattle.cdi_index.specs.Asked.{asks_at, asks_for, asks_in, is_asked, is_asked_by}
-use Rattle.cdi_observe.specs.Keys.{ChoiceKey, same_key as same_question}
-use Rattle.cdi_observe.specs.Wanted.{is_wanted, is_wanted_choice, key_of_point, point_named, points_of}
-use Rattle.cdi_observe.proofs.WantedLemmas.{wanted_stand_once}
-use Rattle.cdi_stakes.specs.Rests.{IsPresent}
-use Rattle.cdi_stakes.proofs.PresentLemmas.{all_present, found_any, witness}
-use Rattle.cdi_live.specs.Dropped.{is_asked_after}
+use Rattle.cdi_index.specs.Asked.{asks_at, is_asked, is_asked_by}
+use Rattle.cdi_observe.specs.Keys.{same_key as same_question}
+use Rattle.cdi_observe.specs.Wanted.{is_wanted_choice, point_named}
 
 pub same-bool : (a b : Bool) → (a ≡ true → b ≡ true) → (b ≡ true → a ≡ true) → a ≡ b
 same-bool true b f g = sym (f refl)
@@ -95,10 +82,6 @@ module _ (q : Question) (t : List ℕ) (us : List Qual) (edits : List Edit) (ds 
 
   abbrev others : Decl → Bool
   others d = not (is_among keys (key_of d)) && asks_for q t us d
-
-  un-not : (b : Bool) → not b ≡ true → b ≡ false
-  un-not true h = absurd (false≢true h)
-  un-not false h = refl
 
   -- a declaration that is not edited is found before where it is found after
   stays : (d : Decl) → is_among keys (key_of d) ≡ false → find_decl (kind_of d) (name_of_decl d) es ≡ find_decl (kind_of d) (name_of_decl d) ds

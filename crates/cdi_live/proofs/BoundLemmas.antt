@@ -1,45 +1,27 @@
 -- A bean has the words of the bindings at its places.
-use Rattle.std.proofs.Common.{◌≡◌, ℕ, Bool, true, false, cond, not, ◌&&◌, ◌||◌, List, [], ◌∷◌, ◌++◌, map, flat_map, Option, Some, None, unwrap_or}
-use Rattle.std.proofs.Common.{option_map, refl, sym, ap, ◌∙◌, inl, inr}
-use Rattle.std.specs.List.{find, list_any}
-use Rattle.std.specs.Option.{option_to_list}
-use Rattle.std.specs.Str.{bytes_eq}
-use Rattle.std.proofs.lemmas.Bool.{false≢true, or_cases, or_left, or_right}
-use Rattle.std.proofs.lemmas.List.Folds.{list_any-append}
-use Rattle.cdi_model.specs.declared.decl.BeanDecl.{BeanDecl}
-use Rattle.cdi_model.specs.declared.decl.Decl.{Decl}
+use Rattle.cdi_live.proofs.Common.{◌≡◌, Bool, true, false, cond, not, ◌&&◌, List, [], ◌∷◌, map, refl, sym, ap, ◌∙◌, inl, inr, list_any}
+use Rattle.cdi_live.proofs.Common.{bytes_eq, false≢true, or_cases, or_left, or_right, Decl, BeanPlace, Qual, ℕ, ◌||◌, flat_map, Option}
+use Rattle.cdi_live.proofs.Common.{Some, None, list_any-append, mentions, Mention, BodyOf, CallOf, EventOf, MethodOf, PointOf, StereotypeOf}
+use Rattle.cdi_live.proofs.Common.{TypeIn, UseOf, ◌++◌, unwrap_or, option_map, option_to_list, BeanDecl, ObserverDecl, of_bindings}
+use Rattle.cdi_live.proofs.Common.{of_parts, of_point, name_of_use, has, own_records, class_bindings, Effective, Word, same_word, word_at}
+use Rattle.cdi_live.proofs.Common.{words_have, words_named, words_named_in, words_of_bindings, words_of_observer, words_of_record}
+use Rattle.cdi_live.proofs.Common.{words_of_uses, words_by, among-named, own_bindings}
+use Rattle.cdi_live.proofs.ListedLemmas.{words-append}
+use Rattle.std.specs.List.{find}
 use Rattle.cdi_model.specs.declared.decl.Decl.TheVariants as decls
 use Rattle.cdi_model.specs.declared.decl.MethodDecl.{MethodDecl}
-use Rattle.cdi_model.specs.declared.decl.ObserverDecl.{ObserverDecl}
 use Rattle.cdi_model.specs.declared.decl.ProducerDecl.{ProducerDecl}
 use Rattle.cdi_model.specs.declared.decl.UseKind.TheVariants as uses
 use Rattle.cdi_model.specs.declared.mention.PointPlace.TheVariants as points
 use Rattle.cdi_model.specs.declared.mention.TypePlace.TheVariants as types
-use Rattle.cdi_model.specs.declared.place.BeanPlace.{BeanPlace}
 use Rattle.cdi_model.specs.declared.place.BeanPlace.TheVariants as places
 use Rattle.cdi_model.specs.declared.place.PartPlace.TheVariants as parts
-use Rattle.cdi_model.specs.declared.quals.Qual.{Qual}
-use Rattle.cdi_model.specs.Mentions.{mentions, of_attributes, of_bindings, of_disposer, of_method, of_observer, of_part, of_parts, of_point}
-use Rattle.cdi_model.specs.Mentions.{of_producer, of_qualifiers, part_place_of}
-use Rattle.cdi_model.specs.Mentions.{Mention, BodyOf, CallOf, EventOf, MethodOf, PointOf, StereotypeOf, TypeIn, UseOf}
-use Rattle.cdi_model.specs.Quals.{name_of_use}
-use Rattle.cdi_match.specs.Chain.{has}
-use Rattle.cdi_effective.specs.Beans.{effective, own_records}
-use Rattle.cdi_effective.specs.Bindings.{class_bindings}
-use Rattle.cdi_effective.specs.declared.records.Effective.{Effective}
+use Rattle.cdi_model.specs.Mentions.{of_attributes, of_disposer, of_method, of_observer, of_part, of_producer, of_qualifiers, part_place_of}
+use Rattle.cdi_effective.specs.Beans.{effective}
 use Rattle.cdi_postings.specs.declared.word.Reason.TheVariants as reasons
-use Rattle.cdi_postings.specs.declared.word.Word.{Word}
-use Rattle.cdi_postings.specs.Words.{same_word, word_at}
-use Rattle.cdi_index.specs.Made.{words_have, words_named, words_named_in, words_of_bindings, words_of_observer, words_of_record, words_of_uses}
-use Rattle.cdi_index.specs.Under.{words_by}
-use Rattle.cdi_index.proofs.NamedLemmas.{among-named}
-use Rattle.cdi_stakes.specs.Rests.{own_bindings}
 
 abbrev word : List ℕ → Word
 word n = word_at reasons.Binds n
-
-words-append : (w : Word) (xs ys : List Word) → words_have (xs ++ ys) w ≡ (words_have xs w || words_have ys w)
-words-append w xs ys = list_any-append (λ v. same_word v w) xs ys
 
 -- ---- what is named
 

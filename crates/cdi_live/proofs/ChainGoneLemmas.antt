@@ -1,26 +1,9 @@
 -- Of the kept chains exactly those are gone that are not wanted any more, or are touched.
-use Rattle.std.proofs.Common.{◌≡◌, ℕ, Bool, true, false, not, ◌&&◌, ◌||◌, List, [], ◌∷◌, refl, sym, ap, ◌∙◌, subst, inl, inr}
-use Rattle.std.specs.Cmp.Lexicographic.{bytes_decides}
-use Rattle.std.specs.List.{list_any}
-use Rattle.std.specs.Str.{bytes_eq}
-use Rattle.std.proofs.lemmas.Bool.{and_from, and_parts, false≢true, or_cases, or_left, or_right}
-use Rattle.cdi_model.specs.declared.decl.Decl.{Decl}
-use Rattle.cdi_model.specs.declared.edit.Edit.{Edit}
-use Rattle.cdi_model.specs.declared.key.DeclKey.{DeclKey}
-use Rattle.cdi_model.specs.declared.place.BeanPlace.{BeanPlace}
-use Rattle.cdi_model.specs.DeclList.{AreDistinct}
-use Rattle.cdi_model.specs.Edits.{edited_all, edited_keys}
-use Rattle.cdi_index.specs.Told.{Tells}
-use Rattle.cdi_memo.specs.Answers.{parts_under}
-use Rattle.cdi_memo.proofs.QuestionLemmas.{parts-kept}
-use Rattle.cdi_observe.specs.Keys.{same_place, ChainKey}
-use Rattle.cdi_observe.specs.Wanted.{is_wanted}
-use Rattle.cdi_observe.proofs.KeyLemmas.{same_place-decides}
-use Rattle.cdi_seen.specs.Touched.{is_touched}
-use Rattle.cdi_live.specs.ChainGone.{goes, is_kept_chain, ArePlaces, Chains}
-use Rattle.cdi_live.specs.ChainSuspects.{is_chain_suspect}
-use Rattle.cdi_live.specs.Compared.{IsBetween}
-use Rattle.cdi_live.specs.declared.sides.Sides.{Sides}
+use Rattle.cdi_live.proofs.Common.{◌≡◌, Bool, true, false, not, ◌&&◌, List, [], ◌∷◌, refl, sym, ap, ◌∙◌, inl, inr, list_any, bytes_eq}
+use Rattle.cdi_live.proofs.Common.{and_from, and_parts, false≢true, or_cases, or_left, or_right, Decl, BeanPlace, ℕ, ◌||◌, Edit, DeclKey}
+use Rattle.cdi_live.proofs.Common.{AreDistinct, edited_all, edited_keys, is_wanted, subst, bytes_decides, Tells, parts_under, parts-kept}
+use Rattle.cdi_live.proofs.Common.{same_place, ChainKey, same_place-decides, is_touched, goes, is_kept_chain, ArePlaces, Chains}
+use Rattle.cdi_live.proofs.Common.{is_chain_suspect, IsBetween, Sides}
 use Rattle.cdi_live.proofs.AskedLemmas.{any-elim, same-bool}
 use Rattle.cdi_live.proofs.ChainSuspectLemmas.{chain-same, place-same}
 use Rattle.cdi_live.proofs.WantedPlaceLemmas.{wanted-place}

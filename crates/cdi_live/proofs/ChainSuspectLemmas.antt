@@ -1,68 +1,38 @@
 -- Chains of classes that are not suspect see the same after edits.
-use Rattle.std.proofs.Common.{◌≡◌, ℕ, zero, suc, Bool, true, false, cond, not, ◌&&◌, List, [], ◌∷◌, map, filter}
-use Rattle.std.proofs.Common.{Option, Some, None, option_map, unwrap_or, refl, sym, ap, ◌∙◌, inl, inr}
-use Rattle.std.specs.List.{list_any}
-use Rattle.std.specs.Option.{option_map_or}
-use Rattle.std.specs.Str.{bytes_eq}
-use Rattle.std.proofs.lemmas.Bool.{and_from, false≢true, or_cases, or_from, or_left, or_parts, or_right}
-use Rattle.std.proofs.lemmas.List.Folds.{list_any-append}
-use Rattle.cdi_model.specs.declared.decl.BeanDecl.{BeanDecl}
+use Rattle.cdi_live.proofs.Common.{◌≡◌, Bool, true, false, cond, not, ◌&&◌, List, [], ◌∷◌, map, filter, refl, sym, ap, ◌∙◌, inl, inr}
+use Rattle.cdi_live.proofs.Common.{list_any, bytes_eq, and_from, false≢true, or_cases, or_left, or_right, Decl, InterceptorDecl, BeanPlace}
+use Rattle.cdi_live.proofs.Common.{Qual, uses_one, in_text_order, any-in_text_order, ℕ, Option, Some, None, option_map_or, list_any-append}
+use Rattle.cdi_live.proofs.Common.{Edit, DeclKey, key_of, same_key, find_decl, AreDistinct, edited_all, edited_keys, is_among}
+use Rattle.cdi_live.proofs.Common.{edits_keep_decl, key_exact, IsPresent, all_present, found_any, unwrap_or, option_map, BeanDecl}
+use Rattle.cdi_live.proofs.Common.{name_of_use, has, class_bindings, word_at, words_have, words_by, own_bindings, Tells, ChainKey}
+use Rattle.cdi_live.proofs.Common.{is_touched, is_chain_suspect, zero, suc, or_from, or_parts, key_at, Avoid, Chain, as_binding, one_name}
+use Rattle.cdi_live.proofs.Common.{same_text, as_bean, find_bean, set_at, is_enabled, sees_at, has_place, set_by, made_of, made_of_bean}
+use Rattle.cdi_live.proofs.Common.{made_of_binding, made_of_interceptor, reads, reads_in, has_one, key-found, ByChain}
+use Rattle.cdi_live.proofs.Common.{touched_where_seen_differs, each_all, is_place_of, brings_to, class_named, classes_bound, is_bound_by}
+use Rattle.cdi_live.proofs.Common.{is_intercepted_by, holds}
 use Rattle.cdi_model.specs.declared.decl.BindingDecl.{BindingDecl}
-use Rattle.cdi_model.specs.declared.decl.Decl.{Decl}
 use Rattle.cdi_model.specs.declared.decl.Decl.TheVariants as decls
-use Rattle.cdi_model.specs.declared.decl.InterceptorDecl.{InterceptorDecl}
 use Rattle.cdi_model.specs.declared.decl.Kind.TheVariants as kinds
-use Rattle.cdi_model.specs.declared.edit.Edit.{Edit}
-use Rattle.cdi_model.specs.declared.key.DeclKey.{DeclKey}
-use Rattle.cdi_model.specs.declared.place.BeanPlace.{BeanPlace}
 use Rattle.cdi_model.specs.declared.place.BeanPlace.TheVariants as places
-use Rattle.cdi_model.specs.declared.quals.Qual.{Qual}
-use Rattle.cdi_model.specs.Decl.{key_of}
-use Rattle.cdi_model.specs.DeclKey.{key_at, same_key}
-use Rattle.cdi_model.specs.DeclList.{find_decl, AreDistinct}
-use Rattle.cdi_model.specs.Edits.{edited_all, edited_keys, is_among, Avoid}
-use Rattle.cdi_model.specs.Quals.{name_of_use}
-use Rattle.cdi_model.proofs.EditLemmas.{edits_keep_decl}
-use Rattle.cdi_model.proofs.EntryLemmas.{key_exact}
 use Rattle.cdi_match.specs.Bindings.{brings, brought_by, types_brought, with_brought}
-use Rattle.cdi_match.specs.Chain.{has, Chain}
-use Rattle.cdi_match.specs.Filling.{as_binding, find_binding}
+use Rattle.cdi_match.specs.Filling.{find_binding}
 use Rattle.cdi_match.specs.Locality.{binding_reads}
 use Rattle.cdi_match.proofs.BindingLemmas.{brings_type_decides, types_brought-has}
-use Rattle.cdi_match.proofs.Names.{one_name, same_text}
-use Rattle.cdi_effective.specs.Bindings.{class_bindings}
-use Rattle.cdi_effective.specs.Disposers.{as_bean, find_bean}
-use Rattle.cdi_effective.specs.Qualifiers.{uses_one}
 use Rattle.cdi_effective.specs.Reads.{record_reads}
-use Rattle.cdi_intercept.specs.Bindings.{in_text_order, set_at, set_of}
-use Rattle.cdi_intercept.specs.Chains.{is_enabled}
-use Rattle.cdi_intercept.specs.Sees.{sees_at}
-use Rattle.cdi_intercept.specs.Sets.{around_method, has_place, of_method, of_observer, of_producer, set_by}
-use Rattle.cdi_intercept.proofs.UseLemmas.{any-in_text_order}
+use Rattle.cdi_intercept.specs.Bindings.{set_of}
+use Rattle.cdi_intercept.specs.Sets.{around_method, of_method, of_observer, of_producer}
 use Rattle.cdi_postings.specs.declared.word.Reason.TheVariants as reasons
-use Rattle.cdi_postings.specs.Words.{word_at}
-use Rattle.cdi_index.specs.Made.{made_of, made_of_bean, made_of_binding, made_of_interceptor, reads, reads_in, words_have}
-use Rattle.cdi_index.specs.Told.{Tells}
-use Rattle.cdi_index.specs.Under.{has_one, words_by}
-use Rattle.cdi_index.proofs.UnderLemmas.{key-found}
-use Rattle.cdi_observe.specs.Keys.{ChainKey}
-use Rattle.cdi_seen.specs.Touched.{is_touched, ByChain}
 use Rattle.cdi_seen.proofs.ContributionLemmas.{edits_keep_given}
-use Rattle.cdi_seen.proofs.SameLemmas.{touched_where_seen_differs}
-use Rattle.cdi_stakes.specs.Gives.{interceptor_given, ranked_interceptor}
-use Rattle.cdi_stakes.specs.Rests.{own_bindings, own_reads, place_reads, IsPresent}
-use Rattle.cdi_stakes.specs.Words.{types_bound_by}
-use Rattle.cdi_stakes.proofs.ChainLemmas.{chain_same_from, keep_interceptors, no_interceptor}
-use Rattle.cdi_stakes.proofs.PresentLemmas.{all_present, each_all, found_any}
-use Rattle.cdi_stakes.proofs.SetLemmas.{brought-within, has-names_append, name-among}
-use Rattle.cdi_stakes.proofs.UseLemmas.{uses_by_name}
-use Rattle.cdi_live.specs.ChainGone.{is_place_of}
-use Rattle.cdi_live.specs.ChainSuspects.{brings_to, class_named, classes_bound, is_bound_by, is_chain_suspect, is_chain_suspect_by}
-use Rattle.cdi_live.specs.ChainSuspects.{is_intercepted, is_intercepted_by, is_intercepted_in}
-use Rattle.cdi_live.specs.Suspects.{holds}
+use Rattle.cdi_seen.specs.Gives.{interceptor_given, ranked_interceptor}
+use Rattle.cdi_seen.specs.Rests.{own_reads, place_reads}
+use Rattle.cdi_seen.specs.Words.{types_bound_by}
+use Rattle.cdi_seen.proofs.ChainLemmas.{chain_same_from, keep_interceptors, no_interceptor}
+use Rattle.cdi_seen.proofs.SetLemmas.{brought-within, has-names_append, name-among}
+use Rattle.cdi_seen.proofs.UseLemmas.{uses_by_name}
+use Rattle.cdi_live.specs.ChainSuspects.{is_chain_suspect_by, is_intercepted, is_intercepted_in}
 use Rattle.cdi_live.proofs.AskedLemmas.{any-among}
 use Rattle.cdi_live.proofs.BoundLemmas.{class-word, own-word}
-use Rattle.cdi_live.proofs.SuspectLemmas.{of-passing}
+use Rattle.cdi_live.proofs.ListedLemmas.{of-passing}
 
 -- a test that is true of no key is not true of one among them
 none-at : (p : DeclKey → Bool) (keys : List DeclKey) (k : DeclKey) → list_any p keys ≡ false → is_among keys k ≡ true → p k ≡ false

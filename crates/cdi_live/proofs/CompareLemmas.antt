@@ -1,33 +1,18 @@
 -- The beans of a type after edits are those of marked declarations.
-use Rattle.std.proofs.Common.{◌≡◌, ◌+◌, ℕ, zero, suc, nat_eq, Bool, true, false, cond, ◌||◌, List, [], ◌∷◌, ◌++◌, flat_map, filter, Option, Some, None}
-use Rattle.std.proofs.Common.{position, slice_get, refl, sym, ap, ◌∙◌, inl, inr, ◌⊎◌, arith}
-use Rattle.std.specs.List.{list_any}
-use Rattle.std.specs.Option.{option_map_or}
-use Rattle.std.proofs.lemmas.Bool.{false≢true, or_left, or_parts, or_right}
-use Rattle.std.proofs.lemmas.Cmp.{nat_eq_equiv}
-use Rattle.std.proofs.lemmas.List.Elements.{filter-append}
-use Rattle.cdi_model.specs.declared.decl.Decl.{Decl}
+use Rattle.cdi_live.proofs.Common.{◌≡◌, Bool, true, false, cond, List, [], ◌∷◌, filter, nat_eq, refl, sym, ap, ◌∙◌, inl, inr, list_any}
+use Rattle.cdi_live.proofs.Common.{false≢true, or_left, or_right, Decl, ℕ, ◌||◌, flat_map, Option, Some, None, option_map_or, key_of}
+use Rattle.cdi_live.proofs.Common.{kind_of, name_of_decl, find_decl, AreDistinct, is_among, edits_keep_decl, ◌++◌, has, Word, word_at}
+use Rattle.cdi_live.proofs.Common.{words_have, IsBetween, Sides, zero, suc, or_parts, has_one, ◌+◌, position, slice_get, arith}
+use Rattle.cdi_live.proofs.Common.{nat_eq_equiv, filter-append, is_of, position-found, position-there, beans, entries, own-position}
+use Rattle.cdi_live.proofs.Common.{is_listed, is_marked, marked_from, records_at, is_place_of_one, words_at, words_declared}
+use Rattle.std.proofs.Common.{◌⊎◌}
 use Rattle.cdi_model.specs.declared.decl.Decl.TheVariants as decls
-use Rattle.cdi_model.specs.Decl.{key_of, kind_of, name_of_decl}
-use Rattle.cdi_model.specs.DeclList.{find_decl, is_of, AreDistinct}
-use Rattle.cdi_model.specs.Edits.{is_among}
-use Rattle.cdi_model.proofs.EditLemmas.{edits_keep_decl}
-use Rattle.cdi_model.proofs.PositionLemmas.{position-found, position-there}
-use Rattle.cdi_match.specs.Chain.{has}
-use Rattle.cdi_effective.specs.Beans.{beans, entries}
-use Rattle.cdi_effective.proofs.PlaceLemmas.{own-found, own-position}
+use Rattle.cdi_effective.proofs.PlaceLemmas.{own-found}
 use Rattle.cdi_postings.specs.declared.word.Reason.TheVariants as reasons
-use Rattle.cdi_postings.specs.Words.{word_at}
-use Rattle.cdi_postings.specs.declared.word.Word.{Word}
-use Rattle.cdi_postings.specs.Listing.{is_listed}
-use Rattle.cdi_index.specs.Made.{is_kept, words_have}
-use Rattle.cdi_positions.specs.Marks.{is_marked, marked_from}
-use Rattle.cdi_index.specs.Under.{has_one, records_at}
+use Rattle.cdi_index.specs.Made.{is_kept}
 use Rattle.cdi_index.proofs.SoughtLemmas.{none-of-type}
 use Rattle.cdi_index.proofs.UnderLemmas.{records-of-bean}
-use Rattle.cdi_live.specs.Compared.{is_at, is_place_of_one, IsBetween}
-use Rattle.cdi_live.specs.Sought.{words_at, words_declared}
-use Rattle.cdi_live.specs.declared.sides.Sides.{Sides}
+use Rattle.cdi_live.specs.Compared.{is_at}
 use Rattle.cdi_live.proofs.SoughtLemmas.{none-had, none-typed}
 
 -- ---- where the others give nothing

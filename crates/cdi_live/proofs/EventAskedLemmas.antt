@@ -1,22 +1,13 @@
 -- Which events are wanted: those for which a declaration asks.
-use Rattle.std.proofs.Common.{◌≡◌, ℕ, Bool, true, false, ◌||◌, List, [], ◌∷◌, ◌++◌, map, flat_map, refl, sym, ap, ◌∙◌}
-use Rattle.std.specs.List.{list_any}
-use Rattle.std.proofs.lemmas.List.Folds.{list_any-append}
-use Rattle.cdi_model.specs.declared.decl.Decl.{Decl}
+use Rattle.cdi_live.proofs.Common.{◌≡◌, Bool, true, false, List, [], ◌∷◌, map, refl, sym, ap, ◌∙◌, list_any, Decl, BeanPlace, Qual, ℕ, ◌||◌}
+use Rattle.cdi_live.proofs.Common.{flat_map, list_any-append, Edit, AreDistinct, edited_all, edited_keys, mentions, Mention, BodyOf, CallOf}
+use Rattle.cdi_live.proofs.Common.{EventOf, MethodOf, PointOf, StereotypeOf, TypeIn, UseOf, asks_for, asks_in, is_wanted, key_of_point}
+use Rattle.cdi_live.proofs.Common.{points_of, is_asked_after, ◌++◌, ChainKey, places_of, has_key, EventKey, wanted_by}
 use Rattle.cdi_model.specs.declared.decl.Decl.TheVariants as decls
 use Rattle.cdi_model.specs.declared.decl.PointDecl.{PointDecl}
-use Rattle.cdi_model.specs.declared.edit.Edit.{Edit}
-use Rattle.cdi_model.specs.declared.place.BeanPlace.{BeanPlace}
-use Rattle.cdi_model.specs.declared.quals.Qual.{Qual}
-use Rattle.cdi_model.specs.DeclList.{AreDistinct}
-use Rattle.cdi_model.specs.Edits.{edited_all, edited_keys}
-use Rattle.cdi_model.specs.Mentions.{mentions, Mention, BodyOf, CallOf, EventOf, MethodOf, PointOf, StereotypeOf, TypeIn, UseOf}
-use Rattle.cdi_intercept.specs.Sets.{places_of}
-use Rattle.cdi_index.specs.Asked.{asks_for, asks_in}
 use Rattle.cdi_index.specs.declared.asked.Question.TheVariants as questions
-use Rattle.cdi_observe.specs.Keys.{has_key, same_key, ChainKey, EventKey}
-use Rattle.cdi_observe.specs.Wanted.{asked_by, chains_by, event_in, events_by, is_wanted, key_of_point, points_of, wanted_by}
-use Rattle.cdi_live.specs.Dropped.{is_asked_after}
+use Rattle.cdi_observe.specs.Keys.{same_key}
+use Rattle.cdi_observe.specs.Wanted.{asked_by, chains_by, event_in, events_by}
 use Rattle.cdi_live.proofs.AskedLemmas.{any-same, asked-after}
 
 module _ (t : List ℕ) (us : List Qual) where

@@ -1,28 +1,14 @@
 -- The observer methods that an event sees, before and after edits, are among those of the declarations that are looked at.
-use Rattle.std.proofs.Common.{◌≡◌, ℕ, Bool, false, ◌||◌, List, [], ◌∷◌, ◌++◌, map, flat_map, filter, Option, Some, None}
-use Rattle.std.proofs.Common.{slice_get, refl, sym, ap, ◌∙◌, inl, inr, arith}
-use Rattle.std.specs.List.{list_any}
-use Rattle.std.specs.Option.{option_map_or}
-use Rattle.std.proofs.lemmas.Grind.{flat_map-append}
-use Rattle.cdi_model.specs.declared.decl.Decl.{Decl}
+use Rattle.cdi_live.proofs.Common.{◌≡◌, Bool, false, List, [], ◌∷◌, map, filter, refl, sym, ap, ◌∙◌, inl, inr, list_any, Decl, ℕ, ◌||◌}
+use Rattle.cdi_live.proofs.Common.{flat_map, Option, Some, None, option_map_or, AreDistinct, ◌++◌, Effective, word_at, words_have}
+use Rattle.cdi_live.proofs.Common.{IsBetween, Sides, has_one, slice_get, arith, beans, entries, is_listed, is_marked, marked_from}
+use Rattle.cdi_live.proofs.Common.{records_at, is_place_of_one, words_declared, flat_map-append, types_of, sorted_by, observes_one}
+use Rattle.cdi_live.proofs.Common.{Observer, declared_by, is_before, observers, observes, observing, words_typed}
 use Rattle.cdi_model.specs.declared.decl.Decl.TheVariants as decls
-use Rattle.cdi_model.specs.DeclList.{AreDistinct}
-use Rattle.cdi_match.specs.Types.{types_of}
-use Rattle.cdi_effective.specs.Beans.{beans, entries}
-use Rattle.cdi_effective.specs.declared.records.Effective.{Effective}
-use Rattle.cdi_intercept.specs.Sorting.{sorted_by}
 use Rattle.cdi_postings.specs.declared.word.Reason.TheVariants as reasons
-use Rattle.cdi_postings.specs.Words.{word_at}
-use Rattle.cdi_postings.specs.Listing.{is_listed}
-use Rattle.cdi_positions.specs.Marks.{is_marked, marked_from}
-use Rattle.cdi_index.specs.Made.{words_have}
-use Rattle.cdi_index.specs.Under.{has_one, observes_one, records_at}
 use Rattle.cdi_index.proofs.SoughtLemmas.{observing-one}
-use Rattle.cdi_observe.specs.Observers.{Observer, declared_by, enabled_bean, is_before, observers, observes, observing}
+use Rattle.cdi_observe.specs.Observers.{enabled_bean}
 use Rattle.cdi_questions.proofs.CandidateLemmas.{none-of-decl, same-observers}
-use Rattle.cdi_live.specs.Compared.{is_place_of_one, IsBetween}
-use Rattle.cdi_live.specs.Sought.{words_declared, words_typed}
-use Rattle.cdi_live.specs.declared.sides.Sides.{Sides}
 use Rattle.cdi_live.proofs.CompareLemmas.{gather, unmarked-decl}
 use Rattle.cdi_live.proofs.SoughtLemmas.{none-observed}
 

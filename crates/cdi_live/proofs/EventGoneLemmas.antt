@@ -1,40 +1,18 @@
 -- Of the kept events exactly those go that no body may fire any more, or that see something else.
-use Rattle.std.proofs.Common.{◌≡◌, ℕ, Bool, true, false, not, ◌&&◌, ◌||◌, List, [], ◌∷◌, Option, Some, None, is_some, refl, sym, ap, ◌∙◌, inl, inr, subst}
-use Rattle.std.specs.List.{list_any}
-use Rattle.std.specs.Map.{keys_of, lookup}
-use Rattle.std.specs.Option.{option_map_or}
-use Rattle.std.specs.Str.{bytes_eq}
-use Rattle.std.specs.Cmp.Lexicographic.{bytes_decides}
-use Rattle.std.proofs.lemmas.Bool.{and_from, and_parts, false≢true, or_cases, or_left, or_right}
+use Rattle.cdi_live.proofs.Common.{◌≡◌, Bool, true, false, not, ◌&&◌, List, [], ◌∷◌, is_some, refl, sym, ap, ◌∙◌, inl, inr, list_any}
+use Rattle.cdi_live.proofs.Common.{bytes_eq, and_from, and_parts, false≢true, or_cases, or_left, or_right, Decl, Qual, ℕ, ◌||◌, Option}
+use Rattle.cdi_live.proofs.Common.{Some, None, option_map_or, Edit, DeclKey, key_of, kind_of, name_of_decl, find_decl, AreDistinct}
+use Rattle.cdi_live.proofs.Common.{edited_all, edited_keys, is_among, mentions, Mention, BodyOf, CallOf, EventOf, MethodOf, PointOf}
+use Rattle.cdi_live.proofs.Common.{StereotypeOf, TypeIn, UseOf, asks_for, asks_in, is_wanted, IsPresent, all_present, found_any, witness}
+use Rattle.cdi_live.proofs.Common.{is_asked_after, subst, bytes_decides, Tells, parts_under, parts-kept, is_touched, IsBetween, Sides}
+use Rattle.cdi_live.proofs.Common.{holds, EventKey, keys_of, same_quals, same_quals-decides, ObserverId, is_touched_of, Events}
+use Rattle.cdi_live.proofs.Common.{is_dropped_at, is_dropped_by, is_dropped_in, is_suspect}
+use Rattle.cdi_live.proofs.ListedLemmas.{un-not}
+use Rattle.std.specs.Map.{lookup}
 use Rattle.std.proofs.lemmas.Map.Made.{is_some-lookup}
-use Rattle.cdi_model.specs.declared.decl.Decl.{Decl}
-use Rattle.cdi_model.specs.declared.edit.Edit.{Edit}
-use Rattle.cdi_model.specs.declared.key.DeclKey.{DeclKey}
-use Rattle.cdi_model.specs.declared.quals.Qual.{Qual}
-use Rattle.cdi_model.specs.Decl.{key_of, kind_of, name_of_decl}
-use Rattle.cdi_model.specs.DeclList.{find_decl, AreDistinct}
-use Rattle.cdi_model.specs.Edits.{edited_all, edited_keys, is_among}
-use Rattle.cdi_model.specs.Mentions.{mentions, Mention, BodyOf, CallOf, EventOf, MethodOf, PointOf, StereotypeOf, TypeIn, UseOf}
-use Rattle.cdi_model.specs.SameUse.{same_quals, same_quals-decides}
-use Rattle.cdi_index.specs.Asked.{asks_for, asks_in}
 use Rattle.cdi_index.specs.declared.asked.Question.TheVariants as questions
-use Rattle.cdi_index.specs.Told.{Tells}
-use Rattle.cdi_memo.specs.Answers.{parts_under}
-use Rattle.cdi_memo.proofs.QuestionLemmas.{parts-kept}
-use Rattle.cdi_observe.specs.declared.observers.ObserverId.{ObserverId}
-use Rattle.cdi_observe.specs.Keys.{EventKey}
-use Rattle.cdi_observe.specs.Wanted.{is_wanted}
-use Rattle.cdi_seen.specs.Touched.{is_touched}
-use Rattle.cdi_stakes.specs.Rests.{IsPresent}
-use Rattle.cdi_stakes.proofs.PresentLemmas.{all_present, found_any, witness}
-use Rattle.cdi_live.specs.Compared.{IsBetween}
-use Rattle.cdi_live.specs.Dropped.{is_asked_after}
-use Rattle.cdi_live.specs.EventCompared.{is_touched_of, Events}
-use Rattle.cdi_live.specs.EventDropped.{is_dropped_at, is_dropped_by, is_dropped_in, is_kept, Drops}
+use Rattle.cdi_live.specs.EventDropped.{is_kept, Drops}
 use Rattle.cdi_live.specs.EventStage.{event_stays, EventsAreWanted}
-use Rattle.cdi_live.specs.EventSuspects.{is_suspect}
-use Rattle.cdi_live.specs.Suspects.{holds}
-use Rattle.cdi_live.specs.declared.sides.Sides.{Sides}
 use Rattle.cdi_live.proofs.AskedLemmas.{any-among, any-elim, same-bool}
 use Rattle.cdi_live.proofs.EventAskedLemmas.{event-wanted-is, fired-after}
 use Rattle.cdi_live.proofs.EventSuspectLemmas.{is-held, untouched}
@@ -110,10 +88,6 @@ module _ (edits : List Edit) (ds : List Decl) (distinct : AreDistinct ds) (apart
 
   abbrev unwanted : Bool
   unwanted = not (is_wanted es (EventKey t us))
-
-  un-not : (b : Bool) → not b ≡ true → b ≡ false
-  un-not true h = absurd (false≢true h)
-  un-not false h = refl
 
   fired : list_any (asks_for questions.Event t us) ds ≡ true
   fired = sym (event-wanted-is t us ds) ∙ wanted

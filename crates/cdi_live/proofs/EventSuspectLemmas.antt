@@ -1,74 +1,47 @@
 -- Events of types that are not suspect see the same after edits.
-use Rattle.std.proofs.Common.{◌≡◌, ℕ, ℤ, zero, suc, Bool, true, false, cond, not, ◌&&◌, ◌||◌, List, [], ◌∷◌, ◌++◌, map, flat_map, filter}
-use Rattle.std.proofs.Common.{Option, Some, None, option_map, unwrap_or, slice_get, refl, sym, ap, ◌∙◌, inl, inr, arith}
-use Rattle.std.specs.List.{list_any}
-use Rattle.std.specs.Option.{option_map_or}
-use Rattle.std.specs.Str.{bytes_eq}
-use Rattle.std.proofs.lemmas.Bool.{and_from, and_parts, false≢true, or_cases, or_left, or_parts, or_right}
-use Rattle.std.proofs.lemmas.List.Folds.{list_any-append}
-use Rattle.cdi_model.specs.declared.decl.BeanDecl.{BeanDecl}
-use Rattle.cdi_model.specs.declared.decl.Decl.{Decl}
+use Rattle.cdi_live.proofs.Common.{◌≡◌, Bool, true, false, cond, not, ◌&&◌, List, [], ◌∷◌, map, filter, refl, sym, ap, ◌∙◌, inl, inr}
+use Rattle.cdi_live.proofs.Common.{list_any, bytes_eq, and_from, and_parts, false≢true, or_cases, or_left, or_right, Decl, Qual}
+use Rattle.cdi_live.proofs.Common.{bytes_eq-turned, ℕ, ◌||◌, flat_map, Option, Some, None, option_map_or, list_any-append, Edit, DeclKey}
+use Rattle.cdi_live.proofs.Common.{key_of, kind_of, name_of_decl, same_key, find_decl, AreDistinct, edited_all, edited_keys, is_among}
+use Rattle.cdi_live.proofs.Common.{mentions, Mention, BodyOf, CallOf, EventOf, MethodOf, PointOf, StereotypeOf, TypeIn, UseOf}
+use Rattle.cdi_live.proofs.Common.{edits_keep_decl, key_exact, asks_for, asks_in, IsPresent, all_present, found_any, witness, ◌++◌}
+use Rattle.cdi_live.proofs.Common.{unwrap_or, option_map, BeanDecl, ObserverDecl, has, own_records, Word, same_word, word_at, words_have}
+use Rattle.cdi_live.proofs.Common.{words_named, words_named_in, words_of_observer, words_of_record, words_of_uses, words_by, among-named}
+use Rattle.cdi_live.proofs.Common.{Tells, is_touched, zero, suc, or_parts, key_at, Avoid, Chain, same_text, as_bean, find_bean, made_of}
+use Rattle.cdi_live.proofs.Common.{reads, reads_in, has_one, touched_where_seen_differs, each_all, holds, slice_get, arith, beans}
+use Rattle.cdi_live.proofs.Common.{is_marked, marked_from, EventKey, types_of, sorted_by, Observer, declared_by, observers, observes}
+use Rattle.cdi_live.proofs.Common.{observing, same_quals, same_quals-decides, is_suspect, records, records_declared, records_in}
+use Rattle.cdi_live.proofs.Common.{same_word_equiv, made_of_type, words-of-asker, walk, event_sees, ByEvent, event_types, fired_at}
+use Rattle.cdi_live.proofs.Common.{fired_in, fired_types, may_have, observed_at, observed_by_key, words_edited}
+use Rattle.cdi_live.proofs.ListedLemmas.{holds-append, of-passing, words-append}
+use Rattle.std.proofs.Common.{ℤ}
 use Rattle.cdi_model.specs.declared.decl.Decl.TheVariants as decls
 use Rattle.cdi_model.specs.declared.decl.Kind.TheVariants as kinds
-use Rattle.cdi_model.specs.declared.decl.ObserverDecl.{ObserverDecl}
 use Rattle.cdi_model.specs.declared.decl.UseKind.TheVariants as uses
-use Rattle.cdi_model.specs.declared.edit.Edit.{Edit}
-use Rattle.cdi_model.specs.declared.key.DeclKey.{DeclKey}
-use Rattle.cdi_model.specs.declared.quals.Qual.{Qual}
-use Rattle.cdi_model.specs.Decl.{key_of, kind_of, name_of_decl}
-use Rattle.cdi_model.specs.DeclKey.{key_at, same_key}
-use Rattle.cdi_model.specs.DeclList.{find_decl, AreDistinct}
-use Rattle.cdi_model.specs.Edits.{edited_all, edited_keys, is_among, Avoid}
-use Rattle.cdi_model.specs.Mentions.{mentions, Mention, BodyOf, CallOf, EventOf, MethodOf, PointOf, StereotypeOf, TypeIn, UseOf}
-use Rattle.cdi_model.specs.SameUse.{same_quals, same_quals-decides}
-use Rattle.cdi_model.proofs.EditLemmas.{edits_keep_decl, edits_keep_others}
-use Rattle.cdi_model.proofs.EntryLemmas.{key_exact}
+use Rattle.cdi_model.proofs.EditLemmas.{edits_keep_others}
 use Rattle.cdi_model.proofs.GivingLemmas.{edits_keep_given}
-use Rattle.cdi_match.specs.Chain.{has, Chain, Steps}
+use Rattle.cdi_match.specs.Chain.{Steps}
 use Rattle.cdi_match.specs.Filled.{FilledUse, filled, filled_by}
 use Rattle.cdi_match.specs.Filling.{as_qualifier, find_qualifier}
-use Rattle.cdi_match.specs.Types.{is_super, is_type, object, supers_of, types_of}
+use Rattle.cdi_match.specs.Types.{is_super, is_type, object, supers_of}
 use Rattle.cdi_match.proofs.LocalityLemmas.{edits_keep_closure, same_types_apart}
-use Rattle.cdi_match.proofs.Names.{any_chosen, bytes_eq-turned, chosen, same_text}
+use Rattle.cdi_match.proofs.Names.{any_chosen, chosen}
 use Rattle.cdi_match.proofs.TypeLemmas.{is_type_decides, types_of-has, types_of-is, types_of-rises}
-use Rattle.cdi_effective.specs.Beans.{beans, managed, own_records, records}
-use Rattle.cdi_effective.specs.Disposers.{as_bean, find_bean}
-use Rattle.cdi_effective.specs.Records.{records_declared, records_in}
-use Rattle.cdi_intercept.specs.Sorting.{sorted_by}
+use Rattle.cdi_effective.specs.Beans.{managed}
 use Rattle.cdi_postings.specs.declared.word.Reason.TheVariants as reasons
-use Rattle.cdi_postings.specs.declared.word.Word.{Word}
-use Rattle.cdi_postings.specs.Words.{same_word, same_word_equiv, word_at}
-use Rattle.cdi_positions.specs.Marks.{is_marked, marked_from}
-use Rattle.cdi_index.specs.Asked.{asks_for, asks_in}
 use Rattle.cdi_index.specs.declared.asked.Question.TheVariants as questions
-use Rattle.cdi_index.specs.Made.{made_of, made_of_type, reads, reads_in, words_have, words_named, words_named_in, words_of_observer, words_of_record}
-use Rattle.cdi_index.specs.Made.{words_of_uses}
-use Rattle.cdi_index.specs.Told.{Tells}
-use Rattle.cdi_index.specs.Under.{has_one, words_by}
-use Rattle.cdi_index.proofs.NamedLemmas.{among-named}
-use Rattle.cdi_index.proofs.AskedLemmas.{words-of-asker}
-use Rattle.cdi_index.proofs.UnderLemmas.{walk}
-use Rattle.cdi_observe.specs.Keys.{EventKey}
-use Rattle.cdi_observe.specs.Observers.{declared_by, observers, observes, observing, observer_id, priority_of, Observer}
-use Rattle.cdi_observe.specs.Sees.{event_sees, seen_observer, SeenObserver}
-use Rattle.cdi_seen.specs.Touched.{is_touched, ByEvent}
-use Rattle.cdi_seen.proofs.SameLemmas.{touched_where_seen_differs}
-use Rattle.cdi_stakes.specs.Gives.{is_before_observer, observer_given, ranked_observer, unranked}
-use Rattle.cdi_stakes.specs.Rests.{IsPresent, use_reads}
-use Rattle.cdi_stakes.specs.Words.{names_under, types_observed}
-use Rattle.cdi_stakes.proofs.EventLemmas.{event_by_words, observers_by_declaration, observers_of}
-use Rattle.cdi_stakes.proofs.PresentLemmas.{all_present, each_all, found_any, witness}
-use Rattle.cdi_stakes.proofs.UseLemmas.{read_same}
+use Rattle.cdi_observe.specs.Observers.{observer_id, priority_of}
+use Rattle.cdi_observe.specs.Sees.{seen_observer, SeenObserver}
+use Rattle.cdi_seen.specs.Gives.{is_before_observer, observer_given, ranked_observer, unranked}
+use Rattle.cdi_seen.specs.Rests.{use_reads}
+use Rattle.cdi_seen.specs.Words.{names_under, types_observed}
+use Rattle.cdi_seen.proofs.EventLemmas.{event_by_words, observers_by_declaration, observers_of}
+use Rattle.cdi_seen.proofs.UseLemmas.{read_same}
 use Rattle.cdi_observe.specs.Lent.{observer_in}
-use Rattle.cdi_live.specs.EventSuspects.{concerned_types, event_types, fired_at, fired_in, fired_types, is_fired, is_suspect, may_have, may_have_one}
-use Rattle.cdi_live.specs.EventSuspects.{observed_at, observed_by_key, observed_of, uses_edited, word_edited, words_edited}
-use Rattle.cdi_live.specs.Suspects.{holds}
+use Rattle.cdi_live.specs.EventSuspects.{concerned_types, is_fired, may_have_one, observed_of, uses_edited, word_edited}
 use Rattle.cdi_live.proofs.AskedLemmas.{same-bool}
 
 -- ---- lists of names
-
-holds-append : (xs ys : List (List ℕ)) (t : List ℕ) → holds (xs ++ ys) t ≡ (holds xs t || holds ys t)
-holds-append xs ys t = list_any-append (λ n. bytes_eq n t) xs ys
 
 -- what is a name of one of some keys is a name of them
 in-keys : (f : DeclKey → List (List ℕ)) (keys : List DeclKey) (k : DeclKey) (x : List ℕ) → is_among keys k ≡ true
@@ -80,24 +53,6 @@ in-keys f (l ∷ keys) k x among h =
       | inl here ↦ or_left (holds (f l) x) (holds (flat_map f keys) x) (ap (λ j. holds (f j) x) (key_exact l k here) ∙ h)
       | inr there ↦ or_right (holds (f l) x) (holds (flat_map f keys) x) (in-keys f keys k x there h)
     ]
-
--- and what is one of a declaration that passes a test
-in-passing : (f : Decl → List (List ℕ)) (test : Decl → Bool) (x : List ℕ) (ds : List Decl)
-    → list_any (λ d. test d && holds (f d) x) ds ≡ true → holds (flat_map f (filter test ds)) x ≡ true
-in-passing f test x [] h = absurd (false≢true h)
-in-passing f test x (d ∷ ds) h = by (test d) refl (in-passing f test x ds) h
-  where
-    by : (b : Bool) → test d ≡ b
-        → (list_any (λ d. test d && holds (f d) x) ds ≡ true → holds (flat_map f (filter test ds)) x ≡ true)
-        → ((b && holds (f d) x) || list_any (λ d. test d && holds (f d) x) ds) ≡ true
-        → holds (flat_map f (cond b (d ∷ filter test ds) (filter test ds))) x ≡ true
-    by true is more h =
-        holds-append (f d) (flat_map f (filter test ds)) x
-        ∙ elim (or_cases (holds (f d) x) (list_any (λ d. test d && holds (f d) x) ds) h) [
-          | inl here ↦ or_left (holds (f d) x) (holds (flat_map f (filter test ds)) x) here
-          | inr there ↦ or_right (holds (f d) x) (holds (flat_map f (filter test ds)) x) (more there)
-        ]
-    by false is more h = more h
 
 -- a name among some is among others that have the same
 pub is-held : (xs : List (List ℕ)) (x : List ℕ) → list_any (bytes_eq x) xs ≡ has xs x
@@ -139,9 +94,6 @@ suspects-are ds es edited affected kept words marks names t are marked same =
 
 abbrev word : List ℕ → Word
 word q = word_at reasons.Qualifies q
-
-words-append : (w : Word) (xs ys : List Word) → words_have (xs ++ ys) w ≡ (words_have xs w || words_have ys w)
-words-append w xs ys = list_any-append (λ v. same_word v w) xs ys
 
 -- an edited qualifier passes what is true of its word
 edited-word : (p : Word → Bool) (keys : List DeclKey) (q : List ℕ) → is_among keys (key_at kinds.Qualifier q) ≡ true → p (word q) ≡ true
@@ -294,7 +246,7 @@ module _ (edits : List Edit) (ds : List Decl) (told : List DeclKey) (distinct : 
       → words_have (words_by ds d) (word q) ≡ true → holds (types_observed d) x ≡ true → has types x ≡ false
   used-types d q x there edited has h = other-types x
       (holds-append by_keys by_uses x ∙ or_right (holds by_keys x) (holds by_uses x)
-      (in-passing types_observed (uses_edited ds keys) x ds
+      (of-passing types_observed (uses_edited ds keys) x ds
       (found_any (kind_of d) (name_of_decl d) ds d (λ d. uses_edited ds keys d && holds (types_observed d) x) there
       (and_from (uses_edited ds keys d) (holds (types_observed d) x) (uses-one d q edited has) h))))
 
@@ -507,7 +459,7 @@ module _ (edits : List Edit) (ds : List Decl) (told : List DeclKey) (distinct : 
             let it = witness (IsPresent ds) (asks_for questions.Event t us) ds (all_present ds distinct) wanted in
             let fires = fires-named (mentions it.0) (word q) it.2 in
             let d = it.0 in
-            absurd (false≢true (sym first.1 ∙ in-passing fired_types (uses_edited ds keys) t ds
+            absurd (false≢true (sym first.1 ∙ of-passing fired_types (uses_edited ds keys) t ds
             (found_any (kind_of d) (name_of_decl d) ds d (λ d. uses_edited ds keys d && holds (fired_types d) t) it.1
             (and_from (uses_edited ds keys d) (holds (fired_types d) t)
             (uses-one d q edited (words-of-asker questions.Event t us ds d (word q) it.2 (among-named d (word q) (fires.words e))))

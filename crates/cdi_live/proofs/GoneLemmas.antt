@@ -1,38 +1,16 @@
 -- Of the kept choices exactly those go that are asked for no more, or see something else.
-use Rattle.std.proofs.Common.{◌≡◌, ℕ, Bool, true, false, not, ◌&&◌, ◌||◌, List, [], ◌∷◌, Option, Some, None, refl, sym, ap, ◌∙◌, inl, inr, subst}
-use Rattle.std.specs.List.{list_any}
-use Rattle.std.specs.Option.{option_map_or}
-use Rattle.std.specs.Str.{bytes_eq}
-use Rattle.std.specs.Cmp.Lexicographic.{bytes_decides}
-use Rattle.std.proofs.lemmas.Bool.{and_from, and_parts, false≢true, or_cases, or_left, or_right}
-use Rattle.cdi_model.specs.declared.decl.Decl.{Decl}
-use Rattle.cdi_model.specs.declared.edit.Edit.{Edit}
-use Rattle.cdi_model.specs.declared.key.DeclKey.{DeclKey}
-use Rattle.cdi_model.specs.declared.quals.Qual.{Qual}
-use Rattle.cdi_model.specs.Decl.{key_of, kind_of, name_of_decl}
-use Rattle.cdi_model.specs.DeclList.{find_decl, AreDistinct}
-use Rattle.cdi_model.specs.Edits.{edited_all, edited_keys, is_among}
-use Rattle.cdi_model.specs.Mentions.{mentions, Mention, BodyOf, CallOf, EventOf, MethodOf, PointOf, StereotypeOf, TypeIn, UseOf}
-use Rattle.cdi_model.specs.SameUse.{same_quals, same_quals-decides}
-use Rattle.cdi_effective.specs.Qualifiers.{required}
+use Rattle.cdi_live.proofs.Common.{◌≡◌, Bool, true, false, not, ◌&&◌, List, [], ◌∷◌, refl, sym, ap, ◌∙◌, inl, inr, list_any, bytes_eq}
+use Rattle.cdi_live.proofs.Common.{and_from, and_parts, false≢true, or_cases, or_left, or_right, Decl, Qual, ℕ, ◌||◌, Option, Some, None}
+use Rattle.cdi_live.proofs.Common.{option_map_or, Edit, DeclKey, key_of, kind_of, name_of_decl, find_decl, AreDistinct, edited_all}
+use Rattle.cdi_live.proofs.Common.{edited_keys, is_among, mentions, Mention, BodyOf, CallOf, EventOf, MethodOf, PointOf, StereotypeOf}
+use Rattle.cdi_live.proofs.Common.{TypeIn, UseOf, asks_for, asks_in, ChoiceKey, is_wanted, IsPresent, all_present, found_any, witness}
+use Rattle.cdi_live.proofs.Common.{is_asked_after, subst, bytes_decides, Tells, parts_under, parts-kept, is_touched, IsBetween, Sides}
+use Rattle.cdi_live.proofs.Common.{holds, same_quals, same_quals-decides, required, Answers, Choice, are_alike, sees_other, suspects}
 use Rattle.cdi_index.specs.declared.asked.Question.TheVariants as questions
-use Rattle.cdi_index.specs.Asked.{asks_for, asks_in}
-use Rattle.cdi_index.specs.Told.{Tells}
-use Rattle.cdi_memo.specs.Answers.{parts_under, Answers}
-use Rattle.cdi_memo.proofs.QuestionLemmas.{parts-kept}
-use Rattle.cdi_observe.specs.Keys.{ChoiceKey}
-use Rattle.cdi_observe.specs.Wanted.{is_wanted}
-use Rattle.cdi_resolve.specs.declared.choice.Choice.{Choice}
-use Rattle.cdi_seen.specs.Touched.{is_touched}
 use Rattle.cdi_seen.proofs.TouchedLemmas.{touched_by_parts}
-use Rattle.cdi_stakes.specs.Rests.{IsPresent}
-use Rattle.cdi_stakes.proofs.PresentLemmas.{all_present, found_any, witness}
-use Rattle.cdi_live.specs.Dropped.{is_asked_after, is_dropped_at, is_dropped_by, is_dropped_in, is_kept, Asks}
-use Rattle.cdi_live.specs.Gone.{are_alike, sees_other, stays_known}
-use Rattle.cdi_live.specs.Compared.{IsBetween}
+use Rattle.cdi_live.specs.Dropped.{is_dropped_at, is_dropped_by, is_dropped_in, is_kept, Asks}
+use Rattle.cdi_live.specs.Gone.{stays_known}
 use Rattle.cdi_live.specs.Stage.{AreWanted}
-use Rattle.cdi_live.specs.Suspects.{holds, suspects}
-use Rattle.cdi_live.specs.declared.sides.Sides.{Sides}
 use Rattle.cdi_live.proofs.AskedLemmas.{any-among, any-elim, asked-after, same-bool, wanted-is}
 use Rattle.cdi_live.proofs.SuspectLemmas.{beans-same, uses-alike}
 

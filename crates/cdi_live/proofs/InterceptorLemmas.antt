@@ -1,42 +1,21 @@
 -- The interceptors that a chain sees are found by the words of its bindings.
-use Rattle.std.proofs.Common.{◌≡◌, ℕ, Bool, true, false, cond, ◌&&◌, ◌||◌, is_some, List, [], ◌∷◌, ◌++◌, flat_map, filter, slice_get, Some}
-use Rattle.std.proofs.Common.{refl, sym, ap, ◌∙◌, inl, inr, arith}
-use Rattle.std.specs.List.{list_any}
+use Rattle.cdi_live.proofs.Common.{◌≡◌, Bool, true, false, cond, ◌&&◌, List, [], ◌∷◌, filter, is_some, refl, sym, ap, ◌∙◌, inl, inr}
+use Rattle.cdi_live.proofs.Common.{list_any, false≢true, or_left, or_right, Decl, InterceptorDecl, BeanPlace, Qual, bytes_eq-turned}
+use Rattle.cdi_live.proofs.Common.{uses_one, in_order, part_for, is_seen, shares_type, ℕ, ◌||◌, flat_map, Some, option_map_or, AreDistinct}
+use Rattle.cdi_live.proofs.Common.{mentions, Mention, ◌++◌, option_to_list, of_bindings, of_parts, of_point, Effective, Word, same_word}
+use Rattle.cdi_live.proofs.Common.{word_at, words_have, words_named, words_named_in, among-named, IsBetween, Sides, or_parts, is_enabled}
+use Rattle.cdi_live.proofs.Common.{has_one, slice_get, arith, filter-append, is_listed, is_marked, marked_from, records_at, is_place_of_one}
+use Rattle.cdi_live.proofs.Common.{words_declared, flat_map-append, sorted_by, words_typed, same_word_equiv, enabled_at, words_bound}
+use Rattle.cdi_live.proofs.ListedLemmas.{words-append}
 use Rattle.std.proofs.Math.Bool.{and-false}
-use Rattle.std.proofs.lemmas.Bool.{false≢true, or_left, or_parts, or_right}
-use Rattle.std.proofs.lemmas.Grind.{flat_map-append}
-use Rattle.std.proofs.lemmas.List.Elements.{filter-append}
-use Rattle.std.proofs.lemmas.List.Folds.{list_any-append}
-use Rattle.cdi_model.specs.declared.decl.Decl.{Decl}
 use Rattle.cdi_model.specs.declared.decl.Decl.TheVariants as decls
-use Rattle.cdi_model.specs.declared.decl.InterceptorDecl.{InterceptorDecl}
 use Rattle.cdi_model.specs.declared.mention.PointPlace.TheVariants as points
-use Rattle.cdi_model.specs.declared.place.BeanPlace.{BeanPlace}
 use Rattle.cdi_model.specs.declared.place.PartPlace.TheVariants as parts
-use Rattle.cdi_model.specs.declared.quals.Qual.{Qual}
-use Rattle.cdi_model.specs.Mentions.{mentions, of_bindings, of_parts, of_point, Mention}
-use Rattle.cdi_match.proofs.Names.{bytes_eq-turned}
-use Rattle.cdi_effective.specs.Qualifiers.{uses_one}
-use Rattle.cdi_effective.specs.declared.records.Effective.{Effective}
-use Rattle.cdi_intercept.specs.Chains.{as_interceptor, in_order, interceptors, is_before, is_enabled, part_for}
-use Rattle.cdi_intercept.specs.Sees.{is_seen, shares_type}
-use Rattle.cdi_intercept.specs.Sorting.{sorted_by}
-use Rattle.cdi_positions.specs.Marks.{is_marked, marked_from}
+use Rattle.cdi_intercept.specs.Chains.{as_interceptor, interceptors, is_before}
 use Rattle.cdi_postings.specs.declared.word.Reason.TheVariants as reasons
-use Rattle.cdi_postings.specs.declared.word.Word.{Word}
-use Rattle.cdi_postings.specs.Words.{same_word, same_word_equiv, word_at}
-use Rattle.cdi_index.specs.Made.{words_have, words_named, words_named_in}
-use Rattle.cdi_postings.specs.Listing.{is_listed}
-use Rattle.cdi_index.specs.Under.{has_one, records_at}
-use Rattle.cdi_index.proofs.NamedLemmas.{among-named}
-use Rattle.cdi_stakes.proofs.ChainLemmas.{order}
-use Rattle.cdi_stakes.proofs.SortLemmas.{filtered_in_order}
-use Rattle.std.specs.Option.{option_map_or, option_to_list}
-use Rattle.cdi_model.specs.DeclList.{AreDistinct}
-use Rattle.cdi_live.specs.Compared.{is_place_of_one, IsBetween}
-use Rattle.cdi_live.specs.Sought.{words_declared, words_typed}
-use Rattle.cdi_live.specs.declared.sides.Sides.{Sides}
-use Rattle.cdi_live.specs.ChainGone.{enabled_at, enabled_in, words_bound}
+use Rattle.cdi_seen.proofs.ChainLemmas.{order}
+use Rattle.cdi_seen.proofs.SortLemmas.{filtered_in_order}
+use Rattle.cdi_live.specs.ChainGone.{enabled_in}
 use Rattle.cdi_live.proofs.CompareLemmas.{gather, unmarked-decl}
 use Rattle.cdi_live.proofs.SoughtLemmas.{fewer, none-declared}
 
@@ -69,9 +48,6 @@ Cover words us = (x : List ℕ) → uses_one us x ≡ true → words_have words 
 bound-has : (us : List Qual) (x : List ℕ) → words_have (words_bound us) (word_at reasons.Binds x) ≡ uses_one us x
 bound-has [] x = refl
 bound-has (u ∷ us) x = λ i. bytes_eq-turned u.name x i || bound-has us x i
-
-words-append : (w : Word) (xs ys : List Word) → words_have (xs ++ ys) w ≡ (words_have xs w || words_have ys w)
-words-append w xs ys = list_any-append (λ v. same_word v w) xs ys
 
 pub cover-one : (us : List Qual) → Cover (words_bound us) us
 cover-one us x h = bound-has us x ∙ h

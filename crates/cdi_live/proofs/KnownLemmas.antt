@@ -1,21 +1,14 @@
 -- Each known key is wanted, and as many of the wanted keys are known as answers are kept.
-use Rattle.std.proofs.Common.{◌≡◌, ℕ, suc, ◌+◌, Bool, true, false, cond, ◌&&◌, ◌||◌, List, [], ◌∷◌, length, filter, refl, sym, ap, ◌∙◌, arith}
-use Rattle.std.specs.List.{list_any, AllByRecursion, IsDistinct}
-use Rattle.std.specs.Str.{bytes_eq}
-use Rattle.std.proofs.lemmas.Bool.{false≢true}
+use Rattle.cdi_live.proofs.Common.{◌≡◌, Bool, true, false, cond, ◌&&◌, List, [], ◌∷◌, length, filter, refl, sym, ap, ◌∙◌, list_any}
+use Rattle.cdi_live.proofs.Common.{bytes_eq, false≢true, Decl, BeanPlace, Qual, ℕ, ◌||◌, ChoiceKey, is_wanted, same_place, ChainKey, suc}
+use Rattle.cdi_live.proofs.Common.{◌+◌, arith, has_key, EventKey, same_quals, IsDistinct, Key, wanted, knows_in, Memos}
+use Rattle.std.specs.List.{AllByRecursion}
 use Rattle.std.proofs.lemmas.Map.Keys.{IsDistinct-cons, IsDistinct-head, IsDistinct-tail}
-use Rattle.cdi_model.specs.declared.decl.Decl.{Decl}
-use Rattle.cdi_model.specs.declared.place.BeanPlace.{BeanPlace}
-use Rattle.cdi_model.specs.declared.quals.Qual.{Qual}
-use Rattle.cdi_model.specs.SameUse.{same_quals}
 use Rattle.cdi_memo.specs.Answers.{how_many, is_kept, same_question, Question}
 use Rattle.cdi_memo.specs.Laws.{CountsAnswered}
 use Rattle.cdi_memo.proofs.QuestionLemmas.{differ-nil}
-use Rattle.cdi_observe.specs.Keys.{has_key, same_key, same_place, Key, ChainKey, ChoiceKey, EventKey}
-use Rattle.cdi_observe.specs.Wanted.{is_wanted, wanted}
+use Rattle.cdi_observe.specs.Keys.{same_key}
 use Rattle.cdi_live.specs.Kept.{AreAsked}
-use Rattle.cdi_live.specs.State.{knows_in}
-use Rattle.cdi_live.specs.declared.memos.Memos.{Memos}
 use Rattle.cdi_live.proofs.WantedOnceLemmas.{has-wanted, wanted-distinct}
 
 -- ---- the known keys are wanted

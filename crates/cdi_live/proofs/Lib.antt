@@ -1,3 +1,5 @@
+mod Common
+mod ListedLemmas
 mod AskedLemmas
 mod PartLemmas
 mod SoughtLemmas

@@ -1,34 +1,18 @@
 -- What is known of chains after a commit, and after an evaluation.
-use Rattle.std.proofs.Common.{◌≡◌, ℕ, Bool, true, false, not, ◌&&◌, ◌||◌, List, [], ◌∷◌, ◌++◌, map, Option, Some, None, Result, Ok, Err, cond}
-use Rattle.std.proofs.Common.{if◌then◌else◌, is_some}
-use Rattle.std.proofs.Common.{refl, sym, ap, ◌∙◌}
-use Rattle.std.specs.Option.{option_map_or}
-use Rattle.std.specs.Str.{bytes_eq}
-use Rattle.std.specs.Cmp.Lexicographic.{bytes_decides}
-use Rattle.std.proofs.lemmas.Bool.{and_parts, false≢true}
-use Rattle.std.proofs.lemmas.List.Folds.{list_any-append}
-use Rattle.cdi_model.specs.declared.decl.BeanDecl.{BeanDecl}
-use Rattle.cdi_model.specs.declared.decl.Decl.{Decl}
-use Rattle.cdi_model.specs.declared.place.BeanPlace.{BeanPlace}
-use Rattle.cdi_model.specs.DeclList.{AreDistinct}
+use Rattle.cdi_live.proofs.Common.{◌≡◌, Bool, true, false, cond, not, ◌&&◌, List, [], ◌∷◌, map, is_some, refl, sym, ap, ◌∙◌, bytes_eq}
+use Rattle.cdi_live.proofs.Common.{and_parts, false≢true, Decl, BeanPlace, bytes_eq-turned, chain_by, ℕ, ◌||◌, Option, Some, None}
+use Rattle.cdi_live.proofs.Common.{option_map_or, list_any-append, AreDistinct, is_wanted, ◌++◌, BeanDecl, class_bindings, bytes_decides}
+use Rattle.cdi_live.proofs.Common.{same_place, ChainKey, same_place-decides, is_touched, is_kept_chain, ArePlaces, Chains, find_bean}
+use Rattle.cdi_live.proofs.Common.{sees_at, has_place, set_by, ByChain, touched_where_seen_differs, is_place_of, Ok, if◌then◌else◌}
+use Rattle.cdi_live.proofs.Common.{chain_of, answer, Removes, is_gone_chain, AreGoneChains, GoneChain}
+use Rattle.std.proofs.Common.{Result, Err}
 use Rattle.cdi_model.specs.declared.refusal.Refusal.{Refusal}
 use Rattle.cdi_model.specs.declared.refusal.Refusal.TheVariants as refusals
-use Rattle.cdi_match.proofs.Names.{bytes_eq-turned}
-use Rattle.cdi_effective.specs.Bindings.{class_bindings}
-use Rattle.cdi_effective.specs.Disposers.{find_bean}
-use Rattle.cdi_intercept.specs.Chains.{chain_by, chain_of, chain_told}
-use Rattle.cdi_intercept.specs.Sees.{sees_at, Seen}
-use Rattle.cdi_intercept.specs.Sets.{has_place, set_by}
+use Rattle.cdi_intercept.specs.Chains.{chain_told}
+use Rattle.cdi_intercept.specs.Sees.{Seen}
 use Rattle.cdi_intercept.proofs.SeenLemmas.{told_rests_on_seen}
-use Rattle.cdi_memo.specs.Answers.{answer, Removes}
-use Rattle.cdi_observe.specs.Keys.{same_place, ChainKey}
-use Rattle.cdi_observe.specs.Wanted.{is_wanted}
-use Rattle.cdi_observe.proofs.KeyLemmas.{same_place-decides}
-use Rattle.cdi_seen.specs.Touched.{is_touched, ByChain}
-use Rattle.cdi_seen.proofs.SameLemmas.{touched_where_seen_differs}
-use Rattle.cdi_live.specs.ChainGone.{is_gone_chain, is_kept_chain, is_place_of, AreGoneChains, ArePlaces, AreRightChains, Chains}
+use Rattle.cdi_live.specs.ChainGone.{AreRightChains}
 use Rattle.cdi_live.specs.Places.{same_place_equiv}
-use Rattle.cdi_live.specs.declared.chain_gone.GoneChain.{GoneChain}
 use Rattle.cdi_live.proofs.WantedPlaceLemmas.{wanted-place}
 
 -- ---- after a commit

@@ -1,45 +1,28 @@
 -- What is known after a commit, and after an evaluation.
-use Rattle.std.proofs.Common.{◌≡◌, ℕ, Bool, true, false, not, ◌&&◌, ◌||◌, List, [], ◌∷◌, ◌++◌, Option, Some, None, Ok, if◌then◌else◌, is_some}
-use Rattle.std.proofs.Common.{refl, sym, ap, subst, ◌∙◌, ◌==◌, inl, inr, length}
-use Rattle.std.specs.Prelude.{IfSome}
-use Rattle.std.specs.Str.{bytes_eq}
-use Rattle.std.specs.Cmp.Lexicographic.{bytes_decides}
-use Rattle.std.proofs.lemmas.Bool.{and_parts, eqb-true, false≢true}
+use Rattle.cdi_live.proofs.Common.{◌≡◌, Bool, true, false, not, ◌&&◌, List, [], ◌∷◌, length, is_some, refl, sym, ap, ◌∙◌, inl, inr}
+use Rattle.cdi_live.proofs.Common.{bytes_eq, and_parts, false≢true, Decl, BeanPlace, Qual, bytes_eq-turned, ℕ, ◌||◌, Option, Some, None}
+use Rattle.cdi_live.proofs.Common.{list_any-append, ChoiceKey, is_wanted, ◌++◌, subst, bytes_decides, same_place, ChainKey, is_touched}
+use Rattle.cdi_live.proofs.Common.{Chains, touched_where_seen_differs, beans, EventKey, same_quals, same_quals-decides, ObserverId, Events}
+use Rattle.cdi_live.proofs.Common.{event_sees, ByEvent, required, Answers, Choice, Key, knows_in, Memos, Ok, if◌then◌else◌, chain_of}
+use Rattle.cdi_live.proofs.Common.{answer, Removes, IfSome, eqb-true, after_key, with_known, chosen, is_gone, Gone}
+use Rattle.std.proofs.Common.{◌==◌}
 use Rattle.std.proofs.lemmas.List.{nil_from_length}
-use Rattle.std.proofs.lemmas.List.Folds.{list_any-append}
-use Rattle.cdi_model.specs.declared.decl.Decl.{Decl}
-use Rattle.cdi_model.specs.declared.place.BeanPlace.{BeanPlace}
-use Rattle.cdi_model.specs.declared.quals.Qual.{Qual}
 use Rattle.cdi_model.specs.Quals.{put_use}
-use Rattle.cdi_model.specs.SameUse.{same_quals, same_quals-decides, same_quals_equiv}
+use Rattle.cdi_model.specs.SameUse.{same_quals_equiv}
 use Rattle.cdi_model.specs.Work.{with_one}
-use Rattle.cdi_match.proofs.Names.{bytes_eq-turned}
-use Rattle.cdi_effective.specs.Beans.{beans}
-use Rattle.cdi_effective.specs.Qualifiers.{default_use, required}
-use Rattle.cdi_intercept.specs.Chains.{chain_of}
-use Rattle.cdi_memo.specs.Answers.{answer, Answers, Removes}
-use Rattle.cdi_observe.specs.Kept.{after_key, with_known, work_with, Kept}
-use Rattle.cdi_observe.specs.Keys.{Key, same_place, ChainKey, ChoiceKey, EventKey}
+use Rattle.cdi_effective.specs.Qualifiers.{default_use}
+use Rattle.cdi_observe.specs.Kept.{work_with, Kept}
 use Rattle.cdi_observe.specs.Observers.{notified}
-use Rattle.cdi_observe.specs.Sees.{event_sees, SeenOfEvent}
-use Rattle.cdi_observe.specs.Wanted.{is_wanted}
-use Rattle.cdi_observe.specs.declared.observers.ObserverId.{ObserverId}
+use Rattle.cdi_observe.specs.Sees.{SeenOfEvent}
 use Rattle.cdi_observe.proofs.SeenLemmas.{notified_rest_on_seen}
-use Rattle.cdi_resolve.specs.declared.choice.Choice.{Choice}
-use Rattle.cdi_resolve.specs.Choices.{chosen, eligible}
+use Rattle.cdi_resolve.specs.Choices.{eligible}
 use Rattle.cdi_resolve.specs.Sees.{sees, Seen}
 use Rattle.cdi_resolve.proofs.SeenLemmas.{choice_rests_on_seen}
-use Rattle.cdi_seen.specs.Touched.{is_touched, ByChoice, ByEvent}
-use Rattle.cdi_seen.proofs.SameLemmas.{touched_where_seen_differs}
-use Rattle.cdi_live.specs.ChainGone.{Chains}
-use Rattle.cdi_live.specs.EventCompared.{Events}
-use Rattle.cdi_live.specs.Gone.{is_gone}
+use Rattle.cdi_seen.specs.Touched.{ByChoice}
 use Rattle.cdi_live.specs.Kept.{AreGoing, Forgets}
 use Rattle.cdi_index.specs.State.{committed as index_committed, committed_to, State as IndexState}
-use Rattle.cdi_live.specs.State.{knows_in, AreKept, AreRight, HasDefault, IsDefaultOrNone, IsGoing, IsLive, MayGo}
-use Rattle.cdi_live.specs.declared.gone.Gone.{Gone}
+use Rattle.cdi_live.specs.State.{AreKept, AreRight, HasDefault, IsDefaultOrNone, IsGoing, IsLive, MayGo}
 use Rattle.cdi_live.specs.declared.memos.Going.{Going}
-use Rattle.cdi_live.specs.declared.memos.Memos.{Memos}
 use Rattle.cdi_live.proofs.LiveChainLemmas.{known-chain-with, places-after, places-with, right-chains-after, right-chains-with}
 
 abbrev pub Choices : Type 0

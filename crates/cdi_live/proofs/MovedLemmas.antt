@@ -1,20 +1,10 @@
 -- The names of what goes.
-use Rattle.std.proofs.Common.{◌≡◌, ℕ, zero, suc, Bool, true, false, ◌&&◌, ◌||◌, List, [], ◌∷◌, Option, Some, None, refl, sym, ap, subst, ◌∙◌, inl, inr, Bor}
-use Rattle.std.specs.List.{list_any}
+use Rattle.cdi_live.proofs.Common.{◌≡◌, Bool, true, false, ◌&&◌, List, [], ◌∷◌, refl, sym, ap, ◌∙◌, inl, inr, list_any, option_eq, bytes_eq}
+use Rattle.cdi_live.proofs.Common.{and_parts, false≢true, or_cases, or_left, or_right, BeanPlace, Qual, ℕ, ◌||◌, Option, Some, None, has}
+use Rattle.cdi_live.proofs.Common.{subst, bytes_decides, same_place, zero, suc, same_quals, is_gone_chain, GoneChain, is_gone, Gone}
+use Rattle.cdi_live.proofs.Common.{option_copied}
+use Rattle.std.proofs.Common.{Bor}
 use Rattle.std.specs.Prelude.{slice_get}
-use Rattle.std.specs.Option.{option_copied, option_eq}
-use Rattle.std.specs.Str.{bytes_eq}
-use Rattle.std.specs.Cmp.Lexicographic.{bytes_decides}
-use Rattle.std.proofs.lemmas.Bool.{and_parts, false≢true, or_cases, or_left, or_right}
-use Rattle.cdi_match.specs.Chain.{has}
-use Rattle.cdi_model.specs.declared.place.BeanPlace.{BeanPlace}
-use Rattle.cdi_model.specs.declared.quals.Qual.{Qual}
-use Rattle.cdi_model.specs.SameUse.{same_quals}
-use Rattle.cdi_observe.specs.Keys.{same_place}
-use Rattle.cdi_live.specs.ChainGone.{is_gone_chain}
-use Rattle.cdi_live.specs.Gone.{is_gone}
-use Rattle.cdi_live.specs.declared.chain_gone.GoneChain.{GoneChain}
-use Rattle.cdi_live.specs.declared.gone.Gone.{Gone}
 
 -- a name that is one of some others is among them
 among : (names : List (List ℕ)) (k : ℕ) (name n : List ℕ) → option_eq bytes_eq (slice_get names k) (Some name) ≡ true

@@ -1,21 +1,11 @@
 -- The declarations that read another one are those of the list of its readers.
-use Rattle.std.proofs.Common.{◌≡◌, ℕ, Bool, true, false, ◌&&◌, ◌||◌, List, [], ◌∷◌, Option, Some, None, option_map, refl, sym, ap, ◌∙◌}
-use Rattle.std.specs.List.{list_any}
-use Rattle.std.proofs.lemmas.Bool.{and_from, and_parts, false≢true, or_left, or_right}
-use Rattle.cdi_model.specs.declared.decl.Decl.{Decl}
-use Rattle.cdi_model.specs.declared.decl.Kind.{Kind}
+use Rattle.cdi_live.proofs.Common.{◌≡◌, Bool, true, false, ◌&&◌, List, [], ◌∷◌, refl, sym, ap, ◌∙◌, list_any, and_from, and_parts}
+use Rattle.cdi_live.proofs.Common.{false≢true, or_left, or_right, Decl, ℕ, ◌||◌, Option, Some, None, DeclKey, key_of, same_key, find_decl}
+use Rattle.cdi_live.proofs.Common.{AreDistinct, is_among, IsPresent, all_present, found_any, witness, option_map, key_at, as_binding}
+use Rattle.cdi_live.proofs.Common.{as_bean, made_of, made_of_bean, made_of_binding, made_of_interceptor, reads, key-found, made_of_type}
+use Rattle.cdi_live.proofs.Common.{Kind}
 use Rattle.cdi_model.specs.declared.decl.Kind.TheVariants as kinds
-use Rattle.cdi_model.specs.declared.key.DeclKey.{DeclKey}
-use Rattle.cdi_model.specs.Decl.{key_of}
-use Rattle.cdi_model.specs.DeclKey.{key_at, same_key, same_key_equiv}
-use Rattle.cdi_model.specs.DeclList.{find_decl, AreDistinct}
-use Rattle.cdi_model.specs.Edits.{is_among}
-use Rattle.cdi_effective.specs.Disposers.{as_bean}
-use Rattle.cdi_match.specs.Filling.{as_binding}
-use Rattle.cdi_index.specs.Made.{made_of, made_of_bean, made_of_binding, made_of_interceptor, made_of_type, reads}
-use Rattle.cdi_index.proofs.UnderLemmas.{key-found}
-use Rattle.cdi_stakes.specs.Rests.{IsPresent}
-use Rattle.cdi_stakes.proofs.PresentLemmas.{all_present, found_any, witness}
+use Rattle.cdi_model.specs.DeclKey.{same_key_equiv}
 use Rattle.cdi_live.proofs.AskedLemmas.{any-among, same-bool}
 
 -- what read something is made of a declaration that is there

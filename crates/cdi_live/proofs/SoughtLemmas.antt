@@ -1,32 +1,17 @@
 -- The declarations that edits affect are found by their words where they are listed.
-use Rattle.std.proofs.Common.{◌≡◌, ◌<◌, ◌≤◌, ℕ, nat_eq, Bool, true, false, ◌&&◌, ◌||◌, List, [], ◌∷◌, ◌++◌, map, filter, length, Option, Some, None}
-use Rattle.std.proofs.Common.{is_some, position, slice_get, get_or, refl, sym, ap, subst, ◌∙◌, arith}
-use Rattle.std.specs.List.{list_any, All}
-use Rattle.std.specs.Option.{option_map_or}
-use Rattle.std.specs.Str.{bytes_eq}
+use Rattle.cdi_live.proofs.Common.{◌≡◌, Bool, true, false, ◌&&◌, List, [], ◌∷◌, length, map, filter, nat_eq, is_some, refl, sym, ap, ◌∙◌}
+use Rattle.cdi_live.proofs.Common.{list_any, bytes_eq, and_parts, false≢true, or_right, Decl, bytes_eq-turned, ℕ, ◌||◌, Option, Some, None}
+use Rattle.cdi_live.proofs.Common.{option_map_or, list_any-append, DeclKey, key_of, find_decl, AreDistinct, is_among, ◌++◌, ObserverDecl}
+use Rattle.cdi_live.proofs.Common.{has, Effective, Word, same_word, word_at, words_have, subst, or_from, or_parts, position, slice_get}
+use Rattle.cdi_live.proofs.Common.{arith, nat_eq_equiv, is_of, position-found, position-there, own-position, is_listed, words_at}
+use Rattle.cdi_live.proofs.Common.{words_typed, eqb-true, ◌<◌, Kind, ◌≤◌, All, limit, is_listed_by, words_observed, AreListed}
+use Rattle.std.proofs.Common.{get_or}
 use Rattle.std.proofs.Math.Bool.{and-true}
-use Rattle.std.proofs.lemmas.Bool.{and_parts, eqb-true, false≢true, or_from, or_parts, or_right}
-use Rattle.std.proofs.lemmas.Cmp.{nat_eq_equiv}
-use Rattle.std.proofs.lemmas.List.Folds.{list_any-append, list_any_at}
+use Rattle.std.proofs.lemmas.List.Folds.{list_any_at}
 use Rattle.std.proofs.lemmas.Option.{slice_get_within}
-use Rattle.cdi_model.specs.declared.decl.Decl.{Decl}
-use Rattle.cdi_model.specs.declared.decl.Kind.{Kind}
-use Rattle.cdi_model.specs.declared.decl.ObserverDecl.{ObserverDecl}
-use Rattle.cdi_model.specs.declared.key.DeclKey.{DeclKey}
-use Rattle.cdi_model.specs.Decl.{key_of}
-use Rattle.cdi_model.specs.DeclList.{find_decl, is_of, limit, AreDistinct}
-use Rattle.cdi_model.specs.Edits.{is_among}
-use Rattle.cdi_model.proofs.PositionLemmas.{position-found, position-there}
-use Rattle.cdi_match.specs.Chain.{has}
-use Rattle.cdi_match.proofs.Names.{bytes_eq-turned}
-use Rattle.cdi_effective.specs.declared.records.Effective.{Effective}
-use Rattle.cdi_effective.proofs.PlaceLemmas.{own-position}
 use Rattle.cdi_postings.specs.declared.word.Reason.TheVariants as reasons
-use Rattle.cdi_postings.specs.declared.word.Word.{Word}
-use Rattle.cdi_postings.specs.Listing.{is_listed, under, Listing}
-use Rattle.cdi_postings.specs.Words.{same_word, word_at}
-use Rattle.cdi_index.specs.Made.{words_have}
-use Rattle.cdi_live.specs.Sought.{is_listed_by, is_listed_for, words_at, words_observed, words_typed, AreListed}
+use Rattle.cdi_postings.specs.Listing.{under, Listing}
+use Rattle.cdi_live.specs.Sought.{is_listed_for}
 use Rattle.cdi_live.proofs.AskedLemmas.{any-among, any-elim}
 
 -- ---- where they are listed

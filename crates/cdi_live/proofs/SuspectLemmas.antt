@@ -1,61 +1,29 @@
 -- Choices for types that are not suspect see the same after edits.
-use Rattle.std.proofs.Common.{◌≡◌, ℕ, Bool, true, false, cond, ◌&&◌, ◌||◌, List, [], ◌∷◌, ◌++◌, map, flat_map, filter}
-use Rattle.std.proofs.Common.{refl, sym, ap, ◌∙◌, inl, inr}
-use Rattle.std.specs.List.{list_all, list_any}
-use Rattle.std.specs.Option.{option_to_list}
-use Rattle.std.specs.Str.{bytes_eq}
-use Rattle.std.proofs.lemmas.Bool.{and_from, and_parts, false≢true, or_cases, or_left, or_parts, or_right}
-use Rattle.std.proofs.lemmas.List.Folds.{list_any-append}
-use Rattle.cdi_model.specs.declared.decl.BeanDecl.{BeanDecl}
-use Rattle.cdi_model.specs.declared.decl.Decl.{Decl}
+use Rattle.cdi_live.proofs.Common.{◌≡◌, Bool, true, false, cond, ◌&&◌, List, [], ◌∷◌, map, filter, refl, sym, ap, ◌∙◌, inl, inr, list_all}
+use Rattle.cdi_live.proofs.Common.{list_any, bytes_eq, and_from, and_parts, false≢true, or_cases, or_left, or_right, Decl, Qual}
+use Rattle.cdi_live.proofs.Common.{bytes_eq-turned, ℕ, ◌||◌, flat_map, list_any-append, Edit, DeclKey, key_of, kind_of, name_of_decl}
+use Rattle.cdi_live.proofs.Common.{same_key, AreDistinct, edited_all, edited_keys, is_among, mentions, Mention, BodyOf, CallOf, EventOf}
+use Rattle.cdi_live.proofs.Common.{MethodOf, PointOf, StereotypeOf, TypeIn, UseOf, edits_keep_decl, key_exact, asks_for, asks_in, IsPresent}
+use Rattle.cdi_live.proofs.Common.{all_present, found_any, witness, ◌++◌, option_to_list, BeanDecl, has, own_records, Effective, Word}
+use Rattle.cdi_live.proofs.Common.{same_word, word_at, words_have, words_named, words_named_in, words_of_bindings, words_of_observer}
+use Rattle.cdi_live.proofs.Common.{words_of_record, words_of_uses, words_by, among-named, Tells, or_parts, key_at, Avoid, as_bean, has_one}
+use Rattle.cdi_live.proofs.Common.{each_all, holds, entries, same_quals, same_quals-decides, records, records_declared, records_in}
+use Rattle.cdi_live.proofs.Common.{same_word_equiv, words-of-asker, required, are_alike, suspects, offers, see_same_beans, asked_in}
+use Rattle.cdi_live.proofs.Common.{asked_types, concerned, types_of_edited, types_of_key, types_of_records}
+use Rattle.cdi_live.proofs.ListedLemmas.{holds-append, of-passing, words-append}
 use Rattle.cdi_model.specs.declared.decl.Decl.TheVariants as decls
 use Rattle.cdi_model.specs.declared.decl.Kind.TheVariants as kinds
-use Rattle.cdi_model.specs.declared.edit.Edit.{Edit}
-use Rattle.cdi_model.specs.declared.key.DeclKey.{DeclKey}
-use Rattle.cdi_model.specs.declared.quals.Qual.{Qual}
-use Rattle.cdi_model.specs.Decl.{key_of, kind_of, name_of_decl}
-use Rattle.cdi_model.specs.DeclKey.{key_at, same_key}
-use Rattle.cdi_model.specs.DeclList.{AreDistinct}
-use Rattle.cdi_model.specs.Edits.{edited_all, edited_keys, is_among, Avoid}
-use Rattle.cdi_model.specs.Mentions.{mentions, Mention, BodyOf, CallOf, EventOf, MethodOf, PointOf, StereotypeOf, TypeIn, UseOf}
-use Rattle.cdi_model.specs.SameUse.{same_quals, same_quals-decides}
-use Rattle.cdi_model.proofs.EditLemmas.{edits_keep_decl}
-use Rattle.cdi_model.proofs.EntryLemmas.{key_exact}
-use Rattle.cdi_match.specs.Chain.{has}
-use Rattle.cdi_match.proofs.Names.{bytes_eq-turned}
-use Rattle.cdi_effective.specs.Beans.{entries, own_records, records}
-use Rattle.cdi_effective.specs.Disposers.{as_bean}
-use Rattle.cdi_effective.specs.Qualifiers.{required}
 use Rattle.cdi_effective.specs.Reads.{qualifier_reads}
-use Rattle.cdi_effective.specs.Records.{records_declared, records_in}
-use Rattle.cdi_effective.specs.declared.records.Effective.{Effective}
 use Rattle.cdi_postings.specs.declared.word.Reason.TheVariants as reasons
-use Rattle.cdi_postings.specs.declared.word.Word.{Word}
-use Rattle.cdi_postings.specs.Words.{same_word, same_word_equiv, word_at}
-use Rattle.cdi_index.specs.Asked.{asks_for, asks_in}
 use Rattle.cdi_index.specs.declared.asked.Question.TheVariants as questions
-use Rattle.cdi_index.specs.Made.{words_have, words_named, words_named_in, words_of_bindings, words_of_observer, words_of_record}
-use Rattle.cdi_index.specs.Made.{words_of_uses}
-use Rattle.cdi_index.specs.Told.{Tells}
-use Rattle.cdi_index.specs.Under.{has_one, words_by}
-use Rattle.cdi_index.proofs.NamedLemmas.{among-named}
-use Rattle.cdi_index.proofs.AskedLemmas.{words-of-asker}
-use Rattle.cdi_resolve.specs.Choices.{offers}
 use Rattle.cdi_resolve.specs.Sees.{seen_bean}
 use Rattle.cdi_seen.specs.Contribution.{contribution, seen_of}
-use Rattle.cdi_seen.specs.Touched.{declare_alike, see_same_beans}
+use Rattle.cdi_seen.specs.Touched.{declare_alike}
 use Rattle.cdi_seen.proofs.ContributionLemmas.{seen_same}
 use Rattle.cdi_seen.proofs.TouchedLemmas.{edits_keep_declared, edits_keep_seen}
-use Rattle.cdi_stakes.specs.Rests.{IsPresent}
-use Rattle.cdi_stakes.proofs.GatherLemmas.{quals_are_own}
-use Rattle.cdi_stakes.proofs.PresentLemmas.{all_present, each_all, found_any, witness}
-use Rattle.cdi_live.specs.Gone.{are_alike}
-use Rattle.cdi_live.specs.Suspects.{asked_in, asked_types, concerned, holds, suspects, types_of_edited, types_of_key, types_of_records}
+use Rattle.cdi_seen.proofs.GatherLemmas.{quals_are_own}
 
 -- ---- lists of names
-
-holds-append : (xs ys : List (List ℕ)) (t : List ℕ) → holds (xs ++ ys) t ≡ (holds xs t || holds ys t)
-holds-append xs ys t = list_any-append (λ n. bytes_eq n t) xs ys
 
 -- what is among no name of some keys is among none of one of them
 of-key : (f : DeclKey → List (List ℕ)) (keys : List DeclKey) (k : DeclKey) (t : List ℕ) → holds (flat_map f keys) t ≡ false
@@ -67,24 +35,6 @@ of-key f (l ∷ keys) k t none among =
       | inl here ↦ ap (λ x. holds (f x) t) (sym (key_exact l k here)) ∙ parts.0
       | inr there ↦ of-key f keys k t parts.1 there
     ]
-
--- those of declarations that pass a test
-pub of-passing : (f : Decl → List (List ℕ)) (test : Decl → Bool) (t : List ℕ) (ds : List Decl)
-    → list_any (λ d. test d && holds (f d) t) ds ≡ true → holds (flat_map f (filter test ds)) t ≡ true
-of-passing f test t [] h = absurd (false≢true h)
-of-passing f test t (d ∷ ds) h = by (test d) refl (of-passing f test t ds) h
-  where
-    by : (b : Bool) → test d ≡ b
-        → (list_any (λ d. test d && holds (f d) t) ds ≡ true → holds (flat_map f (filter test ds)) t ≡ true)
-        → ((b && holds (f d) t) || list_any (λ d. test d && holds (f d) t) ds) ≡ true
-        → holds (flat_map f (cond b (d ∷ filter test ds) (filter test ds))) t ≡ true
-    by true is more h =
-        holds-append (f d) (flat_map f (filter test ds)) t
-        ∙ elim (or_cases (holds (f d) t) (list_any (λ d. test d && holds (f d) t) ds) h) [
-          | inl here ↦ or_left (holds (f d) t) (holds (flat_map f (filter test ds)) t) here
-          | inr there ↦ or_right (holds (f d) t) (holds (flat_map f (filter test ds)) t) (more there)
-        ]
-    by false is more h = more h
 
 -- records of which none has a type are seen by no choice for it
 none-seen : (list : List Decl) (t : List ℕ) (rs : List Effective) → holds (types_of_records rs) t ≡ false → seen_of list t rs ≡ []
@@ -125,9 +75,6 @@ used (u ∷ us) key h = elim (or_cases (same_key (key_at kinds.Qualifier u.name)
   where
     same-word : (n : List ℕ) → same_word (word n) (word n) ≡ true
     same-word n = same_word_equiv.refl (word n)
-
-words-append : (w : Word) (xs ys : List Word) → words_have (xs ++ ys) w ≡ (words_have xs w || words_have ys w)
-words-append w xs ys = list_any-append (λ v. same_word v w) xs ys
 
 among-append : (xs ys : List DeclKey) (key : DeclKey) → is_among (xs ++ ys) key ≡ (is_among xs key || is_among ys key)
 among-append xs ys key = list_any-append (λ k. same_key k key) xs ys

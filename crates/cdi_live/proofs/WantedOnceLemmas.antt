@@ -1,12 +1,8 @@
 -- The wanted keys are those for which a declaration asks, and none stands twice.
-use Rattle.std.proofs.Common.{◌≡◌, List}
-use Rattle.std.specs.List.{IsDistinct}
+use Rattle.cdi_live.proofs.Common.{◌≡◌, List, Decl, is_wanted, wanted_stand_once, has_key, IsDistinct, Key, wanted}
 use Rattle.std.proofs.lemmas.Map.Made.{IsDistinct-from_AllPairs}
-use Rattle.cdi_model.specs.declared.decl.Decl.{Decl}
-use Rattle.cdi_observe.specs.Keys.{has_key, same_key, Key}
-use Rattle.cdi_observe.specs.Wanted.{is_wanted, wanted}
+use Rattle.cdi_observe.specs.Keys.{same_key}
 use Rattle.cdi_observe.proofs.KeyLemmas.{has_key-decides, same_key-decides}
-use Rattle.cdi_observe.proofs.WantedLemmas.{wanted_stand_once}
 use Rattle.cdi_live.proofs.AskedLemmas.{same-bool}
 
 -- a key is among the wanted ones exactly where a declaration asks for it

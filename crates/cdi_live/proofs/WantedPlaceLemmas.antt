@@ -1,26 +1,12 @@
 -- A chain is asked for where the bean of its class has its place.
-use Rattle.std.proofs.Common.{◌≡◌, ℕ, Bool, true, false, ◌&&◌, ◌||◌, List, [], ◌∷◌, map, Option, Some, None, refl, sym, ap}
-use Rattle.std.proofs.Common.{◌∙◌}
-use Rattle.std.specs.List.{list_any}
-use Rattle.std.specs.Option.{option_map_or}
-use Rattle.std.specs.Str.{bytes_eq}
-use Rattle.std.proofs.lemmas.Bool.{and_from, and_parts, false≢true}
-use Rattle.cdi_model.specs.declared.decl.BeanDecl.{BeanDecl}
-use Rattle.cdi_model.specs.declared.decl.Decl.{Decl}
+use Rattle.cdi_live.proofs.Common.{◌≡◌, Bool, true, false, ◌&&◌, List, [], ◌∷◌, map, refl, sym, ap, ◌∙◌, list_any, bytes_eq, and_from}
+use Rattle.cdi_live.proofs.Common.{and_parts, false≢true, Decl, BeanPlace, ℕ, ◌||◌, Option, Some, None, option_map_or, AreDistinct}
+use Rattle.cdi_live.proofs.Common.{is_wanted, IsPresent, all_present, found_any, witness, BeanDecl, same_place, ChainKey, one_name}
+use Rattle.cdi_live.proofs.Common.{same_text, as_bean, find_bean, has_place, is_place_of, places_of, has_key, wanted_by}
 use Rattle.cdi_model.specs.declared.decl.Decl.TheVariants as decls
 use Rattle.cdi_model.specs.declared.decl.Kind.TheVariants as kinds
-use Rattle.cdi_model.specs.declared.place.BeanPlace.{BeanPlace}
-use Rattle.cdi_model.specs.DeclList.{AreDistinct}
-use Rattle.cdi_match.proofs.Names.{one_name, same_text}
-use Rattle.cdi_effective.specs.Disposers.{as_bean, find_bean}
-use Rattle.cdi_intercept.specs.Sets.{has_place, places_of}
-use Rattle.cdi_observe.specs.Keys.{has_key, same_place, ChainKey}
-use Rattle.cdi_observe.specs.Wanted.{is_wanted, wanted_by}
 use Rattle.cdi_observe.proofs.BeanPlaceLemmas.{has-it}
-use Rattle.cdi_stakes.specs.Rests.{IsPresent}
-use Rattle.cdi_stakes.proofs.NameLemmas.{only-chains}
-use Rattle.cdi_stakes.proofs.PresentLemmas.{all_present, found_any, witness}
-use Rattle.cdi_live.specs.ChainGone.{is_place_of}
+use Rattle.cdi_seen.proofs.NameLemmas.{only-chains}
 use Rattle.cdi_live.proofs.AskedLemmas.{same-bool}
 use Rattle.cdi_live.proofs.ChainSuspectLemmas.{bean-there}
 

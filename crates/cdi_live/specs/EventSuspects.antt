@@ -18,7 +18,7 @@ use Rattle.cdi_postings.specs.declared.word.Word.{Word}
 use Rattle.cdi_postings.specs.Words.{word_at}
 use Rattle.cdi_index.specs.Made.{made_of, reads}
 use Rattle.cdi_index.specs.Under.{has_one}
-use Rattle.cdi_stakes.specs.Words.{types_observed}
+use Rattle.cdi_seen.specs.Words.{types_observed}
 use Rattle.cdi_live.specs.Suspects.{holds}
 
 -- ---- who uses an edited qualifier

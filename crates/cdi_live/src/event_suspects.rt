@@ -11,7 +11,7 @@ ghost use Rattle.cdi_model.specs.Mentions.{shown};
 ghost use Rattle.cdi_match.specs.Types.{object};
 ghost use Rattle.cdi_positions.specs.Marks.{marked_from};
 ghost use Rattle.cdi_index.specs.Made.{made_of, reads};
-ghost use Rattle.cdi_stakes.specs.Words.{types_observed};
+ghost use Rattle.cdi_seen.specs.Words.{types_observed};
 ghost use Rattle.cdi_live.specs.EventSuspects.{event_types, fired_at, fired_in, fired_types, is_suspect, may_have, observed_at};
 ghost use Rattle.cdi_live.specs.EventSuspects.{observed_by_key, observed_of, word_edited, words_edited};
 ghost use Rattle.cdi_live.specs.Suspects.{holds};

@@ -1,32 +1,24 @@
 -- The names of the interceptors around a bean tell which of them stand around it.
-use Rattle.std.proofs.Common.{◌≡◌, ℕ, zero, suc, Bool, true, false, cond, not, ◌&&◌, ◌||◌, List, [], ◌∷◌, ◌++◌, map, length, nat_eq}
-use Rattle.std.proofs.Common.{Some, Ok, Result, Err, get_or, refl, sym, ap, ◌∙◌}
-use Rattle.std.specs.List.{AllByRecursion, filter, flat_map, list_any, slice_get}
-use Rattle.std.specs.Str.{bytes_eq}
+use Rattle.cdi_observe.proofs.Common.{◌≡◌, ℕ, zero, suc, Bool, true, false, cond, not, ◌&&◌, ◌||◌, List, [], ◌∷◌, ◌++◌, map, length, Some}
+use Rattle.cdi_observe.proofs.Common.{Ok, Result, Err, get_or, refl, sym, ap, ◌∙◌, AllByRecursion, flat_map, list_any, bytes_eq, false≢true}
+use Rattle.cdi_observe.proofs.Common.{or_left, or_right, recursion_from_All, list_any-append, slice_get-get_or, find_decl, AreDistinct}
+use Rattle.cdi_observe.proofs.Common.{BeanDecl, Decl, BeanPlace, Refusal, one_name, find_bean, own-found, chain_told, has_place, places_of}
+use Rattle.cdi_observe.proofs.Common.{names_at, names_of_bean}
+use Rattle.std.proofs.Common.{nat_eq}
+use Rattle.std.specs.List.{filter, slice_get}
 use Rattle.std.proofs.Math.Bool.{and-false}
-use Rattle.std.proofs.lemmas.Bool.{false≢true, or_left, or_right}
-use Rattle.std.proofs.lemmas.List.Elements.{recursion_from_All}
-use Rattle.std.proofs.lemmas.List.Folds.{list_any-append}
-use Rattle.std.proofs.lemmas.Option.{none-some, same_Some, slice_get-get_or}
-use Rattle.cdi_model.specs.DeclList.{find_decl, AreDistinct}
-use Rattle.cdi_model.specs.declared.decl.BeanDecl.{BeanDecl}
-use Rattle.cdi_model.specs.declared.decl.Decl.{Decl}
+use Rattle.std.proofs.lemmas.Option.{none-some, same_Some}
 use Rattle.cdi_model.specs.declared.decl.Decl.TheVariants as decls
 use Rattle.cdi_model.specs.declared.decl.InterceptorDecl.{InterceptorDecl}
 use Rattle.cdi_model.specs.declared.decl.Kind.TheVariants as kinds
-use Rattle.cdi_model.specs.declared.place.BeanPlace.{BeanPlace}
-use Rattle.cdi_model.specs.declared.refusal.Refusal.{Refusal}
 use Rattle.cdi_match.specs.Chain.{has}
-use Rattle.cdi_match.proofs.Names.{one_name, same_text}
+use Rattle.cdi_match.proofs.Names.{same_text}
 use Rattle.cdi_effective.specs.Bindings.{class_bindings}
-use Rattle.cdi_effective.specs.Disposers.{find_bean}
-use Rattle.cdi_effective.proofs.PlaceLemmas.{own-found}
-use Rattle.cdi_intercept.specs.Chains.{around_any, chain_by, chain_of, chain_told, in_order, interceptors, is_before, is_enabled}
-use Rattle.cdi_intercept.specs.Chains.{stands_around, surrounds, surrounds_one}
-use Rattle.cdi_intercept.specs.Sets.{has_place, places_of, set_by, sets_of}
+use Rattle.cdi_intercept.specs.Chains.{around_any, chain_by, chain_of, in_order, interceptors, is_before, is_enabled, stands_around}
+use Rattle.cdi_intercept.specs.Chains.{surrounds, surrounds_one}
+use Rattle.cdi_intercept.specs.Sets.{set_by, sets_of}
 use Rattle.cdi_intercept.proofs.AroundLemmas.{any-left, any-same, any-sets, any-sorted, intercepted-by_places, is_around, some_left}
 use Rattle.cdi_intercept.proofs.ChainLemmas.{in_order-declared, IsDeclared}
-use Rattle.cdi_observe.specs.Around.{names_at, names_of_bean}
 
 -- ---- the names at a place are those that are told of it
 

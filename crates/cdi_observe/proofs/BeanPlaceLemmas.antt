@@ -1,19 +1,15 @@
 -- The places of a bean.
-use Rattle.std.proofs.Common.{◌≡◌, Bool, true, false, cond, not, ◌&&◌, ◌||◌, List, [], ◌∷◌, ◌++◌, map, filter, Some, is_some}
-use Rattle.std.proofs.Common.{option_map, refl, sym, ap, ◌∙◌}
-use Rattle.std.specs.List.{AllByRecursion, find, list_any}
-use Rattle.std.specs.Str.{bytes_eq}
-use Rattle.std.proofs.lemmas.Bool.{or_left, or_right}
-use Rattle.std.proofs.lemmas.List.Folds.{list_any-append}
-use Rattle.cdi_model.specs.declared.decl.BeanDecl.{BeanDecl}
+use Rattle.cdi_observe.proofs.Common.{◌≡◌, Bool, true, false, cond, not, ◌&&◌, ◌||◌, List, [], ◌∷◌, ◌++◌, map, Some, refl, sym, ap, ◌∙◌}
+use Rattle.cdi_observe.proofs.Common.{AllByRecursion, list_any, bytes_eq, or_left, or_right, list_any-append, BeanDecl, BeanPlace}
+use Rattle.cdi_observe.proofs.Common.{has_place, places_of, filter, same_place}
+use Rattle.std.proofs.Common.{is_some, option_map}
+use Rattle.std.specs.List.{find}
 use Rattle.cdi_model.specs.declared.decl.MethodDecl.{MethodDecl}
 use Rattle.cdi_model.specs.declared.decl.ObserverDecl.{ObserverDecl}
 use Rattle.cdi_model.specs.declared.decl.ProducerDecl.{ProducerDecl}
-use Rattle.cdi_model.specs.declared.place.BeanPlace.{BeanPlace}
 use Rattle.cdi_model.specs.declared.place.BeanPlace.TheVariants as places
 use Rattle.cdi_match.proofs.Names.{bytes_eq-turned}
-use Rattle.cdi_intercept.specs.Sets.{has_place, methods_of, observers_of, places_of, producers_of}
-use Rattle.cdi_observe.specs.Keys.{same_place}
+use Rattle.cdi_intercept.specs.Sets.{methods_of, observers_of, producers_of}
 use Rattle.cdi_observe.proofs.KeyLemmas.{same_place-decides}
 
 or-false : (b : Bool) → (b || false) ≡ b

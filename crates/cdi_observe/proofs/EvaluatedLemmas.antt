@@ -1,13 +1,9 @@
 -- Evaluations of keys in other orders, and of keys that stand twice.
-use Rattle.std.proofs.Common.{◌≡◌, Bool, true, false, cond, ◌&&◌, ◌||◌, ℕ, zero, suc, List, [], ◌∷◌, take, refl, sym, ap, ◌∙◌, ◌⊎◌, inl, inr}
-use Rattle.std.specs.List.{AllByRecursion, list_all}
-use Rattle.std.proofs.lemmas.Bool.{and_from, and_parts, or_cases, or_left, or_right, false≢true}
-use Rattle.std.proofs.lemmas.List.Elements.{All-from_recursion}
-use Rattle.cdi_model.specs.declared.decl.Decl.{Decl}
-use Rattle.cdi_model.specs.Work.{with_one}
-use Rattle.cdi_observe.specs.Keys.{Key, same_key, has_key}
-use Rattle.cdi_observe.specs.Wanted.{each_once, is_wanted}
-use Rattle.cdi_observe.specs.Kept.{Kept, with_known, work_with, after_key, evaluated, EvaluatesSome}
+use Rattle.cdi_observe.proofs.Common.{◌≡◌, ℕ, zero, suc, Bool, true, false, cond, ◌&&◌, ◌||◌, List, [], ◌∷◌, refl, sym, ap, ◌∙◌}
+use Rattle.cdi_observe.proofs.Common.{AllByRecursion, false≢true, or_left, or_right, Decl, take, inl, inr, and_from}
+use Rattle.cdi_observe.proofs.Common.{or_cases, All-from_recursion, with_one, Key, same_key, has_key, each_once, is_wanted, Kept}
+use Rattle.cdi_observe.proofs.Common.{with_known, work_with, after_key, evaluated, EvaluatesSome}
+use Rattle.std.proofs.Common.{◌⊎◌}
 use Rattle.cdi_observe.proofs.KeyLemmas.{same_key-decides, same_key-equiv}
 use Rattle.cdi_observe.proofs.KeptLemmas.{after_known, each-among}
 use Rattle.cdi_observe.proofs.WantedLemmas.{each_once-apart, has-each_once}
@@ -164,20 +160,3 @@ has-take (suc i) (k ∷ keys) key h = elim (or_cases (same_key key k) (has_key (
   | inl here ↦ or_left (same_key key k) (has_key keys key) here
   | inr there ↦ or_right (same_key key k) (has_key keys key) (has-take i keys key there)
 ]
-
--- what holds of each of some keys holds of each of those among them
-pub all-within : (p : Key → Bool) (xs ys : List Key) → ((key : Key) → has_key xs key ≡ true → has_key ys key ≡ true)
-    → list_all p ys ≡ true → list_all p xs ≡ true
-all-within p [] ys within all = refl
-all-within p (x ∷ xs) ys within all =
-    and_from (p x) (list_all p xs) (at ys all (within x (or_left (same_key x x) (has_key xs x) (same_key-equiv.refl x))))
-    (all-within p xs ys (λ key h. within key (or_right (same_key key x) (has_key xs key) h)) all)
-  where
-    at : (zs : List Key) → list_all p zs ≡ true → has_key zs x ≡ true → p x ≡ true
-    at [] all h = absurd (false≢true h)
-    at (z ∷ zs) all h =
-        let parts = and_parts (p z) (list_all p zs) all in
-        elim (or_cases (same_key x z) (has_key zs x) h) [
-          | inl here ↦ ap p ((same_key-decides x z).0 here) ∙ parts.0
-          | inr there ↦ at zs parts.1 there
-        ]

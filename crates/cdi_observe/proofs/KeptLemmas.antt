@@ -1,21 +1,17 @@
 -- What evaluations of keys leave.
-use Rattle.std.proofs.Common.{suc, ◌≡◌, ◌≢◌, ◌<◌, ◌+◌, Bool, true, false, cond, not, ◌&&◌, ◌||◌, ℕ, List, []}
-use Rattle.std.proofs.Common.{◌∷◌, ◌++◌, length, take, get_or, refl, sym, ap, ◌∙◌, Result, Ok}
-use Rattle.std.proofs.Common.{Err}
+use Rattle.cdi_observe.proofs.Common.{◌≡◌, ℕ, suc, Bool, true, false, cond, not, ◌&&◌, ◌||◌, List, [], ◌∷◌, ◌++◌, length, Ok, Result, Err}
+use Rattle.cdi_observe.proofs.Common.{get_or, refl, sym, ap, ◌∙◌, AllByRecursion, false≢true, or_left, or_right, recursion_from_All, Decl}
+use Rattle.cdi_observe.proofs.Common.{take, list_all, and_parts, All-from_recursion, with_one, Key, same_key, has_key, is_wanted, Kept}
+use Rattle.cdi_observe.proofs.Common.{with_known, work_with, after_key, evaluated, EvaluatesSome, All, ◌≢◌, ◌<◌, ◌+◌, AllPairs, IsDistinct}
+use Rattle.cdi_observe.proofs.Common.{or_assoc, or-false, AllPass-from_list_all, wanted}
 use Rattle.std.specs.Result.{OnErr, OnOk}
 use Rattle.std.specs.Fn.{iterate}
-use Rattle.std.specs.List.{All, AllByRecursion, AllPairs, IsDistinct, filter, list_all}
-use Rattle.std.proofs.Math.Bool.{or_assoc, or-false}
-use Rattle.std.proofs.lemmas.Bool.{and_parts, or_left, or_right, false≢true}
+use Rattle.std.specs.List.{filter}
 use Rattle.std.proofs.lemmas.List.{take_more}
-use Rattle.std.proofs.lemmas.List.Elements.{All-from_recursion, All-take, recursion_from_All}
-use Rattle.std.proofs.lemmas.List.Sums.{AllPass-from_list_all, fold-append, list_all-from_AllPass}
+use Rattle.std.proofs.lemmas.List.Elements.{All-take}
+use Rattle.std.proofs.lemmas.List.Sums.{fold-append, list_all-from_AllPass}
 use Rattle.std.proofs.lemmas.Map.Made.{IsDistinct-from_AllPairs}
-use Rattle.cdi_model.specs.declared.decl.Decl.{Decl}
-use Rattle.cdi_model.specs.Work.{with_one}
-use Rattle.cdi_observe.specs.Keys.{Key, same_key, has_key}
-use Rattle.cdi_observe.specs.Wanted.{wanted, is_wanted}
-use Rattle.cdi_observe.specs.Kept.{Kept, with_known, work_with, with_all, after_key, evaluated, unknown, EvaluatesSome, KnowsWanted}
+use Rattle.cdi_observe.specs.Kept.{with_all, unknown, KnowsWanted}
 use Rattle.cdi_observe.proofs.KeyLemmas.{same_key-decides, same_key-equiv}
 use Rattle.cdi_observe.proofs.WantedLemmas.{has-wanted, wanted-distinct, wanted_stand_once}
 

@@ -1,10 +1,9 @@
 -- The observer methods of some beans, one bean after another.
-use Rattle.std.proofs.Common.{◌≡◌, ℕ, suc, ◌+◌, ◌<◌, Bool, List, ◌∷◌, ◌++◌, length, get_or, drop, filter, map, ap, sym, ◌∙◌, append_assoc, arith}
+use Rattle.cdi_observe.proofs.Common.{◌≡◌, ℕ, suc, Bool, List, ◌∷◌, ◌++◌, map, length, get_or, sym, ap, ◌∙◌, Decl, Effective, filter, ◌<◌}
+use Rattle.cdi_observe.proofs.Common.{◌+◌, drop, append_assoc, arith, Observer, declared_by, observers}
 use Rattle.std.proofs.Math.Seq.{drop-cons}
 use Rattle.std.proofs.lemmas.List.Elements.{filter-append}
-use Rattle.cdi_model.specs.declared.decl.Decl.{Decl}
-use Rattle.cdi_effective.specs.declared.records.Effective.{Effective}
-use Rattle.cdi_observe.specs.Observers.{Observer, declared_by, enabled_bean, observers}
+use Rattle.cdi_observe.specs.Observers.{enabled_bean}
 
 -- those of one more bean, which may be lent, of which a test holds
 pub next-lent : {X : Type 0} (bean : X → Effective) (test : Observer → Bool) (ds : List Decl) (beans : List X) (i : ℕ) (b : X)

@@ -1,21 +1,16 @@
 -- The observer methods of an event rest on those which observe a type of it, their filled qualifiers, and the declarations of its own.
-use Rattle.std.proofs.Common.{◌≡◌, ℕ, Bool, true, false, cond, ◌&&◌, ◌||◌, List, [], ◌∷◌, ◌++◌, codes, map, filter}
-use Rattle.std.proofs.Common.{Option, refl, sym, ap, ◌∙◌}
-use Rattle.std.specs.List.{list_all, list_any}
+use Rattle.cdi_observe.proofs.Common.{◌≡◌, ℕ, Bool, true, false, cond, ◌&&◌, ◌||◌, List, [], ◌∷◌, ◌++◌, map, refl, sym, ap, ◌∙◌, list_any}
+use Rattle.cdi_observe.proofs.Common.{bytes_eq, Decl, one_name, Qual, Effective, filter, list_all, Observer, is_notified, observer_id}
+use Rattle.std.proofs.Common.{codes, Option}
 use Rattle.std.specs.Map.{keys_of}
 use Rattle.std.specs.Option.{option_eq}
-use Rattle.std.specs.Str.{bytes_eq}
-use Rattle.cdi_model.specs.declared.decl.Decl.{Decl}
 use Rattle.cdi_model.specs.declared.decl.QualifierDecl.{QualifierDecl}
 use Rattle.cdi_model.specs.declared.decl.UseKind.TheVariants as use_kinds
-use Rattle.cdi_model.specs.declared.quals.Qual.{Qual}
 use Rattle.cdi_match.specs.Covering.{agree_at, covers, covers_by, given_name, is_binding}
 use Rattle.cdi_match.specs.Filled.{FilledUse, filled}
 use Rattle.cdi_match.specs.Filling.{fill, find_qualifier, members_of, value_of}
-use Rattle.cdi_match.proofs.Names.{one_name}
-use Rattle.cdi_effective.specs.declared.records.Effective.{Effective}
 use Rattle.cdi_observe.specs.declared.observers.ObserverId.{ObserverId}
-use Rattle.cdi_observe.specs.Observers.{Observer, event_has, is_notified, notified, observer_id, observing, resolved}
+use Rattle.cdi_observe.specs.Observers.{event_has, notified, observing, resolved}
 use Rattle.cdi_observe.specs.Sees.{NotifiedRestOnSeen, SeenObserver, SeenOfEvent, event_sees, seen_observer}
 
 -- ---- covering by filled uses

@@ -1,6 +1,5 @@
 -- What a view keeps of its answers, and what evaluations of keys do to it.
-use Rattle.std.specs.Prelude.{◌≡◌, ◌≢◌, ℕ, Bool, true, not, ◌&&◌, ◌||◌, All, AllPairs, List, length, filter, fold}
-use Rattle.std.specs.Prelude.{if◌then◌else◌}
+use Rattle.std.specs.Prelude.{◌≡◌, ◌≢◌, ℕ, Bool, true, not, ◌&&◌, ◌||◌, All, AllPairs, List, length, filter, fold, if◌then◌else◌}
 use Rattle.std.specs.Fn.{iterate}
 use Rattle.cdi_model.specs.declared.decl.Decl.{Decl}
 use Rattle.cdi_model.specs.Work.{with_one}

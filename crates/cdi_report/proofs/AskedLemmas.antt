@@ -1,39 +1,21 @@
 -- A declaration is listed under the words of what it asks for.
-use Rattle.std.proofs.Common.{◌≡◌, ℕ, true, ◌||◌, List, [], ◌∷◌, ◌++◌, append_assoc, flat_map, map, refl, sym, ap, subst, ◌∙◌}
-use Rattle.std.specs.List.{AllByRecursion}
-use Rattle.std.specs.Option.{option_to_list}
-use Rattle.std.proofs.lemmas.Bool.{or_left, or_right}
-use Rattle.std.proofs.lemmas.List.Folds.{list_any-append}
-use Rattle.cdi_model.specs.Decl.{key_of}
-use Rattle.cdi_model.specs.DeclKey.{key_at}
-use Rattle.cdi_model.specs.Mentions.{mentions, EventOf, Mention, PointOf, StereotypeOf, TypeIn, UseOf}
-use Rattle.cdi_model.specs.declared.decl.BeanDecl.{BeanDecl}
-use Rattle.cdi_model.specs.declared.decl.BindingDecl.{BindingDecl}
-use Rattle.cdi_model.specs.declared.decl.Decl.{Decl}
+use Rattle.cdi_report.proofs.Common.{◌≡◌, ℕ, true, List, [], ◌∷◌, ◌++◌, map, flat_map, refl, sym, ap, subst, ◌∙◌, AllByRecursion}
+use Rattle.cdi_report.proofs.Common.{option_to_list, or_left, or_right, list_any-append, key_at, mentions, Mention, UseOf, BeanDecl, Decl}
+use Rattle.cdi_report.proofs.Common.{Qual, own_records, PointDecl, Word, same_word, word_at, words_have, words_named, words_named_in}
+use Rattle.cdi_report.proofs.Common.{words_of_observer, words_of_record, words_of_uses, points_of, ◌||◌, key_of, BeanPlace}
+use Rattle.cdi_report.proofs.Common.{required, places_of, words_by, ChainKey, ChoiceKey, EventKey, Key, asked_by, chains_by, events_by}
+use Rattle.cdi_report.proofs.Common.{key_of_point, wanted_by, append_assoc, PointOf, StereotypeOf, TypeIn, BindingDecl, StereotypeDecl}
+use Rattle.cdi_report.proofs.Common.{TypeDecl, UseKind, TypePlace, words_of_point, among-named, point_named}
+use Rattle.cdi_model.specs.Mentions.{EventOf}
 use Rattle.cdi_model.specs.declared.decl.Decl.TheVariants as decls
 use Rattle.cdi_model.specs.declared.decl.Kind.TheVariants as kinds
-use Rattle.cdi_model.specs.declared.decl.PointDecl.{PointDecl}
 use Rattle.cdi_model.specs.declared.decl.QualifierDecl.{QualifierDecl}
-use Rattle.cdi_model.specs.declared.decl.StereotypeDecl.{StereotypeDecl}
-use Rattle.cdi_model.specs.declared.decl.TypeDecl.{TypeDecl}
-use Rattle.cdi_model.specs.declared.decl.UseKind.{UseKind}
 use Rattle.cdi_model.specs.declared.decl.UseKind.TheVariants as uses
-use Rattle.cdi_model.specs.declared.mention.TypePlace.{TypePlace}
 use Rattle.cdi_model.specs.declared.mention.TypePlace.TheVariants as types
-use Rattle.cdi_model.specs.declared.place.BeanPlace.{BeanPlace}
-use Rattle.cdi_model.specs.declared.quals.Qual.{Qual}
-use Rattle.cdi_effective.specs.Beans.{own_records}
-use Rattle.cdi_effective.specs.Qualifiers.{required}
-use Rattle.cdi_intercept.specs.Sets.{places_of}
 use Rattle.cdi_postings.specs.declared.word.Reason.TheVariants as reasons
-use Rattle.cdi_postings.specs.declared.word.Word.{Word}
-use Rattle.cdi_postings.specs.Words.{same_word, same_word_equiv, word_at}
-use Rattle.cdi_index.specs.Made.{words_have, words_named, words_named_in, words_of_event, words_of_observer, words_of_point, words_of_record}
-use Rattle.cdi_index.specs.Made.{words_of_uses}
-use Rattle.cdi_index.specs.Under.{words_by}
-use Rattle.cdi_index.proofs.NamedLemmas.{among-named}
-use Rattle.cdi_observe.specs.Keys.{ChainKey, ChoiceKey, EventKey, Key}
-use Rattle.cdi_observe.specs.Wanted.{asked_by, chains_by, event_in, events_by, key_of_point, point_named, points_of, wanted_by}
+use Rattle.cdi_index.specs.Made.{words_of_event}
+use Rattle.cdi_observe.specs.Wanted.{event_in}
+use Rattle.cdi_report.proofs.ApartLemmas.{first-has}
 
 -- ---- declarations that name only types, uses and stereotypes
 
@@ -115,10 +97,6 @@ module _ (ds : List Decl) (d : Decl) where
   others : (m : Mention) (ms : List Mention) → HasEither m ms → HasNamed ms
   others m ms all w h = all w (or_right (words_have (words_named_in m) w) (words_have (flat_map words_named_in ms) w) h)
 
-  -- a word is the first of some
-  first-one : (w : Word) (ws : List Word) → words_have (w ∷ ws) w ≡ true
-  first-one w ws = or_left (same_word w w) (words_have ws w) (same_word_equiv.refl w)
-
   points-named : (ms : List Mention) → HasNamed ms → AllByRecursion IsPointListed (flat_map point_named ms)
   points-named [] all = tt
   points-named (m ∷ ms) all = by m (either m ms all) (points-named ms)
@@ -128,7 +106,7 @@ module _ (ds : List Decl) (d : Decl) where
       by (PointOf place p) all more = (
         all (word_at reasons.Asks p.required_type) (or_left (words_have (words_of_point p) (word_at reasons.Asks p.required_type))
             (words_have (flat_map words_named_in ms) (word_at reasons.Asks p.required_type))
-            (first-one (word_at reasons.Asks p.required_type) (words_of_uses (required p.qualifiers)))),
+            (first-has (word_at reasons.Asks p.required_type) (words_of_uses (required p.qualifiers)))),
         more (others (PointOf place p) ms all),
       )
       by other all more = more (others other ms all)
@@ -142,7 +120,7 @@ module _ (ds : List Decl) (d : Decl) where
       by (EventOf e) all more = (
         all (word_at reasons.Fires e.event_type) (or_left (words_have (words_of_event e) (word_at reasons.Fires e.event_type))
             (words_have (flat_map words_named_in ms) (word_at reasons.Fires e.event_type))
-            (first-one (word_at reasons.Fires e.event_type) (words_of_uses e.qualifiers))),
+            (first-has (word_at reasons.Fires e.event_type) (words_of_uses e.qualifiers))),
         more (others (EventOf e) ms all),
       )
       by other all more = more (others other ms all)

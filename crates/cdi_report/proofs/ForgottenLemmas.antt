@@ -1,19 +1,9 @@
 -- What is settled stays so where the keys go whose declarations are not there.
-use Rattle.std.proofs.Common.{◌≡◌, Bool, true, false, not, cond, ◌||◌, List, [], ◌∷◌, filter, is_some, Option, Some, refl, sym, ap, subst, ◌∙◌, inl, inr}
-use Rattle.std.specs.List.{list_any, AllByRecursion}
-use Rattle.std.proofs.lemmas.Bool.{cases_Bool, false≢true}
-use Rattle.indexmap.specs.IndexSet.{contains}
-use Rattle.cdi_bodies.specs.Book.{Promised}
-use Rattle.cdi_model.specs.Decl.{key_of, kind_of, name_of_decl}
-use Rattle.cdi_model.specs.DeclKey.{same_key, same_key_equiv}
-use Rattle.cdi_model.specs.DeclList.{find_decl, is_of}
-use Rattle.cdi_model.specs.declared.decl.Decl.{Decl}
-use Rattle.cdi_model.specs.declared.key.DeclKey.{DeclKey}
-use Rattle.cdi_model.proofs.EntryLemmas.{key_exact}
-use Rattle.cdi_observe.specs.Keys.{Key}
-use Rattle.cdi_report.specs.Settled.{closed_of, is_open, is_present, AreSettled, HaveNoneTogether}
-use Rattle.cdi_report.specs.declared.unsettled.Unsettled.{Unsettled}
-use Rattle.cdi_report.proofs.SettledLemmas.{each-weaker}
+use Rattle.cdi_report.proofs.Common.{◌≡◌, Bool, true, false, cond, List, [], ◌∷◌, Option, Some, refl, sym, ap, subst, ◌∙◌, inl, inr}
+use Rattle.cdi_report.proofs.Common.{AllByRecursion, cases_Bool, false≢true, kind_of, name_of_decl, same_key, same_key_equiv, find_decl}
+use Rattle.cdi_report.proofs.Common.{Decl, DeclKey, ◌||◌, key_of, Key, not, list_any, is_some, filter, contains, Promised, is_of, key_exact}
+use Rattle.cdi_report.proofs.Common.{closed_of, is_open, is_present, AreSettled, HaveNoneTogether, Unsettled}
+use Rattle.cdi_report.proofs.BindingLemmas.{each-weaker}
 
 -- ---- the keys that are left
 

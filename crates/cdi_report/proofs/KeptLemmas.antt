@@ -1,32 +1,18 @@
 -- What is settled stays so over a draft that does not concern it.
-use Rattle.std.proofs.Common.{◌≡◌, Bool, true, false, not, List, [], ◌∷◌, ◌++◌, cond, filter, map, Option, None, Some, refl, sym, ap, subst, ◌∙◌, inl, inr}
-use Rattle.std.specs.List.{flat_map, AllByRecursion}
-use Rattle.std.proofs.lemmas.Bool.{cases_Bool, false≢true, or_left}
-use Rattle.cdi_bodies.specs.Book.{Promised}
-use Rattle.cdi_model.specs.Decl.{key_of, kind_of, name_of_decl}
-use Rattle.cdi_model.specs.DeclList.{find_decl, is_of, AreDistinct}
-use Rattle.cdi_model.specs.Grammar.{is_name}
-use Rattle.cdi_model.specs.Edits.{edited_all, edited_keys, is_among}
-use Rattle.cdi_model.specs.declared.decl.Decl.{Decl}
-use Rattle.cdi_model.specs.declared.edit.Edit.{Edit}
-use Rattle.cdi_model.specs.declared.key.DeclKey.{DeclKey}
-use Rattle.cdi_model.proofs.EditLemmas.{edits_keep_decl, edits_keep_others}
-use Rattle.cdi_concern.specs.declared.moved.Moved.{Moved}
-use Rattle.cdi_index.specs.State.{Staged}
-use Rattle.cdi_observe.proofs.RestLemmas.{IsFound}
-use Rattle.cdi_live.specs.State.{knows, State, TakesOver}
+use Rattle.cdi_report.proofs.Common.{◌≡◌, Bool, true, false, cond, List, [], ◌∷◌, ◌++◌, map, Option, Some, None, refl, sym, ap, subst, ◌∙◌}
+use Rattle.cdi_report.proofs.Common.{inl, inr, AllByRecursion, cases_Bool, false≢true, or_left, kind_of, name_of_decl, find_decl}
+use Rattle.cdi_report.proofs.Common.{edited_all, edited_keys, is_among, Decl, Edit, DeclKey, key_of, not, edits_keep_decl, filter, Promised}
+use Rattle.cdi_report.proofs.Common.{is_of, closed_of, is_open, AreSettled, Unsettled, edits_keep_others, AreDistinct, is_name, Moved}
+use Rattle.cdi_report.proofs.Common.{Staged, each-found, IsFound, knows, State, subjects_at_fault, IsAlike, AreNamed, IsLeft}
+use Rattle.std.specs.List.{flat_map}
+use Rattle.cdi_live.specs.State.{TakesOver}
 use Rattle.cdi_faults.specs.FaultText.{in_text_order}
 use Rattle.cdi_faults.specs.declared.fault.Code.{Code}
 use Rattle.cdi_faults.specs.declared.fault.Fault.TheVariants as faults_are
-use Rattle.cdi_subjects.specs.Subjects.{subjects_at_fault}
 use Rattle.cdi_validate.specs.Faults.{faults_of_code}
-use Rattle.cdi_validate.specs.Alike.{IsAlike}
-use Rattle.cdi_validate.specs.Together.{AreNamed}
-use Rattle.cdi_report.specs.Settled.{closed_of, is_open, AreSettled, IsSettled}
-use Rattle.cdi_report.specs.Stays.{IsLeft, IsReadied, SettledStay}
-use Rattle.cdi_report.specs.declared.unsettled.Unsettled.{Unsettled}
-use Rattle.cdi_validate.proofs.FoundLemmas.{each-found}
-use Rattle.cdi_report.proofs.SettledLemmas.{each-weaker}
+use Rattle.cdi_report.specs.Settled.{IsSettled}
+use Rattle.cdi_report.specs.Stays.{IsReadied, SettledStay}
+use Rattle.cdi_report.proofs.BindingLemmas.{each-weaker}
 use Rattle.cdi_report.proofs.StayLemmas.{left_alike, left_stay, left_were_present}
 use Rattle.cdi_report.proofs.UnmovedLemmas.{not-edited}
 use Rattle.cdi_report.proofs.TogetherLemmas.{all-passed, filter-filter, not-false, together-stay}

@@ -1,3 +1,16 @@
+mod Common
+mod CircleLemmas
+mod ItselfLemmas
+mod BindingLemmas
+mod PlaceLemmas
+mod OwnLemmas
+mod SparedLemmas
+mod BeanLemmas
+mod OfferLemmas
+mod ApartLemmas
+mod WrittenLemmas
+mod UnconcernedLemmas
+mod Laws
 mod AskedLemmas
 mod UnmovedLemmas
 mod StillLemmas

@@ -1,24 +1,14 @@
 -- Where the declarations of some keys are.
-use Rattle.std.proofs.Common.{◌≡◌, ℕ, nat_eq, Bool, true, false, cond, ◌||◌, List, [], ◌∷◌, flat_map, filter, position, slice_get, get_or}
-use Rattle.std.proofs.Common.{Option, Some, None, refl, sym, ap, ◌∙◌, inl, inr, arith}
-use Rattle.std.specs.List.{list_any}
-use Rattle.std.specs.Option.{option_map_or}
-use Rattle.std.proofs.lemmas.Bool.{cases_Bool, eq-eqb, eqb-true, false≢true}
+use Rattle.cdi_report.proofs.Common.{◌≡◌, ℕ, Bool, true, false, cond, List, [], ◌∷◌, flat_map, Option, Some, None, refl, sym, ap, ◌∙◌, inl}
+use Rattle.cdi_report.proofs.Common.{inr, cases_Bool, false≢true, same_key, same_key_equiv, Decl, DeclKey, ◌||◌, key_of, list_any, nat_eq}
+use Rattle.cdi_report.proofs.Common.{filter, arith, contains, is_of, key_exact, is_open, Unsettled, AreDistinct, open_of, option_map_or}
+use Rattle.cdi_report.proofs.Common.{is_marked, marked_from, decls_at, is_at}
+use Rattle.std.proofs.Common.{position, slice_get, get_or}
+use Rattle.std.proofs.lemmas.Bool.{eq-eqb, eqb-true}
 use Rattle.std.proofs.lemmas.List.Quantifiers.{position-Some}
 use Rattle.std.proofs.lemmas.Option.{slice_get-get_or}
-use Rattle.cdi_model.specs.Decl.{key_of}
-use Rattle.cdi_model.specs.DeclKey.{same_key, same_key_equiv}
-use Rattle.cdi_model.specs.DeclList.{is_of, AreDistinct}
-use Rattle.cdi_model.specs.declared.decl.Decl.{Decl}
-use Rattle.cdi_model.specs.declared.key.DeclKey.{DeclKey}
-use Rattle.cdi_model.proofs.EntryLemmas.{key_exact}
 use Rattle.cdi_effective.proofs.PlaceLemmas.{own-position}
 use Rattle.cdi_index.proofs.UnderLemmas.{walk}
-use Rattle.cdi_positions.specs.Marks.{is_marked, marked_from}
-use Rattle.indexmap.specs.IndexSet.{contains}
-use Rattle.cdi_report.specs.Positions.{decls_at, is_at}
-use Rattle.cdi_report.specs.Settled.{is_open, open_of}
-use Rattle.cdi_report.specs.declared.unsettled.Unsettled.{Unsettled}
 
 -- ---- one key
 

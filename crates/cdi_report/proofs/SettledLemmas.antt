@@ -1,28 +1,21 @@
 -- A report that looks at some declarations tells the faults of all.
-use Rattle.std.proofs.Common.{◌≡◌, Bool, true, false, not, cond, ◌&&◌, ◌||◌, List, [], ◌∷◌, ◌++◌, Some, None, filter, map}
-use Rattle.std.proofs.Common.{refl, sym, ap, ◌∙◌, ◌⊎◌, inl, inr, length, nat_lt, arith}
-use Rattle.std.specs.List.{All, AllByRecursion, flat_map, list_all, list_any}
-use Rattle.std.proofs.lemmas.Bool.{cases_Bool, and_from, and_parts, ltb-false, or_cases, or_left, or_right, false≢true}
-use Rattle.indexmap.specs.IndexSet.{contains}
-use Rattle.cdi_bodies.specs.Book.{Promised}
-use Rattle.cdi_model.specs.Decl.{key_of, kind_of, name_of_decl}
-use Rattle.cdi_model.specs.DeclKey.{same_key, same_key_equiv as same_decl_equiv}
-use Rattle.cdi_model.specs.DeclList.{find_decl, is_of, AreDistinct}
-use Rattle.cdi_model.specs.declared.decl.Decl.{Decl}
-use Rattle.cdi_model.specs.declared.key.DeclKey.{DeclKey}
-use Rattle.cdi_model.specs.declared.decl.PointDecl.{PointDecl}
-use Rattle.cdi_observe.specs.Keys.{Key, ChainKey, has_key, same_key as same_ask}
-use Rattle.cdi_observe.specs.Kept.{Kept, evaluated, EvaluatesSome}
-use Rattle.cdi_observe.specs.Wanted.{is_wanted, points_of, wanted, wanted_by, AskForRest}
-use Rattle.cdi_observe.proofs.KeyLemmas.{same_key-decides, same_key-equiv}
+use Rattle.cdi_report.proofs.Common.{◌≡◌, Bool, true, false, cond, List, [], ◌∷◌, ◌++◌, map, Some, None, refl, sym, ap, ◌∙◌, inl, inr}
+use Rattle.cdi_report.proofs.Common.{AllByRecursion, cases_Bool, false≢true, or_left, or_right, kind_of, name_of_decl, same_key, find_decl}
+use Rattle.cdi_report.proofs.Common.{Decl, DeclKey, PointDecl, points_of, ◌||◌, key_of, ChainKey, Key, wanted_by, not, ◌&&◌, length}
+use Rattle.cdi_report.proofs.Common.{list_any, filter, ◌⊎◌, arith, contains, Promised, is_of, is_open, AreSettled, HaveNoneTogether}
+use Rattle.cdi_report.proofs.Common.{Unsettled, AreDistinct, each-found, IsFound, or_cases, and_from, open_of, list_all, has_key}
+use Rattle.cdi_report.proofs.Common.{is_wanted, AskForRest, EvaluatesSome, faults_of, has_faults, AreChainsKnown, IsKnown}
+use Rattle.cdi_observe.proofs.KeyLemmas.{all-pass, each-passes}
+use Rattle.cdi_validate.proofs.ApartLemmas.{all-filter}
+use Rattle.cdi_report.proofs.BindingLemmas.{each-weaker}
+use Rattle.std.specs.List.{flat_map, All}
+use Rattle.std.proofs.Common.{nat_lt}
+use Rattle.std.proofs.lemmas.Bool.{ltb-false}
+use Rattle.cdi_model.specs.DeclKey.{same_key_equiv as same_decl_equiv}
+use Rattle.cdi_observe.specs.Kept.{Kept, evaluated}
+use Rattle.cdi_observe.specs.Wanted.{wanted}
 use Rattle.cdi_observe.proofs.KeptLemmas.{evaluated-apart, knows_wanted}
-use Rattle.cdi_observe.proofs.RestLemmas.{found-any, IsFound}
-use Rattle.cdi_validate.specs.Faults.{faults_of}
-use Rattle.cdi_validate.specs.Among.{has_faults}
-use Rattle.cdi_validate.proofs.FoundLemmas.{all-lent, each-found}
-use Rattle.cdi_report.specs.Known.{AreChainsKnown, IsKnown}
-use Rattle.cdi_report.specs.Settled.{is_open, open_of, AreSettled, HaveNoneTogether}
-use Rattle.cdi_report.specs.declared.unsettled.Unsettled.{Unsettled}
+use Rattle.cdi_observe.proofs.FoundLemmas.{all-lent, found-any}
 use Rattle.cdi_report.proofs.TogetherLemmas.{together-filtered}
 
 -- ---- lists of which some are left out
@@ -51,15 +44,6 @@ any-filter p f (x ∷ xs) all some = by (p x) refl (or_cases (f x) (list_any f x
     by false e (inl here) more = absurd (false≢true (sym (all.0 e) ∙ here))
     by false e (inr later) more = more later
 
--- what holds of each of a list holds of those that are left
-pub all-filter : {A : Type 0} (P : A → Type 0) (p : A → Bool) (xs : List A) → AllByRecursion P xs → AllByRecursion P (filter p xs)
-all-filter P p [] all = tt
-all-filter P p (x ∷ xs) all = by (p x) (all-filter P p xs all.1)
-  where
-    by : (b : Bool) → AllByRecursion P (filter p xs) → AllByRecursion P (cond b (x ∷ filter p xs) (filter p xs))
-    by true rest = (all.0, rest)
-    by false rest = rest
-
 -- one that is found by a test on the list, and passes one more, is among those that are left
 found-filter : (p f : Decl → Bool) (ds : List Decl) (d : Decl) → IsFound ds d → p d ≡ true → f d ≡ true → list_any f (filter p ds) ≡ true
 found-filter p f [] d found passes holds = absurd (let no : None ≡ Some d = found in cc)
@@ -81,33 +65,11 @@ found-filter p f (e ∷ ds) d found passes holds = by (is_of (kind_of d) (name_o
         first (p e) refl (ap p same ∙ passes) (ap f same ∙ holds)
     by false there rest = more (p e) (rest there passes holds)
 
--- ---- each declaration of a list
-
-pub each-weaker : {A : Type 0} (P Q : A → Type 0) (xs : List A) → ((x : A) → P x → Q x) → AllByRecursion P xs → AllByRecursion Q xs
-each-weaker P Q [] weaker all = tt
-each-weaker P Q (x ∷ xs) weaker all = (weaker x all.0, each-weaker P Q xs weaker all.1)
-
 -- ---- what is known
-
-each-known : (knows : Key → Bool) (keys : List Key) → ((key : Key) → has_key keys key ≡ true → knows key ≡ true) → list_all knows keys ≡ true
-each-known knows [] each = refl
-each-known knows (k ∷ keys) each = and_from (knows k) (list_all knows keys)
-    (each k (or_left (same_ask k k) (has_key keys k) (same_key-equiv.refl k)))
-    (each-known knows keys (λ key has. each key (or_right (same_ask key k) (has_key keys key) has)))
-
--- a key is known that is among known ones
-pub among-known : (knows : Key → Bool) (keys : List Key) (key : Key) → list_all knows keys ≡ true → has_key keys key ≡ true → knows key ≡ true
-among-known knows [] key all has = absurd (false≢true has)
-among-known knows (k ∷ keys) key all has =
-    let parts = and_parts (knows k) (list_all knows keys) all in
-    elim (or_cases (same_ask key k) (has_key keys key) has) [
-      | inl here ↦ ap knows ((same_key-decides key k).0 here) ∙ parts.0
-      | inr later ↦ among-known knows keys key parts.1 later
-    ]
 
 all-still : (knows more : Key → Bool) (keys : List Key) → ((key : Key) → knows key ≡ true → more key ≡ true) → list_all knows keys ≡ true
     → list_all more keys ≡ true
-all-still knows more keys still all = each-known more keys (λ key has. still key (among-known knows keys key all has))
+all-still knows more keys still all = all-pass more keys (λ key has. still key (each-passes knows keys key all has))
 
 -- all that a declaration asks for is wanted
 asked-wanted : (ds : List Decl) (d : Decl) → IsFound ds d → (key : Key) → has_key (wanted_by d) key ≡ true → is_wanted ds key ≡ true
@@ -121,7 +83,7 @@ module _ (ds : List Decl) (knows : Key → Bool) (all : (key : Key) → is_wante
 
   is-known : (d : Decl) → IsFound ds d → IsKnown ds knows d
   is-known d found = record {
-    keys = each-known knows (wanted_by d) (λ key has. all key (asked-wanted ds d found key has));
+    keys = all-pass knows (wanted_by d) (λ key has. all key (asked-wanted ds d found key has));
     chains = chains-known (points_of d);
   }
 
@@ -185,7 +147,7 @@ module _ (ds : List Decl) (knows : Key → Bool) (book : List Promised) (u : Uns
   rest-asked distinct key wants new = any-filter stands-open (λ d. has_key (wanted_by d) key) ds
       (each-weaker (IsFound ds) (λ d. stands-open d ≡ false → has_key (wanted_by d) key ≡ false) ds
       (λ d found closed. elim (cases_Bool (has_key (wanted_by d) key)) [
-        | inl has ↦ absurd (false≢true (sym new ∙ among-known knows (wanted_by d) key (settled.each d found closed).known.keys has))
+        | inl has ↦ absurd (false≢true (sym new ∙ each-passes knows (wanted_by d) key (settled.each d found closed).known.keys has))
         | inr none ↦ none
       ])
       (each-found ds distinct)) wants

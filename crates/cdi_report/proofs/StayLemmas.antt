@@ -1,35 +1,16 @@
 -- The laws of declarations that a draft does not concern.
-use Rattle.std.proofs.Common.{◌≡◌, false, List, Some, option_map, refl, sym, ap, subst, ◌∙◌}
-use Rattle.cdi_model.specs.Decl.{key_of, kind_of, name_of_decl}
-use Rattle.cdi_model.specs.DeclKey.{key_at}
-use Rattle.cdi_model.specs.DeclList.{find_decl, AreDistinct}
-use Rattle.cdi_model.specs.Edits.{edited_all, edited_keys, is_among}
-use Rattle.cdi_model.specs.declared.decl.BeanDecl.{BeanDecl}
-use Rattle.cdi_model.specs.declared.decl.Decl.{Decl}
+use Rattle.cdi_report.proofs.Common.{◌≡◌, false, List, Some, option_map, refl, sym, ap, subst, ◌∙◌, kind_of, name_of_decl, key_at}
+use Rattle.cdi_report.proofs.Common.{find_decl, edited_all, edited_keys, is_among, BeanDecl, Decl, Edit, DeclKey, entries, as_bean}
+use Rattle.cdi_report.proofs.Common.{made_of_bean, reads_in, Tells, key_of, Key, edits_keep_decl, AreDistinct, Moved, Staged, IsFound}
+use Rattle.cdi_report.proofs.Common.{knows, State, subjects_at_fault, IsAlike, IsLeft, IsKnown, still_known, is_concerned}
 use Rattle.cdi_model.specs.declared.decl.Decl.TheVariants as decls
 use Rattle.cdi_model.specs.declared.decl.Kind.TheVariants as kinds
-use Rattle.cdi_model.specs.declared.edit.Edit.{Edit}
-use Rattle.cdi_model.specs.declared.key.DeclKey.{DeclKey}
-use Rattle.cdi_model.proofs.EditLemmas.{edits_keep_decl}
-use Rattle.cdi_effective.specs.Beans.{entries}
-use Rattle.cdi_effective.specs.Disposers.{as_bean}
 use Rattle.cdi_effective.specs.Specialized.{chain}
 use Rattle.cdi_effective.proofs.RecordLemmas.{edits_keep_own_records}
-use Rattle.cdi_index.specs.Made.{made_of_bean, reads_in}
-use Rattle.cdi_index.specs.State.{Drafted, Staged}
-use Rattle.cdi_index.specs.Told.{Tells}
-use Rattle.cdi_subjects.specs.Subjects.{subjects_at_fault}
-use Rattle.cdi_observe.specs.Keys.{Key}
-use Rattle.cdi_observe.proofs.RestLemmas.{IsFound}
-use Rattle.cdi_seen.specs.Touched.{still_known}
-use Rattle.cdi_concern.specs.Concern.{is_concerned}
-use Rattle.cdi_concern.specs.declared.moved.Moved.{Moved}
-use Rattle.cdi_validate.specs.Alike.{IsAlike}
+use Rattle.cdi_index.specs.State.{Drafted}
 use Rattle.cdi_validate.proofs.FoundLemmas.{bean-records}
-use Rattle.cdi_spared.proofs.Laws.{apart_are_spared, spared_keep_faults, unconcerned_are_apart}
-use Rattle.cdi_live.specs.State.{knows, State}
-use Rattle.cdi_report.specs.Known.{IsKnown}
-use Rattle.cdi_report.specs.Stays.{IsLeft, LeftStay, LeftWerePresent, Stays}
+use Rattle.cdi_report.proofs.Laws.{apart_are_spared, spared_keep_faults, unconcerned_are_apart}
+use Rattle.cdi_report.specs.Stays.{LeftStay, LeftWerePresent, Stays}
 use Rattle.cdi_report.proofs.StillLemmas.{known-after, own-chains-stay, unconcerned, IsGivenUp}
 use Rattle.cdi_report.proofs.UnmovedLemmas.{not-affected, not-edited}
 
@@ -115,10 +96,7 @@ module _ (old : State) (draft : Drafted) (next : Staged) (new : State) (keys : L
           ∙ tells.records b.name (ap (λ e. is_among moved.affected.now (key_of e)) (sym is) ∙ not-affected ds moved d clear)
           ∙ bean-records ds b (subst (IsFound ds) is present)
       records-stay (decls.Type t) is = refl
-      records-stay (decls.Qualifier q) is = refl
-      records-stay (decls.Binding b) is = refl
-      records-stay (decls.Stereotype s) is = refl
-      records-stay (decls.Interceptor i) is = refl
+      records-stay other is = refl
 
       chains-stay : (b : BeanDecl) → d ≡ decls.Bean b → chain (edited_all ds edits) b ≡ chain ds b
       chains-stay b is = (edits_keep_own_records edits ds b (λ key among.

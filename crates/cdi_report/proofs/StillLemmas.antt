@@ -1,57 +1,32 @@
 -- What a declaration asks for stays known after edits that do not concern it, and is answered alike.
-use Rattle.std.proofs.Common.{◌≡◌, ℕ, Bool, true, false, not, ◌&&◌, List, [], ◌∷◌, ◌++◌, map, Some, None, Option, Result, Ok, Err, cond}
-use Rattle.std.proofs.Common.{refl, sym, ap, ◌∙◌, inl, inr}
-use Rattle.std.specs.List.{list_all, list_any, AllByRecursion}
-use Rattle.std.specs.Str.{bytes_eq}
-use Rattle.std.specs.Option.{option_map_or}
-use Rattle.std.proofs.lemmas.Bool.{and_from, and_parts, cases_Bool, false≢true, or_cases, or_left, or_right}
+use Rattle.cdi_report.proofs.Common.{◌≡◌, ℕ, Bool, true, false, cond, List, [], ◌∷◌, ◌++◌, map, Option, Some, None, refl, sym, ap, ◌∙◌, inl}
+use Rattle.cdi_report.proofs.Common.{inr, AllByRecursion, cases_Bool, false≢true, or_left, or_right, kind_of, name_of_decl, key_at}
+use Rattle.cdi_report.proofs.Common.{find_decl, edited_all, edited_keys, is_among, BeanDecl, Decl, Edit, Qual, as_bean, BeanId, PointDecl}
+use Rattle.cdi_report.proofs.Common.{One, Tells, answer_to, points_of, key_of, BeanPlace, required, places_of, ChainKey, ChoiceKey}
+use Rattle.cdi_report.proofs.Common.{EventKey, Key, asked_by, chains_by, events_by, key_of_point, wanted_by, not, ◌&&◌, list_any, bytes_eq}
+use Rattle.cdi_report.proofs.Common.{edits_keep_decl, class_bindings, chain_of, has_place, has, same_text, AreDistinct, Moved, or_cases}
+use Rattle.cdi_report.proofs.Common.{and_from, and_parts, beans, chosen, set_by, option_map_or, list_all, has_key, is_wanted}
+use Rattle.cdi_report.proofs.Common.{AreChainsKnown, IsKnown, find_bean, still_known, is_concerned, IsUnconcerned}
+use Rattle.cdi_report.proofs.OfferLemmas.{offers_type, one-offers}
+use Rattle.std.proofs.Common.{Result, Ok, Err}
 use Rattle.std.proofs.lemmas.List.Folds.{list_all-append}
-use Rattle.cdi_model.specs.Decl.{key_of, kind_of, name_of_decl}
-use Rattle.cdi_model.specs.DeclKey.{key_at}
-use Rattle.cdi_model.specs.DeclList.{find_decl, AreDistinct}
-use Rattle.cdi_model.specs.Edits.{edited_all, edited_keys, is_among}
-use Rattle.cdi_model.specs.declared.decl.BeanDecl.{BeanDecl}
-use Rattle.cdi_model.specs.declared.decl.Decl.{Decl}
 use Rattle.cdi_model.specs.declared.decl.Decl.TheVariants as decls
 use Rattle.cdi_model.specs.declared.decl.Kind.TheVariants as kinds
-use Rattle.cdi_model.specs.declared.decl.PointDecl.{PointDecl}
-use Rattle.cdi_model.specs.declared.edit.Edit.{Edit}
-use Rattle.cdi_model.specs.declared.place.BeanPlace.{BeanPlace}
-use Rattle.cdi_model.specs.declared.quals.Qual.{Qual}
 use Rattle.cdi_model.specs.declared.refusal.Refusal.{Refusal}
 use Rattle.cdi_model.specs.declared.refusal.Refusal.TheVariants as refusals
-use Rattle.cdi_model.proofs.EditLemmas.{edits_keep_decl}
-use Rattle.cdi_match.specs.Chain.{has}
-use Rattle.cdi_match.proofs.Names.{same_text}
-use Rattle.cdi_effective.specs.Beans.{beans}
-use Rattle.cdi_effective.specs.Bindings.{class_bindings}
-use Rattle.cdi_effective.specs.Disposers.{as_bean, find_bean}
-use Rattle.cdi_effective.specs.Qualifiers.{required}
-use Rattle.cdi_effective.specs.declared.records.BeanId.{BeanId}
-use Rattle.cdi_intercept.specs.Chains.{chain_by, chain_of, chain_told}
+use Rattle.cdi_intercept.specs.Chains.{chain_by, chain_told}
 use Rattle.cdi_intercept.specs.Sees.{sees_at, Seen as SeenAround}
-use Rattle.cdi_intercept.specs.Sets.{has_place, places_of, set_by}
 use Rattle.cdi_intercept.proofs.SeenLemmas.{told_rests_on_seen}
-use Rattle.cdi_resolve.specs.Choices.{chosen}
 use Rattle.cdi_resolve.specs.Sees.{sees, Seen}
-use Rattle.cdi_resolve.specs.declared.choice.Choice.TheVariants.{One}
 use Rattle.cdi_resolve.proofs.SeenLemmas.{choice_rests_on_seen}
-use Rattle.cdi_index.specs.Told.{Tells}
-use Rattle.cdi_observe.specs.Answers.{answer_to}
-use Rattle.cdi_observe.specs.Keys.{has_key, same_place, ChainKey, ChoiceKey, EventKey, Key}
-use Rattle.cdi_observe.specs.Wanted.{asked_by, chains_by, events_by, is_wanted, key_of_point, points_of, wanted_by}
+use Rattle.cdi_observe.specs.Keys.{same_place}
 use Rattle.cdi_observe.proofs.BeanPlaceLemmas.{has-it}
 use Rattle.cdi_observe.proofs.AskedLemmas.{chosen-required}
-use Rattle.cdi_stakes.proofs.NameLemmas.{only-chains}
-use Rattle.cdi_seen.specs.Touched.{is_touched, still_known, ByChain, ByChoice}
+use Rattle.cdi_seen.proofs.NameLemmas.{only-chains}
+use Rattle.cdi_seen.specs.Touched.{is_touched, ByChain, ByChoice}
 use Rattle.cdi_seen.proofs.SameLemmas.{touched_where_seen_differs}
-use Rattle.cdi_concern.specs.Concern.{is_concerned}
-use Rattle.cdi_concern.specs.declared.moved.Moved.{Moved}
-use Rattle.cdi_spared.specs.Unconcerned.{IsUnconcerned}
-use Rattle.cdi_spared.proofs.OfferLemmas.{offers_type, one-offers}
 use Rattle.cdi_live.proofs.WantedPlaceLemmas.{wanted-place}
-use Rattle.cdi_report.specs.Known.{AreChainsKnown, IsKnown}
-use Rattle.cdi_report.proofs.SettledLemmas.{among-known}
+use Rattle.cdi_observe.proofs.KeyLemmas.{each-passes}
 use Rattle.cdi_report.proofs.AskedLemmas.{points-listed, wanted-listed, IsListed, IsPointListed}
 use Rattle.cdi_report.proofs.UnmovedLemmas.{no-affected, no-chain, no-choice, no-event, not-affected, not-classed}
 
@@ -230,7 +205,7 @@ module _ (edits : List Edit) (ds : List Decl) (m : Moved) (d : Decl) (knows : Ke
       let asked : has_key (wanted_by d) (ChainKey b.name place) ≡ true =
       ap (λ e. has_key (wanted_by e) (ChainKey b.name place)) is ∙ asks-own b place (ap (λ x. has_place x place) same ∙ there) in
       untouched ds es knows (ChainKey b.name place)
-      (still (ChainKey b.name place) (ap key_of is) (among-known knows (wanted_by d) (ChainKey b.name place) known asked)))
+      (still (ChainKey b.name place) (ap key_of is) (each-passes knows (wanted_by d) (ChainKey b.name place) known asked)))
     where
       unaffected : is_among m.affected.now (key_at kinds.Bean b.name) ≡ false
       unaffected = ap (λ e. is_among m.affected.now (key_of e)) (sym is) ∙ not-affected ds m d clear

@@ -1,25 +1,17 @@
 -- Declarations that have no faults together.
-use Rattle.std.proofs.Common.{◌≡◌, Bool, true, false, not, cond, List, [], ◌∷◌, ◌++◌, filter, refl, sym, ap, subst, ◌∙◌, inl, inr}
-use Rattle.std.specs.List.{list_all, AllByRecursion}
-use Rattle.std.proofs.lemmas.Bool.{and_parts, cases_Bool, false≢true}
-use Rattle.cdi_model.specs.Decl.{key_of}
-use Rattle.cdi_model.specs.DeclList.{AreDistinct}
-use Rattle.cdi_model.specs.declared.decl.Decl.{Decl}
-use Rattle.cdi_model.specs.declared.key.DeclKey.{DeclKey}
-use Rattle.cdi_validate.specs.Alike.{IsAlike}
-use Rattle.cdi_effective.specs.Beans.{beans}
-use Rattle.cdi_validate.specs.Among.{faults_together, looks_at_all, HaveNoneAnew}
+use Rattle.cdi_report.proofs.Common.{◌≡◌, Bool, true, false, cond, List, [], ◌∷◌, ◌++◌, refl, sym, ap, subst, ◌∙◌, inl, inr, AllByRecursion}
+use Rattle.cdi_report.proofs.Common.{cases_Bool, false≢true, Decl, DeclKey, key_of, not, filter, closed_of, is_open, HaveNoneTogether}
+use Rattle.cdi_report.proofs.Common.{Unsettled, AreDistinct, IsAlike, AreNamed, and_parts, beans, open_of, list_all, is_chainless}
+use Rattle.cdi_report.proofs.Common.{is_nameless, is_needless, faults_together, looks_at_all, Together}
+use Rattle.cdi_validate.specs.Among.{HaveNoneAnew}
 use Rattle.cdi_validate.specs.Faults.{circles, name_clashes, name_prefixes}
 use Rattle.cdi_validate.specs.Twice.{specialized_twice}
-use Rattle.cdi_validate.specs.declared.deployment.Together.{Together}
-use Rattle.cdi_validate.specs.Together.{is_chainless, is_nameless, is_needless, AreNamed, HaveNoCircle, HaveNoClash, HaveNoneTwice}
+use Rattle.cdi_validate.specs.Together.{HaveNoCircle, HaveNoClash, HaveNoneTwice}
 use Rattle.cdi_validate.proofs.ChainlessLemmas.{no_twice_faults, twice_filtered, twice_stays, twice_whole}
 use Rattle.cdi_validate.proofs.CirclelessLemmas.{circle_whole, no_circle_faults}
 use Rattle.cdi_validate.proofs.CircleStayLemmas.{circle_filtered, circle_stays, named_outside}
 use Rattle.cdi_validate.proofs.NamelessLemmas.{clash_filtered, clash_stays, clash_whole, no_name_faults}
-use Rattle.cdi_report.specs.Settled.{closed_of, is_open, open_of, HaveNoneTogether, IsSettledAnyway, LooksAtMore}
-use Rattle.cdi_report.specs.Settled.{MoreIsSettled}
-use Rattle.cdi_report.specs.declared.unsettled.Unsettled.{Unsettled}
+use Rattle.cdi_report.specs.Settled.{IsSettledAnyway, LooksAtMore, MoreIsSettled}
 
 -- ---- lists of which some are left out
 

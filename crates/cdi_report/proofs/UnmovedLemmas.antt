@@ -1,30 +1,14 @@
 -- What a draft moves is none of what an unconcerned declaration asks for.
-use Rattle.std.proofs.Common.{◌≡◌, ℕ, Bool, true, false, ◌||◌, List, [], ◌∷◌, ◌++◌, flat_map, map, Some, sym, ap, ◌∙◌, inl, inr}
-use Rattle.std.specs.List.{list_any}
-use Rattle.std.specs.Str.{bytes_eq}
-use Rattle.std.proofs.lemmas.Bool.{cases_Bool, false≢true, or_cases, or_left, or_parts, or_right}
-use Rattle.std.proofs.lemmas.List.Folds.{list_any-append}
-use Rattle.cdi_model.specs.Decl.{key_of, kind_of, name_of_decl}
-use Rattle.cdi_model.specs.DeclKey.{key_at, same_key, same_key_equiv}
-use Rattle.cdi_model.specs.DeclList.{find_decl}
-use Rattle.cdi_model.specs.Edits.{is_among}
-use Rattle.cdi_model.specs.declared.decl.Decl.{Decl}
+use Rattle.cdi_report.proofs.Common.{◌≡◌, ℕ, Bool, true, false, List, [], ◌∷◌, ◌++◌, map, flat_map, Some, sym, ap, ◌∙◌, inl, inr}
+use Rattle.cdi_report.proofs.Common.{cases_Bool, false≢true, or_left, or_parts, or_right, kind_of, name_of_decl, key_at}
+use Rattle.cdi_report.proofs.Common.{same_key, same_key_equiv, find_decl, is_among, Decl, DeclKey, Word, word_at, words_have}
+use Rattle.cdi_report.proofs.Common.{◌||◌, key_of, words_by, list_any, bytes_eq, has, Moved, or_cases, one_name, is_concerned}
+use Rattle.cdi_report.proofs.Common.{words_writing, has_one, keys_of_classes, keys_of_stereotypes, keys_under, names_of_kind, offered}
+use Rattle.cdi_report.proofs.Common.{reads_one, words_asking, words_sought}
+use Rattle.cdi_report.proofs.OfferLemmas.{offers_type}
 use Rattle.cdi_model.specs.declared.decl.Kind.TheVariants as kinds
-use Rattle.cdi_model.specs.declared.key.DeclKey.{DeclKey}
-use Rattle.cdi_match.specs.Chain.{has}
-use Rattle.cdi_match.proofs.Names.{one_name}
-use Rattle.cdi_effective.specs.Records.{records_in}
-use Rattle.cdi_effective.specs.declared.records.Effective.{Effective}
 use Rattle.cdi_postings.specs.declared.word.Reason.TheVariants as reasons
-use Rattle.cdi_postings.specs.declared.word.Word.{Word}
-use Rattle.cdi_postings.specs.Words.{word_at}
-use Rattle.cdi_index.specs.Made.{words_have}
-use Rattle.cdi_index.specs.Under.{has_one, words_by}
-use Rattle.cdi_concern.specs.Concern.{is_concerned, keys_of_classes, keys_of_stereotypes, keys_under, names_of_kind, offered, reads_one}
-use Rattle.cdi_concern.specs.Concern.{types_of_beans, words_asking, words_sought, words_writing}
-use Rattle.cdi_concern.specs.declared.moved.Moved.{Moved}
-use Rattle.cdi_spared.proofs.OfferLemmas.{offers_type}
-use Rattle.cdi_spared.proofs.UnconcernedLemmas.{found-among, named-among, none-back, none-front, none-named}
+use Rattle.cdi_report.proofs.UnconcernedLemmas.{class-offers, found-among, named-among, none-back, none-front, none-named}
 
 -- ---- names
 
@@ -37,26 +21,6 @@ classed (c ∷ classes) class among =
       | inl here ↦ or_left (same_key (key_at kinds.Bean c) key) (is_among (keys_of_classes classes) key)
           (ap (λ n. same_key (key_at kinds.Bean n) key) (one_name c class here) ∙ same_key_equiv.refl key)
       | inr later ↦ or_right (same_key (key_at kinds.Bean c) key) (is_among (keys_of_classes classes) key) (classed classes class later)
-    ]
-
--- some of these beans have the type
-type-offered : (bs : List Effective) (t : List ℕ) → list_any (λ b. has b.types t) bs ≡ true → has (types_of_beans bs) t ≡ true
-type-offered [] t some = absurd (false≢true some)
-type-offered (b ∷ bs) t some = list_any-append (λ n. bytes_eq n t) b.types (types_of_beans bs)
-    ∙ elim (or_cases (has b.types t) (list_any (λ b. has b.types t) bs) some) [
-      | inl here ↦ or_left (has b.types t) (has (types_of_beans bs) t) here
-      | inr later ↦ or_right (has b.types t) (has (types_of_beans bs) t) (type-offered bs t later)
-    ]
-
--- so one of these classes offers it
-class-offers : (ds : List Decl) (classes : List (List ℕ)) (class t : List ℕ) → has classes class ≡ true → offers_type ds class t ≡ true
-    → has (flat_map (offered ds) classes) t ≡ true
-class-offers ds [] class t among some = absurd (false≢true among)
-class-offers ds (c ∷ classes) class t among some = list_any-append (λ n. bytes_eq n t) (offered ds c) (flat_map (offered ds) classes)
-    ∙ elim (or_cases (bytes_eq c class) (has classes class) among) [
-      | inl here ↦ or_left (has (offered ds c) t) (has (flat_map (offered ds) classes) t)
-          (ap (λ n. has (offered ds n) t) (one_name c class here) ∙ type-offered (records_in ds class) t some)
-      | inr later ↦ or_right (has (offered ds c) t) (has (flat_map (offered ds) classes) t) (class-offers ds classes class t later some)
     ]
 
 -- ---- keys

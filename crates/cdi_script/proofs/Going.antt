@@ -1,7 +1,7 @@
 -- A run from one read to the next, and how it ends.
-use Rattle.std.proofs.Common.{◌≡◌, ℕ, List, [], ◌∷◌, ◌++◌, take, refl, ap, sym, ◌∙◌, subst, Option, Some, None, length, true, false, inl, inr}
-use Rattle.std.proofs.Common.{append_assoc, arith}
-use Rattle.std.specs.Prelude.{Bool, Err, ◌<◌, ◌≤◌, ◌&&◌, not}
+use Rattle.std.proofs.Common.{◌≡◌, ℕ, List, [], ◌∷◌, ◌++◌, take, refl, ap, sym, ◌∙◌, subst, Option, Some, None, length, true, false, inl}
+use Rattle.std.proofs.Common.{inr, append_assoc, arith}
+use Rattle.std.specs.Prelude.{Bool, Err, ◌<◌, ◌≤◌, ◌&&◌, not, alloc_error}
 use Rattle.std.proofs.lemmas.Bool.{false≢true, true≢false}
 use Rattle.std.specs.Io.KnownBytes.{Appends, Consumes}
 use Rattle.std.proofs.lemmas.List.{append-nil, length-append, length-take}
@@ -12,13 +12,11 @@ use Rattle.cdi_devices.specs.Devices.{Gives}
 use Rattle.cdi_lines.specs.Kept.{ServesLine}
 use Rattle.cdi_staging.specs.Naming.{names_of}
 use Rattle.cdi_container.specs.History.{State, Unserved, runs as is_run}
-use Rattle.std.specs.Prelude.{alloc_error}
 use Rattle.cdi_script.specs.Runner.{Tries}
 use Rattle.cdi_script.specs.Begun.{ServesMode}
 use Rattle.cdi_script.specs.Intake.{IntakeOn, intake_on, IsFresh}
-use Rattle.cdi_script.specs.Run.{Setting, WroteAll, AnswersFirst, Leaves, RunsOutOfMemoryTo}
-use Rattle.cdi_script.specs.Run.{FailsToWriteTo, Goes, Feeds}
-use Rattle.cdi_script.specs.Run.{FeedsBeforeMemory, FeedsPart, EndsBeforeMemory, EndsPart}
+use Rattle.cdi_script.specs.Run.{Setting, WroteAll, AnswersFirst, Leaves, RunsOutOfMemoryTo, FailsToWriteTo, Goes, Feeds, FeedsBeforeMemory}
+use Rattle.cdi_script.specs.Run.{FeedsPart, EndsBeforeMemory, EndsPart}
 use Rattle.cdi_devices.specs.declared.counted.Counted.{Counted}
 use Rattle.cdi_script.specs.declared.intake.Intake.{Intake}
 use Rattle.cdi_devices.proofs.Known.{Consumes-more}

@@ -10,8 +10,7 @@ use Rattle.cdi_lines.specs.Kept.{ServesLine}
 use Rattle.cdi_script.specs.Commands.{Mode, commands_of_line, commands_of_lines, mode_of_lines, taken, unclosed}
 use Rattle.cdi_script.specs.Begun.{ServesMode, ServesTaken}
 use Rattle.cdi_script.specs.Runner.{Runs, RunsStep, Tries}
-use Rattle.cdi_script.specs.Intake.{IntakeOn, TakesLine, Advances, EndsLastLine, EndsMode}
-use Rattle.cdi_script.specs.Intake.{Tried, TriesLine, TriesBytes, TriesLastLine}
+use Rattle.cdi_script.specs.Intake.{IntakeOn, TakesLine, Advances, EndsLastLine, EndsMode, Tried, TriesLine, TriesBytes, TriesLastLine}
 use Rattle.cdi_script.proofs.Runs.{runs_none, runs_one}
 use Rattle.cdi_script.proofs.Serving.{serves_serving, serves_more, serves_itself, serves_started}
 use Rattle.cdi_script.proofs.Alike.{runs_no_command, runs_command, tries_command}

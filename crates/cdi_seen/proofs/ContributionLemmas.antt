@@ -1,27 +1,15 @@
 -- What each declaration adds to what the keys of a type see rests on what it reads.
-use Rattle.std.proofs.Common.{◌≡◌, ℕ, Bool, true, false, cond, List, [], ◌∷◌, ◌++◌, map, filter, flat_map, refl, sym, ap, ◌∙◌}
-use Rattle.std.proofs.lemmas.List.{map-append}
-use Rattle.std.proofs.lemmas.List.Elements.{filter-append}
-use Rattle.cdi_model.specs.DeclKey.{key_at}
-use Rattle.cdi_model.specs.Edits.{edited_all, edited_keys, is_among, Avoid}
-use Rattle.cdi_model.specs.declared.decl.Decl.{Decl}
+use Rattle.cdi_seen.proofs.Common.{◌≡◌, ℕ, Bool, true, false, cond, List, [], ◌∷◌, ◌++◌, map, filter, flat_map, refl, sym, ap, ◌∙◌}
+use Rattle.cdi_seen.proofs.Common.{map-append, filter-append, key_at, edited_all, Avoid, Decl, Edit, Qual, edits_keep_decl, avoid-first}
+use Rattle.cdi_seen.proofs.Common.{avoid-head, avoid-second, filled, record_reads, Effective, as_qualifier, beans, records, offers}
+use Rattle.cdi_seen.proofs.Common.{seen_bean, contribution, seen_of, edited_keys, is_among, DeclKey, entries, qualifier_reads}
 use Rattle.cdi_model.specs.declared.decl.Kind.TheVariants as kinds
 use Rattle.cdi_model.specs.declared.decl.UseKind.TheVariants as uses
-use Rattle.cdi_model.specs.declared.edit.Edit.{Edit}
-use Rattle.cdi_model.specs.declared.key.DeclKey.{DeclKey}
-use Rattle.cdi_model.specs.declared.quals.Qual.{Qual}
-use Rattle.cdi_model.proofs.EditLemmas.{edits_keep_decl, avoid-first, avoid-second, avoid-head}
-use Rattle.cdi_match.specs.Filling.{as_qualifier, fill, members_of}
+use Rattle.cdi_match.specs.Filling.{fill, members_of}
 use Rattle.cdi_match.specs.Covering.{given_name}
-use Rattle.cdi_effective.specs.Beans.{beans, entries, records}
-use Rattle.cdi_effective.specs.Reads.{record_reads, qualifier_reads}
-use Rattle.cdi_effective.specs.declared.records.Effective.{Effective}
 use Rattle.cdi_effective.proofs.RecordLemmas.{edits_keep_records}
-use Rattle.cdi_resolve.specs.Choices.{offers, candidate}
-use Rattle.cdi_match.specs.Filled.{filled}
-use Rattle.cdi_resolve.specs.Sees.{seen_bean}
-use Rattle.cdi_seen.specs.Contribution.{seen_of, contribution, SeenByDeclaration}
-use Rattle.cdi_seen.specs.Contribution.{EditsKeepContribution, EditsKeepSeenBeans}
+use Rattle.cdi_resolve.specs.Choices.{candidate}
+use Rattle.cdi_seen.specs.Contribution.{SeenByDeclaration, EditsKeepContribution, EditsKeepSeenBeans}
 pub use Rattle.cdi_model.proofs.GivingLemmas.{edits_keep_given}
 
 -- ---- what is seen, declaration by declaration

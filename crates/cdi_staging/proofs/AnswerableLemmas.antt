@@ -1,43 +1,30 @@
 -- What the points, the bodies and the places of a declaration ask for may be asked, where all is evaluated.
-use Rattle.std.proofs.Common.{◌≡◌, ℕ, zero, suc, Bool, true, false, ◌||◌, List, [], ◌∷◌, ◌++◌, map, Option, Some, None, Contains}
-use Rattle.std.proofs.Common.{refl, sym, ap, subst, ◌∙◌, arith}
-use Rattle.std.specs.Prelude.{IfSome}
-use Rattle.std.specs.List.{flat_map, list_all, list_any, slice_get}
-use Rattle.std.proofs.lemmas.Bool.{and_from, and_parts, false≢true}
+use Rattle.cdi_staging.proofs.Common.{◌≡◌, ℕ, zero, suc, Bool, true, false, ◌||◌, List, [], ◌∷◌, ◌++◌, map, Option, Some, None, Contains}
+use Rattle.cdi_staging.proofs.Common.{refl, sym, ap, subst, ◌∙◌, arith, IfSome, flat_map, list_any, slice_get, and_parts, false≢true}
+use Rattle.cdi_staging.proofs.Common.{slice_get-get_or, AreDistinct, BeanDecl, Decl, InterceptorDecl, MethodDecl, ObserverDecl, PartDecl}
+use Rattle.cdi_staging.proofs.Common.{PointDecl, ProducerDecl, BeanPlace, own-found, in_order, has_place, in_order-declared, are_answerable}
+use Rattle.cdi_staging.proofs.Common.{key_of_event, key_of_point, chains-answerable, IsFireable}
+use Rattle.std.specs.List.{list_all}
+use Rattle.std.proofs.lemmas.Bool.{and_from}
 use Rattle.std.proofs.lemmas.List.Folds.{list_all-append, list_all-map}
-use Rattle.std.proofs.lemmas.Option.{slice_get-get_or}
-use Rattle.cdi_model.specs.DeclList.{AreDistinct}
 use Rattle.cdi_model.specs.Mentions.{Mention, mentions, of_attributes, of_bindings, of_disposer, of_event, of_method, of_observer, of_part}
 use Rattle.cdi_model.specs.Mentions.{of_parts, of_point, of_producer, of_qualifiers, part_place_of, CallOf, EventOf}
-use Rattle.cdi_model.specs.declared.decl.BeanDecl.{BeanDecl}
-use Rattle.cdi_model.specs.declared.decl.Decl.{Decl}
 use Rattle.cdi_model.specs.declared.decl.Decl.TheVariants as decls
 use Rattle.cdi_model.specs.declared.decl.EventDecl.{EventDecl}
-use Rattle.cdi_model.specs.declared.decl.InterceptorDecl.{InterceptorDecl}
-use Rattle.cdi_model.specs.declared.decl.MethodDecl.{MethodDecl}
-use Rattle.cdi_model.specs.declared.decl.ObserverDecl.{ObserverDecl}
-use Rattle.cdi_model.specs.declared.decl.PartDecl.{PartDecl}
-use Rattle.cdi_model.specs.declared.decl.PointDecl.{PointDecl}
-use Rattle.cdi_model.specs.declared.decl.ProducerDecl.{ProducerDecl}
 use Rattle.cdi_model.specs.declared.mention.PointPlace.TheVariants as points_are
-use Rattle.cdi_model.specs.declared.place.BeanPlace.{BeanPlace}
 use Rattle.cdi_model.specs.declared.place.PartPlace.{PartPlace}
 use Rattle.cdi_model.specs.declared.place.PartPlace.TheVariants as parts_are
-use Rattle.cdi_effective.proofs.PlaceLemmas.{own-found}
-use Rattle.cdi_intercept.specs.Chains.{in_order}
-use Rattle.cdi_intercept.specs.Sets.{has_place, places_of}
-use Rattle.cdi_intercept.proofs.ChainLemmas.{in_order-declared}
+use Rattle.cdi_intercept.specs.Sets.{places_of}
 use Rattle.cdi_observe.specs.Keys.{Key, ChainKey, same_place}
 use Rattle.cdi_observe.specs.Kept.{Kept}
-use Rattle.cdi_observe.specs.Lending.{are_answerable, is_answerable, IsEvaluated}
-use Rattle.cdi_observe.specs.Wanted.{event_in, key_of_event, key_of_point}
+use Rattle.cdi_observe.specs.Lending.{is_answerable, IsEvaluated}
+use Rattle.cdi_observe.specs.Wanted.{event_in}
 use Rattle.cdi_observe.proofs.BeanPlaceLemmas.{has-it}
 use Rattle.cdi_observe.proofs.KeyLemmas.{same_place-decides}
-use Rattle.cdi_observe.proofs.LendingLemmas.{chains-answerable, events-answerable, points-answerable}
-use Rattle.cdi_observe.proofs.RestLemmas.{IsFound}
+use Rattle.cdi_observe.proofs.LendingLemmas.{events-answerable, points-answerable}
+use Rattle.cdi_observe.proofs.FoundLemmas.{IsFound}
 use Rattle.cdi_subjects.specs.Sites.{declared_points, observed, params_of}
 use Rattle.cdi_subjects.proofs.AnsweredLemmas.{points-declared}
-use Rattle.cdi_staging.specs.Shown.{IsFireable}
 
 -- ---- parts of lists
 

@@ -1,11 +1,8 @@
 -- Two lists, place by place; and what is found in lists.
-use Rattle.std.proofs.Common.{◌≡◌, ◌+◌, ℕ, zero, suc, Bool, true, false, cond, List, [], ◌∷◌, ◌++◌, map, filter, Some}
-use Rattle.std.proofs.Common.{None, length, refl, sym, subst, ap, ◌∙◌, inl, inr, ◌⊎◌, arith}
-use Rattle.std.specs.List.{AllByRecursion, flat_map, find, position, position_from, slice_get}
-use Rattle.std.specs.Option.{option_or}
-use Rattle.std.proofs.lemmas.Bool.{false≢true}
-use Rattle.std.proofs.lemmas.Iterator.Adapters.{position_from-zero}
-use Rattle.std.proofs.lemmas.Option.{same_Some}
+use Rattle.cdi_staging.proofs.Common.{◌≡◌, ℕ, zero, suc, Bool, true, false, List, [], ◌∷◌, ◌++◌, map, Some, None, refl, sym, ap, subst, ◌∙◌}
+use Rattle.cdi_staging.proofs.Common.{arith, flat_map, slice_get, false≢true, ◌+◌, cond, filter, length, inl, inr, ◌⊎◌, find, position}
+use Rattle.cdi_staging.proofs.Common.{position_from, option_or, position_from-zero, same_Some}
+use Rattle.std.specs.List.{AllByRecursion}
 use Rattle.cdi_intercept.specs.Sorting.{sorted_by}
 use Rattle.cdi_intercept.proofs.OrderLemmas.{all_sorted}
 

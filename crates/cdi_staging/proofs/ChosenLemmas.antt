@@ -1,38 +1,17 @@
 -- The bean that is chosen for an injection point stands in the scene.
-use Rattle.std.proofs.Common.{◌≡◌, ◌≢◌, ℕ, zero, Bool, true, false, ◌&&◌, cond, List, [], ◌∷◌, map, filter}
-use Rattle.std.proofs.Common.{length, Option, Some, None, unwrap_or}
-use Rattle.std.proofs.Common.{refl, sym, subst, ap, ◌∙◌, ◌⊎◌, inl, inr}
-use Rattle.std.specs.List.{slice_get}
+use Rattle.cdi_staging.proofs.Common.{◌≡◌, ℕ, zero, Bool, true, List, [], ◌∷◌, map, Option, Some, None, refl, sym, ap, subst, ◌∙◌}
+use Rattle.cdi_staging.proofs.Common.{slice_get, and_parts, false≢true, AreDistinct, BeanDecl, Decl, ProducerDecl, own-found, cond, filter}
+use Rattle.cdi_staging.proofs.Common.{length, inl, inr, ◌⊎◌, same_Some, ◌≢◌, ◌&&◌, unwrap_or, bytes_eq, Qual, has, one_name, same_text}
+use Rattle.cdi_staging.proofs.Common.{Promised, Bean, Managed, Product, as_managed, bean_at, beans, entries, managed, product, effective}
+use Rattle.cdi_staging.proofs.Common.{as_bean, find_bean, BeanId, Effective, is_told_by, One, position_of_bean, position_of_class}
+use Rattle.cdi_staging.proofs.Common.{managed_form, scene_of, staged_beans, staged_product, unused_managed}
 use Rattle.std.specs.Option.{option_eq}
-use Rattle.std.specs.Str.{bytes_eq}
-use Rattle.std.proofs.lemmas.Bool.{and_parts, false≢true}
-use Rattle.std.proofs.lemmas.Option.{same_Some}
-use Rattle.cdi_model.specs.DeclList.{AreDistinct}
-use Rattle.cdi_model.specs.declared.decl.BeanDecl.{BeanDecl}
-use Rattle.cdi_model.specs.declared.decl.Decl.{Decl}
 use Rattle.cdi_model.specs.declared.decl.Decl.TheVariants as decls
-use Rattle.cdi_model.specs.declared.decl.ProducerDecl.{ProducerDecl}
-use Rattle.cdi_model.specs.declared.quals.Qual.{Qual}
-use Rattle.cdi_match.specs.Chain.{has}
-use Rattle.cdi_match.proofs.Names.{one_name, same_text}
-use Rattle.cdi_bodies.specs.Book.{Promised}
-use Rattle.cdi_scene.specs.declared.scene.Bean.{Bean}
 use Rattle.cdi_scene.specs.declared.scene.Form.TheVariants as forms
-use Rattle.cdi_scene.specs.declared.scene.Managed.{Managed}
-use Rattle.cdi_scene.specs.declared.scene.Product.{Product}
-use Rattle.cdi_scene.specs.Scene.{as_managed, bean_at}
-use Rattle.cdi_effective.specs.Beans.{beans, entries, managed, product, effective}
-use Rattle.cdi_effective.specs.Disposers.{as_bean, find_bean}
 use Rattle.cdi_effective.specs.Qualifiers.{required, cover_all}
-use Rattle.cdi_effective.proofs.PlaceLemmas.{own-found}
-use Rattle.cdi_effective.specs.declared.records.BeanId.{BeanId}
-use Rattle.cdi_effective.specs.declared.records.Effective.{Effective}
-use Rattle.cdi_resolve.specs.Choices.{Candidate, candidate, choice_of, chosen, eligible, is_eligible, only, among}
-use Rattle.cdi_resolve.specs.Choices.{greatest, is_greatest, alternatives, offers}
-use Rattle.cdi_staging.specs.Positions.{is_told_by}
-use Rattle.cdi_resolve.specs.declared.choice.Choice.TheVariants.{One}
-use Rattle.cdi_staging.specs.Sites.{position_of_bean, position_of_class}
-use Rattle.cdi_staging.specs.Staged.{managed_form, scene_of, staged_beans, staged_managed, staged_product, unused_managed}
+use Rattle.cdi_resolve.specs.Choices.{Candidate, candidate, choice_of, chosen, eligible, is_eligible, only, among, greatest, is_greatest}
+use Rattle.cdi_resolve.specs.Choices.{alternatives, offers}
+use Rattle.cdi_staging.specs.Staged.{staged_managed}
 use Rattle.cdi_staging.proofs.BesideLemmas.{Beside, beside-map, beside-flat, second-at, found, from-filter, from-map, in-flat}
 
 -- ---- the one that is chosen

@@ -1,33 +1,20 @@
 -- The interceptors around the places of a bean that is declared, by the names that are told of them.
-use Rattle.std.proofs.Common.{◌≡◌, ◌≢◌, ◌+◌, ◌<◌, ℕ, zero, suc, Bool, true, false, cond, not, ◌&&◌, List, [], ◌∷◌, ◌++◌, map, filter, length}
-use Rattle.std.proofs.Common.{Some, Contains, get_or, is_some, option_map, refl, sym, subst, ap, ◌∙◌, append_assoc}
-use Rattle.std.specs.List.{slice_get}
-use Rattle.std.specs.Str.{bytes_eq}
-use Rattle.std.proofs.lemmas.Bool.{false≢true}
+use Rattle.cdi_staging.proofs.Common.{◌≡◌, ℕ, zero, suc, Bool, true, false, List, [], ◌∷◌, ◌++◌, map, Some, Contains, refl, sym, ap, subst}
+use Rattle.cdi_staging.proofs.Common.{◌∙◌, slice_get, false≢true, slice_get-get_or, AreDistinct, BeanDecl, Decl, InterceptorDecl}
+use Rattle.cdi_staging.proofs.Common.{MethodDecl, ObserverDecl, ProducerDecl, BeanPlace, in_order, has_place, ◌+◌, cond, filter, length}
+use Rattle.cdi_staging.proofs.Common.{◌≢◌, ◌&&◌, bytes_eq, has, same_text, ◌<◌, not, get_or, is_some, option_map, append_assoc}
+use Rattle.cdi_staging.proofs.Common.{slice_get-map, class_bindings, surrounds, surrounds_one, set_by, sets_of, names_at, around_in}
+use Rattle.cdi_staging.proofs.Common.{names_among, Around, around_of, chain_at, injections_around, injections_from, places_from, targets}
+use Rattle.cdi_staging.proofs.Common.{Injection}
 use Rattle.std.proofs.lemmas.List.{map-id}
-use Rattle.std.proofs.lemmas.Option.{get_or_from_slice_get, slice_get-get_or, slice_get-map, slice_get_within}
+use Rattle.std.proofs.lemmas.Option.{get_or_from_slice_get, slice_get_within}
 use Rattle.std.proofs.lemmas.Simd.{map-map}
-use Rattle.cdi_model.specs.DeclList.{AreDistinct}
-use Rattle.cdi_model.specs.declared.decl.BeanDecl.{BeanDecl}
-use Rattle.cdi_model.specs.declared.decl.Decl.{Decl}
-use Rattle.cdi_model.specs.declared.decl.InterceptorDecl.{InterceptorDecl}
-use Rattle.cdi_model.specs.declared.decl.MethodDecl.{MethodDecl}
-use Rattle.cdi_model.specs.declared.decl.ObserverDecl.{ObserverDecl}
-use Rattle.cdi_model.specs.declared.decl.ProducerDecl.{ProducerDecl}
-use Rattle.cdi_model.specs.declared.place.BeanPlace.{BeanPlace}
 use Rattle.cdi_model.specs.declared.place.BeanPlace.TheVariants as spots
-use Rattle.cdi_match.specs.Chain.{has}
-use Rattle.cdi_match.proofs.Names.{same_text}
-use Rattle.cdi_effective.specs.Bindings.{class_bindings}
-use Rattle.cdi_intercept.specs.Chains.{chain_by, in_order, surrounds, surrounds_one}
-use Rattle.cdi_intercept.specs.Sets.{has_place, set_by, sets_of}
-use Rattle.cdi_observe.specs.Around.{names_at, names_of_bean}
+use Rattle.cdi_intercept.specs.Chains.{chain_by}
+use Rattle.cdi_observe.specs.Around.{names_of_bean}
 use Rattle.cdi_observe.proofs.AroundLemmas.{has-names, has-names_at}
-use Rattle.cdi_staging.specs.Shown.{around_in, names_among}
 use Rattle.cdi_staging.specs.declared.around.Around.{Around as Shown}
-use Rattle.cdi_staging.specs.Staged.{Around, around_of, chain_at, injections_around, injections_from, places_from, targets}
 use Rattle.cdi_contexts.specs.declared.instance.Actor.TheVariants.{Interceptor as By}
-use Rattle.cdi_scene.specs.declared.scene.Injection.{Injection}
 use Rattle.cdi_staging.proofs.BesideLemmas.{found, from-map}
 
 -- ---- tests that agree on each element

@@ -1,3 +1,4 @@
+mod Common
 mod PositionLemmas
 mod AnswerableLemmas
 mod ProductLemmas

@@ -1,43 +1,19 @@
 -- Interceptors in the scene: where they stand, what is chosen for their injection points, and their bodies.
-use Rattle.std.proofs.Common.{◌≡◌, ◌+◌, ℕ, zero, suc, Bool, true, false, cond, List, [], ◌∷◌, ◌++◌, map}
-use Rattle.std.proofs.Common.{Option, Some, None, is_some, option_map, refl, sym, subst, ap, ◌∙◌, inl, inr, arith}
-use Rattle.std.specs.List.{slice_get}
-use Rattle.std.specs.Option.{option_and_then}
-use Rattle.std.specs.Int.RustNames.{bit_and}
-use Rattle.std.proofs.lemmas.Bool.{and_parts, false≢true}
-use Rattle.std.proofs.lemmas.Option.{none-some, same_Some, slice_get-map}
-use Rattle.cdi_model.specs.DeclList.{AreDistinct}
-use Rattle.cdi_model.specs.declared.decl.BeanDecl.{BeanDecl}
-use Rattle.cdi_model.specs.declared.decl.Decl.{Decl}
-use Rattle.cdi_model.specs.declared.decl.InterceptorDecl.{InterceptorDecl}
-use Rattle.cdi_model.specs.declared.decl.PartDecl.{PartDecl}
-use Rattle.cdi_model.specs.declared.place.BeanPlace.{BeanPlace}
-use Rattle.cdi_bodies.specs.Book.{Promised}
+use Rattle.cdi_staging.proofs.Common.{◌≡◌, ℕ, zero, suc, Bool, true, false, List, [], ◌∷◌, ◌++◌, map, Option, Some, None, refl, sym, ap}
+use Rattle.cdi_staging.proofs.Common.{subst, ◌∙◌, arith, slice_get, and_parts, false≢true, AreDistinct, BeanDecl, Decl, InterceptorDecl}
+use Rattle.cdi_staging.proofs.Common.{PartDecl, BeanPlace, in_order, in_order-declared, ◌+◌, cond, inl, inr, same_Some, Promised, beans}
+use Rattle.cdi_staging.proofs.Common.{managed_form, scene_of, is_some, option_map, slice_get-map, class_bindings, surrounds, surrounds_one}
+use Rattle.cdi_staging.proofs.Common.{set_by, sets_of, Around, around_of, chain_at, injections_around, injections_from, places_from}
+use Rattle.cdi_staging.proofs.Common.{targets, Injection, option_and_then, bit_and, none-some, Has, managed_at, home_of, IsAllowedAt}
+use Rattle.cdi_staging.proofs.Common.{IsNamed, IsOwnPoint, IsSoundAt, Place, Seat, Part, Via, Own, Param, AreFineAround, IsFinePart}
+use Rattle.cdi_staging.proofs.Common.{fired_at, site_of, staged_interceptor, staged_part, Target}
 use Rattle.cdi_bodies.specs.Flags as flags
-use Rattle.cdi_bodies.specs.Within.{Has}
 use Rattle.cdi_contexts.specs.declared.instance.Actor.{Actor}
 use Rattle.cdi_contexts.specs.declared.instance.Actor.TheVariants.{Target as ByTarget, Interceptor as By}
-use Rattle.cdi_scene.specs.Scene.{managed_at, interceptor_at, part_for}
-use Rattle.cdi_scene.specs.Sound.{home_of, IsAllowedAt, IsNamed, IsOwnPoint, IsSoundAt}
-use Rattle.cdi_scene.specs.declared.place.Place.{Place}
+use Rattle.cdi_scene.specs.Scene.{interceptor_at, part_for}
 use Rattle.cdi_scene.specs.declared.place.Place.TheVariants as places
-use Rattle.cdi_scene.specs.declared.place.Seat.{Seat}
-use Rattle.cdi_scene.specs.declared.scene.Injection.{Injection}
-use Rattle.cdi_scene.specs.declared.scene.Part.{Part}
-use Rattle.cdi_scene.specs.declared.scene.Via.{Via}
-use Rattle.cdi_scene.specs.declared.scene.Via.TheVariants.{Own, Param}
-use Rattle.cdi_effective.specs.Beans.{beans}
-use Rattle.cdi_effective.specs.Bindings.{class_bindings}
-use Rattle.cdi_intercept.specs.Chains.{in_order, surrounds, surrounds_one}
 use Rattle.cdi_intercept.specs.Chains.{part_for as declared_for}
-use Rattle.cdi_intercept.specs.Sets.{set_by, sets_of}
-use Rattle.cdi_intercept.proofs.ChainLemmas.{in_order-declared}
-use Rattle.cdi_staging.specs.Faultless.{AreFineAround, IsFineAround, IsFinePart}
-use Rattle.cdi_staging.specs.Notifying.{fired_at}
-use Rattle.cdi_staging.specs.Sites.{site_of}
-use Rattle.cdi_staging.specs.Staged.{Around, around_of, chain_at, injections_around, injections_from, managed_form, places_from}
-use Rattle.cdi_staging.specs.Staged.{scene_of, staged_interceptor, staged_part, targets}
-use Rattle.cdi_staging.specs.declared.target.Target.{Target}
+use Rattle.cdi_staging.specs.Faultless.{IsFineAround}
 use Rattle.cdi_staging.proofs.BesideLemmas.{from-map, in-append-left, in-append-right, in-one}
 use Rattle.cdi_staging.proofs.PartLemmas.{NamesVia, part-sound, seen}
 use Rattle.cdi_staging.proofs.SoundLemmas.{none-satisfied, part-there}

@@ -1,18 +1,11 @@
 -- What is chosen for a look-up from outside stands in the scene, and has its methods there.
-use Rattle.std.proofs.Common.{◌≡◌, true, None, is_some, refl, sym, ap, ◌∙◌}
-use Rattle.std.proofs.lemmas.Option.{none-some}
-use Rattle.cdi_scene.specs.Scene.{as_managed, as_product}
-use Rattle.cdi_scene.specs.Sound.{HasMethod}
+use Rattle.cdi_staging.proofs.Common.{◌≡◌, true, None, refl, sym, ap, ◌∙◌, as_managed, beans, position_of_bean, scene_of, is_some}
+use Rattle.cdi_staging.proofs.Common.{none-some, Own, as_product, HasMethod, CallSite, Scene, method_of}
 use Rattle.cdi_scene.specs.declared.place.Place.TheVariants as places
-use Rattle.cdi_scene.specs.declared.scene.CallSite.{CallSite}
 use Rattle.cdi_scene.specs.declared.scene.Form.{Form}
 use Rattle.cdi_scene.specs.declared.scene.Form.TheVariants as forms
-use Rattle.cdi_scene.specs.declared.scene.Scene.{Scene}
-use Rattle.cdi_scene.specs.declared.scene.Via.TheVariants.{Own}
-use Rattle.cdi_effective.specs.Beans.{beans}
 use Rattle.cdi_staging.specs.Lookups.{ChosenStands, ChosenHasMethods}
-use Rattle.cdi_staging.specs.Sites.{managed_class, method_of, position_of_bean}
-use Rattle.cdi_staging.specs.Staged.{scene_of}
+use Rattle.cdi_staging.specs.Sites.{managed_class}
 use Rattle.cdi_staging.proofs.ChosenLemmas.{chosen-offered, managed_in, reached}
 use Rattle.cdi_staging.proofs.PartLemmas.{method-there}
 use Rattle.cdi_staging.proofs.SoundLemmas.{place_in, product_in}

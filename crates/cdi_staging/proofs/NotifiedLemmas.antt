@@ -1,27 +1,16 @@
 -- The observer methods that are notified of an event stand in the scene.
-use Rattle.std.proofs.Common.{◌≡◌, ℕ, Bool, true, false, not, ◌&&◌, cond, List, length, map, Option, Some, None, is_some}
-use Rattle.std.proofs.Common.{option_map, unwrap_or, refl, sym, subst, ap, ◌∙◌}
-use Rattle.std.specs.List.{filter, slice_get}
-use Rattle.std.proofs.lemmas.Option.{none-some, same_Some, slice_get-map}
-use Rattle.cdi_model.specs.DeclList.{AreDistinct}
-use Rattle.cdi_model.specs.declared.decl.BeanDecl.{BeanDecl}
-use Rattle.cdi_model.specs.declared.decl.Decl.{Decl}
-use Rattle.cdi_model.specs.declared.decl.ObserverDecl.{ObserverDecl}
-use Rattle.cdi_model.specs.declared.quals.Qual.{Qual}
+use Rattle.cdi_staging.proofs.Common.{◌≡◌, ℕ, Bool, true, false, List, map, Option, Some, None, refl, sym, ap, subst, ◌∙◌, slice_get}
+use Rattle.cdi_staging.proofs.Common.{AreDistinct, BeanDecl, Decl, ObserverDecl, cond, length, same_Some, ◌&&◌, unwrap_or, Qual, same_text}
+use Rattle.cdi_staging.proofs.Common.{Promised, beans, managed, find_bean, Effective, position_of_class, managed_form, scene_of, not}
+use Rattle.cdi_staging.proofs.Common.{is_some, option_map, slice_get-map, none-some, Observer, is_observer, notified_as, observer_declared}
+use Rattle.cdi_staging.proofs.Common.{staged_observer}
+use Rattle.std.specs.List.{filter}
 use Rattle.cdi_match.specs.Types.{types_of}
-use Rattle.cdi_match.proofs.Names.{same_text}
-use Rattle.cdi_bodies.specs.Book.{Promised}
 use Rattle.cdi_scene.specs.Sound.{IsSoundNotified}
-use Rattle.cdi_scene.specs.declared.scene.Observer.{Observer}
-use Rattle.cdi_effective.specs.Beans.{beans, managed}
-use Rattle.cdi_effective.specs.Disposers.{find_bean}
-use Rattle.cdi_effective.specs.declared.records.Effective.{Effective}
 use Rattle.cdi_observe.specs.Observers.{Observer as Declared, declared_by, enabled_bean, is_before, is_notified, observer_id, observers}
 use Rattle.cdi_observe.specs.Observers.{observes, observing, resolved}
 use Rattle.cdi_staging.specs.Lookups.{NotifiedStand}
-use Rattle.cdi_staging.specs.Notifying.{is_observer, notified_as, notified_at, observer_declared}
-use Rattle.cdi_staging.specs.Sites.{position_of_class}
-use Rattle.cdi_staging.specs.Staged.{managed_form, scene_of, staged_observer}
+use Rattle.cdi_staging.specs.Notifying.{notified_at}
 use Rattle.cdi_staging.proofs.BesideLemmas.{found, from-filter, from-flat, from-map, from-sorted, second-at}
 use Rattle.cdi_staging.proofs.ChosenLemmas.{Stands, all-stand, bean-found, host-used, named-decl, of-none}
 

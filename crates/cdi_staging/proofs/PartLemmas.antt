@@ -1,44 +1,19 @@
 -- The parts of a scene, and where their call sites lead.
-use Rattle.std.proofs.Common.{◌≡◌, ◌≤◌, ℕ, Bool, true, false, ◌||◌, cond, List, [], ◌∷◌, ◌++◌, codes, is_some, map}
-use Rattle.std.proofs.Common.{length, Option, Some, None, unwrap_or, option_map}
-use Rattle.std.proofs.Common.{refl, sym, subst, ap, ◌∙◌, arith}
-use Rattle.std.specs.List.{find, list_any, position, slice_get}
-use Rattle.std.specs.Option.{option_or}
-use Rattle.std.specs.Str.{bytes_eq}
-use Rattle.std.proofs.lemmas.Bool.{false≢true}
-use Rattle.std.proofs.lemmas.List.{length-map}
-use Rattle.std.proofs.lemmas.Option.{same_Some, slice_get-map}
-use Rattle.cdi_model.specs.DeclList.{AreDistinct}
-use Rattle.cdi_model.specs.Quals.{list_limit}
-use Rattle.cdi_model.specs.declared.decl.BeanDecl.{BeanDecl}
+use Rattle.cdi_staging.proofs.Common.{◌≡◌, ℕ, Bool, true, false, ◌||◌, List, [], ◌∷◌, ◌++◌, map, Option, Some, None, refl, sym, ap, subst}
+use Rattle.cdi_staging.proofs.Common.{◌∙◌, arith, list_any, slice_get, false≢true, AreDistinct, BeanDecl, Decl, MethodDecl, PartDecl}
+use Rattle.cdi_staging.proofs.Common.{PointDecl, cond, length, find, position, option_or, same_Some, unwrap_or, bytes_eq, Promised, beans}
+use Rattle.cdi_staging.proofs.Common.{find_bean, BeanId, One, position_of_bean, managed_form, scene_of, is_some, option_map, slice_get-map}
+use Rattle.cdi_staging.proofs.Common.{targets, bit_and, Has, Part, Via, Own, Param, IsFinePart, fired_at, site_of, staged_part, Target}
+use Rattle.cdi_staging.proofs.Common.{HasMethod, CallSite, method_of, ◌≤◌, length-map, list_limit, is_named, promise_of, IsSoundPart}
+use Rattle.cdi_staging.proofs.Common.{Notified, answer_to, IsFit, AreSatisfied, target_of, is_method, is_point, part_of, part_with}
+use Rattle.cdi_staging.proofs.Common.{staged_method}
+use Rattle.std.proofs.Common.{codes}
 use Rattle.cdi_model.specs.declared.decl.CallDecl.{CallDecl}
-use Rattle.cdi_model.specs.declared.decl.Decl.{Decl}
-use Rattle.cdi_model.specs.declared.decl.MethodDecl.{MethodDecl}
-use Rattle.cdi_model.specs.declared.decl.PartDecl.{PartDecl}
-use Rattle.cdi_model.specs.declared.decl.PointDecl.{PointDecl}
-use Rattle.cdi_bodies.specs.Book.{Promised, is_named, promise_of}
-use Rattle.std.specs.Int.RustNames.{bit_and}
-use Rattle.cdi_bodies.specs.Within.{Has}
 use Rattle.cdi_bodies.specs.declared.promise.Promise.{Promise}
-use Rattle.cdi_scene.specs.Sound.{AreObservers, IsInBook, HasMethod, IsSoundSite, IsSoundPart}
-use Rattle.cdi_scene.specs.declared.scene.CallSite.{CallSite}
-use Rattle.cdi_scene.specs.declared.scene.Notified.{Notified}
-use Rattle.cdi_scene.specs.declared.scene.Part.{Part}
-use Rattle.cdi_scene.specs.declared.scene.Via.{Via}
-use Rattle.cdi_scene.specs.declared.scene.Via.TheVariants.{Own, Param}
-use Rattle.cdi_effective.specs.Beans.{beans}
-use Rattle.cdi_effective.specs.Disposers.{find_bean}
-use Rattle.cdi_effective.specs.declared.records.BeanId.{BeanId}
-use Rattle.cdi_resolve.specs.declared.choice.Choice.TheVariants.{One}
-use Rattle.cdi_observe.specs.Answers.{answer_to}
+use Rattle.cdi_scene.specs.Sound.{AreObservers, IsInBook, IsSoundSite}
 use Rattle.cdi_subjects.specs.Sites.{has_method, methods_in}
-use Rattle.cdi_staging.specs.Faultless.{IsFit, IsSatisfied, AreSatisfied, IsLed, IsFinePart}
-use Rattle.cdi_staging.specs.Notifying.{fired_at}
-use Rattle.cdi_staging.specs.Sites.{Sight, nowhere, target_of, class_with, method_declared, method_of, is_method}
-use Rattle.cdi_staging.specs.Sites.{is_point, position_of_bean, site_at, site_among, site_of, target_at}
-use Rattle.cdi_staging.specs.Staged.{part_of, part_with, staged_part, staged_method, managed_form, scene_of}
-use Rattle.cdi_staging.specs.Staged.{targets}
-use Rattle.cdi_staging.specs.declared.target.Target.{Target}
+use Rattle.cdi_staging.specs.Faultless.{IsSatisfied, IsLed}
+use Rattle.cdi_staging.specs.Sites.{Sight, nowhere, class_with, method_declared, site_at, site_among, target_at}
 use Rattle.cdi_staging.proofs.BesideLemmas.{of-find, no-position, find-append, from-map}
 use Rattle.cdi_staging.proofs.ChosenLemmas.{Reached, chosen-offered, reached}
 use Rattle.cdi_staging.proofs.NotifiedLemmas.{notified_stand}

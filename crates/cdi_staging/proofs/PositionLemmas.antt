@@ -1,13 +1,8 @@
 -- The places of beans, noted one bean after another.
-use Rattle.std.proofs.Common.{◌≡◌, ◌<◌, ◌+◌, ℕ, Bool, true, false, cond, Option, Some, None}
-use Rattle.std.proofs.Common.{List, ◌∷◌, length, drop, get_or, map, refl, sym, ap, ◌∙◌}
+use Rattle.cdi_staging.proofs.Common.{◌≡◌, ℕ, Bool, true, false, List, ◌∷◌, map, Option, Some, None, refl, sym, ap, ◌∙◌, ◌+◌, cond, length}
+use Rattle.cdi_staging.proofs.Common.{position_from, option_or, BeanId, Effective, is_told_by, ◌<◌, get_or, drop, same_id}
 use Rattle.std.specs.Prelude.{position}
-use Rattle.std.specs.List.{position_from}
-use Rattle.std.specs.Option.{option_or}
 use Rattle.std.proofs.lemmas.List.{at_drop_more}
-use Rattle.cdi_effective.specs.declared.records.BeanId.{BeanId}
-use Rattle.cdi_effective.specs.declared.records.Effective.{Effective}
-use Rattle.cdi_staging.specs.Positions.{is_told_by, same_id}
 
 place-more : (old : Option ℕ) (e : Bool) (place : ℕ) (rest : Option ℕ)
     → option_or (option_or old (cond e (Some place) None)) rest ≡ option_or old (cond e (Some place) rest)

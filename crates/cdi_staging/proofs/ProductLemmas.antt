@@ -1,10 +1,6 @@
 -- Records beside producer methods, and what is made of them one by one.
-use Rattle.std.proofs.Common.{◌≡◌, suc, List, [], ◌∷◌, ◌++◌, map, Contains, refl, sym, ap, ◌∙◌, append_assoc, arith}
-use Rattle.cdi_model.specs.declared.decl.BeanDecl.{BeanDecl}
-use Rattle.cdi_model.specs.declared.decl.Decl.{Decl}
-use Rattle.cdi_model.specs.declared.decl.ProducerDecl.{ProducerDecl}
-use Rattle.cdi_effective.specs.Beans.{product}
-use Rattle.cdi_effective.specs.declared.records.Effective.{Effective}
+use Rattle.cdi_staging.proofs.Common.{◌≡◌, suc, List, [], ◌∷◌, ◌++◌, map, Contains, refl, sym, ap, ◌∙◌, arith, BeanDecl, Decl, ProducerDecl}
+use Rattle.cdi_staging.proofs.Common.{product, Effective, append_assoc}
 
 pub first-product : (ds : List Decl) (bean : BeanDecl) (xs xs' : List Effective) (ps ps' : List ProducerDecl) (x : Effective)
     (p : ProducerDecl) → xs ≡ x ∷ xs' → ps ≡ p ∷ ps' → xs ≡ map (product ds bean) ps

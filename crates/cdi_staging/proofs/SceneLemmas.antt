@@ -1,69 +1,38 @@
 -- Where each declaration is fine, the scene is sound.
-use Rattle.std.proofs.Common.{◌≡◌, ◌≤◌, ◌+◌, ℕ, Bool, true, false, cond, List, [], map, length}
-use Rattle.std.proofs.Common.{Option, Some, None, option_map, unwrap_or}
-use Rattle.std.proofs.Common.{refl, sym, subst, ap, ◌∙◌, inl, inr, arith}
-use Rattle.std.specs.List.{slice_get}
-use Rattle.std.specs.Option.{option_and_then}
-use Rattle.std.specs.Str.{bytes_eq}
-use Rattle.std.proofs.lemmas.Bool.{false≢true}
-use Rattle.std.proofs.lemmas.List.{length-map}
-use Rattle.std.proofs.lemmas.Option.{none-some, option_and_then_some, same_Some, slice_get-map}
-use Rattle.cdi_model.specs.DeclList.{AreDistinct}
-use Rattle.cdi_model.specs.Quals.{list_limit}
-use Rattle.cdi_model.specs.declared.decl.BeanDecl.{BeanDecl}
-use Rattle.cdi_model.specs.declared.decl.Decl.{Decl}
+use Rattle.cdi_staging.proofs.Common.{◌≡◌, ℕ, Bool, true, false, List, [], map, Option, Some, None, refl, sym, ap, subst, ◌∙◌, arith}
+use Rattle.cdi_staging.proofs.Common.{slice_get, false≢true, AreDistinct, BeanDecl, Decl, InterceptorDecl, ObserverDecl, PointDecl}
+use Rattle.cdi_staging.proofs.Common.{ProducerDecl, BeanPlace, in_order, in_order-declared, ◌+◌, cond, length, inl, inr, same_Some}
+use Rattle.cdi_staging.proofs.Common.{unwrap_or, bytes_eq, Promised, Bean, Managed, as_managed, bean_at, beans, entries, managed, product}
+use Rattle.cdi_staging.proofs.Common.{effective, BeanId, is_told_by, position_of_bean, position_of_class, managed_form, scene_of}
+use Rattle.cdi_staging.proofs.Common.{unused_managed, option_map, slice_get-map, class_bindings, surrounds_one, sets_of, Around, around_of}
+use Rattle.cdi_staging.proofs.Common.{chain_at, injections_around, injections_from, targets, Injection, option_and_then, none-some}
+use Rattle.cdi_staging.proofs.Common.{managed_at, home_of, IsNamed, IsOwnPoint, IsSoundAt, Place, Seat, Part, Via, Own, Param}
+use Rattle.cdi_staging.proofs.Common.{AreFineAround, Target, as_product, CallSite, Scene, Observer, staged_observer, ◌≤◌, length-map}
+use Rattle.cdi_staging.proofs.Common.{list_limit, answer_to, IsFit, AreSatisfied, target_of, Invocable, AreFine, IsFineManaged}
+use Rattle.cdi_staging.proofs.Common.{IsFineProducer, disposer_named, product_form, unused_product}
+use Rattle.std.proofs.lemmas.Option.{option_and_then_some}
 use Rattle.cdi_model.specs.declared.decl.Decl.TheVariants as decls
-use Rattle.cdi_model.specs.declared.decl.InterceptorDecl.{InterceptorDecl}
-use Rattle.cdi_model.specs.declared.decl.ObserverDecl.{ObserverDecl}
-use Rattle.cdi_model.specs.declared.decl.PointDecl.{PointDecl}
-use Rattle.cdi_model.specs.declared.decl.ProducerDecl.{ProducerDecl}
-use Rattle.cdi_model.specs.declared.place.BeanPlace.{BeanPlace}
 use Rattle.cdi_model.specs.declared.place.BeanPlace.TheVariants as spots
-use Rattle.cdi_bodies.specs.Book.{Promised}
 use Rattle.cdi_bodies.specs.Flags as flags
 use Rattle.cdi_contexts.specs.declared.instance.Actor.TheVariants.{Target as ByTarget}
-use Rattle.cdi_scene.specs.Scene.{as_managed, as_product, bean_at, managed_at, product_at, invocable_at, target_part}
-use Rattle.cdi_scene.specs.Sound.{params_at, home_of, AreBeans, IsOwnPoint, IsNamed}
-use Rattle.cdi_scene.specs.Sound.{IsSound, IsSoundAt, IsSoundForm, IsSoundInvocable, IsSoundManaged, IsSoundProduct, IsStatic}
-use Rattle.cdi_scene.specs.declared.place.Place.{Place}
+use Rattle.cdi_scene.specs.Scene.{product_at, invocable_at, target_part}
+use Rattle.cdi_scene.specs.Sound.{params_at, AreBeans, IsSound, IsSoundForm, IsSoundInvocable, IsSoundManaged, IsSoundProduct, IsStatic}
 use Rattle.cdi_scene.specs.declared.place.Place.TheVariants as places
-use Rattle.cdi_scene.specs.declared.place.Seat.{Seat}
-use Rattle.cdi_scene.specs.declared.scene.Bean.{Bean}
-use Rattle.cdi_scene.specs.declared.scene.CallSite.{CallSite}
-use Rattle.cdi_scene.specs.declared.scene.Injection.{Injection}
-use Rattle.cdi_scene.specs.declared.scene.Invocable.{Invocable}
-use Rattle.cdi_scene.specs.declared.scene.Managed.{Managed}
-use Rattle.cdi_scene.specs.declared.scene.Observer.{Observer}
-use Rattle.cdi_scene.specs.declared.scene.Part.{Part}
-use Rattle.cdi_scene.specs.declared.scene.Scene.{Scene}
-use Rattle.cdi_scene.specs.declared.scene.Via.{Via}
-use Rattle.cdi_scene.specs.declared.scene.Via.TheVariants.{Own, Param}
-use Rattle.cdi_effective.specs.Beans.{beans, effective, entries, managed, product}
-use Rattle.cdi_effective.specs.Bindings.{class_bindings}
 use Rattle.cdi_effective.specs.Disposers.{disposer_of}
-use Rattle.cdi_effective.specs.declared.records.BeanId.{BeanId}
-use Rattle.cdi_staging.specs.Positions.{is_told_by}
-use Rattle.cdi_intercept.specs.Chains.{in_order, part_for, surrounds_one}
-use Rattle.cdi_intercept.specs.Sets.{sets_of}
-use Rattle.cdi_intercept.proofs.ChainLemmas.{IsPlace, construct_place, in_order-declared, method_place, post_place, pre_place}
-use Rattle.cdi_intercept.proofs.ChainLemmas.{observer_place, producer_place, surrounds_some}
-use Rattle.cdi_observe.specs.Answers.{answer_to}
-use Rattle.cdi_staging.specs.Faultless.{AreFine, AreFineAround, AreSatisfied, IsFineManaged, IsFineProducer, IsFit}
-use Rattle.cdi_staging.specs.Sites.{position_of_bean, position_of_class, target_of}
-use Rattle.cdi_staging.specs.Staged.{disposer_for, disposer_named, disposer_part, injections_from, managed_form}
-use Rattle.cdi_staging.specs.Staged.{product_form, scene_of, staged_observer, targets, unused_managed}
-use Rattle.cdi_staging.specs.Staged.{Around, around_of, chain_at, injections_around, unused_product}
-use Rattle.cdi_staging.specs.declared.target.Target.{Target}
+use Rattle.cdi_intercept.specs.Chains.{part_for}
+use Rattle.cdi_intercept.proofs.ChainLemmas.{IsPlace, construct_place, method_place, post_place, pre_place, observer_place, producer_place}
+use Rattle.cdi_intercept.proofs.ChainLemmas.{surrounds_some}
+use Rattle.cdi_staging.specs.Staged.{disposer_for, disposer_part}
 use Rattle.cdi_staging.proofs.BesideLemmas.{in-append-right, in-one, second-at, found, of-find, from-map, in-flat}
 use Rattle.cdi_staging.proofs.ChosenLemmas.{IsUsed, Stands, all-stand, host-used, managed_in, of-none, told-self, told-is}
 use Rattle.cdi_staging.proofs.PartLemmas.{IsSoundFor, NamesVia, disposer-sound, point-reached}
-use Rattle.cdi_staging.proofs.LinkLemmas.{IsIntercepted, OfAround, apart-own, body_of, from-around, injected, injection-of}
-use Rattle.cdi_staging.proofs.LinkLemmas.{injection-there, link-of, link-sound, link_seat}
-use Rattle.cdi_staging.proofs.SoundLemmas.{AreLinks, IsGood, IsProduced, IsSpot, LeadsBy, LeadsObserver, LinksAt, LinksOf}
-use Rattle.cdi_staging.proofs.SoundLemmas.{disposer_in, fine-product, no-call-disposal, observer-good, observer_in, points_seen}
-use Rattle.cdi_staging.proofs.SoundLemmas.{no-fire-disposal, no-load-disposal, no-proceed-disposal, no-store-disposal}
-use Rattle.cdi_staging.proofs.SoundLemmas.{no-load-class, no-proceed-class, no-store-class, own-good, part_in}
-use Rattle.cdi_staging.proofs.SoundLemmas.{producer-good, producer_in, product_in, stands-at, static-part}
+use Rattle.cdi_staging.proofs.LinkLemmas.{IsIntercepted, OfAround, apart-own, body_of, from-around, injected, injection-of, injection-there}
+use Rattle.cdi_staging.proofs.LinkLemmas.{link-of, link-sound, link_seat}
+use Rattle.cdi_staging.proofs.SoundLemmas.{AreLinks, IsGood, IsProduced, IsSpot, LeadsBy, LeadsObserver, LinksAt, LinksOf, disposer_in}
+use Rattle.cdi_staging.proofs.SoundLemmas.{fine-product, no-call-disposal, observer-good, observer_in, points_seen, no-fire-disposal}
+use Rattle.cdi_staging.proofs.SoundLemmas.{no-load-disposal, no-proceed-disposal, no-store-disposal, no-load-class, no-proceed-class}
+use Rattle.cdi_staging.proofs.SoundLemmas.{no-store-class, own-good, part_in, producer-good, producer_in, product_in, stands-at}
+use Rattle.cdi_staging.proofs.SoundLemmas.{static-part}
 
 -- ---- what is invoked at a place
 

@@ -1,42 +1,20 @@
 -- A deployment without faults has a sound scene.
-use Rattle.std.proofs.Common.{◌≡◌, ℕ, Bool, true, false, cond, List, [], ◌++◌, map, Option, Some, None}
-use Rattle.std.proofs.Common.{refl, sym, subst, ap, ◌∙◌, inl, inr, arith}
-use Rattle.std.specs.List.{find, slice_get}
-use Rattle.std.specs.Int.RustNames.{bit_and}
-use Rattle.std.proofs.lemmas.Bool.{and_parts, false≢true}
-use Rattle.std.proofs.lemmas.Option.{none-some, same_Some}
-use Rattle.cdi_model.specs.DeclList.{AreDistinct}
-use Rattle.cdi_model.specs.declared.decl.BeanDecl.{BeanDecl}
-use Rattle.cdi_model.specs.declared.decl.Decl.{Decl}
+use Rattle.cdi_staging.proofs.Common.{◌≡◌, ℕ, Bool, true, false, List, [], ◌++◌, map, Option, Some, None, refl, sym, ap, subst, ◌∙◌, arith}
+use Rattle.cdi_staging.proofs.Common.{slice_get, and_parts, false≢true, AreDistinct, BeanDecl, Decl, MethodDecl, ObserverDecl, PartDecl}
+use Rattle.cdi_staging.proofs.Common.{PointDecl, ProducerDecl, BeanPlace, cond, inl, inr, find, same_Some, Promised, Bean, Managed, Product}
+use Rattle.cdi_staging.proofs.Common.{as_managed, bean_at, beans, managed, product, effective, managed_form, scene_of, unused_managed}
+use Rattle.cdi_staging.proofs.Common.{chain_at, targets, bit_and, none-some, IsAllowedAt, Place, Part, IsFinePart, fired_at, site_of}
+use Rattle.cdi_staging.proofs.Common.{staged_part, as_product, CallSite, Observer, staged_observer, is_named, promise_of, IsSoundPart}
+use Rattle.cdi_staging.proofs.Common.{Notified, IsFit, AreSatisfied, part_of, part_with, staged_method, Invocable, AreFine, IsFineManaged}
+use Rattle.cdi_staging.proofs.Common.{IsFineProducer, product_form, unused_product}
 use Rattle.cdi_model.specs.declared.decl.Decl.TheVariants as decls
-use Rattle.cdi_model.specs.declared.decl.MethodDecl.{MethodDecl}
-use Rattle.cdi_model.specs.declared.decl.ObserverDecl.{ObserverDecl}
-use Rattle.cdi_model.specs.declared.decl.PartDecl.{PartDecl}
-use Rattle.cdi_model.specs.declared.decl.PointDecl.{PointDecl}
-use Rattle.cdi_model.specs.declared.decl.ProducerDecl.{ProducerDecl}
-use Rattle.cdi_model.specs.declared.place.BeanPlace.{BeanPlace}
 use Rattle.cdi_model.specs.declared.place.BeanPlace.TheVariants as spots
-use Rattle.cdi_bodies.specs.Book.{Promised, is_named, promise_of}
-use Rattle.cdi_scene.specs.declared.scene.CallSite.{CallSite}
 use Rattle.cdi_bodies.specs.Flags as flags
-use Rattle.cdi_scene.specs.Scene.{as_managed, as_product, bean_at, place_of}
-use Rattle.cdi_scene.specs.Sound.{IsSoundPart, IsAllowedAt, Lacks}
-use Rattle.cdi_scene.specs.declared.place.Place.{Place}
+use Rattle.cdi_scene.specs.Scene.{place_of}
+use Rattle.cdi_scene.specs.Sound.{Lacks}
 use Rattle.cdi_scene.specs.declared.place.Place.TheVariants as places
-use Rattle.cdi_scene.specs.declared.scene.Bean.{Bean}
-use Rattle.cdi_scene.specs.declared.scene.Invocable.{Invocable}
-use Rattle.cdi_scene.specs.declared.scene.Managed.{Managed}
-use Rattle.cdi_scene.specs.declared.scene.Notified.{Notified}
-use Rattle.cdi_scene.specs.declared.scene.Observer.{Observer}
-use Rattle.cdi_scene.specs.declared.scene.Part.{Part}
-use Rattle.cdi_scene.specs.declared.scene.Product.{Product}
-use Rattle.cdi_effective.specs.Beans.{beans, effective, managed, product}
-use Rattle.cdi_staging.specs.Faultless.{AreFine, AreSatisfied, IsFineManaged, IsFinePart, IsFineProducer, IsFit}
-use Rattle.cdi_staging.specs.Notifying.{fired_at}
-use Rattle.cdi_staging.specs.Sites.{method_sight, site_of}
-use Rattle.cdi_staging.specs.Staged.{empty_place, managed_form, part_of, part_with, product_form, scene_of, sight_of}
-use Rattle.cdi_staging.specs.Staged.{staged_method, staged_part, staged_place, targets, unused_managed}
-use Rattle.cdi_staging.specs.Staged.{chain_at, producer_chain, staged_observer, unused_product}
+use Rattle.cdi_staging.specs.Sites.{method_sight}
+use Rattle.cdi_staging.specs.Staged.{empty_place, sight_of, staged_place, producer_chain}
 use Rattle.cdi_staging.proofs.BesideLemmas.{First, first-at, of-find, from-map}
 use Rattle.cdi_staging.proofs.ChosenLemmas.{IsUsed, Stands, all-stand, managed_in}
 use Rattle.cdi_staging.proofs.PartLemmas.{IsSoundFor, Names, from-option, part-sound, seen}

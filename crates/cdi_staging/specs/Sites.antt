@@ -1,6 +1,5 @@
 -- Which bean stands where for an injection point, and where call sites lead.
-use Rattle.std.specs.Prelude.{ℕ, Bool, true, false, List, [], length, Option, Some, None, position, slice_get}
-use Rattle.std.specs.Prelude.{unwrap_or}
+use Rattle.std.specs.Prelude.{ℕ, Bool, true, false, List, [], length, Option, Some, None, position, slice_get, unwrap_or}
 use Rattle.std.specs.Str.{bytes_eq}
 use Rattle.cdi_model.specs.declared.decl.BeanDecl.{BeanDecl}
 use Rattle.cdi_model.specs.declared.decl.CallDecl.{CallDecl}

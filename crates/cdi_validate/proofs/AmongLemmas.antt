@@ -1,12 +1,6 @@
 -- What is found among some declarations is all that there is.
-use Rattle.std.proofs.Common.{◌≡◌, List, ◌++◌, sym, ap, ◌∙◌, append_assoc}
-use Rattle.std.specs.List.{flat_map}
-use Rattle.cdi_bodies.specs.Book.{Promised}
-use Rattle.cdi_model.specs.declared.decl.Decl.{Decl}
-use Rattle.cdi_effective.specs.Beans.{beans}
-use Rattle.cdi_validate.specs.Among.{faults_together, looks_at_all}
-use Rattle.cdi_validate.specs.Faults.{circles, faults, faults_of, name_clashes, name_prefixes}
-use Rattle.cdi_validate.specs.Twice.{specialized_twice}
+use Rattle.cdi_validate.proofs.Common.{◌≡◌, List, ◌++◌, sym, ap, ◌∙◌, append_assoc, flat_map, Promised, Decl, beans, faults_together}
+use Rattle.cdi_validate.proofs.Common.{looks_at_all, circles, faults, faults_of, name_clashes, name_prefixes, specialized_twice}
 
 -- the faults of some declarations, where no other has any, and those that all have together
 pub told-all : (ds es : List Decl) (book : List Promised) → flat_map (faults_of ds book) es ≡ flat_map (faults_of ds book) ds

@@ -1,10 +1,9 @@
 -- Lists of which each is apart from the later ones.
-use Rattle.std.proofs.Common.{◌≡◌, ◌≢◌, ◌<◌, ℕ, zero, suc, Bool, true, false, cond, List, [], ◌∷◌, ◌++◌, length, map, filter}
-use Rattle.std.proofs.Common.{Ordering, Less, Equal, refl, sym, ap, ◌∙◌, arith}
-use Rattle.std.specs.List.{AllByRecursion, AllPairs, flat_map, slice_index_or}
-use Rattle.std.specs.List.Sorted.{IsStrictlySortedBy}
+use Rattle.cdi_validate.proofs.Common.{◌≡◌, List, ◌++◌, sym, ap, ◌∙◌, flat_map, ◌≢◌, ◌<◌, ℕ, zero, suc, Bool, true, false, cond, [], ◌∷◌}
+use Rattle.cdi_validate.proofs.Common.{length, map, filter, Ordering, Less, Equal, refl, arith, AllByRecursion, AllPairs}
+use Rattle.cdi_validate.proofs.Common.{IsStrictlySortedBy, tied_itself}
+use Rattle.std.specs.List.{slice_index_or}
 use Rattle.std.specs.Cmp.{IsTotalOrder}
-use Rattle.std.proofs.lemmas.Cmp.{tied_itself}
 
 -- ---- each apart from the later ones
 
@@ -48,7 +47,7 @@ pub apart-more : {X : Type 0} (R S : X → X → Type 0) → ((x y : X) → R x 
 apart-more R S more [] apart = tt
 apart-more R S more (x ∷ xs) apart = (all-more (R x) (S x) (more x) xs apart.0, apart-more R S more xs apart.1)
 
-all-filter : {X : Type 0} (P : X → Type 0) (test : X → Bool) (xs : List X) → AllByRecursion P xs → AllByRecursion P (filter test xs)
+pub all-filter : {X : Type 0} (P : X → Type 0) (test : X → Bool) (xs : List X) → AllByRecursion P xs → AllByRecursion P (filter test xs)
 all-filter P test [] all = tt
 all-filter P test (x ∷ xs) all = by (test x) (all-filter P test xs all.1)
   where

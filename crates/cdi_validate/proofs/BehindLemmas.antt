@@ -1,17 +1,15 @@
 -- Of a reported pair of names the second is the first, a dot and a text, which is a name where the second is one by the grammar.
-use Rattle.std.proofs.Common.{◌≡◌, ◌≤◌, ℕ, Bool, true, false, nat_eq, List, [], ◌∷◌, ◌++◌, map, filter, length, refl, sym, ap, ◌∙◌, arith}
-use Rattle.std.specs.Prelude.{◌==◌, nat_le}
-use Rattle.std.specs.List.{AllByRecursion, flat_map}
-use Rattle.std.proofs.lemmas.Bool.{and_from, and_parts, eqb-true, false≢true, le-leb, leb-true}
-use Rattle.std.proofs.lemmas.List.Elements.{All-contains, All-from_recursion, filter_passes, recursion_from_All}
-use Rattle.cdi_model.specs.Bytes.{dot}
-use Rattle.cdi_model.specs.Grammar.{begins, continues, goes_on as continues_name, is_letter, is_name, is_word}
-use Rattle.cdi_effective.specs.Beans.{beans}
-use Rattle.cdi_faults.specs.declared.fault.Fault.{Fault}
+use Rattle.cdi_validate.proofs.Common.{◌≡◌, List, ◌++◌, sym, ap, ◌∙◌, flat_map, beans, circles, faults, faults_of, name_clashes}
+use Rattle.cdi_validate.proofs.Common.{name_prefixes, specialized_twice, ℕ, Bool, true, false, [], ◌∷◌, length, map, filter, refl, arith}
+use Rattle.cdi_validate.proofs.Common.{AllByRecursion, ◌≤◌, nat_eq, ◌==◌, and_parts, eqb-true, false≢true, le-leb, leb-true}
+use Rattle.cdi_validate.proofs.Common.{All-from_recursion, recursion_from_All, dot, begins, continues, is_letter, is_name, is_word, Fault}
+use Rattle.cdi_validate.proofs.Common.{enabled_names, goes_on}
+use Rattle.std.specs.Prelude.{nat_le}
+use Rattle.std.proofs.lemmas.Bool.{and_from}
+use Rattle.std.proofs.lemmas.List.Elements.{All-contains, filter_passes}
+use Rattle.cdi_model.specs.Grammar.{goes_on as continues_name}
 use Rattle.cdi_faults.specs.declared.fault.Fault.TheVariants as faults_are
-use Rattle.cdi_validate.specs.Faults.{circles, enabled_names, faults, faults_of, goes_on, name_clashes, name_prefixes}
 use Rattle.cdi_validate.specs.Faults.{IsNameBehind, PrefixesGoOn}
-use Rattle.cdi_validate.specs.Twice.{specialized_twice}
 use Rattle.cdi_validate.proofs.ApartLemmas.{all-append, all-map, all-more}
 use Rattle.cdi_validate.proofs.OnceLemmas.{circles-each, clashes-tagged, declared-tagged, is-declared}
 use Rattle.cdi_validate.proofs.TwiceLemmas.{twice-each}

@@ -1,27 +1,12 @@
 -- Declarations of which no two enabled beans specialize one.
-use Rattle.std.proofs.Common.{◌≡◌, ℕ, Bool, true, false, not, cond, ◌&&◌, List, [], ◌∷◌, ◌++◌, length, map, filter}
-use Rattle.std.proofs.Common.{refl, sym, subst, ap, ◌∙◌, append_assoc}
-use Rattle.std.specs.List.{AllByRecursion, AllPairs, find, flat_map}
-use Rattle.std.specs.Option.{option_to_list}
-use Rattle.std.specs.Str.{bytes_eq}
-use Rattle.std.proofs.lemmas.Bool.{eqb-true, false≢true, or_left}
-use Rattle.std.proofs.lemmas.List.{nil_from_length}
-use Rattle.std.proofs.lemmas.List.Elements.{filter-append}
-use Rattle.cdi_model.specs.DeclList.{AreDistinct}
-use Rattle.cdi_model.specs.declared.decl.BeanDecl.{BeanDecl}
-use Rattle.cdi_model.specs.declared.decl.Decl.{Decl}
+use Rattle.cdi_validate.proofs.Common.{◌≡◌, List, ◌++◌, sym, ap, ◌∙◌, append_assoc, flat_map, Decl, specialized_twice, ℕ, Bool, true, false}
+use Rattle.cdi_validate.proofs.Common.{cond, [], ◌∷◌, length, map, filter, refl, AllByRecursion, AllPairs, eqb-true, false≢true, Fault, not}
+use Rattle.cdi_validate.proofs.Common.{◌&&◌, subst, find, option_to_list, bytes_eq, or_left, nil_from_length, filter-append, AreDistinct}
+use Rattle.cdi_validate.proofs.Common.{BeanDecl, has, same_text, records_in, chain, class_names, text_of_fault, IsAlike, is_first_enabled}
+use Rattle.cdi_validate.proofs.Common.{specializing, specializing_by, is_chainless, enabled_bean, enabled_beans, faults_of_pairs}
+use Rattle.cdi_validate.proofs.Common.{faults_of_two, in_line_order, of_pairs, twice}
 use Rattle.cdi_model.specs.declared.decl.Decl.TheVariants as decls
-use Rattle.cdi_match.specs.Chain.{has}
-use Rattle.cdi_match.proofs.Names.{same_text}
-use Rattle.cdi_effective.specs.Records.{records_in}
-use Rattle.cdi_effective.specs.Specialized.{chain, class_names}
-use Rattle.cdi_faults.specs.FaultText.{text_of_fault}
-use Rattle.cdi_faults.specs.declared.fault.Fault.{Fault}
-use Rattle.cdi_validate.specs.Alike.{IsAlike}
-use Rattle.cdi_validate.specs.Linked.{is_first_enabled, specializing, specializing_by}
-use Rattle.cdi_validate.specs.Together.{is_chainless, HaveNoneTwice}
-use Rattle.cdi_validate.specs.Twice.{enabled_bean, enabled_beans, faults_of_pairs, faults_of_two, in_line_order, of_pairs}
-use Rattle.cdi_validate.specs.Twice.{specialized_twice, twice}
+use Rattle.cdi_validate.specs.Together.{HaveNoneTwice}
 use Rattle.cdi_validate.proofs.ApartLemmas.{Apart, all-more, apart-by, apart-filter, apart-more, apart-pairs, flat-all, flat-left}
 use Rattle.cdi_validate.proofs.ApartLemmas.{flat-same, pairs-apart, pairs-left}
 use Rattle.cdi_validate.proofs.FoundLemmas.{bean-records}

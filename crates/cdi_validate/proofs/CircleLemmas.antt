@@ -1,20 +1,14 @@
 -- A dependent bean needs itself exactly where it is on a circle.
-use Rattle.std.proofs.Common.{◌≡◌, ℕ, zero, suc, cond, List, [], ◌∷◌, length, map, filter, refl, sym, ap, ◌∙◌, arith}
+use Rattle.cdi_validate.proofs.Common.{◌≡◌, List, sym, ap, ◌∙◌, Decl, beans, circles, ℕ, zero, suc, cond, [], ◌∷◌, length, map, filter}
+use Rattle.cdi_validate.proofs.Common.{refl, arith, has, BTreeMap, keys, keys_of, filter_agree, Circle, leads, Steps, Edges, is_on_circle}
+use Rattle.cdi_validate.proofs.Common.{next_in, BeanId, between, circular, dependents, dependents_by_text, needed_by, needs, needs_itself}
+use Rattle.cdi_validate.proofs.Common.{circle}
 use Rattle.std.specs.Bool.{Decides}
-use Rattle.std.specs.BTreeMap.{BTreeMap, keys}
-use Rattle.std.specs.Map.{keys_of}
 use Rattle.std.proofs.lemmas.Bool.Decides.{same_from_decides, Decides-like}
-use Rattle.std.proofs.lemmas.List.Elements.{filter_agree}
-use Rattle.cdi_model.specs.declared.decl.Decl.{Decl}
-use Rattle.cdi_match.specs.Chain.{ChainFromOne, Circle, has, leads, LeaveOnly, reaches_from_one, Steps}
+use Rattle.cdi_match.specs.Chain.{ChainFromOne, LeaveOnly, reaches_from_one}
 use Rattle.cdi_match.proofs.Chains.{reaches_from_one_decides}
-use Rattle.cdi_circles.specs.Edges.{Edges, is_on_circle, next_in}
 use Rattle.cdi_circles.proofs.EdgeLemmas.{circle_decides}
-use Rattle.cdi_effective.specs.Beans.{beans}
-use Rattle.cdi_effective.specs.declared.records.BeanId.{BeanId}
-use Rattle.cdi_validate.specs.Circles.{between, circular, dependents, dependents_by_text, needed_by, needs, needs_itself, next}
-use Rattle.cdi_validate.specs.Circles.{NeedsItselfOnCircle}
-use Rattle.cdi_validate.specs.Faults.{circle, circles}
+use Rattle.cdi_validate.specs.Circles.{next, NeedsItselfOnCircle}
 use Rattle.cdi_validate.proofs.NeedLemmas.{between-like, has-by_text}
 
 leave_only : (ds : List Decl) → LeaveOnly (dependents (beans ds)) (next ds)

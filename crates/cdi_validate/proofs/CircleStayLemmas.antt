@@ -1,43 +1,24 @@
 -- Declarations without a circle have none where some are left out, and where edits leave them alike.
-use Rattle.std.proofs.Common.{◌≡◌, ℕ, zero, suc, Bool, true, false, ◌&&◌, ◌==◌, cond, List, [], ◌∷◌, ◌++◌, map, filter, Some, refl, sym}
-use Rattle.std.proofs.Common.{◌⊎◌, inl, inr, ap, subst, ◌∙◌, append-nil, nat_le, length}
-use Rattle.std.specs.List.{AllByRecursion, flat_map, slice_get}
-use Rattle.std.specs.Option.{option_to_list}
-use Rattle.std.specs.Str.{bytes_eq}
-use Rattle.std.proofs.Math.Bool.{and-false}
-use Rattle.std.proofs.lemmas.Bool.{and_parts, cases_Bool, false≢true, or_cases, or_left, or_right}
-use Rattle.std.proofs.lemmas.Option.{same_Some}
-use Rattle.cdi_model.specs.Bytes.{dot, slash}
-use Rattle.cdi_model.specs.Decl.{name_of_decl}
-use Rattle.cdi_model.specs.DeclList.{find_decl, AreDistinct}
-use Rattle.cdi_model.specs.Grammar.{begins, goes_on, is_letter, is_name, is_word}
-use Rattle.cdi_model.specs.declared.decl.BeanDecl.{BeanDecl}
-use Rattle.cdi_model.specs.declared.decl.Decl.{Decl}
+use Rattle.cdi_validate.proofs.Common.{◌≡◌, List, ◌++◌, sym, ap, ◌∙◌, flat_map, Decl, ℕ, zero, suc, Bool, true, false, cond, [], ◌∷◌}
+use Rattle.cdi_validate.proofs.Common.{length, map, filter, refl, AllByRecursion, and_parts, false≢true, dot, begins, is_letter, is_name}
+use Rattle.cdi_validate.proofs.Common.{is_word, ◌&&◌, subst, option_to_list, bytes_eq, or_left, AreDistinct, BeanDecl, has, same_text}
+use Rattle.cdi_validate.proofs.Common.{IsAlike, Circle, leads, Steps, between, dependents, needed_by, Some, ◌⊎◌, inl, inr, append-nil}
+use Rattle.cdi_validate.proofs.Common.{nat_le, slice_get, and-false, cases_Bool, or_cases, or_right, same_Some, slash, name_of_decl}
+use Rattle.cdi_validate.proofs.Common.{find_decl, InterceptorDecl, PointDecl, BeanPlace, Mention, PointOf, mentions, one_name, effective}
+use Rattle.cdi_validate.proofs.Common.{entries, managed, product_where, text_of_id, as_bean, find_bean, Effective, own-found, is_enabled}
+use Rattle.cdi_validate.proofs.Common.{stands_around, answer_to, names_of_bean, point_named, stands-named, points-declared, Need}
+use Rattle.cdi_validate.proofs.Common.{chosen_for, chosen_one, is_dependent, managed_id, need_around, need_in, needs_in, dependents_in}
+use Rattle.cdi_validate.proofs.Common.{HaveNoCircle}
+use Rattle.std.proofs.Common.{◌==◌}
+use Rattle.cdi_model.specs.Grammar.{goes_on}
 use Rattle.cdi_model.specs.declared.decl.Decl.TheVariants as decls
-use Rattle.cdi_model.specs.declared.decl.InterceptorDecl.{InterceptorDecl}
 use Rattle.cdi_model.specs.declared.decl.Kind.TheVariants as kinds
-use Rattle.cdi_model.specs.declared.decl.PointDecl.{PointDecl}
-use Rattle.cdi_model.specs.declared.place.BeanPlace.{BeanPlace}
-use Rattle.cdi_model.specs.Mentions.{Mention, PointOf, mentions}
-use Rattle.cdi_match.specs.Chain.{has, leads, Circle, Steps}
-use Rattle.cdi_match.proofs.Names.{one_name, same_text}
-use Rattle.cdi_effective.specs.Beans.{effective, entries, managed, product_where}
-use Rattle.cdi_effective.specs.BeanText.{text_of_id}
-use Rattle.cdi_effective.specs.Disposers.{as_bean, find_bean}
-use Rattle.cdi_effective.specs.declared.records.Effective.{Effective}
-use Rattle.cdi_effective.proofs.PlaceLemmas.{own-found}
-use Rattle.cdi_intercept.specs.Chains.{is_enabled, stands_around}
 use Rattle.cdi_intercept.specs.Sets.{has_place, places_of}
-use Rattle.cdi_observe.specs.Answers.{answer_to}
-use Rattle.cdi_observe.specs.Around.{names_at, names_of_bean}
-use Rattle.cdi_observe.specs.Wanted.{point_named}
-use Rattle.cdi_observe.proofs.AroundLemmas.{stands-named, told-names, told-same}
+use Rattle.cdi_observe.specs.Around.{names_at}
+use Rattle.cdi_observe.proofs.AroundLemmas.{told-names, told-same}
 use Rattle.cdi_observe.proofs.BeanPlaceLemmas.{has-each_place}
-use Rattle.cdi_subjects.proofs.AnsweredLemmas.{points-declared}
-use Rattle.cdi_validate.specs.Alike.{IsAlike}
-use Rattle.cdi_validate.specs.Circles.{Need, between, chosen_for, chosen_one, dependents, is_dependent, managed_id, need_around, needed_by}
-use Rattle.cdi_validate.specs.Circles.{bean_of_point, need_in, needs_in}
-use Rattle.cdi_validate.specs.Together.{dependents_in, next_in, HaveNoCircle}
+use Rattle.cdi_validate.specs.Circles.{bean_of_point}
+use Rattle.cdi_validate.specs.Together.{next_in}
 
 -- ---- what is in a list
 

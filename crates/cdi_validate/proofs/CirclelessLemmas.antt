@@ -1,54 +1,35 @@
 -- Where no dependent bean needs itself, and that beans that need nothing are on no circle.
-use Rattle.std.proofs.Common.{◌≡◌, ℕ, zero, suc, Bool, true, false, not, cond, ◌&&◌, ◌||◌, List, [], ◌∷◌, ◌++◌, length, map, filter}
-use Rattle.std.proofs.Common.{Option, Some, None, refl, sym, subst, ap, ◌∙◌, inl, inr}
-use Rattle.std.specs.Prelude.{◌==◌}
-use Rattle.std.specs.List.{AllByRecursion, flat_map, list_any, slice_get}
-use Rattle.std.specs.Map.{keys_of}
-use Rattle.std.specs.Str.{bytes_eq}
-use Rattle.std.proofs.lemmas.Bool.{and_parts, eqb-true, false_from_ne_true, false≢true, or_cases, or_left, or_right}
-use Rattle.std.proofs.lemmas.List.{nil_from_length}
-use Rattle.std.proofs.lemmas.List.Folds.{list_any-append}
-use Rattle.std.proofs.lemmas.Option.{none-some, same_Some}
-use Rattle.cdi_model.specs.Bytes.{dot, slash}
-use Rattle.cdi_model.specs.Decl.{name_of_decl}
-use Rattle.cdi_model.specs.DeclList.{find_decl, AreDistinct}
-use Rattle.cdi_model.specs.Grammar.{begins, continues, goes_on as continues_name, is_letter, is_name, is_word}
+use Rattle.cdi_validate.proofs.Common.{◌≡◌, List, ◌++◌, sym, ap, ◌∙◌, flat_map, Decl, beans, circles, ℕ, zero, suc, Bool, true, false, cond}
+use Rattle.cdi_validate.proofs.Common.{[], ◌∷◌, length, map, filter, refl, AllByRecursion, ◌==◌, and_parts, eqb-true, false≢true, dot}
+use Rattle.cdi_validate.proofs.Common.{begins, continues, is_letter, is_name, is_word, not, ◌&&◌, subst, bytes_eq, or_left, nil_from_length}
+use Rattle.cdi_validate.proofs.Common.{AreDistinct, BeanDecl, has, keys_of, leads, Steps, BeanId, circular, dependents, dependents_by_text}
+use Rattle.cdi_validate.proofs.Common.{needed_by, needs_itself, circle, Some, inl, inr, slice_get, or_cases, or_right, same_Some, slash}
+use Rattle.cdi_validate.proofs.Common.{name_of_decl, find_decl, InterceptorDecl, PointDecl, Mention, PointOf, mentions, one_name, effective}
+use Rattle.cdi_validate.proofs.Common.{entries, product_where, text_of_id, Effective, own-found, is_enabled, stands_around, names_of_bean}
+use Rattle.cdi_validate.proofs.Common.{stands-named, Need, chosen_for, is_dependent, managed_id, need_around, need_in, needs_in}
+use Rattle.cdi_validate.proofs.Common.{dependents_in, HaveNoCircle, ◌||◌, Option, None, list_any, list_any-append, none-some, Qual}
+use Rattle.cdi_validate.proofs.Common.{is_replaced, is_empty, is_needless, AreNamed}
+use Rattle.std.proofs.lemmas.Bool.{false_from_ne_true}
+use Rattle.cdi_model.specs.Grammar.{goes_on as continues_name}
 use Rattle.cdi_model.specs.declared.decl.Attributes.{Attributes}
-use Rattle.cdi_model.specs.declared.decl.BeanDecl.{BeanDecl}
-use Rattle.cdi_model.specs.declared.decl.Decl.{Decl}
 use Rattle.cdi_model.specs.declared.decl.Decl.TheVariants as decls
 use Rattle.cdi_model.specs.declared.decl.DisposerDecl.{DisposerDecl}
 use Rattle.cdi_model.specs.declared.decl.EventDecl.{EventDecl}
-use Rattle.cdi_model.specs.declared.decl.InterceptorDecl.{InterceptorDecl}
 use Rattle.cdi_model.specs.declared.decl.Kind.TheVariants as kinds
 use Rattle.cdi_model.specs.declared.decl.MethodDecl.{MethodDecl}
 use Rattle.cdi_model.specs.declared.decl.ObserverDecl.{ObserverDecl}
 use Rattle.cdi_model.specs.declared.decl.PartDecl.{PartDecl}
-use Rattle.cdi_model.specs.declared.decl.PointDecl.{PointDecl}
 use Rattle.cdi_model.specs.declared.decl.UseKind.TheVariants as uses
 use Rattle.cdi_model.specs.declared.mention.PointPlace.TheVariants as points
 use Rattle.cdi_model.specs.declared.mention.TypePlace.TheVariants as places
 use Rattle.cdi_model.specs.declared.place.PartPlace.{PartPlace}
 use Rattle.cdi_model.specs.declared.place.PartPlace.TheVariants as parts
-use Rattle.cdi_model.specs.declared.quals.Qual.{Qual}
-use Rattle.cdi_model.specs.Mentions.{Mention, BodyOf, CallOf, PointOf, StereotypeOf, TypeIn, UseOf}
-use Rattle.cdi_model.specs.Mentions.{listed_types, mentions, of_attributes, of_bindings, of_disposer, of_event, of_method, of_observer}
-use Rattle.cdi_model.specs.Mentions.{of_part, of_parts, of_point, of_producer, of_qualifiers}
-use Rattle.cdi_match.specs.Chain.{has, leads, Steps}
-use Rattle.cdi_match.proofs.Names.{one_name}
-use Rattle.cdi_effective.specs.Beans.{beans, effective, entries, product_where, records_where}
-use Rattle.cdi_effective.specs.BeanText.{text_of_id, text_of_producer}
-use Rattle.cdi_effective.specs.Specialized.{is_replaced}
-use Rattle.cdi_effective.specs.declared.records.BeanId.{BeanId}
-use Rattle.cdi_effective.specs.declared.records.Effective.{Effective}
-use Rattle.cdi_effective.proofs.PlaceLemmas.{own-found}
-use Rattle.cdi_intercept.specs.Chains.{is_enabled, stands_around}
-use Rattle.cdi_observe.specs.Around.{names_of_bean}
-use Rattle.cdi_observe.proofs.AroundLemmas.{stands-named}
-use Rattle.cdi_validate.specs.Circles.{Need, chosen_for, circular, dependents, dependents_by_text}
-use Rattle.cdi_validate.specs.Circles.{is_dependent, managed_id, need_around, need_in, needed_by, needs_in, needs_itself, needs_to_run}
-use Rattle.cdi_validate.specs.Faults.{circle, circles}
-use Rattle.cdi_validate.specs.Together.{dependents_in, is_empty, is_needless, next_in, AreNamed, HaveNoCircle}
+use Rattle.cdi_model.specs.Mentions.{BodyOf, CallOf, StereotypeOf, TypeIn, UseOf, listed_types, of_attributes, of_bindings, of_disposer}
+use Rattle.cdi_model.specs.Mentions.{of_event, of_method, of_observer, of_part, of_parts, of_point, of_producer, of_qualifiers}
+use Rattle.cdi_effective.specs.Beans.{records_where}
+use Rattle.cdi_effective.specs.BeanText.{text_of_producer}
+use Rattle.cdi_validate.specs.Circles.{needs_to_run}
+use Rattle.cdi_validate.specs.Together.{next_in}
 use Rattle.cdi_validate.proofs.ApartLemmas.{all-append, all-each, all-map}
 use Rattle.cdi_validate.proofs.CircleLemmas.{needs_itself_on_circle}
 use Rattle.cdi_validate.proofs.NeedLemmas.{has-by_text}

@@ -1,35 +1,16 @@
 -- The names of enabled beans, each with the leaders of those that have it.
-use Rattle.std.proofs.Common.{◌≡◌, ◌+◌, ◌<◌, ℕ, Bool, true, false, cond, ◌&&◌, ◌||◌, List, [], ◌∷◌, ◌++◌, filter, fold, map, take, length}
-use Rattle.std.proofs.Common.{get_or, Option, None, Some, Ordering, Less, Equal, refl, sym, subst, ap, ◌∙◌, append-nil, append_assoc}
-use Rattle.std.proofs.Common.{⊎_elim}
-use Rattle.std.specs.List.{AllByRecursion, flat_map, list_any}
-use Rattle.std.specs.BTreeMap.{BTreeMap, get, is_at}
-use Rattle.std.specs.List.Sorted.{IsStrictlySortedBy}
-use Rattle.std.specs.Map.{keys_of, lookup}
-use Rattle.std.specs.Option.{is_some, unwrap_or}
-use Rattle.std.specs.Cmp.Lexicographic.{slice_cmp}
-use Rattle.std.specs.Ordering.{nat_cmp}
-use Rattle.std.specs.Str.{bytes_eq}
-use Rattle.std.proofs.Math.Bool.{or-false}
-use Rattle.std.proofs.lemmas.Bool.{or_cases}
-use Rattle.std.proofs.lemmas.Grind.{flat_map-append}
-use Rattle.std.proofs.lemmas.List.{map-append, take_more}
-use Rattle.std.proofs.lemmas.List.Folds.{list_any-append}
-use Rattle.std.proofs.lemmas.Cmp.{tied_itself}
-use Rattle.std.specs.Cmp.Lexicographic.{nat_list_cmp_total}
-use Rattle.std.proofs.lemmas.List.Elements.{filter-append}
-use Rattle.std.proofs.lemmas.List.Sums.{fold-append}
-use Rattle.cdi_match.specs.Chain.{has}
-use Rattle.cdi_match.proofs.Names.{at_name, one_name, other_name, same_text}
-use Rattle.cdi_effective.specs.declared.records.Effective.{Effective}
-use Rattle.cdi_resolve.specs.Choices.{candidate, choice_of, chosen_by_name, is_named, named}
-use Rattle.cdi_resolve.specs.Leaders.{leading, nobody, with_candidate}
-use Rattle.cdi_resolve.specs.declared.leaders.Leaders.{Leaders}
+use Rattle.cdi_validate.proofs.Common.{◌≡◌, List, ◌++◌, sym, ap, ◌∙◌, append_assoc, flat_map, name_clashes, ◌<◌, ℕ, Bool, true, false, cond}
+use Rattle.cdi_validate.proofs.Common.{[], ◌∷◌, length, map, filter, Ordering, Less, Equal, refl, AllByRecursion, IsStrictlySortedBy}
+use Rattle.cdi_validate.proofs.Common.{tied_itself, enabled_names, ◌&&◌, subst, bytes_eq, filter-append, has, same_text, BTreeMap, keys_of}
+use Rattle.cdi_validate.proofs.Common.{Some, append-nil, or_cases, one_name, Effective, ◌||◌, Option, None, list_any, list_any-append, ◌+◌}
+use Rattle.cdi_validate.proofs.Common.{fold, take, get_or, ⊎_elim, get, is_at, lookup, is_some, unwrap_or, slice_cmp, nat_cmp, or-false}
+use Rattle.cdi_validate.proofs.Common.{flat_map-append, map-append, nat_list_cmp_total, fold-append, at_name, other_name, candidate}
+use Rattle.cdi_validate.proofs.Common.{choice_of, chosen_by_name, is_named, named, leading, nobody, with_candidate, Leaders, is_ambiguous}
+use Rattle.cdi_validate.proofs.Common.{enabled_name, leaders_in, AreLed, AreNames}
+use Rattle.std.proofs.lemmas.List.{take_more}
 use Rattle.cdi_resolve.proofs.LeaderLemmas.{leaders_choose}
 use Rattle.cdi_faults.specs.declared.fault.Fault.TheVariants as faults_are
-use Rattle.cdi_subjects.specs.Subjects.{is_ambiguous}
-use Rattle.cdi_validate.specs.Faults.{enabled_name, enabled_names, name_clashes}
-use Rattle.cdi_validate.specs.Names.{leaders_in, with_bean, AreLed, AreNames}
+use Rattle.cdi_validate.specs.Names.{with_bean}
 use Rattle.cdi_validate.proofs.NameLemmas.{enabled_names-are}
 
 abbrev order : List ℕ → List ℕ → Ordering

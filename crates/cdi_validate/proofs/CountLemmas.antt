@@ -1,25 +1,12 @@
 -- Names of enabled beans, as they are counted.
-use Rattle.std.proofs.Common.{◌≡◌, ◌≤◌, ◌<◌, ◌+◌, ℕ, suc, Bool, true, false, cond, ◌&&◌, ◌||◌, nat_eq, List, [], ◌∷◌, ◌++◌, length, map}
-use Rattle.std.proofs.Common.{filter, drop, get_or}
-use Rattle.std.proofs.Common.{Ordering, Less, Equal, Greater, refl, sym, subst, ap, ◌∙◌, inl, inr, arith}
-use Rattle.std.specs.List.{AllByRecursion, AllPairs, flat_map, list_all}
-use Rattle.std.specs.BTreeSet.{insert_key}
-use Rattle.std.specs.Str.{bytes_eq}
-use Rattle.std.proofs.lemmas.Bool.{false≢true, or_cases, or_left, or_right}
-use Rattle.std.proofs.lemmas.Grind.{flat_map-append}
-use Rattle.std.proofs.lemmas.List.{at_drop_more, length-append}
-use Rattle.cdi_model.specs.Bytes.{byte_order}
-use Rattle.cdi_model.specs.declared.decl.Decl.{Decl}
-use Rattle.cdi_match.specs.Chain.{has}
-use Rattle.cdi_match.specs.Order.{in_order}
-use Rattle.cdi_match.proofs.Names.{one_name, same_text}
-use Rattle.cdi_match.proofs.OrderLemmas.{in_order-has, in_order-rises, one_order}
-use Rattle.cdi_effective.specs.Beans.{beans, entries}
-use Rattle.cdi_effective.specs.declared.records.Effective.{Effective}
-use Rattle.cdi_faults.specs.declared.fault.Fault.{Fault}
+use Rattle.cdi_validate.proofs.Common.{◌≡◌, List, ◌++◌, sym, ap, ◌∙◌, flat_map, Decl, beans, name_prefixes, ◌<◌, ℕ, suc, Bool, true, false}
+use Rattle.cdi_validate.proofs.Common.{cond, [], ◌∷◌, length, map, filter, Ordering, Less, Equal, refl, arith, AllByRecursion, AllPairs}
+use Rattle.cdi_validate.proofs.Common.{◌≤◌, nat_eq, false≢true, Fault, enabled_names, goes_on, ◌&&◌, subst, bytes_eq, or_left, has}
+use Rattle.cdi_validate.proofs.Common.{same_text, inl, inr, or_cases, or_right, one_name, entries, Effective, ◌||◌, ◌+◌, get_or}
+use Rattle.cdi_validate.proofs.Common.{flat_map-append, enabled_name, drop, Greater, list_all, insert_key, at_drop_more, length-append}
+use Rattle.cdi_validate.proofs.Common.{byte_order, in_order, in_order-has, in_order-rises, one_order, is_nameless, names_by, AreNamesApart}
+use Rattle.cdi_validate.proofs.Common.{HaveNoClash}
 use Rattle.cdi_faults.specs.declared.fault.Fault.TheVariants as faults_are
-use Rattle.cdi_validate.specs.Faults.{enabled_name, enabled_names, goes_on, name_prefixes}
-use Rattle.cdi_validate.specs.Together.{is_nameless, names_by, AreNamesApart, HaveNoClash}
 use Rattle.cdi_validate.proofs.ApartLemmas.{Apart, apart-by, apart-pairs}
 use Rattle.cdi_validate.proofs.FoundLemmas.{records-next}
 

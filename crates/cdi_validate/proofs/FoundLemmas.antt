@@ -1,20 +1,9 @@
 -- Declarations that are found by their kinds and names, and the records of beans that are.
-use Rattle.std.proofs.Common.{◌≡◌, ℕ, zero, suc, Bool, true, false, cond, List, [], ◌∷◌, ◌++◌, Option, None, Some, get_or, length, map}
-use Rattle.std.proofs.Common.{refl, sym, subst, ap, ◌∙◌, append-nil}
-use Rattle.std.specs.List.{All, AllByRecursion, flat_map, slice_get}
-use Rattle.std.proofs.lemmas.Grind.{flat_map-append}
-use Rattle.std.proofs.lemmas.List.Elements.{All-from_recursion, recursion_from_All}
-use Rattle.std.proofs.lemmas.Option.{slice_get-get_or}
-use Rattle.cdi_model.specs.Decl.{kind_of, name_of_decl}
-use Rattle.cdi_model.specs.DeclList.{find_decl, is_of, AreDistinct}
-use Rattle.cdi_model.specs.declared.decl.BeanDecl.{BeanDecl}
-use Rattle.cdi_model.specs.declared.decl.Decl.{Decl}
+use Rattle.cdi_validate.proofs.Common.{◌≡◌, List, ◌++◌, sym, ap, ◌∙◌, flat_map, Decl, beans, ℕ, zero, suc, Bool, true, false, cond, [], ◌∷◌}
+use Rattle.cdi_validate.proofs.Common.{length, refl, AreDistinct, BeanDecl, records_in, Some, append-nil, slice_get, name_of_decl}
+use Rattle.cdi_validate.proofs.Common.{find_decl, entries, as_bean, own-found, Option, None, flat_map-append, kind_of, is_of, IsFound}
 use Rattle.cdi_model.specs.declared.decl.Decl.TheVariants as decls
-use Rattle.cdi_effective.specs.Beans.{beans, entries}
-use Rattle.cdi_effective.specs.Disposers.{as_bean}
-use Rattle.cdi_effective.specs.Records.{records_declared, records_in}
-use Rattle.cdi_effective.proofs.PlaceLemmas.{own-found}
-use Rattle.cdi_observe.proofs.RestLemmas.{IsFound}
+use Rattle.cdi_effective.specs.Records.{records_declared}
 
 -- ---- among declarations without two of one key
 
@@ -26,19 +15,6 @@ at-length (e ∷ es) rest d = at-length es rest d
 pub found-next : (ds es rest : List Decl) (d : Decl) → AreDistinct ds → es ++ d ∷ rest ≡ ds → IsFound ds d
 found-next ds es rest d distinct split =
     own-found ds (length es) d distinct (ap (λ all. slice_get all (length es)) (sym split) ∙ at-length es rest d)
-
--- and so is each
-pub each-found : (ds : List Decl) → AreDistinct ds → AllByRecursion (IsFound ds) ds
-each-found ds distinct = recursion_from_All (IsFound ds) ds (λ i d lt. own-found ds i (get_or ds i d) distinct (slice_get-get_or ds i d lt))
-
--- what holds of each of some declarations holds of each that is lent of them
-pub all-lent : {P : Type 0} (Q : Decl → Type 0) (value : P → Decl) (ps : List P) (ds : List Decl) → map value ps ≡ ds → AllByRecursion Q ds
-    → All (λ p. Q (value p)) ps
-all-lent {P = P} Q value ps ds are all = All-from_recursion (λ p. Q (value p)) ps (by ps (subst (AllByRecursion Q) (sym are) all))
-  where
-    by : (xs : List P) → AllByRecursion Q (map value xs) → AllByRecursion (λ p. Q (value p)) xs
-    by [] all = tt
-    by (x ∷ xs) all = (all.0, by xs all.1)
 
 -- ---- one that is found
 

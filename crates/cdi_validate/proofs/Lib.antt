@@ -1,3 +1,4 @@
+mod Common
 pub mod PushLemmas
 pub mod NameLemmas
 pub mod ClashLemmas

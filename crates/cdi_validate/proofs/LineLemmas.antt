@@ -1,33 +1,17 @@
 -- The lines that the faults of names and circles print, in byte order.
-use Rattle.std.proofs.Common.{◌≡◌, ◌<◌, ℕ, Bool, true, false, List, [], ◌∷◌, ◌++◌, map, filter, Ordering, Less, Equal, Greater}
-use Rattle.std.proofs.Common.{refl, sym, subst, ap, ◌∙◌, arith}
-use Rattle.std.specs.Prelude.{codes, ◌==◌}
-use Rattle.std.specs.List.{AllByRecursion, flat_map}
-use Rattle.std.specs.List.Sorted.{IsStrictlySortedBy}
-use Rattle.std.specs.Ordering.{nat_cmp, ordering_then}
-use Rattle.std.specs.Str.{bytes_eq}
-use Rattle.std.proofs.lemmas.Bool.{and_parts, eqb-true, lt-ltb, or_left, or_right}
+use Rattle.cdi_validate.proofs.Common.{◌≡◌, List, ◌++◌, sym, ap, ◌∙◌, flat_map, Decl, circles, name_clashes, name_prefixes, ◌<◌, ℕ, Bool}
+use Rattle.cdi_validate.proofs.Common.{true, false, [], ◌∷◌, map, filter, Ordering, Less, Equal, refl, arith, AllByRecursion}
+use Rattle.cdi_validate.proofs.Common.{IsStrictlySortedBy, tied_itself, ◌==◌, and_parts, eqb-true, dot, begins, continues, is_letter}
+use Rattle.cdi_validate.proofs.Common.{is_name, is_word, Fault, enabled_names, goes_on, subst, bytes_eq, or_left, has, same_text}
+use Rattle.cdi_validate.proofs.Common.{text_of_fault, BeanId, circular, circle, or_right, text_of_id, Effective, nat_cmp, chosen_by_name}
+use Rattle.cdi_validate.proofs.Common.{is_ambiguous, enabled_name, AreNames, Greater, byte_order, in_order-has, in_order-rises}
+use Rattle.cdi_validate.proofs.Common.{ordering_then, nat_cmp_total, IsStrictlySortedBy-filter, LinesRise}
+use Rattle.std.specs.Prelude.{codes}
+use Rattle.std.proofs.lemmas.Bool.{lt-ltb}
 use Rattle.std.proofs.lemmas.Bool.Decides.{nat_tests}
-use Rattle.std.proofs.lemmas.Cmp.{nat_cmp_total, tied_itself}
-use Rattle.std.proofs.lemmas.List.Kept.{IsStrictlySortedBy-filter}
-use Rattle.cdi_model.specs.Bytes.{byte_order, dot, space}
-use Rattle.cdi_model.specs.Grammar.{begins, continues, goes_on as continues_name, is_letter, is_name, is_word}
-use Rattle.cdi_match.proofs.OrderLemmas.{in_order-has, in_order-rises}
-use Rattle.cdi_match.specs.Chain.{has}
-use Rattle.cdi_match.proofs.Names.{same_text}
-use Rattle.cdi_model.specs.declared.decl.Decl.{Decl}
-use Rattle.cdi_effective.specs.BeanText.{text_of_id}
-use Rattle.cdi_effective.specs.declared.records.BeanId.{BeanId}
-use Rattle.cdi_effective.specs.declared.records.Effective.{Effective}
-use Rattle.cdi_faults.specs.declared.fault.Fault.{Fault}
+use Rattle.cdi_model.specs.Bytes.{space}
+use Rattle.cdi_model.specs.Grammar.{goes_on as continues_name}
 use Rattle.cdi_faults.specs.declared.fault.Fault.TheVariants as faults_are
-use Rattle.cdi_faults.specs.FaultText.{text_of_fault}
-use Rattle.cdi_subjects.specs.Subjects.{is_ambiguous}
-use Rattle.cdi_validate.specs.Faults.{enabled_name, enabled_names, goes_on, name_clashes, name_prefixes}
-use Rattle.cdi_validate.specs.Faults.{circle, circles, LinesRise}
-use Rattle.cdi_validate.specs.Circles.{circular}
-use Rattle.cdi_resolve.specs.Choices.{chosen_by_name}
-use Rattle.cdi_validate.specs.Names.{AreNames}
 use Rattle.cdi_validate.proofs.NeedLemmas.{circular-rise}
 use Rattle.cdi_validate.proofs.ApartLemmas.{all-append, all-each, all-map, all-more}
 

@@ -1,33 +1,22 @@
 -- The chains of enabled beans, as they are found.
-use Rattle.std.proofs.Common.{◌≡◌, ◌<◌, ℕ, zero, suc, Bool, true, false, cond, ◌||◌, ◌&&◌, nat_eq, List, [], ◌∷◌, ◌++◌, map, filter}
-use Rattle.std.proofs.Common.{Option, Some, None, is_some, length, position, refl, sym, subst, ap, ◌∙◌, inl, inr, append-nil}
-use Rattle.std.specs.List.{AllByRecursion, AllZip, find, flat_map}
-use Rattle.std.specs.Option.{option_map, option_to_list}
-use Rattle.std.specs.Str.{bytes_eq}
-use Rattle.std.proofs.lemmas.Bool.{cases_Bool, eq-eqb, eqb-true, false≢true}
-use Rattle.std.proofs.lemmas.Grind.{flat_map-append}
-use Rattle.std.proofs.lemmas.List.Elements.{filter-append}
+use Rattle.cdi_validate.proofs.Common.{◌≡◌, List, ◌++◌, sym, ap, ◌∙◌, flat_map, Decl, specialized_twice, ◌<◌, ℕ, zero, suc, Bool, true}
+use Rattle.cdi_validate.proofs.Common.{false, cond, [], ◌∷◌, length, map, filter, refl, AllByRecursion, nat_eq, eqb-true, false≢true, ◌&&◌}
+use Rattle.cdi_validate.proofs.Common.{subst, find, option_to_list, bytes_eq, filter-append, AreDistinct, BeanDecl, has, same_text}
+use Rattle.cdi_validate.proofs.Common.{records_in, class_names, is_first_enabled, specializing, specializing_by, enabled_bean}
+use Rattle.cdi_validate.proofs.Common.{in_line_order, of_pairs, twice, Some, inl, inr, append-nil, cases_Bool, find_decl, managed, as_bean}
+use Rattle.cdi_validate.proofs.Common.{find_bean, ◌||◌, Option, None, flat_map-append, other_name, is_of, AllZip, eq-eqb, key_of, key_at}
+use Rattle.cdi_validate.proofs.Common.{same_key, limit, behind, chain_behind, specialized, faults_between, faults_of_chains, first_marked}
+use Rattle.cdi_validate.proofs.Common.{has_position, is_marked, links_to, KeepsChain}
+use Rattle.std.proofs.Common.{is_some, position}
+use Rattle.std.specs.Option.{option_map}
 use Rattle.std.proofs.lemmas.List.Quantifiers.{position-Some}
 use Rattle.cdi_model.proofs.EntryLemmas.{key_exact}
 use Rattle.cdi_model.proofs.PositionLemmas.{one_position, position-found}
-use Rattle.cdi_model.specs.Decl.{key_of}
-use Rattle.cdi_model.specs.DeclKey.{key_at, same_key}
-use Rattle.cdi_model.specs.DeclList.{find_decl, is_of, limit, AreDistinct}
-use Rattle.cdi_model.specs.declared.decl.BeanDecl.{BeanDecl}
-use Rattle.cdi_model.specs.declared.decl.Decl.{Decl}
 use Rattle.cdi_model.specs.declared.decl.Decl.TheVariants as decls
 use Rattle.cdi_model.specs.declared.decl.Kind.TheVariants as kinds
-use Rattle.cdi_match.specs.Chain.{has}
-use Rattle.cdi_match.proofs.Names.{other_name, same_text}
-use Rattle.cdi_effective.specs.Beans.{managed}
-use Rattle.cdi_effective.specs.Disposers.{as_bean, find_bean}
-use Rattle.cdi_effective.specs.Records.{records_in}
-use Rattle.cdi_effective.specs.Specialized.{bean_named, behind, chain_behind, class_names, extended, on_from, specialized}
+use Rattle.cdi_effective.specs.Specialized.{bean_named, extended, on_from}
 use Rattle.cdi_validate.specs.declared.twice.BeanChain.{BeanChain}
 use Rattle.cdi_validate.specs.declared.twice.Link.{Link}
-use Rattle.cdi_validate.specs.Linked.{faults_between, faults_of_chains, first_marked, has_position, is_first_enabled, is_marked}
-use Rattle.cdi_validate.specs.Linked.{links_to, specializing, specializing_by, KeepsChain}
-use Rattle.cdi_validate.specs.Twice.{enabled_bean, in_line_order, of_pairs, specialized_twice, twice}
 use Rattle.cdi_validate.proofs.FoundLemmas.{bean-records, found-next}
 use Rattle.cdi_validate.proofs.TwiceLemmas.{behind_two, pairs-behind}
 

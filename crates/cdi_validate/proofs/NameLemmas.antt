@@ -1,27 +1,17 @@
 -- Names that go on behind others, among names in byte order.
-use Rattle.std.proofs.Common.{◌≡◌, ℕ, zero, suc, Bool, true, false, nat_eq, ◌&&◌, cond, List, [], ◌∷◌, ◌++◌, ◌+◌, ◌<◌, length, get_or, drop}
-use Rattle.std.proofs.Common.{map, filter, Ordering, Less, Equal, Greater, refl, sym, subst, ap, ◌∙◌}
-use Rattle.std.proofs.lemmas.List.{at_drop_more, drop_more}
-use Rattle.std.specs.List.{AllByRecursion, flat_map, list_any, starts_with}
-use Rattle.std.specs.BTreeMap.{is_at}
-use Rattle.std.specs.List.Sorted.{IsStrictlySortedBy}
-use Rattle.std.specs.Cmp.Lexicographic.{slice_cmp, nat_list_cmp_total}
-use Rattle.std.specs.Ordering.{nat_cmp, ordering_then, ordering_reverse}
+use Rattle.cdi_validate.proofs.Common.{◌≡◌, List, ◌++◌, sym, ap, ◌∙◌, flat_map, ◌<◌, ℕ, zero, suc, Bool, true, false, cond, [], ◌∷◌, length}
+use Rattle.cdi_validate.proofs.Common.{map, filter, Ordering, Less, Equal, refl, AllByRecursion, IsStrictlySortedBy, tied_itself, nat_eq}
+use Rattle.cdi_validate.proofs.Common.{and_parts, eqb-true, false≢true, dot, Fault, enabled_names, goes_on, ◌&&◌, subst, has, Effective}
+use Rattle.cdi_validate.proofs.Common.{list_any, ◌+◌, get_or, is_at, slice_cmp, nat_cmp, nat_list_cmp_total, enabled_name, drop, Greater}
+use Rattle.cdi_validate.proofs.Common.{at_drop_more, in_order, in_order-has, in_order-rises, one_order, ordering_then, nat_cmp_total}
+use Rattle.cdi_validate.proofs.Common.{starts_with, has-by_order, prefix_pairs}
+use Rattle.std.proofs.lemmas.List.{drop_more}
+use Rattle.std.specs.Ordering.{ordering_reverse}
 use Rattle.std.proofs.Math.Bool.{and_assoc, and-true}
-use Rattle.std.proofs.lemmas.Bool.{false≢true, and_parts, eqb-true}
 use Rattle.std.proofs.lemmas.Bool.Decides.{Decides-eqb}
-use Rattle.std.proofs.lemmas.Cmp.{nat_cmp_total, tied_itself}
 use Rattle.std.proofs.lemmas.Map.Lookups.{exact_unsigned}
-use Rattle.cdi_model.specs.Bytes.{dot}
-use Rattle.cdi_match.specs.Chain.{has}
-use Rattle.cdi_match.specs.Order.{in_order}
-use Rattle.cdi_match.proofs.Names.{has-by_order}
-use Rattle.cdi_match.proofs.OrderLemmas.{one_order, in_order-rises, in_order-has}
-use Rattle.cdi_effective.specs.declared.records.Effective.{Effective}
-use Rattle.cdi_faults.specs.declared.fault.Fault.{Fault}
 use Rattle.cdi_faults.specs.declared.fault.Fault.TheVariants as faults_are
-use Rattle.cdi_validate.specs.Faults.{enabled_name, enabled_names, goes_on}
-use Rattle.cdi_validate.specs.Names.{has_dot_at, prefix_pairs}
+use Rattle.cdi_validate.specs.Names.{has_dot_at}
 
 abbrev order : List ℕ → List ℕ → Ordering
 order = slice_cmp nat_cmp

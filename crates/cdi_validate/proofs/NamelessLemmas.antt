@@ -1,25 +1,13 @@
 -- Declarations whose enabled beans have names that are apart.
-use Rattle.std.proofs.Common.{◌≡◌, ℕ, Bool, true, false, cond, ◌&&◌, List, [], ◌∷◌, ◌++◌, length, map}
-use Rattle.std.proofs.Common.{filter, refl, sym, subst, ap, ◌∙◌, ◌⊎◌, inl, inr}
-use Rattle.std.specs.List.{AllByRecursion, AllPairs, flat_map}
-use Rattle.std.specs.Str.{bytes_eq}
-use Rattle.std.proofs.lemmas.Bool.{eqb-true, false≢true, or_cases, or_parts}
-use Rattle.std.proofs.lemmas.List.{nil_from_length}
-use Rattle.std.proofs.lemmas.List.Folds.{list_any-append}
-use Rattle.cdi_model.specs.declared.decl.Decl.{Decl}
-use Rattle.cdi_match.specs.Chain.{has}
-use Rattle.cdi_match.proofs.Names.{one_name, same_text}
-use Rattle.cdi_match.proofs.OrderLemmas.{in_order-has}
-use Rattle.cdi_effective.specs.Beans.{beans}
-use Rattle.cdi_effective.specs.declared.records.Effective.{Effective}
-use Rattle.cdi_resolve.specs.Choices.{candidate, choice_of, chosen_by_name, is_named, named}
+use Rattle.cdi_validate.proofs.Common.{◌≡◌, List, ◌++◌, sym, ap, ◌∙◌, flat_map, Decl, beans, name_clashes, name_prefixes, ℕ, Bool, true}
+use Rattle.cdi_validate.proofs.Common.{false, cond, [], ◌∷◌, length, map, filter, refl, AllByRecursion, AllPairs, eqb-true, false≢true}
+use Rattle.cdi_validate.proofs.Common.{enabled_names, goes_on, ◌&&◌, subst, bytes_eq, nil_from_length, has, same_text, IsAlike, ◌⊎◌, inl}
+use Rattle.cdi_validate.proofs.Common.{inr, or_cases, one_name, Effective, list_any-append, candidate, choice_of, chosen_by_name, is_named}
+use Rattle.cdi_validate.proofs.Common.{named, is_ambiguous, enabled_name, in_order-has, is_nameless, names_by, AreNamesApart, HaveNoClash}
+use Rattle.cdi_validate.proofs.Common.{or_parts}
 use Rattle.cdi_faults.specs.declared.fault.Fault.TheVariants as faults_are
-use Rattle.cdi_subjects.specs.Subjects.{is_ambiguous}
-use Rattle.cdi_validate.specs.Alike.{IsAlike}
-use Rattle.cdi_validate.specs.Faults.{enabled_name, enabled_names, goes_on, name_clashes, name_prefixes}
-use Rattle.cdi_validate.specs.Together.{is_nameless, names_by, AreNamesApart, HaveNoClash}
-use Rattle.cdi_validate.proofs.ApartLemmas.{Apart, all-back, all-each, all-more, apart-back, apart-more}
-use Rattle.cdi_validate.proofs.ApartLemmas.{flat-left, flat-same, pairs-apart, pairs-left}
+use Rattle.cdi_validate.proofs.ApartLemmas.{Apart, all-back, all-each, all-more, apart-back, apart-more, flat-left, flat-same, pairs-apart}
+use Rattle.cdi_validate.proofs.ApartLemmas.{pairs-left}
 use Rattle.cdi_validate.proofs.ClashLemmas.{is_its_name}
 use Rattle.cdi_validate.proofs.NameLemmas.{goes_on-itself}
 use Rattle.cdi_validate.proofs.CountLemmas.{all-has, has-all, names-all, Differ, NoneGoesOn}

@@ -1,40 +1,15 @@
 -- What beans need, as it is found: the dependent beans by their texts, and the edges between them.
-use Rattle.std.proofs.Common.{◌≡◌, ℕ, Bool, true, false, ◌||◌, cond, List, [], ◌∷◌, ◌++◌, map, filter, fold, refl, sym}
-use Rattle.std.proofs.Common.{◌⊎◌, ⊎_elim, ap, ◌∙◌, subst, append_assoc, append-nil, Ordering, Less, Equal, Greater}
-use Rattle.std.specs.BTreeMap.{insert_entry, is_at}
-use Rattle.std.specs.BTreeSet.{insert_key}
-use Rattle.std.specs.List.{AllByRecursion, flat_map}
-use Rattle.std.specs.List.Sorted.{IsStrictlySortedBy}
-use Rattle.std.specs.Map.{keys_of, lookup}
-use Rattle.std.specs.Option.{is_some}
-use Rattle.std.specs.Str.{bytes_eq}
-use Rattle.std.proofs.Math.Bool.{or-false, or_assoc, or_comm}
-use Rattle.std.proofs.lemmas.Grind.{flat_map-append}
-use Rattle.std.proofs.lemmas.List.Elements.{filter-append, filter_agree}
-use Rattle.std.proofs.lemmas.List.Kept.{IsStrictlySortedBy-filter}
+use Rattle.cdi_validate.proofs.Common.{◌≡◌, List, ◌++◌, sym, ap, ◌∙◌, append_assoc, flat_map, Decl, beans, ℕ, Bool, true, false, cond, []}
+use Rattle.cdi_validate.proofs.Common.{◌∷◌, map, filter, Ordering, Less, Equal, refl, AllByRecursion, IsStrictlySortedBy, subst, bytes_eq}
+use Rattle.cdi_validate.proofs.Common.{filter-append, has, keys_of, filter_agree, Edges, next_in, BeanId, between, circular, dependents}
+use Rattle.cdi_validate.proofs.Common.{dependents_by_text, needed_by, needs_itself, ◌⊎◌, append-nil, InterceptorDecl, PointDecl, one_name}
+use Rattle.cdi_validate.proofs.Common.{text_of_id, Effective, is_enabled, stands_around, answer_to, Need, chosen_for, chosen_one}
+use Rattle.cdi_validate.proofs.Common.{is_dependent, managed_id, need_around, ◌||◌, fold, ⊎_elim, is_at, lookup, is_some, or-false}
+use Rattle.cdi_validate.proofs.Common.{flat_map-append, Greater, insert_key, byte_order, in_order, in_order-has, in_order-rises}
+use Rattle.cdi_validate.proofs.Common.{IsStrictlySortedBy-filter, has-by_order, insert_entry, or_assoc, or_comm, same_name, Choice}
+use Rattle.cdi_validate.proofs.Common.{with_dependent, AddsNeeds}
 use Rattle.std.proofs.lemmas.Map.Made.{is_some-lookup}
-use Rattle.cdi_model.proofs.QualLemmas.{same_name}
-use Rattle.cdi_model.specs.Bytes.{byte_order}
-use Rattle.cdi_model.specs.declared.decl.Decl.{Decl}
 use Rattle.cdi_model.specs.declared.decl.Decl.TheVariants as decls
-use Rattle.cdi_model.specs.declared.decl.InterceptorDecl.{InterceptorDecl}
-use Rattle.cdi_model.specs.declared.decl.PointDecl.{PointDecl}
-use Rattle.cdi_match.specs.Chain.{has}
-use Rattle.cdi_match.specs.Order.{in_order}
-use Rattle.cdi_match.proofs.Names.{has-by_order, one_name}
-use Rattle.cdi_match.proofs.OrderLemmas.{in_order-has, in_order-rises}
-use Rattle.cdi_circles.specs.Edges.{Edges, next_in}
-use Rattle.cdi_effective.specs.Beans.{beans}
-use Rattle.cdi_effective.specs.BeanText.{text_of_id}
-use Rattle.cdi_effective.specs.declared.records.BeanId.{BeanId}
-use Rattle.cdi_effective.specs.declared.records.Effective.{Effective}
-use Rattle.cdi_intercept.specs.Chains.{is_enabled, stands_around}
-use Rattle.cdi_observe.specs.Answers.{answer_to}
-use Rattle.cdi_resolve.specs.declared.choice.Choice.{Choice}
-use Rattle.cdi_validate.specs.Circles.{Need, between, chosen_for, chosen_one, circular, dependents, dependents_by_text}
-use Rattle.cdi_validate.specs.Circles.{is_dependent, managed_id, need_around, needed_by}
-use Rattle.cdi_validate.specs.Circles.{needs_itself, with_dependent}
-use Rattle.cdi_validate.specs.Needed.{AddsNeeds}
 
 abbrev Entries : Type 0
 Entries = List (List ℕ × BeanId)

@@ -1,36 +1,22 @@
 -- No fault stands twice.
-use Rattle.std.proofs.Common.{◌≡◌, ◌≢◌, ℕ, Bool, true, false, List, [], ◌∷◌, ◌++◌, Option, Some, None}
-use Rattle.std.proofs.Common.{map, filter, refl, sym, ap, ◌∙◌, append_assoc, subst, arith}
-use Rattle.std.specs.List.{AllByRecursion, AllPairs, flat_map}
-use Rattle.std.specs.Cmp.Lexicographic.{nat_list_cmp_total}
-use Rattle.std.proofs.lemmas.Bool.{false≢true}
-use Rattle.cdi_bodies.specs.Book.{Promised}
-use Rattle.cdi_model.specs.Decl.{key_of, kind_of, name_of_decl}
-use Rattle.cdi_model.specs.DeclList.{AreDistinct}
-use Rattle.cdi_model.specs.declared.decl.Decl.{Decl}
-use Rattle.cdi_model.specs.declared.key.DeclKey.{DeclKey}
-use Rattle.cdi_match.proofs.OrderLemmas.{in_order-rises}
-use Rattle.cdi_effective.specs.Beans.{beans}
-use Rattle.cdi_effective.specs.BeanText.{text_of_id}
-use Rattle.cdi_effective.specs.declared.records.BeanId.{BeanId}
-use Rattle.cdi_effective.specs.declared.records.Effective.{Effective}
+use Rattle.cdi_validate.proofs.Common.{◌≡◌, List, ◌++◌, sym, ap, ◌∙◌, append_assoc, flat_map, Promised, Decl, beans, circles, faults}
+use Rattle.cdi_validate.proofs.Common.{faults_of, name_clashes, name_prefixes, specialized_twice, ◌≢◌, ℕ, Bool, true, false, [], ◌∷◌, map}
+use Rattle.cdi_validate.proofs.Common.{filter, refl, arith, AllByRecursion, AllPairs, false≢true, Fault, enabled_names, goes_on, subst}
+use Rattle.cdi_validate.proofs.Common.{AreDistinct, text_of_fault, BeanId, circular, circle, Some, name_of_decl, text_of_id, Effective}
+use Rattle.cdi_validate.proofs.Common.{Option, None, nat_list_cmp_total, enabled_name, in_order-rises, kind_of, key_of, DeclKey}
+use Rattle.cdi_validate.proofs.Common.{in_text_order, faults_of_code, subjects_in_order}
 use Rattle.cdi_faults.specs.Codes.{all_codes, code_of}
 use Rattle.cdi_faults.proofs.CodeLemmas.{codes_rise, code_order-total}
 use Rattle.cdi_faults.specs.declared.fault.Code.{Code}
-use Rattle.cdi_faults.specs.declared.fault.Fault.{Fault}
 use Rattle.cdi_faults.specs.declared.fault.Fault.TheVariants as faults_are
 use Rattle.cdi_faults.specs.declared.fault.Subject.{Subject}
-use Rattle.cdi_faults.specs.FaultText.{in_text_order, text_of_fault, text_of_subject}
+use Rattle.cdi_faults.specs.FaultText.{text_of_subject}
 use Rattle.cdi_subjects.specs.Subjects.{subjects_at_fault}
-use Rattle.cdi_validate.specs.Faults.{faults_of_code, faults_of, name_clashes, name_prefixes}
-use Rattle.cdi_validate.specs.Circles.{circular}
-use Rattle.cdi_validate.specs.Faults.{circle, circles, enabled_name, enabled_names, goes_on, faults, FaultsStandOnce}
-use Rattle.cdi_validate.specs.Twice.{specialized_twice}
-use Rattle.cdi_validate.proofs.ApartLemmas.{Differ, Tagged, all-append, all-each, all-map, all-more, apart-filter, apart-more}
-use Rattle.cdi_validate.proofs.ApartLemmas.{apart-pairs, differ-append, differ-by, differ-flat_map, differ-map, pairs-apart, rising-differ}
+use Rattle.cdi_validate.specs.Faults.{FaultsStandOnce}
+use Rattle.cdi_validate.proofs.ApartLemmas.{Differ, Tagged, all-append, all-each, all-map, all-more, apart-filter, apart-more, apart-pairs}
+use Rattle.cdi_validate.proofs.ApartLemmas.{differ-append, differ-by, differ-flat_map, differ-map, pairs-apart, rising-differ}
 use Rattle.cdi_validate.proofs.NeedLemmas.{circular-rise}
 use Rattle.cdi_validate.proofs.TwiceLemmas.{twice-each, twice_rise}
-use Rattle.cdi_faults.proofs.OrderLemmas.{subjects_in_order}
 
 -- ---- faults of one declaration
 

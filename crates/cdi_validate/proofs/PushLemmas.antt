@@ -1,8 +1,6 @@
 -- Loops that push what each element gives.
-use Rattle.std.proofs.Common.{◌≡◌, ℕ, ◌+◌, ◌<◌, List, [], ◌∷◌, ◌++◌, length, get_or, drop, sym, ap, ◌∙◌, append_assoc}
-use Rattle.std.proofs.Common.{arith}
-use Rattle.std.specs.List.{flat_map}
-use Rattle.std.proofs.lemmas.List.{at_drop_more, length-append, nil_from_length}
+use Rattle.cdi_validate.proofs.Common.{◌≡◌, List, ◌++◌, sym, ap, ◌∙◌, append_assoc, flat_map, ◌<◌, ℕ, [], ◌∷◌, length, arith}
+use Rattle.cdi_validate.proofs.Common.{nil_from_length, ◌+◌, get_or, drop, at_drop_more, length-append}
 
 -- what each gives is pushed
 pub appended : {A B : Type 0} (f : A → List B) (xs : List A) (i : ℕ) (x : A) (old total : List B) → i < length xs → x ≡ get_or xs i x

@@ -1,41 +1,21 @@
 -- Beans by the binding types at their places, and that an interceptor stands around none but those of its first binding type.
-use Rattle.std.proofs.Common.{◌≡◌, ◌<◌, ◌+◌, ℕ, zero, suc, Bool, true, false, ◌&&◌, ◌||◌, cond, List, [], ◌∷◌, ◌++◌, length, drop, get_or, map}
-use Rattle.std.proofs.Common.{filter, refl, sym, ap, ◌∙◌, append-nil, inl, inr, option_map, Option, Some, None, Vec, Global}
+use Rattle.cdi_validate.proofs.Common.{◌≡◌, List, ◌++◌, sym, ap, ◌∙◌, flat_map, Decl, ◌<◌, ℕ, zero, suc, Bool, true, false, cond, [], ◌∷◌}
+use Rattle.cdi_validate.proofs.Common.{length, map, filter, refl, IsStrictlySortedBy, and_parts, false≢true, ◌&&◌, bytes_eq, or_left}
+use Rattle.cdi_validate.proofs.Common.{AreDistinct, BeanDecl, has, Edges, next_in, between, Some, inl, inr, append-nil, slice_get}
+use Rattle.cdi_validate.proofs.Common.{and-false, or_cases, or_right, same_Some, InterceptorDecl, BeanPlace, one_name, text_of_id}
+use Rattle.cdi_validate.proofs.Common.{own-found, is_enabled, stands_around, managed_id, need_around, ◌||◌, Option, None, none-some, Qual}
+use Rattle.cdi_validate.proofs.Common.{◌+◌, get_or, unwrap_or, flat_map-append, map-append, drop, list_all, byte_order, slice_get-get_or}
+use Rattle.cdi_validate.proofs.Common.{IsFound, or_assoc, AddsNeeds, Vec, Global, name_of_use, class_bindings, sets_of, next-left}
+use Rattle.cdi_validate.proofs.Common.{rise-next, beans_in, has_binding_in, with_binding, AreByBinding}
+use Rattle.std.proofs.Common.{option_map}
 use Rattle.std.specs.Borrow.{Bor}
-use Rattle.std.specs.List.{flat_map, list_all, slice_get}
-use Rattle.std.specs.List.Sorted.{IsStrictlySortedBy}
-use Rattle.std.specs.Option.{unwrap_or}
-use Rattle.std.specs.Str.{bytes_eq}
-use Rattle.std.proofs.Math.Bool.{and-false, or_assoc}
-use Rattle.std.proofs.lemmas.Bool.{and_parts, false≢true, or_cases, or_left, or_right}
-use Rattle.std.proofs.lemmas.Grind.{flat_map-append}
-use Rattle.std.proofs.lemmas.List.{map-append}
-use Rattle.std.proofs.lemmas.Option.{none-some, same_Some, slice_get-get_or, slice_get-map}
-use Rattle.cdi_model.specs.Bytes.{byte_order}
-use Rattle.cdi_model.specs.DeclList.{AreDistinct}
-use Rattle.cdi_model.specs.Quals.{name_of_use}
-use Rattle.cdi_model.specs.declared.decl.BeanDecl.{BeanDecl}
-use Rattle.cdi_model.specs.declared.decl.Decl.{Decl}
+use Rattle.std.proofs.lemmas.Option.{slice_get-map}
 use Rattle.cdi_model.specs.declared.decl.Decl.TheVariants as decls
-use Rattle.cdi_model.specs.declared.decl.InterceptorDecl.{InterceptorDecl}
 use Rattle.cdi_model.specs.declared.decl.UseKind.TheVariants as use_kinds
-use Rattle.cdi_model.specs.declared.place.BeanPlace.{BeanPlace}
-use Rattle.cdi_model.specs.declared.quals.Qual.{Qual}
-use Rattle.cdi_match.specs.Chain.{has}
 use Rattle.cdi_match.specs.Covering.{covers, covers_by}
-use Rattle.cdi_match.proofs.Names.{one_name}
-use Rattle.cdi_effective.specs.Bindings.{class_bindings}
-use Rattle.cdi_effective.specs.BeanText.{text_of_id}
-use Rattle.cdi_effective.proofs.PlaceLemmas.{own-found}
-use Rattle.cdi_intercept.specs.Chains.{binds, covered_in, is_enabled, stands_around, surrounds, surrounds_one}
-use Rattle.cdi_intercept.specs.Sets.{sets_of}
-use Rattle.cdi_resolve.proofs.PlaceLemmas.{next-left, none-after, rise-next}
-use Rattle.cdi_observe.proofs.RestLemmas.{IsFound}
-use Rattle.cdi_circles.specs.Edges.{Edges, next_in}
-use Rattle.cdi_validate.specs.Circles.{between, managed_id, need_around}
-use Rattle.cdi_validate.specs.Needed.{AddsNeeds}
-use Rattle.cdi_validate.specs.Surrounded.{beans_in, has_binding_at_place, has_binding_in, may_surround, with_binding}
-use Rattle.cdi_validate.specs.Surrounded.{AreByBinding, BeansByBinding}
+use Rattle.cdi_intercept.specs.Chains.{binds, covered_in, surrounds, surrounds_one}
+use Rattle.cdi_resolve.proofs.PlaceLemmas.{none-after}
+use Rattle.cdi_validate.specs.Surrounded.{has_binding_at_place, may_surround, BeansByBinding}
 use Rattle.cdi_validate.proofs.NeedLemmas.{between-append, between-none}
 
 -- ---- lists, one element after another

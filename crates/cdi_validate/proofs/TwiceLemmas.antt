@@ -1,35 +1,19 @@
 -- Enabled beans whose chains share a bean.
-use Rattle.std.proofs.Common.{◌≡◌, ◌≢◌, ℕ, zero, suc, Bool, true, false, not, cond, ◌&&◌, ◌||◌, List, [], ◌∷◌, ◌++◌, map, filter, fold}
-use Rattle.std.proofs.Common.{Option, Some, None, Ordering, Less, Equal, Greater, refl, sym, subst, ap, ◌∙◌, inl, inr}
-use Rattle.std.specs.BTreeMap.{insert_entry}
-use Rattle.std.specs.BTreeSet.{insert_key}
-use Rattle.std.specs.List.{AllByRecursion, find, flat_map, list_any}
-use Rattle.std.specs.List.Sorted.{IsStrictlySortedBy}
-use Rattle.std.specs.Map.{keys_of}
-use Rattle.std.specs.Option.{option_to_list}
-use Rattle.std.specs.Str.{bytes_eq}
-use Rattle.std.proofs.Math.Bool.{or_assoc, or_comm}
-use Rattle.std.proofs.lemmas.Bool.{and_parts, false≢true, not-true, or_cases, or_left, or_parts, or_right}
-use Rattle.cdi_model.proofs.QualLemmas.{same_name}
-use Rattle.cdi_model.specs.Bytes.{byte_order}
-use Rattle.cdi_model.specs.Decl.{key_of}
-use Rattle.cdi_model.specs.DeclKey.{key_at}
-use Rattle.cdi_model.specs.DeclList.{limit, AreDistinct}
-use Rattle.cdi_model.specs.declared.decl.BeanDecl.{BeanDecl}
-use Rattle.cdi_model.specs.declared.decl.Decl.{Decl}
+use Rattle.cdi_validate.proofs.Common.{◌≡◌, List, ◌++◌, sym, ap, ◌∙◌, flat_map, Decl, specialized_twice, ◌≢◌, ℕ, zero, suc, Bool, true}
+use Rattle.cdi_validate.proofs.Common.{false, cond, [], ◌∷◌, map, filter, Ordering, Less, Equal, refl, AllByRecursion, IsStrictlySortedBy}
+use Rattle.cdi_validate.proofs.Common.{and_parts, false≢true, Fault, not, ◌&&◌, subst, find, option_to_list, bytes_eq, or_left, AreDistinct}
+use Rattle.cdi_validate.proofs.Common.{BeanDecl, has, same_text, chain, class_names, text_of_fault, specializing, enabled_bean}
+use Rattle.cdi_validate.proofs.Common.{enabled_beans, faults_of_pairs, faults_of_two, of_pairs, twice, keys_of, Some, inl, inr, or_cases}
+use Rattle.cdi_validate.proofs.Common.{or_right, one_name, effective, managed, ◌||◌, Option, None, list_any, is_replaced, fold, other_name}
+use Rattle.cdi_validate.proofs.Common.{Greater, insert_key, byte_order, in_order, in_order-rises, key_of, key_at, limit, behind}
+use Rattle.cdi_validate.proofs.Common.{chain_behind, specialized, or_parts, insert_entry, or_assoc, or_comm, same_name, by_line, with_line}
+use Rattle.std.proofs.lemmas.Bool.{not-true}
 use Rattle.cdi_model.specs.declared.decl.Decl.TheVariants as decls
 use Rattle.cdi_model.specs.declared.decl.Kind.TheVariants as kinds
-use Rattle.cdi_match.specs.Chain.{has}
-use Rattle.cdi_match.specs.Order.{in_order}
-use Rattle.cdi_match.proofs.Names.{bytes_eq-turned, one_name, other_name, same_text}
-use Rattle.cdi_match.proofs.OrderLemmas.{has-insert, in_order-rises}
-use Rattle.cdi_effective.specs.Beans.{effective, managed}
-use Rattle.cdi_effective.specs.Specialized.{behind, chain, chain_behind, class_names, is_offered, is_replaced, replaced_by, specialized}
-use Rattle.cdi_faults.specs.FaultText.{text_of_fault}
-use Rattle.cdi_faults.specs.declared.fault.Fault.{Fault}
-use Rattle.cdi_validate.specs.Linked.{specializing}
-use Rattle.cdi_validate.specs.Twice.{are_apart, by_line, enabled_bean, enabled_beans, faults_of_pairs, faults_of_two, first_shared}
-use Rattle.cdi_validate.specs.Twice.{is_in_chain, of_pairs, specialized_twice, twice, with_line, AreTold, SharersAreTold}
+use Rattle.cdi_match.proofs.Names.{bytes_eq-turned}
+use Rattle.cdi_match.proofs.OrderLemmas.{has-insert}
+use Rattle.cdi_effective.specs.Specialized.{is_offered, replaced_by}
+use Rattle.cdi_validate.specs.Twice.{are_apart, first_shared, is_in_chain, AreTold, SharersAreTold}
 use Rattle.cdi_validate.proofs.ApartLemmas.{Apart, all-append, all-more, apart-by, apart-pairs, flat-same, pairs-apart}
 
 -- ---- pairs

@@ -1,6 +1,6 @@
 -- What is known of each declaration of a deployment without faults, and that such a deployment has a sound scene.
-use Rattle.std.proofs.Common.{◌≡◌, ◌==◌, ◌&&◌, ℕ, zero, suc, Bool, true, false, not, cond, List, [], ◌∷◌, ◌++◌, map}
-use Rattle.std.proofs.Common.{Option, Some, None, option_map, Contains, refl, sym, subst, ap, ◌∙◌, arith, bit_and}
+use Rattle.std.proofs.Common.{◌≡◌, ◌==◌, ◌&&◌, ℕ, zero, suc, Bool, true, false, not, cond, List, [], ◌∷◌, ◌++◌, map, Option, Some, None}
+use Rattle.std.proofs.Common.{option_map, Contains, refl, sym, subst, ap, ◌∙◌, arith, bit_and}
 use Rattle.std.specs.List.{find, flat_map, slice_get}
 use Rattle.std.specs.Option.{option_eq, option_to_list}
 use Rattle.std.specs.Str.{bytes_eq}
@@ -53,8 +53,7 @@ use Rattle.cdi_subjects.specs.Sites.{has_method, is_lost, is_lost_among, lacks_m
 use Rattle.cdi_subjects.specs.Subjects.{is_ambiguous, is_unsatisfied, point_in, subjects_at_fault}
 use Rattle.cdi_subjects.proofs.RecordLemmas.{managed-producer, product-producer}
 use Rattle.cdi_validate.specs.Faults.{faults, faults_of, faults_of_code}
-use Rattle.cdi_staging.specs.Faultless.{AreFine, AreFineAround, IsFineAround}
-use Rattle.cdi_staging.specs.Faultless.{AreSatisfied, IsFineManaged, IsFinePart, allowed_to}
+use Rattle.cdi_staging.specs.Faultless.{AreFine, AreFineAround, IsFineAround, AreSatisfied, IsFineManaged, IsFinePart, allowed_to}
 use Rattle.cdi_staging.specs.Faultless.{IsFineObserver, IsFineProducer, IsFit, IsLed, seen_by}
 use Rattle.cdi_staging.specs.Sites.{is_point}
 use Rattle.cdi_staging.proofs.SceneLemmas.{fine_is_sound}

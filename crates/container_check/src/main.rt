@@ -1,7 +1,7 @@
 //! The program: checks the deployment that some files declare.
 #![tactic(auto)]
 
-use cdi_checker::run;
+use cdi_assembly::run_check;
 use cdi_command_line::{Ending, status_of, words};
 use cdi_stack_room::take_stack;
 use std::process::ExitCode;
@@ -14,5 +14,5 @@ fn main(rt: HostRuntime) -> ExitCode {
 fn check(rt: &HostRuntime) -> Result<u8, Ending> {
     let words = words(rt)?;
     take_stack(rt, words.len())?;
-    run(rt, words.as_slice())
+    run_check(rt, words.as_slice())
 }

@@ -44,6 +44,15 @@ fn push_entries<B: Bodies>(shop: &Container<B>, log: &mut Vec<u8>) -> Result<(),
     Ok(())
 }
 
+/// Appends what is wrong with the declarations, a fault a line.
+fn push_faults<B: Bodies>(shop: &mut Container<B>, log: &mut Vec<u8>) -> Result<(), Error> {
+    let faults = shop.report()?;
+    for fault in &faults {
+        writeln!(log, "{fault}").map_err(|_| Error::OutOfMemory)?;
+    }
+    Ok(())
+}
+
 /// Sells three pieces, and appends what the edit before and the sale did.
 fn sale<B: Bodies>(alloc: Global, shop: &mut Container<B>, log: &mut Vec<u8>) -> Result<(), Error> {
     push_entries(shop, log)?;
@@ -52,11 +61,14 @@ fn sale<B: Bodies>(alloc: Global, shop: &mut Container<B>, log: &mut Vec<u8>) ->
     push_entries(shop, log)
 }
 
-/// Declares the shop, sells, declares it anew, sells again, and answers what was done.
+/// Declares the shop, of which the type is missing at first, sells, declares it anew, sells again, and answers what was wrong and
+/// done.
 fn trade<B: Bodies>(alloc: Global, shop: &mut Container<B>) -> Result<Vec<u8>, Error> {
     let mut log = Vec::new(alloc);
-    shop.put(b"kind='type'\nname='Shop'\n")?;
     shop.put(SHOP)?;
+    push_faults(shop, &mut log)?;
+    shop.put(b"kind='type'\nname='Shop'\n")?;
+    push_faults(shop, &mut log)?;
     sale(alloc, shop, &mut log)?;
     shop.put(SALE)?;
     sale(alloc, shop, &mut log)?;

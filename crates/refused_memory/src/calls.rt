@@ -98,6 +98,13 @@ bindings=["Log(level=1)"]
 around_invoke={body="echo"}
 "#;
 
+const OTHER_INTERCEPTOR: &[u8] = br#"kind="interceptor"
+name="Clark"
+priority=2
+bindings=["Log(level=1)"]
+around_invoke={body="echo"}
+"#;
+
 const BAD_INTERCEPTOR: &[u8] = b"kind=\"interceptor\"\nname=\"Clerk\"\npre={body=\"nobody\"}\n";
 
 const CALLER: &[u8] = b"kind=\"bean\"\nname=\"Desk\"\npoints=[{name=\"t\",type=\"Till\"}]\n";
@@ -165,7 +172,7 @@ F30 bean Place Corner Hut
 ";
 
 /// Calls, each with its answer.
-static CALLS: [(Call, Answer); 52] = [
+static CALLS: [(Call, Answer); 56] = [
     (Put(TYPE), Done),
     (Put(INTERFACE), Done),
     (Put(QUALIFIER), Done),
@@ -199,6 +206,11 @@ static CALLS: [(Call, Answer); 52] = [
     (Put(INTERCEPTOR), Done),
     (Put(BAD_INTERCEPTOR), Done),
     (Put(CALLER), Done),
+    (Chain(b"Till", Some(b"run")), Around(&[b"Scribe"])),
+    // What is known of the chain is compared.
+    (Put(OTHER_INTERCEPTOR), Done),
+    (Chain(b"Till", Some(b"run")), Around(&[b"Scribe", b"Clark"])),
+    (Remove(Kind::Interceptor, b"Clark"), Done),
     (Chain(b"Till", Some(b"run")), Around(&[b"Scribe"])),
     (Chain(b"Till", None), Around(&[])),
     (Chain(b"Till", Some(b"stop")), Refused(Refusal::NoMethod)),

@@ -1,12 +1,10 @@
 //! Questions about the bindings and the interceptors at methods, and about observer methods.
-use crate::deployed::decls_after_put;
 use crate::texts::{are_names, are_observers};
 use cdi_fixtures::name;
-use cdi_intercept::{bindings_at, bindings_seen, in_order, seen_around};
+use cdi_intercept::bindings_at;
 use cdi_model::{BeanPlace, Decls, Error, Ident, Name, Qual, Quals, Refusal};
 use cdi_observe::{PlainView, View};
 use cdi_resolve::BeanList;
-use cdi_seen::is_chain_touched_by;
 use std::alloc::Global;
 
 /// A question about the audited bean, with its answer.
@@ -16,13 +14,11 @@ pub enum ChainQuestion {
     Around(&'static [u8], &'static [&'static [u8]]),
     /// The types of the bindings at a method.
     Bound(&'static [u8], &'static [&'static [u8]]),
-    /// Whether the question for the chain around a method is touched where a text is put.
-    Touched(&'static [u8], &'static [u8], bool),
     /// The observer methods of an event of a type.
     Observed(&'static [u8], &'static [&'static [u8]]),
 }
 
-use ChainQuestion::{Around, Bound, Observed, Touched};
+use ChainQuestion::{Around, Bound, Observed};
 
 /// Three binding types, one of which brings another, an interceptor, and a bean with two methods, one of which has a
 /// binding in the place of the one that its class is brought, and with an observer method.
@@ -54,10 +50,6 @@ pub fn has_answer_of_chains(
     match question {
         Around(called, wanted) => is_surrounded(alloc, decls, called, wanted),
         Bound(called, wanted) => is_bound(alloc, decls, called, wanted),
-        Touched(text, called, wanted) => {
-            let after = decls_after_put(alloc, decls, text)?;
-            Ok(is_touched(alloc, decls, &after, called)? == wanted)
-        }
         Observed(event_type, wanted) => is_observed(alloc, decls, event_type, wanted),
     }
 }
@@ -78,19 +70,6 @@ fn is_bound(alloc: Global, decls: &Decls, called: &[u8], wanted: &[&[u8]]) -> Re
     let bindings = bindings_at(alloc, decls, name(b"S")?, &method(called)?)?;
     let types = types_of(alloc, bindings.as_slice())?;
     Ok(are_names(types.as_slice(), wanted))
-}
-
-/// Whether the question for the chain around a method is touched between some declarations and others.
-fn is_touched(alloc: Global, decls: &Decls, after: &Decls, called: &[u8]) -> Result<bool, Error> {
-    let olds = in_order(alloc, decls)?;
-    let news = in_order(alloc, after)?;
-    let (class, place) = (name(b"S")?, method(called)?);
-    let bound = bindings_seen(alloc, decls, class, &place)?;
-    let old_seen = seen_around(alloc, &olds, bound.as_slice(), &place)?;
-    let bound = bindings_seen(alloc, after, class, &place)?;
-    let new_seen = seen_around(alloc, &news, bound.as_slice(), &place)?;
-    let is_touched = is_chain_touched_by(alloc, decls, &old_seen, after, &new_seen, class, &place)?;
-    Ok(is_touched)
 }
 
 fn is_observed(

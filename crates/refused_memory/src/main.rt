@@ -13,7 +13,6 @@ mod questions;
 mod reports;
 mod runs;
 mod scripts;
-mod specializing_questions;
 mod steps;
 mod texts;
 

@@ -1,17 +1,13 @@
-//! Questions about types, qualifiers, stereotypes, beans, chains and specialization, of which any one allocation may be
-//! refused. They change nothing.
+//! Questions about types, qualifiers, beans and chains, of which any one allocation may be refused. They change nothing.
 use crate::Difference;
 use crate::answers::Answer;
-use crate::bean_questions::{BeanQuestion, Compared, Recorded, Told, has_answer};
+use crate::bean_questions::{BeanQuestion, Told, has_answer};
 use crate::chain_questions::{AUDITED, ChainQuestion, has_answer_of_chains};
 use crate::deployed::Deployed;
-use crate::specializing_questions::{
-    ReadKey, SPECIALIZING, SpecializingQuestion, has_answer_of_specializing,
-};
-use crate::texts::{are_names, names};
+use crate::texts::are_names;
 use cdi_fixtures::{declared, name};
-use cdi_match::{closure, fill_members, is_type, stereotypes};
-use cdi_model::{Decls, Error, Ident, Kind, Members, Scope, UseKind};
+use cdi_match::{closure, fill_members, is_type};
+use cdi_model::{Decls, Error, Ident, Members, Scope, UseKind};
 use cdi_text::read_qualifier;
 use std::alloc::Global;
 
@@ -24,20 +20,15 @@ enum Question {
     IsType(&'static [u8], &'static [u8], bool),
     /// The members of a use, with their defaults.
     Fill(&'static [u8], &'static [(&'static [u8], i64)]),
-    /// The stereotypes of what declares some.
-    Stereotypes(&'static [&'static [u8]], &'static [&'static [u8]]),
     /// What is asked of the beans.
     OfBeans(BeanQuestion),
     /// What is asked of the audited bean.
     OfChains(ChainQuestion),
-    /// What is asked of the bean that specializes others.
-    OfSpecializing(SpecializingQuestion),
 }
 
-use BeanQuestion::{Beans, Choose, ChooseName, Evaluate, Put, Record};
-use ChainQuestion::{Around, Bound, Observed, Touched};
-use Question::{Closure, Fill, IsType, OfBeans, OfChains, OfSpecializing, Stereotypes};
-use SpecializingQuestion::{Behind, Own, Reads, Replaced};
+use BeanQuestion::{Beans, Choose, ChooseName, Evaluate};
+use ChainQuestion::{Around, Bound, Observed};
+use Question::{Closure, Fill, IsType, OfBeans, OfChains};
 
 /// What is declared: types of which two extend each other, a qualifier, stereotypes of which two declare each other,
 /// and beans of which two are alternatives of one priority and one name, one has injection points and a product, and one
@@ -72,7 +63,7 @@ producers=[
 "#,
 ];
 
-static QUESTIONS: [Question; 34] = [
+static QUESTIONS: [Question; 20] = [
     Closure(
         b"Corner",
         &[b"Corner", b"Object", b"Place", b"Shop", b"Stand", b"Stop"],
@@ -84,8 +75,6 @@ static QUESTIONS: [Question; 34] = [
     Fill(b"Rank(m=1)", &[(b"n", 2), (b"m", 1), (b"k", 7)]),
     Fill(b"Rank(n=5,k=6)", &[(b"n", 5), (b"k", 6)]),
     Fill(b"Plain(n=3)", &[(b"n", 3)]),
-    Stereotypes(&[b"Sun"], &[b"Moon", b"Star", b"Sun"]),
-    Stereotypes(&[b"Mall", b"Moon"], &[b"Mall", b"Moon", b"Star", b"Sun"]),
     OfBeans(Beans(&[
         Told(b"Corner", b"", Scope::Request, b""),
         Told(b"Place", b"", Scope::Dependent, b""),
@@ -98,38 +87,7 @@ static QUESTIONS: [Question; 34] = [
         // Two stereotypes give two scopes.
         Told(b"Zoo", b"gate", Scope::Dependent, b""),
     ])),
-    OfBeans(Record(
-        b"Mill",
-        Recorded(&[b"Object"], &[b"Any", b"Default"], Scope::Dependent, true),
-    )),
     OfBeans(Choose(b"Flour", &[b"Rank(n=1)"], Answer::One(b"Mill"))),
-    OfBeans(Record(
-        b"Corner",
-        Recorded(
-            &[b"Corner", b"Object", b"Place", b"Shop", b"Stand", b"Stop"],
-            &[b"Any", b"Named", b"Rank"],
-            Scope::Request,
-            true,
-        ),
-    )),
-    OfBeans(Record(
-        b"Place",
-        Recorded(
-            &[b"Object", b"Shop", b"Stand"],
-            &[b"Any", b"Default", b"Named"],
-            Scope::Dependent,
-            true,
-        ),
-    )),
-    OfBeans(Record(
-        b"Inn",
-        Recorded(
-            &[b"Inn", b"Object"],
-            &[b"Any", b"Default"],
-            Scope::Request,
-            false,
-        ),
-    )),
     OfBeans(Choose(b"Shop", &[], Answer::One(b"Place"))),
     OfBeans(Choose(
         b"Stand",
@@ -144,61 +102,11 @@ static QUESTIONS: [Question; 34] = [
         Answer::Unsatisfied,
         Answer::Unsatisfied,
     ])),
-    // The product writes the member whose default is another.
-    OfBeans(Put(
-        b"kind=\"qualifier\"\nname=\"Rank\"\nmembers=[{name=\"n\",default=3},{name=\"m\"},{name=\"k\",default=7}]\n",
-        &[
-            Compared(b"Flour", true),
-            Compared(b"Corner", false),
-            Compared(b"Mill", true),
-        ],
-    )),
     OfChains(Around(b"run", &[b"G"])),
     // A binding of the method replaces the one of its type that the class has through another.
     OfChains(Around(b"fast", &[])),
     OfChains(Bound(b"fast", &[b"Audit", b"Log", b"Tx"])),
     OfChains(Observed(b"S", &[b"see"])),
-    OfChains(Touched(
-        b"kind=\"interceptor\"\nname=\"H\"\npriority=2\nbindings=[\"Log\"]\naround_invoke={body=\"pass\"}\n",
-        b"run",
-        true,
-    )),
-    OfChains(Touched(
-        b"kind=\"interceptor\"\nname=\"H\"\npriority=2\nbindings=[\"Other\"]\naround_invoke={body=\"pass\"}\n",
-        b"run",
-        false,
-    )),
-    OfSpecializing(Behind(&[b"Wide", b"Corner"])),
-    OfSpecializing(Replaced(&[b"Wide", b"Corner"])),
-    OfSpecializing(Own(
-        false,
-        Recorded(
-            &[b"Big", b"Corner", b"Object", b"Wide"],
-            &[b"Any", b"Named", b"Rank", b"Rank"],
-            Scope::Dependent,
-            true,
-        ),
-    )),
-    OfSpecializing(Own(
-        true,
-        Recorded(
-            &[b"Big", b"Corner", b"Object", b"Wide"],
-            &[b"Any", b"Named", b"Rank", b"Rank"],
-            Scope::Dependent,
-            false,
-        ),
-    )),
-    OfSpecializing(Reads(&[
-        ReadKey(Kind::Bean, b"Big"),
-        ReadKey(Kind::Bean, b"Wide"),
-        ReadKey(Kind::Bean, b"Corner"),
-        ReadKey(Kind::Type, b"Big"),
-        ReadKey(Kind::Type, b"Wide"),
-        ReadKey(Kind::Type, b"Corner"),
-        ReadKey(Kind::Type, b"Object"),
-        ReadKey(Kind::Stereotype, b"Mock"),
-        ReadKey(Kind::Stereotype, b"Model"),
-    ])),
 ];
 
 /// What the questions are about.
@@ -206,19 +114,13 @@ static QUESTIONS: [Question; 34] = [
 struct Asked {
     deployed: Deployed,
     audited: Decls,
-    specializing: Decls,
 }
 
 impl Asked {
     fn new(alloc: Global) -> Result<Asked, Error> {
         let deployed = Deployed::new(alloc, &TEXTS)?;
         let audited = declared(alloc, &AUDITED)?;
-        let specializing = declared(alloc, &SPECIALIZING)?;
-        Ok(Asked {
-            deployed,
-            audited,
-            specializing,
-        })
+        Ok(Asked { deployed, audited })
     }
 }
 
@@ -259,12 +161,8 @@ fn ask(alloc: Global, asked: &Asked, question: Question) -> Result<bool, Error> 
             Ok(is_type(alloc, decls, name(text)?, name(other)?)? == wanted)
         }
         Fill(text, wanted) => fills(alloc, decls, text, wanted),
-        Stereotypes(texts, wanted) => has_stereotypes(alloc, decls, texts, wanted),
         OfBeans(question) => has_answer(alloc, &asked.deployed, question),
         OfChains(question) => has_answer_of_chains(alloc, &asked.audited, question),
-        OfSpecializing(question) => {
-            has_answer_of_specializing(alloc, &asked.specializing, question)
-        }
     }
 }
 
@@ -282,17 +180,6 @@ fn fills(
     let qual = read_qualifier(alloc, text)?;
     let members = fill_members(alloc, decls, UseKind::Qualifier, &qual)?;
     Ok(are_members(&members, wanted))
-}
-
-fn has_stereotypes(
-    alloc: Global,
-    decls: &Decls,
-    texts: &[&[u8]],
-    wanted: &[&[u8]],
-) -> Result<bool, Error> {
-    let declared = names(alloc, texts)?;
-    let found = stereotypes(alloc, decls, declared.as_slice())?;
-    Ok(are_names(found.as_slice(), wanted))
 }
 
 /// Whether these are the members with their values.

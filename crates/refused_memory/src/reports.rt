@@ -39,42 +39,24 @@ enum Asking {
 
 /// What is asked, and what is known afterwards, where memory sufficed.
 #[derive(Clone, Copy)]
-struct Step {
-    asking: Asking,
-    known: usize,
-}
+struct Step(Asking, usize);
 
 /// Declarations ask for eleven answers: two choices, and chains at three places of each bean. An alternative touches the
 /// choice by `Shop` alone.
 static STEPS: [Step; 7] = [
-    Step {
-        asking: Report(1),
-        known: 11,
-    },
-    Step {
-        asking: Put(b"kind=\"stereotype\"\nname=\"Base\"\nalternative=true\n"),
-        known: 10,
-    },
-    Step {
-        asking: Choose(b"Shop"),
-        known: 11,
-    },
-    Step {
-        asking: Put(b"kind=\"stereotype\"\nname=\"Base\"\n"),
-        known: 10,
-    },
-    Step {
-        asking: Points(2),
-        known: 11,
-    },
-    Step {
-        asking: Put(b"kind=\"stereotype\"\nname=\"Base\"\nalternative=true\n"),
-        known: 10,
-    },
-    Step {
-        asking: LookUp(b"A"),
-        known: 11,
-    },
+    Step(Report(1), 11),
+    Step(
+        Put(b"kind=\"stereotype\"\nname=\"Base\"\nalternative=true\n"),
+        10,
+    ),
+    Step(Choose(b"Shop"), 11),
+    Step(Put(b"kind=\"stereotype\"\nname=\"Base\"\n"), 10),
+    Step(Points(2), 11),
+    Step(
+        Put(b"kind=\"stereotype\"\nname=\"Base\"\nalternative=true\n"),
+        10,
+    ),
+    Step(LookUp(b"A"), 11),
 ];
 
 /// The type of an injection point, and what is chosen for it.
@@ -156,12 +138,13 @@ fn is_left(asking: &Asking, before: WorkDone, after: WorkDone) -> bool {
 
 /// Makes a step, again if there was no memory for it, and says whether there was none.
 fn take<B: Bodies>(alloc: Global, container: &mut Container<B>, step: &Step) -> Option<bool> {
+    let Step(asking, known) = step;
     let before = container.work();
-    match make(alloc, container, &step.asking) {
-        Ok(right) if right && container.work().known == step.known => Some(false),
-        Err(Error::OutOfMemory) if is_left(&step.asking, before, container.work()) => {
-            match make(alloc, container, &step.asking) {
-                Ok(right) if right && container.work().known == step.known => Some(true),
+    match make(alloc, container, asking) {
+        Ok(right) if right && container.work().known == *known => Some(false),
+        Err(Error::OutOfMemory) if is_left(asking, before, container.work()) => {
+            match make(alloc, container, asking) {
+                Ok(right) if right && container.work().known == *known => Some(true),
                 _ => None,
             }
         }

@@ -30,11 +30,7 @@ pub type Reply = Result<Option<Outcome>, Error>;
 
 /// A call, what it answers, and the trace after it.
 #[derive(Clone, Copy)]
-pub struct Step {
-    pub asked: Asked,
-    pub reply: Reply,
-    pub trace: &'static [u8],
-}
+pub struct Step(pub Asked, pub Reply, pub &'static [u8]);
 
 /// How a step goes.
 enum Going {
@@ -198,14 +194,15 @@ fn repeats<B: Bodies>(
     container: &mut Container<B>,
     step: &Step,
 ) -> Result<bool, AllocError> {
-    let reply = make(alloc, container, &step.asked);
-    Ok(reply == step.reply && shows(alloc, container, step.trace)?)
+    let Step(asked, wanted, trace) = step;
+    let reply = make(alloc, container, asked);
+    Ok(reply == *wanted && shows(alloc, container, trace)?)
 }
 
 /// How a step goes that has no memory for its call. An edit and the end of contexts change nothing then. After any other
 /// call nothing is live, and the numbers of instances go on, so the steps end there.
 fn refused<B: Bodies>(alloc: Global, container: &mut Container<B>, step: &Step) -> Going {
-    let is_right = match step.asked {
+    let is_right = match step.0 {
         Put(_) | PutDecl(_) | Batch(_) | Remove(_) | End | Stop => {
             repeats(alloc, container, step) == Ok(true)
         }
@@ -219,11 +216,11 @@ fn refused<B: Bodies>(alloc: Global, container: &mut Container<B>, step: &Step) 
 }
 
 /// How a step goes whose call is right. Where there is no memory for the trace's text, the text is asked for again.
-fn shown<B: Bodies>(alloc: Global, container: &Container<B>, step: &Step) -> Going {
-    match shows(alloc, container, step.trace) {
+fn shown<B: Bodies>(alloc: Global, container: &Container<B>, trace: &[u8]) -> Going {
+    match shows(alloc, container, trace) {
         Ok(true) => Going::Right,
         Ok(false) => Going::Wrong,
-        Err(_) => match shows(alloc, container, step.trace) {
+        Err(_) => match shows(alloc, container, trace) {
             Ok(true) => Going::Refused,
             _ => Going::Wrong,
         },
@@ -231,12 +228,13 @@ fn shown<B: Bodies>(alloc: Global, container: &Container<B>, step: &Step) -> Goi
 }
 
 fn take<B: Bodies>(alloc: Global, container: &mut Container<B>, step: &Step) -> Going {
-    let reply = make(alloc, container, &step.asked);
+    let Step(asked, wanted, trace) = step;
+    let reply = make(alloc, container, asked);
     if reply == Err(Error::OutOfMemory) {
         return refused(alloc, container, step);
     }
-    if reply == step.reply {
-        shown(alloc, container, step)
+    if reply == *wanted {
+        shown(alloc, container, trace)
     } else {
         Going::Wrong
     }

@@ -54,10 +54,10 @@ pre={body="count"}
 
 /// Steps in which edits, the ends of contexts and interceptors with state and points make and destroy instances.
 pub static STEPS: [Step; 21] = [
-    Step {
-        asked: LookUp(b"A"),
-        reply: NULL,
-        trace: b"  create A#1
+    Step(
+        LookUp(b"A"),
+        NULL,
+        b"  create A#1
   create D#2
   enter D#2 post arg null
   leave null
@@ -68,11 +68,11 @@ pub static STEPS: [Step; 21] = [
   gone D#2
   gone A#1
 ",
-    },
-    Step {
-        asked: Call(b"run", Int(7), b"S"),
-        reply: Ok(Some(Value(Int(7)))),
-        trace: b"  create S#3
+    ),
+    Step(
+        Call(b"run", Int(7), b"S"),
+        Ok(Some(Value(Int(7)))),
+        b"  create S#3
   create D#4
   enter D#4 post arg null
   leave null
@@ -97,40 +97,24 @@ pub static STEPS: [Step; 21] = [
   got 7
   leave 7
 ",
-    },
-    Step {
-        asked: Begin,
-        reply: DONE,
-        trace: b"",
-    },
-    Step {
-        asked: Call(b"run", Int(8), b"R"),
-        reply: Ok(Some(Value(Int(8)))),
-        trace: b"  create R#6
+    ),
+    Step(Begin, DONE, b""),
+    Step(
+        Call(b"run", Int(8), b"R"),
+        Ok(Some(Value(Int(8)))),
+        b"  create R#6
   ready R#6
   enter R#6 method run arg 8
   leave 8
 ",
-    },
-    Step {
-        asked: End,
-        reply: DONE,
-        trace: b"  destroy R#6\n  gone R#6\n",
-    },
-    Step {
-        asked: Begin,
-        reply: DONE,
-        trace: b"",
-    },
-    Step {
-        asked: LookUp(b"R"),
-        reply: NULL,
-        trace: b"  create R#7\n  ready R#7\n",
-    },
-    Step {
-        asked: Batch(PUTS),
-        reply: DONE,
-        trace: b"  destroy R#7
+    ),
+    Step(End, DONE, b"  destroy R#6\n  gone R#6\n"),
+    Step(Begin, DONE, b""),
+    Step(LookUp(b"R"), NULL, b"  create R#7\n  ready R#7\n"),
+    Step(
+        Batch(PUTS),
+        DONE,
+        b"  destroy R#7
   gone R#7
   destroy S#3
   enter S#3 pre by I arg null
@@ -143,16 +127,12 @@ pub static STEPS: [Step; 21] = [
   gone D#4
   gone S#3
 ",
-    },
-    Step {
-        asked: LookUp(b"R"),
-        reply: NOT_ACTIVE,
-        trace: b"",
-    },
-    Step {
-        asked: Fire(Int(5), b"R"),
-        reply: NULL,
-        trace: b"  create A#8
+    ),
+    Step(LookUp(b"R"), NOT_ACTIVE, b""),
+    Step(
+        Fire(Int(5), b"R"),
+        NULL,
+        b"  create A#8
   create D#9
   enter D#9 post arg null
   leave null
@@ -171,11 +151,11 @@ pub static STEPS: [Step; 21] = [
   gone D#9
   gone A#8
 ",
-    },
-    Step {
-        asked: Call(b"run", Int(9), b"S"),
-        reply: Ok(Some(Value(Int(9)))),
-        trace: b"  create S#11
+    ),
+    Step(
+        Call(b"run", Int(9), b"S"),
+        Ok(Some(Value(Int(9)))),
+        b"  create S#11
   create D#12
   enter D#12 post arg null
   leave null
@@ -200,11 +180,11 @@ pub static STEPS: [Step; 21] = [
   got 9
   leave 9
 ",
-    },
-    Step {
-        asked: Stop,
-        reply: DONE,
-        trace: b"  destroy S#11
+    ),
+    Step(
+        Stop,
+        DONE,
+        b"  destroy S#11
   enter S#11 pre by I arg null
   load 1
   store 2
@@ -215,16 +195,12 @@ pub static STEPS: [Step; 21] = [
   gone D#12
   gone S#11
 ",
-    },
-    Step {
-        asked: Begin,
-        reply: DONE,
-        trace: b"",
-    },
-    Step {
-        asked: Call(b"run", Int(4), b"S"),
-        reply: Ok(Some(Value(Int(4)))),
-        trace: b"  create S#14
+    ),
+    Step(Begin, DONE, b""),
+    Step(
+        Call(b"run", Int(4), b"S"),
+        Ok(Some(Value(Int(4)))),
+        b"  create S#14
   create D#15
   enter D#15 post arg null
   leave null
@@ -249,16 +225,12 @@ pub static STEPS: [Step; 21] = [
   got 4
   leave 4
 ",
-    },
-    Step {
-        asked: LookUp(b"R"),
-        reply: NULL,
-        trace: b"  create R#17\n  ready R#17\n",
-    },
-    Step {
-        asked: Remove(b"E"),
-        reply: DONE,
-        trace: b"  destroy R#17
+    ),
+    Step(LookUp(b"R"), NULL, b"  create R#17\n  ready R#17\n"),
+    Step(
+        Remove(b"E"),
+        DONE,
+        b"  destroy R#17
   gone R#17
   destroy S#14
   enter S#14 pre by I arg null
@@ -271,27 +243,15 @@ pub static STEPS: [Step; 21] = [
   gone D#15
   gone S#14
 ",
-    },
+    ),
     // Where nothing was asked since the last edit, nothing ends.
-    Step {
-        asked: Put(b"kind=\"type\"\nname=\"E\"\n"),
-        reply: DONE,
-        trace: b"",
-    },
-    Step {
-        asked: PutDecl(b"kind=\"type\"\nname=\"E\"\n"),
-        reply: DONE,
-        trace: b"",
-    },
-    Step {
-        asked: Remove(b"E"),
-        reply: DONE,
-        trace: b"",
-    },
-    Step {
-        asked: Fire(Int(5), b"R"),
-        reply: NULL,
-        trace: b"  create A#18
+    Step(Put(b"kind=\"type\"\nname=\"E\"\n"), DONE, b""),
+    Step(PutDecl(b"kind=\"type\"\nname=\"E\"\n"), DONE, b""),
+    Step(Remove(b"E"), DONE, b""),
+    Step(
+        Fire(Int(5), b"R"),
+        NULL,
+        b"  create A#18
   create D#19
   enter D#19 post arg null
   leave null
@@ -310,12 +270,12 @@ pub static STEPS: [Step; 21] = [
   gone D#19
   gone A#18
 ",
-    },
+    ),
     // Whom the same event notifies is known by now.
-    Step {
-        asked: Fire(Int(6), b"R"),
-        reply: NULL,
-        trace: b"  create A#21
+    Step(
+        Fire(Int(6), b"R"),
+        NULL,
+        b"  create A#21
   create D#22
   enter D#22 post arg null
   leave null
@@ -334,7 +294,7 @@ pub static STEPS: [Step; 21] = [
   gone D#22
   gone A#21
 ",
-    },
+    ),
 ];
 
 /// A dependent bean, whose point holds another one that has a callback, a bean of the request, and one of the application with
@@ -357,10 +317,10 @@ observers=[{name="see",type="D",body="echo"}]
 
 /// Steps of which some are refused or fail: for want of a request, for a second one, and for what they name.
 pub static FURTHER_STEPS: [Step; 19] = [
-    Step {
-        asked: LookUp(b"A"),
-        reply: NULL,
-        trace: b"  create A#1
+    Step(
+        LookUp(b"A"),
+        NULL,
+        b"  create A#1
   create D#2
   enter D#2 post arg null
   leave null
@@ -371,11 +331,11 @@ pub static FURTHER_STEPS: [Step; 19] = [
   gone D#2
   gone A#1
 ",
-    },
-    Step {
-        asked: Call(b"run", Int(1), b"A"),
-        reply: Ok(Some(Value(Int(1)))),
-        trace: b"  create A#3
+    ),
+    Step(
+        Call(b"run", Int(1), b"A"),
+        Ok(Some(Value(Int(1)))),
+        b"  create A#3
   create D#4
   enter D#4 post arg null
   leave null
@@ -388,98 +348,46 @@ pub static FURTHER_STEPS: [Step; 19] = [
   gone D#4
   gone A#3
 ",
-    },
-    Step {
-        asked: Call(b"run", Int(1), b"R"),
-        reply: NOT_ACTIVE,
-        trace: b"",
-    },
-    Step {
-        asked: End,
-        reply: Err(Refused(Refusal::NoRequest)),
-        trace: b"",
-    },
-    Step {
-        asked: Begin,
-        reply: DONE,
-        trace: b"",
-    },
-    Step {
-        asked: Call(b"run", Int(-5), b"R"),
-        reply: Ok(Some(Value(Int(-5)))),
-        trace: b"  create R#5
+    ),
+    Step(Call(b"run", Int(1), b"R"), NOT_ACTIVE, b""),
+    Step(End, Err(Refused(Refusal::NoRequest)), b""),
+    Step(Begin, DONE, b""),
+    Step(
+        Call(b"run", Int(-5), b"R"),
+        Ok(Some(Value(Int(-5)))),
+        b"  create R#5
   ready R#5
   enter R#5 method run arg -5
   leave -5
 ",
-    },
-    Step {
-        asked: Begin,
-        reply: Err(Refused(Refusal::RequestActive)),
-        trace: b"",
-    },
-    Step {
-        asked: Call(b"run", Null, b"S"),
-        reply: NULL,
-        trace: b"  create S#6
+    ),
+    Step(Begin, Err(Refused(Refusal::RequestActive)), b""),
+    Step(
+        Call(b"run", Null, b"S"),
+        NULL,
+        b"  create S#6
   ready S#6
   enter S#6 method run arg null
   leave null
 ",
-    },
-    Step {
-        asked: LookUp(b"S"),
-        reply: NULL,
-        trace: b"",
-    },
-    Step {
-        asked: Fire(Int(3), b"D"),
-        reply: NULL,
-        trace: b"  enter S#6 observer see arg 3\n  leave 3\n",
-    },
-    Step {
-        asked: Fire(Int(3), b"A"),
-        reply: NULL,
-        trace: b"",
-    },
-    Step {
-        asked: Fire(Int(3), b"Z"),
-        reply: Err(Refused(Refusal::UnknownName)),
-        trace: b"",
-    },
-    Step {
-        asked: Call(b"go", Null, b"S"),
-        reply: Err(Refused(Refusal::NoMethod)),
-        trace: b"",
-    },
-    Step {
-        asked: LookUp(b"Z"),
-        reply: Err(Refused(Refusal::UnknownName)),
-        trace: b"",
-    },
-    Step {
-        asked: LookUp(b"Object"),
-        reply: Err(Refused(Refusal::Ambiguous)),
-        trace: b"",
-    },
-    Step {
-        asked: End,
-        reply: DONE,
-        trace: b"  destroy R#5\n  gone R#5\n",
-    },
-    Step {
-        asked: LookUp(b"R"),
-        reply: NOT_ACTIVE,
-        trace: b"",
-    },
-    Step {
-        asked: Stop,
-        reply: DONE,
-        trace: b"  destroy S#6\n  gone S#6\n",
-    },
-    Step {
-        asked: Stop,
-        reply: DONE,
-        trace: b"",
-    },
+    ),
+    Step(LookUp(b"S"), NULL, b""),
+    Step(
+        Fire(Int(3), b"D"),
+        NULL,
+        b"  enter S#6 observer see arg 3\n  leave 3\n",
+    ),
+    Step(Fire(Int(3), b"A"), NULL, b""),
+    Step(Fire(Int(3), b"Z"), Err(Refused(Refusal::UnknownName)), b""),
+    Step(
+        Call(b"go", Null, b"S"),
+        Err(Refused(Refusal::NoMethod)),
+        b"",
+    ),
+    Step(LookUp(b"Z"), Err(Refused(Refusal::UnknownName)), b""),
+    Step(LookUp(b"Object"), Err(Refused(Refusal::Ambiguous)), b""),
+    Step(End, DONE, b"  destroy R#5\n  gone R#5\n"),
+    Step(LookUp(b"R"), NOT_ACTIVE, b""),
+    Step(Stop, DONE, b"  destroy S#6\n  gone S#6\n"),
+    Step(Stop, DONE, b""),
 ];

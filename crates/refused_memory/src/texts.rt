@@ -1,17 +1,6 @@
 //! Names that texts are.
 use cdi_container::ObserverId;
-use cdi_fixtures::name;
-use cdi_model::{Error, Name};
-use std::alloc::Global;
-
-/// The names that texts are.
-pub fn names(alloc: Global, texts: &[&[u8]]) -> Result<Vec<Name>, Error> {
-    let mut names = Vec::new(alloc);
-    for text in texts {
-        names.push(name(text)?)?;
-    }
-    Ok(names)
-}
+use cdi_model::Name;
 
 /// Whether these are the names, in this order.
 pub fn are_names(found: &[Name], wanted: &[&[u8]]) -> bool {

@@ -1,5 +1,5 @@
 //! Command lines of `container_check`.
-use cdi_checker::run;
+use cdi_assembly::run_check;
 use cdi_command_line::{Ending, status_of};
 use std::alloc::{AllocError, Global};
 use std::{fs, io};
@@ -28,7 +28,7 @@ fn run_case(rt: &HostRuntime, line: &str) -> io::Result<()> {
 
 fn check(rt: &HostRuntime, line: &str) -> Result<u8, Ending> {
     let words = words_of(rt.alloc(), line)?;
-    run(rt, words.as_slice())
+    run_check(rt, words.as_slice())
 }
 
 /// The words of a line, with the program's name first.

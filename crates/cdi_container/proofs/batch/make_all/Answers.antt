@@ -1,7 +1,5 @@
-use Rattle.std.proofs.Common.{◌≡◌, ◌+◌, ◌∷◌, ◌∙◌, length, ap, subst, sym, arith}
-use Rattle.std.specs.Vec.Iter.{into_iter_items}
-use Rattle.cdi_container.specs.Editing.{asked_by, changes_of_all, drafted_all, first_refusal}
-use Rattle.cdi_container.specs.Seen.{SaysReason, refused_at}
+use Rattle.cdi_container.proofs.Common.{◌≡◌, subst, sym, ◌∷◌, length, ap, ◌∙◌, ◌+◌, asked_by, changes_of_all, drafted_all, first_refusal}
+use Rattle.cdi_container.proofs.Common.{SaysReason, refused_at, arith, into_iter_items}
 use Rattle.cdi_container.proofs.BatchLemmas.{first_accepted, first_refused, left_by_first}
 use Rattle.cdi_container.proofs.batch.make_all.Goals as goal
 

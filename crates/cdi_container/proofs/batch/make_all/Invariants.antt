@@ -1,7 +1,5 @@
-use Rattle.std.proofs.Common.{◌≡◌, ◌+◌, length}
-use Rattle.std.specs.Vec.Iter.{into_iter_items, into_iter_len}
-use Rattle.cdi_model.specs.Short.{AreShort}
-use Rattle.cdi_container.specs.Editing.{asked_by, changes_of_all, drafted_all, first_refusal}
+use Rattle.cdi_container.proofs.Common.{◌≡◌, length, ◌+◌, asked_by, changes_of_all, drafted_all, first_refusal, AreShort, into_iter_items}
+use Rattle.std.specs.Vec.Iter.{into_iter_len}
 use Rattle.cdi_container.proofs.batch.make_all.Given as goal
 
 abbrev pub invariant-loop-edit : goal.invariant-loop-edit

@@ -1,6 +1,4 @@
-use Rattle.std.proofs.Common.{subst, sym}
-use Rattle.cdi_live.specs.State.{knows}
-use Rattle.cdi_report.specs.Settled.{AreSettled}
+use Rattle.cdi_container.proofs.Common.{subst, sym, knows, AreSettled}
 use Rattle.cdi_container.proofs.KeepingLemmas.{settled_committed}
 use Rattle.cdi_container.proofs.edited.take_over.Goals as goal
 

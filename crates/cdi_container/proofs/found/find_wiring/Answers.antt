@@ -1,10 +1,7 @@
-use Rattle.std.proofs.Common.{◌≡◌, length, refl, sym, subst, ap, ◌∙◌}
-use Rattle.cdi_live.specs.State.{kept_in}
-use Rattle.cdi_observe.specs.Kept.{EvaluatesSome}
+use Rattle.cdi_container.proofs.Common.{refl, subst, sym, length, ap, ◌∙◌, kept_in, EvaluatesSome, faults, where_err}
 use Rattle.cdi_observe.specs.Lending.{IsEvaluated}
-use Rattle.cdi_observe.proofs.KeptLemmas.{evaluates_all, where_err}
+use Rattle.cdi_observe.proofs.KeptLemmas.{evaluates_all}
 use Rattle.cdi_observe.proofs.LendingLemmas.{evaluated-all}
-use Rattle.cdi_validate.specs.Faults.{faults}
 use Rattle.cdi_container.proofs.found.find_wiring.Goals as goal
 
 pub report-requires-clause-keeps : goal.report-requires-clause-keeps

@@ -1,5 +1,4 @@
-use Rattle.std.proofs.Common.{sym, ◌∙◌}
-use Rattle.cdi_staging.specs.Staged.{scene_of}
+use Rattle.cdi_container.proofs.Common.{sym, scene_of, ◌∙◌}
 use Rattle.cdi_container.proofs.Ending.{ends_nothing, is_closed}
 use Rattle.cdi_container.proofs.instances.end_both.Goals as goal
 

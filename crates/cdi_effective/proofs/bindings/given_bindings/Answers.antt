@@ -1,11 +1,6 @@
-use Rattle.std.proofs.Common.{List, ◌++◌, ap, ◌∙◌, arith, flat_map}
-use Rattle.std.specs.Borrow.{Bor}
-use Rattle.std.specs.Option.{option_to_list}
-use Rattle.std.proofs.lemmas.Grind.{common_steps}
-use Rattle.cdi_model.specs.declared.quals.Qual.{Qual}
-use Rattle.cdi_match.specs.Bindings.{uses_in}
-use Rattle.cdi_match.specs.Stereotypes.{find_stereotype}
-use Rattle.cdi_effective.specs.Bindings.{stereotype_bindings}
+use Rattle.cdi_effective.proofs.Common.{List, ap, ◌∙◌, Bor, option_to_list, find_stereotype, Qual, uses_in, stereotype_bindings, arith}
+use Rattle.cdi_effective.proofs.Common.{◌++◌, common_steps}
+use Rattle.std.proofs.Common.{flat_map}
 use Rattle.cdi_effective.proofs.BindingLemmas.{given_by_stereotypes}
 use Rattle.cdi_effective.proofs.bindings.given_bindings.Goals as goal
 

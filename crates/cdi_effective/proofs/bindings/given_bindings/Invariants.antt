@@ -1,8 +1,5 @@
-use Rattle.std.proofs.Common.{◌≡◌, ◌++◌, flat_map}
-use Rattle.std.specs.Option.{option_to_list}
-use Rattle.cdi_match.specs.Bindings.{uses_in}
-use Rattle.cdi_match.specs.Stereotypes.{find_stereotype, stereotype_decls}
-use Rattle.cdi_effective.specs.Bindings.{stereotype_bindings}
+use Rattle.cdi_effective.proofs.Common.{◌≡◌, option_to_list, find_stereotype, stereotype_decls, uses_in, stereotype_bindings, ◌++◌}
+use Rattle.std.proofs.Common.{flat_map}
 use Rattle.cdi_effective.proofs.bindings.given_bindings.Given as goal
 
 abbrev pub invariant-loop-name : goal.invariant-loop-name

@@ -1,7 +1,5 @@
-use Rattle.std.proofs.Common.{◌≡◌, ◌∙◌, ap, sym, length, arith}
+use Rattle.cdi_effective.proofs.Common.{◌≡◌, length, sym, ap, ◌∙◌, uses_in, in_place_of, arith}
 use Rattle.std.proofs.lemmas.List.{nil_from_length}
-use Rattle.cdi_match.specs.Bindings.{uses_in}
-use Rattle.cdi_effective.specs.Bindings.{in_place_of}
 use Rattle.cdi_effective.proofs.BindingLemmas.{none_replaced}
 use Rattle.cdi_effective.proofs.bindings.in_place_of.Goals as goal
 

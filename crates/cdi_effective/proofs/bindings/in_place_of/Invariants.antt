@@ -1,7 +1,4 @@
-use Rattle.std.proofs.Common.{◌≡◌, ◌++◌, not, filter}
-use Rattle.cdi_match.specs.Bindings.{uses_in}
-use Rattle.cdi_effective.specs.Bindings.{in_place_of}
-use Rattle.cdi_effective.specs.Qualifiers.{uses_one}
+use Rattle.cdi_effective.proofs.Common.{◌≡◌, uses_in, in_place_of, uses_one, ◌++◌, not, filter}
 use Rattle.cdi_effective.proofs.bindings.in_place_of.Given as goal
 
 abbrev pub invariant-loop-binding : goal.invariant-loop-binding

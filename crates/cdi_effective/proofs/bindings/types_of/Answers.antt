@@ -1,7 +1,4 @@
-use Rattle.std.proofs.Common.{true, cond, ap, ◌∙◌}
-use Rattle.std.specs.BTreeSet.{contains}
-use Rattle.cdi_model.specs.Bytes.{byte_order}
-use Rattle.cdi_match.proofs.Names.{at_name}
+use Rattle.cdi_effective.proofs.Common.{true, cond, ap, ◌∙◌, byte_order, contains, at_name}
 use Rattle.cdi_effective.proofs.BindingLemmas.{type-next}
 use Rattle.cdi_effective.proofs.bindings.types_of.Goals as goal
 

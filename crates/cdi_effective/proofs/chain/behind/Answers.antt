@@ -1,16 +1,7 @@
-use Rattle.std.proofs.Common.{◌≡◌, ◌-◌, ◌+◌, ◌∷◌, [], ◌++◌, ◌||◌, ℕ, List, true, false, cond, suc, ap, sym, ◌∙◌, arith}
+use Rattle.cdi_effective.proofs.Common.{◌≡◌, ◌+◌, ℕ, true, false, cond, ◌||◌, List, [], ◌∷◌, sym, ap, ◌∙◌, Bor, suc, arith, limit, BeanDecl}
+use Rattle.cdi_effective.proofs.Common.{has, chain_behind, behind, ◌++◌, byte_order, map-append, contains, at_name, ◌-◌, beans_in}
 use Rattle.std.specs.BTreeMap.{is_at}
-use Rattle.std.specs.BTreeSet.{contains}
-use Rattle.std.specs.Borrow.{Bor}
 use Rattle.std.proofs.lemmas.Bool.{not-true, not-false}
-use Rattle.std.proofs.lemmas.List.{map-append}
-use Rattle.cdi_model.specs.Bytes.{byte_order}
-use Rattle.cdi_model.specs.DeclList.{limit}
-use Rattle.cdi_model.specs.declared.decl.BeanDecl.{BeanDecl}
-use Rattle.cdi_match.specs.Chain.{has}
-use Rattle.cdi_match.proofs.Names.{at_name}
-use Rattle.cdi_effective.specs.Lent.{beans_in}
-use Rattle.cdi_effective.specs.Specialized.{behind, chain_behind}
 use Rattle.cdi_effective.proofs.StepLemmas.{all-behind, either, ended, ends-met, ends-none, no-steps, none-behind, one-more}
 use Rattle.cdi_effective.proofs.chain.behind.Goals as goal
 

@@ -1,6 +1,4 @@
-use Rattle.std.proofs.Common.{◌≡◌, ◌++◌, drop}
-use Rattle.cdi_effective.specs.Lent.{beans_in}
-use Rattle.cdi_effective.specs.Specialized.{class_names}
+use Rattle.cdi_effective.proofs.Common.{◌≡◌, drop, class_names, ◌++◌, beans_in}
 use Rattle.cdi_effective.proofs.chain.class_names.Given as goal
 
 abbrev pub invariant-loop-bean : goal.invariant-loop-bean

@@ -1,5 +1,4 @@
-use Rattle.std.proofs.Common.{◌≡◌, ◌++◌, map}
-use Rattle.cdi_effective.specs.Places.{link_of}
+use Rattle.cdi_effective.proofs.Common.{◌≡◌, ◌++◌, map, link_of}
 use Rattle.cdi_effective.proofs.chains.links_of.Given as goal
 
 abbrev pub invariant-loop-decl : goal.invariant-loop-decl

@@ -1,5 +1,4 @@
-use Rattle.std.proofs.Common.{◌≡◌, ◌<◌, ◌||◌, ℕ, false, nat_eq, length, get_or}
-use Rattle.std.specs.List.{AllByRecursion, list_any}
+use Rattle.cdi_effective.proofs.Common.{◌≡◌, ◌<◌, ℕ, false, ◌||◌, length, get_or, AllByRecursion, list_any, nat_eq}
 use Rattle.cdi_effective.proofs.chains.mark_all.Given as goal
 
 abbrev pub invariant-loop-place : goal.invariant-loop-place

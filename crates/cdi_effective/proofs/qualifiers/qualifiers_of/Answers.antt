@@ -1,8 +1,4 @@
-use Rattle.std.proofs.Common.{◌≡◌, [], length, ap, sym, ◌∙◌, arith}
-use Rattle.std.proofs.lemmas.Grind.{common_steps}
-use Rattle.std.proofs.lemmas.Result.{IfOk-weaker}
-use Rattle.cdi_match.specs.Bindings.{uses_in}
-use Rattle.cdi_effective.specs.Qualifiers.{qualifiers_of}
+use Rattle.cdi_effective.proofs.Common.{◌≡◌, [], length, sym, ap, ◌∙◌, uses_in, arith, common_steps, qualifiers_of, IfOk-weaker}
 use Rattle.cdi_effective.proofs.QualifierLemmas.{built-in-order, empty}
 use Rattle.cdi_effective.proofs.qualifiers.qualifiers_of.Goals as goal
 

@@ -1,6 +1,4 @@
-use Rattle.std.proofs.Common.{◌≡◌, ◌++◌, drop}
-use Rattle.cdi_match.specs.Bindings.{uses_in}
-use Rattle.cdi_effective.specs.Qualifiers.{built_in_of}
+use Rattle.cdi_effective.proofs.Common.{◌≡◌, drop, uses_in, ◌++◌, built_in_of}
 use Rattle.cdi_effective.proofs.qualifiers.qualifiers_of.Given as goal
 
 abbrev pub invariant-loop-qual : goal.invariant-loop-qual

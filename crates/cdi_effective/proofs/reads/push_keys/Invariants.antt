@@ -1,5 +1,4 @@
-use Rattle.std.proofs.Common.{◌≡◌, ◌++◌, drop, map}
-use Rattle.cdi_model.specs.DeclKey.{key_at}
+use Rattle.cdi_effective.proofs.Common.{◌≡◌, drop, key_at, ◌++◌, map}
 use Rattle.cdi_effective.proofs.reads.push_keys.Given as goal
 
 abbrev pub invariant-loop-name : goal.invariant-loop-name

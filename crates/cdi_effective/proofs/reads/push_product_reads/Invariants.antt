@@ -1,5 +1,4 @@
-use Rattle.std.proofs.Common.{◌≡◌, ◌++◌, drop}
-use Rattle.cdi_effective.specs.Reads.{product_reads}
+use Rattle.cdi_effective.proofs.Common.{◌≡◌, drop, ◌++◌, product_reads}
 use Rattle.cdi_effective.proofs.reads.push_product_reads.Given as goal
 
 abbrev pub invariant-loop-producer : goal.invariant-loop-producer

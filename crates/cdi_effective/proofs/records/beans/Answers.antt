@@ -1,5 +1,4 @@
-use Rattle.std.proofs.Common.{Some, ap, ◌∙◌}
-use Rattle.cdi_effective.specs.Beans.{beans}
+use Rattle.cdi_effective.proofs.Common.{ap, ◌∙◌, Some, beans}
 use Rattle.cdi_effective.proofs.MarkLemmas.{drop-there, listed-more, listed-same, one-dropped}
 use Rattle.cdi_effective.proofs.PlaceLemmas.{own-place}
 use Rattle.cdi_effective.proofs.OrderLemmas.{types_stand_in_order}

@@ -1,4 +1,4 @@
-use Rattle.std.proofs.Common.{◌≡◌, ◌++◌, drop}
+use Rattle.cdi_effective.proofs.Common.{◌≡◌, drop, ◌++◌}
 use Rattle.cdi_effective.proofs.records.names.Given as goal
 
 abbrev pub invariant-loop-name : goal.invariant-loop-name

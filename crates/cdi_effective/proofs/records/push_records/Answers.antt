@@ -1,5 +1,4 @@
-use Rattle.std.proofs.Common.{rules, ap, ◌∙◌, ◌++◌, map}
-use Rattle.cdi_effective.specs.Beans.{product_of}
+use Rattle.cdi_effective.proofs.Common.{ap, ◌∙◌, ◌++◌, map, product_of, rules}
 use Rattle.cdi_effective.proofs.ProductLemmas.{managed_pushed}
 use Rattle.cdi_effective.proofs.records.push_records.Goals as goal
 

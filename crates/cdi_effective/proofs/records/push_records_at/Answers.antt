@@ -1,5 +1,4 @@
-use Rattle.std.proofs.Common.{ap, ◌∙◌}
-use Rattle.cdi_effective.specs.Disposers.{find_bean}
+use Rattle.cdi_effective.proofs.Common.{ap, ◌∙◌, find_bean}
 use Rattle.cdi_effective.proofs.PlaceLemmas.{place-found}
 use Rattle.cdi_effective.proofs.records.push_records_at.Goals as goal
 

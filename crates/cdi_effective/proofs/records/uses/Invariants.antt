@@ -1,4 +1,4 @@
-use Rattle.std.proofs.Common.{◌≡◌, ◌++◌, drop}
+use Rattle.cdi_effective.proofs.Common.{◌≡◌, drop, ◌++◌}
 use Rattle.cdi_effective.proofs.records.uses.Given as goal
 
 abbrev pub invariant-loop-qual : goal.invariant-loop-qual

@@ -1,7 +1,4 @@
-use Rattle.std.proofs.Common.{ap, sym, ◌∙◌}
-use Rattle.std.proofs.lemmas.Result.{IfOk-weaker}
-use Rattle.cdi_effective.specs.Lent.{beans_in}
-use Rattle.cdi_effective.specs.Specialized.{class_names}
+use Rattle.cdi_effective.proofs.Common.{sym, ap, ◌∙◌, class_names, beans_in, IfOk-weaker}
 use Rattle.cdi_effective.proofs.StepLemmas.{is-offered, none-offered, none-specialized}
 use Rattle.cdi_effective.proofs.replaced.replaced_by_bean.Goals as goal
 

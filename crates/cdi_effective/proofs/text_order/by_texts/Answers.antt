@@ -1,14 +1,5 @@
-use Rattle.std.proofs.Common.{◌≡◌, Bool, ℕ, List, ap, ◌∙◌, rules}
-use Rattle.std.specs.Cmp.Lexicographic.{nat_list_cmp_total}
-use Rattle.std.specs.Ordering.{is_lt}
-use Rattle.std.proofs.lemmas.Fn.{always_returns_same}
-use Rattle.std.proofs.lemmas.List.Sorted.{ranks_by}
-use Rattle.std.proofs.lemmas.Result.{IfOk-weaker}
-use Rattle.cdi_model.specs.Bytes.{byte_order}
-use Rattle.cdi_model.specs.declared.quals.Qual.{Qual}
-use Rattle.cdi_effective.specs.TextOrder.{is_before_in_text}
-use Rattle.cdi_effective.specs.TextOrder.{written_in}
-use Rattle.cdi_effective.specs.Sorting.{sorted_by}
+use Rattle.cdi_effective.proofs.Common.{◌≡◌, ℕ, Bool, List, ap, ◌∙◌, Qual, nat_list_cmp_total, is_lt, ranks_by, byte_order, sorted_by}
+use Rattle.cdi_effective.proofs.Common.{is_before_in_text, rules, IfOk-weaker, always_returns_same, written_in}
 use Rattle.cdi_effective.specs.declared.written.Written.{Written}
 use Rattle.cdi_effective.proofs.SortLemmas.{sorted_from_sort, sorted_map}
 use Rattle.cdi_effective.proofs.text_order.by_texts.Goals as goal

@@ -1,5 +1,4 @@
-use Rattle.std.proofs.Common.{◌≡◌, ◌++◌, drop}
-use Rattle.cdi_match.specs.Bindings.{uses_in}
+use Rattle.cdi_effective.proofs.Common.{◌≡◌, drop, uses_in, ◌++◌}
 use Rattle.cdi_effective.proofs.text_order.copies.Given as goal
 
 abbrev pub invariant-loop-binding : goal.invariant-loop-binding

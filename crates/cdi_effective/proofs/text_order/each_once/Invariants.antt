@@ -1,6 +1,4 @@
-use Rattle.std.proofs.Common.{◌≡◌, drop, fold}
-use Rattle.cdi_match.specs.Bindings.{uses_in}
-use Rattle.cdi_effective.specs.TextOrder.{each_once, with_use}
+use Rattle.cdi_effective.proofs.Common.{◌≡◌, drop, uses_in, fold, each_once, with_use}
 use Rattle.cdi_effective.proofs.text_order.each_once.Given as goal
 
 abbrev pub invariant-loop-binding : goal.invariant-loop-binding

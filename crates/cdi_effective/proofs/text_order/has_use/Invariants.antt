@@ -1,6 +1,4 @@
-use Rattle.std.proofs.Common.{◌≡◌, drop}
-use Rattle.cdi_match.specs.Bindings.{uses_in}
-use Rattle.cdi_effective.specs.TextOrder.{has_use}
+use Rattle.cdi_effective.proofs.Common.{◌≡◌, drop, uses_in, has_use}
 use Rattle.cdi_effective.proofs.text_order.has_use.Given as goal
 
 abbrev pub invariant-loop-other : goal.invariant-loop-other

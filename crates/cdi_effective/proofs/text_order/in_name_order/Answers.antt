@@ -1,13 +1,5 @@
-use Rattle.std.proofs.Common.{◌≡◌, Bool, List, ap, ◌∙◌, rules}
-use Rattle.std.specs.Borrow.{Bor}
-use Rattle.std.specs.Cmp.Lexicographic.{nat_list_cmp_total}
-use Rattle.std.specs.Ordering.{is_lt}
-use Rattle.std.proofs.lemmas.Fn.{always_returns_same}
-use Rattle.std.proofs.lemmas.List.Sorted.{ranks_by}
-use Rattle.cdi_model.specs.declared.quals.Qual.{Qual}
-use Rattle.cdi_match.specs.Bindings.{uses_in}
-use Rattle.cdi_effective.specs.Sorting.{sorted_by}
-use Rattle.cdi_effective.specs.TextOrder.{is_before_in_name}
+use Rattle.cdi_effective.proofs.Common.{◌≡◌, Bool, List, ap, ◌∙◌, Bor, Qual, uses_in, nat_list_cmp_total, is_lt, ranks_by, sorted_by}
+use Rattle.cdi_effective.proofs.Common.{is_before_in_name, rules, always_returns_same}
 use Rattle.cdi_effective.proofs.SortLemmas.{sorted_from_sort, sorted_map}
 use Rattle.cdi_effective.proofs.text_order.in_name_order.Goals as goal
 

@@ -1,8 +1,5 @@
-use Rattle.std.proofs.Common.{ap, sym, ◌∙◌}
-use Rattle.std.proofs.lemmas.Result.{IfOk-weaker}
-use Rattle.cdi_match.specs.Bindings.{uses_in}
-use Rattle.cdi_effective.specs.Sorting.{sorted_by}
-use Rattle.cdi_effective.specs.TextOrder.{in_text_order, is_before_in_name, is_before_in_text, tell_order}
+use Rattle.cdi_effective.proofs.Common.{sym, ap, ◌∙◌, uses_in, sorted_by, in_text_order, is_before_in_name, is_before_in_text, tell_order}
+use Rattle.cdi_effective.proofs.Common.{IfOk-weaker}
 use Rattle.cdi_effective.proofs.NameOrderLemmas.{in-order-by-names}
 use Rattle.cdi_effective.proofs.text_order.in_text_order.Goals as goal
 

@@ -1,6 +1,4 @@
-use Rattle.std.proofs.Common.{◌≡◌, ◌∷◌, drop}
-use Rattle.cdi_match.specs.Bindings.{uses_in}
-use Rattle.cdi_effective.specs.TextOrder.{tell_order}
+use Rattle.cdi_effective.proofs.Common.{◌≡◌, ◌∷◌, drop, uses_in, tell_order}
 use Rattle.cdi_effective.proofs.text_order.tell_order.Given as goal
 
 abbrev pub invariant-loop-next : goal.invariant-loop-next

@@ -1,6 +1,4 @@
-use Rattle.std.proofs.Common.{◌≡◌, ◌++◌, drop}
-use Rattle.cdi_match.specs.Bindings.{uses_in}
-use Rattle.cdi_effective.specs.TextOrder.{written_in}
+use Rattle.cdi_effective.proofs.Common.{◌≡◌, drop, uses_in, ◌++◌, written_in}
 use Rattle.cdi_effective.proofs.text_order.without_texts.Given as goal
 
 abbrev pub invariant-loop-written : goal.invariant-loop-written

@@ -1,8 +1,4 @@
-use Rattle.std.proofs.Common.{◌≡◌, ◌||◌, take}
-use Rattle.indexmap.specs.IndexSet.{contains}
-use Rattle.cdi_model.specs.DeclKey.{same_key}
-use Rattle.cdi_model.specs.declared.key.DeclKey.{DeclKey}
-use Rattle.cdi_index.specs.Kept.{is_reader_among}
+use Rattle.cdi_index.proofs.Common.{◌≡◌, ◌||◌, DeclKey, same_key, take, is_reader_among, contains}
 use Rattle.cdi_index.proofs.affected.add_readers.Given as goal
 
 abbrev pub invariant-loop-slot : goal.invariant-loop-slot

@@ -1,4 +1,4 @@
-use Rattle.std.proofs.Common.{◌≡◌, ◌++◌, drop}
+use Rattle.cdi_index.proofs.Common.{◌≡◌, ◌++◌, drop}
 use Rattle.cdi_index.proofs.affected.copy_keys.Given as goal
 
 abbrev pub invariant-loop-key : goal.invariant-loop-key

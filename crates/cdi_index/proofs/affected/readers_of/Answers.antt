@@ -1,12 +1,5 @@
-use Rattle.std.proofs.Common.{◌≡◌, ◌||◌, List, [], ◌∷◌, refl, ap, ◌∙◌}
-use Rattle.std.specs.List.{list_any}
-use Rattle.std.proofs.lemmas.Result.{IfOk-weaker}
-use Rattle.cdi_model.specs.declared.key.DeclKey.{DeclKey}
-use Rattle.cdi_model.specs.DeclKey.{same_key, same_key_equiv}
-use Rattle.cdi_model.specs.Edits.{is_among}
-use Rattle.cdi_postings.specs.Listing.{under}
-use Rattle.cdi_index.specs.Kept.{is_reader_among}
-use Rattle.cdi_index.specs.Made.{word_of}
+use Rattle.cdi_index.proofs.Common.{◌≡◌, ◌||◌, List, [], ◌∷◌, refl, ap, ◌∙◌, list_any, DeclKey, same_key, is_among, under, same_key_equiv}
+use Rattle.cdi_index.proofs.Common.{is_reader_among, word_of, IfOk-weaker}
 use Rattle.cdi_index.proofs.affected.readers_of.Goals as goal
 
 turned : (keys : List DeclKey) (k : DeclKey) → is_among keys k ≡ list_any (same_key k) keys

@@ -1,6 +1,4 @@
-use Rattle.std.proofs.Common.{◌≡◌}
-use Rattle.std.specs.List.{list_any}
-use Rattle.cdi_index.specs.Asked.{asks_for, asks_in}
+use Rattle.cdi_index.proofs.Common.{◌≡◌, list_any, asks_for, asks_in}
 use Rattle.cdi_index.proofs.asked.asks_for.Given as goal
 
 abbrev pub invariant-loop-mention : goal.invariant-loop-mention

@@ -1,6 +1,4 @@
-use Rattle.std.proofs.Common.{◌≡◌, drop}
-use Rattle.std.specs.List.{list_any}
-use Rattle.cdi_index.specs.AskedAt.{is_asker_at}
+use Rattle.cdi_index.proofs.Common.{◌≡◌, list_any, is_asker_at, drop}
 use Rattle.cdi_index.proofs.asked.is_asked_at.Given as goal
 
 abbrev pub invariant-loop-slot : goal.invariant-loop-slot

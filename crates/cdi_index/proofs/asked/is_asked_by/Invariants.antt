@@ -1,4 +1,4 @@
-use Rattle.std.proofs.Common.{◌≡◌, drop}
+use Rattle.cdi_index.proofs.Common.{◌≡◌, drop}
 use Rattle.cdi_index.specs.Asked.{is_asked_by}
 use Rattle.cdi_index.proofs.asked.is_asked_by.Given as goal
 

@@ -1,6 +1,4 @@
-use Rattle.std.proofs.Common.{arith, ◌≡◌, ◌+◌, length, take, ap, ◌∙◌}
-use Rattle.std.proofs.lemmas.List.{length-map}
-use Rattle.cdi_index.specs.Next.{change_of}
+use Rattle.cdi_index.proofs.Common.{◌≡◌, ap, ◌∙◌, ◌+◌, length, change_of, arith, length-map, take}
 use Rattle.cdi_index.proofs.LoopLemmas.{changes-next, keeps-then, keys-next}
 use Rattle.cdi_index.proofs.change.change_all.Goals as goal
 

@@ -1,11 +1,5 @@
-use Rattle.std.proofs.Common.{◌≡◌, ◌+◌, ℕ, true, map, take, Some}
-use Rattle.std.specs.List.{slice_get}
-use Rattle.cdi_model.specs.declared.key.DeclKey.{DeclKey}
-use Rattle.cdi_postings.specs.declared.word.Word.{Word}
-use Rattle.cdi_postings.specs.Listing.{is_listed}
-use Rattle.cdi_index.specs.Kept.{Keeps}
-use Rattle.cdi_index.specs.Made.{has_word, made_of}
-use Rattle.cdi_index.specs.Next.{change_of}
+use Rattle.cdi_index.proofs.Common.{◌≡◌, ℕ, true, map, Some, DeclKey, made_of, Word, ◌+◌, slice_get, change_of, is_listed, take, Keeps}
+use Rattle.cdi_index.proofs.Common.{has_word}
 use Rattle.cdi_index.proofs.change.change_all.Given as goal
 
 abbrev pub invariant-loop-key : goal.invariant-loop-key

@@ -1,6 +1,4 @@
-use Rattle.std.proofs.Common.{subst}
-use Rattle.cdi_postings.specs.Listing.{Lists}
-use Rattle.cdi_postings.specs.Words.{word_at}
+use Rattle.cdi_index.proofs.Common.{word_at, Lists, subst}
 use Rattle.cdi_postings.specs.declared.word.Reason.TheVariants as reasons
 use Rattle.cdi_index.proofs.LoopLemmas.{keeps-list, words-next}
 use Rattle.cdi_index.proofs.change.list_classes.Goals as goal

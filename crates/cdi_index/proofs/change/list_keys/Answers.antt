@@ -1,6 +1,4 @@
-use Rattle.std.proofs.Common.{subst}
-use Rattle.cdi_postings.specs.Listing.{Lists}
-use Rattle.cdi_index.specs.Made.{word_of}
+use Rattle.cdi_index.proofs.Common.{Lists, subst, word_of}
 use Rattle.cdi_index.proofs.LoopLemmas.{keeps-list, words-next}
 use Rattle.cdi_index.proofs.change.list_keys.Goals as goal
 

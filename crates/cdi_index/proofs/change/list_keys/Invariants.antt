@@ -1,8 +1,4 @@
-use Rattle.std.proofs.Common.{◌≡◌, true, take}
-use Rattle.cdi_postings.specs.declared.word.Word.{Word}
-use Rattle.cdi_postings.specs.Listing.{is_listed}
-use Rattle.cdi_index.specs.Kept.{Keeps}
-use Rattle.cdi_index.specs.Made.{keys_have}
+use Rattle.cdi_index.proofs.Common.{◌≡◌, true, Word, is_listed, take, Keeps, keys_have}
 use Rattle.cdi_index.proofs.change.list_keys.Given as goal
 
 abbrev pub invariant-loop-read : goal.invariant-loop-read

@@ -1,6 +1,5 @@
-use Rattle.std.proofs.Common.{sym, ap, ◌∙◌}
+use Rattle.cdi_index.proofs.Common.{sym, ap, ◌∙◌, words_have, classes_have, has_word, keys_have}
 use Rattle.std.proofs.lemmas.Result.{on_ok_weaker}
-use Rattle.cdi_index.specs.Made.{classes_have, has_word, keys_have, words_have}
 use Rattle.cdi_index.proofs.LoopLemmas.{words-all}
 use Rattle.cdi_index.proofs.change.list_words.Goals as goal
 

@@ -1,8 +1,5 @@
-use Rattle.std.proofs.Common.{◌≡◌, ◌+◌, [], ◌∷◌, cond, length, length-append, arith, ap, ◌∙◌, inl, inr}
-use Rattle.cdi_model.specs.declared.key.DeclKey.{DeclKey}
-use Rattle.cdi_model.specs.DeclKey.{same_key}
-use Rattle.cdi_index.specs.Kept.{stored}
-use Rattle.cdi_index.specs.Next.{applied, stored_as}
+use Rattle.cdi_index.proofs.Common.{◌≡◌, [], ◌∷◌, ap, ◌∙◌, DeclKey, same_key, inl, inr, stored, ◌+◌, cond, length, applied, stored_as}
+use Rattle.cdi_index.proofs.Common.{arith, length-append}
 use Rattle.cdi_index.proofs.ChangeLemmas.{applied-next}
 use Rattle.cdi_index.proofs.InstallLemmas.{free-left, no-items, sound-left}
 use Rattle.cdi_index.proofs.install.install.Goals as goal

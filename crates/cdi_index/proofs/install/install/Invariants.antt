@@ -1,9 +1,5 @@
-use Rattle.std.proofs.Common.{◌≡◌, ◌≤◌, ◌<◌, ◌+◌, ◌⊎◌, ℕ, length, vec_len, Some}
-use Rattle.indexmap.specs.IndexMap.{spare}
-use Rattle.cdi_model.specs.declared.key.DeclKey.{DeclKey}
-use Rattle.cdi_index.specs.declared.shelf.Kept.{Kept}
-use Rattle.cdi_index.specs.Kept.{kept_at, stored, IsShelf, IsSound}
-use Rattle.cdi_index.specs.Next.{applied}
+use Rattle.cdi_index.proofs.Common.{◌≡◌, ℕ, Some, DeclKey, Kept, kept_at, stored, IsShelf, IsSound, ◌+◌, length, applied, ◌<◌, ◌≤◌, ◌⊎◌}
+use Rattle.cdi_index.proofs.Common.{spare, vec_len}
 use Rattle.cdi_index.proofs.install.install.Given as goal
 
 abbrev pub invariant-left : goal.invariant-left

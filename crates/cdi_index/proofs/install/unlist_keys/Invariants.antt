@@ -1,6 +1,4 @@
-use Rattle.std.proofs.Common.{◌≡◌, ◌≢◌, ℕ, true}
-use Rattle.cdi_postings.specs.declared.word.Word.{Word}
-use Rattle.cdi_postings.specs.Listing.{is_listed}
+use Rattle.cdi_index.proofs.Common.{◌≡◌, ℕ, true, Word, ◌≢◌, is_listed}
 use Rattle.cdi_index.proofs.install.unlist_keys.Given as goal
 
 abbrev pub invariant-loop-read : goal.invariant-loop-read

@@ -1,7 +1,5 @@
-use Rattle.std.proofs.Common.{◌≡◌, map, take}
+use Rattle.cdi_index.proofs.Common.{◌≡◌, map, key_at, name_of_use, take}
 use Rattle.cdi_model.specs.declared.decl.Kind.TheVariants as kinds
-use Rattle.cdi_model.specs.DeclKey.{key_at}
-use Rattle.cdi_model.specs.Quals.{name_of_use}
 use Rattle.cdi_index.proofs.making.keys_of_bindings.Given as goal
 
 abbrev pub invariant-loop-binding : goal.invariant-loop-binding

@@ -1,5 +1,4 @@
-use Rattle.std.proofs.Common.{◌≡◌, ◌++◌, drop, map}
-use Rattle.cdi_model.specs.DeclKey.{key_at}
+use Rattle.cdi_index.proofs.Common.{◌≡◌, map, key_at, ◌++◌, drop}
 use Rattle.cdi_index.proofs.making.keys_of_names.Given as goal
 
 abbrev pub invariant-loop-name : goal.invariant-loop-name

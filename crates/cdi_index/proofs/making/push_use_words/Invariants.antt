@@ -1,6 +1,4 @@
-use Rattle.std.proofs.Common.{◌≡◌, ◌++◌, map, take}
-use Rattle.cdi_model.specs.Quals.{name_of_use}
-use Rattle.cdi_postings.specs.Words.{word_at}
+use Rattle.cdi_index.proofs.Common.{◌≡◌, map, name_of_use, ◌++◌, word_at, take}
 use Rattle.cdi_index.proofs.making.push_use_words.Given as goal
 
 abbrev pub invariant-loop-qual : goal.invariant-loop-qual

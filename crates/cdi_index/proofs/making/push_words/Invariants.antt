@@ -1,5 +1,4 @@
-use Rattle.std.proofs.Common.{◌≡◌, ◌++◌, drop, map}
-use Rattle.cdi_postings.specs.Words.{word_at}
+use Rattle.cdi_index.proofs.Common.{◌≡◌, map, ◌++◌, word_at, drop}
 use Rattle.cdi_index.proofs.making.push_words.Given as goal
 
 abbrev pub invariant-loop-name : goal.invariant-loop-name

@@ -1,6 +1,4 @@
-use Rattle.std.proofs.Common.{◌≡◌, ◌++◌, flat_map}
-use Rattle.cdi_model.specs.Mentions.{mentions}
-use Rattle.cdi_index.specs.Made.{words_named_in}
+use Rattle.cdi_index.proofs.Common.{◌≡◌, ◌++◌, flat_map, mentions, words_named_in}
 use Rattle.cdi_index.proofs.making.push_words_in_places.Given as goal
 
 abbrev pub invariant-loop-mention : goal.invariant-loop-mention

@@ -1,5 +1,4 @@
-use Rattle.std.proofs.Common.{◌≡◌, ◌++◌, flat_map, take}
-use Rattle.cdi_index.specs.Made.{words_of_record}
+use Rattle.cdi_index.proofs.Common.{◌≡◌, ◌++◌, flat_map, words_of_record, take}
 use Rattle.cdi_index.proofs.making.push_words_of_records.Given as goal
 
 abbrev pub invariant-loop-record : goal.invariant-loop-record

@@ -1,5 +1,4 @@
-use Rattle.indexmap.specs.IndexMap.{get}
-use Rattle.cdi_model.specs.DeclKey.{same_key}
+use Rattle.cdi_index.proofs.Common.{same_key, get}
 use Rattle.cdi_index.specs.Made.{AreClosed}
 use Rattle.cdi_index.proofs.next_types.close_all.Given as goal
 

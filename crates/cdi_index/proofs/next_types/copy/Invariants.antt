@@ -1,4 +1,4 @@
-use Rattle.std.proofs.Common.{◌≡◌, ◌++◌, drop}
+use Rattle.cdi_index.proofs.Common.{◌≡◌, ◌++◌, drop}
 use Rattle.cdi_index.proofs.next_types.copy.Given as goal
 
 abbrev pub invariant-loop-name : goal.invariant-loop-name

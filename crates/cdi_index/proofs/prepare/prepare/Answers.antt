@@ -1,22 +1,9 @@
-use Rattle.std.proofs.Common.{◌≡◌, refl, ap, ◌∙◌, sym, subst, arith, length, map}
-use Rattle.std.specs.List.{list_any}
-use Rattle.cdi_index.specs.Kept.{touches}
+use Rattle.cdi_index.proofs.Common.{◌≡◌, List, map, refl, sym, ap, ◌∙◌, list_any, DeclKey, same_key, AreDistinct, Shelf, cond, length}
+use Rattle.cdi_index.proofs.Common.{Change, change_of, arith, length-map, keys_changed, turned, subst, lookup, get, touches, is_at_stake}
+use Rattle.cdi_index.proofs.Common.{records_after, Tells}
 use Rattle.cdi_model.specs.declared.decl.Kind.TheVariants as kinds
-use Rattle.cdi_model.specs.DeclList.{AreDistinct}
-use Rattle.std.proofs.lemmas.List.{length-map}
 use Rattle.cdi_index.specs.Counted.{raised}
-use Rattle.cdi_index.specs.Next.{change_of}
 use Rattle.cdi_index.specs.State.{Drafted}
-use Rattle.std.specs.Map.{lookup}
-use Rattle.std.proofs.Common.{cond}
-use Rattle.indexmap.specs.IndexMap.{get}
-use Rattle.cdi_model.specs.DeclKey.{same_key}
-use Rattle.cdi_model.specs.declared.key.DeclKey.{DeclKey}
-use Rattle.std.proofs.Common.{List}
-use Rattle.cdi_index.specs.declared.change.Change.{Change}
-use Rattle.cdi_index.specs.declared.shelf.Shelf.{Shelf}
-use Rattle.cdi_index.specs.Replaced.{is_at_stake, keys_changed, records_after, turned}
-use Rattle.cdi_index.specs.Told.{Tells}
 use Rattle.cdi_index.proofs.KeyLemmas.{keys-made}
 use Rattle.cdi_index.proofs.NextLemmas.{affected-hits, counted, exact-same, kept-of-others, prepared, shelf-same, sound-same}
 use Rattle.cdi_index.proofs.ReplacedLemmas.{turned-are}

@@ -1,8 +1,4 @@
-use Rattle.std.proofs.Common.{◌≡◌, take}
-use Rattle.indexmap.specs.IndexSet.{contains}
-use Rattle.cdi_model.specs.declared.key.DeclKey.{DeclKey}
-use Rattle.cdi_model.specs.DeclKey.{same_key}
-use Rattle.cdi_index.specs.Replaced.{is_at_stake}
+use Rattle.cdi_index.proofs.Common.{◌≡◌, DeclKey, same_key, take, is_at_stake, contains}
 use Rattle.cdi_index.proofs.replaced.beans_at_stake.Given as goal
 
 abbrev pub invariant-loop-change : goal.invariant-loop-change

@@ -1,8 +1,4 @@
-use Rattle.std.proofs.Common.{◌≡◌, take}
-use Rattle.indexmap.specs.IndexSet.{contains}
-use Rattle.cdi_model.specs.declared.key.DeclKey.{DeclKey}
-use Rattle.cdi_model.specs.DeclKey.{same_key}
-use Rattle.cdi_index.specs.Replaced.{is_replaced_anew}
+use Rattle.cdi_index.proofs.Common.{◌≡◌, DeclKey, same_key, take, is_replaced_anew, contains}
 use Rattle.cdi_index.proofs.replaced.beans_replaced_anew.Given as goal
 
 abbrev pub invariant-loop-change : goal.invariant-loop-change

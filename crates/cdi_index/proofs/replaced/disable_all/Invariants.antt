@@ -1,5 +1,4 @@
-use Rattle.std.proofs.Common.{◌≡◌, ◌++◌, true, drop, map}
-use Rattle.cdi_effective.specs.Beans.{unless_replaced}
+use Rattle.cdi_index.proofs.Common.{◌≡◌, true, map, ◌++◌, unless_replaced, drop}
 use Rattle.cdi_index.proofs.replaced.disable_all.Given as goal
 
 abbrev pub invariant-loop-record : goal.invariant-loop-record

@@ -1,6 +1,4 @@
-use Rattle.std.proofs.Common.{length, length-append, arith, ap, ◌∙◌, [], ◌∷◌}
-use Rattle.indexmap.specs.IndexMap.{get}
-use Rattle.cdi_model.specs.DeclKey.{same_key}
+use Rattle.cdi_index.proofs.Common.{[], ◌∷◌, ap, ◌∙◌, same_key, length, arith, length-append, get}
 use Rattle.cdi_index.proofs.TurnLemmas.{turned-next}
 use Rattle.cdi_index.proofs.replaced.install_turns.Goals as goal
 

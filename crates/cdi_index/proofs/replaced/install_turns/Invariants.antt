@@ -1,8 +1,4 @@
-use Rattle.std.proofs.Common.{◌≡◌, ◌≤◌, length, vec_len}
-use Rattle.indexmap.specs.IndexMap.{get, spare}
-use Rattle.cdi_model.specs.DeclKey.{same_key}
-use Rattle.cdi_model.specs.declared.key.DeclKey.{DeclKey}
-use Rattle.cdi_index.specs.Replaced.{turned}
+use Rattle.cdi_index.proofs.Common.{◌≡◌, DeclKey, same_key, length, ◌≤◌, turned, get, spare, vec_len}
 use Rattle.cdi_index.proofs.replaced.install_turns.Given as goal
 
 abbrev pub invariant-left : goal.invariant-left

@@ -1,5 +1,4 @@
-use Rattle.std.proofs.Common.{◌≡◌, drop}
-use Rattle.cdi_index.specs.Replaced.{is_replaced_still}
+use Rattle.cdi_index.proofs.Common.{◌≡◌, is_replaced_still, drop}
 use Rattle.cdi_index.proofs.replaced.is_replaced_still.Given as goal
 
 abbrev pub invariant-loop-slot : goal.invariant-loop-slot

@@ -1,8 +1,4 @@
-use Rattle.std.proofs.Common.{sym, ap, ◌∙◌}
-use Rattle.std.specs.List.{list_any}
-use Rattle.cdi_model.specs.DeclKey.{same_key}
-use Rattle.cdi_index.specs.declared.change.Change.{Change}
-use Rattle.cdi_index.specs.Kept.{made_in, stored}
+use Rattle.cdi_index.proofs.Common.{sym, ap, ◌∙◌, list_any, same_key, stored, Change, made_in}
 use Rattle.cdi_index.proofs.KeyLemmas.{made-apart, made-at, place-of}
 use Rattle.cdi_index.proofs.replaced.made_after.Goals as goal
 

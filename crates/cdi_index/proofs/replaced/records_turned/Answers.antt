@@ -1,8 +1,4 @@
-use Rattle.std.proofs.Common.{sym, ap, ◌∙◌}
-use Rattle.std.specs.List.{list_any}
-use Rattle.indexmap.specs.IndexMap.{get}
-use Rattle.cdi_model.specs.DeclKey.{same_key}
-use Rattle.cdi_index.specs.declared.replaced.Turn.{Turn}
+use Rattle.cdi_index.proofs.Common.{sym, ap, ◌∙◌, list_any, same_key, Turn, get}
 use Rattle.cdi_index.proofs.KeyLemmas.{place-of, turned-apart, turned-at}
 use Rattle.cdi_index.proofs.replaced.records_turned.Goals as goal
 

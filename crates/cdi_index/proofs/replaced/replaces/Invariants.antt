@@ -1,7 +1,5 @@
-use Rattle.std.proofs.Common.{◌≡◌, drop, map}
+use Rattle.cdi_index.proofs.Common.{◌≡◌, map, key_at, is_among, drop}
 use Rattle.cdi_model.specs.declared.decl.Kind.TheVariants as kinds
-use Rattle.cdi_model.specs.DeclKey.{key_at}
-use Rattle.cdi_model.specs.Edits.{is_among}
 use Rattle.cdi_index.proofs.replaced.replaces.Given as goal
 
 abbrev pub invariant-loop-class : goal.invariant-loop-class

@@ -1,7 +1,4 @@
-use Rattle.std.proofs.Common.{map, cond, arith, refl, sym, ap, ◌∙◌}
-use Rattle.std.proofs.lemmas.List.{take_all}
-use Rattle.cdi_index.specs.declared.replaced.Turn.{Turn}
-use Rattle.cdi_index.specs.Replaced.{keys_turned, records_after, turn_by, turned}
+use Rattle.cdi_index.proofs.Common.{map, refl, sym, ap, ◌∙◌, cond, arith, Turn, keys_turned, turned, records_after, take_all, turn_by}
 use Rattle.cdi_index.proofs.ChangeLemmas.{among-turned}
 use Rattle.cdi_index.proofs.KeyLemmas.{keys-made}
 use Rattle.cdi_index.proofs.TurnLemmas.{turn_to, turned-all}

@@ -1,5 +1,4 @@
-use Rattle.std.proofs.Common.{◌≡◌, map, take}
-use Rattle.cdi_index.specs.Replaced.{turn_by}
+use Rattle.cdi_index.proofs.Common.{◌≡◌, map, take, turn_by}
 use Rattle.cdi_index.proofs.replaced.turn_all.Given as goal
 
 abbrev pub invariant-loop-key : goal.invariant-loop-key

@@ -1,7 +1,4 @@
-use Rattle.std.proofs.Common.{◌≡◌, ◌||◌, ℕ, length, take}
-use Rattle.cdi_model.specs.DeclList.{limit}
-use Rattle.cdi_positions.specs.Marks.{is_marked}
-use Rattle.cdi_index.specs.Under.{is_at_slots}
+use Rattle.cdi_index.proofs.Common.{◌≡◌, ℕ, ◌||◌, length, take, limit, is_marked, is_at_slots}
 use Rattle.cdi_index.proofs.under.mark_slots.Given as goal
 
 abbrev pub invariant-loop-slot : goal.invariant-loop-slot

@@ -1,12 +1,8 @@
-use Rattle.std.proofs.Common.{◌≡◌, ◌||◌, ◌<◌, ◌≤◌, ◌+◌, ℕ, Bool, false, List, [], ◌∷◌, length, Option, Some, None, IfSome, is_some, take, get_or}
-use Rattle.std.proofs.Common.{refl, sym, ap, ◌∙◌, arith}
-use Rattle.std.specs.List.{list_any}
-use Rattle.std.specs.Option.{option_map_or}
+use Rattle.cdi_index.proofs.Common.{◌≡◌, ℕ, Bool, false, ◌||◌, List, [], ◌∷◌, Option, Some, None, refl, sym, ap, ◌∙◌, list_any}
+use Rattle.cdi_index.proofs.Common.{option_map_or, Word, under, ◌+◌, length, is_some, ◌<◌, arith, ◌≤◌, get_or, take, list_any_more}
+use Rattle.cdi_index.proofs.Common.{take_all}
+use Rattle.std.proofs.Common.{IfSome}
 use Rattle.std.proofs.Math.Bool.{or-false}
-use Rattle.std.proofs.lemmas.List.{take_all}
-use Rattle.std.proofs.lemmas.List.Folds.{list_any_more}
-use Rattle.cdi_postings.specs.Listing.{under}
-use Rattle.cdi_postings.specs.declared.word.Word.{Word}
 use Rattle.cdi_index.proofs.under.only_slot.Goals as goal
 use Rattle.cdi_index.proofs.under.only_slot.Goals.{in-empty, in-len1}
 

@@ -1,8 +1,4 @@
-use Rattle.std.proofs.Common.{◌≡◌, ℕ, Bool, false, take}
-use Rattle.std.specs.List.{list_any}
-use Rattle.std.specs.Option.{option_map_or}
-use Rattle.cdi_postings.specs.Listing.{under}
-use Rattle.cdi_postings.specs.declared.word.Word.{Word}
+use Rattle.cdi_index.proofs.Common.{◌≡◌, ℕ, Bool, false, list_any, option_map_or, Word, under, take}
 use Rattle.cdi_index.proofs.under.only_slot.Given as goal
 
 abbrev pub invariant-loop-word : goal.invariant-loop-word

@@ -1,5 +1,4 @@
-use Rattle.std.proofs.Common.{◌≡◌, ◌++◌, filter, map, take}
-use Rattle.cdi_index.specs.Under.{is_sought}
+use Rattle.cdi_index.proofs.Common.{◌≡◌, map, ◌++◌, filter, take, is_sought}
 use Rattle.cdi_index.proofs.under.push_sought.Given as goal
 
 abbrev pub invariant-loop-record : goal.invariant-loop-record

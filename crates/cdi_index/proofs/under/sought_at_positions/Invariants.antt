@@ -1,6 +1,4 @@
-use Rattle.std.proofs.Common.{◌≡◌, ◌++◌, filter, flat_map, map}
-use Rattle.cdi_positions.specs.Marks.{marked_from}
-use Rattle.cdi_index.specs.Under.{is_sought, records_at}
+use Rattle.cdi_index.proofs.Common.{◌≡◌, map, ◌++◌, flat_map, filter, records_at, marked_from, is_sought}
 use Rattle.cdi_index.proofs.under.sought_at_positions.Given as goal
 
 abbrev pub invariant-loop-position : goal.invariant-loop-position

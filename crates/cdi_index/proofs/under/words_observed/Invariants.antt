@@ -1,5 +1,4 @@
-use Rattle.std.proofs.Common.{◌≡◌, ◌++◌, drop, map}
-use Rattle.cdi_postings.specs.Words.{word_at}
+use Rattle.cdi_index.proofs.Common.{◌≡◌, map, ◌++◌, word_at, drop}
 use Rattle.cdi_postings.specs.declared.word.Reason.TheVariants as reasons
 use Rattle.cdi_index.proofs.under.words_observed.Given as goal
 

@@ -1,13 +1,5 @@
-use Rattle.std.proofs.Common.{◌≡◌, ◌||◌, false, List, ◌++◌, slice_get, sym, ap, subst, ◌∙◌}
-use Rattle.std.specs.List.{list_any}
-use Rattle.std.specs.Option.{option_map_or}
-use Rattle.cdi_model.specs.declared.quals.Qual.{Qual}
-use Rattle.cdi_postings.specs.declared.word.Word.{Word}
-use Rattle.cdi_postings.specs.Listing.{is_listed}
-use Rattle.cdi_positions.specs.Marks.{marked_from}
-use Rattle.cdi_index.specs.Under.{has_one}
-use Rattle.cdi_live.specs.ChainGone.{words_bound}
-use Rattle.cdi_live.specs.Compared.{is_place_of_one}
+use Rattle.cdi_live.proofs.Common.{◌≡◌, false, List, sym, ap, ◌∙◌, list_any, Qual, ◌||◌, option_map_or, ◌++◌, Word, subst, has_one}
+use Rattle.cdi_live.proofs.Common.{slice_get, is_listed, marked_from, is_place_of_one, words_bound}
 use Rattle.cdi_live.proofs.InterceptorLemmas.{cover-first, cover-second, unmarked-seen, without-words, Cover}
 use Rattle.cdi_live.proofs.chain_compare.is_touched.Goals as goal
 

@@ -1,10 +1,5 @@
-use Rattle.std.proofs.Common.{◌≡◌, ◌&&◌, ◌||◌, ◌-◌, ℕ, List, length, take}
-use Rattle.std.specs.List.{list_any}
-use Rattle.std.specs.Str.{bytes_eq}
-use Rattle.cdi_model.specs.declared.place.BeanPlace.{BeanPlace}
-use Rattle.cdi_memo.specs.Answers.{parts_under}
-use Rattle.cdi_observe.specs.Keys.{same_place}
-use Rattle.cdi_live.specs.ChainGone.{goes, is_gone_chain}
+use Rattle.cdi_live.proofs.Common.{◌≡◌, ◌&&◌, List, length, list_any, bytes_eq, BeanPlace, ℕ, ◌||◌, parts_under, same_place, goes}
+use Rattle.cdi_live.proofs.Common.{is_gone_chain, take, ◌-◌}
 use Rattle.cdi_live.proofs.chain_compare.push_gone_of_class.Given as goal
 
 abbrev pub invariant-parts : goal.invariant-parts

@@ -1,11 +1,5 @@
-use Rattle.std.proofs.Common.{◌≡◌, ℕ, ◌&&◌, List, ap, subst, ◌∙◌}
-use Rattle.std.specs.List.{list_any}
-use Rattle.std.specs.Str.{bytes_eq}
-use Rattle.std.proofs.lemmas.Result.{IfOk-weaker}
-use Rattle.cdi_model.specs.declared.place.BeanPlace.{BeanPlace}
-use Rattle.cdi_memo.specs.Answers.{parts_under}
-use Rattle.cdi_observe.specs.Keys.{same_place}
-use Rattle.cdi_live.specs.ChainGone.{goes, is_gone_chain, AreGoneChains}
+use Rattle.cdi_live.proofs.Common.{◌≡◌, ◌&&◌, List, ap, ◌∙◌, list_any, bytes_eq, BeanPlace, ℕ, parts_under, same_place, goes}
+use Rattle.cdi_live.proofs.Common.{is_gone_chain, AreGoneChains, IfOk-weaker}
 use Rattle.cdi_live.proofs.ChainGoneLemmas.{chains-between}
 use Rattle.cdi_live.proofs.chain_stage.gone_chains_after.Goals as goal
 

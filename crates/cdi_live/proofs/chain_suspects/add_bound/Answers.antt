@@ -1,13 +1,6 @@
-use Rattle.std.proofs.Common.{◌||◌, ◌∷◌, [], ap, ◌∙◌, arith}
+use Rattle.cdi_live.proofs.Common.{[], ◌∷◌, ap, ◌∙◌, bytes_eq, ◌||◌, word_at, has_one, class_named, holds, arith, walk, contains}
 use Rattle.std.specs.List.{slice_get}
-use Rattle.std.specs.Str.{bytes_eq}
-use Rattle.indexmap.specs.IndexSet.{contains}
 use Rattle.cdi_postings.specs.declared.word.Reason.TheVariants as reasons
-use Rattle.cdi_postings.specs.Words.{word_at}
-use Rattle.cdi_index.specs.Under.{has_one}
-use Rattle.cdi_index.proofs.UnderLemmas.{walk}
-use Rattle.cdi_live.specs.ChainSuspects.{class_named}
-use Rattle.cdi_live.specs.Suspects.{holds}
 use Rattle.cdi_live.proofs.chain_suspects.add_bound.Goals as goal
 
 pub returns : goal.returns

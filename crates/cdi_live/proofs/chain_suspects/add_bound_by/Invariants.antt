@@ -1,8 +1,4 @@
-use Rattle.std.proofs.Common.{◌≡◌, ◌||◌, ℕ, List, take}
-use Rattle.std.specs.List.{list_any}
-use Rattle.std.specs.Str.{bytes_eq}
-use Rattle.indexmap.specs.IndexSet.{contains}
-use Rattle.cdi_live.specs.ChainSuspects.{is_bound_by}
+use Rattle.cdi_live.proofs.Common.{◌≡◌, List, list_any, bytes_eq, ℕ, ◌||◌, is_bound_by, take, contains}
 use Rattle.cdi_live.proofs.chain_suspects.add_bound_by.Given as goal
 
 abbrev pub invariant-loop-key : goal.invariant-loop-key

@@ -1,11 +1,6 @@
-use Rattle.std.proofs.Common.{◌≡◌, ◌||◌, Bool, true, false, refl, ap, subst, ◌∙◌}
-use Rattle.std.specs.List.{list_any}
-use Rattle.std.specs.Str.{bytes_eq}
-use Rattle.indexmap.specs.IndexSet.{contains}
+use Rattle.cdi_live.proofs.Common.{◌≡◌, Bool, true, false, refl, ap, ◌∙◌, list_any, bytes_eq, ◌||◌, key_at, brings_to, classes_bound}
+use Rattle.cdi_live.proofs.Common.{is_bound_by, holds, contains}
 use Rattle.cdi_model.specs.declared.decl.Kind.TheVariants as kinds
-use Rattle.cdi_model.specs.DeclKey.{key_at}
-use Rattle.cdi_live.specs.ChainSuspects.{brings_to, classes_bound, is_bound_by}
-use Rattle.cdi_live.specs.Suspects.{holds}
 use Rattle.cdi_live.proofs.ReaderLemmas.{of-readers}
 use Rattle.cdi_live.proofs.chain_suspects.add_intercepted.Goals as goal
 

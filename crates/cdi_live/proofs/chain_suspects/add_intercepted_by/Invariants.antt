@@ -1,7 +1,4 @@
-use Rattle.std.proofs.Common.{◌≡◌, ◌||◌, ℕ, List, take}
-use Rattle.std.specs.Str.{bytes_eq}
-use Rattle.indexmap.specs.IndexSet.{contains}
-use Rattle.cdi_live.specs.ChainSuspects.{is_intercepted_by}
+use Rattle.cdi_live.proofs.Common.{◌≡◌, List, bytes_eq, ℕ, ◌||◌, is_intercepted_by, take, contains}
 use Rattle.cdi_live.proofs.chain_suspects.add_intercepted_by.Given as goal
 
 abbrev pub invariant-loop-binding : goal.invariant-loop-binding

@@ -1,7 +1,4 @@
-use Rattle.std.proofs.Common.{◌≡◌, ℕ, List, take}
-use Rattle.std.specs.Str.{bytes_eq}
-use Rattle.indexmap.specs.IndexSet.{contains}
-use Rattle.cdi_live.specs.ChainSuspects.{is_chain_suspect}
+use Rattle.cdi_live.proofs.Common.{◌≡◌, List, bytes_eq, ℕ, is_chain_suspect, take, contains}
 use Rattle.cdi_live.proofs.chain_suspects.chain_suspects.Given as goal
 
 abbrev pub invariant-loop-key : goal.invariant-loop-key

@@ -1,7 +1,4 @@
-use Rattle.std.proofs.Common.{◌&&◌, None, if◌then◌else◌, ap, ◌∙◌}
-use Rattle.std.specs.Str.{bytes_eq}
-use Rattle.cdi_memo.specs.Answers.{answer}
-use Rattle.cdi_observe.specs.Keys.{same_place}
+use Rattle.cdi_live.proofs.Common.{◌&&◌, ap, ◌∙◌, bytes_eq, None, same_place, if◌then◌else◌, answer}
 use Rattle.cdi_live.proofs.LiveChainLemmas.{forget-next-chain}
 use Rattle.cdi_live.proofs.chains.forget_chains.Goals as goal
 

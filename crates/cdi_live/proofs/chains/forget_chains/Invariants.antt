@@ -1,8 +1,4 @@
-use Rattle.std.proofs.Common.{◌≡◌, ℕ, List, length, None, if◌then◌else◌}
-use Rattle.cdi_model.specs.declared.place.BeanPlace.{BeanPlace}
-use Rattle.cdi_memo.specs.Answers.{answer}
-use Rattle.cdi_observe.specs.Keys.{same_place}
-use Rattle.cdi_live.specs.ChainGone.{is_gone_chain}
+use Rattle.cdi_live.proofs.Common.{◌≡◌, List, length, BeanPlace, ℕ, None, same_place, if◌then◌else◌, answer, is_gone_chain}
 use Rattle.cdi_live.proofs.chains.forget_chains.Given as goal
 
 abbrev pub invariant-left : goal.invariant-left

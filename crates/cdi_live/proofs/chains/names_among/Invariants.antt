@@ -1,6 +1,4 @@
-use Rattle.std.proofs.Common.{◌≡◌, filter, map, take}
-use Rattle.cdi_intercept.specs.Chains.{surrounds}
-use Rattle.cdi_intercept.specs.Lent.{lent_in}
+use Rattle.cdi_live.proofs.Common.{◌≡◌, map, filter, surrounds, take, lent_in}
 use Rattle.cdi_live.proofs.chains.names_among.Given as goal
 
 abbrev pub invariant-loop-interceptor : goal.invariant-loop-interceptor

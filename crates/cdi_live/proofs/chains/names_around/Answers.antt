@@ -1,14 +1,6 @@
-use Rattle.std.proofs.Common.{◌≡◌, false, List, ◌++◌, filter, map, slice_get, sym, ap, subst, ◌∙◌}
-use Rattle.std.specs.Option.{option_map_or}
-use Rattle.std.proofs.lemmas.Result.{IfOk-weaker}
-use Rattle.cdi_model.specs.declared.quals.Qual.{Qual}
-use Rattle.cdi_postings.specs.declared.word.Word.{Word}
-use Rattle.cdi_index.specs.Under.{has_one}
-use Rattle.cdi_intercept.specs.Bindings.{in_text_order, set_at}
-use Rattle.cdi_intercept.specs.Chains.{in_order, surrounds}
-use Rattle.cdi_intercept.specs.Lent.{lent_in}
-use Rattle.cdi_intercept.specs.Sees.{is_seen, names_around}
-use Rattle.cdi_live.specs.ChainGone.{words_bound}
+use Rattle.cdi_live.proofs.Common.{◌≡◌, false, List, map, filter, sym, ap, ◌∙◌, Qual, in_text_order, in_order, surrounds, is_seen}
+use Rattle.cdi_live.proofs.Common.{names_around, option_map_or, ◌++◌, Word, subst, set_at, has_one, slice_get, words_bound, IfOk-weaker}
+use Rattle.cdi_live.proofs.Common.{lent_in}
 use Rattle.cdi_live.proofs.AroundLemmas.{around-seen}
 use Rattle.cdi_live.proofs.InterceptorLemmas.{cover-one, without-words, Cover}
 use Rattle.cdi_live.proofs.chains.names_around.Goals as goal

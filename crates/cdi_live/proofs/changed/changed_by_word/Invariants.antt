@@ -1,5 +1,4 @@
-use Rattle.std.proofs.Common.{take}
-use Rattle.cdi_live.specs.Sought.{AreListed}
+use Rattle.cdi_live.proofs.Common.{take, AreListed}
 use Rattle.cdi_live.proofs.changed.changed_by_word.Given as goal
 
 abbrev pub invariant-loop-key : goal.invariant-loop-key

@@ -1,8 +1,4 @@
-use Rattle.std.proofs.Common.{◌≡◌, ◌||◌, ℕ, take}
-use Rattle.cdi_postings.specs.declared.word.Word.{Word}
-use Rattle.cdi_postings.specs.Listing.{is_listed}
-use Rattle.cdi_live.specs.ChainGone.{words_bound}
-use Rattle.cdi_live.specs.Sought.{is_listed_by}
+use Rattle.cdi_live.proofs.Common.{◌≡◌, ℕ, ◌||◌, Word, is_listed, words_bound, take, is_listed_by}
 use Rattle.cdi_live.proofs.changed.list_bindings.Given as goal
 
 abbrev pub invariant-loop-binding : goal.invariant-loop-binding

@@ -1,7 +1,4 @@
-use Rattle.std.proofs.Common.{◌≡◌, ◌||◌, ℕ, take}
-use Rattle.cdi_postings.specs.declared.word.Word.{Word}
-use Rattle.cdi_postings.specs.Listing.{is_listed}
-use Rattle.cdi_live.specs.Sought.{is_listed_by, words_observed}
+use Rattle.cdi_live.proofs.Common.{◌≡◌, ℕ, ◌||◌, Word, is_listed, take, is_listed_by, words_observed}
 use Rattle.cdi_live.proofs.changed.list_observed.Given as goal
 
 abbrev pub invariant-loop-method : goal.invariant-loop-method

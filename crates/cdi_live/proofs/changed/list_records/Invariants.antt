@@ -1,7 +1,4 @@
-use Rattle.std.proofs.Common.{◌≡◌, ◌||◌, ℕ, take}
-use Rattle.cdi_postings.specs.declared.word.Word.{Word}
-use Rattle.cdi_postings.specs.Listing.{is_listed}
-use Rattle.cdi_live.specs.Sought.{is_listed_by, words_typed}
+use Rattle.cdi_live.proofs.Common.{◌≡◌, ℕ, ◌||◌, Word, is_listed, words_typed, take, is_listed_by}
 use Rattle.cdi_live.proofs.changed.list_records.Given as goal
 
 abbrev pub invariant-loop-bean : goal.invariant-loop-bean

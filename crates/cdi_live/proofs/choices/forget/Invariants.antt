@@ -1,8 +1,4 @@
-use Rattle.std.proofs.Common.{◌≡◌, ℕ, List, length, None, if◌then◌else◌}
-use Rattle.cdi_model.specs.declared.quals.Qual.{Qual}
-use Rattle.cdi_model.specs.SameUse.{same_quals}
-use Rattle.cdi_memo.specs.Answers.{answer}
-use Rattle.cdi_live.specs.Gone.{is_gone}
+use Rattle.cdi_live.proofs.Common.{◌≡◌, List, length, Qual, ℕ, None, same_quals, if◌then◌else◌, answer, is_gone}
 use Rattle.cdi_live.proofs.choices.forget.Given as goal
 
 abbrev pub invariant-left : goal.invariant-left

@@ -1,9 +1,4 @@
-use Rattle.std.proofs.Common.{◌≡◌, filter, flat_map, map, ◌∙◌}
-use Rattle.std.proofs.lemmas.Result.{IfOk-weaker}
-use Rattle.cdi_match.specs.Chain.{has}
-use Rattle.cdi_effective.specs.Beans.{beans}
-use Rattle.cdi_positions.specs.Marks.{marked_from}
-use Rattle.cdi_index.specs.Under.{records_at}
+use Rattle.cdi_live.proofs.Common.{◌≡◌, map, filter, ◌∙◌, flat_map, has, beans, marked_from, records_at, IfOk-weaker}
 use Rattle.cdi_live.proofs.CompareLemmas.{gathered}
 use Rattle.cdi_live.proofs.compare.beans_after.Goals as goal
 

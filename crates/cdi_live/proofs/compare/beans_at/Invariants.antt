@@ -1,7 +1,4 @@
-use Rattle.std.proofs.Common.{◌≡◌, ◌++◌, filter, flat_map, map}
-use Rattle.cdi_match.specs.Chain.{has}
-use Rattle.cdi_positions.specs.Marks.{marked_from}
-use Rattle.cdi_index.specs.Under.{records_at}
+use Rattle.cdi_live.proofs.Common.{◌≡◌, map, filter, flat_map, ◌++◌, has, marked_from, records_at}
 use Rattle.cdi_live.proofs.compare.beans_at.Given as goal
 
 abbrev pub invariant-loop-position : goal.invariant-loop-position

@@ -1,10 +1,4 @@
-use Rattle.std.proofs.Common.{◌≡◌, ◌&&◌, ℕ, List, take}
-use Rattle.std.specs.List.{list_any}
-use Rattle.std.specs.Str.{bytes_eq}
-use Rattle.cdi_model.specs.declared.quals.Qual.{Qual}
-use Rattle.cdi_model.specs.SameUse.{same_quals}
-use Rattle.cdi_memo.specs.Answers.{parts_under}
-use Rattle.cdi_live.specs.Gone.{is_gone, sees_other}
+use Rattle.cdi_live.proofs.Common.{◌≡◌, ◌&&◌, List, list_any, bytes_eq, Qual, ℕ, parts_under, same_quals, sees_other, is_gone, take}
 use Rattle.cdi_live.proofs.compare.gone_of_types.Given as goal
 
 abbrev pub invariant-loop-bean_type : goal.invariant-loop-bean_type

@@ -1,6 +1,4 @@
-use Rattle.std.proofs.Common.{◌≤◌, ◌<◌, length, sym, subst}
-use Rattle.std.specs.List.{All}
-use Rattle.cdi_model.specs.DeclList.{limit}
+use Rattle.cdi_live.proofs.Common.{sym, subst, ◌<◌, All, limit}
 use Rattle.cdi_live.proofs.SoughtLemmas.{slots-within}
 use Rattle.cdi_live.proofs.compare.mark_affected.Goals as goal
 

@@ -1,8 +1,4 @@
-use Rattle.std.proofs.Common.{◌≡◌, ◌||◌, ℕ, length, take}
-use Rattle.std.specs.List.{list_any}
-use Rattle.cdi_model.specs.DeclList.{limit}
-use Rattle.cdi_postings.specs.Listing.{is_listed}
-use Rattle.cdi_positions.specs.Marks.{is_marked}
+use Rattle.cdi_live.proofs.Common.{◌≡◌, length, list_any, ℕ, ◌||◌, is_listed, is_marked, take, limit}
 use Rattle.cdi_live.proofs.compare.mark_affected.Given as goal
 
 abbrev pub invariant-loop-word : goal.invariant-loop-word

@@ -1,8 +1,4 @@
-use Rattle.std.proofs.Common.{◌≡◌, ◌||◌, ℕ, length}
-use Rattle.std.specs.List.{list_any}
-use Rattle.cdi_model.specs.DeclList.{limit}
-use Rattle.cdi_positions.specs.Marks.{is_marked, marked_from}
-use Rattle.cdi_live.specs.Compared.{is_place_of_one}
+use Rattle.cdi_live.proofs.Common.{◌≡◌, length, list_any, ℕ, ◌||◌, is_marked, marked_from, is_place_of_one, limit}
 use Rattle.cdi_live.proofs.compare.mark_kept.Given as goal
 
 abbrev pub invariant-loop-position : goal.invariant-loop-position

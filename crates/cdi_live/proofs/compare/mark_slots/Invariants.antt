@@ -1,7 +1,4 @@
-use Rattle.std.proofs.Common.{◌≡◌, ◌||◌, ℕ, nat_eq, length, take}
-use Rattle.std.specs.List.{list_any}
-use Rattle.cdi_model.specs.DeclList.{limit}
-use Rattle.cdi_positions.specs.Marks.{is_marked}
+use Rattle.cdi_live.proofs.Common.{◌≡◌, length, nat_eq, list_any, ℕ, ◌||◌, is_marked, take, limit}
 use Rattle.cdi_live.proofs.compare.mark_slots.Given as goal
 
 abbrev pub invariant-loop-slot : goal.invariant-loop-slot

@@ -1,8 +1,4 @@
-use Rattle.std.proofs.Common.{◌||◌, ap, ◌∙◌}
-use Rattle.std.specs.List.{list_any}
-use Rattle.cdi_postings.specs.Listing.{is_listed}
-use Rattle.cdi_positions.specs.Marks.{marked_from}
-use Rattle.cdi_live.specs.Compared.{is_place_of_one}
+use Rattle.cdi_live.proofs.Common.{ap, ◌∙◌, list_any, ◌||◌, is_listed, marked_from, is_place_of_one}
 use Rattle.cdi_live.proofs.compare.positions_after.Goals as goal
 
 pub returns : goal.returns

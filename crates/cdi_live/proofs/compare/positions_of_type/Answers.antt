@@ -1,4 +1,4 @@
-use Rattle.std.proofs.Common.{sym, ◌∙◌, subst}
+use Rattle.cdi_live.proofs.Common.{sym, ◌∙◌}
 use Rattle.cdi_live.proofs.CompareLemmas.{unmarked}
 use Rattle.cdi_live.proofs.compare.positions_of_type.Goals as goal
 

@@ -1,10 +1,5 @@
-use Rattle.std.proofs.Common.{◌≡◌, Bool, ◌&&◌, ◌||◌, List, [], take, sym, ap, ◌∙◌, arith}
-use Rattle.std.specs.List.{list_any}
-use Rattle.std.specs.Str.{bytes_eq}
-use Rattle.cdi_model.specs.declared.quals.Qual.{Qual}
-use Rattle.cdi_model.specs.SameUse.{same_quals}
-use Rattle.cdi_memo.specs.Answers.{parts_under}
-use Rattle.cdi_live.specs.Gone.{is_gone, sees_other}
+use Rattle.cdi_live.proofs.Common.{◌≡◌, Bool, ◌&&◌, List, [], sym, ap, ◌∙◌, list_any, bytes_eq, Qual, ◌||◌, parts_under, arith, same_quals}
+use Rattle.cdi_live.proofs.Common.{sees_other, is_gone, take}
 use Rattle.cdi_live.proofs.PartLemmas.{any-next, none-copied, nothing-more, regroup, take-whole, within}
 use Rattle.cdi_live.proofs.compare.push_gone_of_type.Goals as goal
 

@@ -1,10 +1,5 @@
-use Rattle.std.proofs.Common.{◌≡◌, ◌&&◌, ◌||◌, ◌-◌, ℕ, List, length, take}
-use Rattle.std.specs.List.{list_any}
-use Rattle.std.specs.Str.{bytes_eq}
-use Rattle.cdi_model.specs.declared.quals.Qual.{Qual}
-use Rattle.cdi_model.specs.SameUse.{same_quals}
-use Rattle.cdi_memo.specs.Answers.{parts_under}
-use Rattle.cdi_live.specs.Gone.{is_gone, sees_other}
+use Rattle.cdi_live.proofs.Common.{◌≡◌, ◌&&◌, List, length, list_any, bytes_eq, Qual, ℕ, ◌||◌, parts_under, same_quals, sees_other, is_gone}
+use Rattle.cdi_live.proofs.Common.{take, ◌-◌}
 use Rattle.cdi_live.proofs.compare.push_gone_of_type.Given as goal
 
 abbrev pub invariant-parts : goal.invariant-parts

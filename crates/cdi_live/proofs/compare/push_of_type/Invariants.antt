@@ -1,5 +1,4 @@
-use Rattle.std.proofs.Common.{◌≡◌, ◌++◌, filter, map, take}
-use Rattle.cdi_match.specs.Chain.{has}
+use Rattle.cdi_live.proofs.Common.{◌≡◌, map, filter, ◌++◌, has, take}
 use Rattle.cdi_live.proofs.compare.push_of_type.Given as goal
 
 abbrev pub invariant-loop-bean : goal.invariant-loop-bean

@@ -1,10 +1,6 @@
-use Rattle.std.proofs.Common.{◌≡◌, List, filter, map, ap, ◌∙◌}
-use Rattle.std.proofs.lemmas.Result.{IfOk-weaker}
-use Rattle.cdi_effective.specs.Beans.{beans}
-use Rattle.cdi_effective.specs.declared.records.Effective.{Effective}
-use Rattle.cdi_resolve.specs.Choices.{offers}
+use Rattle.cdi_live.proofs.Common.{◌≡◌, List, map, filter, ap, ◌∙◌, Effective, beans, offers, see_same_beans, IfOk-weaker}
 use Rattle.cdi_questions.proofs.CandidateLemmas.{has_enough}
-use Rattle.cdi_seen.specs.Touched.{beans_alike, see_same_beans}
+use Rattle.cdi_seen.specs.Touched.{beans_alike}
 use Rattle.cdi_live.proofs.compare.see_same_beans.Goals as goal
 
 pub returns : goal.returns

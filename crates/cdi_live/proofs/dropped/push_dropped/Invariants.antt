@@ -1,8 +1,5 @@
-use Rattle.std.proofs.Common.{◌≡◌, ◌||◌, ℕ, List, take}
-use Rattle.std.specs.List.{list_any}
-use Rattle.cdi_model.specs.declared.quals.Qual.{Qual}
-use Rattle.cdi_live.specs.Dropped.{asks_before, is_dropped_at}
-use Rattle.cdi_live.specs.Gone.{is_gone}
+use Rattle.cdi_live.proofs.Common.{◌≡◌, List, list_any, Qual, ℕ, ◌||◌, is_gone, take, asks_before}
+use Rattle.cdi_live.specs.Dropped.{is_dropped_at}
 use Rattle.cdi_live.proofs.dropped.push_dropped.Given as goal
 
 abbrev pub invariant-loop-key : goal.invariant-loop-key

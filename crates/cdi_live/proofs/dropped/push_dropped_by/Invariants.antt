@@ -1,8 +1,5 @@
-use Rattle.std.proofs.Common.{◌≡◌, ◌||◌, ℕ, List}
-use Rattle.std.specs.List.{list_any}
-use Rattle.cdi_model.specs.declared.quals.Qual.{Qual}
-use Rattle.cdi_live.specs.Dropped.{asks_before, is_dropped_by, is_dropped_in}
-use Rattle.cdi_live.specs.Gone.{is_gone}
+use Rattle.cdi_live.proofs.Common.{◌≡◌, List, list_any, Qual, ℕ, ◌||◌, is_gone, asks_before}
+use Rattle.cdi_live.specs.Dropped.{is_dropped_by, is_dropped_in}
 use Rattle.cdi_live.proofs.dropped.push_dropped_by.Given as goal
 
 abbrev pub invariant-loop-mention : goal.invariant-loop-mention

@@ -1,14 +1,6 @@
-use Rattle.std.proofs.Common.{◌≡◌, ℕ, false, List, Some, filter, flat_map, map, slice_get, sym, ap, subst, ◌∙◌}
-use Rattle.std.proofs.lemmas.Result.{IfOk-weaker}
-use Rattle.cdi_model.specs.declared.decl.Decl.{Decl}
-use Rattle.cdi_model.specs.DeclList.{AreDistinct}
-use Rattle.cdi_match.specs.Types.{types_of}
-use Rattle.cdi_effective.specs.Beans.{beans}
-use Rattle.cdi_effective.specs.declared.records.Effective.{Effective}
-use Rattle.cdi_index.specs.Under.{observes_one, records_at}
-use Rattle.cdi_intercept.specs.Sorting.{sorted_by}
-use Rattle.cdi_observe.specs.Observers.{is_before, observers, observes, observing}
-use Rattle.cdi_positions.specs.Marks.{is_marked, marked_from}
+use Rattle.cdi_live.proofs.Common.{◌≡◌, false, List, map, filter, sym, ap, ◌∙◌, Decl, ℕ, flat_map, Some, AreDistinct, Effective}
+use Rattle.cdi_live.proofs.Common.{slice_get, beans, is_marked, marked_from, records_at, types_of, sorted_by, observes_one, is_before}
+use Rattle.cdi_live.proofs.Common.{observers, observes, observing, IfOk-weaker}
 use Rattle.cdi_observe.specs.Lent.{lent_in}
 use Rattle.cdi_live.proofs.EventCompareLemmas.{seen-after}
 use Rattle.cdi_live.proofs.event_compare.observers_after.Goals as goal

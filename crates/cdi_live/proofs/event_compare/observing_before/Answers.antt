@@ -1,12 +1,5 @@
-use Rattle.std.proofs.Common.{◌≡◌, ℕ, List, filter, flat_map, map, ap, subst, ◌∙◌}
-use Rattle.std.proofs.lemmas.Result.{IfOk-weaker}
-use Rattle.cdi_model.specs.DeclList.{AreDistinct}
-use Rattle.cdi_match.specs.Types.{types_of}
-use Rattle.cdi_effective.specs.Beans.{beans, entries}
-use Rattle.cdi_effective.specs.declared.records.Effective.{Effective}
-use Rattle.cdi_index.specs.Under.{observes_one}
-use Rattle.cdi_intercept.specs.Sorting.{sorted_by}
-use Rattle.cdi_observe.specs.Observers.{is_before, observers, observes, observing}
+use Rattle.cdi_live.proofs.Common.{◌≡◌, List, map, filter, ap, ◌∙◌, ℕ, flat_map, AreDistinct, Effective, beans, entries, types_of}
+use Rattle.cdi_live.proofs.Common.{sorted_by, observes_one, is_before, observers, observes, observing, IfOk-weaker}
 use Rattle.cdi_observe.specs.Lent.{lent_in}
 use Rattle.cdi_live.proofs.EventCompareLemmas.{seen-before}
 use Rattle.cdi_live.proofs.event_compare.observing_before.Goals as goal

@@ -1,12 +1,6 @@
-use Rattle.std.proofs.Common.{◌≡◌, ◌||◌, ℕ, false, map, slice_get, sym, ap, subst, ◌∙◌}
-use Rattle.std.specs.List.{list_any}
-use Rattle.std.specs.Option.{option_map_or}
+use Rattle.cdi_live.proofs.Common.{◌≡◌, false, map, sym, ap, ◌∙◌, list_any, ℕ, ◌||◌, option_map_or, word_at, has_one, slice_get}
+use Rattle.cdi_live.proofs.Common.{is_listed, is_marked, marked_from, is_place_of_one}
 use Rattle.cdi_postings.specs.declared.word.Reason.TheVariants as reasons
-use Rattle.cdi_postings.specs.Listing.{is_listed}
-use Rattle.cdi_postings.specs.Words.{word_at}
-use Rattle.cdi_positions.specs.Marks.{is_marked, marked_from}
-use Rattle.cdi_index.specs.Under.{has_one}
-use Rattle.cdi_live.specs.Compared.{is_place_of_one}
 use Rattle.cdi_live.proofs.EventCompareLemmas.{unobserved}
 use Rattle.cdi_live.proofs.event_compare.positions_observing.Goals as goal
 

@@ -1,12 +1,5 @@
-use Rattle.std.proofs.Common.{◌≡◌, Bool, ◌&&◌, ◌||◌, List, [], take, sym, ap, ◌∙◌, arith}
-use Rattle.std.specs.Str.{bytes_eq}
-use Rattle.cdi_model.specs.declared.quals.Qual.{Qual}
-use Rattle.cdi_model.specs.SameUse.{same_quals}
-use Rattle.cdi_memo.specs.Answers.{parts_under}
-use Rattle.cdi_observe.specs.Keys.{EventKey}
-use Rattle.cdi_seen.specs.Touched.{is_touched}
-use Rattle.cdi_live.specs.EventCompared.{is_touched_among}
-use Rattle.cdi_live.specs.Gone.{is_gone}
+use Rattle.cdi_live.proofs.Common.{◌≡◌, Bool, ◌&&◌, List, [], sym, ap, ◌∙◌, bytes_eq, Qual, ◌||◌, parts_under, is_touched, arith, EventKey}
+use Rattle.cdi_live.proofs.Common.{same_quals, is_gone, take, is_touched_among}
 use Rattle.cdi_live.proofs.PartLemmas.{any-next, none-copied, nothing-more, regroup, take-whole, within}
 use Rattle.cdi_live.proofs.event_compare.push_touched_of_type.Goals as goal
 

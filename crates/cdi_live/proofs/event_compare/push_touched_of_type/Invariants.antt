@@ -1,9 +1,4 @@
-use Rattle.std.proofs.Common.{◌≡◌, ◌&&◌, ◌||◌, ◌-◌, ℕ, List, length, take}
-use Rattle.std.specs.Str.{bytes_eq}
-use Rattle.cdi_model.specs.declared.quals.Qual.{Qual}
-use Rattle.cdi_memo.specs.Answers.{parts_under}
-use Rattle.cdi_live.specs.EventCompared.{is_touched_among}
-use Rattle.cdi_live.specs.Gone.{is_gone}
+use Rattle.cdi_live.proofs.Common.{◌≡◌, ◌&&◌, List, length, bytes_eq, Qual, ℕ, ◌||◌, parts_under, is_gone, take, ◌-◌, is_touched_among}
 use Rattle.cdi_live.proofs.event_compare.push_touched_of_type.Given as goal
 
 abbrev pub invariant-parts : goal.invariant-parts

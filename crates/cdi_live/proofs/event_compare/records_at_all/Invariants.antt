@@ -1,6 +1,4 @@
-use Rattle.std.proofs.Common.{◌≡◌, ◌++◌, flat_map, map}
-use Rattle.cdi_positions.specs.Marks.{marked_from}
-use Rattle.cdi_index.specs.Under.{records_at}
+use Rattle.cdi_live.proofs.Common.{◌≡◌, map, flat_map, ◌++◌, marked_from, records_at}
 use Rattle.cdi_live.proofs.event_compare.records_at_all.Given as goal
 
 abbrev pub invariant-loop-position : goal.invariant-loop-position

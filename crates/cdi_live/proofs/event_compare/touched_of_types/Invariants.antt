@@ -1,7 +1,4 @@
-use Rattle.std.proofs.Common.{◌≡◌, ℕ, List, take}
-use Rattle.cdi_model.specs.declared.quals.Qual.{Qual}
-use Rattle.cdi_live.specs.EventCompared.{is_touched_of}
-use Rattle.cdi_live.specs.Gone.{is_gone}
+use Rattle.cdi_live.proofs.Common.{◌≡◌, List, Qual, ℕ, is_touched_of, is_gone, take}
 use Rattle.cdi_live.proofs.event_compare.touched_of_types.Given as goal
 
 abbrev pub invariant-loop-event_type : goal.invariant-loop-event_type

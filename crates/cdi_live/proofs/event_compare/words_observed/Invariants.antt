@@ -1,6 +1,5 @@
-use Rattle.std.proofs.Common.{◌≡◌, map, take}
+use Rattle.cdi_live.proofs.Common.{◌≡◌, map, word_at, take}
 use Rattle.cdi_postings.specs.declared.word.Reason.TheVariants as reasons
-use Rattle.cdi_postings.specs.Words.{word_at}
 use Rattle.cdi_live.proofs.event_compare.words_observed.Given as goal
 
 abbrev pub invariant-loop-event_type : goal.invariant-loop-event_type

@@ -1,7 +1,4 @@
-use Rattle.std.proofs.Common.{◌||◌, refl, ap, subst, ◌∙◌}
-use Rattle.std.specs.List.{list_any}
-use Rattle.std.specs.Str.{bytes_eq}
-use Rattle.cdi_live.specs.EventDropped.{drops_before, is_dropped_at}
+use Rattle.cdi_live.proofs.Common.{refl, ap, ◌∙◌, list_any, bytes_eq, ◌||◌, is_dropped_at, drops_before}
 use Rattle.cdi_live.specs.declared.event_dropped.EventWants.{EventWants}
 use Rattle.cdi_live.proofs.EventGoneLemmas.{gone-between}
 use Rattle.cdi_live.proofs.event_stage.gone_events_after.Goals as goal

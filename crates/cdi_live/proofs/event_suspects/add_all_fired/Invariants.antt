@@ -1,9 +1,4 @@
-use Rattle.std.proofs.Common.{◌≡◌, ◌||◌, ℕ, List, flat_map}
-use Rattle.std.specs.Str.{bytes_eq}
-use Rattle.indexmap.specs.IndexSet.{contains}
-use Rattle.cdi_positions.specs.Marks.{marked_from}
-use Rattle.cdi_live.specs.EventSuspects.{fired_at}
-use Rattle.cdi_live.specs.Suspects.{holds}
+use Rattle.cdi_live.proofs.Common.{◌≡◌, List, bytes_eq, ℕ, ◌||◌, flat_map, holds, marked_from, fired_at, contains}
 use Rattle.cdi_live.proofs.event_suspects.add_all_fired.Given as goal
 
 abbrev pub invariant-loop-position : goal.invariant-loop-position

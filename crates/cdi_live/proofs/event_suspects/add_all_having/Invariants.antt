@@ -1,9 +1,4 @@
-use Rattle.std.proofs.Common.{◌≡◌, ◌||◌, ℕ, List, take}
-use Rattle.std.specs.List.{list_any}
-use Rattle.std.specs.Map.{keys_of}
-use Rattle.std.specs.Str.{bytes_eq}
-use Rattle.indexmap.specs.IndexSet.{contains}
-use Rattle.cdi_live.specs.EventSuspects.{may_have}
+use Rattle.cdi_live.proofs.Common.{◌≡◌, List, list_any, bytes_eq, ℕ, ◌||◌, keys_of, may_have, take, contains}
 use Rattle.cdi_live.proofs.event_suspects.add_all_having.Given as goal
 
 abbrev pub invariant-loop-name : goal.invariant-loop-name

@@ -1,8 +1,4 @@
-use Rattle.std.proofs.Common.{◌≡◌, ◌||◌, ℕ, List, flat_map}
-use Rattle.std.specs.Str.{bytes_eq}
-use Rattle.indexmap.specs.IndexSet.{contains}
-use Rattle.cdi_live.specs.EventSuspects.{fired_in, fired_types}
-use Rattle.cdi_live.specs.Suspects.{holds}
+use Rattle.cdi_live.proofs.Common.{◌≡◌, List, bytes_eq, ℕ, ◌||◌, flat_map, holds, fired_in, fired_types, contains}
 use Rattle.cdi_live.proofs.event_suspects.add_fired.Given as goal
 
 abbrev pub invariant-loop-mention : goal.invariant-loop-mention

@@ -1,8 +1,4 @@
-use Rattle.std.proofs.Common.{◌≡◌, Bool, true, false, ◌||◌, take, refl, sym, ap, ◌∙◌, arith}
-use Rattle.std.specs.Map.{keys_of}
-use Rattle.std.specs.Str.{bytes_eq}
-use Rattle.indexmap.specs.IndexSet.{contains}
-use Rattle.cdi_live.specs.Suspects.{holds}
+use Rattle.cdi_live.proofs.Common.{◌≡◌, Bool, true, false, refl, sym, ap, ◌∙◌, bytes_eq, ◌||◌, holds, arith, keys_of, take, contains}
 use Rattle.cdi_live.proofs.PartLemmas.{any-next, take-whole, within}
 use Rattle.cdi_live.proofs.event_suspects.add_kept.Goals as goal
 

@@ -1,8 +1,4 @@
-use Rattle.std.proofs.Common.{◌≡◌, ◌||◌, ◌-◌, ℕ, List, length, take}
-use Rattle.std.specs.Map.{keys_of}
-use Rattle.std.specs.Str.{bytes_eq}
-use Rattle.indexmap.specs.IndexSet.{contains}
-use Rattle.cdi_live.specs.Suspects.{holds}
+use Rattle.cdi_live.proofs.Common.{◌≡◌, List, length, bytes_eq, ℕ, ◌||◌, holds, keys_of, take, ◌-◌, contains}
 use Rattle.cdi_live.proofs.event_suspects.add_kept.Given as goal
 
 abbrev pub invariant-names : goal.invariant-names

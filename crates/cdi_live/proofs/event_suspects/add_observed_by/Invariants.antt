@@ -1,8 +1,4 @@
-use Rattle.std.proofs.Common.{◌≡◌, ◌||◌, ℕ, List, take}
-use Rattle.std.specs.Str.{bytes_eq}
-use Rattle.indexmap.specs.IndexSet.{contains}
-use Rattle.cdi_live.specs.EventSuspects.{event_types}
-use Rattle.cdi_live.specs.Suspects.{holds}
+use Rattle.cdi_live.proofs.Common.{◌≡◌, List, bytes_eq, ℕ, ◌||◌, holds, event_types, take, contains}
 use Rattle.cdi_live.proofs.event_suspects.add_observed_by.Given as goal
 
 abbrev pub invariant-loop-method : goal.invariant-loop-method

@@ -1,10 +1,4 @@
-use Rattle.std.proofs.Common.{◌||◌, flat_map, ap, ◌∙◌}
-use Rattle.std.specs.List.{list_any}
-use Rattle.std.specs.Map.{keys_of}
-use Rattle.std.specs.Str.{bytes_eq}
-use Rattle.cdi_positions.specs.Marks.{marked_from}
-use Rattle.cdi_live.specs.EventSuspects.{fired_at, may_have}
-use Rattle.cdi_live.specs.Suspects.{holds}
+use Rattle.cdi_live.proofs.Common.{ap, ◌∙◌, list_any, bytes_eq, ◌||◌, flat_map, holds, marked_from, keys_of, fired_at, may_have}
 use Rattle.cdi_live.proofs.EventSuspectLemmas.{suspects-are}
 use Rattle.cdi_live.proofs.event_suspects.event_suspects.Goals as goal
 

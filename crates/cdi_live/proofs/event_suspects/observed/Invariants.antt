@@ -1,8 +1,4 @@
-use Rattle.std.proofs.Common.{◌≡◌, ℕ, List, flat_map, take}
-use Rattle.std.specs.Str.{bytes_eq}
-use Rattle.indexmap.specs.IndexSet.{contains}
-use Rattle.cdi_live.specs.EventSuspects.{observed_by_key}
-use Rattle.cdi_live.specs.Suspects.{holds}
+use Rattle.cdi_live.proofs.Common.{◌≡◌, List, bytes_eq, ℕ, flat_map, holds, observed_by_key, take, contains}
 use Rattle.cdi_live.proofs.event_suspects.observed.Given as goal
 
 abbrev pub invariant-loop-key : goal.invariant-loop-key

@@ -1,5 +1,4 @@
-use Rattle.std.proofs.Common.{◌≡◌, take}
-use Rattle.cdi_live.specs.EventSuspects.{words_edited}
+use Rattle.cdi_live.proofs.Common.{◌≡◌, words_edited, take}
 use Rattle.cdi_live.proofs.event_suspects.words_edited.Given as goal
 
 abbrev pub invariant-loop-key : goal.invariant-loop-key

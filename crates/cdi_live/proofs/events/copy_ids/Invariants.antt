@@ -1,4 +1,4 @@
-use Rattle.std.proofs.Common.{◌≡◌, take}
+use Rattle.cdi_live.proofs.Common.{◌≡◌, take}
 use Rattle.cdi_live.proofs.events.copy_ids.Given as goal
 
 abbrev pub invariant-loop-id : goal.invariant-loop-id

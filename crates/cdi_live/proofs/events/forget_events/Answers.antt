@@ -1,4 +1,4 @@
-use Rattle.std.proofs.Common.{◌∙◌}
+use Rattle.cdi_live.proofs.Common.{◌∙◌}
 use Rattle.cdi_live.proofs.LiveLemmas.{forget-next}
 use Rattle.cdi_live.proofs.events.forget_events.Goals as goal
 

@@ -1,12 +1,6 @@
-use Rattle.std.proofs.Common.{◌≡◌, ◌&&◌, if◌then◌else◌, Some, sym, ap, ◌∙◌}
-use Rattle.std.specs.List.{list_any}
-use Rattle.std.specs.Str.{bytes_eq}
-use Rattle.cdi_model.specs.SameUse.{same_quals}
-use Rattle.cdi_index.specs.Asked.{asks_for}
+use Rattle.cdi_live.proofs.Common.{◌≡◌, ◌&&◌, sym, ap, ◌∙◌, list_any, bytes_eq, Some, asks_for, is_wanted, EventKey, same_quals}
+use Rattle.cdi_live.proofs.Common.{if◌then◌else◌, answer}
 use Rattle.cdi_index.specs.declared.asked.Question.TheVariants as questions
-use Rattle.cdi_memo.specs.Answers.{answer}
-use Rattle.cdi_observe.specs.Keys.{EventKey}
-use Rattle.cdi_observe.specs.Wanted.{is_wanted}
 use Rattle.cdi_live.proofs.EventAskedLemmas.{event-wanted-is}
 use Rattle.cdi_live.proofs.events.keep_event.Goals as goal
 

@@ -1,5 +1,4 @@
-use Rattle.std.proofs.Common.{◌≡◌, ◌++◌, take}
-use Rattle.cdi_live.specs.ChainGone.{words_bound}
+use Rattle.cdi_live.proofs.Common.{◌≡◌, ◌++◌, words_bound, take}
 use Rattle.cdi_live.proofs.interceptors.push_bound_words.Given as goal
 
 abbrev pub invariant-loop-binding : goal.invariant-loop-binding

@@ -1,7 +1,4 @@
-use Rattle.std.proofs.Common.{◌≡◌, refl}
-use Rattle.std.proofs.lemmas.Result.{IfOk-weaker}
-use Rattle.cdi_model.specs.declared.key.DeclKey.{DeclKey}
-use Rattle.cdi_model.specs.Edits.{is_among}
+use Rattle.cdi_live.proofs.Common.{◌≡◌, refl, DeclKey, is_among, IfOk-weaker}
 use Rattle.cdi_concern.specs.Concern.{is_concerned}
 use Rattle.cdi_concern.specs.declared.moved.Moved.{Moved}
 use Rattle.cdi_live.specs.Concerned.{AreConcerned}

@@ -1,4 +1,4 @@
-use Rattle.std.proofs.Common.{◌-◌, length, sym, ◌∙◌}
+use Rattle.cdi_live.proofs.Common.{length, sym, ◌∙◌, ◌-◌}
 use Rattle.cdi_live.proofs.MovedLemmas.{already-there}
 use Rattle.cdi_live.proofs.moved.push_name.Goals as goal
 

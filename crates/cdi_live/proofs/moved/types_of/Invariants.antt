@@ -1,7 +1,4 @@
-use Rattle.std.proofs.Common.{◌≡◌, ℕ, List, take}
-use Rattle.std.specs.List.{list_any}
-use Rattle.std.specs.Str.{bytes_eq}
-use Rattle.cdi_match.specs.Chain.{has}
+use Rattle.cdi_live.proofs.Common.{◌≡◌, List, list_any, bytes_eq, ℕ, has, take}
 use Rattle.cdi_live.proofs.moved.types_of.Given as goal
 
 abbrev pub invariant-loop-one : goal.invariant-loop-one

@@ -1,4 +1,4 @@
-use Rattle.std.proofs.Common.{◌≡◌, take}
+use Rattle.cdi_live.proofs.Common.{◌≡◌, take}
 use Rattle.cdi_live.proofs.prepare.copy_keys.Given as goal
 
 abbrev pub invariant-loop-key : goal.invariant-loop-key

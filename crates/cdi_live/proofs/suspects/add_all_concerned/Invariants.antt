@@ -1,8 +1,5 @@
-use Rattle.std.proofs.Common.{◌≡◌, ◌||◌, ℕ, List, flat_map}
-use Rattle.std.specs.Str.{bytes_eq}
-use Rattle.indexmap.specs.IndexSet.{contains}
-use Rattle.cdi_positions.specs.Marks.{marked_from}
-use Rattle.cdi_live.specs.Suspects.{concerned_at, holds}
+use Rattle.cdi_live.proofs.Common.{◌≡◌, List, bytes_eq, ℕ, ◌||◌, flat_map, holds, marked_from, contains}
+use Rattle.cdi_live.specs.Suspects.{concerned_at}
 use Rattle.cdi_live.proofs.suspects.add_all_concerned.Given as goal
 
 abbrev pub invariant-loop-position : goal.invariant-loop-position

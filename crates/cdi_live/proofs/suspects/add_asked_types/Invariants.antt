@@ -1,7 +1,4 @@
-use Rattle.std.proofs.Common.{◌≡◌, ◌||◌, ℕ, List, flat_map}
-use Rattle.std.specs.Str.{bytes_eq}
-use Rattle.indexmap.specs.IndexSet.{contains}
-use Rattle.cdi_live.specs.Suspects.{asked_in, asked_types, holds}
+use Rattle.cdi_live.proofs.Common.{◌≡◌, List, bytes_eq, ℕ, ◌||◌, flat_map, holds, asked_in, asked_types, contains}
 use Rattle.cdi_live.proofs.suspects.add_asked_types.Given as goal
 
 abbrev pub invariant-loop-mention : goal.invariant-loop-mention

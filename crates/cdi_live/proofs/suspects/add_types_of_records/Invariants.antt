@@ -1,7 +1,4 @@
-use Rattle.std.proofs.Common.{◌≡◌, ◌||◌, ℕ, List, take}
-use Rattle.std.specs.Str.{bytes_eq}
-use Rattle.indexmap.specs.IndexSet.{contains}
-use Rattle.cdi_live.specs.Suspects.{holds, types_of_records}
+use Rattle.cdi_live.proofs.Common.{◌≡◌, List, bytes_eq, ℕ, ◌||◌, holds, take, types_of_records, contains}
 use Rattle.cdi_live.proofs.suspects.add_types_of_records.Given as goal
 
 abbrev pub invariant-loop-bean : goal.invariant-loop-bean

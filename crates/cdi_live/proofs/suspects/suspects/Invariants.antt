@@ -1,7 +1,4 @@
-use Rattle.std.proofs.Common.{◌≡◌, ◌||◌, ℕ, List, flat_map, take}
-use Rattle.std.specs.Str.{bytes_eq}
-use Rattle.indexmap.specs.IndexSet.{contains}
-use Rattle.cdi_live.specs.Suspects.{holds, types_of_edited, types_of_key}
+use Rattle.cdi_live.proofs.Common.{◌≡◌, List, bytes_eq, ℕ, ◌||◌, flat_map, holds, take, types_of_edited, types_of_key, contains}
 use Rattle.cdi_live.proofs.suspects.suspects.Given as goal
 
 abbrev pub invariant-loop-key : goal.invariant-loop-key

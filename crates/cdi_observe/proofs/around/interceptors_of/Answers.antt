@@ -1,12 +1,5 @@
-use Rattle.std.proofs.Common.{◌≡◌, ◌<◌, true, length, map, sym, subst, ap, ◌∙◌}
-use Rattle.std.specs.List.{AllByRecursion}
-use Rattle.std.specs.List.{list_all}
-use Rattle.std.proofs.lemmas.List.{get_or-map, length-map}
-use Rattle.std.proofs.lemmas.List.Elements.{All-from_recursion}
-use Rattle.std.proofs.lemmas.List.Sums.{AllPass-from_list_all}
-use Rattle.cdi_observe.specs.Keys.{ChainKey}
-use Rattle.cdi_observe.specs.Lending.{is_answerable}
-use Rattle.cdi_intercept.specs.Sets.{has_place}
+use Rattle.cdi_observe.proofs.Common.{◌≡◌, true, map, length, sym, ap, ◌∙◌, AllByRecursion, has_place, list_all, All-from_recursion, subst}
+use Rattle.cdi_observe.proofs.Common.{◌<◌, AllPass-from_list_all, ChainKey, is_answerable, get_or-map, length-map}
 use Rattle.cdi_observe.proofs.BeanPlaceLemmas.{has-each_place}
 use Rattle.cdi_observe.proofs.around.interceptors_of.Goals as goal
 

@@ -1,6 +1,4 @@
-use Rattle.std.proofs.Common.{◌≡◌, ◌++◌, drop}
-use Rattle.std.specs.List.{flat_map}
-use Rattle.cdi_observe.specs.Around.{names_at, names_of_bean}
+use Rattle.cdi_observe.proofs.Common.{◌≡◌, ◌++◌, flat_map, names_at, names_of_bean, drop}
 use Rattle.cdi_observe.proofs.around.interceptors_of.Given as goal
 
 abbrev pub invariant-loop-place : goal.invariant-loop-place

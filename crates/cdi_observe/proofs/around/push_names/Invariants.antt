@@ -1,4 +1,4 @@
-use Rattle.std.proofs.Common.{◌≡◌, ◌++◌, drop}
+use Rattle.cdi_observe.proofs.Common.{◌≡◌, ◌++◌, drop}
 use Rattle.cdi_observe.proofs.around.push_names.Given as goal
 
 abbrev pub invariant-loop-name : goal.invariant-loop-name

@@ -1,4 +1,4 @@
-use Rattle.std.proofs.Common.{◌≡◌, map, take}
+use Rattle.cdi_observe.proofs.Common.{◌≡◌, map, take}
 use Rattle.cdi_observe.proofs.evaluation.lent_decls.Given as goal
 
 abbrev pub invariant-loop-decl : goal.invariant-loop-decl

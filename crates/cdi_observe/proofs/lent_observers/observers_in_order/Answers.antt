@@ -1,5 +1,4 @@
-use Rattle.std.proofs.Common.{ap}
-use Rattle.cdi_observe.specs.Observers.{declared_by, observes}
+use Rattle.cdi_observe.proofs.Common.{ap, declared_by, observes}
 use Rattle.cdi_observe.proofs.ObserverLemmas.{next-lent}
 use Rattle.cdi_observe.proofs.lent_observers.observers_in_order.Goals as goal
 

@@ -1,6 +1,4 @@
-use Rattle.std.proofs.Common.{◌≡◌, ◌++◌, drop, filter, map}
-use Rattle.cdi_observe.specs.Lent.{lent_in}
-use Rattle.cdi_observe.specs.Observers.{observers, observes}
+use Rattle.cdi_observe.proofs.Common.{◌≡◌, ◌++◌, map, filter, drop, observers, lent_in, observes}
 use Rattle.cdi_observe.proofs.lent_observers.observers_in_order.Given as goal
 
 abbrev pub invariant-loop-bean : goal.invariant-loop-bean

@@ -1,6 +1,5 @@
-use Rattle.std.proofs.Common.{◌≡◌, ◌++◌, drop, filter, map}
-use Rattle.cdi_observe.specs.Lent.{lent_in, observer_in}
-use Rattle.cdi_observe.specs.Observers.{observes}
+use Rattle.cdi_observe.proofs.Common.{◌≡◌, ◌++◌, map, filter, drop, lent_in, observes}
+use Rattle.cdi_observe.specs.Lent.{observer_in}
 use Rattle.cdi_observe.proofs.lent_observers.push_observers.Given as goal
 
 abbrev pub invariant-loop-method : goal.invariant-loop-method

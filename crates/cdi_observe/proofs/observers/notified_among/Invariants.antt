@@ -1,6 +1,4 @@
-use Rattle.std.proofs.Common.{◌≡◌, ◌++◌, drop, filter, map}
-use Rattle.cdi_observe.specs.Lent.{lent_in}
-use Rattle.cdi_observe.specs.Observers.{is_notified, observer_id}
+use Rattle.cdi_observe.proofs.Common.{◌≡◌, ◌++◌, map, filter, drop, is_notified, observer_id, lent_in}
 use Rattle.cdi_observe.proofs.observers.notified_among.Given as goal
 
 abbrev pub invariant-loop-observer : goal.invariant-loop-observer

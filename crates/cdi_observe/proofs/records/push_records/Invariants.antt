@@ -1,4 +1,4 @@
-use Rattle.std.proofs.Common.{◌≡◌, ◌++◌, map, take}
+use Rattle.cdi_observe.proofs.Common.{◌≡◌, ◌++◌, map, take}
 use Rattle.cdi_observe.proofs.records.push_records.Given as goal
 
 abbrev pub invariant-loop-bean : goal.invariant-loop-bean

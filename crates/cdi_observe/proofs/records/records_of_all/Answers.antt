@@ -1,7 +1,6 @@
-use Rattle.std.proofs.Common.{◌≡◌, ◌++◌, suc, Some, flat_map, map, slice_get, subst, sym, ap, ◌∙◌, append_assoc}
-use Rattle.cdi_model.specs.DeclList.{AreDistinct}
-use Rattle.cdi_effective.specs.Beans.{entries}
-use Rattle.cdi_effective.proofs.PlaceLemmas.{own-found}
+use Rattle.cdi_observe.proofs.Common.{◌≡◌, suc, ◌++◌, map, Some, sym, ap, ◌∙◌, AreDistinct, own-found, subst, append_assoc, slice_get}
+use Rattle.cdi_observe.proofs.Common.{entries}
+use Rattle.std.proofs.Common.{flat_map}
 use Rattle.cdi_observe.proofs.records.records_of_all.Goals as goal
 
 pub loop-decl-init : goal.loop-decl-init

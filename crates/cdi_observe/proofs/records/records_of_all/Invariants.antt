@@ -1,8 +1,5 @@
-use Rattle.std.proofs.Common.{◌≡◌, ◌++◌, ℕ, Some, flat_map, map, slice_get}
-use Rattle.cdi_model.specs.Decl.{kind_of, name_of_decl}
-use Rattle.cdi_model.specs.DeclList.{find_decl}
-use Rattle.cdi_model.specs.declared.decl.Decl.{Decl}
-use Rattle.cdi_effective.specs.Beans.{entries}
+use Rattle.cdi_observe.proofs.Common.{◌≡◌, ℕ, ◌++◌, map, Some, find_decl, Decl, kind_of, name_of_decl, slice_get, entries}
+use Rattle.std.proofs.Common.{flat_map}
 use Rattle.cdi_observe.proofs.records.records_of_all.Given as goal
 
 abbrev pub invariant-loop-decl : goal.invariant-loop-decl

@@ -1,9 +1,5 @@
-use Rattle.std.proofs.Common.{◌≡◌, Some, subst, ap, sym, ◌∙◌}
-use Rattle.cdi_model.specs.Decl.{kind_of, name_of_decl}
-use Rattle.cdi_model.specs.DeclList.{find_decl}
-use Rattle.cdi_effective.specs.Beans.{entries}
-use Rattle.cdi_effective.specs.Disposers.{as_bean}
-use Rattle.cdi_effective.specs.Records.{records_declared, records_in}
+use Rattle.cdi_observe.proofs.Common.{◌≡◌, Some, sym, ap, ◌∙◌, find_decl, subst, kind_of, name_of_decl, as_bean, entries, records_in}
+use Rattle.cdi_effective.specs.Records.{records_declared}
 use Rattle.cdi_observe.proofs.records.records_of_decl.Goals as goal
 
 pub returns-in-Bean : goal.returns-in-Bean

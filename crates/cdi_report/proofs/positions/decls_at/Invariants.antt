@@ -1,6 +1,4 @@
-use Rattle.std.proofs.Common.{◌≡◌, ◌++◌, flat_map, map}
-use Rattle.cdi_positions.specs.Marks.{marked_from}
-use Rattle.cdi_report.specs.Positions.{decls_at}
+use Rattle.cdi_report.proofs.Common.{◌≡◌, ◌++◌, map, flat_map, marked_from, decls_at}
 use Rattle.cdi_report.proofs.positions.decls_at.Given as goal
 
 abbrev pub invariant-loop-position : goal.invariant-loop-position

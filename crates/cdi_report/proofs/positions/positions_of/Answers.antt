@@ -1,7 +1,4 @@
-use Rattle.std.proofs.Common.{◌≤◌, length, ap, ◌∙◌, arith}
-use Rattle.std.specs.List.{list_any}
-use Rattle.std.proofs.lemmas.List.{take_all}
-use Rattle.cdi_report.specs.Positions.{is_at}
+use Rattle.cdi_report.proofs.Common.{ap, ◌∙◌, length, list_any, arith, is_at, ◌≤◌, take_all}
 use Rattle.cdi_report.proofs.PositionLemmas.{at-keys}
 use Rattle.cdi_report.proofs.positions.positions_of.Goals as goal
 

@@ -1,7 +1,5 @@
-use Rattle.std.proofs.Common.{◌≡◌, length, take}
-use Rattle.std.specs.List.{list_any}
-use Rattle.cdi_positions.specs.Marks.{is_marked, limit}
-use Rattle.cdi_report.specs.Positions.{is_at}
+use Rattle.cdi_report.proofs.Common.{◌≡◌, length, list_any, is_marked, is_at, take}
+use Rattle.cdi_positions.specs.Marks.{limit}
 use Rattle.cdi_report.proofs.positions.positions_of.Given as goal
 
 abbrev pub invariant-loop-key : goal.invariant-loop-key

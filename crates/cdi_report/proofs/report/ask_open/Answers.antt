@@ -1,7 +1,4 @@
-use Rattle.std.proofs.Common.{map, subst, sym, ap, ◌∙◌}
-use Rattle.cdi_model.specs.DeclList.{AreDistinct}
-use Rattle.cdi_observe.specs.Wanted.{AskForRest}
-use Rattle.cdi_report.specs.Settled.{open_of}
+use Rattle.cdi_report.proofs.Common.{map, sym, ap, subst, ◌∙◌, AreDistinct, open_of, AskForRest}
 use Rattle.cdi_report.proofs.SettledLemmas.{open-found}
 use Rattle.cdi_report.proofs.report.ask_open.Goals as goal
 

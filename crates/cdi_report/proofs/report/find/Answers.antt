@@ -1,12 +1,6 @@
-use Rattle.std.proofs.Common.{◌&&◌, ◌++◌, map, subst, sym, ap, ◌∙◌}
-use Rattle.std.specs.List.{flat_map, list_any}
-use Rattle.std.proofs.lemmas.Result.{IfOk-weaker}
-use Rattle.cdi_model.specs.Decl.{key_of}
-use Rattle.cdi_model.specs.DeclKey.{same_key}
-use Rattle.cdi_model.specs.DeclList.{AreDistinct}
-use Rattle.cdi_validate.specs.Among.{faults_together, has_faults}
-use Rattle.cdi_validate.specs.Faults.{faults_of}
-use Rattle.cdi_report.specs.Settled.{open_of}
+use Rattle.cdi_report.proofs.Common.{◌++◌, map, sym, ap, subst, ◌∙◌, same_key, key_of, ◌&&◌, list_any, AreDistinct, open_of, faults_of}
+use Rattle.cdi_report.proofs.Common.{has_faults, faults_together, IfOk-weaker}
+use Rattle.std.specs.List.{flat_map}
 use Rattle.cdi_report.proofs.SettledLemmas.{open-found}
 use Rattle.cdi_report.proofs.TogetherLemmas.{none-anew, together-told}
 use Rattle.cdi_report.proofs.report.find.Goals as goal

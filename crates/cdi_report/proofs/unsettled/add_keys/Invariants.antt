@@ -1,7 +1,4 @@
-use Rattle.std.proofs.Common.{◌≡◌, ◌||◌, take}
-use Rattle.indexmap.specs.IndexSet.{contains}
-use Rattle.cdi_model.specs.DeclKey.{same_key}
-use Rattle.cdi_model.specs.Edits.{is_among}
+use Rattle.cdi_report.proofs.Common.{◌≡◌, same_key, is_among, ◌||◌, contains, take}
 use Rattle.cdi_report.proofs.unsettled.add_keys.Given as goal
 
 abbrev pub invariant-loop-key : goal.invariant-loop-key

@@ -1,11 +1,7 @@
-use Rattle.std.proofs.Common.{◌≡◌, ◌≤◌, ◌+◌, ◌||◌, ◌++◌, false, true, [], ◌∷◌, length, take, sym, subst, ap, ◌∙◌, inl, inr, arith}
-use Rattle.std.proofs.lemmas.Bool.{false≢true, or_cases}
-use Rattle.std.proofs.lemmas.List.{take_all, take_more}
-use Rattle.std.proofs.lemmas.List.Folds.{list_any-append}
-use Rattle.cdi_model.specs.DeclKey.{same_key}
-use Rattle.cdi_model.specs.Edits.{is_among}
-use Rattle.cdi_model.specs.Grammar.{is_name}
-use Rattle.cdi_model.proofs.EntryLemmas.{key_exact}
+use Rattle.cdi_report.proofs.Common.{◌≡◌, true, false, [], ◌∷◌, ◌++◌, sym, ap, subst, ◌∙◌, inl, inr, false≢true, list_any-append, same_key}
+use Rattle.cdi_report.proofs.Common.{is_among, ◌||◌, length, arith, key_exact, is_name, or_cases, ◌≤◌, take_all, take}
+use Rattle.std.proofs.Common.{◌+◌}
+use Rattle.std.proofs.lemmas.List.{take_more}
 use Rattle.cdi_report.proofs.unsettled.read_names.Goals as goal
 
 pub loop-key-preserved : goal.loop-key-preserved

@@ -1,6 +1,4 @@
-use Rattle.std.proofs.Common.{◌≡◌, true, take}
-use Rattle.cdi_model.specs.Edits.{is_among}
-use Rattle.cdi_model.specs.Grammar.{is_name}
+use Rattle.cdi_report.proofs.Common.{◌≡◌, true, is_among, is_name, take}
 use Rattle.cdi_report.proofs.unsettled.read_names.Given as goal
 
 abbrev pub invariant-loop-key : goal.invariant-loop-key

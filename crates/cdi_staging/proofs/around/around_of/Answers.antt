@@ -1,12 +1,5 @@
-use Rattle.std.proofs.Common.{◌≡◌, ◌++◌, true, map, sym, subst, ap, ◌∙◌, rules}
-use Rattle.std.specs.List.{flat_map}
-use Rattle.cdi_model.specs.declared.decl.InterceptorDecl.{InterceptorDecl}
-use Rattle.cdi_intercept.specs.Chains.{in_order}
-use Rattle.cdi_intercept.specs.Lent.{lent_in}
-use Rattle.cdi_observe.specs.Lending.{are_answerable}
-use Rattle.cdi_observe.specs.Wanted.{key_of_point}
-use Rattle.cdi_staging.specs.Shown.{around_in}
-use Rattle.cdi_staging.specs.Staged.{Around, around_of, targets}
+use Rattle.cdi_staging.proofs.Common.{◌≡◌, true, ◌++◌, map, sym, ap, subst, ◌∙◌, flat_map, InterceptorDecl, in_order, are_answerable}
+use Rattle.cdi_staging.proofs.Common.{key_of_point, around_in, Around, around_of, targets, rules, lent_in}
 use Rattle.cdi_staging.proofs.AnswerableLemmas.{interceptors-asked}
 use Rattle.cdi_staging.proofs.around.around_of.Goals as goal
 

@@ -1,10 +1,4 @@
-use Rattle.std.proofs.Common.{◌≡◌, ◌++◌, true, map}
-use Rattle.std.specs.List.{flat_map}
-use Rattle.cdi_intercept.specs.Lent.{lent_in}
-use Rattle.cdi_observe.specs.Lending.{are_answerable}
-use Rattle.cdi_observe.specs.Wanted.{key_of_point}
-use Rattle.cdi_staging.specs.Shown.{around_in}
-use Rattle.cdi_staging.specs.Staged.{around_of, targets}
+use Rattle.cdi_staging.proofs.Common.{◌≡◌, true, ◌++◌, map, flat_map, are_answerable, key_of_point, around_in, around_of, targets, lent_in}
 use Rattle.cdi_staging.proofs.around.around_of.Given as goal
 
 abbrev pub invariant-loop-decl : goal.invariant-loop-decl

@@ -1,8 +1,5 @@
-use Rattle.std.proofs.Common.{◌≡◌, ◌+◌, [], ◌∷◌, ◌++◌, drop, map, sym, ap, ◌∙◌}
-use Rattle.std.proofs.lemmas.List.{drop_more}
-use Rattle.cdi_match.specs.Chain.{has}
-use Rattle.cdi_staging.specs.Shown.{around_in, names_among}
-use Rattle.cdi_staging.specs.Staged.{Around, places_from}
+use Rattle.cdi_staging.proofs.Common.{◌≡◌, [], ◌∷◌, ◌++◌, map, sym, ap, ◌∙◌, ◌+◌, has, around_in, names_among, Around, places_from, drop}
+use Rattle.cdi_staging.proofs.Common.{drop_more}
 use Rattle.cdi_staging.proofs.ClassLemmas.{named-next, not-named-next, places-next, places-past}
 use Rattle.cdi_staging.proofs.around.positions_named.Goals.{in-Some+in_ok-position_at+in_ok-push, in_default}
 use Rattle.cdi_staging.proofs.around.positions_named.Goals as goal

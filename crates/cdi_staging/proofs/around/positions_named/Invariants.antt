@@ -1,7 +1,4 @@
-use Rattle.std.proofs.Common.{◌≡◌, ◌++◌, drop, map}
-use Rattle.cdi_match.specs.Chain.{has}
-use Rattle.cdi_staging.specs.Shown.{around_in, names_among}
-use Rattle.cdi_staging.specs.Staged.{places_from}
+use Rattle.cdi_staging.proofs.Common.{◌≡◌, ◌++◌, map, has, around_in, names_among, places_from, drop}
 use Rattle.cdi_staging.proofs.around.positions_named.Given as goal
 
 abbrev pub invariant-loop-position : goal.invariant-loop-position

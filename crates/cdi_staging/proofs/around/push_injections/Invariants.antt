@@ -1,5 +1,4 @@
-use Rattle.std.proofs.Common.{◌≡◌, ◌++◌, drop}
-use Rattle.cdi_staging.specs.Staged.{injections_from}
+use Rattle.cdi_staging.proofs.Common.{◌≡◌, ◌++◌, injections_from, drop}
 use Rattle.cdi_staging.proofs.around.push_injections.Given as goal
 
 abbrev pub invariant-loop-point : goal.invariant-loop-point

@@ -1,7 +1,4 @@
-use Rattle.std.proofs.Common.{◌≡◌, drop}
-use Rattle.std.specs.List.{find}
-use Rattle.std.specs.Str.{bytes_eq}
-use Rattle.cdi_staging.specs.Staged.{disposer_named}
+use Rattle.cdi_staging.proofs.Common.{◌≡◌, find, bytes_eq, drop, disposer_named}
 use Rattle.cdi_staging.proofs.bean.disposer_named.Given as goal
 
 abbrev pub invariant-loop-disposer : goal.invariant-loop-disposer

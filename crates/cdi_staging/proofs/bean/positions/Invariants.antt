@@ -1,4 +1,4 @@
-use Rattle.std.proofs.Common.{◌≡◌, ◌++◌, drop, map}
+use Rattle.cdi_staging.proofs.Common.{◌≡◌, ◌++◌, map, drop}
 use Rattle.cdi_staging.proofs.bean.positions.Given as goal
 
 abbrev pub invariant-loop-target : goal.invariant-loop-target

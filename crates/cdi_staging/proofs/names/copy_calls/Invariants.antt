@@ -1,4 +1,4 @@
-use Rattle.std.proofs.Common.{◌≡◌, ◌++◌, drop}
+use Rattle.cdi_staging.proofs.Common.{◌≡◌, ◌++◌, drop}
 use Rattle.cdi_staging.proofs.names.copy_calls.Given as goal
 
 abbrev pub invariant-loop-call : goal.invariant-loop-call

@@ -1,8 +1,5 @@
-use Rattle.std.proofs.Common.{◌≡◌, ◌++◌, suc, Some, sym, ap, slice_get, subst, ◌∙◌, append_assoc}
-use Rattle.std.specs.List.{flat_map}
-use Rattle.cdi_effective.specs.Beans.{entries}
-use Rattle.cdi_staging.specs.Naming.{names_in}
-use Rattle.cdi_effective.proofs.PlaceLemmas.{own-found}
+use Rattle.cdi_staging.proofs.Common.{◌≡◌, suc, ◌++◌, Some, sym, ap, subst, ◌∙◌, flat_map, own-found, entries, append_assoc, names_in}
+use Rattle.std.proofs.Common.{slice_get}
 use Rattle.cdi_staging.proofs.names.names_of.Goals as goal
 
 pub loop-decl-init : goal.loop-decl-init

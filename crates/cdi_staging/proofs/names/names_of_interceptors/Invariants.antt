@@ -1,6 +1,4 @@
-use Rattle.std.proofs.Common.{◌≡◌, ◌++◌, map}
-use Rattle.cdi_intercept.specs.Chains.{in_order}
-use Rattle.cdi_intercept.specs.Lent.{lent_in}
+use Rattle.cdi_staging.proofs.Common.{◌≡◌, ◌++◌, map, in_order, lent_in}
 use Rattle.cdi_staging.specs.Naming.{interceptor_names}
 use Rattle.cdi_staging.proofs.names.names_of_interceptors.Given as goal
 

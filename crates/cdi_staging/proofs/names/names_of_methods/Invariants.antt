@@ -1,4 +1,4 @@
-use Rattle.std.proofs.Common.{◌≡◌, ◌++◌, drop, map}
+use Rattle.cdi_staging.proofs.Common.{◌≡◌, ◌++◌, map, drop}
 use Rattle.cdi_staging.specs.Naming.{method_names}
 use Rattle.cdi_staging.proofs.names.names_of_methods.Given as goal
 

@@ -1,4 +1,4 @@
-use Rattle.std.proofs.Common.{◌≡◌, ◌++◌, drop, map}
+use Rattle.cdi_staging.proofs.Common.{◌≡◌, ◌++◌, map, drop}
 use Rattle.cdi_staging.specs.Naming.{observer_names}
 use Rattle.cdi_staging.proofs.names.names_of_observers.Given as goal
 

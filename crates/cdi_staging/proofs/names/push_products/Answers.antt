@@ -1,8 +1,6 @@
-use Rattle.std.proofs.Common.{◌≡◌, ◌++◌, [], map, sym, ap, ◌∙◌, append-nil, ⊎_elim}
-use Rattle.std.specs.Slice.Iter.{iter_rest}
+use Rattle.cdi_staging.proofs.Common.{◌≡◌, [], ◌++◌, map, sym, ap, ◌∙◌, product, append-nil, iter_rest, product_names}
+use Rattle.std.proofs.Common.{⊎_elim}
 use Rattle.std.proofs.lemmas.Slice.Zip.{either_empty_from_Zip}
-use Rattle.cdi_effective.specs.Beans.{product}
-use Rattle.cdi_staging.specs.Naming.{product_names}
 use Rattle.cdi_staging.proofs.ProductLemmas.{first-product, pushed, unmapped}
 use Rattle.cdi_staging.proofs.names.push_products.Goals as goal
 

@@ -1,7 +1,4 @@
-use Rattle.std.proofs.Common.{◌≡◌, ◌++◌, map}
-use Rattle.std.specs.Slice.Iter.{iter_rest}
-use Rattle.cdi_effective.specs.Beans.{product}
-use Rattle.cdi_staging.specs.Naming.{product_names}
+use Rattle.cdi_staging.proofs.Common.{◌≡◌, ◌++◌, map, product, iter_rest, product_names}
 use Rattle.cdi_staging.proofs.names.push_products.Given as goal
 
 abbrev pub invariant-loop-effective : goal.invariant-loop-effective

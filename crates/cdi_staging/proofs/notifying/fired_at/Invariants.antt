@@ -1,7 +1,4 @@
-use Rattle.std.proofs.Common.{◌≡◌, ◌++◌, true, drop, map}
-use Rattle.cdi_observe.specs.Lending.{are_answerable}
-use Rattle.cdi_observe.specs.Wanted.{key_of_event}
-use Rattle.cdi_staging.specs.Notifying.{fired_at}
+use Rattle.cdi_staging.proofs.Common.{◌≡◌, true, ◌++◌, map, are_answerable, key_of_event, fired_at, drop}
 use Rattle.cdi_staging.proofs.notifying.fired_at.Given as goal
 
 abbrev pub invariant-loop-event : goal.invariant-loop-event

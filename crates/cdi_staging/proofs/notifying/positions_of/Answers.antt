@@ -1,14 +1,10 @@
-use Rattle.std.proofs.Common.{◌≡◌, ◌+◌, ◌<◌, ◌++◌, ◌∷◌, [], ℕ, suc, Bool, true, false, not, List, length, get_or, drop, drop-cons, append_assoc, map}
-use Rattle.std.proofs.Common.{refl, sym, ap, subst, ◌∙◌, arith}
-use Rattle.std.specs.Str.{bytes_eq}
-use Rattle.cdi_model.specs.declared.decl.Decl.{Decl}
-use Rattle.cdi_match.proofs.Names.{one_name}
-use Rattle.cdi_effective.specs.Disposers.{find_bean}
-use Rattle.cdi_effective.specs.declared.records.Effective.{Effective}
+use Rattle.cdi_staging.proofs.Common.{◌≡◌, ℕ, suc, Bool, true, false, List, [], ◌∷◌, ◌++◌, map, refl, sym, ap, subst, ◌∙◌, arith, Decl, ◌+◌}
+use Rattle.cdi_staging.proofs.Common.{length, bytes_eq, one_name, find_bean, Effective, position_of_class, ◌<◌, not, get_or, append_assoc}
+use Rattle.cdi_staging.proofs.Common.{notified_as, observer_declared, drop, IsHost}
+use Rattle.std.proofs.Common.{drop-cons}
 use Rattle.cdi_observe.specs.declared.observers.ObserverId.{ObserverId}
 use Rattle.cdi_staging.specs.declared.notifying.Host.{Host}
-use Rattle.cdi_staging.specs.Notifying.{notified_as, notified_in, observer_declared, IsHost}
-use Rattle.cdi_staging.specs.Sites.{position_of_class}
+use Rattle.cdi_staging.specs.Notifying.{notified_in}
 use Rattle.cdi_staging.proofs.notifying.positions_of.Goals as goal
 use Rattle.cdi_staging.proofs.notifying.positions_of.Goals.{then-ne, else-ne}
 

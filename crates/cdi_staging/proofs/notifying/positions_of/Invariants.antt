@@ -1,5 +1,4 @@
-use Rattle.std.proofs.Common.{◌≡◌, ◌++◌, drop, map}
-use Rattle.cdi_staging.specs.Notifying.{notified_as, IsHost}
+use Rattle.cdi_staging.proofs.Common.{◌≡◌, ◌++◌, map, notified_as, drop, IsHost}
 use Rattle.cdi_staging.proofs.notifying.positions_of.Given as goal
 
 abbrev pub invariant-loop-id : goal.invariant-loop-id

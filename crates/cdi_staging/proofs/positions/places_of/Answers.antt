@@ -1,9 +1,5 @@
-use Rattle.std.proofs.Common.{◌≡◌, None, ap, sym, map, ◌∙◌, rules}
-use Rattle.std.specs.List.{position_from}
-use Rattle.std.specs.Option.{option_or}
-use Rattle.std.proofs.lemmas.Iterator.Adapters.{position_from-zero}
-use Rattle.indexmap.specs.IndexMap.{get}
-use Rattle.cdi_staging.specs.Positions.{is_told_by, same_id}
+use Rattle.cdi_staging.proofs.Common.{◌≡◌, map, None, sym, ap, ◌∙◌, position_from, option_or, position_from-zero, is_told_by, same_id}
+use Rattle.cdi_staging.proofs.Common.{rules, get}
 use Rattle.cdi_staging.proofs.PositionLemmas.{place-next}
 use Rattle.cdi_staging.proofs.positions.places_of.Goals as goal
 

@@ -1,10 +1,5 @@
-use Rattle.std.proofs.Common.{◌≡◌, drop, map}
-use Rattle.std.specs.List.{position_from}
-use Rattle.std.specs.Option.{option_or}
+use Rattle.cdi_staging.proofs.Common.{◌≡◌, map, position_from, option_or, BeanId, is_told_by, drop, same_id, get}
 use Rattle.std.specs.Prelude.{position}
-use Rattle.indexmap.specs.IndexMap.{get}
-use Rattle.cdi_effective.specs.declared.records.BeanId.{BeanId}
-use Rattle.cdi_staging.specs.Positions.{is_told_by, same_id}
 use Rattle.cdi_staging.proofs.positions.places_of.Given as goal
 
 abbrev pub invariant-loop-place : goal.invariant-loop-place

@@ -1,6 +1,4 @@
-use Rattle.std.proofs.Common.{sym}
-use Rattle.std.proofs.lemmas.Iterator.Adapters.{position_from-zero}
-use Rattle.cdi_staging.specs.Sites.{is_point}
+use Rattle.cdi_staging.proofs.Common.{sym, position_from-zero, is_point}
 use Rattle.cdi_staging.proofs.site.point_named.Goals as goal
 
 pub loop-place-init : goal.loop-place-init

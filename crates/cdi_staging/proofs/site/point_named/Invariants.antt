@@ -1,6 +1,4 @@
-use Rattle.std.proofs.Common.{◌≡◌, drop}
-use Rattle.std.specs.List.{position, position_from}
-use Rattle.cdi_staging.specs.Sites.{is_point}
+use Rattle.cdi_staging.proofs.Common.{◌≡◌, position, position_from, is_point, drop}
 use Rattle.cdi_staging.proofs.site.point_named.Given as goal
 
 abbrev pub invariant-loop-place : goal.invariant-loop-place

@@ -1,5 +1,5 @@
-use Rattle.std.proofs.Common.{◌≡◌, ◌++◌, drop, map}
-use Rattle.cdi_staging.specs.Sites.{sight_in, site_of}
+use Rattle.cdi_staging.proofs.Common.{◌≡◌, ◌++◌, map, site_of, drop}
+use Rattle.cdi_staging.specs.Sites.{sight_in}
 use Rattle.cdi_staging.proofs.site.sites_of.Given as goal
 
 abbrev pub invariant-loop-call : goal.invariant-loop-call

@@ -1,7 +1,4 @@
-use Rattle.std.proofs.Common.{◌≡◌, ◌++◌, true, drop, map}
-use Rattle.cdi_observe.specs.Lending.{are_answerable}
-use Rattle.cdi_observe.specs.Wanted.{key_of_point}
-use Rattle.cdi_staging.specs.Staged.{targets}
+use Rattle.cdi_staging.proofs.Common.{◌≡◌, true, ◌++◌, map, are_answerable, key_of_point, targets, drop}
 use Rattle.cdi_staging.proofs.target.targets_of.Given as goal
 
 abbrev pub invariant-loop-point : goal.invariant-loop-point

@@ -1,5 +1,4 @@
-use Rattle.std.proofs.Common.{◌≡◌, drop, fold}
-use Rattle.cdi_validate.specs.Circles.{with_dependent}
+use Rattle.cdi_validate.proofs.Common.{◌≡◌, fold, drop, with_dependent}
 use Rattle.cdi_validate.proofs.circles.add_dependents.Given as goal
 
 abbrev pub invariant-loop-bean : goal.invariant-loop-bean

@@ -1,18 +1,8 @@
-use Rattle.std.proofs.Common.{◌≡◌, ℕ, Bool, true, false, cond, List, [], ◌∷◌, ◌++◌, map, filter, Option, Some, None, Vec, Global, refl, sym}
-use Rattle.std.proofs.Common.{ap, ◌∙◌, arith}
-use Rattle.std.specs.BTreeMap.{get, keys}
-use Rattle.std.specs.Option.{unwrap_or}
-use Rattle.std.specs.Str.{bytes_eq}
-use Rattle.std.proofs.lemmas.Bool.{eqb-true}
-use Rattle.std.proofs.lemmas.List.{nil_from_length}
-use Rattle.cdi_model.specs.Bytes.{byte_order}
-use Rattle.cdi_match.specs.Chain.{has}
-use Rattle.cdi_match.proofs.Names.{at_name}
-use Rattle.cdi_circles.specs.Edges.{Edges, next_in, texts_in}
+use Rattle.cdi_validate.proofs.Common.{◌≡◌, List, ◌++◌, sym, ap, ◌∙◌, ℕ, Bool, true, false, cond, [], ◌∷◌, map, filter, refl, arith}
+use Rattle.cdi_validate.proofs.Common.{eqb-true, bytes_eq, nil_from_length, has, keys, Edges, next_in, between, Some, Option, None, get}
+use Rattle.cdi_validate.proofs.Common.{unwrap_or, at_name, byte_order, AddsNeeds, Vec, Global, texts_in, lent_value}
 use Rattle.cdi_circles.proofs.EdgeLemmas.{left_in, texts_in-put}
-use Rattle.cdi_observe.specs.Lending.{lent_value}
-use Rattle.cdi_validate.specs.Circles.{between}
-use Rattle.cdi_validate.specs.Needed.{needed_first, AddsNeeds}
+use Rattle.cdi_validate.specs.Needed.{needed_first}
 use Rattle.cdi_validate.proofs.NeedLemmas.{need_added}
 use Rattle.cdi_validate.proofs.circles.add_need.Goals as goal
 

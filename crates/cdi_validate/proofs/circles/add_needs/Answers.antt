@@ -1,14 +1,5 @@
-use Rattle.std.proofs.Common.{◌≡◌, ◌++◌, map, true, sym, subst, ap, ◌∙◌}
-use Rattle.std.specs.BTreeMap.{keys}
-use Rattle.std.specs.List.{flat_map}
-use Rattle.std.proofs.lemmas.Result.{IfOk-weaker}
-use Rattle.cdi_circles.specs.Edges.{next_in}
-use Rattle.cdi_model.specs.Mentions.{mentions}
-use Rattle.cdi_observe.specs.Lending.{are_answerable}
-use Rattle.cdi_observe.specs.Wanted.{key_of_point, point_named}
-use Rattle.cdi_observe.proofs.LendingLemmas.{points-answerable}
-use Rattle.cdi_observe.proofs.RestLemmas.{IsFound}
-use Rattle.cdi_validate.specs.Circles.{between, need_in, needs_in}
+use Rattle.cdi_validate.proofs.Common.{◌≡◌, ◌++◌, sym, ap, ◌∙◌, flat_map, true, map, subst, keys, next_in, between, mentions, point_named}
+use Rattle.cdi_validate.proofs.Common.{need_in, needs_in, IsFound, IfOk-weaker, are_answerable, key_of_point, points-answerable}
 use Rattle.cdi_validate.proofs.circles.add_needs.Goals as goal
 
 pub add_needs_along-requires : goal.add_needs_along-requires

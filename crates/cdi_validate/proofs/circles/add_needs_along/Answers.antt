@@ -1,10 +1,6 @@
-use Rattle.std.proofs.Common.{◌++◌, sym, ap, ◌∙◌, append-nil, arith}
+use Rattle.cdi_validate.proofs.Common.{◌++◌, sym, ap, ◌∙◌, flat_map, arith, keys, next_in, between, append-nil, need_in}
 use Rattle.std.proofs.lemmas.Grind.{common_steps}
-use Rattle.std.specs.BTreeMap.{keys}
-use Rattle.std.specs.List.{flat_map}
-use Rattle.cdi_circles.specs.Edges.{next_in}
 use Rattle.cdi_model.specs.Mentions.{shown}
-use Rattle.cdi_validate.specs.Circles.{between, need_in}
 use Rattle.cdi_validate.proofs.NeedLemmas.{adds_more, between-none}
 use Rattle.cdi_validate.proofs.circles.add_needs_along.Goals as goal
 

@@ -1,10 +1,5 @@
-use Rattle.std.proofs.Common.{◌≡◌, ◌++◌, ℕ, List, map, true}
-use Rattle.std.specs.BTreeMap.{keys}
-use Rattle.std.specs.List.{flat_map}
-use Rattle.cdi_circles.specs.Edges.{next_in}
-use Rattle.cdi_observe.specs.Lending.{are_answerable}
-use Rattle.cdi_observe.specs.Wanted.{key_of_point, point_named}
-use Rattle.cdi_validate.specs.Circles.{between, need_in}
+use Rattle.cdi_validate.proofs.Common.{◌≡◌, List, ◌++◌, flat_map, ℕ, true, map, keys, next_in, between, point_named, need_in}
+use Rattle.cdi_validate.proofs.Common.{are_answerable, key_of_point}
 use Rattle.cdi_validate.proofs.circles.add_needs_along.Given as goal
 
 abbrev pub invariant-loop-mention : goal.invariant-loop-mention

@@ -1,25 +1,11 @@
-use Rattle.std.proofs.Common.{◌≡◌, ◌+◌, List, [], ◌++◌, drop, filter, map, inl, inr, sym, subst, ap, ◌∙◌, append-nil, arith, true}
-use Rattle.std.specs.BTreeMap.{keys}
-use Rattle.std.specs.List.{flat_map}
+use Rattle.cdi_validate.proofs.Common.{◌≡◌, List, ◌++◌, sym, ap, ◌∙◌, flat_map, Decl, true, [], map, filter, arith, eqb-true, subst}
+use Rattle.cdi_validate.proofs.Common.{nil_from_length, has, keys, next_in, between, inl, inr, append-nil, PointDecl, answer_to}
+use Rattle.cdi_validate.proofs.Common.{points-declared, chosen_for, chosen_one, need_around, ◌+◌, drop, Choice, next-left, beans_in}
+use Rattle.cdi_validate.proofs.Common.{lent_value, are_answerable, key_of_point, points-answerable, drop_all}
 use Rattle.std.specs.Option.{option_copied}
-use Rattle.std.proofs.lemmas.Bool.{eqb-true}
-use Rattle.std.proofs.lemmas.List.{drop_all, nil_from_length}
-use Rattle.cdi_match.specs.Chain.{has}
-use Rattle.cdi_circles.specs.Edges.{next_in}
-use Rattle.cdi_model.specs.declared.decl.Decl.{Decl}
 use Rattle.cdi_model.specs.declared.decl.Decl.TheVariants as declared
-use Rattle.cdi_model.specs.declared.decl.PointDecl.{PointDecl}
-use Rattle.cdi_resolve.specs.declared.choice.Choice.{Choice}
-use Rattle.cdi_observe.specs.Answers.{answer_to}
-use Rattle.cdi_observe.specs.Lending.{are_answerable, lent_value}
-use Rattle.cdi_observe.specs.Wanted.{key_of_point}
 use Rattle.cdi_observe.specs.declared.lent.Lent.{Lent}
-use Rattle.cdi_observe.proofs.LendingLemmas.{points-answerable}
-use Rattle.cdi_subjects.proofs.AnsweredLemmas.{points-declared}
-use Rattle.cdi_validate.specs.Circles.{between, chosen_for, chosen_one, need_around}
-use Rattle.cdi_validate.specs.Surrounded.{beans_in}
 use Rattle.cdi_validate.proofs.NeedLemmas.{adds_more, adds-none-around, between-none, chosen_by_answers}
-use Rattle.cdi_resolve.proofs.PlaceLemmas.{next-left}
 use Rattle.cdi_validate.proofs.SurroundLemmas.{adds-none-may, around-may, bean-found}
 use Rattle.cdi_validate.proofs.circles.add_needs_around.Goals as goal
 

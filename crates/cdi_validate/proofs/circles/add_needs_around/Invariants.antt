@@ -1,9 +1,5 @@
-use Rattle.std.proofs.Common.{◌≡◌, ◌++◌, ℕ, List, drop, map}
-use Rattle.std.specs.BTreeMap.{keys}
-use Rattle.std.specs.List.{flat_map}
-use Rattle.cdi_circles.specs.Edges.{next_in}
+use Rattle.cdi_validate.proofs.Common.{◌≡◌, List, ◌++◌, flat_map, ℕ, map, keys, next_in, between, chosen_for, need_around, drop}
 use Rattle.cdi_model.specs.declared.decl.Decl.TheVariants as declared
-use Rattle.cdi_validate.specs.Circles.{between, chosen_for, need_around}
 use Rattle.cdi_validate.proofs.circles.add_needs_around.Given as goal
 
 abbrev pub invariant-loop-bean : goal.invariant-loop-bean

@@ -1,7 +1,4 @@
-use Rattle.std.proofs.Common.{◌≡◌, ◌++◌, drop, map, true}
-use Rattle.cdi_observe.specs.Answers.{answer_to}
-use Rattle.cdi_observe.specs.Lending.{are_answerable, lent_value}
-use Rattle.cdi_observe.specs.Wanted.{key_of_point}
+use Rattle.cdi_validate.proofs.Common.{◌≡◌, ◌++◌, true, map, answer_to, drop, lent_value, are_answerable, key_of_point}
 use Rattle.cdi_validate.proofs.circles.answers_to.Given as goal
 
 abbrev pub invariant-loop-point : goal.invariant-loop-point

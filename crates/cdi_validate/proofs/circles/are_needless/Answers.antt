@@ -1,7 +1,4 @@
-use Rattle.std.proofs.Common.{map, sym, ap, ◌∙◌, arith}
-use Rattle.std.specs.List.{list_all}
-use Rattle.std.proofs.lemmas.List.{drop_all}
-use Rattle.cdi_validate.specs.Together.{is_needless}
+use Rattle.cdi_validate.proofs.Common.{sym, ap, ◌∙◌, map, arith, is_needless, list_all, drop_all}
 use Rattle.cdi_validate.proofs.circles.are_needless.Goals as goal
 
 pub returns : goal.returns

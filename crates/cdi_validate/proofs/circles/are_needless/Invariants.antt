@@ -1,6 +1,4 @@
-use Rattle.std.proofs.Common.{◌≡◌, drop, map}
-use Rattle.std.specs.List.{list_all}
-use Rattle.cdi_validate.specs.Together.{is_needless}
+use Rattle.cdi_validate.proofs.Common.{◌≡◌, map, is_needless, drop, list_all}
 use Rattle.cdi_validate.proofs.circles.are_needless.Given as goal
 
 abbrev pub invariant-loop-decl : goal.invariant-loop-decl

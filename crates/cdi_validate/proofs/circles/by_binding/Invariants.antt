@@ -1,7 +1,4 @@
-use Rattle.std.proofs.Common.{◌≡◌, ◌++◌, ℕ, List}
-use Rattle.std.specs.BTreeMap.{keys}
-use Rattle.std.specs.List.{flat_map}
-use Rattle.cdi_validate.specs.Surrounded.{beans_at, with_binding}
+use Rattle.cdi_validate.proofs.Common.{◌≡◌, List, ◌++◌, flat_map, ℕ, keys, with_binding, beans_at}
 use Rattle.cdi_validate.proofs.circles.by_binding.Given as goal
 
 abbrev pub invariant-loop-decl : goal.invariant-loop-decl

@@ -1,11 +1,5 @@
-use Rattle.std.proofs.Common.{◌≡◌, ◌++◌, [], ◌∷◌, true, fold, sym, subst, ap, ◌∙◌, append_assoc, append-nil}
-use Rattle.std.specs.List.{flat_map}
-use Rattle.std.proofs.lemmas.List.Sums.{fold-append}
-use Rattle.cdi_model.specs.Decl.{name_of_decl}
-use Rattle.cdi_model.specs.Grammar.{is_name}
-use Rattle.cdi_effective.specs.Beans.{entries}
-use Rattle.cdi_validate.specs.Circles.{dependents_by_text, with_dependent}
-use Rattle.cdi_validate.specs.Together.{AreNamed}
+use Rattle.cdi_validate.proofs.Common.{◌≡◌, ◌++◌, sym, ap, ◌∙◌, append_assoc, flat_map, true, [], ◌∷◌, is_name, subst, dependents_by_text}
+use Rattle.cdi_validate.proofs.Common.{append-nil, name_of_decl, entries, AreNamed, fold, fold-append, with_dependent}
 use Rattle.cdi_validate.proofs.ApartLemmas.{all-append}
 use Rattle.cdi_validate.proofs.FoundLemmas.{all-gone, found-next, records-next}
 use Rattle.cdi_validate.proofs.circles.dependents_of.Goals as goal

@@ -1,9 +1,4 @@
-use Rattle.std.proofs.Common.{◌≡◌, ◌++◌, List}
-use Rattle.std.specs.List.{flat_map}
-use Rattle.cdi_model.specs.declared.decl.Decl.{Decl}
-use Rattle.cdi_effective.specs.Beans.{entries}
-use Rattle.cdi_validate.specs.Circles.{dependents_by_text}
-use Rattle.cdi_validate.specs.Together.{AreNamed}
+use Rattle.cdi_validate.proofs.Common.{◌≡◌, List, ◌++◌, flat_map, Decl, dependents_by_text, entries, AreNamed}
 use Rattle.cdi_validate.proofs.circles.dependents_of.Given as goal
 
 abbrev pub invariant-loop-decl : goal.invariant-loop-decl

@@ -1,11 +1,5 @@
-use Rattle.std.proofs.Common.{◌≡◌, ◌++◌, [], ◌∷◌, sym, subst, ap, ◌∙◌, append_assoc, append-nil}
-use Rattle.std.specs.BTreeMap.{is_at, keys}
-use Rattle.std.specs.List.{flat_map}
-use Rattle.std.specs.Map.{lookup}
-use Rattle.cdi_circles.specs.Edges.{next_in, texts_in}
-use Rattle.cdi_model.specs.Bytes.{byte_order}
-use Rattle.cdi_validate.specs.Circles.{between, needs_in}
-use Rattle.cdi_validate.specs.Surrounded.{AreByBinding}
+use Rattle.cdi_validate.proofs.Common.{◌≡◌, ◌++◌, sym, ap, ◌∙◌, append_assoc, flat_map, [], ◌∷◌, subst, keys, next_in, between, append-nil}
+use Rattle.cdi_validate.proofs.Common.{needs_in, is_at, lookup, byte_order, AreByBinding, texts_in}
 use Rattle.cdi_validate.proofs.FoundLemmas.{found-next}
 use Rattle.cdi_validate.proofs.NeedLemmas.{adds_more, between-none}
 use Rattle.cdi_validate.proofs.circles.edges_between.Goals as goal

@@ -1,9 +1,4 @@
-use Rattle.std.proofs.Common.{◌≡◌, ◌++◌, ℕ, List}
-use Rattle.std.specs.BTreeMap.{keys}
-use Rattle.std.specs.List.{flat_map}
-use Rattle.cdi_circles.specs.Edges.{next_in}
-use Rattle.cdi_model.specs.declared.decl.Decl.{Decl}
-use Rattle.cdi_validate.specs.Circles.{between, needs, needs_in}
+use Rattle.cdi_validate.proofs.Common.{◌≡◌, List, ◌++◌, flat_map, Decl, ℕ, keys, next_in, between, needs, needs_in}
 use Rattle.cdi_validate.proofs.circles.edges_between.Given as goal
 
 abbrev pub invariant-loop-decl : goal.invariant-loop-decl

@@ -1,7 +1,4 @@
-use Rattle.std.proofs.Common.{sym, ap, ◌∙◌, arith}
-use Rattle.std.specs.List.{list_any}
-use Rattle.std.proofs.lemmas.List.{drop_all}
-use Rattle.cdi_validate.specs.Circles.{is_dependent}
+use Rattle.cdi_validate.proofs.Common.{sym, ap, ◌∙◌, arith, is_dependent, list_any, drop_all}
 use Rattle.cdi_validate.proofs.circles.has_dependent.Goals as goal
 
 pub returns : goal.returns

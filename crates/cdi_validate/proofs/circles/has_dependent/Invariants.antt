@@ -1,6 +1,4 @@
-use Rattle.std.proofs.Common.{◌≡◌, drop}
-use Rattle.std.specs.List.{list_any}
-use Rattle.cdi_validate.specs.Circles.{is_dependent}
+use Rattle.cdi_validate.proofs.Common.{◌≡◌, is_dependent, list_any, drop}
 use Rattle.cdi_validate.proofs.circles.has_dependent.Given as goal
 
 abbrev pub invariant-loop-bean : goal.invariant-loop-bean

@@ -1,4 +1,4 @@
-use Rattle.std.proofs.Common.{◌∙◌}
+use Rattle.cdi_validate.proofs.Common.{◌∙◌}
 use Rattle.cdi_validate.proofs.NeedLemmas.{has-key}
 use Rattle.cdi_validate.proofs.circles.is_among.Goals as goal
 

@@ -1,9 +1,5 @@
-use Rattle.std.proofs.Common.{ap, ◌∙◌}
+use Rattle.cdi_validate.proofs.Common.{ap, ◌∙◌, has, as_bean, stands-named, chains-answerable}
 use Rattle.cdi_model.specs.declared.decl.Decl.TheVariants as declared
-use Rattle.cdi_effective.specs.Disposers.{as_bean}
-use Rattle.cdi_match.specs.Chain.{has}
-use Rattle.cdi_observe.proofs.AroundLemmas.{stands-named}
-use Rattle.cdi_observe.proofs.LendingLemmas.{chains-answerable}
 use Rattle.cdi_validate.proofs.FoundLemmas.{found-at}
 use Rattle.cdi_validate.proofs.circles.is_around.Goals as goal
 

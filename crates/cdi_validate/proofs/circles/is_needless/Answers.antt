@@ -1,17 +1,7 @@
-use Rattle.std.proofs.Common.{◌≡◌, Bool, true, false, not, ◌&&◌, ◌||◌, List, length, subst, refl, sym, ap, ◌∙◌, arith}
-use Rattle.std.specs.Prelude.{◌==◌}
-use Rattle.std.specs.List.{list_any}
-use Rattle.cdi_model.specs.declared.decl.BeanDecl.{BeanDecl}
-use Rattle.cdi_model.specs.declared.decl.Decl.{Decl}
+use Rattle.cdi_validate.proofs.Common.{◌≡◌, List, sym, ap, ◌∙◌, Decl, Bool, true, false, length, refl, arith, ◌==◌, not, ◌&&◌, subst}
+use Rattle.cdi_validate.proofs.Common.{BeanDecl, entries, as_bean, Effective, names_of_bean, is_dependent, ◌||◌, list_any, is_empty}
+use Rattle.cdi_validate.proofs.Common.{is_needless, IsFound, chains-answerable}
 use Rattle.cdi_model.specs.declared.decl.Decl.TheVariants as decls
-use Rattle.cdi_effective.specs.Beans.{entries}
-use Rattle.cdi_effective.specs.Disposers.{as_bean}
-use Rattle.cdi_effective.specs.declared.records.Effective.{Effective}
-use Rattle.cdi_observe.specs.Around.{names_of_bean}
-use Rattle.cdi_observe.proofs.LendingLemmas.{chains-answerable}
-use Rattle.cdi_observe.proofs.RestLemmas.{IsFound}
-use Rattle.cdi_validate.specs.Circles.{is_dependent}
-use Rattle.cdi_validate.specs.Together.{is_empty, is_needless}
 use Rattle.cdi_validate.proofs.circles.is_needless.Goals as goal
 use Rattle.cdi_validate.proofs.circles.is_needless.Goals.{then-not-is_empty-via-then-not-is_empty}
 use Rattle.cdi_validate.proofs.circles.is_needless.Goals.{then-not-is_empty-via-else-not-is_empty+then-not-is_empty-2}

@@ -1,6 +1,5 @@
-use Rattle.std.proofs.Common.{◌++◌, ap, sym, ◌∙◌}
+use Rattle.cdi_validate.proofs.Common.{◌++◌, sym, ap, ◌∙◌, IfOk-weaker}
 use Rattle.std.proofs.lemmas.List.{append-nil}
-use Rattle.std.proofs.lemmas.Result.{IfOk-weaker}
 use Rattle.cdi_validate.proofs.CircleLemmas.{circles_found, no_circles}
 use Rattle.cdi_validate.proofs.circles.push_all_circles.Goals as goal
 

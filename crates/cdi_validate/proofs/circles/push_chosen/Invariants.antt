@@ -1,9 +1,4 @@
-use Rattle.std.proofs.Common.{◌≡◌, ◌++◌, drop, filter, map}
-use Rattle.std.specs.BTreeMap.{keys}
-use Rattle.std.specs.List.{flat_map}
-use Rattle.cdi_match.specs.Chain.{has}
-use Rattle.cdi_observe.specs.Lending.{lent_value}
-use Rattle.cdi_validate.specs.Circles.{chosen_one}
+use Rattle.cdi_validate.proofs.Common.{◌≡◌, ◌++◌, flat_map, map, filter, has, keys, chosen_one, drop, lent_value}
 use Rattle.cdi_validate.proofs.circles.push_chosen.Given as goal
 
 abbrev pub invariant-loop-answer : goal.invariant-loop-answer

@@ -1,6 +1,4 @@
-use Rattle.std.proofs.Common.{◌≡◌, ◌++◌, filter, map}
-use Rattle.cdi_circles.specs.Edges.{is_on_circle}
-use Rattle.cdi_validate.specs.Faults.{circle}
+use Rattle.cdi_validate.proofs.Common.{◌≡◌, ◌++◌, map, filter, is_on_circle, circle}
 use Rattle.cdi_validate.proofs.circles.push_circles.Given as goal
 
 abbrev pub invariant-loop-node : goal.invariant-loop-node

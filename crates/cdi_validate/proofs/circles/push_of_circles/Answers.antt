@@ -1,7 +1,4 @@
-use Rattle.std.proofs.Common.{◌≡◌, ◌+◌, length, ap, ◌∙◌, arith}
-use Rattle.std.proofs.lemmas.Bool.{eqb-true}
-use Rattle.std.proofs.lemmas.List.{length-append, nil_from_length}
-use Rattle.cdi_validate.specs.Faults.{circles}
+use Rattle.cdi_validate.proofs.Common.{◌≡◌, ap, ◌∙◌, circles, length, arith, eqb-true, nil_from_length, ◌+◌, length-append}
 use Rattle.cdi_validate.proofs.CirclelessLemmas.{faultless_circles}
 use Rattle.cdi_validate.proofs.circles.push_of_circles.Goals as goal
 

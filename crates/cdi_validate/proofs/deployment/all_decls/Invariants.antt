@@ -1,4 +1,4 @@
-use Rattle.std.proofs.Common.{◌≡◌, ◌++◌, map}
+use Rattle.cdi_validate.proofs.Common.{◌≡◌, ◌++◌, map}
 use Rattle.cdi_validate.proofs.deployment.all_decls.Given as goal
 
 abbrev pub invariant-loop-decl : goal.invariant-loop-decl

@@ -1,12 +1,8 @@
-use Rattle.std.proofs.Common.{subst, sym, ap, ◌∙◌}
+use Rattle.cdi_validate.proofs.Common.{sym, ap, ◌∙◌, beans, faults, name_prefixes, subst, LinesRise, subjects_in_order, IfOk-weaker}
 use Rattle.std.specs.Result.{OnOk}
-use Rattle.std.proofs.lemmas.Result.{IfOk-weaker}
-use Rattle.cdi_effective.specs.Beans.{beans}
 use Rattle.cdi_observe.specs.Kept.{EvaluatesSome}
 use Rattle.cdi_observe.specs.Lending.{IsEvaluated}
 use Rattle.cdi_observe.proofs.KeptLemmas.{evaluates_all, where_err, where_ok}
-use Rattle.cdi_faults.proofs.OrderLemmas.{subjects_in_order}
-use Rattle.cdi_validate.specs.Faults.{faults, name_prefixes, LinesRise}
 use Rattle.cdi_validate.proofs.BehindLemmas.{prefixes_go_on}
 use Rattle.cdi_validate.proofs.TwiceLemmas.{sharers_are_told}
 use Rattle.cdi_validate.proofs.deployment.faults.Goals as goal

@@ -1,14 +1,9 @@
-use Rattle.std.proofs.Common.{◌≡◌, ◌≢◌, AllPairs, ◌++◌, List, refl, sym, subst, ap, ◌∙◌, map}
-use Rattle.std.specs.List.{flat_map}
-use Rattle.cdi_bodies.specs.Book.{Promised}
-use Rattle.cdi_model.specs.declared.decl.Decl.{Decl}
-use Rattle.cdi_faults.specs.declared.fault.Fault.{Fault}
-use Rattle.cdi_observe.proofs.RestLemmas.{IsFound}
-use Rattle.cdi_validate.specs.Among.{faults_together, looks_at_all}
-use Rattle.cdi_validate.specs.Faults.{faults, faults_of}
+use Rattle.cdi_validate.proofs.Common.{◌≡◌, List, ◌++◌, sym, ap, ◌∙◌, flat_map, Promised, Decl, faults_together, looks_at_all, faults}
+use Rattle.cdi_validate.proofs.Common.{faults_of, ◌≢◌, map, refl, Fault, subst, IsFound}
+use Rattle.std.proofs.Common.{AllPairs}
 use Rattle.cdi_validate.specs.declared.deployment.Together.{Together}
 use Rattle.cdi_validate.proofs.AmongLemmas.{told-all}
-use Rattle.cdi_validate.proofs.FoundLemmas.{all-lent, each-found}
+use Rattle.cdi_observe.proofs.FoundLemmas.{all-lent, each-found}
 use Rattle.cdi_validate.proofs.OnceLemmas.{faults_stand_once}
 use Rattle.cdi_validate.proofs.deployment.find.Goals as goal
 

@@ -1,5 +1,4 @@
-use Rattle.std.proofs.Common.{◌≡◌, ◌++◌, map}
-use Rattle.cdi_model.specs.Decl.{kind_of, name_of_decl}
+use Rattle.cdi_validate.proofs.Common.{◌≡◌, ◌++◌, map, name_of_decl, kind_of}
 use Rattle.cdi_faults.specs.declared.fault.Fault.TheVariants as the_faults
 use Rattle.cdi_validate.proofs.deployment.push_declared.Given as goal
 

@@ -1,11 +1,8 @@
-use Rattle.std.proofs.Common.{◌++◌, ◌+◌, ◌<◌, drop, map, get_or, length, subst, sym, ap, ◌∙◌}
-use Rattle.std.specs.List.{flat_map}
+use Rattle.cdi_validate.proofs.Common.{◌++◌, sym, ap, ◌∙◌, flat_map, ◌<◌, length, map, subst, name_of_decl, ◌+◌, get_or, drop, kind_of}
+use Rattle.cdi_validate.proofs.Common.{in_text_order, faults_of_code}
 use Rattle.std.proofs.lemmas.List.{get_or_default}
-use Rattle.cdi_model.specs.Decl.{kind_of, name_of_decl}
 use Rattle.cdi_faults.specs.declared.fault.Code.TheVariants as codes_of
 use Rattle.cdi_faults.specs.declared.fault.Fault.TheVariants as the_faults
-use Rattle.cdi_validate.specs.Faults.{faults_of_code}
-use Rattle.cdi_faults.specs.FaultText.{in_text_order}
 use Rattle.cdi_subjects.specs.Glance.{glance_at, may_find}
 use Rattle.cdi_validate.proofs.PushLemmas.{appended, skipped}
 use Rattle.cdi_validate.proofs.deployment.push_of_decl.Goals as goal

@@ -1,6 +1,4 @@
-use Rattle.std.proofs.Common.{◌≡◌, ◌++◌, drop}
-use Rattle.std.specs.List.{flat_map}
-use Rattle.cdi_validate.specs.Faults.{faults_of, faults_of_code}
+use Rattle.cdi_validate.proofs.Common.{◌≡◌, ◌++◌, flat_map, faults_of, drop, faults_of_code}
 use Rattle.cdi_validate.proofs.deployment.push_of_decl.Given as goal
 
 abbrev pub invariant-loop-code : goal.invariant-loop-code

@@ -1,17 +1,17 @@
-use Rattle.std.proofs.Common.{◌≡◌, ◌≤◌, ◌+◌, ◌&&◌, ◌||◌, ◌++◌, Bool, [], ◌∷◌, length, map, take, sym, ap, ◌∙◌, append_assoc, append-nil, arith}
-use Rattle.std.specs.List.{flat_map, list_any}
-use Rattle.std.proofs.Math.Bool.{or-false}
-use Rattle.std.proofs.lemmas.Grind.{flat_map-append}
-use Rattle.std.proofs.lemmas.List.{take_all}
-use Rattle.std.proofs.lemmas.List.Folds.{list_any-append}
-use Rattle.cdi_model.specs.Decl.{key_of}
-use Rattle.cdi_model.specs.DeclKey.{same_key}
-use Rattle.cdi_model.specs.declared.decl.Decl.{Decl}
-use Rattle.cdi_model.specs.declared.key.DeclKey.{DeclKey}
-use Rattle.cdi_observe.proofs.AskedLemmas.{mapped-next}
-use Rattle.cdi_validate.specs.Faults.{faults_of}
-use Rattle.cdi_validate.specs.Among.{has_faults}
+use Rattle.cdi_validate.proofs.Common.{◌≡◌, ◌++◌, sym, ap, ◌∙◌, append_assoc, flat_map, Decl, faults_of, Bool, [], ◌∷◌, length, map, arith}
+use Rattle.cdi_validate.proofs.Common.{◌≤◌, ◌&&◌, append-nil, ◌||◌, list_any, list_any-append, ◌+◌, take, or-false, flat_map-append, key_of}
+use Rattle.cdi_validate.proofs.Common.{same_key, DeclKey, take_all, has_faults, ℕ, List, get_or, map-append}
+use Rattle.std.proofs.Common.{◌<◌}
+use Rattle.std.proofs.lemmas.List.{take_more}
 use Rattle.cdi_validate.proofs.deployment.push_of_each.Goals as goal
+
+-- one more
+mapped-next : {X Y : Type 0} (f : X → Y) (xs : List X) (i : ℕ) (x : X) → i < length xs → x ≡ get_or xs i x
+    → map f (take (i + 1) xs) ≡ map f (take i xs) ++ f x ∷ []
+mapped-next f xs i x lt at =
+    ap (map f) (take_more xs i x lt)
+    ∙ map-append f (take i xs) (get_or xs i x ∷ [])
+    ∙ ap (λ y. map f (take i xs) ++ f y ∷ []) (sym at)
 
 pub loop-decl-preserved : goal.loop-decl-preserved
 loop-decl-preserved g c =

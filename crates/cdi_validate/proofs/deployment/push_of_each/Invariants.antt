@@ -1,10 +1,5 @@
-use Rattle.std.proofs.Common.{◌≡◌, ◌&&◌, ◌++◌, map, take}
-use Rattle.std.specs.List.{flat_map, list_any}
+use Rattle.cdi_validate.proofs.Common.{◌≡◌, ◌++◌, flat_map, faults_of, map, ◌&&◌, list_any, take, key_of, same_key, has_faults}
 use Rattle.indexmap.specs.IndexSet.{contains}
-use Rattle.cdi_model.specs.Decl.{key_of}
-use Rattle.cdi_model.specs.DeclKey.{same_key}
-use Rattle.cdi_validate.specs.Faults.{faults_of}
-use Rattle.cdi_validate.specs.Among.{has_faults}
 use Rattle.cdi_validate.proofs.deployment.push_of_each.Given as goal
 
 abbrev pub invariant-loop-decl : goal.invariant-loop-decl

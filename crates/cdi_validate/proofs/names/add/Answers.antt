@@ -1,11 +1,5 @@
-use Rattle.std.proofs.Common.{◌≡◌, None, Some, cond, ap, ◌∙◌}
-use Rattle.std.specs.BTreeMap.{get}
-use Rattle.std.specs.Option.{unwrap_or}
-use Rattle.std.specs.Cmp.Lexicographic.{slice_cmp}
-use Rattle.std.specs.Ordering.{nat_cmp}
-use Rattle.cdi_match.proofs.Names.{at_name}
-use Rattle.cdi_resolve.specs.Choices.{candidate}
-use Rattle.cdi_resolve.specs.Leaders.{nobody, with_candidate}
+use Rattle.cdi_validate.proofs.Common.{◌≡◌, ap, ◌∙◌, cond, Some, None, get, unwrap_or, slice_cmp, nat_cmp, at_name, candidate, nobody}
+use Rattle.cdi_validate.proofs.Common.{with_candidate}
 use Rattle.cdi_validate.proofs.ClashLemmas.{led-name}
 use Rattle.cdi_validate.proofs.names.add.Goals as goal
 

@@ -1,9 +1,4 @@
-use Rattle.std.proofs.Common.{◌++◌, sym, subst, append-nil}
-use Rattle.std.specs.List.{flat_map}
-use Rattle.std.proofs.lemmas.Bool.{false≢true}
-use Rattle.std.proofs.lemmas.List.{take_all}
-use Rattle.cdi_validate.specs.Faults.{enabled_name}
-use Rattle.cdi_validate.specs.Names.{AreLed, AreNames}
+use Rattle.cdi_validate.proofs.Common.{◌++◌, sym, flat_map, false≢true, subst, append-nil, enabled_name, AreLed, AreNames, take_all}
 use Rattle.cdi_validate.proofs.ClashLemmas.{led-more, names-more}
 use Rattle.cdi_validate.proofs.names.add_all.Goals as goal
 

@@ -1,8 +1,4 @@
-use Rattle.std.proofs.Common.{◌++◌, List, take}
-use Rattle.std.specs.List.{flat_map}
-use Rattle.cdi_effective.specs.declared.records.Effective.{Effective}
-use Rattle.cdi_validate.specs.Faults.{enabled_name}
-use Rattle.cdi_validate.specs.Names.{AreLed, AreNames}
+use Rattle.cdi_validate.proofs.Common.{List, ◌++◌, flat_map, Effective, take, enabled_name, AreLed, AreNames}
 use Rattle.cdi_validate.proofs.names.add_all.Given as goal
 
 abbrev pub invariant-loop-bean : goal.invariant-loop-bean

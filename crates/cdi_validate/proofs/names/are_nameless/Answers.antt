@@ -1,6 +1,5 @@
-use Rattle.std.proofs.Common.{◌≡◌, true, false, sym, ◌∙◌}
-use Rattle.std.proofs.lemmas.Bool.{eq-eqb, ne_eqb}
-use Rattle.cdi_validate.specs.Together.{is_nameless}
+use Rattle.cdi_validate.proofs.Common.{◌≡◌, sym, ◌∙◌, true, false, is_nameless, eq-eqb}
+use Rattle.std.proofs.lemmas.Bool.{ne_eqb}
 use Rattle.cdi_validate.proofs.CountLemmas.{all-from, nameless-by}
 use Rattle.cdi_validate.proofs.names.are_nameless.Goals as goal
 

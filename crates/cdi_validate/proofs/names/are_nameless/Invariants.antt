@@ -1,6 +1,4 @@
-use Rattle.std.proofs.Common.{◌≡◌, drop, map}
-use Rattle.std.specs.List.{list_all}
-use Rattle.cdi_validate.specs.Together.{is_nameless}
+use Rattle.cdi_validate.proofs.Common.{◌≡◌, map, drop, list_all, is_nameless}
 use Rattle.cdi_validate.proofs.names.are_nameless.Given as goal
 
 abbrev pub invariant-loop-decl : goal.invariant-loop-decl

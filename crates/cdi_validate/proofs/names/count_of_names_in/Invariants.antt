@@ -1,6 +1,4 @@
-use Rattle.std.proofs.Common.{◌≡◌, ◌≤◌, length, take}
-use Rattle.std.specs.List.{flat_map}
-use Rattle.cdi_validate.specs.Faults.{enabled_name}
+use Rattle.cdi_validate.proofs.Common.{◌≡◌, flat_map, length, ◌≤◌, take, enabled_name}
 use Rattle.cdi_validate.proofs.names.count_of_names_in.Given as goal
 
 abbrev pub invariant-loop-bean : goal.invariant-loop-bean

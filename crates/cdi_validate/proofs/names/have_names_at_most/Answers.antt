@@ -1,8 +1,5 @@
-use Rattle.std.proofs.Common.{◌≡◌, ◌++◌, [], ◌∷◌, length, sym, ap, ◌∙◌, append_assoc, arith}
-use Rattle.std.specs.List.{flat_map}
-use Rattle.std.proofs.lemmas.Bool.{le-leb, lt-leb}
-use Rattle.cdi_effective.specs.Beans.{beans}
-use Rattle.cdi_validate.specs.Faults.{enabled_name}
+use Rattle.cdi_validate.proofs.Common.{◌≡◌, ◌++◌, sym, ap, ◌∙◌, append_assoc, flat_map, beans, [], ◌∷◌, length, arith, le-leb, enabled_name}
+use Rattle.std.proofs.lemmas.Bool.{lt-leb}
 use Rattle.cdi_validate.proofs.FoundLemmas.{all-gone, found-next}
 use Rattle.cdi_validate.proofs.CountLemmas.{count-gone, count-next}
 use Rattle.cdi_validate.proofs.names.have_names_at_most.Goals as goal

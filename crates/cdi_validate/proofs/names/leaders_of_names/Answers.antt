@@ -1,16 +1,6 @@
-use Rattle.std.proofs.Common.{◌≡◌, ◌++◌, [], ◌∷◌, ℕ, List, sym, subst, ap, ◌∙◌, append_assoc}
-use Rattle.std.specs.List.{flat_map}
-use Rattle.std.specs.BTreeMap.{is_at}
-use Rattle.std.specs.Cmp.Lexicographic.{slice_cmp}
-use Rattle.std.specs.Map.{lookup}
-use Rattle.std.specs.Ordering.{nat_cmp}
-use Rattle.std.proofs.lemmas.Bool.{false≢true}
-use Rattle.std.proofs.lemmas.Grind.{flat_map-append}
-use Rattle.cdi_effective.specs.Beans.{entries}
-use Rattle.cdi_resolve.specs.Choices.{named}
-use Rattle.cdi_resolve.specs.declared.leaders.Leaders.{Leaders}
-use Rattle.cdi_validate.specs.Faults.{enabled_name}
-use Rattle.cdi_validate.specs.Names.{leaders_in, AreLed, AreNames}
+use Rattle.cdi_validate.proofs.Common.{◌≡◌, List, ◌++◌, sym, ap, ◌∙◌, append_assoc, flat_map, ℕ, [], ◌∷◌, false≢true, subst, entries, is_at}
+use Rattle.cdi_validate.proofs.Common.{lookup, slice_cmp, nat_cmp, flat_map-append, named, Leaders, enabled_name, leaders_in, AreLed}
+use Rattle.cdi_validate.proofs.Common.{AreNames}
 use Rattle.cdi_validate.proofs.ClashLemmas.{names-both}
 use Rattle.cdi_validate.proofs.FoundLemmas.{all-gone, found-next, records-next}
 use Rattle.cdi_validate.proofs.names.leaders_of_names.Goals as goal

@@ -1,5 +1,4 @@
-use Rattle.std.proofs.Common.{◌≡◌, ◌++◌}
-use Rattle.std.specs.BTreeMap.{keys}
+use Rattle.cdi_validate.proofs.Common.{◌≡◌, ◌++◌, keys}
 use Rattle.cdi_validate.proofs.names.names_of.Given as goal
 
 abbrev pub invariant-loop-name : goal.invariant-loop-name

@@ -1,8 +1,7 @@
-use Rattle.std.proofs.Common.{◌≡◌, ◌+◌, ◌++◌, ◌∷◌, [], true, false, drop, filter, map, sym, ap, ◌∙◌, append_assoc, append-nil}
+use Rattle.cdi_validate.proofs.Common.{◌≡◌, ◌++◌, sym, ap, ◌∙◌, append_assoc, true, false, [], ◌∷◌, map, filter, goes_on, append-nil, ◌+◌}
+use Rattle.cdi_validate.proofs.Common.{drop, starts_with}
 use Rattle.std.specs.Prelude.{nat_eq}
-use Rattle.std.specs.List.{starts_with}
 use Rattle.cdi_faults.specs.declared.fault.Fault.TheVariants as faults_are
-use Rattle.cdi_validate.specs.Faults.{goes_on}
 use Rattle.cdi_validate.proofs.NameLemmas.{none-left, some-left}
 use Rattle.cdi_validate.proofs.names.push_behind.Goals as goal
 use Rattle.cdi_validate.proofs.names.push_behind.Goals.{then-has_dot_behind+in_ok-push, else-has_dot_behind}

@@ -1,7 +1,5 @@
-use Rattle.std.proofs.Common.{◌≡◌, ◌++◌, filter, map}
-use Rattle.cdi_resolve.specs.Leaders.{leading}
+use Rattle.cdi_validate.proofs.Common.{◌≡◌, ◌++◌, map, filter, leading, is_ambiguous}
 use Rattle.cdi_faults.specs.declared.fault.Fault.TheVariants as faults_are
-use Rattle.cdi_subjects.specs.Subjects.{is_ambiguous}
 use Rattle.cdi_validate.proofs.names.push_clashes.Given as goal
 
 abbrev pub invariant-loop-name : goal.invariant-loop-name

@@ -1,11 +1,6 @@
-use Rattle.std.proofs.Common.{◌≡◌, ◌++◌, true, nat_le, [], length, ap, sym, ◌∙◌, append_assoc, arith}
-use Rattle.std.specs.List.{flat_map}
-use Rattle.std.proofs.lemmas.Bool.{eqb-true, leb-true}
+use Rattle.cdi_validate.proofs.Common.{◌≡◌, ◌++◌, sym, ap, ◌∙◌, append_assoc, flat_map, beans, name_clashes, name_prefixes, true, []}
+use Rattle.cdi_validate.proofs.Common.{length, arith, eqb-true, leb-true, enabled_names, nat_le, enabled_name, in_order-rises, prefix_pairs}
 use Rattle.std.proofs.lemmas.List.{length-map}
-use Rattle.cdi_match.proofs.OrderLemmas.{in_order-rises}
-use Rattle.cdi_effective.specs.Beans.{beans}
-use Rattle.cdi_validate.specs.Faults.{enabled_name, enabled_names, name_clashes, name_prefixes}
-use Rattle.cdi_validate.specs.Names.{prefix_pairs}
 use Rattle.cdi_validate.proofs.ClashLemmas.{clashes-led, keys-named}
 use Rattle.cdi_validate.proofs.CountLemmas.{apart-if_as_many}
 use Rattle.cdi_validate.proofs.NameLemmas.{pairs-behind}

@@ -1,10 +1,6 @@
-use Rattle.std.proofs.Common.{◌++◌, map, filter, subst, sym, ap, ◌∙◌, append_assoc}
-use Rattle.std.specs.List.Sorted.{IsStrictlySortedBy}
-use Rattle.std.specs.Cmp.Lexicographic.{slice_cmp}
-use Rattle.std.specs.Ordering.{nat_cmp}
+use Rattle.cdi_validate.proofs.Common.{◌++◌, sym, ap, ◌∙◌, append_assoc, map, filter, IsStrictlySortedBy, goes_on, subst, slice_cmp}
+use Rattle.cdi_validate.proofs.Common.{nat_cmp, prefix_pairs}
 use Rattle.cdi_faults.specs.declared.fault.Fault.TheVariants as faults_are
-use Rattle.cdi_validate.specs.Faults.{goes_on}
-use Rattle.cdi_validate.specs.Names.{prefix_pairs}
 use Rattle.cdi_validate.proofs.names.push_prefixes.Goals as goal
 
 pub taken-preserved : goal.taken-preserved

@@ -1,8 +1,4 @@
-use Rattle.std.proofs.Common.{◌≡◌, ◌++◌, length}
-use Rattle.std.specs.List.Sorted.{IsStrictlySortedBy}
-use Rattle.std.specs.Cmp.Lexicographic.{slice_cmp}
-use Rattle.std.specs.Ordering.{nat_cmp}
-use Rattle.cdi_validate.specs.Names.{prefix_pairs}
+use Rattle.cdi_validate.proofs.Common.{◌≡◌, ◌++◌, length, IsStrictlySortedBy, slice_cmp, nat_cmp, prefix_pairs}
 use Rattle.cdi_validate.proofs.names.push_prefixes.Given as goal
 
 abbrev pub invariant-taken : goal.invariant-taken

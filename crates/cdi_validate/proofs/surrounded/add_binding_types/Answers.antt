@@ -1,11 +1,4 @@
-use Rattle.std.proofs.Common.{true, cond, map, refl, ap, ◌∙◌}
-use Rattle.std.specs.BTreeSet.{contains}
-use Rattle.std.specs.Str.{bytes_eq}
-use Rattle.cdi_match.specs.Bindings.{uses_in}
-use Rattle.cdi_match.specs.Chain.{has}
-use Rattle.cdi_match.proofs.Names.{at_name}
-use Rattle.cdi_model.specs.Bytes.{byte_order}
-use Rattle.cdi_model.specs.Quals.{name_of_use}
+use Rattle.cdi_validate.proofs.Common.{ap, ◌∙◌, true, cond, map, refl, bytes_eq, has, at_name, byte_order, name_of_use, contains, uses_in}
 use Rattle.cdi_validate.proofs.SurroundLemmas.{found-or, one-next}
 use Rattle.cdi_validate.proofs.surrounded.add_binding_types.Goals as goal
 

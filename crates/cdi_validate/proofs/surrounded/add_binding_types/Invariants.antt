@@ -1,9 +1,4 @@
-use Rattle.std.proofs.Common.{◌≡◌, ◌||◌, ℕ, List, drop, map}
-use Rattle.std.specs.BTreeSet.{contains}
-use Rattle.cdi_match.specs.Bindings.{uses_in}
-use Rattle.cdi_match.specs.Chain.{has}
-use Rattle.cdi_model.specs.Bytes.{byte_order}
-use Rattle.cdi_model.specs.Quals.{name_of_use}
+use Rattle.cdi_validate.proofs.Common.{◌≡◌, List, ℕ, map, has, ◌||◌, drop, byte_order, name_of_use, contains, uses_in}
 use Rattle.cdi_validate.proofs.surrounded.add_binding_types.Given as goal
 
 abbrev pub invariant-loop-binding : goal.invariant-loop-binding

@@ -1,8 +1,4 @@
-use Rattle.std.proofs.Common.{◌≡◌, ◌||◌, ℕ, List, drop, map}
-use Rattle.std.specs.BTreeSet.{contains}
-use Rattle.cdi_model.specs.Bytes.{byte_order}
-use Rattle.cdi_intercept.specs.Lent.{uses_at}
-use Rattle.cdi_validate.specs.Surrounded.{has_binding_in}
+use Rattle.cdi_validate.proofs.Common.{◌≡◌, List, ℕ, map, ◌||◌, drop, byte_order, has_binding_in, contains, uses_at}
 use Rattle.cdi_validate.proofs.surrounded.add_binding_types_at.Given as goal
 
 abbrev pub invariant-loop-set : goal.invariant-loop-set

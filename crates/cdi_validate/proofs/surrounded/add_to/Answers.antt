@@ -1,8 +1,4 @@
-use Rattle.std.proofs.Common.{◌++◌, ◌∷◌, [], None, Some, cond, ap, ◌∙◌}
-use Rattle.std.specs.BTreeMap.{get}
-use Rattle.std.specs.Option.{unwrap_or}
-use Rattle.cdi_model.specs.Bytes.{byte_order}
-use Rattle.cdi_match.proofs.Names.{at_name}
+use Rattle.cdi_validate.proofs.Common.{◌++◌, ap, ◌∙◌, cond, [], ◌∷◌, Some, None, get, unwrap_or, at_name, byte_order}
 use Rattle.cdi_validate.proofs.SurroundLemmas.{bean-put}
 use Rattle.cdi_validate.proofs.surrounded.add_to.Goals as goal
 

@@ -1,5 +1,4 @@
-use Rattle.cdi_validate.specs.Surrounded.{beans_at}
-use Rattle.cdi_resolve.proofs.PlaceLemmas.{rise-next}
+use Rattle.cdi_validate.proofs.Common.{rise-next, beans_at}
 use Rattle.cdi_validate.proofs.SurroundLemmas.{bean-next}
 use Rattle.cdi_validate.proofs.surrounded.add_to_each.Goals as goal
 

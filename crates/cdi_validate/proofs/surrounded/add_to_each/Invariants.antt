@@ -1,8 +1,5 @@
-use Rattle.std.proofs.Common.{◌≡◌, ◌++◌, ◌∷◌, [], ℕ, List, drop, if◌then◌else◌}
-use Rattle.std.specs.List.Sorted.{IsStrictlySortedBy}
-use Rattle.cdi_model.specs.Bytes.{byte_order}
-use Rattle.cdi_match.specs.Chain.{has}
-use Rattle.cdi_validate.specs.Surrounded.{beans_at}
+use Rattle.cdi_validate.proofs.Common.{◌≡◌, List, ◌++◌, ℕ, [], ◌∷◌, IsStrictlySortedBy, has, drop, byte_order, beans_at}
+use Rattle.std.proofs.Common.{if◌then◌else◌}
 use Rattle.cdi_validate.proofs.surrounded.add_to_each.Given as goal
 
 abbrev pub invariant-loop-name : goal.invariant-loop-name

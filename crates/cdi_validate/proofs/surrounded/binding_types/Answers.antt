@@ -1,14 +1,6 @@
-use Rattle.std.proofs.Common.{◌≡◌, ◌||◌, map, sym, ap, ◌∙◌, rules}
-use Rattle.std.specs.BTreeMap.{is_at}
-use Rattle.std.specs.List.{list_any}
-use Rattle.std.proofs.lemmas.Result.{IfOk-weaker}
-use Rattle.cdi_effective.specs.Bindings.{class_bindings}
-use Rattle.cdi_intercept.specs.Lent.{uses_at}
-use Rattle.cdi_intercept.specs.Sets.{sets_of}
-use Rattle.cdi_match.specs.Chain.{has}
-use Rattle.cdi_match.proofs.Names.{has-by_order}
-use Rattle.cdi_model.specs.Bytes.{byte_order}
-use Rattle.cdi_validate.specs.Surrounded.{has_binding_in}
+use Rattle.cdi_validate.proofs.Common.{◌≡◌, sym, ap, ◌∙◌, map, has, ◌||◌, list_any, is_at, byte_order, has-by_order, class_bindings}
+use Rattle.cdi_validate.proofs.Common.{sets_of, has_binding_in, IfOk-weaker, uses_at}
+use Rattle.std.proofs.Common.{rules}
 use Rattle.cdi_validate.proofs.surrounded.binding_types.Goals as goal
 
 pub returns-clause-types : goal.returns-clause-types

@@ -1,7 +1,4 @@
-use Rattle.std.proofs.Common.{◌≡◌, drop, fold}
-use Rattle.std.specs.List.{flat_map}
-use Rattle.cdi_validate.specs.Linked.{faults_of_chains}
-use Rattle.cdi_validate.specs.Twice.{with_line}
+use Rattle.cdi_validate.proofs.Common.{◌≡◌, flat_map, fold, drop, faults_of_chains, with_line}
 use Rattle.cdi_validate.proofs.twice.add_lines.Given as goal
 
 abbrev pub invariant-loop-other : goal.invariant-loop-other

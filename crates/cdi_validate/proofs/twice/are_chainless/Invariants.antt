@@ -1,6 +1,4 @@
-use Rattle.std.proofs.Common.{◌≡◌, drop, map}
-use Rattle.std.specs.List.{list_all}
-use Rattle.cdi_validate.specs.Together.{is_chainless}
+use Rattle.cdi_validate.proofs.Common.{◌≡◌, map, is_chainless, drop, list_all}
 use Rattle.cdi_validate.proofs.twice.are_chainless.Given as goal
 
 abbrev pub invariant-loop-decl : goal.invariant-loop-decl

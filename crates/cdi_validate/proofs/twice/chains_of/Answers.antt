@@ -1,7 +1,5 @@
-use Rattle.std.proofs.Common.{◌≡◌, ◌++◌, [], ◌∷◌, filter, sym, subst, ap, ◌∙◌, append_assoc}
-use Rattle.std.specs.List.{AllZip, flat_map}
-use Rattle.cdi_validate.specs.Linked.{KeepsChain}
-use Rattle.cdi_validate.specs.Twice.{enabled_bean}
+use Rattle.cdi_validate.proofs.Common.{◌≡◌, ◌++◌, sym, ap, ◌∙◌, append_assoc, flat_map, [], ◌∷◌, filter, subst, enabled_bean, AllZip}
+use Rattle.cdi_validate.proofs.Common.{KeepsChain}
 use Rattle.cdi_validate.proofs.LinkLemmas.{specializing-next}
 use Rattle.cdi_validate.proofs.twice.chains_of.Goals as goal
 

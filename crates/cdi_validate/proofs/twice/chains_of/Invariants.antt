@@ -1,8 +1,4 @@
-use Rattle.std.proofs.Common.{◌≡◌, ◌++◌, List, filter}
-use Rattle.std.specs.List.{AllZip, flat_map}
-use Rattle.cdi_model.specs.declared.decl.Decl.{Decl}
-use Rattle.cdi_validate.specs.Linked.{KeepsChain}
-use Rattle.cdi_validate.specs.Twice.{enabled_bean}
+use Rattle.cdi_validate.proofs.Common.{◌≡◌, List, ◌++◌, flat_map, Decl, filter, enabled_bean, AllZip, KeepsChain}
 use Rattle.cdi_validate.proofs.twice.chains_of.Given as goal
 
 abbrev pub invariant-loop-decl : goal.invariant-loop-decl

@@ -1,5 +1,4 @@
-use Rattle.std.proofs.Common.{◌≡◌, drop}
-use Rattle.cdi_validate.specs.Linked.{first_marked}
+use Rattle.cdi_validate.proofs.Common.{◌≡◌, drop, first_marked}
 use Rattle.cdi_validate.proofs.twice.first_marked.Given as goal
 
 abbrev pub invariant-loop-link : goal.invariant-loop-link

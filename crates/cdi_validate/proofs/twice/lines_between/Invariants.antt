@@ -1,6 +1,4 @@
-use Rattle.std.proofs.Common.{◌≡◌, fold, length}
-use Rattle.cdi_validate.specs.Linked.{faults_between}
-use Rattle.cdi_validate.specs.Twice.{by_line, with_line}
+use Rattle.cdi_validate.proofs.Common.{◌≡◌, length, fold, faults_between, by_line, with_line}
 use Rattle.cdi_validate.proofs.twice.lines_between.Given as goal
 
 abbrev pub invariant-taken : goal.invariant-taken

@@ -1,7 +1,5 @@
-use Rattle.std.proofs.Common.{◌≡◌, ◌++◌, drop}
+use Rattle.cdi_validate.proofs.Common.{◌≡◌, ◌++◌, class_names, drop, links_to}
 use Rattle.cdi_effective.specs.Lent.{beans_in}
-use Rattle.cdi_effective.specs.Specialized.{class_names}
-use Rattle.cdi_validate.specs.Linked.{links_to}
 use Rattle.cdi_validate.proofs.twice.links_to.Given as goal
 
 abbrev pub invariant-loop-bean : goal.invariant-loop-bean

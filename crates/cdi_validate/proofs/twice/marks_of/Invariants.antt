@@ -1,5 +1,4 @@
-use Rattle.std.proofs.Common.{◌≡◌, ◌<◌, ◌||◌, ℕ, drop, length}
-use Rattle.cdi_validate.specs.Linked.{has_position, is_marked}
+use Rattle.cdi_validate.proofs.Common.{◌≡◌, ◌<◌, ℕ, length, ◌||◌, drop, has_position, is_marked}
 use Rattle.cdi_validate.proofs.twice.marks_of.Given as goal
 
 abbrev pub invariant-loop-link : goal.invariant-loop-link

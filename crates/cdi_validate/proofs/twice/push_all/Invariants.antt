@@ -1,5 +1,4 @@
-use Rattle.std.proofs.Common.{◌≡◌, ◌++◌}
-use Rattle.std.specs.BTreeMap.{values}
+use Rattle.cdi_validate.proofs.Common.{◌≡◌, ◌++◌, values}
 use Rattle.cdi_validate.proofs.twice.push_all.Given as goal
 
 abbrev pub invariant-loop-fault : goal.invariant-loop-fault

@@ -1,6 +1,4 @@
-use Rattle.std.proofs.Common.{◌≡◌, ◌++◌, [], ◌∷◌, sym, subst, ap, ◌∙◌}
-use Rattle.std.specs.List.{AllZip}
-use Rattle.cdi_validate.specs.Linked.{is_first_enabled, specializing_by, KeepsChain}
+use Rattle.cdi_validate.proofs.Common.{◌≡◌, ◌++◌, sym, ap, ◌∙◌, [], ◌∷◌, subst, is_first_enabled, specializing_by, AllZip, KeepsChain}
 use Rattle.cdi_validate.proofs.LinkLemmas.{specializing-one, zip-push}
 use Rattle.cdi_validate.proofs.twice.push_of_decl.Goals as goal
 

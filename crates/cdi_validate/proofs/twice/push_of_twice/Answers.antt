@@ -1,8 +1,5 @@
-use Rattle.std.proofs.Common.{◌≡◌, ◌++◌, length, map, ap, ◌∙◌, arith}
-use Rattle.std.specs.BTreeMap.{values}
-use Rattle.std.proofs.lemmas.Bool.{eqb-true}
-use Rattle.cdi_validate.specs.Linked.{faults_between}
-use Rattle.cdi_validate.specs.Twice.{in_line_order, specialized_twice}
+use Rattle.cdi_validate.proofs.Common.{◌≡◌, ◌++◌, ap, ◌∙◌, specialized_twice, length, map, arith, eqb-true, in_line_order, faults_between}
+use Rattle.cdi_validate.proofs.Common.{values}
 use Rattle.cdi_validate.proofs.ChainlessLemmas.{faultless_twice}
 use Rattle.cdi_validate.proofs.LinkLemmas.{kept-faults}
 use Rattle.cdi_validate.proofs.PushLemmas.{none-pushed}

@@ -1,4 +1,4 @@
-use Rattle.std.proofs.Common.{◌≡◌, Some, slice_get, subst, ◌∙◌}
+use Rattle.cdi_container.proofs.Common.{◌≡◌, Some, subst, ◌∙◌, slice_get}
 use Rattle.cdi_effective.proofs.PlaceLemmas.{own-found}
 use Rattle.cdi_container.proofs.beans.Beans.new.Goals as goal
 

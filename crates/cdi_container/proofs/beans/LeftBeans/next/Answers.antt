@@ -1,4 +1,5 @@
-use Rattle.std.proofs.Common.{◌≡◌, ◌++◌, [], suc, flat_map, slice_get, sym, ap, ◌∙◌}
+use Rattle.cdi_container.proofs.Common.{◌≡◌, sym, [], ◌++◌, ap, ◌∙◌, suc, slice_get}
+use Rattle.std.proofs.Common.{flat_map}
 use Rattle.std.proofs.lemmas.List.{nil_from_length}
 use Rattle.cdi_effective.specs.Beans.{entries}
 use Rattle.cdi_container.proofs.beans.LeftBeans.next.Goals as goal

@@ -1,4 +1,4 @@
-use Rattle.std.proofs.Common.{◌≡◌, length}
+use Rattle.cdi_container.proofs.Common.{◌≡◌, length}
 use Rattle.cdi_container.specs.BeansLent.{beans_left, AreDeclared}
 use Rattle.cdi_container.proofs.beans.LeftBeans.next.Given as goal
 

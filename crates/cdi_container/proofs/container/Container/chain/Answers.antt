@@ -1,10 +1,6 @@
-use Rattle.std.proofs.Common.{◌∷◌, [], ap, subst, sym, ◌∙◌}
+use Rattle.cdi_container.proofs.Common.{subst, sym, [], ◌∷◌, ap, ◌∙◌, Deployed, Answers, ChainKey, chain_of, State, left_by, trace_names}
+use Rattle.cdi_container.proofs.Common.{RestsOnScene}
 use Rattle.std.specs.Prelude.{List, ℕ}
-use Rattle.cdi_model.specs.Answering.{Answers}
-use Rattle.cdi_intercept.specs.Chains.{chain_of}
-use Rattle.cdi_observe.specs.Keys.{ChainKey}
-use Rattle.cdi_container.specs.History.{State, left_by}
-use Rattle.cdi_container.specs.Wired.{Deployed, RestsOnScene, trace_names}
 use Rattle.cdi_container.proofs.Asking.{asked_left, chain_left, chain_told, failure, same_state}
 use Rattle.cdi_container.proofs.Playing.{rests_asked}
 use Rattle.cdi_container.proofs.container.Container.chain.Goals as goal

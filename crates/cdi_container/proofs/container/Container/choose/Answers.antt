@@ -1,11 +1,5 @@
-use Rattle.std.proofs.Common.{◌∷◌, [], ap, refl, subst, sym, ◌∙◌}
-use Rattle.cdi_effective.specs.Beans.{beans}
-use Rattle.cdi_observe.proofs.KeptLemmas.{where_err}
-use Rattle.cdi_observe.specs.Keys.{choice_key}
-use Rattle.cdi_resolve.specs.Choices.{chosen}
-use Rattle.cdi_container.specs.History.{State}
-use Rattle.cdi_container.specs.Wired.{Deployed, RestsOnScene, trace_names}
-use Rattle.cdi_container.specs.declared.answer.Answer.TheVariants.{Chosen}
+use Rattle.cdi_container.proofs.Common.{refl, subst, sym, beans, chosen, [], ◌∷◌, ap, ◌∙◌, choice_key, Deployed, State, trace_names, Chosen}
+use Rattle.cdi_container.proofs.Common.{RestsOnScene, where_err}
 use Rattle.cdi_container.proofs.Asking.{asked_left, same_state, choose_unserved}
 use Rattle.cdi_container.proofs.Playing.{rests_asked}
 use Rattle.cdi_container.proofs.container.Container.choose.Goals as goal

@@ -1,6 +1,4 @@
-use Rattle.std.proofs.Common.{ap, sym, ◌∙◌}
-use Rattle.cdi_container.specs.Editing.{alone}
-use Rattle.cdi_container.specs.Wired.{trace_names}
+use Rattle.cdi_container.proofs.Common.{sym, ap, ◌∙◌, alone, trace_names}
 use Rattle.cdi_container.proofs.Ending.{ends_no_request, has_request, is_closed}
 use Rattle.cdi_container.proofs.container.Container.end_request.Goals as goal
 

@@ -1,5 +1,4 @@
-use Rattle.std.proofs.Common.{◌∙◌, [], refl, sym}
-use Rattle.cdi_staging.specs.Naming.{names_of}
+use Rattle.cdi_container.proofs.Common.{refl, sym, [], ◌∙◌, names_of}
 use Rattle.cdi_container.proofs.NamingLemmas.{names_present}
 use Rattle.cdi_container.proofs.container.Container.entries.Goals as goal
 

@@ -1,7 +1,4 @@
-use Rattle.std.proofs.Common.{◌≡◌, ◌∙◌, ap, subst, sym}
-use Rattle.cdi_observe.specs.Wanted.{wanted}
-use Rattle.cdi_container.specs.History.{State}
-use Rattle.cdi_container.specs.Points.{points_told}
+use Rattle.cdi_container.proofs.Common.{◌≡◌, subst, sym, ap, ◌∙◌, wanted, State, points_told}
 use Rattle.cdi_container.proofs.container.Container.kept_points.Goals as goal
 
 pub points-requires : goal.points-requires

@@ -1,11 +1,8 @@
-use Rattle.std.proofs.Common.{None, Ok, Err, ap, subst, sym, ◌∙◌}
+use Rattle.cdi_container.proofs.Common.{None, subst, sym, ap, ◌∙◌, keys_of_event, cleared, Moment, beginning, run_by, State, RunAnswers}
+use Rattle.cdi_container.proofs.Common.{trace_names}
+use Rattle.std.proofs.Common.{Ok, Err}
 use Rattle.cdi_legal.specs.LegalRun.{notify_all}
-use Rattle.cdi_contexts.specs.Standing.{cleared}
-use Rattle.cdi_legal.specs.Moment.{Moment, beginning}
-use Rattle.cdi_container.specs.Asked.{fired_of, run_by, run_of_event}
-use Rattle.cdi_container.specs.History.{State, RunAnswers}
-use Rattle.cdi_container.specs.Known.{keys_of_event}
-use Rattle.cdi_container.specs.Wired.{trace_names}
+use Rattle.cdi_container.specs.Asked.{fired_of, run_of_event}
 use Rattle.cdi_container.proofs.AskedLemmas.{some-all, event-apart}
 use Rattle.cdi_container.proofs.Asking.{leaves_run, refused_by, ran, run_left, run_without_memory}
 use Rattle.cdi_container.proofs.Ending.{standing_at}

@@ -1,11 +1,5 @@
-use Rattle.std.proofs.Common.{◌∷◌, [], ap, refl, subst, sym, ◌∙◌}
-use Rattle.cdi_effective.specs.Beans.{beans}
-use Rattle.cdi_observe.proofs.KeptLemmas.{where_err}
-use Rattle.cdi_observe.specs.Keys.{EventKey}
-use Rattle.cdi_observe.specs.Observers.{notified}
-use Rattle.cdi_container.specs.History.{State}
-use Rattle.cdi_container.specs.Wired.{Deployed, RestsOnScene, trace_names}
-use Rattle.cdi_container.specs.declared.answer.Answer.TheVariants.{Observed}
+use Rattle.cdi_container.proofs.Common.{refl, subst, sym, beans, notified, [], ◌∷◌, ap, ◌∙◌, EventKey, Deployed, State, trace_names}
+use Rattle.cdi_container.proofs.Common.{Observed, RestsOnScene, where_err}
 use Rattle.cdi_container.proofs.Asking.{asked_left, same_state, observers_unserved}
 use Rattle.cdi_container.proofs.Playing.{rests_asked}
 use Rattle.cdi_container.proofs.container.Container.observers.Goals as goal

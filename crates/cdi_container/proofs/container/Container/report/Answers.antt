@@ -1,11 +1,5 @@
-use Rattle.std.proofs.Common.{◌≡◌, ap, refl, subst, sym, ◌∙◌}
-use Rattle.cdi_observe.proofs.KeptLemmas.{where_err}
-use Rattle.cdi_observe.specs.Wanted.{wanted}
-use Rattle.cdi_validate.specs.Faults.{faults}
-use Rattle.cdi_container.specs.History.{AsksSome, State, asked, untold}
-use Rattle.cdi_container.specs.Known.{known_with}
-use Rattle.cdi_container.specs.Wired.{trace_names}
-use Rattle.cdi_container.specs.declared.answer.Answer.TheVariants.{Reported}
+use Rattle.cdi_container.proofs.Common.{◌≡◌, refl, subst, sym, ap, ◌∙◌, wanted, faults, known_with, State, AsksSome, asked, untold}
+use Rattle.cdi_container.proofs.Common.{trace_names, Reported, where_err}
 use Rattle.cdi_container.proofs.Asking.{asked_left, asked_some, report_unserved}
 use Rattle.cdi_container.proofs.Ending.{standing_at}
 use Rattle.cdi_container.proofs.KnownLemmas.{known_with-wanted}

@@ -1,10 +1,7 @@
-use Rattle.std.proofs.Common.{None, Ok, Err, ap, subst, ◌∙◌}
-use Rattle.cdi_contexts.specs.Standing.{cleared}
-use Rattle.cdi_legal.specs.Moment.{Moment, beginning}
-use Rattle.cdi_container.specs.Asked.{aim_of, asked_for, run_at, run_by, run_of_use}
-use Rattle.cdi_container.specs.History.{State, RunAnswers}
-use Rattle.cdi_container.specs.Known.{keys_of_use}
-use Rattle.cdi_container.specs.Wired.{trace_names}
+use Rattle.cdi_container.proofs.Common.{None, subst, asked_for, ap, ◌∙◌, keys_of_use, cleared, Moment, beginning, run_by, State, RunAnswers}
+use Rattle.cdi_container.proofs.Common.{trace_names}
+use Rattle.std.proofs.Common.{Ok, Err}
+use Rattle.cdi_container.specs.Asked.{aim_of, run_at, run_of_use}
 use Rattle.cdi_container.proofs.AskedLemmas.{some-all, use-apart}
 use Rattle.cdi_container.proofs.Asking.{leaves_run, refused_by, ran, run_left, run_without_memory}
 use Rattle.cdi_container.proofs.Ending.{standing_at}

@@ -1,9 +1,4 @@
-use Rattle.std.proofs.Common.{sym, ap, ◌∙◌}
-use Rattle.cdi_observe.specs.Keys.{choice_key}
-use Rattle.cdi_observe.specs.Wanted.{wanted}
-use Rattle.cdi_subjects.specs.Asked.{are_known}
-use Rattle.cdi_container.specs.Known.{keys_of_use}
-use Rattle.cdi_container.specs.Wired.{Deployed}
+use Rattle.cdi_container.proofs.Common.{sym, ap, ◌∙◌, choice_key, wanted, are_known, keys_of_use, Deployed}
 use Rattle.cdi_container.proofs.AskedLemmas.{ends_without_memory, own_ends, some-all, use-apart, use-faulty, use-own, use-some, use-unknown}
 use Rattle.cdi_container.proofs.AskedLemmas.{wanted-apart}
 use Rattle.cdi_container.proofs.deployment.Deployment.aim.Goals as goal

@@ -1,8 +1,4 @@
-use Rattle.std.proofs.Common.{ap, sym, refl, subst, ◌∙◌}
-use Rattle.std.specs.Prelude.{is_some}
-use Rattle.cdi_model.specs.DeclList.{AreDistinct}
-use Rattle.cdi_observe.specs.Keys.{choice_key}
-use Rattle.cdi_container.specs.Asked.{asked_for}
+use Rattle.cdi_container.proofs.Common.{refl, subst, sym, AreDistinct, asked_for, ap, ◌∙◌, choice_key, is_some}
 use Rattle.cdi_container.proofs.Aiming.{aimed_stands, aims}
 use Rattle.cdi_container.proofs.AskedLemmas.{own_asked, own_without_memory}
 use Rattle.cdi_container.proofs.deployment.Deployment.aim_wired.Goals as goal

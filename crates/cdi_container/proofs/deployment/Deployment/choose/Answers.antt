@@ -1,7 +1,4 @@
-use Rattle.std.proofs.Common.{◌∷◌, [], subst}
-use Rattle.std.proofs.lemmas.Result.{on_ok_weaker}
-use Rattle.cdi_observe.specs.Keys.{choice_key}
-use Rattle.cdi_container.specs.Wired.{Deployed, IsAsked, is_sound}
+use Rattle.cdi_container.proofs.Common.{subst, [], ◌∷◌, choice_key, Deployed, IsAsked, is_sound, on_ok_weaker}
 use Rattle.cdi_container.proofs.AskedLemmas.{asks_one}
 use Rattle.cdi_container.proofs.Committing.{deployed_on}
 use Rattle.cdi_container.proofs.KeepingLemmas.{stays_right, still_asked}

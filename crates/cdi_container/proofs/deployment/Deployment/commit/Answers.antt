@@ -1,6 +1,4 @@
-use Rattle.std.proofs.Common.{◌≡◌, ◌∙◌, Option, ap, false, subst}
-use Rattle.cdi_wiring.specs.declared.verdict.Wiring.{Wiring}
-use Rattle.cdi_container.specs.Wired.{Deployed, is_sound, redeployed}
+use Rattle.cdi_container.proofs.Common.{◌≡◌, false, Option, subst, ap, ◌∙◌, Deployed, Wiring, is_sound, redeployed}
 use Rattle.cdi_container.proofs.Committing.{commits, deployed_on}
 use Rattle.cdi_container.proofs.KeepingLemmas.{commits_right}
 use Rattle.cdi_container.proofs.deployment.Deployment.commit.Goals as goal

@@ -1,7 +1,4 @@
-use Rattle.std.proofs.Common.{subst}
-use Rattle.std.specs.Prelude.{IfOk}
-use Rattle.cdi_index.specs.State.{IsEdited}
-use Rattle.cdi_container.specs.Wired.{Deployed}
+use Rattle.cdi_container.proofs.Common.{subst, Deployed, IfOk, IsEdited}
 use Rattle.cdi_container.proofs.Committing.{is_edited}
 use Rattle.cdi_container.proofs.deployment.Deployment.draft.Goals as goal
 

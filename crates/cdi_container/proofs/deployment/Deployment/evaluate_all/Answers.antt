@@ -1,8 +1,4 @@
-use Rattle.std.proofs.Common.{subst}
-use Rattle.cdi_observe.proofs.KeptLemmas.{where_err}
-use Rattle.cdi_observe.specs.Wanted.{wanted}
-use Rattle.cdi_container.specs.Wired.{Deployed, IsAsked, IsAskedSome, is_sound}
-use Rattle.cdi_container.specs.Known.{IsInOrder}
+use Rattle.cdi_container.proofs.Common.{subst, wanted, IsInOrder, Deployed, IsAsked, IsAskedSome, is_sound, where_err}
 use Rattle.cdi_container.proofs.KnownLemmas.{in_order}
 use Rattle.cdi_container.proofs.AskedLemmas.{asks_some, asks_wanted}
 use Rattle.cdi_container.proofs.Committing.{deployed_on, same-counts}

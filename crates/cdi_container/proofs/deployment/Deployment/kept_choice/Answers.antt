@@ -1,6 +1,4 @@
-use Rattle.std.proofs.Common.{◌∷◌, [], sym, subst, ◌∙◌}
-use Rattle.cdi_observe.specs.Keys.{choice_key}
-use Rattle.cdi_container.specs.Wired.{Deployed, IsAsked, is_sound}
+use Rattle.cdi_container.proofs.Common.{subst, sym, [], ◌∷◌, ◌∙◌, choice_key, Deployed, IsAsked, is_sound}
 use Rattle.cdi_container.proofs.AskedLemmas.{asks_known}
 use Rattle.cdi_container.proofs.deployment.Deployment.kept_choice.Goals as goal
 

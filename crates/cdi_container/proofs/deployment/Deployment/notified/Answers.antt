@@ -1,11 +1,6 @@
-use Rattle.std.proofs.Common.{sym, ap, ◌∙◌}
-use Rattle.cdi_observe.specs.Keys.{EventKey}
-use Rattle.cdi_observe.specs.Wanted.{wanted}
-use Rattle.cdi_container.specs.Asked.{can_be_fired}
-use Rattle.cdi_container.specs.Known.{keys_of_event}
-use Rattle.cdi_container.specs.Wired.{Deployed}
-use Rattle.cdi_container.proofs.AskedLemmas.{ends_without_memory, own_ends, some-all, event-apart, event-faulty, event-own, event-some, event-unknown}
-use Rattle.cdi_container.proofs.AskedLemmas.{wanted-apart}
+use Rattle.cdi_container.proofs.Common.{sym, ap, ◌∙◌, EventKey, wanted, can_be_fired, keys_of_event, Deployed}
+use Rattle.cdi_container.proofs.AskedLemmas.{ends_without_memory, own_ends, some-all, event-apart, event-faulty, event-own, event-some}
+use Rattle.cdi_container.proofs.AskedLemmas.{event-unknown, wanted-apart}
 use Rattle.cdi_container.proofs.deployment.Deployment.notified.Goals as goal
 
 pub returns-in_err-count-clause-asked : goal.returns-in_err-count-clause-asked

@@ -1,10 +1,6 @@
-use Rattle.std.proofs.Common.{List, ap, refl, sym, subst, ◌∙◌}
-use Rattle.std.specs.Prelude.{is_some}
-use Rattle.cdi_model.specs.DeclList.{AreDistinct}
-use Rattle.cdi_observe.specs.Keys.{EventKey}
+use Rattle.cdi_container.proofs.Common.{List, refl, subst, sym, AreDistinct, scene_of, ap, ◌∙◌, EventKey, is_some}
 use Rattle.cdi_scene.specs.Sound.{AreObservers}
 use Rattle.cdi_scene.specs.declared.scene.Notified.{Notified}
-use Rattle.cdi_staging.specs.Staged.{scene_of}
 use Rattle.cdi_staging.proofs.NotifiedLemmas.{notified_stand}
 use Rattle.cdi_container.proofs.Aiming.{positions_are}
 use Rattle.cdi_container.proofs.AskedLemmas.{own_asked, own_without_memory}

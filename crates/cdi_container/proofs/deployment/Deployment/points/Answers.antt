@@ -1,7 +1,4 @@
-use Rattle.std.proofs.Common.{◌≡◌, ◌∙◌, ap, subst, sym}
-use Rattle.cdi_observe.specs.Wanted.{wanted}
-use Rattle.cdi_container.specs.Points.{points_told}
-use Rattle.cdi_container.specs.Wired.{Deployed}
+use Rattle.cdi_container.proofs.Common.{◌≡◌, subst, sym, ap, ◌∙◌, wanted, Deployed, points_told}
 use Rattle.cdi_container.proofs.KnownLemmas.{knows-listed}
 use Rattle.cdi_container.proofs.deployment.Deployment.points.Goals as goal
 

@@ -1,8 +1,5 @@
-use Rattle.std.proofs.Common.{refl, subst}
-use Rattle.std.proofs.lemmas.Result.{on_err_weaker, on_ok_weaker}
-use Rattle.cdi_observe.specs.Wanted.{wanted}
-use Rattle.cdi_container.specs.Wired.{Deployed, IsAsked, IsAskedSome, is_sound}
-use Rattle.cdi_container.specs.Known.{IsInOrder}
+use Rattle.cdi_container.proofs.Common.{refl, subst, wanted, IsInOrder, Deployed, IsAsked, IsAskedSome, is_sound, on_ok_weaker}
+use Rattle.std.proofs.lemmas.Result.{on_err_weaker}
 use Rattle.cdi_container.proofs.KnownLemmas.{in_order}
 use Rattle.cdi_container.proofs.AskedLemmas.{asks_some, asks_wanted}
 use Rattle.cdi_container.proofs.Committing.{deployed_on, same-counts}

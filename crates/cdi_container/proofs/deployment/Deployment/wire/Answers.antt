@@ -1,9 +1,5 @@
-use Rattle.std.proofs.Common.{Some, ap, subst, sym, ◌∙◌}
-use Rattle.std.proofs.lemmas.Bool.{false≢true}
-use Rattle.cdi_observe.proofs.KeptLemmas.{where_err}
-use Rattle.cdi_observe.specs.Wanted.{wanted}
-use Rattle.cdi_container.specs.Wired.{Deployed, IsAsked, IsAskedSome, is_sound}
-use Rattle.cdi_container.specs.Known.{IsInOrder}
+use Rattle.cdi_container.proofs.Common.{Some, subst, sym, ap, ◌∙◌, false≢true, wanted, IsInOrder, Deployed, IsAsked, IsAskedSome, is_sound}
+use Rattle.cdi_container.proofs.Common.{where_err}
 use Rattle.cdi_container.proofs.KnownLemmas.{in_order}
 use Rattle.cdi_container.proofs.AskedLemmas.{asks_nothing_more, asks_some, asks_wanted}
 use Rattle.cdi_container.proofs.Committing.{deployed_on}

@@ -1,4 +1,4 @@
-use Rattle.std.proofs.Common.{◌≡◌, length}
+use Rattle.cdi_container.proofs.Common.{◌≡◌, length}
 use Rattle.cdi_container.specs.Lent.{own_left}
 use Rattle.cdi_container.proofs.points.OwnPoints.next.Given as goal
 

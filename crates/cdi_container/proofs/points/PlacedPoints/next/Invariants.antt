@@ -1,4 +1,4 @@
-use Rattle.std.proofs.Common.{◌≡◌, length}
+use Rattle.cdi_container.proofs.Common.{◌≡◌, length}
 use Rattle.cdi_container.specs.Lent.{placed_left}
 use Rattle.cdi_container.proofs.points.PlacedPoints.next.Given as goal
 

@@ -1,7 +1,4 @@
-use Rattle.std.proofs.Common.{◌∙◌, List, subst, sym}
-use Rattle.cdi_model.specs.declared.decl.Decl.{Decl}
-use Rattle.cdi_container.specs.Lent.{AreKnown}
-use Rattle.cdi_container.specs.Points.{placed_points}
+use Rattle.cdi_container.proofs.Common.{List, subst, sym, Decl, ◌∙◌, AreKnown, placed_points}
 use Rattle.cdi_container.proofs.PointLemmas.{are_known}
 use Rattle.cdi_container.proofs.points.Points.iter.Goals as goal
 

@@ -1,5 +1,4 @@
-use Rattle.std.proofs.Common.{take}
-use Rattle.std.specs.Fmt.{HasWritten, IsPlainFormatter}
+use Rattle.cdi_container.proofs.Common.{take, HasWritten, IsPlainFormatter}
 use Rattle.cdi_container.specs.AnswerText.{text_of_observer_ids}
 use Rattle.cdi_container.proofs.printing.ObserversTextDisplay.fmt.Given as goal
 

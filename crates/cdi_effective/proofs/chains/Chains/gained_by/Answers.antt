@@ -1,5 +1,4 @@
-use Rattle.std.proofs.Common.{rules}
-use Rattle.cdi_effective.specs.Specialized.{chain}
+use Rattle.cdi_effective.proofs.Common.{chain, rules}
 use Rattle.cdi_effective.proofs.GainedLemmas.{next-gives-place}
 use Rattle.cdi_effective.proofs.chains.Chains.gained_by.Goals as goal
 

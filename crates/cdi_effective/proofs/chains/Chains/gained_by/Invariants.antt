@@ -1,4 +1,4 @@
-use Rattle.cdi_effective.specs.Specialized.{chain}
+use Rattle.cdi_effective.proofs.Common.{chain}
 use Rattle.cdi_effective.proofs.GainedLemmas.{GivesWithPlaces}
 use Rattle.cdi_effective.proofs.chains.Chains.gained_by.Given as goal
 

@@ -1,8 +1,5 @@
-use Rattle.std.proofs.Common.{◌<◌, ◌||◌, false, get_or, refl, sym, ap, subst, ◌∙◌}
-use Rattle.std.specs.List.{AllByRecursion}
-use Rattle.cdi_match.specs.Chain.{has}
+use Rattle.cdi_effective.proofs.Common.{◌<◌, false, ◌||◌, get_or, refl, sym, ap, ◌∙◌, subst, AllByRecursion, has, behind, replaced_by}
 use Rattle.cdi_effective.specs.Places.{is_offered_by}
-use Rattle.cdi_effective.specs.Specialized.{behind, replaced_by}
 use Rattle.cdi_effective.proofs.MarkLemmas.{link-given, marks-none, none-replaced}
 use Rattle.cdi_effective.proofs.PlaceLemmas.{places-tell, places-within}
 use Rattle.cdi_effective.proofs.StepLemmas.{is-offered, none-offered}

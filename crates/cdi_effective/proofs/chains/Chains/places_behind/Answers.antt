@@ -1,8 +1,8 @@
-use Rattle.std.proofs.Common.{◌≡◌, ◌-◌, ◌+◌, suc, true, false, replicate, set, refl, sym, ap, ◌∙◌, arith, rules}
-use Rattle.cdi_model.specs.DeclList.{limit}
+use Rattle.cdi_effective.proofs.Common.{◌≡◌, ◌+◌, true, false, refl, sym, ap, ◌∙◌, suc, arith, limit, replicate, set, ◌-◌, rules}
 use Rattle.cdi_effective.proofs.PlaceLemmas.{found-place}
 use Rattle.cdi_effective.proofs.StepLemmas.{none-behind}
-use Rattle.cdi_effective.proofs.WalkLemmas.{known-there, next-within, none-places, walk-begins, walk-ends-met, walk-ends-none, walk-goes-on, walk-over}
+use Rattle.cdi_effective.proofs.WalkLemmas.{known-there, next-within, none-places, walk-begins, walk-ends-met, walk-ends-none, walk-goes-on}
+use Rattle.cdi_effective.proofs.WalkLemmas.{walk-over}
 use Rattle.cdi_effective.proofs.chains.Chains.places_behind.Goals as goal
 
 pub returns-then-not-bean : goal.returns-then-not-bean

@@ -1,5 +1,4 @@
-use Rattle.std.proofs.Common.{◌-◌}
-use Rattle.cdi_model.specs.DeclList.{limit}
+use Rattle.cdi_effective.proofs.Common.{limit, ◌-◌}
 use Rattle.cdi_effective.proofs.WalkLemmas.{Walks}
 use Rattle.cdi_effective.proofs.chains.Chains.places_behind.Given as goal
 

@@ -1,9 +1,5 @@
-use Rattle.std.proofs.Common.{◌≡◌, false, replicate, ap, ◌∙◌, rules}
-use Rattle.std.proofs.Common.{◌||◌, [], get_or, length}
-use Rattle.std.specs.List.{list_any}
-use Rattle.std.proofs.lemmas.List.{length-replicate}
-use Rattle.cdi_match.specs.Chain.{has}
-use Rattle.cdi_effective.specs.Specialized.{replaced_by}
+use Rattle.cdi_effective.proofs.Common.{◌≡◌, false, ◌||◌, [], length, get_or, ap, ◌∙◌, has, list_any, replicate, replaced_by}
+use Rattle.cdi_effective.proofs.Common.{length-replicate, rules}
 use Rattle.cdi_effective.proofs.MarkLemmas.{drop-there, marks-begin, marks-end, marks-go-on, one-dropped}
 use Rattle.cdi_effective.proofs.PlaceLemmas.{own-found}
 use Rattle.cdi_effective.proofs.chains.Chains.replaced.Goals as goal

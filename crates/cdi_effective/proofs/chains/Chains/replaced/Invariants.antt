@@ -1,8 +1,5 @@
-use Rattle.std.proofs.Common.{◌≡◌, ◌||◌, ℕ, List, false, drop, length, get_or, Some}
-use Rattle.std.specs.List.{list_any}
-use Rattle.cdi_match.specs.Chain.{has}
-use Rattle.cdi_effective.specs.Places.{place_of}
-use Rattle.cdi_effective.specs.Specialized.{is_replaced, replaced_by}
+use Rattle.cdi_effective.proofs.Common.{◌≡◌, ℕ, false, ◌||◌, List, length, drop, get_or, Some, has, list_any, place_of, is_replaced}
+use Rattle.cdi_effective.proofs.Common.{replaced_by}
 use Rattle.cdi_effective.proofs.chains.Chains.replaced.Given as goal
 
 abbrev pub invariant-loop-decl : goal.invariant-loop-decl

@@ -1,5 +1,4 @@
-use Rattle.cdi_effective.specs.Lent.{beans_in}
-use Rattle.cdi_effective.specs.Specialized.{chain}
+use Rattle.cdi_effective.proofs.Common.{chain, beans_in}
 use Rattle.cdi_effective.proofs.GainedLemmas.{GivesWith}
 use Rattle.cdi_effective.proofs.gained.Gained.of.Given as goal
 

@@ -1,7 +1,4 @@
-use Rattle.std.proofs.Common.{◌≡◌, true, filter, flat_map, map, ap, ◌∙◌}
-use Rattle.std.proofs.lemmas.Result.{IfOk-weaker}
-use Rattle.cdi_effective.specs.Beans.{entries}
-use Rattle.cdi_index.specs.Under.{beans_under, observes_one}
+use Rattle.cdi_index.proofs.Common.{◌≡◌, true, map, ap, ◌∙◌, flat_map, filter, entries, beans_under, observes_one, IfOk-weaker}
 use Rattle.cdi_index.proofs.SoughtLemmas.{of-observers}
 use Rattle.cdi_index.proofs.index.Index.beans_observing.Goals as goal
 

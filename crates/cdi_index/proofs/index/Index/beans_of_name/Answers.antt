@@ -1,9 +1,5 @@
-use Rattle.std.proofs.Common.{◌≡◌, [], ◌∷◌, filter, map, ◌∙◌}
-use Rattle.std.proofs.lemmas.Result.{IfOk-weaker}
-use Rattle.cdi_effective.specs.Beans.{beans}
-use Rattle.cdi_postings.specs.Words.{word_at}
+use Rattle.cdi_index.proofs.Common.{◌≡◌, [], ◌∷◌, map, ◌∙◌, word_at, filter, beans_under, beans, has_name, IfOk-weaker}
 use Rattle.cdi_postings.specs.declared.word.Reason.TheVariants as reasons
-use Rattle.cdi_index.specs.Under.{beans_under, has_name}
 use Rattle.cdi_index.proofs.SoughtLemmas.{of-name}
 use Rattle.cdi_index.proofs.index.Index.beans_of_name.Goals as goal
 

@@ -1,10 +1,5 @@
-use Rattle.std.proofs.Common.{◌≡◌, [], ◌∷◌, filter, map, ◌∙◌}
-use Rattle.std.proofs.lemmas.Result.{IfOk-weaker}
-use Rattle.cdi_match.specs.Chain.{has}
-use Rattle.cdi_effective.specs.Beans.{beans}
-use Rattle.cdi_postings.specs.Words.{word_at}
+use Rattle.cdi_index.proofs.Common.{◌≡◌, [], ◌∷◌, map, ◌∙◌, word_at, filter, has, beans_under, beans, IfOk-weaker}
 use Rattle.cdi_postings.specs.declared.word.Reason.TheVariants as reasons
-use Rattle.cdi_index.specs.Under.{beans_under}
 use Rattle.cdi_index.proofs.SoughtLemmas.{of-type}
 use Rattle.cdi_index.proofs.index.Index.beans_of_type.Goals as goal
 

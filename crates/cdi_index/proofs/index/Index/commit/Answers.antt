@@ -1,9 +1,4 @@
-use Rattle.std.proofs.Common.{arith, sym, ap, ◌∙◌, subst}
-use Rattle.indexmap.specs.IndexMap.{get}
-use Rattle.cdi_model.specs.DeclKey.{same_key}
-use Rattle.cdi_index.specs.Kept.{made_in}
-use Rattle.cdi_index.specs.Next.{IsNext}
-use Rattle.cdi_index.specs.Replaced.{turned}
+use Rattle.cdi_index.proofs.Common.{sym, ap, ◌∙◌, same_key, made_in, arith, turned, subst, get, IsNext}
 use Rattle.cdi_index.specs.State.{MayBeNext}
 use Rattle.cdi_index.proofs.index.Index.commit.Goals as goal
 

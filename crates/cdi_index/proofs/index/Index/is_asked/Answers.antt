@@ -1,10 +1,4 @@
-use Rattle.std.proofs.Common.{refl, ap, ◌∙◌}
-use Rattle.std.specs.List.{list_any}
-use Rattle.cdi_postings.specs.Listing.{under}
-use Rattle.cdi_index.specs.Asked.{is_asked}
-use Rattle.cdi_index.specs.AskedAt.{is_asker_at}
-use Rattle.cdi_index.specs.declared.asked.Asked.{Asked}
-use Rattle.cdi_index.specs.State.{State}
+use Rattle.cdi_index.proofs.Common.{refl, ap, ◌∙◌, list_any, under, is_asked, is_asker_at, Asked, State}
 use Rattle.cdi_index.proofs.AskedLemmas.{askers-are}
 use Rattle.cdi_index.proofs.index.Index.is_asked.Goals as goal
 

@@ -1,7 +1,5 @@
-use Rattle.std.proofs.Common.{false, slice_get, ap, ◌∙◌}
-use Rattle.std.specs.Option.{option_map_or}
-use Rattle.cdi_index.specs.State.{State}
-use Rattle.cdi_index.specs.Under.{has_one}
+use Rattle.cdi_index.proofs.Common.{false, ap, ◌∙◌, option_map_or, has_one, State}
+use Rattle.std.proofs.Common.{slice_get}
 use Rattle.cdi_index.proofs.UnderLemmas.{marked-are}
 use Rattle.cdi_index.proofs.index.Index.positions_under.Goals as goal
 

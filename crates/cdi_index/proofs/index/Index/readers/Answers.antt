@@ -1,11 +1,4 @@
-use Rattle.std.proofs.Common.{◌≡◌, ap, ◌∙◌}
-use Rattle.std.proofs.lemmas.Result.{IfOk-weaker}
-use Rattle.cdi_model.specs.declared.key.DeclKey.{DeclKey}
-use Rattle.cdi_model.specs.Edits.{is_among}
-use Rattle.cdi_postings.specs.Listing.{under}
-use Rattle.cdi_index.specs.Kept.{is_reader_among}
-use Rattle.cdi_index.specs.Made.{made_of, reads, word_of}
-use Rattle.cdi_index.specs.State.{State}
+use Rattle.cdi_index.proofs.Common.{◌≡◌, ap, ◌∙◌, DeclKey, is_among, made_of, reads, under, is_reader_among, word_of, IfOk-weaker, State}
 use Rattle.cdi_index.proofs.NextLemmas.{readers-are}
 use Rattle.cdi_index.proofs.index.Index.readers.Goals as goal
 

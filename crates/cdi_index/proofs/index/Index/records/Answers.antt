@@ -1,11 +1,5 @@
-use Rattle.std.proofs.Common.{Some, None, refl, ap, ◌∙◌}
+use Rattle.cdi_index.proofs.Common.{Some, None, refl, ap, ◌∙◌, key_at, made_of, stored, made_in, records_in, lent, State}
 use Rattle.cdi_model.specs.declared.decl.Kind.TheVariants as kinds
-use Rattle.cdi_model.specs.DeclKey.{key_at}
-use Rattle.cdi_effective.specs.Records.{records_in}
-use Rattle.cdi_index.specs.Kept.{made_in, stored}
-use Rattle.cdi_index.specs.Made.{made_of}
-use Rattle.cdi_index.specs.Replaced.{lent}
-use Rattle.cdi_index.specs.State.{State}
 use Rattle.cdi_index.proofs.ReplacedLemmas.{lent-of}
 use Rattle.cdi_index.proofs.index.Index.records.Goals as goal
 

@@ -1,8 +1,4 @@
-use Rattle.std.proofs.Common.{Some, sym, ap, ◌∙◌}
-use Rattle.std.specs.Option.{option_copied}
-use Rattle.cdi_effective.specs.Records.{records_in}
-use Rattle.cdi_index.specs.State.{State}
-use Rattle.cdi_index.specs.Under.{records_at}
+use Rattle.cdi_index.proofs.Common.{Some, sym, ap, ◌∙◌, records_in, records_at, State, option_copied}
 use Rattle.cdi_index.proofs.UnderLemmas.{records-of-bean}
 use Rattle.cdi_index.proofs.index.Index.records_at.Goals as goal
 

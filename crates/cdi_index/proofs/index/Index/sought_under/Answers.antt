@@ -1,10 +1,5 @@
-use Rattle.std.proofs.Common.{◌≡◌, List, filter, flat_map, map, sym, ap, ◌∙◌}
-use Rattle.std.proofs.lemmas.Result.{IfOk-weaker}
-use Rattle.cdi_effective.specs.declared.records.Effective.{Effective}
-use Rattle.cdi_positions.specs.Marks.{marked_from}
-use Rattle.cdi_index.specs.Kept.{kept_at}
-use Rattle.cdi_index.specs.State.{State}
-use Rattle.cdi_index.specs.Under.{beans_under, is_sought, records_at, records_kept}
+use Rattle.cdi_index.proofs.Common.{◌≡◌, List, map, sym, ap, ◌∙◌, Effective, flat_map, kept_at, filter, beans_under, records_at}
+use Rattle.cdi_index.proofs.Common.{records_kept, marked_from, IfOk-weaker, State, is_sought}
 use Rattle.cdi_index.proofs.SlotLemmas.{under-one}
 use Rattle.cdi_index.proofs.UnderLemmas.{marked-are, walked}
 use Rattle.cdi_index.proofs.index.Index.sought_under.Goals as goal

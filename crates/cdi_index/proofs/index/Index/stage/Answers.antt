@@ -1,10 +1,7 @@
+use Rattle.cdi_index.proofs.Common.{None, ap, ◌∙◌, same_key, false≢true, arith, lookup, Result, Ok, Err, OnOk, State}
 use Rattle.cdi_index.proofs.NextLemmas.{exact-same, free-same, shelf-same, sound-same}
-use Rattle.std.proofs.Common.{arith, None, Result, Ok, Err, ap, ◌∙◌}
-use Rattle.std.specs.Map.{lookup}
-use Rattle.std.specs.Result.{IsErr, OnErr, OnOk}
-use Rattle.std.proofs.lemmas.Bool.{false≢true}
-use Rattle.cdi_model.specs.DeclKey.{same_key}
-use Rattle.cdi_index.specs.State.{with_staged, State}
+use Rattle.std.specs.Result.{IsErr, OnErr}
+use Rattle.cdi_index.specs.State.{with_staged}
 use Rattle.cdi_index.proofs.index.Index.stage.Goals as goal
 
 on-ok : {T E : Type 0} (r : Result T E) (P : Type 0) → IsErr r → OnOk r P

@@ -1,11 +1,6 @@
-use Rattle.std.proofs.Common.{List, Some, None, ap, refl, ◌∙◌}
-use Rattle.cdi_model.specs.declared.decl.Decl.{Decl}
+use Rattle.cdi_index.proofs.Common.{List, Some, None, refl, ap, ◌∙◌, Decl, key_at, made_of, stored, made_in, keys_changed, made_after}
+use Rattle.cdi_index.proofs.Common.{records_in, lent}
 use Rattle.cdi_model.specs.declared.decl.Kind.TheVariants as kinds
-use Rattle.cdi_model.specs.DeclKey.{key_at}
-use Rattle.cdi_effective.specs.Records.{records_in}
-use Rattle.cdi_index.specs.Kept.{made_in, stored}
-use Rattle.cdi_index.specs.Made.{made_of}
-use Rattle.cdi_index.specs.Replaced.{keys_changed, lent, made_after}
 use Rattle.cdi_index.proofs.ReplacedLemmas.{lent-of}
 use Rattle.cdi_index.proofs.ToldLemmas.{made-applied}
 use Rattle.cdi_index.proofs.next_index.NextIndex.records.Goals as goal

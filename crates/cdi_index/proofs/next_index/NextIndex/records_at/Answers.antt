@@ -1,8 +1,4 @@
-use Rattle.std.proofs.Common.{List, Some, sym, ap, ◌∙◌}
-use Rattle.std.specs.Option.{option_copied}
-use Rattle.cdi_model.specs.declared.decl.Decl.{Decl}
-use Rattle.cdi_effective.specs.Records.{records_in}
-use Rattle.cdi_index.specs.Under.{records_at}
+use Rattle.cdi_index.proofs.Common.{List, Some, sym, ap, ◌∙◌, Decl, records_in, records_at, option_copied}
 use Rattle.cdi_index.proofs.UnderLemmas.{records-of-bean}
 use Rattle.cdi_index.proofs.next_index.NextIndex.records_at.Goals as goal
 

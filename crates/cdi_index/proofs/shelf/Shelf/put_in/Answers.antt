@@ -1,6 +1,4 @@
-use Rattle.std.proofs.Common.{nat_eq}
-use Rattle.indexmap.specs.IndexMap.{get}
-use Rattle.cdi_model.specs.DeclKey.{same_key}
+use Rattle.cdi_index.proofs.Common.{same_key, nat_eq, get}
 use Rattle.cdi_index.proofs.ShelfLemmas.{on-ok, put-owned, put-owns, put-stored}
 use Rattle.cdi_index.proofs.shelf.Shelf.put_in.Goals as goal
 

@@ -1,7 +1,4 @@
-use Rattle.std.proofs.Common.{sym}
-use Rattle.indexmap.specs.IndexMap.{get}
-use Rattle.std.proofs.Common.{nat_eq}
-use Rattle.cdi_model.specs.DeclKey.{same_key}
+use Rattle.cdi_index.proofs.Common.{sym, same_key, nat_eq, get}
 use Rattle.cdi_index.proofs.ShelfLemmas.{never-free, take-owned, take-owns, take-stored}
 use Rattle.cdi_index.proofs.shelf.Shelf.take_out.Goals as goal
 

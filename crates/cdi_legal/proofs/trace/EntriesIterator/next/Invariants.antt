@@ -1,4 +1,4 @@
-use Rattle.std.proofs.Common.{◌≡◌, ◌++◌, length, map}
+use Rattle.cdi_legal.proofs.Common.{◌≡◌, length, ◌++◌, map}
 use Rattle.cdi_legal.specs.Packed.{entry_of}
 use Rattle.cdi_legal.specs.Traced.{kept_in}
 use Rattle.cdi_legal.proofs.trace.EntriesIterator.next.Given as goal

@@ -1,10 +1,5 @@
-use Rattle.std.proofs.Common.{◌≡◌, true, sym, ap, subst, ◌∙◌}
-use Rattle.cdi_observe.specs.Kept.{after_key}
-use Rattle.cdi_observe.specs.Keys.{ChainKey}
-use Rattle.cdi_observe.specs.Wanted.{is_wanted}
-use Rattle.cdi_observe.proofs.KeptLemmas.{after_known}
-use Rattle.cdi_live.specs.State.{kept_in, knows_in, State}
-use Rattle.cdi_live.specs.declared.memos.Memos.{Memos}
+use Rattle.cdi_live.proofs.Common.{◌≡◌, true, sym, ap, ◌∙◌, is_wanted, subst, ChainKey, knows_in, Memos, after_key, after_known, kept_in}
+use Rattle.cdi_live.proofs.Common.{State}
 use Rattle.cdi_live.proofs.LiveLemmas.{kept-after, kept-with-chain, keeping, known-with-one-chain}
 use Rattle.cdi_live.proofs.WantedPlaceLemmas.{wanted-place}
 use Rattle.cdi_live.proofs.live.Live.chain.Goals as goal

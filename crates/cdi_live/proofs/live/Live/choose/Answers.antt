@@ -1,11 +1,6 @@
-use Rattle.std.proofs.Common.{◌≡◌, inl, sym, ap, subst, ◌∙◌}
-use Rattle.cdi_effective.specs.Beans.{beans}
-use Rattle.cdi_observe.specs.Kept.{after_key, with_known}
-use Rattle.cdi_observe.specs.Keys.{choice_key, ChoiceKey}
-use Rattle.cdi_observe.proofs.KeptLemmas.{after_known}
-use Rattle.cdi_resolve.specs.Choices.{chosen}
-use Rattle.cdi_live.specs.State.{kept_in, knows_in, State}
-use Rattle.cdi_live.specs.declared.memos.Memos.{Memos}
+use Rattle.cdi_live.proofs.Common.{◌≡◌, sym, ap, ◌∙◌, inl, ChoiceKey, subst, beans, knows_in, Memos, after_key, with_known, chosen}
+use Rattle.cdi_live.proofs.Common.{after_known, kept_in, State}
+use Rattle.cdi_observe.specs.Keys.{choice_key}
 use Rattle.cdi_live.proofs.LiveLemmas.{chosen-by-required, kept-after, kept-with-choice, keeping, known-with-choice}
 use Rattle.cdi_live.proofs.live.Live.choose.Goals as goal
 

@@ -1,4 +1,4 @@
-use Rattle.std.proofs.Common.{sym}
+use Rattle.cdi_live.proofs.Common.{sym}
 use Rattle.cdi_live.proofs.LiveLemmas.{live-after}
 use Rattle.cdi_live.proofs.live.Live.commit.Goals as goal
 

@@ -1,9 +1,5 @@
-use Rattle.std.proofs.Common.{subst}
-use Rattle.std.specs.Prelude.{IfSome, ◌≡◌}
-use Rattle.std.specs.Option.{option_copied}
-use Rattle.cdi_effective.specs.Beans.{beans}
-use Rattle.cdi_resolve.specs.Choices.{chosen}
-use Rattle.cdi_live.specs.State.{State}
+use Rattle.cdi_live.proofs.Common.{subst, beans, IfSome, chosen, option_copied, State}
+use Rattle.std.specs.Prelude.{◌≡◌}
 use Rattle.cdi_live.proofs.LiveLemmas.{right-lent}
 use Rattle.cdi_live.proofs.live.Live.kept_choice.Goals as goal
 

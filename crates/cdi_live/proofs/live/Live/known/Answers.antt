@@ -1,6 +1,6 @@
-use Rattle.std.proofs.Common.{◌≡◌, ◌-◌, ◌^◌, min, length, subst, arith}
-use Rattle.cdi_live.specs.Known.{known_of, KnownAreWanted}
-use Rattle.cdi_live.specs.State.{State}
+use Rattle.cdi_live.proofs.Common.{◌≡◌, length, subst, arith, ◌-◌, State, KnownAreWanted}
+use Rattle.std.proofs.Common.{◌^◌, min}
+use Rattle.cdi_live.specs.Known.{known_of}
 use Rattle.cdi_live.proofs.KnownLemmas.{count-wanted, known-wanted}
 use Rattle.cdi_live.proofs.live.Live.known.Goals as goal
 

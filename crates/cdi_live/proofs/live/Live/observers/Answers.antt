@@ -1,9 +1,4 @@
-use Rattle.std.proofs.Common.{◌≡◌, sym, ap, subst, ◌∙◌}
-use Rattle.cdi_observe.specs.Kept.{after_key}
-use Rattle.cdi_observe.specs.Keys.{EventKey}
-use Rattle.cdi_observe.proofs.KeptLemmas.{after_known}
-use Rattle.cdi_live.specs.State.{kept_in, knows_in, State}
-use Rattle.cdi_live.specs.declared.memos.Memos.{Memos}
+use Rattle.cdi_live.proofs.Common.{◌≡◌, sym, ap, ◌∙◌, subst, EventKey, knows_in, Memos, after_key, after_known, kept_in, State}
 use Rattle.cdi_live.proofs.LiveLemmas.{kept-after, kept-with-event, keeping, known-with-event}
 use Rattle.cdi_live.proofs.live.Live.observers.Goals as goal
 

@@ -1,5 +1,4 @@
-use Rattle.std.proofs.Common.{subst}
-use Rattle.cdi_live.specs.Known.{KnownAreWanted}
+use Rattle.cdi_live.proofs.Common.{subst, KnownAreWanted}
 use Rattle.cdi_live.proofs.KnownLemmas.{known-wanted}
 use Rattle.cdi_live.proofs.live.Live.work.Goals as goal
 

@@ -1,6 +1,6 @@
-use Rattle.std.proofs.Common.{ap, ◌∙◌}
+use Rattle.cdi_observe.proofs.Common.{ap, ◌∙◌, records_in}
 use Rattle.cdi_effective.proofs.TogetherLemmas.{records_stand_together}
-use Rattle.cdi_effective.specs.Records.{records_among, records_in}
+use Rattle.cdi_effective.specs.Records.{records_among}
 use Rattle.cdi_observe.proofs.view.PlainViewView.records.Goals as goal
 
 pub returns : goal.returns

@@ -1,5 +1,4 @@
-use Rattle.std.proofs.Common.{refl, ap}
-use Rattle.cdi_validate.specs.declared.deployment.Together.{Together}
+use Rattle.cdi_report.proofs.Common.{refl, ap, Together}
 use Rattle.cdi_report.proofs.TogetherLemmas.{settled_anyway}
 use Rattle.cdi_report.proofs.unsettled.Unsettled.add_each.Goals as goal
 

@@ -1,8 +1,4 @@
-use Rattle.std.proofs.Common.{sym, ◌∙◌}
-use Rattle.std.specs.List.{list_any}
-use Rattle.std.proofs.lemmas.Result.{IfOk-weaker}
-use Rattle.cdi_model.specs.Decl.{key_of}
-use Rattle.cdi_model.specs.DeclKey.{same_key}
+use Rattle.cdi_report.proofs.Common.{sym, ◌∙◌, same_key, key_of, list_any, IfOk-weaker}
 use Rattle.cdi_report.proofs.PositionLemmas.{decls-marked, each-open, some-open}
 use Rattle.cdi_report.proofs.unsettled.Unsettled.among.Goals as goal
 

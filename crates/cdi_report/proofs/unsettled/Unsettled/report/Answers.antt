@@ -1,16 +1,12 @@
-use Rattle.std.proofs.Common.{◌≢◌, AllPairs, ◌&&◌, ◌++◌, false, refl, sym, subst, ap, ◌∙◌}
-use Rattle.std.specs.List.{flat_map, list_any}
-use Rattle.cdi_model.specs.Decl.{key_of}
-use Rattle.cdi_model.specs.DeclKey.{same_key}
-use Rattle.cdi_observe.specs.Kept.{EvaluatesSome}
+use Rattle.cdi_report.proofs.Common.{false, ◌++◌, refl, sym, ap, subst, ◌∙◌, same_key, key_of, ◌&&◌, list_any, closed_of, AreSettled}
+use Rattle.cdi_report.proofs.Common.{HaveNoneTogether, Unsettled, open_of, EvaluatesSome, faults_of, has_faults, faults_together}
+use Rattle.cdi_report.proofs.Common.{looks_at_all}
+use Rattle.std.specs.List.{flat_map}
+use Rattle.std.proofs.Common.{◌≢◌, AllPairs}
 use Rattle.cdi_observe.specs.Lending.{IsEvaluated}
 use Rattle.cdi_observe.proofs.KeptLemmas.{evaluates_all, where_err}
-use Rattle.cdi_validate.specs.Among.{faults_together, has_faults, looks_at_all}
-use Rattle.cdi_validate.specs.Faults.{faults_of}
 use Rattle.cdi_validate.proofs.AmongLemmas.{told-all}
 use Rattle.cdi_validate.proofs.OnceLemmas.{faults_stand_once}
-use Rattle.cdi_report.specs.Settled.{closed_of, open_of, AreSettled, HaveNoneTogether}
-use Rattle.cdi_report.specs.declared.unsettled.Unsettled.{Unsettled}
 use Rattle.cdi_report.proofs.SettledLemmas.{all-knew, all-knows, rest-asked, settled-now, settled-still, some-still, tells-all}
 use Rattle.cdi_report.proofs.unsettled.Unsettled.report.Goals as goal
 

@@ -1,7 +1,4 @@
-use Rattle.std.proofs.Common.{sym, ap, ◌∙◌}
-use Rattle.std.specs.List.{list_all}
-use Rattle.std.proofs.lemmas.Bool.{false≢true}
-use Rattle.cdi_validate.specs.Together.{is_chainless, is_nameless, is_needless}
+use Rattle.cdi_report.proofs.Common.{sym, ap, ◌∙◌, false≢true, list_all, is_chainless, is_nameless, is_needless}
 use Rattle.cdi_report.proofs.SettledLemmas.{open-found}
 use Rattle.cdi_report.proofs.TogetherLemmas.{not-not, whole-chains, whole-circles, whole-names}
 use Rattle.cdi_report.proofs.unsettled.Unsettled.together.Goals as goal

@@ -1,12 +1,8 @@
-use Rattle.std.proofs.Common.{◌≡◌, map, refl, subst, sym, ap, ◌∙◌}
+use Rattle.cdi_staging.proofs.Common.{◌≡◌, map, refl, sym, ap, subst, ◌∙◌, has, as_bean, names_at, around_in, names_among, chain_at}
+use Rattle.cdi_staging.proofs.Common.{places_from}
 use Rattle.std.specs.Result.{IsOk}
 use Rattle.std.proofs.lemmas.Result.{IfOk-weaker}
-use Rattle.cdi_match.specs.Chain.{has}
-use Rattle.cdi_effective.specs.Disposers.{as_bean}
-use Rattle.cdi_observe.specs.Around.{names_at}
 use Rattle.cdi_observe.proofs.AroundLemmas.{told-names, told-same}
-use Rattle.cdi_staging.specs.Shown.{around_in, names_among}
-use Rattle.cdi_staging.specs.Staged.{chain_at, places_from}
 use Rattle.cdi_staging.proofs.AnswerableLemmas.{place-answerable}
 use Rattle.cdi_staging.proofs.ClassLemmas.{names-at_place, positions-at_place}
 use Rattle.cdi_staging.proofs.stage.Stage.chain.Goals as goal

@@ -1,16 +1,9 @@
-use Rattle.std.proofs.Common.{◌≡◌, ◌+◌, ℕ, Bool, List, [], ◌∷◌, ◌++◌, append-nil, drop, map, sym, ap, ◌∙◌}
-use Rattle.std.proofs.lemmas.List.{drop_all, drop_more}
+use Rattle.cdi_staging.proofs.Common.{◌≡◌, ℕ, Bool, List, [], ◌∷◌, ◌++◌, map, sym, ap, ◌∙◌, InterceptorDecl, chains-answerable, ◌+◌, has}
+use Rattle.cdi_staging.proofs.Common.{as_bean, class_bindings, surrounds_one, sets_of, around_in, around_of, injections_around}
+use Rattle.cdi_staging.proofs.Common.{injections_from, drop, drop_more, append-nil}
+use Rattle.std.proofs.lemmas.List.{drop_all}
 use Rattle.cdi_contexts.specs.declared.instance.Actor.TheVariants.{Interceptor as By, Target as ByTarget}
-use Rattle.cdi_model.specs.declared.decl.InterceptorDecl.{InterceptorDecl}
 use Rattle.cdi_model.specs.declared.decl.Decl.TheVariants as decls
-use Rattle.cdi_match.specs.Chain.{has}
-use Rattle.cdi_effective.specs.Bindings.{class_bindings}
-use Rattle.cdi_effective.specs.Disposers.{as_bean}
-use Rattle.cdi_intercept.specs.Chains.{surrounds_one}
-use Rattle.cdi_intercept.specs.Sets.{sets_of}
-use Rattle.cdi_observe.proofs.LendingLemmas.{chains-answerable}
-use Rattle.cdi_staging.specs.Shown.{around_in}
-use Rattle.cdi_staging.specs.Staged.{around_of, injections_around, injections_from}
 use Rattle.cdi_staging.proofs.ClassLemmas.{injected-next, injected-past, injections-named}
 use Rattle.cdi_staging.proofs.stage.Stage.injections.Goals.{else-contains, then-contains+in_ok-position_at+in_ok-push_injections}
 use Rattle.cdi_staging.proofs.stage.Stage.injections.Goals as goal

@@ -1,7 +1,4 @@
-use Rattle.std.proofs.Common.{◌≡◌, ◌++◌, drop, map}
-use Rattle.cdi_match.specs.Chain.{has}
-use Rattle.cdi_staging.specs.Shown.{around_in}
-use Rattle.cdi_staging.specs.Staged.{injections_around}
+use Rattle.cdi_staging.proofs.Common.{◌≡◌, ◌++◌, map, has, around_in, injections_around, drop}
 use Rattle.cdi_staging.proofs.stage.Stage.injections.Given as goal
 
 abbrev pub invariant-loop-position : goal.invariant-loop-position

@@ -1,6 +1,4 @@
-use Rattle.std.proofs.Common.{sym, subst}
-use Rattle.std.specs.Prelude.{IfSome}
-use Rattle.cdi_staging.specs.Shown.{IsFireable}
+use Rattle.cdi_staging.proofs.Common.{sym, subst, IfSome, IsFireable}
 use Rattle.cdi_staging.proofs.AnswerableLemmas.{interceptor-fired}
 use Rattle.cdi_staging.proofs.stage.Stage.interceptor.Goals as goal
 

@@ -1,6 +1,4 @@
-use Rattle.std.proofs.Common.{◌≡◌, ◌++◌, drop, map}
-use Rattle.cdi_staging.specs.Shown.{around_in}
-use Rattle.cdi_staging.specs.Staged.{around_of, staged_interceptor}
+use Rattle.cdi_staging.proofs.Common.{◌≡◌, ◌++◌, map, around_in, around_of, staged_interceptor, drop}
 use Rattle.cdi_staging.proofs.stage.Stage.interceptors.Given as goal
 
 abbrev pub invariant-loop-around : goal.invariant-loop-around

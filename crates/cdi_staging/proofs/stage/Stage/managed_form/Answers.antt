@@ -1,6 +1,4 @@
-use Rattle.std.proofs.Common.{sym, subst}
-use Rattle.std.specs.Prelude.{IfSome}
-use Rattle.cdi_staging.specs.Shown.{IsFireable}
+use Rattle.cdi_staging.proofs.Common.{sym, subst, IfSome, IsFireable}
 use Rattle.cdi_staging.proofs.AnswerableLemmas.{bean-fired}
 use Rattle.cdi_staging.proofs.stage.Stage.managed_form.Goals as goal
 

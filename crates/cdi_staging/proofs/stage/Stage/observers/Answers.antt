@@ -1,4 +1,4 @@
-use Rattle.std.proofs.Common.{Contains, sym, subst}
+use Rattle.cdi_staging.proofs.Common.{Contains, sym, subst}
 use Rattle.cdi_staging.proofs.stage.Stage.observers.Goals as goal
 
 pub staged_observer-requires-clause-observer : goal.staged_observer-requires-clause-observer

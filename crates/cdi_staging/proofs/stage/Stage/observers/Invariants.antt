@@ -1,5 +1,4 @@
-use Rattle.std.proofs.Common.{◌≡◌, ◌++◌, drop, map}
-use Rattle.cdi_staging.specs.Staged.{staged_observer}
+use Rattle.cdi_staging.proofs.Common.{◌≡◌, ◌++◌, map, staged_observer, drop}
 use Rattle.cdi_staging.proofs.stage.Stage.observers.Given as goal
 
 abbrev pub invariant-loop-observer : goal.invariant-loop-observer

@@ -1,4 +1,4 @@
-use Rattle.std.proofs.Common.{sym, subst}
+use Rattle.cdi_staging.proofs.Common.{sym, subst}
 use Rattle.cdi_staging.proofs.AnswerableLemmas.{bean-asked, bean-fired, AreAsked}
 use Rattle.cdi_staging.proofs.stage.Stage.product_form.Goals as goal
 

@@ -1,6 +1,4 @@
-use Rattle.std.proofs.Common.{◌≡◌, Some, sym, subst}
-use Rattle.cdi_model.specs.Decl.{kind_of, name_of_decl}
-use Rattle.cdi_model.specs.DeclList.{find_decl}
+use Rattle.cdi_staging.proofs.Common.{◌≡◌, Some, sym, subst, kind_of, name_of_decl, find_decl}
 use Rattle.cdi_staging.proofs.AnswerableLemmas.{bean-asked, AreAsked}
 use Rattle.cdi_staging.proofs.stage.Stage.push_of_decl.Goals as goal
 

@@ -1,6 +1,4 @@
-use Rattle.std.proofs.Common.{Contains, sym, subst}
-use Rattle.std.specs.Slice.Iter.{iter_rest}
-use Rattle.cdi_staging.specs.Staged.{staged_product}
+use Rattle.cdi_staging.proofs.Common.{Contains, sym, subst, staged_product, iter_rest}
 use Rattle.cdi_staging.proofs.ProductLemmas.{first-product, later, pushed}
 use Rattle.cdi_staging.proofs.stage.Stage.push_products.Goals as goal
 

@@ -1,8 +1,4 @@
-use Rattle.std.proofs.Common.{◌≡◌, ◌++◌, Contains, map}
-use Rattle.std.specs.Slice.Iter.{iter_rest}
-use Rattle.cdi_model.specs.declared.decl.ProducerDecl.{ProducerDecl}
-use Rattle.cdi_effective.specs.Beans.{product}
-use Rattle.cdi_staging.specs.Staged.{staged_product}
+use Rattle.cdi_staging.proofs.Common.{◌≡◌, ◌++◌, map, Contains, ProducerDecl, product, staged_product, iter_rest}
 use Rattle.cdi_staging.proofs.stage.Stage.push_products.Given as goal
 
 abbrev pub invariant-loop-effective : goal.invariant-loop-effective

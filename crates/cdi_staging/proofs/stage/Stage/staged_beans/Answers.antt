@@ -1,7 +1,5 @@
-use Rattle.std.proofs.Common.{◌≡◌, ◌++◌, suc, Some, sym, ap, slice_get, subst, ◌∙◌, append_assoc}
-use Rattle.std.specs.List.{flat_map}
-use Rattle.cdi_effective.proofs.PlaceLemmas.{own-found}
-use Rattle.cdi_staging.specs.Staged.{staged_beans}
+use Rattle.cdi_staging.proofs.Common.{◌≡◌, suc, ◌++◌, Some, sym, ap, subst, ◌∙◌, flat_map, own-found, staged_beans, append_assoc}
+use Rattle.std.proofs.Common.{slice_get}
 use Rattle.cdi_staging.proofs.stage.Stage.staged_beans.Goals as goal
 
 pub loop-decl-init : goal.loop-decl-init

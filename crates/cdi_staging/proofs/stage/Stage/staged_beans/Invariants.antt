@@ -1,9 +1,5 @@
-use Rattle.std.proofs.Common.{◌≡◌, ◌++◌, ℕ, Some, slice_get}
-use Rattle.std.specs.List.{flat_map}
-use Rattle.cdi_model.specs.Decl.{kind_of, name_of_decl}
-use Rattle.cdi_model.specs.DeclList.{find_decl}
-use Rattle.cdi_model.specs.declared.decl.Decl.{Decl}
-use Rattle.cdi_staging.specs.Staged.{staged_beans}
+use Rattle.cdi_staging.proofs.Common.{◌≡◌, ℕ, ◌++◌, Some, flat_map, Decl, staged_beans, kind_of, name_of_decl, find_decl}
+use Rattle.std.proofs.Common.{slice_get}
 use Rattle.cdi_staging.proofs.stage.Stage.staged_beans.Given as goal
 
 abbrev pub invariant-loop-decl : goal.invariant-loop-decl

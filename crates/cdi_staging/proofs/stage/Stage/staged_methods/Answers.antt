@@ -1,4 +1,4 @@
-use Rattle.std.proofs.Common.{Contains, sym, subst}
+use Rattle.cdi_staging.proofs.Common.{Contains, sym, subst}
 use Rattle.cdi_staging.proofs.AnswerableLemmas.{bean-fired}
 use Rattle.cdi_staging.proofs.ClassLemmas.{has-method}
 use Rattle.cdi_staging.proofs.stage.Stage.staged_methods.Goals as goal

@@ -1,5 +1,4 @@
-use Rattle.std.proofs.Common.{◌≡◌, ◌++◌, drop, map}
-use Rattle.cdi_staging.specs.Staged.{staged_method}
+use Rattle.cdi_staging.proofs.Common.{◌≡◌, ◌++◌, map, staged_method, drop}
 use Rattle.cdi_staging.proofs.stage.Stage.staged_methods.Given as goal
 
 abbrev pub invariant-loop-method : goal.invariant-loop-method

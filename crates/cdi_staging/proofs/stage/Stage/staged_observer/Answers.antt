@@ -1,4 +1,4 @@
-use Rattle.std.proofs.Common.{sym, subst}
+use Rattle.cdi_staging.proofs.Common.{sym, subst}
 use Rattle.cdi_staging.proofs.AnswerableLemmas.{bean-asked, bean-fired, AreAsked}
 use Rattle.cdi_staging.proofs.ClassLemmas.{has-observer}
 use Rattle.cdi_staging.proofs.stage.Stage.staged_observer.Goals as goal

@@ -1,0 +1,54 @@
+-- No question that a declaration asks is refused.
+use Rattle.cdi_observe.proofs.Common.{◌≡◌, Bool, true, false, cond, List, [], ◌∷◌, ◌++◌, map, Some, Ok, Err, refl, ap, ◌∙◌, AllByRecursion}
+use Rattle.cdi_observe.proofs.Common.{flat_map, false≢true, BeanDecl, Decl, BeanPlace, Refusal, find_bean, chain_told, has_place, places_of}
+use Rattle.cdi_observe.proofs.Common.{Key, All, ChainKey, asked_by, chains_by, events_by, wanted_by, asked_key, is_told, AskedKey, Mention}
+use Rattle.cdi_observe.proofs.Common.{EventOf, mentions, PointDecl, as_bean, event_in, key_of_point, points_of}
+use Rattle.std.proofs.Common.{is_ok}
+use Rattle.cdi_model.specs.declared.decl.Decl.TheVariants as decls
+use Rattle.cdi_observe.proofs.BeanPlaceLemmas.{has-each_place}
+use Rattle.cdi_observe.proofs.FoundLemmas.{all-lent, IsFound}
+
+all-append : {X : Type 0} (P : X → Type 0) (xs ys : List X) → AllByRecursion P xs → AllByRecursion P ys → AllByRecursion P (xs ++ ys)
+all-append P [] ys all more = more
+all-append P (x ∷ xs) ys all more = (all.0, all-append P xs ys all.1 more)
+
+ok-where : {X : Type 0} (has : Bool) (x : X) (refusal : Refusal) → has ≡ true → is_ok (cond has (Ok x) (Err refusal)) ≡ true
+ok-where true x refusal e = refl
+ok-where false x refusal e = absurd (false≢true e)
+
+module _ (ds : List Decl) where
+  abbrev IsTold : Key → Type 0
+  IsTold key = is_told ds key ≡ true
+
+  chains-told : (b : BeanDecl) → find_bean b.name ds ≡ Some b → (ps : List BeanPlace) → AllByRecursion (λ place. has_place b place ≡ true) ps
+      → AllByRecursion IsTold (map (ChainKey b.name) ps)
+  chains-told b found [] all = tt
+  chains-told b found (p ∷ ps) all = (
+    ap (λ o. is_ok (chain_told ds o p)) found ∙ ok-where (has_place b p) _ _ all.0,
+    chains-told b found ps all.1,
+  )
+
+  events-told : (named : List Mention) → AllByRecursion IsTold (flat_map event_in named)
+  events-told [] = tt
+  events-told (EventOf event ∷ named) = (refl, events-told named)
+  events-told (other ∷ named) = events-told named
+
+  points-told : (points : List PointDecl) → AllByRecursion IsTold (map key_of_point points)
+  points-told [] = tt
+  points-told (point ∷ points) = (refl, points-told points)
+
+  chains-of-told : (d : Decl) → IsFound ds d → AllByRecursion IsTold (chains_by d)
+  chains-of-told (decls.Bean b) found = chains-told b (ap as_bean found) (places_of b) (has-each_place b)
+  chains-of-told other found = tt
+
+  decl-told : (d : Decl) → IsFound ds d → AllByRecursion IsTold (wanted_by d)
+  decl-told d found = all-append IsTold (asked_by d ++ chains_by d) (events_by d)
+      (all-append IsTold (asked_by d) (chains_by d) (points-told (points_of d)) (chains-of-told d found)) (events-told (mentions d))
+
+  decls-told : (es : List Decl) → AllByRecursion (IsFound ds) es → AllByRecursion IsTold (flat_map wanted_by es)
+  decls-told [] found = tt
+  decls-told (e ∷ es) found = all-append IsTold (wanted_by e) (flat_map wanted_by es) (decl-told e found.0) (decls-told es found.1)
+
+  pub told-of : (es : List Decl) (keys : List AskedKey) → AllByRecursion (IsFound ds) es → map asked_key keys ≡ flat_map wanted_by es
+      → All (λ key. IsTold (asked_key key)) keys
+  told-of es keys found are = all-lent IsTold asked_key keys (flat_map wanted_by es) are (decls-told es found)

@@ -1,0 +1,13 @@
+use Rattle.std.proofs.Common.{◌≡◌, ◌++◌, drop, filter, map, not}
+use Rattle.cdi_model.specs.declared.place.BeanPlace.TheVariants as places
+use Rattle.cdi_intercept.specs.Sets.{producers_of}
+use Rattle.cdi_observe.specs.Keys.{ChainKey}
+use Rattle.cdi_observe.specs.Asked.{asked_key}
+use Rattle.cdi_observe.proofs.keys.push_producers.Given as goal
+
+abbrev pub invariant-loop-producer : goal.invariant-loop-producer
+invariant-loop-producer l =
+    map asked_key l.list.items
+    ++ map (ChainKey l.bean.name)
+    (map (λ p. places.Producer p.name) (filter (λ p. not p.is_static) (drop l.producer-index l.producer-items)))
+    ≡ map asked_key l.fn.list.items ++ map (ChainKey l.bean.name) (producers_of l.bean)

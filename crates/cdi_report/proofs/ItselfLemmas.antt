@@ -1,0 +1,64 @@
+-- Edits that avoid what a type, a binding type or a stereotype rests on leave whether it reaches itself.
+use Rattle.cdi_report.proofs.Common.{◌≡◌, ℕ, true, false, List, [], ◌∷◌, map, refl, sym, ap, ◌∙◌, inr, false≢true, key_at, edited_all}
+use Rattle.cdi_report.proofs.Common.{edited_keys, is_among, name_of_use, Decl, Edit, DeclKey, ◌||◌, bytes_eq, Avoid, brought, brought_types}
+use Rattle.cdi_report.proofs.Common.{types_brought, has, binding_reads, brings_type_decides, types_brought-has, suc, leads, Chain, Kind}
+use Rattle.cdi_report.proofs.Common.{zero, brings_itself, stereotype_reads, inherits_itself, stereotypes_of, extends_itself, supers_of}
+use Rattle.cdi_report.proofs.Common.{types_of, is_type_decides, types_of-has, edits_keep_others}
+use Rattle.std.specs.Cmp.{nat_eq_equiv}
+use Rattle.cdi_model.specs.declared.decl.Kind.TheVariants as kinds
+use Rattle.cdi_model.specs.DeclKey.{kind_number}
+use Rattle.cdi_match.specs.Locality.{type_reads}
+use Rattle.cdi_match.specs.Stereotypes.{inherited}
+use Rattle.cdi_match.specs.Types.{supers}
+use Rattle.cdi_match.proofs.BindingLemmas.{bindings_in}
+use Rattle.cdi_match.proofs.StereotypeLemmas.{has_stereotype_decides, stereotypes_in, stereotypes_of-has}
+use Rattle.cdi_report.proofs.CircleLemmas.{circle-kept}
+
+-- a key of a kind is among those of some names exactly where its name is among these
+pub among-names : (kind : Kind) (names : List (List ℕ)) (s : List ℕ) → is_among (map (key_at kind) names) (key_at kind s) ≡ has names s
+among-names kind [] s = refl
+among-names kind (n ∷ names) s = rw (nat_eq_equiv.refl (kind_number kind)) (ap (λ b. bytes_eq n s || b) (among-names kind names s))
+
+-- what some names avoid is none of them
+pub not-named : (edits : List Edit) (kind : Kind) (names : List (List ℕ)) → Avoid (map (key_at kind) names) edits
+    → (u : List ℕ) → is_among (edited_keys edits) (key_at kind u) ≡ true → has names u ≡ false
+not-named edits kind names avoid u among = sym (among-names kind names u) ∙ avoid (key_at kind u) among
+
+module _ (edits : List Edit) (ds : List Decl) where
+  abbrev keys : List DeclKey
+  keys = edited_keys edits
+
+  pub type-circle : (t : List ℕ) → Avoid (type_reads ds t) edits → extends_itself (edited_all ds edits) t ≡ extends_itself ds t
+  unfolding extends_itself
+  type-circle t avoid = circle-kept kinds.Type supers_of refl keys ds (edited_all ds edits) t (edits_keep_others edits ds) avoids
+    where
+      avoids : (u : List ℕ) → is_among keys (key_at kinds.Type u) ≡ true → Chain (leads (supers ds)) t u → ⊥
+      avoids u among c = false≢true
+          (sym (not-named edits kinds.Type (types_of ds t) avoid u among) ∙ types_of-has ds t u ∙ (is_type_decides ds t u).1 (inr c))
+
+  pub binding-circle : (b : List ℕ) → is_among keys (key_at kinds.Binding b) ≡ false → Avoid (binding_reads ds (brought ds b)) edits
+      → brings_itself (edited_all ds edits) b ≡ brings_itself ds b
+  unfolding brings_itself
+  binding-circle b own avoid = circle-kept kinds.Binding bindings_in refl keys ds (edited_all ds edits) b (edits_keep_others edits ds) avoids
+    where
+      avoids : (u : List ℕ) → is_among keys (key_at kinds.Binding u) ≡ true → Chain (leads (brought_types ds)) b u → ⊥
+      avoids u among (zero, is) =
+          false≢true (sym own ∙ ap (λ n. is_among keys (key_at kinds.Binding n)) is ∙ among)
+      avoids u among (suc n, (w, edge, steps)) = false≢true
+          (sym (not-named edits kinds.Binding (types_brought ds (map name_of_use (brought ds b))) avoid u among)
+          ∙ types_brought-has ds (map name_of_use (brought ds b)) u
+          ∙ (brings_type_decides ds (map name_of_use (brought ds b)) u).1 (w, edge, (n, steps)))
+
+  pub stereotype-circle : (s : List ℕ) → is_among keys (key_at kinds.Stereotype s) ≡ false
+      → Avoid (stereotype_reads ds (inherited ds s)) edits → inherits_itself (edited_all ds edits) s ≡ inherits_itself ds s
+  unfolding inherits_itself
+  stereotype-circle s own avoid =
+      circle-kept kinds.Stereotype stereotypes_in refl keys ds (edited_all ds edits) s (edits_keep_others edits ds) avoids
+    where
+      avoids : (u : List ℕ) → is_among keys (key_at kinds.Stereotype u) ≡ true → Chain (leads (inherited ds)) s u → ⊥
+      avoids u among (zero, is) =
+          false≢true (sym own ∙ ap (λ n. is_among keys (key_at kinds.Stereotype n)) is ∙ among)
+      avoids u among (suc n, (w, edge, steps)) = false≢true
+          (sym (not-named edits kinds.Stereotype (stereotypes_of ds (inherited ds s)) avoid u among)
+          ∙ stereotypes_of-has ds (inherited ds s) u
+          ∙ (has_stereotype_decides ds (inherited ds s) u).1 (w, edge, (n, steps)))

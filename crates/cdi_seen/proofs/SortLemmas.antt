@@ -1,0 +1,100 @@
+-- What is put in order and then filtered is what is filtered and then put in order.
+use Rattle.cdi_seen.proofs.Common.{◌≡◌, Bool, true, false, cond, List, [], ◌∷◌, ◌++◌, filter, flat_map, refl, sym, ap, ◌∙◌}
+use Rattle.cdi_seen.proofs.Common.{IsStrictWeakOrder, sorted_by, inl, inr, AllByRecursion}
+use Rattle.std.proofs.Common.{subst}
+use Rattle.std.proofs.lemmas.Bool.{cases_Bool}
+use Rattle.cdi_intercept.specs.Sorting.{put}
+use Rattle.cdi_seen.specs.Gives.{FilteredInOrder}
+
+module _ {X : Type 0} (lt : X → X → Bool) (o : IsStrictWeakOrder lt) where
+  -- none of some comes before this one
+  abbrev NoneBefore : X → List X → Type 0
+  NoneBefore x ys = AllByRecursion (λ y. lt y x ≡ false) ys
+
+  abbrev Rises : List X → Type 0
+  Rises [] = Unit {0}
+  Rises (x ∷ xs) = NoneBefore x xs × Rises xs
+
+  lower : (x y : X) (ys : List X) → lt y x ≡ false → NoneBefore y ys → NoneBefore x ys
+  lower x y [] e h = tt
+  lower x y (w ∷ ws) e h = (o.chain w y x h.0 e, lower x y ws e h.1)
+
+  put-none : (z x : X) (ys : List X) → lt x z ≡ false → NoneBefore z ys → NoneBefore z (put lt x ys)
+  put-none z x [] f h = (f, tt)
+  put-none z x (y ∷ ys) f h = elim (cases_Bool (lt y x)) [
+    | inl e ↦ subst (λ (b : Bool). NoneBefore z (cond b (y ∷ put lt x ys) (x ∷ y ∷ ys))) (sym e) (h.0, put-none z x ys f h.1)
+    | inr e ↦ subst (λ (b : Bool). NoneBefore z (cond b (y ∷ put lt x ys) (x ∷ y ∷ ys))) (sym e) (f, h)
+  ]
+
+  put-rises : (x : X) (ys : List X) → Rises ys → Rises (put lt x ys)
+  put-rises x [] r = (tt, tt)
+  put-rises x (y ∷ ys) r = elim (cases_Bool (lt y x)) [
+    | inl e ↦ subst (λ (b : Bool). Rises (cond b (y ∷ put lt x ys) (x ∷ y ∷ ys))) (sym e)
+        (put-none y x ys (o.one_way y x e) r.0, put-rises x ys r.1)
+    | inr e ↦ subst (λ (b : Bool). Rises (cond b (y ∷ put lt x ys) (x ∷ y ∷ ys))) (sym e) ((e, lower x y ys e r.0), r)
+  ]
+
+  sorted-rises : (xs : List X) → Rises (sorted_by lt xs)
+  sorted-rises [] = tt
+  sorted-rises (x ∷ xs) = put-rises x (sorted_by lt xs) (sorted-rises xs)
+
+  -- one before which none comes is put first
+  put-first : (x : X) (ys : List X) → NoneBefore x ys → put lt x ys ≡ x ∷ ys
+  put-first x [] h = refl
+  put-first x (y ∷ ys) h = ap (λ (b : Bool). cond b (y ∷ put lt x ys) (x ∷ y ∷ ys)) h.0
+
+  none-filtered : (p : X → Bool) (x : X) (ys : List X) → NoneBefore x ys → NoneBefore x (filter p ys)
+  none-filtered p x [] h = tt
+  none-filtered p x (y ∷ ys) h = by (p y) (none-filtered p x ys h.1)
+    where
+      by : (b : Bool) → NoneBefore x (filter p ys) → NoneBefore x (cond b (y ∷ filter p ys) (filter p ys))
+      by true more = (h.0, more)
+      by false more = more
+
+  -- one that fails the test
+  put-out : (p : X → Bool) (x : X) (ys : List X) → p x ≡ false → filter p (put lt x ys) ≡ filter p ys
+  put-out p x [] out = ap (λ (b : Bool). cond {A = List X} b (x ∷ []) []) out
+  put-out p x (y ∷ ys) out = by (lt y x) (put-out p x ys out)
+    where
+      by : (b : Bool) → filter p (put lt x ys) ≡ filter p ys → filter p (cond b (y ∷ put lt x ys) (x ∷ y ∷ ys)) ≡ filter p (y ∷ ys)
+      by true rest = ap (λ (r : List X). cond (p y) (y ∷ r) r) rest
+      by false rest = ap (λ (b : Bool). cond b (x ∷ filter p (y ∷ ys)) (filter p (y ∷ ys))) out
+
+  -- one that passes it
+  put-in : (p : X → Bool) (x : X) (ys : List X) → p x ≡ true → Rises ys → filter p (put lt x ys) ≡ put lt x (filter p ys)
+  put-in p x [] passes r = ap (λ (b : Bool). cond {A = List X} b (x ∷ []) []) passes
+  put-in p x (y ∷ ys) passes r = by (lt y x) refl (put-in p x ys passes r.1)
+    where
+      later : (b : Bool) → lt y x ≡ true → filter p (put lt x ys) ≡ put lt x (filter p ys)
+          → cond b (y ∷ filter p (put lt x ys)) (filter p (put lt x ys)) ≡ put lt x (cond b (y ∷ filter p ys) (filter p ys))
+      later true e rest = ap (λ (r : List X). y ∷ r) rest
+          ∙ sym (ap (λ (b : Bool). cond b (y ∷ put lt x (filter p ys)) (x ∷ y ∷ filter p ys)) e)
+      later false e rest = rest
+
+      earlier : (b : Bool) → lt y x ≡ false
+          → put lt x (cond b (y ∷ filter p ys) (filter p ys)) ≡ x ∷ cond b (y ∷ filter p ys) (filter p ys)
+      earlier true e = ap (λ (b : Bool). cond b (y ∷ put lt x (filter p ys)) (x ∷ y ∷ filter p ys)) e
+      earlier false e = put-first x (filter p ys) (none-filtered p x ys (lower x y ys e r.0))
+
+      by : (b : Bool) → lt y x ≡ b → filter p (put lt x ys) ≡ put lt x (filter p ys)
+          → filter p (cond b (y ∷ put lt x ys) (x ∷ y ∷ ys)) ≡ put lt x (cond (p y) (y ∷ filter p ys) (filter p ys))
+      by true e rest = later (p y) e rest
+      by false e rest = ap (λ (b : Bool). cond b (x ∷ filter p (y ∷ ys)) (filter p (y ∷ ys))) passes ∙ sym (earlier (p y) e)
+
+  filter-sorted : (p : X → Bool) (xs : List X) → filter p (sorted_by lt xs) ≡ sorted_by lt (filter p xs)
+  filter-sorted p [] = refl
+  filter-sorted p (x ∷ xs) = by (p x) refl (filter-sorted p xs)
+    where
+      by : (b : Bool) → p x ≡ b → filter p (sorted_by lt xs) ≡ sorted_by lt (filter p xs)
+          → filter p (put lt x (sorted_by lt xs)) ≡ sorted_by lt (cond b (x ∷ filter p xs) (filter p xs))
+      by true e rest = put-in p x (sorted_by lt xs) e (sorted-rises xs) ∙ ap (put lt x) rest
+      by false e rest = put-out p x (sorted_by lt xs) e ∙ rest
+
+pub filtered_in_order : {X : Type 0} → FilteredInOrder X
+filtered_in_order lt o p xs = filter-sorted lt o p xs
+
+-- what is made of a list part by part is made of what each gives
+pub each_given : {A X E : Type 0} (h : List A → List X) → h [] ≡ [] → ((xs ys : List A) → h (xs ++ ys) ≡ h xs ++ h ys)
+    → (g : E → List A) (es : List E) → h (flat_map g es) ≡ flat_map (λ e. h (g e)) es
+each_given h none parts g [] = none
+each_given h none parts g (e ∷ es) = parts (g e) (flat_map g es) ∙ ap (λ more. h (g e) ++ more) (each_given h none parts g es)

@@ -1,3 +1,0 @@
-pub mod Spared
-pub mod Apart
-pub mod Unconcerned

@@ -1,2 +1,0 @@
-//! Which declarations an edit spares, so that their faults stay.
-#![tactic(auto)]

@@ -1,4 +1,0 @@
-pub mod Rests
-pub mod Words
-pub mod Gives
-pub mod Stakes
