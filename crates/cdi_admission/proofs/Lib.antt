@@ -2,4 +2,4 @@ pub mod AnyLemmas
 mod ListLemmas
 pub mod SetLemmas
 pub mod UseLemmas
-mod ShortLemmas
+pub mod ShortLemmas

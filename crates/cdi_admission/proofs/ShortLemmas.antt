@@ -5,6 +5,7 @@ use Rattle.std.proofs.lemmas.Bool.Decides.{nat_tests}
 use Rattle.std.proofs.lemmas.List.{length-map}
 use Rattle.std.proofs.lemmas.Option.{none-some}
 use Rattle.std.specs.List.{list_any, flat_map}
+use Rattle.base_lists.proofs.Any.{any-map, any-flat_map}
 use Rattle.cdi_model.specs.Quals.{list_limit}
 use Rattle.cdi_model.specs.Short.{HasShortLists, IsShortBean, IsShortInterceptor, IsShortPart}
 use Rattle.cdi_model.specs.declared.decl.BeanDecl.{BeanDecl}
@@ -19,11 +20,11 @@ use Rattle.cdi_model.specs.declared.decl.ProducerDecl.{ProducerDecl}
 use Rattle.cdi_model.specs.declared.refusal.Refusal.TheVariants.{BadName, Twice, ListTooLong}
 use Rattle.cdi_admission.specs.Admission.{has_bad_name, has_long_list, has_long_part, is_long, is_long_part, lists_of_attributes, lists_of_producer, name_lists}
 use Rattle.cdi_admission.specs.Admission.{is_long_one, point_names, refusal_of_decl, repeats_name}
-use Rattle.cdi_admission.proofs.AnyLemmas.{HasNone, any-flat_map, any-map, append-none, none-at}
+use Rattle.cdi_admission.proofs.AnyLemmas.{HasNone, append-none, none-at}
 
 -- ---- one list
 
-at-most : (n : ℕ) → nat_lt list_limit n ≡ false → n ≤ list_limit
+pub at-most : (n : ℕ) → nat_lt list_limit n ≡ false → n ≤ list_limit
 at-most n h = grind (arith, nat_tests)
 
 short-part : (part : PartDecl) → is_long_part part ≡ false → IsShortPart part

@@ -11,6 +11,7 @@ use Rattle.std.proofs.lemmas.List.Folds.{find_at}
 use Rattle.std.proofs.lemmas.Map.Made.{AllPairs-from_IsDistinct, is_member-Decides}
 use Rattle.std.proofs.lemmas.Option.{slice_get_past, slice_get-get_or, slice_get-map}
 use Rattle.indexmap.specs.IndexSet.{insert_key}
+use Rattle.base_lists.proofs.Places.{position-map}
 use Rattle.cdi_bodies.specs.Book.{Promised, promise_of, position_of, is_named, AreDistinct}
 use Rattle.cdi_bodies.specs.declared.promise.Promise.{Promise}
 
@@ -18,10 +19,6 @@ module _ {X Y : Type 0} (f : X → Y) (p : Y → Bool) where
   first_passing-map : (xs : List X) → position_or_len p (map f xs) ≡ position_or_len (λ x. p (f x)) xs
   first_passing-map [] = refl
   first_passing-map (x ∷ xs) = ap (λ n. cond (not (p (f x))) (1 + n) 0) (first_passing-map xs)
-
-  -- the place of what passes, seen through a function
-  pub position-map : (xs : List X) → position p (map f xs) ≡ position (λ x. p (f x)) xs
-  position-map xs = λ i. cond (nat_lt (first_passing-map xs i) (length-map xs f i)) (Some (first_passing-map xs i)) None
 
 module _ {X : Type 0} (p : X → Bool) (xs : List X) where
   -- what passes first is found at its place

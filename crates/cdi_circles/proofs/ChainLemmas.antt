@@ -3,8 +3,8 @@ use Rattle.std.proofs.Common.{◌≡◌, ℕ, zero, suc, Bool, true, ◌&&◌, L
 use Rattle.std.specs.Str.{bytes_eq}
 use Rattle.std.proofs.lemmas.Bool.{and_from, and_parts}
 use Rattle.std.proofs.lemmas.Map.Views.{any-filter_same}
+use Rattle.base_numbers.proofs.Texts.{one_text}
 use Rattle.cdi_match.specs.Chain.{Chain, Steps, has, leads}
-use Rattle.cdi_match.proofs.Names.{one_name}
 use Rattle.cdi_circles.specs.Edges.{among, LeadsOn}
 
 abbrev pub Next : Type 0
@@ -55,7 +55,7 @@ chain-turned edge other turns x y c = by c.0 c.1
 -- ---- chains by texts that pass a test
 
 pub has-filter : (p : List ℕ → Bool) (xs : List (List ℕ)) (y : List ℕ) → has (filter p xs) y ≡ (p y && has xs y)
-has-filter p xs y = any-filter_same (λ n. bytes_eq n y) p (p y) (λ k h. ap p (one_name k y h)) xs
+has-filter p xs y = any-filter_same (λ n. bytes_eq n y) p (p y) (λ k h. ap p (one_text k y h)) xs
 
 steps_lift : (p : List ℕ → Bool) (next : Next) (n : ℕ) (x y : List ℕ) → Steps (leads (among p next)) n x y → Steps (leads next) n x y
 steps_lift p next zero x y e = e

@@ -6,8 +6,8 @@ use Rattle.std.specs.BTreeMap.{keys}
 use Rattle.std.proofs.Math.Bool.{and-true, or-false}
 use Rattle.std.proofs.lemmas.Bool.{and_right, both_ways, false_from_ne_true, false≢true, or_cases, or_right, true_from_ne_false}
 use Rattle.std.proofs.lemmas.List.Folds.{list_any-append}
+use Rattle.base_numbers.proofs.Texts.{one_text, same_text}
 use Rattle.cdi_match.specs.Chain.{Chain, Steps, has, leads}
-use Rattle.cdi_match.proofs.Names.{one_name, same_text}
 use Rattle.cdi_circles.specs.Circles.{Settles}
 use Rattle.cdi_circles.specs.Edges.{among, is_on_circle, next_in, Edges, IsTurned, LeadsOn}
 use Rattle.cdi_circles.proofs.ChainLemmas.{chain-then_on, chain-turned, chain_of, leads_on-around, leads_on-end, leads_on-lift}
@@ -89,7 +89,7 @@ Settles-more edges x unknown found circle unknown' found' s is_unknown is takes 
         let closed : unknown' z ≡ false = takes z ∙ rw t (and_right (cond (bytes_eq x z) false (unknown z)) false refl) in
         finds z ∙ or_right (found z) (circle z) t ∙ rw (closed, on) refl
     right_at z false t true e =
-        let one : x ≡ z = one_name x z e in
+        let one : x ≡ z = one_text x z e in
         let off : is_on_circle edges z ≡ false = false_from_ne_true (is_on_circle edges z) (λ h.
         let round : LeadsOn (leads (next_in edges)) x z = subst (λ u. LeadsOn (leads (next_in edges)) u z) (sym one)
         ((circle_decides edges z).0 h) in
@@ -105,7 +105,7 @@ Settles-more edges x unknown found circle unknown' found' s is_unknown is takes 
     other : (z y : List ℕ) → bytes_eq x z ≡ false → circle z ≡ false → Chain (leads (next_in edges)) z y
         → Chain (leads (next_in edges)) y z → bytes_eq x y ≡ false
     other z y ne none to from = false_from_ne_true (bytes_eq x y) (λ h.
-        let one : y ≡ x = sym (one_name x y h) in
+        let one : y ≡ x = sym (one_text x y h) in
         let there : Chain (leads (next_in edges)) z x = subst (λ u. Chain (leads (next_in edges)) z u) one to in
         let here : Chain (leads (next_in edges)) x z = subst (λ u. Chain (leads (next_in edges)) u z) one from in
         both_ways (circle z) none (is.all z (some x z (λ same. both_ways (bytes_eq x z) ne (same_text x z same)) here)
@@ -170,5 +170,5 @@ in_front texts rest last x e h other =
     elim (or_cases (has rest x) (bytes_eq last x || false)
     (sym (ap (λ names. has names x) e ∙ list_any-append (λ n. bytes_eq n x) rest (last ∷ [])) ∙ h)) [
       | inl among ↦ among
-      | inr here ↦ absurd (other (sym (one_name last x (sym (or-false (bytes_eq last x)) ∙ here))))
+      | inr here ↦ absurd (other (sym (one_text last x (sym (or-false (bytes_eq last x)) ∙ here))))
     ]

@@ -11,11 +11,12 @@ use Rattle.std.proofs.lemmas.Bool.{and_parts, or_parts, or_left, or_right, false
 use Rattle.std.proofs.lemmas.Bool.Decides.{Decides-at}
 use Rattle.std.proofs.lemmas.List.Folds.{list_any-append}
 use Rattle.std.proofs.lemmas.List.{length-map}
+use Rattle.base_numbers.proofs.Texts.{same_text, bytes_eq-turned}
 use Rattle.cdi_model.specs.Bytes.{byte_order}
 use Rattle.cdi_match.specs.Chain.{ChainFromOne, Circle, has, leads, LeaveOnly, reaches_from_one}
 use Rattle.cdi_match.specs.Search.{Adds, Closing, Within}
 use Rattle.cdi_match.proofs.Chains.{reaches_from_one_decides}
-use Rattle.cdi_match.proofs.Names.{at_name, bytes_eq-turned, same_text}
+use Rattle.cdi_match.proofs.Names.{at_name}
 use Rattle.cdi_match.proofs.SearchLemmas.{Closing-all, Closing-start}
 use Rattle.cdi_circles.specs.Edges.{among, is_on_circle, next_in, texts_in, Edges, LeadsOn}
 use Rattle.cdi_circles.specs.Search.{all_next}

@@ -9,9 +9,10 @@ use Rattle.std.proofs.lemmas.Bool.{and_from, and_parts, false≢true, or_cases, 
 use Rattle.std.proofs.Math.Bool.{or-false}
 use Rattle.std.proofs.lemmas.List.Folds.{list_any-append}
 use Rattle.std.proofs.lemmas.List.Elements.{All-head, All-tail}
+use Rattle.base_numbers.proofs.Texts.{one_text, bytes_eq-turned}
 use Rattle.cdi_model.specs.Bytes.{byte_order}
 use Rattle.cdi_match.specs.Chain.{has, leads}
-use Rattle.cdi_match.proofs.Names.{at_name, bytes_eq-turned, one_name}
+use Rattle.cdi_match.proofs.Names.{at_name}
 use Rattle.cdi_circles.proofs.EdgeLemmas.{Entries}
 use Rattle.cdi_circles.specs.Edges.{Edges, next_in, texts_in}
 
@@ -36,7 +37,7 @@ leads-from edges (e ∷ es) all x y h = elim (or_cases (has e.1.items y && bytes
   | inl here ↦ (
       let parts = and_parts (has e.1.items y) (bytes_eq e.0 x) here in
       let found : get byte_order edges e.0 ≡ Some e.1 = All-head (λ e. get byte_order edges e.0 ≡ Some e.1) e es all in
-      ap (λ u. leads (next_in edges) u y) (sym (one_name e.0 x parts.1)) ∙ ap (λ o. has (texts_in o) y) found ∙ parts.0)
+      ap (λ u. leads (next_in edges) u y) (sym (one_text e.0 x parts.1)) ∙ ap (λ o. has (texts_in o) y) found ∙ parts.0)
   | inr there ↦ leads-from edges es (All-tail (λ e. get byte_order edges e.0 ≡ Some e.1) e es all) x y there
 ]
 
@@ -59,7 +60,7 @@ edge_put old new from to items are entries x y = ap (λ texts. has texts y) (ent
   where
     by : (b : Bool) → bytes_eq from x ≡ b
         → has (cond b items (next_in old x)) y ≡ (leads (next_in old) x y || (b && bytes_eq to y))
-    by true is = ap (λ texts. has texts y) (are ∙ ap (λ u. next_in old u ++ to ∷ []) (one_name from x is))
+    by true is = ap (λ texts. has texts y) (are ∙ ap (λ u. next_in old u ++ to ∷ []) (one_text from x is))
         ∙ list_any-append (λ n. bytes_eq n y) (next_in old x) (to ∷ [])
         ∙ ap (λ b. leads (next_in old) x y || b) (or-false (bytes_eq to y))
     by false is = sym (or-false (leads (next_in old) x y))

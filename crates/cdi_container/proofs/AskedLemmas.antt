@@ -15,6 +15,7 @@ use Rattle.cdi_live.specs.State.{State as Live}
 use Rattle.cdi_observe.proofs.KeptLemmas.{after_known}
 use Rattle.cdi_observe.proofs.KeyLemmas.{all-pass, each-passes}
 use Rattle.cdi_observe.proofs.WantedLemmas.{distinct-with_key, wanted-distinct}
+use Rattle.cdi_report.proofs.SettledLemmas.{all-still}
 use Rattle.cdi_container.specs.Known.{keys_of_run}
 use Rattle.cdi_container.specs.Wired.{AsksOwn}
 use Rattle.cdi_container.proofs.Committing.{deployed_on}
@@ -29,10 +30,6 @@ apart-none = AllPairs-from_IsDistinct same_key-decides [] tt
 
 pub wanted-apart : (ds : List Decl) → AllPairs (λ k l. k ≢ l) (wanted ds)
 wanted-apart ds = AllPairs-from_IsDistinct same_key-decides (wanted ds) (wanted-distinct ds)
-
--- what passes one test passes another
-all-among : (p q : Key → Bool) (keys : List Key) → ((k : Key) → p k ≡ true → q k ≡ true) → list_all p keys ≡ true → list_all q keys ≡ true
-all-among p q keys each h = all-pass q keys (λ k has. each k (each-passes p keys k h has))
 
 -- the keys of a run stand apart, and all wanted ones are among them
 run-apart : (ds : List Decl) (count : ℕ) (known : Bool) (key : Key) → AllPairs (λ k l. k ≢ l) (keys_of_run ds count known key)
@@ -210,7 +207,7 @@ module _ (d : Deployed) (t : List ℕ) (quals : List Qual) where
   unfolding keys_of_use
   use-some e h = record {
     some = h.some;
-    among = all-among (has_key (wanted d.decls)) (has_key use_keys) h.some
+    among = all-still (has_key (wanted d.decls)) (has_key use_keys) h.some
         (λ k has. each-passes (has_key use_keys) (wanted d.decls) k
         (run-within d.decls (length (faults d.decls d.book)) (are_known d.decls t quals) (choice_key t quals)) has) h.among;
     apart = h.apart;
@@ -221,7 +218,7 @@ module _ (d : Deployed) (t : List ℕ) (quals : List Qual) where
   unfolding keys_of_event
   event-some e h = record {
     some = h.some;
-    among = all-among (has_key (wanted d.decls)) (has_key event_keys) h.some
+    among = all-still (has_key (wanted d.decls)) (has_key event_keys) h.some
         (λ k has. each-passes (has_key event_keys) (wanted d.decls) k
         (run-within d.decls (length (faults d.decls d.book)) (can_be_fired d.decls t quals) (EventKey t quals)) has) h.among;
     apart = h.apart;

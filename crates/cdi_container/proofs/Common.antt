@@ -10,6 +10,7 @@ pub use Rattle.std.specs.Prelude.{Result, Ok, Err, if◌then◌else◌, AllPairs
 pub use Rattle.std.specs.Result.{IsErrAnd}
 pub use Rattle.std.specs.Vec.Iter.{into_iter_items}
 pub use Rattle.std.specs.declared.alloc.AllocError.{AllocError}
+pub use Rattle.base_options.proofs.Results.{OnErr-from}
 pub use Rattle.cdi_model.specs.Answering.{Answers}
 pub use Rattle.cdi_model.specs.DeclList.{AreDistinct}
 pub use Rattle.cdi_model.specs.Edits.{edited, edited_all}
@@ -32,7 +33,7 @@ pub use Rattle.cdi_index.specs.State.{Drafted, IsEdited, Staged}
 pub use Rattle.cdi_intercept.specs.Chains.{chain_of}
 pub use Rattle.cdi_resolve.specs.Choices.{chosen}
 pub use Rattle.cdi_resolve.specs.declared.choice.Choice.{Choice}
-pub use Rattle.cdi_observe.proofs.KeptLemmas.{evaluated-apart, where_err}
+pub use Rattle.cdi_observe.proofs.KeptLemmas.{evaluated-apart}
 pub use Rattle.cdi_observe.proofs.KeyLemmas.{same_key-decides, same_key-equiv}
 pub use Rattle.cdi_observe.proofs.WantedLemmas.{has-wanted}
 pub use Rattle.cdi_observe.specs.Kept.{evaluated, EvaluatesSome, Kept}

@@ -9,6 +9,7 @@ use Rattle.std.specs.Prelude.{All}
 use Rattle.std.specs.Fn.{iterate}
 use Rattle.std.proofs.Math.Bool.{or-false}
 use Rattle.std.proofs.lemmas.Map.Views.{any-filter_same}
+use Rattle.base_lists.proofs.Filters.{filter-each}
 use Rattle.cdi_model.specs.Work.{with_one}
 use Rattle.cdi_live.specs.State.{State as Live, empty}
 use Rattle.cdi_observe.specs.Kept.{unknown, with_all}
@@ -20,10 +21,6 @@ filter-within p q [] same = refl
 filter-within p q (k ∷ keys) same =
     ap (λ b. cond b (k ∷ filter p keys) (filter p keys)) (same k (or_left (same_key k k) (has_key keys k) (same_key-equiv.refl k)))
     ∙ ap (λ ks. cond (q k) (k ∷ ks) ks) (filter-within p q keys (λ l h. same l (or_right (same_key l k) (has_key keys l) h)))
-
-filter-each : (keys : List Key) → filter (λ k. true) keys ≡ keys
-filter-each [] = refl
-filter-each (k ∷ keys) = ap (λ ks. k ∷ ks) (filter-each keys)
 
 pub filter-all : (p : Key → Bool) (keys : List Key) → ((k : Key) → has_key keys k ≡ true → p k ≡ true) → filter p keys ≡ keys
 filter-all p keys each = filter-within p (λ k. true) keys each ∙ filter-each keys

@@ -1,4 +1,5 @@
 -- What stands behind each step of a legal history: at most one instance of each bean with a normal scope is live, among others.
+use Rattle.base_lists.proofs.Each.{all-weaker}
 use Rattle.cdi_container.proofs.Common.{◌≡◌, List, Bool, true, false, Option, None, Some, refl, subst, sym, Result, Ok, Err, if◌then◌else◌}
 use Rattle.cdi_container.proofs.Common.{[], ◌∷◌, ap, ◌∙◌, AllocError, Outcome, Refusal, LegalRun, Scene, Report, State, RunsFrom, emptied}
 use Rattle.cdi_container.proofs.Common.{untold, Given, changes_of, changes_of_all, LegalEnd, Entry, Done, EndsRequest, scene, Command, Edit}
@@ -16,7 +17,6 @@ use Rattle.cdi_legal.specs.LegalRun.{Command as Run, LegalRequestEnd}
 use Rattle.cdi_legal.specs.Single.{IsSingle}
 use Rattle.cdi_legal.proofs.Bounding.{commands_keep_limit, commands_keep_requested}
 use Rattle.cdi_legal.proofs.Commands.{commands_keep_single}
-use Rattle.cdi_legal.proofs.Furnishing.{all-imply}
 use Rattle.cdi_legal.proofs.Housing.{both_ends_leave_nothing, commands_keep_rooted}
 use Rattle.cdi_lines.specs.declared.command.Command.TheVariants as commands
 use Rattle.cdi_container.specs.History.{with_request, EndsContexts, IsRunFrom, SharesInstances}
@@ -55,7 +55,7 @@ request_stands : (s : Scene) (x : Standing) → Stands s x → Stands s (opened 
 request_stands s x q = record {
   single = q.single;
   limit = q.limit;
-  requested = all-imply (λ i. i.owner ≡ Request → x.active ≡ true) (λ i. i.owner ≡ Request → true ≡ true) x.live
+  requested = all-weaker (λ i. i.owner ≡ Request → x.active ≡ true) (λ i. i.owner ≡ Request → true ≡ true) x.live
       (λ i active is. refl) q.requested;
   rises = q.rises;
   rooted = q.rooted;

@@ -5,6 +5,7 @@ use Rattle.std.specs.List.{find, remove}
 use Rattle.std.specs.Option.{option_map, option_or}
 use Rattle.std.proofs.lemmas.Bool.Decides.{nat_tests}
 use Rattle.std.proofs.lemmas.List.Folds.{find-append}
+use Rattle.base_options.proofs.Booleans.{and-false}
 use Rattle.cdi_model.specs.declared.decl.Scope.TheVariants as scopes
 use Rattle.cdi_model.specs.declared.outcome.Val.{Val}
 use Rattle.cdi_contexts.specs.Homes.{home_of, is_home_of, lives_at, living_at, oldest_at, joined, left_of, kept_at, AreHomesOf}
@@ -29,10 +30,6 @@ and_true : (b : Bool) → (b && true) ≡ b
 and_true true = refl
 and_true false = refl
 
-and_false : (b : Bool) → (b && false) ≡ false
-and_false true = refl
-and_false false = refl
-
 -- whether it is this home, where there is one
 abbrev is_this : Option Home → Home → Bool
 is_this (Some home) h = same_home home h
@@ -40,13 +37,13 @@ is_this None h = false
 
 lives_home : (h : Home) (bean : ℕ) (o : Owner) → is_home_of h bean o ≡ is_this (home_of bean o) h
 lives_home (homes.Request b) bean Request = and_true (bean == b)
-lives_home (homes.Request b) bean Application = and_false (bean == b)
-lives_home (homes.Request b) bean (Point n actor p) = and_false (bean == b)
-lives_home (homes.Request b) bean Nobody = and_false (bean == b)
-lives_home (homes.Application b) bean Request = and_false (bean == b)
+lives_home (homes.Request b) bean Application = and-false (bean == b)
+lives_home (homes.Request b) bean (Point n actor p) = and-false (bean == b)
+lives_home (homes.Request b) bean Nobody = and-false (bean == b)
+lives_home (homes.Application b) bean Request = and-false (bean == b)
 lives_home (homes.Application b) bean Application = and_true (bean == b)
-lives_home (homes.Application b) bean (Point n actor p) = and_false (bean == b)
-lives_home (homes.Application b) bean Nobody = and_false (bean == b)
+lives_home (homes.Application b) bean (Point n actor p) = and-false (bean == b)
+lives_home (homes.Application b) bean Nobody = and-false (bean == b)
 lives_home (homes.Point n actor p) bean Request = refl
 lives_home (homes.Point n actor p) bean Application = refl
 lives_home (homes.Point n actor p) bean (Point m who q) = refl
@@ -59,18 +56,16 @@ found-dependent (i ∷ is) b = none (i.id.bean == b) (is_of scopes.Dependent i.o
   where
     never : (o : Owner) → is_of scopes.Dependent o ≡ false
     never Request = refl
-    never Application = refl
-    never (Point m actor p) = refl
-    never Nobody = refl
+    never other = refl
 
     none : (here of : Bool) → of ≡ false → cond (here && of) (Some i) (found is scopes.Dependent b) ≡ found is scopes.Dependent b
     none here of e =
         ap (λ x. cond (here && x) (Some i) (found is scopes.Dependent b)) e
-        ∙ ap (λ x. cond x (Some i) (found is scopes.Dependent b)) (and_false here)
+        ∙ ap (λ x. cond x (Some i) (found is scopes.Dependent b)) (and-false here)
 
 -- ---- who is found is found by number
 
-skipped : (b : Bool) (i : Instance) (o : Option Instance) → b ≡ false → cond b (Some i) o ≡ o
+pub skipped : (b : Bool) (i : Instance) (o : Option Instance) → b ≡ false → cond b (Some i) o ≡ o
 skipped true i o h = cc
 skipped false i o h = refl
 
@@ -174,7 +169,7 @@ left-here n next = let itself : (n == n) ≡ true = grind arith in rw itself ref
 left-older : (m n : ℕ) (here : Bool) (next : Option ℕ) → m < n → left_of (Some m) here n next ≡ Some m
 left-older m n here next less =
     let other : (m == n) ≡ false = grind (arith, nat_tests, less) in
-    rw (other, and_false here) refl
+    rw (other, and-false here) refl
 
 removed_first : (h : Home) (i : Instance) (is : List Instance) (b : Bool)
     → oldest_at h is

@@ -83,9 +83,7 @@ last_such f given live d r e =
 
 pub part_above : (b n : ℕ) (o : Owner) → IsOwnerOf b o → is_part_of n o ≡ true → n < b
 part_above b n (Point m actor p) h e = let k : m ≡ n = grind arith in subst (λ (x : ℕ). x < b) k h
-part_above b n Request h e = cc
-part_above b n Application h e = cc
-part_above b n Nobody h e = cc
+part_above b n other h e = cc
 
 live_along : (P : ℕ → Type 0) (a b : InstanceId) → a ≡ b → P a.number → P b.number
 live_along P a b e p = subst (λ (x : InstanceId). P x.number) e p

@@ -15,6 +15,7 @@ use Rattle.cdi_contexts.specs.Rising.{IsRising, RisesFrom}
 use Rattle.cdi_contexts.specs.Standing.{numbered, without, finish, keep}
 use Rattle.cdi_contexts.specs.Storage.{Storage}
 use Rattle.cdi_contexts.specs.declared.instance.Instance.{Instance}
+use Rattle.cdi_contexts.proofs.HomeLemmas.{skipped}
 
 -- the number of the instance at a place
 abbrev pub number_at : List Instance → ℕ → Instance → ℕ
@@ -68,10 +69,6 @@ other-head n i is a = let differs = a 0 i (omega arith) in grind (arith, nat_tes
 
 other-tail : (n : ℕ) (i : Instance) (is : List Instance) → IsOther n (i ∷ is) → IsOther n is
 other-tail n i is a = All-tail (λ (x : Instance). x.id.number ≢ n) i is a
-
-skipped : (b : Bool) (i : Instance) (o : Option Instance) → b ≡ false → cond b (Some i) o ≡ o
-skipped true i o h = cc
-skipped false i o h = refl
 
 pub numbered_nowhere : (n : ℕ) (live : List Instance) → IsPlace live n None → numbered live n ≡ None
 numbered_nowhere n [] a = refl

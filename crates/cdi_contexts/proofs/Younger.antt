@@ -9,6 +9,7 @@ use Rattle.std.proofs.lemmas.Bool.Decides.{nat_tests}
 use Rattle.std.proofs.lemmas.List.{reverse-append, take_rest}
 use Rattle.std.proofs.lemmas.List.Folds.{find-append}
 use Rattle.std.proofs.lemmas.List.Sorted.{IsPartitionedBy-leb}
+use Rattle.std.proofs.lemmas.Bool.{leb-true, leb-false}
 use Rattle.cdi_contexts.specs.Owned.{is_part_of}
 use Rattle.cdi_contexts.specs.Places.{younger_than}
 use Rattle.cdi_contexts.specs.Rising.{IsRising, RisesFrom}
@@ -49,17 +50,11 @@ back n (i ∷ is) (suc m) old young =
 parted : (given n : ℕ) (live : List Instance) → IsRising given live → IsPartitionedBy (λ i. leb i.id.number n) live
 parted given n live r = IsPartitionedBy-leb (λ (i : Instance). i.id.number) live n (λ i j d h b. along 0 given live i j d r h b)
 
-low_leb : (x n : ℕ) → leb x n ≡ true → x ≤ n
-low_leb x n h = grind (arith, nat_tests)
-
-high_leb : (x n : ℕ) → leb x n ≡ false → n < x
-high_leb x n h = grind (arith, nat_tests)
-
 younger_back : (n : ℕ) (live : List Instance) (m : ℕ) → m ≤ length live
     → IsPartitionPoint (λ (i : Instance). leb i.id.number n ≡ true) (λ i. leb i.id.number n ≡ false) live m
     → drop m live ≡ younger_than n live
 younger_back n live m bound point =
-    back n live m (λ k d h. low_leb _ n (point.0 k d (omega arith) h)) (λ k d h b. high_leb _ n (point.1 k d h b))
+    back n live m (λ k d h. leb-true _ n (point.0 k d (omega arith) h)) (λ k d h b. leb-false _ n (point.1 k d h b))
 
 -- along what the code reads
 pub parted_along : (given n : ℕ) (live xs : List Instance) → xs ≡ live → IsRising given live

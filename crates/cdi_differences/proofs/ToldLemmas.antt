@@ -8,16 +8,10 @@ use Rattle.std.specs.Str.{bytes_eq}
 use Rattle.std.proofs.lemmas.List.Folds.{list_any-append}
 use Rattle.std.proofs.lemmas.Map.Made.{is_some-lookup}
 use Rattle.indexmap.specs.IndexMap.{IndexMap}
+use Rattle.std.proofs.Math.Bool.{or-false}
+use Rattle.base_options.proofs.Booleans.{and-false}
 use Rattle.cdi_differences.specs.Differences.{compared, differing, differs, is_new, Compared}
 use Rattle.cdi_differences.specs.Laws.{TellsWhatDiffers}
-
-or-false : (b : Bool) → (b || false) ≡ b
-or-false true = refl
-or-false false = refl
-
-and-false : (b : Bool) → (b && false) ≡ false
-and-false true = refl
-and-false false = refl
 
 -- what the two filters find of a key
 settled : {Z : Type 0} (key : List ℕ) (x y : Option (String Z))

@@ -1,13 +1,14 @@
 -- In the chain of a bean are those to which steps of specialization lead from it, each once.
-use Rattle.cdi_effective.proofs.Common.{◌≡◌, ◌<◌, ℕ, Bool, true, false, cond, List, [], ◌∷◌, length, refl, sym, ap, ◌∙◌, bytes_eq}
-use Rattle.cdi_effective.proofs.Common.{option_to_list, Decl, bytes_eq-turned, ◌⊎◌, zero, suc, is_some, Option, Some, None, subst, inl, inr}
-use Rattle.cdi_effective.proofs.Common.{arith, AllByRecursion, IsDistinct, cases_Bool, false≢true, or_cases, or_left, or_right}
+use Rattle.cdi_effective.proofs.Common.{◌≡◌, ◌<◌, ℕ, Bool, true, false, cond, List, [], ◌∷◌, length, refl, sym, ap, ◌∙◌, bytes_eq, one_text}
+use Rattle.cdi_effective.proofs.Common.{option_to_list, Decl, ◌⊎◌, zero, suc, is_some, Option, Some, None, subst, inl, inr, bytes_eq-turned}
+use Rattle.cdi_effective.proofs.Common.{arith, AllByRecursion, IsDistinct, cases_Bool, false≢true, or_cases, or_left, or_right, same_text}
 use Rattle.cdi_effective.proofs.Common.{AllPairs-from_IsDistinct, key_of, name_of_decl, key_at, same_key, find_decl, limit, BeanDecl}
-use Rattle.cdi_effective.proofs.Common.{key_exact, has, one_name, same_text, as_bean, find_bean, extended, bean_named, specialized, on_from}
+use Rattle.cdi_effective.proofs.Common.{key_exact, has, as_bean, find_bean, extended, bean_named, specialized, on_from}
 use Rattle.cdi_effective.proofs.Common.{chain_behind, behind, chain, class_names}
 use Rattle.std.proofs.Common.{◌≤◌}
 use Rattle.std.specs.Cmp.Lexicographic.{bytes_decides}
 use Rattle.std.proofs.lemmas.Bool.{or_parts}
+use Rattle.base_lists.proofs.Each.{all-weaker}
 use Rattle.cdi_model.specs.declared.decl.Decl.TheVariants as decls
 use Rattle.cdi_model.specs.declared.decl.Kind.TheVariants as kinds
 use Rattle.cdi_match.specs.Chain.{Chain, Steps}
@@ -20,13 +21,13 @@ Names = List (List ℕ)
 
 -- ---- what is found by a name has it
 
-named : (n : List ℕ) (d : Decl) (s : BeanDecl) → same_key (key_at kinds.Bean n) (key_of d) ≡ true → as_bean (Some d) ≡ Some s → s.name ≡ n
+pub named : (n : List ℕ) (d : Decl) (s : BeanDecl) → same_key (key_at kinds.Bean n) (key_of d) ≡ true → as_bean (Some d) ≡ Some s → s.name ≡ n
 named n (decls.Bean b) s key is =
     let same : b ≡ s = cc in
     sym (ap (λ c. c.name) same) ∙ sym (ap (λ k. k.name) (key_exact (key_at kinds.Bean n) (key_of (decls.Bean b)) key))
 named n other s key is = cc
 
-found-name : (ds : List Decl) (n : List ℕ) (s : BeanDecl) → find_bean n ds ≡ Some s → s.name ≡ n
+pub found-name : (ds : List Decl) (n : List ℕ) (s : BeanDecl) → find_bean n ds ≡ Some s → s.name ≡ n
 found-name [] n s is = cc
 found-name (d ∷ ds) n s is = elim (cases_Bool (same_key (key_at kinds.Bean n) (key_of d))) [
   | inl same ↦ named n d s same (rw same at is)
@@ -72,7 +73,7 @@ step-declared ds x y h = by (find_bean x ds) h
         → is_some (find_bean y ds) ≡ true
     to None found e = absurd (false≢true e)
     to (Some s) found e = elim (or_cases (bytes_eq s.name y) false e) [
-      | inl same ↦ ap (λ n. is_some (find_bean n ds)) (sym (one_name s.name y same)) ∙ ap is_some (found s refl)
+      | inl same ↦ ap (λ n. is_some (find_bean n ds)) (sym (one_text s.name y same)) ∙ ap is_some (found s refl)
       | inr none ↦ absurd (false≢true none)
     ]
 
@@ -81,10 +82,6 @@ step-declared ds x y h = by (find_bean x ds) h
     by (Some c) e = to (specialized ds c) (λ s is. specialized-found ds c s is) e
 
 -- ---- none twice
-
-weaker : {A : Type 0} (P Q : A → Type 0) → ((x : A) → P x → Q x) → (xs : List A) → AllByRecursion P xs → AllByRecursion Q xs
-weaker P Q implies [] all = tt
-weaker P Q implies (x ∷ xs) all = (implies x all.0, weaker P Q implies xs all.1)
 
 module _ (ds : List Decl) where
   abbrev more : ℕ → Names → BeanDecl → List BeanDecl
@@ -103,12 +100,10 @@ module _ (ds : List Decl) where
   put-once met s rest false e once = (
     (
       e,
-      weaker (λ k. has (s.name ∷ met) k ≡ false) (λ k. has met k ≡ false) (λ k h. (or_parts (bytes_eq s.name k) (has met k) h).1)
-          (class_names rest) once.0,
+      all-weaker (λ k. has (s.name ∷ met) k ≡ false) (λ k. has met k ≡ false) (class_names rest) (λ k h. (or_parts (bytes_eq s.name k) (has met k) h).1) once.0,
     ),
     (
-      weaker (λ k. has (s.name ∷ met) k ≡ false) (λ k. bytes_eq s.name k ≡ false) (λ k h. (or_parts (bytes_eq s.name k) (has met k) h).0)
-          (class_names rest) once.0,
+      all-weaker (λ k. has (s.name ∷ met) k ≡ false) (λ k. bytes_eq s.name k ≡ false) (class_names rest) (λ k h. (or_parts (bytes_eq s.name k) (has met k) h).0) once.0,
       once.1,
     ),
   )
@@ -139,7 +134,7 @@ module _ (ds : List Decl) where
       by : (b : Bool) → has (class_names (cond b [] (s ∷ more n met s))) y ≡ true → Chain (specializes ds) c.name y
       by true e = absurd (false≢true e)
       by false e = elim (or_cases (bytes_eq s.name y) (has (class_names (more n met s)) y) e) [
-        | inl here ↦ (1, (s.name, edge, one_name s.name y here))
+        | inl here ↦ (1, (s.name, edge, one_text s.name y here))
         | inr there ↦
             let rest = reached (s.name ∷ met) s y (specialized-found ds c s is) there in
             (suc rest.0, (s.name, edge, rest.1))
@@ -180,7 +175,7 @@ module _ (ds : List Decl) where
   at-first : (met : Names) (c : BeanDecl) (o : Option BeanDecl) (x y : List ℕ) → find_bean c.name ds ≡ Some c → specialized ds c ≡ o
       → bytes_eq c.name x ≡ true → specializes ds x y ≡ true → has (class_after_of o) y ≡ true
   at-first met c o x y found is same step =
-      sym (step-to ds c o y found is) ∙ ap (λ z. specializes ds z y) (one_name c.name x same) ∙ step
+      sym (step-to ds c o y found is) ∙ ap (λ z. specializes ds z y) (one_text c.name x same) ∙ step
 
   on-closed : (n : ℕ) → Closes n → (met left : Names) (c : BeanDecl) (o : Option BeanDecl) → Covers met left → length left ≤ suc n
       → find_bean c.name ds ≡ Some c → specialized ds c ≡ o → IsClosed met c (on_from met (more n met) o)
@@ -195,7 +190,7 @@ module _ (ds : List Decl) where
 
       is_t : bytes_eq c.name x ≡ true → t.name ≡ y
       is_t same = elim (or_cases (bytes_eq t.name y) false (at-first met c (Some t) x y found is same step)) [
-        | inl e ↦ one_name t.name y e
+        | inl e ↦ one_text t.name y e
         | inr none ↦ absurd (false≢true none)
       ]
 
@@ -264,11 +259,10 @@ module _ (ds : List Decl) where
   chain-of b room found =
       let once = each-once limit (b.name ∷ []) b in
       let apart_all : AllByRecursion (λ k. bytes_eq b.name k ≡ false) (class_names (behind ds b)) =
-      weaker (λ k. has (b.name ∷ []) k ≡ false) (λ k. bytes_eq b.name k ≡ false) (λ k h. (or_parts (bytes_eq b.name k) false h).0)
-      (class_names (behind ds b)) once.0 in record {
+      all-weaker (λ k. has (b.name ∷ []) k ≡ false) (λ k. bytes_eq b.name k ≡ false) (class_names (behind ds b)) (λ k h. (or_parts (bytes_eq b.name k) false h).0) once.0 in record {
         each = λ y. (
           λ h. elim (or_cases (bytes_eq b.name y) (has (class_names (behind ds b)) y) h) [
-            | inl here ↦ (0, one_name b.name y here)
+            | inl here ↦ (0, one_text b.name y here)
             | inr there ↦ each-reached limit (b.name ∷ []) b y found there
           ],
           λ c. steps-there b room found c.0 b.name y

@@ -43,7 +43,7 @@ pub use Rattle.cdi_model.specs.declared.edit.Edit.{Edit}
 pub use Rattle.cdi_model.specs.declared.key.DeclKey.{DeclKey}
 pub use Rattle.cdi_model.specs.declared.quals.Qual.{Qual}
 pub use Rattle.cdi_match.proofs.LocalityLemmas.{edits_keep_stereotypes, edits_keep_closure}
-pub use Rattle.cdi_match.proofs.Names.{bytes_eq-turned, one_name, same_text, at_name}
+pub use Rattle.cdi_match.proofs.Names.{at_name}
 pub use Rattle.cdi_match.specs.Bindings.{uses_in}
 pub use Rattle.cdi_match.specs.Chain.{has}
 pub use Rattle.cdi_match.specs.Locality.{stereotype_reads, type_reads, binding_reads}
@@ -61,7 +61,8 @@ pub use Rattle.cdi_effective.specs.Places.{ArePlaces, IsPlace, link_of, place_of
 pub use Rattle.cdi_effective.specs.Qualifiers.{uses_one, built_in_of, qualifiers_of}
 pub use Rattle.cdi_effective.specs.Reads.{bean_keys, specialized_reads, link_reads, chain_reads, bean_reads, class_reads, product_reads}
 pub use Rattle.cdi_effective.specs.Reads.{record_reads}
-pub use Rattle.cdi_effective.specs.Sorting.{put, sorted_by}
+pub use Rattle.base_lists.specs.Sorting.{put, sorted_by}
+pub use Rattle.base_numbers.proofs.Texts.{one_text, same_text, bytes_eq-turned}
 pub use Rattle.cdi_effective.specs.Specialized.{extended, bean_named, specialized, on_from, chain, class_names, all_declared, last_declared}
 pub use Rattle.cdi_effective.specs.Specialized.{last_name, name_alone, given_of, name_of}
 unfoldable pub use Rattle.cdi_effective.specs.Specialized.{chain_behind, behind, is_replaced, replaced_by}

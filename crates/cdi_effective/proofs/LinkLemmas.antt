@@ -11,11 +11,7 @@ use Rattle.cdi_model.specs.DeclKey.{kind_number}
 use Rattle.cdi_model.specs.declared.decl.Kind.{Kind}
 use Rattle.cdi_model.specs.declared.decl.Kind.TheVariants as kinds
 use Rattle.cdi_match.proofs.TypeLemmas.{is_type_decides, types_of-has}
-
--- a key of a kind is among those of some names exactly where its name is among these
-among-names : (kind : Kind) (names : List (List ℕ)) (s : List ℕ) → is_among (map (key_at kind) names) (key_at kind s) ≡ has names s
-among-names kind [] s = refl
-among-names kind (n ∷ names) s = rw (nat_eq_equiv.refl (kind_number kind)) (ap (λ b. bytes_eq n s || b) (among-names kind names s))
+use Rattle.cdi_match.proofs.LocalityLemmas.{among-names}
 
 own-type : (ds : List Decl) (t : List ℕ) → has (types_of ds t) t ≡ true
 own-type ds t = types_of-has ds t t ∙ (is_type_decides ds t t).1 (inr (0, refl))

@@ -9,12 +9,11 @@ use Rattle.std.proofs.Common.{nat_lt}
 use Rattle.std.specs.Cmp.{nat_cmp_is}
 use Rattle.std.specs.Ordering.{nat_cmp, ordering_then}
 use Rattle.std.proofs.lemmas.Bool.{and_parts}
+use Rattle.base_lists.proofs.Sorting.{all-sorted, any-sorted, Rises, sorted-rises}
 use Rattle.cdi_model.specs.Bytes.{opening}
 use Rattle.cdi_model.specs.UseText.{text_of_arguments}
 use Rattle.cdi_model.specs.declared.quals.Arguments.{Arguments}
 use Rattle.cdi_model.specs.declared.quals.Arguments.TheVariants as arguments
-use Rattle.cdi_effective.proofs.SortLemmas.{all_sorted}
-use Rattle.cdi_effective.proofs.UseLemmas.{any-sorted, InTurn, sorted-in_turn}
 use Rattle.cdi_effective.specs.TextOrder.{tells_order}
 
 -- ---- the texts of two uses
@@ -77,7 +76,7 @@ names-order : IsStrictWeakOrder is_before_in_name
 names-order = ranks_by nat_list_cmp_total name_of_use
 
 abbrev AreNamesInTurn : List Qual → Type 0
-AreNamesInTurn us = InTurn is_before_in_name names-order us
+AreNamesInTurn us = Rises is_before_in_name us
 
 tells-none : (x : List ℕ) → tells_order x x ≡ false
 tells-none [] = refl
@@ -106,8 +105,7 @@ itself-equal x = by (byte_order x x) refl
   where
     by : (o : Ordering) → byte_order x x ≡ o → is_lt o ≡ false
     by Less e = absurd (let other : Less ≡ Greater = sym e ∙ turned_order x x Less e in cc)
-    by Equal e = refl
-    by Greater e = refl
+    by other e = refl
 
 later : (x y : List ℕ) → byte_order x y ≡ Less → is_lt (byte_order y x) ≡ false
 later x y less = ap is_lt (turned_order x y Less less)
@@ -162,7 +160,7 @@ module _ (first second : Qual → Qual → Bool) where
   sorted-alike : (us : List Qual) → AreAlike us → sorted_by first us ≡ sorted_by second us
   sorted-alike [] alike = refl
   sorted-alike (u ∷ us) alike =
-      put-alike u (sorted_by first us) (all_sorted (λ v. first v u ≡ second v u) first us alike.0)
+      put-alike u (sorted_by first us) (all-sorted first (λ v. first v u ≡ second v u) us alike.0)
       ∙ ap (put second u) (sorted-alike us alike.1)
 
   alike-to : (whole us : List Qual) (u : Qual) → has_use whole u ≡ true → ((v : Qual) → has_use us v ≡ true → has_use whole v ≡ true)
@@ -189,7 +187,7 @@ pub in-order-by-names : (us list : List Qual) → list ≡ sorted_by is_before_i
 unfolding in_text_order
 in-order-by-names us list sorted tells =
     let once = each_once us in
-    let rise : Rise list = names-tell list (subst AreNamesInTurn (sym sorted) (sorted-in_turn is_before_in_name names-order once)) tells in
+    let rise : Rise list = names-tell list (subst AreNamesInTurn (sym sorted) (sorted-rises is_before_in_name names-order once)) tells in
     let among : (v : Qual) → has_use once v ≡ true → has_use list v ≡ true =
     λ v there. ap (λ l. has_use l v) sorted ∙ any-sorted is_before_in_name (same_qual v) once ∙ there in
     sorted ∙ sorted-alike is_before_in_name is_before_in_text once

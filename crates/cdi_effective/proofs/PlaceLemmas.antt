@@ -1,12 +1,14 @@
 -- The places of beans among the declarations.
 use Rattle.cdi_effective.proofs.Common.{◌≡◌, ◌<◌, ℕ, Bool, true, false, cond, ◌||◌, List, [], ◌∷◌, length, refl, sym, ap, ◌∙◌, bytes_eq}
 use Rattle.cdi_effective.proofs.Common.{Decl, zero, suc, is_some, Option, Some, None, subst, inl, inr, arith, AllByRecursion, cases_Bool}
-use Rattle.cdi_effective.proofs.Common.{false≢true, key_of, name_of_decl, same_key, find_decl, BeanDecl, key_exact, has, one_name}
-use Rattle.cdi_effective.proofs.Common.{same_text, as_bean, find_bean, specialized, class_names, ◌++◌, ArePlaces, IsPlace, list_any}
+use Rattle.cdi_effective.proofs.Common.{false≢true, key_of, name_of_decl, same_key, find_decl, BeanDecl, key_exact, has, one_text}
+use Rattle.cdi_effective.proofs.Common.{as_bean, find_bean, specialized, class_names, ◌++◌, ArePlaces, IsPlace, list_any, same_text}
 use Rattle.cdi_effective.proofs.Common.{option_map, slice_get, place_of, nat_eq, true≢false, slice_get_within, position-found}
 use Rattle.cdi_effective.proofs.Common.{position-there, place_of_next}
 use Rattle.std.proofs.Common.{◌≢◌, position}
 use Rattle.std.proofs.lemmas.Option.{get_or_from_slice_get}
+use Rattle.base_lists.proofs.Places.{position-cons}
+use Rattle.base_numbers.proofs.Numbers.{nat_eq-refl, nat_eq-same}
 use Rattle.cdi_model.proofs.PositionLemmas.{one_position}
 use Rattle.cdi_model.specs.Decl.{kind_of}
 use Rattle.cdi_model.specs.DeclKey.{same_key_equiv}
@@ -17,11 +19,7 @@ use Rattle.cdi_effective.proofs.ChainLemmas.{specialized-found}
 
 -- ---- a declaration is found at its own place
 
-position-cons : {X : Type 0} (p : X → Bool) (x : X) (xs : List X)
-    → position p (x ∷ xs) ≡ cond (p x) (Some 0) (option_map suc (position p xs))
-position-cons p x xs = grind arith
-
-other-key : (d e : Decl) → key_of e ≢ key_of d → same_key (key_of d) (key_of e) ≡ false
+pub other-key : (d e : Decl) → key_of e ≢ key_of d → same_key (key_of d) (key_of e) ≡ false
 other-key d e other = by (same_key (key_of d) (key_of e)) refl
   where
     by : (b : Bool) → same_key (key_of d) (key_of e) ≡ b → b ≡ false
@@ -52,7 +50,7 @@ own-found ds k d distinct at =
 pub own-place : (ds : List Decl) (k : ℕ) (bean : BeanDecl) → AreDistinct ds → slice_get ds k ≡ Some (decls.Bean bean) → IsPlace ds k bean
 own-place ds k bean distinct at = (own-position ds k (decls.Bean bean) distinct at, at)
 
-bean-decl : (o : Option Decl) (bean : BeanDecl) → as_bean o ≡ Some bean → o ≡ Some (decls.Bean bean)
+pub bean-decl : (o : Option Decl) (bean : BeanDecl) → as_bean o ≡ Some bean → o ≡ Some (decls.Bean bean)
 bean-decl (Some (decls.Bean d)) bean is = let same : d ≡ bean = cc in ap (λ x. Some (decls.Bean x)) same
 bean-decl (Some (decls.Type d)) bean is = absurd (let no : None ≡ Some bean = is in cc)
 bean-decl (Some (decls.Qualifier d)) bean is = absurd (let no : None ≡ Some bean = is in cc)
@@ -78,23 +76,17 @@ has-place ds bean found none =
 
 -- ---- places tell classes apart
 
-same-nat : (m n : ℕ) → nat_eq m n ≡ true → m ≡ n
-same-nat m n e = grind arith
-
-itself : (n : ℕ) → nat_eq n n ≡ true
-itself n = grind arith
-
 pub apart-by-place : (ds : List Decl) (class other : List ℕ) (p q : ℕ) → place_of ds other ≡ Some p → place_of ds class ≡ Some q
     → nat_eq q p ≡ bytes_eq other class
 apart-by-place ds class other p q at here = elim (cases_Bool (bytes_eq other class)) [
   | inl same ↦
-      let one : other ≡ class = one_name other class same in
+      let one : other ≡ class = one_text other class same in
       let there : Some p ≡ Some q = sym at ∙ ap (place_of ds) one ∙ here in
       let equal : p ≡ q = cc in
-      ap (λ n. nat_eq q n) equal ∙ itself q ∙ sym same
+      ap (λ n. nat_eq q n) equal ∙ nat_eq-refl q ∙ sym same
   | inr differ ↦ elim (cases_Bool (nat_eq q p)) [
     | inl e ↦ absurd (true≢false (sym (same_text other class
-        (one_position kinds.Bean other class ds q (at ∙ ap Some (sym (same-nat q p e))) here)) ∙ differ))
+        (one_position kinds.Bean other class ds q (at ∙ ap Some (sym (nat_eq-same q p e))) here)) ∙ differ))
     | inr e ↦ e ∙ sym differ
   ]
 ]

@@ -12,7 +12,3 @@ pub built-in-order : (name : Option (List ℕ)) → any_use ∷ default_use ∷ 
 unfolding in_text_order
 built-in-order None = refl
 built-in-order (Some n) = refl
-
-pub empty : {A : Type 0} (xs : List A) → length xs ≡ 0 → xs ≡ []
-empty [] none = refl
-empty (x ∷ xs) none = absurd (omega (arith, none))

@@ -7,6 +7,8 @@ use Rattle.std.specs.List.{filter}
 use Rattle.std.specs.List.Sorted.{IsSortedBy, IsStableBy, ties}
 use Rattle.std.proofs.lemmas.List.Sorted.{sorted_far}
 use native.Mathlib.Numerals.{unary_clauses}
+use Rattle.base_lists.proofs.Each.{all-filter}
+use Rattle.base_lists.proofs.Sorting.{NoneBefore, Rises, sorted-rises}
 
 both-not : (p q : Bool) → (not p && not q) ≡ true → (p ≡ false) × (q ≡ false)
 both-not false false h = (refl, refl)
@@ -37,27 +39,12 @@ module _ {X : Type 0} where
   peeled true x r s e = ap rest-of e
   peeled false x r s e = e
 
-  all-filter : (P : X → Type 0) (p : X → Bool) (ys : List X) → AllByRecursion P ys → AllByRecursion P (filter p ys)
-  all-filter P p [] h = tt
-  all-filter P p (y ∷ ys) h = elim (cases_Bool (p y)) [
-    | inl e ↦ subst (λ (b : Bool). AllByRecursion P (cond b (y ∷ filter p ys) (filter p ys))) (sym e) (h.0, all-filter P p ys h.1)
-    | inr e ↦ subst (λ (b : Bool). AllByRecursion P (cond b (y ∷ filter p ys) (filter p ys))) (sym e) (all-filter P p ys h.1)
-  ]
-
 module _ {X : Type 0} (lt : X → X → Bool) (o : IsStrictWeakOrder lt) where
-  -- none of some comes before this one
-  abbrev NoneBefore : X → List X → Type 0
-  NoneBefore x ys = AllByRecursion (λ y. lt y x ≡ false) ys
-
-  abbrev Rises : List X → Type 0
-  Rises [] = Unit {0}
-  Rises (x ∷ xs) = NoneBefore x xs × Rises xs
-
-  from-index : (x : X) (ys : List X) → ((k : ℕ) (d : X) → k < length ys → lt (slice_index_or ys k d) x ≡ false) → NoneBefore x ys
+  from-index : (x : X) (ys : List X) → ((k : ℕ) (d : X) → k < length ys → lt (slice_index_or ys k d) x ≡ false) → NoneBefore lt x ys
   from-index x [] h = tt
   from-index x (y ∷ ys) h = (h zero y (omega arith), from-index x ys (λ k d less. h (suc k) d (omega (arith, less))))
 
-  rises : (xs : List X) → IsSortedBy lt xs → Rises xs
+  rises : (xs : List X) → IsSortedBy lt xs → Rises lt xs
   rises [] s = tt
   rises (x ∷ xs) s = (
     from-index x xs (λ k d less. sorted_far lt o (x ∷ xs) s zero (suc k) d (omega arith) (omega (arith, less))),
@@ -65,29 +52,6 @@ module _ {X : Type 0} (lt : X → X → Bool) (o : IsStrictWeakOrder lt) where
   )
 
   -- ---- one by one
-
-  lower : (x y : X) (ys : List X) → lt y x ≡ false → NoneBefore y ys → NoneBefore x ys
-  lower x y [] e h = tt
-  lower x y (w ∷ ws) e h = (o.chain w y x h.0 e, lower x y ws e h.1)
-
-  put-none : (z x : X) (ys : List X) → lt x z ≡ false → NoneBefore z ys → NoneBefore z (put lt x ys)
-  put-none z x [] f h = (f, tt)
-  put-none z x (y ∷ ys) f h = elim (cases_Bool (lt y x)) [
-    | inl e ↦ subst (λ (b : Bool). NoneBefore z (cond b (y ∷ put lt x ys) (x ∷ y ∷ ys))) (sym e) (h.0, put-none z x ys f h.1)
-    | inr e ↦ subst (λ (b : Bool). NoneBefore z (cond b (y ∷ put lt x ys) (x ∷ y ∷ ys))) (sym e) (f, h)
-  ]
-
-  put-rises : (x : X) (ys : List X) → Rises ys → Rises (put lt x ys)
-  put-rises x [] r = (tt, tt)
-  put-rises x (y ∷ ys) r = elim (cases_Bool (lt y x)) [
-    | inl e ↦ subst (λ (b : Bool). Rises (cond b (y ∷ put lt x ys) (x ∷ y ∷ ys))) (sym e)
-        (put-none y x ys (o.one_way y x e) r.0, put-rises x ys r.1)
-    | inr e ↦ subst (λ (b : Bool). Rises (cond b (y ∷ put lt x ys) (x ∷ y ∷ ys))) (sym e) ((e, lower x y ys e r.0), r)
-  ]
-
-  sorted-rises : (xs : List X) → Rises (sorted_by lt xs)
-  sorted-rises [] = tt
-  sorted-rises (x ∷ xs) = put-rises x (sorted_by lt xs) (sorted-rises xs)
 
   never-both : (a x y : X) → lt y x ≡ true → ties lt a x ≡ true → ties lt a y ≡ false
   never-both a x y e tx = elim (cases_Bool (ties lt a y)) [
@@ -122,18 +86,18 @@ module _ {X : Type 0} (lt : X → X → Bool) (o : IsStrictWeakOrder lt) where
       ap (λ (b : Bool). cond b (x ∷ filter (ties lt x) xs) (filter (ties lt x) xs))
       (not-both (lt x x) (lt x x) (not-before-itself x) (not-before-itself x))
 
-  head-of : (y z : X) (zs ws : List X) → NoneBefore z zs → filter (ties lt y) (z ∷ zs) ≡ y ∷ ws → lt y z ≡ false
+  head-of : (y z : X) (zs ws : List X) → NoneBefore lt z zs → filter (ties lt y) (z ∷ zs) ≡ y ∷ ws → lt y z ≡ false
   head-of y z zs ws h e = elim (cases_Bool (ties lt y z)) [
     | inl t ↦ (both-not (lt y z) (lt z y) t).0
     | inr f ↦
         let stays : filter (ties lt y) zs ≡ y ∷ ws =
         sym (ap (λ (b : Bool). cond b (z ∷ filter (ties lt y) zs) (filter (ties lt y) zs)) f) ∙ e in
-        let all : NoneBefore z (y ∷ ws) = subst (λ (l : List X). NoneBefore z l) stays
+        let all : NoneBefore lt z (y ∷ ws) = subst (λ (l : List X). NoneBefore lt z l) stays
         (all-filter (λ w. lt w z ≡ false) (ties lt y) zs h) in
         all.0
   ]
 
-  unique : (ys zs : List X) → Rises ys → Rises zs → ((x : X) → filter (ties lt x) ys ≡ filter (ties lt x) zs) → ys ≡ zs
+  unique : (ys zs : List X) → Rises lt ys → Rises lt zs → ((x : X) → filter (ties lt x) ys ≡ filter (ties lt x) zs) → ys ≡ zs
   unique [] [] ry rz same = refl
   unique [] (z ∷ zs) ry rz same = absurd (omega (arith, ap length (same z ∙ own z zs)))
   unique (y ∷ ys) [] ry rz same = absurd (omega (arith, ap length (sym (same y) ∙ own y ys)))
@@ -173,18 +137,3 @@ pub sorted_map : {X Y : Type 0} (f : X → Y) (lt : Y → Y → Bool) (xs : List
     → map f (sorted_by (λ a b. lt (f a) (f b)) xs) ≡ sorted_by lt (map f xs)
 sorted_map f lt [] = refl
 sorted_map f lt (x ∷ xs) = put-map f lt x (sorted_by (λ a b. lt (f a) (f b)) xs) ∙ ap (put lt (f x)) (sorted_map f lt xs)
-
--- ---- what holds of each
-
-all-put : {X : Type 0} (P : X → Type 0) (lt : X → X → Bool) (x : X) (ys : List X) → P x → AllByRecursion P ys
-    → AllByRecursion P (put lt x ys)
-all-put P lt x [] here all = (here, tt)
-all-put P lt x (y ∷ ys) here all = elim (cases_Bool (lt y x)) [
-  | inl e ↦ subst (λ (b : Bool). AllByRecursion P (cond b (y ∷ put lt x ys) (x ∷ y ∷ ys))) (sym e)
-      (all.0, all-put P lt x ys here all.1)
-  | inr e ↦ subst (λ (b : Bool). AllByRecursion P (cond b (y ∷ put lt x ys) (x ∷ y ∷ ys))) (sym e) (here, all)
-]
-
-pub all_sorted : {X : Type 0} (P : X → Type 0) (lt : X → X → Bool) (xs : List X) → AllByRecursion P xs → AllByRecursion P (sorted_by lt xs)
-all_sorted P lt [] all = tt
-all_sorted P lt (x ∷ xs) all = all-put P lt x (sorted_by lt xs) all.0 (all_sorted P lt xs all.1)

@@ -11,9 +11,10 @@ use Rattle.std.specs.List.{AllPairs}
 use Rattle.std.proofs.lemmas.Bool.{false_from_ne_true}
 use Rattle.std.proofs.lemmas.List.Folds.{list_any-append}
 use Rattle.std.proofs.lemmas.Map.Keys.{IsDistinct-push}
+use Rattle.base_lists.proofs.Sorting.{all-put, all-sorted, any-sorted, Rises, sorted-rises}
+use Rattle.base_options.proofs.Booleans.{or-left_comm}
 use Rattle.cdi_model.specs.SameUse.{same_qual_equiv}
 use Rattle.cdi_model.proofs.QualLemmas.{before-all}
-use Rattle.cdi_match.proofs.OrderLemmas.{or-left_comm}
 use Rattle.cdi_effective.specs.TextOrder.{TextsTellApart, AreInTextOrder}
 
 -- ---- which uses they are
@@ -41,20 +42,6 @@ any-once p (u ∷ us) seen =
     any-once p us (with_use seen u) ∙ ap (λ b. b || list_any p us) (any-with_use p seen u)
     ∙ or_assoc (list_any p seen) (p u) (list_any p us)
 
-module _ {X : Type 0} (before : X → X → Bool) where
-  any-put : (p : X → Bool) (x : X) (ys : List X) → list_any p (put before x ys) ≡ (p x || list_any p ys)
-  any-put p x [] = refl
-  any-put p x (y ∷ ys) = by (before y x) (any-put p x ys)
-    where
-      by : (b : Bool) → list_any p (put before x ys) ≡ (p x || list_any p ys)
-          → list_any p (cond b (y ∷ put before x ys) (x ∷ y ∷ ys)) ≡ (p x || (p y || list_any p ys))
-      by true rest = ap (λ b. p y || b) rest ∙ or-left_comm (p y) (p x) (list_any p ys)
-      by false rest = refl
-
-  pub any-sorted : (p : X → Bool) (xs : List X) → list_any p (sorted_by before xs) ≡ list_any p xs
-  any-sorted p [] = refl
-  any-sorted p (x ∷ xs) = any-put p x (sorted_by before xs) ∙ ap (λ b. p x || b) (any-sorted p xs)
-
 -- a test passes for one of the uses in order exactly where it does for one of the uses
 pub any-in_text_order : (p : Qual → Bool) (us : List Qual) → list_any p (in_text_order us) ≡ list_any p us
 unfolding in_text_order
@@ -70,15 +57,6 @@ distinct-once (u ∷ us) seen apart = distinct-once us (with_use seen u) (by (ha
     by true e = apart
     by false e = IsDistinct-push same_qual_equiv seen u apart e
 
-all-put : {X : Type 0} (P : X → Type 0) (before : X → X → Bool) (x : X) (ys : List X) → P x → AllByRecursion P ys
-    → AllByRecursion P (put before x ys)
-all-put P before x [] here all = (here, tt)
-all-put P before x (y ∷ ys) here all = by (before y x) (all-put P before x ys here all.1)
-  where
-    by : (b : Bool) → AllByRecursion P (put before x ys) → AllByRecursion P (cond b (y ∷ put before x ys) (x ∷ y ∷ ys))
-    by true rest = (all.0, rest)
-    by false rest = (here, all)
-
 module _ {X Y : Type 0} (f : X → Y) where
   -- no two have one value
   abbrev Apart : List X → Type 0
@@ -90,17 +68,13 @@ module _ {X Y : Type 0} (f : X → Y) where
   put-apart before x (y ∷ ys) all apart = by (before y x) (put-apart before x ys all.1 apart.1)
     where
       by : (b : Bool) → Apart (put before x ys) → Apart (cond b (y ∷ put before x ys) (x ∷ y ∷ ys))
-      by true rest = (all-put (λ z. f y ≡ f z → ⊥) before x ys (λ e. all.0 (sym e)) apart.0, rest)
+      by true rest = (all-put before (λ z. f y ≡ f z → ⊥) x ys (λ e. all.0 (sym e)) apart.0, rest)
       by false rest = (all, apart)
-
-  all-sorted : (P : X → Type 0) (before : X → X → Bool) (xs : List X) → AllByRecursion P xs → AllByRecursion P (sorted_by before xs)
-  all-sorted P before [] all = tt
-  all-sorted P before (x ∷ xs) all = all-put P before x (sorted_by before xs) all.0 (all-sorted P before xs all.1)
 
   sorted-apart : (before : X → X → Bool) (xs : List X) → Apart xs → Apart (sorted_by before xs)
   sorted-apart before [] apart = tt
   sorted-apart before (x ∷ xs) apart = put-apart before x (sorted_by before xs)
-      (all-sorted (λ y. f x ≡ f y → ⊥) before xs apart.0) (sorted-apart before xs apart.1)
+      (all-sorted before (λ y. f x ≡ f y → ⊥) xs apart.0) (sorted-apart before xs apart.1)
 
 none-apart : (u : Qual) (us : List Qual) → AllByRecursion (λ v. same_qual u v ≡ false) us → AllByRecursion (λ v. u ≡ v → ⊥) us
 none-apart u [] all = tt
@@ -131,32 +105,8 @@ order-distinct us = distinct-from (sorted_by is_before_in_text (each_once us))
 
 -- ---- none comes before an earlier one
 
-module _ {X : Type 0} (before : X → X → Bool) (o : IsStrictWeakOrder before) where
-  -- none comes before this one
-  abbrev pub NoneBefore : X → List X → Type 0
-  NoneBefore x ys = AllByRecursion (λ y. before y x ≡ false) ys
-
-  abbrev pub InTurn : List X → Type 0
-  InTurn [] = Unit {0}
-  InTurn (x ∷ xs) = NoneBefore x xs × InTurn xs
-
-  none-lower : (x y : X) (ys : List X) → before y x ≡ false → NoneBefore y ys → NoneBefore x ys
-  none-lower x y [] e none = tt
-  none-lower x y (z ∷ zs) e none = (o.chain z y x none.0 e, none-lower x y zs e none.1)
-
-  put-in_turn : (x : X) (ys : List X) → InTurn ys → InTurn (put before x ys)
-  put-in_turn x [] turn = (tt, tt)
-  put-in_turn x (y ∷ ys) turn = by (before y x) refl (put-in_turn x ys turn.1)
-    where
-      by : (b : Bool) → before y x ≡ b → InTurn (put before x ys) → InTurn (cond b (y ∷ put before x ys) (x ∷ y ∷ ys))
-      by true e rest = (all-put (λ z. before z y ≡ false) before x ys (o.one_way y x e) turn.0, rest)
-      by false e rest = ((e, none-lower x y ys e turn.0), turn)
-
-  pub sorted-in_turn : (xs : List X) → InTurn (sorted_by before xs)
-  sorted-in_turn [] = tt
-  sorted-in_turn (x ∷ xs) = put-in_turn x (sorted_by before xs) (sorted-in_turn xs)
-
-  pairs-in_turn : (xs : List X) → InTurn xs → AllPairs (λ x y. before y x ≡ false) xs
+module _ {X : Type 0} (before : X → X → Bool) where
+  pairs-in_turn : (xs : List X) → Rises before xs → AllPairs (λ x y. before y x ≡ false) xs
   pairs-in_turn [] turn i j d later within = absurd (omega (arith, within))
   pairs-in_turn (x ∷ xs) turn zero zero d later within = absurd (omega (arith, later))
   pairs-in_turn (x ∷ xs) turn zero (suc j) d later within =
@@ -169,8 +119,7 @@ order-in_turn : (us : List Qual) → AllPairs (λ u v. is_before_in_text v u ≡
 unfolding in_text_order
 order-in_turn us =
     let order = ranks_by nat_list_cmp_total text_of_use in
-    pairs-in_turn is_before_in_text order (sorted_by is_before_in_text (each_once us))
-    (sorted-in_turn is_before_in_text order (each_once us))
+    pairs-in_turn is_before_in_text (sorted_by is_before_in_text (each_once us)) (sorted-rises is_before_in_text order (each_once us))
 
 -- ---- their texts rise
 
@@ -188,11 +137,11 @@ module _ {X : Type 0} (text : X → List ℕ) where
       by true rest = (all.0, rest)
       by false rest = (here, all)
 
-  put-rises : (x : X) (ys : List X) → AllByRecursion (λ y. text x ≡ text y → ⊥) ys → IsStrictlySortedBy byte_order (map text ys)
+  put-texts : (x : X) (ys : List X) → AllByRecursion (λ y. text x ≡ text y → ⊥) ys → IsStrictlySortedBy byte_order (map text ys)
       → IsStrictlySortedBy byte_order (map text (put earlier x ys))
   unfolding IsStrictlySortedBy
-  put-rises x [] apart rise = (tt, tt)
-  put-rises x (y ∷ ys) apart rise = by (byte_order (text y) (text x)) refl (put-rises x ys apart.1 rise.1)
+  put-texts x [] apart rise = (tt, tt)
+  put-texts x (y ∷ ys) apart rise = by (byte_order (text y) (text x)) refl (put-texts x ys apart.1 rise.1)
     where
       by : (o : Ordering) → byte_order (text y) (text x) ≡ o → IsStrictlySortedBy byte_order (map text (put earlier x ys))
           → IsStrictlySortedBy byte_order (map text (cond (is_lt o) (y ∷ put earlier x ys) (x ∷ y ∷ ys)))
@@ -202,11 +151,11 @@ module _ {X : Type 0} (text : X → List ℕ) where
           let before : byte_order (text x) (text y) ≡ Less = turned_order (text y) (text x) Greater e in
           ((before, before-all (text x) (text y) (map text ys) before rise.0), rise)
 
-  sorted-rises : (xs : List X) → Apart text xs → IsStrictlySortedBy byte_order (map text (sorted_by earlier xs))
+  sorted-texts : (xs : List X) → Apart text xs → IsStrictlySortedBy byte_order (map text (sorted_by earlier xs))
   unfolding IsStrictlySortedBy
-  sorted-rises [] apart = tt
-  sorted-rises (x ∷ xs) apart = put-rises x (sorted_by earlier xs)
-      (all-sorted text (λ y. text x ≡ text y → ⊥) earlier xs apart.0) (sorted-rises xs apart.1)
+  sorted-texts [] apart = tt
+  sorted-texts (x ∷ xs) apart = put-texts x (sorted_by earlier xs)
+      (all-sorted earlier (λ y. text x ≡ text y → ⊥) xs apart.0) (sorted-texts xs apart.1)
 
 -- each of some uses is among others
 abbrev AreAmong : List Qual → List Qual → Type 0
@@ -235,7 +184,7 @@ texts-apart us (u ∷ xs) tell among distinct =
 
 order-rises : (us : List Qual) → TextsTellApart us → IsStrictlySortedBy byte_order (map text_of_use (in_text_order us))
 unfolding in_text_order
-order-rises us tell = sorted-rises text_of_use (each_once us)
+order-rises us tell = sorted-texts text_of_use (each_once us)
     (texts-apart us (each_once us) tell (λ u h. sym (any-once (same_qual u) us []) ∙ h) (once-distinct us))
 
 -- ---- the uses in order

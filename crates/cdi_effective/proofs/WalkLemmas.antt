@@ -3,9 +3,10 @@ use Rattle.cdi_effective.proofs.Common.{◌≡◌, ◌<◌, ℕ, Bool, true, fal
 use Rattle.cdi_effective.proofs.Common.{Decl, suc, is_some, Option, Some, None, subst, inl, inr, arith, cases_Bool, false≢true, find_decl}
 use Rattle.cdi_effective.proofs.Common.{limit, BeanDecl, has, specialized, chain_behind, behind, ◌++◌, ArePlaces, IsPlace, replicate}
 use Rattle.cdi_effective.proofs.Common.{get_or-replicate, place_of, nat_eq, true≢false, slice_get_within, position-found, position-there}
-use Rattle.cdi_effective.proofs.Common.{place_of_next, set, length-replicate}
+use Rattle.cdi_effective.proofs.Common.{place_of_next, set, length-replicate, or_left}
 use Rattle.std.proofs.lemmas.Option.{slice_get-get_or}
 use Rattle.std.proofs.lemmas.List.{get_or-set_same, get_or-set_other, length-set}
+use Rattle.base_numbers.proofs.Numbers.{nat_eq-same}
 use Rattle.cdi_model.specs.declared.decl.Decl.TheVariants as decls
 use Rattle.cdi_model.specs.declared.decl.Kind.TheVariants as kinds
 use Rattle.cdi_effective.specs.Places.{next_at}
@@ -33,15 +34,8 @@ place-within ds class place at = by (find_decl kinds.Bean class ds) refl
     by None e = absurd (true≢false (sym (ap is_some at) ∙ position-found kinds.Bean class ds ∙ ap is_some e))
     by (Some d) e = slice_get_within ds place d (position-there kinds.Bean class ds place at ∙ e)
 
-same-nat : (m n : ℕ) → nat_eq m n ≡ true → m ≡ n
-same-nat m n e = grind arith
-
 other-nat : (m n : ℕ) → nat_eq m n ≡ false → m ≡ n → ⊥
 other-nat m n e same = grind arith
-
-or-true : (a b : Bool) → a ≡ true → (a || b) ≡ true
-or-true true b e = refl
-or-true false b e = absurd (false≢true e)
 
 or-other : (a b : Bool) → a ≡ false → (a || b) ≡ b
 or-other true b e = absurd (true≢false e)
@@ -54,9 +48,9 @@ told-more ds names met place bean within is told class at here =
     let apart : nat_eq at place ≡ bytes_eq bean.name class = apart-by-place ds class bean.name place at is.0 here in
     elim (cases_Bool (nat_eq at place)) [
       | inl e ↦
-          ap (λ k. get_or (set met place true) k false) (same-nat at place e)
+          ap (λ k. get_or (set met place true) k false) (nat_eq-same at place e)
           ∙ get_or-set_same met place true false within
-          ∙ sym (or-true (bytes_eq bean.name class) (has names class) (sym apart ∙ e))
+          ∙ sym (or_left (bytes_eq bean.name class) (has names class) (sym apart ∙ e))
       | inr e ↦
           get_or-set_other met place at true false (other-nat at place e)
           ∙ told class at here

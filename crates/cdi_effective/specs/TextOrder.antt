@@ -8,7 +8,7 @@ use Rattle.cdi_model.specs.Bytes.{byte_order, opening}
 use Rattle.cdi_model.specs.SameUse.{same_qual}
 use Rattle.cdi_model.specs.UseText.{text_of_use}
 use Rattle.cdi_model.specs.declared.quals.Qual.{Qual}
-use Rattle.cdi_effective.specs.Sorting.{sorted_by}
+use Rattle.base_lists.specs.Sorting.{sorted_by}
 use Rattle.cdi_effective.specs.declared.written.Written.{Written}
 
 -- the use is among these

@@ -2,7 +2,7 @@
 ghost use Rattle.std.specs.Prelude.{◌≡◌, IfOk};
 ghost use Rattle.cdi_match.specs.Bindings.{uses_in};
 ghost use Rattle.std.specs.Option.{option_copied};
-ghost use Rattle.cdi_effective.specs.Sorting.{sorted_by};
+ghost use Rattle.base_lists.specs.Sorting.{sorted_by};
 ghost use Rattle.cdi_effective.specs.TextOrder.{each_once, has_use, in_text_order, is_above_bracket, is_before_in_name};
 ghost use Rattle.cdi_effective.specs.TextOrder.{is_before_in_text, tell_order, tells_order, written_in};
 

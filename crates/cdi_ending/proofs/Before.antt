@@ -12,6 +12,7 @@ use Rattle.cdi_scene.specs.declared.scene.Managed.{Managed}
 use Rattle.cdi_scene.specs.declared.scene.Part.{Part}
 use Rattle.cdi_scene.specs.declared.scene.Scene.{Scene}
 use Rattle.cdi_legal.specs.Ends.{seat_on}
+use Rattle.cdi_legal.proofs.Course.{invoked}
 use Rattle.cdi_ending.specs.Back.{IsBack, ActsBefore}
 use Rattle.cdi_ending.specs.Staged.{Staged}
 
@@ -20,16 +21,13 @@ both true true e = (refl, refl)
 both true false e = cc
 both false b e = cc
 
-pre_place : (s : Scene) (b : ℕ) (x : Managed) → managed_at s b ≡ Some x → invocable_at s b Pre ≡ Some x.pre
-pre_place s b x h = ap (λ (o : Option Managed). elim o [ Some y ↦ place_of y Pre | None ↦ None ]) h
-
 pub link_is_sound : (book : Bodies) (s : Scene) (i : InstanceId) (x : Managed) (k q : ℕ) → IsSound book s
     → managed_at s i.bean ≡ Some x → slice_get x.pre.chain k ≡ Some q → IsSoundAt book s (seat_on i (Interceptor q) Pre)
-link_is_sound book s i x k q h m e = (h.invocables i.bean Pre x.pre (pre_place s i.bean x m)).links k q i.number e
+link_is_sound book s i x k q h m e = (h.invocables i.bean Pre x.pre (invoked s i.bean x m)).links k q i.number e
 
 pub target_is_sound : (book : Bodies) (s : Scene) (i : InstanceId) (x : Managed) (part : Part) → IsSound book s
     → managed_at s i.bean ≡ Some x → x.pre.part ≡ Some part → IsSoundAt book s (seat_on i Target Pre)
-target_is_sound book s i x part h m e = (h.invocables i.bean Pre x.pre (pre_place s i.bean x m)).target part i.number e
+target_is_sound book s i x part h m e = (h.invocables i.bean Pre x.pre (invoked s i.bean x m)).target part i.number e
 
 -- a body runs at a sound seat
 pub runs_there : (book : Bodies) (s : Scene) (seat : Seat) → IsSoundAt book s seat → part_at s seat ≡ None → ⊥

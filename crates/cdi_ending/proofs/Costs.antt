@@ -2,6 +2,7 @@
 use Rattle.std.proofs.Common.{◌≡◌, ℕ, ◌+◌, ◌≤◌, Bool, true, false, not, ◌==◌, List, [], ◌∷◌, Some}
 use Rattle.std.proofs.Common.{refl, arith, map, if◌then◌else◌, nat_le, subst}
 use Rattle.std.specs.List.{AllByRecursion}
+use Rattle.base_numbers.proofs.Numbers.{==-refl}
 use Rattle.cdi_model.specs.declared.outcome.Val.{Val}
 use Rattle.cdi_contexts.proofs.Last.{last_of_all}
 use Rattle.cdi_contexts.specs.Standing.{without, keep, last_where}
@@ -109,12 +110,9 @@ costs_later : (s : Scene) (i : Instance) (live is : List Instance) → AllByRecu
 costs_later s i live [] a = tt
 costs_later s i live (j ∷ js) a = (omega (arith, a.0), costs_later s i live js a.1)
 
-itself : (n : ℕ) → (n == n) ≡ true
-itself n = grind arith
-
 all_counted : (s : Scene) (live : List Instance) → AllByRecursion (Costs s live) live
 all_counted s [] = tt
-all_counted s (i ∷ is) = (rw (itself i.id.number) (omega arith), costs_later s i is is (all_counted s is))
+all_counted s (i ∷ is) = (rw (==-refl i.id.number) (omega arith), costs_later s i is is (all_counted s is))
 
 pub last_counted : (s : Scene) (f : Owner → Bool) (live : List Instance) (d : InstanceId) → last_where f live ≡ Some d
     → IsCounted s d live

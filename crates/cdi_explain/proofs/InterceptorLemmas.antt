@@ -2,8 +2,9 @@
 use Rattle.std.proofs.Common.{◌≡◌, ℕ, Bool, true, false, not, ◌&&◌, List, [], ◌∷◌, filter, length, nat_eq, is_none, is_some, Option, Some, None}
 use Rattle.std.proofs.Common.{refl, sym, ap, ◌∙◌}
 use Rattle.std.specs.List.{list_all, AllByRecursion}
+use Rattle.base_lists.proofs.Filters.{filter-alike}
+use Rattle.base_lists.proofs.Sorting.{all-sorted}
 use Rattle.cdi_model.specs.declared.decl.InterceptorDecl.{InterceptorDecl}
-use Rattle.cdi_effective.proofs.SortLemmas.{all_sorted}
 use Rattle.cdi_intercept.specs.Chains.{chain_by, covered_in, in_order, interceptors, is_before, is_enabled, part_for, surrounds}
 use Rattle.cdi_explain.specs.Interceptors.{interceptor_verdict, is_called, uncovered, CalledAreTheChain, CalledSurround}
 use Rattle.cdi_explain.proofs.VerdictLemmas.{lacking_all}
@@ -30,14 +31,6 @@ called_surround ds set place i =
 
 -- ---- those in order
 
-filter_where : {X : Type 0} (f g : X → Bool) (xs : List X) → AllByRecursion (λ x. f x ≡ g x) xs → filter f xs ≡ filter g xs
-filter_where f g [] all = refl
-filter_where f g (x ∷ xs) all = by (g x) refl (filter_where f g xs all.1)
-  where
-    by : (b : Bool) → g x ≡ b → filter f xs ≡ filter g xs → filter f (x ∷ xs) ≡ filter g (x ∷ xs)
-    by true e rest = rw (all.0, e) (ap (λ l. x ∷ l) rest)
-    by false e rest = rw (all.0, e) rest
-
 all_kept : {X : Type 0} (p : X → Bool) (P : X → Type 0) → ((x : X) → p x ≡ true → P x) → (xs : List X) → AllByRecursion P (filter p xs)
 all_kept p P here [] = tt
 all_kept p P here (x ∷ xs) = by (p x) refl (all_kept p P here xs)
@@ -49,8 +42,8 @@ all_kept p P here (x ∷ xs) = by (p x) refl (all_kept p P here xs)
 pub called_are_the_chain : CalledAreTheChain
 unfolding in_order chain_by
 called_are_the_chain ds set place =
-    filter_where called (surrounds ds set place) (in_order ds)
-    (all_sorted alike is_before (filter is_enabled (interceptors ds)) (all_kept is_enabled alike enabled (interceptors ds)))
+    filter-alike called (surrounds ds set place) (in_order ds)
+    (all-sorted is_before alike (filter is_enabled (interceptors ds)) (all_kept is_enabled alike enabled (interceptors ds)))
   where
     called : InterceptorDecl → Bool
     called i = is_called (interceptor_verdict ds set place i)

@@ -1,12 +1,13 @@
 -- Where the bean of a name is wanted, those that are chosen or tied are those of the answer.
 use Rattle.std.proofs.Common.{◌≡◌, ℕ, ◌==◌, Bool, true, false, ◌&&◌, List, filter, length, map, refl, sym, ap, ◌∙◌}
 use Rattle.std.proofs.lemmas.List.Elements.{filter_agree}
+use Rattle.base_lists.proofs.Filters.{filter-both}
 use Rattle.cdi_effective.specs.declared.records.Effective.{Effective}
 use Rattle.cdi_resolve.specs.Choices.{candidate, chosen_by_name, ids, is_named, named, Candidate}
 use Rattle.cdi_explain.specs.declared.rivals.Rivals.{Rivals}
 use Rattle.cdi_explain.specs.Names.{has_name, name_verdict, name_verdict_by, name_verdict_if, TakenAreTheNamed}
 use Rattle.cdi_explain.specs.Verdicts.{among_by, is_kept, is_taken, kept, rivals_of, verdict_among}
-use Rattle.cdi_explain.proofs.VerdictLemmas.{among_same, choice_ids, filter_both, left_out, map_filter, map_map, map_same, taken_kept}
+use Rattle.cdi_explain.proofs.VerdictLemmas.{among_same, choice_ids, left_out, map_filter, map_map, map_same, taken_kept}
 
 taken_here : (beans : List Effective) (n : List ℕ) (bean : Effective)
     → is_taken (name_verdict beans n bean) ≡ (has_name n bean && is_kept (map candidate (named beans n)) (candidate bean))
@@ -31,7 +32,7 @@ taken_are_the_named beans n =
     ap (map (λ (b : Effective). b.id))
     (filter_agree (λ (b : Effective). is_taken (name_verdict beans n b)) (λ (b : Effective). has_name n b && is_kept cs (candidate b))
     (taken_here beans n) beans
-    ∙ filter_both (has_name n) (λ (b : Effective). is_kept cs (candidate b)) beans)
+    ∙ filter-both (has_name n) (λ (b : Effective). is_kept cs (candidate b)) beans)
     ∙ map_map candidate (λ (c : Candidate). c.id) (filter (λ (b : Effective). is_kept cs (candidate b)) some)
     ∙ ap ids (map_filter candidate (is_kept cs) some)
     ∙ sym (choice_ids cs)

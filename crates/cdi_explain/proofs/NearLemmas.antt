@@ -4,8 +4,8 @@ use Rattle.std.proofs.Common.{if◌then◌else◌, refl, ap, ◌∙◌, arith}
 use Rattle.std.specs.List.{AllByRecursion}
 use Rattle.std.specs.Str.{bytes_eq}
 use Rattle.std.proofs.lemmas.List.Elements.{All-from_recursion}
+use Rattle.base_numbers.proofs.Texts.{same_text}
 use Rattle.cdi_match.specs.Chain.{has}
-use Rattle.cdi_match.proofs.Names.{same_text}
 use Rattle.cdi_explain.specs.declared.near.Near.{Near}
 use Rattle.cdi_explain.specs.Near.{distance, is_near, is_nearer, nearer, nearest, IsFound, NearestIsNear}
 

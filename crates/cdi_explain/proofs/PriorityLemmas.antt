@@ -8,6 +8,7 @@ use Rattle.std.specs.Option.{option_cmp}
 use Rattle.std.specs.Ordering.{int_cmp, is_lt, ordering_reverse}
 use Rattle.std.proofs.lemmas.Bool.{false≢true}
 use Rattle.std.proofs.lemmas.Cmp.{int_cmp_total, tied_itself}
+use Rattle.base_options.proofs.Booleans.{Less-from_is_lt}
 use Rattle.cdi_resolve.specs.Choices.{is_less, Candidate}
 use Rattle.cdi_explain.specs.Verdicts.{greater, is_kept_among, is_kept_by, raise, top}
 
@@ -30,13 +31,8 @@ less (Some p) (Some q) = by (int_lt p q) (int_lt q p)
     by false true = refl
     by false false = refl
 
-is_less_than : (o : Ordering) → is_lt o ≡ true → o ≡ Less
-is_less_than Less e = refl
-is_less_than Equal e = absurd (false≢true e)
-is_less_than Greater e = absurd (false≢true e)
-
 below : (p q : Option ℤ) → is_less p q ≡ true → compare p q ≡ Less
-below p q h = is_less_than (compare p q) (less p q ∙ h)
+below p q h = Less-from_is_lt (compare p q) (less p q ∙ h)
 
 -- none is below itself
 pub not_itself : (p : Option ℤ) → is_less p p ≡ false

@@ -3,9 +3,10 @@ use Rattle.std.proofs.Common.{◌≡◌, ℕ, ◌==◌, Bool, true, false, not, 
 use Rattle.std.proofs.Common.{if◌then◌else◌, refl, sym, ap, ◌∙◌}
 use Rattle.std.specs.List.{list_all}
 use Rattle.std.proofs.lemmas.List.Elements.{filter_agree}
+use Rattle.base_lists.proofs.Filters.{filter-both, filter-each}
+use Rattle.base_lists.proofs.Places.{position-cons}
 use Rattle.cdi_model.specs.declared.decl.Decl.{Decl}
 use Rattle.cdi_model.specs.declared.quals.Qual.{Qual}
-use Rattle.cdi_model.proofs.PositionLemmas.{position-cons}
 use Rattle.cdi_match.specs.Chain.{has}
 use Rattle.cdi_effective.specs.Qualifiers.{cover_all, required, some_covers}
 use Rattle.cdi_effective.specs.declared.records.Effective.{Effective}
@@ -31,19 +32,6 @@ among_same cs c =
 
 -- ---- lists
 
-pub filter_both : {X : Type 0} (f g : X → Bool) (xs : List X) → filter (λ x. f x && g x) xs ≡ filter g (filter f xs)
-filter_both f g [] = refl
-filter_both f g (x ∷ xs) = by (f x) refl (filter_both f g xs)
-  where
-    by : (b : Bool) → f x ≡ b → filter (λ x. f x && g x) xs ≡ filter g (filter f xs)
-        → filter (λ x. f x && g x) (x ∷ xs) ≡ filter g (filter f (x ∷ xs))
-    by true e rest = by_second (g x) refl
-      where
-        by_second : (c : Bool) → g x ≡ c → filter (λ x. f x && g x) (x ∷ xs) ≡ filter g (filter f (x ∷ xs))
-        by_second true k = rw (e, k) (ap (λ l. x ∷ l) rest)
-        by_second false k = rw (e, k) rest
-    by false e rest = rw e rest
-
 pub map_filter : {X Y : Type 0} (f : X → Y) (g : Y → Bool) (xs : List X) → map f (filter (λ x. g (f x)) xs) ≡ filter g (map f xs)
 map_filter f g [] = refl
 map_filter f g (x ∷ xs) = by (g (f x)) refl (map_filter f g xs)
@@ -61,10 +49,6 @@ pub map_map : {X Y Z : Type 0} (f : X → Y) (g : Y → Z) (xs : List X) → map
 map_map f g [] = refl
 map_map f g (x ∷ xs) = ap (λ l. g (f x) ∷ l) (map_map f g xs)
 
-all_kept : {X : Type 0} (xs : List X) → filter (λ x. true) xs ≡ xs
-all_kept [] = refl
-all_kept (x ∷ xs) = ap (λ l. x ∷ l) (all_kept xs)
-
 -- ---- the choice
 
 only_ids : (cs : List Candidate) → ids_in (only cs) ≡ ids cs
@@ -81,11 +65,11 @@ only_kept c = by c.is_alternative refl
     by false e = rw e refl
 
 among_ids : (cs : List Candidate) (some : List Candidate) → alternatives cs ≡ some → ids_in (among cs some) ≡ ids (filter (is_kept_among some) cs)
-among_ids cs [] e = ap ids (sym (all_kept cs))
+among_ids cs [] e = ap ids (sym (filter-each cs))
 among_ids cs (a ∷ more) e =
     only_ids (greatest (a ∷ more))
     ∙ ap (λ some. ids (filter (is_greatest (a ∷ more)) some)) (sym e)
-    ∙ ap ids (sym (filter_both (λ (c : Candidate). c.is_alternative) (is_greatest (a ∷ more)) cs))
+    ∙ ap ids (sym (filter-both (λ (c : Candidate). c.is_alternative) (is_greatest (a ∷ more)) cs))
 
 pub choice_ids : (cs : List Candidate) → ids_in (choice_of cs) ≡ ids (kept cs)
 unfolding choice_of
@@ -144,7 +128,7 @@ taken_are_the_answer ds beans t quals =
     ap (map (λ (b : Effective). b.id))
     (filter_agree (λ (b : Effective). is_taken (verdict ds beans t quals b)) (λ (b : Effective). is_eligible ds t quals b && is_kept cs (candidate b))
     (taken_here ds beans t quals) beans
-    ∙ filter_both (is_eligible ds t quals) (λ (b : Effective). is_kept cs (candidate b)) beans)
+    ∙ filter-both (is_eligible ds t quals) (λ (b : Effective). is_kept cs (candidate b)) beans)
     ∙ map_map candidate (λ (c : Candidate). c.id) (filter (λ (b : Effective). is_kept cs (candidate b)) some)
     ∙ ap ids (map_filter candidate (is_kept cs) some)
     ∙ sym (choice_ids cs)

@@ -8,6 +8,7 @@ use Rattle.std.proofs.Common.{⊎_elim, arith, rules}
 use Rattle.std.proofs.lemmas.Bool.{false≢true, and_parts, or_cases}
 use Rattle.std.proofs.lemmas.List.Elements.{Contains-append_right}
 use denote.Enum.Bare.{same_true}
+use Rattle.base_options.proofs.Booleans.{Less-from_is_lt}
 use Rattle.cdi_faults.specs.contracts.fault.Code.{the_type}
 use Rattle.cdi_faults.specs.contracts.fault.CodeOrd.TheImpl.Laws.{total-law}
 use Rattle.cdi_faults.specs.contracts.fault.CodePartialEq.TheImpl as sameness
@@ -23,16 +24,11 @@ abbrev does_rise : {X : Type 0} → (X → X → Ordering) → List X → Bool
 does_rise order [] = true
 does_rise order (x ∷ xs) = is_before order x xs && does_rise order xs
 
-less : (o : Ordering) → is_lt o ≡ true → o ≡ Less
-less Less is = refl
-less Equal is = absurd (false≢true is)
-less Greater is = absurd (false≢true is)
-
 before : {X : Type 0} (order : X → X → Ordering) (x : X) (ys : List X) → is_before order x ys ≡ true
     → AllByRecursion (λ y. order x y ≡ Less) ys
 before order x [] is = tt
 before order x (y ∷ ys) is =
-    let both = and_parts (is_lt (order x y)) (is_before order x ys) is in (less (order x y) both.0, before order x ys both.1)
+    let both = and_parts (is_lt (order x y)) (is_before order x ys) is in (Less-from_is_lt (order x y) both.0, before order x ys both.1)
 
 rises : {X : Type 0} (order : X → X → Ordering) (xs : List X) → does_rise order xs ≡ true → IsStrictlySortedBy order xs
 unfolding IsStrictlySortedBy

@@ -9,10 +9,10 @@ use Rattle.std.specs.Map.{keys_of}
 use Rattle.std.specs.Str.{bytes_eq}
 use Rattle.std.proofs.Math.Bool.{or-false, or_assoc, or_comm}
 use Rattle.std.proofs.lemmas.Bool.{false≢true, or_left}
+use Rattle.base_numbers.proofs.Texts.{same_text}
 use Rattle.cdi_model.proofs.QualLemmas.{same_name}
 use Rattle.cdi_match.specs.Chain.{has}
 use Rattle.cdi_match.specs.Order.{in_order}
-use Rattle.cdi_match.proofs.Names.{same_text}
 use Rattle.cdi_match.proofs.OrderLemmas.{has-insert, in_order-rises}
 use Rattle.cdi_faults.specs.declared.fault.Subject.{Subject}
 use Rattle.cdi_model.specs.Bytes.{byte_order}
@@ -55,9 +55,8 @@ keys-put m (e ∷ es) = by (byte_order (text_of_subject m) e.0) refl (keys-put m
     by : (o : Ordering) → byte_order (text_of_subject m) e.0 ≡ o
         → keys_of (put es m) ≡ insert_key byte_order (keys_of es) (text_of_subject m)
         → keys_of (put (e ∷ es) m) ≡ insert_key byte_order (keys_of (e ∷ es)) (text_of_subject m)
-    by Less is rest = rw is refl
-    by Equal is rest = rw is refl
     by Greater is rest = rw is (ap (λ ks. e.0 ∷ ks) rest)
+    by other is rest = rw is refl
 
 -- they are names in order
 all-rise : (ms : List Subject) (es : Entries) (names : List (List ℕ)) → keys_of es ≡ in_order names

@@ -13,28 +13,12 @@ use Rattle.cdi_faults.specs.FaultText.{text_of_subject, behind_space}
 
 behind_space_of_place : (place : PartPlace) → behind_space (text_of_part_place place) ≡ space ∷ text_of_part_place place
 behind_space_of_place places.Construct = refl
-behind_space_of_place places.Post = refl
-behind_space_of_place places.Pre = refl
-behind_space_of_place (places.Method name) = refl
-behind_space_of_place (places.Producer name) = refl
-behind_space_of_place (places.StaticProducer name) = refl
-behind_space_of_place (places.Disposer name) = refl
-behind_space_of_place (places.Observer name) = refl
-behind_space_of_place places.AroundInvoke = refl
-behind_space_of_place places.AroundConstruct = refl
+behind_space_of_place other = refl
 
 behind_space_of_call : (place : PartPlace) (point method : List ℕ)
     → behind_space (text_of_subject (subjects.Call place point method)) ≡ space ∷ text_of_subject (subjects.Call place point method)
 behind_space_of_call places.Construct point method = refl
-behind_space_of_call places.Post point method = refl
-behind_space_of_call places.Pre point method = refl
-behind_space_of_call (places.Method name) point method = refl
-behind_space_of_call (places.Producer name) point method = refl
-behind_space_of_call (places.StaticProducer name) point method = refl
-behind_space_of_call (places.Disposer name) point method = refl
-behind_space_of_call (places.Observer name) point method = refl
-behind_space_of_call places.AroundInvoke point method = refl
-behind_space_of_call places.AroundConstruct point method = refl
+behind_space_of_call other point method = refl
 
 -- what is not the declaration as a whole has a text
 pub behind_space_of : (m : Subject) → m ≢ subjects.Whole → behind_space (text_of_subject m) ≡ space ∷ text_of_subject m

@@ -24,9 +24,8 @@ shown-insert k m (e ∷ es) = by (text_order k e.0) refl (shown-insert k m es)
   where
     by : (o : Ordering) → text_order k e.0 ≡ o → shown (insert_entry text_order es k m) ≡ insert_entry byte_order (shown es) k.items m
         → shown (insert_entry text_order (e ∷ es) k m) ≡ insert_entry byte_order (shown (e ∷ es)) k.items m
-    by Less is rest = rw is refl
-    by Equal is rest = rw is refl
     by Greater is rest = rw is (ap (λ fs. (e.0.items, e.1) ∷ fs) rest)
+    by other is rest = rw is refl
 
 subjects-shown : (es : List (Text × Subject)) → map (λ e. e.1) (shown es) ≡ map (λ e. e.1) es
 subjects-shown [] = refl

@@ -73,13 +73,11 @@ beans_among fs beans wires names =
 chosen-first : (p : PointId) (c : Choice) (ys : List Edge)
     → filter is_choice (chosen_for p c ++ ys) ≡ chosen_for p c ++ filter is_choice ys
 chosen-first p (choices.One bean) ys = refl
-chosen-first p choices.Unsatisfied ys = refl
-chosen-first p (choices.Ambiguous beans) ys = refl
+chosen-first p other ys = refl
 
 owned-first : (p : PointId) (c : Choice) (ys : List Edge) → filter is_owned (chosen_for p c ++ ys) ≡ filter is_owned ys
 owned-first p (choices.One bean) ys = refl
-owned-first p choices.Unsatisfied ys = refl
-owned-first p (choices.Ambiguous beans) ys = refl
+owned-first p other ys = refl
 
 chosen-all : (wires : List Wire) → filter is_choice (flat_map chosen wires) ≡ flat_map chosen wires
 chosen-all [] = refl

@@ -1,4 +1,6 @@
 -- Which declarations edits affect, and that what is made of the others stays.
+use Rattle.base_lists.proofs.Any.{any-same, any-or}
+use Rattle.base_options.proofs.Booleans.{and-false}
 use Rattle.cdi_index.proofs.Common.{◌≡◌, ℕ, Bool, true, false, ◌&&◌, ◌||◌, List, [], ◌∷◌, map, Option, Some, None, option_map, refl, sym}
 use Rattle.cdi_index.proofs.Common.{ap, ◌∙◌, list_any, or_parts, BeanDecl, BindingDecl, Decl, Kind, Edit, DeclKey, key_at, same_key}
 use Rattle.cdi_index.proofs.Common.{find_decl, edited_all, edited_keys, is_among, edits_keep_decl, key_exact, Qual, name_of_use}
@@ -15,22 +17,18 @@ use Rattle.cdi_model.specs.declared.decl.Decl.TheVariants as decls
 use Rattle.cdi_effective.proofs.RecordLemmas.{edits_keep_own_records}
 use Rattle.cdi_index.specs.declared.making.Given.TheVariants as given
 use Rattle.cdi_index.specs.Made.{reads_in, words_of}
-use Rattle.cdi_index.proofs.ChangeLemmas.{any-either, any-same, none-of}
+use Rattle.cdi_index.proofs.ChangeLemmas.{none-of}
 
 -- an edit of a key affects a declaration
 abbrev pub hits : List Decl → DeclKey → DeclKey → Bool
 hits ds k key = (is_kept key.kind && same_key key k) || reads (made_of ds k) key
-
-off : (x : Bool) → (x && false) ≡ false
-off true = refl
-off false = refl
 
 kept_same : (key k : DeclKey) → (is_kept key.kind && same_key key k) ≡ (is_kept k.kind && same_key key k)
 kept_same key k = by (same_key key k) refl
   where
     by : (b : Bool) → same_key key k ≡ b → (is_kept key.kind && b) ≡ (is_kept k.kind && b)
     by true e = ap (λ (x : DeclKey). is_kept x.kind && true) (key_exact key k e)
-    by false e = off (is_kept key.kind) ∙ sym (off (is_kept k.kind))
+    by false e = and-false (is_kept key.kind) ∙ sym (and-false (is_kept k.kind))
 
 any-and : (b : Bool) (p : DeclKey → Bool) (keys : List DeclKey) → list_any (λ x. b && p x) keys ≡ (b && list_any p keys)
 any-and true p keys = refl
@@ -41,7 +39,7 @@ any-and false p (x ∷ keys) = any-and false p keys
 pub hit-parts : (ds : List Decl) (keys : List DeclKey) (k : DeclKey) → list_any (hits ds k) keys
     ≡ ((is_kept k.kind && is_among keys k) || list_any (reads (made_of ds k)) keys)
 hit-parts ds keys k =
-    any-either (λ key. is_kept key.kind && same_key key k) (reads (made_of ds k)) keys
+    any-or (λ key. is_kept key.kind && same_key key k) (reads (made_of ds k)) keys
     ∙ ap (λ b. b || list_any (reads (made_of ds k)) keys)
     (any-same (λ key. is_kept key.kind && same_key key k) (λ key. is_kept k.kind && same_key key k) keys (λ key. kept_same key k)
     ∙ any-and (is_kept k.kind) (λ key. same_key key k) keys)

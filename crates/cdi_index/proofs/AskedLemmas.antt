@@ -4,10 +4,11 @@ use Rattle.cdi_index.proofs.Common.{ap, ◌∙◌, list_any, Decl, DeclKey, key_
 use Rattle.cdi_index.proofs.Common.{made_of_interceptor, not, ◌++◌, flat_map, option_map_or, option_to_list, bytes_eq, and_from, and_parts}
 use Rattle.cdi_index.proofs.Common.{false≢true, or_cases, or_left, or_right, list_any-append, inl, inr, key_of, kind_of, name_of_decl}
 use Rattle.cdi_index.proofs.Common.{AreDistinct, mentions, Mention, BodyOf, CallOf, EventOf, MethodOf, PointOf, StereotypeOf, TypeIn, UseOf}
-use Rattle.cdi_index.proofs.Common.{bytes_eq-turned, required, Word, Listing, under, same_word, word_at, asks_for, asks_in, is_asked}
+use Rattle.cdi_index.proofs.Common.{required, Word, Listing, under, same_word, word_at, asks_for, asks_in, is_asked, bytes_eq-turned}
 use Rattle.cdi_index.proofs.Common.{is_asker_at, Asked, Kept, Shelf, kept_at, stored, IsExact, IsShelf, IsSound, words_have, words_named}
 use Rattle.cdi_index.proofs.Common.{words_named_in, words_of_observer, words_of_record, words_of_uses, words_by}
 use Rattle.std.specs.Cmp.Lexicographic.{pointwise}
+use Rattle.base_options.proofs.Booleans.{same-bool}
 use Rattle.cdi_model.specs.declared.decl.Decl.TheVariants as decls
 use Rattle.cdi_model.specs.declared.decl.Kind.TheVariants as kinds
 use Rattle.cdi_model.specs.declared.decl.TypeDecl.{TypeDecl}
@@ -23,7 +24,7 @@ use Rattle.cdi_index.specs.declared.asked.Question.{Question}
 use Rattle.cdi_index.specs.declared.asked.Question.TheVariants as questions
 use Rattle.cdi_index.proofs.CountLemmas.{keys-distinct}
 use Rattle.cdi_index.proofs.NamedLemmas.{among-named}
-use Rattle.cdi_index.proofs.NextLemmas.{any-elim, same-bool}
+use Rattle.cdi_index.proofs.NextLemmas.{any-elim}
 use Rattle.cdi_index.proofs.ReplacedLemmas.{any-at, passing}
 use Rattle.cdi_index.proofs.UnderLemmas.{key-found, listed-at}
 
@@ -52,12 +53,7 @@ module _ (q : Question) (t : List ℕ) (us : List Qual) where
           or_left (bytes_eq e.event_type t) (words_have (words_of_uses e.qualifiers) (word_at reasons.Fires t))
           (bytes_eq-turned e.event_type t ∙ parts.0)
       by questions.Event (PointOf place point) h = absurd (false≢true h)
-      by questions.Event (TypeIn place x) h = absurd (false≢true h)
-      by questions.Event (UseOf kind u) h = absurd (false≢true h)
-      by questions.Event (StereotypeOf s) h = absurd (false≢true h)
-      by questions.Event (MethodOf m) h = absurd (false≢true h)
-      by questions.Event (BodyOf place body) h = absurd (false≢true h)
-      by questions.Event (CallOf place params call) h = absurd (false≢true h)
+      by questions.Event other h = absurd (false≢true h)
 
   asked-among : (ms : List Mention) → list_any (asks_in q t us) ms ≡ true → words_have (flat_map words_named_in ms) word ≡ true
   asked-among [] h = absurd (false≢true h)
@@ -178,10 +174,7 @@ module _ (q : Question) (t : List ℕ) (us : List Qual) where
             (key_at kinds.Interceptor i.name) (made_of_interceptor (decls.Interceptor i)) (is_asker_at ds asked apart shelf)
             (ap (option_map made_of_interceptor) there) has
             (λ s e kept key made. slot (decls.Interceptor i) there free asking s e kept key)
-        by (decls.Type d) there free asking has = absurd (false≢true has)
-        by (decls.Qualifier d) there free asking has = absurd (false≢true has)
-        by (decls.Binding d) there free asking has = absurd (false≢true has)
-        by (decls.Stereotype d) there free asking has = absurd (false≢true has)
+        by other there free asking has = absurd (false≢true has)
 
     pub askers-are : list_any (is_asker_at ds asked apart shelf) (under listings word) ≡ is_asked ds q t us apart
     askers-are = same-bool (list_any (is_asker_at ds asked apart shelf) (under listings word)) (is_asked ds q t us apart) only back

@@ -4,6 +4,7 @@ use Rattle.cdi_index.proofs.Common.{ap, ◌∙◌, list_any, Decl, Kind, DeclKey
 use Rattle.cdi_index.proofs.Common.{or_left, or_right, suc, ◌+◌, cond, length, filter, is_some, slice_get, same_key_equiv, Change}
 use Rattle.cdi_index.proofs.Common.{is_of_kind, Stored, made_in, applied, change_of, is_made, stored_as}
 use Rattle.std.proofs.Math.Nat.{add-zero, add-suc, suc-add}
+use Rattle.base_lists.proofs.Any.{any-same}
 
 abbrev pub StoredBy : Type 0
 StoredBy = DeclKey → Option Stored
@@ -110,10 +111,6 @@ count-made kind es (k ∷ ks) = by (is_of_kind kind k && is_some (made_of es k))
 
 -- ---- keys among others
 
-pub any-same : {X : Type 0} (p q : X → Bool) (xs : List X) → ((x : X) → p x ≡ q x) → list_any p xs ≡ list_any q xs
-any-same p q [] h = refl
-any-same p q (x ∷ xs) h = λ i. h x i || any-same p q xs h i
-
 pub among-turned : (ks : List DeclKey) (k : DeclKey) → list_any (same_key k) ks ≡ is_among ks k
 among-turned ks k = any-same (same_key k) (λ l. same_key l k) ks (λ l. same_key_equiv.symm k l)
 
@@ -137,13 +134,3 @@ any-of p (l ∷ keys) key passes among = by (same_key l key) refl (any-of p keys
     by : (b : Bool) → same_key l key ≡ b → (is_among keys key ≡ true → list_any p keys ≡ true) → list_any p (l ∷ keys) ≡ true
     by true e more = or_left (p l) (list_any p keys) (ap p (key_exact l key e) ∙ passes)
     by false e more = or_right (p l) (list_any p keys) (more (sym (ap (λ x. x || is_among keys key) e) ∙ among))
-
-pub any-either : {X : Type 0} (p q : X → Bool) (xs : List X) → list_any (λ x. p x || q x) xs ≡ (list_any p xs || list_any q xs)
-any-either p q [] = refl
-any-either p q (x ∷ xs) = ap (λ b. (p x || q x) || b) (any-either p q xs) ∙ turned (p x) (q x) (list_any p xs) (list_any q xs)
-  where
-    turned : (a b c d : Bool) → ((a || b) || (c || d)) ≡ ((a || c) || (b || d))
-    turned true b c d = refl
-    turned false true true d = refl
-    turned false true false d = refl
-    turned false false c d = refl

@@ -14,6 +14,7 @@ pub use Rattle.std.specs.Map.{lookup}
 pub use Rattle.std.specs.Option.{option_map_or, option_to_list, option_copied}
 pub use Rattle.std.specs.Result.{OnOk}
 pub use Rattle.std.specs.Str.{bytes_eq}
+pub use Rattle.base_numbers.proofs.Texts.{bytes_eq-turned}
 pub use Rattle.cdi_positions.specs.Marks.{is_marked, marked_from}
 pub use Rattle.cdi_model.proofs.EditLemmas.{edits_keep_decl}
 pub use Rattle.cdi_model.proofs.EntryLemmas.{key_exact}
@@ -32,7 +33,6 @@ pub use Rattle.cdi_model.specs.declared.decl.Kind.{Kind}
 pub use Rattle.cdi_model.specs.declared.edit.Edit.{Edit}
 pub use Rattle.cdi_model.specs.declared.key.DeclKey.{DeclKey}
 pub use Rattle.cdi_model.specs.declared.quals.Qual.{Qual}
-pub use Rattle.cdi_match.proofs.Names.{bytes_eq-turned}
 pub use Rattle.cdi_match.specs.Chain.{has}
 pub use Rattle.cdi_match.specs.Filling.{find_binding}
 pub use Rattle.cdi_match.specs.Locality.{type_reads}

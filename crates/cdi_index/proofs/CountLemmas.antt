@@ -9,16 +9,13 @@ use Rattle.std.specs.Bool.{Decides}
 use Rattle.std.specs.List.{AllPairs}
 use Rattle.std.proofs.lemmas.List.{get_or-map}
 use Rattle.std.proofs.lemmas.Map.Made.{is_member-filter, length-from_same_keys, IsDistinct-from_AllPairs}
+use Rattle.base_options.proofs.Booleans.{and-false}
 use Rattle.cdi_model.specs.declared.decl.Kind.TheVariants as kinds
 use Rattle.cdi_model.specs.DeclKey.{kind_number}
 use Rattle.cdi_index.specs.Counted.{is_computed, is_computed_of, reads_of}
 use Rattle.cdi_index.proofs.AffectedLemmas.{hits, hit-parts}
 use Rattle.cdi_index.proofs.ChangeLemmas.{any-of, count-made}
 use Rattle.cdi_index.proofs.ReadLemmas.{bean-found, bean-itself, type-itself}
-
-off : (x : Bool) → (x && false) ≡ false
-off true = refl
-off false = refl
 
 -- ---- lists of keys
 
@@ -76,11 +73,11 @@ count-keys r (d ∷ ds) = by (r (key_of d)) (count-keys r ds)
 
 tests : (a r f g c : Bool) → (a ≡ false → f ≡ g) → (a ≡ true → g ≡ true → r ≡ true)
     → ((a || r) && (c && f)) ≡ (f && (c && (not g || r)))
-tests true r f g false kept read = sym (off f)
+tests true r f g false kept read = sym (and-false f)
 tests true r true true true kept read = sym (read refl refl)
 tests true r true false true kept read = refl
 tests true r false g true kept read = refl
-tests false r f g false kept read = off r ∙ sym (off f)
+tests false r f g false kept read = and-false r ∙ sym (and-false f)
 tests false true true true true kept read = refl
 tests false false true true true kept read = refl
 tests false r true false true kept read = absurd (false≢true (sym (kept refl)))
@@ -111,7 +108,7 @@ apart kinds.Interceptor kind h e = absurd (false≢true h)
 
 -- of such a kind nothing is counted
 never : (h f c m x : Bool) → c ≡ false → (h && (c && m)) ≡ (f && (c && x))
-never h f c m x e = ap (λ b. h && (b && m)) e ∙ off h ∙ sym (off f) ∙ ap (λ b. f && (b && x)) (sym e)
+never h f c m x e = ap (λ b. h && (b && m)) e ∙ and-false h ∙ sym (and-false f) ∙ ap (λ b. f && (b && x)) (sym e)
 
 -- what is computed, by what was made
 computed-type : (ds : List Decl) (name : List ℕ) (keys : List DeclKey) (o : Option Decl)

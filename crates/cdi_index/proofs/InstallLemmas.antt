@@ -102,7 +102,3 @@ module _ (n all : ℕ) (cs rest : List Change) (c : Change) (is : cs ≡ rest ++
     pub sound-left : IsSound (applied n rest (stored new)) more
     sound-left w k s m at has = listed w s (other-slot k s m at)
         (sound w k s m (sym (applied-next n cs rest c (stored shelf) (stored new) is made k) ∙ at) has)
-
-pub no-items : {X : Type 0} (xs : List X) → length xs ≡ 0 → xs ≡ []
-no-items [] e = refl
-no-items (x ∷ xs) e = absurd (omega (arith, e))

@@ -1,6 +1,6 @@
 mod Common
-mod ReadLemmas
-mod ChangeLemmas
+pub mod ReadLemmas
+pub mod ChangeLemmas
 mod AffectedLemmas
 mod CountLemmas
 mod ShelfLemmas

@@ -4,7 +4,7 @@ use Rattle.cdi_index.proofs.Common.{Decl, DeclKey, Made, made_of, ◌++◌, and_
 use Rattle.cdi_index.proofs.Common.{same_word, words_have, suc, ◌+◌, length, slice_get, Change, change_of, ◌<◌, nat_eq, ◌⊎◌, is_listed}
 use Rattle.cdi_index.proofs.Common.{zero, get_or, take, list_any_more, Lists, Keeps, classes_have, has_word, keys_have}
 use Rattle.std.proofs.lemmas.List.{map-append, take_more}
-use Rattle.cdi_index.proofs.ShelfLemmas.{nat-same}
+use Rattle.base_numbers.proofs.Numbers.{nat_eq-refl}
 
 -- ---- what is listed stays
 
@@ -25,7 +25,7 @@ words-next {X = X} word xs i x slot b c lt at lists before w h =
     ∙ elim (or_cases (list_any p (take i xs)) (p (get_or xs i x)) (sym (list_any_more p xs i x lt) ∙ h)) [
       | inl first ↦ or_left (is_listed b w slot) (same_word (word x) w && nat_eq slot slot) (before w first)
       | inr last ↦ or_right (is_listed b w slot) (same_word (word x) w && nat_eq slot slot)
-          (and_from (same_word (word x) w) (nat_eq slot slot) (ap p at ∙ last) (nat-same slot))
+          (and_from (same_word (word x) w) (nat_eq slot slot) (ap p at ∙ last) (nat_eq-refl slot))
     ]
 
 -- it is listed under the words of keys, then under those of classes, and then under others

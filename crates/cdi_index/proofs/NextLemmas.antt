@@ -8,19 +8,16 @@ use Rattle.cdi_index.proofs.Common.{IsDistinct, computed, is_recorded, ◌≤◌
 use Rattle.cdi_index.proofs.Common.{classes_have, has_word, subst, lookup, eqb-true, get, spare, limit, is_reader_among, stored_at, touches}
 use Rattle.cdi_index.proofs.Common.{word_of, IsNext, AreReplaced}
 use Rattle.std.proofs.Common.{◌^◌}
+use Rattle.base_lists.proofs.Any.{any-same, any-more}
+use Rattle.base_options.proofs.Booleans.{same-bool}
 use Rattle.cdi_index.specs.Kept.{is_reader, IsFreeFrom}
 use Rattle.cdi_index.specs.declared.prepare.Next.{Next}
 use Rattle.cdi_index.proofs.AffectedLemmas.{hits, made-stays}
-use Rattle.cdi_index.proofs.ChangeLemmas.{among-turned, any-same, applied-comes, applied-made, Anew, Before, StoredBy}
+use Rattle.cdi_index.proofs.ChangeLemmas.{among-turned, applied-comes, applied-made, Anew, Before, StoredBy}
 use Rattle.cdi_index.proofs.CountLemmas.{count-changes}
 use Rattle.cdi_index.proofs.ShelfLemmas.{found}
 
 -- ---- who is affected
-
-pub same-bool : (a b : Bool) → (a ≡ true → b ≡ true) → (b ≡ true → a ≡ true) → a ≡ b
-same-bool true b f g = sym (f refl)
-same-bool false true f g = g refl
-same-bool false false f g = refl
 
 pub any-elim : {X B : Type 0} (p : X → Bool) (xs : List X) → list_any p xs ≡ true → ((x : X) → p x ≡ true → B) → B
 any-elim {B = B} p [] e f = absurd (false≢true e)
@@ -29,15 +26,6 @@ any-elim {B = B} p (x ∷ xs) e f = by (p x) refl e (λ more. any-elim p xs more
     by : (b : Bool) → p x ≡ b → (b || list_any p xs) ≡ true → (list_any p xs ≡ true → B) → B
     by true is h more = f x is
     by false is h more = more h
-
-pub any-more : {X : Type 0} (p q : X → Bool) (xs : List X) → ((x : X) → p x ≡ true → q x ≡ true) → list_any p xs ≡ true
-    → list_any q xs ≡ true
-any-more p q [] h e = e
-any-more p q (x ∷ xs) h e = by (p x) refl e (any-more p q xs h)
-  where
-    step : (b c : Bool) → c ≡ true → (b || c) ≡ true
-    step true c e = refl
-    step false c e = e
 
     by : (b : Bool) → p x ≡ b → (b || list_any p xs) ≡ true → (list_any p xs ≡ true → list_any q xs ≡ true)
         → (q x || list_any q xs) ≡ true

@@ -7,7 +7,7 @@ use Rattle.cdi_model.specs.declared.decl.Kind.TheVariants as kinds
 use Rattle.cdi_match.specs.Types.{types_of}
 use Rattle.cdi_match.proofs.TypeLemmas.{is_type_decides, types_of-has}
 
-among-types : (names : List (List ℕ)) (name : List ℕ) → is_among (map (key_at kinds.Type) names) (key_at kinds.Type name) ≡ has names name
+pub among-types : (names : List (List ℕ)) (name : List ℕ) → is_among (map (key_at kinds.Type) names) (key_at kinds.Type name) ≡ has names name
 among-types [] name = refl
 among-types (n ∷ names) name = ap (λ b. bytes_eq n name || b) (among-types names name)
 
@@ -23,10 +23,7 @@ found_name name bean (d ∷ ds) e = by (is_of kinds.Bean name d) refl e (found_n
     of_bean (decls.Bean b) one f =
         let same : b ≡ bean = cc in ap (λ (x : BeanDecl). x.name) (sym same) ∙ sym (ap (λ (k : DeclKey). k.name) one)
     of_bean (decls.Type b) one f = absurd (let no : None ≡ Some bean = f in cc)
-    of_bean (decls.Qualifier b) one f = absurd (let no : None ≡ Some bean = f in cc)
-    of_bean (decls.Binding b) one f = absurd (let no : None ≡ Some bean = f in cc)
-    of_bean (decls.Stereotype b) one f = absurd (let no : None ≡ Some bean = f in cc)
-    of_bean (decls.Interceptor b) one f = absurd (let no : None ≡ Some bean = f in cc)
+    of_bean other one f = absurd (let no : None ≡ Some bean = f in cc)
 
     by : (b : Bool) → is_of kinds.Bean name d ≡ b → as_bean (cond b (Some d) (find_decl kinds.Bean name ds)) ≡ Some bean
         → (find_bean name ds ≡ Some bean → bean.name ≡ name) → bean.name ≡ name
@@ -54,8 +51,4 @@ bean-found name (d ∷ ds) = by d (bean-found name ds)
     by : (d : Decl) → is_some (find_bean name ds) ≡ is_some (find_decl kinds.Bean name ds)
         → is_some (find_bean name (d ∷ ds)) ≡ is_some (find_decl kinds.Bean name (d ∷ ds))
     by (decls.Bean b) more = at (is_of kinds.Bean name (decls.Bean b)) b more
-    by (decls.Type b) more = more
-    by (decls.Qualifier b) more = more
-    by (decls.Binding b) more = more
-    by (decls.Stereotype b) more = more
-    by (decls.Interceptor b) more = more
+    by other more = more

@@ -1,4 +1,6 @@
 -- Which beans are replaced after changes.
+use Rattle.base_lists.proofs.Any.{any-map, any-more}
+use Rattle.base_options.proofs.Booleans.{same-bool}
 use Rattle.cdi_index.proofs.Common.{◌≡◌, ℕ, Bool, true, false, ◌&&◌, ◌||◌, List, [], ◌∷◌, map, Option, Some, None, option_map, refl, sym}
 use Rattle.cdi_index.proofs.Common.{ap, ◌∙◌, list_any, BeanDecl, BindingDecl, Decl, Kind, DeclKey, key_at, same_key, find_decl, is_among}
 use Rattle.cdi_index.proofs.Common.{key_exact, find_binding, own_records, Effective, as_bean, find_bean, replaced_by, Made, made_of}
@@ -18,7 +20,7 @@ use Rattle.cdi_postings.specs.Words.{same_word_equiv}
 use Rattle.cdi_index.specs.Made.{replaces_in}
 use Rattle.cdi_index.specs.Replaced.{disabled, is_other, is_replaced_after, is_replaced_key, is_replaced_of, replaces, stakes}
 use Rattle.cdi_index.proofs.CountLemmas.{keys-distinct}
-use Rattle.cdi_index.proofs.NextLemmas.{any-elim, any-more, same-bool}
+use Rattle.cdi_index.proofs.NextLemmas.{any-elim}
 use Rattle.cdi_index.proofs.ShelfLemmas.{found}
 
 -- ---- a bean is replaced by one of which something is made
@@ -91,10 +93,7 @@ by-of ds name (decls.Bean b) there h = record {
       ∙ among-beans (replaced_by ds (decls.Bean b)) name ∙ h;
 }
 by-of ds name (decls.Type b) there h = absurd (false≢true h)
-by-of ds name (decls.Qualifier b) there h = absurd (false≢true h)
-by-of ds name (decls.Binding b) there h = absurd (false≢true h)
-by-of ds name (decls.Stereotype b) there h = absurd (false≢true h)
-by-of ds name (decls.Interceptor b) there h = absurd (false≢true h)
+by-of ds name other there h = absurd (false≢true h)
 
 -- where a bean is replaced it is so by one of which this is made
 pub replaced-by : (ds : List Decl) → AreDistinct ds → (k : DeclKey) → is_replaced_key ds k ≡ true → IsBy ds k
@@ -106,10 +105,7 @@ replaced-by ds distinct k h = by k.kind k.name h
         let it = passing (λ d. has (replaced_by ds d) name) ds (keys-distinct ds distinct) h in
         by-of ds name it.one it.there it.passes
     by kinds.Type name h = absurd (false≢true h)
-    by kinds.Qualifier name h = absurd (false≢true h)
-    by kinds.Binding name h = absurd (false≢true h)
-    by kinds.Stereotype name h = absurd (false≢true h)
-    by kinds.Interceptor name h = absurd (false≢true h)
+    by other name h = absurd (false≢true h)
 
 no-bean : (classes : List (List ℕ)) (kind : Kind) (name : List ℕ) → ((other : List ℕ) → same_key (key_at kinds.Bean other) (key_at kind name) ≡ false)
     → is_among (map (key_at kinds.Bean) classes) (key_at kind name) ≡ true → ⊥
@@ -196,10 +192,6 @@ made-after es (l ∷ ks) before k = by (same_key l k) refl (made-after es ks bef
     by true e more = ap (made_of es) (key_exact l k e)
         ∙ ap (λ c. cond (c || list_any (same_key k) ks) (made_of es k) before) (sym (same_key_equiv.symm k l ∙ e))
     by false e more = more ∙ ap (λ c. cond (c || list_any (same_key k) ks) (made_of es k) before) (sym (same_key_equiv.symm k l ∙ e))
-
-any-map : {X Y : Type 0} (p : Y → Bool) (f : X → Y) (xs : List X) → list_any p (map f xs) ≡ list_any (λ x. p (f x)) xs
-any-map p f [] = refl
-any-map p f (x ∷ xs) = ap (λ b. p (f x) || b) (any-map p f xs)
 
 any-key : (p : DeclKey → Bool) (ks : List DeclKey) (k : DeclKey) → list_any (same_key k) ks ≡ true → p k ≡ true → list_any p ks ≡ true
 any-key p ks k among h = any-more (same_key k) p ks (λ l same. ap p (sym (key_exact k l same)) ∙ h) among

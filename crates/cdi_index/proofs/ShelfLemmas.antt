@@ -4,6 +4,7 @@ use Rattle.cdi_index.proofs.Common.{key_exact, Made, false≢true, Kept, cond, s
 use Rattle.cdi_index.proofs.Common.{Ok, Err, OnOk}
 use Rattle.std.specs.Result.{IsOk}
 use Rattle.std.proofs.lemmas.Cmp.{nat_eq_equiv}
+use Rattle.base_numbers.proofs.Numbers.{nat_eq-refl}
 use Rattle.cdi_index.proofs.ChangeLemmas.{one-stored}
 use Rattle.cdi_index.specs.Kept.{IsOwned, Owns}
 
@@ -12,9 +13,6 @@ Slots = DeclKey → Option ℕ
 
 abbrev pub Entries : Type 0
 Entries = ℕ → Option Kept
-
-pub nat-same : (n : ℕ) → nat_eq n n ≡ true
-nat-same n = nat_eq_equiv.refl n
 
 -- what is found of a declaration
 pub record Found (f : Slots) (g : Entries) (k : DeclKey) (s : ℕ) (made : Made) : Type 0 where
@@ -106,7 +104,7 @@ module _ (f f' : Slots) (g g' : Entries) (key : DeclKey) (slot : ℕ) (entry : K
           here true one =
               let same : Some slot ≡ Some s = sym at ∙ ap f (key_exact key e.key one) ∙ owned s e some in
               let slots : slot ≡ s = cc in
-              absurd (false≢true (sym is ∙ ap (nat_eq slot) (sym slots) ∙ nat-same slot))
+              absurd (false≢true (sym is ∙ ap (nat_eq slot) (sym slots) ∙ nat_eq-refl slot))
           here false apart = taken e.key ∙ ap (λ b. cond b None (f e.key)) apart ∙ owned s e some
 
 -- ---- put in
@@ -119,7 +117,7 @@ module _ (f f' : Slots) (g g' : Entries) (key : DeclKey) (slot : ℕ) (made : Ma
   entry = record { key = key; made = made }
 
   there-now : g' slot ≡ Some entry
-  there-now = kept slot ∙ ap (λ b. cond b (Some entry) (g slot)) (nat-same slot)
+  there-now = kept slot ∙ ap (λ b. cond b (Some entry) (g slot)) (nat_eq-refl slot)
 
   stays-at : (k : DeclKey) (s : ℕ) → f k ≡ Some s → g' s ≡ g s
   stays-at k s at = by (nat_eq slot s) refl

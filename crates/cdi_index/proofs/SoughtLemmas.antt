@@ -2,17 +2,19 @@
 use Rattle.cdi_index.proofs.Common.{◌≡◌, ℕ, Bool, true, false, ◌||◌, List, [], ◌∷◌, map, Option, Some, None, refl, sym, ap, ◌∙◌, list_any}
 use Rattle.cdi_index.proofs.Common.{or_parts, BeanDecl, Decl, Qual, own_records, Effective, ◌++◌, flat_map, option_to_list, bytes_eq}
 use Rattle.cdi_index.proofs.Common.{list_any-append, mentions, Mention, BodyOf, CallOf, EventOf, MethodOf, PointOf, StereotypeOf, TypeIn}
-use Rattle.cdi_index.proofs.Common.{UseOf, bytes_eq-turned, required, Word, same_word, word_at, words_have, words_named, words_named_in}
+use Rattle.cdi_index.proofs.Common.{UseOf, required, Word, same_word, word_at, words_have, words_named, words_named_in, bytes_eq-turned}
 use Rattle.cdi_index.proofs.Common.{words_of_observer, words_of_record, words_of_uses, suc, cond, filter, slice_get, words_written_in, has}
 use Rattle.cdi_index.proofs.Common.{is_replaced, unless_replaced, records_are_own, entries, beans_under, has_one, beans, has_name}
 use Rattle.cdi_index.proofs.Common.{observes_one}
 use Rattle.std.proofs.lemmas.List.Elements.{filter-append}
+use Rattle.std.proofs.Math.Bool.{or-false}
+use Rattle.base_lists.proofs.Any.{any-same, any-or, any-none}
+use Rattle.base_lists.proofs.Filters.{filter-each, filter-same}
 use Rattle.cdi_model.specs.declared.decl.Decl.TheVariants as decls
 use Rattle.cdi_model.specs.declared.decl.ObserverDecl.{ObserverDecl}
 use Rattle.cdi_model.specs.declared.decl.UseKind.TheVariants as uses
 use Rattle.cdi_postings.specs.declared.word.Reason.TheVariants as reasons
 use Rattle.cdi_index.specs.Made.{words_of_bean, words_of_bindings}
-use Rattle.cdi_index.proofs.ChangeLemmas.{any-either, any-same}
 
 -- ---- where others give nothing that is sought
 
@@ -31,12 +33,8 @@ filter-under f test q (x ∷ xs) gives = by (test x) refl (filter-under f test q
 
 -- ---- the words of records
 
-or-false : (b : Bool) → (b || false) ≡ b
-or-false true = refl
-or-false false = refl
-
 -- a list of words of names has the word of one just where the names have that
-types-have : (types : List (List ℕ)) (t : List ℕ) → words_have (map (word_at reasons.HasType) types) (word_at reasons.HasType t) ≡ has types t
+pub types-have : (types : List (List ℕ)) (t : List ℕ) → words_have (map (word_at reasons.HasType) types) (word_at reasons.HasType t) ≡ has types t
 types-have [] t = refl
 types-have (s ∷ types) t = ap (λ b. bytes_eq s t || b) (types-have types t)
 
@@ -50,7 +48,7 @@ module _ (w : Word) where
   abbrev is_word : Word → Bool
   is_word v = same_word v w
 
-  words-append : (xs ys : List Word) → words_have (xs ++ ys) w ≡ (words_have xs w || words_have ys w)
+  pub words-append : (xs ys : List Word) → words_have (xs ++ ys) w ≡ (words_have xs w || words_have ys w)
   words-append xs ys = list_any-append is_word xs ys
 
   -- where none of the words is this one, none of the records passes a test that says so
@@ -79,10 +77,7 @@ module _ (w : Word) where
       let first = or_parts (words_have own w) (words_have more w) (sym (words-append own more) ∙ parts.0) in
       ap (filter q) (records_are_own ds b) ∙ none-sought q r (says r) (own_records ds b) first.0
   none-given q says ds (decls.Type d) none = refl
-  none-given q says ds (decls.Qualifier d) none = refl
-  none-given q says ds (decls.Binding d) none = refl
-  none-given q says ds (decls.Stereotype d) none = refl
-  none-given q says ds (decls.Interceptor d) none = refl
+  none-given q says ds other none = refl
 
 -- ---- what is found
 
@@ -233,16 +228,12 @@ words-observed ds b t =
     ∙ words-append w own more
     ∙ ap (λ c. c || words_have more w) (none-of-records (own_records ds b) t) ∙ observed b.observers t
 
-any-none : {X : Type 0} (xs : List X) → list_any (λ x. false) xs ≡ false
-any-none [] = refl
-any-none (x ∷ xs) = any-none xs
-
 in-turn : (observers : List ObserverDecl) (types : List (List ℕ))
     → list_any (λ t. list_any (λ (o : ObserverDecl). bytes_eq t o.event_type) observers) types
     ≡ list_any (λ (o : ObserverDecl). has types o.event_type) observers
 in-turn [] types = any-none types
 in-turn (o ∷ observers) types =
-    any-either (λ t. bytes_eq t o.event_type) (λ t. list_any (λ (x : ObserverDecl). bytes_eq t x.event_type) observers) types
+    any-or (λ t. bytes_eq t o.event_type) (λ t. list_any (λ (x : ObserverDecl). bytes_eq t x.event_type) observers) types
     ∙ ap (λ b. has types o.event_type || b) (in-turn observers types)
 
 mapped : (p : Word → Bool) (types : List (List ℕ))
@@ -260,10 +251,6 @@ observing-one ds types (decls.Bean b) =
     ∙ any-same (λ t. words_have (words_of_bean ds b) (word_at reasons.Observes t))
     (λ t. list_any (λ (o : ObserverDecl). bytes_eq t o.event_type) b.observers) types (words-observed ds b)
     ∙ in-turn b.observers types
-observing-one ds types (decls.Type d) = none-had (map (word_at reasons.Observes) types)
-observing-one ds types (decls.Qualifier d) = none-had (map (word_at reasons.Observes) types)
-observing-one ds types (decls.Binding d) = none-had (map (word_at reasons.Observes) types)
-observing-one ds types (decls.Stereotype d) = none-had (map (word_at reasons.Observes) types)
 observing-one ds types (decls.Interceptor d) = none-among types
   where
     none-among : (types : List (List ℕ))
@@ -272,19 +259,12 @@ observing-one ds types (decls.Interceptor d) = none-among types
     none-among (t ∷ types) =
         ap (λ b. b || list_any (words_have (words_named (decls.Interceptor d))) (map (word_at reasons.Observes) types))
         (none-of-named (decls.Interceptor d) t) ∙ none-among types
-
-filter-same : {X : Type 0} (p q : X → Bool) (xs : List X) → ((x : X) → p x ≡ q x) → filter p xs ≡ filter q xs
-filter-same p q [] same = refl
-filter-same p q (x ∷ xs) same = λ i. cond (same x i) (x ∷ filter-same p q xs same i) (filter-same p q xs same i)
-
-all-pass : {X : Type 0} (xs : List X) → filter (λ x. true) xs ≡ xs
-all-pass [] = refl
-all-pass (x ∷ xs) = ap (λ ys. x ∷ ys) (all-pass xs)
+observing-one ds types other = none-had (map (word_at reasons.Observes) types)
 
 pub of-observers : (ds : List Decl) (types : List (List ℕ))
     → filter (λ b. true) (beans_under ds (map (word_at reasons.Observes) types))
     ≡ flat_map (entries ds) (filter (observes_one types) ds)
 of-observers ds types =
-    all-pass (beans_under ds (map (word_at reasons.Observes) types))
+    filter-each (beans_under ds (map (word_at reasons.Observes) types))
     ∙ ap (flat_map (entries ds))
     (filter-same (has_one ds (map (word_at reasons.Observes) types)) (observes_one types) ds (observing-one ds types))

@@ -8,11 +8,14 @@ use Rattle.cdi_index.proofs.Common.{same_key_equiv, Stored, made_in, nat_eq, ari
 use Rattle.cdi_index.proofs.Common.{stored_at, is_of, records_declared, records_in, position-there, entries, made_by, beans_under, has_one}
 use Rattle.cdi_index.proofs.Common.{is_at, records_at, is_marked, marked_from, is_at_slots, is_at_words}
 use Rattle.std.proofs.Common.{slice_get}
+use Rattle.base_lists.proofs.Any.{any-more}
+use Rattle.base_numbers.proofs.Numbers.{nat_eq-refl}
+use Rattle.base_options.proofs.Booleans.{same-bool}
 use Rattle.cdi_model.specs.declared.decl.Decl.TheVariants as decls
 use Rattle.cdi_model.specs.declared.decl.Kind.TheVariants as kinds
 use Rattle.cdi_effective.proofs.PlaceLemmas.{own-found, own-place, own-position, place-found}
-use Rattle.cdi_index.proofs.NextLemmas.{any-elim, any-more, same-bool}
-use Rattle.cdi_index.proofs.ShelfLemmas.{found, nat-same}
+use Rattle.cdi_index.proofs.NextLemmas.{any-elim}
+use Rattle.cdi_index.proofs.ShelfLemmas.{found}
 
 -- ---- the records at a position
 
@@ -60,7 +63,7 @@ at-is : (ds : List Decl) (w : Word) (kept : Option Kept) (p : ℕ) (e : Kept) �
 at-is ds w kept p e there has place =
     ap (λ k. is_at ds w k p) there
     ∙ ap (λ b. option_map_or (λ i. nat_eq i p) (cond b (position (is_of e.key.kind e.key.name) ds) None) false) has
-    ∙ ap (λ o. option_map_or (λ i. nat_eq i p) o false) place ∙ nat-same p
+    ∙ ap (λ o. option_map_or (λ i. nat_eq i p) o false) place ∙ nat_eq-refl p
 
 -- what is made has a word, so it is of a declaration which has that
 abbrev OfDecl : List Decl → List Word → ℕ → Type 0
@@ -176,9 +179,7 @@ module _ (ds : List Decl) (shelf : Shelf) (listings : List Listing) (shelved : I
       (ap (option_map made_of_interceptor) (own-found ds p (decls.Interceptor i) distinct at))
       (own-position ds p (decls.Interceptor i) distinct at) has
   marks-if p (decls.Type d) w at has = absurd (false≢true has)
-  marks-if p (decls.Qualifier d) w at has = absurd (false≢true has)
-  marks-if p (decls.Binding d) w at has = absurd (false≢true has)
-  marks-if p (decls.Stereotype d) w at has = absurd (false≢true has)
+  marks-if p other w at has = absurd (false≢true has)
 
   abbrev at_slots : ℕ → Word → Bool
   at_slots p w = is_at_slots ds shelf w (under listings w) p

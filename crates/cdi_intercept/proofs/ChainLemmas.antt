@@ -4,6 +4,10 @@ use Rattle.std.proofs.Common.{Some, option_map, refl, sym, ap, subst, ◌∙◌,
 use Rattle.std.specs.List.{AllByRecursion, list_any, slice_get}
 use Rattle.std.proofs.lemmas.Bool.{cases_Bool}
 use Rattle.std.proofs.lemmas.Option.{none-some, same_Some, slice_get-map}
+use Rattle.std.proofs.lemmas.Map.Keys.{any_passes_from_place}
+use Rattle.base_lists.proofs.Each.{all-at}
+use Rattle.base_lists.proofs.Places.{at-front, at-back}
+use Rattle.base_lists.proofs.Sorting.{all-sorted}
 use Rattle.cdi_model.specs.declared.decl.BeanDecl.{BeanDecl}
 use Rattle.cdi_model.specs.declared.decl.Decl.{Decl}
 use Rattle.cdi_model.specs.declared.decl.Decl.TheVariants as decls
@@ -16,7 +20,6 @@ use Rattle.cdi_model.specs.declared.place.BeanPlace.TheVariants as places
 use Rattle.cdi_model.specs.declared.quals.Qual.{Qual}
 use Rattle.cdi_intercept.specs.Chains.{in_order, interceptors, is_before, is_enabled, surrounds, surrounds_one}
 use Rattle.cdi_intercept.specs.Sets.{methods_of, producers_of, observers_of, places_of, set_by, sets_of}
-use Rattle.cdi_intercept.proofs.OrderLemmas.{all_sorted}
 
 -- ---- each of those in order is declared, and enabled
 
@@ -43,33 +46,19 @@ all-kept {X = X} P p (x ∷ xs) all =
       | inr e ↦ subst (λ (b : Bool). kept (cond b (x ∷ filter p xs) (filter p xs))) (sym e) (all-kept P p xs all.1)
     ]
 
-all-at : {X : Type 0} (P : X → Type 0) (xs : List X) (k : ℕ) (x : X) → AllByRecursion P xs → slice_get xs k ≡ Some x → P x
-all-at P [] k x all at = absurd (none-some x at)
-all-at P (y ∷ ys) zero x all at = subst P (same_Some y x at) all.0
-all-at P (y ∷ ys) (suc k) x all at = all-at P ys k x all.1 at
-
 pub in_order-declared : (ds : List Decl) (q : ℕ) (i : InterceptorDecl) → slice_get (in_order ds) q ≡ Some i
     → IsDeclared ds i × (is_enabled i ≡ true)
 unfolding in_order
 in_order-declared ds q i at =
     let found : InterceptorDecl → Type 0 = λ j. IsDeclared ds j × (is_enabled j ≡ true) in
     let enabled = filter is_enabled (interceptors ds) in
-    all-at found _ q i (all_sorted found is_before enabled (all-kept (IsDeclared ds) is_enabled (interceptors ds) (all-declared ds))) at
+    all-at found _ q i (all-sorted is_before found enabled (all-kept (IsDeclared ds) is_enabled (interceptors ds) (all-declared ds))) at
 
 -- ---- one that stands around a place of a bean stands around some place of it
 
 -- the place is one of the bean
 abbrev pub IsPlace : BeanDecl → BeanPlace → Type 0
 IsPlace bean place = (k : ℕ) × (slice_get (places_of bean) k ≡ Some place)
-
-in-front : {X : Type 0} (xs ys : List X) (k : ℕ) (x : X) → slice_get xs k ≡ Some x → slice_get (xs ++ ys) k ≡ Some x
-in-front [] ys k x at = absurd (none-some x at)
-in-front (v ∷ xs) ys zero x at = at
-in-front (v ∷ xs) ys (suc k) x at = in-front xs ys k x at
-
-behind : {X : Type 0} (xs ys : List X) (k : ℕ) (x : X) → slice_get ys k ≡ Some x → (j : ℕ) × (slice_get (xs ++ ys) j ≡ Some x)
-behind [] ys k x at = (k, at)
-behind (v ∷ xs) ys k x at = let rest = behind xs ys k x at in (suc rest.0, rest.1)
 
 in-filter : {X : Type 0} (p : X → Bool) (xs : List X) (k : ℕ) (x : X) → slice_get xs k ≡ Some x → p x ≡ true
     → (j : ℕ) × (slice_get (filter p xs) j ≡ Some x)
@@ -98,8 +87,8 @@ pub method_place : (bean : BeanDecl) (k : ℕ) (method : MethodDecl) → slice_g
 method_place bean k method at =
     let name : MethodDecl → BeanPlace = λ m. places.Method m.name in
     let found = slice_get-map name bean.methods k ∙ ap (option_map name) at in
-    let own = in-front (map name bean.methods) (producers_of bean) k (places.Method method.name) found in
-    (suc (suc (suc k)), in-front (map name bean.methods ++ producers_of bean) (observers_of bean) k (places.Method method.name) own)
+    let own = at-front (map name bean.methods) (producers_of bean) k (places.Method method.name) found in
+    (suc (suc (suc k)), at-front (map name bean.methods ++ producers_of bean) (observers_of bean) k (places.Method method.name) own)
 
 pub producer_place : (bean : BeanDecl) (k : ℕ) (producer : ProducerDecl) → slice_get bean.producers k ≡ Some producer
     → producer.is_static ≡ false → IsPlace bean (places.Producer producer.name)
@@ -107,29 +96,20 @@ producer_place bean k producer at is =
     let name : ProducerDecl → BeanPlace = λ p. places.Producer p.name in
     let own = in-filter (λ p. not p.is_static) bean.producers k producer at (ap not is) in
     let found = slice_get-map name (filter (λ p. not p.is_static) bean.producers) own.0 ∙ ap (option_map name) own.1 in
-    let all = behind (methods_of bean) (producers_of bean) own.0 (places.Producer producer.name) found in
-    (suc (suc (suc all.0)), in-front (methods_of bean ++ producers_of bean) (observers_of bean) all.0 (places.Producer producer.name) all.1)
+    let all = at-back (methods_of bean) (producers_of bean) own.0 (places.Producer producer.name) found in
+    (suc (suc (suc all.0)), at-front (methods_of bean ++ producers_of bean) (observers_of bean) all.0 (places.Producer producer.name) all.1)
 
 pub observer_place : (bean : BeanDecl) (k : ℕ) (observer : ObserverDecl) → slice_get bean.observers k ≡ Some observer
     → IsPlace bean (places.Observer observer.name)
 observer_place bean k observer at =
     let name : ObserverDecl → BeanPlace = λ o. places.Observer o.name in
     let found = slice_get-map name bean.observers k ∙ ap (option_map name) at in
-    let all = behind (methods_of bean ++ producers_of bean) (observers_of bean) k (places.Observer observer.name) found in
+    let all = at-back (methods_of bean ++ producers_of bean) (observers_of bean) k (places.Observer observer.name) found in
     (suc (suc (suc all.0)), all.1)
-
-any-at : {X : Type 0} (test : X → Bool) (xs : List X) (k : ℕ) (x : X) → slice_get xs k ≡ Some x → test x ≡ true → list_any test xs ≡ true
-any-at test [] k x at is = absurd (none-some x at)
-any-at test (v ∷ xs) zero x at is = ap (λ b. b || list_any test xs) (ap test (same_Some v x at) ∙ is)
-any-at test (v ∷ xs) (suc k) x at is = ap (λ b. test v || b) (any-at test xs k x at is) ∙ or-true (test v)
-  where
-    or-true : (b : Bool) → (b || true) ≡ true
-    or-true true = refl
-    or-true false = refl
 
 pub surrounds_some : (ds : List Decl) (class : List Qual) (bean : BeanDecl) (place : BeanPlace) (i : InterceptorDecl) → IsPlace bean place
     → surrounds ds (set_by ds class bean place) place i ≡ true → surrounds_one ds (sets_of ds class bean) i ≡ true
 surrounds_some ds class bean place i there is =
     let with_set : BeanPlace → BeanPlace × List Qual = λ p. (p, set_by ds class bean p) in
-    any-at (λ z. surrounds ds z.1 z.0 i) (sets_of ds class bean) there.0 (with_set place)
+    any_passes_from_place (λ z. surrounds ds z.1 z.0 i) (sets_of ds class bean) there.0 (with_set place)
     (slice_get-map with_set (places_of bean) there.0 ∙ ap (option_map with_set) there.1) is

@@ -9,6 +9,8 @@ use Rattle.std.specs.Str.{bytes_eq}
 use Rattle.std.proofs.lemmas.List.{at_drop_more}
 use Rattle.std.proofs.lemmas.Option.{slice_get-get_or, slice_get-map}
 use Rattle.std.proofs.lemmas.Bool.Decides.{same_from_decides, Decides-like}
+use Rattle.base_lists.proofs.Any.{any-same, any-or, any-none}
+use Rattle.base_numbers.proofs.Texts.{one_text, same_text, bytes_eq-turned}
 use Rattle.cdi_model.specs.declared.decl.Decl.{Decl}
 use Rattle.cdi_model.specs.declared.decl.MemberDecl.{MemberDecl}
 use Rattle.cdi_model.specs.declared.decl.UseKind.TheVariants as use_kinds
@@ -17,9 +19,7 @@ use Rattle.cdi_match.specs.Bindings.{uses_in}
 use Rattle.cdi_match.specs.Covering.{are_alike, AgreesBy}
 use Rattle.cdi_match.specs.Filling.{declared_of}
 use Rattle.cdi_match.proofs.CoverLemmas.{agrees_by_decides}
-use Rattle.cdi_match.proofs.Names.{one_name, same_text, bytes_eq-turned}
 use Rattle.cdi_intercept.specs.Conflicts.{are_opposed, differs, has_conflict, use_at}
-use Rattle.cdi_intercept.proofs.AroundLemmas.{any-none, any-or, any-same}
 
 -- ---- uses that are alike
 
@@ -98,7 +98,7 @@ pub conflict-cons : (ds : List Decl) (u : Qual) (us : List Qual)
 conflict-cons ds u us =
     ap (λ b. (are_opposed ds u u || list_any (are_opposed ds u) us) || b)
     (any-or (λ v. are_opposed ds v u) (λ v. list_any (are_opposed ds v) us) us
-    ∙ ap (λ b. b || has_conflict ds us) (any-same (λ v. are_opposed ds v u) (are_opposed ds u) (λ v. opposed-turned ds v u) us))
+    ∙ ap (λ b. b || has_conflict ds us) (any-same (λ v. are_opposed ds v u) (are_opposed ds u) us (λ v. opposed-turned ds v u)))
     ∙ or-again (are_opposed ds u u) (list_any (are_opposed ds u) us) (has_conflict ds us) (opposed-itself ds u)
 
 -- ---- by the latest of each type
@@ -111,7 +111,7 @@ pub differ-first : (ds : List Decl) (us : List Qual) (before : List ℕ → Opti
     → differ_after ds before us ≡ has_conflict ds us
 differ-first ds us before none =
     ap (λ b. b || has_conflict ds us)
-    (any-same (λ u. differs ds (before u.name) u) (λ u. false) (λ u. ap (λ o. differs ds o u) (none u.name)) us ∙ any-none us)
+    (any-same (λ u. differs ds (before u.name) u) (λ u. false) us (λ u. ap (λ o. differs ds o u) (none u.name)) ∙ any-none us)
 
 -- a use is like the one before it of its type: what differs from that differs from it
 kept : (ds : List Decl) (was : Option Qual) (u v : Qual) → differs ds was u ≡ false
@@ -133,7 +133,7 @@ differ-next : (ds : List Decl) (before after : List ℕ → Option Qual) (u : Qu
     → differs ds (before u.name) u ≡ false
     → differ_after ds after us ≡ differ_after ds before (u ∷ us)
 differ-next ds before after u us put same =
-    ap (λ b. b || has_conflict ds us) (any-same _ _ each us
+    ap (λ b. b || has_conflict ds us) (any-same _ _ us each
     ∙ any-or (λ v. differs ds (before v.name) v) (are_opposed ds u) us)
     ∙ joined (differs ds (before u.name) u) (list_any (λ v. differs ds (before v.name) v) us) (list_any (are_opposed ds u) us)
     (has_conflict ds us) (has_conflict ds (u ∷ us)) same (conflict-cons ds u us)
@@ -150,7 +150,7 @@ differ-next ds before after u us put same =
             → differs ds (after v.name) v ≡ (differs ds (before v.name) v || (bytes_eq u.name v.name && not (alike ds u v)))
         by true is =
             ap (λ o. differs ds o v) (put v.name ∙ ap (λ b. cond b (Some u) (before v.name)) is)
-            ∙ sym (kept ds (before v.name) u v (ap (λ name. differs ds (before name) u) (sym (one_name u.name v.name is)) ∙ same))
+            ∙ sym (kept ds (before v.name) u v (ap (λ name. differs ds (before name) u) (sym (one_text u.name v.name is)) ∙ same))
             ∙ ap (λ b. differs ds (before v.name) v || (b && not (alike ds u v))) (sym is)
         by false is =
             ap (λ o. differs ds o v) (put v.name ∙ ap (λ b. cond b (Some u) (before v.name)) is)

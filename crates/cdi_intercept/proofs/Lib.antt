@@ -1,4 +1,3 @@
-pub mod OrderLemmas
 pub mod ChainLemmas
 pub mod UseLemmas
 pub mod SeenLemmas

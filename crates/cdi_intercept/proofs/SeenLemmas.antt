@@ -9,6 +9,8 @@ use Rattle.std.proofs.Math.Bool.{and-false, and-true}
 use Rattle.std.proofs.lemmas.Bool.{false≢true, or_cases, or_left, or_right, and_parts}
 use Rattle.std.proofs.lemmas.List.{length-map}
 use Rattle.std.proofs.lemmas.List.Elements.{filter_agree}
+use Rattle.base_lists.proofs.Filters.{filter-both}
+use Rattle.base_numbers.proofs.Texts.{one_text, bytes_eq-turned}
 use Rattle.cdi_model.specs.declared.decl.BeanDecl.{BeanDecl}
 use Rattle.cdi_model.specs.declared.decl.BindingDecl.{BindingDecl}
 use Rattle.cdi_model.specs.declared.decl.Decl.{Decl}
@@ -22,7 +24,6 @@ use Rattle.cdi_model.specs.declared.refusal.Refusal.TheVariants as refusals
 use Rattle.cdi_match.specs.Covering.{agree, agree_at, covers, covers_by, given_name, is_binding}
 use Rattle.cdi_match.specs.Filled.{FilledUse, filled, filled_by}
 use Rattle.cdi_match.specs.Filling.{declared_of, fill, find_binding, value_of}
-use Rattle.cdi_match.proofs.Names.{bytes_eq-turned, one_name}
 use Rattle.cdi_effective.specs.Bindings.{class_bindings}
 use Rattle.cdi_effective.specs.Disposers.{find_bean}
 use Rattle.cdi_effective.specs.Qualifiers.{uses_one}
@@ -62,7 +63,7 @@ covers-filled ds have want = by (bytes_eq have.name want.name) refl
         → covers ds use_kinds.Binding have want ≡ covers_filled (find_binding have.name ds) (filled ds use_kinds.Binding have)
         (filled ds use_kinds.Binding want)
     by true e = ap (λ name. bytes_eq have.name want.name && agree_where (members_of (find_binding name ds)))
-        (one_name have.name want.name e)
+        (one_text have.name want.name e)
     by false e = rw e refl
 
 -- the first declaration is that of the first binding, and so on
@@ -104,7 +105,7 @@ binds-seen ds set place i =
 
 -- ---- an interceptor that binds is seen
 
-covered-used : (ds : List Decl) (set : List Qual) (want : Qual) → covered_in ds set want ≡ true → uses_one set want.name ≡ true
+pub covered-used : (ds : List Decl) (set : List Qual) (want : Qual) → covered_in ds set want ≡ true → uses_one set want.name ≡ true
 unfolding covers_by
 covered-used ds [] want h = h
 covered-used ds (have ∷ set) want h =
@@ -145,17 +146,6 @@ surrounds-seen ds set place i = by (binds ds set i) refl
     by false e = rw e (and-false part ∙ sym (and-false (part && shares_type (in_text_order set) i)))
 
 -- ---- the chain among what is seen
-
--- first one test, then the other
-filter-both : {X : Type 0} (p q : X → Bool) (xs : List X) → filter (λ x. p x && q x) xs ≡ filter q (filter p xs)
-filter-both p q [] = refl
-filter-both {X = X} p q (x ∷ xs) = by (p x) (filter-both p q xs)
-  where
-    by : (b : Bool) → filter (λ y. p y && q y) xs ≡ filter q (filter p xs)
-        → cond (b && q x) (x ∷ filter (λ y. p y && q y) xs) (filter (λ y. p y && q y) xs)
-        ≡ filter q (cond b (x ∷ filter p xs) (filter p xs))
-    by true rest = ap (λ (more : List X). cond (q x) (x ∷ more) more) rest
-    by false rest = rest
 
 names-seen : (ds : List Decl) (r : SeenInterceptor → Bool) (is : List InterceptorDecl)
     → map (λ i. i.name) (filter (λ i. r (seen_interceptor ds i)) is) ≡ map (λ i. i.name) (filter r (map (seen_interceptor ds) is))

@@ -19,7 +19,7 @@ use Rattle.cdi_match.specs.Covering.{covers}
 use Rattle.cdi_effective.specs.Bindings.{class_bindings}
 use Rattle.cdi_effective.specs.Disposers.{find_bean}
 use Rattle.cdi_intercept.specs.Sets.{has_place, set_by, sets_of}
-use Rattle.cdi_intercept.specs.Sorting.{sorted_by}
+use Rattle.base_lists.specs.Sorting.{sorted_by}
 
 abbrev pub as_interceptor : Decl → Option InterceptorDecl
 as_interceptor (decls.Interceptor d) = Some d

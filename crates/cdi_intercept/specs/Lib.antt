@@ -1,5 +1,4 @@
 pub mod Sets
-pub mod Sorting
 pub mod Bindings
 pub mod Chains
 pub mod Sees

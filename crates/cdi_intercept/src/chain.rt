@@ -5,7 +5,7 @@ ghost use Rattle.cdi_match.specs.Bindings.{uses_in};
 ghost use Rattle.cdi_intercept.specs.Chains.{around_any, binds, chain_by, covered_in, in_order, interceptors, is_before, is_enabled};
 ghost use Rattle.cdi_intercept.specs.Chains.{part_for, surrounds, surrounds_one};
 ghost use Rattle.cdi_intercept.specs.Lent.{lent_in, uses_at};
-ghost use Rattle.cdi_intercept.specs.Sorting.{sorted_by};
+ghost use Rattle.base_lists.specs.Sorting.{sorted_by};
 
 use crate::set::sets_of;
 use cdi_match::covers;

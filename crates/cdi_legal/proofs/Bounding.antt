@@ -5,6 +5,7 @@ use Rattle.cdi_legal.proofs.Common.{AllByRecursion, false≢true, Scope, context
 use Rattle.cdi_legal.proofs.Common.{Request, Application, Point, is_normal, applied, beginning, effect, step, Effect, Throughout}
 use Rattle.std.proofs.lemmas.Bool.{cases_Bool}
 use Rattle.std.proofs.lemmas.List.{length-append}
+use Rattle.base_lists.proofs.Each.{all-weaker}
 use Rattle.cdi_model.specs.declared.decl.Scope.TheVariants as scopes
 use Rattle.cdi_legal.specs.Laws.{CommandsKeepBudget, CommandsKeepThroughout, IsKeptByCommands, IsKeptThroughout, IsRequested, IsSingleAt}
 use Rattle.cdi_legal.specs.Laws.{IsWithinLimit}
@@ -12,7 +13,7 @@ use Rattle.cdi_legal.specs.Moment as effects
 use Rattle.cdi_legal.proofs.Along.{ends_along, runs_along, IsAlong, Nothing}
 use Rattle.cdi_legal.proofs.Course.{IsOutside, MayBegin}
 use Rattle.cdi_legal.proofs.Everywhere.{each_point, everywhere, kept_everywhere, then, Holds, HoldsAfterEach, Lasts}
-use Rattle.cdi_legal.proofs.Furnishing.{all-imply, all-step, ends-all}
+use Rattle.cdi_legal.proofs.Furnishing.{all-step, ends-all}
 use Rattle.cdi_legal.proofs.Keeping.{all-more}
 use Rattle.cdi_legal.proofs.Rooting.{context-gone}
 use Rattle.cdi_legal.proofs.Sharing.{count, fewer_after, single-calm, single_along, Test}
@@ -144,7 +145,7 @@ requested_along s = everywhere (IsRequested s) (requested-calm s) s
 -- none is live once the request context has ended
 unrequested : (s : Scene) (x : Standing) → AllByRecursion (λ z. is_of scopes.Request z.owner ≡ false) x.live → IsRequested s (closed x)
 unrequested s x none =
-    all-imply (λ z. is_of scopes.Request z.owner ≡ false) (λ z. z.owner ≡ Request → false ≡ true) x.live
+    all-weaker (λ z. is_of scopes.Request z.owner ≡ false) (λ z. z.owner ≡ Request → false ≡ true) x.live
     (λ z other is. sym other ∙ ap (is_of scopes.Request) is) none
 
 pub commands_keep_requested : IsKeptByCommands (λ s before after. IsRequested s before → IsRequested s after)

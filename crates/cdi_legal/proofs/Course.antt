@@ -131,7 +131,7 @@ pub record IsCourse (s : Scene) (C : Claims) (R : Relations) : Type 0 where
 
 -- ---- ends
 
-invoked : (s : Scene) (b : ℕ) (x : Managed) → managed_at s b ≡ Some x → invocable_at s b Pre ≡ Some x.pre
+pub invoked : (s : Scene) (b : ℕ) (x : Managed) → managed_at s b ≡ Some x → invocable_at s b Pre ≡ Some x.pre
 invoked s b x there = ap (λ (o : Option Managed). elim o [ Some managed ↦ place_of managed Pre | None ↦ None ]) there
 
 pub ends_course : {s : Scene} {C : Claims} {R : Relations} → IsEnding s C R → {e : End} {m m' : Moment} → Ends s e m m' → GivenEnd C e

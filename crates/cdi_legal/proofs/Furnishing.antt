@@ -1,4 +1,5 @@
 -- Along runs each ready instance has its dependent objects.
+use Rattle.base_lists.proofs.Each.{all-weaker}
 use Rattle.cdi_legal.proofs.Common.{◌≡◌, ◌<◌, ℕ, false, None, Some, refl, Outcome, Act, Load, Store, Call, Fire, Proceed, Return, Fail}
 use Rattle.cdi_legal.proofs.Common.{Actor, InstanceId, Owner, Nobody, Scene, Touches, Ends, End, Moment, put, is_create, Entry, suc, ◌≤◌}
 use Rattle.cdi_legal.proofs.Common.{Bool, true, List, [], ◌∷◌, arith, ap, subst, sym, ◌∙◌, AllByRecursion, Scope, is_of, Standing, Target}
@@ -17,11 +18,6 @@ use Rattle.cdi_legal.proofs.Sharing.{same-keep, same-finish}
 use Rattle.cdi_legal.proofs.Keeping.{Test, found_by, Rises, still-without, still-keep, all-without, all-map}
 
 -- ---- lists
-
-pub all-imply : {X : Type 0} (P Q : X → Type 0) (xs : List X) → ((x : X) → P x → Q x) → AllByRecursion P xs
-    → AllByRecursion Q xs
-all-imply P Q [] h a = tt
-all-imply P Q (x ∷ xs) h a = (h x a.0, all-imply P Q xs h a.1)
 
 pub all-both : {X : Type 0} (P Q : X → Type 0) (xs : List X) → AllByRecursion P xs → AllByRecursion Q xs
     → AllByRecursion (λ x. P x × Q x) xs
@@ -51,7 +47,7 @@ pub all-above : (low given : ℕ) (live : List Instance) → RisesFrom low given
     → AllByRecursion (λ z. low < z.id.number) live
 all-above low given [] r = tt
 all-above low given (i ∷ is) r =
-    (r.0, all-imply _ _ is (λ z h. omega (arith, h, r.0)) (all-above i.id.number given is r.2))
+    (r.0, all-weaker _ _ is (λ z h. omega (arith, h, r.0)) (all-above i.id.number given is r.2))
 
 pub all-given : (low given : ℕ) (live : List Instance) → RisesFrom low given live
     → AllByRecursion (λ z. z.id.number ≤ given) live
@@ -67,8 +63,8 @@ all-alone : (low given : ℕ) (live : List Instance) → RisesFrom low given liv
 all-alone low given [] r = tt
 all-alone low given (i ∷ is) r =
     let above = all-above i.id.number given is r.2 in (
-      (λ e. refl, all-imply _ _ is (λ z h e. absurd (omega (arith, h, e))) above),
-      all-imply _ _ is (λ y h. (λ e. absurd (omega (arith, h.0, e)), h.1))
+      (λ e. refl, all-weaker _ _ is (λ z h e. absurd (omega (arith, h, e))) above),
+      all-weaker _ _ is (λ y h. (λ e. absurd (omega (arith, h.0, e)), h.1))
           (all-both _ _ is above (all-alone i.id.number given is r.2)),
     )
 
@@ -239,9 +235,9 @@ pub furnished-without : (K : ℕ → Type 0) (s : Scene) (n : ℕ) (live : List 
     → AreFurnished (Others K n) s live
     → AreFurnished K s (without n live)
 furnished-without K s n live spare a =
-    all-imply (λ i. Apart i × Left i) Mine (without n live) (λ i h k r. h.1 (k, h.0) r)
+    all-weaker (λ i. Apart i × Left i) Mine (without n live) (λ i h k r. h.1 (k, h.0) r)
     (all-both Apart Left (without n live) (none-left n live)
-    (all-without Left n live (all-imply Before Left live (λ i h k r. has i k.0 (h k r)) a)))
+    (all-without Left n live (all-weaker Before Left live (λ i h k r. has i k.0 (h k r)) a)))
   where
     Apart : Instance → Type 0
     Apart i = i.id.number ≡ n → ⊥
@@ -274,7 +270,7 @@ gone-furnished K s i m m' h spare a =
 
 pub fewer : (K : ℕ → Type 0) (s : Scene) (n : ℕ) (live : List Instance) → AreFurnished K s live
     → AreFurnished (Others K n) s live
-fewer K s n live a = all-imply _ _ live (λ i h k r. h k.0 r) a
+fewer K s n live a = all-weaker _ _ live (λ i h k r. h k.0 r) a
 
 -- ---- ends
 
@@ -322,7 +318,7 @@ alone-spare : (K : ℕ → Type 0) (live : List Instance) (i : Instance) (d : In
     → Outside K i.owner
     → IsSpare K d.number live
 alone-spare K live i d alone e out =
-    all-imply _ _ live (λ z h same. subst (Outside K) (sym (h (same ∙ ap (λ (x : InstanceId). x.number) (sym e))))
+    all-weaker _ _ live (λ z h same. subst (Outside K) (sym (h (same ∙ ap (λ (x : InstanceId). x.number) (sym e))))
     out) alone
 
 dependent-spare : (K : ℕ → Type 0) (n : ℕ) (d : InstanceId) (s : Standing) → Rises s → last_of s.live n ≡ Some d

@@ -1,4 +1,5 @@
 -- Along a legal tree each live instance has a home: its context, or the instance that it was made for.
+use Rattle.base_lists.proofs.Each.{all-weaker}
 use Rattle.cdi_legal.proofs.Common.{◌≡◌, ◌<◌, ℕ, false, None, Some, refl, Outcome, Act, Actor, InstanceId, Owner, Nobody, Scene, Touches}
 use Rattle.cdi_legal.proofs.Common.{Ends, End, Answer, Legal, Node, Uses, Use, Runs, Command, Moment, put, ask_more, Entry, ◌+◌, ◌≤◌, inl}
 use Rattle.cdi_legal.proofs.Common.{inr, Bool, true, List, [], ◌∷◌, length, arith, ap, subst, sym, ◌∙◌, AllByRecursion, Scope, context_of}
@@ -15,7 +16,7 @@ use Rattle.cdi_legal.specs.declared.entry.Made.TheVariants.{Instance as Obtained
 use Rattle.cdi_legal.proofs.Along.{touch_along}
 use Rattle.cdi_legal.proofs.Growing.{legal_grows}
 use Rattle.cdi_legal.proofs.Keeping.{Rises, all-more, begun, given-more, legal_older, older, owned-context, owned-param, still-more}
-use Rattle.cdi_legal.proofs.Furnishing.{all-above, all-given, all-imply, ends-all, ends-rise, found-such, none-left, rises-kept}
+use Rattle.cdi_legal.proofs.Furnishing.{all-above, all-given, ends-all, ends-rise, found-such, none-left, rises-kept}
 use Rattle.cdi_legal.proofs.Settling.{Begins, owns, same-given, new_one}
 use Rattle.cdi_legal.proofs.Supplying.{kept-in, last-in}
 use Rattle.cdi_legal.proofs.Rooting.{AreHome, Also, AlsoParts, Free, IsCalm, IsIn, NoNumber, Stay, calm-begins, context-gone}
@@ -82,7 +83,7 @@ begin : (L : Free) (i : InstanceId) (o : Owner) (m m' : Moment) → i.number ≡
 begin L i o m m' e is owned home h = subst (Rests L) (sym is) (record {
   rises = IsRising-more m.standing.given m.standing.live (new_one i o m) h.rises refl owned;
   home = all-more (λ z. IsHome after z.owner ⊎ L z.id.number z.owner) m.standing.live (new_one i o m)
-      (all-imply (λ z. IsHome m.standing.live z.owner ⊎ L z.id.number z.owner) (λ z. IsHome after z.owner ⊎ L z.id.number z.owner)
+      (all-weaker (λ z. IsHome m.standing.live z.owner ⊎ L z.id.number z.owner) (λ z. IsHome after z.owner ⊎ L z.id.number z.owner)
       m.standing.live (λ z home. moved z.id.number z.owner home) h.home)
       (subst (λ n. IsHome after o ⊎ L n o) e (moved i.number o home));
 })
@@ -330,11 +331,11 @@ abbrev NoneFree : Free
 NoneFree n o = ⊥
 
 rooted-home : (live : List Instance) → IsRooted live → AreHome NoneFree live
-rooted-home live a = all-imply (λ z. IsHome live z.owner) (λ z. IsHome live z.owner ⊎ ⊥) live (λ z h. inl h) a
+rooted-home live a = all-weaker (λ z. IsHome live z.owner) (λ z. IsHome live z.owner ⊎ ⊥) live (λ z h. inl h) a
 
 home-rooted : (live : List Instance) → AreHome NoneFree live → IsRooted live
 home-rooted live a =
-    all-imply (λ z. IsHome live z.owner ⊎ ⊥) (λ z. IsHome live z.owner) live
+    all-weaker (λ z. IsHome live z.owner ⊎ ⊥) (λ z. IsHome live z.owner) live
     (λ z h. elim h [ inl home ↦ home | inr never ↦ absurd never ]) a
 
 rests : (a : Standing) → IsRising a.given a.live → IsRooted a.live → Rests NoneFree (beginning a)
@@ -397,7 +398,7 @@ none-stands (x ∷ xs) given r h a b = absurd (by x.owner h.0 r.1 a.0 b.0)
         let one = some-of (numbered (x ∷ xs) n) there in
         let found = found-such (λ z. x.id.number ≤ z.id.number) (of_number n) (x ∷ xs) one.0 (
           omega arith,
-          all-imply (λ z. x.id.number < z.id.number) (λ z. x.id.number ≤ z.id.number) xs (λ z l. omega (arith, l))
+          all-weaker (λ z. x.id.number < z.id.number) (λ z. x.id.number ≤ z.id.number) xs (λ z l. omega (arith, l))
               (all-above x.id.number given xs r.2),
         ) one.1 in
         let is : one.0.id.number ≡ n = grind (arith, found.1) in

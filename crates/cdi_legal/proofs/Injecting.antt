@@ -1,4 +1,5 @@
 -- A new instance has its dependent objects once its injection has ended.
+use Rattle.std.proofs.lemmas.Bool.{false_from_ne_true}
 use Rattle.cdi_legal.proofs.Common.{◌≡◌, ◌<◌, ℕ, false, None, Some, refl, Actor, InstanceId, Owner, Nobody, Scene, Legal, Moment, ◌+◌, ◌≤◌}
 use Rattle.cdi_legal.proofs.Common.{inl, inr, Bool, true, List, [], ◌∷◌, length, arith, ap, subst, sym, ◌∙◌, AllByRecursion, Target}
 use Rattle.cdi_legal.proofs.Common.{Interceptor, Instance, Request, Application, Point, is_normal, Option, Val, Null, bean_at, Bean}
@@ -129,10 +130,6 @@ at-same n a p m b q e =
     let last : q ≡ p = grind (arith, both.1) in
     (one, same-by b a first.1, last)
 
-pub refuted : (b : Bool) → (b ≡ true → ⊥) → b ≡ false
-refuted true h = absurd (h refl)
-refuted false h = refl
-
 not-free : (n : ℕ) (a : Actor) (p low : ℕ) (o : Owner) → n ≤ low → IsFree low o → is_at n a p o ≡ true → ⊥
 not-free n a p low (Point m b q) l free e = absurd (omega (arith, l, free, (at-same n a p m b q e).0))
 not-free n a p low other l free e = cc
@@ -146,7 +143,7 @@ abbrev open_terms : (n low : ℕ) → n ≤ low → Actor → ℕ → Terms
 open_terms n low l a p = record {
   low = low;
   holds = λ id o r. is_at n a p o ≡ false;
-  young = λ id o above owned free. refuted (is_at n a p o) (not-free n a p low o l free);
+  young = λ id o above owned free. false_from_ne_true (is_at n a p o) (not-free n a p low o l free);
   ready = λ id o r above h. h;
 }
 
@@ -217,7 +214,7 @@ injected {s} (Legal.dependent_injected k p d i ps point x a m m₁ m' p0 p1 p2 p
     later j q after there =
         let t : Terms = open_terms i.number m.standing.given low q.actor q.point in
         let other : is_at i.number q.actor q.point (Point i.number point.actor point.point) ≡ false =
-        refuted (is_at i.number q.actor q.point (Point i.number point.actor point.point))
+        false_from_ne_true (is_at i.number q.actor q.point (Point i.number point.actor point.point))
         (λ e. let same = at-same i.number q.actor q.point i.number point.actor point.point e in
         absurd (omega (arith, after, apart p j point q p0 there same.1 same.2))) in
         (legal_older t p3 (owned, λ id l w. other) all r).all (free j q (omega (arith, after)) there)

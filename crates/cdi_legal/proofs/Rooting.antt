@@ -9,10 +9,11 @@ use Rattle.std.proofs.Common.{cond, reverse}
 use Rattle.std.specs.Option.{option_map, option_or}
 use Rattle.std.proofs.lemmas.List.{reverse-append}
 use Rattle.std.proofs.lemmas.List.Folds.{find-append}
+use Rattle.base_lists.proofs.Each.{all-weaker, all-each}
 use Rattle.cdi_contexts.specs.Standing.{last_where}
 use Rattle.cdi_legal.specs.Moment as effects
 use Rattle.cdi_legal.proofs.Keeping.{Test, all-without, still-finish, still-keep, still-without}
-use Rattle.cdi_legal.proofs.Furnishing.{all-both, all-imply, all-step, ends-all, found-such, none-left}
+use Rattle.cdi_legal.proofs.Furnishing.{all-both, all-step, ends-all, found-such, none-left}
 use Rattle.cdi_legal.proofs.Injecting.{nat_cases}
 
 -- ---- homes
@@ -65,14 +66,14 @@ AlsoParts L k n o = L n o ⊎ (is_part_of k o ≡ true)
 
 pub wider : (L M : Free) (live : List Instance) → ((n : ℕ) (o : Owner) → L n o → M n o) → AreHome L live → AreHome M live
 wider L M live more a =
-    all-imply (λ z. IsHome live z.owner ⊎ L z.id.number z.owner) (λ z. IsHome live z.owner ⊎ M z.id.number z.owner) live
+    all-weaker (λ z. IsHome live z.owner ⊎ L z.id.number z.owner) (λ z. IsHome live z.owner ⊎ M z.id.number z.owner) live
     (λ z h. elim h [ inl home ↦ inl home | inr free ↦ inr (more z.id.number z.owner free) ]) a
 
 -- where none of the further ones is live, those that were needed none before are all
 pub narrower : (L M : Free) (live : List Instance) → AllByRecursion (λ z. M z.id.number z.owner → ⊥) live
     → AreHome (λ n o. L n o ⊎ M n o) live → AreHome L live
 narrower L M live none a =
-    all-imply (λ z. Before z × (M z.id.number z.owner → ⊥)) (λ z. IsHome live z.owner ⊎ L z.id.number z.owner) live
+    all-weaker (λ z. Before z × (M z.id.number z.owner → ⊥)) (λ z. IsHome live z.owner ⊎ L z.id.number z.owner) live
     (λ z h. by z h.0 h.1)
     (all-both Before (λ z. M z.id.number z.owner → ⊥) live a none)
   where
@@ -120,7 +121,7 @@ home-step : (L : Free) (e : Entry) (s : Standing) → IsCalm e → AreHome L s.l
 home-step L e s p a =
     let after = (step s e).live in
     all-step (λ id o. IsHome after o ⊎ L id.number o) e s (calm-begins e p)
-    (all-imply (λ z. IsHome s.live z.owner ⊎ L z.id.number z.owner) (λ z. IsHome after z.owner ⊎ L z.id.number z.owner) s.live
+    (all-weaker (λ z. IsHome s.live z.owner ⊎ L z.id.number z.owner) (λ z. IsHome after z.owner ⊎ L z.id.number z.owner) s.live
     (λ z h. elim h [ inl home ↦ inl (home-stay s.live after z.owner (stay-step e s p) home) | inr free ↦ inr free ]) a)
 
 pub home-entry : (L : Free) (e : Entry) (m m' : Moment) → m' ≡ put e m → IsCalm e → AreHome L m.standing.live
@@ -135,10 +136,6 @@ home-touch L n actor other m o m' h a = absurd h
 
 -- ---- an instance goes
 
-all-any : {X : Type 0} (P : X → Type 0) (xs : List X) → ((x : X) → P x) → AllByRecursion P xs
-all-any P [] h = tt
-all-any P (x ∷ xs) h = (h x, all-any P xs h)
-
 -- none of these was made for instance k
 abbrev pub NoParts : ℕ → List Instance → Type 0
 NoParts k live = AllByRecursion (λ z. is_part_of k z.owner ≡ false) live
@@ -150,7 +147,7 @@ NoNumber k live = AllByRecursion (λ z. z.id.number ≡ k → ⊥) live
 stay-without : (k n : ℕ) (live : List Instance) → (n ≡ k → ⊥) → IsSome (numbered live n) → IsSome (numbered (without k live) n)
 stay-without k n live other h =
     let one = some-of (numbered live n) h in
-    let found = found-such (λ z. Unit {0}) (of_number n) live one.0 (all-any (λ z. Unit {0}) live (λ z. tt)) one.1 in
+    let found = found-such (λ z. Unit {0}) (of_number n) live one.0 (all-each (λ z. Unit {0}) (λ z. tt) live) one.1 in
     let is : one.0.id.number ≡ n = grind (arith, found.1) in
     let s = still-without (of_number n) k live one.0 (λ e. other (sym is ∙ e)) one.1 in
     is-some (numbered (without k live) n) s.same s.there
@@ -165,7 +162,7 @@ home-without k live other e h = tt
 pub home-lost : (L : Free) (k : ℕ) (live : List Instance) → AreHome L live → AreHome (AlsoParts L k) (without k live)
 home-lost L k live a =
     all-without (λ z. IsHome (without k live) z.owner ⊎ AlsoParts L k z.id.number z.owner) k live
-    (all-imply (λ z. IsHome live z.owner ⊎ L z.id.number z.owner)
+    (all-weaker (λ z. IsHome live z.owner ⊎ L z.id.number z.owner)
     (λ z. IsHome (without k live) z.owner ⊎ AlsoParts L k z.id.number z.owner) live
     (λ z h. by z (is_part_of k z.owner) refl h) a)
   where
@@ -177,7 +174,7 @@ home-lost L k live a =
 
 pub no-parts : (k : ℕ) (live : List Instance) → NoParts k live → AllByRecursion (λ z. is_part_of k z.owner ≡ true → ⊥) live
 no-parts k live a =
-    all-imply (λ z. is_part_of k z.owner ≡ false) (λ z. is_part_of k z.owner ≡ true → ⊥) live
+    all-weaker (λ z. is_part_of k z.owner ≡ false) (λ z. is_part_of k z.owner ≡ true → ⊥) live
     (λ z e h. let no : true ≡ false = sym h ∙ e in cc) a
 
 -- where nothing was made for it, all others keep theirs
@@ -272,16 +269,16 @@ NoneOf h k d o = (j : ℕ) (i : InstanceId) → j < k → slice_get h j ≡ Some
 held-gone : {s : Scene} {h : Held} {k : ℕ} {m m' : Moment} → Ends s (held h k) m m'
     → AllByRecursion (λ z. NoneOf h k z.id z.owner) m'.standing.live
 held-gone (Ends.none_held h m) =
-    all-any (λ z. NoneOf h 0 z.id z.owner) m.standing.live (λ z j i less there same. absurd (omega (arith, less)))
+    all-each (λ z. NoneOf h 0 z.id z.owner) (λ z j i less there same. absurd (omega (arith, less))) m.standing.live
 held-gone (Ends.proxy_held h j k m m' p0 p1 p2) =
-    all-imply (λ z. NoneOf h j z.id z.owner) (λ z. NoneOf h k z.id z.owner) m'.standing.live
+    all-weaker (λ z. NoneOf h j z.id z.owner) (λ z. NoneOf h k z.id z.owner) m'.standing.live
     (λ z none l i less there same. elim (nat_cases l j (omega (arith, less, p0))) [
       | inl last ↦ (let both : Some (Some i) ≡ Some None = sym there ∙ ap (slice_get h) last ∙ p1 in cc)
       | inr low ↦ none l i low there same
     ])
     (held-gone p2)
 held-gone (Ends.instance_held h j k i m m₁ m' p0 p1 p2 p3) =
-    all-imply (λ z. NoneOf h j z.id z.owner × (z.id.number ≡ i.number → ⊥)) (λ z. NoneOf h k z.id z.owner) m'.standing.live
+    all-weaker (λ z. NoneOf h j z.id z.owner × (z.id.number ≡ i.number → ⊥)) (λ z. NoneOf h k z.id z.owner) m'.standing.live
     (λ z none l d less there same. elim (nat_cases l j (omega (arith, less, p0))) [
       | inl last ↦ (let both : Some (Some d) ≡ Some (Some i) = sym there ∙ ap (slice_get h) last ∙ p1 in
           let is : d ≡ i = cc in
@@ -296,6 +293,6 @@ pub held-home : (L : Free) {s : Scene} {h : Held} {m m' : Moment} → Ends s (he
     → AreHome (λ n o. L n o ⊎ IsIn h n) m.standing.live → AreHome L m'.standing.live
 held-home L {h = h} {m' = m'} p a =
     narrower L (λ n o. IsIn h n) m'.standing.live
-    (all-imply (λ z. NoneOf h (length h) z.id z.owner) (λ z. IsIn h z.id.number → ⊥) m'.standing.live
+    (all-weaker (λ z. NoneOf h (length h) z.id z.owner) (λ z. IsIn h z.id.number → ⊥) m'.standing.live
     (λ z none one. none one.place one.id (slice_get_within h one.place (Some one.id) one.there) one.there one.is) (held-gone p))
     (ends-home (λ n o. L n o ⊎ IsIn h n) p a)

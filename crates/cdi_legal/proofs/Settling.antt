@@ -1,4 +1,6 @@
 -- Along a legal tree each ready instance has its dependent objects.
+use Rattle.std.proofs.lemmas.Bool.{false_from_ne_true}
+use Rattle.base_lists.proofs.Each.{all-weaker}
 use Rattle.cdi_legal.proofs.Common.{◌≡◌, ◌<◌, ℕ, false, None, Some, refl, Outcome, Act, Actor, InstanceId, Owner, Nobody, Scene, Touches}
 use Rattle.cdi_legal.proofs.Common.{Ends, Answer, Legal, Node, Uses, Use, Runs, Command, Moment, put, ask_more, Entry, ◌+◌, ◌≤◌, inl, inr}
 use Rattle.cdi_legal.proofs.Common.{Bool, true, List, [], ◌∷◌, length, arith, ap, subst, sym, ◌∙◌, AllByRecursion, Scope, is_of, Instance}
@@ -16,10 +18,10 @@ use Rattle.cdi_legal.proofs.Growing.{legal_grows}
 use Rattle.cdi_legal.proofs.Keeping.{Admits, AdmitsFor, IsFree, Older, Owns, Rises, Terms, WasGiven, all-more, all-map, begun, created}
 use Rattle.cdi_legal.proofs.Keeping.{given-more, legal_older, older, owned-context, owned-param, still-finish, still-more, Test, uses_older}
 use Rattle.cdi_legal.proofs.Sharing.{same-finish}
-use Rattle.cdi_legal.proofs.Furnishing.{AllSpare, AreFurnished, IsPlain, IsSpare, Others, Outside, all-both, all-given, all-imply}
+use Rattle.cdi_legal.proofs.Furnishing.{AllSpare, AreFurnished, IsPlain, IsSpare, Others, Outside, all-both, all-given}
 use Rattle.cdi_legal.proofs.Furnishing.{all-owned, at, ends-all, ends-rise, ends_furnished, fewer, found-such, furnished-without, has-still}
 use Rattle.cdi_legal.proofs.Furnishing.{none-left, plain, rises-kept, touch-furnished, is_plain_kept}
-use Rattle.cdi_legal.proofs.Injecting.{AreApart, at-same, injected, refuted}
+use Rattle.cdi_legal.proofs.Injecting.{AreApart, at-same, injected}
 
 -- no two injection points of a bean are of one actor and point
 abbrev pub IsApart : Scene → Type 0
@@ -104,10 +106,10 @@ old-part {s} {k} {x} {a} {m} {m'} p b h =
     let o = legal_older t p (owns t x m (λ o id above w l e. absurd (omega (arith, above, l))) b) (same-given m)
     h.rises in
     let step = legal_older (older g) p (owns (older g) x m (λ o id l w. tt) b) (same-given m) h.rises in
-    all-imply (λ z. z.id.number ≤ g → z.is_ready ≡ true → HasDependents s m.standing.live z.id)
+    all-weaker (λ z. z.id.number ≤ g → z.is_ready ≡ true → HasDependents s m.standing.live z.id)
     (λ z. z.id.number ≤ g → z.is_ready ≡ true → HasDependents s m'.standing.live z.id) m'.standing.live
     (λ z had l e. keeps-had s m m' z.id h.rises step (had l e))
-    (o.all (all-imply (λ z. z.is_ready ≡ true → HasDependents s m.standing.live z.id)
+    (o.all (all-weaker (λ z. z.is_ready ≡ true → HasDependents s m.standing.live z.id)
     (λ z. z.id.number ≤ g → z.is_ready ≡ true → HasDependents s m.standing.live z.id) m.standing.live (λ z had l e.
     had e) h.furnished))
 
@@ -121,7 +123,7 @@ either n g = by (nat_lt g n) refl
 join : (s : Scene) (g : ℕ) (live : List Instance) → AreFurnished (Up g) s live → AreFurnished (Above g) s live
     → IsFurnished s live
 join s g live a b =
-    all-imply (λ z. Old z × New z) (λ z. z.is_ready ≡ true → HasDependents s live z.id) live
+    all-weaker (λ z. Old z × New z) (λ z. z.is_ready ≡ true → HasDependents s live z.id) live
     (λ z h e. elim (either z.id.number g) [ inl l ↦ h.0 l e | inr l ↦ h.1 l e ]) (all-both Old New live a b)
   where
     Old : Instance → Type 0
@@ -141,13 +143,13 @@ Young s m m' = Settled s m → AreFurnished (Above m.standing.given) s m'.standi
 
 only : (s : Scene) (K : ℕ → Type 0) (live : List Instance) → IsFurnished s live → AreFurnished K s live
 only s K live a =
-    all-imply (λ z. z.is_ready ≡ true → HasDependents s live z.id) (λ z. K z.id.number → z.is_ready ≡ true
+    all-weaker (λ z. z.is_ready ≡ true → HasDependents s live z.id) (λ z. K z.id.number → z.is_ready ≡ true
     → HasDependents s live z.id)
     live (λ z h k e. h e) a
 
 all-of : (s : Scene) (live : List Instance) → AreFurnished (λ n. Unit {0}) s live → IsFurnished s live
 all-of s live a =
-    all-imply (λ z. Unit {0} → z.is_ready ≡ true → HasDependents s live z.id) (λ z. z.is_ready ≡ true
+    all-weaker (λ z. Unit {0} → z.is_ready ≡ true → HasDependents s live z.id) (λ z. z.is_ready ≡ true
     → HasDependents s live z.id)
     live (λ z h e. h tt e) a
 
@@ -191,9 +193,9 @@ touch {s} n actor x m o m' t h = record {
 fresh : (m : Moment) (n : ℕ) (actor : Actor) (p : ℕ) → Rises m.standing → n ≡ m.standing.given
     → AllByRecursion (λ z. is_at n actor p z.owner ≡ false) m.standing.live
 fresh m n actor p r e =
-    all-imply (λ z. IsOwnerOf z.id.number z.owner × (z.id.number ≤ m.standing.given)) (λ z. is_at n actor p z.owner ≡
+    all-weaker (λ z. IsOwnerOf z.id.number z.owner × (z.id.number ≤ m.standing.given)) (λ z. is_at n actor p z.owner ≡
     false) m.standing.live
-    (λ z h. refuted (is_at n actor p z.owner) (by z z.owner h.0 h.1))
+    (λ z h. false_from_ne_true (is_at n actor p z.owner) (by z z.owner h.0 h.1))
     (all-both (λ z. IsOwnerOf z.id.number z.owner) (λ z. z.id.number ≤ m.standing.given) m.standing.live
     (all-owned 0 m.standing.given m.standing.live r) (all-given 0 m.standing.given m.standing.live r))
   where
@@ -265,7 +267,7 @@ pub begin : {s : Scene} (i : InstanceId) (o : Owner) (m m' : Moment) → m' ≡ 
 begin {s} i o m m' is owned h = subst (Settled s) (sym is) (record {
   rises = IsRising-more m.standing.given m.standing.live (new_one i o m) h.rises refl owned;
   furnished = all-more (λ z. z.is_ready ≡ true → HasDependents s after z.id) m.standing.live (new_one i o m)
-      (all-imply (λ z. z.is_ready ≡ true → HasDependents s m.standing.live z.id) (λ z. z.is_ready ≡ true
+      (all-weaker (λ z. z.is_ready ≡ true → HasDependents s m.standing.live z.id) (λ z. z.is_ready ≡ true
       → HasDependents s after z.id)
       m.standing.live (λ z had e. has-still s m.standing.live after z.id
       (λ actor p d f. still-more (at z.id.number actor p) m.standing.live (new_one i o m) d f) (had e)) h.furnished)
@@ -285,7 +287,7 @@ begun-only : (i : InstanceId) (o : Owner) (m m' : Moment) → i.number ≡ m.sta
 begun-only i o m m' e is r =
     subst (λ (y : Moment). IsOnly i y.standing.live) (sym is)
     (all-more (λ z. z.id.number ≡ i.number → z.id ≡ i) m.standing.live (new_one i o m)
-    (all-imply (λ z. z.id.number ≤ m.standing.given) (λ z. z.id.number ≡ i.number → z.id ≡ i) m.standing.live
+    (all-weaker (λ z. z.id.number ≤ m.standing.given) (λ z. z.id.number ≡ i.number → z.id ≡ i) m.standing.live
     (λ z l same. absurd (omega (arith, l, same, e))) (all-given 0 m.standing.given m.standing.live r))
     (λ same. ap (λ n. record { bean = i.bean; number = n }) (sym e)))
 
@@ -343,7 +345,7 @@ ready {s} i product m m' is alone had h = subst (Settled s) (sym is) (record {
 -- what is not younger is spare for those that are
 spare : (g n : ℕ) (m : Moment) → Rises m.standing → n ≤ g + 1 → IsSpare (Above g) n m.standing.live
 spare g n m r l =
-    all-imply (λ z. IsOwnerOf z.id.number z.owner) (λ z. z.id.number ≡ n → Outside (Above g) z.owner) m.standing.live
+    all-weaker (λ z. IsOwnerOf z.id.number z.owner) (λ z. z.id.number ≡ n → Outside (Above g) z.owner) m.standing.live
     (λ z owned same. by z z.owner owned same) (all-owned 0 m.standing.given m.standing.live r)
   where
     by : (z : Instance) (o : Owner) → IsOwnerOf z.id.number o → z.id.number ≡ n → Outside (Above g) o
@@ -374,7 +376,7 @@ broke {s} {m} {m₁} {m'} i g f e is p h =
     let r₁ = rises-kept.entry (entries.Broken i f) m m₁ refl is h.rises in
     let none = ends-all (λ id o. id.number ≡ n → ⊥) p none₁ in
     let a₂ = ends_furnished (Others (Above g) n) p r₁ (λ k. k.1 refl) (fewer (Above g) s n m₁.standing.live a₁) in
-    all-imply (λ z. Left z × (z.id.number ≡ n → ⊥)) Mine m'.standing.live (λ z both k r. both.0 (k, both.1) r)
+    all-weaker (λ z. Left z × (z.id.number ≡ n → ⊥)) Mine m'.standing.live (λ z both k r. both.0 (k, both.1) r)
     (all-both Left (λ z. z.id.number ≡ n → ⊥) m'.standing.live a₂ none)
   where
     Left : Instance → Type 0
@@ -432,12 +434,12 @@ created-spare : {s : Scene} {k b n : ℕ} {m m' : Moment} (K : ℕ → Type 0)
     → Rises m.standing → IsSpare K n m'.standing.live
 created-spare {s} {k} {b} {n} {m} {m'} K p r =
     let t : Terms = new_terms K m.standing.given in
-    let before = all-imply (λ z. z.id.number ≤ m.standing.given) (λ z. z.id.number ≡ m.standing.given + 1
+    let before = all-weaker (λ z. z.id.number ≤ m.standing.given) (λ z. z.id.number ≡ m.standing.given + 1
     → Outside K z.owner)
     m.standing.live (λ z l same. absurd (omega (arith, l, same))) (all-given 0 m.standing.given m.standing.live r) in
     let o = legal_older t p (tt, λ id l w same. tt) (same-given m) r in
     let all = o.all before in
-    all-imply (λ z. z.id.number ≡ m.standing.given + 1 → Outside K z.owner) (λ z. z.id.number ≡ n → Outside K z.owner)
+    all-weaker (λ z. z.id.number ≡ m.standing.given + 1 → Outside K z.owner) (λ z. z.id.number ≡ n → Outside K z.owner)
     m'.standing.live (λ z out same. out (same ∙ created p)) all
 
 made-low : {s : Scene} {k b n : ℕ} {o : Owner} {m m' : Moment} → Legal s k (create b o) m (made_is (Obtained n)) m'

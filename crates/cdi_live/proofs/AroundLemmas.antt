@@ -1,24 +1,16 @@
 -- The interceptors around a place are among those that its chain sees.
 use Rattle.cdi_live.proofs.Common.{◌≡◌, Bool, true, false, cond, not, ◌&&◌, List, [], ◌∷◌, length, map, filter, nat_eq, is_some, refl, sym}
 use Rattle.cdi_live.proofs.Common.{ap, ◌∙◌, inl, inr, list_all, list_any, option_eq, bytes_eq, and_from, and_parts, false≢true, or_cases}
-use Rattle.cdi_live.proofs.Common.{or_left, or_right, Decl, InterceptorDecl, BeanPlace, Qual, bytes_eq-turned, uses_one, in_text_order}
+use Rattle.cdi_live.proofs.Common.{or_left, or_right, Decl, InterceptorDecl, BeanPlace, Qual, uses_one, in_text_order, bytes_eq-turned}
 use Rattle.cdi_live.proofs.Common.{chain_by, in_order, part_for, surrounds, is_seen, names_around, shares_type, any-in_text_order}
 use Rattle.std.proofs.lemmas.List.Elements.{filter_agree}
+use Rattle.base_lists.proofs.Filters.{filter-both}
 use Rattle.cdi_model.specs.declared.decl.UseKind.TheVariants as use_kinds
 use Rattle.cdi_match.specs.Covering.{agree, covers, covers_by, given_name}
 use Rattle.cdi_match.specs.Filling.{declared_of}
 use Rattle.cdi_intercept.specs.Chains.{binds, covered_in}
+use Rattle.cdi_intercept.proofs.SeenLemmas.{covered-used}
 
-covered-used : (ds : List Decl) (set : List Qual) (want : Qual) → covered_in ds set want ≡ true → uses_one set want.name ≡ true
-unfolding covers_by
-covered-used ds [] want h = h
-covered-used ds (have ∷ set) want h =
-    elim (or_cases (covers ds use_kinds.Binding have want) (covered_in ds set want) h) [
-      | inl here ↦ or_left (bytes_eq want.name have.name) (uses_one set want.name)
-          (bytes_eq-turned want.name have.name ∙ (and_parts (bytes_eq have.name want.name) (rest have) here).0)
-      | inr there ↦ or_right (bytes_eq want.name have.name) (uses_one set want.name) (covered-used ds set want there)
-    ]
-  where
     -- what is said beside the names
     rest : Qual → Bool
     rest u = option_eq bytes_eq (given_name u.arguments) (given_name want.arguments) && agree
@@ -53,17 +45,6 @@ seen-too ds set place i = by (surrounds ds set place i) refl
         let parts = and_parts (is_some (part_for place i)) (binds ds set i) e in
         and-true (is_seen set place i)
         ∙ and_from (is_some (part_for place i)) (shares_type set i) parts.0 (first-shared ds set i.bindings parts.1)
-
--- first one test, then the other
-filter-both : {X : Type 0} (p q : X → Bool) (xs : List X) → filter (λ x. p x && q x) xs ≡ filter q (filter p xs)
-filter-both p q [] = refl
-filter-both {X = X} p q (x ∷ xs) = by (p x) (filter-both p q xs)
-  where
-    by : (b : Bool) → filter (λ y. p y && q y) xs ≡ filter q (filter p xs)
-        → cond (b && q x) (x ∷ filter (λ y. p y && q y) xs) (filter (λ y. p y && q y) xs)
-        ≡ filter q (cond b (x ∷ filter p xs) (filter p xs))
-    by true rest = ap (λ (more : List X). cond (q x) (x ∷ more) more) rest
-    by false rest = rest
 
 -- the order of the bindings does not count
 any-order : (ds : List Decl) (set us : List Qual) → list_all (covered_in ds (in_text_order set)) us ≡ list_all (covered_in ds set) us

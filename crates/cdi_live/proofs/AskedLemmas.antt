@@ -1,4 +1,7 @@
 -- A choice, or who observes an event, is asked for after edits by a declaration that is not edited, or by one that is.
+use Rattle.std.proofs.lemmas.Bool.{not-true}
+use Rattle.base_lists.proofs.Any.{any-same}
+use Rattle.base_options.proofs.Booleans.{same-bool}
 use Rattle.cdi_live.proofs.Common.{◌≡◌, Bool, true, false, not, ◌&&◌, List, [], ◌∷◌, refl, sym, ap, ◌∙◌, inl, inr, list_any, and_from}
 use Rattle.cdi_live.proofs.Common.{and_parts, false≢true, or_cases, or_left, or_right, Decl, Qual, ℕ, ◌||◌, flat_map, Option, Some, None}
 use Rattle.cdi_live.proofs.Common.{option_map_or, list_any-append, Edit, DeclKey, key_of, kind_of, name_of_decl, same_key, find_decl}
@@ -6,17 +9,11 @@ use Rattle.cdi_live.proofs.Common.{AreDistinct, edited_all, edited_keys, is_amon
 use Rattle.cdi_live.proofs.Common.{PointOf, StereotypeOf, TypeIn, UseOf, edits_keep_decl, key_exact, asks_for, asks_in, ChoiceKey}
 use Rattle.cdi_live.proofs.Common.{is_wanted, key_of_point, points_of, wanted_stand_once, IsPresent, all_present, found_any, witness}
 use Rattle.cdi_live.proofs.Common.{is_asked_after}
-use Rattle.cdi_live.proofs.ListedLemmas.{un-not}
 use Rattle.cdi_index.specs.declared.asked.Question.{Question}
 use Rattle.cdi_index.specs.declared.asked.Question.TheVariants as questions
 use Rattle.cdi_index.specs.Asked.{asks_at, is_asked, is_asked_by}
 use Rattle.cdi_observe.specs.Keys.{same_key as same_question}
 use Rattle.cdi_observe.specs.Wanted.{is_wanted_choice, point_named}
-
-pub same-bool : (a b : Bool) → (a ≡ true → b ≡ true) → (b ≡ true → a ≡ true) → a ≡ b
-same-bool true b f g = sym (f refl)
-same-bool false true f g = g refl
-same-bool false false f g = refl
 
 pub any-elim : {X B : Type 0} (p : X → Bool) (xs : List X) → list_any p xs ≡ true → ((x : X) → p x ≡ true → B) → B
 any-elim {B = B} p [] e f = absurd (false≢true e)
@@ -24,10 +21,6 @@ any-elim {B = B} p (x ∷ xs) e f = elim (or_cases (p x) (list_any p xs) e) [
   | inl here ↦ f x here
   | inr there ↦ any-elim p xs there f
 ]
-
-pub any-same : {X : Type 0} (p q : X → Bool) (xs : List X) → ((x : X) → p x ≡ q x) → list_any p xs ≡ list_any q xs
-any-same p q [] same = refl
-any-same p q (x ∷ xs) same = λ i. same x i || any-same p q xs same i
 
 -- a test that is true of a key is true of one among keys that have it
 pub any-among : (p : DeclKey → Bool) (keys : List DeclKey) (k : DeclKey) → is_among keys k ≡ true → p k ≡ true → list_any p keys ≡ true
@@ -45,13 +38,7 @@ module _ (t : List ℕ) (us : List Qual) where
       or-none : (b : Bool) → (b || false) ≡ b
       or-none true = refl
       or-none false = refl
-  at-point (TypeIn place x) = refl
-  at-point (UseOf kind u) = refl
-  at-point (StereotypeOf s) = refl
-  at-point (MethodOf m) = refl
-  at-point (BodyOf place body) = refl
-  at-point (CallOf place params call) = refl
-  at-point (EventOf e) = refl
+  at-point other = refl
 
   at-points : (ms : List Mention)
       → list_any (λ point. same_question (ChoiceKey t us) (key_of_point point)) (flat_map point_named ms) ≡ list_any (asks_in questions.Choice t us) ms
@@ -93,7 +80,7 @@ module _ (q : Question) (t : List ℕ) (us : List Qual) (edits : List Edit) (ds 
         let it = witness (IsPresent ds) others ds (all_present ds distinct) other in
         let parts = and_parts (not (is_among keys (key_of it.0))) (asks_for q t us it.0) it.2 in
         found_any (kind_of it.0) (name_of_decl it.0) es it.0 (asks_for q t us)
-        (stays it.0 (un-not (is_among keys (key_of it.0)) parts.0) ∙ it.1) parts.1
+        (stays it.0 (not-true (is_among keys (key_of it.0)) parts.0) ∙ it.1) parts.1
     | inr own ↦ any-elim (asks_at es q t us) keys own (λ k asks. by k (find_decl k.kind k.name es) refl asks)
   ]
     where

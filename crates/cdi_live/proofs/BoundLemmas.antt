@@ -6,7 +6,6 @@ use Rattle.cdi_live.proofs.Common.{TypeIn, UseOf, ◌++◌, unwrap_or, option_ma
 use Rattle.cdi_live.proofs.Common.{of_parts, of_point, name_of_use, has, own_records, class_bindings, Effective, Word, same_word, word_at}
 use Rattle.cdi_live.proofs.Common.{words_have, words_named, words_named_in, words_of_bindings, words_of_observer, words_of_record}
 use Rattle.cdi_live.proofs.Common.{words_of_uses, words_by, among-named, own_bindings}
-use Rattle.cdi_live.proofs.ListedLemmas.{words-append}
 use Rattle.std.specs.List.{find}
 use Rattle.cdi_model.specs.declared.decl.Decl.TheVariants as decls
 use Rattle.cdi_model.specs.declared.decl.MethodDecl.{MethodDecl}
@@ -19,6 +18,7 @@ use Rattle.cdi_model.specs.declared.place.PartPlace.TheVariants as parts
 use Rattle.cdi_model.specs.Mentions.{of_attributes, of_disposer, of_method, of_observer, of_part, of_producer, of_qualifiers, part_place_of}
 use Rattle.cdi_effective.specs.Beans.{effective}
 use Rattle.cdi_postings.specs.declared.word.Reason.TheVariants as reasons
+use Rattle.cdi_index.proofs.SoughtLemmas.{words-append}
 
 abbrev word : List ℕ → Word
 word n = word_at reasons.Binds n

@@ -2,11 +2,11 @@
 use Rattle.cdi_live.proofs.Common.{◌≡◌, Bool, true, false, cond, not, ◌&&◌, List, [], ◌∷◌, map, filter, refl, sym, ap, ◌∙◌, inl, inr}
 use Rattle.cdi_live.proofs.Common.{list_any, bytes_eq, and_from, false≢true, or_cases, or_left, or_right, Decl, InterceptorDecl, BeanPlace}
 use Rattle.cdi_live.proofs.Common.{Qual, uses_one, in_text_order, any-in_text_order, ℕ, Option, Some, None, option_map_or, list_any-append}
-use Rattle.cdi_live.proofs.Common.{Edit, DeclKey, key_of, same_key, find_decl, AreDistinct, edited_all, edited_keys, is_among}
+use Rattle.cdi_live.proofs.Common.{Edit, DeclKey, key_of, same_key, find_decl, AreDistinct, edited_all, edited_keys, is_among, one_text}
 use Rattle.cdi_live.proofs.Common.{edits_keep_decl, key_exact, IsPresent, all_present, found_any, unwrap_or, option_map, BeanDecl}
 use Rattle.cdi_live.proofs.Common.{name_of_use, has, class_bindings, word_at, words_have, words_by, own_bindings, Tells, ChainKey}
-use Rattle.cdi_live.proofs.Common.{is_touched, is_chain_suspect, zero, suc, or_from, or_parts, key_at, Avoid, Chain, as_binding, one_name}
-use Rattle.cdi_live.proofs.Common.{same_text, as_bean, find_bean, set_at, is_enabled, sees_at, has_place, set_by, made_of, made_of_bean}
+use Rattle.cdi_live.proofs.Common.{is_touched, is_chain_suspect, zero, suc, or_from, or_parts, key_at, Avoid, Chain, as_binding, same_text}
+use Rattle.cdi_live.proofs.Common.{as_bean, find_bean, set_at, is_enabled, sees_at, has_place, set_by, made_of, made_of_bean}
 use Rattle.cdi_live.proofs.Common.{made_of_binding, made_of_interceptor, reads, reads_in, has_one, key-found, ByChain}
 use Rattle.cdi_live.proofs.Common.{touched_where_seen_differs, each_all, is_place_of, brings_to, class_named, classes_bound, is_bound_by}
 use Rattle.cdi_live.proofs.Common.{is_intercepted_by, holds}
@@ -22,6 +22,7 @@ use Rattle.cdi_effective.specs.Reads.{record_reads}
 use Rattle.cdi_intercept.specs.Bindings.{set_of}
 use Rattle.cdi_intercept.specs.Sets.{around_method, of_method, of_observer, of_producer}
 use Rattle.cdi_postings.specs.declared.word.Reason.TheVariants as reasons
+use Rattle.cdi_index.proofs.ChangeLemmas.{none-of}
 use Rattle.cdi_seen.proofs.ContributionLemmas.{edits_keep_given}
 use Rattle.cdi_seen.specs.Gives.{interceptor_given, ranked_interceptor}
 use Rattle.cdi_seen.specs.Rests.{own_reads, place_reads}
@@ -33,14 +34,6 @@ use Rattle.cdi_live.specs.ChainSuspects.{is_chain_suspect_by, is_intercepted, is
 use Rattle.cdi_live.proofs.AskedLemmas.{any-among}
 use Rattle.cdi_live.proofs.BoundLemmas.{class-word, own-word}
 use Rattle.cdi_live.proofs.ListedLemmas.{of-passing}
-
--- a test that is true of no key is not true of one among them
-none-at : (p : DeclKey → Bool) (keys : List DeclKey) (k : DeclKey) → list_any p keys ≡ false → is_among keys k ≡ true → p k ≡ false
-none-at p keys k none among = by (p k) refl
-  where
-    by : (b : Bool) → p k ≡ b → b ≡ false
-    by false e = refl
-    by true e = absurd (false≢true (sym none ∙ any-among p keys k among e))
 
 -- a key among those of some names is of one of them
 record IsNamed (key : DeclKey) (names : List (List ℕ)) : Type 0 where
@@ -66,7 +59,7 @@ any-use : (p : List ℕ → Bool) (us : List Qual) (x : List ℕ) → has (map n
     → list_any (λ u. p u.name) us ≡ true
 any-use p [] x h holds = absurd (false≢true h)
 any-use p (u ∷ us) x h holds = elim (or_cases (bytes_eq u.name x) (has (map name_of_use us) x) h) [
-  | inl here ↦ or_left (p u.name) (list_any (λ u. p u.name) us) (ap p (one_name u.name x here) ∙ holds)
+  | inl here ↦ or_left (p u.name) (list_any (λ u. p u.name) us) (ap p (one_text u.name x here) ∙ holds)
   | inr there ↦ or_right (p u.name) (list_any (λ u. p u.name) us) (any-use p us x there holds)
 ]
 
@@ -172,12 +165,10 @@ module _ (ds : List Decl) where
 
     set-intercepted : (place : BeanPlace) (x : List ℕ) → has (map name_of_use (set_by ds (class_bindings ds b) b place)) x ≡ true
         → is_intercepted ds x class ≡ true
-    set-intercepted places.Construct x h = class-intercepted x h
-    set-intercepted places.Post x h = class-intercepted x h
-    set-intercepted places.Pre x h = class-intercepted x h
     set-intercepted (places.Method name) x h = around-intercepted (places.Method name) (of_method b name) refl x h
     set-intercepted (places.Producer name) x h = around-intercepted (places.Producer name) (of_producer b name) refl x h
     set-intercepted (places.Observer name) x h = around-intercepted (places.Observer name) (of_observer b name) refl x h
+    set-intercepted other x h = class-intercepted x h
 
   -- each type of a binding at a place intercepts the class
   at-place : (class : List ℕ) (place : BeanPlace) (x : List ℕ) → has (map name_of_use (set_at ds class place)) x ≡ true → is_intercepted ds x class ≡ true
@@ -199,7 +190,7 @@ module _ (edits : List Edit) (ds : List Decl) (told : List DeclKey) (distinct : 
   keys = edited_keys edits
 
   suspect : (k : DeclKey) → is_among told k ≡ true → is_chain_suspect_by ds es class k ≡ false
-  suspect k among = none-at (is_chain_suspect_by ds es class) told k clear among
+  suspect k among = none-of (is_chain_suspect_by ds es class) told k clear among
 
   bean-untold : is_among told (key_at kinds.Bean class) ≡ false
   bean-untold = by (is_among told (key_at kinds.Bean class)) refl
@@ -311,19 +302,13 @@ module _ (edits : List Edit) (ds : List Decl) (told : List DeclKey) (distinct : 
     before (decls.Interceptor i) there edited =
         nothing ds i (told-before i there (tells.edited (key_at kinds.Interceptor i.name) refl edited))
     before (decls.Bean d) there edited = refl
-    before (decls.Type d) there edited = refl
-    before (decls.Qualifier d) there edited = refl
-    before (decls.Binding d) there edited = refl
-    before (decls.Stereotype d) there edited = refl
+    before other there edited = refl
 
     after : (d : Decl) → IsPresent es d → is_among keys (key_of d) ≡ true → interceptor_given list place es d ≡ []
     after (decls.Interceptor i) there edited =
         nothing es i (told-after i there (tells.edited (key_at kinds.Interceptor i.name) refl edited))
     after (decls.Bean d) there edited = refl
-    after (decls.Type d) there edited = refl
-    after (decls.Qualifier d) there edited = refl
-    after (decls.Binding d) there edited = refl
-    after (decls.Stereotype d) there edited = refl
+    after other there edited = refl
 
     others : (d : Decl) → IsPresent ds d → is_among keys (key_of d) ≡ false
         → interceptor_given list place ds d ≡ interceptor_given list place es d
@@ -339,10 +324,7 @@ module _ (edits : List Edit) (ds : List Decl) (told : List DeclKey) (distinct : 
             (λ key edited. ap (λ o. is_among (reads_in (option_map made_of_interceptor o)) key) (sym there)
             ∙ tells.apart (key_at kinds.Interceptor i.name) untold key edited))
     others (decls.Bean d) there none = refl
-    others (decls.Type d) there none = refl
-    others (decls.Qualifier d) there none = refl
-    others (decls.Binding d) there none = refl
-    others (decls.Stereotype d) there none = refl
+    others other there none = refl
 
     sees-same : sees_at es class place ≡ sees_at ds class place
     sees-same = chain_same_from edits ds class place (own-part place)

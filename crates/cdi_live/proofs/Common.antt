@@ -37,7 +37,6 @@ pub use Rattle.cdi_model.specs.declared.edit.Edit.{Edit}
 pub use Rattle.cdi_model.specs.declared.key.DeclKey.{DeclKey}
 pub use Rattle.cdi_model.specs.declared.place.BeanPlace.{BeanPlace}
 pub use Rattle.cdi_model.specs.declared.quals.Qual.{Qual}
-pub use Rattle.cdi_match.proofs.Names.{bytes_eq-turned, one_name, same_text}
 pub use Rattle.cdi_match.specs.Chain.{has, Chain}
 pub use Rattle.cdi_match.specs.Filling.{as_binding}
 pub use Rattle.cdi_match.specs.Types.{types_of}
@@ -72,7 +71,8 @@ unfoldable pub use Rattle.cdi_intercept.specs.Chains.{chain_by, in_order}
 pub use Rattle.cdi_intercept.specs.Lent.{lent_in}
 pub use Rattle.cdi_intercept.specs.Sees.{is_seen, names_around, shares_type, sees_at}
 pub use Rattle.cdi_intercept.specs.Sets.{has_place, set_by, places_of}
-pub use Rattle.cdi_intercept.specs.Sorting.{sorted_by}
+pub use Rattle.base_lists.specs.Sorting.{sorted_by}
+pub use Rattle.base_numbers.proofs.Texts.{one_text, same_text, bytes_eq-turned}
 pub use Rattle.cdi_resolve.specs.Choices.{offers}
 unfoldable pub use Rattle.cdi_resolve.specs.Choices.{chosen}
 pub use Rattle.cdi_resolve.specs.declared.choice.Choice.{Choice}

@@ -6,6 +6,7 @@ use Rattle.cdi_live.proofs.Common.{words_have, IsBetween, Sides, zero, suc, or_p
 use Rattle.cdi_live.proofs.Common.{nat_eq_equiv, filter-append, is_of, position-found, position-there, beans, entries, own-position}
 use Rattle.cdi_live.proofs.Common.{is_listed, is_marked, marked_from, records_at, is_place_of_one, words_at, words_declared}
 use Rattle.std.proofs.Common.{◌⊎◌}
+use Rattle.base_numbers.proofs.Numbers.{nat_eq-refl}
 use Rattle.cdi_model.specs.declared.decl.Decl.TheVariants as decls
 use Rattle.cdi_effective.proofs.PlaceLemmas.{own-found}
 use Rattle.cdi_postings.specs.declared.word.Reason.TheVariants as reasons
@@ -83,9 +84,6 @@ among-marked test n (m ∷ ms) (suc i) marked h = by m (among-marked test (n + 1
     by true more = or_right (test n) (list_any test (marked_from (n + 1) ms)) more
     by false more = more
 
-itself : (n : ℕ) → nat_eq n n ≡ true
-itself n = nat_eq_equiv.refl n
-
 module _ (sides : Sides) (between : IsBetween sides) (distinct : AreDistinct sides.index.now.decls) (apart : AreDistinct sides.next.now)
     (words : List Word) (before : List Bool)
     (found : (p : ℕ) → is_marked before p ≡ option_map_or (has_one sides.index.now.decls words) (slice_get sides.index.now.decls p) false) where
@@ -97,7 +95,7 @@ module _ (sides : Sides) (between : IsBetween sides) (distinct : AreDistinct sid
 
   -- the declaration at a position is there
   at-own : (p : ℕ) (d : Decl) → slice_get es p ≡ Some d → is_at es (key_of d) p ≡ true
-  at-own p d there = ap (λ o. option_map_or (λ i. nat_eq i p) o false) (own-position es p d apart there) ∙ itself p
+  at-own p d there = ap (λ o. option_map_or (λ i. nat_eq i p) o false) (own-position es p d apart there) ∙ nat_eq-refl p
 
   -- where a declaration is found
   placed : (o : Option ℕ) (d : Decl) → position (is_of (kind_of d) (name_of_decl d)) ds ≡ o → find_decl (kind_of d) (name_of_decl d) ds ≡ Some d
@@ -179,7 +177,4 @@ module _ (sides : Sides) (between : IsBetween sides) (distinct : AreDistinct sid
             ap (filter (λ x. has x.types t)) records ∙ none-of-type olds (decls.Bean b) t it.1.1
       ]
   unmarked p (decls.Type d) there none = refl
-  unmarked p (decls.Qualifier d) there none = refl
-  unmarked p (decls.Binding d) there none = refl
-  unmarked p (decls.Stereotype d) there none = refl
-  unmarked p (decls.Interceptor d) there none = refl
+  unmarked p other there none = refl

@@ -1,4 +1,6 @@
 -- Which events are wanted: those for which a declaration asks.
+use Rattle.std.proofs.Math.Bool.{or-false}
+use Rattle.base_lists.proofs.Any.{any-same}
 use Rattle.cdi_live.proofs.Common.{◌≡◌, Bool, true, false, List, [], ◌∷◌, map, refl, sym, ap, ◌∙◌, list_any, Decl, BeanPlace, Qual, ℕ, ◌||◌}
 use Rattle.cdi_live.proofs.Common.{flat_map, list_any-append, Edit, AreDistinct, edited_all, edited_keys, mentions, Mention, BodyOf, CallOf}
 use Rattle.cdi_live.proofs.Common.{EventOf, MethodOf, PointOf, StereotypeOf, TypeIn, UseOf, asks_for, asks_in, is_wanted, key_of_point}
@@ -8,26 +10,16 @@ use Rattle.cdi_model.specs.declared.decl.PointDecl.{PointDecl}
 use Rattle.cdi_index.specs.declared.asked.Question.TheVariants as questions
 use Rattle.cdi_observe.specs.Keys.{same_key}
 use Rattle.cdi_observe.specs.Wanted.{asked_by, chains_by, event_in, events_by}
-use Rattle.cdi_live.proofs.AskedLemmas.{any-same, asked-after}
+use Rattle.cdi_live.proofs.AskedLemmas.{asked-after}
 
 module _ (t : List ℕ) (us : List Qual) where
   abbrev own : Mention → Bool
   own m = has_key (event_in m) (EventKey t us)
 
-  or-none : (b : Bool) → (b || false) ≡ b
-  or-none true = refl
-  or-none false = refl
-
   -- a declaration asks where an event of it does
   at-event : (m : Mention) → own m ≡ asks_in questions.Event t us m
-  at-event (EventOf e) = or-none (asks_in questions.Event t us (EventOf e))
-  at-event (PointOf place point) = refl
-  at-event (TypeIn place x) = refl
-  at-event (UseOf kind u) = refl
-  at-event (StereotypeOf s) = refl
-  at-event (MethodOf m) = refl
-  at-event (BodyOf place body) = refl
-  at-event (CallOf place params call) = refl
+  at-event (EventOf e) = or-false (asks_in questions.Event t us (EventOf e))
+  at-event other = refl
 
   at-events : (ms : List Mention) → has_key (flat_map event_in ms) (EventKey t us) ≡ list_any (asks_in questions.Event t us) ms
   at-events [] = refl
@@ -46,11 +38,7 @@ module _ (t : List ℕ) (us : List Qual) where
 
   no-chain-by : (d : Decl) → has_key (chains_by d) (EventKey t us) ≡ false
   no-chain-by (decls.Bean b) = no-chain b.name (places_of b)
-  no-chain-by (decls.Type d) = refl
-  no-chain-by (decls.Qualifier d) = refl
-  no-chain-by (decls.Binding d) = refl
-  no-chain-by (decls.Stereotype d) = refl
-  no-chain-by (decls.Interceptor d) = refl
+  no-chain-by other = refl
 
   fires-is : (d : Decl) → has_key (wanted_by d) (EventKey t us) ≡ asks_for questions.Event t us d
   unfolding asks_for

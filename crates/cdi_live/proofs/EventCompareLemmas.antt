@@ -1,4 +1,5 @@
 -- The observer methods that an event sees, before and after edits, are among those of the declarations that are looked at.
+use Rattle.base_lists.proofs.Flat.{flat-same, flat-twice}
 use Rattle.cdi_live.proofs.Common.{◌≡◌, Bool, false, List, [], ◌∷◌, map, filter, refl, sym, ap, ◌∙◌, inl, inr, list_any, Decl, ℕ, ◌||◌}
 use Rattle.cdi_live.proofs.Common.{flat_map, Option, Some, None, option_map_or, AreDistinct, ◌++◌, Effective, word_at, words_have}
 use Rattle.cdi_live.proofs.Common.{IsBetween, Sides, has_one, slice_get, arith, beans, entries, is_listed, is_marked, marked_from}
@@ -25,14 +26,6 @@ seen-before ds types distinct t are =
 
 -- ---- after
 
-flat-twice : {X Y Z : Type 0} (g : Y → List Z) (f : X → List Y) (xs : List X) → flat_map g (flat_map f xs) ≡ flat_map (λ x. flat_map g (f x)) xs
-flat-twice g f [] = refl
-flat-twice g f (x ∷ xs) = flat_map-append g (f x) (flat_map f xs) ∙ ap (λ ys. flat_map g (f x) ++ ys) (flat-twice g f xs)
-
-flat-same : {X Y : Type 0} (f g : X → List Y) → ((x : X) → f x ≡ g x) → (xs : List X) → flat_map f xs ≡ flat_map g xs
-flat-same f g same [] = refl
-flat-same f g same (x ∷ xs) = λ i. same x i ++ flat-same f g same xs i
-
 module _ (es : List Decl) (types : List (List ℕ)) (marks : List Bool) (distinct : AreDistinct es)
     (others : (p : ℕ) (d : Decl) → slice_get es p ≡ Some d → is_marked marks p ≡ false → observes_one types d ≡ false) where
   -- the observer methods of a record, and those of a declaration
@@ -58,7 +51,7 @@ module _ (es : List Decl) (types : List (List ℕ)) (marks : List Bool) (distinc
   same-after =
       ap (filter (observes types))
       (flat-twice of_record (records_at es) (marked_from 0 marks)
-      ∙ flat-same (λ p. flat_map of_record (records_at es p)) of_place at-place (marked_from 0 marks))
+      ∙ flat-same (λ p. flat_map of_record (records_at es p)) of_place (marked_from 0 marks) at-place)
       ∙ gather of_decl (observes types) es 0 marks es (λ i. ap (slice_get es) (omega arith))
       (λ p d there none. none-of-decl es types distinct p d there (others p d there none))
       ∙ sym (ap (filter (observes types)) (flat-twice of_record (entries es) es))
@@ -92,7 +85,4 @@ unobserved sides between distinct apart types before found p (decls.Bean b) ther
       | inr it ↦ sym (observing-one sides.index.now.decls types (decls.Bean b)) ∙ it.1.1
     ]
 unobserved sides between distinct apart types before found p (decls.Type d) there none = refl
-unobserved sides between distinct apart types before found p (decls.Qualifier d) there none = refl
-unobserved sides between distinct apart types before found p (decls.Binding d) there none = refl
-unobserved sides between distinct apart types before found p (decls.Stereotype d) there none = refl
-unobserved sides between distinct apart types before found p (decls.Interceptor d) there none = refl
+unobserved sides between distinct apart types before found p other there none = refl

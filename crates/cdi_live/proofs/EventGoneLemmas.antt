@@ -7,13 +7,14 @@ use Rattle.cdi_live.proofs.Common.{StereotypeOf, TypeIn, UseOf, asks_for, asks_i
 use Rattle.cdi_live.proofs.Common.{is_asked_after, subst, bytes_decides, Tells, parts_under, parts-kept, is_touched, IsBetween, Sides}
 use Rattle.cdi_live.proofs.Common.{holds, EventKey, keys_of, same_quals, same_quals-decides, ObserverId, is_touched_of, Events}
 use Rattle.cdi_live.proofs.Common.{is_dropped_at, is_dropped_by, is_dropped_in, is_suspect}
-use Rattle.cdi_live.proofs.ListedLemmas.{un-not}
 use Rattle.std.specs.Map.{lookup}
 use Rattle.std.proofs.lemmas.Map.Made.{is_some-lookup}
+use Rattle.std.proofs.lemmas.Bool.{not-true}
+use Rattle.base_options.proofs.Booleans.{same-bool}
 use Rattle.cdi_index.specs.declared.asked.Question.TheVariants as questions
 use Rattle.cdi_live.specs.EventDropped.{is_kept, Drops}
 use Rattle.cdi_live.specs.EventStage.{event_stays, EventsAreWanted}
-use Rattle.cdi_live.proofs.AskedLemmas.{any-among, any-elim, same-bool}
+use Rattle.cdi_live.proofs.AskedLemmas.{any-among, any-elim}
 use Rattle.cdi_live.proofs.EventAskedLemmas.{event-wanted-is, fired-after}
 use Rattle.cdi_live.proofs.EventSuspectLemmas.{is-held, untouched}
 
@@ -105,13 +106,7 @@ module _ (edits : List Edit) (ds : List Decl) (distinct : AreDistinct ds) (apart
           let both = and_parts (bytes_eq t e.event_type) (same_quals us e.qualifiers) is in
           ap (λ s. drops s e.qualifiers) (sym ((bytes_decides t e.event_type).0 both.0))
           ∙ ap (drops t) (sym ((same_quals-decides us e.qualifiers).0 both.1)) ∙ drops-own
-  dropped-in (PointOf place point) = refl
-  dropped-in (TypeIn place x) = refl
-  dropped-in (UseOf kind u) = refl
-  dropped-in (StereotypeOf s) = refl
-  dropped-in (MethodOf x) = refl
-  dropped-in (BodyOf place body) = refl
-  dropped-in (CallOf place params call) = refl
+  dropped-in other = refl
 
   dropped-any : (xs : List Mention) → list_any (is_dropped_in drops t us) xs ≡ (list_any (asks_in questions.Event t us) xs && unwanted)
   dropped-any [] = refl
@@ -150,7 +145,7 @@ module _ (edits : List Edit) (ds : List Decl) (distinct : AreDistinct ds) (apart
           by d found firing true among = any-among (is_dropped_at ds drops t us) keys (key_of d) among
               (ap (λ o. option_map_or (is_dropped_by drops t us) o false) found ∙ dropped-by d
               ∙ and_from (asks_for questions.Event t us d) unwanted firing none)
-          by d found firing false apart_from = absurd (false≢true (sym (un-not (is_wanted es (EventKey t us)) none)
+          by d found firing false apart_from = absurd (false≢true (sym (not-true (is_wanted es (EventKey t us)) none)
               ∙ sym (fired-after t us edits ds distinct apart)
               ∙ or_left _ _ (found_any (kind_of d) (name_of_decl d) ds d (λ x. not (is_among keys (key_of x)) && asks_for questions.Event t us x) found
               (and_from (not (is_among keys (key_of d))) (asks_for questions.Event t us d) (ap not apart_from) firing))))

@@ -1,20 +1,21 @@
 -- Events of types that are not suspect see the same after edits.
 use Rattle.cdi_live.proofs.Common.{◌≡◌, Bool, true, false, cond, not, ◌&&◌, List, [], ◌∷◌, map, filter, refl, sym, ap, ◌∙◌, inl, inr}
-use Rattle.cdi_live.proofs.Common.{list_any, bytes_eq, and_from, and_parts, false≢true, or_cases, or_left, or_right, Decl, Qual}
-use Rattle.cdi_live.proofs.Common.{bytes_eq-turned, ℕ, ◌||◌, flat_map, Option, Some, None, option_map_or, list_any-append, Edit, DeclKey}
+use Rattle.cdi_live.proofs.Common.{list_any, bytes_eq, and_from, and_parts, false≢true, or_cases, or_left, or_right, Decl, Qual, same_text}
+use Rattle.cdi_live.proofs.Common.{ℕ, ◌||◌, flat_map, Option, Some, None, option_map_or, list_any-append, Edit, DeclKey, bytes_eq-turned}
 use Rattle.cdi_live.proofs.Common.{key_of, kind_of, name_of_decl, same_key, find_decl, AreDistinct, edited_all, edited_keys, is_among}
 use Rattle.cdi_live.proofs.Common.{mentions, Mention, BodyOf, CallOf, EventOf, MethodOf, PointOf, StereotypeOf, TypeIn, UseOf}
 use Rattle.cdi_live.proofs.Common.{edits_keep_decl, key_exact, asks_for, asks_in, IsPresent, all_present, found_any, witness, ◌++◌}
 use Rattle.cdi_live.proofs.Common.{unwrap_or, option_map, BeanDecl, ObserverDecl, has, own_records, Word, same_word, word_at, words_have}
 use Rattle.cdi_live.proofs.Common.{words_named, words_named_in, words_of_observer, words_of_record, words_of_uses, words_by, among-named}
-use Rattle.cdi_live.proofs.Common.{Tells, is_touched, zero, suc, or_parts, key_at, Avoid, Chain, same_text, as_bean, find_bean, made_of}
+use Rattle.cdi_live.proofs.Common.{Tells, is_touched, zero, suc, or_parts, key_at, Avoid, Chain, as_bean, find_bean, made_of}
 use Rattle.cdi_live.proofs.Common.{reads, reads_in, has_one, touched_where_seen_differs, each_all, holds, slice_get, arith, beans}
 use Rattle.cdi_live.proofs.Common.{is_marked, marked_from, EventKey, types_of, sorted_by, Observer, declared_by, observers, observes}
 use Rattle.cdi_live.proofs.Common.{observing, same_quals, same_quals-decides, is_suspect, records, records_declared, records_in}
 use Rattle.cdi_live.proofs.Common.{same_word_equiv, made_of_type, words-of-asker, walk, event_sees, ByEvent, event_types, fired_at}
 use Rattle.cdi_live.proofs.Common.{fired_in, fired_types, may_have, observed_at, observed_by_key, words_edited}
-use Rattle.cdi_live.proofs.ListedLemmas.{holds-append, of-passing, words-append}
+use Rattle.cdi_live.proofs.ListedLemmas.{holds-append, of-passing}
 use Rattle.std.proofs.Common.{ℤ}
+use Rattle.base_options.proofs.Booleans.{same-bool}
 use Rattle.cdi_model.specs.declared.decl.Decl.TheVariants as decls
 use Rattle.cdi_model.specs.declared.decl.Kind.TheVariants as kinds
 use Rattle.cdi_model.specs.declared.decl.UseKind.TheVariants as uses
@@ -30,6 +31,8 @@ use Rattle.cdi_match.proofs.TypeLemmas.{is_type_decides, types_of-has, types_of-
 use Rattle.cdi_effective.specs.Beans.{managed}
 use Rattle.cdi_postings.specs.declared.word.Reason.TheVariants as reasons
 use Rattle.cdi_index.specs.declared.asked.Question.TheVariants as questions
+use Rattle.cdi_index.proofs.ReadLemmas.{among-types}
+use Rattle.cdi_index.proofs.SoughtLemmas.{words-append}
 use Rattle.cdi_observe.specs.Observers.{observer_id, priority_of}
 use Rattle.cdi_observe.specs.Sees.{seen_observer, SeenObserver}
 use Rattle.cdi_seen.specs.Gives.{is_before_observer, observer_given, ranked_observer, unranked}
@@ -39,7 +42,6 @@ use Rattle.cdi_seen.proofs.EventLemmas.{event_by_words, observers_by_declaration
 use Rattle.cdi_seen.proofs.UseLemmas.{read_same}
 use Rattle.cdi_observe.specs.Lent.{observer_in}
 use Rattle.cdi_live.specs.EventSuspects.{concerned_types, is_fired, may_have_one, observed_of, uses_edited, word_edited}
-use Rattle.cdi_live.proofs.AskedLemmas.{same-bool}
 
 -- ---- lists of names
 
@@ -127,10 +129,6 @@ used (u ∷ us) key h = elim (or_cases (same_key (key_at kinds.Qualifier u.name)
 ]
 
 -- ---- the types of an event
-
-among-types : (names : List (List ℕ)) (x : List ℕ) → is_among (map (key_at kinds.Type) names) (key_at kinds.Type x) ≡ has names x
-among-types [] x = refl
-among-types (n ∷ names) x = ap (λ b. bytes_eq n x || b) (among-types names x)
 
 -- a type that is not declared leads to itself alone
 alone : (ds : List Decl) (t s : List ℕ) → find_decl kinds.Type t ds ≡ None → Chain (is_super ds) t s → t ≡ s
@@ -276,19 +274,11 @@ module _ (edits : List Edit) (ds : List Decl) (told : List DeclKey) (distinct : 
 
   before : (d : Decl) → IsPresent ds d → is_among keys (key_of d) ≡ true → given ds d ≡ []
   before (decls.Bean b) there edited = nothing-before b there (tells.edited (key_at kinds.Bean b.name) refl edited)
-  before (decls.Type d) there edited = refl
-  before (decls.Qualifier d) there edited = refl
-  before (decls.Binding d) there edited = refl
-  before (decls.Stereotype d) there edited = refl
-  before (decls.Interceptor d) there edited = refl
+  before other there edited = refl
 
   after : (d : Decl) → IsPresent es d → is_among keys (key_of d) ≡ true → given es d ≡ []
   after (decls.Bean b) there edited = nothing-after b there (tells.edited (key_at kinds.Bean b.name) refl edited)
-  after (decls.Type d) there edited = refl
-  after (decls.Qualifier d) there edited = refl
-  after (decls.Binding d) there edited = refl
-  after (decls.Stereotype d) there edited = refl
-  after (decls.Interceptor d) there edited = refl
+  after other there edited = refl
 
   -- ---- what another gives
 
@@ -384,10 +374,7 @@ module _ (edits : List Edit) (ds : List Decl) (told : List DeclKey) (distinct : 
       by true among = nothing-before b there among ∙ sym (nothing-after b now among)
       by false untold = same-given b there none untold
   others (decls.Type d) there none = refl
-  others (decls.Qualifier d) there none = refl
-  others (decls.Binding d) there none = refl
-  others (decls.Stereotype d) there none = refl
-  others (decls.Interceptor d) there none = refl
+  others other there none = refl
 
   -- all give the same, so the same observer methods are seen
   observers-same : map (seen_observer ds) (observing ds (beans ds) t) ≡ map (seen_observer es) (observing es (beans es) t)
@@ -441,12 +428,7 @@ module _ (edits : List Edit) (ds : List Decl) (told : List DeclKey) (distinct : 
               or_left (bytes_eq e.event_type t) false (bytes_eq-turned e.event_type t ∙ both.0),
             )
         at (PointOf place point) h = absurd (false≢true h)
-        at (TypeIn place x) h = absurd (false≢true h)
-        at (UseOf kind u) h = absurd (false≢true h)
-        at (StereotypeOf s) h = absurd (false≢true h)
-        at (MethodOf m) h = absurd (false≢true h)
-        at (BodyOf place body) h = absurd (false≢true h)
-        at (CallOf place params call) h = absurd (false≢true h)
+        at other h = absurd (false≢true h)
 
     -- none of them is edited
     unedited-use : (q : List ℕ) → is_among keys (key_at kinds.Qualifier q) ≡ true → words_have (words_of_uses us) (word q) ≡ false

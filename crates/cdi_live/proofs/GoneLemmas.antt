@@ -1,4 +1,5 @@
 -- Of the kept choices exactly those go that are asked for no more, or see something else.
+use Rattle.base_options.proofs.Booleans.{same-bool}
 use Rattle.cdi_live.proofs.Common.{◌≡◌, Bool, true, false, not, ◌&&◌, List, [], ◌∷◌, refl, sym, ap, ◌∙◌, inl, inr, list_any, bytes_eq}
 use Rattle.cdi_live.proofs.Common.{and_from, and_parts, false≢true, or_cases, or_left, or_right, Decl, Qual, ℕ, ◌||◌, Option, Some, None}
 use Rattle.cdi_live.proofs.Common.{option_map_or, Edit, DeclKey, key_of, kind_of, name_of_decl, find_decl, AreDistinct, edited_all}
@@ -11,7 +12,7 @@ use Rattle.cdi_seen.proofs.TouchedLemmas.{touched_by_parts}
 use Rattle.cdi_live.specs.Dropped.{is_dropped_at, is_dropped_by, is_dropped_in, is_kept, Asks}
 use Rattle.cdi_live.specs.Gone.{stays_known}
 use Rattle.cdi_live.specs.Stage.{AreWanted}
-use Rattle.cdi_live.proofs.AskedLemmas.{any-among, any-elim, asked-after, same-bool, wanted-is}
+use Rattle.cdi_live.proofs.AskedLemmas.{any-among, any-elim, asked-after, wanted-is}
 use Rattle.cdi_live.proofs.SuspectLemmas.{beans-same, uses-alike}
 
 -- the kept choices for types that see something else
@@ -103,13 +104,7 @@ module _ (edits : List Edit) (ds : List Decl) (told : List DeclKey) (distinct : 
             let both = and_parts (bytes_eq t point.required_type) (same_quals us (required point.qualifiers)) e in
             ap (λ s. asks.drops s (required point.qualifiers)) (sym ((bytes_decides t point.required_type).0 both.0))
             ∙ ap (asks.drops t) (sym ((same_quals-decides us (required point.qualifiers)).0 both.1)) ∙ drops-own
-    dropped-in (TypeIn place x) = refl
-    dropped-in (UseOf kind u) = refl
-    dropped-in (StereotypeOf s) = refl
-    dropped-in (MethodOf x) = refl
-    dropped-in (BodyOf place body) = refl
-    dropped-in (CallOf place params call) = refl
-    dropped-in (EventOf e) = refl
+    dropped-in other = refl
 
     dropped-any : (xs : List Mention) → list_any (is_dropped_in asks t us) xs ≡ (list_any (asks_in questions.Choice t us) xs && not (is_wanted es (ChoiceKey t us)))
     dropped-any [] = refl

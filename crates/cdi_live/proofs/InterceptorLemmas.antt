@@ -6,13 +6,14 @@ use Rattle.cdi_live.proofs.Common.{mentions, Mention, ◌++◌, option_to_list, 
 use Rattle.cdi_live.proofs.Common.{word_at, words_have, words_named, words_named_in, among-named, IsBetween, Sides, or_parts, is_enabled}
 use Rattle.cdi_live.proofs.Common.{has_one, slice_get, arith, filter-append, is_listed, is_marked, marked_from, records_at, is_place_of_one}
 use Rattle.cdi_live.proofs.Common.{words_declared, flat_map-append, sorted_by, words_typed, same_word_equiv, enabled_at, words_bound}
-use Rattle.cdi_live.proofs.ListedLemmas.{words-append}
 use Rattle.std.proofs.Math.Bool.{and-false}
+use Rattle.base_lists.proofs.Any.{any-or}
 use Rattle.cdi_model.specs.declared.decl.Decl.TheVariants as decls
 use Rattle.cdi_model.specs.declared.mention.PointPlace.TheVariants as points
 use Rattle.cdi_model.specs.declared.place.PartPlace.TheVariants as parts
 use Rattle.cdi_intercept.specs.Chains.{as_interceptor, interceptors, is_before}
 use Rattle.cdi_postings.specs.declared.word.Reason.TheVariants as reasons
+use Rattle.cdi_index.proofs.SoughtLemmas.{words-append}
 use Rattle.cdi_seen.proofs.ChainLemmas.{order}
 use Rattle.cdi_seen.proofs.SortLemmas.{filtered_in_order}
 use Rattle.cdi_live.specs.ChainGone.{enabled_in}
@@ -70,16 +71,6 @@ turned v w = same_word_equiv.symm v w
 any-turned : (words : List Word) (w : Word) → list_any (same_word w) words ≡ words_have words w
 any-turned [] w = refl
 any-turned (v ∷ words) w = λ i. turned w v i || any-turned words w i
-
-any-or : (p q : Word → Bool) (words : List Word) → list_any (λ v. p v || q v) words ≡ (list_any p words || list_any q words)
-any-or p q [] = refl
-any-or p q (v ∷ words) = ap (λ b. (p v || q v) || b) (any-or p q words) ∙ shuffled (p v) (q v) (list_any p words) (list_any q words)
-  where
-    shuffled : (a b c d : Bool) → ((a || b) || (c || d)) ≡ ((a || c) || (b || d))
-    shuffled true b c d = refl
-    shuffled false true true d = refl
-    shuffled false true false d = refl
-    shuffled false false c d = refl
 
 no-share : (bindings us : List Qual) (words : List Word) → Cover words bindings → list_any (words_have (words_bound us)) words ≡ false
     → list_any (λ u. uses_one bindings u.name) us ≡ false
@@ -144,10 +135,7 @@ without-words ds words bindings place (decls.Interceptor i) cover none =
     without-bound words bindings place i cover
     (fewer (words_have (words_bound i.bindings)) (words_have (words_named (decls.Interceptor i))) words (bound-named i) none)
 without-words ds words bindings place (decls.Bean d) cover none = refl
-without-words ds words bindings place (decls.Type d) cover none = refl
-without-words ds words bindings place (decls.Qualifier d) cover none = refl
-without-words ds words bindings place (decls.Binding d) cover none = refl
-without-words ds words bindings place (decls.Stereotype d) cover none = refl
+without-words ds words bindings place other cover none = refl
 
 -- so what is at a position that is not marked after a draft is not seen
 pub unmarked-seen : (sides : Sides) → IsBetween sides → AreDistinct sides.index.now.decls → AreDistinct sides.next.now
@@ -167,7 +155,4 @@ unmarked-seen sides between distinct apart words before found bindings place cov
       | inr it ↦ without-words sides.index.now.decls words bindings place (decls.Interceptor i) cover it.1.1
     ]
 unmarked-seen sides between distinct apart words before found bindings place cover p (decls.Bean d) there none = refl
-unmarked-seen sides between distinct apart words before found bindings place cover p (decls.Type d) there none = refl
-unmarked-seen sides between distinct apart words before found bindings place cover p (decls.Qualifier d) there none = refl
-unmarked-seen sides between distinct apart words before found bindings place cover p (decls.Binding d) there none = refl
-unmarked-seen sides between distinct apart words before found bindings place cover p (decls.Stereotype d) there none = refl
+unmarked-seen sides between distinct apart words before found bindings place cover p other there none = refl

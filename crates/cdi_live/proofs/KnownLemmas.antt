@@ -4,12 +4,13 @@ use Rattle.cdi_live.proofs.Common.{bytes_eq, false≢true, Decl, BeanPlace, Qual
 use Rattle.cdi_live.proofs.Common.{◌+◌, arith, has_key, EventKey, same_quals, IsDistinct, Key, wanted, knows_in, Memos}
 use Rattle.std.specs.List.{AllByRecursion}
 use Rattle.std.proofs.lemmas.Map.Keys.{IsDistinct-cons, IsDistinct-head, IsDistinct-tail}
+use Rattle.base_lists.proofs.Any.{none-passes, each-fails}
 use Rattle.cdi_memo.specs.Answers.{how_many, is_kept, same_question, Question}
 use Rattle.cdi_memo.specs.Laws.{CountsAnswered}
 use Rattle.cdi_memo.proofs.QuestionLemmas.{differ-nil}
 use Rattle.cdi_observe.specs.Keys.{same_key}
+use Rattle.cdi_observe.proofs.WantedLemmas.{has-wanted, wanted-distinct}
 use Rattle.cdi_live.specs.Kept.{AreAsked}
-use Rattle.cdi_live.proofs.WantedOnceLemmas.{has-wanted, wanted-distinct}
 
 -- ---- the known keys are wanted
 
@@ -54,19 +55,6 @@ has-event (ChainKey class place ∷ keys) q = has-event keys q
 has-event (EventKey t us ∷ keys) q = ap (λ b. (bytes_eq q.0 t && same_quals q.1 us) || b) (has-event keys q)
 
 -- ---- those of distinct keys are distinct
-
-none-passes : {X : Type 0} (test : X → Bool) (xs : List X) → AllByRecursion (λ x. test x ≡ false) xs → list_any test xs ≡ false
-none-passes test [] h = refl
-none-passes test (x ∷ xs) h = ap (λ b. b || list_any test xs) h.0 ∙ none-passes test xs h.1
-
-each-fails : {X : Type 0} (test : X → Bool) (xs : List X) → list_any test xs ≡ false → AllByRecursion (λ x. test x ≡ false) xs
-each-fails test [] h = tt
-each-fails test (x ∷ xs) h = by (test x) h (each-fails test xs)
-  where
-    by : (b : Bool) → (b || list_any test xs) ≡ false → (list_any test xs ≡ false → AllByRecursion (λ y. test y ≡ false) xs)
-        → (b ≡ false) × AllByRecursion (λ y. test y ≡ false) xs
-    by true f more = absurd (false≢true (sym f))
-    by false f more = (refl, more f)
 
 -- a question of a key in front of those of others
 one-more : {Q : Type 0} (eq : Q → Q → Bool) (q : Question Q) (qs : List (Question Q)) (key : Key) (keys : List Key)

@@ -1,7 +1,7 @@
 mod Common
 mod ListedLemmas
-mod AskedLemmas
-mod PartLemmas
+pub mod AskedLemmas
+pub mod PartLemmas
 mod SoughtLemmas
 mod CompareLemmas
 mod SuspectLemmas
@@ -19,6 +19,5 @@ mod EventAskedLemmas
 mod EventSuspectLemmas
 mod EventCompareLemmas
 mod EventGoneLemmas
-mod WantedOnceLemmas
 mod KnownLemmas
 mod MovedLemmas

@@ -3,13 +3,6 @@ use Rattle.cdi_live.proofs.Common.{[], ◌&&◌, ◌++◌, ◌||◌, ◌∙◌, 
 use Rattle.cdi_live.proofs.Common.{flat_map, holds, inl, inr, list_any, list_any-append, not, or_cases, or_left, or_right, refl, same_word}
 use Rattle.cdi_live.proofs.Common.{true, words_have, ℕ}
 
-pub un-not : (b : Bool) → not b ≡ true → b ≡ false
-un-not true h = absurd (false≢true h)
-un-not false h = refl
-
-pub words-append : (w : Word) (xs ys : List Word) → words_have (xs ++ ys) w ≡ (words_have xs w || words_have ys w)
-words-append w xs ys = list_any-append (λ v. same_word v w) xs ys
-
 pub holds-append : (xs ys : List (List ℕ)) (t : List ℕ) → holds (xs ++ ys) t ≡ (holds xs t || holds ys t)
 holds-append xs ys t = list_any-append (λ n. bytes_eq n t) xs ys
 

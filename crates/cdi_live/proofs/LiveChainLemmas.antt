@@ -1,6 +1,6 @@
 -- What is known of chains after a commit, and after an evaluation.
 use Rattle.cdi_live.proofs.Common.{◌≡◌, Bool, true, false, cond, not, ◌&&◌, List, [], ◌∷◌, map, is_some, refl, sym, ap, ◌∙◌, bytes_eq}
-use Rattle.cdi_live.proofs.Common.{and_parts, false≢true, Decl, BeanPlace, bytes_eq-turned, chain_by, ℕ, ◌||◌, Option, Some, None}
+use Rattle.cdi_live.proofs.Common.{and_parts, false≢true, Decl, BeanPlace, chain_by, ℕ, ◌||◌, Option, Some, None, bytes_eq-turned}
 use Rattle.cdi_live.proofs.Common.{option_map_or, list_any-append, AreDistinct, is_wanted, ◌++◌, BeanDecl, class_bindings, bytes_decides}
 use Rattle.cdi_live.proofs.Common.{same_place, ChainKey, same_place-decides, is_touched, is_kept_chain, ArePlaces, Chains, find_bean}
 use Rattle.cdi_live.proofs.Common.{sees_at, has_place, set_by, ByChain, touched_where_seen_differs, is_place_of, Ok, if◌then◌else◌}

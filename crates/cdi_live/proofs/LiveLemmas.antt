@@ -1,6 +1,6 @@
 -- What is known after a commit, and after an evaluation.
 use Rattle.cdi_live.proofs.Common.{◌≡◌, Bool, true, false, not, ◌&&◌, List, [], ◌∷◌, length, is_some, refl, sym, ap, ◌∙◌, inl, inr}
-use Rattle.cdi_live.proofs.Common.{bytes_eq, and_parts, false≢true, Decl, BeanPlace, Qual, bytes_eq-turned, ℕ, ◌||◌, Option, Some, None}
+use Rattle.cdi_live.proofs.Common.{bytes_eq, and_parts, false≢true, Decl, BeanPlace, Qual, ℕ, ◌||◌, Option, Some, None, bytes_eq-turned}
 use Rattle.cdi_live.proofs.Common.{list_any-append, ChoiceKey, is_wanted, ◌++◌, subst, bytes_decides, same_place, ChainKey, is_touched}
 use Rattle.cdi_live.proofs.Common.{Chains, touched_where_seen_differs, beans, EventKey, same_quals, same_quals-decides, ObserverId, Events}
 use Rattle.cdi_live.proofs.Common.{event_sees, ByEvent, required, Answers, Choice, Key, knows_in, Memos, Ok, if◌then◌else◌, chain_of}
@@ -24,6 +24,7 @@ use Rattle.cdi_index.specs.State.{committed as index_committed, committed_to, St
 use Rattle.cdi_live.specs.State.{AreKept, AreRight, HasDefault, IsDefaultOrNone, IsGoing, IsLive, MayGo}
 use Rattle.cdi_live.specs.declared.memos.Going.{Going}
 use Rattle.cdi_live.proofs.LiveChainLemmas.{known-chain-with, places-after, places-with, right-chains-after, right-chains-with}
+use Rattle.cdi_live.proofs.PartLemmas.{nothing-more}
 
 abbrev pub Choices : Type 0
 Choices = Answers (List Qual) Choice
@@ -189,11 +190,6 @@ chosen-by-required ds t us = by us
     by [] = refl
     by (u ∷ us) = refl
 
-no-more : (a b : Bool) → a ≡ (a || (b && false))
-no-more true b = refl
-no-more false true = refl
-no-more false false = refl
-
 -- one more choice
 module _ (ds : List Decl) (memos : Memos) (new : Choices) (t : List ℕ) (us : List Qual) (choice : Choice)
     (keeps : (s : List ℕ) (vs : List Qual) → answer same_quals new s vs
@@ -203,8 +199,8 @@ module _ (ds : List Decl) (memos : Memos) (new : Choices) (t : List ℕ) (us : L
 
   one-choice : (k : Key) → knows_in with_choice k ≡ with_known ds (knows_in memos) (ChoiceKey t us) k
   one-choice (ChoiceKey s vs) = known-with ChoiceKey choice_of ds memos.choices new t us choice keeps s vs
-  one-choice (ChainKey class place) = no-more (knows_in memos (ChainKey class place)) (is_wanted ds (ChoiceKey t us))
-  one-choice (EventKey s vs) = no-more (knows_in memos (EventKey s vs)) (is_wanted ds (ChoiceKey t us))
+  one-choice (ChainKey class place) = nothing-more (knows_in memos (ChainKey class place)) (is_wanted ds (ChoiceKey t us))
+  one-choice (EventKey s vs) = nothing-more (knows_in memos (EventKey s vs)) (is_wanted ds (ChoiceKey t us))
 
   pub known-with-choice : knows_in with_choice ≡ with_known ds (knows_in memos) (ChoiceKey t us)
   known-with-choice = λ i k. one-choice k i
@@ -230,8 +226,8 @@ module _ (ds : List Decl) (memos : Memos) (new : Events) (t : List ℕ) (us : Li
 
   one-event : (k : Key) → knows_in with_event k ≡ with_known ds (knows_in memos) (EventKey t us) k
   one-event (EventKey s vs) = known-with EventKey ids_of ds memos.events new t us ids keeps s vs
-  one-event (ChainKey class place) = no-more (knows_in memos (ChainKey class place)) (is_wanted ds (EventKey t us))
-  one-event (ChoiceKey s vs) = no-more (knows_in memos (ChoiceKey s vs)) (is_wanted ds (EventKey t us))
+  one-event (ChainKey class place) = nothing-more (knows_in memos (ChainKey class place)) (is_wanted ds (EventKey t us))
+  one-event (ChoiceKey s vs) = nothing-more (knows_in memos (ChoiceKey s vs)) (is_wanted ds (EventKey t us))
 
   pub known-with-event : knows_in with_event ≡ with_known ds (knows_in memos) (EventKey t us)
   known-with-event = λ i k. one-event k i
@@ -259,8 +255,8 @@ module _ (ds : List Decl) (memos : Memos) (new : Chains) (class : List ℕ) (pla
   one-chain : (k : Key) → knows_in with_chain k ≡ with_known ds (knows_in memos) (ChainKey class place) k
   one-chain (ChainKey c p) = known-chain-with ds memos.chains new class place names keeps c p
       ∙ ap (λ b. knows_in memos (ChainKey c p) || (b && (bytes_eq class c && same_place place p))) (sym wanted)
-  one-chain (ChoiceKey s vs) = no-more (knows_in memos (ChoiceKey s vs)) (is_wanted ds (ChainKey class place))
-  one-chain (EventKey s vs) = no-more (knows_in memos (EventKey s vs)) (is_wanted ds (ChainKey class place))
+  one-chain (ChoiceKey s vs) = nothing-more (knows_in memos (ChoiceKey s vs)) (is_wanted ds (ChainKey class place))
+  one-chain (EventKey s vs) = nothing-more (knows_in memos (EventKey s vs)) (is_wanted ds (ChainKey class place))
 
   pub known-with-one-chain : knows_in with_chain ≡ with_known ds (knows_in memos) (ChainKey class place)
   known-with-one-chain = λ i k. one-chain k i

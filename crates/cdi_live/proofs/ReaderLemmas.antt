@@ -1,4 +1,5 @@
 -- The declarations that read another one are those of the list of its readers.
+use Rattle.base_options.proofs.Booleans.{same-bool}
 use Rattle.cdi_live.proofs.Common.{◌≡◌, Bool, true, false, ◌&&◌, List, [], ◌∷◌, refl, sym, ap, ◌∙◌, list_any, and_from, and_parts}
 use Rattle.cdi_live.proofs.Common.{false≢true, or_left, or_right, Decl, ℕ, ◌||◌, Option, Some, None, DeclKey, key_of, same_key, find_decl}
 use Rattle.cdi_live.proofs.Common.{AreDistinct, is_among, IsPresent, all_present, found_any, witness, option_map, key_at, as_binding}
@@ -6,7 +7,7 @@ use Rattle.cdi_live.proofs.Common.{as_bean, made_of, made_of_bean, made_of_bindi
 use Rattle.cdi_live.proofs.Common.{Kind}
 use Rattle.cdi_model.specs.declared.decl.Kind.TheVariants as kinds
 use Rattle.cdi_model.specs.DeclKey.{same_key_equiv}
-use Rattle.cdi_live.proofs.AskedLemmas.{any-among, same-bool}
+use Rattle.cdi_live.proofs.AskedLemmas.{any-among}
 
 -- what read something is made of a declaration that is there
 is-declared : (ds : List Decl) (k key : DeclKey) → reads (made_of ds k) key ≡ true → (d : Decl) × (find_decl k.kind k.name ds ≡ Some d)
@@ -26,8 +27,7 @@ is-declared ds k key read = by k.kind k.name read
         (λ none. false≢true (ap (λ o. reads (option_map made_of_interceptor o) key) (sym none) ∙ h))
     by kinds.Binding name h = found kinds.Binding name (find_decl kinds.Binding name ds) refl
         (λ none. false≢true (ap (λ o. reads (option_map (made_of_binding ds) (as_binding o)) key) (sym none) ∙ h))
-    by kinds.Qualifier name h = absurd (false≢true h)
-    by kinds.Stereotype name h = absurd (false≢true h)
+    by other name h = absurd (false≢true h)
 
 -- a test that is true of some key among others is true of one
 member : (p : DeclKey → Bool) (keys : List DeclKey) → list_any p keys ≡ true → (k : DeclKey) × (is_among keys k ≡ true) × (p k ≡ true)

@@ -1,6 +1,6 @@
 -- The declarations that edits affect are found by their words where they are listed.
 use Rattle.cdi_live.proofs.Common.{◌≡◌, Bool, true, false, ◌&&◌, List, [], ◌∷◌, length, map, filter, nat_eq, is_some, refl, sym, ap, ◌∙◌}
-use Rattle.cdi_live.proofs.Common.{list_any, bytes_eq, and_parts, false≢true, or_right, Decl, bytes_eq-turned, ℕ, ◌||◌, Option, Some, None}
+use Rattle.cdi_live.proofs.Common.{list_any, bytes_eq, and_parts, false≢true, or_right, Decl, ℕ, ◌||◌, Option, Some, None, bytes_eq-turned}
 use Rattle.cdi_live.proofs.Common.{option_map_or, list_any-append, DeclKey, key_of, find_decl, AreDistinct, is_among, ◌++◌, ObserverDecl}
 use Rattle.cdi_live.proofs.Common.{has, Effective, Word, same_word, word_at, words_have, subst, or_from, or_parts, position, slice_get}
 use Rattle.cdi_live.proofs.Common.{arith, nat_eq_equiv, is_of, position-found, position-there, own-position, is_listed, words_at}
@@ -11,6 +11,7 @@ use Rattle.std.proofs.lemmas.List.Folds.{list_any_at}
 use Rattle.std.proofs.lemmas.Option.{slice_get_within}
 use Rattle.cdi_postings.specs.declared.word.Reason.TheVariants as reasons
 use Rattle.cdi_postings.specs.Listing.{under, Listing}
+use Rattle.cdi_index.proofs.SoughtLemmas.{types-have}
 use Rattle.cdi_live.specs.Sought.{is_listed_for}
 use Rattle.cdi_live.proofs.AskedLemmas.{any-among, any-elim}
 
@@ -84,10 +85,6 @@ fewer p q (w ∷ ws) more none =
 parts-have : (w : Word) (xs ys : List Word) → words_have (xs ++ ys) w ≡ false → (words_have xs w ≡ false) × (words_have ys w ≡ false)
 parts-have w xs ys none = or_parts (words_have xs w) (words_have ys w) (sym (list_any-append (λ v. same_word v w) xs ys) ∙ none)
 
-typed-has : (types : List (List ℕ)) (t : List ℕ) → words_have (map (word_at reasons.HasType) types) (word_at reasons.HasType t) ≡ has types t
-typed-has [] t = refl
-typed-has (s ∷ types) t = ap (λ b. bytes_eq s t || b) (typed-has types t)
-
 -- none of the records has the type
 pub none-typed : (records : List Effective) (more : List Word) (t : List ℕ)
     → words_have (words_typed records ++ more) (word_at reasons.HasType t) ≡ false → filter (λ r. has r.types t) records ≡ []
@@ -97,7 +94,7 @@ none-typed records more t none = by records (parts-have (word_at reasons.HasType
     by [] none = refl
     by (r ∷ rs) none =
         let parts = parts-have (word_at reasons.HasType t) (map (word_at reasons.HasType) r.types) (words_typed rs) none in
-        rw (sym (typed-has r.types t) ∙ parts.0) (by rs parts.1)
+        rw (sym (types-have r.types t) ∙ parts.0) (by rs parts.1)
 
 -- none of the observer methods observes one of the types
 module _ (ws : List Word) (x : List ℕ) where

@@ -1,7 +1,7 @@
 -- Choices for types that are not suspect see the same after edits.
 use Rattle.cdi_live.proofs.Common.{◌≡◌, Bool, true, false, cond, ◌&&◌, List, [], ◌∷◌, map, filter, refl, sym, ap, ◌∙◌, inl, inr, list_all}
 use Rattle.cdi_live.proofs.Common.{list_any, bytes_eq, and_from, and_parts, false≢true, or_cases, or_left, or_right, Decl, Qual}
-use Rattle.cdi_live.proofs.Common.{bytes_eq-turned, ℕ, ◌||◌, flat_map, list_any-append, Edit, DeclKey, key_of, kind_of, name_of_decl}
+use Rattle.cdi_live.proofs.Common.{ℕ, ◌||◌, flat_map, list_any-append, Edit, DeclKey, key_of, kind_of, name_of_decl, bytes_eq-turned}
 use Rattle.cdi_live.proofs.Common.{same_key, AreDistinct, edited_all, edited_keys, is_among, mentions, Mention, BodyOf, CallOf, EventOf}
 use Rattle.cdi_live.proofs.Common.{MethodOf, PointOf, StereotypeOf, TypeIn, UseOf, edits_keep_decl, key_exact, asks_for, asks_in, IsPresent}
 use Rattle.cdi_live.proofs.Common.{all_present, found_any, witness, ◌++◌, option_to_list, BeanDecl, has, own_records, Effective, Word}
@@ -10,12 +10,13 @@ use Rattle.cdi_live.proofs.Common.{words_of_record, words_of_uses, words_by, amo
 use Rattle.cdi_live.proofs.Common.{each_all, holds, entries, same_quals, same_quals-decides, records, records_declared, records_in}
 use Rattle.cdi_live.proofs.Common.{same_word_equiv, words-of-asker, required, are_alike, suspects, offers, see_same_beans, asked_in}
 use Rattle.cdi_live.proofs.Common.{asked_types, concerned, types_of_edited, types_of_key, types_of_records}
-use Rattle.cdi_live.proofs.ListedLemmas.{holds-append, of-passing, words-append}
+use Rattle.cdi_live.proofs.ListedLemmas.{holds-append, of-passing}
 use Rattle.cdi_model.specs.declared.decl.Decl.TheVariants as decls
 use Rattle.cdi_model.specs.declared.decl.Kind.TheVariants as kinds
 use Rattle.cdi_effective.specs.Reads.{qualifier_reads}
 use Rattle.cdi_postings.specs.declared.word.Reason.TheVariants as reasons
 use Rattle.cdi_index.specs.declared.asked.Question.TheVariants as questions
+use Rattle.cdi_index.proofs.SoughtLemmas.{words-append}
 use Rattle.cdi_resolve.specs.Sees.{seen_bean}
 use Rattle.cdi_seen.specs.Contribution.{contribution, seen_of}
 use Rattle.cdi_seen.specs.Touched.{declare_alike}
@@ -184,19 +185,11 @@ module _ (edits : List Edit) (ds : List Decl) (told : List DeclKey) (distinct : 
 
   before : (d : Decl) → IsPresent ds d → is_among keys (key_of d) ≡ true → contribution ds t d ≡ []
   before (decls.Bean b) there edited = nothing-told ds b there (told-clear b.name (tells.edited (key_at kinds.Bean b.name) refl edited)).0
-  before (decls.Type d) there edited = refl
-  before (decls.Qualifier d) there edited = refl
-  before (decls.Binding d) there edited = refl
-  before (decls.Stereotype d) there edited = refl
-  before (decls.Interceptor d) there edited = refl
+  before other there edited = refl
 
   after : (d : Decl) → IsPresent es d → is_among keys (key_of d) ≡ true → contribution es t d ≡ []
   after (decls.Bean b) there edited = nothing-told es b there (told-clear b.name (tells.edited (key_at kinds.Bean b.name) refl edited)).1
-  after (decls.Type d) there edited = refl
-  after (decls.Qualifier d) there edited = refl
-  after (decls.Binding d) there edited = refl
-  after (decls.Stereotype d) there edited = refl
-  after (decls.Interceptor d) there edited = refl
+  after other there edited = refl
 
   others : (d : Decl) → IsPresent ds d → is_among keys (key_of d) ≡ false → contribution ds t d ≡ contribution es t d
   others (decls.Bean b) there none = by (is_among told (key_at kinds.Bean b.name)) refl
@@ -217,10 +210,7 @@ module _ (edits : List Edit) (ds : List Decl) (told : List DeclKey) (distinct : 
       by true among = let none = told-clear b.name among in nothing-told ds b there none.0 ∙ sym (nothing-told es b now none.1)
       by false untold = at (holds (types_of_records (records ds b)) t) refl untold
   others (decls.Type d) there none = refl
-  others (decls.Qualifier d) there none = refl
-  others (decls.Binding d) there none = refl
-  others (decls.Stereotype d) there none = refl
-  others (decls.Interceptor d) there none = refl
+  others other there none = refl
 
   pub beans-same : see_same_beans ds es t ≡ true
   beans-same = edits_keep_seen edits ds t (record {
@@ -276,12 +266,7 @@ module _ (edits : List Edit) (ds : List Decl) (told : List DeclKey) (distinct : 
               or_left (bytes_eq point.required_type t) false (bytes_eq-turned point.required_type t ∙ parts.0),
             )
         at (TypeIn place x) h = absurd (false≢true h)
-        at (UseOf kind u) h = absurd (false≢true h)
-        at (StereotypeOf s) h = absurd (false≢true h)
-        at (MethodOf m) h = absurd (false≢true h)
-        at (BodyOf place body) h = absurd (false≢true h)
-        at (CallOf place params call) h = absurd (false≢true h)
-        at (EventOf e) h = absurd (false≢true h)
+        at other h = absurd (false≢true h)
 
     -- no qualifier that is asked for is edited
     unedited : (q : List ℕ) → is_among keys (key_at kinds.Qualifier q) ≡ true → words_have (words_of_uses (required us)) (word q) ≡ false

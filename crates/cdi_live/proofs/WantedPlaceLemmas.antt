@@ -1,13 +1,13 @@
 -- A chain is asked for where the bean of its class has its place.
+use Rattle.base_options.proofs.Booleans.{same-bool}
 use Rattle.cdi_live.proofs.Common.{◌≡◌, Bool, true, false, ◌&&◌, List, [], ◌∷◌, map, refl, sym, ap, ◌∙◌, list_any, bytes_eq, and_from}
 use Rattle.cdi_live.proofs.Common.{and_parts, false≢true, Decl, BeanPlace, ℕ, ◌||◌, Option, Some, None, option_map_or, AreDistinct}
-use Rattle.cdi_live.proofs.Common.{is_wanted, IsPresent, all_present, found_any, witness, BeanDecl, same_place, ChainKey, one_name}
-use Rattle.cdi_live.proofs.Common.{same_text, as_bean, find_bean, has_place, is_place_of, places_of, has_key, wanted_by}
+use Rattle.cdi_live.proofs.Common.{is_wanted, IsPresent, all_present, found_any, witness, BeanDecl, same_place, ChainKey, one_text}
+use Rattle.cdi_live.proofs.Common.{as_bean, find_bean, has_place, is_place_of, places_of, has_key, wanted_by, same_text}
 use Rattle.cdi_model.specs.declared.decl.Decl.TheVariants as decls
 use Rattle.cdi_model.specs.declared.decl.Kind.TheVariants as kinds
 use Rattle.cdi_observe.proofs.BeanPlaceLemmas.{has-it}
 use Rattle.cdi_seen.proofs.NameLemmas.{only-chains}
-use Rattle.cdi_live.proofs.AskedLemmas.{same-bool}
 use Rattle.cdi_live.proofs.ChainSuspectLemmas.{bean-there}
 
 -- ---- who asks for a chain
@@ -52,12 +52,9 @@ wanted-place ds distinct class place = same-bool (is_wanted ds (ChainKey class p
         by : (d : Decl) → IsPresent ds d → asks class place d ≡ true → is_place_of ds class place ≡ true
         by (decls.Bean b) at h =
             let parts = and_parts (bytes_eq class b.name) (has_place b place) h in
-            ap (λ n. is_place_of ds n place) (one_name class b.name parts.0) ∙ ap (λ o. option_map_or (λ x. has_place x place) (as_bean o) false) at ∙ parts.1
+            ap (λ n. is_place_of ds n place) (one_text class b.name parts.0) ∙ ap (λ o. option_map_or (λ x. has_place x place) (as_bean o) false) at ∙ parts.1
         by (decls.Type d) at h = absurd (false≢true h)
-        by (decls.Qualifier d) at h = absurd (false≢true h)
-        by (decls.Binding d) at h = absurd (false≢true h)
-        by (decls.Stereotype d) at h = absurd (false≢true h)
-        by (decls.Interceptor d) at h = absurd (false≢true h)
+        by other at h = absurd (false≢true h)
 
     back : is_place_of ds class place ≡ true → is_wanted ds (ChainKey class place) ≡ true
     back h = by (find_bean class ds) refl h

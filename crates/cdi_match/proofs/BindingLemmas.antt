@@ -6,6 +6,7 @@ use Rattle.std.specs.List.Sorted.{IsStrictlySortedBy}
 use Rattle.std.specs.Str.{bytes_eq}
 use Rattle.std.proofs.lemmas.Bool.{false≢true, or_cases, or_left, or_right}
 use Rattle.std.proofs.lemmas.List.Elements.{Contains-append_cases, Contains-append_left, Contains-append_right}
+use Rattle.base_numbers.proofs.Texts.{one_text, same_text}
 use Rattle.cdi_model.specs.Bytes.{byte_order}
 use Rattle.cdi_model.specs.Quals.{name_of_use}
 use Rattle.cdi_model.specs.declared.decl.Decl.{Decl}
@@ -17,7 +18,6 @@ use Rattle.cdi_match.specs.Chain.{has}
 use Rattle.cdi_match.specs.Filling.{as_binding}
 use Rattle.cdi_match.proofs.ClosureLemmas.{led_decides, led-has, led-is}
 use Rattle.cdi_match.proofs.Listed.{Lists}
-use Rattle.cdi_match.proofs.Names.{one_name, same_text}
 
 -- the types of the uses that a declaration declares
 abbrev pub bindings_in : Lists
@@ -63,7 +63,7 @@ is-read : (f : List ℕ → List Qual) (names : List (List ℕ)) (b : List ℕ) 
     → Contains (flat_map f names) u
 is-read f [] b u among c = absurd (false≢true among)
 is-read f (n ∷ ns) b u among c = elim (or_cases (bytes_eq n b) (has ns b) among) [
-  | inl is ↦ Contains-append_left (f n) (flat_map f ns) u (subst (λ x. Contains (f x) u) (sym (one_name n b is)) c)
+  | inl is ↦ Contains-append_left (f n) (flat_map f ns) u (subst (λ x. Contains (f x) u) (sym (one_text n b is)) c)
   | inr later ↦ Contains-append_right (f n) (flat_map f ns) u (is-read f ns b u later c)
 ]
 

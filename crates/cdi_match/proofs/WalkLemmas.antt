@@ -9,6 +9,7 @@ use Rattle.std.proofs.lemmas.Bool.{or_cases, or_left, or_right, cases_Bool, case
 use Rattle.std.proofs.lemmas.Bool.Decides.{same_from_decides}
 use Rattle.std.proofs.lemmas.List.{get_or-set_same, get_or-set_other, length-set}
 use Rattle.std.proofs.lemmas.List.Concat.{flat_map-append}
+use Rattle.base_numbers.proofs.Texts.{one_text, same_text}
 use Rattle.cdi_positions.specs.Marks.{marked_count, marked_from}
 use Rattle.cdi_positions.proofs.MarkLemmas.{length-marked_from, marked_from-none, marked_from-set, marked_from-unset, HasOneMore}
 use Rattle.cdi_model.specs.Decl.{name_of_decl}
@@ -23,7 +24,6 @@ use Rattle.cdi_match.specs.Chain.{ChainFromOne, Steps, has, leads}
 use Rattle.cdi_match.specs.Search.{Adds, Closing, is_led_to, kind_of, listed_by, next_of}
 use Rattle.cdi_match.specs.Walk.{declared_among, has_met, has_mark, IsWalking, Meets}
 use Rattle.cdi_match.specs.Walk.{HasMarks, names_at, names_left, next_declared, tasks}
-use Rattle.cdi_match.proofs.Names.{one_name, same_text}
 use Rattle.cdi_match.proofs.SearchLemmas.{Adds-again, Adds-new, Adds-none, Adds-then, Closing-all, Closing-start, Closing-step}
 use Rattle.cdi_match.proofs.SearchLemmas.{is_led_to_decides}
 
@@ -52,7 +52,7 @@ marked-more kind ds marks name i at within s = by (bytes_eq name s) refl (positi
         → has_mark (slice_set marks i true) (position (is_of kind s) ds)
         ≡ cond (bytes_eq name s) true (has_mark marks (position (is_of kind s) ds))
     by true e o f =
-        let there : position (is_of kind s) ds ≡ Some i = ap (λ n. position (is_of kind n) ds) (sym (one_name name s e)) ∙ at in
+        let there : position (is_of kind s) ds ≡ Some i = ap (λ n. position (is_of kind n) ds) (sym (one_text name s e)) ∙ at in
         rw (e, there) (get_or-set_same marks i true false within)
     by false e None f = rw (e, f) refl
     by false e (Some j) f = rw (e, f) (marked_at marks i j (λ same.
@@ -66,7 +66,7 @@ marked-again kind ds marks name was s = by (bytes_eq name s) refl
   where
     by : (b : Bool) → bytes_eq name s ≡ b
         → has_mark marks (position (is_of kind s) ds) ≡ cond (bytes_eq name s) true (has_mark marks (position (is_of kind s) ds))
-    by true e = rw e (ap (λ n. has_mark marks (position (is_of kind n) ds)) (sym (one_name name s e)) ∙ was)
+    by true e = rw e (ap (λ n. has_mark marks (position (is_of kind n) ds)) (sym (one_text name s e)) ∙ was)
     by false e = rw e refl
 
 -- ---- names that are declared
@@ -294,19 +294,17 @@ among-has which ds (n ∷ ns) y is h = by (is_some (find_decl (kind_of which) n 
     ])
     by false e more = rw e (elim (or_cases (bytes_eq n y) (has ns y) h) [
       | inl here ↦ absurd (both_ways (is_some (find_decl (kind_of which) n ds)) e
-          (ap (λ z. is_some (find_decl (kind_of which) z ds)) (one_name n y here) ∙ is))
+          (ap (λ z. is_some (find_decl (kind_of which) z ds)) (one_text n y here) ∙ is))
       | inr there ↦ more there
     ])
 
 next-listed : (which : Links) (ds : List Decl) (x : List ℕ) → next_of which ds x ≡ listed_by which (find_decl (kind_of which) x ds)
 next-listed links.Supers ds x = refl
-next-listed links.Stereotypes ds x = refl
-next-listed links.Bindings ds x = refl
+next-listed other ds x = refl
 
 listed-none : (which : Links) → listed_by which None ≡ []
 listed-none links.Supers = refl
-listed-none links.Stereotypes = refl
-listed-none links.Bindings = refl
+listed-none other = refl
 
 -- what is not declared lists nothing
 next-undeclared : (which : Links) (ds : List Decl) (x : List ℕ) → is_some (find_decl (kind_of which) x ds) ≡ false

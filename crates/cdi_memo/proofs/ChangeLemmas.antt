@@ -17,10 +17,6 @@ pub turned : (b s : Bool) → s ≡ not b → b ≡ not s
 turned true s is = ap not (sym is)
 turned false s is = ap not (sym is)
 
-pub cond-twice : {X : Type 0} (e : Bool) (x y z : X) → cond e x (cond e y z) ≡ cond e x z
-cond-twice true x y z = refl
-cond-twice false x y z = refl
-
 pub some-there : {X Y : Type 0} (test : X → Bool) (es : List (X × Y)) (y : Y) → lookup test es ≡ Some y → 0 < length es
 some-there test [] y found = absurd (let no : None ≡ Some y = found in cc)
 some-there test (e ∷ es) y found = omega arith
@@ -28,10 +24,6 @@ some-there test (e ∷ es) y found = omega arith
 pub not-empty : {X : Type 0} (b : Bool) (xs : List X) → b ≡ false → (length xs ≡ 0 → b ≡ true) → 0 < length xs
 not-empty b [] is empty = absurd (false≢true (sym is ∙ empty refl))
 not-empty b (x ∷ xs) is empty = omega arith
-
-pub on_err : {X Y P : Type 0} (r : Result X Y) → P → OnErr r P
-on_err (Ok x) p = tt
-on_err (Err e) p = p
 
 -- the answers of the name stay
 pub stays-there : {Q A S : Type 0} (name : List ℕ) (es : List (List ℕ × IndexMap Q A S)) (s w : IndexMap Q A S)

@@ -14,31 +14,13 @@ use Rattle.std.proofs.lemmas.Map.Entries.{none_past_head}
 use Rattle.std.proofs.lemmas.Map.Keys.{IsDistinct-cons, IsDistinct-head, IsDistinct-tail}
 use Rattle.std.proofs.lemmas.Map.Made.{is_member-filter, is_some-lookup, length-from_same_keys}
 use Rattle.std.proofs.lemmas.Map.Steps.{list_any_congr}
+use Rattle.std.proofs.Math.Bool.{or-false}
+use Rattle.base_lists.proofs.Each.{all-filter}
+use Rattle.base_lists.proofs.Any.{none-passes, each-fails}
 use Rattle.cdi_memo.specs.Answers.{answer, how_many, is_kept, parts_under, questions, same_question, Answers, Keeps, Question, Removes}
 use Rattle.cdi_memo.specs.Laws.{AreOnce, CountsAnswered, NamesHaveParts, PartsAreKept}
 
 -- ---- lists with no two alike
-
-none : {X : Type 0} (test : X → Bool) (xs : List X) → list_any test xs ≡ false → AllByRecursion (λ x. test x ≡ false) xs
-none test [] h = tt
-none test (x ∷ xs) h = by (test x) h (none test xs)
-  where
-    by : (b : Bool) → (b || list_any test xs) ≡ false → (list_any test xs ≡ false → AllByRecursion (λ y. test y ≡ false) xs)
-        → (b ≡ false) × AllByRecursion (λ y. test y ≡ false) xs
-    by true f more = absurd (false≢true (sym f))
-    by false f more = (refl, more f)
-
-none_passes : {X : Type 0} (test : X → Bool) (xs : List X) → AllByRecursion (λ x. test x ≡ false) xs → list_any test xs ≡ false
-none_passes test [] h = refl
-none_passes test (x ∷ xs) h = ap (λ b. b || list_any test xs) h.0 ∙ none_passes test xs h.1
-
-all-filter : {X : Type 0} (P : X → Type 0) (test : X → Bool) (xs : List X) → AllByRecursion P xs → AllByRecursion P (filter test xs)
-all-filter P test [] h = tt
-all-filter P test (x ∷ xs) h = by (test x) (all-filter P test xs h.1)
-  where
-    by : (b : Bool) → AllByRecursion P (filter test xs) → AllByRecursion P (cond b (x ∷ filter test xs) (filter test xs))
-    by true rest = (h.0, rest)
-    by false rest = rest
 
 pub differ-nil : {X : Type 0} (eq : X → X → Bool) → IsDistinct eq []
 unfolding IsDistinct
@@ -51,10 +33,6 @@ differ-filter eq test (x ∷ xs) h = by (test x) (differ-filter eq test xs (IsDi
     by : (b : Bool) → IsDistinct eq (filter test xs) → IsDistinct eq (cond b (x ∷ filter test xs) (filter test xs))
     by true rest = IsDistinct-cons eq x (filter test xs) (all-filter (λ y. eq x y ≡ false) test xs (IsDistinct-head eq x xs h)) rest
     by false rest = rest
-
-or-false : (b : Bool) → (b || false) ≡ b
-or-false true = refl
-or-false false = refl
 
 -- ---- one name
 
@@ -81,13 +59,13 @@ module _ {Q : Type 0} (eq : Q → Q → Bool) where
   row-differ name [] rest own others d = d
   row-differ name (p ∷ ps) rest own others d =
       IsDistinct-cons (same_question eq) (name, p.0) (map (λ e. (name, e.0)) ps ++ rest)
-      (none (same_question eq (name, p.0)) (map (λ e. (name, e.0)) ps ++ rest)
+      (each-fails (same_question eq (name, p.0)) (map (λ e. (name, e.0)) ps ++ rest)
       (list_any-append (same_question eq (name, p.0)) (map (λ e. (name, e.0)) ps) rest
       ∙ ap (λ b. list_any (same_question eq (name, p.0)) (map (λ e. (name, e.0)) ps) || b) (others p.0)
       ∙ or-false (list_any (same_question eq (name, p.0)) (map (λ e. (name, e.0)) ps))
       ∙ row-has (name, p.0) name ps
       ∙ ap (λ b. b && list_any (eq p.0) (keys_of ps)) (nat_list_eq_equiv.refl name)
-      ∙ none_passes (eq p.0) (keys_of ps) (IsDistinct-head eq p.0 (keys_of ps) own)))
+      ∙ none-passes (eq p.0) (keys_of ps) (IsDistinct-head eq p.0 (keys_of ps) own)))
       (row-differ name ps rest (IsDistinct-tail eq p.0 (keys_of ps) own) others d)
 
 -- ---- all names
@@ -177,7 +155,7 @@ module _ {Q A : Type 0} (eq : Q → Q → Bool) (laws : IsEquivalence eq) where
       → is_kept eq m k ≡ is_kept eq m l
   kept-congr m k l d same = sym (questions-have eq m k d) ∙ list_any_congr (alike eq laws) k l (questions m) same ∙ questions-have eq m l d
 
-  -- Of questions that include all of which an answer is kept, and none twice, as many have an answer as there are.
+  -- Of questions that include all of which an answer is kept, and each-fails twice, as many have an answer as there are.
   pub counts-answered : (m : Answers Q A) → AreOnce eq m → CountsAnswered eq m
   counts-answered m once asked differ all =
       length-from_same_keys (alike eq laws) (questions m) (filter (is_kept eq m) asked) (questions-differ eq m once)
@@ -199,7 +177,7 @@ module _ {Q A : Type 0} (eq : Q → Q → Bool) (laws : IsEquivalence eq) where
   one-more m n k once once' new is =
       length-from_same_keys (alike eq laws) (questions n) (k ∷ questions m) (questions-differ eq n once')
       (IsDistinct-cons (same_question eq) k (questions m)
-      (none (same_question eq k) (questions m) (questions-have eq m k once.0 ∙ new))
+      (each-fails (same_question eq k) (questions m) (questions-have eq m k once.0 ∙ new))
       (questions-differ eq m once))
       (λ l. questions-have eq n l once'.0 ∙ is l
       ∙ (λ i. (alike eq laws).symm k l i || sym (questions-have eq m l once.0) i))
@@ -219,7 +197,7 @@ module _ {Q A : Type 0} (eq : Q → Q → Bool) (laws : IsEquivalence eq) where
   kept-or true a o = refl
   kept-or false a o = refl
 
-  -- A question more has an answer after one is kept that had none.
+  -- A question more has an answer after one is kept that had each-fails.
   pub count-more : (name : List ℕ) (q : Q) (a : A) (m n : Answers Q A) → AreOnce eq m → AreOnce eq n → Keeps eq name q a m n
       → is_kept eq m (name, q) ≡ false → how_many n ≡ how_many m + 1
   count-more name q a m n once once' keeps new =

@@ -9,6 +9,7 @@ use Rattle.cdi_model.specs.CallText.{around_dot, call_between, call_of, text_of_
 use Rattle.cdi_model.specs.Grammar.{is_letter, is_word, are_words, is_ident_text, is_ident}
 use Rattle.cdi_model.specs.declared.decl.CallDecl.{CallDecl}
 use Rattle.cdi_model.proofs.GrammarLemmas.{no_dot}
+use Rattle.cdi_model.proofs.BeanNameLemmas.{letter_is_word}
 
 -- no dot stands in the text
 abbrev HasNoDot : List ℕ → Type 0
@@ -19,9 +20,6 @@ words_have_none [] h = tt
 words_have_none (b ∷ bs) h =
     let (word, more) = and_parts (is_word b) (are_words bs) h in
     (no_dot b word, words_have_none bs more)
-
-letter_is_word : (b : ℕ) → is_letter b ≡ true → is_word b ≡ true
-letter_is_word b h = rw h refl
 
 ident_has_none : (bytes : List ℕ) → is_ident bytes ≡ true → HasNoDot bytes
 ident_has_none [] h = tt

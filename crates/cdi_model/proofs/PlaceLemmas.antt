@@ -2,7 +2,7 @@
 use Rattle.std.proofs.Common.{◌≡◌, ◌<◌, ℕ, zero, suc, Bool, true, false, cond, List, [], ◌∷◌, length, map, Option, Some, None, option_map}
 use Rattle.std.proofs.Common.{refl, sym, ap, ◌∙◌, position, slice_get, slice_index_or, arith}
 use Rattle.std.specs.List.{AllByRecursion}
-use Rattle.cdi_model.proofs.PositionLemmas.{position-cons}
+use Rattle.base_lists.proofs.Places.{position-cons}
 
 -- the test passes at a place, and at none before it
 abbrev pub First : {X : Type 0} → (X → Bool) → ℕ → List X → Type 0
@@ -54,12 +54,6 @@ pub First-within : {X : Type 0} (p : X → Bool) (xs : List X) (i : ℕ) → Fir
 First-within p [] i h = absurd h
 First-within p (x ∷ xs) zero h = omega arith
 First-within p (x ∷ xs) (suc i) h = let within = First-within p xs i h.1 in omega (arith, within)
-
--- by what is read of each
-pub position-map : {X Y : Type 0} (f : X → Y) (p : Y → Bool) (xs : List X) → position p (map f xs) ≡ position (λ x. p (f x)) xs
-position-map f p [] = refl
-position-map f p (x ∷ xs) = position-cons p (f x) (map f xs) ∙ ap (λ o. cond (p (f x)) (Some 0) (option_map suc o)) (position-map f p xs)
-    ∙ sym (position-cons (λ x. p (f x)) x xs)
 
 -- the element there
 pub First-get : {X : Type 0} (p : X → Bool) (xs : List X) (i : ℕ) (d : X) → First p i xs → slice_get xs i ≡ Some (slice_index_or xs i d)

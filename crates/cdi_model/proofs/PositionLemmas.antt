@@ -2,6 +2,7 @@
 use Rattle.std.proofs.Common.{◌≡◌, ℕ, zero, suc, Bool, true, false, cond, List, [], ◌∷◌, Option, Some, None, is_some, option_map}
 use Rattle.std.proofs.Common.{refl, sym, ap, ◌∙◌, slice_get, position, arith}
 use Rattle.std.specs.Map.{keys_of}
+use Rattle.base_lists.proofs.Places.{position-cons}
 use Rattle.cdi_model.specs.declared.decl.Decl.{Decl}
 use Rattle.cdi_model.specs.declared.decl.Kind.{Kind}
 use Rattle.cdi_model.specs.declared.key.DeclKey.{DeclKey}
@@ -10,11 +11,6 @@ use Rattle.cdi_model.specs.DeclKey.{same_key, key_at}
 use Rattle.cdi_model.specs.DeclList.{find_decl, is_of}
 use Rattle.cdi_model.specs.Entries.{Entry, decls_of, AreKeyed}
 use Rattle.cdi_model.proofs.EntryLemmas.{key_exact}
-
--- the first place in a longer list
-pub position-cons : {X : Type 0} (p : X → Bool) (x : X) (xs : List X)
-    → position p (x ∷ xs) ≡ cond (p x) (Some 0) (option_map suc (position p xs))
-position-cons p x xs = grind arith
 
 -- by the keys of the map
 pub position-keys : (key : DeclKey) (es : List Entry) → AreKeyed es

@@ -3,6 +3,7 @@ use Rattle.std.proofs.Common.{◌≡◌, ◌+◌, ◌<◌, ◌≤◌, ℕ, zero,
 use Rattle.std.proofs.Common.{refl, sym, ap, ◌∙◌, subst, position, slice_get, slice_set, arith}
 use Rattle.std.specs.List.{IsDistinct}
 use Rattle.std.proofs.lemmas.List.{length-set}
+use Rattle.base_lists.proofs.Places.{position-map}
 use Rattle.cdi_positions.specs.Marks.{is_marked, count_below, marked_count, IsOutside}
 use Rattle.cdi_positions.specs.Marks as positions
 use Rattle.cdi_model.specs.Decl.{key_of, kind_of, name_of_decl}
@@ -13,7 +14,7 @@ use Rattle.cdi_model.specs.declared.decl.Decl.{Decl}
 use Rattle.cdi_model.specs.declared.decl.Kind.{Kind}
 use Rattle.cdi_model.specs.declared.kept.Replaced.{Replaced}
 use Rattle.cdi_model.proofs.KeptLemmas.{has_key, StandsAt, stands-first, first-stands, none_found, none_removed, none_kept, gone_kept, find_kept, rank_kept, length_kept, few_kept, put_kept, remove_kept}
-use Rattle.cdi_model.proofs.PlaceLemmas.{First, First-position, First-within, Nowhere, Nowhere-position, position-First, position-Nowhere, position-map}
+use Rattle.cdi_model.proofs.PlaceLemmas.{First, First-position, First-within, Nowhere, Nowhere-position, position-First, position-Nowhere}
 use Rattle.cdi_model.proofs.ReplacedLemmas.{length-changed, keys-set}
 
 -- where keys are the same, a key has the same place

@@ -2,22 +2,24 @@
 use Rattle.cdi_observe.proofs.Common.{◌≡◌, ℕ, zero, suc, Bool, true, false, cond, not, ◌&&◌, ◌||◌, List, [], ◌∷◌, ◌++◌, map, length, Some}
 use Rattle.cdi_observe.proofs.Common.{Ok, Result, Err, get_or, refl, sym, ap, ◌∙◌, AllByRecursion, flat_map, list_any, bytes_eq, false≢true}
 use Rattle.cdi_observe.proofs.Common.{or_left, or_right, recursion_from_All, list_any-append, slice_get-get_or, find_decl, AreDistinct}
-use Rattle.cdi_observe.proofs.Common.{BeanDecl, Decl, BeanPlace, Refusal, one_name, find_bean, own-found, chain_told, has_place, places_of}
+use Rattle.cdi_observe.proofs.Common.{BeanDecl, Decl, BeanPlace, Refusal, find_bean, own-found, chain_told, has_place, places_of, one_text}
 use Rattle.cdi_observe.proofs.Common.{names_at, names_of_bean}
 use Rattle.std.proofs.Common.{nat_eq}
 use Rattle.std.specs.List.{filter, slice_get}
 use Rattle.std.proofs.Math.Bool.{and-false}
 use Rattle.std.proofs.lemmas.Option.{none-some, same_Some}
+use Rattle.base_lists.proofs.Any.{any-flat_map, any-same, any-left, some_left}
+use Rattle.base_lists.proofs.Sorting.{any-sorted}
+use Rattle.base_numbers.proofs.Texts.{same_text}
 use Rattle.cdi_model.specs.declared.decl.Decl.TheVariants as decls
 use Rattle.cdi_model.specs.declared.decl.InterceptorDecl.{InterceptorDecl}
 use Rattle.cdi_model.specs.declared.decl.Kind.TheVariants as kinds
 use Rattle.cdi_match.specs.Chain.{has}
-use Rattle.cdi_match.proofs.Names.{same_text}
 use Rattle.cdi_effective.specs.Bindings.{class_bindings}
 use Rattle.cdi_intercept.specs.Chains.{around_any, chain_by, chain_of, in_order, interceptors, is_before, is_enabled, stands_around}
 use Rattle.cdi_intercept.specs.Chains.{surrounds, surrounds_one}
 use Rattle.cdi_intercept.specs.Sets.{set_by, sets_of}
-use Rattle.cdi_intercept.proofs.AroundLemmas.{any-left, any-same, any-sets, any-sorted, intercepted-by_places, is_around, some_left}
+use Rattle.cdi_intercept.proofs.AroundLemmas.{any-sets, intercepted-by_places, is_around}
 use Rattle.cdi_intercept.proofs.ChainLemmas.{in_order-declared, IsDeclared}
 
 -- ---- the names at a place are those that are told of it
@@ -87,7 +89,7 @@ module _ (ds : List Decl) (distinct : AreDistinct ds) where
   -- two of one name are one
   one-named : (x i : InterceptorDecl) → IsDeclared ds x → IsDeclared ds i → bytes_eq x.name i.name ≡ true → x ≡ i
   one-named x i at there e =
-      let name : x.name ≡ i.name = one_name x.name i.name e in
+      let name : x.name ≡ i.name = one_text x.name i.name e in
       let first : find_decl kinds.Interceptor x.name ds ≡ Some (decls.Interceptor x) = own-found ds at.0 (decls.Interceptor x) distinct at.1 in
       let second : find_decl kinds.Interceptor i.name ds ≡ Some (decls.Interceptor i) =
       own-found ds there.0 (decls.Interceptor i) distinct there.1 in
@@ -101,7 +103,7 @@ module _ (ds : List Decl) (distinct : AreDistinct ds) where
 
   any-named : (i : InterceptorDecl) → IsDeclared ds i → is_enabled i ≡ true → list_any (is_named i) (in_order ds) ≡ true
   unfolding in_order
-  any-named i there enabled = any-sorted (is_named i) is_before (filter is_enabled (interceptors ds)) ∙ any-declared i ds there.0 there.1 enabled
+  any-named i there enabled = any-sorted is_before (is_named i) (filter is_enabled (interceptors ds)) ∙ any-declared i ds there.0 there.1 enabled
 
   and-true : (a b : Bool) → b ≡ true → (a && b) ≡ a
   and-true true b e = e
@@ -127,17 +129,12 @@ has-names_at ds bean place k i distinct at =
 
 -- ---- among those around all places
 
-any-flat : {X Y : Type 0} (q : Y → Bool) (f : X → List Y) (xs : List X) → list_any q (flat_map f xs) ≡ list_any (λ x. list_any q (f x)) xs
-any-flat q f [] = refl
-any-flat q f (x ∷ xs) = list_any-append q (f x) (flat_map f xs) ∙ ap (λ b. list_any q (f x) || b) (any-flat q f xs)
-
 has-all : (ds : List Decl) (bean : BeanDecl) (i : InterceptorDecl) → AreDistinct ds → IsDeclared ds i → is_enabled i ≡ true
     → has (names_of_bean ds bean) i.name ≡ surrounds_one ds (sets_of ds (class_bindings ds bean) bean) i
 unfolding names_of_bean
 has-all ds bean i distinct there enabled =
-    any-flat (λ n. bytes_eq n i.name) (names_at ds bean) (places_of bean)
-    ∙ any-same (λ place. has (names_at ds bean place) i.name) (λ place. surrounds ds (set_by ds (class_bindings ds bean) bean place) place i)
-    (λ place. has-at ds bean place i distinct there enabled) (places_of bean)
+    any-flat_map (λ n. bytes_eq n i.name) (names_at ds bean) (places_of bean)
+    ∙ any-same (λ place. has (names_at ds bean place) i.name) (λ place. surrounds ds (set_by ds (class_bindings ds bean) bean place) place i) (places_of bean) (λ place. has-at ds bean place i distinct there enabled)
     ∙ sym (any-sets ds (class_bindings ds bean) bean i (places_of bean))
 
 pub has-names : (ds : List Decl) (bean : BeanDecl) (k : ℕ) (i : InterceptorDecl) → AreDistinct ds → slice_get (in_order ds) k ≡ Some i
@@ -183,7 +180,7 @@ some-at ds bean place =
     some-map (λ (i : InterceptorDecl). i.name) (chain_by ds set place)
     ∙ sym (left-some (filter (surrounds ds set place) (in_order ds)))
     ∙ any-left (surrounds ds set place) (in_order ds)
-    ∙ any-sorted (surrounds ds set place) is_before (filter is_enabled (interceptors ds))
+    ∙ any-sorted is_before (surrounds ds set place) (filter is_enabled (interceptors ds))
 
 -- there is a name just where an interceptor stands around some place
 pub some-names : (ds : List Decl) (bean : BeanDecl)
@@ -192,5 +189,5 @@ unfolding names_of_bean
 some-names ds bean =
     left-some (names_of_bean ds bean)
     ∙ some-flat (names_at ds bean) (places_of bean)
-    ∙ any-same (λ place. some (names_at ds bean place)) (is_around ds (class_bindings ds bean) bean) (some-at ds bean) (places_of bean)
+    ∙ any-same (λ place. some (names_at ds bean place)) (is_around ds (class_bindings ds bean) bean) (places_of bean) (some-at ds bean)
     ∙ intercepted-by_places ds (class_bindings ds bean) bean

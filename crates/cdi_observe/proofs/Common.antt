@@ -13,6 +13,7 @@ pub use Rattle.std.specs.Bool.{Decides}
 pub use Rattle.std.specs.List.{AllByRecursion, flat_map, list_any, list_all, All, AllPairs, Contains}
 unfoldable pub use Rattle.std.specs.List.{IsDistinct}
 pub use Rattle.std.specs.Str.{bytes_eq}
+pub use Rattle.base_numbers.proofs.Texts.{one_text}
 pub use Rattle.cdi_model.specs.Decl.{kind_of, name_of_decl}
 pub use Rattle.cdi_model.specs.DeclList.{find_decl, AreDistinct}
 pub use Rattle.cdi_model.specs.Mentions.{Mention, EventOf, mentions, shown}
@@ -23,7 +24,6 @@ pub use Rattle.cdi_model.specs.declared.decl.PointDecl.{PointDecl}
 pub use Rattle.cdi_model.specs.declared.place.BeanPlace.{BeanPlace}
 pub use Rattle.cdi_model.specs.declared.quals.Qual.{Qual}
 pub use Rattle.cdi_model.specs.declared.refusal.Refusal.{Refusal}
-pub use Rattle.cdi_match.proofs.Names.{one_name}
 pub use Rattle.cdi_effective.proofs.PlaceLemmas.{own-found}
 pub use Rattle.cdi_effective.specs.Beans.{entries}
 pub use Rattle.cdi_effective.specs.Disposers.{find_bean, as_bean}

@@ -15,16 +15,6 @@ use Rattle.cdi_observe.specs.Kept.{with_all, unknown, KnowsWanted}
 use Rattle.cdi_observe.proofs.KeyLemmas.{same_key-decides, same_key-equiv}
 use Rattle.cdi_observe.proofs.WantedLemmas.{has-wanted, wanted-distinct, wanted_stand_once}
 
--- what holds at all holds where there is an error
-pub where_err : {T E P : Type 0} (r : Result T E) → P → OnErr r P
-where_err (Ok x) p = tt
-where_err (Err y) p = p
-
--- or none
-pub where_ok : {T E P : Type 0} (r : Result T E) → P → OnOk r P
-where_ok (Ok x) p = p
-where_ok (Err y) p = tt
-
 -- ---- keys one after another
 
 pub evaluated-append : (ds : List Decl) (xs ys : List Key) (kept : Kept)

@@ -1,6 +1,6 @@
 -- The observer methods of an event rest on those which observe a type of it, their filled qualifiers, and the declarations of its own.
 use Rattle.cdi_observe.proofs.Common.{◌≡◌, ℕ, Bool, true, false, cond, ◌&&◌, ◌||◌, List, [], ◌∷◌, ◌++◌, map, refl, sym, ap, ◌∙◌, list_any}
-use Rattle.cdi_observe.proofs.Common.{bytes_eq, Decl, one_name, Qual, Effective, filter, list_all, Observer, is_notified, observer_id}
+use Rattle.cdi_observe.proofs.Common.{bytes_eq, Decl, Qual, Effective, filter, list_all, Observer, is_notified, observer_id, one_text}
 use Rattle.std.proofs.Common.{codes, Option}
 use Rattle.std.specs.Map.{keys_of}
 use Rattle.std.specs.Option.{option_eq}
@@ -40,7 +40,7 @@ covers-filled ds have want = by (bytes_eq have.name want.name) refl
 
     by : (b : Bool) → bytes_eq have.name want.name ≡ b
         → covers ds use_kinds.Qualifier have want ≡ covers_filled declared have (filled ds use_kinds.Qualifier want)
-    by true e = ap (λ name. bytes_eq have.name want.name && agree_where (find_qualifier name ds)) (one_name have.name want.name e)
+    by true e = ap (λ name. bytes_eq have.name want.name && agree_where (find_qualifier name ds)) (one_text have.name want.name e)
     by false e = rw e refl
 
 -- the first declaration is that of the first use, and so on

@@ -4,13 +4,10 @@ use Rattle.cdi_observe.proofs.Common.{flat_map, false≢true, BeanDecl, Decl, Be
 use Rattle.cdi_observe.proofs.Common.{Key, All, ChainKey, asked_by, chains_by, events_by, wanted_by, asked_key, is_told, AskedKey, Mention}
 use Rattle.cdi_observe.proofs.Common.{EventOf, mentions, PointDecl, as_bean, event_in, key_of_point, points_of}
 use Rattle.std.proofs.Common.{is_ok}
+use Rattle.base_lists.proofs.Each.{all-append}
 use Rattle.cdi_model.specs.declared.decl.Decl.TheVariants as decls
 use Rattle.cdi_observe.proofs.BeanPlaceLemmas.{has-each_place}
 use Rattle.cdi_observe.proofs.FoundLemmas.{all-lent, IsFound}
-
-all-append : {X : Type 0} (P : X → Type 0) (xs ys : List X) → AllByRecursion P xs → AllByRecursion P ys → AllByRecursion P (xs ++ ys)
-all-append P [] ys all more = more
-all-append P (x ∷ xs) ys all more = (all.0, all-append P xs ys all.1 more)
 
 ok-where : {X : Type 0} (has : Bool) (x : X) (refusal : Refusal) → has ≡ true → is_ok (cond has (Ok x) (Err refusal)) ≡ true
 ok-where true x refusal e = refl

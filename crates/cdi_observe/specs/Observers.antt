@@ -13,7 +13,7 @@ use Rattle.cdi_match.specs.Types.{types_of}
 use Rattle.cdi_effective.specs.Disposers.{find_bean}
 use Rattle.cdi_effective.specs.Qualifiers.{some_covers}
 use Rattle.cdi_effective.specs.declared.records.Effective.{Effective}
-use Rattle.cdi_intercept.specs.Sorting.{sorted_by}
+use Rattle.base_lists.specs.Sorting.{sorted_by}
 use Rattle.cdi_observe.specs.declared.observers.ObserverId.{ObserverId}
 
 -- an observer method, and the bean that declares it

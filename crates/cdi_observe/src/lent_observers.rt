@@ -2,7 +2,7 @@
 ghost use Rattle.std.specs.Prelude.{◌≡◌, ◌++◌, filter, map, IfOk, OnOk};
 ghost use Rattle.std.specs.Option.{option_copied};
 ghost use Rattle.cdi_match.specs.Chain.{has};
-ghost use Rattle.cdi_intercept.specs.Sorting.{sorted_by};
+ghost use Rattle.base_lists.specs.Sorting.{sorted_by};
 ghost use Rattle.cdi_observe.specs.Lent.{lent_in};
 ghost use Rattle.cdi_observe.specs.Observers.{declared_by, enabled_bean, is_before, observers, observes, priority_of};
 

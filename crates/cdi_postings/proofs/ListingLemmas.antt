@@ -6,6 +6,8 @@ use Rattle.std.specs.Option.{option_map, option_map_or}
 use Rattle.std.proofs.lemmas.Map.Made.{lookup-map_values}
 use Rattle.indexmap.specs.IndexMap.{IndexMap, get}
 use Rattle.indexmap.specs.IndexSet.{IndexSet, contains}
+use Rattle.base_lists.proofs.Places.{empty-from_length}
+use Rattle.base_options.proofs.Booleans.{cond-or}
 use Rattle.cdi_postings.specs.Listing.{Listing, listings, under, is_listed, is_in, Lists, Unlists, ListTheSame}
 use Rattle.cdi_postings.specs.Words.{same_word}
 use Rattle.cdi_postings.specs.declared.word.Word.{Word}
@@ -70,35 +72,17 @@ module _ {T : Type 0} where
   abbrev pub holds : (Word → Option (IndexSet ℕ T)) → Word → ℕ → Bool
   holds f w k = holds_one (f w) k
 
-put-or : (b e : Bool) → cond e true b ≡ (b || e)
-put-or true true = refl
-put-or true false = refl
-put-or false true = refl
-put-or false false = refl
-
 take-and : (b e : Bool) → cond e false b ≡ (b && not e)
 take-and true true = refl
 take-and true false = refl
 take-and false true = refl
 take-and false false = refl
 
-pub cond-twice : {X : Type 0} (e : Bool) (x y z : X) → cond e x (cond e y z) ≡ cond e x z
-cond-twice true x y z = refl
-cond-twice false x y z = refl
-
-pub on_err : {X Y P : Type 0} (r : Result X Y) → P → OnErr r P
-on_err (Ok x) p = tt
-on_err (Err e) p = p
-
-no-slots : (ks : List ℕ) → length ks ≡ 0 → ks ≡ []
-no-slots [] e = refl
-no-slots (k ∷ ks) e = absurd (omega (arith, e))
-
 -- the set is empty where one was taken out
 pub none-left : {T : Type 0} (slot : ℕ) (t s : IndexSet ℕ T)
     → ((k : ℕ) → contains nat_eq t k ≡ cond (nat_eq slot k) false (contains nat_eq s k)) → length t.keys ≡ 0
     → (k : ℕ) → false ≡ cond (nat_eq slot k) false (contains nat_eq s k)
-none-left slot t s taken empty k = sym (ap (list_any (nat_eq k)) (no-slots t.keys empty)) ∙ taken k
+none-left slot t s taken empty k = sym (ap (list_any (nat_eq k)) (empty-from_length t.keys empty)) ∙ taken k
 
 module _ {T : Type 0} (word : Word) (slot : ℕ) where
   -- the set of the word has one more
@@ -110,7 +94,7 @@ module _ {T : Type 0} (word : Word) (slot : ℕ) where
     where
       by : (b : Bool) → same_word word w ≡ b → holds g w k ≡ (holds f w k || (b && nat_eq slot k))
       by true e = ap (λ o. holds_one o k) (made w ∙ ap (λ b. cond b (Some t) (f w)) e) ∙ put k
-          ∙ ap (λ v. cond (nat_eq slot k) true (holds f v k)) (word_exact word w e) ∙ put-or (holds f w k) (nat_eq slot k)
+          ∙ ap (λ v. cond (nat_eq slot k) true (holds f v k)) (word_exact word w e) ∙ cond-or (nat_eq slot k) (holds f w k)
       by false e = ap (λ o. holds_one o k) (made w ∙ ap (λ b. cond b (Some t) (f w)) e) ∙ or-false (holds f w k)
 
   -- the set of the word stays

@@ -2,7 +2,7 @@
 use Rattle.std.proofs.Common.{◌≡◌, ℕ, Bool, true, false, cond, not, ◌&&◌, List, [], ◌∷◌, ◌++◌, map, flat_map, filter, Option, Some, None}
 use Rattle.std.proofs.Common.{is_some, refl, sym, ap, ◌∙◌}
 use Rattle.std.specs.List.{list_any, slice_get}
-use Rattle.std.proofs.lemmas.Bool.{or_parts}
+use Rattle.std.proofs.lemmas.Bool.{or_parts, and_right}
 use Rattle.std.proofs.lemmas.List.Elements.{filter-append}
 use Rattle.std.proofs.lemmas.Grind.{flat_map-append}
 use Rattle.cdi_model.specs.declared.decl.BeanDecl.{BeanDecl}
@@ -19,7 +19,8 @@ use Rattle.cdi_effective.specs.Disposers.{find_bean}
 use Rattle.cdi_effective.specs.Specialized.{is_replaced}
 use Rattle.cdi_effective.specs.declared.records.Effective.{Effective}
 use Rattle.cdi_effective.proofs.PlaceLemmas.{own-place, place-found}
-use Rattle.cdi_intercept.specs.Sorting.{sorted_by}
+use Rattle.base_lists.specs.Sorting.{sorted_by}
+use Rattle.base_lists.proofs.Flat.{flat-twice}
 use Rattle.cdi_index.specs.Under.{has_name, observes_one}
 use Rattle.cdi_index.proofs.SoughtLemmas.{filter-under}
 use Rattle.cdi_resolve.specs.Choices.{candidate, choice_of, chosen_by_name, is_named, named, offers, HasEnough}
@@ -38,13 +39,9 @@ twice p q only (x ∷ xs) = by (q x) refl (twice p q only xs)
     by true e rest = ap (λ ys. cond (p x) (x ∷ ys) ys) rest
     by false e rest = rest ∙ ap (λ b. cond b (x ∷ filter p xs) (filter p xs)) (sym (only x e))
 
-both-not : (a b : Bool) → b ≡ false → (a && b) ≡ false
-both-not true b e = e
-both-not false b e = refl
-
 -- of the beans of a type
 pub has_enough : (t : List ℕ) (bs : List Effective) → HasEnough t (filter (λ b. has b.types t) bs) bs
-has_enough t bs = twice (offers t) (λ b. has b.types t) (λ b e. both-not b.is_enabled (has b.types t) e) bs
+has_enough t bs = twice (offers t) (λ b. has b.types t) (λ b e. and_right b.is_enabled (has b.types t) e) bs
 
 name-is : (n : List ℕ) (b : Effective) → has_name n b ≡ is_named n b.name
 name-is n b = by b.name refl
@@ -57,7 +54,7 @@ name-is n b = by b.name refl
 pub named_enough : (n : List ℕ) (bs : List Effective) → chosen_by_name (filter (has_name n) bs) n ≡ chosen_by_name bs n
 unfolding chosen_by_name named
 named_enough n bs = ap (λ xs. choice_of (map candidate xs)) (twice (λ b. b.is_enabled && is_named n b.name) (has_name n)
-    (λ b e. both-not b.is_enabled (is_named n b.name) (sym (name-is n b) ∙ e)) bs)
+    (λ b e. and_right b.is_enabled (is_named n b.name) (sym (name-is n b) ∙ e)) bs)
 
 -- ---- observers
 
@@ -108,14 +105,7 @@ module _ (ds : List Decl) (types : List (List ℕ)) where
       ∙ ap (λ ys. ys ++ filter (observes types) rest) (none-of-record b x found none)
       ∙ none-of-products b offered b.producers found none
   none-of-decl distinct i (decls.Type d) there none = refl
-  none-of-decl distinct i (decls.Qualifier d) there none = refl
-  none-of-decl distinct i (decls.Binding d) there none = refl
-  none-of-decl distinct i (decls.Stereotype d) there none = refl
-  none-of-decl distinct i (decls.Interceptor d) there none = refl
-
-  flat-twice : {X Y Z : Type 0} (g : Y → List Z) (f : X → List Y) (xs : List X) → flat_map g (flat_map f xs) ≡ flat_map (λ x. flat_map g (f x)) xs
-  flat-twice g f [] = refl
-  flat-twice g f (x ∷ xs) = flat_map-append g (f x) (flat_map f xs) ∙ ap (λ ys. flat_map g (f x) ++ ys) (flat-twice g f xs)
+  none-of-decl distinct i other there none = refl
 
   pub same-observers : AreDistinct ds → filter (observes types) (observers ds (flat_map (entries ds) (filter (observes_one types) ds)))
       ≡ filter (observes types) (observers ds (beans ds))

@@ -15,12 +15,12 @@ use Rattle.cdi_model.specs.declared.decl.UseKind.TheVariants as uses
 use Rattle.cdi_effective.specs.Beans.{unless_replaced}
 use Rattle.cdi_effective.specs.Specialized.{is_replaced}
 use Rattle.cdi_effective.proofs.RecordLemmas.{records_are_own}
+use Rattle.cdi_effective.proofs.ChainLemmas.{found-name}
 use Rattle.cdi_postings.specs.declared.word.Reason.TheVariants as reasons
 use Rattle.cdi_index.specs.Made.{words_of_bean, words_of_bindings}
 use Rattle.cdi_subjects.specs.Rests.{IsAnsweredAlike}
 use Rattle.cdi_report.specs.Spared.{AreBindingsSpared, IsSpecializedSpared}
 use Rattle.cdi_report.proofs.BeanLemmas.{bean-alike}
-use Rattle.cdi_report.proofs.SparedLemmas.{named-class}
 
 -- ---- words
 
@@ -56,7 +56,7 @@ specialized-read ds d s is =
     named : (o : Option (List ℕ)) → bean_named ds o ≡ Some s → is_among (bean_keys o) (key_at kinds.Bean s.name) ≡ true
     named None e = absurd (let no : None ≡ Some s = e in cc)
     named (Some class) e = or_left (same_key (key_at kinds.Bean class) (key_at kinds.Bean s.name)) false
-        (ap (λ n. same_key (key_at kinds.Bean class) (key_at kinds.Bean n)) (named-class ds class s e)
+        (ap (λ n. same_key (key_at kinds.Bean class) (key_at kinds.Bean n)) (found-name ds class s e)
         ∙ same_key_equiv.refl (key_at kinds.Bean class))
 
     by : (b : Bool) → cond b (bean_named ds (extended (find_decl kinds.Type d.name ds))) None ≡ Some s

@@ -1,21 +1,22 @@
 -- Edits that avoid the binding types that some uses bring leave these uses, and whether two of them differ.
-use Rattle.cdi_report.proofs.Common.{◌≡◌, ℕ, Bool, true, List, [], ◌∷◌, map, option_map, refl, sym, ap, ◌∙◌, inl, inr}
+use Rattle.cdi_report.proofs.Common.{◌≡◌, ℕ, Bool, true, List, [], ◌∷◌, map, option_map, refl, sym, ap, ◌∙◌, inl, inr, same_text}
 use Rattle.cdi_report.proofs.Common.{AllByRecursion, cases_Bool, false≢true, or_left, or_right, key_at, find_decl, edited_all, edited_keys}
 use Rattle.cdi_report.proofs.Common.{is_among, name_of_use, Decl, Edit, Qual, ◌||◌, not, ◌&&◌, list_any, bytes_eq, edits_keep_decl}
 use Rattle.cdi_report.proofs.Common.{◌⊎◌, arith, Avoid, brought, brought_types, types_brought, with_brought, has, as_binding, binding_reads}
-use Rattle.cdi_report.proofs.Common.{brings_type_decides, types_brought-has, same_text, has_conflict}
+use Rattle.cdi_report.proofs.Common.{brings_type_decides, types_brought-has, has_conflict}
 use Rattle.std.specs.List.{Contains}
 use Rattle.std.specs.Option.{unwrap_or}
 use Rattle.std.proofs.lemmas.List.Elements.{Contains-append_cases, Contains-append_left, Contains-append_right, Contains-push}
 use Rattle.std.proofs.lemmas.List.Elements.{Contains-push_cases}
+use Rattle.base_lists.proofs.Each.{all-weaker}
+use Rattle.base_lists.proofs.Any.{any-alike}
 use Rattle.cdi_model.specs.declared.decl.Kind.TheVariants as kinds
 use Rattle.cdi_match.specs.Bindings.{BringsType}
 use Rattle.cdi_match.specs.Covering.{agrees_by, are_alike}
 use Rattle.cdi_match.proofs.BindingLemmas.{brought_are_these}
 use Rattle.cdi_match.proofs.Chains.{chain_more}
-use Rattle.cdi_match.proofs.LocalityLemmas.{edits_keep_bindings}
+use Rattle.cdi_match.proofs.LocalityLemmas.{edits_keep_bindings, avoid-names}
 use Rattle.cdi_intercept.specs.Conflicts.{are_opposed}
-use Rattle.cdi_report.proofs.ItselfLemmas.{not-named}
 
 -- ---- what holds of each
 
@@ -71,7 +72,7 @@ module _ (edits : List Edit) (ds : List Decl) (uses : List Qual) (avoid : Avoid 
   brought-alike = all-from (IsDeclaredAlike ds (edited_all ds edits)) (with_brought ds uses) (λ u c.
       elim (cases_Bool (is_among (edited_keys edits) (key_at kinds.Binding (name_of_use u)))) [
         | inl among ↦ absurd (false≢true
-            (sym (not-named edits kinds.Binding (types_brought ds (map name_of_use uses)) avoid (name_of_use u) among)
+            (sym (avoid-names edits kinds.Binding (types_brought ds (map name_of_use uses)) avoid (name_of_use u) among)
             ∙ brought-named ds uses u c))
         | inr apart ↦ sym (edits_keep_decl edits ds kinds.Binding (name_of_use u) apart)
       ])
@@ -83,16 +84,8 @@ unfolding are_alike
 opposed-alike ds es u v e = ap (λ o. bytes_eq u.name v.name
     && not (agrees_by (λ name. true) (unwrap_or (option_map (λ d. d.members) (as_binding o)) []) u v)) e
 
-any-alike : {A : Type 0} (p q : A → Bool) (xs : List A) → AllByRecursion (λ x. p x ≡ q x) xs → list_any p xs ≡ list_any q xs
-any-alike p q [] same = refl
-any-alike p q (x ∷ xs) same = ap (λ b. b || list_any p xs) same.0 ∙ ap (λ b. q x || b) (any-alike p q xs same.1)
-
-pub each-weaker : {A : Type 0} (P Q : A → Type 0) (xs : List A) → ((x : A) → P x → Q x) → AllByRecursion P xs → AllByRecursion Q xs
-each-weaker P Q [] weaker all = tt
-each-weaker P Q (x ∷ xs) weaker all = (weaker x all.0, each-weaker P Q xs weaker all.1)
-
 pub conflict-alike : (ds es : List Decl) (set : List Qual) → AllByRecursion (IsDeclaredAlike ds es) set
     → has_conflict ds set ≡ has_conflict es set
 conflict-alike ds es set alike = any-alike (λ u. list_any (are_opposed ds u) set) (λ u. list_any (are_opposed es u) set) set
-    (each-weaker (IsDeclaredAlike ds es) (λ u. list_any (are_opposed ds u) set ≡ list_any (are_opposed es u) set) set
+    (all-weaker (IsDeclaredAlike ds es) (λ u. list_any (are_opposed ds u) set ≡ list_any (are_opposed es u) set) set
     (λ u one. ap (λ f. list_any f set) (λ i v. opposed-alike ds es u v one i)) alike)

@@ -10,6 +10,7 @@ pub use Rattle.std.proofs.lemmas.Result.{IfOk-weaker}
 pub use Rattle.std.specs.List.{AllByRecursion, find, list_any, list_all}
 pub use Rattle.std.specs.Option.{option_to_list, option_map_or}
 pub use Rattle.std.specs.Str.{bytes_eq}
+pub use Rattle.base_numbers.proofs.Texts.{one_text, same_text}
 pub use Rattle.cdi_positions.specs.Marks.{is_marked, marked_from}
 pub use Rattle.cdi_model.proofs.EditLemmas.{edits_keep_decl, edits_keep_others, avoid-first, avoid-second}
 pub use Rattle.cdi_model.proofs.EntryLemmas.{key_exact}
@@ -38,7 +39,6 @@ pub use Rattle.cdi_model.specs.declared.place.BeanPlace.{BeanPlace}
 pub use Rattle.cdi_model.specs.declared.quals.Qual.{Qual}
 pub use Rattle.cdi_bodies.specs.Book.{Promised}
 pub use Rattle.cdi_match.proofs.BindingLemmas.{brings_type_decides, types_brought-has}
-pub use Rattle.cdi_match.proofs.Names.{same_text, one_name}
 pub use Rattle.cdi_match.proofs.TypeLemmas.{is_type_decides, types_of-has}
 pub use Rattle.cdi_match.specs.Bindings.{brought, brought_types, types_brought, with_brought}
 unfoldable pub use Rattle.cdi_match.specs.Bindings.{brings_itself}

@@ -1,9 +1,9 @@
 -- What is settled stays so where the keys go whose declarations are not there.
+use Rattle.base_lists.proofs.Each.{all-weaker}
 use Rattle.cdi_report.proofs.Common.{◌≡◌, Bool, true, false, cond, List, [], ◌∷◌, Option, Some, refl, sym, ap, subst, ◌∙◌, inl, inr}
 use Rattle.cdi_report.proofs.Common.{AllByRecursion, cases_Bool, false≢true, kind_of, name_of_decl, same_key, same_key_equiv, find_decl}
 use Rattle.cdi_report.proofs.Common.{Decl, DeclKey, ◌||◌, key_of, Key, not, list_any, is_some, filter, contains, Promised, is_of, key_exact}
 use Rattle.cdi_report.proofs.Common.{closed_of, is_open, is_present, AreSettled, HaveNoneTogether, Unsettled}
-use Rattle.cdi_report.proofs.BindingLemmas.{each-weaker}
 
 -- ---- the keys that are left
 
@@ -45,7 +45,7 @@ each-present : (ds : List Decl) → AllByRecursion (λ d. is_present ds (key_of 
 each-present [] = tt
 each-present (d ∷ ds) = (
   ap (λ b. is_some (cond b (Some d) (find_decl (kind_of d) (name_of_decl d) ds))) (same_key_equiv.refl (key_of d)),
-  each-weaker (λ e. is_present ds (key_of e) ≡ true) (λ e. is_present (d ∷ ds) (key_of e) ≡ true) ds more (each-present ds),
+  all-weaker (λ e. is_present ds (key_of e) ≡ true) (λ e. is_present (d ∷ ds) (key_of e) ≡ true) ds more (each-present ds),
 )
   where
     by : (b : Bool) (o : Option Decl) → is_some o ≡ true → is_some (cond b (Some d) o) ≡ true
@@ -79,4 +79,4 @@ settled-forgotten ds old new each anew are knows book settled = record {
 
     closed : closed_of old ds ≡ closed_of new ds
     closed = closed-same ds ds old new
-        (each-weaker (λ d. is_present ds (key_of d) ≡ true) (λ d. is_open old (key_of d) ≡ is_open new (key_of d)) ds open-same (each-present ds))
+        (all-weaker (λ d. is_present ds (key_of d) ≡ true) (λ d. is_open old (key_of d) ≡ is_open new (key_of d)) ds open-same (each-present ds))

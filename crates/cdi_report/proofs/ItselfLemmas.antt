@@ -12,17 +12,8 @@ use Rattle.cdi_match.specs.Stereotypes.{inherited}
 use Rattle.cdi_match.specs.Types.{supers}
 use Rattle.cdi_match.proofs.BindingLemmas.{bindings_in}
 use Rattle.cdi_match.proofs.StereotypeLemmas.{has_stereotype_decides, stereotypes_in, stereotypes_of-has}
+use Rattle.cdi_match.proofs.LocalityLemmas.{among-names, avoid-names}
 use Rattle.cdi_report.proofs.CircleLemmas.{circle-kept}
-
--- a key of a kind is among those of some names exactly where its name is among these
-pub among-names : (kind : Kind) (names : List (List ℕ)) (s : List ℕ) → is_among (map (key_at kind) names) (key_at kind s) ≡ has names s
-among-names kind [] s = refl
-among-names kind (n ∷ names) s = rw (nat_eq_equiv.refl (kind_number kind)) (ap (λ b. bytes_eq n s || b) (among-names kind names s))
-
--- what some names avoid is none of them
-pub not-named : (edits : List Edit) (kind : Kind) (names : List (List ℕ)) → Avoid (map (key_at kind) names) edits
-    → (u : List ℕ) → is_among (edited_keys edits) (key_at kind u) ≡ true → has names u ≡ false
-not-named edits kind names avoid u among = sym (among-names kind names u) ∙ avoid (key_at kind u) among
 
 module _ (edits : List Edit) (ds : List Decl) where
   abbrev keys : List DeclKey
@@ -34,7 +25,7 @@ module _ (edits : List Edit) (ds : List Decl) where
     where
       avoids : (u : List ℕ) → is_among keys (key_at kinds.Type u) ≡ true → Chain (leads (supers ds)) t u → ⊥
       avoids u among c = false≢true
-          (sym (not-named edits kinds.Type (types_of ds t) avoid u among) ∙ types_of-has ds t u ∙ (is_type_decides ds t u).1 (inr c))
+          (sym (avoid-names edits kinds.Type (types_of ds t) avoid u among) ∙ types_of-has ds t u ∙ (is_type_decides ds t u).1 (inr c))
 
   pub binding-circle : (b : List ℕ) → is_among keys (key_at kinds.Binding b) ≡ false → Avoid (binding_reads ds (brought ds b)) edits
       → brings_itself (edited_all ds edits) b ≡ brings_itself ds b
@@ -45,7 +36,7 @@ module _ (edits : List Edit) (ds : List Decl) where
       avoids u among (zero, is) =
           false≢true (sym own ∙ ap (λ n. is_among keys (key_at kinds.Binding n)) is ∙ among)
       avoids u among (suc n, (w, edge, steps)) = false≢true
-          (sym (not-named edits kinds.Binding (types_brought ds (map name_of_use (brought ds b))) avoid u among)
+          (sym (avoid-names edits kinds.Binding (types_brought ds (map name_of_use (brought ds b))) avoid u among)
           ∙ types_brought-has ds (map name_of_use (brought ds b)) u
           ∙ (brings_type_decides ds (map name_of_use (brought ds b)) u).1 (w, edge, (n, steps)))
 
@@ -59,6 +50,6 @@ module _ (edits : List Edit) (ds : List Decl) where
       avoids u among (zero, is) =
           false≢true (sym own ∙ ap (λ n. is_among keys (key_at kinds.Stereotype n)) is ∙ among)
       avoids u among (suc n, (w, edge, steps)) = false≢true
-          (sym (not-named edits kinds.Stereotype (stereotypes_of ds (inherited ds s)) avoid u among)
+          (sym (avoid-names edits kinds.Stereotype (stereotypes_of ds (inherited ds s)) avoid u among)
           ∙ stereotypes_of-has ds (inherited ds s) u
           ∙ (has_stereotype_decides ds (inherited ds s) u).1 (w, edge, (n, steps)))

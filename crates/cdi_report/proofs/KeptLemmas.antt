@@ -5,6 +5,8 @@ use Rattle.cdi_report.proofs.Common.{edited_all, edited_keys, is_among, Decl, Ed
 use Rattle.cdi_report.proofs.Common.{is_of, closed_of, is_open, AreSettled, Unsettled, edits_keep_others, AreDistinct, is_name, Moved}
 use Rattle.cdi_report.proofs.Common.{Staged, each-found, IsFound, knows, State, subjects_at_fault, IsAlike, AreNamed, IsLeft}
 use Rattle.std.specs.List.{flat_map}
+use Rattle.std.proofs.lemmas.Bool.{not-true}
+use Rattle.base_lists.proofs.Each.{all-weaker}
 use Rattle.cdi_live.specs.State.{TakesOver}
 use Rattle.cdi_faults.specs.FaultText.{in_text_order}
 use Rattle.cdi_faults.specs.declared.fault.Code.{Code}
@@ -12,10 +14,9 @@ use Rattle.cdi_faults.specs.declared.fault.Fault.TheVariants as faults_are
 use Rattle.cdi_validate.specs.Faults.{faults_of_code}
 use Rattle.cdi_report.specs.Settled.{IsSettled}
 use Rattle.cdi_report.specs.Stays.{IsReadied, SettledStay}
-use Rattle.cdi_report.proofs.BindingLemmas.{each-weaker}
 use Rattle.cdi_report.proofs.StayLemmas.{left_alike, left_stay, left_were_present}
 use Rattle.cdi_report.proofs.UnmovedLemmas.{not-edited}
-use Rattle.cdi_report.proofs.TogetherLemmas.{all-passed, filter-filter, not-false, together-stay}
+use Rattle.cdi_report.proofs.TogetherLemmas.{all-passed, filter-filter, together-stay}
 use Rattle.cdi_faults.specs.Codes.{all_codes}
 
 -- the faults of a declaration are the same where those of each code are
@@ -75,7 +76,7 @@ module _ (old : State) (next : Staged) (new : State) (book : List Promised) (u :
   not-edited-shut d shut = ap not
       (ap (λ ks. is_among ks (key_of d)) (sym ready.edited.keys ∙ sym ready.concerned.by.edited)
       ∙ not-edited old.decls ready.concerned.moved d
-      (sym (ready.concerned.keys (key_of d)) ∙ shut-apart (key_of d) (not-false (is_open u (key_of d)) shut)))
+      (sym (ready.concerned.keys (key_of d)) ∙ shut-apart (key_of d) (not-true (is_open u (key_of d)) shut)))
 
   -- the same declarations are not looked at, in the same order
   same-closed : closed_of u old.decls ≡ closed_of u new.decls
@@ -89,9 +90,9 @@ module _ (old : State) (next : Staged) (new : State) (book : List Promised) (u :
 
   all-alike : AllByRecursion (IsAlike old.decls new.decls) (closed_of u new.decls)
   all-alike = all-passed (IsAlike old.decls new.decls) (λ d. not (is_open u (key_of d))) new.decls
-      (each-weaker (IsFound new.decls) (λ d. not (is_open u (key_of d)) ≡ true → IsAlike old.decls new.decls d) new.decls
+      (all-weaker (IsFound new.decls) (λ d. not (is_open u (key_of d)) ≡ true → IsAlike old.decls new.decls d) new.decls
       (λ d found is-shut.
-      let shut : is_open u (key_of d) ≡ false = not-false (is_open u (key_of d)) is-shut in
+      let shut : is_open u (key_of d) ≡ false = not-true (is_open u (key_of d)) is-shut in
       left_alike old ready.draft next new ready.keys d (left d found shut) (was d found shut).known)
       (each-found new.decls after))
 
@@ -108,7 +109,7 @@ module _ (old : State) (next : Staged) (new : State) (book : List Promised) (u :
   ]
 
   still-named : AreNamed old.decls → AreNamed new.decls
-  still-named named = each-weaker (IsFound new.decls) (λ d. is_name (name_of_decl d) ≡ true) new.decls (named-one named)
+  still-named named = all-weaker (IsFound new.decls) (λ d. is_name (name_of_decl d) ≡ true) new.decls (named-one named)
       (each-found new.decls after)
 
   stay : AreSettled new.decls (knows new) book u

@@ -1,12 +1,12 @@
 -- A bean that is chosen for a type is of a declaration that offers it.
-use Rattle.cdi_report.proofs.Common.{◌≡◌, ℕ, Bool, true, false, cond, List, [], ◌∷◌, map, flat_map, refl, sym, ap, ◌∙◌, inl, inr}
+use Rattle.base_lists.proofs.Any.{any-map, any-flat_map, any-more}
+use Rattle.cdi_report.proofs.Common.{◌≡◌, ℕ, Bool, true, false, cond, List, [], ◌∷◌, map, flat_map, refl, sym, ap, ◌∙◌, inl, inr, one_text}
 use Rattle.cdi_report.proofs.Common.{AllByRecursion, false≢true, or_left, or_right, list_any-append, BeanDecl, Decl, Qual, entries, as_bean}
 use Rattle.cdi_report.proofs.Common.{Effective, BeanId, One, ◌||◌, required, ◌&&◌, list_any, bytes_eq, records, filter, has, same_text}
-use Rattle.cdi_report.proofs.Common.{AreDistinct, or_cases, effective, product, one_name, ProducerDecl, records_declared, records_in}
+use Rattle.cdi_report.proofs.Common.{AreDistinct, or_cases, effective, product, ProducerDecl, records_declared, records_in}
 use Rattle.cdi_report.proofs.Common.{and_from, and_parts, beans, chosen}
 use Rattle.cdi_model.specs.declared.decl.Decl.TheVariants as decls
 use Rattle.cdi_effective.specs.Qualifiers.{cover_all}
-use Rattle.cdi_intercept.proofs.AroundLemmas.{any-map}
 use Rattle.cdi_resolve.specs.Choices.{alternatives, among, candidate, choice_of, eligible, greatest, is_eligible, is_greatest, offers, only}
 use Rattle.cdi_resolve.specs.Choices.{Candidate}
 use Rattle.cdi_seen.proofs.PresentLemmas.{all_present, witness}
@@ -31,17 +31,6 @@ any-filter q p (x ∷ xs) some = by (p x) some (any-filter q p xs)
     ]
     by false some more = more some
 
-any-weaker : {A : Type 0} (p q : A → Bool) (xs : List A) → ((x : A) → p x ≡ true → q x ≡ true) → list_any p xs ≡ true → list_any q xs ≡ true
-any-weaker p q [] weaker some = some
-any-weaker p q (x ∷ xs) weaker some = elim (or_cases (p x) (list_any p xs) some) [
-  | inl here ↦ or_left (q x) (list_any q xs) (weaker x here)
-  | inr later ↦ or_right (q x) (list_any q xs) (any-weaker p q xs weaker later)
-]
-
-any-flat : {A B : Type 0} (q : B → Bool) (f : A → List B) (xs : List A) → list_any q (flat_map f xs) ≡ list_any (λ x. list_any q (f x)) xs
-any-flat q f [] = refl
-any-flat q f (x ∷ xs) = list_any-append q (f x) (flat_map f xs) ∙ ap (λ b. list_any q (f x) || b) (any-flat q f xs)
-
 -- ---- the one that is chosen
 
 module _ (id : BeanId) where
@@ -58,7 +47,7 @@ module _ (id : BeanId) where
   only-one (c ∷ d ∷ cs) e = absurd (cc)
 
   in-filter : (p : Candidate → Bool) (cs : List Candidate) → list_any of-class (filter p cs) ≡ true → list_any of-class cs ≡ true
-  in-filter p cs some = any-weaker (λ c. p c && of-class c) of-class cs (λ c both. (and_parts (p c) (of-class c) both).1)
+  in-filter p cs some = any-more (λ c. p c && of-class c) of-class cs (λ c both. (and_parts (p c) (of-class c) both).1)
       (any-filter of-class p cs some)
 
   among-one : (cs alts : List Candidate) → among cs alts ≡ One id → list_any of-class alts ≡ true
@@ -79,13 +68,13 @@ module _ (id : BeanId) where
 
     one-right : (quals : List Qual) → chosen ds (beans ds) t quals ≡ One id → list_any right (beans ds) ≡ true
     unfolding chosen eligible
-    one-right quals e = any-weaker (λ b. is_eligible ds t quals b && bytes_eq b.id.class id.class) right (beans ds)
+    one-right quals e = any-more (λ b. is_eligible ds t quals b && bytes_eq b.id.class id.class) right (beans ds)
         (λ b both.
         let parts = and_parts (is_eligible ds t quals b) (bytes_eq b.id.class id.class) both in
         let offered = (and_parts (offers t b) (cover_all ds b.qualifiers (required quals)) parts.0).0 in
         and_from (has b.types t) (bytes_eq b.id.class id.class) (and_parts b.is_enabled (has b.types t) offered).1 parts.1)
         (any-filter (λ b. bytes_eq b.id.class id.class) (is_eligible ds t quals) (beans ds)
-        (sym (any-map candidate of-class (eligible ds (beans ds) t quals)) ∙ choice-one (map candidate (eligible ds (beans ds) t quals)) e))
+        (sym (any-map of-class candidate (eligible ds (beans ds) t quals)) ∙ choice-one (map candidate (eligible ds (beans ds) t quals)) e))
 
     -- ---- its declaration
 
@@ -103,7 +92,7 @@ module _ (id : BeanId) where
     right-parts class [] all some = absurd (false≢true some)
     right-parts class (b ∷ bs) all some = elim (or_cases (right b) (list_any right bs) some) [
       | inl here ↦ (let parts = and_parts (has b.types t) (bytes_eq b.id.class id.class) here in (
-        sym all.0 ∙ one_name b.id.class id.class parts.1,
+        sym all.0 ∙ one_text b.id.class id.class parts.1,
         or_left (has b.types t) (list_any (λ b. has b.types t) bs) parts.0,
       ))
       | inr later ↦ (let rest = right-parts class bs all.1 later in
@@ -123,5 +112,5 @@ module _ (id : BeanId) where
     unfolding beans
     one-offers quals distinct e =
         let it = witness (IsPresent ds) (λ d. list_any right (entries ds d)) ds (all_present ds distinct)
-        (sym (any-flat right (entries ds) ds) ∙ one-right quals e) in
+        (sym (any-flat_map right (entries ds) ds) ∙ one-right quals e) in
         of-decl it.0 it.1 it.2

@@ -6,11 +6,11 @@ use Rattle.cdi_report.proofs.Common.{list_any, filter, ◌⊎◌, arith, contain
 use Rattle.cdi_report.proofs.Common.{Unsettled, AreDistinct, each-found, IsFound, or_cases, and_from, open_of, list_all, has_key}
 use Rattle.cdi_report.proofs.Common.{is_wanted, AskForRest, EvaluatesSome, faults_of, has_faults, AreChainsKnown, IsKnown}
 use Rattle.cdi_observe.proofs.KeyLemmas.{all-pass, each-passes}
-use Rattle.cdi_validate.proofs.ApartLemmas.{all-filter}
-use Rattle.cdi_report.proofs.BindingLemmas.{each-weaker}
 use Rattle.std.specs.List.{flat_map, All}
 use Rattle.std.proofs.Common.{nat_lt}
 use Rattle.std.proofs.lemmas.Bool.{ltb-false}
+use Rattle.base_lists.proofs.Each.{all-weaker, all-filter}
+use Rattle.base_lists.proofs.Flat.{flat-filter}
 use Rattle.cdi_model.specs.DeclKey.{same_key_equiv as same_decl_equiv}
 use Rattle.cdi_observe.specs.Kept.{Kept, evaluated}
 use Rattle.cdi_observe.specs.Wanted.{wanted}
@@ -19,17 +19,6 @@ use Rattle.cdi_observe.proofs.FoundLemmas.{all-lent, found-any}
 use Rattle.cdi_report.proofs.TogetherLemmas.{together-filtered}
 
 -- ---- lists of which some are left out
-
--- those of which nothing is left out but what gives nothing
-flat-filter : {A B : Type 0} (p : A → Bool) (f : A → List B) (xs : List A) → AllByRecursion (λ x. p x ≡ false → f x ≡ []) xs
-    → flat_map f (filter p xs) ≡ flat_map f xs
-flat-filter p f [] all = refl
-flat-filter p f (x ∷ xs) all = by (p x) refl (flat-filter p f xs all.1)
-  where
-    by : (b : Bool) → p x ≡ b → flat_map f (filter p xs) ≡ flat_map f xs
-        → flat_map f (cond b (x ∷ filter p xs) (filter p xs)) ≡ f x ++ flat_map f xs
-    by true e rest = ap (λ l. f x ++ l) rest
-    by false e rest = rest ∙ ap (λ l. l ++ flat_map f xs) (sym (all.0 e))
 
 -- one of those that are left passes a test that none of the others passes
 any-filter : {A : Type 0} (p f : A → Bool) (xs : List A) → AllByRecursion (λ x. p x ≡ false → f x ≡ false) xs → list_any f xs ≡ true
@@ -67,7 +56,7 @@ found-filter p f (e ∷ ds) d found passes holds = by (is_of (kind_of d) (name_o
 
 -- ---- what is known
 
-all-still : (knows more : Key → Bool) (keys : List Key) → ((key : Key) → knows key ≡ true → more key ≡ true) → list_all knows keys ≡ true
+pub all-still : (knows more : Key → Bool) (keys : List Key) → ((key : Key) → knows key ≡ true → more key ≡ true) → list_all knows keys ≡ true
     → list_all more keys ≡ true
 all-still knows more keys still all = all-pass more keys (λ key has. still key (each-passes knows keys key all has))
 
@@ -145,7 +134,7 @@ module _ (ds : List Decl) (knows : Key → Bool) (book : List Promised) (u : Uns
   pub rest-asked : AreDistinct ds → AskForRest ds knows (open_of u ds)
   unfolding is_wanted
   rest-asked distinct key wants new = any-filter stands-open (λ d. has_key (wanted_by d) key) ds
-      (each-weaker (IsFound ds) (λ d. stands-open d ≡ false → has_key (wanted_by d) key ≡ false) ds
+      (all-weaker (IsFound ds) (λ d. stands-open d ≡ false → has_key (wanted_by d) key ≡ false) ds
       (λ d found closed. elim (cases_Bool (has_key (wanted_by d) key)) [
         | inl has ↦ absurd (false≢true (sym new ∙ each-passes knows (wanted_by d) key (settled.each d found closed).known.keys has))
         | inr none ↦ none
@@ -154,8 +143,8 @@ module _ (ds : List Decl) (knows : Key → Bool) (book : List Promised) (u : Uns
 
   -- and have all faults of declarations
   pub tells-all : AreDistinct ds → flat_map (faults_of ds book) (open_of u ds) ≡ flat_map (faults_of ds book) ds
-  tells-all distinct = flat-filter stands-open (faults_of ds book) ds
-      (each-weaker (IsFound ds) (λ d. stands-open d ≡ false → faults_of ds book d ≡ []) ds (λ d found closed. (settled.each d found closed).faultless)
+  tells-all distinct = flat-filter (faults_of ds book) stands-open ds
+      (all-weaker (IsFound ds) (λ d. stands-open d ≡ false → faults_of ds book d ≡ []) ds (λ d found closed. (settled.each d found closed).faultless)
       (each-found ds distinct))
 
   -- those that have none are settled where all is known

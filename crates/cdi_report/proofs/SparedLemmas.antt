@@ -1,14 +1,15 @@
 -- What the faults of a declaration rest on stays where edits spare it.
+use Rattle.base_lists.proofs.Each.{all-weaker}
 use Rattle.cdi_report.proofs.Common.{◌≡◌, ℕ, Bool, true, false, cond, List, [], ◌∷◌, ◌++◌, map, flat_map, Option, Some, None, IfSome}
-use Rattle.cdi_report.proofs.Common.{option_map, refl, sym, ap, ◌∙◌, inl, inr, AllByRecursion, cases_Bool, false≢true, kind_of}
+use Rattle.cdi_report.proofs.Common.{option_map, refl, sym, ap, ◌∙◌, inl, inr, AllByRecursion, cases_Bool, false≢true, kind_of, one_text}
 use Rattle.cdi_report.proofs.Common.{name_of_decl, key_at, same_key, find_decl, edited_all, edited_keys, is_among, mentions, name_of_use}
 use Rattle.cdi_report.proofs.Common.{BeanDecl, Decl, Edit, DeclKey, Qual, entries, as_bean, bean_keys, bean_reads, chain_reads, class_reads}
 use Rattle.cdi_report.proofs.Common.{link_reads, product_reads, record_reads, specialized_reads, bean_named, behind, extended, specialized}
 use Rattle.cdi_report.proofs.Common.{Effective, made_of_bean, reads_in, Tells, AreQualifiersSpared, IsBindingSpared, IsSpared, ◌||◌}
 use Rattle.cdi_report.proofs.Common.{BeanPlace, BindingDecl, StereotypeDecl, bytes_eq, edits_keep_decl, name-found, records, class_bindings}
 use Rattle.cdi_report.proofs.Common.{arith, Avoid, types_brought, has, as_binding, binding_reads, brings_type_decides, types_brought-has}
-use Rattle.cdi_report.proofs.Common.{same_text, suc, Chain, Kind, key_exact, zero, brings_itself, stereotype_reads, inherits_itself}
-use Rattle.cdi_report.proofs.Common.{extends_itself, or_cases, effective, product, one_name, records_declared, records_in, own_at}
+use Rattle.cdi_report.proofs.Common.{suc, Chain, Kind, key_exact, zero, brings_itself, stereotype_reads, inherits_itself, same_text}
+use Rattle.cdi_report.proofs.Common.{extends_itself, or_cases, effective, product, records_declared, records_in, own_at}
 use Rattle.cdi_report.proofs.Common.{avoid-first, avoid-second, made_of, made_of_binding, made_of_type, IsNotEdited, named_in, find_bean}
 use Rattle.cdi_model.specs.declared.decl.Decl.TheVariants as decls
 use Rattle.cdi_model.specs.declared.decl.Kind.TheVariants as kinds
@@ -16,13 +17,15 @@ use Rattle.cdi_model.proofs.EditLemmas.{avoid-head}
 use Rattle.cdi_match.specs.Bindings.{brings, brought_by}
 use Rattle.cdi_match.specs.Filling.{find_binding}
 use Rattle.cdi_match.specs.Stereotypes.{as_stereotype, inherited_of}
+use Rattle.cdi_match.proofs.LocalityLemmas.{among-names}
 use Rattle.cdi_effective.specs.Beans.{managed}
+use Rattle.cdi_effective.proofs.ChainLemmas.{found-name}
+use Rattle.cdi_effective.proofs.PlaceLemmas.{bean-decl}
 use Rattle.cdi_index.specs.Made.{is_kept}
 use Rattle.cdi_subjects.specs.Rests.{specialized_seen, types_and_name, AreAlike, AreProductsAlike, DifferAlike, HasQualifiersAlike}
 use Rattle.cdi_subjects.specs.Rests.{IsSeenAlike}
 use Rattle.cdi_subjects.specs.Subjects.{products, reaches_itself}
-use Rattle.cdi_report.proofs.BindingLemmas.{each-weaker}
-use Rattle.cdi_report.proofs.ItselfLemmas.{among-names, binding-circle, stereotype-circle, type-circle}
+use Rattle.cdi_report.proofs.ItselfLemmas.{binding-circle, stereotype-circle, type-circle}
 use Rattle.cdi_report.proofs.OwnLemmas.{own-spared, AreSpared}
 use Rattle.cdi_report.proofs.PlaceLemmas.{differ-alike}
 
@@ -35,20 +38,6 @@ among-map kind (n ∷ names) key among = elim (or_cases (same_key (key_at kind n
   | inr later ↦ (let more = among-map kind names key later in
       (more.0, ap (λ b. bytes_eq n more.0 || b) more.1 ∙ grind arith, more.2))
 ]
-
--- a bean that is found is declared
-bean-decl : (o : Option Decl) (s : BeanDecl) → as_bean o ≡ Some s → o ≡ Some (decls.Bean s)
-bean-decl (Some (decls.Bean b)) s is = let same : b ≡ s = cc in ap (λ x. Some (decls.Bean x)) same
-bean-decl None s is = absurd (let no : None ≡ Some s = is in cc)
-bean-decl (Some (decls.Type d)) s is = absurd (let no : None ≡ Some s = is in cc)
-bean-decl (Some (decls.Qualifier d)) s is = absurd (let no : None ≡ Some s = is in cc)
-bean-decl (Some (decls.Binding d)) s is = absurd (let no : None ≡ Some s = is in cc)
-bean-decl (Some (decls.Stereotype d)) s is = absurd (let no : None ≡ Some s = is in cc)
-bean-decl (Some (decls.Interceptor d)) s is = absurd (let no : None ≡ Some s = is in cc)
-
--- by its name
-pub named-class : (ds : List Decl) (class : List ℕ) (s : BeanDecl) → find_bean class ds ≡ Some s → s.name ≡ class
-named-class ds class s is = name-found kinds.Bean class ds (decls.Bean s) (bean-decl (find_decl kinds.Bean class ds) s is)
 
 module _ (edits : List Edit) (ds : List Decl) (told : List DeclKey) (tells : Tells ds (edited_all ds edits) (edited_keys edits) told) where
   abbrev es : List Decl
@@ -81,7 +70,7 @@ module _ (edits : List Edit) (ds : List Decl) (told : List DeclKey) (tells : Tel
       → is_among told (key_at kinds.Binding x) ≡ false
   spared-at [] spared x among = absurd (false≢true among)
   spared-at (u ∷ us) spared x among = elim (or_cases (bytes_eq (name_of_use u) x) (has (map name_of_use us) x) among) [
-    | inl here ↦ ap (λ n. is_among told (key_at kinds.Binding n)) (sym (one_name (name_of_use u) x here)) ∙ spared.0
+    | inl here ↦ ap (λ n. is_among told (key_at kinds.Binding n)) (sym (one_text (name_of_use u) x here)) ∙ spared.0
     | inr later ↦ spared-at us spared.1 x later
   ]
 
@@ -182,7 +171,7 @@ module _ (edits : List Edit) (ds : List Decl) (told : List DeclKey) (tells : Tel
   named-found : (o : Option (List ℕ)) (s : BeanDecl) → bean_named ds o ≡ Some s → find_decl kinds.Bean s.name ds ≡ Some (decls.Bean s)
   named-found None s is = absurd (let no : None ≡ Some s = is in cc)
   named-found (Some class) s is =
-      ap (λ n. find_decl kinds.Bean n ds) (named-class ds class s is) ∙ bean-decl (find_decl kinds.Bean class ds) s is
+      ap (λ n. find_decl kinds.Bean n ds) (found-name ds class s is) ∙ bean-decl (find_decl kinds.Bean class ds) s is
 
   specialized-found : (d s : BeanDecl) → specialized ds d ≡ Some s → find_decl kinds.Bean s.name ds ≡ Some (decls.Bean s)
   specialized-found d s is = by d.specializes is
@@ -237,13 +226,13 @@ module _ (edits : List Edit) (ds : List Decl) (told : List DeclKey) (tells : Tel
   entries-stay other found spared = refl
 
   qualifiers-alike : (b : Effective) → AreQualifiersSpared keys b → HasQualifiersAlike ds es b
-  qualifiers-alike b spared = each-weaker (λ u. is_among keys (key_at kinds.Qualifier u.name) ≡ false)
+  qualifiers-alike b spared = all-weaker (λ u. is_among keys (key_at kinds.Qualifier u.name) ≡ false)
       (λ u. find_decl kinds.Qualifier u.name ds ≡ find_decl kinds.Qualifier u.name es) b.qualifiers
       (λ u apart. sym (edits_keep_decl edits ds kinds.Qualifier u.name apart)) spared
 
   products-alike : (d : Decl) → IsSpared ds edits told d → AreProductsAlike ds es d
   products-alike (decls.Bean d) spared =
-      each-weaker (AreQualifiersSpared keys) (HasQualifiersAlike ds es) (products ds d) qualifiers-alike spared.qualifiers.1
+      all-weaker (AreQualifiersSpared keys) (HasQualifiersAlike ds es) (products ds d) qualifiers-alike spared.qualifiers.1
   products-alike (decls.Type d) spared = tt
   products-alike other spared = tt
 
@@ -263,7 +252,7 @@ module _ (edits : List Edit) (ds : List Decl) (told : List DeclKey) (tells : Tel
 
   pub seen-alike : (d : Decl) → find_decl (kind_of d) (name_of_decl d) ds ≡ Some d → IsSpared ds edits told d → IsSeenAlike ds es d
   seen-alike d found spared = record {
-    names = each-weaker (λ m. IsNotEdited keys (named_in m)) (λ m. AreAlike ds es (named_in m)) (mentions d)
+    names = all-weaker (λ m. IsNotEdited keys (named_in m)) (λ m. AreAlike ds es (named_in m)) (mentions d)
         (λ m apart. alike-named (named_in m) apart) spared.names;
     records = entries-stay d found spared;
     qualifiers = products-alike d spared;

@@ -4,7 +4,7 @@ use Rattle.cdi_report.proofs.Common.{inr, AllByRecursion, cases_Bool, false≢tr
 use Rattle.cdi_report.proofs.Common.{find_decl, edited_all, edited_keys, is_among, BeanDecl, Decl, Edit, Qual, as_bean, BeanId, PointDecl}
 use Rattle.cdi_report.proofs.Common.{One, Tells, answer_to, points_of, key_of, BeanPlace, required, places_of, ChainKey, ChoiceKey}
 use Rattle.cdi_report.proofs.Common.{EventKey, Key, asked_by, chains_by, events_by, key_of_point, wanted_by, not, ◌&&◌, list_any, bytes_eq}
-use Rattle.cdi_report.proofs.Common.{edits_keep_decl, class_bindings, chain_of, has_place, has, same_text, AreDistinct, Moved, or_cases}
+use Rattle.cdi_report.proofs.Common.{edits_keep_decl, class_bindings, chain_of, has_place, has, AreDistinct, Moved, or_cases, same_text}
 use Rattle.cdi_report.proofs.Common.{and_from, and_parts, beans, chosen, set_by, option_map_or, list_all, has_key, is_wanted}
 use Rattle.cdi_report.proofs.Common.{AreChainsKnown, IsKnown, find_bean, still_known, is_concerned, IsUnconcerned}
 use Rattle.cdi_report.proofs.OfferLemmas.{offers_type, one-offers}

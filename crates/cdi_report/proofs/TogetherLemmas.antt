@@ -1,4 +1,5 @@
 -- Declarations that have no faults together.
+use Rattle.std.proofs.lemmas.Bool.{not-true, not_from_false}
 use Rattle.cdi_report.proofs.Common.{◌≡◌, Bool, true, false, cond, List, [], ◌∷◌, ◌++◌, refl, sym, ap, subst, ◌∙◌, inl, inr, AllByRecursion}
 use Rattle.cdi_report.proofs.Common.{cases_Bool, false≢true, Decl, DeclKey, key_of, not, filter, closed_of, is_open, HaveNoneTogether}
 use Rattle.cdi_report.proofs.Common.{Unsettled, AreDistinct, IsAlike, AreNamed, and_parts, beans, open_of, list_all, is_chainless}
@@ -36,18 +37,6 @@ all-passed P p (x ∷ xs) all = by (p x) refl (all-passed P p xs all.1)
     by : (b : Bool) → p x ≡ b → AllByRecursion P (filter p xs) → AllByRecursion P (cond b (x ∷ filter p xs) (filter p xs))
     by true e rest = (all.0 e, rest)
     by false e rest = rest
-
-pub not-false : (b : Bool) → not b ≡ true → b ≡ false
-not-false false e = refl
-not-false true e = absurd (false≢true e)
-
-pub not-not : (b : Bool) → not b ≡ false → b ≡ true
-not-not true e = refl
-not-not false e = absurd (false≢true (sym e))
-
-false-not : (b : Bool) → b ≡ false → not b ≡ true
-false-not false e = refl
-false-not true e = absurd (false≢true (sym e))
 
 -- ---- declarations
 
@@ -144,7 +133,7 @@ module _ (less more : Unsettled) (looks : LooksAtMore less more) where
 
   closed-less : (ds : List Decl) → closed_of more ds ≡ filter (λ d. not (is_open more (key_of d))) (closed_of less ds)
   closed-less ds = sym (filter-filter (λ d. not (is_open less (key_of d))) (λ d. not (is_open more (key_of d))) ds
-      (λ d shut. false-not (is_open less (key_of d)) (shut-before (key_of d) (not-false (is_open more (key_of d)) shut))))
+      (λ d shut. not_from_false (is_open less (key_of d)) (shut-before (key_of d) (not-true (is_open more (key_of d)) shut))))
 
   more-together : (ds : List Decl) → HaveNoneTogether ds (closed_of less ds) less.anew → HaveNoneTogether ds (closed_of more ds) more.anew
   more-together ds apart =

@@ -1,4 +1,5 @@
 -- What is not to be looked at again has no word of what edits move.
+use Rattle.std.proofs.lemmas.Grind.{flat_map-append}
 use Rattle.cdi_report.proofs.Common.{◌≡◌, ℕ, Bool, true, false, cond, List, [], ◌∷◌, ◌++◌, map, flat_map, Some, None, refl, sym, ap, subst}
 use Rattle.cdi_report.proofs.Common.{◌∙◌, inl, inr, AllByRecursion, option_to_list, cases_Bool, false≢true, or_left, or_parts, or_right}
 use Rattle.cdi_report.proofs.Common.{list_any-append, kind_of, name_of_decl, key_at, same_key, same_key_equiv, find_decl, edited_all}
@@ -7,8 +8,8 @@ use Rattle.cdi_report.proofs.Common.{Effective, BeanId, PointDecl, One, Word, sa
 use Rattle.cdi_report.proofs.Common.{words_of_observer, words_of_record, words_of_uses, Tells, answer_to, points_of, IsApart, IsStill, ◌||◌}
 use Rattle.cdi_report.proofs.Common.{key_of, BeanPlace, required, words_by, append_assoc, PointOf, StereotypeOf, TypeIn, StereotypeDecl}
 use Rattle.cdi_report.proofs.Common.{UseKind, TypePlace, words_of_point, among-named, point_named, ◌&&◌, list_any, bytes_eq, chain_of}
-use Rattle.cdi_report.proofs.Common.{filter, ◌⊎◌, Avoid, has, same_text, Kind, is_of, key_exact, stereotype_reads, stereotypes_of}
-use Rattle.cdi_report.proofs.Common.{AreDistinct, Moved, or_cases, one_name, records_in, made_of, IsNotEdited, named_in, IsUnconcerned}
+use Rattle.cdi_report.proofs.Common.{filter, ◌⊎◌, Avoid, has, Kind, is_of, key_exact, stereotype_reads, stereotypes_of, one_text, same_text}
+use Rattle.cdi_report.proofs.Common.{AreDistinct, Moved, or_cases, records_in, made_of, IsNotEdited, named_in, IsUnconcerned}
 use Rattle.cdi_report.proofs.Common.{words_writing, has_one, keys_of_classes, keys_of_stereotypes, keys_under, names_of_kind, offered}
 use Rattle.cdi_report.proofs.Common.{reads_one, types_of_beans, words_asking, words_sought}
 use Rattle.cdi_model.specs.declared.decl.Decl.TheVariants as decls
@@ -19,6 +20,7 @@ use Rattle.cdi_postings.specs.declared.word.Reason.{Reason}
 use Rattle.cdi_postings.specs.declared.word.Reason.TheVariants as reasons
 use Rattle.cdi_index.specs.Made.{reads}
 use Rattle.cdi_index.proofs.NamedLemmas.{among-written}
+use Rattle.cdi_live.proofs.AskedLemmas.{any-among}
 use Rattle.cdi_concern.specs.Concern.{is_inherited, is_of_kind, is_stereotype}
 use Rattle.cdi_report.specs.Spared.{AreInheritedSpared}
 use Rattle.cdi_report.proofs.ApartLemmas.{first-has}
@@ -41,7 +43,7 @@ none-named test reason [] n none among = absurd (false≢true among)
 none-named test reason (x ∷ names) n none among =
     let parts = or_parts (test (word_at reason x)) (list_any test (map (word_at reason) names)) none in
     elim (or_cases (bytes_eq x n) (has names n) among) [
-      | inl here ↦ ap (λ y. test (word_at reason y)) (sym (one_name x n here)) ∙ parts.0
+      | inl here ↦ ap (λ y. test (word_at reason y)) (sym (one_text x n here)) ∙ parts.0
       | inr later ↦ none-named test reason names n parts.1 later
     ]
 
@@ -63,14 +65,6 @@ named-among kind (k ∷ keys) n among = by (is_of_kind kind k) refl (or_cases (s
     by true e (inr later) more = or_right (bytes_eq k.name n) (has (names_of_kind kind keys) n) (more later)
     by false e (inl here) more = absurd (false≢true (sym e ∙ ap (is_of_kind kind) (key_exact k (key_at kind n) here) ∙ own-kind kind n))
     by false e (inr later) more = more later
-
--- one among some keys passes a test
-some-passes : (test : DeclKey → Bool) (keys : List DeclKey) (key : DeclKey) → is_among keys key ≡ true → test key ≡ true → list_any test keys ≡ true
-some-passes test [] key among passes = absurd (false≢true among)
-some-passes test (k ∷ keys) key among passes = elim (or_cases (same_key k key) (is_among keys key) among) [
-  | inl here ↦ or_left (test k) (list_any test keys) (ap test (key_exact k key here) ∙ passes)
-  | inr later ↦ or_right (test k) (list_any test keys) (some-passes test keys key later passes)
-]
 
 -- ---- a declaration that is found
 
@@ -112,12 +106,8 @@ no-stereotype : (xs : List (List ℕ)) → flat_map point_named (map StereotypeO
 no-stereotype [] = refl
 no-stereotype (x ∷ xs) = no-stereotype xs
 
-flat-append : {A B : Type 0} (f : A → List B) (xs ys : List A) → flat_map f (xs ++ ys) ≡ flat_map f xs ++ flat_map f ys
-flat-append f [] ys = refl
-flat-append f (x ∷ xs) ys = ap (λ l. f x ++ l) (flat-append f xs ys) ∙ sym (append_assoc (f x) (flat_map f xs) (flat_map f ys))
-
 neither : (xs ys : List Mention) → flat_map point_named xs ≡ [] → flat_map point_named ys ≡ [] → flat_map point_named (xs ++ ys) ≡ []
-neither xs ys none more = flat-append point_named xs ys ∙ ap (λ l. l ++ flat_map point_named ys) none ∙ more
+neither xs ys none more = flat_map-append point_named xs ys ∙ ap (λ l. l ++ flat_map point_named ys) none ∙ more
 
 -- ---- chosen beans
 
@@ -137,7 +127,7 @@ class-offers ds [] class t among some = absurd (false≢true among)
 class-offers ds (c ∷ classes) class t among some = list_any-append (λ n. bytes_eq n t) (offered ds c) (flat_map (offered ds) classes)
     ∙ elim (or_cases (bytes_eq c class) (has classes class) among) [
       | inl here ↦ or_left (has (offered ds c) t) (has (flat_map (offered ds) classes) t)
-          (ap (λ n. has (offered ds n) t) (one_name c class here) ∙ type-offered (records_in ds class) t some)
+          (ap (λ n. has (offered ds n) t) (one_text c class here) ∙ type-offered (records_in ds class) t some)
       | inr later ↦ or_right (has (offered ds c) t) (has (flat_map (offered ds) classes) t) (class-offers ds classes class t later some)
     ]
 
@@ -268,7 +258,7 @@ module _ (edits : List Edit) (ds : List Decl) (m : Moved) (d : Decl) (distinct :
     inherited-apart : (k : DeclKey) → is_inherited k ≡ true → is_among (edited_keys edits) k ≡ false
     inherited-apart k is = elim (cases_Bool (is_among (edited_keys edits) k)) [
       | inl among ↦ absurd (false≢true (sym none-inherited
-          ∙ some-passes is_inherited m.edited.now k (ap (λ keys. is_among keys k) same ∙ among) is))
+          ∙ any-among is_inherited m.edited.now k (ap (λ keys. is_among keys k) same ∙ among) is))
       | inr apart ↦ apart
     ]
 

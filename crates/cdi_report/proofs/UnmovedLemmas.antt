@@ -1,8 +1,8 @@
 -- What a draft moves is none of what an unconcerned declaration asks for.
-use Rattle.cdi_report.proofs.Common.{◌≡◌, ℕ, Bool, true, false, List, [], ◌∷◌, ◌++◌, map, flat_map, Some, sym, ap, ◌∙◌, inl, inr}
+use Rattle.cdi_report.proofs.Common.{◌≡◌, ℕ, Bool, true, false, List, [], ◌∷◌, ◌++◌, map, flat_map, Some, sym, ap, ◌∙◌, inl, inr, one_text}
 use Rattle.cdi_report.proofs.Common.{cases_Bool, false≢true, or_left, or_parts, or_right, kind_of, name_of_decl, key_at}
 use Rattle.cdi_report.proofs.Common.{same_key, same_key_equiv, find_decl, is_among, Decl, DeclKey, Word, word_at, words_have}
-use Rattle.cdi_report.proofs.Common.{◌||◌, key_of, words_by, list_any, bytes_eq, has, Moved, or_cases, one_name, is_concerned}
+use Rattle.cdi_report.proofs.Common.{◌||◌, key_of, words_by, list_any, bytes_eq, has, Moved, or_cases, is_concerned}
 use Rattle.cdi_report.proofs.Common.{words_writing, has_one, keys_of_classes, keys_of_stereotypes, keys_under, names_of_kind, offered}
 use Rattle.cdi_report.proofs.Common.{reads_one, words_asking, words_sought}
 use Rattle.cdi_report.proofs.OfferLemmas.{offers_type}
@@ -19,7 +19,7 @@ classed (c ∷ classes) class among =
     let key = key_at kinds.Bean class in
     elim (or_cases (bytes_eq c class) (has classes class) among) [
       | inl here ↦ or_left (same_key (key_at kinds.Bean c) key) (is_among (keys_of_classes classes) key)
-          (ap (λ n. same_key (key_at kinds.Bean n) key) (one_name c class here) ∙ same_key_equiv.refl key)
+          (ap (λ n. same_key (key_at kinds.Bean n) key) (one_text c class here) ∙ same_key_equiv.refl key)
       | inr later ↦ or_right (same_key (key_at kinds.Bean c) key) (is_among (keys_of_classes classes) key) (classed classes class later)
     ]
 

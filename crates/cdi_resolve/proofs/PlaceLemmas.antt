@@ -9,9 +9,11 @@ use Rattle.std.specs.Str.{bytes_eq}
 use Rattle.std.proofs.lemmas.List.{at_drop_more, map-append, take_more}
 use Rattle.std.proofs.lemmas.List.Elements.{All-from_recursion}
 use Rattle.std.proofs.lemmas.Option.{slice_get_read, slice_get_within}
+use Rattle.base_numbers.proofs.Texts.{one_text, bytes_eq-turned}
+use Rattle.base_options.proofs.Options.{option_or-more}
 use Rattle.cdi_model.specs.Bytes.{byte_order}
 use Rattle.cdi_match.specs.Chain.{has}
-use Rattle.cdi_match.proofs.Names.{at_name, bytes_eq-turned, one_name}
+use Rattle.cdi_match.proofs.Names.{at_name}
 use Rattle.cdi_effective.specs.Records.{is_of_class}
 use Rattle.cdi_effective.specs.declared.records.Effective.{Effective}
 use Rattle.cdi_resolve.specs.Choices.{HasEnough, offers}
@@ -24,12 +26,6 @@ next-left f xs i x lt is = at_drop_more f xs i x lt ∙ ap (λ y. f (y ∷ drop 
 
 -- ---- classes
 
-class-more : (old : Option ℕ) (e : Bool) (place : ℕ) (rest : Option ℕ)
-    → option_or (option_or old (cond e (Some place) None)) rest ≡ option_or old (cond e (Some place) rest)
-class-more None true place rest = refl
-class-more None false place rest = refl
-class-more (Some p) e place rest = refl
-
 -- the class of one more bean is noted, unless it was
 pub class-next : (beans : List Effective) (i : ℕ) (bean : Effective) (class : List ℕ) (old new : Option ℕ) → i < length beans
     → bean ≡ get_or beans i bean
@@ -39,7 +35,7 @@ pub class-next : (beans : List Effective) (i : ℕ) (bean : Effective) (class : 
 class-next beans i bean class old new lt is noted before =
     let rest = position_from (is_of_class class) (i + 1) (drop (i + 1) beans) in
     ap (λ o. option_or o rest) noted
-    ∙ class-more old (same_name bean.id.class class) i rest
+    ∙ option_or-more old (same_name bean.id.class class) i rest
     ∙ sym (next-left (λ bs. option_or old (position_from (is_of_class class) i bs)) beans i bean lt is)
     ∙ before
 
@@ -75,7 +71,7 @@ name-next names i name t place olds news all lt is rise added before =
         → (olds ++ cond (same_name name t) (place ∷ []) []) ++ cond (has (drop (i + 1) names) t) (place ∷ []) []
         ≡ olds ++ cond (has (name ∷ drop (i + 1) names) t) (place ∷ []) []
     by true e =
-        let none : has (drop (i + 1) names) t ≡ false = ap (has (drop (i + 1) names)) (sym (one_name name t e))
+        let none : has (drop (i + 1) names) t ≡ false = ap (has (drop (i + 1) names)) (sym (one_text name t e))
         ∙ none-after name (drop (i + 1) names) (rise-next names i name lt is rise).0 in
         rw (e, none) (append-nil (olds ++ place ∷ []))
     by false e = rw e (ap (λ ps. ps ++ cond (has (drop (i + 1) names) t) (place ∷ []) []) (append-nil olds))

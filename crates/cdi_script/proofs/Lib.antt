@@ -4,7 +4,7 @@ mod Serving
 mod Alike
 mod Open
 mod Trying
-mod Taking
+pub mod Taking
 mod Feeding
 mod Going
 pub mod StepLemmas

@@ -12,6 +12,7 @@ use Rattle.cdi_script.specs.Left.{left_by, left_by_all}
 use Rattle.cdi_script.specs.Reads.{left_commands, Reads}
 use Rattle.cdi_script.proofs.Open.{serves_serving_taken, serves_taken, serves_unclosed}
 use Rattle.cdi_script.proofs.Serving.{serves_itself}
+use Rattle.cdi_script.proofs.Taking.{ended_from-no_feed, begun_from-no_feed}
 
 pub left-append : (ds : List Decl) (before after : List Command) → left_by_all ds (before ++ after) ≡ left_by_all (left_by_all ds before) after
 left-append ds [] after = refl
@@ -32,16 +33,8 @@ first_line : (line after : List ℕ) → NoFeed line → lines (line ++ feed ∷
 first_line line after h = ap (λ ls. ls ++ last_line (begun_from [] (line ++ feed ∷ after))) (ended-first [] line after h)
     ∙ ap (λ l. line ∷ (ended_from [] after ++ last_line l)) (begun-first [] line after h)
 
-ended-none : (begun line : List ℕ) → NoFeed line → ended_from begun line ≡ []
-ended-none begun [] h = refl
-ended-none begun (b ∷ line) h = rw h.0 (ended-none (begun ++ b ∷ []) line h.1)
-
-begun-all : (begun line : List ℕ) → NoFeed line → begun_from begun line ≡ begun ++ line
-begun-all begun [] h = sym (append-nil begun)
-begun-all begun (b ∷ line) h = rw h.0 (begun-all (begun ++ b ∷ []) line h.1 ∙ append_assoc begun (b ∷ []) line)
-
 only_line : (line : List ℕ) → NoFeed line → lines line ≡ last_line line
-only_line line h = ap (λ ls. ls ++ last_line (begun_from [] line)) (ended-none [] line h) ∙ ap last_line (begun-all [] line h)
+only_line line h = ap (λ ls. ls ++ last_line (begun_from [] line)) (ended_from-no_feed [] line h) ∙ ap last_line (begun_from-no_feed [] line h)
 
 last_is : (line : List ℕ) → (line ≡ [] → ⊥) → last_line line ≡ line ∷ []
 last_is [] some = absurd (some refl)

@@ -10,11 +10,6 @@ use Rattle.cdi_container.specs.History.{State, trace_behind}
 use Rattle.cdi_container.specs.Seen.{IsStep}
 use Rattle.cdi_script.specs.Runner.{Tries}
 
--- a fact that holds anyway
-pub holds_on_err : {T E P : Type 0} (r : Result T E) → P → OnErr r P
-holds_on_err (Ok value) p = tt
-holds_on_err (Err error) p = p
-
 -- the first of the first ones
 pub first_of_first : (a b c : List Command) → AreFirst a b → AreFirst b c → AreFirst a c
 first_of_first a b c m n = (m.0 ++ n.0, n.1 ∙ ap (λ l. l ++ n.0) m.1 ∙ append_assoc a m.0 n.0)

@@ -2,8 +2,8 @@
 use Rattle.cdi_seen.proofs.Common.{◌≡◌, ℕ, ℤ, Bool, true, false, cond, List, [], ◌∷◌, ◌++◌, map, filter, flat_map, Option, Some, None}
 use Rattle.cdi_seen.proofs.Common.{option_map, unwrap_or, refl, sym, ap, ◌∙◌, IsStrictWeakOrder, list_any, bytes_eq, and_right, or_from}
 use Rattle.cdi_seen.proofs.Common.{or_left, or_right, map-append, filter-append, key_at, same_key, AreDistinct, edited_all, Avoid}
-use Rattle.cdi_seen.proofs.Common.{name_of_use, BeanDecl, Decl, Edit, BeanPlace, Qual, edits_keep_decl, avoid-first, avoid-head}
-use Rattle.cdi_seen.proofs.Common.{avoid-second, has, FilledUse, filled, filled_by, binding_reads, same_text, effective, class_bindings}
+use Rattle.cdi_seen.proofs.Common.{name_of_use, BeanDecl, Decl, Edit, BeanPlace, Qual, edits_keep_decl, avoid-first, avoid-head, same_text}
+use Rattle.cdi_seen.proofs.Common.{avoid-second, has, FilledUse, filled, filled_by, binding_reads, effective, class_bindings}
 use Rattle.cdi_seen.proofs.Common.{in_place_of, as_bean, find_bean, uses_one, record_reads, Effective, edits_keep_own_records}
 use Rattle.cdi_seen.proofs.Common.{around_method, of_method, of_observer, of_producer, set_by, sorted_by, sorted_map, ChainKey, unranked}
 use Rattle.cdi_seen.proofs.Common.{IsPresent, given_reads, own_bindings, own_reads, TellsAffected, use_reads, IsUnmet, names_under}
@@ -13,6 +13,7 @@ use Rattle.std.specs.Cmp.{int_cmp_total}
 use Rattle.std.specs.Cmp.Lexicographic.{options_total}
 use Rattle.std.specs.Option.{option_to_list}
 use Rattle.std.proofs.lemmas.List.Sorted.{ranks_by}
+use Rattle.base_lists.proofs.Any.{any-map}
 use Rattle.cdi_model.specs.declared.decl.Decl.TheVariants as decls
 use Rattle.cdi_model.specs.declared.decl.InterceptorDecl.{InterceptorDecl}
 use Rattle.cdi_model.specs.declared.decl.Kind.TheVariants as kinds
@@ -30,7 +31,7 @@ use Rattle.cdi_seen.specs.Words.{Intercepts, types_bound_by}
 use Rattle.cdi_seen.proofs.GatherLemmas.{avoid_given, gather, Leaves}
 use Rattle.cdi_seen.proofs.SetLemmas.{avoid_set_types}
 use Rattle.cdi_seen.proofs.SortLemmas.{each_given, filtered_in_order}
-use Rattle.cdi_seen.proofs.UseLemmas.{any_map, read_same, uses_by_name}
+use Rattle.cdi_seen.proofs.UseLemmas.{read_same, uses_by_name}
 
 -- ---- interceptors by declaration
 
@@ -137,12 +138,10 @@ keep-around edits ds class (Some own) avoid = ap (in_place_of class) (edits_keep
 
 keep-set : (edits : List Edit) (ds : List Decl) (class : List Qual) (b : BeanDecl) (place : BeanPlace)
     → Avoid (binding_reads ds (own_bindings b place)) edits → set_by (edited_all ds edits) class b place ≡ set_by ds class b place
-keep-set edits ds class b places.Construct avoid = refl
-keep-set edits ds class b places.Post avoid = refl
-keep-set edits ds class b places.Pre avoid = refl
 keep-set edits ds class b (places.Method name) avoid = keep-around edits ds class (of_method b name) avoid
 keep-set edits ds class b (places.Producer name) avoid = keep-around edits ds class (of_producer b name) avoid
 keep-set edits ds class b (places.Observer name) avoid = keep-around edits ds class (of_observer b name) avoid
+keep-set edits ds class b other avoid = refl
 
 pub keep_place : (edits : List Edit) (ds : List Decl) (place : BeanPlace) (found : Option BeanDecl)
     → Avoid (place_reads ds place found) edits → set_of (edited_all ds edits) found place ≡ set_of ds found place
@@ -175,9 +174,9 @@ avoid-types edits ds place (Some b) avoid =
 avoid-ordered : (edits : List Edit) (us : List Qual) → Avoid (use_reads uses.Binding us) edits
     → Avoid (use_reads uses.Binding (in_text_order us)) edits
 avoid-ordered edits us avoid key edited =
-    any_map (λ k. same_key k key) (λ (u : Qual). key_at kinds.Binding u.name) (in_text_order us)
+    any-map (λ k. same_key k key) (λ (u : Qual). key_at kinds.Binding u.name) (in_text_order us)
     ∙ any-in_text_order (λ u. same_key (key_at kinds.Binding u.name) key) us
-    ∙ sym (any_map (λ k. same_key k key) (λ (u : Qual). key_at kinds.Binding u.name) us)
+    ∙ sym (any-map (λ k. same_key k key) (λ (u : Qual). key_at kinds.Binding u.name) us)
     ∙ avoid key edited
 
 -- ---- the key

@@ -26,7 +26,6 @@ pub use Rattle.cdi_model.specs.declared.edit.Edit.{Edit}
 pub use Rattle.cdi_model.specs.declared.key.DeclKey.{DeclKey}
 pub use Rattle.cdi_model.specs.declared.place.BeanPlace.{BeanPlace}
 pub use Rattle.cdi_model.specs.declared.quals.Qual.{Qual}
-pub use Rattle.cdi_match.proofs.Names.{same_text}
 pub use Rattle.cdi_match.specs.Chain.{has}
 pub use Rattle.cdi_match.specs.Filled.{FilledUse, filled, filled_by}
 pub use Rattle.cdi_match.specs.Filling.{as_qualifier, find_qualifier}
@@ -40,10 +39,11 @@ pub use Rattle.cdi_effective.specs.Qualifiers.{uses_one, required}
 pub use Rattle.cdi_effective.specs.Reads.{record_reads, qualifier_reads}
 pub use Rattle.cdi_effective.specs.Specialized.{is_replaced}
 pub use Rattle.cdi_effective.specs.declared.records.Effective.{Effective}
-pub use Rattle.cdi_intercept.proofs.OrderLemmas.{sorted_map}
 pub use Rattle.cdi_intercept.specs.Sees.{SeenInterceptor}
 pub use Rattle.cdi_intercept.specs.Sets.{around_method, of_method, of_observer, of_producer, set_by}
-pub use Rattle.cdi_intercept.specs.Sorting.{sorted_by}
+pub use Rattle.base_lists.specs.Sorting.{sorted_by}
+pub use Rattle.base_numbers.proofs.Texts.{same_text}
+pub use Rattle.cdi_effective.proofs.SortLemmas.{sorted_map}
 pub use Rattle.cdi_resolve.specs.Choices.{offers}
 pub use Rattle.cdi_resolve.specs.Sees.{seen_bean}
 pub use Rattle.cdi_observe.specs.Keys.{ChainKey, ChoiceKey, EventKey, has_key}

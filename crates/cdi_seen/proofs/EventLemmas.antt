@@ -2,7 +2,7 @@
 use Rattle.cdi_seen.proofs.Common.{◌≡◌, ℕ, ℤ, Bool, true, false, cond, List, [], ◌∷◌, ◌++◌, map, filter, flat_map, Option, Some, None}
 use Rattle.cdi_seen.proofs.Common.{option_map, unwrap_or, refl, sym, ap, ◌∙◌, bytes_eq, or_left, or_right, map-append, filter-append}
 use Rattle.cdi_seen.proofs.Common.{AreDistinct, edited_all, Avoid, BeanDecl, Decl, Edit, Qual, avoid-first, avoid-second, has, FilledUse}
-use Rattle.cdi_seen.proofs.Common.{filled, filled_by, same_text, effective, as_bean, find_bean, Effective, sorted_by, sorted_map, unranked}
+use Rattle.cdi_seen.proofs.Common.{filled, filled_by, effective, as_bean, find_bean, Effective, sorted_by, sorted_map, unranked, same_text}
 use Rattle.cdi_seen.proofs.Common.{IsPresent, own_reads, TellsAffected, use_reads, IsUnmet, names_under, as_qualifier, find_qualifier}
 use Rattle.cdi_seen.proofs.Common.{beans, records, entries, method_reads, EventKey, observing, SeenObserver}
 use Rattle.std.proofs.lemmas.Grind.{flat_map-append}

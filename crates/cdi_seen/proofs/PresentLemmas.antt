@@ -4,15 +4,9 @@ use Rattle.cdi_seen.proofs.Common.{same_key, AreDistinct, Decl, IsPresent, key_o
 use Rattle.cdi_seen.proofs.Common.{arith, AllByRecursion, false≢true, or_cases, same_key_equiv, find_decl, Kind, key_exact, length}
 use Rattle.std.specs.Prelude.{slice_index_or}
 use Rattle.cdi_model.specs.DeclList.{is_of}
+use Rattle.cdi_effective.proofs.PlaceLemmas.{other-key}
 
 -- ---- each declaration of a list is present, where no two have one key
-
-other-key : (d e : Decl) → key_of d ≢ key_of e → same_key (key_of e) (key_of d) ≡ false
-other-key d e other = by (same_key (key_of e) (key_of d)) refl
-  where
-    by : (b : Bool) → same_key (key_of e) (key_of d) ≡ b → b ≡ false
-    by false same = refl
-    by true same = absurd (other (sym (key_exact (key_of e) (key_of d) same)))
 
 present-after : (d e : Decl) (ds : List Decl) → key_of d ≢ key_of e → IsPresent ds e → IsPresent (d ∷ ds) e
 present-after d e ds other found =

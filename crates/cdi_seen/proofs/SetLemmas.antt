@@ -2,10 +2,11 @@
 use Rattle.cdi_seen.proofs.Common.{◌≡◌, ℕ, Bool, true, false, cond, List, [], ◌∷◌, ◌++◌, map, filter, flat_map, Option, Some, None}
 use Rattle.cdi_seen.proofs.Common.{unwrap_or, refl, sym, ap, ◌∙◌, bytes_eq, or_from, or_left, or_right, map-append, key_at, same_key, Avoid}
 use Rattle.cdi_seen.proofs.Common.{name_of_use, BeanDecl, Decl, Edit, BeanPlace, Qual, avoid-first, avoid-second, has, binding_reads}
-use Rattle.cdi_seen.proofs.Common.{same_text, class_bindings, in_place_of, uses_one, record_reads, around_method, of_method, of_observer}
+use Rattle.cdi_seen.proofs.Common.{class_bindings, in_place_of, uses_one, record_reads, around_method, of_method, of_observer, same_text}
 use Rattle.cdi_seen.proofs.Common.{of_producer, set_by, own_bindings, use_reads, not, both_ways, false_from_ne_true, or_parts}
 use Rattle.cdi_seen.proofs.Common.{list_any-append, is_among, DeclKey, ◌||◌, inl, inr, false≢true, or_cases, same_key_equiv, key_exact}
 use Rattle.std.proofs.Common.{◌⊎◌}
+use Rattle.base_numbers.proofs.Texts.{one_text}
 use Rattle.cdi_model.specs.declared.decl.Kind.TheVariants as kinds
 use Rattle.cdi_model.specs.declared.decl.UseKind.TheVariants as uses
 use Rattle.cdi_model.specs.declared.place.BeanPlace.TheVariants as places
@@ -13,7 +14,6 @@ use Rattle.cdi_match.specs.Bindings.{BringsType, brings, brought, types_brought,
 use Rattle.cdi_match.specs.Stereotypes.{stereotype_decls}
 use Rattle.cdi_match.proofs.BindingLemmas.{brings_type_decides, types_brought-has}
 use Rattle.cdi_match.proofs.Chains.{chain_more}
-use Rattle.cdi_match.proofs.Names.{one_name}
 use Rattle.cdi_effective.specs.Bindings.{stereotype_bindings}
 use Rattle.cdi_effective.specs.Reads.{bean_reads, chain_reads, class_reads, product_reads}
 
@@ -82,7 +82,7 @@ pub name-among : (names : List (List ℕ)) (x : List ℕ) → has names x ≡ tr
 name-among [] x h = absurd (false≢true h)
 name-among (n ∷ names) x h = elim (or_cases (bytes_eq n x) (has names x) h) [
   | inl here ↦ or_left (same_key (binding_key n) (binding_key x)) (is_among (map binding_key names) (binding_key x))
-      (ap (λ m. same_key (binding_key n) (binding_key m)) (sym (one_name n x here)) ∙ same_key_equiv.refl (binding_key n))
+      (ap (λ m. same_key (binding_key n) (binding_key m)) (sym (one_text n x here)) ∙ same_key_equiv.refl (binding_key n))
   | inr there ↦ or_right (same_key (binding_key n) (binding_key x)) (is_among (map binding_key names) (binding_key x))
       (name-among names x there)
 ]
@@ -144,12 +144,10 @@ avoid-around edits ds class (Some own) first avoid =
 avoid-set : (edits : List Edit) (ds : List Decl) (class : List Qual) (b : BeanDecl) (place : BeanPlace)
     → Avoid (use_reads uses.Binding class) edits → Avoid (binding_reads ds (own_bindings b place)) edits
     → Avoid (use_reads uses.Binding (set_by ds class b place)) edits
-avoid-set edits ds class b places.Construct first avoid = first
-avoid-set edits ds class b places.Post first avoid = first
-avoid-set edits ds class b places.Pre first avoid = first
 avoid-set edits ds class b (places.Method name) first avoid = avoid-around edits ds class (of_method b name) first avoid
 avoid-set edits ds class b (places.Producer name) first avoid = avoid-around edits ds class (of_producer b name) first avoid
 avoid-set edits ds class b (places.Observer name) first avoid = avoid-around edits ds class (of_observer b name) first avoid
+avoid-set edits ds class b other first avoid = first
 
 class-part : (edits : List Edit) (ds : List Decl) (b : BeanDecl) → Avoid (record_reads ds b) edits → Avoid (class_reads ds b) edits
 class-part edits ds b avoid =

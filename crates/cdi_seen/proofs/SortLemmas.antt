@@ -3,51 +3,21 @@ use Rattle.cdi_seen.proofs.Common.{◌≡◌, Bool, true, false, cond, List, [],
 use Rattle.cdi_seen.proofs.Common.{IsStrictWeakOrder, sorted_by, inl, inr, AllByRecursion}
 use Rattle.std.proofs.Common.{subst}
 use Rattle.std.proofs.lemmas.Bool.{cases_Bool}
-use Rattle.cdi_intercept.specs.Sorting.{put}
+use Rattle.base_lists.specs.Sorting.{put}
+use Rattle.base_lists.proofs.Sorting.{NoneBefore, Rises, none-lower, sorted-rises}
 use Rattle.cdi_seen.specs.Gives.{FilteredInOrder}
 
 module _ {X : Type 0} (lt : X → X → Bool) (o : IsStrictWeakOrder lt) where
-  -- none of some comes before this one
-  abbrev NoneBefore : X → List X → Type 0
-  NoneBefore x ys = AllByRecursion (λ y. lt y x ≡ false) ys
-
-  abbrev Rises : List X → Type 0
-  Rises [] = Unit {0}
-  Rises (x ∷ xs) = NoneBefore x xs × Rises xs
-
-  lower : (x y : X) (ys : List X) → lt y x ≡ false → NoneBefore y ys → NoneBefore x ys
-  lower x y [] e h = tt
-  lower x y (w ∷ ws) e h = (o.chain w y x h.0 e, lower x y ws e h.1)
-
-  put-none : (z x : X) (ys : List X) → lt x z ≡ false → NoneBefore z ys → NoneBefore z (put lt x ys)
-  put-none z x [] f h = (f, tt)
-  put-none z x (y ∷ ys) f h = elim (cases_Bool (lt y x)) [
-    | inl e ↦ subst (λ (b : Bool). NoneBefore z (cond b (y ∷ put lt x ys) (x ∷ y ∷ ys))) (sym e) (h.0, put-none z x ys f h.1)
-    | inr e ↦ subst (λ (b : Bool). NoneBefore z (cond b (y ∷ put lt x ys) (x ∷ y ∷ ys))) (sym e) (f, h)
-  ]
-
-  put-rises : (x : X) (ys : List X) → Rises ys → Rises (put lt x ys)
-  put-rises x [] r = (tt, tt)
-  put-rises x (y ∷ ys) r = elim (cases_Bool (lt y x)) [
-    | inl e ↦ subst (λ (b : Bool). Rises (cond b (y ∷ put lt x ys) (x ∷ y ∷ ys))) (sym e)
-        (put-none y x ys (o.one_way y x e) r.0, put-rises x ys r.1)
-    | inr e ↦ subst (λ (b : Bool). Rises (cond b (y ∷ put lt x ys) (x ∷ y ∷ ys))) (sym e) ((e, lower x y ys e r.0), r)
-  ]
-
-  sorted-rises : (xs : List X) → Rises (sorted_by lt xs)
-  sorted-rises [] = tt
-  sorted-rises (x ∷ xs) = put-rises x (sorted_by lt xs) (sorted-rises xs)
-
   -- one before which none comes is put first
-  put-first : (x : X) (ys : List X) → NoneBefore x ys → put lt x ys ≡ x ∷ ys
+  put-first : (x : X) (ys : List X) → NoneBefore lt x ys → put lt x ys ≡ x ∷ ys
   put-first x [] h = refl
   put-first x (y ∷ ys) h = ap (λ (b : Bool). cond b (y ∷ put lt x ys) (x ∷ y ∷ ys)) h.0
 
-  none-filtered : (p : X → Bool) (x : X) (ys : List X) → NoneBefore x ys → NoneBefore x (filter p ys)
+  none-filtered : (p : X → Bool) (x : X) (ys : List X) → NoneBefore lt x ys → NoneBefore lt x (filter p ys)
   none-filtered p x [] h = tt
   none-filtered p x (y ∷ ys) h = by (p y) (none-filtered p x ys h.1)
     where
-      by : (b : Bool) → NoneBefore x (filter p ys) → NoneBefore x (cond b (y ∷ filter p ys) (filter p ys))
+      by : (b : Bool) → NoneBefore lt x (filter p ys) → NoneBefore lt x (cond b (y ∷ filter p ys) (filter p ys))
       by true more = (h.0, more)
       by false more = more
 
@@ -61,7 +31,7 @@ module _ {X : Type 0} (lt : X → X → Bool) (o : IsStrictWeakOrder lt) where
       by false rest = ap (λ (b : Bool). cond b (x ∷ filter p (y ∷ ys)) (filter p (y ∷ ys))) out
 
   -- one that passes it
-  put-in : (p : X → Bool) (x : X) (ys : List X) → p x ≡ true → Rises ys → filter p (put lt x ys) ≡ put lt x (filter p ys)
+  put-in : (p : X → Bool) (x : X) (ys : List X) → p x ≡ true → Rises lt ys → filter p (put lt x ys) ≡ put lt x (filter p ys)
   put-in p x [] passes r = ap (λ (b : Bool). cond {A = List X} b (x ∷ []) []) passes
   put-in p x (y ∷ ys) passes r = by (lt y x) refl (put-in p x ys passes r.1)
     where
@@ -74,7 +44,7 @@ module _ {X : Type 0} (lt : X → X → Bool) (o : IsStrictWeakOrder lt) where
       earlier : (b : Bool) → lt y x ≡ false
           → put lt x (cond b (y ∷ filter p ys) (filter p ys)) ≡ x ∷ cond b (y ∷ filter p ys) (filter p ys)
       earlier true e = ap (λ (b : Bool). cond b (y ∷ put lt x (filter p ys)) (x ∷ y ∷ filter p ys)) e
-      earlier false e = put-first x (filter p ys) (none-filtered p x ys (lower x y ys e r.0))
+      earlier false e = put-first x (filter p ys) (none-filtered p x ys (none-lower lt o x y ys e r.0))
 
       by : (b : Bool) → lt y x ≡ b → filter p (put lt x ys) ≡ put lt x (filter p ys)
           → filter p (cond b (y ∷ put lt x ys) (x ∷ y ∷ ys)) ≡ put lt x (cond (p y) (y ∷ filter p ys) (filter p ys))
@@ -87,7 +57,7 @@ module _ {X : Type 0} (lt : X → X → Bool) (o : IsStrictWeakOrder lt) where
     where
       by : (b : Bool) → p x ≡ b → filter p (sorted_by lt xs) ≡ sorted_by lt (filter p xs)
           → filter p (put lt x (sorted_by lt xs)) ≡ sorted_by lt (cond b (x ∷ filter p xs) (filter p xs))
-      by true e rest = put-in p x (sorted_by lt xs) e (sorted-rises xs) ∙ ap (put lt x) rest
+      by true e rest = put-in p x (sorted_by lt xs) e (sorted-rises lt o xs) ∙ ap (put lt x) rest
       by false e rest = put-out p x (sorted_by lt xs) e ∙ rest
 
 pub filtered_in_order : {X : Type 0} → FilteredInOrder X

@@ -1,4 +1,5 @@
 -- A wanted key that is not at stake is not touched.
+use Rattle.std.proofs.lemmas.Bool.{not-true}
 use Rattle.cdi_seen.proofs.Common.{◌≡◌, Bool, true, false, List, refl, sym, ap, ◌∙◌, edited_all, Avoid, Decl, edits_keep_decl, has}
 use Rattle.cdi_seen.proofs.Common.{ChainKey, IsPresent, own_reads, IsUnmet, not, ◌&&◌, both_ways, false_from_ne_true, ChoiceKey}
 use Rattle.cdi_seen.proofs.Common.{edited_keys, is_among, EventKey, key_of, kind_of, name_of_decl, wanted_by, ◌||◌, has_key, key_sees}
@@ -14,12 +15,8 @@ use Rattle.cdi_seen.proofs.ChoiceLemmas.{choice_sees_same}
 use Rattle.cdi_seen.proofs.EventLemmas.{event_sees_same}
 use Rattle.cdi_seen.proofs.PresentLemmas.{all_present, found_any, witness}
 
-false-from-not : (b : Bool) → not b ≡ true → b ≡ false
-false-from-not false h = refl
-false-from-not true h = sym h
-
 pub untouched : (ds es : List Decl) (key : Key) → key_sees es key ≡ key_sees ds key → is_touched ds es key ≡ false
-untouched ds es key same = false-from-not (is_touched ds es key) ((touched_where_seen_differs ds es key).1 (sym same))
+untouched ds es key same = not-true (is_touched ds es key) ((touched_where_seen_differs ds es key).1 (sym same))
 
 pub unmet_stay_untouched : UnmetStayUntouched
 unmet_stay_untouched edits ds is_affected distinct distinct' tells key own before after =

@@ -1,8 +1,8 @@
 -- Uses whose declarations are not edited, and names among others.
+use Rattle.base_numbers.proofs.Texts.{bytes_eq-turned}
 use Rattle.cdi_seen.proofs.Common.{◌≡◌, ℕ, Bool, List, [], ◌∷◌, map, Option, refl, ap, ◌∙◌, list_any, bytes_eq, key_at, edited_all, Avoid}
 use Rattle.cdi_seen.proofs.Common.{name_of_use, Decl, Edit, Qual, edits_keep_decl, avoid-head, avoid-second, has, uses_one, DeclKey, ◌||◌}
 use Rattle.cdi_seen.proofs.Common.{find_decl, Kind}
-use Rattle.cdi_match.proofs.Names.{bytes_eq-turned}
 
 -- ---- uses by the declarations of what is used
 
@@ -27,9 +27,3 @@ read_same {A = A} edits ds kind read (u ∷ us) avoid =
 pub uses_by_name : (us : List Qual) (x : List ℕ) → uses_one us x ≡ has (map name_of_use us) x
 uses_by_name [] x = refl
 uses_by_name (u ∷ us) x = ap (λ b. b || uses_one us x) (bytes_eq-turned x u.name) ∙ ap (λ b. bytes_eq u.name x || b) (uses_by_name us x)
-
--- ---- tests
-
-pub any_map : {A B : Type 0} (p : B → Bool) (f : A → B) (xs : List A) → list_any p (map f xs) ≡ list_any (λ x. p (f x)) xs
-any_map p f [] = refl
-any_map p f (x ∷ xs) = ap (λ b. p (f x) || b) (any_map p f xs)

@@ -11,7 +11,7 @@ use Rattle.cdi_match.specs.Types.{types_of}
 use Rattle.cdi_effective.specs.Beans.{beans, entries}
 use Rattle.cdi_intercept.specs.Chains.{as_interceptor, in_order, is_enabled}
 use Rattle.cdi_intercept.specs.Sees.{SeenInterceptor, is_seen, seen_interceptor}
-use Rattle.cdi_intercept.specs.Sorting.{sorted_by}
+use Rattle.base_lists.specs.Sorting.{sorted_by}
 use Rattle.cdi_observe.specs.Observers.{Observer, observers, observes, observing, priority_of}
 use Rattle.cdi_observe.specs.Sees.{SeenObserver, seen_observer}
 

@@ -3,8 +3,10 @@ use Rattle.cdi_staging.proofs.Common.{◌≡◌, ℕ, zero, suc, Bool, true, fal
 use Rattle.cdi_staging.proofs.Common.{arith, flat_map, slice_get, false≢true, ◌+◌, cond, filter, length, inl, inr, ◌⊎◌, find, position}
 use Rattle.cdi_staging.proofs.Common.{position_from, option_or, position_from-zero, same_Some}
 use Rattle.std.specs.List.{AllByRecursion}
-use Rattle.cdi_intercept.specs.Sorting.{sorted_by}
-use Rattle.cdi_intercept.proofs.OrderLemmas.{all_sorted}
+use Rattle.base_lists.specs.Sorting.{sorted_by}
+use Rattle.base_lists.proofs.Each.{all-at}
+use Rattle.base_lists.proofs.Places.{at-back, at-joined}
+use Rattle.base_lists.proofs.Sorting.{all-sorted}
 
 -- at each place of two lists stand two that belong together
 abbrev pub Beside : {X Y : Type 0} → (X → Y → Type 0) → List X → List Y → Type 0
@@ -178,21 +180,10 @@ find-append p (v ∷ xs) ys = by (p v) (find-append p xs ys)
     by true rest = refl
     by false rest = rest
 
--- an element of a list that was mapped
-pub from-map : {X Y : Type 0} (f : X → Y) (xs : List X) (k : ℕ) (y : Y) → slice_get (map f xs) k ≡ Some y
-    → (x : X) × (slice_get xs k ≡ Some x) × (f x ≡ y)
-from-map f [] k y e = absurd (cc)
-from-map f (v ∷ xs) zero y e = (v, refl, cc)
-from-map f (v ∷ xs) (suc k) y e = from-map f xs k y e
-
 pub in-append-left : {X : Type 0} (xs ys : List X) (k : ℕ) (x : X) → slice_get xs k ≡ Some x → (i : ℕ) × (slice_get (xs ++ ys) i ≡ Some x)
 in-append-left [] ys k x e = absurd (cc)
 in-append-left (v ∷ xs) ys zero x e = (zero, e)
 in-append-left (v ∷ xs) ys (suc k) x e = let rest = in-append-left xs ys k x e in (suc rest.0, rest.1)
-
-pub in-append-right : {X : Type 0} (xs ys : List X) (k : ℕ) (x : X) → slice_get ys k ≡ Some x → (i : ℕ) × (slice_get (xs ++ ys) i ≡ Some x)
-in-append-right [] ys k x e = (k, e)
-in-append-right (v ∷ xs) ys k x e = let rest = in-append-right xs ys k x e in (suc rest.0, rest.1)
 
 -- what one element gives is among what all give
 pub in-flat : {P X : Type 0} (f : P → List X) (ps : List P) (k : ℕ) (p : P) (j : ℕ) (x : X) → slice_get ps k ≡ Some p
@@ -203,17 +194,7 @@ in-flat f (v ∷ ps) zero p j x at there =
     in-append-left (f v) (flat_map f ps) j x (subst (λ w. slice_get (f w) j ≡ Some x) (sym same) there)
 in-flat f (v ∷ ps) (suc k) p j x at there =
     let rest = in-flat f ps k p j x at there in
-    in-append-right (f v) (flat_map f ps) rest.0 x rest.1
-
--- what stands in two lists, one behind the other, stands in one of them
-pub in-one : {X : Type 0} (xs ys : List X) (k : ℕ) (x : X) → slice_get (xs ++ ys) k ≡ Some x
-    → (slice_get xs k ≡ Some x) ⊎ ((i : ℕ) × (k ≡ length xs + i) × (slice_get ys i ≡ Some x))
-in-one [] ys k x e = inr (k, omega arith, e)
-in-one (v ∷ xs) ys zero x e = inl e
-in-one (v ∷ xs) ys (suc k) x e = elim (in-one xs ys k x e) [
-  | inl here ↦ inl here
-  | inr later ↦ inr (later.0, omega (arith, later.1), later.2)
-]
+    at-back (f v) (flat_map f ps) rest.0 x rest.1
 
 -- what is among what all give is among what one element gives
 pub record FromFlat {P X : Type 0} (f : P → List X) (ps : List P) (x : X) : Type 0 where
@@ -225,7 +206,7 @@ pub record FromFlat {P X : Type 0} (f : P → List X) (ps : List P) (x : X) : Ty
 
 pub from-flat : {P X : Type 0} (f : P → List X) (ps : List P) (k : ℕ) (x : X) → slice_get (flat_map f ps) k ≡ Some x → FromFlat f ps x
 from-flat f [] k x e = absurd (cc)
-from-flat f (p ∷ ps) k x e = elim (in-one (f p) (flat_map f ps) k x e) [
+from-flat f (p ∷ ps) k x e = elim (at-joined (f p) (flat_map f ps) k x e) [
   | inl here ↦ record { place = zero; value = p; there = refl; at = k; gives = here }
   | inr later ↦
       let rest = from-flat f ps later.0 x later.2 in
@@ -236,14 +217,9 @@ all-of : {X : Type 0} (P : X → Type 0) (xs : List X) → ((k : ℕ) (x : X) �
 all-of P [] each = tt
 all-of P (x ∷ xs) each = (each zero x refl, all-of P xs (λ k y e. each (suc k) y e))
 
-all-at : {X : Type 0} (P : X → Type 0) (xs : List X) (k : ℕ) (x : X) → AllByRecursion P xs → slice_get xs k ≡ Some x → P x
-all-at P [] k x all e = absurd (cc)
-all-at P (y ∷ ys) zero x all e = subst P (same_Some y x e) all.0
-all-at P (y ∷ ys) (suc k) x all e = all-at P ys k x all.1 e
-
 -- what stands in a list that was put in order stood in the list
 pub from-sorted : {X : Type 0} (before : X → X → Bool) (xs : List X) (k : ℕ) (x : X) → slice_get (sorted_by before xs) k ≡ Some x
     → (j : ℕ) × (slice_get xs j ≡ Some x)
 from-sorted {X = X} before xs k x e =
     let stood : X → Type 0 = λ y. (j : ℕ) × (slice_get xs j ≡ Some y) in
-    all-at stood (sorted_by before xs) k x (all_sorted stood before xs (all-of stood xs (λ j y at. (j, at)))) e
+    all-at stood (sorted_by before xs) k x (all-sorted before stood xs (all-of stood xs (λ j y at. (j, at)))) e

@@ -1,18 +1,20 @@
 -- The bean that is chosen for an injection point stands in the scene.
-use Rattle.cdi_staging.proofs.Common.{◌≡◌, ℕ, zero, Bool, true, List, [], ◌∷◌, map, Option, Some, None, refl, sym, ap, subst, ◌∙◌}
+use Rattle.cdi_staging.proofs.Common.{◌≡◌, ℕ, zero, Bool, true, List, [], ◌∷◌, map, Option, Some, None, refl, sym, ap, subst, ◌∙◌, one_text}
 use Rattle.cdi_staging.proofs.Common.{slice_get, and_parts, false≢true, AreDistinct, BeanDecl, Decl, ProducerDecl, own-found, cond, filter}
-use Rattle.cdi_staging.proofs.Common.{length, inl, inr, ◌⊎◌, same_Some, ◌≢◌, ◌&&◌, unwrap_or, bytes_eq, Qual, has, one_name, same_text}
+use Rattle.cdi_staging.proofs.Common.{length, inl, inr, ◌⊎◌, same_Some, ◌≢◌, ◌&&◌, unwrap_or, bytes_eq, Qual, has, same_text}
 use Rattle.cdi_staging.proofs.Common.{Promised, Bean, Managed, Product, as_managed, bean_at, beans, entries, managed, product, effective}
 use Rattle.cdi_staging.proofs.Common.{as_bean, find_bean, BeanId, Effective, is_told_by, One, position_of_bean, position_of_class}
 use Rattle.cdi_staging.proofs.Common.{managed_form, scene_of, staged_beans, staged_product, unused_managed}
 use Rattle.std.specs.Option.{option_eq}
+use Rattle.base_lists.proofs.Places.{at-map}
 use Rattle.cdi_model.specs.declared.decl.Decl.TheVariants as decls
 use Rattle.cdi_scene.specs.declared.scene.Form.TheVariants as forms
 use Rattle.cdi_effective.specs.Qualifiers.{required, cover_all}
 use Rattle.cdi_resolve.specs.Choices.{Candidate, candidate, choice_of, chosen, eligible, is_eligible, only, among, greatest, is_greatest}
 use Rattle.cdi_resolve.specs.Choices.{alternatives, offers}
+use Rattle.cdi_subjects.proofs.RecordLemmas.{product-producer}
 use Rattle.cdi_staging.specs.Staged.{staged_managed}
-use Rattle.cdi_staging.proofs.BesideLemmas.{Beside, beside-map, beside-flat, second-at, found, from-filter, from-map, in-flat}
+use Rattle.cdi_staging.proofs.BesideLemmas.{Beside, beside-map, beside-flat, second-at, found, from-filter, in-flat}
 
 -- ---- the one that is chosen
 
@@ -56,7 +58,7 @@ pub chosen-offered : (ds : List Decl) (list : List Effective) (t : List ℕ) (qu
 unfolding chosen eligible
 chosen-offered ds list t quals id e =
     let h = choice-one id (map candidate (eligible ds list t quals)) e in
-    let bean = from-map candidate (eligible ds list t quals) h.place h.value h.there in
+    let bean = at-map candidate (eligible ds list t quals) h.place h.value h.there in
     let at = from-filter (is_eligible ds t quals) list h.place bean.0 bean.1 in
     let offered = and_parts (offers t bean.0) (cover_all ds bean.0.qualifiers (required quals)) at.2 in
     record {
@@ -81,12 +83,12 @@ option-same : (a b : Option (List ℕ)) → option_eq bytes_eq a b ≡ true → 
 option-same None None e = refl
 option-same None (Some y) e = absurd (false≢true e)
 option-same (Some x) None e = absurd (false≢true e)
-option-same (Some x) (Some y) e = ap Some (one_name x y e)
+option-same (Some x) (Some y) e = ap Some (one_text x y e)
 
 pub told-is : (id : BeanId) (x : Effective) → is_told_by id x ≡ true → (x.id.class ≡ id.class) × (x.id.producer ≡ id.producer)
 told-is id x e =
     let both = and_parts (bytes_eq x.id.class id.class) (option_eq bytes_eq x.id.producer id.producer) e in
-    (one_name x.id.class id.class both.0, option-same x.id.producer id.producer both.1)
+    (one_text x.id.class id.class both.0, option-same x.id.producer id.producer both.1)
 
 -- ---- records beside beans
 
@@ -137,17 +139,13 @@ managed-id : (ds : List Decl) (d : BeanDecl) → ((managed ds d).id.class ≡ d.
 unfolding effective
 managed-id ds d = (refl, refl)
 
-product-id : (ds : List Decl) (d : BeanDecl) (p : ProducerDecl) → (product ds d p).id.producer ≡ Some p.name
-unfolding effective
-product-id ds d p = refl
-
 -- a record of no producer method is that of a managed bean
 pub of-none : (ds : List Decl) (book : List Promised) (x : Effective) (bean : Bean) → Stands ds book x bean → x.id.producer ≡ None
     → OfManaged ds book x bean
 of-none ds book x bean (inl managed_one) none = managed_one
 of-none ds book x bean (inr produced) none =
     let clash : None ≡ Some produced.producer.name = sym none ∙ ap (λ y. y.id.producer) produced.is
-    ∙ product-id ds produced.decl produced.producer in
+    ∙ product-producer ds produced.decl produced.producer in
     absurd (cc)
 
 -- a record of a producer method is that of a product

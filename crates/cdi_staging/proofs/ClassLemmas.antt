@@ -1,21 +1,22 @@
 -- The interceptors around the places of a bean that is declared, by the names that are told of them.
 use Rattle.cdi_staging.proofs.Common.{◌≡◌, ℕ, zero, suc, Bool, true, false, List, [], ◌∷◌, ◌++◌, map, Some, Contains, refl, sym, ap, subst}
-use Rattle.cdi_staging.proofs.Common.{◌∙◌, slice_get, false≢true, slice_get-get_or, AreDistinct, BeanDecl, Decl, InterceptorDecl}
+use Rattle.cdi_staging.proofs.Common.{◌∙◌, slice_get, false≢true, slice_get-get_or, AreDistinct, BeanDecl, Decl, InterceptorDecl, same_text}
 use Rattle.cdi_staging.proofs.Common.{MethodDecl, ObserverDecl, ProducerDecl, BeanPlace, in_order, has_place, ◌+◌, cond, filter, length}
-use Rattle.cdi_staging.proofs.Common.{◌≢◌, ◌&&◌, bytes_eq, has, same_text, ◌<◌, not, get_or, is_some, option_map, append_assoc}
+use Rattle.cdi_staging.proofs.Common.{◌≢◌, ◌&&◌, bytes_eq, has, ◌<◌, not, get_or, is_some, option_map, append_assoc}
 use Rattle.cdi_staging.proofs.Common.{slice_get-map, class_bindings, surrounds, surrounds_one, set_by, sets_of, names_at, around_in}
 use Rattle.cdi_staging.proofs.Common.{names_among, Around, around_of, chain_at, injections_around, injections_from, places_from, targets}
 use Rattle.cdi_staging.proofs.Common.{Injection}
 use Rattle.std.proofs.lemmas.List.{map-id}
 use Rattle.std.proofs.lemmas.Option.{get_or_from_slice_get, slice_get_within}
 use Rattle.std.proofs.lemmas.Simd.{map-map}
+use Rattle.base_lists.proofs.Places.{at-map}
 use Rattle.cdi_model.specs.declared.place.BeanPlace.TheVariants as spots
 use Rattle.cdi_intercept.specs.Chains.{chain_by}
 use Rattle.cdi_observe.specs.Around.{names_of_bean}
 use Rattle.cdi_observe.proofs.AroundLemmas.{has-names, has-names_at}
 use Rattle.cdi_staging.specs.declared.around.Around.{Around as Shown}
 use Rattle.cdi_contexts.specs.declared.instance.Actor.TheVariants.{Interceptor as By}
-use Rattle.cdi_staging.proofs.BesideLemmas.{found, from-map}
+use Rattle.cdi_staging.proofs.BesideLemmas.{found}
 
 -- ---- tests that agree on each element
 
@@ -81,7 +82,7 @@ told : (ds : List Decl) (names : List (List ℕ)) (test : InterceptorDecl → Bo
     → (k : ℕ) (a : Around) → slice_get (around_of ds) k ≡ Some a → has names a.0.name ≡ test a.0
 unfolding around_of
 told ds names test each k a at =
-    let one = from-map (with_targets ds) (in_order ds) k a at in
+    let one = at-map (with_targets ds) (in_order ds) k a at in
     subst (λ (b : Around). has names b.0.name ≡ test b.0) one.2 (each k one.0 one.1)
 
 -- the interceptors that stand around a place

@@ -13,6 +13,7 @@ pub use Rattle.std.specs.Option.{option_or, option_and_then}
 pub use Rattle.std.specs.Prelude.{IfSome}
 pub use Rattle.std.specs.Slice.Iter.{iter_rest}
 pub use Rattle.std.specs.Str.{bytes_eq}
+pub use Rattle.base_numbers.proofs.Texts.{one_text, same_text}
 pub use Rattle.cdi_model.specs.Decl.{kind_of, name_of_decl}
 pub use Rattle.cdi_model.specs.DeclList.{AreDistinct, find_decl}
 pub use Rattle.cdi_model.specs.Quals.{list_limit}
@@ -44,7 +45,6 @@ pub use Rattle.cdi_scene.specs.declared.scene.Product.{Product}
 pub use Rattle.cdi_scene.specs.declared.scene.Scene.{Scene}
 pub use Rattle.cdi_scene.specs.declared.scene.Via.{Via}
 pub use Rattle.cdi_scene.specs.declared.scene.Via.TheVariants.{Own, Param}
-pub use Rattle.cdi_match.proofs.Names.{one_name, same_text}
 pub use Rattle.cdi_match.specs.Chain.{has}
 pub use Rattle.cdi_effective.proofs.PlaceLemmas.{own-found}
 pub use Rattle.cdi_effective.specs.Beans.{entries, managed, product}

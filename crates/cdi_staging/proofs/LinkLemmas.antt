@@ -1,4 +1,5 @@
 -- Interceptors in the scene: where they stand, what is chosen for their injection points, and their bodies.
+use Rattle.base_lists.proofs.Places.{at-back, at-joined, at-map}
 use Rattle.cdi_staging.proofs.Common.{◌≡◌, ℕ, zero, suc, Bool, true, false, List, [], ◌∷◌, ◌++◌, map, Option, Some, None, refl, sym, ap}
 use Rattle.cdi_staging.proofs.Common.{subst, ◌∙◌, arith, slice_get, and_parts, false≢true, AreDistinct, BeanDecl, Decl, InterceptorDecl}
 use Rattle.cdi_staging.proofs.Common.{PartDecl, BeanPlace, in_order, in_order-declared, ◌+◌, cond, inl, inr, same_Some, Promised, beans}
@@ -14,7 +15,7 @@ use Rattle.cdi_scene.specs.Scene.{interceptor_at, part_for}
 use Rattle.cdi_scene.specs.declared.place.Place.TheVariants as places
 use Rattle.cdi_intercept.specs.Chains.{part_for as declared_for}
 use Rattle.cdi_staging.specs.Faultless.{IsFineAround}
-use Rattle.cdi_staging.proofs.BesideLemmas.{from-map, in-append-left, in-append-right, in-one}
+use Rattle.cdi_staging.proofs.BesideLemmas.{in-append-left}
 use Rattle.cdi_staging.proofs.PartLemmas.{NamesVia, part-sound, seen}
 use Rattle.cdi_staging.proofs.SoundLemmas.{none-satisfied, part-there}
 use Rattle.cdi_staging.proofs.ChosenLemmas.{IsUsed}
@@ -58,7 +59,7 @@ unfolding around_of
 link-of ds bean spot k q e =
     let set = set_by ds (class_bindings ds bean) bean spot in
     let found = places-of (λ a. surrounds ds set spot a.0) 0 (map (with_targets ds) (in_order ds)) k q e in
-    let i = from-map (with_targets ds) (in_order ds) found.0 found.1 found.2 in
+    let i = at-map (with_targets ds) (in_order ds) found.0 found.1 found.2 in
     let place : found.0 ≡ q = omega (arith, found.4) in
     record {
       decl = i.0;
@@ -100,7 +101,7 @@ around-there test n (b ∷ around) zero a p t at is point =
     )
 around-there test n (b ∷ around) (suc j) a p t at is point =
     let rest = around-there test (n + 1) around j a p t at is point in
-    let found = in-append-right (cond (test b.0) (injections_from (By n) 0 b.1) []) (injections_around test (n + 1) around) rest.0
+    let found = at-back (cond (test b.0) (injections_from (By n) 0 b.1) []) (injections_around test (n + 1) around) rest.0
     (injected (By (n + 1 + j)) p t.bean) rest.1 in
     let place : n + 1 + j ≡ n + suc j = omega arith in
     (found.0, found.1 ∙ ap (λ m. Some (injected (By m) p t.bean)) place)
@@ -146,7 +147,7 @@ pub from-around : (test : InterceptorDecl → Bool) (n : ℕ) (around : List Aro
     → slice_get (injections_around test n around) k ≡ Some x → OfAround n around x
 from-around test n [] k x e = absurd (none-some x e)
 from-around test n (b ∷ around) k x e =
-    elim (in-one (cond (test b.0) (injections_from (By n) 0 b.1) []) (injections_around test (n + 1) around) k x e) [
+    elim (at-joined (cond (test b.0) (injections_from (By n) 0 b.1) []) (injections_around test (n + 1) around) k x e) [
       | inl here ↦ from-block n b around (test b.0) k x here
       | inr later ↦
           let rest = from-around test (n + 1) around later.0 x later.2 in
@@ -172,12 +173,12 @@ pub apart-append : (xs ys : List Injection) → AreApart xs → AreApart ys
     → ((j k : ℕ) (x y : Injection) → slice_get xs j ≡ Some x → slice_get ys k ≡ Some y → x.actor ≡ y.actor → ⊥)
     → AreApart (xs ++ ys)
 apart-append xs ys front behind other j k x y e f actor point =
-    elim (in-one xs ys j x e) [
-      | inl first ↦ elim (in-one xs ys k y f) [
+    elim (at-joined xs ys j x e) [
+      | inl first ↦ elim (at-joined xs ys k y f) [
         | inl second ↦ front j k x y first second actor point
         | inr second ↦ absurd (other j second.0 x y first second.2 actor)
       ]
-      | inr first ↦ elim (in-one xs ys k y f) [
+      | inr first ↦ elim (at-joined xs ys k y f) [
         | inl second ↦ absurd (other k first.0 y x second first.2 (sym actor))
         | inr second ↦
             let same = behind first.0 second.0 x y first.2 second.2 actor point in
@@ -239,10 +240,7 @@ abbrev pub body_of : Place → InterceptorDecl → Option PartDecl
 body_of places.Construct i = i.around_construct
 body_of places.Post i = i.post
 body_of places.Pre i = i.pre
-body_of (places.Method m) i = i.around_invoke
-body_of (places.Producer b) i = i.around_invoke
-body_of (places.Disposer b) i = i.around_invoke
-body_of (places.Observer o) i = i.around_invoke
+body_of other i = i.around_invoke
 
 -- what it may do there
 abbrev pub around_at : Place → ℕ
@@ -259,10 +257,7 @@ fine-body : (ds : List Decl) (book : List Promised) (i : InterceptorDecl) (place
 fine-body ds book i places.Construct part fine e = fine.around_construct part e
 fine-body ds book i places.Post part fine e = fine.post part e
 fine-body ds book i places.Pre part fine e = fine.pre part e
-fine-body ds book i (places.Method m) part fine e = fine.around_invoke part e
-fine-body ds book i (places.Producer b) part fine e = fine.around_invoke part e
-fine-body ds book i (places.Disposer b) part fine e = fine.around_invoke part e
-fine-body ds book i (places.Observer o) part fine e = fine.around_invoke part e
+fine-body ds book i other part fine e = fine.around_invoke part e
 
 no-call-around : bit_and flags.around_destruction flags.call ≡ flags.call → ⊥
 no-call-around e = absurd (omega (arith, e))
@@ -272,28 +267,21 @@ no-fire-around e = absurd (omega (arith, e))
 
 allowed-around : (place : Place) (part : Part) → IsIntercepted place
     → ((flag : ℕ) → Has part.promise flag → bit_and (around_at place) flag ≡ flag) → IsAllowedAt place part
-allowed-around places.Construct part is kept = tt
-allowed-around places.Post part is kept = tt
 allowed-around places.Pre part is kept = record {
   calls_nothing = λ has. no-call-around (kept flags.call has);
   fires_nothing = λ has. no-fire-around (kept flags.fire has);
+allowed-around other part is kept = tt
 }
-allowed-around (places.Method m) part is kept = tt
-allowed-around (places.Producer b) part is kept = tt
 allowed-around (places.Disposer b) part is kept = absurd is
 allowed-around (places.Observer o) part is kept = tt
+allowed-around other part is kept = tt
 
 staged-body : (ds : List Decl) (book : List Promised) (i : InterceptorDecl) (place : Place)
     → part_for place (staged_interceptor ds book (i, targets ds i.points))
     ≡ option_and_then (staged_part ds book (seen ds i.points [])) (body_of place i)
 unfolding staged_interceptor
 staged-body ds book i places.Construct = refl
-staged-body ds book i places.Post = refl
-staged-body ds book i places.Pre = refl
-staged-body ds book i (places.Method m) = refl
-staged-body ds book i (places.Producer b) = refl
-staged-body ds book i (places.Disposer b) = refl
-staged-body ds book i (places.Observer o) = refl
+staged-body ds book i other = refl
 
 interceptor-there : (ds : List Decl) (book : List Promised) (q : ℕ) (i : InterceptorDecl) → slice_get (in_order ds) q ≡ Some i
     → interceptor_at (scene_of ds book) q ≡ Some (staged_interceptor ds book (i, targets ds i.points))

@@ -5,13 +5,14 @@ use Rattle.cdi_staging.proofs.Common.{Promised, beans, managed, find_bean, Effec
 use Rattle.cdi_staging.proofs.Common.{is_some, option_map, slice_get-map, none-some, Observer, is_observer, notified_as, observer_declared}
 use Rattle.cdi_staging.proofs.Common.{staged_observer}
 use Rattle.std.specs.List.{filter}
+use Rattle.base_lists.proofs.Places.{at-map}
 use Rattle.cdi_match.specs.Types.{types_of}
 use Rattle.cdi_scene.specs.Sound.{IsSoundNotified}
 use Rattle.cdi_observe.specs.Observers.{Observer as Declared, declared_by, enabled_bean, is_before, is_notified, observer_id, observers}
 use Rattle.cdi_observe.specs.Observers.{observes, observing, resolved}
 use Rattle.cdi_staging.specs.Lookups.{NotifiedStand}
 use Rattle.cdi_staging.specs.Notifying.{notified_at}
-use Rattle.cdi_staging.proofs.BesideLemmas.{found, from-filter, from-flat, from-map, from-sorted, second-at}
+use Rattle.cdi_staging.proofs.BesideLemmas.{found, from-filter, from-flat, from-sorted, second-at}
 use Rattle.cdi_staging.proofs.ChosenLemmas.{Stands, all-stand, bean-found, host-used, named-decl, of-none}
 
 -- ---- whose observer methods they are
@@ -29,7 +30,7 @@ from-declared : (found_bean : Option BeanDecl) (j : ℕ) (o : Declared) → slic
 from-declared None j o at = absurd (none-some o at)
 from-declared (Some bean) j o at =
     let made : ObserverDecl → Declared = λ method. record { bean = bean; method = method } in
-    let one = from-map made bean.observers j o at in
+    let one = at-map made bean.observers j o at in
     (ap (λ x. Some x.bean) one.2, subst (λ x. slice_get x.bean.observers j ≡ Some x.method) one.2 one.1)
 
 is-declared : (ds : List Decl) (b : Effective) (j : ℕ) (o : Declared) → slice_get (declared_by (enabled_bean ds b)) j ≡ Some o
@@ -106,7 +107,7 @@ stands ds book o distinct of =
 pub notified_stand : NotifiedStand
 unfolding notified_at
 notified_stand ds book t quals distinct k o at =
-    let id = from-map (notified_as ds (beans ds)) (map observer_id (resolved ds (beans ds) t quals)) k o at in
-    let one = from-map observer_id (resolved ds (beans ds) t quals) k id.0 id.1 in
+    let id = at-map (notified_as ds (beans ds)) (map observer_id (resolved ds (beans ds) t quals)) k o at in
+    let one = at-map observer_id (resolved ds (beans ds) t quals) k id.0 id.1 in
     let stand = stands ds book one.0 distinct (is-of ds (beans ds) t quals k one.0 one.1) in
     subst (IsSoundNotified (scene_of ds book)) (ap (notified_as ds (beans ds)) one.2 ∙ id.2) stand

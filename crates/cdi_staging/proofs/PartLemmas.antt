@@ -8,13 +8,14 @@ use Rattle.cdi_staging.proofs.Common.{HasMethod, CallSite, method_of, ◌≤◌,
 use Rattle.cdi_staging.proofs.Common.{Notified, answer_to, IsFit, AreSatisfied, target_of, is_method, is_point, part_of, part_with}
 use Rattle.cdi_staging.proofs.Common.{staged_method}
 use Rattle.std.proofs.Common.{codes}
+use Rattle.base_lists.proofs.Places.{at-map}
 use Rattle.cdi_model.specs.declared.decl.CallDecl.{CallDecl}
 use Rattle.cdi_bodies.specs.declared.promise.Promise.{Promise}
 use Rattle.cdi_scene.specs.Sound.{AreObservers, IsInBook, IsSoundSite}
 use Rattle.cdi_subjects.specs.Sites.{has_method, methods_in}
 use Rattle.cdi_staging.specs.Faultless.{IsSatisfied, IsLed}
 use Rattle.cdi_staging.specs.Sites.{Sight, nowhere, class_with, method_declared, site_at, site_among, target_at}
-use Rattle.cdi_staging.proofs.BesideLemmas.{of-find, no-position, find-append, from-map}
+use Rattle.cdi_staging.proofs.BesideLemmas.{of-find, no-position, find-append}
 use Rattle.cdi_staging.proofs.ChosenLemmas.{Reached, chosen-offered, reached}
 use Rattle.cdi_staging.proofs.NotifiedLemmas.{notified_stand}
 
@@ -220,7 +221,7 @@ part-sound ds book allowed points params part made distinct own_points own_param
     let m = part-made book (map lead part.calls) (map notify part.fires) allowed part.body made fine.body e in
     let good : (k : ℕ) (site : CallSite) → slice_get made.calls k ≡ Some site → IsGoodSite ds book points params site =
     λ k site at.
-    let found = from-map lead part.calls k site (sym (ap (λ cs. slice_get cs k) m.calls_are) ∙ at) in
+    let found = at-map lead part.calls k site (sym (ap (λ cs. slice_get cs k) m.calls_are) ∙ at) in
     subst (IsGoodSite ds book points params) found.2
     (is-good-site ds book points params found.0 distinct own_points own_params (fine.calls k found.0 found.1)) in
     record {
@@ -230,7 +231,7 @@ part-sound ds book allowed points params part made distinct own_points own_param
         few_fires = subst (λ n. n ≤ list_limit) (sym (ap length m.fires_are ∙ length-map part.fires notify)) fine.short.fires;
         calls = λ k site at. (good k site at).0;
         fires = λ k os at.
-            let found = from-map notify part.fires k os (sym (ap (λ fs. slice_get fs k) m.fires_are) ∙ at) in
+            let found = at-map notify part.fires k os (sym (ap (λ fs. slice_get fs k) m.fires_are) ∙ at) in
             subst (AreObservers (scene_of ds book)) found.2
             (notified_stand ds book found.0.event_type found.0.qualifiers distinct);
       };

@@ -3,12 +3,7 @@ use Rattle.cdi_staging.proofs.Common.{◌≡◌, ℕ, Bool, true, false, List, �
 use Rattle.cdi_staging.proofs.Common.{position_from, option_or, BeanId, Effective, is_told_by, ◌<◌, get_or, drop, same_id}
 use Rattle.std.specs.Prelude.{position}
 use Rattle.std.proofs.lemmas.List.{at_drop_more}
-
-place-more : (old : Option ℕ) (e : Bool) (place : ℕ) (rest : Option ℕ)
-    → option_or (option_or old (cond e (Some place) None)) rest ≡ option_or old (cond e (Some place) rest)
-place-more None true place rest = refl
-place-more None false place rest = refl
-place-more (Some p) e place rest = refl
+use Rattle.base_options.proofs.Options.{option_or-more}
 
 -- the place of one more bean that is lent is noted, unless one was
 pub place-next : {X : Type 0} (value : X → Effective) (beans : List X) (i : ℕ) (bean : X) (id : BeanId) (old new : Option ℕ)
@@ -19,7 +14,7 @@ pub place-next : {X : Type 0} (value : X → Effective) (beans : List X) (i : �
 place-next value beans i bean id old new lt is noted before =
     let rest = position_from (is_told_by id) (i + 1) (map value (drop (i + 1) beans)) in
     ap (λ o. option_or o rest) noted
-    ∙ place-more old (same_id (value bean).id id) i rest
+    ∙ option_or-more old (same_id (value bean).id id) i rest
     ∙ ap (λ b. option_or old (position_from (is_told_by id) i (map value (b ∷ drop (i + 1) beans)))) is
     ∙ sym (at_drop_more (λ xs. option_or old (position_from (is_told_by id) i (map value xs))) beans i bean lt)
     ∙ before

@@ -13,10 +13,6 @@ first-product ds bean xs xs' ps ps' x p first second are =
 pub later : {A : Type 0} (x : A) (xs : List A) (y : A) → Contains xs y → Contains (x ∷ xs) y
 later x xs y (k, within, at) = (suc k, omega arith, at)
 
-pub unmapped : {A B : Type 0} (f : A → B) (xs : List A) → map f xs ≡ [] → xs ≡ []
-unmapped f [] e = refl
-unmapped f (x ∷ xs) e = absurd (cc)
-
 -- one more is pushed
 pub pushed : {A B : Type 0} (f : A → B) (olds news : List B) (new : B) (p : A) (ps ps' : List A) (all : List B) → news ≡ olds ++ new ∷ []
     → new ≡ f p → ps ≡ p ∷ ps' → olds ++ map f ps ≡ all → news ++ map f ps' ≡ all

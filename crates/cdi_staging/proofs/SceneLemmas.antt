@@ -11,6 +11,7 @@ use Rattle.cdi_staging.proofs.Common.{AreFineAround, Target, as_product, CallSit
 use Rattle.cdi_staging.proofs.Common.{list_limit, answer_to, IsFit, AreSatisfied, target_of, Invocable, AreFine, IsFineManaged}
 use Rattle.cdi_staging.proofs.Common.{IsFineProducer, disposer_named, product_form, unused_product}
 use Rattle.std.proofs.lemmas.Option.{option_and_then_some}
+use Rattle.base_lists.proofs.Places.{at-back, at-joined, at-map}
 use Rattle.cdi_model.specs.declared.decl.Decl.TheVariants as decls
 use Rattle.cdi_model.specs.declared.place.BeanPlace.TheVariants as spots
 use Rattle.cdi_bodies.specs.Flags as flags
@@ -23,7 +24,7 @@ use Rattle.cdi_intercept.specs.Chains.{part_for}
 use Rattle.cdi_intercept.proofs.ChainLemmas.{IsPlace, construct_place, method_place, post_place, pre_place, observer_place, producer_place}
 use Rattle.cdi_intercept.proofs.ChainLemmas.{surrounds_some}
 use Rattle.cdi_staging.specs.Staged.{disposer_for, disposer_part}
-use Rattle.cdi_staging.proofs.BesideLemmas.{in-append-right, in-one, second-at, found, of-find, from-map, in-flat}
+use Rattle.cdi_staging.proofs.BesideLemmas.{second-at, found, of-find, in-flat}
 use Rattle.cdi_staging.proofs.ChosenLemmas.{IsUsed, Stands, all-stand, host-used, managed_in, of-none, told-self, told-is}
 use Rattle.cdi_staging.proofs.PartLemmas.{IsSoundFor, NamesVia, disposer-sound, point-reached}
 use Rattle.cdi_staging.proofs.LinkLemmas.{IsIntercepted, OfAround, apart-own, body_of, from-around, injected, injection-of, injection-there}
@@ -39,13 +40,9 @@ use Rattle.cdi_staging.proofs.SoundLemmas.{static-part}
 -- the bean's own body runs there
 runs-own : (ds : List Decl) (book : List Promised) (b : ℕ) (place : Place) (x : Invocable) (part : Part)
     → invocable_at (scene_of ds book) b place ≡ Some x → x.part ≡ Some part → target_part (scene_of ds book) b place ≡ Some part
-runs-own ds book b places.Construct x part at is = ap part_in at ∙ is
-runs-own ds book b places.Post x part at is = ap part_in at ∙ is
-runs-own ds book b places.Pre x part at is = ap part_in at ∙ is
-runs-own ds book b (places.Method m) x part at is = ap part_in at ∙ is
-runs-own ds book b (places.Producer q) x part at is = ap part_in at ∙ is
 runs-own ds book b (places.Disposer q) x part at is = absurd (none-some x at)
 runs-own ds book b (places.Observer o) x part at is = ap part_in at ∙ is
+runs-own ds book b other x part at is = ap part_in at ∙ is
 
 -- the seat of the bean's own body on an instance
 abbrev own_seat : ℕ → Place → ℕ → Seat
@@ -91,7 +88,7 @@ unfolding managed_form
 own-point ds book home d seat n p b t used is seated own at same =
     let first : 0 + p ≡ p = omega arith in
     let around = injections_around (surrounds_one ds (sets_of ds (class_bindings ds d) d)) 0 (around_of ds) in
-    let found = in-append-right around (injections_from ByTarget 0 (targets ds d.points)) p (injected ByTarget (0 + p) t.bean)
+    let found = at-back around (injections_from ByTarget 0 (targets ds d.points)) p (injected ByTarget (0 + p) t.bean)
     (injection-there ByTarget 0 (targets ds d.points) p t at) in
     record {
       managed = managed_form ds book d;
@@ -165,19 +162,15 @@ spot-place d places.Construct spot e = subst (IsPlace d) (sym e) (construct_plac
 spot-place d places.Post spot e = subst (IsPlace d) (sym e) (post_place d)
 spot-place d places.Pre spot e = subst (IsPlace d) (sym e) (pre_place d)
 spot-place d (places.Method m) spot e = subst (IsPlace d) (sym e.2) (method_place d m e.0 e.1)
-spot-place d (places.Producer b) spot e = absurd e
-spot-place d (places.Disposer b) spot e = absurd e
 spot-place d (places.Observer o) spot e = subst (IsPlace d) (sym e.2) (observer_place d o e.0 e.1)
+spot-place d other spot e = absurd e
 
 spot-body : (d : BeanDecl) (place : Place) (spot : BeanPlace) (i : InterceptorDecl) → IsSpot d place spot
     → part_for spot i ≡ body_of place i
-spot-body d places.Construct spot i e = ap (λ s. part_for s i) e
-spot-body d places.Post spot i e = ap (λ s. part_for s i) e
-spot-body d places.Pre spot i e = ap (λ s. part_for s i) e
 spot-body d (places.Method m) spot i e = ap (λ s. part_for s i) e.2
-spot-body d (places.Producer b) spot i e = absurd e
-spot-body d (places.Disposer b) spot i e = absurd e
 spot-body d (places.Observer o) spot i e = ap (λ s. part_for s i) e.2
+spot-body d other spot i e = absurd e
+spot-body d other spot i e = ap (λ s. part_for s i) e
 
 own-links : (ds : List Decl) (book : List Promised) (b : ℕ) (place : Place) (d : BeanDecl) → AreDistinct ds → AreFineAround ds book
     → home_of (scene_of ds book) b place ≡ b → IsIntercepted place → IsUsed ds book b d → LinksAt ds d place (LinkAt ds book b place)
@@ -249,8 +242,8 @@ target-stands : (ds : List Decl) (book : List Promised) (points : List PointDecl
     → AreSatisfied ds points → slice_get (targets ds points) k ≡ Some t → (bean : Bean) × (bean_at (scene_of ds book) t.bean ≡ Some bean)
 unfolding target_of
 target-stands ds book points k t distinct satisfied at =
-    let choice = from-map (target_of (beans ds)) (map (answer_to ds) points) k t at in
-    let point = from-map (answer_to ds) points k choice.0 choice.1 in
+    let choice = at-map (target_of (beans ds)) (map (answer_to ds) points) k t at in
+    let point = at-map (answer_to ds) points k choice.0 choice.1 in
     let sat = satisfied k point.0 point.1 in
     let r = point-reached ds book point.0 distinct sat in
     let place : position_of_bean (beans ds) sat.id ≡ t.bean =
@@ -263,7 +256,7 @@ around-stands : (ds : List Decl) (book : List Promised) (x : Injection) → AreD
 unfolding around_of
 around-stands ds book x distinct fine of =
     let with_targets : InterceptorDecl → Around = λ i. (i, targets ds i.points) in
-    let i = from-map with_targets (in_order ds) of.place of.one of.there in
+    let i = at-map with_targets (in_order ds) of.place of.one of.there in
     let declared = in_order-declared ds of.place i.0 i.1 in
     let own = fine declared.0.0 i.0 declared.0.1 declared.1 in
     let chosen = ap (λ a. slice_get a.1 of.point) i.2 ∙ of.chosen in
@@ -280,7 +273,7 @@ params-sound : (ds : List Decl) (book : List Promised) (params : List PointDecl)
     × (length (map (λ target. target.bean) (targets ds params)) ≤ list_limit)
 params-sound ds book params distinct satisfied few = (
   λ j c e.
-      let t = from-map (λ target. target.bean) (targets ds params) j c e in
+      let t = at-map (λ target. target.bean) (targets ds params) j c e in
       let bean = target-stands ds book params j t.0 distinct satisfied t.1 in
       (bean.0, ap (bean_at (scene_of ds book)) (sym t.2) ∙ bean.1),
   subst (λ n. n ≤ list_limit) (sym (length-map (targets ds params) (λ target. target.bean) ∙ length-targets ds params)) few,
@@ -302,7 +295,7 @@ unfolding managed_form
 managed-sound ds book d true distinct around fine =
     let test = surrounds_one ds (sets_of ds (class_bindings ds d) d) in
     record {
-      injections = λ k i at. elim (in-one (injections_around test 0 (around_of ds))
+      injections = λ k i at. elim (at-joined (injections_around test 0 (around_of ds))
           (injections_from ByTarget 0 (targets ds d.points)) k i at) [
             | inl first ↦ around-stands ds book i distinct around (from-around test 0 (around_of ds) k i first)
             | inr second ↦
@@ -312,7 +305,7 @@ managed-sound ds book d true distinct around fine =
           ];
       apart = apart-own test (around_of ds) (targets ds d.points);
       observers = λ k o at.
-          let made = from-map (staged_observer ds book d) d.observers k o at in
+          let made = at-map (staged_observer ds book d) d.observers k o at in
           subst (λ x. AreBeans (scene_of ds book) x.params × (length x.params ≤ list_limit)) made.2
           (observer-sound ds book d k made.0 distinct (fine refl) made.1);
     }

@@ -1,4 +1,5 @@
 -- A deployment without faults has a sound scene.
+use Rattle.base_lists.proofs.Places.{at-map}
 use Rattle.cdi_staging.proofs.Common.{◌≡◌, ℕ, Bool, true, false, List, [], ◌++◌, map, Option, Some, None, refl, sym, ap, subst, ◌∙◌, arith}
 use Rattle.cdi_staging.proofs.Common.{slice_get, and_parts, false≢true, AreDistinct, BeanDecl, Decl, MethodDecl, ObserverDecl, PartDecl}
 use Rattle.cdi_staging.proofs.Common.{PointDecl, ProducerDecl, BeanPlace, cond, inl, inr, find, same_Some, Promised, Bean, Managed, Product}
@@ -15,7 +16,7 @@ use Rattle.cdi_scene.specs.Sound.{Lacks}
 use Rattle.cdi_scene.specs.declared.place.Place.TheVariants as places
 use Rattle.cdi_staging.specs.Sites.{method_sight}
 use Rattle.cdi_staging.specs.Staged.{empty_place, sight_of, staged_place, producer_chain}
-use Rattle.cdi_staging.proofs.BesideLemmas.{First, first-at, of-find, from-map}
+use Rattle.cdi_staging.proofs.BesideLemmas.{First, first-at, of-find}
 use Rattle.cdi_staging.proofs.ChosenLemmas.{IsUsed, Stands, all-stand, managed_in}
 use Rattle.cdi_staging.proofs.PartLemmas.{IsSoundFor, Names, from-option, part-sound, seen}
 
@@ -167,15 +168,14 @@ good-form ds book d places.Pre Leads Links x distinct fine lead link e =
     (good-place ds book flags.at_destruction places.Pre d.points [] Leads Links _ d.pre distinct fine.points (none-satisfied ds) fine.pre
     (at-destruction ds book d.points Leads lead) (link spots.Pre refl))
 good-form ds book d (places.Method m) Leads Links x distinct fine lead link e =
-    let at = from-map (staged_method ds book d) d.methods m x e in
+    let at = at-map (staged_method ds book d) d.methods m x e in
     subst (IsGood ds book (places.Method m) Leads Links) at.2
     (good-place ds book flags.at_instance (places.Method m) d.points [] Leads Links _ (Some at.0.part) distinct fine.points
     (none-satisfied ds)
     (λ part same. subst (IsFinePart ds book flags.at_instance d.points) (same_Some at.0.part part same) (fine.methods m at.0 at.1))
     (at-instance ds book (places.Method m) d.points [] Leads (λ part. tt) lead) (link (spots.Method at.0.name) (at.0, at.1, refl)))
 good-form ds book d (places.Producer b) Leads Links x distinct fine lead link e = absurd (cc)
-good-form ds book d (places.Disposer b) Leads Links x distinct fine lead link e = absurd (cc)
-good-form ds book d (places.Observer o) Leads Links x distinct fine lead link e = absurd (cc)
+good-form ds book d other Leads Links x distinct fine lead link e = absurd (cc)
 
 good-unused : (ds : List Decl) (book : List Promised) (place : Place) (Leads : CallSite → Type 0) (Links : ℕ → Type 0) (x : Invocable)
     → place_of unused_managed place ≡ Some x → IsGood ds book place Leads Links x
@@ -186,9 +186,7 @@ good-unused ds book places.Post Leads Links x e =
 good-unused ds book places.Pre Leads Links x e =
     subst (IsGood ds book places.Pre Leads Links) (same_Some _ x e) (good-empty ds book places.Pre Leads Links)
 good-unused ds book (places.Method m) Leads Links x e = absurd (cc)
-good-unused ds book (places.Producer b) Leads Links x e = absurd (cc)
-good-unused ds book (places.Disposer b) Leads Links x e = absurd (cc)
-good-unused ds book (places.Observer o) Leads Links x e = absurd (cc)
+good-unused ds book other Leads Links x e = absurd (cc)
 
 good-managed : (ds : List Decl) (book : List Promised) (d : BeanDecl) (place : Place) (Leads : CallSite → Type 0) (Links : ℕ → Type 0)
     (x : Invocable) (e : Bool) → AreDistinct ds → (e ≡ true → IsFineManaged ds book d) → (e ≡ true → LeadsBy ds d.points [] Leads)
@@ -241,7 +239,7 @@ good-observer : (ds : List Decl) (book : List Promised) (d : BeanDecl) (o : ℕ)
 unfolding managed_form
 good-observer ds book d o Leads Links x true distinct fine lead link at =
     let one = from-observed (observer_in o (Some (managed_form ds book d))) x at in
-    let declared = from-map (staged_observer ds book d) d.observers o one.0 one.1 in
+    let declared = at-map (staged_observer ds book d) d.observers o one.0 one.1 in
     subst (IsGood ds book (places.Observer o) Leads Links) (ap (λ y. y.invocable) declared.2 ∙ one.2)
     (good-staged ds book d o Leads Links declared.0 distinct (fine refl) declared.1 (lead refl declared.0 declared.1) (link refl))
 good-observer ds book d o Leads Links x false distinct fine lead link at = absurd (none-some x at)

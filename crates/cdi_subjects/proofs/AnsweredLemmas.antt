@@ -7,6 +7,7 @@ use Rattle.std.specs.Option.{option_to_list}
 use Rattle.std.proofs.lemmas.Bool.{and_from, and_parts}
 use Rattle.std.proofs.lemmas.Grind.{flat_map-append}
 use Rattle.std.proofs.lemmas.Option.{none-some, same_Some}
+use Rattle.base_lists.proofs.Each.{all-append}
 use Rattle.cdi_model.specs.declared.decl.Attributes.{Attributes}
 use Rattle.cdi_model.specs.declared.decl.BeanDecl.{BeanDecl}
 use Rattle.cdi_model.specs.declared.decl.CallDecl.{CallDecl}
@@ -35,10 +36,6 @@ use Rattle.cdi_observe.specs.Wanted.{asked_by, key_of_point, point_named, points
 use Rattle.cdi_subjects.specs.Sites.{declared_points, own_points, observed, params_given, params_of}
 
 -- ---- what holds of each
-
-pub all-append : {A : Type 0} (P : A → Type 0) (xs ys : List A) → AllByRecursion P xs → AllByRecursion P ys → AllByRecursion P (xs ++ ys)
-all-append P [] ys first second = second
-all-append P (x ∷ xs) ys first second = (first.0, all-append P xs ys first.1 second)
 
 pub all-parts : {A : Type 0} (P : A → Type 0) (xs ys : List A) → AllByRecursion P (xs ++ ys) → AllByRecursion P xs × AllByRecursion P ys
 all-parts P [] ys all = (tt, all)

@@ -5,6 +5,7 @@ use Rattle.std.specs.List.{list_any}
 use Rattle.std.specs.Option.{is_some, option_to_list}
 use Rattle.std.proofs.Math.Bool.{or_assoc}
 use Rattle.std.proofs.lemmas.Bool.{false≢true, or_parts}
+use Rattle.base_options.proofs.Options.{none-from_is_some}
 use Rattle.cdi_bodies.specs.Book.{Promised}
 use Rattle.cdi_model.specs.declared.decl.Decl.{Decl}
 use Rattle.cdi_model.specs.declared.decl.Decl.TheVariants as decls
@@ -57,29 +58,25 @@ found-none fault_in test each (m ∷ ms) none =
     let (first, others) = or_parts (test m) (list_any test ms) none in
     ap (λ o. option_to_list o ++ found_in fault_in ms) (each m first) ∙ found-none fault_in test each ms others
 
-none-if : (o : Option Subject) → is_some o ≡ false → o ≡ None
-none-if None none = refl
-none-if (Some s) none = absurd (false≢true (sym none))
-
 not-unknown : (ds : List Decl) (book : List Promised) (d : Decl) (m : Mention) → is_wrong_in ds book d m ≡ false → unknown_in ds m ≡ None
 not-unknown ds book d m right =
     let (three, fit) = or_parts _ (is_some (unfit_in book d m)) right in
     let (two, right_use) = or_parts _ (is_some (bad_use_in ds m)) three in
-    none-if (unknown_in ds m) (or_parts (is_some (unknown_in ds m)) (is_some (bad_kind_in ds d m)) two).0
+    none-from_is_some (unknown_in ds m) (or_parts (is_some (unknown_in ds m)) (is_some (bad_kind_in ds d m)) two).0
 
 right-form : (ds : List Decl) (book : List Promised) (d : Decl) (m : Mention) → is_wrong_in ds book d m ≡ false → bad_kind_in ds d m ≡ None
 right-form ds book d m right =
     let (three, fit) = or_parts _ (is_some (unfit_in book d m)) right in
     let (two, right_use) = or_parts _ (is_some (bad_use_in ds m)) three in
-    none-if (bad_kind_in ds d m) (or_parts (is_some (unknown_in ds m)) (is_some (bad_kind_in ds d m)) two).1
+    none-from_is_some (bad_kind_in ds d m) (or_parts (is_some (unknown_in ds m)) (is_some (bad_kind_in ds d m)) two).1
 
 right-use : (ds : List Decl) (book : List Promised) (d : Decl) (m : Mention) → is_wrong_in ds book d m ≡ false → bad_use_in ds m ≡ None
 right-use ds book d m right =
     let (three, fit) = or_parts _ (is_some (unfit_in book d m)) right in
-    none-if (bad_use_in ds m) (or_parts _ (is_some (bad_use_in ds m)) three).1
+    none-from_is_some (bad_use_in ds m) (or_parts _ (is_some (bad_use_in ds m)) three).1
 
 fit-body : (ds : List Decl) (book : List Promised) (d : Decl) (m : Mention) → is_wrong_in ds book d m ≡ false → unfit_in book d m ≡ None
-fit-body ds book d m right = none-if (unfit_in book d m) (or_parts _ (is_some (unfit_in book d m)) right).1
+fit-body ds book d m right = none-from_is_some (unfit_in book d m) (or_parts _ (is_some (unfit_in book d m)) right).1
 
 -- a point whose type lets subclasses be is not at fault for them
 not-final : (ds : List Decl) (bs : List Effective) (d : Decl) (m : Mention) → requires_final_in ds m ≡ false
@@ -90,8 +87,7 @@ not-final ds bs d (PointOf place p) lets =
   where
     fits : (c : Choice) → has_verdict ds verdicts.Unproxyable p c ≡ false
     fits (choices_are.One id) = ap (λ t. t && needs_subclass ds id) lets
-    fits choices_are.Unsatisfied = refl
-    fits (choices_are.Ambiguous ids) = refl
+    fits other = refl
 
     apart : (b : Bool) (s : Subject) → some_if (b && false) s ≡ None
     apart true s = refl

@@ -6,13 +6,14 @@ use Rattle.std.specs.Option.{option_to_list}
 use Rattle.std.specs.Str.{bytes_eq}
 use Rattle.std.proofs.lemmas.Bool.{or_left, or_right}
 use Rattle.std.proofs.lemmas.Map.Views.{any-filter_same}
+use Rattle.base_lists.proofs.Filters.{filter-alike}
+use Rattle.base_numbers.proofs.Texts.{one_text, same_text}
 use Rattle.cdi_model.specs.declared.decl.BeanDecl.{BeanDecl}
 use Rattle.cdi_model.specs.declared.decl.Decl.{Decl}
 use Rattle.cdi_model.specs.declared.decl.Decl.TheVariants as decls
 use Rattle.cdi_model.specs.declared.decl.ProducerDecl.{ProducerDecl}
 use Rattle.cdi_match.specs.Chain.{has}
 use Rattle.cdi_match.specs.Types.{object, types_of}
-use Rattle.cdi_match.proofs.Names.{one_name, same_text}
 use Rattle.cdi_effective.specs.Beans.{is_kept, restricted, effective, entries, managed, product}
 use Rattle.cdi_effective.specs.Bindings.{class_bindings}
 use Rattle.cdi_effective.specs.Disposers.{disposes}
@@ -72,17 +73,12 @@ disposers_of_records ds bean b bs same =
 
 -- ---- listed types
 
-pub same_filter : {A : Type 0} (p q : A → Bool) (xs : List A) → AllByRecursion (λ x. p x ≡ q x) xs → filter p xs ≡ filter q xs
-same_filter p q [] same = refl
-same_filter p q (x ∷ xs) same = ap (λ b. cond b (x ∷ filter p xs) (filter p xs)) same.0
-    ∙ ap (λ ys. cond (q x) (x ∷ ys) ys) (same_filter p q xs same.1)
-
 -- a restriction to some types leaves each of these
 has-restricted : (listed types : List (List ℕ)) (s : List ℕ) → has listed s ≡ true → has (filter (is_kept listed) types) s ≡ has types s
 has-restricted listed types s among = any-filter_same (λ n. bytes_eq n s) (is_kept listed) true kept types
   where
     kept : (n : List ℕ) → bytes_eq n s ≡ true → is_kept listed n ≡ true
-    kept n same = or_right (bytes_eq n object) (has listed n) (ap (has listed) (one_name n s same) ∙ among)
+    kept n same = or_right (bytes_eq n object) (has listed n) (ap (has listed) (one_text n s same) ∙ among)
 
 listed_among : (types listed all : List (List ℕ)) → ((s : List ℕ) → has listed s ≡ true → has all s ≡ true)
     → AllByRecursion (λ s. not (has (filter (is_kept all) types) s) ≡ not (has types s)) listed
@@ -95,7 +91,7 @@ listed_among types (s ∷ listed) all among = (
 listed_and_restricted : (o : Option (List (List ℕ))) (types : List (List ℕ))
     → filter (λ s. not (has (restricted o types) s)) (unwrap_or o []) ≡ filter (λ s. not (has types s)) (unwrap_or o [])
 listed_and_restricted None types = refl
-listed_and_restricted (Some listed) types = same_filter (λ s. not (has (filter (is_kept listed) types) s)) (λ s. not (has types s)) listed
+listed_and_restricted (Some listed) types = filter-alike (λ s. not (has (filter (is_kept listed) types) s)) (λ s. not (has types s)) listed
     (listed_among types listed listed (λ s h. h))
 
 not_had_of_managed : (ds : List Decl) (bean : BeanDecl)

@@ -5,6 +5,10 @@ use Rattle.std.proofs.Common.{Option, Some, None, is_some, option_map, refl, sym
 use Rattle.std.specs.List.{AllByRecursion, find, flat_map, list_any}
 use Rattle.std.specs.Option.{option_to_list, unwrap_or}
 use Rattle.std.specs.Str.{bytes_eq}
+use Rattle.base_lists.proofs.Each.{all-weaker, all-append}
+use Rattle.base_lists.proofs.Any.{any-alike}
+use Rattle.base_lists.proofs.Filters.{filter-alike, filter-same}
+use Rattle.base_lists.proofs.Flat.{flat-same}
 use Rattle.cdi_bodies.specs.Book.{Promised}
 use Rattle.cdi_model.specs.DeclList.{find_decl}
 use Rattle.cdi_model.specs.Mentions.{Mention, TypeIn, UseOf, StereotypeOf, PointOf, CallOf, mentions}
@@ -52,27 +56,15 @@ use Rattle.cdi_subjects.specs.Subjects.{bad_kind_in, bad_use_in, disposers_at_fa
 use Rattle.cdi_subjects.specs.Subjects.{is_known_in, point_in, scope_conflicts, subjects_at_fault, unknown_in, whole_if}
 use Rattle.cdi_subjects.specs.declared.points.Verdict.{Verdict}
 use Rattle.cdi_subjects.specs.declared.points.Verdict.TheVariants as verdicts
-use Rattle.cdi_subjects.proofs.AnsweredLemmas.{all-append, all-parts, each-given, each-own}
-use Rattle.cdi_subjects.proofs.RecordLemmas.{conditional_by_entries, disposers_of_records, same_filter, typed_by_entries}
+use Rattle.cdi_subjects.proofs.AnsweredLemmas.{all-parts, each-given, each-own}
+use Rattle.cdi_subjects.proofs.RecordLemmas.{conditional_by_entries, disposers_of_records, typed_by_entries}
 
 -- ---- what holds of each
-
-all-weaker : {A : Type 0} (P Q : A → Type 0) (xs : List A) → ((x : A) → P x → Q x) → AllByRecursion P xs → AllByRecursion Q xs
-all-weaker P Q [] weaker all = tt
-all-weaker P Q (x ∷ xs) weaker all = (weaker x all.0, all-weaker P Q xs weaker all.1)
 
 found-same : (f g : Mention → Option Subject) (ms : List Mention) → AllByRecursion (λ m. f m ≡ g m) ms → found_in f ms ≡ found_in g ms
 found-same f g [] same = refl
 found-same f g (m ∷ ms) same = ap (λ o. option_to_list o ++ found_in f ms) same.0
     ∙ ap (λ l. option_to_list (g m) ++ l) (found-same f g ms same.1)
-
-any-same : {A : Type 0} (p q : A → Bool) (xs : List A) → AllByRecursion (λ x. p x ≡ q x) xs → list_any p xs ≡ list_any q xs
-any-same p q [] same = refl
-any-same p q (x ∷ xs) same = ap (λ b. b || list_any p xs) same.0 ∙ ap (λ b. q x || b) (any-same p q xs same.1)
-
-each-same : {A : Type 0} (f g : A → List Subject) (xs : List A) → ((x : A) → f x ≡ g x) → flat_map f xs ≡ flat_map g xs
-each-same f g [] same = refl
-each-same f g (x ∷ xs) same = ap (λ l. l ++ flat_map f xs) (same x) ∙ ap (λ l. g x ++ l) (each-same f g xs same)
 
 -- ---- names
 
@@ -115,7 +107,7 @@ covered-same : (ds es : List Decl) (quals : List Qual) (want : Qual)
     → AllByRecursion (λ u. find_decl kinds.Qualifier u.name ds ≡ find_decl kinds.Qualifier u.name es) quals
     → some_covers ds quals want ≡ some_covers es quals want
 covered-same ds es quals want alike =
-    any-same (λ have. covers ds uses.Qualifier have want) (λ have. covers es uses.Qualifier have want) quals
+    any-alike (λ have. covers ds uses.Qualifier have want) (λ have. covers es uses.Qualifier have want) quals
     (all-weaker (λ u. find_decl kinds.Qualifier u.name ds ≡ find_decl kinds.Qualifier u.name es)
     (λ have. covers ds uses.Qualifier have want ≡ covers es uses.Qualifier have want) quals
     (λ have e. ap (λ o. covers_by (unwrap_or (option_map (λ d. d.members) (as_qualifier o)) []) have want) e) alike)
@@ -132,30 +124,23 @@ disposes-same : (ds es : List Decl) (s : DisposerDecl) (b : Effective) → HasQu
 disposes-same ds es s b alike =
     ap (λ t. has b.types s.product_type && t) (cover-same ds es b.qualifiers (required s.qualifiers) alike)
 
-each-filter : {A : Type 0} (p q : A → Bool) (xs : List A) → ((x : A) → p x ≡ q x) → filter p xs ≡ filter q xs
-each-filter {A = A} p q xs same = same_filter p q xs (all xs)
-  where
-    all : (ys : List A) → AllByRecursion (λ x. p x ≡ q x) ys
-    all [] = tt
-    all (y ∷ ys) = (same y, all ys)
-
 without-same : (ds es : List Decl) (bs : List Effective) (disposers : List DisposerDecl) → AllByRecursion (HasQualifiersAlike ds es) bs
     → without_product ds bs disposers ≡ without_product es bs disposers
 without-same ds es bs disposers alike =
     ap (map (λ s. subjects.Disposer s.name))
-    (each-filter (λ s. not (list_any (λ p. disposes ds p s) bs)) (λ s. not (list_any (λ p. disposes es p s) bs)) disposers
-    (λ s. ap not (any-same (λ p. disposes ds p s) (λ p. disposes es p s) bs
+    (filter-same (λ s. not (list_any (λ p. disposes ds p s) bs)) (λ s. not (list_any (λ p. disposes es p s) bs)) disposers
+    (λ s. ap not (any-alike (λ p. disposes ds p s) (λ p. disposes es p s) bs
     (all-weaker (HasQualifiersAlike ds es) (λ p. disposes ds p s ≡ disposes es p s) bs (disposes-same ds es s) alike))))
 
 two-same : (ds es : List Decl) (bs : List Effective) (disposers : List DisposerDecl) → AllByRecursion (HasQualifiersAlike ds es) bs
     → with_two ds bs disposers ≡ with_two es bs disposers
 two-same ds es bs disposers alike =
     ap (λ rs. map subjects.Producer (flat_map (λ b. option_to_list b.id.producer) rs))
-    (same_filter (λ b. nat_lt 1 (length (filter (disposes ds b) disposers))) (λ b. nat_lt 1 (length (filter (disposes es b) disposers))) bs
+    (filter-alike (λ b. nat_lt 1 (length (filter (disposes ds b) disposers))) (λ b. nat_lt 1 (length (filter (disposes es b) disposers))) bs
     (all-weaker (HasQualifiersAlike ds es)
     (λ b. nat_lt 1 (length (filter (disposes ds b) disposers)) ≡ nat_lt 1 (length (filter (disposes es b) disposers))) bs
     (λ b own. ap (λ xs. nat_lt 1 (length xs))
-    (each-filter (disposes ds b) (disposes es b) disposers (λ s. disposes-same ds es s b own))) alike))
+    (filter-same (disposes ds b) (disposes es b) disposers (λ s. disposes-same ds es s b own))) alike))
 
 disposers-same : (ds es : List Decl) (d : Decl) → entries ds d ≡ entries es d → AreProductsAlike ds es d
     → disposers_at_fault ds d ≡ disposers_at_fault es d
@@ -175,12 +160,12 @@ conflicts-same ds es bean alike =
     let other = class_bindings es bean in
     let at : (place : BeanPlace) → conflict_at ds class bean place ≡ conflict_at es other bean place =
     λ place. ap (λ b. cond b (part_at place ∷ []) []) (alike place) in
-    let methods = each-same (λ m. conflict_at ds class bean (spots.Method m.name))
+    let methods = flat-same (λ m. conflict_at ds class bean (spots.Method m.name))
     (λ m. conflict_at es other bean (spots.Method m.name)) bean.methods (λ m. at (spots.Method m.name)) in
-    let producers = each-same (λ p. conflict_at ds class bean (spots.Producer p.name))
+    let producers = flat-same (λ p. conflict_at ds class bean (spots.Producer p.name))
     (λ p. conflict_at es other bean (spots.Producer p.name)) (filter (λ p. not p.is_static) bean.producers)
     (λ p. at (spots.Producer p.name)) in
-    let observers = each-same (λ o. conflict_at ds class bean (spots.Observer o.name))
+    let observers = flat-same (λ o. conflict_at ds class bean (spots.Observer o.name))
     (λ o. conflict_at es other bean (spots.Observer o.name)) bean.observers (λ o. at (spots.Observer o.name)) in
     rw (at spots.Construct, methods, producers, observers) refl
 
@@ -270,9 +255,8 @@ verdict-same ds es verdicts.Unproxyable p e answered =
 
 lacks-same : (ds es : List Decl) (method : List ℕ) (c : Choice) → ((id : BeanId) → c ≡ choices.One id → IsBeanAlike ds es id)
     → lacks_method ds method c ≡ lacks_method es method c
-lacks-same ds es method choices.Unsatisfied alike = refl
-lacks-same ds es method (choices.Ambiguous ids) alike = refl
 lacks-same ds es method (choices.One id) alike = ap not ((alike id refl).methods method)
+lacks-same ds es method other alike = refl
 
 lost-same : (ds es : List Decl) (method name : List ℕ) (ps : List PointDecl) → AllByRecursion (IsAnsweredAlike ds es) ps
     → is_lost_among ds method (option_map (answer_to ds) (find (λ p. bytes_eq p.name name) ps))

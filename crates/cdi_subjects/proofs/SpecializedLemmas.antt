@@ -10,6 +10,7 @@ use Rattle.cdi_effective.specs.Beans.{managed}
 use Rattle.cdi_effective.specs.Disposers.{as_bean, find_bean}
 use Rattle.cdi_effective.specs.Records.{records_declared, records_in}
 use Rattle.cdi_effective.specs.Specialized.{bean_named, extended, specialized}
+use Rattle.cdi_effective.proofs.ChainLemmas.{specialized-found}
 use Rattle.cdi_subjects.specs.Specializing.{specialized_bean}
 
 -- what is found by a name has it
@@ -22,15 +23,6 @@ found-name n ds s is = by (find_decl kinds.Bean n ds) refl is
         let same : b ≡ s = cc in
         sym (ap (λ c. c.name) same) ∙ name-found kinds.Bean n ds (decls.Bean b) at
     by (Some other) at is = cc
-
--- so is a bean that is specialized
-specialized-found : (ds : List Decl) (b s : BeanDecl) → specialized ds b ≡ Some s → find_bean s.name ds ≡ Some s
-specialized-found ds b s is = by b.specializes (extended (find_decl kinds.Type b.name ds)) is
-  where
-    by : (says : Bool) (class : Option (List ℕ)) → cond says (bean_named ds class) None ≡ Some s → find_bean s.name ds ≡ Some s
-    by false class e = cc
-    by true None e = cc
-    by true (Some n) e = ap (λ m. find_bean m ds) (found-name n ds s e) ∙ e
 
 -- its managed bean is the first of the records of its class
 pub first_specialized : (ds : List Decl) (b s : BeanDecl) → specialized ds b ≡ Some s

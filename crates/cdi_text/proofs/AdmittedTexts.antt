@@ -6,6 +6,7 @@ use Rattle.std.specs.List.{AllByRecursion, list_any, flat_map}
 use Rattle.std.proofs.lemmas.List.Concat.{flat_map_single}
 use Rattle.std.specs.Option.{option_to_list}
 use Rattle.toml.specs.Data.{string, table, Items, no_items, item, Members, get_member, as_array}
+use Rattle.base_lists.proofs.Any.{any-map}
 use Rattle.cdi_model.specs.Decl.{kind_of, name_of_decl}
 use Rattle.cdi_model.specs.Grammar.{is_name}
 use Rattle.cdi_model.specs.Mentions.{TypeIn, UseOf, StereotypeOf, listed_types, mentions, of_attributes, of_bindings, of_disposer}
@@ -47,7 +48,7 @@ use Rattle.cdi_admission.specs.Admission.{declares_named, has_bad_name, has_long
 use Rattle.cdi_admission.specs.Admission.{is_of_default, is_of_named, lists_of_attributes, lists_of_producer, name_lists, observes_default}
 use Rattle.cdi_admission.specs.Admission.{is_long_one, point_names, refusal_of_decl, repeats_name, shares_name}
 use Rattle.cdi_text.specs.Admitted.{TextsAreAdmitted}
-use Rattle.cdi_admission.proofs.AnyLemmas.{HasNone, any-map, none-append, none-false, none-flat_map, none-map}
+use Rattle.cdi_admission.proofs.AnyLemmas.{HasNone, none-append, none-false, none-flat_map, none-map}
 use Rattle.cdi_text.proofs.AdmittedTables.{IsProper, labels-at, none-each_at, none-one_at, none-part, none-quals, proper-each, proper-names, short-body}
 use Rattle.cdi_admission.proofs.UseLemmas.{spelt, spelt-event_use, spelt-own}
 
@@ -277,19 +278,12 @@ declared-other kind ms sound = by kind sound
     by : (kind : Kind) → is_sound (schema_of kind) ms ≡ true → is_built_in kind (the_text_at (codes "name") ms) ≡ false
     by kinds.Type sound = of_schema schemas.Type kinds.Type refl refl sound
     by kinds.Qualifier sound = of_schema schemas.Qualifier kinds.Qualifier refl refl sound
-    by kinds.Binding sound = refl
-    by kinds.Stereotype sound = refl
-    by kinds.Bean sound = refl
-    by kinds.Interceptor sound = refl
+    by other sound = refl
 
 name-of : (kind : Kind) (ms : Members) → is_built_in (kind_of (spelled kind ms)) (name_of_decl (spelled kind ms))
     ≡ is_built_in kind (the_text_at (codes "name") ms)
 name-of kinds.Type ms = refl
-name-of kinds.Qualifier ms = refl
-name-of kinds.Binding ms = refl
-name-of kinds.Stereotype ms = refl
-name-of kinds.Bean ms = refl
-name-of kinds.Interceptor ms = refl
+name-of other ms = refl
 
 own-other : (kind : Kind) (ms : Members) → is_sound (schema_of kind) ms ≡ true → declares_named (spelled kind ms) ≡ false
 own-other kinds.Bean ms sound =

@@ -6,6 +6,7 @@ use Rattle.std.specs.List.{AllByRecursion, join_with_byte}
 use Rattle.std.proofs.lemmas.Bool.{cases_Bool, eqb-true, eq-eqb, false≢true}
 use Rattle.std.proofs.lemmas.List.{length-append, take_all, take_at, get_or-append-add, take_more}
 use Rattle.std.proofs.lemmas.Option.{none-some, same_Some}
+use Rattle.base_numbers.proofs.Numbers.{==-refl}
 use Rattle.cdi_model.specs.Bytes.{closing}
 use Rattle.cdi_uses.specs.Pieces.{cut, split, pieces}
 use Rattle.cdi_uses.specs.Uses.{before_close}
@@ -19,11 +20,8 @@ pub cut-none : (byte : ℕ) (text : List ℕ) → Lacks byte text → cut byte t
 cut-none byte [] h = refl
 cut-none byte (x ∷ xs) h = rw (h.0, cut-none byte xs h.1) refl
 
-same_byte : (byte : ℕ) → (byte == byte) ≡ true
-same_byte byte = eq-eqb byte byte refl
-
 pub cut-at : (byte : ℕ) (front rest : List ℕ) → Lacks byte front → cut byte (front ++ byte ∷ rest) ≡ (front, Some rest)
-cut-at byte [] rest h = rw (same_byte byte) refl
+cut-at byte [] rest h = rw (==-refl byte) refl
 cut-at byte (x ∷ xs) rest h = rw (h.0, cut-at byte xs rest h.1) refl
 
 -- the parts of a cut text, put together

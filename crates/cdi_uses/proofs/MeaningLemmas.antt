@@ -6,8 +6,10 @@ use Rattle.std.specs.List.{AllByRecursion, join_with_byte}
 use Rattle.std.specs.Str.{bytes_eq}
 use Rattle.std.specs.Cmp.Lexicographic.{bytes_decides}
 use Rattle.std.proofs.lemmas.Bool.{cases_Bool, and_parts, and_from, or_parts, not-true, eqb-true, ne_eqb, false≢true}
+use Rattle.base_numbers.proofs.Texts.{one_text}
 use Rattle.cdi_model.specs.Bytes.{closing, comma, dot, equals_sign, minus, opening}
 use Rattle.cdi_model.specs.Grammar.{is_letter, is_word, are_words, is_ident_text, is_ident, begins, goes_on, is_name}
+use Rattle.cdi_model.proofs.BeanNameLemmas.{letter_is_word}
 use Rattle.cdi_uses.specs.Numbers.{number_of}
 use Rattle.cdi_uses.specs.Pieces.{cut, split}
 use Rattle.cdi_uses.specs.Uses.{pair_in, pair_of, are_pairs, before_close, is_named, is_plain, is_inside, is_use_of, is_use}
@@ -28,9 +30,6 @@ apart_byte b byte apart word = elim (cases_Bool (b == byte)) [
   | inr other ↦ other
 ]
 
-letter_word : (b : ℕ) → is_letter b ≡ true → is_word b ≡ true
-letter_word b h = rw h refl
-
 words_lack : (byte : ℕ) → IsApart byte → (text : List ℕ) → are_words text ≡ true → Lacks byte text
 words_lack byte apart [] h = tt
 words_lack byte apart (b ∷ bs) h =
@@ -41,14 +40,14 @@ pub ident_lacks : (byte : ℕ) → IsApart byte → (text : List ℕ) → is_ide
 ident_lacks byte apart [] h = tt
 ident_lacks byte apart (b ∷ bs) h =
     let (letter, rest) = and_parts (is_letter b) (are_words bs) (and_parts (is_ident_text (b ∷ bs)) (nat_le (length (b ∷ bs)) 64) h).0 in
-    (apart_byte b byte apart (letter_word b letter), words_lack byte apart bs rest)
+    (apart_byte b byte apart (letter_is_word b letter), words_lack byte apart bs rest)
 
 mutual
   begins_lacks : (byte : ℕ) → IsApart byte → (text : List ℕ) → begins text ≡ true → Lacks byte text
   begins_lacks byte apart [] h = tt
   begins_lacks byte apart (b ∷ bs) h =
       let (letter, rest) = and_parts (is_letter b) (goes_on bs) h in
-      (apart_byte b byte apart (letter_word b letter), goes_on_lacks byte apart bs rest)
+      (apart_byte b byte apart (letter_is_word b letter), goes_on_lacks byte apart bs rest)
 
   goes_on_lacks : (byte : ℕ) → IsApart byte → (text : List ℕ) → goes_on text ≡ true → Lacks byte text
   goes_on_lacks byte apart [] h = tt
@@ -116,12 +115,9 @@ members_lack_commas = members_lack comma ((refl, refl), omega arith)
 
 -- ---- uses
 
-pub same_text : (a b : List ℕ) → bytes_eq a b ≡ true → a ≡ b
-same_text a b = (bytes_decides a b).0
-
 pub other_text : (a b : List ℕ) → a ≢ b → bytes_eq a b ≡ false
 other_text a b other = elim (cases_Bool (bytes_eq a b)) [
-  | inl same ↦ absurd (other (same_text a b same))
+  | inl same ↦ absurd (other (one_text a b same))
   | inr e ↦ e
 ]
 
@@ -136,7 +132,7 @@ with_inner text name inner joined grammar h = by (is_named name) refl
     by true named = inr (inl (record {
       inner = inner;
       grammar = rw named at h;
-      joined = joined ∙ ap (λ n. n ++ (opening ∷ inner ++ closing ∷ [])) (same_text name (codes "Named") named);
+      joined = joined ∙ ap (λ n. n ++ (opening ∷ inner ++ closing ∷ [])) (one_text name (codes "Named") named);
     }))
     by false named =
         let (plain, pairs) = and_parts (not (is_plain name)) (are_pairs (split comma inner)) (rw named at h) in

@@ -4,6 +4,7 @@ use Rattle.cdi_validate.proofs.Common.{length, map, filter, Ordering, Less, Equa
 use Rattle.cdi_validate.proofs.Common.{IsStrictlySortedBy, tied_itself}
 use Rattle.std.specs.List.{slice_index_or}
 use Rattle.std.specs.Cmp.{IsTotalOrder}
+use Rattle.base_lists.proofs.Each.{all-weaker, all-append, all-front, all-back, all-filter}
 
 -- ---- each apart from the later ones
 
@@ -35,25 +36,9 @@ pairs-apart R (x ∷ xs) all = (
 
 -- ---- lists put together
 
-pub all-more : {X : Type 0} (P Q : X → Type 0) → ((x : X) → P x → Q x) → (xs : List X) → AllByRecursion P xs → AllByRecursion Q xs
-all-more P Q more [] all = tt
-all-more P Q more (x ∷ xs) all = (more x all.0, all-more P Q more xs all.1)
-
-pub all-append : {X : Type 0} (P : X → Type 0) (xs ys : List X) → AllByRecursion P xs → AllByRecursion P ys → AllByRecursion P (xs ++ ys)
-all-append P [] ys all others = others
-all-append P (x ∷ xs) ys all others = (all.0, all-append P xs ys all.1 others)
-
 pub apart-more : {X : Type 0} (R S : X → X → Type 0) → ((x y : X) → R x y → S x y) → (xs : List X) → Apart R xs → Apart S xs
 apart-more R S more [] apart = tt
-apart-more R S more (x ∷ xs) apart = (all-more (R x) (S x) (more x) xs apart.0, apart-more R S more xs apart.1)
-
-pub all-filter : {X : Type 0} (P : X → Type 0) (test : X → Bool) (xs : List X) → AllByRecursion P xs → AllByRecursion P (filter test xs)
-all-filter P test [] all = tt
-all-filter P test (x ∷ xs) all = by (test x) (all-filter P test xs all.1)
-  where
-    by : (b : Bool) → AllByRecursion P (filter test xs) → AllByRecursion P (cond b (x ∷ filter test xs) (filter test xs))
-    by true rest = (all.0, rest)
-    by false rest = rest
+apart-more R S more (x ∷ xs) apart = (all-weaker (R x) (S x) xs (more x) apart.0, apart-more R S more xs apart.1)
 
 pub apart-filter : {X : Type 0} (R : X → X → Type 0) (test : X → Bool) (xs : List X) → Apart R xs → Apart R (filter test xs)
 apart-filter R test [] apart = tt
@@ -66,19 +51,6 @@ apart-filter R test (x ∷ xs) apart = by (test x) (apart-filter R test xs apart
 pub all-map : {X Y : Type 0} (P : Y → Type 0) (f : X → Y) (xs : List X) → AllByRecursion (λ x. P (f x)) xs → AllByRecursion P (map f xs)
 all-map P f [] all = tt
 all-map P f (x ∷ xs) all = (all.0, all-map P f xs all.1)
-
-pub all-each : {X : Type 0} (P : X → Type 0) → ((x : X) → P x) → (xs : List X) → AllByRecursion P xs
-all-each P each [] = tt
-all-each P each (x ∷ xs) = (each x, all-each P each xs)
-
--- what holds of each of two lists put together holds of each of the one and of the other
-pub all-front : {X : Type 0} (P : X → Type 0) (xs ys : List X) → AllByRecursion P (xs ++ ys) → AllByRecursion P xs
-all-front P [] ys all = tt
-all-front P (x ∷ xs) ys all = (all.0, all-front P xs ys all.1)
-
-pub all-back : {X : Type 0} (P : X → Type 0) (xs ys : List X) → AllByRecursion P (xs ++ ys) → AllByRecursion P ys
-all-back P [] ys all = all
-all-back P (x ∷ xs) ys all = all-back P xs ys all.1
 
 pub apart-back : {X : Type 0} (R : X → X → Type 0) (xs ys : List X) → Apart R (xs ++ ys) → Apart R ys
 apart-back R [] ys apart = apart
@@ -104,17 +76,6 @@ pub flat-all : {X Y : Type 0} (P : Y → Type 0) (f : X → List Y) (xs : List X
     → AllByRecursion P (flat_map f xs)
 flat-all P f [] all = tt
 flat-all P f (x ∷ xs) all = all-append P (f x) (flat_map f xs) all.0 (flat-all P f xs all.1)
-
--- where those that are left out give nothing
-pub flat-left : {X Y : Type 0} (f : X → List Y) (p : X → Bool) (xs : List X) → AllByRecursion (λ x. p x ≡ false → f x ≡ []) xs
-    → flat_map f (filter p xs) ≡ flat_map f xs
-flat-left f p [] none = refl
-flat-left f p (x ∷ xs) none = by (p x) refl (flat-left f p xs none.1)
-  where
-    by : (b : Bool) → p x ≡ b → flat_map f (filter p xs) ≡ flat_map f xs
-        → flat_map f (cond b (x ∷ filter p xs) (filter p xs)) ≡ f x ++ flat_map f xs
-    by true e more = ap (λ ys. f x ++ ys) more
-    by false e more = more ∙ ap (λ ys. ys ++ flat_map f xs) (sym (none.0 e))
 
 -- what is apart stays so where some are left out
 module _ {X Y : Type 0} (f : X → List Y) (p : X → Bool) where
@@ -154,7 +115,7 @@ Differ xs = Apart (λ x y. x ≢ y) xs
 pub differ-map : {X Y : Type 0} (f : X → Y) → ((x y : X) → f x ≡ f y → x ≡ y) → (xs : List X) → Differ xs → Differ (map f xs)
 differ-map f one [] differ = tt
 differ-map f one (x ∷ xs) differ = (
-  all-map (λ y. f x ≢ y) f xs (all-more (λ y. x ≢ y) (λ y. f x ≢ f y) (λ y other e. other (one x y e)) xs differ.0),
+  all-map (λ y. f x ≢ y) f xs (all-weaker (λ y. x ≢ y) (λ y. f x ≢ f y) xs (λ y other e. other (one x y e)) differ.0),
   differ-map f one xs differ.1,
 )
 
@@ -166,7 +127,7 @@ module _ {X T : Type 0} (tag : X → T) where
   pub differ-append : (t : T) (xs ys : List X) → Tagged t xs → AllByRecursion (λ y. tag y ≢ t) ys → Differ xs → Differ ys → Differ (xs ++ ys)
   differ-append t [] ys tagged others apart rest = rest
   differ-append t (x ∷ xs) ys tagged others apart rest = (
-    all-append (λ y. x ≢ y) xs ys apart.0 (all-more (λ y. tag y ≢ t) (λ y. x ≢ y) (λ y other e. other (sym (ap tag e) ∙ tagged.0)) ys
+    all-append (λ y. x ≢ y) xs ys apart.0 (all-weaker (λ y. tag y ≢ t) (λ y. x ≢ y) ys (λ y other e. other (sym (ap tag e) ∙ tagged.0))
         others),
     differ-append t xs ys tagged.1 others apart.1 rest,
   )
@@ -177,7 +138,7 @@ module _ {X T : Type 0} (tag : X → T) where
     none-tagged t [] others = tt
     none-tagged t (d ∷ ds) others =
         all-append (λ y. tag y ≢ t) (f d) (flat_map f ds)
-        (all-more (λ y. tag y ≡ key d) (λ y. tag y ≢ t) (λ y of_y e. others.0 (sym e ∙ of_y)) (f d) (tagged d))
+        (all-weaker (λ y. tag y ≡ key d) (λ y. tag y ≢ t) (f d) (λ y of_y e. others.0 (sym e ∙ of_y)) (tagged d))
         (none-tagged t ds others.1)
 
     pub differ-flat_map : ((d : D) → Differ (f d)) → (ds : List D) → Apart (λ d e. key d ≢ key e) ds → Differ (flat_map f ds)
@@ -192,7 +153,7 @@ pub rising-differ : {X : Type 0} {order : X → X → Ordering} → IsTotalOrder
 unfolding IsStrictlySortedBy
 rising-differ total [] rise = tt
 rising-differ {order = order} total (x ∷ xs) rise = (
-  all-more (λ y. order x y ≡ Less) (λ y. x ≢ y) (λ y less e. not_before (ap (order x) e ∙ less)) xs rise.0,
+  all-weaker (λ y. order x y ≡ Less) (λ y. x ≢ y) xs (λ y less e. not_before (ap (order x) e ∙ less)) rise.0,
   rising-differ total xs rise.1,
 )
   where

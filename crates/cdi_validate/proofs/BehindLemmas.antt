@@ -7,10 +7,11 @@ use Rattle.cdi_validate.proofs.Common.{enabled_names, goes_on}
 use Rattle.std.specs.Prelude.{nat_le}
 use Rattle.std.proofs.lemmas.Bool.{and_from}
 use Rattle.std.proofs.lemmas.List.Elements.{All-contains, filter_passes}
+use Rattle.base_lists.proofs.Each.{all-weaker, all-append}
 use Rattle.cdi_model.specs.Grammar.{goes_on as continues_name}
 use Rattle.cdi_faults.specs.declared.fault.Fault.TheVariants as faults_are
 use Rattle.cdi_validate.specs.Faults.{IsNameBehind, PrefixesGoOn}
-use Rattle.cdi_validate.proofs.ApartLemmas.{all-append, all-map, all-more}
+use Rattle.cdi_validate.proofs.ApartLemmas.{all-map}
 use Rattle.cdi_validate.proofs.OnceLemmas.{circles-each, clashes-tagged, declared-tagged, is-declared}
 use Rattle.cdi_validate.proofs.TwiceLemmas.{twice-each}
 
@@ -55,25 +56,19 @@ is_behind x y is =
 -- ---- faults
 
 abbrev GoesOn : Fault → Type 0
-GoesOn (faults_are.Declared code kind name subject) = Unit {0}
-GoesOn (faults_are.NameClash name) = Unit {0}
 GoesOn (faults_are.NamePrefix x y) = goes_on x y ≡ true
-GoesOn (faults_are.Circular class producer) = Unit {0}
-GoesOn (faults_are.SpecializedTwice specialized first second) = Unit {0}
+GoesOn other = Unit {0}
+GoesOn other = Unit {0}
 
 of_declared : (f : Fault) → is-declared f ≡ 0 → GoesOn f
-of_declared (faults_are.Declared code kind name subject) is = tt
-of_declared (faults_are.NameClash name) is = tt
 of_declared (faults_are.NamePrefix x y) is = absurd (omega (arith, is))
-of_declared (faults_are.Circular class producer) is = tt
-of_declared (faults_are.SpecializedTwice specialized first second) is = tt
+of_declared other is = tt
+of_declared other is = tt
 
 of_clash : (f : Fault) → is-declared f ≡ 1 → GoesOn f
-of_clash (faults_are.Declared code kind name subject) is = tt
-of_clash (faults_are.NameClash name) is = tt
 of_clash (faults_are.NamePrefix x y) is = absurd (omega (arith, is))
-of_clash (faults_are.Circular class producer) is = tt
-of_clash (faults_are.SpecializedTwice specialized first second) is = tt
+of_clash other is = tt
+of_clash other is = tt
 
 pairs-go_on : (all xs : List (List ℕ)) → AllByRecursion GoesOn (flat_map (λ x. map (faults_are.NamePrefix x) (filter (goes_on x) all)) xs)
 pairs-go_on all [] = tt
@@ -93,8 +88,8 @@ prefixes_go_on ds book x y among =
     (all-append GoesOn (declared ++ name_clashes bs ++ name_prefixes bs) (circles ds)
     (all-append GoesOn (declared ++ name_clashes bs) (name_prefixes bs)
     (all-append GoesOn declared (name_clashes bs)
-    (all-more (λ f. is-declared f ≡ 0) GoesOn of_declared declared (declared-tagged ds book ds))
-    (all-more (λ f. is-declared f ≡ 1) GoesOn of_clash (name_clashes bs) (clashes-tagged _)))
+    (all-weaker (λ f. is-declared f ≡ 0) GoesOn declared of_declared (declared-tagged ds book ds))
+    (all-weaker (λ f. is-declared f ≡ 1) GoesOn (name_clashes bs) of_clash (clashes-tagged _)))
     (pairs-go_on (enabled_names bs) (enabled_names bs)))
     (circles-each GoesOn (λ id. tt) ds))
     (twice-each GoesOn (λ a b class. tt) ds) in

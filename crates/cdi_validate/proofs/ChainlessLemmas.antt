@@ -1,13 +1,15 @@
 -- Declarations of which no two enabled beans specialize one.
+use Rattle.base_lists.proofs.Each.{all-weaker}
+use Rattle.base_lists.proofs.Flat.{flat-filter}
 use Rattle.cdi_validate.proofs.Common.{◌≡◌, List, ◌++◌, sym, ap, ◌∙◌, append_assoc, flat_map, Decl, specialized_twice, ℕ, Bool, true, false}
 use Rattle.cdi_validate.proofs.Common.{cond, [], ◌∷◌, length, map, filter, refl, AllByRecursion, AllPairs, eqb-true, false≢true, Fault, not}
 use Rattle.cdi_validate.proofs.Common.{◌&&◌, subst, find, option_to_list, bytes_eq, or_left, nil_from_length, filter-append, AreDistinct}
-use Rattle.cdi_validate.proofs.Common.{BeanDecl, has, same_text, records_in, chain, class_names, text_of_fault, IsAlike, is_first_enabled}
+use Rattle.cdi_validate.proofs.Common.{BeanDecl, has, records_in, chain, class_names, text_of_fault, IsAlike, is_first_enabled, same_text}
 use Rattle.cdi_validate.proofs.Common.{specializing, specializing_by, is_chainless, enabled_bean, enabled_beans, faults_of_pairs}
 use Rattle.cdi_validate.proofs.Common.{faults_of_two, in_line_order, of_pairs, twice}
 use Rattle.cdi_model.specs.declared.decl.Decl.TheVariants as decls
 use Rattle.cdi_validate.specs.Together.{HaveNoneTwice}
-use Rattle.cdi_validate.proofs.ApartLemmas.{Apart, all-more, apart-by, apart-filter, apart-more, apart-pairs, flat-all, flat-left}
+use Rattle.cdi_validate.proofs.ApartLemmas.{Apart, apart-by, apart-filter, apart-more, apart-pairs, flat-all}
 use Rattle.cdi_validate.proofs.ApartLemmas.{flat-same, pairs-apart, pairs-left}
 use Rattle.cdi_validate.proofs.FoundLemmas.{bean-records}
 use Rattle.cdi_validate.proofs.LinkLemmas.{filtered, specializing-own}
@@ -52,9 +54,9 @@ pub twice_stays : (ds es own : List Decl) → AllByRecursion (IsAlike ds es) own
 twice_stays ds es own alike none =
     let bs = flat_map (specializing_by ds) own in
     let chains : AllByRecursion (HasSameChain ds es) bs = flat-all (HasSameChain ds es) (specializing_by ds) own
-    (all-more (IsAlike ds es) (λ d. AllByRecursion (HasSameChain ds es) (specializing_by ds d)) (same-chains ds es) own alike) in
+    (all-weaker (IsAlike ds es) (λ d. AllByRecursion (HasSameChain ds es) (specializing_by ds d)) own (same-chains ds es) alike) in
     let same : bs ≡ flat_map (specializing_by es) own = flat-same (specializing_by ds) (specializing_by es) own
-    (all-more (IsAlike ds es) (λ d. specializing_by ds d ≡ specializing_by es d) (specializing-alike ds es) own alike) in
+    (all-weaker (IsAlike ds es) (λ d. specializing_by ds d ≡ specializing_by es d) own (specializing-alike ds es) alike) in
     subst (AllPairs (AreFaultless es)) same (apart-pairs (AreFaultless es) bs
     (apart-by (AreFaultless ds) (AreFaultless es) (HasSameChain ds es) (two-alike ds es) bs chains (pairs-apart (AreFaultless ds) bs none)))
 
@@ -67,9 +69,8 @@ pub twice_whole : (ds own : List Decl) (p : Decl → Bool) → AllByRecursion (�
     → HaveNoneTwice ds (filter p own) → HaveNoneTwice ds own
 twice_whole ds own p chainless none =
     let nothing : AllByRecursion (λ d. p d ≡ false → specializing_by ds d ≡ []) own =
-    all-more (λ d. p d ≡ false → is_chainless ds d ≡ true) (λ d. p d ≡ false → specializing_by ds d ≡ [])
-    (λ d empty out. nil_from_length (specializing_by ds d) (eqb-true (length (specializing_by ds d)) 0 (empty out))) own chainless in
-    subst (AllPairs (AreFaultless ds)) (flat-left (specializing_by ds) p own nothing) none
+    all-weaker (λ d. p d ≡ false → is_chainless ds d ≡ true) (λ d. p d ≡ false → specializing_by ds d ≡ []) own (λ d empty out. nil_from_length (specializing_by ds d) (eqb-true (length (specializing_by ds d)) 0 (empty out))) chainless in
+    subst (AllPairs (AreFaultless ds)) (flat-filter (specializing_by ds) p own nothing) none
 
 -- ---- all declarations
 

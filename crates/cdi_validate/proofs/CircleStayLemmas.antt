@@ -4,7 +4,7 @@ use Rattle.cdi_validate.proofs.Common.{length, map, filter, refl, AllByRecursion
 use Rattle.cdi_validate.proofs.Common.{is_word, ◌&&◌, subst, option_to_list, bytes_eq, or_left, AreDistinct, BeanDecl, has, same_text}
 use Rattle.cdi_validate.proofs.Common.{IsAlike, Circle, leads, Steps, between, dependents, needed_by, Some, ◌⊎◌, inl, inr, append-nil}
 use Rattle.cdi_validate.proofs.Common.{nat_le, slice_get, and-false, cases_Bool, or_cases, or_right, same_Some, slash, name_of_decl}
-use Rattle.cdi_validate.proofs.Common.{find_decl, InterceptorDecl, PointDecl, BeanPlace, Mention, PointOf, mentions, one_name, effective}
+use Rattle.cdi_validate.proofs.Common.{find_decl, InterceptorDecl, PointDecl, BeanPlace, Mention, PointOf, mentions, effective, one_text}
 use Rattle.cdi_validate.proofs.Common.{entries, managed, product_where, text_of_id, as_bean, find_bean, Effective, own-found, is_enabled}
 use Rattle.cdi_validate.proofs.Common.{stands_around, answer_to, names_of_bean, point_named, stands-named, points-declared, Need}
 use Rattle.cdi_validate.proofs.Common.{chosen_for, chosen_one, is_dependent, managed_id, need_around, need_in, needs_in, dependents_in}
@@ -108,7 +108,7 @@ all-has P (v ∷ xs) x all (inr h) = all-has P xs x all.1 h
 named-from : (names : List (List ℕ)) (x : List ℕ) → has names x ≡ true → Has names x
 named-from [] x h = absurd (false≢true h)
 named-from (n ∷ ns) x h = elim (or_cases (bytes_eq n x) (has ns x) h) [
-  | inl here ↦ inl (one_name n x here)
+  | inl here ↦ inl (one_text n x here)
   | inr there ↦ inr (named-from ns x there)
 ]
 
@@ -132,7 +132,7 @@ of-text : (need : Need) (x y : List ℕ) → Has (cond (bytes_eq need.0 x) need.
 of-text need x y h = by (bytes_eq need.0 x) refl h
   where
     by : (b : Bool) → bytes_eq need.0 x ≡ b → Has (cond b need.1 []) y → (need.0 ≡ x) × Has need.1 y
-    by true e h = (one_name need.0 x e, h)
+    by true e h = (one_text need.0 x e, h)
     by false e h = absurd h
 
 edge-from : (nodes : List (List ℕ)) (all : List Need) (x y : List ℕ) → leads (between nodes all) x y ≡ true → IsEdge nodes all x y
@@ -288,7 +288,7 @@ bean-names-same : (ds es : List Decl) (b : BeanDecl) → IsAlike ds es (decls.Be
 unfolding names_of_bean
 bean-names-same ds es b alike = names-same ds es b alike (places_of b) (has-each_place b)
 
-stands-enabled : (ds : List Decl) (i : InterceptorDecl) (b : BeanDecl) → stands_around ds i b ≡ true → is_enabled i ≡ true
+pub stands-enabled : (ds : List Decl) (i : InterceptorDecl) (b : BeanDecl) → stands_around ds i b ≡ true → is_enabled i ≡ true
 unfolding stands_around
 stands-enabled ds i b stands = (and_parts (is_enabled i) _ stands).0
 

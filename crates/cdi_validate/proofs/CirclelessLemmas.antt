@@ -4,12 +4,15 @@ use Rattle.cdi_validate.proofs.Common.{[], ◌∷◌, length, map, filter, refl,
 use Rattle.cdi_validate.proofs.Common.{begins, continues, is_letter, is_name, is_word, not, ◌&&◌, subst, bytes_eq, or_left, nil_from_length}
 use Rattle.cdi_validate.proofs.Common.{AreDistinct, BeanDecl, has, keys_of, leads, Steps, BeanId, circular, dependents, dependents_by_text}
 use Rattle.cdi_validate.proofs.Common.{needed_by, needs_itself, circle, Some, inl, inr, slice_get, or_cases, or_right, same_Some, slash}
-use Rattle.cdi_validate.proofs.Common.{name_of_decl, find_decl, InterceptorDecl, PointDecl, Mention, PointOf, mentions, one_name, effective}
+use Rattle.cdi_validate.proofs.Common.{name_of_decl, find_decl, InterceptorDecl, PointDecl, Mention, PointOf, mentions, effective, one_text}
 use Rattle.cdi_validate.proofs.Common.{entries, product_where, text_of_id, Effective, own-found, is_enabled, stands_around, names_of_bean}
 use Rattle.cdi_validate.proofs.Common.{stands-named, Need, chosen_for, is_dependent, managed_id, need_around, need_in, needs_in}
 use Rattle.cdi_validate.proofs.Common.{dependents_in, HaveNoCircle, ◌||◌, Option, None, list_any, list_any-append, none-some, Qual}
 use Rattle.cdi_validate.proofs.Common.{is_replaced, is_empty, is_needless, AreNamed}
 use Rattle.std.proofs.lemmas.Bool.{false_from_ne_true}
+use Rattle.base_lists.proofs.Each.{all-each, all-append, all-at}
+use Rattle.base_lists.proofs.Any.{any-flat_map, any-more}
+use Rattle.base_lists.proofs.Flat.{flat-empty}
 use Rattle.cdi_model.specs.Grammar.{goes_on as continues_name}
 use Rattle.cdi_model.specs.declared.decl.Attributes.{Attributes}
 use Rattle.cdi_model.specs.declared.decl.Decl.TheVariants as decls
@@ -30,9 +33,10 @@ use Rattle.cdi_effective.specs.Beans.{records_where}
 use Rattle.cdi_effective.specs.BeanText.{text_of_producer}
 use Rattle.cdi_validate.specs.Circles.{needs_to_run}
 use Rattle.cdi_validate.specs.Together.{next_in}
-use Rattle.cdi_validate.proofs.ApartLemmas.{all-append, all-each, all-map}
+use Rattle.cdi_validate.proofs.ApartLemmas.{all-map}
 use Rattle.cdi_validate.proofs.CircleLemmas.{needs_itself_on_circle}
 use Rattle.cdi_validate.proofs.NeedLemmas.{has-by_text}
+use Rattle.cdi_validate.proofs.CircleStayLemmas.{stands-enabled}
 
 -- ---- no circle, no fault
 
@@ -59,7 +63,7 @@ one-left test (e ∷ es) x among is none = by (test e.0) refl (λ later left. on
         → map circle (map (λ e. e.1) (cond b (e ∷ filter (λ e. test e.0) es) (filter (λ e. test e.0) es))) ≡ [] → ⊥
     by true here rest none = let no : circle e.1 ∷ map circle (map (λ e. e.1) (filter (λ e. test e.0) es)) ≡ [] = none in absurd (cc)
     by false here rest none = elim (or_cases (bytes_eq e.0 x) (has (keys_of es) x) among) [
-      | inl first ↦ false≢true (sym here ∙ ap test (one_name e.0 x first) ∙ is)
+      | inl first ↦ false≢true (sym here ∙ ap test (one_text e.0 x first) ∙ is)
       | inr later ↦ rest later none
     ]
 
@@ -75,7 +79,7 @@ between-has nodes (x ∷ xs) v is = by (has nodes x) refl (between-has nodes xs 
         → has (cond b (x ∷ filter (has nodes) xs) (filter (has nodes) xs)) v ≡ true
         → (has nodes v ≡ true) × ((bytes_eq x v || has xs v) ≡ true)
     by true e rest is = elim (or_cases (bytes_eq x v) (has (filter (has nodes) xs) v) is) [
-      | inl here ↦ (sym (ap (has nodes) (one_name x v here)) ∙ e, or_left (bytes_eq x v) (has xs v) here)
+      | inl here ↦ (sym (ap (has nodes) (one_text x v here)) ∙ e, or_left (bytes_eq x v) (has xs v) here)
       | inr there ↦ ((rest there).0, or_right (bytes_eq x v) (has xs v) (rest there).1)
     ]
     by false e rest is = ((rest is).0, or_right (bytes_eq x v) (has xs v) (rest is).1)
@@ -92,13 +96,9 @@ has-between nodes (x ∷ xs) v node is = by (has nodes x) refl (has-between node
       | inr there ↦ or_right (bytes_eq x v) (has (filter (has nodes) xs) v) (rest there)
     ]
     by false e rest = elim (or_cases (bytes_eq x v) (has xs v) is) [
-      | inl here ↦ absurd (false≢true (sym e ∙ ap (has nodes) (one_name x v here) ∙ node))
+      | inl here ↦ absurd (false≢true (sym e ∙ ap (has nodes) (one_text x v here) ∙ node))
       | inr there ↦ rest there
     ]
-
-any-flat : {X Y : Type 0} (q : Y → Bool) (f : X → List Y) (xs : List X) → list_any q (flat_map f xs) ≡ list_any (λ x. list_any q (f x)) xs
-any-flat q f [] = refl
-any-flat q f (x ∷ xs) = list_any-append q (f x) (flat_map f xs) ∙ ap (λ b. list_any q (f x) || b) (any-flat q f xs)
 
 -- a need is of a bean, and another is among what it needs
 abbrev is_need_of : List ℕ → List ℕ → Need → Bool
@@ -125,12 +125,12 @@ has-dependents (b ∷ bs) u = by (is_dependent b) (has-dependents bs u)
 
 node-of : (ds own : List Decl) (u : List ℕ) → has (dependents_in ds own) u ≡ list_any (is_node ds u) own
 node-of ds own u = has-dependents (flat_map (entries ds) own) u
-    ∙ any-flat (λ b. is_dependent b && bytes_eq (text_of_id b.id) u) (entries ds) own
+    ∙ any-flat_map (λ b. is_dependent b && bytes_eq (text_of_id b.id) u) (entries ds) own
 
 given-by : (ds own : List Decl) (u v : List ℕ) → has (needed_by (flat_map (needs_in ds) own) u) v ≡ list_any (gives ds u v) own
 given-by ds own u v =
-    any-flat (λ n. bytes_eq n v) (λ (need : Need). cond (bytes_eq need.0 u) need.1 []) (flat_map (needs_in ds) own)
-    ∙ any-flat (is_need_of u v) (needs_in ds) own
+    any-flat_map (λ n. bytes_eq n v) (λ (need : Need). cond (bytes_eq need.0 u) need.1 []) (flat_map (needs_in ds) own)
+    ∙ any-flat_map (is_need_of u v) (needs_in ds) own
 
 -- an edge leads from a dependent bean of some declarations to another where one of these gives it that need
 record IsEdge (ds own : List Decl) (u v : List ℕ) : Type 0 where
@@ -173,11 +173,6 @@ faultless_circles ds none x circle =
 none-empty : {X : Type 0} (xs : List X) → is_empty xs ≡ true → xs ≡ []
 none-empty xs none = nil_from_length xs (eqb-true (length xs) 0 none)
 
-all-got : {X : Type 0} (P : X → Type 0) (xs : List X) (k : ℕ) (x : X) → AllByRecursion P xs → slice_get xs k ≡ Some x → P x
-all-got P [] k x all at = absurd (none-some x at)
-all-got P (y ∷ ys) zero x all at = subst P (same_Some y x at) all.0
-all-got P (y ∷ ys) (suc k) x all at = all-got P ys k x all.1 at
-
 -- one that passes a test, and where it stands
 record Passes {X : Type 0} (test : X → Bool) (xs : List X) : Type 0 where
   place : ℕ
@@ -210,18 +205,6 @@ all-flat : {X Y : Type 0} (P : Y → Type 0) (f : X → List Y) → ((x : X) →
     → AllByRecursion P (flat_map f xs)
 all-flat P f each [] = tt
 all-flat P f each (x ∷ xs) = all-append P (f x) (flat_map f xs) (each x) (all-flat P f each xs)
-
-any-more : {X : Type 0} (test more : X → Bool) → ((x : X) → test x ≡ true → more x ≡ true) → (xs : List X) → list_any test xs ≡ true
-    → list_any more xs ≡ true
-any-more test more each [] some = some
-any-more test more each (x ∷ xs) some = elim (or_cases (test x) (list_any test xs) some) [
-  | inl here ↦ or_left (more x) (list_any more xs) (each x here)
-  | inr there ↦ or_right (more x) (list_any more xs) (any-more test more each xs there)
-]
-
-flat-empty : {X Y : Type 0} (f : X → List Y) (xs : List X) → AllByRecursion (λ x. f x ≡ []) xs → flat_map f xs ≡ []
-flat-empty f [] none = refl
-flat-empty f (x ∷ xs) none = ap (λ ys. ys ++ flat_map f xs) none.0 ∙ flat-empty f xs none.1
 
 -- ---- the class of a bean in the text of its id
 
@@ -270,7 +253,7 @@ one-class : (ds : List Decl) (k j : ℕ) (b c : BeanDecl) (text : List ℕ) → 
     → slice_get ds k ≡ Some (decls.Bean b) → slice_get ds j ≡ Some (decls.Bean c) → IsText text b → IsText text c → b ≡ c
 one-class ds k j b c text distinct named at_b at_c of_b of_c =
     let slashless : (i : ℕ) (d : BeanDecl) → slice_get ds i ≡ Some (decls.Bean d) → HasNoSlash d.name =
-    λ i d at. name-slashless d.name (all-got (λ e. is_name (name_of_decl e) ≡ true) ds i (decls.Bean d) named at) in
+    λ i d at. name-slashless d.name (all-at (λ e. is_name (name_of_decl e) ≡ true) ds i (decls.Bean d) named at) in
     let same : b.name ≡ c.name = sym (class-before b.name of_b.0 (slashless k b at_b))
     ∙ ap before_slash (sym of_b.1 ∙ of_c.1)
     ∙ class-before c.name of_c.0 (slashless j c at_c) in
@@ -285,7 +268,7 @@ need-own : (u v : List ℕ) (need : Need) → is_need_of u v need ≡ true → (
 need-own u v need is = by (bytes_eq need.0 u) refl is
   where
     by : (b : Bool) → bytes_eq need.0 u ≡ b → has (cond b need.1 []) v ≡ true → (need.0 ≡ u) × (has need.1 v ≡ true)
-    by true e is = (one_name need.0 u e, is)
+    by true e is = (one_text need.0 u e, is)
     by false e is = absurd (false≢true is)
 
 need-classed : (ds : List Decl) (b : BeanDecl) (m : Mention) → AllByRecursion (λ need. IsText need.0 b) (need_in ds b m)
@@ -300,7 +283,7 @@ given-classed : (ds : List Decl) (b : BeanDecl) (u v : List ℕ) → gives ds u 
 given-classed ds b u v is =
     let all = needs_in ds (decls.Bean b) in
     let found = any-at (is_need_of u v) all is in
-    let text = all-got (λ need. IsText need.0 b) all found.place found.one
+    let text = all-at (λ need. IsText need.0 b) all found.place found.one
     (all-flat (λ need. IsText need.0 b) (need_in ds b) (need-classed ds b) (mentions (decls.Bean b))) found.at in
     (text.0, sym (need-own u v found.one found.is).0 ∙ text.1)
 
@@ -320,9 +303,9 @@ node-classed ds b u is =
     let all = entries ds (decls.Bean b) in
     let test : Effective → Bool = λ r. is_dependent r && bytes_eq (text_of_id r.id) u in
     let found = any-at test all is in
-    let of = all-got (IsRecordOf b) all found.place found.one (records-classed ds b (not (is_replaced ds b.name))) found.at in (
-      (of.0, sym (one_name (text_of_id found.one.id) u (and_parts (is_dependent found.one) _ found.is).1) ∙ ap text_of_id of.1),
-      any-more test is_dependent (λ r both. (and_parts (is_dependent r) _ both).0) all is,
+    let of = all-at (IsRecordOf b) all found.place found.one (records-classed ds b (not (is_replaced ds b.name))) found.at in (
+      (of.0, sym (one_text (text_of_id found.one.id) u (and_parts (is_dependent found.one) _ found.is).1) ∙ ap text_of_id of.1),
+      any-more test is_dependent all (λ r both. (and_parts (is_dependent r) _ both).0) is,
     )
 
 -- ---- a bean without points and producers needs nothing by its declaration
@@ -443,7 +426,7 @@ record Surrounds (ds : List Decl) (i : InterceptorDecl) (u v : List ℕ) : Type 
 given-around : (ds : List Decl) (i : InterceptorDecl) (u v : List ℕ) → gives ds u v (decls.Interceptor i) ≡ true → Surrounds ds i u v
 given-around ds i u v is =
     let test : Decl → Bool = λ d. list_any (is_need_of u v) (need_around ds i (chosen_for ds i.points) d) in
-    let found = any-at test ds (sym (any-flat (is_need_of u v) (need_around ds i (chosen_for ds i.points)) ds) ∙ is) in
+    let found = any-at test ds (sym (any-flat_map (is_need_of u v) (need_around ds i (chosen_for ds i.points)) ds) ∙ is) in
     by found.place found.one found.at found.is
   where
     by : (k : ℕ) (d : Decl) → slice_get ds k ≡ Some d → list_any (is_need_of u v) (need_around ds i (chosen_for ds i.points) d) ≡ true
@@ -462,10 +445,6 @@ given-around ds i u v is =
         ]
         where_it_stands false e is = absurd (false≢true is)
     by k other at is = absurd (false≢true is)
-
-around-enabled : (ds : List Decl) (i : InterceptorDecl) (b : BeanDecl) → stands_around ds i b ≡ true → is_enabled i ≡ true
-unfolding stands_around
-around-enabled ds i b is = (and_parts (is_enabled i) _ is).0
 
 -- ---- no edge leaves a bean that needs nothing
 
@@ -506,7 +485,7 @@ module _ (ds : List Decl) (distinct : AreDistinct ds) (named : AreNamed ds) wher
           let same = one-class ds k stands.place b stands.bean u distinct named at stands.at text (None, sym stands.text) in
           let around : stands_around ds i b ≡ true = ap (stands_around ds i) same ∙ stands.around in
           false≢true (sym (ap (λ names. has names i.name) alone)
-          ∙ stands-named ds b j i distinct there (around-enabled ds i b around) ∙ around)
+          ∙ stands-named ds b j i distinct there (stands-enabled ds i b around) ∙ around)
       by j other there is = false≢true is
 
   leaves_none : (k : ℕ) (d : Decl) (u v : List ℕ) → slice_get ds k ≡ Some d → is_needless ds d ≡ true → is_node ds u d ≡ true
@@ -527,7 +506,7 @@ module _ (ds : List Decl) (distinct : AreDistinct ds) (named : AreNamed ds) wher
   gives_none j (decls.Interceptor i) u v there needless is node given =
       let stands = given-around ds i u v is in
       let none = none-empty i.points (or-other (is_enabled i) (is_empty i.points) needless
-      (around-enabled ds i stands.bean stands.around)) in
+      (stands-enabled ds i stands.bean stands.around)) in
       false≢true (sym (ap (λ ps. has (chosen_for ds ps) v) none) ∙ stands.chosen)
   gives_none j other u v there needless is node given = false≢true is
 
@@ -542,7 +521,7 @@ module _ (ds : List Decl) (distinct : AreDistinct ds) (named : AreNamed ds) wher
             → list_any (is_node ds u) (filter p ds) ≡ true
         by k d at is true kept = kept-any (is_node ds u) p ds k d at kept is
         by k d at is false out =
-            absurd (leaves_none k d u v at (all-got (λ d. p d ≡ false → is_needless ds d ≡ true) ds k d others at out) is given)
+            absurd (leaves_none k d u v at (all-at (λ d. p d ≡ false → is_needless ds d ≡ true) ds k d others at out) is given)
 
     given-kept : (u v : List ℕ) → list_any (is_node ds u) ds ≡ true → list_any (gives ds u v) ds ≡ true
         → list_any (gives ds u v) (filter p ds) ≡ true
@@ -552,7 +531,7 @@ module _ (ds : List Decl) (distinct : AreDistinct ds) (named : AreNamed ds) wher
             → list_any (gives ds u v) (filter p ds) ≡ true
         by j e there is true kept = kept-any (gives ds u v) p ds j e there kept is
         by j e there is false out =
-            absurd (gives_none j e u v there (all-got (λ d. p d ≡ false → is_needless ds d ≡ true) ds j e others there out) is node given)
+            absurd (gives_none j e u v there (all-at (λ d. p d ≡ false → is_needless ds d ≡ true) ds j e others there out) is node given)
 
     edge-kept : (u v w : List ℕ) → leads (next_in ds ds) u v ≡ true → leads (next_in ds ds) v w ≡ true
         → leads (next_in ds (filter p ds)) u v ≡ true

@@ -1,10 +1,10 @@
 -- The names of enabled beans, each with the leaders of those that have it.
 use Rattle.cdi_validate.proofs.Common.{◌≡◌, List, ◌++◌, sym, ap, ◌∙◌, append_assoc, flat_map, name_clashes, ◌<◌, ℕ, Bool, true, false, cond}
 use Rattle.cdi_validate.proofs.Common.{[], ◌∷◌, length, map, filter, Ordering, Less, Equal, refl, AllByRecursion, IsStrictlySortedBy}
-use Rattle.cdi_validate.proofs.Common.{tied_itself, enabled_names, ◌&&◌, subst, bytes_eq, filter-append, has, same_text, BTreeMap, keys_of}
-use Rattle.cdi_validate.proofs.Common.{Some, append-nil, or_cases, one_name, Effective, ◌||◌, Option, None, list_any, list_any-append, ◌+◌}
+use Rattle.cdi_validate.proofs.Common.{tied_itself, enabled_names, ◌&&◌, subst, bytes_eq, filter-append, has, BTreeMap, keys_of, same_text}
+use Rattle.cdi_validate.proofs.Common.{Some, append-nil, or_cases, Effective, ◌||◌, Option, None, list_any, list_any-append, ◌+◌, one_text}
 use Rattle.cdi_validate.proofs.Common.{fold, take, get_or, ⊎_elim, get, is_at, lookup, is_some, unwrap_or, slice_cmp, nat_cmp, or-false}
-use Rattle.cdi_validate.proofs.Common.{flat_map-append, map-append, nat_list_cmp_total, fold-append, at_name, other_name, candidate}
+use Rattle.cdi_validate.proofs.Common.{flat_map-append, map-append, nat_list_cmp_total, fold-append, at_name, candidate, other_text}
 use Rattle.cdi_validate.proofs.Common.{choice_of, chosen_by_name, is_named, named, leading, nobody, with_candidate, Leaders, is_ambiguous}
 use Rattle.cdi_validate.proofs.Common.{enabled_name, leaders_in, AreLed, AreNames}
 use Rattle.std.proofs.lemmas.List.{take_more}
@@ -37,7 +37,7 @@ led-name at bean name s led between new enabled is led-is gone put = put ∙ by 
   where
     by : (b : Bool) → bytes_eq name s ≡ b → cond b (Some led) between ≡ with_bean (at s) bean s
     by true e = rw (enabled, is, e)
-        (ap Some (led-is ∙ ap (λ n. with_candidate (unwrap_or (at n) nobody) (candidate bean)) (one_name name s e)))
+        (ap Some (led-is ∙ ap (λ n. with_candidate (unwrap_or (at n) nobody) (candidate bean)) (one_text name s e)))
     by false e = rw (enabled, is, e) (gone ∙ ap (λ b. cond b None (at s)) e)
 
 leaders-push : (bs : List Effective) (b : Effective)
@@ -134,7 +134,7 @@ found-later : (e : List ℕ × Leaders) (es more : List (List ℕ × Leaders)) �
 found-later e es [] above all = tt
 found-later e es (f ∷ more) above all = (
   ap (λ b. cond b (Some e.1) (lookup (is_at (order f.0)) es))
-      (at_name f.0 e.0 ∙ other_name f.0 e.0 (λ same. less-apart e.0 f.0 same above.0))
+      (at_name f.0 e.0 ∙ other_text f.0 e.0 (λ same. less-apart e.0 f.0 same above.0))
       ∙ all.0,
   found-later e es more above.1 all.1,
 )

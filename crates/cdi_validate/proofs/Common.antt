@@ -24,6 +24,7 @@ pub use Rattle.std.specs.Option.{option_to_list, is_some, unwrap_or}
 pub use Rattle.std.specs.Ordering.{nat_cmp, ordering_then}
 pub use Rattle.std.specs.Prelude.{◌==◌}
 pub use Rattle.std.specs.Str.{bytes_eq}
+pub use Rattle.base_numbers.proofs.Texts.{one_text, same_text, other_text}
 pub use Rattle.cdi_model.proofs.QualLemmas.{same_name}
 pub use Rattle.cdi_model.specs.Bytes.{dot, slash, byte_order}
 pub use Rattle.cdi_model.specs.Decl.{name_of_decl, kind_of, key_of}
@@ -41,7 +42,7 @@ pub use Rattle.cdi_model.specs.declared.key.DeclKey.{DeclKey}
 pub use Rattle.cdi_model.specs.declared.place.BeanPlace.{BeanPlace}
 pub use Rattle.cdi_model.specs.declared.quals.Qual.{Qual}
 pub use Rattle.cdi_bodies.specs.Book.{Promised}
-pub use Rattle.cdi_match.proofs.Names.{same_text, one_name, at_name, other_name, has-by_order}
+pub use Rattle.cdi_match.proofs.Names.{at_name, has-by_order}
 pub use Rattle.cdi_match.proofs.OrderLemmas.{in_order-has, in_order-rises, one_order}
 pub use Rattle.cdi_match.specs.Bindings.{uses_in}
 pub use Rattle.cdi_match.specs.Chain.{has, Circle, leads, Steps}

@@ -1,8 +1,9 @@
 -- Names of enabled beans, as they are counted.
+use Rattle.base_lists.proofs.Flat.{map-empty}
 use Rattle.cdi_validate.proofs.Common.{◌≡◌, List, ◌++◌, sym, ap, ◌∙◌, flat_map, Decl, beans, name_prefixes, ◌<◌, ℕ, suc, Bool, true, false}
 use Rattle.cdi_validate.proofs.Common.{cond, [], ◌∷◌, length, map, filter, Ordering, Less, Equal, refl, arith, AllByRecursion, AllPairs}
 use Rattle.cdi_validate.proofs.Common.{◌≤◌, nat_eq, false≢true, Fault, enabled_names, goes_on, ◌&&◌, subst, bytes_eq, or_left, has}
-use Rattle.cdi_validate.proofs.Common.{same_text, inl, inr, or_cases, or_right, one_name, entries, Effective, ◌||◌, ◌+◌, get_or}
+use Rattle.cdi_validate.proofs.Common.{inl, inr, or_cases, or_right, entries, Effective, ◌||◌, ◌+◌, get_or, one_text, same_text}
 use Rattle.cdi_validate.proofs.Common.{flat_map-append, enabled_name, drop, Greater, list_all, insert_key, at_drop_more, length-append}
 use Rattle.cdi_validate.proofs.Common.{byte_order, in_order, in_order-has, in_order-rises, one_order, is_nameless, names_by, AreNamesApart}
 use Rattle.cdi_validate.proofs.Common.{HaveNoClash}
@@ -16,7 +17,7 @@ use Rattle.cdi_validate.proofs.FoundLemmas.{records-next}
 pub all-has : (P : List ℕ → Type 0) (names : List (List ℕ)) (s : List ℕ) → AllByRecursion P names → has names s ≡ true → P s
 all-has P [] s all among = absurd (false≢true among)
 all-has P (n ∷ ns) s all among = elim (or_cases (bytes_eq n s) (has ns s) among) [
-  | inl here ↦ subst P (one_name n s here) all.0
+  | inl here ↦ subst P (one_text n s here) all.0
   | inr later ↦ all-has P ns s all.1 later
 ]
 
@@ -34,7 +35,7 @@ not-has : (n : List ℕ) (names : List (List ℕ)) → has names n ≡ false →
 not-has n names none = has-all (Differ n) names (λ m among. by m among (bytes_eq n m) refl)
   where
     by : (m : List ℕ) → has names m ≡ true → (b : Bool) → bytes_eq n m ≡ b → b ≡ false
-    by m among true e = absurd (false≢true (sym none ∙ ap (has names) (one_name n m e) ∙ among))
+    by m among true e = absurd (false≢true (sym none ∙ ap (has names) (one_text n m e) ∙ among))
     by m among false e = refl
 
 -- ---- the names of the bean list
@@ -69,10 +70,6 @@ each-none f (n ∷ ns) none = by (f n) refl none (each-none f ns)
     by [] e rest later = (e, later rest)
     by (x ∷ xs) e some later = absurd (let no : x ∷ (xs ++ flat_map f ns) ≡ [] = some in cc)
 
-none-mapped : {X Y : Type 0} (f : X → Y) (xs : List X) → map f xs ≡ [] → xs ≡ []
-none-mapped f [] none = refl
-none-mapped f (x ∷ xs) some = absurd (let no : f x ∷ map f xs ≡ [] = some in cc)
-
 -- ---- no name continues another
 
 -- none of some names continues one of them
@@ -86,7 +83,7 @@ none-by_prefixes bs none x y first second =
     let pairs : List ℕ → List Fault = λ z. map (faults_are.NamePrefix z) (filter (goes_on z) all) in
     let behind : pairs x ≡ [] = all-has (λ z. pairs z ≡ []) all x (each-none pairs all none) (in_order-has names x ∙ first) in
     all-has (λ z. goes_on x z ≡ false) all y
-    (all-fail (goes_on x) all (none-mapped (faults_are.NamePrefix x) (filter (goes_on x) all) behind)) (in_order-has names y ∙ second)
+    (all-fail (goes_on x) all (map-empty (faults_are.NamePrefix x) (filter (goes_on x) all) behind)) (in_order-has names y ∙ second)
 
 -- ---- as many names in order as names
 
@@ -96,9 +93,8 @@ insert-length k (m ∷ ms) = by (byte_order k m) refl (insert-length k ms)
   where
     by : (o : Ordering) → byte_order k m ≡ o → length (insert_key byte_order ms k) ≤ suc (length ms)
         → length (insert_key byte_order (m ∷ ms) k) ≤ suc (suc (length ms))
-    by Less e rest = rw e (omega arith)
-    by Equal e rest = rw e (omega arith)
     by Greater e rest = rw e (omega (arith, rest))
+    by other e rest = rw e (omega arith)
 
 order-length : (names : List (List ℕ)) → length (in_order names) ≤ length names
 order-length [] = omega arith
@@ -113,7 +109,7 @@ order-again n ns among = one_order (in_order (n ∷ ns)) (in_order ns) (in_order
     (λ s. in_order-has (n ∷ ns) s ∙ by s (bytes_eq n s) refl ∙ sym (in_order-has ns s))
   where
     by : (s : List ℕ) (b : Bool) → bytes_eq n s ≡ b → (bytes_eq n s || has ns s) ≡ has ns s
-    by s true e = rw e (sym (ap (has ns) (sym (one_name n s e)) ∙ among))
+    by s true e = rw e (sym (ap (has ns) (sym (one_text n s e)) ∙ among))
     by s false e = rw e refl
 
 -- so where there are as many, they differ

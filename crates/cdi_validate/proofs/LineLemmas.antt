@@ -1,19 +1,20 @@
 -- The lines that the faults of names and circles print, in byte order.
 use Rattle.cdi_validate.proofs.Common.{◌≡◌, List, ◌++◌, sym, ap, ◌∙◌, flat_map, Decl, circles, name_clashes, name_prefixes, ◌<◌, ℕ, Bool}
-use Rattle.cdi_validate.proofs.Common.{true, false, [], ◌∷◌, map, filter, Ordering, Less, Equal, refl, arith, AllByRecursion}
+use Rattle.cdi_validate.proofs.Common.{true, false, [], ◌∷◌, map, filter, Ordering, Less, Equal, refl, arith, AllByRecursion, same_text}
 use Rattle.cdi_validate.proofs.Common.{IsStrictlySortedBy, tied_itself, ◌==◌, and_parts, eqb-true, dot, begins, continues, is_letter}
-use Rattle.cdi_validate.proofs.Common.{is_name, is_word, Fault, enabled_names, goes_on, subst, bytes_eq, or_left, has, same_text}
+use Rattle.cdi_validate.proofs.Common.{is_name, is_word, Fault, enabled_names, goes_on, subst, bytes_eq, or_left, has}
 use Rattle.cdi_validate.proofs.Common.{text_of_fault, BeanId, circular, circle, or_right, text_of_id, Effective, nat_cmp, chosen_by_name}
 use Rattle.cdi_validate.proofs.Common.{is_ambiguous, enabled_name, AreNames, Greater, byte_order, in_order-has, in_order-rises}
 use Rattle.cdi_validate.proofs.Common.{ordering_then, nat_cmp_total, IsStrictlySortedBy-filter, LinesRise}
 use Rattle.std.specs.Prelude.{codes}
 use Rattle.std.proofs.lemmas.Bool.{lt-ltb}
 use Rattle.std.proofs.lemmas.Bool.Decides.{nat_tests}
+use Rattle.base_lists.proofs.Each.{all-weaker, all-each, all-append}
 use Rattle.cdi_model.specs.Bytes.{space}
 use Rattle.cdi_model.specs.Grammar.{goes_on as continues_name}
 use Rattle.cdi_faults.specs.declared.fault.Fault.TheVariants as faults_are
 use Rattle.cdi_validate.proofs.NeedLemmas.{circular-rise}
-use Rattle.cdi_validate.proofs.ApartLemmas.{all-append, all-each, all-map, all-more}
+use Rattle.cdi_validate.proofs.ApartLemmas.{all-map}
 
 -- ---- lists that rise
 
@@ -23,7 +24,7 @@ rises-map : {X Y : Type 0} (order : X → X → Ordering) (other : Y → Y → O
 unfolding IsStrictlySortedBy
 rises-map order other f keeps [] rise = tt
 rises-map order other f keeps (x ∷ xs) rise = (
-  all-map (λ y. other (f x) y ≡ Less) f xs (all-more (λ y. order x y ≡ Less) (λ y. other (f x) (f y) ≡ Less) (keeps x) xs rise.0),
+  all-map (λ y. other (f x) y ≡ Less) f xs (all-weaker (λ y. order x y ≡ Less) (λ y. other (f x) (f y) ≡ Less) xs (keeps x) rise.0),
   rises-map order other f keeps xs rise.1,
 )
 
@@ -168,5 +169,5 @@ prefixes_rise bs named =
     let names = enabled_names bs in
     let rises = in_order-rises (flat_map enabled_name bs) in
     lines-rise (name_prefixes bs) (pairs-rise names rises names rises
-    (all-more _ IsAboveSpace name-above names
+    (all-weaker _ IsAboveSpace names name-above
     (each-named names (λ s among. named s (sym (in_order-has (flat_map enabled_name bs) s) ∙ among)))))

@@ -2,9 +2,9 @@
 use Rattle.cdi_validate.proofs.Common.{◌≡◌, List, ◌++◌, sym, ap, ◌∙◌, flat_map, Decl, specialized_twice, ◌<◌, ℕ, zero, suc, Bool, true}
 use Rattle.cdi_validate.proofs.Common.{false, cond, [], ◌∷◌, length, map, filter, refl, AllByRecursion, nat_eq, eqb-true, false≢true, ◌&&◌}
 use Rattle.cdi_validate.proofs.Common.{subst, find, option_to_list, bytes_eq, filter-append, AreDistinct, BeanDecl, has, same_text}
-use Rattle.cdi_validate.proofs.Common.{records_in, class_names, is_first_enabled, specializing, specializing_by, enabled_bean}
+use Rattle.cdi_validate.proofs.Common.{records_in, class_names, is_first_enabled, specializing, specializing_by, enabled_bean, other_text}
 use Rattle.cdi_validate.proofs.Common.{in_line_order, of_pairs, twice, Some, inl, inr, append-nil, cases_Bool, find_decl, managed, as_bean}
-use Rattle.cdi_validate.proofs.Common.{find_bean, ◌||◌, Option, None, flat_map-append, other_name, is_of, AllZip, eq-eqb, key_of, key_at}
+use Rattle.cdi_validate.proofs.Common.{find_bean, ◌||◌, Option, None, flat_map-append, is_of, AllZip, eq-eqb, key_of, key_at}
 use Rattle.cdi_validate.proofs.Common.{same_key, limit, behind, chain_behind, specialized, faults_between, faults_of_chains, first_marked}
 use Rattle.cdi_validate.proofs.Common.{has_position, is_marked, links_to, KeepsChain}
 use Rattle.std.proofs.Common.{is_some, position}
@@ -15,6 +15,7 @@ use Rattle.cdi_model.proofs.PositionLemmas.{one_position, position-found}
 use Rattle.cdi_model.specs.declared.decl.Decl.TheVariants as decls
 use Rattle.cdi_model.specs.declared.decl.Kind.TheVariants as kinds
 use Rattle.cdi_effective.specs.Specialized.{bean_named, extended, on_from}
+use Rattle.cdi_effective.proofs.ChainLemmas.{named, found-name}
 use Rattle.cdi_validate.specs.declared.twice.BeanChain.{BeanChain}
 use Rattle.cdi_validate.specs.declared.twice.Link.{Link}
 use Rattle.cdi_validate.proofs.FoundLemmas.{bean-records, found-next}
@@ -34,20 +35,6 @@ place-if_found ds class found = by (place ds class) (position-found kinds.Bean c
     by : (o : Option ℕ) → is_some o ≡ true → (i : ℕ) × (o ≡ Some i)
     by None some = absurd (false≢true some)
     by (Some i) some = (i, refl)
-
-named : (n : List ℕ) (d : Decl) (s : BeanDecl) → same_key (key_at kinds.Bean n) (key_of d) ≡ true → as_bean (Some d) ≡ Some s → s.name ≡ n
-named n (decls.Bean b) s key is =
-    let same : b ≡ s = cc in
-    sym (ap (λ c. c.name) same) ∙ sym (ap (λ k. k.name) (key_exact (key_at kinds.Bean n) (key_of (decls.Bean b)) key))
-named n other s key is = cc
-
--- a bean that is found by a name has it
-found-name : (ds : List Decl) (n : List ℕ) (s : BeanDecl) → find_bean n ds ≡ Some s → s.name ≡ n
-found-name [] n s is = cc
-found-name (d ∷ ds) n s is = elim (cases_Bool (same_key (key_at kinds.Bean n) (key_of d))) [
-  | inl same ↦ named n d s same (rw same at is)
-  | inr other ↦ found-name ds n s (rw other at is)
-]
 
 found-some : (o : Option Decl) (s : BeanDecl) → as_bean o ≡ Some s → is_some o ≡ true
 found-some None s is = cc
@@ -94,7 +81,7 @@ one-place ds a c i j of_a of_c = by (nat_eq j i) refl
     by true e =
         let same : j ≡ i = eqb-true j i e in
         sym (same_text c a (one_position kinds.Bean c a ds i (of_c ∙ ap Some same) of_a))
-    by false e = sym (other_name c a (λ same.
+    by false e = sym (other_text c a (λ same.
         let places : Some j ≡ Some i = sym of_c ∙ ap (place ds) same ∙ of_a in
         let one : j ≡ i = cc in
         false≢true (sym e ∙ eq-eqb j i one)))
@@ -107,7 +94,7 @@ positions-has ds a i of_a (c ∷ cs) = by (place ds c) refl (positions-has ds a 
     by : (o : Option ℕ) → place ds c ≡ o → has_position (links_to ds cs) i ≡ has cs a
         → has_position (map (λ j. record { position = j; class = c }) (option_to_list o) ++ links_to ds cs) i
         ≡ (bytes_eq c a || has cs a)
-    by None none rest = rest ∙ ap (λ t. t || has cs a) (sym (other_name c a (λ same.
+    by None none rest = rest ∙ ap (λ t. t || has cs a) (sym (other_text c a (λ same.
         let no : None ≡ Some i = sym none ∙ ap (place ds) same ∙ of_a in cc)))
     by (Some j) of_c rest =
         ap (λ t. t || has_position (links_to ds cs) i) (one-place ds a c i j of_a of_c) ∙ ap (λ t. bytes_eq c a || t) rest

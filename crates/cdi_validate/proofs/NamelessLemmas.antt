@@ -1,12 +1,14 @@
 -- Declarations whose enabled beans have names that are apart.
+use Rattle.base_lists.proofs.Each.{all-weaker, all-each, all-back}
+use Rattle.base_lists.proofs.Flat.{flat-empty, flat-filter}
 use Rattle.cdi_validate.proofs.Common.{◌≡◌, List, ◌++◌, sym, ap, ◌∙◌, flat_map, Decl, beans, name_clashes, name_prefixes, ℕ, Bool, true}
 use Rattle.cdi_validate.proofs.Common.{false, cond, [], ◌∷◌, length, map, filter, refl, AllByRecursion, AllPairs, eqb-true, false≢true}
-use Rattle.cdi_validate.proofs.Common.{enabled_names, goes_on, ◌&&◌, subst, bytes_eq, nil_from_length, has, same_text, IsAlike, ◌⊎◌, inl}
-use Rattle.cdi_validate.proofs.Common.{inr, or_cases, one_name, Effective, list_any-append, candidate, choice_of, chosen_by_name, is_named}
+use Rattle.cdi_validate.proofs.Common.{enabled_names, goes_on, ◌&&◌, subst, bytes_eq, nil_from_length, has, IsAlike, ◌⊎◌, inl, same_text}
+use Rattle.cdi_validate.proofs.Common.{inr, or_cases, Effective, list_any-append, candidate, choice_of, chosen_by_name, is_named, one_text}
 use Rattle.cdi_validate.proofs.Common.{named, is_ambiguous, enabled_name, in_order-has, is_nameless, names_by, AreNamesApart, HaveNoClash}
 use Rattle.cdi_validate.proofs.Common.{or_parts}
 use Rattle.cdi_faults.specs.declared.fault.Fault.TheVariants as faults_are
-use Rattle.cdi_validate.proofs.ApartLemmas.{Apart, all-back, all-each, all-more, apart-back, apart-more, flat-left, flat-same, pairs-apart}
+use Rattle.cdi_validate.proofs.ApartLemmas.{Apart, apart-back, apart-more, flat-same, pairs-apart}
 use Rattle.cdi_validate.proofs.ApartLemmas.{pairs-left}
 use Rattle.cdi_validate.proofs.ClashLemmas.{is_its_name}
 use Rattle.cdi_validate.proofs.NameLemmas.{goes_on-itself}
@@ -16,7 +18,7 @@ use Rattle.cdi_validate.proofs.CountLemmas.{all-has, has-all, names-all, Differ,
 
 names-alike : (ds es own : List Decl) → AllByRecursion (IsAlike ds es) own → flat_map (names_by ds) own ≡ flat_map (names_by es) own
 names-alike ds es own alike = flat-same (names_by ds) (names_by es) own
-    (all-more (IsAlike ds es) (λ d. names_by ds d ≡ names_by es d) (λ d of_d. ap (flat_map enabled_name) (sym of_d.records)) own alike)
+    (all-weaker (IsAlike ds es) (λ d. names_by ds d ≡ names_by es d) own (λ d of_d. ap (flat_map enabled_name) (sym of_d.records)) alike)
 
 -- names that are apart stay so where the declarations are alike
 pub clash_stays : (ds es own : List Decl) → AllByRecursion (IsAlike ds es) own → HaveNoClash ds own → HaveNoClash es own
@@ -31,19 +33,14 @@ pub clash_whole : (ds own : List Decl) (p : Decl → Bool) → AllByRecursion (�
     → HaveNoClash ds (filter p own) → HaveNoClash ds own
 clash_whole ds own p nameless apart =
     let none : AllByRecursion (λ d. p d ≡ false → names_by ds d ≡ []) own =
-    all-more (λ d. p d ≡ false → is_nameless ds d ≡ true) (λ d. p d ≡ false → names_by ds d ≡ [])
-    (λ d empty out. nil_from_length (names_by ds d) (eqb-true (length (names_by ds d)) 0 (empty out))) own nameless in
-    subst (AllPairs AreNamesApart) (flat-left (names_by ds) p own none) apart
+    all-weaker (λ d. p d ≡ false → is_nameless ds d ≡ true) (λ d. p d ≡ false → names_by ds d ≡ []) own (λ d empty out. nil_from_length (names_by ds d) (eqb-true (length (names_by ds d)) 0 (empty out))) nameless in
+    subst (AllPairs AreNamesApart) (flat-filter (names_by ds) p own none) apart
 
 -- ---- what gives nothing
 
 none-passes : (p : List ℕ → Bool) (names : List (List ℕ)) → AllByRecursion (λ n. p n ≡ false) names → filter p names ≡ []
 none-passes p [] none = refl
 none-passes p (n ∷ ns) none = rw none.0 (none-passes p ns none.1)
-
-none-given : {X : Type 0} (f : List ℕ → List X) (names : List (List ℕ)) → AllByRecursion (λ n. f n ≡ []) names → flat_map f names ≡ []
-none-given f [] none = refl
-none-given f (n ∷ ns) none = ap (λ xs. xs ++ flat_map f ns) none.0 ∙ none-given f ns none.1
 
 -- ---- names that differ
 
@@ -58,7 +55,7 @@ none-has n names others = by (has names n) refl
 not-behind : (xs ys : List (List ℕ)) (n : List ℕ) → Apart Differ (xs ++ ys) → has xs n ≡ true → has ys n ≡ false
 not-behind [] ys n apart among = absurd (false≢true among)
 not-behind (x ∷ xs) ys n apart among = elim (or_cases (bytes_eq x n) (has xs n) among) [
-  | inl here ↦ none-has n ys (subst (λ m. AllByRecursion (Differ m) ys) (one_name x n here) (all-back (Differ x) xs ys apart.0))
+  | inl here ↦ none-has n ys (subst (λ m. AllByRecursion (Differ m) ys) (one_text x n here) (all-back (Differ x) xs ys apart.0))
   | inr later ↦ not-behind xs ys n apart.1 later
 ]
 
@@ -101,13 +98,13 @@ none-goes_on (n ∷ ns) apart x y first second =
     by : (bytes_eq n x ≡ true) ⊎ (has ns x ≡ true) → (bytes_eq n y ≡ true) ⊎ (has ns y ≡ true)
         → (has ns x ≡ true → has ns y ≡ true → goes_on x y ≡ false) → goes_on x y ≡ false
     by (inl is_x) (inl is_y) rest =
-        ap (λ z. goes_on z y) (sym (one_name n x is_x)) ∙ ap (goes_on n) (sym (one_name n y is_y)) ∙ goes_on-itself n
+        ap (λ z. goes_on z y) (sym (one_text n x is_x)) ∙ ap (goes_on n) (sym (one_text n y is_y)) ∙ goes_on-itself n
     by (inl is_x) (inr later) rest =
         let two : AreNamesApart n y = all-has (AreNamesApart n) ns y apart.0 later in
-        ap (λ z. goes_on z y) (sym (one_name n x is_x)) ∙ two.onward
+        ap (λ z. goes_on z y) (sym (one_text n x is_x)) ∙ two.onward
     by (inr later) (inl is_y) rest =
         let two : AreNamesApart n x = all-has (AreNamesApart n) ns x apart.0 later in
-        ap (goes_on x) (sym (one_name n y is_y)) ∙ two.back
+        ap (goes_on x) (sym (one_text n y is_y)) ∙ two.back
     by (inr x_later) (inr y_later) rest = rest x_later y_later
 
 no-prefixes : (bs : List Effective) → NoneGoesOn (flat_map enabled_name bs) → name_prefixes bs ≡ []
@@ -117,7 +114,7 @@ no-prefixes bs none =
     let behind : (x : List ℕ) → has all x ≡ true → filter (goes_on x) all ≡ [] = λ x first.
     none-passes (goes_on x) all (has-all (λ y. goes_on x y ≡ false) all (λ y second.
     none x y (sym (in_order-has names x) ∙ first) (sym (in_order-has names y) ∙ second))) in
-    none-given (λ x. map (faults_are.NamePrefix x) (filter (goes_on x) all)) all
+    flat-empty (λ x. map (faults_are.NamePrefix x) (filter (goes_on x) all)) all
     (has-all (λ x. map (faults_are.NamePrefix x) (filter (goes_on x) all) ≡ []) all
     (λ x first. ap (map (faults_are.NamePrefix x)) (behind x first)))
 

@@ -2,7 +2,7 @@
 use Rattle.cdi_validate.proofs.Common.{◌≡◌, List, ◌++◌, sym, ap, ◌∙◌, append_assoc, flat_map, Decl, beans, ℕ, Bool, true, false, cond, []}
 use Rattle.cdi_validate.proofs.Common.{◌∷◌, map, filter, Ordering, Less, Equal, refl, AllByRecursion, IsStrictlySortedBy, subst, bytes_eq}
 use Rattle.cdi_validate.proofs.Common.{filter-append, has, keys_of, filter_agree, Edges, next_in, BeanId, between, circular, dependents}
-use Rattle.cdi_validate.proofs.Common.{dependents_by_text, needed_by, needs_itself, ◌⊎◌, append-nil, InterceptorDecl, PointDecl, one_name}
+use Rattle.cdi_validate.proofs.Common.{dependents_by_text, needed_by, needs_itself, ◌⊎◌, append-nil, InterceptorDecl, PointDecl, one_text}
 use Rattle.cdi_validate.proofs.Common.{text_of_id, Effective, is_enabled, stands_around, answer_to, Need, chosen_for, chosen_one}
 use Rattle.cdi_validate.proofs.Common.{is_dependent, managed_id, need_around, ◌||◌, fold, ⊎_elim, is_at, lookup, is_some, or-false}
 use Rattle.cdi_validate.proofs.Common.{flat_map-append, Greater, insert_key, byte_order, in_order, in_order-has, in_order-rises}
@@ -16,7 +16,7 @@ Entries = List (List ℕ × BeanId)
 
 -- ---- the dependent beans by their texts
 
-keys-insert : (text : List ℕ) (id : BeanId) (es : Entries)
+pub keys-insert : (text : List ℕ) (id : BeanId) (es : Entries)
     → keys_of (insert_entry byte_order es text id) ≡ insert_key byte_order (keys_of es) text
 keys-insert text id [] = refl
 keys-insert text id (e ∷ es) = by (byte_order text e.0) refl (keys-insert text id es)
@@ -24,9 +24,8 @@ keys-insert text id (e ∷ es) = by (byte_order text e.0) refl (keys-insert text
     by : (o : Ordering) → byte_order text e.0 ≡ o
         → keys_of (insert_entry byte_order es text id) ≡ insert_key byte_order (keys_of es) text
         → keys_of (insert_entry byte_order (e ∷ es) text id) ≡ insert_key byte_order (keys_of (e ∷ es)) text
-    by Less is rest = rw is refl
-    by Equal is rest = rw is refl
     by Greater is rest = rw is (ap (λ ks. e.0 ∷ ks) rest)
+    by other is rest = rw is refl
 
 -- their texts in front of others
 abbrev added : List (List ℕ) → List Effective → List (List ℕ)
@@ -186,9 +185,9 @@ need_added nodes old new node needed items among are entries x = entries x ∙ b
         → cond t items (old x) ≡ old x ++ cond (has nodes x) (filter (has nodes) (cond t needed [] ++ [])) []
     by true same =
         are
-        ∙ ap (λ y. old y ++ filter (has nodes) needed) (one_name node x same)
+        ∙ ap (λ y. old y ++ filter (has nodes) needed) (one_text node x same)
         ∙ ap (λ ys. old x ++ filter (has nodes) ys) (sym (append-nil needed))
-        ∙ ap (λ t. old x ++ cond t (filter (has nodes) (needed ++ [])) []) (sym among ∙ ap (has nodes) (one_name node x same))
+        ∙ ap (λ t. old x ++ cond t (filter (has nodes) (needed ++ [])) []) (sym among ∙ ap (has nodes) (one_text node x same))
     by false other = sym (append-nil (old x)) ∙ ap (λ ys. old x ++ ys) (sym (between-none nodes x))
 
 -- ---- needs by answers

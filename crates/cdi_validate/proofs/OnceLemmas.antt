@@ -1,4 +1,5 @@
 -- No fault stands twice.
+use Rattle.base_lists.proofs.Each.{all-weaker, all-each, all-append}
 use Rattle.cdi_validate.proofs.Common.{◌≡◌, List, ◌++◌, sym, ap, ◌∙◌, append_assoc, flat_map, Promised, Decl, beans, circles, faults}
 use Rattle.cdi_validate.proofs.Common.{faults_of, name_clashes, name_prefixes, specialized_twice, ◌≢◌, ℕ, Bool, true, false, [], ◌∷◌, map}
 use Rattle.cdi_validate.proofs.Common.{filter, refl, arith, AllByRecursion, AllPairs, false≢true, Fault, enabled_names, goes_on, subst}
@@ -13,7 +14,7 @@ use Rattle.cdi_faults.specs.declared.fault.Subject.{Subject}
 use Rattle.cdi_faults.specs.FaultText.{text_of_subject}
 use Rattle.cdi_subjects.specs.Subjects.{subjects_at_fault}
 use Rattle.cdi_validate.specs.Faults.{FaultsStandOnce}
-use Rattle.cdi_validate.proofs.ApartLemmas.{Differ, Tagged, all-append, all-each, all-map, all-more, apart-filter, apart-more, apart-pairs}
+use Rattle.cdi_validate.proofs.ApartLemmas.{Differ, Tagged, all-map, apart-filter, apart-more, apart-pairs}
 use Rattle.cdi_validate.proofs.ApartLemmas.{differ-append, differ-by, differ-flat_map, differ-map, pairs-apart, rising-differ}
 use Rattle.cdi_validate.proofs.NeedLemmas.{circular-rise}
 use Rattle.cdi_validate.proofs.TwiceLemmas.{twice-each, twice_rise}
@@ -45,10 +46,7 @@ of_decl-differ ds book d = differ-flat_map code_of (faults_of_code ds book d) (�
 
 abbrev key-of : Fault → Option DeclKey
 key-of (faults_are.Declared code kind name subject) = Some (record { kind = kind; name = name })
-key-of (faults_are.NameClash name) = None
-key-of (faults_are.NamePrefix name longer) = None
-key-of (faults_are.Circular class producer) = None
-key-of (faults_are.SpecializedTwice specialized first second) = None
+key-of other = None
 
 some-key : (k l : DeclKey) → Some k ≡ Some l → k ≡ l
 some-key k l e = cc
@@ -116,11 +114,9 @@ clashes-differ : (bs : List Effective) → Differ (name_clashes bs)
 clashes-differ bs = differ-map faults_are.NameClash one-name _ (apart-filter (λ x y. x ≢ y) _ (enabled_names bs) (names-differ bs))
 
 abbrev shorter-of : Fault → Option (List ℕ)
-shorter-of (faults_are.Declared code kind name subject) = None
-shorter-of (faults_are.NameClash name) = None
 shorter-of (faults_are.NamePrefix name longer) = Some name
-shorter-of (faults_are.Circular class producer) = None
-shorter-of (faults_are.SpecializedTwice specialized first second) = None
+shorter-of other = None
+shorter-of other = None
 
 some-name : (k l : List ℕ) → Some k ≡ Some l → k ≡ l
 some-name k l e = cc
@@ -158,7 +154,7 @@ names-differ_too bs =
 names-not_declared : (bs : List Effective) → AllByRecursion (λ f. is-declared f ≢ 0) (name_clashes bs ++ name_prefixes bs)
 names-not_declared bs =
     all-append (λ f. is-declared f ≢ 0) (name_clashes bs) (name_prefixes bs)
-    (all-more (λ f. is-declared f ≡ 1) (λ f. is-declared f ≢ 0) (λ f one none. one-apart (sym one ∙ none)) (name_clashes bs)
+    (all-weaker (λ f. is-declared f ≡ 1) (λ f. is-declared f ≢ 0) (name_clashes bs) (λ f one none. one-apart (sym one ∙ none))
     (clashes-tagged _))
     (prefixes-each (λ f. is-declared f ≢ 0) (λ x y. two-from_zero) (enabled_names bs) (enabled_names bs))
 
@@ -179,11 +175,9 @@ is-circle (faults_are.Circular class producer) = true
 is-circle other = false
 
 declared-no_circle : (f : Fault) → is-declared f ≡ 0 → is-circle f ≡ false
-declared-no_circle (faults_are.Declared code kind name subject) is = refl
-declared-no_circle (faults_are.NameClash name) is = refl
-declared-no_circle (faults_are.NamePrefix name longer) is = refl
 declared-no_circle (faults_are.Circular class producer) is = absurd (omega (arith, is))
 declared-no_circle (faults_are.SpecializedTwice specialized first second) is = refl
+declared-no_circle other is = refl
 
 others-no_circle : (ds : List Decl) (book : List Promised)
     → AllByRecursion (λ f. is-circle f ≡ false) (flat_map (faults_of ds book) ds ++ name_clashes (beans ds) ++ name_prefixes (beans ds))
@@ -193,7 +187,7 @@ others-no_circle ds book =
     let declared = flat_map (faults_of ds book) ds in
     all-append P (declared ++ name_clashes bs) (name_prefixes bs)
     (all-append P declared (name_clashes bs)
-    (all-more (λ f. is-declared f ≡ 0) P declared-no_circle declared (declared-tagged ds book ds))
+    (all-weaker (λ f. is-declared f ≡ 0) P declared declared-no_circle (declared-tagged ds book ds))
     (all-map P faults_are.NameClash _ (all-each _ (λ n. refl) _)))
     (prefixes-each P (λ x y. refl) (enabled_names bs) (enabled_names bs))
 
@@ -228,11 +222,8 @@ is-twice (faults_are.SpecializedTwice specialized first second) = true
 is-twice other = false
 
 declared-not_twice : (f : Fault) → is-declared f ≡ 0 → is-twice f ≡ false
-declared-not_twice (faults_are.Declared code kind name subject) is = refl
-declared-not_twice (faults_are.NameClash name) is = refl
-declared-not_twice (faults_are.NamePrefix name longer) is = refl
-declared-not_twice (faults_are.Circular class producer) is = refl
 declared-not_twice (faults_are.SpecializedTwice specialized first second) is = absurd (omega (arith, is))
+declared-not_twice other is = refl
 
 circled-not_twice : (ds : List Decl) (book : List Promised)
     → AllByRecursion (λ f. is-twice f ≡ false)
@@ -244,7 +235,7 @@ circled-not_twice ds book =
     all-append P (declared ++ name_clashes bs ++ name_prefixes bs) (circles ds)
     (all-append P (declared ++ name_clashes bs) (name_prefixes bs)
     (all-append P declared (name_clashes bs)
-    (all-more (λ f. is-declared f ≡ 0) P declared-not_twice declared (declared-tagged ds book ds))
+    (all-weaker (λ f. is-declared f ≡ 0) P declared declared-not_twice (declared-tagged ds book ds))
     (all-map P faults_are.NameClash _ (all-each _ (λ n. refl) _)))
     (prefixes-each P (λ x y. refl) (enabled_names bs) (enabled_names bs)))
     (circles-each P (λ id. refl) ds)

@@ -23,8 +23,3 @@ pub none-pushed : {A : Type 0} (old more all : List A) → all ≡ old ++ more �
 none-pushed old more all pushed same =
     let sum = ap length pushed ∙ length-append old more in
     nil_from_length more (omega (arith, sum, same))
-
--- what stands behind others is nothing where all is
-pub none-behind : {A : Type 0} (xs ys : List A) → xs ++ ys ≡ [] → ys ≡ []
-none-behind [] ys none = none
-none-behind (x ∷ xs) ys some = absurd (let no : x ∷ (xs ++ ys) ≡ [] = some in cc)

@@ -1,8 +1,8 @@
 -- Beans by the binding types at their places, and that an interceptor stands around none but those of its first binding type.
 use Rattle.cdi_validate.proofs.Common.{◌≡◌, List, ◌++◌, sym, ap, ◌∙◌, flat_map, Decl, ◌<◌, ℕ, zero, suc, Bool, true, false, cond, [], ◌∷◌}
 use Rattle.cdi_validate.proofs.Common.{length, map, filter, refl, IsStrictlySortedBy, and_parts, false≢true, ◌&&◌, bytes_eq, or_left}
-use Rattle.cdi_validate.proofs.Common.{AreDistinct, BeanDecl, has, Edges, next_in, between, Some, inl, inr, append-nil, slice_get}
-use Rattle.cdi_validate.proofs.Common.{and-false, or_cases, or_right, same_Some, InterceptorDecl, BeanPlace, one_name, text_of_id}
+use Rattle.cdi_validate.proofs.Common.{AreDistinct, BeanDecl, has, Edges, next_in, between, Some, inl, inr, append-nil, slice_get, one_text}
+use Rattle.cdi_validate.proofs.Common.{and-false, or_cases, or_right, same_Some, InterceptorDecl, BeanPlace, text_of_id}
 use Rattle.cdi_validate.proofs.Common.{own-found, is_enabled, stands_around, managed_id, need_around, ◌||◌, Option, None, none-some, Qual}
 use Rattle.cdi_validate.proofs.Common.{◌+◌, get_or, unwrap_or, flat_map-append, map-append, drop, list_all, byte_order, slice_get-get_or}
 use Rattle.cdi_validate.proofs.Common.{IsFound, or_assoc, AddsNeeds, Vec, Global, name_of_use, class_bindings, sets_of, next-left}
@@ -51,7 +51,7 @@ bean-next names i name t bean olds news all lt is rise added before =
         → (olds ++ cond (bytes_eq name t) (bean ∷ []) []) ++ cond (has (drop (i + 1) names) t) (bean ∷ []) []
         ≡ olds ++ cond (has (name ∷ drop (i + 1) names) t) (bean ∷ []) []
     by true e =
-        let none : has (drop (i + 1) names) t ≡ false = ap (has (drop (i + 1) names)) (sym (one_name name t e))
+        let none : has (drop (i + 1) names) t ≡ false = ap (has (drop (i + 1) names)) (sym (one_text name t e))
         ∙ none-after name (drop (i + 1) names) (rise-next names i name lt is rise).0 in
         rw (e, none) (append-nil (olds ++ bean ∷ []))
     by false e = rw e (ap (λ ps. ps ++ cond (has (drop (i + 1) names) t) (bean ∷ []) []) (append-nil olds))
@@ -79,15 +79,8 @@ bean-put old name other bean none beans new empty pushed put = ap beans_in put �
     by true e =
         ap (map now) pushed
         ∙ map-append now (unwrap_or (old name) none).items (bean ∷ [])
-        ∙ ap (λ bs. bs ++ bean.now ∷ []) (left (old name) ∙ ap (λ n. beans_in (old n)) (one_name name other e))
+        ∙ ap (λ bs. bs ++ bean.now ∷ []) (left (old name) ∙ ap (λ n. beans_in (old n)) (one_text name other e))
     by false e = sym (append-nil (beans_in (old other)))
-
--- a binding type is found, or was
-pub found-or : (is was : Bool) → cond is true was ≡ (was || is)
-found-or true true = refl
-found-or true false = refl
-found-or false true = refl
-found-or false false = refl
 
 -- ---- an interceptor stands only where there is a binding of its first binding type
 
@@ -153,7 +146,7 @@ none-other nodes chosen text x other = by (bytes_eq text x) refl
 
     by : (t : Bool) → bytes_eq text x ≡ t → cond (has nodes x) (filter (has nodes) (cond (bytes_eq text x) chosen [] ++ [])) [] ≡ []
     by true e = ap (λ t. cond t (filter (has nodes) (cond (bytes_eq text x) chosen [] ++ [])) [])
-        (ap (has nodes) (sym (one_name text x e)) ∙ other)
+        (ap (has nodes) (sym (one_text text x e)) ∙ other)
     by false e = ap (λ t. cond (has nodes x) (filter (has nodes) (cond t chosen [] ++ [])) []) e ∙ neither (has nodes x)
 
 -- the same edges are between some beans by the needs of those of them that have a binding of the first binding type

@@ -2,19 +2,22 @@
 use Rattle.cdi_validate.proofs.Common.{◌≡◌, List, ◌++◌, sym, ap, ◌∙◌, flat_map, Decl, specialized_twice, ◌≢◌, ℕ, zero, suc, Bool, true}
 use Rattle.cdi_validate.proofs.Common.{false, cond, [], ◌∷◌, map, filter, Ordering, Less, Equal, refl, AllByRecursion, IsStrictlySortedBy}
 use Rattle.cdi_validate.proofs.Common.{and_parts, false≢true, Fault, not, ◌&&◌, subst, find, option_to_list, bytes_eq, or_left, AreDistinct}
-use Rattle.cdi_validate.proofs.Common.{BeanDecl, has, same_text, chain, class_names, text_of_fault, specializing, enabled_bean}
+use Rattle.cdi_validate.proofs.Common.{BeanDecl, has, chain, class_names, text_of_fault, specializing, enabled_bean, one_text, same_text}
 use Rattle.cdi_validate.proofs.Common.{enabled_beans, faults_of_pairs, faults_of_two, of_pairs, twice, keys_of, Some, inl, inr, or_cases}
-use Rattle.cdi_validate.proofs.Common.{or_right, one_name, effective, managed, ◌||◌, Option, None, list_any, is_replaced, fold, other_name}
+use Rattle.cdi_validate.proofs.Common.{or_right, effective, managed, ◌||◌, Option, None, list_any, is_replaced, fold, other_text}
 use Rattle.cdi_validate.proofs.Common.{Greater, insert_key, byte_order, in_order, in_order-rises, key_of, key_at, limit, behind}
 use Rattle.cdi_validate.proofs.Common.{chain_behind, specialized, or_parts, insert_entry, or_assoc, or_comm, same_name, by_line, with_line}
 use Rattle.std.proofs.lemmas.Bool.{not-true}
+use Rattle.base_lists.proofs.Each.{all-weaker, all-append}
+use Rattle.base_numbers.proofs.Texts.{bytes_eq-turned}
 use Rattle.cdi_model.specs.declared.decl.Decl.TheVariants as decls
 use Rattle.cdi_model.specs.declared.decl.Kind.TheVariants as kinds
-use Rattle.cdi_match.proofs.Names.{bytes_eq-turned}
 use Rattle.cdi_match.proofs.OrderLemmas.{has-insert}
 use Rattle.cdi_effective.specs.Specialized.{is_offered, replaced_by}
+use Rattle.cdi_effective.proofs.StepLemmas.{ends-none}
 use Rattle.cdi_validate.specs.Twice.{are_apart, first_shared, is_in_chain, AreTold, SharersAreTold}
-use Rattle.cdi_validate.proofs.ApartLemmas.{Apart, all-append, all-more, apart-by, apart-pairs, flat-same, pairs-apart}
+use Rattle.cdi_validate.proofs.ApartLemmas.{Apart, apart-by, apart-pairs, flat-same, pairs-apart}
+use Rattle.cdi_validate.proofs.NeedLemmas.{keys-insert}
 
 -- ---- pairs
 
@@ -94,7 +97,7 @@ names-apart ds (decls.Bean b ∷ es) apart = by (managed ds b).is_enabled (names
       where
         one : (t : Bool) → AllByRecursion (HaveOthers b) (flat_map (enabled_bean ds) fs)
             → AllByRecursion (HaveOthers b) (cond t (c ∷ []) [] ++ flat_map (enabled_bean ds) fs)
-        one true rest = (other_name c.name b.name (λ same. all.0 (ap (key_at kinds.Bean) (sym same))), rest)
+        one true rest = (other_text c.name b.name (λ same. all.0 (ap (key_at kinds.Bean) (sym same))), rest)
         one false rest = rest
     others (other ∷ fs) all = others fs all.1
 
@@ -160,7 +163,7 @@ two-behind ds a b of_a of_b other =
     let behind_a = class_names (behind ds a) in
     let behind_b = class_names (behind ds b) in
     let same : AllByRecursion (λ c. is_in_chain ds b c ≡ has behind_b c) behind_a =
-    all-more (λ c. bytes_eq b.name c ≡ false) (λ c. is_in_chain ds b c ≡ has behind_b c) (λ c e. ap (λ t. t || has behind_b c) e) behind_a
+    all-weaker (λ c. bytes_eq b.name c ≡ false) (λ c. is_in_chain ds b c ≡ has behind_b c) behind_a (λ c e. ap (λ t. t || has behind_b c) e)
     (other-names b.name behind_a (not-behind ds b a of_b of_a)) in
     let shared : first_shared ds a b ≡ find (has behind_b) behind_a =
     ap (λ t. cond t (Some a.name) (find (is_in_chain ds b) behind_a)) (not-in_chain ds a b of_a of_b other)
@@ -168,11 +171,6 @@ two-behind ds a b of_a of_b other =
     two-shared ds a b of_a of_b other ∙ ap (λ o. map (twice a.name b.name) (option_to_list o)) shared
 
 -- ---- and at those that say that they specialize others
-
-ends-none : (n : ℕ) (ds : List Decl) (met : List (List ℕ)) (b : BeanDecl) → specialized ds b ≡ None → chain_behind n ds met b ≡ []
-unfolding chain_behind
-ends-none zero ds met b none = refl
-ends-none (suc n) ds met b none = rw none refl
 
 none-behind : (ds : List Decl) (b : BeanDecl) → b.specializes ≡ false → class_names (behind ds b) ≡ []
 unfolding behind
@@ -205,18 +203,6 @@ pairs-behind ds distinct =
 
 abbrev Entries : Type 0
 Entries = List (List ℕ × Fault)
-
-keys-insert : (line : List ℕ) (f : Fault) (es : Entries)
-    → keys_of (insert_entry byte_order es line f) ≡ insert_key byte_order (keys_of es) line
-keys-insert line f [] = refl
-keys-insert line f (e ∷ es) = by (byte_order line e.0) refl (keys-insert line f es)
-  where
-    by : (o : Ordering) → byte_order line e.0 ≡ o
-        → keys_of (insert_entry byte_order es line f) ≡ insert_key byte_order (keys_of es) line
-        → keys_of (insert_entry byte_order (e ∷ es) line f) ≡ insert_key byte_order (keys_of (e ∷ es)) line
-    by Less is rest = rw is refl
-    by Equal is rest = rw is refl
-    by Greater is rest = rw is (ap (λ ks. e.0 ∷ ks) rest)
 
 -- the lines are those of the faults
 all-has : (fs : List Fault) (es : Entries) (line : List ℕ)
@@ -323,7 +309,7 @@ find-some p (c ∷ cs) class among passes = by (p c) refl (find-some p cs class)
         → (s : List ℕ) × (cond t (Some c) (find p cs) ≡ Some s) × (has (c ∷ cs) s ≡ true) × (p s ≡ true)
     by true e later = (c, refl, or_left (bytes_eq c c) (has cs c) (same_text c c refl), e)
     by false e later = elim (or_cases (bytes_eq c class) (has cs class) among) [
-      | inl here ↦ absurd (false≢true (sym e ∙ ap p (one_name c class here) ∙ passes))
+      | inl here ↦ absurd (false≢true (sym e ∙ ap p (one_text c class here) ∙ passes))
       | inr there ↦ let found = later there passes in (found.0, found.1, or_right (bytes_eq c found.0) (has cs found.0) found.2, found.3)
     ]
 

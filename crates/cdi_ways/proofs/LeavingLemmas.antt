@@ -8,9 +8,10 @@ use Rattle.std.proofs.lemmas.Bool.{cases_lt, eq-eqb}
 use Rattle.std.proofs.lemmas.List.{length-map, map-set}
 use Rattle.std.proofs.lemmas.List.Sums.{sum_by-set}
 use Rattle.std.proofs.lemmas.Option.{none-some, same_Some}
+use Rattle.base_lists.proofs.Places.{at-front, at-joined}
 use Rattle.cdi_ways.specs.declared.edge.Edge.{Edge}
 use Rattle.cdi_ways.specs.Leaving.{at_node, Has, Leaves}
-use Rattle.cdi_ways.proofs.ListLemmas.{at_first, at_second, at_joined}
+use Rattle.cdi_ways.proofs.ListLemmas.{at_second}
 
 abbrev pub AreRight : List Edge → (ℕ → List ℕ) → Type 0
 AreRight edges at = (node p : ℕ) → Has (at node) p → Leaves edges node p
@@ -31,7 +32,7 @@ pub put_right : (edges : List Edge) (at at' : ℕ → List ℕ) (from p : ℕ) �
 put_right edges at at' from p puts leaves right = λ node q has. elim (eqb_tells from node) [
   | inl same ↦
       let now : at' node ≡ at node ++ p ∷ [] = puts node ∙ ap (λ b. cond b (at node ++ p ∷ []) (at node)) same.0 in
-      elim (at_joined (at node) (p ∷ []) has.0 q (sym (ap (λ ps. slice_get ps has.0) now) ∙ has.1)) [
+      elim (at-joined (at node) (p ∷ []) has.0 q (sym (ap (λ ps. slice_get ps has.0) now) ∙ has.1)) [
         | inl old ↦ right node q (has.0, old)
         | inr new ↦ subst (λ n. Leaves edges n q) same.1 (subst (λ r. Leaves edges from r) (has_only p q (new.0, new.2)) leaves)
       ]
@@ -44,7 +45,7 @@ has_more : (at at' : ℕ → List ℕ) (from p node q : ℕ) → Puts from p at 
 has_more at at' from p node q puts has = elim (eqb_tells from node) [
   | inl same ↦
       let now : at' node ≡ at node ++ p ∷ [] = puts node ∙ ap (λ b. cond b (at node ++ p ∷ []) (at node)) same.0 in
-      subst (λ ps. Has ps q) (sym now) (has.0, at_first (at node) (p ∷ []) has.0 q has.1)
+      subst (λ ps. Has ps q) (sym now) (has.0, at-front (at node) (p ∷ []) has.0 q has.1)
   | inr other ↦
       let now : at' node ≡ at node = puts node ∙ ap (λ b. cond b (at node ++ p ∷ []) (at node)) other.0 in
       subst (λ ps. Has ps q) (sym now) has

@@ -4,12 +4,13 @@ use Rattle.std.specs.List.{slice_get}
 use Rattle.std.proofs.lemmas.Bool.{cases_lt}
 use Rattle.std.proofs.lemmas.Bool.Decides.{eqb_tells}
 use Rattle.std.proofs.lemmas.Option.{get_or_from_slice_get, none-some, same_Some, slice_get_within}
+use Rattle.base_lists.proofs.Places.{at-front}
 use Rattle.cdi_ways.specs.declared.edge.Edge.{Edge}
 use Rattle.cdi_ways.specs.declared.search.Step.{Step}
 use Rattle.cdi_ways.specs.Leaving.{AreLeaving, Has, Leaves}
 use Rattle.cdi_ways.specs.Search.{depth_of, step_along, AreFollowed, IsAfter, IsAt, IsFollowed, IsLed, IsLinked, IsSearch, IsWayTo, LeadsTo}
 use Rattle.cdi_ways.specs.Ways.{HasNoCircle, IsCircle, IsShortest, IsWay}
-use Rattle.cdi_ways.proofs.ListLemmas.{at_first, at_within}
+use Rattle.cdi_ways.proofs.ListLemmas.{at_within}
 use Rattle.cdi_ways.proofs.LeavingLemmas.{AreRight}
 use Rattle.cdi_ways.proofs.StepLemmas.{after_more, all_followed_more, depth_positive, followed_more, leads_more, new_step, old_or_new, step_once, with_steps}
 
@@ -125,7 +126,7 @@ followed-follow edges steps o depth node left whole within = λ p leaves. elim (
       let new : (i : ℕ) × IsAt (with_steps steps o depth (left node)) i (step_along o depth p) = new_step steps o depth (left node) p has in
       (new.0, step_along o depth p, new.1, refl, omega arith)
   | inr old ↦
-      (old.0, old.1, at_first steps (map (step_along o depth) (left node)) old.0 old.1 old.2, old.3, within old.0 old.1 old.2)
+      (old.0, old.1, at-front steps (map (step_along o depth) (left node)) old.0 old.1 old.2, old.3, within old.0 old.1 old.2)
 ]
 
 -- ---- the first steps

@@ -2,11 +2,12 @@
 use Rattle.std.proofs.Common.{◌≡◌, ◌⊎◌, ◌+◌, ◌≤◌, ℕ, List, ◌++◌, map, length, Option, Some, None, inl, inr, refl, ap, sym, ◌∙◌, arith}
 use Rattle.std.specs.List.{slice_get}
 use Rattle.std.proofs.lemmas.Option.{same_Some}
+use Rattle.base_lists.proofs.Places.{at-front, at-joined, at-map}
 use Rattle.cdi_ways.specs.declared.edge.Edge.{Edge}
 use Rattle.cdi_ways.specs.declared.search.Step.{Step}
 use Rattle.cdi_ways.specs.Leaving.{Has}
 use Rattle.cdi_ways.specs.Search.{step_along, depth_at, depth_of, IsAt, IsAfter, LeadsTo, IsFollowed, AreFollowed}
-use Rattle.cdi_ways.proofs.ListLemmas.{at_first, at_second, at_joined, at_map, map_at}
+use Rattle.cdi_ways.proofs.ListLemmas.{at_second, map_at}
 
 -- ---- one step
 
@@ -37,21 +38,21 @@ depth_positive steps i s h after = omega (arith, depth_more steps i s h after, a
 
 pub after_more : (steps more : List Step) (i : ℕ) (o : Option ℕ) (depth : ℕ) → IsAfter steps i o depth → IsAfter (steps ++ more) i o depth
 after_more steps more i None depth first = first
-after_more steps more i (Some j) depth next = (next.0, at_first steps more j next.0 next.1, next.2, next.3)
+after_more steps more i (Some j) depth next = (next.0, at-front steps more j next.0 next.1, next.2, next.3)
 
 pub leads_more : (edges : List Edge) (start : ℕ) (steps more : List Step) (o : Option ℕ) (a : ℕ) → LeadsTo edges start steps o a
     → LeadsTo edges start (steps ++ more) o a
 leads_more edges start steps more None a leads = leads
-leads_more edges start steps more (Some i) a leads = (leads.0, leads.1, at_first steps more i leads.0 leads.2, leads.3, leads.4)
+leads_more edges start steps more (Some i) a leads = (leads.0, leads.1, at-front steps more i leads.0 leads.2, leads.3, leads.4)
 
 pub followed_more : (steps more : List Step) (p : ℕ) → IsFollowed steps p → IsFollowed (steps ++ more) p
-followed_more steps more p followed = (followed.0, followed.1, at_first steps more followed.0 followed.1 followed.2, followed.3)
+followed_more steps more p followed = (followed.0, followed.1, at-front steps more followed.0 followed.1 followed.2, followed.3)
 
 pub all_followed_more : (edges : List Edge) (steps more : List Step) (node most : ℕ) → AreFollowed edges steps node most
     → AreFollowed edges (steps ++ more) node most
 all_followed_more edges steps more node most followed = λ p leaves.
     let old : (i : ℕ) × (s : Step) × IsAt steps i s × (s.edge ≡ p) × (s.depth ≤ most) = followed p leaves in
-    (old.0, old.1, at_first steps more old.0 old.1 old.2, old.3, old.4)
+    (old.0, old.1, at-front steps more old.0 old.1 old.2, old.3, old.4)
 
 -- ---- steps along the edges at some positions
 
@@ -64,10 +65,10 @@ IsNew steps o depth ps i t = (p : ℕ) × (length steps ≤ i) × Has ps p × (t
 
 pub old_or_new : (steps : List Step) (o : Option ℕ) (depth : ℕ) (ps : List ℕ) (i : ℕ) (t : Step)
     → IsAt (with_steps steps o depth ps) i t → IsAt steps i t ⊎ IsNew steps o depth ps i t
-old_or_new steps o depth ps i t h = elim (at_joined steps (map (step_along o depth) ps) i t h) [
+old_or_new steps o depth ps i t h = elim (at-joined steps (map (step_along o depth) ps) i t h) [
   | inl old ↦ inl old
   | inr new ↦
-      let found : (p : ℕ) × (slice_get ps new.0 ≡ Some p) × (step_along o depth p ≡ t) = at_map (step_along o depth) ps new.0 t new.2 in
+      let found : (p : ℕ) × (slice_get ps new.0 ≡ Some p) × (step_along o depth p ≡ t) = at-map (step_along o depth) ps new.0 t new.2 in
       inr (found.0, omega (arith, new.1), (new.0, found.1), sym found.2)
 ]
 

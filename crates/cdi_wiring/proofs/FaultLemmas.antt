@@ -7,6 +7,8 @@ use Rattle.std.specs.Str.{bytes_eq}
 use Rattle.std.proofs.lemmas.Bool.{false≢true, true≢false, not-false, or_left, or_right}
 use Rattle.std.proofs.lemmas.Bool.Decides.{nat_tests}
 use Rattle.std.proofs.lemmas.Grind.{flat_map-append}
+use Rattle.base_lists.proofs.Flat.{map-empty, append-empty}
+use Rattle.base_numbers.proofs.Texts.{same_text}
 use Rattle.cdi_model.specs.Decl.{kind_of, name_of_decl}
 use Rattle.cdi_model.specs.Mentions.{Mention, BodyOf, CallOf, MethodOf, TypeIn, mentions, of_attributes, of_bindings, of_disposer, of_event}
 use Rattle.cdi_model.specs.Mentions.{of_method, of_observer, of_part, of_parts, of_point, of_producer, of_qualifiers, part_place_of}
@@ -31,7 +33,6 @@ use Rattle.cdi_bodies.specs.Book.{Promised, promise_of}
 use Rattle.cdi_bodies.specs.Flags as flags
 use Rattle.cdi_bodies.specs.declared.promise.Promise.{Promise}
 use Rattle.cdi_bodies.proofs.FlagLemmas.{keeps_each}
-use Rattle.cdi_match.proofs.Names.{same_text}
 use Rattle.cdi_effective.specs.Beans.{entries, managed, product}
 use Rattle.cdi_effective.specs.declared.records.BeanId.{BeanId}
 use Rattle.cdi_resolve.specs.declared.choice.Choice.{Choice}
@@ -65,28 +66,20 @@ first-empty : {X : Type 0} (xs ys : List X) → xs ++ ys ≡ [] → xs ≡ []
 first-empty [] ys e = refl
 first-empty (x ∷ xs) ys e = absurd (cc)
 
-second-empty : {X : Type 0} (xs ys : List X) → xs ++ ys ≡ [] → ys ≡ []
-second-empty [] ys e = e
-second-empty (x ∷ xs) ys e = absurd (cc)
-
-map-empty : {X Y : Type 0} (f : X → Y) (xs : List X) → map f xs ≡ [] → xs ≡ []
-map-empty f [] e = refl
-map-empty f (x ∷ xs) e = absurd (cc)
-
 flat-empty : {X Y : Type 0} (f : X → List Y) (xs : List X) (k : ℕ) (x : X) → flat_map f xs ≡ []
     → slice_get xs k ≡ Some x → f x ≡ []
 flat-empty f [] k x e at = absurd (cc)
 flat-empty f (v ∷ xs) zero x e at =
     let same : v ≡ x = cc in
     subst (λ w. f w ≡ []) same (first-empty (f v) (flat_map f xs) e)
-flat-empty f (v ∷ xs) (suc k) x e at = flat-empty f xs k x (second-empty (f v) (flat_map f xs) e) at
+flat-empty f (v ∷ xs) (suc k) x e at = flat-empty f xs k x (append-empty (f v) (flat_map f xs) e) at
 
 -- the same of an element, wherever it stands
 flat-empty-in : {X Y : Type 0} (f : X → List Y) (xs : List X) (x : X) → flat_map f xs ≡ [] → Contains xs x → f x ≡ []
 flat-empty-in f [] x e (k, within, at) = absurd (omega (arith, within))
 flat-empty-in f (v ∷ xs) x e (zero, within, at) = subst (λ w. f w ≡ []) at (first-empty (f v) (flat_map f xs) e)
 flat-empty-in f (v ∷ xs) x e (suc k, within, at) =
-    flat-empty-in f xs x (second-empty (f v) (flat_map f xs) e) (k, omega (arith, within), at)
+    flat-empty-in f xs x (append-empty (f v) (flat_map f xs) e) (k, omega (arith, within), at)
 
 some-empty : {X : Type 0} (o : Option X) → option_to_list o ≡ [] → o ≡ None
 some-empty None e = refl
@@ -136,7 +129,7 @@ front-free : (f : Mention → Option Subject) (xs ys : List Mention) → IsFree 
 front-free f xs ys free = first-empty (found_in f xs) (found_in f ys) (sym (flat_map-append (λ m. option_to_list (f m)) xs ys) ∙ free)
 
 back-free : (f : Mention → Option Subject) (xs ys : List Mention) → IsFree f (xs ++ ys) → IsFree f ys
-back-free f xs ys free = second-empty (found_in f xs) (found_in f ys) (sym (flat_map-append (λ m. option_to_list (f m)) xs ys) ∙ free)
+back-free f xs ys free = append-empty (found_in f xs) (found_in f ys) (sym (flat_map-append (λ m. option_to_list (f m)) xs ys) ∙ free)
 
 each-free : {X : Type 0} (f : Mention → Option Subject) (g : X → List Mention) (xs : List X) (k : ℕ) (x : X) → IsFree f (flat_map g xs)
     → slice_get xs k ≡ Some x → IsFree f (g x)
@@ -153,7 +146,7 @@ one-free f g (v ∷ xs) zero x free at =
     let same : v ≡ x = cc in
     subst (λ w. f (g w) ≡ None) same (some-empty (f (g v)) (first-empty (option_to_list (f (g v))) (found_in f (map g xs)) free))
 one-free f g (v ∷ xs) (suc k) x free at =
-    one-free f g xs k x (second-empty (option_to_list (f (g v))) (found_in f (map g xs)) free) at
+    one-free f g xs k x (append-empty (option_to_list (f (g v))) (found_in f (map g xs)) free) at
 
 -- nothing is at fault of what a bean declaration names
 record AreFree (f : Mention → Option Subject) (bean : BeanDecl) : Type 0 where

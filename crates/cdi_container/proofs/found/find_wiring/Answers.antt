@@ -1,4 +1,4 @@
-use Rattle.cdi_container.proofs.Common.{refl, subst, sym, length, ap, ◌∙◌, kept_in, EvaluatesSome, faults, where_err}
+use Rattle.cdi_container.proofs.Common.{refl, subst, sym, length, ap, ◌∙◌, kept_in, EvaluatesSome, faults, OnErr-from}
 use Rattle.cdi_observe.specs.Lending.{IsEvaluated}
 use Rattle.cdi_observe.proofs.KeptLemmas.{evaluates_all}
 use Rattle.cdi_observe.proofs.LendingLemmas.{evaluated-all}
@@ -21,4 +21,4 @@ of-requires-clause-evaluated g c =
 pub returns-clause-err : goal.returns-clause-err
 returns-clause-err g c =
     let old = c.args.live.now in
-    where_err c.of.result (subst (EvaluatesSome old.decls (kept_in old)) (sym c.in_ok-found.ensures.ok) (evaluates_all old.decls (kept_in old)))
+    OnErr-from c.of.result (subst (EvaluatesSome old.decls (kept_in old)) (sym c.in_ok-found.ensures.ok) (evaluates_all old.decls (kept_in old)))

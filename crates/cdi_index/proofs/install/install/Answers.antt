@@ -1,7 +1,8 @@
+use Rattle.base_lists.proofs.Places.{empty-from_length}
 use Rattle.cdi_index.proofs.Common.{◌≡◌, [], ◌∷◌, ap, ◌∙◌, DeclKey, same_key, inl, inr, stored, ◌+◌, cond, length, applied, stored_as}
 use Rattle.cdi_index.proofs.Common.{arith, length-append}
 use Rattle.cdi_index.proofs.ChangeLemmas.{applied-next}
-use Rattle.cdi_index.proofs.InstallLemmas.{free-left, no-items, sound-left}
+use Rattle.cdi_index.proofs.InstallLemmas.{free-left, sound-left}
 use Rattle.cdi_index.proofs.install.install.Goals as goal
 
 pub left-preserved : goal.left-preserved
@@ -37,6 +38,6 @@ left-preserved c =
 
 pub returns-clause-sound : goal.returns-clause-sound
 returns-clause-sound c w k s m at has =
-    let empty : c.left.changes.items ≡ [] = no-items c.left.changes.items
+    let empty : c.left.changes.items ≡ [] = empty-from_length c.left.changes.items
     (omega (arith, c.in_default.ensures.cases.0, c.left.changes.ok.0)) in
     c.left.invariant.sound w k s m (ap (λ cs. applied c.args.first cs (stored c.left.shelf) k) empty ∙ at) has

@@ -6,9 +6,9 @@ use Rattle.std.specs.Prelude.{ℤ, Option}
 use Rattle.std.proofs.lemmas.Fn.{always_returns_same}
 use Rattle.std.proofs.lemmas.List.Sorted.{ranks_by}
 use Rattle.cdi_model.specs.declared.decl.InterceptorDecl.{InterceptorDecl}
+use Rattle.cdi_effective.proofs.SortLemmas.{sorted_from_sort, sorted_map}
 use Rattle.cdi_intercept.specs.Chains.{is_before}
 use Rattle.cdi_intercept.specs.Lent.{lent_in}
-use Rattle.cdi_intercept.proofs.OrderLemmas.{sorted_from_sort, sorted_map}
 use Rattle.cdi_intercept.proofs.chain.sorted_by_priority.Goals as goal
 
 abbrev key : Bor InterceptorDecl → Option ℤ

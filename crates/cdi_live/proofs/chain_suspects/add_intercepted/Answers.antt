@@ -1,12 +1,9 @@
+use Rattle.std.proofs.Math.Bool.{or_assoc}
 use Rattle.cdi_live.proofs.Common.{◌≡◌, Bool, true, false, refl, ap, ◌∙◌, list_any, bytes_eq, ◌||◌, key_at, brings_to, classes_bound}
 use Rattle.cdi_live.proofs.Common.{is_bound_by, holds, contains}
 use Rattle.cdi_model.specs.declared.decl.Kind.TheVariants as kinds
 use Rattle.cdi_live.proofs.ReaderLemmas.{of-readers}
 use Rattle.cdi_live.proofs.chain_suspects.add_intercepted.Goals as goal
-
-grouped : (a b c : Bool) → ((a || b) || c) ≡ (a || (b || c))
-grouped true b c = refl
-grouped false b c = refl
 
 pub returns : goal.returns
 returns c t =
@@ -19,4 +16,4 @@ returns c t =
     ∙ ap (λ ks. (old || own) || list_any (λ k. is_bound_by ds k t) ks) c.as_slice.ensures.value
     ∙ ap (λ b. (old || own) || b) (of-readers ds c.in_ok-readers.ensures.distinct (key_at kinds.Binding x)
     c.in_ok-readers.readers.items (λ k. is_bound_by ds k t) c.in_ok-readers.ensures.value)
-    ∙ grouped old own (list_any (brings_to ds x t) ds)
+    ∙ or_assoc old own (list_any (brings_to ds x t) ds)

@@ -1,3 +1,4 @@
+use Rattle.std.proofs.Math.Bool.{or_assoc}
 use Rattle.cdi_live.proofs.Common.{◌≡◌, Bool, true, false, refl, sym, ap, ◌∙◌, bytes_eq, ◌||◌, holds, arith, keys_of, take, contains}
 use Rattle.cdi_live.proofs.PartLemmas.{any-next, take-whole, within}
 use Rattle.cdi_live.proofs.event_suspects.add_kept.Goals as goal
@@ -15,10 +16,6 @@ names-smaller c = omega (
   within (keys_of c.args.events.now) c.names.index c.in-Some.name.now (sym c.in-Some.ensures.name),
 )
 
-grouped : (a b c : Bool) → ((a || b) || c) ≡ (a || (b || c))
-grouped true b c = refl
-grouped false b c = refl
-
 pub names-preserved : goal.names-preserved
 names-preserved c t =
     let names = keys_of c.args.events.now in
@@ -26,7 +23,7 @@ names-preserved c t =
     let old = contains bytes_eq c.args.types.now t in
     c.in_ok-add_name.ensures t
     ∙ ap (λ b. b || bytes_eq name t) (c.names.invariant t)
-    ∙ grouped old (holds (take c.names.index names) t) (bytes_eq name t)
+    ∙ or_assoc old (holds (take c.names.index names) t) (bytes_eq name t)
     ∙ ap (λ b. old || b) (sym (any-next (λ n. bytes_eq n t) names c.names.index name (sym c.in-Some.ensures.name)))
 
 pub returns : goal.returns

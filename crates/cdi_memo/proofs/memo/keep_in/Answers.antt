@@ -3,15 +3,16 @@ use Rattle.std.specs.Map.{lookup}
 use Rattle.std.specs.Option.{IsSome, is_some, option_copied_mut}
 use Rattle.std.specs.Str.{bytes_eq}
 use Rattle.indexmap.specs.IndexMap.{get}
+use Rattle.base_options.proofs.Results.{OnErr-from}
 use Rattle.cdi_memo.specs.Answers.{answers_in}
 use Rattle.cdi_memo.specs.Laws.{NamesHaveParts}
-use Rattle.cdi_memo.proofs.ChangeLemmas.{answer_at, answer-in, changed, named, on_err, once, some-there, stays-there, turned}
+use Rattle.cdi_memo.proofs.ChangeLemmas.{answer_at, answer-in, changed, named, once, some-there, stays-there, turned}
 use Rattle.cdi_memo.proofs.memo.keep_in.Goals as goal
 
 pub returns-in_err-old-clause-err : goal.returns-in_err-old-clause-err
 returns-in_err-old-clause-err g c =
     let found = sym c.get_mut.ensures.value ∙ ap option_copied_mut c.in-Some.is in
-    on_err c.from_residual.result
+    OnErr-from c.from_residual.result
     (ap answers_in (c.get_mut.follows.holds c.insert.new.self).0
     ∙ stays-there c.args.name c.args.answers.now.entries c.in-Some.parts.now c.insert.new.self found c.in_err-old.ensures.err)
 

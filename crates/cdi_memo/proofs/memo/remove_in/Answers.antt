@@ -4,8 +4,9 @@ use Rattle.std.specs.Option.{IsSome, is_some, option_copied_mut}
 use Rattle.std.specs.Str.{bytes_eq}
 use Rattle.std.proofs.lemmas.List.{nil_from_length}
 use Rattle.indexmap.specs.IndexMap.{get}
+use Rattle.base_options.proofs.Booleans.{cond-twice}
 use Rattle.cdi_memo.specs.Answers.{answer, answers_in}
-use Rattle.cdi_memo.proofs.ChangeLemmas.{absent, answer_at, answer-in, changed, cond-twice, named, not-empty, once}
+use Rattle.cdi_memo.proofs.ChangeLemmas.{absent, answer_at, answer-in, changed, named, not-empty, once}
 use Rattle.cdi_memo.proofs.QuestionLemmas.{differ-nil}
 use Rattle.cdi_memo.proofs.memo.remove_in.Goals as goal
 

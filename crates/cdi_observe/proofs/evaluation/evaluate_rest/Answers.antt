@@ -1,6 +1,6 @@
+use Rattle.base_options.proofs.Results.{OnErr-from}
 use Rattle.cdi_observe.proofs.Common.{◌≡◌, List, map, ap, ◌∙◌, AllByRecursion, flat_map, Decl, take, list_all, evaluated, wanted_by}
 use Rattle.cdi_observe.proofs.Common.{asked_key}
-use Rattle.cdi_observe.proofs.KeptLemmas.{where_err}
 use Rattle.cdi_observe.proofs.LendingLemmas.{evaluated-all}
 use Rattle.cdi_observe.proofs.FoundLemmas.{each-lent, IsFound}
 use Rattle.cdi_observe.proofs.RestLemmas.{keys-known, keys-told, rest-evaluated, some-keys}
@@ -22,7 +22,7 @@ returns-in_err-ask_each-clause-err g c =
     let keys : map asked_key c.as_slice.result.now ≡ flat_map wanted_by es =
     ap (map asked_key) c.as_slice.ensures.value ∙ c.in_ok-keys.ensures in
     let i = c.in_err-ask_each.ensures.err.0 in
-    where_err c.from_residual-in_err-ask_each.result (some-keys ds es found old (g.V.View.kept c.ask_each.new.view) i
+    OnErr-from c.from_residual-in_err-ask_each.result (some-keys ds es found old (g.V.View.kept c.ask_each.new.view) i
     (c.in_err-ask_each.ensures.err.1 ∙ ap (λ ks. evaluated ds (take i ks) old) keys))
 
 pub returns-in_err-ask_each-clause-staged : goal.returns-in_err-ask_each-clause-staged

@@ -4,8 +4,8 @@ use Rattle.std.specs.Cmp.{int_cmp_total}
 use Rattle.std.specs.Prelude.{ℤ}
 use Rattle.std.proofs.lemmas.Fn.{always_returns_same}
 use Rattle.std.proofs.lemmas.List.Sorted.{ranks_by}
+use Rattle.cdi_effective.proofs.SortLemmas.{sorted_from_sort, sorted_map}
 use Rattle.cdi_observe.specs.declared.lent_observers.LentObserver.{LentObserver}
-use Rattle.cdi_intercept.proofs.OrderLemmas.{sorted_from_sort, sorted_map}
 use Rattle.cdi_observe.specs.Lent.{lent_at}
 use Rattle.cdi_observe.specs.Observers.{is_before, priority_of}
 use Rattle.cdi_observe.proofs.lent_observers.in_order.Goals as goal

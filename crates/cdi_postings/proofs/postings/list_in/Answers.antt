@@ -2,8 +2,9 @@ use Rattle.std.proofs.Common.{nat_eq, true, cond, Some, sym, ap, ◌∙◌}
 use Rattle.std.specs.Option.{IsSome, is_some, option_copied_mut}
 use Rattle.std.specs.List.{list_any}
 use Rattle.indexmap.specs.IndexMap.{get}
+use Rattle.base_options.proofs.Results.{OnErr-from}
 use Rattle.cdi_postings.specs.Words.{same_word}
-use Rattle.cdi_postings.proofs.ListingLemmas.{holds_one, more-listed, on_err, same-listed}
+use Rattle.cdi_postings.proofs.ListingLemmas.{holds_one, more-listed, same-listed}
 use Rattle.cdi_postings.proofs.postings.list_in.Goals as goal
 
 pub returns-in_err-insert-clause-err : goal.returns-in_err-insert-clause-err
@@ -11,7 +12,7 @@ returns-in_err-insert-clause-err c =
     let found = sym c.get_mut.ensures.value ∙ ap option_copied_mut c.in-Some.is in
     let some : IsSome (get same_word c.args.map.now c.args.word) = ap is_some found in
     let written = c.get_mut.follows.holds c.insert.new.self in
-    on_err c.from_residual.result
+    OnErr-from c.from_residual.result
     (same-listed c.args.word c.args.slot (get same_word c.args.map.now) (get same_word (c.get_mut.follows.lender c.insert.new.self))
     c.in-Some.slots.now c.insert.new.self found c.in_err-insert.ensures.err (λ q. (written.3 some).0 q))
 

@@ -1,7 +1,8 @@
 use Rattle.cdi_staging.proofs.Common.{◌≡◌, [], ◌++◌, map, sym, ap, ◌∙◌, product, append-nil, iter_rest, product_names}
 use Rattle.std.proofs.Common.{⊎_elim}
 use Rattle.std.proofs.lemmas.Slice.Zip.{either_empty_from_Zip}
-use Rattle.cdi_staging.proofs.ProductLemmas.{first-product, pushed, unmapped}
+use Rattle.base_lists.proofs.Flat.{map-empty}
+use Rattle.cdi_staging.proofs.ProductLemmas.{first-product, pushed}
 use Rattle.cdi_staging.proofs.names.push_products.Goals as goal
 
 pub product_names-requires : goal.product_names-requires
@@ -23,7 +24,7 @@ loop-effective-preserved c = record {
 pub returns : goal.returns
 returns c =
     let left = c.loop-effective.effective-iterator in
-    let none : iter_rest left.b ≡ [] = ⊎_elim (λ first. unmapped (product c.args.decls.now c.args.bean.now) (iter_rest left.b)
+    let none : iter_rest left.b ≡ [] = ⊎_elim (λ first. map-empty (product c.args.decls.now c.args.bean.now) (iter_rest left.b)
     (sym c.loop-effective.invariant.records ∙ first)) (λ second. second)
     (either_empty_from_Zip left c.next.new.self c.next.result c.in-None.is c.next.ensures.steps) in
     sym (append-nil c.loop-effective.list.items)

@@ -1,5 +1,5 @@
 use Rattle.cdi_staging.proofs.Common.{◌≡◌, ℕ, suc, Bool, true, false, List, [], ◌∷◌, ◌++◌, map, refl, sym, ap, subst, ◌∙◌, arith, Decl, ◌+◌}
-use Rattle.cdi_staging.proofs.Common.{length, bytes_eq, one_name, find_bean, Effective, position_of_class, ◌<◌, not, get_or, append_assoc}
+use Rattle.cdi_staging.proofs.Common.{length, bytes_eq, find_bean, Effective, position_of_class, ◌<◌, not, get_or, append_assoc, one_text}
 use Rattle.cdi_staging.proofs.Common.{notified_as, observer_declared, drop, IsHost}
 use Rattle.std.proofs.Common.{drop-cons}
 use Rattle.cdi_observe.specs.declared.observers.ObserverId.{ObserverId}
@@ -45,7 +45,7 @@ loop-id-preserved c =
       | then-ne w ↦ subst (IsOf ds beans id) (sym w.host-is) (w.of-host-then-ne.ensures.host, w.of-host-then-ne.ensures.class)
       | else-ne w ↦ subst (IsOf ds beans id) (sym w.host-is) (
         c.loop-id.invariant.host,
-        one_name c.loop-id.host.class id.class (not-false (bytes_eq c.loop-id.host.class id.class) w.if-ne.ensures),
+        one_text c.loop-id.host.class id.class (not-false (bytes_eq c.loop-id.host.class id.class) w.if-ne.ensures),
       )
     ] in
     record {

@@ -1,8 +1,9 @@
 use Rattle.cdi_validate.proofs.Common.{sym, ap, ◌∙◌, beans, faults, name_prefixes, subst, LinesRise, subjects_in_order, IfOk-weaker}
 use Rattle.std.specs.Result.{OnOk}
+use Rattle.base_options.proofs.Results.{OnOk-from, OnErr-from}
 use Rattle.cdi_observe.specs.Kept.{EvaluatesSome}
 use Rattle.cdi_observe.specs.Lending.{IsEvaluated}
-use Rattle.cdi_observe.proofs.KeptLemmas.{evaluates_all, where_err, where_ok}
+use Rattle.cdi_observe.proofs.KeptLemmas.{evaluates_all}
 use Rattle.cdi_validate.proofs.BehindLemmas.{prefixes_go_on}
 use Rattle.cdi_validate.proofs.TwiceLemmas.{sharers_are_told}
 use Rattle.cdi_validate.proofs.deployment.faults.Goals as goal
@@ -18,13 +19,13 @@ returns-clause-faults g c =
     c.find.ensures.faults
 
 pub returns-clause-ok : goal.returns-clause-ok
-returns-clause-ok g c = where_ok c.find.result c.in_ok-evaluate.ensures.ok
+returns-clause-ok g c = OnOk-from c.find.result c.in_ok-evaluate.ensures.ok
 
 pub returns-clause-err : goal.returns-clause-err
 returns-clause-err g c =
     let ds = g.V.View.list c.args.view.now in
     let old = g.V.View.kept c.args.view.now in
-    where_err c.find.result (subst (EvaluatesSome ds old) (sym c.in_ok-evaluate.ensures.ok) (evaluates_all ds old))
+    OnErr-from c.find.result (subst (EvaluatesSome ds old) (sym c.in_ok-evaluate.ensures.ok) (evaluates_all ds old))
 
 pub returns-clause-prefixes : goal.returns-clause-prefixes
 returns-clause-prefixes g c =

@@ -1,10 +1,11 @@
 use Rattle.cdi_validate.proofs.Common.{◌≡◌, ◌++◌, sym, ap, ◌∙◌, append_assoc, flat_map, beans, name_clashes, name_prefixes, true, []}
 use Rattle.cdi_validate.proofs.Common.{length, arith, eqb-true, leb-true, enabled_names, nat_le, enabled_name, in_order-rises, prefix_pairs}
 use Rattle.std.proofs.lemmas.List.{length-map}
+use Rattle.base_lists.proofs.Flat.{append-empty}
 use Rattle.cdi_validate.proofs.ClashLemmas.{clashes-led, keys-named}
 use Rattle.cdi_validate.proofs.CountLemmas.{apart-if_as_many}
 use Rattle.cdi_validate.proofs.NameLemmas.{pairs-behind}
-use Rattle.cdi_validate.proofs.PushLemmas.{none-behind, none-pushed}
+use Rattle.cdi_validate.proofs.PushLemmas.{none-pushed}
 use Rattle.cdi_validate.proofs.names.push_of_names.Goals as goal
 use Rattle.cdi_validate.proofs.names.push_of_names.Goals.{then-len-before, else-len-before}
 
@@ -42,6 +43,6 @@ returns-clause-apart g c = λ apart.
           let keys = ap length (keys-named bs leaders.entries c.in_ok-push_clashes.ensures.order c.in_ok-leaders.ensures.led) in
           let entries = length-map leaders.entries (λ e. e.0) in
           apart-if_as_many (g.V.View.list c.args.view.now) (omega (arith, as_many, keys, entries))
-          (none-behind (name_clashes bs) (name_prefixes bs) none))
+          (append-empty (name_clashes bs) (name_prefixes bs) none))
       | else-len-before w ↦ absurd (w.if-len-before.false (eqb-true c.len.result c.len-before.result (sym w.result-is ∙ apart)))
     ]

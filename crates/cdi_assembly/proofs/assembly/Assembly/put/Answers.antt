@@ -1,16 +1,13 @@
 use Rattle.std.proofs.Common.{◌≡◌, ap}
 use Rattle.std.specs.Prelude.{Result, Ok, Err, OnOk}
+use Rattle.base_options.proofs.Results.{OnOk-from}
 use Rattle.cdi_container.specs.History.{State}
 use Rattle.cdi_text.specs.Reading.{decl_of}
 use Rattle.cdi_assembly.proofs.PutLemmas.{left_if_accepted, left_if_refused}
 use Rattle.cdi_assembly.proofs.assembly.Assembly.put.Goals as goal
 
-where_ok : {T E P : Type 0} (r : Result T E) → P → OnOk r P
-where_ok (Ok x) p = p
-where_ok (Err e) p = tt
-
 pub returns-in-Ok-clause-decls : goal.returns-in-Ok-clause-decls
-returns-in-Ok-clause-decls g c = where_ok c.note_put.result
+returns-in-Ok-clause-decls g c = OnOk-from c.note_put.result
     (left_if_accepted c.args.container.now.decls c.put.new.self.decls (decl_of c.args.text.now) c.in-Ok.put
     c.in-Ok.ensures.answer (ap (λ (s : State). s.decls) c.in-Ok.ensures.ok.rest))
 

@@ -1,5 +1,5 @@
 use Rattle.cdi_container.proofs.Common.{refl, subst, sym, beans, chosen, [], ◌∷◌, ap, ◌∙◌, choice_key, Deployed, State, trace_names, Chosen}
-use Rattle.cdi_container.proofs.Common.{RestsOnScene, where_err}
+use Rattle.cdi_container.proofs.Common.{RestsOnScene, OnErr-from}
 use Rattle.cdi_container.proofs.Asking.{asked_left, same_state, choose_unserved}
 use Rattle.cdi_container.proofs.Playing.{rests_asked}
 use Rattle.cdi_container.proofs.container.Container.choose.Goals as goal
@@ -10,7 +10,7 @@ invariant_of-self g c =
 
 pub returns-in_err-choice-clause-err : goal.returns-in_err-choice-clause-err
 returns-in_err-choice-clause-err g c =
-    where_err c.from_residual.result (same_state c.self.inside.deployment c.choose.new.self c.self.inside.told c.self.inside.run.moment
+    OnErr-from c.from_residual.result (same_state c.self.inside.deployment c.choose.new.self c.self.inside.told c.self.inside.run.moment
     c.args.self.now c.self.view_is c.in_err-choice.ensures.err)
 
 pub returns-in_err-choice-clause-step : goal.returns-in_err-choice-clause-step

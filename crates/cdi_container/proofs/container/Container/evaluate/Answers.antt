@@ -1,10 +1,10 @@
 use Rattle.cdi_container.proofs.Common.{◌≡◌, refl, subst, sym, ap, ◌∙◌, wanted, known_with, State, AsksSome, asked, untold, trace_names}
-use Rattle.cdi_container.proofs.Common.{where_err}
 use Rattle.cdi_container.proofs.Asking.{asked_left, asked_some, evaluate_unserved}
 use Rattle.cdi_container.proofs.Ending.{standing_at}
 use Rattle.cdi_container.proofs.KnownLemmas.{known_with-wanted}
 use Rattle.cdi_container.proofs.Playing.{rests_asked}
 use Rattle.cdi_container.proofs.container.Container.evaluate.Goals as goal
+use Rattle.cdi_container.proofs.Common.{OnErr-from}
 
 pub invariant_of-self : goal.invariant_of-self
 invariant_of-self g c =
@@ -14,7 +14,7 @@ invariant_of-self g c =
 
 pub returns-in_err-evaluate_all-clause-err : goal.returns-in_err-evaluate_all-clause-err
 returns-in_err-evaluate_all-clause-err g c =
-    where_err c.from_residual.result
+    OnErr-from c.from_residual.result
     (subst (λ (s : State). AsksSome c.args.self.now (wanted s.decls)
     (standing_at c.evaluate_all.new.self (trace_names c.evaluate_all.new.self c.self.inside.told) c.self.inside.run.moment)) c.self.view_is
     (asked_some c.self.inside.deployment c.evaluate_all.new.self c.self.inside.told c.self.inside.run.moment c.args.self.now

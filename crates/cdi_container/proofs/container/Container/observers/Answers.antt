@@ -1,5 +1,5 @@
 use Rattle.cdi_container.proofs.Common.{refl, subst, sym, beans, notified, [], ◌∷◌, ap, ◌∙◌, EventKey, Deployed, State, trace_names}
-use Rattle.cdi_container.proofs.Common.{Observed, RestsOnScene, where_err}
+use Rattle.cdi_container.proofs.Common.{Observed, RestsOnScene, OnErr-from}
 use Rattle.cdi_container.proofs.Asking.{asked_left, same_state, observers_unserved}
 use Rattle.cdi_container.proofs.Playing.{rests_asked}
 use Rattle.cdi_container.proofs.container.Container.observers.Goals as goal
@@ -10,7 +10,7 @@ invariant_of-self g c =
 
 pub returns-in_err-ids-clause-err : goal.returns-in_err-ids-clause-err
 returns-in_err-ids-clause-err g c =
-    where_err c.from_residual.result (same_state c.self.inside.deployment c.observers.new.self c.self.inside.told c.self.inside.run.moment
+    OnErr-from c.from_residual.result (same_state c.self.inside.deployment c.observers.new.self c.self.inside.told c.self.inside.run.moment
     c.args.self.now c.self.view_is c.in_err-ids.ensures.err)
 
 pub returns-in_err-ids-clause-step : goal.returns-in_err-ids-clause-step

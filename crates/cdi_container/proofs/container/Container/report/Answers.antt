@@ -1,5 +1,5 @@
 use Rattle.cdi_container.proofs.Common.{◌≡◌, refl, subst, sym, ap, ◌∙◌, wanted, faults, known_with, State, AsksSome, asked, untold}
-use Rattle.cdi_container.proofs.Common.{trace_names, Reported, where_err}
+use Rattle.cdi_container.proofs.Common.{trace_names, Reported, OnErr-from}
 use Rattle.cdi_container.proofs.Asking.{asked_left, asked_some, report_unserved}
 use Rattle.cdi_container.proofs.Ending.{standing_at}
 use Rattle.cdi_container.proofs.KnownLemmas.{known_with-wanted}
@@ -13,7 +13,7 @@ invariant_of-self g c =
 
 pub returns-in_err-faults-clause-err : goal.returns-in_err-faults-clause-err
 returns-in_err-faults-clause-err g c =
-    where_err c.from_residual.result
+    OnErr-from c.from_residual.result
     (subst (λ (s : State). AsksSome c.args.self.now (wanted s.decls)
     (standing_at c.report.new.self (trace_names c.report.new.self c.self.inside.told) c.self.inside.run.moment)) c.self.view_is
     (asked_some c.self.inside.deployment c.report.new.self c.self.inside.told c.self.inside.run.moment c.args.self.now

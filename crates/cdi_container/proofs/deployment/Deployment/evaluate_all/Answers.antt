@@ -1,4 +1,4 @@
-use Rattle.cdi_container.proofs.Common.{subst, wanted, IsInOrder, Deployed, IsAsked, IsAskedSome, is_sound, where_err}
+use Rattle.cdi_container.proofs.Common.{subst, wanted, IsInOrder, Deployed, IsAsked, IsAskedSome, is_sound, OnErr-from}
 use Rattle.cdi_container.proofs.KnownLemmas.{in_order}
 use Rattle.cdi_container.proofs.AskedLemmas.{asks_some, asks_wanted}
 use Rattle.cdi_container.proofs.Committing.{deployed_on, same-counts}
@@ -16,7 +16,7 @@ pub returns-in_err-evaluate-clause-err : goal.returns-in_err-evaluate-clause-err
 returns-in_err-evaluate-clause-err g c =
     let book = g.B.Bodies.promises c.self.inside.book in
     let wired = is_sound c.self.inside.wiring in
-    where_err c.from_residual.result
+    OnErr-from c.from_residual.result
     (subst (λ (d : Deployed). IsAskedSome (wanted d.decls) d (deployed_on c.evaluate.new.view book wired)) c.self.view_is
     (asks_some c.self.inside.live c.evaluate.new.view book wired c.evaluate.ensures.list
     (same-counts c.self.inside.live c.evaluate.new.view c.evaluate.ensures.counts) c.work.ensures.wanted c.in_err-evaluate.ensures.err))

@@ -1,10 +1,10 @@
 use Rattle.cdi_container.proofs.Common.{Some, subst, sym, ap, ◌∙◌, false≢true, wanted, IsInOrder, Deployed, IsAsked, IsAskedSome, is_sound}
-use Rattle.cdi_container.proofs.Common.{where_err}
 use Rattle.cdi_container.proofs.KnownLemmas.{in_order}
 use Rattle.cdi_container.proofs.AskedLemmas.{asks_nothing_more, asks_some, asks_wanted}
 use Rattle.cdi_container.proofs.Committing.{deployed_on}
 use Rattle.cdi_container.proofs.KeepingLemmas.{knows_all, reported_right, still_evaluated, wired_knows, wires_right}
 use Rattle.cdi_container.proofs.deployment.Deployment.wire.Goals as goal
+use Rattle.cdi_container.proofs.Common.{OnErr-from}
 
 pub returns-in-Some-clause-asked : goal.returns-in-Some-clause-asked
 returns-in-Some-clause-asked g c =
@@ -25,7 +25,7 @@ pub returns-in_err-wiring-clause-err : goal.returns-in_err-wiring-clause-err
 returns-in_err-wiring-clause-err g c =
     let book = g.B.Bodies.promises c.self.inside.book in
     let wired = is_sound c.self.inside.wiring in
-    where_err c.from_residual.result
+    OnErr-from c.from_residual.result
     (subst (λ (d : Deployed). IsAskedSome (wanted d.decls) d (deployed_on c.find_wiring.new.live book wired)) c.self.view_is
     (asks_some c.self.inside.live c.find_wiring.new.live book wired c.find_wiring.ensures.list
     c.find_wiring.ensures.counts c.work.ensures.wanted c.in_err-wiring.ensures.err))

@@ -1,16 +1,13 @@
 use Rattle.cdi_index.proofs.Common.{None, ap, ◌∙◌, same_key, false≢true, arith, lookup, Result, Ok, Err, OnOk, State}
 use Rattle.cdi_index.proofs.NextLemmas.{exact-same, free-same, shelf-same, sound-same}
 use Rattle.std.specs.Result.{IsErr, OnErr}
+use Rattle.base_options.proofs.Results.{OnErr-from}
 use Rattle.cdi_index.specs.State.{with_staged}
 use Rattle.cdi_index.proofs.index.Index.stage.Goals as goal
 
 on-ok : {T E : Type 0} (r : Result T E) (P : Type 0) → IsErr r → OnOk r P
 on-ok (Ok x) P e = absurd (false≢true e)
 on-ok (Err x) P e = tt
-
-on-err : {T E P : Type 0} (r : Result T E) → P → OnErr r P
-on-err (Ok x) p = tt
-on-err (Err x) p = p
 
 pub invariant_of-self : goal.invariant_of-self
 invariant_of-self c =
@@ -74,4 +71,4 @@ returns-in_err-told-clause-ok c = on-ok c.from_residual-in_err-told.result _ c.f
 
 pub returns-in_err-told-clause-err : goal.returns-in_err-told-clause-err
 returns-in_err-told-clause-err c =
-    on-err c.from_residual-in_err-told.result (ap (λ (s : State). with_staged s None) c.self.view_is)
+    OnErr-from c.from_residual-in_err-told.result (ap (λ (s : State). with_staged s None) c.self.view_is)

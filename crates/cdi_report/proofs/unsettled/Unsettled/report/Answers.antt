@@ -3,8 +3,9 @@ use Rattle.cdi_report.proofs.Common.{HaveNoneTogether, Unsettled, open_of, Evalu
 use Rattle.cdi_report.proofs.Common.{looks_at_all}
 use Rattle.std.specs.List.{flat_map}
 use Rattle.std.proofs.Common.{◌≢◌, AllPairs}
+use Rattle.base_options.proofs.Results.{OnErr-from}
 use Rattle.cdi_observe.specs.Lending.{IsEvaluated}
-use Rattle.cdi_observe.proofs.KeptLemmas.{evaluates_all, where_err}
+use Rattle.cdi_observe.proofs.KeptLemmas.{evaluates_all}
 use Rattle.cdi_validate.proofs.AmongLemmas.{told-all}
 use Rattle.cdi_validate.proofs.OnceLemmas.{faults_stand_once}
 use Rattle.cdi_report.proofs.SettledLemmas.{all-knew, all-knows, rest-asked, settled-now, settled-still, some-still, tells-all}
@@ -38,7 +39,7 @@ pub returns-in_err-found-clause-err : goal.returns-in_err-found-clause-err
 returns-in_err-found-clause-err g c =
     let ds = g.V.View.list c.args.view.now in
     let old = g.V.View.kept c.args.view.now in
-    where_err c.from_residual-in_err-found.result (subst (EvaluatesSome ds old) (sym c.in_ok-ask_open.ensures.ok) (evaluates_all ds old))
+    OnErr-from c.from_residual-in_err-found.result (subst (EvaluatesSome ds old) (sym c.in_ok-ask_open.ensures.ok) (evaluates_all ds old))
 
 pub returns-in_err-found-clause-settled : goal.returns-in_err-found-clause-settled
 returns-in_err-found-clause-settled g c =

@@ -1,6 +1,7 @@
+use Rattle.std.proofs.lemmas.Bool.{not-false}
 use Rattle.cdi_report.proofs.Common.{sym, ap, ◌∙◌, false≢true, list_all, is_chainless, is_nameless, is_needless}
 use Rattle.cdi_report.proofs.SettledLemmas.{open-found}
-use Rattle.cdi_report.proofs.TogetherLemmas.{not-not, whole-chains, whole-circles, whole-names}
+use Rattle.cdi_report.proofs.TogetherLemmas.{whole-chains, whole-circles, whole-names}
 use Rattle.cdi_report.proofs.unsettled.Unsettled.together.Goals as goal
 use Rattle.cdi_report.proofs.unsettled.Unsettled.together.Goals.{then-self, else-self, then-self-2, else-self-2+in_ok-circles}
 
@@ -18,7 +19,7 @@ returns-then-self-3 g c = record {
     | then-self w ↦ absurd (false≢true (sym none ∙ w.names-is ∙ w.if-self.true))
     | else-self w ↦ whole-names (g.V.View.list c.args.view.now) c.args.self.now (c.requires.apart.names w.if-self.false)
         (ap (list_all (is_nameless (g.V.View.list c.args.view.now))) (sym c.requires.decls) ∙ sym w.are_nameless.ensures
-        ∙ not-not _ (sym w.names-is ∙ none))
+        ∙ not-false _ (sym w.names-is ∙ none))
   ];
   circles = λ none. elim c.if-self-2.branch [
     | then-self-2 w ↦ absurd (false≢true (sym none ∙ w.circles-is ∙ w.if-self-2.true))
@@ -27,7 +28,7 @@ returns-then-self-3 g c = record {
           apart.0,
           whole-circles (g.V.View.list c.args.view.now) c.args.self.now c.requires.distinct apart.0 apart.1
               (ap (list_all (is_needless (g.V.View.list c.args.view.now))) (sym c.requires.decls) ∙ sym w.in_ok-circles.ensures
-              ∙ not-not _ (sym w.circles-is ∙ none)),
+              ∙ not-false _ (sym w.circles-is ∙ none)),
         )
   ];
   chains = λ none. absurd (false≢true (sym none ∙ c.if-self-3.true));
@@ -39,7 +40,7 @@ returns-else-self-3 g c = record {
     | then-self w ↦ absurd (false≢true (sym none ∙ w.names-is ∙ w.if-self.true))
     | else-self w ↦ whole-names (g.V.View.list c.args.view.now) c.args.self.now (c.requires.apart.names w.if-self.false)
         (ap (list_all (is_nameless (g.V.View.list c.args.view.now))) (sym c.requires.decls) ∙ sym w.are_nameless.ensures
-        ∙ not-not _ (sym w.names-is ∙ none))
+        ∙ not-false _ (sym w.names-is ∙ none))
   ];
   circles = λ none. elim c.if-self-2.branch [
     | then-self-2 w ↦ absurd (false≢true (sym none ∙ w.circles-is ∙ w.if-self-2.true))
@@ -48,10 +49,10 @@ returns-else-self-3 g c = record {
           apart.0,
           whole-circles (g.V.View.list c.args.view.now) c.args.self.now c.requires.distinct apart.0 apart.1
               (ap (list_all (is_needless (g.V.View.list c.args.view.now))) (sym c.requires.decls) ∙ sym w.in_ok-circles.ensures
-              ∙ not-not _ (sym w.circles-is ∙ none)),
+              ∙ not-false _ (sym w.circles-is ∙ none)),
         )
   ];
   chains = λ none. whole-chains (g.V.View.list c.args.view.now) c.args.self.now (c.requires.apart.chains c.if-self-3.false)
       (ap (list_all (is_chainless (g.V.View.list c.args.view.now))) (sym c.requires.decls) ∙ sym c.are_chainless.ensures
-      ∙ not-not _ none);
+      ∙ not-false _ none);
 }

@@ -1,19 +1,19 @@
 use Rattle.std.proofs.Common.{◌+◌, ◌++◌, ap, sym, ◌∙◌, subst, inl, refl, drop}
 use Rattle.std.proofs.lemmas.List.{take-append-drop}
+use Rattle.base_options.proofs.Results.{OnErr-from}
 use Rattle.cdi_script.specs.Intake.{intake_on, Advances}
 use Rattle.cdi_lines.proofs.FeedLemmas.{CutsAtFeed-taken}
 use Rattle.cdi_script.proofs.Taking.{tries_more_bytes}
-use Rattle.cdi_script.proofs.Trying.{holds_on_err}
 use Rattle.cdi_script.proofs.intake.Intake.advance.Goals as goal
 
 pub returns-in_err-begin_line-in-None-clause-tries : goal.returns-in_err-begin_line-in-None-clause-tries
-returns-in_err-begin_line-in-None-clause-tries g c = holds_on_err c.from_residual.result (λ mode line k. inl refl)
+returns-in_err-begin_line-in-None-clause-tries g c = OnErr-from c.from_residual.result (λ mode line k. inl refl)
 
 pub returns-in_err-end_line-in-Some-clause-tries : goal.returns-in_err-end_line-in-Some-clause-tries
 returns-in_err-end_line-in-Some-clause-tries g c =
     let chunk = c.args.chunk.now in
     let behind = drop (c.in-Some.end + 1) chunk in
-    holds_on_err c.from_residual-in_err-end_line-in-Some.result
+    OnErr-from c.from_residual-in_err-end_line-in-Some.result
     (tries_more_bytes (intake_on c.args.self.now c.args.container.now) (intake_on c.end_line.new.self c.end_line.new.container) _ behind chunk
     (sym (take-append-drop (c.in-Some.end + 1) chunk)
     ∙ ap (λ l. l ++ behind) (CutsAtFeed-taken chunk c.in-Some.end c.in-Some.ensures.first)) c.in_err-end_line-in-Some.ensures.tries)

@@ -1,10 +1,10 @@
 use Rattle.std.proofs.Common.{◌≡◌, [], ◌++◌, ap, refl, sym, ◌∙◌, subst, inl}
 use Rattle.std.proofs.lemmas.Result.{on_ok_weaker, on_err_weaker}
+use Rattle.base_options.proofs.Results.{OnErr-from}
 use Rattle.cdi_lines.specs.Kept.{ServesLine}
 use Rattle.cdi_lines.proofs.FeedLemmas.{no_items}
 use Rattle.cdi_script.specs.Intake.{intake_on}
 use Rattle.cdi_script.proofs.Taking.{ends, tries_end}
-use Rattle.cdi_script.proofs.Trying.{holds_on_err}
 use Rattle.cdi_script.proofs.intake.Intake.end_line.Goals as goal
 
 pub returns-then-is_empty-clause-ok : goal.returns-then-is_empty-clause-ok
@@ -26,7 +26,7 @@ returns-then-is_empty-clause-tries g c =
     (inl (sym (ap (λ l. l ++ piece) none))) refl refl) c.take_line.ensures.tries
 
 pub returns-in_err-push-clause-tries : goal.returns-in_err-push-clause-tries
-returns-in_err-push-clause-tries g c = holds_on_err c.from_residual.result (λ mode line k. inl refl)
+returns-in_err-push-clause-tries g c = OnErr-from c.from_residual.result (λ mode line k. inl refl)
 
 pub returns-clause-ok : goal.returns-clause-ok
 returns-clause-ok g c =

@@ -1,6 +1,7 @@
 use Rattle.std.proofs.lemmas.Result.{on_ok_weaker, on_err_weaker}
+use Rattle.base_options.proofs.Results.{OnErr-from}
 use Rattle.cdi_script.proofs.Ran.{ran}
-use Rattle.cdi_script.proofs.Trying.{holds_on_err, tried_step}
+use Rattle.cdi_script.proofs.Trying.{tried_step}
 use Rattle.cdi_script.proofs.runner.Runner.execute.Goals as goal
 
 pub returns-clause-ok : goal.returns-clause-ok
@@ -13,5 +14,5 @@ returns-clause-tries g c = on_err_weaker c.print.result
     (λ h. tried_step c.args.container.now c.execute.new.self c.args.command c.execute.result c.execute.ensures) c.print.ensures.err
 
 pub returns-in_err-answer-clause-tries : goal.returns-in_err-answer-clause-tries
-returns-in_err-answer-clause-tries g c = holds_on_err c.from_residual.result
+returns-in_err-answer-clause-tries g c = OnErr-from c.from_residual.result
     (tried_step c.args.container.now c.execute.new.self c.args.command c.execute.result c.execute.ensures)

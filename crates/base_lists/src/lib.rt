@@ -1,0 +1,1 @@
+//! Lemmas about lists, and lists that are put in order. It has no code.

@@ -1,0 +1,1 @@
+//! Lemmas about numbers, and about texts as lists of numbers. It has no code.

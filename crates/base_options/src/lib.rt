@@ -1,0 +1,1 @@
+//! Lemmas about truth values, options, results and orderings. It has no code.
