@@ -1,7 +1,6 @@
 -- The places of a list, and what is there.
-use Rattle.std.proofs.Common.{◌≡◌, ◌⊎◌, ◌+◌, ℕ, zero, suc, Bool, cond, List, [], ◌∷◌, ◌++◌, map, length, Some, option_map, inl, inr, refl, sym, ap, ◌∙◌}
-use Rattle.std.proofs.Common.{arith, position}
-use Rattle.std.specs.List.{slice_get}
+use Rattle.std.proofs.Common.{◌≡◌, ◌⊎◌, ◌+◌, ℕ, zero, suc, Bool, cond, List, [], ◌∷◌, ◌++◌, map, length, Some, option_map, inl, inr, refl}
+use Rattle.std.proofs.Common.{sym, ap, ◌∙◌, arith, position, slice_get}
 use Rattle.std.proofs.lemmas.Option.{none-some, same_Some}
 
 pub empty-from_length : {X : Type 0} (xs : List X) → length xs ≡ 0 → xs ≡ []

@@ -1,7 +1,6 @@
 -- Lists that are put in order.
 use Rattle.std.proofs.Common.{◌≡◌, Bool, true, false, ◌||◌, cond, List, [], ◌∷◌, refl, ap, ◌∙◌}
-use Rattle.std.specs.Cmp.{IsStrictWeakOrder}
-use Rattle.std.specs.List.{AllByRecursion, list_any}
+use Rattle.std.specs.{Cmp.IsStrictWeakOrder, List.AllByRecursion, List.list_any}
 use Rattle.base_lists.specs.Sorting.{put, sorted_by}
 
 module _ {X : Type 0} (before : X → X → Bool) where

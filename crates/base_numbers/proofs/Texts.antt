@@ -1,9 +1,7 @@
 -- Texts that are one.
 use Rattle.std.proofs.Common.{◌≡◌, ℕ, true, false, List, sym}
-use Rattle.std.specs.Cmp.Lexicographic.{bytes_decides}
-use Rattle.std.specs.Str.{bytes_eq}
-use Rattle.std.proofs.lemmas.Bool.{false_from_ne_true}
-use Rattle.std.proofs.lemmas.Bool.Decides.{same_from_decides, Decides-like}
+use Rattle.std.specs.{Cmp.Lexicographic.bytes_decides, Str.bytes_eq}
+use Rattle.std.proofs.lemmas.Bool.{false_from_ne_true, Decides.same_from_decides, Decides.Decides-like}
 
 pub one_text : (x y : List ℕ) → bytes_eq x y ≡ true → x ≡ y
 one_text x y h = (bytes_decides x y).0 h

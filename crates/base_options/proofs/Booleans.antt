@@ -1,8 +1,7 @@
 -- Truth values, and what is chosen by them.
-use Rattle.std.proofs.Common.{◌≡◌, Bool, true, false, ◌&&◌, ◌||◌, cond, refl, sym, ap, ◌∙◌, Ordering, Less, Equal, Greater}
+use Rattle.std.proofs.Common.{◌≡◌, Bool, true, false, ◌&&◌, ◌||◌, cond, refl, sym, ap, ◌∙◌, Ordering, Less}
 use Rattle.std.specs.Ordering.{is_lt}
-use Rattle.std.proofs.Math.Bool.{or_assoc, or_comm}
-use Rattle.std.proofs.lemmas.Bool.{false≢true}
+use Rattle.std.proofs.{Math.Bool.or_assoc, Math.Bool.or_comm, lemmas.Bool.false≢true}
 
 pub and-false : (b : Bool) → (b && false) ≡ false
 and-false true = refl

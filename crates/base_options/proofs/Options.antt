@@ -1,8 +1,7 @@
 -- Options.
 use Rattle.std.proofs.Common.{◌≡◌, Bool, true, false, cond, Option, Some, None, is_some, Decides, refl, sym, ap}
 use Rattle.std.specs.Option.{option_eq, option_or}
-use Rattle.std.proofs.lemmas.Bool.{false≢true}
-use Rattle.std.proofs.lemmas.Bool.Decides.{Decides-like}
+use Rattle.std.proofs.lemmas.Bool.{false≢true, Decides.Decides-like}
 
 pub none-from_is_some : {X : Type 0} (o : Option X) → is_some o ≡ false → o ≡ None
 none-from_is_some None none = refl

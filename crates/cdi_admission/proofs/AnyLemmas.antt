@@ -1,9 +1,7 @@
 -- Tests of some element of a list that is made of others.
-use Rattle.std.proofs.Common.{◌≡◌, ℕ, zero, suc, Bool, true, false, ◌||◌, List, [], ◌∷◌, ◌++◌, map, Some, refl, ap, sym, ◌∙◌}
-use Rattle.std.proofs.lemmas.Bool.{and_parts, or_from, or_parts}
-use Rattle.std.proofs.lemmas.List.Folds.{list_any-append}
-use Rattle.std.proofs.lemmas.Option.{same_Some}
+use Rattle.std.proofs.Common.{◌≡◌, ℕ, zero, suc, Bool, true, false, List, [], ◌∷◌, ◌++◌, map, Some, refl, ap, sym, ◌∙◌}
 use Rattle.std.specs.List.{list_all, list_any, flat_map, slice_get}
+use Rattle.std.proofs.lemmas.{Bool.and_parts, Bool.or_from, Bool.or_parts, List.Folds.list_any-append, Option.same_Some}
 use Rattle.base_lists.proofs.Any.{any-map, any-flat_map}
 
 -- ---- no element passes

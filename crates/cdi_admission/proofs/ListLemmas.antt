@@ -1,9 +1,7 @@
 -- Lists of names that are kept, and as they are seen.
 use Rattle.std.proofs.Common.{◌≡◌, ◌||◌, ℕ, List, [], ◌∷◌, map, Bor, refl, ap, ◌∙◌, nat_lt}
 use Rattle.std.proofs.lemmas.List.{length-map}
-use Rattle.std.specs.List.{list_any}
-use Rattle.std.specs.declared.alloc.Global.{Global}
-use Rattle.std.specs.declared.vec.Vec.{Vec}
+use Rattle.std.specs.{List.list_any, declared.alloc.Global.Global, declared.vec.Vec.Vec}
 use Rattle.cdi_model.specs.Quals.{list_limit}
 use Rattle.cdi_admission.specs.Admission.{is_long}
 

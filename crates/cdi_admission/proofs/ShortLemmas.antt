@@ -1,26 +1,18 @@
 -- A declaration that is not refused has short lists.
-use Rattle.std.proofs.Common.{◌≡◌, ◌≤◌, ℕ, Bool, true, false, cond, ◌||◌, List, [], ◌∷◌, ◌++◌, map, length, Option, Some, None, refl, ap, sym, ◌∙◌, arith, nat_lt}
-use Rattle.std.proofs.lemmas.Bool.{or_parts}
-use Rattle.std.proofs.lemmas.Bool.Decides.{nat_tests}
-use Rattle.std.proofs.lemmas.List.{length-map}
-use Rattle.std.proofs.lemmas.Option.{none-some}
+use Rattle.std.proofs.Common.{◌≡◌, ◌≤◌, ℕ, Bool, true, false, cond, ◌||◌, List, [], ◌∷◌, ◌++◌, map, length, Option, Some, None, refl, ap}
+use Rattle.std.proofs.Common.{sym, ◌∙◌, arith, nat_lt}
+use Rattle.std.proofs.lemmas.{Bool.or_parts, Bool.Decides.nat_tests, List.length-map, Option.none-some}
 use Rattle.std.specs.List.{list_any, flat_map}
 use Rattle.base_lists.proofs.Any.{any-map, any-flat_map}
-use Rattle.cdi_model.specs.Quals.{list_limit}
 use Rattle.cdi_model.specs.Short.{HasShortLists, IsShortBean, IsShortInterceptor, IsShortPart}
-use Rattle.cdi_model.specs.declared.decl.BeanDecl.{BeanDecl}
-use Rattle.cdi_model.specs.declared.decl.Decl.{Decl}
-use Rattle.cdi_model.specs.declared.decl.Decl.TheVariants as decls
-use Rattle.cdi_model.specs.declared.decl.InterceptorDecl.{InterceptorDecl}
-use Rattle.cdi_model.specs.declared.decl.MethodDecl.{MethodDecl}
-use Rattle.cdi_model.specs.declared.decl.ObserverDecl.{ObserverDecl}
-use Rattle.cdi_model.specs.declared.decl.PartDecl.{PartDecl}
-use Rattle.cdi_model.specs.declared.decl.PointDecl.{PointDecl}
-use Rattle.cdi_model.specs.declared.decl.ProducerDecl.{ProducerDecl}
+use Rattle.cdi_model.specs.{Quals.list_limit, declared.decl.BeanDecl.BeanDecl, declared.decl.Decl.Decl, declared.decl.PartDecl.PartDecl}
+use Rattle.cdi_model.specs.declared.decl.{InterceptorDecl.InterceptorDecl, MethodDecl.MethodDecl, ObserverDecl.ObserverDecl}
+use Rattle.cdi_model.specs.declared.decl.{PointDecl.PointDecl, ProducerDecl.ProducerDecl}
 use Rattle.cdi_model.specs.declared.refusal.Refusal.TheVariants.{BadName, Twice, ListTooLong}
-use Rattle.cdi_admission.specs.Admission.{has_bad_name, has_long_list, has_long_part, is_long, is_long_part, lists_of_attributes, lists_of_producer, name_lists}
-use Rattle.cdi_admission.specs.Admission.{is_long_one, point_names, refusal_of_decl, repeats_name}
+use Rattle.cdi_model.specs.declared.decl.Decl.TheVariants as decls
 use Rattle.cdi_admission.proofs.AnyLemmas.{HasNone, append-none, none-at}
+use Rattle.cdi_admission.specs.Admission.{has_bad_name, has_long_list, has_long_part, is_long, is_long_part, lists_of_attributes}
+use Rattle.cdi_admission.specs.Admission.{lists_of_producer, name_lists, is_long_one, point_names, refusal_of_decl, repeats_name}
 
 -- ---- one list
 

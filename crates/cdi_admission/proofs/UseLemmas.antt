@@ -1,25 +1,20 @@
 -- The uses and the events that texts spell are of a form that they have.
-use Rattle.std.proofs.Common.{◌≡◌, ℕ, Bool, true, false, cond, not, ◌||◌, List, [], ◌∷◌, codes, Option, Some, None, unwrap_or, refl, ap, sym, ◌∙◌, inl, inr}
-use Rattle.std.proofs.Common.{Ordering, Less, Equal, Greater}
+use Rattle.std.proofs.Common.{◌≡◌, ℕ, Bool, true, false, cond, not, ◌||◌, List, [], ◌∷◌, codes, Option, Some, None, unwrap_or, refl, ap}
+use Rattle.std.proofs.Common.{sym, ◌∙◌, inl, inr, Ordering, Less, Equal, Greater}
 use Rattle.std.proofs.lemmas.Bool.{and_parts, cases_Bool, false≢true, not-true, not_from_true, or_from, or_parts}
-use Rattle.std.proofs.lemmas.Option.{none-some}
-use Rattle.std.specs.Cmp.Lexicographic.{bytes_decides}
-use Rattle.std.specs.List.{list_all, list_any}
 use Rattle.std.specs.Prelude.{◌==◌, ℤ}
-use Rattle.std.specs.Str.{bytes_eq}
-use Rattle.cdi_model.specs.Bytes.{byte_order, comma, opening}
-use Rattle.cdi_model.specs.Grammar.{is_name}
-use Rattle.cdi_model.specs.Mentions.{of_event, UseOf}
-use Rattle.cdi_model.specs.Quals.{put_use}
+use Rattle.std.proofs.lemmas.Option.{none-some}
+use Rattle.std.specs.{Cmp.Lexicographic.bytes_decides, List.list_all, List.list_any, Str.bytes_eq}
+use Rattle.cdi_model.specs.{Bytes.byte_order, Bytes.comma, Bytes.opening, Grammar.is_name, Mentions.of_event, Mentions.UseOf, Quals.put_use}
+use Rattle.cdi_model.specs.declared.quals.Qual.{Qual}
 use Rattle.cdi_model.specs.declared.decl.UseKind.TheVariants as uses
 use Rattle.cdi_model.specs.declared.quals.Arguments.TheVariants as arguments
-use Rattle.cdi_model.specs.declared.quals.Qual.{Qual}
 use Rattle.cdi_uses.specs.Events.{event_of, is_event, is_event_use, type_in, uses_in}
-use Rattle.cdi_uses.specs.Pieces.{cut, split}
 use Rattle.cdi_uses.specs.Uses.{are_pairs, arguments_in, arguments_inside, before_close, is_inside, is_named, is_own_use, is_plain, is_use}
 use Rattle.cdi_uses.specs.Uses.{is_use_of, members_from, quals_from, use_name, use_of}
-use Rattle.cdi_admission.specs.Admission.{is_malformed, is_no_use, is_of_default, is_of_named}
+use Rattle.cdi_uses.specs.Pieces.{cut, split}
 use Rattle.cdi_admission.proofs.AnyLemmas.{HasNone, none-all, none-map}
+use Rattle.cdi_admission.specs.Admission.{is_malformed, is_no_use, is_of_default, is_of_named}
 
 -- ---- a use
 

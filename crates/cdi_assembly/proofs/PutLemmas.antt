@@ -1,16 +1,12 @@
 -- Files that are put one after another.
-use Rattle.std.proofs.Common.{◌≡◌, Ok, Err, Result, ℕ, ◌+◌, ◌<◌, Bool, true, false, List, ◌∷◌, ◌++◌, length, refl, ap, ap₂, sym, ◌∙◌, append_assoc}
+use Rattle.std.proofs.Common.{◌≡◌, Ok, Err, Result, ℕ, ◌+◌, ◌<◌, Bool, true, false, List, ◌∷◌, ◌++◌, length, refl, ap, ap₂, sym, ◌∙◌}
+use Rattle.std.proofs.Common.{append_assoc, get_or}
 use Rattle.std.specs.List.{list_all}
-use Rattle.std.specs.Prelude.{get_or}
-use Rattle.std.proofs.lemmas.Bool.{false≢true}
-use Rattle.std.proofs.lemmas.List.Folds.{list_all_at}
+use Rattle.std.proofs.lemmas.{Bool.false≢true, List.Folds.list_all_at}
+use Rattle.cdi_model.specs.declared.{decl.Decl.Decl, refusal.Refusal.Refusal, refusal.Refusal.TheVariants.TooMany}
+use Rattle.cdi_model.specs.{DeclList.is_too_many, Edits.edited_all}
 use Rattle.cdi_container.specs.Editing.{answer_of_put, changes_in, put_among, put_of}
 use Rattle.cdi_container.specs.declared.answer.PutDone.{PutDone}
-use Rattle.cdi_model.specs.declared.decl.Decl.{Decl}
-use Rattle.cdi_model.specs.declared.refusal.Refusal.{Refusal}
-use Rattle.cdi_model.specs.declared.refusal.Refusal.TheVariants.{TooMany}
-use Rattle.cdi_model.specs.DeclList.{is_too_many}
-use Rattle.cdi_model.specs.Edits.{edited_all}
 use Rattle.cdi_script.specs.Left.{left_by_change}
 use Rattle.cdi_sources.specs.declared.source.Source.{Source}
 use Rattle.cdi_assembly.specs.Put.{answer_to_text, is_declaration, left_by_source, left_by_sources, refused_as, refused_from, Refused}

@@ -1,9 +1,7 @@
 -- The steps of a script that was read to its end.
 use Rattle.std.proofs.Common.{◌≡◌, List, [], ◌++◌, Result, Ok, Err, IfOk, ap, ◌∙◌}
 use Rattle.cdi_lines.specs.declared.command.Command.{Command}
-use Rattle.cdi_script.specs.Commands.{Mode, unclosed}
-use Rattle.cdi_script.specs.Left.{left_by_all}
-use Rattle.cdi_script.specs.Reads.{Reads}
+use Rattle.cdi_script.specs.{Commands.Mode, Commands.unclosed, Left.left_by_all, Reads.Reads}
 use Rattle.cdi_script.proofs.StepLemmas.{reads_end}
 use Rattle.cdi_assembly.specs.Steps.{LeaveAlike}
 

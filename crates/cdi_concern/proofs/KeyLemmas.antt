@@ -1,10 +1,8 @@
 -- The keys of the declarations at some positions.
 use Rattle.std.proofs.Common.{◌≡◌, ℕ, Bool, false, List, [], ◌∷◌, filter, flat_map, map, slice_get, refl, ap, ◌∙◌, arith}
 use Rattle.std.specs.Option.{option_map_or}
-use Rattle.cdi_model.specs.Decl.{key_of}
-use Rattle.cdi_model.specs.declared.decl.Decl.{Decl}
-use Rattle.cdi_model.specs.declared.key.DeclKey.{DeclKey}
 use Rattle.cdi_positions.specs.Marks.{is_marked, marked_from}
+use Rattle.cdi_model.specs.{Decl.key_of, declared.decl.Decl.Decl, declared.key.DeclKey.DeclKey}
 use Rattle.cdi_postings.specs.declared.word.Word.{Word}
 use Rattle.cdi_index.specs.Under.{has_one}
 use Rattle.cdi_index.proofs.UnderLemmas.{walk}

@@ -3,17 +3,14 @@ use Rattle.cdi_container.proofs.Common.{◌≡◌, ℕ, List, Bool, true, false,
 use Rattle.cdi_container.proofs.Common.{if◌then◌else◌, AreDistinct, Decl, Qual, Promised, beans, chosen, Choice, notified, ObserverId}
 use Rattle.cdi_container.proofs.Common.{scene_of, asked_for}
 use Rattle.cdi_model.specs.declared.refusal.Refusal.TheVariants.{NoMethod}
-use Rattle.cdi_effective.specs.declared.records.BeanId.{BeanId}
-use Rattle.cdi_resolve.specs.declared.choice.Choice.TheVariants.{One, Unsatisfied, Ambiguous}
 use Rattle.cdi_run.specs.declared.roots.Purpose.TheVariants as purposes
-use Rattle.cdi_staging.specs.Sites.{managed_class, method_of, position_of_bean}
-use Rattle.cdi_staging.specs.Notifying.{notified_as, notified_at}
-use Rattle.cdi_staging.proofs.LookupLemmas.{chosen-stands, chosen-has-methods}
+use Rattle.cdi_effective.specs.declared.records.BeanId.{BeanId}
+use Rattle.cdi_resolve.specs.declared.choice.Choice.TheVariants.{One}
 use Rattle.cdi_subjects.specs.Sites.{has_method}
+use Rattle.cdi_staging.specs.{Sites.managed_class, Sites.method_of, Sites.position_of_bean, Notifying.notified_as, Notifying.notified_at}
+use Rattle.cdi_staging.proofs.LookupLemmas.{chosen-stands, chosen-has-methods}
 use Rattle.cdi_container.specs.Asked.{Asked, aim_for, aim_of_choice, aim_with, purpose_of}
-use Rattle.cdi_container.specs.Wired.{StandsIn}
-use Rattle.cdi_container.specs.declared.asked.Aim.{Aim}
-use Rattle.cdi_container.specs.declared.asked.Message.{Message}
+use Rattle.cdi_container.specs.{Wired.StandsIn, declared.asked.Aim.Aim, declared.asked.Message.Message}
 
 ok_same : {A B : Type 0} (x y : A) (r : Result A B) → r ≡ Ok x → r ≡ Ok y → x ≡ y
 ok_same x y r h k = cc

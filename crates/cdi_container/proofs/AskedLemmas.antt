@@ -7,20 +7,17 @@ use Rattle.cdi_container.proofs.Common.{keys_of_event, keys_of_use, known_with, 
 use Rattle.cdi_container.proofs.Common.{IsAskedSome}
 use Rattle.std.proofs.Common.{inl, inr, ◌==◌, ◌<◌, get_or}
 use Rattle.std.specs.List.{IsDistinct}
-use Rattle.std.proofs.lemmas.Bool.{eqb-true}
-use Rattle.std.proofs.lemmas.List.Sums.{AllPass-from_list_all, list_all-from_AllPass}
+use Rattle.std.proofs.lemmas.{Bool.eqb-true, List.Sums.AllPass-from_list_all, List.Sums.list_all-from_AllPass}
 use Rattle.std.proofs.lemmas.Map.Made.{AllPairs-from_IsDistinct}
 use Rattle.cdi_model.specs.declared.refusal.Error.TheVariants as errors
-use Rattle.cdi_live.specs.State.{State as Live}
-use Rattle.cdi_observe.proofs.KeptLemmas.{after_known}
-use Rattle.cdi_observe.proofs.KeyLemmas.{all-pass, each-passes}
+use Rattle.cdi_observe.proofs.{KeptLemmas.after_known, KeyLemmas.all-pass, KeyLemmas.each-passes}
 use Rattle.cdi_observe.proofs.WantedLemmas.{distinct-with_key, wanted-distinct}
+use Rattle.cdi_live.specs.State.{State as Live}
 use Rattle.cdi_report.proofs.SettledLemmas.{all-still}
-use Rattle.cdi_container.specs.Known.{keys_of_run}
-use Rattle.cdi_container.specs.Wired.{AsksOwn}
 use Rattle.cdi_container.proofs.Committing.{deployed_on}
 use Rattle.cdi_container.proofs.KnownLemmas.{KnowsAfter, asked_evaluated, asked_one, filter-all, has-with_key, known-then}
 use Rattle.cdi_container.proofs.KnownLemmas.{known_with-wanted, in_order, none-unknown, same-knows, work-then}
+use Rattle.cdi_container.specs.{Known.keys_of_run, Wired.AsksOwn}
 
 -- ---- lists of keys
 

@@ -1,21 +1,18 @@
 -- What questions, reports and runs leave of a container.
 use Rattle.cdi_container.proofs.Common.{◌≡◌, ℕ, List, Option, None, refl, subst, sym, Result, Ok, Err, Qual, Choice, ObserverId, scene_of}
-use Rattle.cdi_container.proofs.Common.{[], ◌∷◌, ap, ◌∙◌, IsErrAnd, false≢true, Error, Key, Deployed, Evaluates, IsAsked}
-use Rattle.cdi_container.proofs.Common.{IsAskedSome, AllocError, Answers, Outcome, Refusal, cleared, LegalRun, Moment, beginning}
-use Rattle.cdi_container.proofs.Common.{Scene, ChainKey, chain_of, Names, Report, run_by, alone, State, AsksSome, RunAnswers, RunsFrom}
-use Rattle.cdi_container.proofs.Common.{asked, emptied, evaluates, left_by, untold, IsRefusedBy, trace_names, Given}
-use Rattle.std.specs.Result.{IsErr}
-use Rattle.std.specs.declared.alloc.Global.{Global}
-use Rattle.std.specs.declared.vec.Vec.{Vec}
+use Rattle.cdi_container.proofs.Common.{[], ◌∷◌, ap, ◌∙◌, IsErrAnd, false≢true, Error, Key, Deployed, Evaluates, IsAsked, IsAskedSome}
+use Rattle.cdi_container.proofs.Common.{AllocError, Answers, Outcome, Refusal, cleared, LegalRun, Moment, beginning, Scene, ChainKey}
+use Rattle.cdi_container.proofs.Common.{chain_of, Names, Report, run_by, alone, State, AsksSome, RunAnswers, RunsFrom, asked, emptied}
+use Rattle.cdi_container.proofs.Common.{evaluates, left_by, untold, IsRefusedBy, trace_names, Given}
+use Rattle.std.specs.{Result.IsErr, declared.alloc.Global.Global, declared.vec.Vec.Vec}
 use Rattle.cdi_model.specs.declared.place.BeanPlace.{BeanPlace}
 use Rattle.cdi_model.specs.declared.refusal.Error.TheVariants as errors
-use Rattle.cdi_faults.specs.declared.fault.Fault.{Fault}
 use Rattle.cdi_legal.specs.LegalRun.{Command as Run}
-use Rattle.cdi_container.specs.History.{LeavesRun, refusal_in}
-use Rattle.cdi_container.specs.Known.{keys_of_chain}
-use Rattle.cdi_container.specs.Seen.{ChainStep, ChooseStep, ObserversStep, EvaluateStep, ReportStep, unplayed}
+use Rattle.cdi_faults.specs.declared.fault.Fault.{Fault}
 use Rattle.cdi_container.proofs.AskedLemmas.{apart-none}
 use Rattle.cdi_container.proofs.Ending.{standing_at}
+use Rattle.cdi_container.specs.Seen.{ChainStep, ChooseStep, ObserversStep, EvaluateStep, ReportStep, unplayed}
+use Rattle.cdi_container.specs.{History.LeavesRun, History.refusal_in, Known.keys_of_chain}
 
 -- ---- questions and reports
 

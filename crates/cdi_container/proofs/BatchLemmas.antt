@@ -1,15 +1,14 @@
 -- The edits of a batch, one after another.
 use Rattle.cdi_container.proofs.Common.{◌≡◌, ℕ, List, Option, refl, sym, Ok, Err, Decl, [], ◌∷◌, ◌++◌, ap, ◌∙◌, Error, Answers, Refusal}
-use Rattle.cdi_container.proofs.Common.{◌+◌, edited, edited_all, Drafted, asked_by, change_of, changes_of, changes_of_all, drafted_all}
-use Rattle.cdi_container.proofs.Common.{first_refusal, SaysReason, answer_of_change, refused_at}
-use Rattle.std.proofs.Common.{append_assoc}
-use Rattle.std.proofs.lemmas.List.{map-append}
+use Rattle.cdi_container.proofs.Common.{◌+◌, edited, edited_all, Drafted, change_of, changes_of, changes_of_all, drafted_all, first_refusal}
+use Rattle.cdi_container.proofs.Common.{SaysReason, answer_of_change, refused_at}
+use Rattle.std.proofs.{Common.append_assoc, lemmas.List.map-append}
 use Rattle.cdi_model.specs.declared.edit.Edit.{Edit as Change}
-use Rattle.cdi_model.specs.declared.refusal.Error.TheVariants as errors
 use Rattle.cdi_model.specs.Edits.{edited_key, edited_keys}
+use Rattle.cdi_model.specs.declared.refusal.Error.TheVariants as errors
 use Rattle.cdi_lines.specs.declared.edit.Edit.{Edit}
-use Rattle.cdi_container.specs.Editing.{refused_first}
 use Rattle.cdi_container.proofs.Putting.{accepted_change, refused_change}
+use Rattle.cdi_container.specs.Editing.{asked_by, refused_first}
 
 pub edited_all-append : (ds : List Decl) (es fs : List Change) → edited_all ds (es ++ fs) ≡ edited_all (edited_all ds es) fs
 edited_all-append ds [] fs = refl

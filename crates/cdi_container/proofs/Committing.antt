@@ -3,18 +3,16 @@ use Rattle.cdi_container.proofs.Common.{◌≡◌, List, Bool, true, false, Opti
 use Rattle.cdi_container.proofs.Common.{Decl, Promised, scene_of, [], ◌∷◌, ap, ◌∙◌, Error, KnownAreWanted, known_of, knows, Key, wanted}
 use Rattle.cdi_container.proofs.Common.{Deployed, IfOk, Moment, Names, State, trace_names, Drafted, filter, IfSome, IsEdited, Staged}
 use Rattle.cdi_container.proofs.Common.{Commits, CommitsTo, AreShort, LegalEnd, Entry, names_of, text_of_entries, IsWiringOf, Wiring}
-use Rattle.cdi_container.proofs.Common.{is_sound, redeployed}
-use Rattle.std.specs.Prelude.{ℕ, unwrap_or}
-use Rattle.cdi_live.specs.State.{State as Live, TakesOver}
-use Rattle.cdi_seen.specs.Touched.{still_known}
+use Rattle.cdi_container.proofs.Common.{is_sound, redeployed, ℕ}
+use Rattle.std.specs.Prelude.{unwrap_or}
 use Rattle.cdi_model.specs.declared.edit.Edit.{Edit as Change}
-use Rattle.cdi_container.specs.Editing.{drafted_by}
-use Rattle.cdi_container.specs.History.{Redeploys}
+use Rattle.cdi_seen.specs.Touched.{still_known}
+use Rattle.cdi_live.specs.State.{State as Live, TakesOver}
 use Rattle.cdi_wiring.specs.declared.verdict.Wiring.TheVariants as wirings
-use Rattle.cdi_container.specs.Wired.{names_if, names_in, redeployed_to, staged_by, with_staged}
-use Rattle.cdi_container.specs.Known.{known_still}
 use Rattle.cdi_container.proofs.Ending.{standing_at}
 use Rattle.cdi_container.proofs.KnownLemmas.{same-knows}
+use Rattle.cdi_container.specs.Wired.{names_if, names_in, redeployed_to, staged_by, with_staged}
+use Rattle.cdi_container.specs.{Editing.drafted_by, History.Redeploys, Known.known_still}
 
 -- ---- drafts
 

@@ -1,7 +1,6 @@
 -- What an edit leaves.
 use Rattle.cdi_container.proofs.Common.{List, Decl, edited, AreShort}
-use Rattle.cdi_model.specs.declared.edit.Edit.{Edit}
-use Rattle.cdi_model.specs.declared.edit.Edit.TheVariants.{Put, Remove}
+use Rattle.cdi_model.specs.declared.edit.Edit.{Edit, TheVariants.Put, TheVariants.Remove}
 use Rattle.cdi_model.proofs.ShortLemmas.{put_short, remove_short}
 use Rattle.cdi_container.specs.Wired.{IsShortEdit}
 

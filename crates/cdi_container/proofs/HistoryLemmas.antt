@@ -1,14 +1,15 @@
 -- The declarations and the counts behind a legal history are what its accepted edits make.
 use Rattle.cdi_container.proofs.Common.{◌≡◌, List, Bool, true, false, refl, subst, sym, Result, Ok, Err, if◌then◌else◌, [], ◌∷◌, ap, ◌∙◌}
 use Rattle.cdi_container.proofs.Common.{AllocError, Report, State, asked, emptied, evaluates, Given, edited_all, changes_of, changes_of_all}
-use Rattle.cdi_container.proofs.Common.{Done, Command, Edit, Batch, Choose, Named, Chain, Observers, LookUp, Call, Fire, BeginRequest}
-use Rattle.cdi_container.proofs.Common.{EndRequest, Stop, Unreadable, Answer, Chosen, Intercepted, Observed, Reported, Counted, Worked}
-use Rattle.cdi_container.proofs.Common.{Refused, empty, History, Acts, EditsFrom, LegalAnswer, LegalHistory, runs}
+use Rattle.cdi_container.proofs.Common.{Done, Command, Batch, Chain, LookUp, Call, Fire, BeginRequest, EndRequest, Stop, Unreadable, Answer}
+use Rattle.cdi_container.proofs.Common.{Chosen, Intercepted, Observed, Reported, Counted, Worked, Refused, History, Acts, EditsFrom}
+use Rattle.cdi_container.proofs.Common.{LegalAnswer, LegalHistory, runs}
 use Rattle.cdi_model.specs.declared.edit.Edit.{Edit as Change}
+use Rattle.cdi_lines.specs.declared.command.Command.TheVariants.{Edit, Choose, Named, Observers}
 use Rattle.cdi_lines.specs.declared.command.Command.TheVariants as commands
 use Rattle.cdi_container.proofs.BatchLemmas.{edited_all-append}
-use Rattle.cdi_container.specs.History.{accepted_changes, accepted_edits, RestsOnAcceptedEdits, counts_behind, counts_of, counts_with}
-use Rattle.cdi_container.specs.History.{CountsAcceptedEdits}
+use Rattle.cdi_container.specs.History.{empty, accepted_changes, accepted_edits, RestsOnAcceptedEdits, counts_behind, counts_of}
+use Rattle.cdi_container.specs.History.{counts_with, CountsAcceptedEdits}
 
 -- the state after what a command evaluates
 abbrev pub after_asking : State → Command → State

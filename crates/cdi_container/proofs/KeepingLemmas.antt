@@ -4,14 +4,10 @@ use Rattle.cdi_container.proofs.Common.{Decl, Promised, ◌||◌, ap, ◌∙◌,
 use Rattle.cdi_container.proofs.Common.{EvaluatesSome, Key, has_key, wanted, is_wanted, IfSome, Staged, Commits, CommitsTo, AreShort}
 use Rattle.cdi_container.proofs.Common.{IsWiringOf, Wiring, OnOk, Kept, evaluated-apart, AreSettled, KnowsAll}
 use Rattle.std.specs.Prelude.{OnErr}
-use Rattle.cdi_live.specs.State.{State as Live, with_staged}
 use Rattle.cdi_observe.proofs.KeptLemmas.{knows_wanted}
-use Rattle.cdi_report.specs.Settled.{LooksAtMore}
-use Rattle.cdi_report.specs.Stays.{IsReadied}
-use Rattle.cdi_report.specs.declared.unsettled.Unsettled.{Unsettled}
-use Rattle.cdi_report.proofs.KeptLemmas.{settled_stay}
-use Rattle.cdi_report.proofs.SettledLemmas.{settled-still}
-use Rattle.cdi_report.proofs.TogetherLemmas.{more_is_settled}
+use Rattle.cdi_live.specs.State.{State as Live, with_staged}
+use Rattle.cdi_report.specs.{Settled.LooksAtMore, Stays.IsReadied, declared.unsettled.Unsettled.Unsettled}
+use Rattle.cdi_report.proofs.{KeptLemmas.settled_stay, SettledLemmas.settled-still, TogetherLemmas.more_is_settled}
 use Rattle.cdi_container.specs.Kept.{IsKept, IsWiredRight}
 
 -- it knows all that it knew

@@ -4,15 +4,12 @@ use Rattle.cdi_container.proofs.Common.{AllPairs, and_parts, false≢true, or_le
 use Rattle.cdi_container.proofs.Common.{after_key, evaluated, Key, has_key, same_key, with_key, wanted, is_wanted, same_key-decides}
 use Rattle.cdi_container.proofs.Common.{same_key-equiv, has-wanted, known_with, work_with, IsInOrder, filter, Kept, evaluated-apart, suc}
 use Rattle.cdi_container.proofs.Common.{list_any-append}
-use Rattle.std.proofs.Common.{zero, cond, not}
-use Rattle.std.specs.Prelude.{All}
-use Rattle.std.specs.Fn.{iterate}
-use Rattle.std.proofs.Math.Bool.{or-false}
-use Rattle.std.proofs.lemmas.Map.Views.{any-filter_same}
+use Rattle.std.proofs.{Common.zero, Common.cond, Common.not, Math.Bool.or-false, lemmas.Map.Views.any-filter_same}
+use Rattle.std.specs.{Prelude.All, Fn.iterate}
 use Rattle.base_lists.proofs.Filters.{filter-each}
 use Rattle.cdi_model.specs.Work.{with_one}
-use Rattle.cdi_live.specs.State.{State as Live, empty}
 use Rattle.cdi_observe.specs.Kept.{unknown, with_all}
+use Rattle.cdi_live.specs.State.{State as Live, empty}
 
 -- ---- lists of keys
 

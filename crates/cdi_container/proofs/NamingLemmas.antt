@@ -2,8 +2,8 @@
 use Rattle.cdi_container.proofs.Common.{◌≡◌, List, Option, None, map, refl, subst, sym, ap, ◌∙◌, Deployed, Moment, Names, State}
 use Rattle.cdi_container.proofs.Common.{trace_names, Entry, names_of}
 use Rattle.cdi_trace.specs.Entries.{Shown}
-use Rattle.cdi_container.specs.Named.{NamesTrace}
 use Rattle.cdi_container.proofs.Ending.{standing_at}
+use Rattle.cdi_container.specs.Named.{NamesTrace}
 
 abbrev pub by_names : Names → List Entry → List Shown
 by_names names trace = map (λ entry. record { names = names; entry = entry }) trace

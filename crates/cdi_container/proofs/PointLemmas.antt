@@ -1,12 +1,12 @@
 -- The answers for the injection points are known where each wanted key is.
-use Rattle.cdi_container.proofs.Common.{◌≡◌, List, Bool, true, map, refl, Decl, [], ◌∷◌, ◌++◌, ◌∙◌, list_all, and_from}
-use Rattle.cdi_container.proofs.Common.{or_left, or_right, knows, Key, has_key, same_key, is_wanted, same_key-equiv, KnowsAll}
-use Rattle.cdi_container.proofs.Common.{list_any-append, AreKnown, placed_points}
-use Rattle.std.specs.List.{flat_map, list_any}
-use Rattle.std.proofs.lemmas.List.Folds.{list_all-append}
+use Rattle.cdi_container.proofs.Common.{◌≡◌, List, Bool, true, map, refl, Decl, [], ◌∷◌, ◌++◌, ◌∙◌, list_all, or_left, or_right, knows, Key}
+use Rattle.cdi_container.proofs.Common.{has_key, same_key, is_wanted, same_key-equiv, KnowsAll, list_any-append, AreKnown, placed_points}
+use Rattle.cdi_container.proofs.Common.{flat_map}
+use Rattle.std.proofs.lemmas.{Bool.and_from, List.Folds.list_all-append}
+use Rattle.std.specs.List.{list_any}
 use Rattle.cdi_model.specs.Mentions.{Mention, PointOf, mentions}
-use Rattle.cdi_live.specs.State.{State as Live}
 use Rattle.cdi_observe.specs.Wanted.{asked_by, chains_by, events_by, key_of_point, point_named, wanted_by}
+use Rattle.cdi_live.specs.State.{State as Live}
 use Rattle.cdi_container.specs.Points.{PlacedPoint, point_in, points_in}
 
 module _ (f : Key → Bool) where

@@ -2,23 +2,20 @@
 use Rattle.cdi_container.proofs.Common.{◌≡◌, ℕ, List, Bool, true, false, Option, None, Some, refl, subst, sym, Result, Ok, Err, Decl, []}
 use Rattle.cdi_container.proofs.Common.{ap, ◌∙◌, Error, Answers, Refusal, alone, State, AsksSome, left_by, change_of, changes_of}
 use Rattle.cdi_container.proofs.Common.{changes_of_all, answer_of_change, EditsFrom, OnOk, IfErr, IsStep}
-use Rattle.cdi_model.specs.declared.refusal.Error.TheVariants as errors
-use Rattle.cdi_model.specs.declared.refusal.Refusal.TheVariants.{TooMany}
-use Rattle.cdi_model.specs.DeclList.{is_too_many}
 use Rattle.cdi_model.specs.declared.edit.Edit.{Edit as Change}
+use Rattle.cdi_model.specs.{declared.refusal.Refusal.TheVariants.TooMany, DeclList.is_too_many, Edits.refusal_of_edit, Edits.answer_of_edit}
+use Rattle.cdi_model.specs.declared.refusal.Error.TheVariants as errors
 use Rattle.cdi_model.specs.declared.edit.Edit.TheVariants as changes
-use Rattle.cdi_model.specs.Edits.{refusal_of_edit, answer_of_edit}
 use Rattle.cdi_admission.specs.Admission.{refusal_of_decl}
-use Rattle.cdi_text.specs.Reading.{decl_of}
 use Rattle.cdi_lines.specs.declared.command.Command.TheVariants.{Edit as EditCommand}
 use Rattle.cdi_lines.specs.declared.edit.Edit.{Edit}
 use Rattle.cdi_lines.specs.declared.edit.Edit.TheVariants as edits
+use Rattle.cdi_text.specs.Reading.{decl_of}
+use Rattle.cdi_container.proofs.AskedLemmas.{apart-none}
 use Rattle.cdi_container.specs.Editing.{admitted, answer_of_put, changes_in, put_among, put_of, refusal_of_batch, refusal_of_change}
 use Rattle.cdi_container.specs.Seen.{EditStep, PutStep, PutDeclStep, BatchStep, AnswersBatch, left_by_batch, put_answer}
-use Rattle.cdi_container.specs.declared.answer.PutDone.{PutDone}
-use Rattle.cdi_container.specs.declared.batch.BatchError.{BatchError}
+use Rattle.cdi_container.specs.declared.{answer.PutDone.PutDone, batch.BatchError.BatchError}
 use Rattle.cdi_container.specs.declared.batch.BatchError.TheVariants as batch_errors
-use Rattle.cdi_container.proofs.AskedLemmas.{apart-none}
 
 -- a change that is accepted has no refusal
 accepted : (ds : List Decl) (change : Change) (u : Unit {0}) → answer_of_edit ds change ≡ Ok u → refusal_of_edit ds change ≡ None

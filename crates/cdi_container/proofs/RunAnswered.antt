@@ -1,7 +1,6 @@
 -- What a look-up, a call or an event answers, one fact each.
 use Rattle.cdi_container.proofs.Common.{List, Error, Key, IfOk, Outcome, Refusal, State, RunAnswers, RunsFrom, asked, IsRefusedBy, Given}
-use Rattle.cdi_container.proofs.Common.{IfErr}
-use Rattle.std.proofs.Common.{Result, Ok, Err}
+use Rattle.cdi_container.proofs.Common.{IfErr, Result, Ok, Err}
 use Rattle.cdi_model.specs.declared.refusal.Error.TheVariants as errors
 use Rattle.cdi_legal.specs.LegalRun.{Command as Run}
 use Rattle.cdi_container.specs.History.{Unplayed}

@@ -1,26 +1,23 @@
 -- What stands behind each step of a legal history: at most one instance of each bean with a normal scope is live, among others.
-use Rattle.base_lists.proofs.Each.{all-weaker}
 use Rattle.cdi_container.proofs.Common.{◌≡◌, List, Bool, true, false, Option, None, Some, refl, subst, sym, Result, Ok, Err, if◌then◌else◌}
-use Rattle.cdi_container.proofs.Common.{[], ◌∷◌, ap, ◌∙◌, AllocError, Outcome, Refusal, LegalRun, Scene, Report, State, RunsFrom, emptied}
-use Rattle.cdi_container.proofs.Common.{untold, Given, changes_of, changes_of_all, LegalEnd, Entry, Done, EndsRequest, scene, Command, Edit}
-use Rattle.cdi_container.proofs.Common.{Batch, Choose, Named, Chain, Observers, LookUp, Call, Fire, BeginRequest, EndRequest, Stop}
-use Rattle.cdi_container.proofs.Common.{Unreadable, Answer, Chosen, Intercepted, Observed, Reported, Counted, Worked, Refused, empty}
-use Rattle.cdi_container.proofs.Common.{History, Acts, EditsFrom, LegalAnswer, LegalHistory, runs, arith, Standing, IsRequested, IsSingleAt}
-use Rattle.cdi_container.proofs.Common.{IsWithinLimit, Step, LegalStep, IsRooted, trace_behind}
+use Rattle.cdi_container.proofs.Common.{[], ◌∷◌, ap, ◌∙◌, AllocError, Outcome, Refusal, LegalRun, Scene, State, RunsFrom, emptied, untold}
+use Rattle.cdi_container.proofs.Common.{Given, changes_of, changes_of_all, LegalEnd, Entry, Done, EndsRequest, scene, Command, Batch, Chain}
+use Rattle.cdi_container.proofs.Common.{LookUp, Call, Fire, BeginRequest, EndRequest, Stop, Unreadable, Answer, Chosen, Intercepted}
+use Rattle.cdi_container.proofs.Common.{Observed, Reported, Counted, Worked, Refused, History, Acts, EditsFrom, LegalAnswer, LegalHistory}
+use Rattle.cdi_container.proofs.Common.{runs, arith, Standing, IsRequested, IsSingleAt, IsWithinLimit, Step, LegalStep, IsRooted}
+use Rattle.cdi_container.proofs.Common.{trace_behind}
+use Rattle.base_lists.proofs.Each.{all-weaker}
 use Rattle.cdi_model.specs.declared.edit.Edit.{Edit as Change}
-use Rattle.cdi_contexts.specs.Rising.{IsRising}
-use Rattle.cdi_contexts.specs.Standing.{opened}
-use Rattle.cdi_contexts.specs.declared.instance.Instance.{Instance}
+use Rattle.cdi_contexts.specs.{Rising.IsRising, Standing.opened, declared.instance.Instance.Instance}
 use Rattle.cdi_contexts.specs.declared.instance.Owner.TheVariants.{Request}
-use Rattle.cdi_legal.specs.Laws.{HoldsOfCommands}
 use Rattle.cdi_legal.specs.LegalRun.{Command as Run, LegalRequestEnd}
-use Rattle.cdi_legal.specs.Single.{IsSingle}
-use Rattle.cdi_legal.proofs.Bounding.{commands_keep_limit, commands_keep_requested}
-use Rattle.cdi_legal.proofs.Commands.{commands_keep_single}
+use Rattle.cdi_legal.specs.{Laws.HoldsOfCommands, Single.IsSingle}
+use Rattle.cdi_legal.proofs.{Bounding.commands_keep_limit, Bounding.commands_keep_requested, Commands.commands_keep_single}
 use Rattle.cdi_legal.proofs.Housing.{both_ends_leave_nothing, commands_keep_rooted}
+use Rattle.cdi_lines.specs.declared.command.Command.TheVariants.{Edit}
 use Rattle.cdi_lines.specs.declared.command.Command.TheVariants as commands
-use Rattle.cdi_container.specs.History.{with_request, EndsContexts, IsRunFrom, SharesInstances}
 use Rattle.cdi_container.proofs.HistoryLemmas.{after_asking}
+use Rattle.cdi_container.specs.History.{empty, with_request, EndsContexts, IsRunFrom, SharesInstances}
 
 -- ---- what stands
 

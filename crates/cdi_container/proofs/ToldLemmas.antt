@@ -1,18 +1,18 @@
 -- The state behind a legal history is told by what was commanded, answered and traced.
 use Rattle.cdi_container.proofs.Common.{◌≡◌, ℕ, List, Bool, true, false, refl, subst, sym, Result, Ok, Err, if◌then◌else◌, [], ◌∷◌, ap, ◌∙◌}
-use Rattle.cdi_container.proofs.Common.{list_all, and_parts, false≢true, Key, AllocError, Names, Report, State, asked, emptied, Given}
-use Rattle.cdi_container.proofs.Common.{changes_of, changes_of_all, Entry, names_of, closed, Done, Command, Edit, Batch, Choose, Named}
-use Rattle.cdi_container.proofs.Common.{Chain, Observers, LookUp, Call, Fire, BeginRequest, EndRequest, Stop, Unreadable, Answer, Chosen}
-use Rattle.cdi_container.proofs.Common.{Intercepted, Observed, Reported, Counted, Worked, Refused, empty, History, Acts, EditsFrom}
-use Rattle.cdi_container.proofs.Common.{LegalAnswer, LegalHistory, runs, trace_behind}
+use Rattle.cdi_container.proofs.Common.{list_all, and_parts, false≢true, Key, AllocError, Names, State, asked, emptied, Given, changes_of}
+use Rattle.cdi_container.proofs.Common.{changes_of_all, Entry, names_of, closed, Done, Command, Batch, Chain, LookUp, Call, Fire}
+use Rattle.cdi_container.proofs.Common.{EndRequest, Stop, Unreadable, Answer, Chosen, Intercepted, Observed, Reported, Counted, Worked}
+use Rattle.cdi_container.proofs.Common.{Refused, History, Acts, EditsFrom, LegalAnswer, LegalHistory, runs, trace_behind}
 use Rattle.cdi_model.specs.declared.edit.Edit.{Edit as Change}
 use Rattle.cdi_legal.specs.Follows.{after}
 use Rattle.cdi_legal.proofs.Commands.{run_follows, request_end_follows, end_follows}
+use Rattle.cdi_lines.specs.declared.command.Command.TheVariants.{Edit}
 use Rattle.cdi_lines.specs.declared.command.Command.TheVariants as commands
-use Rattle.cdi_container.specs.History.{left_unserved}
-use Rattle.cdi_container.specs.Told.{standing_behind, carried_out, is_served, known_behind, told_behind, told_by, AreOneButKnown, IsTold}
 use Rattle.cdi_container.proofs.HistoryLemmas.{acts_count, acts_edits, after_asking}
 use Rattle.cdi_container.proofs.Telling.{acts_tell}
+use Rattle.cdi_container.specs.Told.{standing_behind, carried_out, is_served, known_behind, told_behind, told_by, AreOneButKnown, IsTold}
+use Rattle.cdi_container.specs.History.{empty, left_unserved}
 
 same_state : (a b : State) → a.decls ≡ b.decls → a.counts ≡ b.counts → a.known ≡ b.known → a.work ≡ b.work → a.book ≡ b.book
     → a.standing ≡ b.standing → a.trace ≡ b.trace → a.text ≡ b.text → a ≡ b

@@ -1,28 +1,20 @@
 -- Who lives where, as instances come, change and go.
-use Rattle.std.proofs.Common.{◌≡◌, ℕ, zero, suc, ◌<◌, Bool, true, false, ◌==◌, ◌&&◌, cond}
-use Rattle.std.proofs.Common.{List, [], ◌∷◌, ◌++◌, map, length, get_or, drop, Option, Some, None, refl, arith, ap, sym, subst, ◌∙◌}
-use Rattle.std.specs.List.{find, remove}
-use Rattle.std.specs.Option.{option_map, option_or}
-use Rattle.std.proofs.lemmas.Bool.Decides.{nat_tests}
-use Rattle.std.proofs.lemmas.List.Folds.{find-append}
+use Rattle.std.proofs.Common.{◌≡◌, ℕ, zero, suc, ◌<◌, Bool, true, false, ◌==◌, ◌&&◌, cond, List, [], ◌∷◌, ◌++◌, map, length, get_or, drop}
+use Rattle.std.proofs.Common.{Option, Some, None, refl, arith, ap, sym, subst, ◌∙◌}
+use Rattle.std.specs.{List.find, List.remove, Option.option_map, Option.option_or}
+use Rattle.std.proofs.lemmas.{Bool.Decides.nat_tests, List.Folds.find-append}
 use Rattle.base_options.proofs.Booleans.{and-false}
-use Rattle.cdi_model.specs.declared.decl.Scope.TheVariants as scopes
 use Rattle.cdi_model.specs.declared.outcome.Val.{Val}
-use Rattle.cdi_contexts.specs.Homes.{home_of, is_home_of, lives_at, living_at, oldest_at, joined, left_of, kept_at, AreHomesOf}
-use Rattle.cdi_contexts.specs.Owned.{is_of}
-use Rattle.cdi_contexts.specs.Places.{IsPlace}
-use Rattle.cdi_contexts.specs.Rising.{IsRising, RisesFrom}
-use Rattle.cdi_contexts.specs.SameHomes.{same_home}
-use Rattle.cdi_contexts.specs.Standing.{found, numbered, finish, keep}
-use Rattle.cdi_contexts.specs.declared.homes.Home.{Home}
-use Rattle.cdi_contexts.specs.declared.homes.Home.TheVariants as homes
-use Rattle.cdi_contexts.specs.declared.homes.Homes.{Homes}
-use Rattle.cdi_contexts.specs.declared.instance.Instance.{Instance}
-use Rattle.cdi_contexts.specs.declared.instance.InstanceId.{InstanceId}
-use Rattle.cdi_contexts.specs.declared.instance.Owner.{Owner}
-use Rattle.cdi_contexts.specs.declared.instance.Owner.TheVariants.{Request, Application, Point, Nobody}
+use Rattle.cdi_model.specs.declared.decl.Scope.TheVariants as scopes
 use Rattle.cdi_contexts.proofs.Places.{above, number_at}
 use Rattle.cdi_contexts.proofs.Rising.{IsSame, finish_same, kept_same}
+use Rattle.cdi_contexts.specs.Homes.{home_of, is_home_of, lives_at, living_at, oldest_at, joined, left_of, kept_at, AreHomesOf}
+use Rattle.cdi_contexts.specs.Standing.{found, numbered, finish, keep}
+use Rattle.cdi_contexts.specs.declared.instance.Owner.TheVariants.{Request, Application, Point, Nobody}
+use Rattle.cdi_contexts.specs.{Owned.is_of, Places.IsPlace, Rising.IsRising, Rising.RisesFrom, SameHomes.same_home}
+use Rattle.cdi_contexts.specs.declared.{homes.Home.Home, homes.Homes.Homes, instance.Instance.Instance, instance.InstanceId.InstanceId}
+use Rattle.cdi_contexts.specs.declared.instance.Owner.{Owner}
+use Rattle.cdi_contexts.specs.declared.homes.Home.TheVariants as homes
 
 -- ---- an instance lives at its home and nowhere else
 

@@ -1,18 +1,13 @@
 -- The youngest of some instances.
-use Rattle.std.proofs.Common.{◌≡◌, ℕ, ◌<◌, ◌≤◌, Bool, true, false, ◌==◌, cond, List, [], ◌∷◌, ◌++◌, reverse}
-use Rattle.std.proofs.Common.{Option, Some, None, IsSome, IfSome, refl, arith, subst, sym}
-use Rattle.std.specs.List.{find, AllByRecursion}
-use Rattle.std.specs.Option.{option_map}
+use Rattle.std.proofs.Common.{◌≡◌, ℕ, ◌<◌, ◌≤◌, Bool, true, false, ◌==◌, cond, List, [], ◌∷◌, ◌++◌, reverse, Option, Some, None, IsSome}
+use Rattle.std.proofs.Common.{IfSome, refl, arith, subst, sym}
+use Rattle.std.specs.{List.find, List.AllByRecursion, Option.option_map}
 use Rattle.std.proofs.lemmas.List.{reverse-append}
 use Rattle.cdi_model.specs.declared.decl.Scope.{Scope}
-use Rattle.cdi_contexts.specs.Owned.{is_part_of, is_of}
-use Rattle.cdi_contexts.specs.Rising.{IsRising, RisesFrom, IsOwnerOf}
-use Rattle.cdi_contexts.specs.Standing.{last_where, last_of, last_in, numbered, IsLive}
-use Rattle.cdi_contexts.specs.declared.instance.Instance.{Instance}
-use Rattle.cdi_contexts.specs.declared.instance.InstanceId.{InstanceId}
-use Rattle.cdi_contexts.specs.declared.instance.Owner.{Owner}
-use Rattle.cdi_contexts.specs.declared.instance.Owner.TheVariants.{Request, Application, Point, Nobody}
 use Rattle.cdi_contexts.proofs.Rising.{rises_bound}
+use Rattle.cdi_contexts.specs.Standing.{last_where, last_of, last_in, numbered, IsLive}
+use Rattle.cdi_contexts.specs.{Owned.is_part_of, Owned.is_of, Rising.IsRising, Rising.RisesFrom, Rising.IsOwnerOf}
+use Rattle.cdi_contexts.specs.declared.instance.{Instance.Instance, InstanceId.InstanceId, Owner.Owner, Owner.TheVariants.Point}
 
 -- ---- what stands of each live instance
 

@@ -1,21 +1,13 @@
 -- Where an instance stands among the live ones, whose numbers rise.
-use Rattle.std.proofs.Common.{◌≡◌, ◌≢◌, ℕ, zero, suc, ◌<◌, ◌≤◌, Bool, true, false, not, ◌==◌, cond, if◌then◌else◌}
-use Rattle.std.proofs.Common.{List, [], ◌∷◌, map, length, get_or, set, Option, Some, None, Result, Ok, Err}
-use Rattle.std.proofs.Common.{refl, arith, ap, sym, subst, ◌∙◌}
-use Rattle.std.specs.List.{remove, All}
-use Rattle.std.specs.List.Sorted.{IsSearchInRange, IsBinarySearchResult}
+use Rattle.std.proofs.Common.{◌≡◌, ◌≢◌, ℕ, zero, suc, ◌<◌, ◌≤◌, Bool, true, false, not, ◌==◌, cond, if◌then◌else◌, List, [], ◌∷◌, map}
+use Rattle.std.proofs.Common.{length, get_or, set, Option, Some, None, Result, Ok, Err, refl, arith, ap, sym, subst, ◌∙◌}
+use Rattle.std.specs.{List.remove, List.All, List.Sorted.IsSearchInRange, List.Sorted.IsBinarySearchResult, Result.result_ok}
 use Rattle.std.specs.Ordering.{nat_cmp, ordering_index}
-use Rattle.std.specs.Result.{result_ok}
-use Rattle.std.proofs.lemmas.Cmp.{ranked}
-use Rattle.std.proofs.lemmas.Bool.Decides.{nat_tests}
-use Rattle.std.proofs.lemmas.List.Elements.{All-tail}
+use Rattle.std.proofs.lemmas.{Cmp.ranked, Bool.Decides.nat_tests, List.Elements.All-tail}
 use Rattle.cdi_model.specs.declared.outcome.Val.{Val}
-use Rattle.cdi_contexts.specs.Places.{IsPlace}
-use Rattle.cdi_contexts.specs.Rising.{IsRising, RisesFrom}
-use Rattle.cdi_contexts.specs.Standing.{numbered, without, finish, keep}
-use Rattle.cdi_contexts.specs.Storage.{Storage}
-use Rattle.cdi_contexts.specs.declared.instance.Instance.{Instance}
 use Rattle.cdi_contexts.proofs.HomeLemmas.{skipped}
+use Rattle.cdi_contexts.specs.Standing.{numbered, without, finish, keep}
+use Rattle.cdi_contexts.specs.{Places.IsPlace, Rising.IsRising, Rising.RisesFrom, Storage.Storage, declared.instance.Instance.Instance}
 
 -- the number of the instance at a place
 abbrev pub number_at : List Instance → ℕ → Instance → ℕ

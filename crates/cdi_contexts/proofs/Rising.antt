@@ -1,11 +1,9 @@
 -- How the live instances change under the steps of a standing.
-use Rattle.std.proofs.Common.{◌≡◌, ℕ, ◌+◌, ◌<◌, ◌≤◌, Bool, true, false, not, ◌==◌, cond, if◌then◌else◌}
-use Rattle.std.proofs.Common.{List, [], ◌∷◌, ◌++◌, map, Option, Some, None, refl, arith}
+use Rattle.std.proofs.Common.{◌≡◌, ℕ, ◌+◌, ◌<◌, ◌≤◌, Bool, true, false, not, ◌==◌, cond, if◌then◌else◌, List, [], ◌∷◌, ◌++◌, map, Option}
+use Rattle.std.proofs.Common.{Some, None, refl, arith}
 use Rattle.cdi_model.specs.declared.outcome.Val.{Val}
-use Rattle.cdi_contexts.specs.Rising.{IsRising, RisesFrom, IsOwnerOf}
-use Rattle.cdi_contexts.specs.Standing.{without, finish, keep}
-use Rattle.cdi_contexts.specs.declared.instance.Instance.{Instance}
-use Rattle.cdi_contexts.specs.declared.instance.Owner.{Owner}
+use Rattle.cdi_contexts.specs.{Rising.IsRising, Rising.RisesFrom, Rising.IsOwnerOf, Standing.without, Standing.finish, Standing.keep}
+use Rattle.cdi_contexts.specs.declared.instance.{Instance.Instance, Owner.Owner}
 
 pub rises_bound : (low given : ℕ) (live : List Instance) → RisesFrom low given live → low ≤ given
 rises_bound low given [] r = r

@@ -1,15 +1,13 @@
 -- What is held for interceptors, in the map and in what stands.
-use Rattle.std.proofs.Common.{◌≡◌, ℕ, Bool, true, false, ◌||◌, cond, if◌then◌else◌, List, [], ◌∷◌, ◌++◌, map, filter}
-use Rattle.std.proofs.Common.{Option, Some, None, refl, ap, sym, subst, ◌∙◌}
+use Rattle.std.proofs.Common.{◌≡◌, ℕ, Bool, true, false, ◌||◌, cond, if◌then◌else◌, List, [], ◌∷◌, ◌++◌, map, filter, Option, Some, None}
+use Rattle.std.proofs.Common.{refl, ap, sym, subst, ◌∙◌}
 use Rattle.std.specs.List.{find, list_any, AllByRecursion, IsDistinct}
 use Rattle.std.specs.Map.{keys_of, lookup}
 use Rattle.indexmap.specs.IndexMap.{insert_entry}
-use Rattle.cdi_model.specs.declared.outcome.Val.{Val}
-use Rattle.cdi_model.specs.declared.outcome.Val.TheVariants.{Null}
-use Rattle.cdi_contexts.specs.SameHolders.{same_holder, same_holder_decides}
+use Rattle.cdi_model.specs.declared.outcome.Val.{Val, TheVariants.Null}
 use Rattle.cdi_contexts.specs.Standing.{InterceptorState, held_for, is_state_of, keep_for, states_without, with_state}
+use Rattle.cdi_contexts.specs.{SameHolders.same_holder, SameHolders.same_holder_decides, declared.states.Holder.Holder}
 use Rattle.cdi_contexts.specs.States.{is_another, state_of_entry, states_of}
-use Rattle.cdi_contexts.specs.declared.states.Holder.{Holder}
 
 abbrev Entry : Type 0
 Entry = Holder × Val

@@ -1,22 +1,14 @@
 -- What was made for an instance is younger than it.
-use Rattle.std.proofs.Common.{◌≡◌, ℕ, zero, suc, ◌<◌, ◌≤◌, Bool, true, false, cond, nat_lt, leb}
-use Rattle.std.proofs.Common.{List, [], ◌∷◌, take, drop, length, reverse, ◌-◌, Option, Some, None}
-use Rattle.std.proofs.Common.{refl, arith, ap, sym, subst, ◌∙◌}
-use Rattle.std.specs.List.{find, AllByRecursion}
-use Rattle.std.specs.List.Sorted.{IsPartitionPoint, IsPartitionedBy}
+use Rattle.std.proofs.Common.{◌≡◌, ℕ, zero, suc, ◌<◌, ◌≤◌, Bool, true, false, cond, nat_lt, leb, List, [], ◌∷◌, take, drop, length, reverse}
+use Rattle.std.proofs.Common.{◌-◌, Option, Some, None, refl, arith, ap, sym, subst, ◌∙◌}
+use Rattle.std.specs.List.{find, AllByRecursion, Sorted.IsPartitionPoint, Sorted.IsPartitionedBy}
 use Rattle.std.specs.Option.{option_or, option_map}
-use Rattle.std.proofs.lemmas.Bool.Decides.{nat_tests}
-use Rattle.std.proofs.lemmas.List.{reverse-append, take_rest}
-use Rattle.std.proofs.lemmas.List.Folds.{find-append}
-use Rattle.std.proofs.lemmas.List.Sorted.{IsPartitionedBy-leb}
-use Rattle.std.proofs.lemmas.Bool.{leb-true, leb-false}
-use Rattle.cdi_contexts.specs.Owned.{is_part_of}
-use Rattle.cdi_contexts.specs.Places.{younger_than}
-use Rattle.cdi_contexts.specs.Rising.{IsRising, RisesFrom}
-use Rattle.cdi_contexts.specs.Standing.{last_of}
-use Rattle.cdi_contexts.specs.declared.instance.Instance.{Instance}
+use Rattle.std.proofs.lemmas.{Bool.Decides.nat_tests, List.reverse-append, List.take_rest, List.Folds.find-append}
+use Rattle.std.proofs.lemmas.{List.Sorted.IsPartitionedBy-leb, Bool.leb-true, Bool.leb-false}
 use Rattle.cdi_contexts.proofs.Last.{part_above}
 use Rattle.cdi_contexts.proofs.Places.{number_at, along}
+use Rattle.cdi_contexts.specs.{Owned.is_part_of, Places.younger_than, Rising.IsRising, Rising.RisesFrom, Standing.last_of}
+use Rattle.cdi_contexts.specs.declared.instance.Instance.{Instance}
 
 -- ---- the younger ones are the back of the list
 

@@ -1,9 +1,8 @@
 -- Several calls in a row on a reader or a writer.
-use Rattle.std.proofs.Common.{◌≡◌, ℕ, List, ◌++◌, take, drop, Option, Some, None, ap, sym, ◌∙◌, append_assoc}
-use Rattle.std.proofs.lemmas.List.{take-append-drop}
-use Rattle.std.specs.Prelude.{Bool, ◌||◌, ◌==◌}
 use borrow.Author.Tests.{ne_eqb}
-use Rattle.std.proofs.Math.Bool.{or-false}
+use Rattle.std.proofs.Common.{◌≡◌, ℕ, List, ◌++◌, take, drop, Option, Some, None, ap, sym, ◌∙◌, append_assoc}
+use Rattle.std.specs.Prelude.{Bool, ◌||◌, ◌==◌}
+use Rattle.std.proofs.{lemmas.List.take-append-drop, Math.Bool.or-false}
 use Rattle.std.specs.Io.KnownBytes.{Appends, Consumes}
 
 -- writes in a row append in a row

@@ -1,14 +1,9 @@
 -- A table holds one line more after an insertion.
-use Rattle.std.proofs.Common.{◌≡◌, ℕ, Bool, true, false, cond, List, ◌∷◌, map, Option, Some, None, String, string_bytes, refl, ap, ◌∙◌}
-use Rattle.std.specs.HashMap.{Updates, get_by_text}
-use Rattle.std.specs.Option.{option_map, option_or}
-use Rattle.std.specs.Prelude.{string_eq}
-use Rattle.std.specs.Str.{bytes_eq}
+use Rattle.std.proofs.Common.{◌≡◌, ℕ, Bool, true, false, cond, List, ◌∷◌, Option, Some, None, String, string_bytes, refl, ap, ◌∙◌}
+use Rattle.std.specs.{HashMap.Updates, HashMap.get_by_text, Option.option_map, Option.option_or, Prelude.string_eq, Str.bytes_eq}
 use Rattle.std.proofs.lemmas.Map.Text.{hash_map_updates_text}
 use Rattle.indexmap.specs.IndexMap.{IndexMap}
-use Rattle.cdi_differences.specs.Differences.{text_at}
-use Rattle.cdi_differences.specs.Holds.{text_in}
-use Rattle.cdi_differences.specs.Wiring.{Shown}
+use Rattle.cdi_differences.specs.{Differences.text_at, Holds.text_in, Wiring.Shown}
 
 one_more : {X : Type 0} (a b : Option X) (e : Bool) (t : X)
     → option_or a (cond e (Some t) b) ≡ option_or (option_or a (cond e (Some t) None)) b

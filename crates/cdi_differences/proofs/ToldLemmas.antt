@@ -1,14 +1,9 @@
 -- What is told of two tables.
-use Rattle.std.proofs.Common.{◌≡◌, ℕ, Bool, true, false, cond, ◌&&◌, ◌||◌, List, [], ◌∷◌, filter, map, Option, Some, None, is_some, Result, Ok, Err, IfOk, String, string_bytes, refl, sym, ap, ◌∙◌, subst}
-use Rattle.std.specs.Cmp.Lexicographic.{bytes_decides}
-use Rattle.std.specs.HashMap.{get_by_text, keys}
-use Rattle.std.specs.List.{list_any}
-use Rattle.std.specs.Option.{option_map}
-use Rattle.std.specs.Str.{bytes_eq}
-use Rattle.std.proofs.lemmas.List.Folds.{list_any-append}
-use Rattle.std.proofs.lemmas.Map.Made.{is_some-lookup}
+use Rattle.std.proofs.Common.{◌≡◌, ℕ, Bool, true, false, cond, ◌&&◌, ◌||◌, List, [], ◌∷◌, filter, map, Option, Some, None, is_some, Result}
+use Rattle.std.proofs.Common.{Ok, Err, IfOk, String, string_bytes, refl, sym, ap, ◌∙◌, subst}
+use Rattle.std.specs.{Cmp.Lexicographic.bytes_decides, HashMap.get_by_text, HashMap.keys, List.list_any, Option.option_map, Str.bytes_eq}
+use Rattle.std.proofs.{lemmas.List.Folds.list_any-append, lemmas.Map.Made.is_some-lookup, Math.Bool.or-false}
 use Rattle.indexmap.specs.IndexMap.{IndexMap}
-use Rattle.std.proofs.Math.Bool.{or-false}
 use Rattle.base_options.proofs.Booleans.{and-false}
 use Rattle.cdi_differences.specs.Differences.{compared, differing, differs, is_new, Compared}
 use Rattle.cdi_differences.specs.Laws.{TellsWhatDiffers}

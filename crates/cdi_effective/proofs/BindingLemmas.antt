@@ -1,8 +1,7 @@
 -- The bindings that stereotypes give, and those in the place of others.
 use Rattle.cdi_effective.proofs.Common.{◌≡◌, ◌<◌, ◌+◌, ℕ, Bool, true, false, cond, ◌||◌, List, [], ◌∷◌, length, drop, get_or, refl, sym, ap}
 use Rattle.cdi_effective.proofs.Common.{◌∙◌, or_assoc, Bor, bytes_eq, at_drop_more, option_to_list, Decl, find_stereotype, stereotype_decls}
-use Rattle.cdi_effective.proofs.Common.{Qual, uses_in, in_place_of, stereotype_bindings, uses_one, bytes_eq-turned}
-use Rattle.std.proofs.Common.{flat_map}
+use Rattle.cdi_effective.proofs.Common.{Qual, uses_in, in_place_of, stereotype_bindings, uses_one, bytes_eq-turned, flat_map}
 use Rattle.cdi_match.specs.Stereotypes.{stereotypes_of}
 
 -- those of the stereotypes of what declares some

@@ -3,8 +3,8 @@ use Rattle.cdi_effective.proofs.Common.{◌≡◌, ◌<◌, ℕ, Bool, true, fal
 use Rattle.cdi_effective.proofs.Common.{option_to_list, Decl, ◌⊎◌, zero, suc, is_some, Option, Some, None, subst, inl, inr, bytes_eq-turned}
 use Rattle.cdi_effective.proofs.Common.{arith, AllByRecursion, IsDistinct, cases_Bool, false≢true, or_cases, or_left, or_right, same_text}
 use Rattle.cdi_effective.proofs.Common.{AllPairs-from_IsDistinct, key_of, name_of_decl, key_at, same_key, find_decl, limit, BeanDecl}
-use Rattle.cdi_effective.proofs.Common.{key_exact, has, as_bean, find_bean, extended, bean_named, specialized, on_from}
-use Rattle.cdi_effective.proofs.Common.{chain_behind, behind, chain, class_names}
+use Rattle.cdi_effective.proofs.Common.{key_exact, has, as_bean, find_bean, extended, bean_named, specialized, on_from, chain_behind}
+use Rattle.cdi_effective.proofs.Common.{behind, chain, class_names}
 use Rattle.std.proofs.Common.{◌≤◌}
 use Rattle.std.specs.Cmp.Lexicographic.{bytes_decides}
 use Rattle.std.proofs.lemmas.Bool.{or_parts}
@@ -12,8 +12,7 @@ use Rattle.base_lists.proofs.Each.{all-weaker}
 use Rattle.cdi_model.specs.declared.decl.Decl.TheVariants as decls
 use Rattle.cdi_model.specs.declared.decl.Kind.TheVariants as kinds
 use Rattle.cdi_match.specs.Chain.{Chain, Steps}
-use Rattle.cdi_match.proofs.Chains.{apart, apart_has, apart_shorter}
-use Rattle.cdi_match.proofs.Listed.{names_of, length-names_of}
+use Rattle.cdi_match.proofs.{Chains.apart, Chains.apart_has, Chains.apart_shorter, Listed.names_of, Listed.length-names_of}
 use Rattle.cdi_effective.specs.Specialized.{class_after, specializes, ChainsAreThese, IsChainOf}
 
 abbrev Names : Type 0

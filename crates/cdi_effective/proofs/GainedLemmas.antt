@@ -1,8 +1,7 @@
 -- What a bean gets by its chain, one bean after another.
 use Rattle.cdi_effective.proofs.Common.{◌≡◌, ℕ, List, [], ◌∷◌, refl, ap, ◌∙◌, Decl, uses_in, Option, Some, None, subst, BeanDecl, ◌++◌}
 use Rattle.cdi_effective.proofs.Common.{append_assoc, option_or, ArePlaces, IsPlace, all_declared, last_declared, last_name, name_alone}
-use Rattle.cdi_effective.specs.Places.{AddsGained}
-use Rattle.cdi_effective.specs.declared.gained.Gained.{Gained}
+use Rattle.cdi_effective.specs.{Places.AddsGained, declared.gained.Gained.Gained}
 
 -- with what these give it is what all of a chain give
 pub record GivesWith (ds : List Decl) (gained : Gained) (rest all : List BeanDecl) : Type 0 where

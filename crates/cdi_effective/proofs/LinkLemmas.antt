@@ -1,17 +1,13 @@
 -- What a bean gets by its chain rests on the beans of the chain.
-use Rattle.cdi_effective.proofs.Common.{◌≡◌, ℕ, Bool, true, false, cond, ◌||◌, List, [], ◌∷◌, refl, ap, ◌∙◌, bytes_eq, Decl, zero, suc}
-use Rattle.cdi_effective.proofs.Common.{Option, Some, None, inl, inr, cases_Bool, key_at, find_decl, limit, BeanDecl, has, as_bean}
-use Rattle.cdi_effective.proofs.Common.{extended, bean_named, specialized, on_from, chain_behind, behind, ◌++◌, option_or, last_name}
-use Rattle.cdi_effective.proofs.Common.{name_alone, given_by, map, nat_eq_equiv, flat_map, edits_keep_decl, avoid-first, avoid-second}
-use Rattle.cdi_effective.proofs.Common.{avoid-head, default_name, edited_all, edited_keys, is_among, Avoid, Attributes, Edit}
-use Rattle.cdi_effective.proofs.Common.{stereotype_reads, type_reads, types_of, edits_keep_stereotypes, bean_keys, specialized_reads}
-use Rattle.cdi_effective.proofs.Common.{link_reads, chain_reads, given_of, name_of}
+use Rattle.cdi_effective.proofs.Common.{◌≡◌, ℕ, Bool, true, false, cond, List, [], ◌∷◌, refl, ap, ◌∙◌, Decl, zero, suc, Option, Some, None}
+use Rattle.cdi_effective.proofs.Common.{inl, inr, cases_Bool, key_at, find_decl, limit, BeanDecl, has, as_bean, extended, bean_named}
+use Rattle.cdi_effective.proofs.Common.{specialized, on_from, chain_behind, behind, ◌++◌, option_or, last_name, name_alone, given_by}
+use Rattle.cdi_effective.proofs.Common.{flat_map, edits_keep_decl, avoid-first, avoid-second, avoid-head, default_name, edited_all}
+use Rattle.cdi_effective.proofs.Common.{edited_keys, is_among, Avoid, Attributes, Edit, stereotype_reads, type_reads, types_of}
+use Rattle.cdi_effective.proofs.Common.{edits_keep_stereotypes, bean_keys, specialized_reads, link_reads, chain_reads, given_of, name_of}
 use Rattle.std.proofs.lemmas.Bool.{both_ways}
-use Rattle.cdi_model.specs.DeclKey.{kind_number}
-use Rattle.cdi_model.specs.declared.decl.Kind.{Kind}
 use Rattle.cdi_model.specs.declared.decl.Kind.TheVariants as kinds
-use Rattle.cdi_match.proofs.TypeLemmas.{is_type_decides, types_of-has}
-use Rattle.cdi_match.proofs.LocalityLemmas.{among-names}
+use Rattle.cdi_match.proofs.{TypeLemmas.is_type_decides, TypeLemmas.types_of-has, LocalityLemmas.among-names}
 
 own-type : (ds : List Decl) (t : List ℕ) → has (types_of ds t) t ≡ true
 own-type ds t = types_of-has ds t t ∙ (is_type_decides ds t t).1 (inr (0, refl))

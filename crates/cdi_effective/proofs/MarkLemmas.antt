@@ -4,9 +4,8 @@ use Rattle.cdi_effective.proofs.Common.{Decl, zero, suc, Some, arith, BeanDecl, 
 use Rattle.cdi_effective.proofs.Common.{given_of, replicate, option_map, slice_get, get_or-replicate, entries, records, Effective, link_of}
 use Rattle.cdi_effective.proofs.Common.{place_of, is_replaced, replaced_by}
 use Rattle.cdi_model.specs.declared.decl.Decl.TheVariants as decls
-use Rattle.cdi_effective.specs.Places.{MarksReplaced}
-use Rattle.cdi_effective.specs.declared.chains.Link.{Link}
 use Rattle.cdi_effective.proofs.WalkLemmas.{place-within}
+use Rattle.cdi_effective.specs.{Places.MarksReplaced, declared.chains.Link.Link}
 
 pub none-replaced : (ds : List Decl) (d : Decl) → ((bean : BeanDecl) → d ≡ decls.Bean bean → ⊥) → replaced_by ds d ≡ []
 unfolding replaced_by

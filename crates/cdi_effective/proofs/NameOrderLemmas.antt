@@ -1,18 +1,13 @@
 -- Uses in the order of their names, where these tell the order of their texts.
 use Rattle.cdi_effective.proofs.Common.{◌≡◌, ℕ, Bool, true, false, cond, List, [], ◌∷◌, refl, sym, ap, ◌∙◌, Qual, ◌⊎◌, subst, inl, inr}
-use Rattle.cdi_effective.proofs.Common.{arith, AllByRecursion, false≢true, or_cases, or_left, or_right, ◌++◌, nat_eq_equiv, nat_eq}
-use Rattle.cdi_effective.proofs.Common.{Ordering, Less, Equal, Greater, IsStrictWeakOrder, nat_list_cmp_total, is_lt, true≢false}
-use Rattle.cdi_effective.proofs.Common.{common_steps, ranks_by, same_name, turned_order, byte_order, text_of_use, name_of_use, same_qual}
-use Rattle.cdi_effective.proofs.Common.{same_qual-decides, put, sorted_by, each_once, has_use, in_text_order, is_before_in_name}
-use Rattle.cdi_effective.proofs.Common.{is_before_in_text, tell_order}
-use Rattle.std.proofs.Common.{nat_lt}
-use Rattle.std.specs.Cmp.{nat_cmp_is}
-use Rattle.std.specs.Ordering.{nat_cmp, ordering_then}
-use Rattle.std.proofs.lemmas.Bool.{and_parts}
-use Rattle.base_lists.proofs.Sorting.{all-sorted, any-sorted, Rises, sorted-rises}
-use Rattle.cdi_model.specs.Bytes.{opening}
-use Rattle.cdi_model.specs.UseText.{text_of_arguments}
-use Rattle.cdi_model.specs.declared.quals.Arguments.{Arguments}
+use Rattle.cdi_effective.proofs.Common.{arith, AllByRecursion, false≢true, or_cases, or_left, or_right, ◌++◌, nat_eq, Ordering, Less, Equal}
+use Rattle.cdi_effective.proofs.Common.{Greater, IsStrictWeakOrder, nat_list_cmp_total, is_lt, true≢false, common_steps, ranks_by}
+use Rattle.cdi_effective.proofs.Common.{same_name, turned_order, byte_order, text_of_use, name_of_use, same_qual, same_qual-decides, put}
+use Rattle.cdi_effective.proofs.Common.{sorted_by, each_once, has_use, in_text_order, is_before_in_name, is_before_in_text, tell_order}
+use Rattle.cdi_effective.proofs.Common.{all-sorted, any-sorted, Rises, sorted-rises}
+use Rattle.std.specs.{Cmp.nat_eq_equiv, Cmp.nat_cmp_is, Ordering.nat_cmp, Ordering.ordering_then}
+use Rattle.std.proofs.{Common.nat_lt, lemmas.Bool.and_parts}
+use Rattle.cdi_model.specs.{Bytes.opening, UseText.text_of_arguments, declared.quals.Arguments.Arguments}
 use Rattle.cdi_model.specs.declared.quals.Arguments.TheVariants as arguments
 use Rattle.cdi_effective.specs.TextOrder.{tells_order}
 

@@ -1,18 +1,16 @@
 -- The places of beans among the declarations.
 use Rattle.cdi_effective.proofs.Common.{◌≡◌, ◌<◌, ℕ, Bool, true, false, cond, ◌||◌, List, [], ◌∷◌, length, refl, sym, ap, ◌∙◌, bytes_eq}
 use Rattle.cdi_effective.proofs.Common.{Decl, zero, suc, is_some, Option, Some, None, subst, inl, inr, arith, AllByRecursion, cases_Bool}
-use Rattle.cdi_effective.proofs.Common.{false≢true, key_of, name_of_decl, same_key, find_decl, BeanDecl, key_exact, has, one_text}
-use Rattle.cdi_effective.proofs.Common.{as_bean, find_bean, specialized, class_names, ◌++◌, ArePlaces, IsPlace, list_any, same_text}
-use Rattle.cdi_effective.proofs.Common.{option_map, slice_get, place_of, nat_eq, true≢false, slice_get_within, position-found}
-use Rattle.cdi_effective.proofs.Common.{position-there, place_of_next}
+use Rattle.cdi_effective.proofs.Common.{false≢true, key_of, name_of_decl, same_key, find_decl, BeanDecl, key_exact, has, one_text, as_bean}
+use Rattle.cdi_effective.proofs.Common.{find_bean, specialized, class_names, ◌++◌, ArePlaces, IsPlace, list_any, same_text, option_map}
+use Rattle.cdi_effective.proofs.Common.{slice_get, place_of, nat_eq, true≢false, slice_get_within, position-found, position-there}
+use Rattle.cdi_effective.proofs.Common.{place_of_next, nat_eq-same}
 use Rattle.std.proofs.Common.{◌≢◌, position}
 use Rattle.std.proofs.lemmas.Option.{get_or_from_slice_get}
 use Rattle.base_lists.proofs.Places.{position-cons}
-use Rattle.base_numbers.proofs.Numbers.{nat_eq-refl, nat_eq-same}
+use Rattle.base_numbers.proofs.Numbers.{nat_eq-refl}
 use Rattle.cdi_model.proofs.PositionLemmas.{one_position}
-use Rattle.cdi_model.specs.Decl.{kind_of}
-use Rattle.cdi_model.specs.DeclKey.{same_key_equiv}
-use Rattle.cdi_model.specs.DeclList.{is_of, AreDistinct}
+use Rattle.cdi_model.specs.{Decl.kind_of, DeclKey.same_key_equiv, DeclList.is_of, DeclList.AreDistinct}
 use Rattle.cdi_model.specs.declared.decl.Decl.TheVariants as decls
 use Rattle.cdi_model.specs.declared.decl.Kind.TheVariants as kinds
 use Rattle.cdi_effective.proofs.ChainLemmas.{specialized-found}

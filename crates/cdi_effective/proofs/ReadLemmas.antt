@@ -7,8 +7,7 @@ use Rattle.cdi_effective.proofs.Common.{chain_reads, name_of_use, ProducerDecl, 
 use Rattle.cdi_effective.proofs.Common.{product_reads, record_reads}
 use Rattle.cdi_model.specs.declared.decl.Kind.TheVariants as kinds
 use Rattle.cdi_match.specs.Bindings.{brings_type, types_brought}
-use Rattle.cdi_match.proofs.BindingLemmas.{bindings_in}
-use Rattle.cdi_match.proofs.LocalityLemmas.{keep_names}
+use Rattle.cdi_match.proofs.{BindingLemmas.bindings_in, LocalityLemmas.keep_names}
 use Rattle.cdi_effective.proofs.LinkLemmas.{behind-stays, type-kept}
 
 module _ (edits : List Edit) (ds : List Decl) where

@@ -1,12 +1,11 @@
 -- Which edits leave a bean replaced or not.
 use Rattle.cdi_effective.proofs.Common.{◌≡◌, ℕ, Bool, true, false, cond, List, [], ◌∷◌, refl, sym, ap, ◌∙◌, Decl, ◌⊎◌, inl, inr}
 use Rattle.cdi_effective.proofs.Common.{AllByRecursion, key_of, has, list_any, edited_all, edited_keys, is_among, Avoid, Edit, is_replaced}
-use Rattle.cdi_effective.proofs.Common.{replaced_by, DeclKey}
-use Rattle.std.proofs.Common.{flat_map}
-use Rattle.cdi_model.specs.declared.decl.Decl.TheVariants as decls
+use Rattle.cdi_effective.proofs.Common.{replaced_by, DeclKey, flat_map}
 use Rattle.cdi_model.proofs.GivingLemmas.{edits_keep_given}
-use Rattle.cdi_effective.specs.Locality.{decl_reads, replacing, EditsKeepReplaced, ReplacesNeither, SparedStay}
+use Rattle.cdi_model.specs.declared.decl.Decl.TheVariants as decls
 use Rattle.cdi_effective.proofs.RecordLemmas.{leave-own}
+use Rattle.cdi_effective.specs.Locality.{decl_reads, replacing, EditsKeepReplaced, ReplacesNeither, SparedStay}
 
 abbrev is_there : List Decl → Bool
 is_there [] = false

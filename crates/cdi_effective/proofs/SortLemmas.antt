@@ -1,14 +1,11 @@
 -- A stable sort leaves what is put in order one by one.
 use Rattle.cdi_effective.proofs.Common.{◌≡◌, ◌<◌, ℕ, Bool, true, false, cond, List, [], ◌∷◌, length, refl, sym, ap, ◌∙◌, zero, suc, subst}
-use Rattle.cdi_effective.proofs.Common.{inl, inr, arith, AllByRecursion, cases_Bool, ◌&&◌, map, IsStrictWeakOrder, put, sorted_by, not}
-use Rattle.std.proofs.Common.{true≢false}
-use Rattle.std.specs.Prelude.{slice_index_or}
-use Rattle.std.specs.List.{filter}
-use Rattle.std.specs.List.Sorted.{IsSortedBy, IsStableBy, ties}
-use Rattle.std.proofs.lemmas.List.Sorted.{sorted_far}
+use Rattle.cdi_effective.proofs.Common.{inl, inr, arith, cases_Bool, ◌&&◌, map, IsStrictWeakOrder, put, sorted_by, not, true≢false, filter}
+use Rattle.cdi_effective.proofs.Common.{Rises, sorted-rises}
 use native.Mathlib.Numerals.{unary_clauses}
-use Rattle.base_lists.proofs.Each.{all-filter}
-use Rattle.base_lists.proofs.Sorting.{NoneBefore, Rises, sorted-rises}
+use Rattle.std.specs.{Prelude.slice_index_or, List.Sorted.IsSortedBy, List.Sorted.IsStableBy, List.Sorted.ties}
+use Rattle.std.proofs.lemmas.List.Sorted.{sorted_far}
+use Rattle.base_lists.proofs.{Each.all-filter, Sorting.NoneBefore}
 
 both-not : (p q : Bool) → (not p && not q) ≡ true → (p ≡ false) × (q ≡ false)
 both-not false false h = (refl, refl)

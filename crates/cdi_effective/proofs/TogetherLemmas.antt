@@ -1,6 +1,6 @@
 -- The records of a declaration in the bean list.
-use Rattle.cdi_effective.proofs.Common.{◌≡◌, ◌+◌, ℕ, Bool, true, false, cond, List, [], ◌∷◌, drop, refl, ap, ◌∙◌, bytes_eq, Decl}
-use Rattle.cdi_effective.proofs.Common.{suc, arith, BeanDecl, find_bean, ◌++◌, map, flat_map, entries, records, Effective, bytes_eq-turned}
+use Rattle.cdi_effective.proofs.Common.{◌≡◌, ◌+◌, ℕ, Bool, true, false, cond, List, [], ◌∷◌, drop, refl, ap, ◌∙◌, bytes_eq, Decl, suc}
+use Rattle.cdi_effective.proofs.Common.{arith, BeanDecl, find_bean, ◌++◌, map, flat_map, entries, records, Effective, bytes_eq-turned}
 use Rattle.cdi_effective.proofs.Common.{ProducerDecl, effective, product, managed, beans}
 use Rattle.std.specs.List.{position_or_len, take_while}
 use Rattle.std.proofs.lemmas.List.Sums.{take_while-cons}

@@ -2,17 +2,14 @@
 use Rattle.cdi_effective.proofs.Common.{◌≡◌, ◌<◌, ◌+◌, ℕ, Bool, true, false, cond, ◌||◌, List, [], ◌∷◌, length, drop, get_or, refl, sym, ap}
 use Rattle.cdi_effective.proofs.Common.{◌∙◌, or_assoc, Bor, at_drop_more, Qual, uses_in, zero, suc, inl, inr, arith, AllByRecursion}
 use Rattle.cdi_effective.proofs.Common.{IsDistinct, false≢true, or_cases, or_left, or_right, AllPairs-from_IsDistinct, ◌++◌, fold, list_any}
-use Rattle.cdi_effective.proofs.Common.{or-false, map, Ordering, Less, Equal, Greater, IsStrictWeakOrder, nat_list_cmp_total, is_lt}
-use Rattle.cdi_effective.proofs.Common.{ranks_by, same_name, turned_order, byte_order, text_of_use, same_qual, same_qual-decides, put}
-use Rattle.cdi_effective.proofs.Common.{sorted_by, each_once, has_use, in_text_order, is_before_in_text, IsStrictlySortedBy}
-use Rattle.cdi_effective.proofs.Common.{All-from_recursion, map-append, with_use}
-use Rattle.std.proofs.Math.Bool.{or-true}
+use Rattle.cdi_effective.proofs.Common.{or-false, map, Ordering, Less, Equal, Greater, nat_list_cmp_total, is_lt, ranks_by, same_name}
+use Rattle.cdi_effective.proofs.Common.{turned_order, byte_order, text_of_use, same_qual, same_qual-decides, put, sorted_by, each_once}
+use Rattle.cdi_effective.proofs.Common.{has_use, in_text_order, is_before_in_text, IsStrictlySortedBy, All-from_recursion, map-append}
+use Rattle.cdi_effective.proofs.Common.{with_use, all-sorted, any-sorted, Rises, sorted-rises}
+use Rattle.std.proofs.{Math.Bool.or-true, lemmas.Bool.false_from_ne_true, lemmas.List.Folds.list_any-append}
 use Rattle.std.specs.List.{AllPairs}
-use Rattle.std.proofs.lemmas.Bool.{false_from_ne_true}
-use Rattle.std.proofs.lemmas.List.Folds.{list_any-append}
 use Rattle.std.proofs.lemmas.Map.Keys.{IsDistinct-push}
-use Rattle.base_lists.proofs.Sorting.{all-put, all-sorted, any-sorted, Rises, sorted-rises}
-use Rattle.base_options.proofs.Booleans.{or-left_comm}
+use Rattle.base_lists.proofs.Sorting.{all-put}
 use Rattle.cdi_model.specs.SameUse.{same_qual_equiv}
 use Rattle.cdi_model.proofs.QualLemmas.{before-all}
 use Rattle.cdi_effective.specs.TextOrder.{TextsTellApart, AreInTextOrder}

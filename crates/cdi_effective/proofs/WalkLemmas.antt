@@ -1,17 +1,15 @@
 -- The walk along the places of a chain.
 use Rattle.cdi_effective.proofs.Common.{◌≡◌, ◌<◌, ℕ, Bool, true, false, ◌||◌, List, [], ◌∷◌, length, get_or, refl, sym, ap, ◌∙◌, bytes_eq}
-use Rattle.cdi_effective.proofs.Common.{Decl, suc, is_some, Option, Some, None, subst, inl, inr, arith, cases_Bool, false≢true, find_decl}
-use Rattle.cdi_effective.proofs.Common.{limit, BeanDecl, has, specialized, chain_behind, behind, ◌++◌, ArePlaces, IsPlace, replicate}
+use Rattle.cdi_effective.proofs.Common.{Decl, suc, is_some, Option, Some, None, subst, inl, inr, arith, cases_Bool, find_decl, limit}
+use Rattle.cdi_effective.proofs.Common.{BeanDecl, has, specialized, chain_behind, behind, ◌++◌, ArePlaces, IsPlace, replicate}
 use Rattle.cdi_effective.proofs.Common.{get_or-replicate, place_of, nat_eq, true≢false, slice_get_within, position-found, position-there}
-use Rattle.cdi_effective.proofs.Common.{place_of_next, set, length-replicate, or_left}
-use Rattle.std.proofs.lemmas.Option.{slice_get-get_or}
-use Rattle.std.proofs.lemmas.List.{get_or-set_same, get_or-set_other, length-set}
-use Rattle.base_numbers.proofs.Numbers.{nat_eq-same}
+use Rattle.cdi_effective.proofs.Common.{place_of_next, set, length-replicate, or_left, nat_eq-same}
+use Rattle.std.proofs.lemmas.{Option.slice_get-get_or, List.get_or-set_same, List.get_or-set_other, List.length-set}
 use Rattle.cdi_model.specs.declared.decl.Decl.TheVariants as decls
 use Rattle.cdi_model.specs.declared.decl.Kind.TheVariants as kinds
-use Rattle.cdi_effective.specs.Places.{next_at}
 use Rattle.cdi_effective.proofs.PlaceLemmas.{apart-by-place, no-next, snoc-places, the-next}
 use Rattle.cdi_effective.proofs.StepLemmas.{all-behind, ended, ends-met, ends-none, no-steps, one-more}
+use Rattle.cdi_effective.specs.Places.{next_at}
 
 -- whether the bean of a class was met is said at its place
 abbrev pub Told : List Decl → List (List ℕ) → List Bool → Type 0

@@ -1,20 +1,12 @@
 -- The bodies that run before the destruction of an instance.
-use Rattle.std.proofs.Common.{◌≡◌, ℕ, Bool, true, false, ◌&&◌, Option, Some, None}
-use Rattle.std.proofs.Common.{refl, slice_get, ap, sym, ◌∙◌}
-use Rattle.cdi_contexts.specs.declared.instance.Actor.{Actor}
-use Rattle.cdi_contexts.specs.declared.instance.Actor.TheVariants.{Target, Interceptor}
+use Rattle.std.proofs.Common.{◌≡◌, ℕ, Bool, true, false, ◌&&◌, Option, Some, None, refl, slice_get, sym, ◌∙◌}
+use Rattle.cdi_contexts.specs.declared.instance.Actor.{Actor, TheVariants.Target, TheVariants.Interceptor}
 use Rattle.cdi_contexts.specs.declared.instance.InstanceId.{InstanceId}
-use Rattle.cdi_scene.specs.Scene.{managed_at, invocable_at, part_at, place_of}
-use Rattle.cdi_scene.specs.Sound.{Bodies, IsSound, IsSoundAt}
-use Rattle.cdi_scene.specs.declared.place.Place.TheVariants.{Pre}
-use Rattle.cdi_scene.specs.declared.place.Seat.{Seat}
-use Rattle.cdi_scene.specs.declared.scene.Managed.{Managed}
-use Rattle.cdi_scene.specs.declared.scene.Part.{Part}
-use Rattle.cdi_scene.specs.declared.scene.Scene.{Scene}
+use Rattle.cdi_scene.specs.{Scene.managed_at, Scene.part_at, Sound.Bodies, Sound.IsSound, Sound.IsSoundAt, declared.scene.Scene.Scene}
+use Rattle.cdi_scene.specs.declared.{place.Place.TheVariants.Pre, place.Seat.Seat, scene.Managed.Managed, scene.Part.Part}
 use Rattle.cdi_legal.specs.Ends.{seat_on}
 use Rattle.cdi_legal.proofs.Course.{invoked}
-use Rattle.cdi_ending.specs.Back.{IsBack, ActsBefore}
-use Rattle.cdi_ending.specs.Staged.{Staged}
+use Rattle.cdi_ending.specs.{Back.IsBack, Back.ActsBefore, Staged.Staged}
 
 pub both : (a b : Bool) → (a && b) ≡ true → (a ≡ true) × (b ≡ true)
 both true true e = (refl, refl)

@@ -1,14 +1,12 @@
 -- The cost of live instances.
-use Rattle.std.proofs.Common.{◌≡◌, ℕ, ◌+◌, ◌≤◌, Bool, true, false, not, ◌==◌, List, [], ◌∷◌, Some}
-use Rattle.std.proofs.Common.{refl, arith, map, if◌then◌else◌, nat_le, subst}
+use Rattle.std.proofs.Common.{◌≡◌, ℕ, ◌+◌, ◌≤◌, Bool, true, false, not, ◌==◌, List, [], ◌∷◌, Some, refl, arith, map, if◌then◌else◌, nat_le}
+use Rattle.std.proofs.Common.{subst}
 use Rattle.std.specs.List.{AllByRecursion}
 use Rattle.base_numbers.proofs.Numbers.{==-refl}
 use Rattle.cdi_model.specs.declared.outcome.Val.{Val}
 use Rattle.cdi_contexts.proofs.Last.{last_of_all}
-use Rattle.cdi_contexts.specs.Standing.{without, keep, last_where}
-use Rattle.cdi_contexts.specs.declared.instance.Instance.{Instance}
-use Rattle.cdi_contexts.specs.declared.instance.InstanceId.{InstanceId}
-use Rattle.cdi_contexts.specs.declared.instance.Owner.{Owner}
+use Rattle.cdi_contexts.specs.{Standing.without, Standing.keep, Standing.last_where, declared.instance.Instance.Instance}
+use Rattle.cdi_contexts.specs.declared.instance.{InstanceId.InstanceId, Owner.Owner}
 use Rattle.cdi_scene.specs.declared.scene.Scene.{Scene}
 use Rattle.cdi_ending.specs.Room.{bean_cost, cost_where, cost_from, cost_at, IsCounted}
 

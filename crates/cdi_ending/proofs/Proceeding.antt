@@ -1,20 +1,11 @@
 -- What acts of callbacks do and take.
 use Rattle.std.proofs.Common.{◌≡◌, ℕ, ◌+◌, Bool, true, false, ◌&&◌, length, refl}
 use Rattle.std.proofs.lemmas.List.{length_push}
-use Rattle.cdi_model.specs.declared.outcome.Outcome.{Outcome}
-use Rattle.cdi_model.specs.declared.outcome.Outcome.TheVariants.{Failed}
-use Rattle.cdi_model.specs.declared.outcome.Failure.TheVariants.{Steps}
-use Rattle.cdi_bodies.specs.declared.act.Act.{Act}
-use Rattle.cdi_bodies.specs.declared.act.Frame.{Frame}
-use Rattle.cdi_bodies.specs.declared.act.Act.TheVariants.{Load, Store, Call, Fire, Proceed, Return, Fail}
-use Rattle.cdi_contexts.specs.declared.instance.Actor.{Actor}
-use Rattle.cdi_contexts.specs.declared.instance.InstanceId.{InstanceId}
-use Rattle.cdi_scene.specs.declared.place.Place.TheVariants.{Pre}
-use Rattle.cdi_scene.specs.declared.place.Seat.{Seat}
-use Rattle.cdi_scene.specs.declared.scene.Scene.{Scene}
-use Rattle.cdi_legal.specs.Acts.{Permits}
-use Rattle.cdi_legal.specs.Ends.{Ends, seat_on, asks_back}
-use Rattle.cdi_legal.specs.Moment.{Moment}
+use Rattle.cdi_model.specs.declared.outcome.{Outcome.Outcome, Outcome.TheVariants.Failed, Failure.TheVariants.Steps}
+use Rattle.cdi_bodies.specs.declared.act.{Act.Act, Frame.Frame, Act.TheVariants.Proceed}
+use Rattle.cdi_contexts.specs.declared.instance.{Actor.Actor, InstanceId.InstanceId}
+use Rattle.cdi_scene.specs.declared.{place.Place.TheVariants.Pre, place.Seat.Seat, scene.Scene.Scene}
+use Rattle.cdi_legal.specs.{Acts.Permits, Ends.Ends, Ends.seat_on, Ends.asks_back, Moment.Moment}
 use Rattle.cdi_ending.proofs.Before.{both}
 use Rattle.cdi_ending.specs.Back.{is_proceeding, Proceeds, Pauses, Halts, with_answer}
 use Rattle.cdi_ending.specs.declared.shared.Shared.{Shared}

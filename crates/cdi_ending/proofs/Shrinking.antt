@@ -1,13 +1,11 @@
 -- What ends leave of the live instances.
-use Rattle.std.proofs.Common.{◌≡◌, ◌≢◌, ℕ, ◌<◌, ◌≤◌, Bool, true, false, not, ◌==◌, List, [], ◌∷◌, length, Option, Some, IsSome}
-use Rattle.std.proofs.Common.{refl, arith, map, if◌then◌else◌}
+use Rattle.std.proofs.Common.{◌≡◌, ◌≢◌, ℕ, ◌<◌, ◌≤◌, Bool, true, false, not, ◌==◌, List, [], ◌∷◌, length, Option, Some, IsSome, refl, arith}
+use Rattle.std.proofs.Common.{map, if◌then◌else◌}
 use Rattle.cdi_model.specs.declared.outcome.Val.{Val}
 use Rattle.cdi_contexts.specs.Standing.{Standing, without, keep, stored, gone, numbered}
-use Rattle.cdi_contexts.specs.declared.instance.Actor.{Actor}
-use Rattle.cdi_contexts.specs.declared.instance.Actor.TheVariants.{Target, Interceptor}
-use Rattle.cdi_contexts.specs.declared.instance.Instance.{Instance}
-use Rattle.cdi_ending.specs.Room.{Shrinks, IsSteady}
+use Rattle.cdi_contexts.specs.declared.instance.{Actor.Actor, Actor.TheVariants.Target, Actor.TheVariants.Interceptor, Instance.Instance}
 use Rattle.cdi_ending.proofs.Costs.{cost-kept, cost-without, cost-others}
+use Rattle.cdi_ending.specs.Room.{Shrinks, IsSteady}
 
 same_live : (floor : ℕ) (a b : Standing) → b.given ≡ a.given → b.live ≡ a.live → Shrinks floor a b
 same_live floor a b g e =

@@ -1,10 +1,7 @@
 -- Two texts are no nearer than the numbers of their characters of one class are.
-use Rattle.std.proofs.Common.{◌≡◌, ℕ, zero, suc, ◌+◌, ◌-◌, ◌≤◌, ◌<◌, Bool, true, false, ◌&&◌, not, List, [], ◌∷◌, Option, None, Some, min, take, length, get_or, cond, fold, subst}
-use Rattle.std.proofs.Common.{if◌then◌else◌, nat_eq, refl, ap, ◌∙◌, arith}
-use Rattle.std.specs.List.{count_by}
-use Rattle.std.proofs.lemmas.Bool.{and_parts, eqb-true, false≢true}
-use Rattle.std.proofs.lemmas.Int.{clamps}
-use Rattle.std.proofs.lemmas.List.{length-take-le, take_all}
+use Rattle.std.proofs.Common.{◌≡◌, ℕ, zero, suc, ◌+◌, ◌-◌, ◌≤◌, ◌<◌, Bool, true, false, ◌&&◌, not, List, [], ◌∷◌, Option, None, Some, min}
+use Rattle.std.proofs.Common.{take, length, get_or, cond, fold, subst, if◌then◌else◌, nat_eq, refl, ap, ◌∙◌, arith, count_by}
+use Rattle.std.proofs.lemmas.{Bool.and_parts, Bool.eqb-true, Bool.false≢true, Int.clamps, List.length-take-le, List.take_all}
 use Rattle.std.proofs.lemmas.List.Sums.{count_by-le-length, count_by_more_no, count_by_more_yes}
 use Rattle.strsim.specs.Edits.{cost, cost_at, osa_from, osa_row, osa_step, osa_table, swaps_at, OsaState}
 use Rattle.strsim.proofs.EditLemmas.{cost_at_is}

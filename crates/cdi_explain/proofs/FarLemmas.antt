@@ -1,13 +1,11 @@
 -- Names are not near whose characters are too many of one class.
-use Rattle.std.proofs.Common.{◌≡◌, ℕ, ◌+◌, ◌<◌, nat_le, true, false, List, [], ◌∷◌, ◌++◌, Option, None, Some, IfSome, length, length-append, get_or, count_by}
-use Rattle.std.proofs.Common.{if◌then◌else◌, inl, inr, sym, ap, ◌∙◌, arith}
+use Rattle.std.proofs.Common.{◌≡◌, ℕ, ◌+◌, ◌<◌, nat_le, true, false, List, [], ◌∷◌, ◌++◌, Option, None, Some, IfSome, length, length-append}
+use Rattle.std.proofs.Common.{get_or, count_by, if◌then◌else◌, inl, inr, sym, ap, ◌∙◌, arith}
 use Rattle.std.specs.Str.{chars}
-use Rattle.std.proofs.lemmas.Bool.{and_parts, cases_lt}
-use Rattle.std.proofs.lemmas.List.{get_or_append_left, get_or-append-add}
-use Rattle.cdi_explain.specs.declared.near.Near.{Near}
-use Rattle.cdi_explain.specs.Counts.{is_of_class, AreApart, AreCounted}
-use Rattle.cdi_explain.specs.Near.{distance, is_near, is_nearer, nearer}
+use Rattle.std.proofs.lemmas.{Bool.and_parts, Bool.cases_lt, List.get_or_append_left, List.get_or-append-add}
 use Rattle.cdi_explain.proofs.CountLemmas.{counts-apart}
+use Rattle.cdi_explain.specs.Near.{distance, is_near, is_nearer, nearer}
+use Rattle.cdi_explain.specs.{declared.near.Near.Near, Counts.is_of_class, Counts.AreApart, Counts.AreCounted}
 
 -- one more count
 pub counted-more : (name counts : List ℕ) (n : ℕ) → AreCounted name counts → n ≡ count_by (is_of_class (length counts)) (chars name)

@@ -1,13 +1,12 @@
 -- The interceptors that are called at a place are those of its chain.
-use Rattle.std.proofs.Common.{◌≡◌, ℕ, Bool, true, false, not, ◌&&◌, List, [], ◌∷◌, filter, length, nat_eq, is_none, is_some, Option, Some, None}
-use Rattle.std.proofs.Common.{refl, sym, ap, ◌∙◌}
+use Rattle.std.proofs.Common.{◌≡◌, ℕ, Bool, true, false, not, ◌&&◌, List, [], ◌∷◌, filter, length, nat_eq, is_none, is_some, Option, Some}
+use Rattle.std.proofs.Common.{None, refl, sym, ap, ◌∙◌}
 use Rattle.std.specs.List.{list_all, AllByRecursion}
-use Rattle.base_lists.proofs.Filters.{filter-alike}
-use Rattle.base_lists.proofs.Sorting.{all-sorted}
+use Rattle.base_lists.proofs.{Filters.filter-alike, Sorting.all-sorted}
 use Rattle.cdi_model.specs.declared.decl.InterceptorDecl.{InterceptorDecl}
 use Rattle.cdi_intercept.specs.Chains.{chain_by, covered_in, in_order, interceptors, is_before, is_enabled, part_for, surrounds}
-use Rattle.cdi_explain.specs.Interceptors.{interceptor_verdict, is_called, uncovered, CalledAreTheChain, CalledSurround}
 use Rattle.cdi_explain.proofs.VerdictLemmas.{lacking_all}
+use Rattle.cdi_explain.specs.Interceptors.{interceptor_verdict, is_called, uncovered, CalledAreTheChain, CalledSurround}
 
 pub called_surround : CalledSurround
 called_surround ds set place i =

@@ -4,10 +4,10 @@ use Rattle.std.proofs.lemmas.List.Elements.{filter_agree}
 use Rattle.base_lists.proofs.Filters.{filter-both}
 use Rattle.cdi_effective.specs.declared.records.Effective.{Effective}
 use Rattle.cdi_resolve.specs.Choices.{candidate, chosen_by_name, ids, is_named, named, Candidate}
-use Rattle.cdi_explain.specs.declared.rivals.Rivals.{Rivals}
+use Rattle.cdi_explain.proofs.VerdictLemmas.{among_same, choice_ids, left_out, map_filter, map_map, map_same, taken_kept}
 use Rattle.cdi_explain.specs.Names.{has_name, name_verdict, name_verdict_by, name_verdict_if, TakenAreTheNamed}
 use Rattle.cdi_explain.specs.Verdicts.{among_by, is_kept, is_taken, kept, rivals_of, verdict_among}
-use Rattle.cdi_explain.proofs.VerdictLemmas.{among_same, choice_ids, left_out, map_filter, map_map, map_same, taken_kept}
+use Rattle.cdi_explain.specs.declared.rivals.Rivals.{Rivals}
 
 taken_here : (beans : List Effective) (n : List ℕ) (bean : Effective)
     → is_taken (name_verdict beans n bean) ≡ (has_name n bean && is_kept (map candidate (named beans n)) (candidate bean))

@@ -1,13 +1,12 @@
 -- The nearest of some names is near, and none is nearer.
-use Rattle.std.proofs.Common.{◌≡◌, ℕ, nat_lt, Bool, true, false, ◌||◌, List, [], ◌∷◌, fold, Option, Some, None, IfSome}
-use Rattle.std.proofs.Common.{if◌then◌else◌, refl, ap, ◌∙◌, arith}
-use Rattle.std.specs.List.{AllByRecursion}
-use Rattle.std.specs.Str.{bytes_eq}
+use Rattle.std.proofs.Common.{◌≡◌, ℕ, nat_lt, Bool, true, false, ◌||◌, List, [], ◌∷◌, fold, Option, Some, None, IfSome, if◌then◌else◌, refl}
+use Rattle.std.proofs.Common.{ap, ◌∙◌, arith}
+use Rattle.std.specs.{List.AllByRecursion, Str.bytes_eq}
 use Rattle.std.proofs.lemmas.List.Elements.{All-from_recursion}
 use Rattle.base_numbers.proofs.Texts.{same_text}
 use Rattle.cdi_match.specs.Chain.{has}
-use Rattle.cdi_explain.specs.declared.near.Near.{Near}
 use Rattle.cdi_explain.specs.Near.{distance, is_near, is_nearer, nearer, nearest, IsFound, NearestIsNear}
+use Rattle.cdi_explain.specs.declared.near.Near.{Near}
 
 -- ---- none is nearer
 

@@ -1,13 +1,9 @@
 -- The greatest priority of some candidates tells which of them are kept.
-use Rattle.std.proofs.Common.{◌≡◌, ℤ, int_lt, Bool, true, false, not, ◌&&◌, ◌||◌, List, [], ◌∷◌, fold, Option, Some, None}
-use Rattle.std.proofs.Common.{if◌then◌else◌, Ordering, Less, Equal, Greater, refl, sym, ap, ◌∙◌}
-use Rattle.std.specs.Cmp.{IsTotalOrder}
-use Rattle.std.specs.Cmp.Lexicographic.{options_total}
-use Rattle.std.specs.List.{list_all}
-use Rattle.std.specs.Option.{option_cmp}
+use Rattle.std.proofs.Common.{◌≡◌, ℤ, int_lt, Bool, true, false, not, ◌&&◌, ◌||◌, List, [], ◌∷◌, fold, Option, Some, None, if◌then◌else◌}
+use Rattle.std.proofs.Common.{Ordering, Less, Equal, Greater, refl, sym, ap, ◌∙◌}
+use Rattle.std.specs.{Cmp.IsTotalOrder, Cmp.Lexicographic.options_total, List.list_all, Option.option_cmp}
 use Rattle.std.specs.Ordering.{int_cmp, is_lt, ordering_reverse}
-use Rattle.std.proofs.lemmas.Bool.{false≢true}
-use Rattle.std.proofs.lemmas.Cmp.{int_cmp_total, tied_itself}
+use Rattle.std.proofs.lemmas.{Bool.false≢true, Cmp.int_cmp_total, Cmp.tied_itself}
 use Rattle.base_options.proofs.Booleans.{Less-from_is_lt}
 use Rattle.cdi_resolve.specs.Choices.{is_less, Candidate}
 use Rattle.cdi_explain.specs.Verdicts.{greater, is_kept_among, is_kept_by, raise, top}

@@ -1,19 +1,15 @@
 -- Which beans have a replacer.
-use Rattle.std.proofs.Common.{◌≡◌, ℤ, Bool, true, false, not, ◌&&◌, ◌||◌, is_none, is_some, List, [], ◌∷◌, ◌++◌, map, Option, Some, None, option_map}
-use Rattle.std.proofs.Common.{if◌then◌else◌, refl, sym, ◌∙◌}
+use Rattle.std.proofs.Common.{◌≡◌, ℤ, Bool, true, false, not, ◌&&◌, ◌||◌, is_none, is_some, List, [], ◌∷◌, ◌++◌, map, Option, Some, None}
+use Rattle.std.proofs.Common.{option_map, if◌then◌else◌, refl, sym, ◌∙◌}
 use Rattle.std.specs.List.{find, flat_map, list_any, AllByRecursion}
-use Rattle.std.proofs.lemmas.Bool.{false≢true}
-use Rattle.std.proofs.lemmas.List.Elements.{All-from_recursion}
-use Rattle.cdi_model.specs.Decl.{name_of_decl}
-use Rattle.cdi_model.specs.declared.decl.BeanDecl.{BeanDecl}
-use Rattle.cdi_model.specs.declared.decl.Decl.{Decl}
-use Rattle.cdi_model.specs.declared.decl.Decl.TheVariants as decls
+use Rattle.std.proofs.lemmas.{Bool.false≢true, List.Elements.All-from_recursion}
+use Rattle.cdi_model.specs.{Decl.name_of_decl, declared.decl.BeanDecl.BeanDecl, declared.decl.Decl.Decl}
 use Rattle.cdi_model.specs.declared.decl.ProducerDecl.{ProducerDecl}
+use Rattle.cdi_model.specs.declared.decl.Decl.TheVariants as decls
 use Rattle.cdi_effective.specs.Beans.{beans, effective, entries, managed, product}
-use Rattle.cdi_effective.specs.Specialized.{is_replaced}
-use Rattle.cdi_effective.specs.declared.records.Effective.{Effective}
-use Rattle.cdi_explain.specs.declared.verdict.Disabled.TheVariants as disabled
+use Rattle.cdi_effective.specs.{Specialized.is_replaced, declared.records.Effective.Effective}
 use Rattle.cdi_explain.specs.Replacers.{HasReplacer, ReplacedHaveReplacers, SpecializedHaveReplacers, replacer_of, replaces}
+use Rattle.cdi_explain.specs.declared.verdict.Disabled.TheVariants as disabled
 
 find_any : {X Y : Type 0} (f : X → Y) (p : X → Bool) (xs : List X) → is_some (option_map f (find p xs)) ≡ list_any p xs
 find_any f p [] = refl

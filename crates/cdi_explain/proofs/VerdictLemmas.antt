@@ -1,23 +1,20 @@
 -- Verdicts by the greatest priority, and that the beans which are chosen or tied are those of the answer.
-use Rattle.std.proofs.Common.{◌≡◌, ℕ, ◌==◌, Bool, true, false, not, ◌&&◌, is_none, List, [], ◌∷◌, filter, length, map, position, Option, Some, None}
-use Rattle.std.proofs.Common.{if◌then◌else◌, refl, sym, ap, ◌∙◌}
+use Rattle.std.proofs.Common.{◌≡◌, ℕ, ◌==◌, Bool, true, false, not, ◌&&◌, is_none, List, [], ◌∷◌, filter, length, map, position, Option}
+use Rattle.std.proofs.Common.{Some, None, if◌then◌else◌, refl, sym, ap, ◌∙◌}
 use Rattle.std.specs.List.{list_all}
 use Rattle.std.proofs.lemmas.List.Elements.{filter_agree}
-use Rattle.base_lists.proofs.Filters.{filter-both, filter-each}
-use Rattle.base_lists.proofs.Places.{position-cons}
-use Rattle.cdi_model.specs.declared.decl.Decl.{Decl}
-use Rattle.cdi_model.specs.declared.quals.Qual.{Qual}
+use Rattle.base_lists.proofs.{Filters.filter-both, Filters.filter-each, Places.position-cons}
+use Rattle.cdi_model.specs.declared.{decl.Decl.Decl, quals.Qual.Qual}
 use Rattle.cdi_match.specs.Chain.{has}
-use Rattle.cdi_effective.specs.Qualifiers.{cover_all, required, some_covers}
-use Rattle.cdi_effective.specs.declared.records.Effective.{Effective}
-use Rattle.cdi_resolve.specs.Choices.{alternatives, among, candidate, choice_of, chosen, eligible, greatest, ids, is_eligible, is_greatest, only}
-use Rattle.cdi_resolve.specs.Choices.{Candidate}
+use Rattle.cdi_effective.specs.{Qualifiers.cover_all, Qualifiers.required, Qualifiers.some_covers, declared.records.Effective.Effective}
+use Rattle.cdi_resolve.specs.Choices.{alternatives, among, candidate, choice_of, chosen, eligible, greatest, ids, is_eligible, is_greatest}
+use Rattle.cdi_resolve.specs.Choices.{only, Candidate}
 use Rattle.cdi_resolve.specs.Eligible.{is_eligible_for}
-use Rattle.cdi_explain.specs.Verdicts.{among_by, ids_in, is_kept, is_kept_among, is_kept_by, is_taken, kept, lacking, left, rivals_of, taken, top}
-use Rattle.cdi_explain.specs.Verdicts.{verdict, verdict_among, verdict_by, verdict_if, TakenAreTheAnswer}
+use Rattle.cdi_explain.proofs.PriorityLemmas.{kept_by_top, not_itself}
+use Rattle.cdi_explain.specs.Verdicts.{among_by, ids_in, is_kept, is_kept_among, is_kept_by, is_taken, kept, lacking, left, rivals_of}
+use Rattle.cdi_explain.specs.Verdicts.{taken, top, verdict, verdict_among, verdict_by, verdict_if, TakenAreTheAnswer}
 use Rattle.cdi_explain.specs.declared.rivals.Rivals.{Rivals}
 use Rattle.cdi_explain.specs.declared.verdict.Verdict.TheVariants as verdicts
-use Rattle.cdi_explain.proofs.PriorityLemmas.{kept_by_top, not_itself}
 
 -- ---- by the greatest priority
 

@@ -1,19 +1,12 @@
 -- All codes, in their order.
-use Rattle.std.proofs.Common.{◌≡◌, Bool, true, ◌&&◌, List, [], ◌∷◌, Ordering, Less, Equal, Greater, Contains, refl}
-use Rattle.std.specs.Cmp.{IsTotalOrder}
-use Rattle.std.specs.List.{AllByRecursion, list_any}
-use Rattle.std.specs.List.Sorted.{IsStrictlySortedBy}
-use Rattle.std.specs.Ordering.{is_lt}
-use Rattle.std.proofs.Common.{⊎_elim, arith, rules}
-use Rattle.std.proofs.lemmas.Bool.{false≢true, and_parts, or_cases}
-use Rattle.std.proofs.lemmas.List.Elements.{Contains-append_right}
 use denote.Enum.Bare.{same_true}
+use Rattle.std.proofs.Common.{◌≡◌, Bool, true, ◌&&◌, List, [], ◌∷◌, Ordering, Less, Contains, refl, ⊎_elim, arith, rules}
+use Rattle.std.specs.{Cmp.IsTotalOrder, List.AllByRecursion, List.list_any, List.Sorted.IsStrictlySortedBy, Ordering.is_lt}
+use Rattle.std.proofs.lemmas.{Bool.false≢true, Bool.and_parts, Bool.or_cases, List.Elements.Contains-append_right}
 use Rattle.base_options.proofs.Booleans.{Less-from_is_lt}
-use Rattle.cdi_faults.specs.contracts.fault.Code.{the_type}
-use Rattle.cdi_faults.specs.contracts.fault.CodeOrd.TheImpl.Laws.{total-law}
-use Rattle.cdi_faults.specs.contracts.fault.CodePartialEq.TheImpl as sameness
-use Rattle.cdi_faults.specs.declared.fault.Code.{Code}
+use Rattle.cdi_faults.specs.{contracts.fault.Code.the_type, contracts.fault.CodeOrd.TheImpl.Laws.total-law, declared.fault.Code.Code}
 use Rattle.cdi_faults.specs.Codes.{all_codes, code_order}
+use Rattle.cdi_faults.specs.contracts.fault.CodePartialEq.TheImpl as sameness
 
 -- the list rises, as a test that computes
 abbrev is_before : {X : Type 0} → (X → X → Ordering) → X → List X → Bool

@@ -1,22 +1,16 @@
 -- Subjects in the byte order of their texts.
-use Rattle.std.proofs.Common.{◌≡◌, ℕ, ◌||◌, List, [], ◌∷◌, map, fold, Ordering, Less, Equal, Greater, refl, sym, ◌∙◌, ap}
-use Rattle.std.proofs.Common.{subst, true, false}
-use Rattle.std.specs.BTreeMap.{insert_entry}
-use Rattle.std.specs.BTreeSet.{insert_key}
-use Rattle.std.specs.List.{AllByRecursion}
-use Rattle.std.specs.List.Sorted.{IsStrictlySortedBy}
-use Rattle.std.specs.Map.{keys_of}
+use Rattle.std.proofs.Common.{◌≡◌, ℕ, ◌||◌, List, [], ◌∷◌, map, fold, Ordering, Less, Equal, Greater, refl, sym, ◌∙◌, ap, subst, true}
+use Rattle.std.proofs.Common.{false}
+use Rattle.std.specs.{BTreeMap.insert_entry, BTreeSet.insert_key, List.AllByRecursion, List.Sorted.IsStrictlySortedBy, Map.keys_of}
 use Rattle.std.specs.Str.{bytes_eq}
-use Rattle.std.proofs.Math.Bool.{or-false, or_assoc, or_comm}
-use Rattle.std.proofs.lemmas.Bool.{false≢true, or_left}
+use Rattle.std.proofs.{Math.Bool.or-false, Math.Bool.or_assoc, Math.Bool.or_comm, lemmas.Bool.false≢true, lemmas.Bool.or_left}
 use Rattle.base_numbers.proofs.Texts.{same_text}
 use Rattle.cdi_model.proofs.QualLemmas.{same_name}
-use Rattle.cdi_match.specs.Chain.{has}
-use Rattle.cdi_match.specs.Order.{in_order}
-use Rattle.cdi_match.proofs.OrderLemmas.{has-insert, in_order-rises}
-use Rattle.cdi_faults.specs.declared.fault.Subject.{Subject}
 use Rattle.cdi_model.specs.Bytes.{byte_order}
+use Rattle.cdi_match.specs.{Chain.has, Order.in_order}
+use Rattle.cdi_match.proofs.OrderLemmas.{has-insert, in_order-rises}
 use Rattle.cdi_faults.specs.FaultText.{text_of_subject, by_text, in_text_order, SubjectsInOrder}
+use Rattle.cdi_faults.specs.declared.fault.Subject.{Subject}
 
 abbrev pub Entries : Type 0
 Entries = List (List ℕ × Subject)

@@ -1,15 +1,12 @@
 -- The text of what has a fault.
 use Rattle.std.proofs.Common.{◌≡◌, ◌∷◌, ℕ, List, refl}
 use Rattle.std.specs.Prelude.{Some, None, ◌≢◌}
+use Rattle.cdi_model.specs.{declared.place.PartPlace.PartPlace, PlaceText.text_of_part_place, Bytes.space}
 use Rattle.cdi_model.specs.declared.decl.UseKind.TheVariants as uses
 use Rattle.cdi_model.specs.declared.mention.PointPlace.TheVariants as points
-use Rattle.cdi_faults.specs.declared.fault.Subject.{Subject}
-use Rattle.cdi_faults.specs.declared.fault.Subject.TheVariants as subjects
-use Rattle.cdi_model.specs.declared.place.PartPlace.{PartPlace}
 use Rattle.cdi_model.specs.declared.place.PartPlace.TheVariants as places
-use Rattle.cdi_model.specs.PlaceText.{text_of_part_place}
-use Rattle.cdi_model.specs.Bytes.{space}
-use Rattle.cdi_faults.specs.FaultText.{text_of_subject, behind_space}
+use Rattle.cdi_faults.specs.{declared.fault.Subject.Subject, FaultText.text_of_subject, FaultText.behind_space}
+use Rattle.cdi_faults.specs.declared.fault.Subject.TheVariants as subjects
 
 behind_space_of_place : (place : PartPlace) → behind_space (text_of_part_place place) ≡ space ∷ text_of_part_place place
 behind_space_of_place places.Construct = refl

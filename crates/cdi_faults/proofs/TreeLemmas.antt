@@ -1,10 +1,8 @@
 -- A tree of subjects by their texts.
-use Rattle.std.proofs.Common.{◌≡◌, ℕ, ◌<◌, List, [], ◌∷◌, map, length, arith, Ordering, Less, Equal, Greater}
-use Rattle.std.proofs.Common.{Vec, Global, refl, sym, ◌∙◌, ap}
+use Rattle.std.proofs.Common.{◌≡◌, ℕ, ◌<◌, List, [], ◌∷◌, map, length, arith, Ordering, Greater, Vec, Global, refl, sym, ◌∙◌, ap}
 use Rattle.std.specs.BTreeMap.{insert_entry, values}
-use Rattle.cdi_faults.specs.declared.fault.Subject.{Subject}
 use Rattle.cdi_model.specs.Bytes.{byte_order}
-use Rattle.cdi_faults.specs.FaultText.{by_text, in_text_order}
+use Rattle.cdi_faults.specs.{declared.fault.Subject.Subject, FaultText.by_text, FaultText.in_text_order}
 use Rattle.cdi_faults.specs.TextTree.{TextTree, entries_in}
 
 abbrev Text : Type 0

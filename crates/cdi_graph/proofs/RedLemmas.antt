@@ -1,25 +1,17 @@
 -- A point is red exactly where a fault says so.
-use Rattle.std.proofs.Common.{◌≡◌, ◌≢◌, ◌↔◌, ◌⊎◌, ◌||◌, inl, inr, ℕ, Bool, true, false, List, [], ◌∷◌, ◌++◌, Option, Some, None, if◌then◌else◌, Contains}
-use Rattle.std.proofs.Common.{refl, ap, sym, subst, ◌∙◌, ⊎_elim, arith}
+use Rattle.cdi_graph.proofs.Common.{◌≡◌, ℕ, Bool, true, false, List, [], ◌∷◌, refl, ap, ◌∙◌, Fault, PointId, is_ambiguous, is_unsatisfied}
+use Rattle.std.proofs.Common.{◌≢◌, ◌⊎◌, ◌||◌, inl, inr, Option, Some, None, if◌then◌else◌, Contains, sym, ⊎_elim, arith}
 use Rattle.std.specs.List.{list_any}
-use Rattle.std.proofs.lemmas.Bool.{false≢true, or_cases}
-use Rattle.std.proofs.lemmas.List.Elements.{Contains-append_right}
-use Rattle.std.proofs.lemmas.List.Folds.{list_any_at}
-use Rattle.std.proofs.lemmas.Option.{same_Some}
-use Rattle.cdi_faults.specs.declared.fault.Code.{Code}
+use Rattle.std.proofs.lemmas.{Bool.false≢true, Bool.or_cases, List.Elements.Contains-append_right, List.Folds.list_any_at, Option.same_Some}
+use Rattle.cdi_model.specs.{declared.decl.Kind.Kind, DeclKey.key_at}
+use Rattle.cdi_faults.specs.declared.fault.{Code.Code, Subject.Subject}
 use Rattle.cdi_faults.specs.declared.fault.Code.TheVariants as codes
-use Rattle.cdi_faults.specs.declared.fault.Fault.{Fault}
 use Rattle.cdi_faults.specs.declared.fault.Fault.TheVariants as faults
-use Rattle.cdi_faults.specs.declared.fault.Subject.{Subject}
 use Rattle.cdi_faults.specs.declared.fault.Subject.TheVariants as subjects
-use Rattle.cdi_model.specs.declared.decl.Kind.{Kind}
-use Rattle.cdi_model.specs.DeclKey.{key_at}
-use Rattle.cdi_graph.specs.declared.node.PointId.{PointId}
-use Rattle.cdi_graph.specs.declared.node.PointState.{PointState}
-use Rattle.cdi_graph.specs.declared.node.PointState.TheVariants as states
-use Rattle.cdi_graph.specs.Red.{ambiguous_at, ambiguous_by, is_ambiguous, is_this, is_unsatisfied, point_in, state_of, unsatisfied_at, unsatisfied_by}
-use Rattle.cdi_graph.specs.RedLaws.{IsAtFault, RedAreAtFault, UnsatisfiedAreAtFault}
+use Rattle.cdi_graph.specs.Red.{ambiguous_at, is_this, point_in, state_of, unsatisfied_at}
+use Rattle.cdi_graph.specs.{declared.node.PointState.PointState, RedLaws.IsAtFault, RedLaws.RedAreAtFault, RedLaws.UnsatisfiedAreAtFault}
 use Rattle.cdi_graph.specs.SamePoint.{same_point-decides}
+use Rattle.cdi_graph.specs.declared.node.PointState.TheVariants as states
 
 pub or_none : (b : Bool) → b ≡ (b || false)
 or_none true = refl

@@ -1,22 +1,13 @@
 -- The nodes and the edges of one sort among others.
-use Rattle.std.proofs.Common.{◌≡◌, ℕ, Bool, true, false, List, [], ◌∷◌, ◌++◌, filter, map, refl, ap, sym, ◌∙◌}
-use Rattle.std.specs.List.{flat_map}
-use Rattle.std.proofs.lemmas.List.{append-nil}
-use Rattle.std.proofs.lemmas.List.Elements.{filter-append}
+use Rattle.cdi_graph.proofs.Common.{◌≡◌, ℕ, Bool, true, false, List, [], ◌∷◌, ◌++◌, filter, map, refl, ap, ◌∙◌, flat_map, Fault, PointId}
+use Rattle.cdi_graph.proofs.Common.{chosen, is_choice, is_owned, owned, is_bean, is_point, point_node}
+use Rattle.std.proofs.lemmas.List.{append-nil, Elements.filter-append}
 use Rattle.cdi_resolve.specs.declared.choice.Choice.{Choice}
 use Rattle.cdi_resolve.specs.declared.choice.Choice.TheVariants as choices
-use Rattle.cdi_faults.specs.declared.fault.Fault.{Fault}
-use Rattle.cdi_graph.specs.declared.edge.Edge.{Edge}
+use Rattle.cdi_graph.specs.declared.{edge.Edge.Edge, node.BeanNode.BeanNode, node.EventNode.EventNode, node.Node.Node, plan.Wire.Wire}
+use Rattle.cdi_graph.specs.Edges.{chosen_for, point_of}
 use Rattle.cdi_graph.specs.declared.edge.Edge.TheVariants as edges
-use Rattle.cdi_graph.specs.declared.node.BeanNode.{BeanNode}
-use Rattle.cdi_graph.specs.declared.node.EventNode.{EventNode}
-use Rattle.cdi_graph.specs.declared.node.Node.{Node}
 use Rattle.cdi_graph.specs.declared.node.Node.TheVariants as nodes
-use Rattle.cdi_graph.specs.declared.node.PointId.{PointId}
-use Rattle.cdi_graph.specs.declared.plan.Wire.{Wire}
-use Rattle.cdi_graph.specs.Edges.{chosen, chosen_for, is_choice, is_owned, owned, point_of}
-use Rattle.cdi_graph.specs.Nodes.{is_bean, is_point}
-use Rattle.cdi_graph.specs.Red.{point_node}
 
 -- one that fails the test adds nothing to those that pass it
 left-out : {X : Type 0} (p : X → Bool) (x : X) (xs : List X) → p x ≡ false → filter p (xs ++ x ∷ []) ≡ filter p xs

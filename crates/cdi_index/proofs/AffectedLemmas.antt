@@ -1,23 +1,18 @@
 -- Which declarations edits affect, and that what is made of the others stays.
-use Rattle.base_lists.proofs.Any.{any-same, any-or}
-use Rattle.base_options.proofs.Booleans.{and-false}
-use Rattle.cdi_index.proofs.Common.{◌≡◌, ℕ, Bool, true, false, ◌&&◌, ◌||◌, List, [], ◌∷◌, map, Option, Some, None, option_map, refl, sym}
-use Rattle.cdi_index.proofs.Common.{ap, ◌∙◌, list_any, or_parts, BeanDecl, BindingDecl, Decl, Kind, Edit, DeclKey, key_at, same_key}
-use Rattle.cdi_index.proofs.Common.{find_decl, edited_all, edited_keys, is_among, edits_keep_decl, key_exact, Qual, name_of_use}
-use Rattle.cdi_index.proofs.Common.{find_binding, own_records, Effective, as_bean, find_bean, record_reads, replaced_by, Made, is_kept}
-use Rattle.cdi_index.proofs.Common.{made_of, made_of_bean, made_of_binding, made_of_interceptor, made_of_type, reads}
-use Rattle.cdi_model.specs.declared.decl.Kind.TheVariants as kinds
+use Rattle.cdi_index.proofs.Common.{any-same, any-or, and-false, ◌≡◌, ℕ, Bool, true, false, ◌&&◌, ◌||◌, List, [], ◌∷◌, map, Option, Some}
+use Rattle.cdi_index.proofs.Common.{None, option_map, refl, sym, ap, ◌∙◌, list_any, or_parts, BeanDecl, BindingDecl, Decl, Kind, Edit}
+use Rattle.cdi_index.proofs.Common.{DeclKey, key_at, same_key, find_decl, edited_all, edited_keys, is_among, edits_keep_decl, key_exact}
+use Rattle.cdi_index.proofs.Common.{Qual, name_of_use, find_binding, own_records, Effective, as_bean, find_bean, record_reads, replaced_by}
+use Rattle.cdi_index.proofs.Common.{Made, is_kept, made_of, made_of_bean, made_of_binding, made_of_interceptor, made_of_type, reads}
 use Rattle.cdi_model.specs.Edits.{Avoid}
-use Rattle.cdi_match.specs.Bindings.{brings_type, types_brought}
-use Rattle.cdi_match.specs.Filling.{as_binding}
-use Rattle.cdi_match.specs.Locality.{binding_reads}
-use Rattle.cdi_match.proofs.BindingLemmas.{bindings_in}
-use Rattle.cdi_match.proofs.LocalityLemmas.{edits_keep_closure, keep_names}
+use Rattle.cdi_model.specs.declared.decl.Kind.TheVariants as kinds
 use Rattle.cdi_model.specs.declared.decl.Decl.TheVariants as decls
+use Rattle.cdi_match.specs.{Bindings.brings_type, Bindings.types_brought, Filling.as_binding, Locality.binding_reads}
+use Rattle.cdi_match.proofs.{BindingLemmas.bindings_in, LocalityLemmas.edits_keep_closure, LocalityLemmas.keep_names}
 use Rattle.cdi_effective.proofs.RecordLemmas.{edits_keep_own_records}
-use Rattle.cdi_index.specs.declared.making.Given.TheVariants as given
-use Rattle.cdi_index.specs.Made.{reads_in, words_of}
 use Rattle.cdi_index.proofs.ChangeLemmas.{none-of}
+use Rattle.cdi_index.specs.Made.{reads_in, words_of}
+use Rattle.cdi_index.specs.declared.making.Given.TheVariants as given
 
 -- an edit of a key affects a declaration
 abbrev pub hits : List Decl → DeclKey → DeclKey → Bool

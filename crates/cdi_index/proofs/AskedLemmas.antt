@@ -6,27 +6,22 @@ use Rattle.cdi_index.proofs.Common.{false≢true, or_cases, or_left, or_right, l
 use Rattle.cdi_index.proofs.Common.{AreDistinct, mentions, Mention, BodyOf, CallOf, EventOf, MethodOf, PointOf, StereotypeOf, TypeIn, UseOf}
 use Rattle.cdi_index.proofs.Common.{required, Word, Listing, under, same_word, word_at, asks_for, asks_in, is_asked, bytes_eq-turned}
 use Rattle.cdi_index.proofs.Common.{is_asker_at, Asked, Kept, Shelf, kept_at, stored, IsExact, IsShelf, IsSound, words_have, words_named}
-use Rattle.cdi_index.proofs.Common.{words_named_in, words_of_observer, words_of_record, words_of_uses, words_by}
+use Rattle.cdi_index.proofs.Common.{words_named_in, words_of_observer, words_of_record, words_of_uses, words_by, same-bool}
 use Rattle.std.specs.Cmp.Lexicographic.{pointwise}
-use Rattle.base_options.proofs.Booleans.{same-bool}
+use Rattle.cdi_model.specs.declared.{decl.TypeDecl.TypeDecl, decl.UseKind.UseKind, mention.TypePlace.TypePlace}
+use Rattle.cdi_model.specs.{SameUse.same_qual, Mentions.of_bindings}
 use Rattle.cdi_model.specs.declared.decl.Decl.TheVariants as decls
 use Rattle.cdi_model.specs.declared.decl.Kind.TheVariants as kinds
-use Rattle.cdi_model.specs.declared.decl.TypeDecl.{TypeDecl}
-use Rattle.cdi_model.specs.declared.decl.UseKind.{UseKind}
-use Rattle.cdi_model.specs.declared.mention.TypePlace.{TypePlace}
 use Rattle.cdi_model.specs.declared.mention.TypePlace.TheVariants as places
 use Rattle.cdi_model.specs.declared.decl.UseKind.TheVariants as uses
-use Rattle.cdi_model.specs.SameUse.{same_qual}
-use Rattle.cdi_model.specs.Mentions.{of_bindings}
 use Rattle.cdi_postings.specs.declared.word.Reason.TheVariants as reasons
-use Rattle.cdi_index.specs.AskedAt.{is_asker, reason_of}
-use Rattle.cdi_index.specs.declared.asked.Question.{Question}
-use Rattle.cdi_index.specs.declared.asked.Question.TheVariants as questions
 use Rattle.cdi_index.proofs.CountLemmas.{keys-distinct}
 use Rattle.cdi_index.proofs.NamedLemmas.{among-named}
 use Rattle.cdi_index.proofs.NextLemmas.{any-elim}
 use Rattle.cdi_index.proofs.ReplacedLemmas.{any-at, passing}
 use Rattle.cdi_index.proofs.UnderLemmas.{key-found, listed-at}
+use Rattle.cdi_index.specs.{AskedAt.is_asker, AskedAt.reason_of, declared.asked.Question.Question}
+use Rattle.cdi_index.specs.declared.asked.Question.TheVariants as questions
 
 module _ (q : Question) (t : List ℕ) (us : List Qual) where
   abbrev word : Word

@@ -2,9 +2,8 @@
 use Rattle.cdi_index.proofs.Common.{◌≡◌, ℕ, Bool, true, false, ◌&&◌, ◌||◌, List, [], ◌∷◌, map, Option, Some, None, option_map, refl, sym}
 use Rattle.cdi_index.proofs.Common.{ap, ◌∙◌, list_any, Decl, Kind, DeclKey, same_key, is_among, key_exact, Made, made_of, ◌++◌, false≢true}
 use Rattle.cdi_index.proofs.Common.{or_left, or_right, suc, ◌+◌, cond, length, filter, is_some, slice_get, same_key_equiv, Change}
-use Rattle.cdi_index.proofs.Common.{is_of_kind, Stored, made_in, applied, change_of, is_made, stored_as}
+use Rattle.cdi_index.proofs.Common.{is_of_kind, Stored, made_in, applied, change_of, is_made, stored_as, any-same}
 use Rattle.std.proofs.Math.Nat.{add-zero, add-suc, suc-add}
-use Rattle.base_lists.proofs.Any.{any-same}
 
 abbrev pub StoredBy : Type 0
 StoredBy = DeclKey → Option Stored

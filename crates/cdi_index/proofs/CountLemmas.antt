@@ -4,18 +4,15 @@ use Rattle.cdi_index.proofs.Common.{ap, ◌∙◌, list_any, BeanDecl, Decl, Kin
 use Rattle.cdi_index.proofs.Common.{edited_keys, is_among, edits_keep_decl, key_exact, find_bean, record_reads, made_of, made_of_bean}
 use Rattle.cdi_index.proofs.Common.{made_of_type, reads, not, false≢true, key_of, AreDistinct, suc, cond, length, filter, is_some}
 use Rattle.cdi_index.proofs.Common.{same_key_equiv, is_of_kind, change_of, is_made, ◌≢◌, ◌<◌, nat_eq, arith, AllByRecursion, IsDistinct}
-use Rattle.cdi_index.proofs.Common.{length-map, type_reads, computed, is_recorded}
-use Rattle.std.specs.Bool.{Decides}
-use Rattle.std.specs.List.{AllPairs}
-use Rattle.std.proofs.lemmas.List.{get_or-map}
-use Rattle.std.proofs.lemmas.Map.Made.{is_member-filter, length-from_same_keys, IsDistinct-from_AllPairs}
-use Rattle.base_options.proofs.Booleans.{and-false}
-use Rattle.cdi_model.specs.declared.decl.Kind.TheVariants as kinds
+use Rattle.cdi_index.proofs.Common.{length-map, type_reads, computed, is_recorded, and-false}
+use Rattle.std.specs.{Bool.Decides, List.AllPairs}
+use Rattle.std.proofs.lemmas.{List.get_or-map, Map.Made.is_member-filter, Map.Made.length-from_same_keys, Map.Made.IsDistinct-from_AllPairs}
 use Rattle.cdi_model.specs.DeclKey.{kind_number}
-use Rattle.cdi_index.specs.Counted.{is_computed, is_computed_of, reads_of}
+use Rattle.cdi_model.specs.declared.decl.Kind.TheVariants as kinds
 use Rattle.cdi_index.proofs.AffectedLemmas.{hits, hit-parts}
 use Rattle.cdi_index.proofs.ChangeLemmas.{any-of, count-made}
 use Rattle.cdi_index.proofs.ReadLemmas.{bean-found, bean-itself, type-itself}
+use Rattle.cdi_index.specs.Counted.{is_computed, is_computed_of, reads_of}
 
 -- ---- lists of keys
 

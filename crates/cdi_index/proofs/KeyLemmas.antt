@@ -1,8 +1,8 @@
 -- What is found by the place of a key.
-use Rattle.base_lists.proofs.Places.{position-map}
 use Rattle.cdi_index.proofs.Common.{◌≡◌, ℕ, false, List, [], ◌∷◌, map, Option, Some, refl, sym, ap, ◌∙◌, list_any, or_parts, DeclKey}
 use Rattle.cdi_index.proofs.Common.{same_key, Effective, Made, suc, cond, same_key_equiv, Change, zero, get_or, position, Turn}
 use Rattle.cdi_index.proofs.Common.{keys_changed, keys_turned, made_after, turned}
+use Rattle.base_lists.proofs.Places.{position-map}
 use Rattle.cdi_model.proofs.PlaceLemmas.{First, First-position}
 
 -- the place of a key is that of the first one that has it

@@ -2,9 +2,8 @@
 use Rattle.cdi_index.proofs.Common.{◌≡◌, ℕ, Bool, true, ◌&&◌, ◌||◌, List, [], ◌∷◌, map, Option, Some, None, refl, sym, ap, ◌∙◌, list_any}
 use Rattle.cdi_index.proofs.Common.{Decl, DeclKey, Made, made_of, ◌++◌, and_from, or_cases, or_left, or_right, inl, inr, Word, Listing}
 use Rattle.cdi_index.proofs.Common.{same_word, words_have, suc, ◌+◌, length, slice_get, Change, change_of, ◌<◌, nat_eq, ◌⊎◌, is_listed}
-use Rattle.cdi_index.proofs.Common.{zero, get_or, take, list_any_more, Lists, Keeps, classes_have, has_word, keys_have}
+use Rattle.cdi_index.proofs.Common.{zero, get_or, take, list_any_more, Lists, Keeps, classes_have, has_word, keys_have, nat_eq-refl}
 use Rattle.std.proofs.lemmas.List.{map-append, take_more}
-use Rattle.base_numbers.proofs.Numbers.{nat_eq-refl}
 
 -- ---- what is listed stays
 

@@ -6,16 +6,13 @@ use Rattle.cdi_index.proofs.Common.{under, Kept, Shelf, kept_at, stored, IsExact
 use Rattle.cdi_index.proofs.Common.{slice_get, same_key_equiv, Change, Stored, made_in, applied, change_of, is_made, ◌<◌, nat_eq}
 use Rattle.cdi_index.proofs.Common.{IsDistinct, computed, is_recorded, ◌≤◌, is_listed, slot_of, keys_changed, keys_turned, turned, Keeps}
 use Rattle.cdi_index.proofs.Common.{classes_have, has_word, subst, lookup, eqb-true, get, spare, limit, is_reader_among, stored_at, touches}
-use Rattle.cdi_index.proofs.Common.{word_of, IsNext, AreReplaced}
+use Rattle.cdi_index.proofs.Common.{word_of, IsNext, AreReplaced, any-same, any-more, same-bool}
 use Rattle.std.proofs.Common.{◌^◌}
-use Rattle.base_lists.proofs.Any.{any-same, any-more}
-use Rattle.base_options.proofs.Booleans.{same-bool}
-use Rattle.cdi_index.specs.Kept.{is_reader, IsFreeFrom}
-use Rattle.cdi_index.specs.declared.prepare.Next.{Next}
 use Rattle.cdi_index.proofs.AffectedLemmas.{hits, made-stays}
 use Rattle.cdi_index.proofs.ChangeLemmas.{among-turned, applied-comes, applied-made, Anew, Before, StoredBy}
 use Rattle.cdi_index.proofs.CountLemmas.{count-changes}
 use Rattle.cdi_index.proofs.ShelfLemmas.{found}
+use Rattle.cdi_index.specs.{Kept.is_reader, Kept.IsFreeFrom, declared.prepare.Next.Next}
 
 -- ---- who is affected
 

@@ -1,27 +1,26 @@
 -- Which beans are replaced after changes.
-use Rattle.base_lists.proofs.Any.{any-map, any-more}
-use Rattle.base_options.proofs.Booleans.{same-bool}
-use Rattle.cdi_index.proofs.Common.{◌≡◌, ℕ, Bool, true, false, ◌&&◌, ◌||◌, List, [], ◌∷◌, map, Option, Some, None, option_map, refl, sym}
-use Rattle.cdi_index.proofs.Common.{ap, ◌∙◌, list_any, BeanDecl, BindingDecl, Decl, Kind, DeclKey, key_at, same_key, find_decl, is_among}
-use Rattle.cdi_index.proofs.Common.{key_exact, find_binding, own_records, Effective, as_bean, find_bean, replaced_by, Made, made_of}
-use Rattle.cdi_index.proofs.Common.{made_of_bean, made_of_binding, made_of_interceptor, made_of_type, not, bytes_eq, and_from, and_parts}
-use Rattle.cdi_index.proofs.Common.{false≢true, or_cases, or_left, or_right, inl, inr, key_of, kind_of, name_of_decl, AreDistinct, Word}
-use Rattle.cdi_index.proofs.Common.{Listing, under, same_word, word_at, Kept, Shelf, kept_at, stored, IsExact, IsShelf, IsSound, words_have}
-use Rattle.cdi_index.proofs.Common.{cond, same_key_equiv, Change, Stored, made_in, change_of, nat_eq, AllByRecursion, IsDistinct, slot_of}
-use Rattle.cdi_index.proofs.Common.{made_after, classes_have, has_word, keys_have, eqb-true, stored_at, AreReplaced, is_of, has}
-use Rattle.cdi_index.proofs.Common.{is_replaced, unless_replaced, records_declared, records_in, records_are_own, lent, is_at_stake}
-use Rattle.cdi_index.proofs.Common.{is_replaced_anew, is_replaced_still, records_after, replaced_records}
+use Rattle.cdi_index.proofs.Common.{any-more, same-bool, ◌≡◌, ℕ, Bool, true, false, ◌&&◌, ◌||◌, List, [], ◌∷◌, map, Option, Some, None}
+use Rattle.cdi_index.proofs.Common.{option_map, refl, sym, ap, ◌∙◌, list_any, BeanDecl, BindingDecl, Decl, Kind, DeclKey, key_at, same_key}
+use Rattle.cdi_index.proofs.Common.{find_decl, is_among, key_exact, find_binding, own_records, Effective, as_bean, find_bean, replaced_by}
+use Rattle.cdi_index.proofs.Common.{Made, made_of, made_of_bean, made_of_binding, made_of_interceptor, made_of_type, not, bytes_eq}
+use Rattle.cdi_index.proofs.Common.{and_from, and_parts, false≢true, or_cases, or_left, or_right, inl, inr, key_of, kind_of, name_of_decl}
+use Rattle.cdi_index.proofs.Common.{AreDistinct, Word, Listing, under, same_word, word_at, Kept, Shelf, kept_at, stored, IsExact, IsShelf}
+use Rattle.cdi_index.proofs.Common.{IsSound, words_have, cond, same_key_equiv, Change, Stored, made_in, change_of, nat_eq, AllByRecursion}
+use Rattle.cdi_index.proofs.Common.{IsDistinct, slot_of, made_after, classes_have, has_word, keys_have, eqb-true, stored_at, AreReplaced}
+use Rattle.cdi_index.proofs.Common.{is_of, has, is_replaced, unless_replaced, records_declared, records_in, records_are_own, lent}
+use Rattle.cdi_index.proofs.Common.{is_at_stake, is_replaced_anew, is_replaced_still, records_after, replaced_records}
+use Rattle.base_lists.proofs.Any.{any-map}
 use Rattle.cdi_model.specs.declared.decl.Decl.TheVariants as decls
 use Rattle.cdi_model.specs.declared.decl.Kind.TheVariants as kinds
 use Rattle.cdi_effective.specs.Beans.{records}
-use Rattle.cdi_index.proofs.ReadLemmas.{found_name}
-use Rattle.cdi_postings.specs.declared.word.Reason.TheVariants as reasons
 use Rattle.cdi_postings.specs.Words.{same_word_equiv}
-use Rattle.cdi_index.specs.Made.{replaces_in}
-use Rattle.cdi_index.specs.Replaced.{disabled, is_other, is_replaced_after, is_replaced_key, is_replaced_of, replaces, stakes}
+use Rattle.cdi_postings.specs.declared.word.Reason.TheVariants as reasons
+use Rattle.cdi_index.proofs.ReadLemmas.{found_name}
 use Rattle.cdi_index.proofs.CountLemmas.{keys-distinct}
 use Rattle.cdi_index.proofs.NextLemmas.{any-elim}
 use Rattle.cdi_index.proofs.ShelfLemmas.{found}
+use Rattle.cdi_index.specs.Replaced.{disabled, is_other, is_replaced_after, is_replaced_key, is_replaced_of, replaces, stakes}
+use Rattle.cdi_index.specs.Made.{replaces_in}
 
 -- ---- a bean is replaced by one of which something is made
 

@@ -1,10 +1,8 @@
 -- What is kept at slots, where one is taken out or put in.
 use Rattle.cdi_index.proofs.Common.{◌≡◌, ℕ, Bool, true, false, Option, Some, None, option_map, refl, sym, ap, ◌∙◌, DeclKey, same_key}
 use Rattle.cdi_index.proofs.Common.{key_exact, Made, false≢true, Kept, cond, same_key_equiv, Stored, nat_eq, eqb-true, stored_at, Result}
-use Rattle.cdi_index.proofs.Common.{Ok, Err, OnOk}
+use Rattle.cdi_index.proofs.Common.{Ok, Err, OnOk, nat_eq-refl}
 use Rattle.std.specs.Result.{IsOk}
-use Rattle.std.proofs.lemmas.Cmp.{nat_eq_equiv}
-use Rattle.base_numbers.proofs.Numbers.{nat_eq-refl}
 use Rattle.cdi_index.proofs.ChangeLemmas.{one-stored}
 use Rattle.cdi_index.specs.Kept.{IsOwned, Owns}
 

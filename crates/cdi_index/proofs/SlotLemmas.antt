@@ -5,13 +5,11 @@ use Rattle.cdi_index.proofs.Common.{made_of_bean, made_of_binding, made_of_inter
 use Rattle.cdi_index.proofs.Common.{false≢true, key_of, AreDistinct, Word, Listing, under, Kept, Shelf, kept_at, stored, IsExact, IsShelf}
 use Rattle.cdi_index.proofs.Common.{IsSound, words_have, suc, cond, filter, is_some, same_key_equiv, nat_eq, arith, zero, position, get}
 use Rattle.cdi_index.proofs.Common.{AreReplaced, is_of, records_in, lent, replaced_records, position-there, entries, made_by, beans_under}
-use Rattle.cdi_index.proofs.Common.{has_one, is_at, records_at, records_kept}
-use Rattle.std.proofs.Common.{slice_get}
-use Rattle.std.proofs.lemmas.Bool.{ne_eqb}
-use Rattle.std.proofs.lemmas.List.{append-nil}
+use Rattle.cdi_index.proofs.Common.{has_one, is_at, records_at, records_kept, slice_get}
+use Rattle.std.proofs.lemmas.{Bool.ne_eqb, List.append-nil}
+use Rattle.cdi_model.proofs.PositionLemmas.{name-found, position-found}
 use Rattle.cdi_model.specs.declared.decl.Decl.TheVariants as decls
 use Rattle.cdi_model.specs.declared.decl.Kind.TheVariants as kinds
-use Rattle.cdi_model.proofs.PositionLemmas.{name-found, position-found}
 use Rattle.cdi_index.proofs.ReplacedLemmas.{lent-of}
 use Rattle.cdi_index.proofs.UnderLemmas.{key-found, made-at, marked-are, none-pass, records-of-bean, some-made}
 

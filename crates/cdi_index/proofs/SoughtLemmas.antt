@@ -5,13 +5,11 @@ use Rattle.cdi_index.proofs.Common.{list_any-append, mentions, Mention, BodyOf, 
 use Rattle.cdi_index.proofs.Common.{UseOf, required, Word, same_word, word_at, words_have, words_named, words_named_in, bytes_eq-turned}
 use Rattle.cdi_index.proofs.Common.{words_of_observer, words_of_record, words_of_uses, suc, cond, filter, slice_get, words_written_in, has}
 use Rattle.cdi_index.proofs.Common.{is_replaced, unless_replaced, records_are_own, entries, beans_under, has_one, beans, has_name}
-use Rattle.cdi_index.proofs.Common.{observes_one}
+use Rattle.cdi_index.proofs.Common.{observes_one, or-false, any-same, any-or}
 use Rattle.std.proofs.lemmas.List.Elements.{filter-append}
-use Rattle.std.proofs.Math.Bool.{or-false}
-use Rattle.base_lists.proofs.Any.{any-same, any-or, any-none}
-use Rattle.base_lists.proofs.Filters.{filter-each, filter-same}
-use Rattle.cdi_model.specs.declared.decl.Decl.TheVariants as decls
+use Rattle.base_lists.proofs.{Any.any-none, Filters.filter-each, Filters.filter-same}
 use Rattle.cdi_model.specs.declared.decl.ObserverDecl.{ObserverDecl}
+use Rattle.cdi_model.specs.declared.decl.Decl.TheVariants as decls
 use Rattle.cdi_model.specs.declared.decl.UseKind.TheVariants as uses
 use Rattle.cdi_postings.specs.declared.word.Reason.TheVariants as reasons
 use Rattle.cdi_index.specs.Made.{words_of_bean, words_of_bindings}

@@ -6,11 +6,8 @@ use Rattle.cdi_index.proofs.Common.{◌++◌, flat_map, option_map_or, false≢t
 use Rattle.cdi_index.proofs.Common.{Shelf, kept_at, stored, IsExact, IsShelf, IsSound, words_have, words_by, suc, ◌+◌, cond, filter}
 use Rattle.cdi_index.proofs.Common.{same_key_equiv, Stored, made_in, nat_eq, arith, slot_of, position, classes_have, keys_have, eqb-true}
 use Rattle.cdi_index.proofs.Common.{stored_at, is_of, records_declared, records_in, position-there, entries, made_by, beans_under, has_one}
-use Rattle.cdi_index.proofs.Common.{is_at, records_at, is_marked, marked_from, is_at_slots, is_at_words}
-use Rattle.std.proofs.Common.{slice_get}
-use Rattle.base_lists.proofs.Any.{any-more}
-use Rattle.base_numbers.proofs.Numbers.{nat_eq-refl}
-use Rattle.base_options.proofs.Booleans.{same-bool}
+use Rattle.cdi_index.proofs.Common.{is_at, records_at, is_marked, marked_from, is_at_slots, is_at_words, slice_get, any-more, nat_eq-refl}
+use Rattle.cdi_index.proofs.Common.{same-bool}
 use Rattle.cdi_model.specs.declared.decl.Decl.TheVariants as decls
 use Rattle.cdi_model.specs.declared.decl.Kind.TheVariants as kinds
 use Rattle.cdi_effective.proofs.PlaceLemmas.{own-found, own-place, own-position, place-found}

@@ -1,20 +1,13 @@
 -- Whether one stands around some place: by the interceptors in order, and by the places.
-use Rattle.std.proofs.Common.{◌≡◌, ℕ, suc, Bool, true, false, not, ◌||◌, List, [], ◌∷◌, length, map, filter, nat_eq}
-use Rattle.std.proofs.Common.{refl, sym, ap, ◌∙◌, arith}
+use Rattle.std.proofs.Common.{◌≡◌, Bool, true, false, not, ◌||◌, List, [], ◌∷◌, length, map, filter, nat_eq, refl, sym, ap, ◌∙◌}
 use Rattle.std.specs.List.{list_any}
-use Rattle.std.proofs.lemmas.Bool.{eqb-true, false_from_ne_true, not_from_false}
-use Rattle.cdi_model.specs.declared.decl.BeanDecl.{BeanDecl}
-use Rattle.cdi_model.specs.declared.decl.Decl.{Decl}
-use Rattle.cdi_model.specs.declared.decl.InterceptorDecl.{InterceptorDecl}
-use Rattle.cdi_model.specs.declared.place.BeanPlace.{BeanPlace}
-use Rattle.cdi_model.specs.declared.quals.Qual.{Qual}
-use Rattle.cdi_intercept.specs.Chains.{around_any, in_order, interceptors, is_before, is_enabled}
-use Rattle.cdi_intercept.specs.Chains.{surrounds, surrounds_one}
-use Rattle.cdi_intercept.specs.Sets.{places_of, set_by, sets_of, with_set}
-use Rattle.base_lists.specs.Sorting.{put, sorted_by}
 use Rattle.base_lists.proofs.Any.{any-same, any-or, any-none, any-left}
+use Rattle.base_lists.specs.Sorting.{sorted_by}
 use Rattle.base_lists.proofs.Sorting.{any-sorted}
-use Rattle.base_options.proofs.Booleans.{or-left_comm}
+use Rattle.cdi_model.specs.declared.{decl.BeanDecl.BeanDecl, decl.Decl.Decl, decl.InterceptorDecl.InterceptorDecl, quals.Qual.Qual}
+use Rattle.cdi_model.specs.declared.place.BeanPlace.{BeanPlace}
+use Rattle.cdi_intercept.specs.Chains.{around_any, in_order, interceptors, is_before, is_enabled, surrounds, surrounds_one}
+use Rattle.cdi_intercept.specs.Sets.{places_of, set_by, sets_of, with_set}
 
 or-both : (a b c d : Bool) → ((a || b) || (c || d)) ≡ ((a || c) || (b || d))
 or-both true b c d = refl

@@ -1,23 +1,14 @@
 -- Which interceptors are in order, and where they stand.
-use Rattle.std.proofs.Common.{◌≡◌, ℕ, zero, suc, Bool, true, false, not, ◌||◌, cond, List, [], ◌∷◌, ◌++◌, map, filter}
-use Rattle.std.proofs.Common.{Some, option_map, refl, sym, ap, subst, ◌∙◌, inl, inr}
-use Rattle.std.specs.List.{AllByRecursion, list_any, slice_get}
-use Rattle.std.proofs.lemmas.Bool.{cases_Bool}
-use Rattle.std.proofs.lemmas.Option.{none-some, same_Some, slice_get-map}
-use Rattle.std.proofs.lemmas.Map.Keys.{any_passes_from_place}
-use Rattle.base_lists.proofs.Each.{all-at}
-use Rattle.base_lists.proofs.Places.{at-front, at-back}
-use Rattle.base_lists.proofs.Sorting.{all-sorted}
-use Rattle.cdi_model.specs.declared.decl.BeanDecl.{BeanDecl}
-use Rattle.cdi_model.specs.declared.decl.Decl.{Decl}
-use Rattle.cdi_model.specs.declared.decl.Decl.TheVariants as decls
-use Rattle.cdi_model.specs.declared.decl.InterceptorDecl.{InterceptorDecl}
-use Rattle.cdi_model.specs.declared.decl.MethodDecl.{MethodDecl}
-use Rattle.cdi_model.specs.declared.decl.ObserverDecl.{ObserverDecl}
-use Rattle.cdi_model.specs.declared.decl.ProducerDecl.{ProducerDecl}
-use Rattle.cdi_model.specs.declared.place.BeanPlace.{BeanPlace}
-use Rattle.cdi_model.specs.declared.place.BeanPlace.TheVariants as places
+use Rattle.std.proofs.Common.{◌≡◌, ℕ, zero, suc, Bool, true, false, not, cond, List, [], ◌∷◌, ◌++◌, map, filter, Some, option_map, refl}
+use Rattle.std.proofs.Common.{sym, ap, subst, ◌∙◌, inl, inr}
+use Rattle.std.specs.List.{AllByRecursion, slice_get}
+use Rattle.std.proofs.lemmas.{Bool.cases_Bool, Option.none-some, Option.same_Some, Option.slice_get-map, Map.Keys.any_passes_from_place}
+use Rattle.base_lists.proofs.{Each.all-at, Places.at-front, Places.at-back, Sorting.all-sorted}
+use Rattle.cdi_model.specs.declared.decl.{BeanDecl.BeanDecl, Decl.Decl, InterceptorDecl.InterceptorDecl, MethodDecl.MethodDecl}
+use Rattle.cdi_model.specs.declared.{decl.ObserverDecl.ObserverDecl, decl.ProducerDecl.ProducerDecl, place.BeanPlace.BeanPlace}
 use Rattle.cdi_model.specs.declared.quals.Qual.{Qual}
+use Rattle.cdi_model.specs.declared.decl.Decl.TheVariants as decls
+use Rattle.cdi_model.specs.declared.place.BeanPlace.TheVariants as places
 use Rattle.cdi_intercept.specs.Chains.{in_order, interceptors, is_before, is_enabled, surrounds, surrounds_one}
 use Rattle.cdi_intercept.specs.Sets.{methods_of, producers_of, observers_of, places_of, set_by, sets_of}
 

@@ -1,23 +1,14 @@
 -- Two of some bindings differ just where one is not like the one before it of its type.
-use Rattle.std.proofs.Common.{◌≡◌, ◌<◌, ◌+◌, ℕ, Bool, true, false, not, ◌&&◌, ◌||◌, cond, List, ◌∷◌, length, drop, get_or}
-use Rattle.std.proofs.Common.{Option, Some, None, option_map, refl, sym, ap, ◌∙◌}
-use Rattle.std.proofs.Math.Bool.{or-false}
-use Rattle.std.specs.Borrow.{Bor}
-use Rattle.std.specs.List.{list_any}
-use Rattle.std.specs.Bool.{Decides}
-use Rattle.std.specs.Str.{bytes_eq}
-use Rattle.std.proofs.lemmas.List.{at_drop_more}
-use Rattle.std.proofs.lemmas.Option.{slice_get-get_or, slice_get-map}
+use Rattle.std.proofs.Common.{◌≡◌, ◌<◌, ◌+◌, ℕ, Bool, true, false, not, ◌&&◌, ◌||◌, cond, List, ◌∷◌, length, drop, get_or, Option, Some}
+use Rattle.std.proofs.Common.{None, option_map, refl, sym, ap, ◌∙◌}
+use Rattle.std.proofs.{Math.Bool.or-false, lemmas.List.at_drop_more, lemmas.Option.slice_get-get_or, lemmas.Option.slice_get-map}
+use Rattle.std.specs.{Borrow.Bor, List.list_any, Bool.Decides, Str.bytes_eq}
 use Rattle.std.proofs.lemmas.Bool.Decides.{same_from_decides, Decides-like}
 use Rattle.base_lists.proofs.Any.{any-same, any-or, any-none}
 use Rattle.base_numbers.proofs.Texts.{one_text, same_text, bytes_eq-turned}
-use Rattle.cdi_model.specs.declared.decl.Decl.{Decl}
-use Rattle.cdi_model.specs.declared.decl.MemberDecl.{MemberDecl}
+use Rattle.cdi_model.specs.declared.{decl.Decl.Decl, decl.MemberDecl.MemberDecl, quals.Qual.Qual}
 use Rattle.cdi_model.specs.declared.decl.UseKind.TheVariants as use_kinds
-use Rattle.cdi_model.specs.declared.quals.Qual.{Qual}
-use Rattle.cdi_match.specs.Bindings.{uses_in}
-use Rattle.cdi_match.specs.Covering.{are_alike, AgreesBy}
-use Rattle.cdi_match.specs.Filling.{declared_of}
+use Rattle.cdi_match.specs.{Bindings.uses_in, Covering.are_alike, Covering.AgreesBy, Filling.declared_of}
 use Rattle.cdi_match.proofs.CoverLemmas.{agrees_by_decides}
 use Rattle.cdi_intercept.specs.Conflicts.{are_opposed, differs, has_conflict, use_at}
 

@@ -1,38 +1,24 @@
 -- A chain rests on the bindings at its place, the declarations of their types, and the interceptors that share one of these.
-use Rattle.std.proofs.Common.{◌≡◌, ℕ, Bool, true, false, cond, not, ◌&&◌, ◌||◌, List, [], ◌∷◌, ◌++◌, length, map, filter, nat_eq}
-use Rattle.std.proofs.Common.{Option, Some, None, is_some, option_map, unwrap_or, Result, Ok, Err, refl, sym, ap, ◌∙◌, inl, inr}
-use Rattle.std.specs.List.{list_all, list_any}
-use Rattle.std.specs.Map.{keys_of}
-use Rattle.std.specs.Option.{option_eq}
-use Rattle.std.specs.Str.{bytes_eq}
-use Rattle.std.proofs.Math.Bool.{and-false, and-true}
+use Rattle.std.proofs.Common.{◌≡◌, ℕ, Bool, true, false, cond, not, ◌&&◌, ◌||◌, List, [], ◌∷◌, ◌++◌, length, map, filter, nat_eq, Option}
+use Rattle.std.proofs.Common.{Some, None, is_some, option_map, unwrap_or, Result, Ok, Err, refl, sym, ap, ◌∙◌, inl, inr}
 use Rattle.std.proofs.lemmas.Bool.{false≢true, or_cases, or_left, or_right, and_parts}
-use Rattle.std.proofs.lemmas.List.{length-map}
-use Rattle.std.proofs.lemmas.List.Elements.{filter_agree}
+use Rattle.std.specs.{List.list_all, List.list_any, Map.keys_of, Option.option_eq, Str.bytes_eq}
+use Rattle.std.proofs.{Math.Bool.and-false, Math.Bool.and-true, lemmas.List.length-map, lemmas.List.Elements.filter_agree}
 use Rattle.base_lists.proofs.Filters.{filter-both}
 use Rattle.base_numbers.proofs.Texts.{one_text, bytes_eq-turned}
-use Rattle.cdi_model.specs.declared.decl.BeanDecl.{BeanDecl}
-use Rattle.cdi_model.specs.declared.decl.BindingDecl.{BindingDecl}
-use Rattle.cdi_model.specs.declared.decl.Decl.{Decl}
-use Rattle.cdi_model.specs.declared.decl.InterceptorDecl.{InterceptorDecl}
-use Rattle.cdi_model.specs.declared.decl.MemberDecl.{MemberDecl}
+use Rattle.cdi_model.specs.declared.decl.{BeanDecl.BeanDecl, BindingDecl.BindingDecl, Decl.Decl, InterceptorDecl.InterceptorDecl}
+use Rattle.cdi_model.specs.declared.{decl.MemberDecl.MemberDecl, place.BeanPlace.BeanPlace, quals.Qual.Qual, refusal.Refusal.Refusal}
 use Rattle.cdi_model.specs.declared.decl.UseKind.TheVariants as use_kinds
-use Rattle.cdi_model.specs.declared.place.BeanPlace.{BeanPlace}
-use Rattle.cdi_model.specs.declared.quals.Qual.{Qual}
-use Rattle.cdi_model.specs.declared.refusal.Refusal.{Refusal}
 use Rattle.cdi_model.specs.declared.refusal.Refusal.TheVariants as refusals
 use Rattle.cdi_match.specs.Covering.{agree, agree_at, covers, covers_by, given_name, is_binding}
-use Rattle.cdi_match.specs.Filled.{FilledUse, filled, filled_by}
 use Rattle.cdi_match.specs.Filling.{declared_of, fill, find_binding, value_of}
-use Rattle.cdi_effective.specs.Bindings.{class_bindings}
-use Rattle.cdi_effective.specs.Disposers.{find_bean}
-use Rattle.cdi_effective.specs.Qualifiers.{uses_one}
-use Rattle.cdi_intercept.specs.Bindings.{in_text_order, set_at, set_of}
-use Rattle.cdi_intercept.specs.Chains.{binds, chain_by, chain_told, covered_in, in_order, part_for, surrounds}
-use Rattle.cdi_intercept.specs.Sees.{SeenInterceptor, seen_interceptor, shares_type, is_seen, Seen, sees, names_around}
-use Rattle.cdi_intercept.specs.Sees.{ChainRestsOnSeen, ToldRestsOnSeen}
-use Rattle.cdi_intercept.specs.Sets.{has_place, set_by}
+use Rattle.cdi_match.specs.Filled.{FilledUse, filled, filled_by}
+use Rattle.cdi_effective.specs.{Bindings.class_bindings, Disposers.find_bean, Qualifiers.uses_one}
 use Rattle.cdi_intercept.proofs.UseLemmas.{any-in_text_order}
+use Rattle.cdi_intercept.specs.Chains.{binds, chain_by, chain_told, covered_in, in_order, part_for, surrounds}
+use Rattle.cdi_intercept.specs.Sees.{SeenInterceptor, seen_interceptor, shares_type, is_seen, Seen, sees, names_around, ChainRestsOnSeen}
+use Rattle.cdi_intercept.specs.Sees.{ToldRestsOnSeen}
+use Rattle.cdi_intercept.specs.{Bindings.in_text_order, Bindings.set_at, Bindings.set_of, Sets.has_place, Sets.set_by}
 
 -- ---- covering by filled bindings
 

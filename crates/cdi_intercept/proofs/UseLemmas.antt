@@ -1,16 +1,12 @@
 -- Uses in the byte order of their texts, each once.
 use Rattle.std.proofs.Common.{◌≡◌, Bool, true, false, cond, List, Option, Some, None, Result, Ok, Err, subst}
-use Rattle.cdi_model.specs.declared.decl.BeanDecl.{BeanDecl}
-use Rattle.cdi_model.specs.declared.quals.Qual.{Qual}
-use Rattle.cdi_model.specs.declared.refusal.Refusal.{Refusal}
+use Rattle.cdi_model.specs.declared.{decl.BeanDecl.BeanDecl, quals.Qual.Qual, refusal.Refusal.Refusal}
 use Rattle.cdi_model.specs.declared.refusal.Refusal.TheVariants as refusals
-use Rattle.cdi_effective.specs.Bindings.{class_bindings}
-use Rattle.cdi_effective.specs.Disposers.{find_bean}
-use Rattle.cdi_effective.proofs.UseLemmas.{are_in_text_order}
-use Rattle.cdi_intercept.specs.Bindings.{in_text_order, AreInTextOrder}
-use Rattle.cdi_intercept.specs.Bindings.{set_of, bindings_told, BindingsAreThose}
-use Rattle.cdi_intercept.specs.Sets.{has_place, set_by}
 pub use Rattle.cdi_effective.proofs.UseLemmas.{any-in_text_order}
+use Rattle.cdi_effective.specs.{Bindings.class_bindings, Disposers.find_bean}
+use Rattle.cdi_effective.proofs.UseLemmas.{are_in_text_order}
+use Rattle.cdi_intercept.specs.Bindings.{in_text_order, AreInTextOrder, set_of, bindings_told, BindingsAreThose}
+use Rattle.cdi_intercept.specs.Sets.{has_place, set_by}
 
 pub bindings_are_those : BindingsAreThose
 bindings_are_those ds class place list is = by (find_bean class ds) is

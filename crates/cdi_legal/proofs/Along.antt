@@ -1,11 +1,11 @@
 -- What each entry and each asking keeps is kept along a legal tree.
-use Rattle.cdi_legal.proofs.Common.{◌≡◌, ◌<◌, ℕ, false, None, Some, refl, Outcome, Act, Load, Store, Call, Fire, Proceed, Return, Fail}
-use Rattle.cdi_legal.proofs.Common.{IsFull, Actor, InstanceId, Owner, Nobody, Seat, Scene, Touches, Ends, End, Answer, Legal, Node, Uses}
-use Rattle.cdi_legal.proofs.Common.{Use, Runs, Command, Moment, put, ask_more, is_create, Entry, Create}
-use Rattle.cdi_legal.specs.Ends as ends
-use Rattle.cdi_legal.specs.Legal as nodes
+use Rattle.cdi_legal.proofs.Common.{◌≡◌, ◌<◌, ℕ, false, None, Some, refl, Outcome, Act, Load, Store, IsFull, Actor, InstanceId, Owner}
+use Rattle.cdi_legal.proofs.Common.{Nobody, Seat, Scene, Touches, Ends, End, Answer, Legal, Node, Uses, Use, Runs, Command, Moment, put}
+use Rattle.cdi_legal.proofs.Common.{ask_more, is_create, Entry, Create}
 use Rattle.cdi_legal.proofs.Course.{ends_course, legal_course, outside-nobody, own_begins, Claims, Closes, IsCourse, IsEnding, MayBegin}
 use Rattle.cdi_legal.proofs.Course.{Relations, Writes}
+use Rattle.cdi_legal.specs.Ends as ends
+use Rattle.cdi_legal.specs.Legal as nodes
 use Rattle.cdi_legal.proofs.Course as course
 
 -- the relation holds from a moment to itself, along steps that follow each other, and along an entry that begins no instance

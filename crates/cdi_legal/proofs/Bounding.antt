@@ -3,13 +3,9 @@ use Rattle.cdi_legal.proofs.Common.{◌≡◌, ◌<◌, ℕ, false, refl, IsFull
 use Rattle.cdi_legal.proofs.Common.{Create, suc, ◌+◌, ◌≤◌, inl, inr, Bool, true, List, [], ◌∷◌, length, arith, ap, subst, sym, ◌∙◌}
 use Rattle.cdi_legal.proofs.Common.{AllByRecursion, false≢true, Scope, context_of, is_of, Standing, closed, Target, Interceptor, Instance}
 use Rattle.cdi_legal.proofs.Common.{Request, Application, Point, is_normal, applied, beginning, effect, step, Effect, Throughout}
-use Rattle.std.proofs.lemmas.Bool.{cases_Bool}
-use Rattle.std.proofs.lemmas.List.{length-append}
-use Rattle.base_lists.proofs.Each.{all-weaker}
+use Rattle.cdi_legal.proofs.Common.{all-weaker}
+use Rattle.std.proofs.lemmas.{Bool.cases_Bool, List.length-append}
 use Rattle.cdi_model.specs.declared.decl.Scope.TheVariants as scopes
-use Rattle.cdi_legal.specs.Laws.{CommandsKeepBudget, CommandsKeepThroughout, IsKeptByCommands, IsKeptThroughout, IsRequested, IsSingleAt}
-use Rattle.cdi_legal.specs.Laws.{IsWithinLimit}
-use Rattle.cdi_legal.specs.Moment as effects
 use Rattle.cdi_legal.proofs.Along.{ends_along, runs_along, IsAlong, Nothing}
 use Rattle.cdi_legal.proofs.Course.{IsOutside, MayBegin}
 use Rattle.cdi_legal.proofs.Everywhere.{each_point, everywhere, kept_everywhere, then, Holds, HoldsAfterEach, Lasts}
@@ -17,6 +13,9 @@ use Rattle.cdi_legal.proofs.Furnishing.{all-step, ends-all}
 use Rattle.cdi_legal.proofs.Keeping.{all-more}
 use Rattle.cdi_legal.proofs.Rooting.{context-gone}
 use Rattle.cdi_legal.proofs.Sharing.{count, fewer_after, single-calm, single_along, Test}
+use Rattle.cdi_legal.specs.Laws.{CommandsKeepBudget, CommandsKeepThroughout, IsKeptByCommands, IsKeptThroughout, IsRequested, IsSingleAt}
+use Rattle.cdi_legal.specs.Laws.{IsWithinLimit}
+use Rattle.cdi_legal.specs.Moment as effects
 
 -- ---- how often it asks
 

@@ -1,32 +1,26 @@
 -- Each failure of a run has its cause.
-use Rattle.cdi_legal.proofs.Common.{◌≡◌, ◌<◌, ℕ, false, None, Some, refl, Outcome, Act, Load, Store, Call, Fire, Proceed, Return, Fail}
-use Rattle.cdi_legal.proofs.Common.{IsFull, InstanceId, Owner, Nobody, Seat, Scene, Ends, End, Answer, Legal, Node, Uses, Use, Runs}
-use Rattle.cdi_legal.proofs.Common.{Command, Moment, put, ask_more, ◌+◌, ◌≤◌, Bool, true, List, ◌∷◌, arith, ap, subst, sym, ◌∙◌, Scope}
-use Rattle.cdi_legal.proofs.Common.{Standing, Point, is_normal, beginning, Option, Failure, Value, Val, Null, as_product, bean_at, Bean}
-use Rattle.cdi_legal.proofs.Common.{Product, Permits, Held, Follows, for_param, outcome_is, creation, frame, opened, Opening, link}
-use Rattle.cdi_legal.proofs.Common.{producer, target, IsCalledAt, Refused}
+use Rattle.cdi_legal.proofs.Common.{◌≡◌, ◌<◌, ℕ, false, None, Some, refl, Outcome, Act, IsFull, InstanceId, Owner, Nobody, Seat, Scene}
+use Rattle.cdi_legal.proofs.Common.{Ends, End, Answer, Legal, Node, Uses, Use, Runs, Command, Moment, put, ask_more, ◌+◌, ◌≤◌, Bool, true}
+use Rattle.cdi_legal.proofs.Common.{List, ◌∷◌, arith, ap, subst, sym, ◌∙◌, Scope, Standing, Point, is_normal, beginning, Option, Failure}
+use Rattle.cdi_legal.proofs.Common.{Value, Val, Null, as_product, bean_at, Bean, Product, Permits, Held, Follows, for_param, outcome_is}
+use Rattle.cdi_legal.proofs.Common.{creation, frame, opened, Opening, link, producer, target, IsCalledAt, Refused}
 use Rattle.std.proofs.Common.{IfSome}
+use Rattle.cdi_model.specs.declared.outcome.{Outcome.TheVariants.Failed, Val.TheVariants.Int}
 use Rattle.cdi_model.specs.declared.decl.Scope.TheVariants as scopes
 use Rattle.cdi_model.specs.declared.outcome.Failure.TheVariants as failures
-use Rattle.cdi_model.specs.declared.outcome.Outcome.TheVariants.{Failed}
-use Rattle.cdi_model.specs.declared.outcome.Val.TheVariants.{Int}
-use Rattle.cdi_legal.specs.Acts.{ending, ignored}
-use Rattle.cdi_legal.specs.Causes.{Cause, Passes}
-use Rattle.cdi_legal.specs.Laws.{CommandsFailForCauses}
-use Rattle.cdi_legal.specs.Legal as nodes
-use Rattle.cdi_legal.specs.Legal.{answered, produced}
-use Rattle.cdi_legal.specs.LegalRun.{depth}
-use Rattle.cdi_legal.specs.declared.entry.Answered.{Answered}
-use Rattle.cdi_legal.specs.declared.entry.Entry.TheVariants as entries
-use Rattle.cdi_legal.specs.declared.entry.Made.{Made}
-use Rattle.cdi_legal.specs.declared.entry.Made.TheVariants.{Instance as Obtained}
+use Rattle.cdi_bodies.specs.declared.act.Act.TheVariants.{Fail}
 use Rattle.cdi_legal.proofs.Along.{ends_along, given_any, legal_along, IsAlong, IsKept, Nothing}
 use Rattle.cdi_legal.proofs.Bounding.{commands_keep_budget}
 use Rattle.cdi_legal.proofs.Course.{outside-nobody, outside-param, outside-point, own_begins, product_there, shared_begins, Given, MayBegin}
-use Rattle.cdi_legal.proofs.Course as course
 use Rattle.cdi_legal.proofs.Following.{follows_along, follows_kept, legal_follows}
 use Rattle.cdi_legal.proofs.Ordering.{asking, asking-opened, entered, legal_ordered, limits, nothing-open, order_claims, over, room-more}
 use Rattle.cdi_legal.proofs.Ordering.{step, there-bean, HasRoom, IsGood}
+use Rattle.cdi_legal.specs.declared.entry.Made.TheVariants.{Instance as Obtained}
+use Rattle.cdi_legal.specs.{Acts.ending, Acts.ignored, Causes.Cause, Causes.Passes, Laws.CommandsFailForCauses, LegalRun.depth}
+use Rattle.cdi_legal.specs.{Legal.answered, Legal.produced, declared.entry.Answered.Answered, declared.entry.Made.Made}
+use Rattle.cdi_legal.specs.Legal as nodes
+use Rattle.cdi_legal.specs.declared.entry.Entry.TheVariants as entries
+use Rattle.cdi_legal.proofs.Course as course
 
 -- ---- failures
 

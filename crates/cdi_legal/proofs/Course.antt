@@ -1,20 +1,18 @@
 -- The scheme of what holds along legal trees and ends: each case is gone through here, once.
-use Rattle.cdi_legal.proofs.Common.{◌≡◌, ◌<◌, ℕ, false, None, Some, refl, Outcome, Act, Call, Fire, Proceed, IsFull, Actor, InstanceId}
-use Rattle.cdi_legal.proofs.Common.{Owner, Nobody, Seat, Scene, Touches, Ends, End, Answer, Legal, Node, Moment, put, ask_more, Entry}
-use Rattle.cdi_legal.proofs.Common.{Create, ◌+◌, Bool, true, ap, sym, ◌∙◌, false≢true, Scope, context_of, is_of, Target, Point, is_normal}
-use Rattle.cdi_legal.proofs.Common.{Option, Failure, Val, as_product, bean_at, Bean, Product, Permits, for_param, link, producer, target}
+use Rattle.cdi_legal.proofs.Common.{◌≡◌, ◌<◌, ℕ, false, None, Some, refl, Outcome, Act, Call, Proceed, IsFull, Actor, InstanceId, Owner}
+use Rattle.cdi_legal.proofs.Common.{Nobody, Seat, Scene, Touches, Ends, End, Answer, Legal, Node, Moment, put, ask_more, Entry, Create, ◌+◌}
+use Rattle.cdi_legal.proofs.Common.{Bool, true, ap, sym, ◌∙◌, false≢true, Scope, context_of, is_of, Target, Point, is_normal, Option}
+use Rattle.cdi_legal.proofs.Common.{Failure, Val, as_product, bean_at, Bean, Product, Permits, for_param, link, producer, target}
 use Rattle.cdi_legal.proofs.Common.{IsCalledAt, found, managed_at, product_at, Injection, Managed, create, disposer, Destroy, Enter, Gone}
 use Rattle.cdi_legal.proofs.Common.{Got, Leave, Proceeded, Skip}
 use Rattle.cdi_model.specs.declared.decl.Scope.TheVariants as scopes
-use Rattle.cdi_scene.specs.Scene.{invocable_at, observer_at, place_of}
-use Rattle.cdi_scene.specs.declared.place.Place.TheVariants.{Pre, Producer}
-use Rattle.cdi_scene.specs.declared.scene.Notified.{Notified}
-use Rattle.cdi_scene.specs.declared.scene.Observer.{Observer}
-use Rattle.cdi_legal.specs.Ends as ends
-use Rattle.cdi_legal.specs.Ends.{seat_of_class}
-use Rattle.cdi_legal.specs.Legal as nodes
-use Rattle.cdi_legal.specs.Legal.{IsInactive}
+use Rattle.cdi_bodies.specs.declared.act.Act.TheVariants.{Fire}
+use Rattle.cdi_scene.specs.{Scene.invocable_at, Scene.observer_at, Scene.place_of, declared.scene.Observer.Observer}
+use Rattle.cdi_scene.specs.declared.{place.Place.TheVariants.Pre, place.Place.TheVariants.Producer, scene.Notified.Notified}
 use Rattle.cdi_legal.specs.declared.entry.Entry.TheVariants.{Broken, Called, Fired, Ready}
+use Rattle.cdi_legal.specs.{Ends.seat_of_class, Legal.IsInactive}
+use Rattle.cdi_legal.specs.Ends as ends
+use Rattle.cdi_legal.specs.Legal as nodes
 
 -- ---- what is known where steps begin
 

@@ -2,10 +2,10 @@
 use Rattle.cdi_legal.proofs.Common.{◌≡◌, ℕ, false, refl, IsFull, InstanceId, Owner, Scene, Moment, put, ask_more, is_create, Entry, Create}
 use Rattle.cdi_legal.proofs.Common.{List, [], ◌∷◌, ap, subst, sym, ◌∙◌, Standing, step, Throughout, after, ◌++◌, append_assoc}
 use Rattle.std.proofs.Common.{append-nil}
-use Rattle.cdi_legal.specs.Follows as Follows
 use Rattle.cdi_legal.proofs.Along.{IsAlong, IsKept}
 use Rattle.cdi_legal.proofs.Course.{MayBegin}
 use Rattle.cdi_legal.proofs.Following.{after-append}
+use Rattle.cdi_legal.specs.Follows as Follows
 
 -- it holds after each of these entries
 abbrev pub HoldsAfterEach : (Standing → Type 0) → Standing → List Entry → Type 0

@@ -4,10 +4,9 @@ use Rattle.cdi_legal.proofs.Common.{Product, opened, Opening, link, producer, ta
 use Rattle.cdi_legal.proofs.Common.{IsSound, IsSoundForm, Form, IsOrdered, MayAct}
 use Rattle.cdi_scene.specs.Sound.{IsSoundAt, IsSoundProduct}
 use Rattle.cdi_scene.specs.declared.scene.Form.TheVariants as forms
-use Rattle.cdi_legal.specs.Laws.{CommandsAreFaultless, IsFaultless}
-use Rattle.cdi_legal.specs.Placed as placed
-use Rattle.cdi_legal.specs.Placed.{need, IsMet, Need}
 use Rattle.cdi_legal.proofs.Ordering.{commands_are_ordered}
+use Rattle.cdi_legal.specs.{Laws.CommandsAreFaultless, Laws.IsFaultless, Placed.need, Placed.IsMet, Placed.Need}
+use Rattle.cdi_legal.specs.Placed as placed
 
 module _ (book : Bodies) (s : Scene) (sound : IsSound book s) where
   of_form : (b : ℕ) (form : Form) (x : Product) → as_product form ≡ Some x → IsSoundForm book s b form → IsSoundProduct book s b x

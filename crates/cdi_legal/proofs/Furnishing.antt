@@ -1,21 +1,19 @@
 -- Along runs each ready instance has its dependent objects.
-use Rattle.base_lists.proofs.Each.{all-weaker}
-use Rattle.cdi_legal.proofs.Common.{◌≡◌, ◌<◌, ℕ, false, None, Some, refl, Outcome, Act, Load, Store, Call, Fire, Proceed, Return, Fail}
-use Rattle.cdi_legal.proofs.Common.{Actor, InstanceId, Owner, Nobody, Scene, Touches, Ends, End, Moment, put, is_create, Entry, suc, ◌≤◌}
-use Rattle.cdi_legal.proofs.Common.{Bool, true, List, [], ◌∷◌, arith, ap, subst, sym, ◌∙◌, AllByRecursion, Scope, is_of, Standing, Target}
-use Rattle.cdi_legal.proofs.Common.{Interceptor, Instance, Request, Application, Point, applied, effect, step, Effect, Val, Held, last_in}
-use Rattle.cdi_legal.proofs.Common.{not, ◌==◌, ◌&&◌, map, slice_get, zero, if◌then◌else◌, and_parts, is_at, is_part_of, same_actor}
-use Rattle.cdi_legal.proofs.Common.{IsOwnerOf, without, keep, finish, last_of, made_for, IsRising-without, IsRising-finished}
-use Rattle.cdi_legal.proofs.Common.{IsRising-stored, HasDependents, IsStill, is_beginning}
+use Rattle.cdi_legal.proofs.Common.{all-weaker, ◌≡◌, ◌<◌, ℕ, false, None, Some, refl, Outcome, Act, Load, Store, Actor, InstanceId, Owner}
+use Rattle.cdi_legal.proofs.Common.{Scene, Touches, Ends, End, Moment, put, is_create, Entry, suc, ◌≤◌, Bool, true, List, [], ◌∷◌, arith}
+use Rattle.cdi_legal.proofs.Common.{ap, subst, sym, ◌∙◌, AllByRecursion, Scope, is_of, Standing, Target, Interceptor, Instance, Request}
+use Rattle.cdi_legal.proofs.Common.{Application, Point, applied, effect, step, Effect, Val, Held, last_in, not, ◌==◌, ◌&&◌, map, slice_get}
+use Rattle.cdi_legal.proofs.Common.{zero, if◌then◌else◌, and_parts, is_at, is_part_of, same_actor, IsOwnerOf, without, keep, finish}
+use Rattle.cdi_legal.proofs.Common.{last_of, made_for, IsRising-without, IsRising-finished, IsRising-stored, HasDependents, IsStill}
+use Rattle.cdi_legal.proofs.Common.{is_beginning}
 use Rattle.cdi_contexts.specs.Rising.{RisesFrom}
-use Rattle.cdi_contexts.proofs.Last.{last_of_all}
-use Rattle.cdi_contexts.proofs.Rising.{rises_bound}
-use Rattle.cdi_legal.specs.Ends as ends
-use Rattle.cdi_legal.specs.Moment as effects
-use Rattle.cdi_legal.specs.declared.entry.Entry.TheVariants as entries
+use Rattle.cdi_contexts.proofs.{Last.last_of_all, Rising.rises_bound}
 use Rattle.cdi_legal.proofs.Along.{IsKept, ends_along, touch_along}
 use Rattle.cdi_legal.proofs.Sharing.{same-keep, same-finish}
 use Rattle.cdi_legal.proofs.Keeping.{Test, found_by, Rises, still-without, still-keep, all-without, all-map}
+use Rattle.cdi_legal.specs.Ends as ends
+use Rattle.cdi_legal.specs.Moment as effects
+use Rattle.cdi_legal.specs.declared.entry.Entry.TheVariants as entries
 
 -- ---- lists
 

@@ -1,10 +1,10 @@
 -- Numbers only rise along a legal tree.
 use Rattle.cdi_legal.proofs.Common.{◌≡◌, ℕ, Outcome, Scene, Ends, End, Answer, Legal, Node, Runs, Command, Moment, put, Entry, ◌≤◌, arith}
 use Rattle.cdi_legal.proofs.Common.{ap, Standing, Target, Interceptor, applied, effect, Effect}
+use Rattle.cdi_legal.proofs.Along.{ends_along, given_any, legal_along, runs_along, IsAlong, IsKept, Nothing}
 use Rattle.cdi_legal.specs.Grows.{Grows}
 use Rattle.cdi_legal.specs.Moment as effects
 use Rattle.cdi_legal.specs.declared.entry.Entry.TheVariants as entries
-use Rattle.cdi_legal.proofs.Along.{ends_along, given_any, legal_along, runs_along, IsAlong, IsKept, Nothing}
 
 grows : (s : Standing) (x : Effect) → s.given ≤ (applied s x).given
 grows s (effects.stores number Target value) = omega arith

@@ -1,18 +1,12 @@
 -- Along a legal tree each live instance has a home: its context, or the instance that it was made for.
-use Rattle.base_lists.proofs.Each.{all-weaker}
-use Rattle.cdi_legal.proofs.Common.{◌≡◌, ◌<◌, ℕ, false, None, Some, refl, Outcome, Act, Actor, InstanceId, Owner, Nobody, Scene, Touches}
-use Rattle.cdi_legal.proofs.Common.{Ends, End, Answer, Legal, Node, Uses, Use, Runs, Command, Moment, put, ask_more, Entry, ◌+◌, ◌≤◌, inl}
-use Rattle.cdi_legal.proofs.Common.{inr, Bool, true, List, [], ◌∷◌, length, arith, ap, subst, sym, ◌∙◌, AllByRecursion, Scope, context_of}
-use Rattle.cdi_legal.proofs.Common.{is_of, Standing, Instance, Request, Application, Point, is_normal, beginning, Option, Failure, bean_at}
-use Rattle.cdi_legal.proofs.Common.{Bean, Held, for_param, Refused, IsRising, LegalRun, LegalRequestEnd, LegalEnd, create, ◌++◌, ◌==◌}
-use Rattle.cdi_legal.proofs.Common.{slice_get, if◌then◌else◌, is_part_of, IsOwnerOf, ◌⊎◌, IsSome, numbered, IsRising-more, destroy}
-use Rattle.cdi_legal.proofs.Common.{dependents, held, made_is, held_is, IsHome}
+use Rattle.cdi_legal.proofs.Common.{all-weaker, ◌≡◌, ◌<◌, ℕ, false, None, Some, refl, Outcome, Act, Actor, InstanceId, Owner, Nobody, Scene}
+use Rattle.cdi_legal.proofs.Common.{Touches, Ends, End, Answer, Legal, Node, Uses, Use, Runs, Command, Moment, put, ask_more, Entry, ◌+◌}
+use Rattle.cdi_legal.proofs.Common.{◌≤◌, inl, inr, Bool, true, List, [], ◌∷◌, length, arith, ap, subst, sym, ◌∙◌, AllByRecursion, Scope}
+use Rattle.cdi_legal.proofs.Common.{context_of, is_of, Standing, Instance, Request, Application, Point, is_normal, beginning, Option}
+use Rattle.cdi_legal.proofs.Common.{Failure, bean_at, Bean, Held, for_param, Refused, IsRising, LegalRun, LegalRequestEnd, LegalEnd, create}
+use Rattle.cdi_legal.proofs.Common.{◌++◌, ◌==◌, slice_get, if◌then◌else◌, is_part_of, IsOwnerOf, ◌⊎◌, IsSome, numbered, IsRising-more}
+use Rattle.cdi_legal.proofs.Common.{destroy, dependents, held, made_is, held_is, IsHome}
 use Rattle.cdi_model.specs.declared.decl.Scope.TheVariants as scopes
-use Rattle.cdi_legal.specs.Laws.{BothEndsLeaveNothing, CommandsKeepRooted}
-use Rattle.cdi_legal.specs.Legal as nodes
-use Rattle.cdi_legal.specs.Rooted.{IsRooted}
-use Rattle.cdi_legal.specs.declared.entry.Entry.TheVariants as entries
-use Rattle.cdi_legal.specs.declared.entry.Made.TheVariants.{Instance as Obtained}
 use Rattle.cdi_legal.proofs.Along.{touch_along}
 use Rattle.cdi_legal.proofs.Growing.{legal_grows}
 use Rattle.cdi_legal.proofs.Keeping.{Rises, all-more, begun, given-more, legal_older, older, owned-context, owned-param, still-more}
@@ -22,6 +16,10 @@ use Rattle.cdi_legal.proofs.Supplying.{kept-in, last-in}
 use Rattle.cdi_legal.proofs.Rooting.{AreHome, Also, AlsoParts, Free, IsCalm, IsIn, NoNumber, Stay, calm-begins, context-gone}
 use Rattle.cdi_legal.proofs.Rooting.{dependents-gone, destroyed-home, ends-home, held-home, home-entry, home-lost, home-stay, home-touch}
 use Rattle.cdi_legal.proofs.Rooting.{narrower, no-parts, of_number, some-of, stay-still, wider}
+use Rattle.cdi_legal.specs.declared.entry.Made.TheVariants.{Instance as Obtained}
+use Rattle.cdi_legal.specs.{Laws.BothEndsLeaveNothing, Laws.CommandsKeepRooted, Rooted.IsRooted}
+use Rattle.cdi_legal.specs.Legal as nodes
+use Rattle.cdi_legal.specs.declared.entry.Entry.TheVariants as entries
 
 -- numbers rise, and each live instance has a home but these
 pub record Rests (L : Free) (m : Moment) : Type 0 where

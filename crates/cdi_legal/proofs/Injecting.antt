@@ -1,17 +1,15 @@
 -- A new instance has its dependent objects once its injection has ended.
-use Rattle.std.proofs.lemmas.Bool.{false_from_ne_true}
-use Rattle.cdi_legal.proofs.Common.{◌≡◌, ◌<◌, ℕ, false, None, Some, refl, Actor, InstanceId, Owner, Nobody, Scene, Legal, Moment, ◌+◌, ◌≤◌}
-use Rattle.cdi_legal.proofs.Common.{inl, inr, Bool, true, List, [], ◌∷◌, length, arith, ap, subst, sym, ◌∙◌, AllByRecursion, Target}
-use Rattle.cdi_legal.proofs.Common.{Interceptor, Instance, Request, Application, Point, is_normal, Option, Val, Null, bean_at, Bean}
+use Rattle.cdi_legal.proofs.Common.{false_from_ne_true, ◌≡◌, ◌<◌, ℕ, false, None, Some, refl, Actor, InstanceId, Owner, Scene, Legal}
+use Rattle.cdi_legal.proofs.Common.{Moment, ◌+◌, ◌≤◌, inl, inr, Bool, true, List, [], ◌∷◌, length, arith, ap, subst, sym, ◌∙◌}
+use Rattle.cdi_legal.proofs.Common.{AllByRecursion, Target, Interceptor, Instance, Point, is_normal, Option, Val, Null, bean_at, Bean}
 use Rattle.cdi_legal.proofs.Common.{Injection, create, ◌++◌, ◌==◌, ◌&&◌, map, slice_get, if◌then◌else◌, and_parts, is_at, same_actor}
 use Rattle.cdi_legal.proofs.Common.{IsOwnerOf, finish, ◌⊎◌, IsRising-more, made_is, nat_lt, slice_get_within, nat_tests, IsDependent}
-use Rattle.cdi_legal.specs.Furnished.{IsMade}
-use Rattle.cdi_legal.specs.Legal.{inject, failure_is, product_of}
-use Rattle.cdi_legal.specs.declared.entry.Made.TheVariants.{Instance as Obtained}
 use Rattle.cdi_legal.proofs.Growing.{legal_grows}
 use Rattle.cdi_legal.proofs.Keeping.{Terms, Test, found_by, IsFree, Rises, Older, legal_older, older, begun}
 use Rattle.cdi_legal.proofs.Sharing.{same-finish}
 use Rattle.cdi_legal.proofs.Furnishing.{found-such, all-given, at}
+use Rattle.cdi_legal.specs.declared.entry.Made.TheVariants.{Instance as Obtained}
+use Rattle.cdi_legal.specs.{Furnished.IsMade, Legal.inject, Legal.failure_is, Legal.product_of}
 
 -- ---- what is found
 

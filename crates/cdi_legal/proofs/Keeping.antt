@@ -1,21 +1,21 @@
 -- Along a legal tree each instance stays that was live before: what is destroyed was made within.
-use Rattle.cdi_legal.proofs.Common.{◌≡◌, ◌<◌, ℕ, false, None, Some, refl, Outcome, Act, Load, Store, Call, Fire, Proceed, Return, Fail}
-use Rattle.cdi_legal.proofs.Common.{Actor, InstanceId, Owner, Nobody, Scene, Touches, Ends, End, Answer, Legal, Node, Uses, Use, Runs}
-use Rattle.cdi_legal.proofs.Common.{Command, Moment, put, ask_more, Entry, suc, ◌+◌, ◌≤◌, Bool, true, List, [], ◌∷◌, arith, ap, subst, sym}
-use Rattle.cdi_legal.proofs.Common.{◌∙◌, AllByRecursion, Scope, context_of, Standing, Target, Interceptor, Instance, Request, Application}
-use Rattle.cdi_legal.proofs.Common.{Point, applied, effect, step, Effect, Option, Val, Null, Held, for_param, IsRising, create, ◌++◌, not}
-use Rattle.cdi_legal.proofs.Common.{◌==◌, map, slice_get, zero, if◌then◌else◌, IsOwnerOf, without, keep, finish, last_of, IsRising-without}
-use Rattle.cdi_legal.proofs.Common.{IsRising-finished, IsRising-stored, IsStill, numbered, IsRising-more, made_is, held_is, find}
+use Rattle.cdi_legal.proofs.Common.{◌≡◌, ◌<◌, ℕ, false, None, Some, refl, Outcome, Act, Load, Store, Actor, InstanceId, Owner, Nobody}
+use Rattle.cdi_legal.proofs.Common.{Scene, Touches, Ends, End, Answer, Legal, Node, Uses, Use, Runs, Command, Moment, put, ask_more, Entry}
+use Rattle.cdi_legal.proofs.Common.{suc, ◌+◌, ◌≤◌, Bool, true, List, [], ◌∷◌, arith, ap, subst, sym, ◌∙◌, AllByRecursion, Scope, context_of}
+use Rattle.cdi_legal.proofs.Common.{Standing, Target, Interceptor, Instance, Request, Application, Point, applied, effect, step, Effect}
+use Rattle.cdi_legal.proofs.Common.{Option, Val, Null, Held, for_param, IsRising, create, ◌++◌, not, ◌==◌, map, slice_get, zero}
+use Rattle.cdi_legal.proofs.Common.{if◌then◌else◌, IsOwnerOf, without, keep, finish, last_of, IsRising-without, IsRising-finished}
+use Rattle.cdi_legal.proofs.Common.{IsRising-stored, IsStill, numbered, IsRising-more, made_is, held_is, find}
 use Rattle.cdi_model.specs.declared.decl.Scope.TheVariants as scopes
 use Rattle.cdi_contexts.proofs.Last.{young_if}
-use Rattle.cdi_legal.specs.Ends as ends
+use Rattle.cdi_legal.proofs.Growing.{legal_grows}
+use Rattle.cdi_legal.proofs.Sharing.{same-keep, same-finish}
+use Rattle.cdi_legal.specs.declared.entry.Made.TheVariants.{Instance as Obtained}
 use Rattle.cdi_legal.specs.Keeps.{Keeps}
+use Rattle.cdi_legal.specs.Ends as ends
 use Rattle.cdi_legal.specs.Legal as nodes
 use Rattle.cdi_legal.specs.Moment as effects
 use Rattle.cdi_legal.specs.declared.entry.Entry.TheVariants as entries
-use Rattle.cdi_legal.specs.declared.entry.Made.TheVariants.{Instance as Obtained}
-use Rattle.cdi_legal.proofs.Growing.{legal_grows}
-use Rattle.cdi_legal.proofs.Sharing.{same-keep, same-finish}
 
 -- ---- lists of instances
 

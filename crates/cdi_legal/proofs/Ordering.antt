@@ -1,19 +1,18 @@
 -- The limits of what is open, and that each entry is in its place.
-use Rattle.cdi_legal.proofs.Common.{◌≡◌, ◌<◌, ℕ, false, Some, refl, Outcome, Act, Load, Store, Call, Fire, Proceed, Return, Fail}
-use Rattle.cdi_legal.proofs.Common.{InstanceId, Owner, Nobody, Seat, Scene, Touches, Ends, End, Answer, Legal, Node, Uses, Use, Runs}
-use Rattle.cdi_legal.proofs.Common.{Command, Moment, put, ask_more, Entry, Create, ◌+◌, ◌≤◌, Bool, true, List, [], ◌∷◌, arith, ap, subst}
-use Rattle.cdi_legal.proofs.Common.{sym, ◌∙◌, AllByRecursion, Standing, beginning, Option, Val, bean_at, Bean, Permits, creation, frame}
-use Rattle.cdi_legal.proofs.Common.{opened, Opening, IsCalledAt, Destroy, Enter, Gone, Got, Leave, Proceeded, Skip, ◌++◌, IsOrdered, MayAct}
-use Rattle.cdi_legal.proofs.Common.{IsSome, AtEachEntry, AtEachPoint}
+use Rattle.cdi_legal.proofs.Common.{◌≡◌, ◌<◌, ℕ, false, Some, refl, Outcome, Act, Load, Store, Call, Proceed, InstanceId, Owner, Nobody}
+use Rattle.cdi_legal.proofs.Common.{Seat, Scene, Touches, Ends, End, Answer, Legal, Node, Uses, Use, Runs, Command, Moment, put, ask_more}
+use Rattle.cdi_legal.proofs.Common.{Entry, Create, ◌+◌, ◌≤◌, Bool, true, List, [], ◌∷◌, arith, ap, subst, sym, ◌∙◌, AllByRecursion}
+use Rattle.cdi_legal.proofs.Common.{Standing, beginning, Option, Val, bean_at, Bean, Permits, creation, frame, opened, Opening, IsCalledAt}
+use Rattle.cdi_legal.proofs.Common.{Destroy, Enter, Gone, Got, Leave, Proceeded, Skip, ◌++◌, IsOrdered, MayAct, IsSome, AtEachEntry}
+use Rattle.cdi_legal.proofs.Common.{AtEachPoint}
 use Rattle.std.proofs.Common.{drop}
-use Rattle.cdi_legal.specs.Laws.{CommandsAreOrdered}
-use Rattle.cdi_legal.specs.Opened.{acting, closes, destruction, is_ending, opened_after, outside, proceeding, turn, turned, IsInLimits}
-use Rattle.cdi_legal.specs.Opened.{IsWithin, Turn}
-use Rattle.cdi_legal.specs.Placed.{Creates, IsInPlace, RunsAt}
 use Rattle.cdi_legal.proofs.Course.{ends_course, legal_course, outside-nobody, own_begins, Claims, Closes, Given, GivenEnd, Ground}
 use Rattle.cdi_legal.proofs.Course.{IsCourse, IsEnding, Leads, LeadsEnd, MayBegin, Relations, Writes}
-use Rattle.cdi_legal.proofs.Course as course
 use Rattle.cdi_legal.proofs.Points.{entry_more, point_more}
+use Rattle.cdi_legal.specs.Opened.{acting, closes, destruction, is_ending, opened_after, outside, proceeding, turn, turned, IsInLimits}
+use Rattle.cdi_legal.specs.Opened.{IsWithin, Turn}
+use Rattle.cdi_legal.specs.{Laws.CommandsAreOrdered, Placed.Creates, Placed.IsInPlace, Placed.RunsAt}
+use Rattle.cdi_legal.proofs.Course as course
 
 -- the entries so far
 pub record IsGood (s : Scene) (m : Moment) : Type 0 where

@@ -1,20 +1,18 @@
 -- Along what ends, each live instance keeps its home: its context, or the instance that it was made for.
-use Rattle.cdi_legal.proofs.Common.{◌≡◌, ◌<◌, ℕ, false, None, Some, refl, Outcome, Act, Load, Store, Call, Fire, Proceed, Return, Fail}
-use Rattle.cdi_legal.proofs.Common.{Actor, InstanceId, Owner, Nobody, Scene, Touches, Ends, End, Moment, put, is_create, Entry, inl, inr}
-use Rattle.cdi_legal.proofs.Common.{Bool, true, List, [], ◌∷◌, length, arith, ap, subst, sym, ◌∙◌, AllByRecursion, Scope, is_of, Standing}
-use Rattle.cdi_legal.proofs.Common.{Target, Interceptor, Instance, Request, Application, Point, applied, effect, step, Effect, Option, Held}
-use Rattle.cdi_legal.proofs.Common.{context, ◌==◌, map, slice_get, is_part_of, without, keep, finish, IsStill, is_beginning, ◌⊎◌, IsSome}
-use Rattle.cdi_legal.proofs.Common.{numbered, destroy, dependents, held, IsHome, slice_get_within, find}
-use Rattle.std.proofs.Common.{cond, reverse}
-use Rattle.std.specs.Option.{option_map, option_or}
-use Rattle.std.proofs.lemmas.List.{reverse-append}
-use Rattle.std.proofs.lemmas.List.Folds.{find-append}
-use Rattle.base_lists.proofs.Each.{all-weaker, all-each}
+use Rattle.cdi_legal.proofs.Common.{◌≡◌, ◌<◌, ℕ, false, None, Some, refl, Outcome, Act, Load, Store, Actor, InstanceId, Owner, Nobody}
+use Rattle.cdi_legal.proofs.Common.{Scene, Touches, Ends, End, Moment, put, is_create, Entry, inl, inr, Bool, true, List, [], ◌∷◌, length}
+use Rattle.cdi_legal.proofs.Common.{arith, ap, subst, sym, ◌∙◌, AllByRecursion, Scope, is_of, Standing, Target, Interceptor, Instance}
+use Rattle.cdi_legal.proofs.Common.{Point, applied, effect, step, Effect, Option, Held, context, ◌==◌, map, slice_get, is_part_of, without}
+use Rattle.cdi_legal.proofs.Common.{keep, finish, IsStill, is_beginning, ◌⊎◌, IsSome, numbered, destroy, dependents, held, IsHome}
+use Rattle.cdi_legal.proofs.Common.{slice_get_within, find, option_map, all-weaker}
+use Rattle.std.proofs.{Common.cond, Common.reverse, lemmas.List.reverse-append, lemmas.List.Folds.find-append}
+use Rattle.std.specs.Option.{option_or}
+use Rattle.base_lists.proofs.Each.{all-each}
 use Rattle.cdi_contexts.specs.Standing.{last_where}
-use Rattle.cdi_legal.specs.Moment as effects
 use Rattle.cdi_legal.proofs.Keeping.{Test, all-without, still-finish, still-keep, still-without}
 use Rattle.cdi_legal.proofs.Furnishing.{all-both, all-step, ends-all, found-such, none-left}
 use Rattle.cdi_legal.proofs.Injecting.{nat_cases}
+use Rattle.cdi_legal.specs.Moment as effects
 
 -- ---- homes
 

@@ -1,27 +1,26 @@
 -- Along a legal tree each ready instance has its dependent objects.
-use Rattle.std.proofs.lemmas.Bool.{false_from_ne_true}
-use Rattle.base_lists.proofs.Each.{all-weaker}
-use Rattle.cdi_legal.proofs.Common.{◌≡◌, ◌<◌, ℕ, false, None, Some, refl, Outcome, Act, Actor, InstanceId, Owner, Nobody, Scene, Touches}
-use Rattle.cdi_legal.proofs.Common.{Ends, Answer, Legal, Node, Uses, Use, Runs, Command, Moment, put, ask_more, Entry, ◌+◌, ◌≤◌, inl, inr}
-use Rattle.cdi_legal.proofs.Common.{Bool, true, List, [], ◌∷◌, length, arith, ap, subst, sym, ◌∙◌, AllByRecursion, Scope, is_of, Instance}
-use Rattle.cdi_legal.proofs.Common.{Request, Application, Point, Option, Failure, Value, Val, Null, as_product, bean_at, Bean, Product}
-use Rattle.cdi_legal.proofs.Common.{Held, outcome_is, context, IsFurnished, managed_at, Managed, create, ◌++◌, Bodies, IsSound, IsSoundForm}
-use Rattle.cdi_legal.proofs.Common.{Form, ◌==◌, ◌&&◌, map, slice_get, and_parts, is_at, IsOwnerOf, finish, IsRising-finished, HasDependents}
-use Rattle.cdi_legal.proofs.Common.{◌⊎◌, IsRising-more, destroy, dependents, held, made_is, held_is, nat_lt, slice_get_within, nat_tests}
+use Rattle.cdi_legal.proofs.Common.{false_from_ne_true, all-weaker, ◌≡◌, ◌<◌, ℕ, false, None, Some, refl, Outcome, Act, Actor, InstanceId}
+use Rattle.cdi_legal.proofs.Common.{Owner, Nobody, Scene, Touches, Ends, Answer, Legal, Node, Uses, Use, Runs, Command, Moment, put}
+use Rattle.cdi_legal.proofs.Common.{ask_more, Entry, ◌+◌, ◌≤◌, inl, inr, Bool, true, List, [], ◌∷◌, length, arith, ap, subst, sym, ◌∙◌}
+use Rattle.cdi_legal.proofs.Common.{AllByRecursion, Scope, is_of, Instance, Point, Option, Failure, Value, Val, Null, as_product, bean_at}
+use Rattle.cdi_legal.proofs.Common.{Bean, Product, Held, outcome_is, context, IsFurnished, managed_at, Managed, create, ◌++◌, Bodies}
+use Rattle.cdi_legal.proofs.Common.{IsSound, IsSoundForm, Form, ◌==◌, ◌&&◌, map, slice_get, and_parts, is_at, IsOwnerOf, finish}
+use Rattle.cdi_legal.proofs.Common.{IsRising-finished, HasDependents, ◌⊎◌, IsRising-more, destroy, dependents, held, made_is, held_is}
+use Rattle.cdi_legal.proofs.Common.{nat_lt, slice_get_within, nat_tests}
 use Rattle.cdi_scene.specs.Scene.{as_managed}
 use Rattle.cdi_scene.specs.declared.scene.Form.TheVariants as forms
-use Rattle.cdi_legal.specs.Legal as nodes
-use Rattle.cdi_legal.specs.declared.entry.Entry.TheVariants as entries
-use Rattle.cdi_legal.specs.declared.entry.Made.TheVariants.{Instance as Obtained}
 use Rattle.cdi_legal.proofs.Along.{touch_along}
 use Rattle.cdi_legal.proofs.Growing.{legal_grows}
 use Rattle.cdi_legal.proofs.Keeping.{Admits, AdmitsFor, IsFree, Older, Owns, Rises, Terms, WasGiven, all-more, all-map, begun, created}
 use Rattle.cdi_legal.proofs.Keeping.{given-more, legal_older, older, owned-context, owned-param, still-finish, still-more, Test, uses_older}
 use Rattle.cdi_legal.proofs.Sharing.{same-finish}
-use Rattle.cdi_legal.proofs.Furnishing.{AllSpare, AreFurnished, IsPlain, IsSpare, Others, Outside, all-both, all-given}
-use Rattle.cdi_legal.proofs.Furnishing.{all-owned, at, ends-all, ends-rise, ends_furnished, fewer, found-such, furnished-without, has-still}
-use Rattle.cdi_legal.proofs.Furnishing.{none-left, plain, rises-kept, touch-furnished, is_plain_kept}
+use Rattle.cdi_legal.proofs.Furnishing.{AllSpare, AreFurnished, IsPlain, IsSpare, Others, Outside, all-both, all-given, all-owned, at}
+use Rattle.cdi_legal.proofs.Furnishing.{ends-all, ends-rise, ends_furnished, fewer, found-such, furnished-without, has-still, none-left}
+use Rattle.cdi_legal.proofs.Furnishing.{plain, rises-kept, touch-furnished, is_plain_kept}
 use Rattle.cdi_legal.proofs.Injecting.{AreApart, at-same, injected}
+use Rattle.cdi_legal.specs.declared.entry.Made.TheVariants.{Instance as Obtained}
+use Rattle.cdi_legal.specs.Legal as nodes
+use Rattle.cdi_legal.specs.declared.entry.Entry.TheVariants as entries
 
 -- no two injection points of a bean are of one actor and point
 abbrev pub IsApart : Scene → Type 0

@@ -6,12 +6,12 @@ use Rattle.cdi_legal.proofs.Common.{effect, step, Effect, Option, Val, Null, bea
 use Rattle.cdi_legal.proofs.Common.{◌&&◌, map, if◌then◌else◌, without, keep, finish, is_beginning, nat_tests}
 use Rattle.std.proofs.Common.{filter}
 use Rattle.cdi_model.specs.declared.decl.Scope.TheVariants as scopes
-use Rattle.cdi_legal.specs.Moment as effects
-use Rattle.cdi_legal.specs.Single.{instances_of, strays_of}
-use Rattle.cdi_legal.specs.declared.entry.Entry.TheVariants as entries
 use Rattle.cdi_legal.proofs.Along.{asks_for, ends_along, legal_along, runs_along, IsAlong}
 use Rattle.cdi_legal.proofs.Course.{Given, MayBegin}
 use Rattle.cdi_legal.proofs.Everywhere.{everywhere, kept_everywhere, Holds}
+use Rattle.cdi_legal.specs.Single.{instances_of, strays_of}
+use Rattle.cdi_legal.specs.Moment as effects
+use Rattle.cdi_legal.specs.declared.entry.Entry.TheVariants as entries
 
 -- ---- how many live instances have such an id and such an owner
 

@@ -2,12 +2,12 @@
 use Rattle.cdi_legal.proofs.Common.{◌≡◌, ◌<◌, ℕ, None, Some, refl, InstanceId, Scene, Answer, Legal, Node, Moment, suc, ◌+◌, inl, inr, List}
 use Rattle.cdi_legal.proofs.Common.{[], ◌∷◌, length, arith, ap, subst, sym, ◌∙◌, Instance, Option, Held, ◌++◌, slice_get, zero, ◌⊎◌}
 use Rattle.cdi_legal.proofs.Common.{held_is, slice_get_within, IsDependent}
-use Rattle.cdi_legal.specs.Furnished.{IsHeld}
-use Rattle.cdi_legal.specs.Legal as nodes
 use Rattle.cdi_legal.proofs.Growing.{legal_grows}
 use Rattle.cdi_legal.proofs.Injecting.{nat_cases, shared-clash}
 use Rattle.cdi_legal.proofs.Keeping.{Rises, WasGiven, given-more, owned-param}
 use Rattle.cdi_legal.proofs.Settling.{Begins, IsApart, Settled, created_has, has-after, legal_settled}
+use Rattle.cdi_legal.specs.Furnished.{IsHeld}
+use Rattle.cdi_legal.specs.Legal as nodes
 
 pub kept-in : (h : Held) (x : Option InstanceId) (k : ℕ) (y : Option InstanceId) → slice_get h k ≡ Some y
     → slice_get (h ++ x ∷ []) k ≡ Some y

@@ -1,13 +1,12 @@
 -- What the words of a line, a line without its carriage return and the text of a put block are.
-use Rattle.std.proofs.Common.{◌≡◌, ◌≢◌, ℕ, true, false, not, List, [], ◌∷◌, ◌++◌, refl, ap, sym, ◌∙◌, subst, inl, inr, append_assoc}
-use Rattle.std.proofs.Common.{append-nil}
-use Rattle.std.specs.Prelude.{◌==◌}
-use Rattle.std.specs.List.{AllByRecursion, fold, flat_map}
-use Rattle.std.proofs.lemmas.Bool.{cases_Bool, eqb-true, eq-eqb, false≢true}
-use Rattle.cdi_model.specs.Bytes.{carriage_return, feed, space}
-use Rattle.cdi_lines.specs.Words.{without_return, IsWithoutReturn, onto_words, begins_with_word, words_of, IsWord, IsBehindWord, AreWordsOf}
-use Rattle.cdi_lines.specs.Lines.{BlocksAreLines}
-use Rattle.cdi_lines.specs.Kept.{with_line}
+use Rattle.cdi_lines.proofs.Common.{◌≡◌, ℕ, true, false, not, List, [], ◌∷◌, ◌++◌, refl, ap, sym, ◌∙◌, subst, inl, inr, append_assoc}
+use Rattle.cdi_lines.proofs.Common.{append-nil, ◌==◌, AllByRecursion, cases_Bool, eqb-true, eq-eqb, carriage_return, feed, space}
+use Rattle.cdi_lines.proofs.Common.{without_return, onto_words, begins_with_word, words_of}
+use Rattle.std.proofs.Common.{◌≢◌}
+use Rattle.std.specs.List.{fold, flat_map}
+use Rattle.std.proofs.lemmas.Bool.{false≢true}
+use Rattle.cdi_lines.specs.Words.{IsWithoutReturn, IsWord, IsBehindWord, AreWordsOf}
+use Rattle.cdi_lines.specs.{Lines.BlocksAreLines, Kept.with_line}
 
 -- ---- words
 

@@ -1,13 +1,12 @@
 -- The interceptors around a place are among those that its chain sees.
-use Rattle.cdi_live.proofs.Common.{◌≡◌, Bool, true, false, cond, not, ◌&&◌, List, [], ◌∷◌, length, map, filter, nat_eq, is_some, refl, sym}
-use Rattle.cdi_live.proofs.Common.{ap, ◌∙◌, inl, inr, list_all, list_any, option_eq, bytes_eq, and_from, and_parts, false≢true, or_cases}
-use Rattle.cdi_live.proofs.Common.{or_left, or_right, Decl, InterceptorDecl, BeanPlace, Qual, uses_one, in_text_order, bytes_eq-turned}
-use Rattle.cdi_live.proofs.Common.{chain_by, in_order, part_for, surrounds, is_seen, names_around, shares_type, any-in_text_order}
+use Rattle.cdi_live.proofs.Common.{◌≡◌, Bool, true, false, not, ◌&&◌, List, [], ◌∷◌, length, map, filter, nat_eq, is_some, refl, sym, ap}
+use Rattle.cdi_live.proofs.Common.{◌∙◌, list_all, list_any, option_eq, bytes_eq, and_from, and_parts, false≢true, or_left, Decl}
+use Rattle.cdi_live.proofs.Common.{InterceptorDecl, BeanPlace, Qual, uses_one, in_text_order, chain_by, in_order, part_for, surrounds}
+use Rattle.cdi_live.proofs.Common.{is_seen, names_around, shares_type, any-in_text_order}
 use Rattle.std.proofs.lemmas.List.Elements.{filter_agree}
 use Rattle.base_lists.proofs.Filters.{filter-both}
 use Rattle.cdi_model.specs.declared.decl.UseKind.TheVariants as use_kinds
-use Rattle.cdi_match.specs.Covering.{agree, covers, covers_by, given_name}
-use Rattle.cdi_match.specs.Filling.{declared_of}
+use Rattle.cdi_match.specs.{Covering.agree, Covering.covers, Covering.given_name, Filling.declared_of}
 use Rattle.cdi_intercept.specs.Chains.{binds, covered_in}
 use Rattle.cdi_intercept.proofs.SeenLemmas.{covered-used}
 

@@ -1,18 +1,15 @@
 -- A choice, or who observes an event, is asked for after edits by a declaration that is not edited, or by one that is.
-use Rattle.std.proofs.lemmas.Bool.{not-true}
-use Rattle.base_lists.proofs.Any.{any-same}
-use Rattle.base_options.proofs.Booleans.{same-bool}
-use Rattle.cdi_live.proofs.Common.{◌≡◌, Bool, true, false, not, ◌&&◌, List, [], ◌∷◌, refl, sym, ap, ◌∙◌, inl, inr, list_any, and_from}
-use Rattle.cdi_live.proofs.Common.{and_parts, false≢true, or_cases, or_left, or_right, Decl, Qual, ℕ, ◌||◌, flat_map, Option, Some, None}
-use Rattle.cdi_live.proofs.Common.{option_map_or, list_any-append, Edit, DeclKey, key_of, kind_of, name_of_decl, same_key, find_decl}
-use Rattle.cdi_live.proofs.Common.{AreDistinct, edited_all, edited_keys, is_among, mentions, Mention, BodyOf, CallOf, EventOf, MethodOf}
-use Rattle.cdi_live.proofs.Common.{PointOf, StereotypeOf, TypeIn, UseOf, edits_keep_decl, key_exact, asks_for, asks_in, ChoiceKey}
-use Rattle.cdi_live.proofs.Common.{is_wanted, key_of_point, points_of, wanted_stand_once, IsPresent, all_present, found_any, witness}
-use Rattle.cdi_live.proofs.Common.{is_asked_after}
-use Rattle.cdi_index.specs.declared.asked.Question.{Question}
+use Rattle.cdi_live.proofs.Common.{not-true, any-same, same-bool, ◌≡◌, Bool, true, false, not, ◌&&◌, List, [], ◌∷◌, refl, sym, ap, ◌∙◌, inl}
+use Rattle.cdi_live.proofs.Common.{inr, list_any, and_from, and_parts, false≢true, or_cases, or_left, or_right, Decl, Qual, ℕ, ◌||◌}
+use Rattle.cdi_live.proofs.Common.{flat_map, Option, Some, None, option_map_or, list_any-append, Edit, DeclKey, key_of, kind_of}
+use Rattle.cdi_live.proofs.Common.{name_of_decl, find_decl, AreDistinct, edited_all, edited_keys, is_among, mentions, Mention, PointOf}
+use Rattle.cdi_live.proofs.Common.{edits_keep_decl, key_exact, asks_for, asks_in, ChoiceKey, is_wanted, key_of_point, points_of, IsPresent}
+use Rattle.cdi_live.proofs.Common.{all_present, found_any, witness, is_asked_after}
+use Rattle.cdi_model.specs.DeclKey.{same_key}
+use Rattle.cdi_index.specs.{declared.asked.Question.Question, Asked.asks_at, Asked.is_asked, Asked.is_asked_by}
 use Rattle.cdi_index.specs.declared.asked.Question.TheVariants as questions
-use Rattle.cdi_index.specs.Asked.{asks_at, is_asked, is_asked_by}
 use Rattle.cdi_observe.specs.Keys.{same_key as same_question}
+use Rattle.cdi_observe.proofs.WantedLemmas.{wanted_stand_once}
 use Rattle.cdi_observe.specs.Wanted.{is_wanted_choice, point_named}
 
 pub any-elim : {X B : Type 0} (p : X → Bool) (xs : List X) → list_any p xs ≡ true → ((x : X) → p x ≡ true → B) → B

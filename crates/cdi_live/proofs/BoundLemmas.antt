@@ -1,24 +1,23 @@
 -- A bean has the words of the bindings at its places.
 use Rattle.cdi_live.proofs.Common.{◌≡◌, Bool, true, false, cond, not, ◌&&◌, List, [], ◌∷◌, map, refl, sym, ap, ◌∙◌, inl, inr, list_any}
 use Rattle.cdi_live.proofs.Common.{bytes_eq, false≢true, or_cases, or_left, or_right, Decl, BeanPlace, Qual, ℕ, ◌||◌, flat_map, Option}
-use Rattle.cdi_live.proofs.Common.{Some, None, list_any-append, mentions, Mention, BodyOf, CallOf, EventOf, MethodOf, PointOf, StereotypeOf}
-use Rattle.cdi_live.proofs.Common.{TypeIn, UseOf, ◌++◌, unwrap_or, option_map, option_to_list, BeanDecl, ObserverDecl, of_bindings}
-use Rattle.cdi_live.proofs.Common.{of_parts, of_point, name_of_use, has, own_records, class_bindings, Effective, Word, same_word, word_at}
-use Rattle.cdi_live.proofs.Common.{words_have, words_named, words_named_in, words_of_bindings, words_of_observer, words_of_record}
-use Rattle.cdi_live.proofs.Common.{words_of_uses, words_by, among-named, own_bindings}
+use Rattle.cdi_live.proofs.Common.{Some, None, list_any-append, mentions, Mention, EventOf, PointOf, TypeIn, ◌++◌, unwrap_or, option_map}
+use Rattle.cdi_live.proofs.Common.{option_to_list, BeanDecl, ObserverDecl, of_bindings, of_parts, of_point, name_of_use, has, own_records}
+use Rattle.cdi_live.proofs.Common.{class_bindings, Effective, Word, same_word, word_at, words_have, words_named, words_named_in}
+use Rattle.cdi_live.proofs.Common.{words_of_bindings, words_of_observer, words_of_record, words_of_uses, words_by, among-named}
+use Rattle.cdi_live.proofs.Common.{own_bindings, words-append}
 use Rattle.std.specs.List.{find}
+use Rattle.cdi_model.specs.Mentions.{BodyOf, CallOf, MethodOf, StereotypeOf, UseOf, of_attributes, of_disposer, of_method, of_observer}
+use Rattle.cdi_model.specs.Mentions.{of_part, of_producer, of_qualifiers, part_place_of}
+use Rattle.cdi_model.specs.declared.decl.{MethodDecl.MethodDecl, ProducerDecl.ProducerDecl}
 use Rattle.cdi_model.specs.declared.decl.Decl.TheVariants as decls
-use Rattle.cdi_model.specs.declared.decl.MethodDecl.{MethodDecl}
-use Rattle.cdi_model.specs.declared.decl.ProducerDecl.{ProducerDecl}
 use Rattle.cdi_model.specs.declared.decl.UseKind.TheVariants as uses
 use Rattle.cdi_model.specs.declared.mention.PointPlace.TheVariants as points
 use Rattle.cdi_model.specs.declared.mention.TypePlace.TheVariants as types
 use Rattle.cdi_model.specs.declared.place.BeanPlace.TheVariants as places
 use Rattle.cdi_model.specs.declared.place.PartPlace.TheVariants as parts
-use Rattle.cdi_model.specs.Mentions.{of_attributes, of_disposer, of_method, of_observer, of_part, of_producer, of_qualifiers, part_place_of}
 use Rattle.cdi_effective.specs.Beans.{effective}
 use Rattle.cdi_postings.specs.declared.word.Reason.TheVariants as reasons
-use Rattle.cdi_index.proofs.SoughtLemmas.{words-append}
 
 abbrev word : List ℕ → Word
 word n = word_at reasons.Binds n

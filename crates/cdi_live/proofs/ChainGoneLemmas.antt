@@ -1,9 +1,8 @@
 -- Of the kept chains exactly those are gone that are not wanted any more, or are touched.
-use Rattle.base_options.proofs.Booleans.{same-bool}
-use Rattle.cdi_live.proofs.Common.{◌≡◌, Bool, true, false, not, ◌&&◌, List, [], ◌∷◌, refl, sym, ap, ◌∙◌, inl, inr, list_any, bytes_eq}
-use Rattle.cdi_live.proofs.Common.{and_from, and_parts, false≢true, or_cases, or_left, or_right, Decl, BeanPlace, ℕ, ◌||◌, Edit, DeclKey}
-use Rattle.cdi_live.proofs.Common.{AreDistinct, edited_all, edited_keys, is_wanted, subst, bytes_decides, Tells, parts_under, parts-kept}
-use Rattle.cdi_live.proofs.Common.{same_place, ChainKey, same_place-decides, is_touched, goes, is_kept_chain, ArePlaces, Chains}
+use Rattle.cdi_live.proofs.Common.{same-bool, ◌≡◌, Bool, true, false, not, ◌&&◌, List, [], ◌∷◌, refl, sym, ap, ◌∙◌, inl, inr, list_any}
+use Rattle.cdi_live.proofs.Common.{bytes_eq, and_from, and_parts, false≢true, or_cases, or_left, or_right, Decl, BeanPlace, ℕ, ◌||◌, Edit}
+use Rattle.cdi_live.proofs.Common.{DeclKey, AreDistinct, edited_all, edited_keys, is_wanted, subst, bytes_decides, Tells, parts_under}
+use Rattle.cdi_live.proofs.Common.{parts-kept, same_place, ChainKey, same_place-decides, is_touched, goes, is_kept_chain, ArePlaces, Chains}
 use Rattle.cdi_live.proofs.Common.{is_chain_suspect, IsBetween, Sides}
 use Rattle.cdi_live.proofs.AskedLemmas.{any-elim}
 use Rattle.cdi_live.proofs.ChainSuspectLemmas.{chain-same, place-same}

@@ -2,7 +2,7 @@
 use Rattle.cdi_live.proofs.Common.{◌≡◌, Bool, true, false, cond, not, ◌&&◌, List, [], ◌∷◌, map, filter, refl, sym, ap, ◌∙◌, inl, inr}
 use Rattle.cdi_live.proofs.Common.{list_any, bytes_eq, and_from, false≢true, or_cases, or_left, or_right, Decl, InterceptorDecl, BeanPlace}
 use Rattle.cdi_live.proofs.Common.{Qual, uses_one, in_text_order, any-in_text_order, ℕ, Option, Some, None, option_map_or, list_any-append}
-use Rattle.cdi_live.proofs.Common.{Edit, DeclKey, key_of, same_key, find_decl, AreDistinct, edited_all, edited_keys, is_among, one_text}
+use Rattle.cdi_live.proofs.Common.{Edit, DeclKey, key_of, find_decl, AreDistinct, edited_all, edited_keys, is_among, one_text}
 use Rattle.cdi_live.proofs.Common.{edits_keep_decl, key_exact, IsPresent, all_present, found_any, unwrap_or, option_map, BeanDecl}
 use Rattle.cdi_live.proofs.Common.{name_of_use, has, class_bindings, word_at, words_have, words_by, own_bindings, Tells, ChainKey}
 use Rattle.cdi_live.proofs.Common.{is_touched, is_chain_suspect, zero, suc, or_from, or_parts, key_at, Avoid, Chain, as_binding, same_text}
@@ -10,30 +10,24 @@ use Rattle.cdi_live.proofs.Common.{as_bean, find_bean, set_at, is_enabled, sees_
 use Rattle.cdi_live.proofs.Common.{made_of_binding, made_of_interceptor, reads, reads_in, has_one, key-found, ByChain}
 use Rattle.cdi_live.proofs.Common.{touched_where_seen_differs, each_all, is_place_of, brings_to, class_named, classes_bound, is_bound_by}
 use Rattle.cdi_live.proofs.Common.{is_intercepted_by, holds}
-use Rattle.cdi_model.specs.declared.decl.BindingDecl.{BindingDecl}
+use Rattle.cdi_model.specs.{DeclKey.same_key, declared.decl.BindingDecl.BindingDecl}
 use Rattle.cdi_model.specs.declared.decl.Decl.TheVariants as decls
 use Rattle.cdi_model.specs.declared.decl.Kind.TheVariants as kinds
 use Rattle.cdi_model.specs.declared.place.BeanPlace.TheVariants as places
 use Rattle.cdi_match.specs.Bindings.{brings, brought_by, types_brought, with_brought}
-use Rattle.cdi_match.specs.Filling.{find_binding}
-use Rattle.cdi_match.specs.Locality.{binding_reads}
+use Rattle.cdi_match.specs.{Filling.find_binding, Locality.binding_reads}
 use Rattle.cdi_match.proofs.BindingLemmas.{brings_type_decides, types_brought-has}
 use Rattle.cdi_effective.specs.Reads.{record_reads}
-use Rattle.cdi_intercept.specs.Bindings.{set_of}
-use Rattle.cdi_intercept.specs.Sets.{around_method, of_method, of_observer, of_producer}
 use Rattle.cdi_postings.specs.declared.word.Reason.TheVariants as reasons
 use Rattle.cdi_index.proofs.ChangeLemmas.{none-of}
-use Rattle.cdi_seen.proofs.ContributionLemmas.{edits_keep_given}
-use Rattle.cdi_seen.specs.Gives.{interceptor_given, ranked_interceptor}
-use Rattle.cdi_seen.specs.Rests.{own_reads, place_reads}
-use Rattle.cdi_seen.specs.Words.{types_bound_by}
-use Rattle.cdi_seen.proofs.ChainLemmas.{chain_same_from, keep_interceptors, no_interceptor}
-use Rattle.cdi_seen.proofs.SetLemmas.{brought-within, has-names_append, name-among}
-use Rattle.cdi_seen.proofs.UseLemmas.{uses_by_name}
-use Rattle.cdi_live.specs.ChainSuspects.{is_chain_suspect_by, is_intercepted, is_intercepted_in}
-use Rattle.cdi_live.proofs.AskedLemmas.{any-among}
+use Rattle.cdi_intercept.specs.Sets.{around_method, of_method, of_observer, of_producer}
+use Rattle.cdi_intercept.specs.Bindings.{set_of}
+use Rattle.cdi_seen.proofs.{ContributionLemmas.edits_keep_given, SetLemmas.brought-within, SetLemmas.has-names_append, SetLemmas.name-among}
+use Rattle.cdi_seen.specs.{Gives.interceptor_given, Gives.ranked_interceptor, Rests.own_reads, Rests.place_reads, Words.types_bound_by}
+use Rattle.cdi_seen.proofs.{ChainLemmas.chain_same_from, ChainLemmas.keep_interceptors, ChainLemmas.no_interceptor, UseLemmas.uses_by_name}
 use Rattle.cdi_live.proofs.BoundLemmas.{class-word, own-word}
 use Rattle.cdi_live.proofs.ListedLemmas.{of-passing}
+use Rattle.cdi_live.specs.ChainSuspects.{is_chain_suspect_by, is_intercepted, is_intercepted_in}
 
 -- a key among those of some names is of one of them
 record IsNamed (key : DeclKey) (names : List (List ℕ)) : Type 0 where

@@ -3,18 +3,17 @@ use Rattle.cdi_live.proofs.Common.{◌≡◌, Bool, true, false, cond, List, [],
 use Rattle.cdi_live.proofs.Common.{false≢true, or_left, or_right, Decl, ℕ, ◌||◌, flat_map, Option, Some, None, option_map_or, key_of}
 use Rattle.cdi_live.proofs.Common.{kind_of, name_of_decl, find_decl, AreDistinct, is_among, edits_keep_decl, ◌++◌, has, Word, word_at}
 use Rattle.cdi_live.proofs.Common.{words_have, IsBetween, Sides, zero, suc, or_parts, has_one, ◌+◌, position, slice_get, arith}
-use Rattle.cdi_live.proofs.Common.{nat_eq_equiv, filter-append, is_of, position-found, position-there, beans, entries, own-position}
-use Rattle.cdi_live.proofs.Common.{is_listed, is_marked, marked_from, records_at, is_place_of_one, words_at, words_declared}
+use Rattle.cdi_live.proofs.Common.{filter-append, is_of, position-found, position-there, beans, entries, own-position, is_listed, is_marked}
+use Rattle.cdi_live.proofs.Common.{marked_from, records_at, is_place_of_one, words_at, words_declared}
 use Rattle.std.proofs.Common.{◌⊎◌}
 use Rattle.base_numbers.proofs.Numbers.{nat_eq-refl}
 use Rattle.cdi_model.specs.declared.decl.Decl.TheVariants as decls
 use Rattle.cdi_effective.proofs.PlaceLemmas.{own-found}
 use Rattle.cdi_postings.specs.declared.word.Reason.TheVariants as reasons
 use Rattle.cdi_index.specs.Made.{is_kept}
-use Rattle.cdi_index.proofs.SoughtLemmas.{none-of-type}
-use Rattle.cdi_index.proofs.UnderLemmas.{records-of-bean}
-use Rattle.cdi_live.specs.Compared.{is_at}
+use Rattle.cdi_index.proofs.{SoughtLemmas.none-of-type, UnderLemmas.records-of-bean}
 use Rattle.cdi_live.proofs.SoughtLemmas.{none-had, none-typed}
+use Rattle.cdi_live.specs.Compared.{is_at}
 
 -- ---- where the others give nothing
 

@@ -1,15 +1,14 @@
 -- Which events are wanted: those for which a declaration asks.
+use Rattle.cdi_live.proofs.Common.{any-same, ◌≡◌, Bool, false, List, [], ◌∷◌, map, refl, sym, ap, ◌∙◌, list_any, Decl, BeanPlace, Qual, ℕ}
+use Rattle.cdi_live.proofs.Common.{◌||◌, flat_map, list_any-append, Edit, AreDistinct, edited_all, edited_keys, mentions, Mention, EventOf}
+use Rattle.cdi_live.proofs.Common.{asks_for, asks_in, is_wanted, key_of_point, points_of, is_asked_after, ◌++◌, ChainKey, places_of}
+use Rattle.cdi_live.proofs.Common.{has_key, EventKey, wanted_by}
 use Rattle.std.proofs.Math.Bool.{or-false}
-use Rattle.base_lists.proofs.Any.{any-same}
-use Rattle.cdi_live.proofs.Common.{◌≡◌, Bool, true, false, List, [], ◌∷◌, map, refl, sym, ap, ◌∙◌, list_any, Decl, BeanPlace, Qual, ℕ, ◌||◌}
-use Rattle.cdi_live.proofs.Common.{flat_map, list_any-append, Edit, AreDistinct, edited_all, edited_keys, mentions, Mention, BodyOf, CallOf}
-use Rattle.cdi_live.proofs.Common.{EventOf, MethodOf, PointOf, StereotypeOf, TypeIn, UseOf, asks_for, asks_in, is_wanted, key_of_point}
-use Rattle.cdi_live.proofs.Common.{points_of, is_asked_after, ◌++◌, ChainKey, places_of, has_key, EventKey, wanted_by}
-use Rattle.cdi_model.specs.declared.decl.Decl.TheVariants as decls
 use Rattle.cdi_model.specs.declared.decl.PointDecl.{PointDecl}
+use Rattle.cdi_model.specs.declared.decl.Decl.TheVariants as decls
 use Rattle.cdi_index.specs.declared.asked.Question.TheVariants as questions
-use Rattle.cdi_observe.specs.Keys.{same_key}
 use Rattle.cdi_observe.specs.Wanted.{asked_by, chains_by, event_in, events_by}
+use Rattle.cdi_observe.specs.Keys.{same_key}
 use Rattle.cdi_live.proofs.AskedLemmas.{asked-after}
 
 module _ (t : List ℕ) (us : List Qual) where

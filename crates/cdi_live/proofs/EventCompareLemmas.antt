@@ -1,14 +1,14 @@
 -- The observer methods that an event sees, before and after edits, are among those of the declarations that are looked at.
+use Rattle.cdi_live.proofs.Common.{◌≡◌, Bool, false, List, [], map, filter, refl, sym, ap, ◌∙◌, inl, inr, list_any, Decl, ℕ, ◌||◌, flat_map}
+use Rattle.cdi_live.proofs.Common.{Option, Some, None, option_map_or, AreDistinct, ◌++◌, Effective, word_at, words_have, IsBetween, Sides}
+use Rattle.cdi_live.proofs.Common.{has_one, slice_get, arith, beans, entries, is_listed, is_marked, marked_from, records_at}
+use Rattle.cdi_live.proofs.Common.{is_place_of_one, words_declared, types_of, sorted_by, observes_one, Observer, declared_by, observers}
+use Rattle.cdi_live.proofs.Common.{observes, observing, words_typed}
 use Rattle.base_lists.proofs.Flat.{flat-same, flat-twice}
-use Rattle.cdi_live.proofs.Common.{◌≡◌, Bool, false, List, [], ◌∷◌, map, filter, refl, sym, ap, ◌∙◌, inl, inr, list_any, Decl, ℕ, ◌||◌}
-use Rattle.cdi_live.proofs.Common.{flat_map, Option, Some, None, option_map_or, AreDistinct, ◌++◌, Effective, word_at, words_have}
-use Rattle.cdi_live.proofs.Common.{IsBetween, Sides, has_one, slice_get, arith, beans, entries, is_listed, is_marked, marked_from}
-use Rattle.cdi_live.proofs.Common.{records_at, is_place_of_one, words_declared, flat_map-append, types_of, sorted_by, observes_one}
-use Rattle.cdi_live.proofs.Common.{Observer, declared_by, is_before, observers, observes, observing, words_typed}
 use Rattle.cdi_model.specs.declared.decl.Decl.TheVariants as decls
 use Rattle.cdi_postings.specs.declared.word.Reason.TheVariants as reasons
 use Rattle.cdi_index.proofs.SoughtLemmas.{observing-one}
-use Rattle.cdi_observe.specs.Observers.{enabled_bean}
+use Rattle.cdi_observe.specs.Observers.{is_before, enabled_bean}
 use Rattle.cdi_questions.proofs.CandidateLemmas.{none-of-decl, same-observers}
 use Rattle.cdi_live.proofs.CompareLemmas.{gather, unmarked-decl}
 use Rattle.cdi_live.proofs.SoughtLemmas.{none-observed}

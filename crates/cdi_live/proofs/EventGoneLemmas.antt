@@ -2,21 +2,18 @@
 use Rattle.cdi_live.proofs.Common.{◌≡◌, Bool, true, false, not, ◌&&◌, List, [], ◌∷◌, is_some, refl, sym, ap, ◌∙◌, inl, inr, list_any}
 use Rattle.cdi_live.proofs.Common.{bytes_eq, and_from, and_parts, false≢true, or_cases, or_left, or_right, Decl, Qual, ℕ, ◌||◌, Option}
 use Rattle.cdi_live.proofs.Common.{Some, None, option_map_or, Edit, DeclKey, key_of, kind_of, name_of_decl, find_decl, AreDistinct}
-use Rattle.cdi_live.proofs.Common.{edited_all, edited_keys, is_among, mentions, Mention, BodyOf, CallOf, EventOf, MethodOf, PointOf}
-use Rattle.cdi_live.proofs.Common.{StereotypeOf, TypeIn, UseOf, asks_for, asks_in, is_wanted, IsPresent, all_present, found_any, witness}
-use Rattle.cdi_live.proofs.Common.{is_asked_after, subst, bytes_decides, Tells, parts_under, parts-kept, is_touched, IsBetween, Sides}
-use Rattle.cdi_live.proofs.Common.{holds, EventKey, keys_of, same_quals, same_quals-decides, ObserverId, is_touched_of, Events}
-use Rattle.cdi_live.proofs.Common.{is_dropped_at, is_dropped_by, is_dropped_in, is_suspect}
+use Rattle.cdi_live.proofs.Common.{edited_all, edited_keys, is_among, mentions, Mention, EventOf, asks_for, asks_in, is_wanted, IsPresent}
+use Rattle.cdi_live.proofs.Common.{all_present, found_any, witness, is_asked_after, subst, bytes_decides, Tells, parts_under, parts-kept}
+use Rattle.cdi_live.proofs.Common.{is_touched, IsBetween, Sides, holds, EventKey, keys_of, same_quals, same_quals-decides, ObserverId}
+use Rattle.cdi_live.proofs.Common.{is_touched_of, Events, is_suspect, not-true, same-bool}
 use Rattle.std.specs.Map.{lookup}
 use Rattle.std.proofs.lemmas.Map.Made.{is_some-lookup}
-use Rattle.std.proofs.lemmas.Bool.{not-true}
-use Rattle.base_options.proofs.Booleans.{same-bool}
 use Rattle.cdi_index.specs.declared.asked.Question.TheVariants as questions
-use Rattle.cdi_live.specs.EventDropped.{is_kept, Drops}
-use Rattle.cdi_live.specs.EventStage.{event_stays, EventsAreWanted}
 use Rattle.cdi_live.proofs.AskedLemmas.{any-among, any-elim}
 use Rattle.cdi_live.proofs.EventAskedLemmas.{event-wanted-is, fired-after}
 use Rattle.cdi_live.proofs.EventSuspectLemmas.{is-held, untouched}
+use Rattle.cdi_live.specs.EventDropped.{is_dropped_at, is_dropped_by, is_dropped_in, is_kept, Drops}
+use Rattle.cdi_live.specs.EventStage.{event_stays, EventsAreWanted}
 
 -- the type of a kept event is a name of which something is kept
 type-kept : (m : Events) (t : List ℕ) (us : List Qual) → is_kept m t us ≡ true → holds (keys_of m) t ≡ true

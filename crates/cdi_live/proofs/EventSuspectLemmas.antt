@@ -2,45 +2,36 @@
 use Rattle.cdi_live.proofs.Common.{◌≡◌, Bool, true, false, cond, not, ◌&&◌, List, [], ◌∷◌, map, filter, refl, sym, ap, ◌∙◌, inl, inr}
 use Rattle.cdi_live.proofs.Common.{list_any, bytes_eq, and_from, and_parts, false≢true, or_cases, or_left, or_right, Decl, Qual, same_text}
 use Rattle.cdi_live.proofs.Common.{ℕ, ◌||◌, flat_map, Option, Some, None, option_map_or, list_any-append, Edit, DeclKey, bytes_eq-turned}
-use Rattle.cdi_live.proofs.Common.{key_of, kind_of, name_of_decl, same_key, find_decl, AreDistinct, edited_all, edited_keys, is_among}
-use Rattle.cdi_live.proofs.Common.{mentions, Mention, BodyOf, CallOf, EventOf, MethodOf, PointOf, StereotypeOf, TypeIn, UseOf}
-use Rattle.cdi_live.proofs.Common.{edits_keep_decl, key_exact, asks_for, asks_in, IsPresent, all_present, found_any, witness, ◌++◌}
-use Rattle.cdi_live.proofs.Common.{unwrap_or, option_map, BeanDecl, ObserverDecl, has, own_records, Word, same_word, word_at, words_have}
-use Rattle.cdi_live.proofs.Common.{words_named, words_named_in, words_of_observer, words_of_record, words_of_uses, words_by, among-named}
-use Rattle.cdi_live.proofs.Common.{Tells, is_touched, zero, suc, or_parts, key_at, Avoid, Chain, as_bean, find_bean, made_of}
-use Rattle.cdi_live.proofs.Common.{reads, reads_in, has_one, touched_where_seen_differs, each_all, holds, slice_get, arith, beans}
-use Rattle.cdi_live.proofs.Common.{is_marked, marked_from, EventKey, types_of, sorted_by, Observer, declared_by, observers, observes}
-use Rattle.cdi_live.proofs.Common.{observing, same_quals, same_quals-decides, is_suspect, records, records_declared, records_in}
-use Rattle.cdi_live.proofs.Common.{same_word_equiv, made_of_type, words-of-asker, walk, event_sees, ByEvent, event_types, fired_at}
-use Rattle.cdi_live.proofs.Common.{fired_in, fired_types, may_have, observed_at, observed_by_key, words_edited}
-use Rattle.cdi_live.proofs.ListedLemmas.{holds-append, of-passing}
+use Rattle.cdi_live.proofs.Common.{key_of, kind_of, name_of_decl, find_decl, AreDistinct, edited_all, edited_keys, is_among, mentions}
+use Rattle.cdi_live.proofs.Common.{Mention, EventOf, PointOf, edits_keep_decl, key_exact, asks_for, asks_in, IsPresent, all_present}
+use Rattle.cdi_live.proofs.Common.{found_any, witness, ◌++◌, unwrap_or, option_map, BeanDecl, ObserverDecl, has, own_records, Word}
+use Rattle.cdi_live.proofs.Common.{same_word, word_at, words_have, words_named, words_named_in, words_of_observer, words_of_record}
+use Rattle.cdi_live.proofs.Common.{words_of_uses, words_by, among-named, Tells, is_touched, zero, suc, or_parts, key_at, Avoid, Chain}
+use Rattle.cdi_live.proofs.Common.{as_bean, find_bean, made_of, reads, reads_in, has_one, touched_where_seen_differs, each_all, holds}
+use Rattle.cdi_live.proofs.Common.{slice_get, arith, beans, is_marked, marked_from, EventKey, types_of, sorted_by, Observer, declared_by}
+use Rattle.cdi_live.proofs.Common.{observers, observes, observing, same_quals, same_quals-decides, is_suspect, records, records_declared}
+use Rattle.cdi_live.proofs.Common.{records_in, same_word_equiv, made_of_type, words-of-asker, walk, event_sees, ByEvent, event_types}
+use Rattle.cdi_live.proofs.Common.{fired_at, fired_in, fired_types, may_have, observed_at, observed_by_key, words_edited, same-bool}
+use Rattle.cdi_live.proofs.Common.{words-append}
 use Rattle.std.proofs.Common.{ℤ}
-use Rattle.base_options.proofs.Booleans.{same-bool}
+use Rattle.cdi_model.specs.DeclKey.{same_key}
+use Rattle.cdi_model.proofs.{EditLemmas.edits_keep_others, GivingLemmas.edits_keep_given}
 use Rattle.cdi_model.specs.declared.decl.Decl.TheVariants as decls
 use Rattle.cdi_model.specs.declared.decl.Kind.TheVariants as kinds
 use Rattle.cdi_model.specs.declared.decl.UseKind.TheVariants as uses
-use Rattle.cdi_model.proofs.EditLemmas.{edits_keep_others}
-use Rattle.cdi_model.proofs.GivingLemmas.{edits_keep_given}
-use Rattle.cdi_match.specs.Chain.{Steps}
-use Rattle.cdi_match.specs.Filled.{FilledUse, filled, filled_by}
-use Rattle.cdi_match.specs.Filling.{as_qualifier, find_qualifier}
 use Rattle.cdi_match.specs.Types.{is_super, is_type, object, supers_of}
-use Rattle.cdi_match.proofs.LocalityLemmas.{edits_keep_closure, same_types_apart}
-use Rattle.cdi_match.proofs.Names.{any_chosen, chosen}
 use Rattle.cdi_match.proofs.TypeLemmas.{is_type_decides, types_of-has, types_of-is, types_of-rises}
+use Rattle.cdi_match.specs.{Chain.Steps, Filled.FilledUse, Filled.filled, Filled.filled_by, Filling.as_qualifier, Filling.find_qualifier}
+use Rattle.cdi_match.proofs.{LocalityLemmas.edits_keep_closure, LocalityLemmas.same_types_apart, Names.any_chosen, Names.chosen}
 use Rattle.cdi_effective.specs.Beans.{managed}
 use Rattle.cdi_postings.specs.declared.word.Reason.TheVariants as reasons
-use Rattle.cdi_index.specs.declared.asked.Question.TheVariants as questions
 use Rattle.cdi_index.proofs.ReadLemmas.{among-types}
-use Rattle.cdi_index.proofs.SoughtLemmas.{words-append}
-use Rattle.cdi_observe.specs.Observers.{observer_id, priority_of}
-use Rattle.cdi_observe.specs.Sees.{seen_observer, SeenObserver}
+use Rattle.cdi_index.specs.declared.asked.Question.TheVariants as questions
+use Rattle.cdi_observe.specs.{Observers.observer_id, Observers.priority_of, Sees.seen_observer, Sees.SeenObserver, Lent.observer_in}
 use Rattle.cdi_seen.specs.Gives.{is_before_observer, observer_given, ranked_observer, unranked}
-use Rattle.cdi_seen.specs.Rests.{use_reads}
-use Rattle.cdi_seen.specs.Words.{names_under, types_observed}
-use Rattle.cdi_seen.proofs.EventLemmas.{event_by_words, observers_by_declaration, observers_of}
-use Rattle.cdi_seen.proofs.UseLemmas.{read_same}
-use Rattle.cdi_observe.specs.Lent.{observer_in}
+use Rattle.cdi_seen.specs.{Rests.use_reads, Words.names_under, Words.types_observed}
+use Rattle.cdi_seen.proofs.{EventLemmas.event_by_words, EventLemmas.observers_by_declaration, EventLemmas.observers_of, UseLemmas.read_same}
+use Rattle.cdi_live.proofs.ListedLemmas.{holds-append, of-passing}
 use Rattle.cdi_live.specs.EventSuspects.{concerned_types, is_fired, may_have_one, observed_of, uses_edited, word_edited}
 
 -- ---- lists of names

@@ -1,19 +1,17 @@
 -- Of the kept choices exactly those go that are asked for no more, or see something else.
-use Rattle.base_options.proofs.Booleans.{same-bool}
-use Rattle.cdi_live.proofs.Common.{◌≡◌, Bool, true, false, not, ◌&&◌, List, [], ◌∷◌, refl, sym, ap, ◌∙◌, inl, inr, list_any, bytes_eq}
-use Rattle.cdi_live.proofs.Common.{and_from, and_parts, false≢true, or_cases, or_left, or_right, Decl, Qual, ℕ, ◌||◌, Option, Some, None}
-use Rattle.cdi_live.proofs.Common.{option_map_or, Edit, DeclKey, key_of, kind_of, name_of_decl, find_decl, AreDistinct, edited_all}
-use Rattle.cdi_live.proofs.Common.{edited_keys, is_among, mentions, Mention, BodyOf, CallOf, EventOf, MethodOf, PointOf, StereotypeOf}
-use Rattle.cdi_live.proofs.Common.{TypeIn, UseOf, asks_for, asks_in, ChoiceKey, is_wanted, IsPresent, all_present, found_any, witness}
-use Rattle.cdi_live.proofs.Common.{is_asked_after, subst, bytes_decides, Tells, parts_under, parts-kept, is_touched, IsBetween, Sides}
-use Rattle.cdi_live.proofs.Common.{holds, same_quals, same_quals-decides, required, Answers, Choice, are_alike, sees_other, suspects}
+use Rattle.cdi_live.proofs.Common.{same-bool, ◌≡◌, Bool, true, false, not, ◌&&◌, List, [], ◌∷◌, refl, sym, ap, ◌∙◌, inl, inr, list_any}
+use Rattle.cdi_live.proofs.Common.{bytes_eq, and_from, and_parts, false≢true, or_cases, or_left, or_right, Decl, Qual, ℕ, ◌||◌, Option}
+use Rattle.cdi_live.proofs.Common.{Some, None, option_map_or, Edit, DeclKey, key_of, kind_of, name_of_decl, find_decl, AreDistinct}
+use Rattle.cdi_live.proofs.Common.{edited_all, edited_keys, is_among, mentions, Mention, PointOf, asks_for, asks_in, ChoiceKey, is_wanted}
+use Rattle.cdi_live.proofs.Common.{IsPresent, all_present, found_any, witness, is_asked_after, subst, bytes_decides, Tells, parts_under}
+use Rattle.cdi_live.proofs.Common.{parts-kept, is_touched, IsBetween, Sides, holds, same_quals, same_quals-decides, required, Answers}
+use Rattle.cdi_live.proofs.Common.{Choice, are_alike, sees_other, suspects}
 use Rattle.cdi_index.specs.declared.asked.Question.TheVariants as questions
 use Rattle.cdi_seen.proofs.TouchedLemmas.{touched_by_parts}
-use Rattle.cdi_live.specs.Dropped.{is_dropped_at, is_dropped_by, is_dropped_in, is_kept, Asks}
-use Rattle.cdi_live.specs.Gone.{stays_known}
-use Rattle.cdi_live.specs.Stage.{AreWanted}
 use Rattle.cdi_live.proofs.AskedLemmas.{any-among, any-elim, asked-after, wanted-is}
 use Rattle.cdi_live.proofs.SuspectLemmas.{beans-same, uses-alike}
+use Rattle.cdi_live.specs.Dropped.{is_dropped_at, is_dropped_by, is_dropped_in, is_kept, Asks}
+use Rattle.cdi_live.specs.{Gone.stays_known, Stage.AreWanted}
 
 -- the kept choices for types that see something else
 abbrev pub goes_by_type : (List ℕ → List Qual → Bool) → Answers (List Qual) Choice → List (List ℕ) → List ℕ → List Qual → Bool

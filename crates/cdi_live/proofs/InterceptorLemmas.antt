@@ -5,20 +5,18 @@ use Rattle.cdi_live.proofs.Common.{uses_one, in_order, part_for, is_seen, shares
 use Rattle.cdi_live.proofs.Common.{mentions, Mention, ◌++◌, option_to_list, of_bindings, of_parts, of_point, Effective, Word, same_word}
 use Rattle.cdi_live.proofs.Common.{word_at, words_have, words_named, words_named_in, among-named, IsBetween, Sides, or_parts, is_enabled}
 use Rattle.cdi_live.proofs.Common.{has_one, slice_get, arith, filter-append, is_listed, is_marked, marked_from, records_at, is_place_of_one}
-use Rattle.cdi_live.proofs.Common.{words_declared, flat_map-append, sorted_by, words_typed, same_word_equiv, enabled_at, words_bound}
-use Rattle.std.proofs.Math.Bool.{and-false}
+use Rattle.cdi_live.proofs.Common.{words_declared, sorted_by, words_typed, same_word_equiv, enabled_at, words_bound, words-append}
+use Rattle.std.proofs.{lemmas.Grind.flat_map-append, Math.Bool.and-false}
 use Rattle.base_lists.proofs.Any.{any-or}
 use Rattle.cdi_model.specs.declared.decl.Decl.TheVariants as decls
 use Rattle.cdi_model.specs.declared.mention.PointPlace.TheVariants as points
 use Rattle.cdi_model.specs.declared.place.PartPlace.TheVariants as parts
-use Rattle.cdi_intercept.specs.Chains.{as_interceptor, interceptors, is_before}
 use Rattle.cdi_postings.specs.declared.word.Reason.TheVariants as reasons
-use Rattle.cdi_index.proofs.SoughtLemmas.{words-append}
-use Rattle.cdi_seen.proofs.ChainLemmas.{order}
-use Rattle.cdi_seen.proofs.SortLemmas.{filtered_in_order}
-use Rattle.cdi_live.specs.ChainGone.{enabled_in}
+use Rattle.cdi_intercept.specs.Chains.{as_interceptor, interceptors, is_before}
+use Rattle.cdi_seen.proofs.{ChainLemmas.order, SortLemmas.filtered_in_order}
 use Rattle.cdi_live.proofs.CompareLemmas.{gather, unmarked-decl}
 use Rattle.cdi_live.proofs.SoughtLemmas.{fewer, none-declared}
+use Rattle.cdi_live.specs.ChainGone.{enabled_in}
 
 -- ---- in order
 

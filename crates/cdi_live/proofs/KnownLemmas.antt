@@ -1,14 +1,14 @@
 -- Each known key is wanted, and as many of the wanted keys are known as answers are kept.
 use Rattle.cdi_live.proofs.Common.{◌≡◌, Bool, true, false, cond, ◌&&◌, List, [], ◌∷◌, length, filter, refl, sym, ap, ◌∙◌, list_any}
-use Rattle.cdi_live.proofs.Common.{bytes_eq, false≢true, Decl, BeanPlace, Qual, ℕ, ◌||◌, ChoiceKey, is_wanted, same_place, ChainKey, suc}
-use Rattle.cdi_live.proofs.Common.{◌+◌, arith, has_key, EventKey, same_quals, IsDistinct, Key, wanted, knows_in, Memos}
-use Rattle.std.specs.List.{AllByRecursion}
+use Rattle.cdi_live.proofs.Common.{bytes_eq, Decl, BeanPlace, Qual, ℕ, ◌||◌, ChoiceKey, is_wanted, same_place, ChainKey, suc, ◌+◌, arith}
+use Rattle.cdi_live.proofs.Common.{has_key, EventKey, same_quals, Key, knows_in, Memos}
+use Rattle.std.specs.List.{IsDistinct}
 use Rattle.std.proofs.lemmas.Map.Keys.{IsDistinct-cons, IsDistinct-head, IsDistinct-tail}
 use Rattle.base_lists.proofs.Any.{none-passes, each-fails}
 use Rattle.cdi_memo.specs.Answers.{how_many, is_kept, same_question, Question}
 use Rattle.cdi_memo.specs.Laws.{CountsAnswered}
 use Rattle.cdi_memo.proofs.QuestionLemmas.{differ-nil}
-use Rattle.cdi_observe.specs.Keys.{same_key}
+use Rattle.cdi_observe.specs.{Wanted.wanted, Keys.same_key}
 use Rattle.cdi_observe.proofs.WantedLemmas.{has-wanted, wanted-distinct}
 use Rattle.cdi_live.specs.Kept.{AreAsked}
 

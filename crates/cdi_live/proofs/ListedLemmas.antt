@@ -1,7 +1,6 @@
 -- Names and words that are put together.
-use Rattle.cdi_live.proofs.Common.{[], ◌&&◌, ◌++◌, ◌||◌, ◌∙◌, ◌∷◌, ◌≡◌, Bool, Decl, List, Word, bytes_eq, cond, false, false≢true, filter}
-use Rattle.cdi_live.proofs.Common.{flat_map, holds, inl, inr, list_any, list_any-append, not, or_cases, or_left, or_right, refl, same_word}
-use Rattle.cdi_live.proofs.Common.{true, words_have, ℕ}
+use Rattle.cdi_live.proofs.Common.{[], ◌&&◌, ◌++◌, ◌||◌, ◌∙◌, ◌∷◌, ◌≡◌, Bool, Decl, List, bytes_eq, cond, false, false≢true, filter}
+use Rattle.cdi_live.proofs.Common.{flat_map, holds, inl, inr, list_any, list_any-append, or_cases, or_left, or_right, refl, true, ℕ}
 
 pub holds-append : (xs ys : List (List ℕ)) (t : List ℕ) → holds (xs ++ ys) t ≡ (holds xs t || holds ys t)
 holds-append xs ys t = list_any-append (λ n. bytes_eq n t) xs ys

@@ -8,12 +8,10 @@ use Rattle.cdi_live.proofs.Common.{chain_of, answer, Removes, is_gone_chain, Are
 use Rattle.std.proofs.Common.{Result, Err}
 use Rattle.cdi_model.specs.declared.refusal.Refusal.{Refusal}
 use Rattle.cdi_model.specs.declared.refusal.Refusal.TheVariants as refusals
-use Rattle.cdi_intercept.specs.Chains.{chain_told}
-use Rattle.cdi_intercept.specs.Sees.{Seen}
+use Rattle.cdi_intercept.specs.{Chains.chain_told, Sees.Seen}
 use Rattle.cdi_intercept.proofs.SeenLemmas.{told_rests_on_seen}
-use Rattle.cdi_live.specs.ChainGone.{AreRightChains}
-use Rattle.cdi_live.specs.Places.{same_place_equiv}
 use Rattle.cdi_live.proofs.WantedPlaceLemmas.{wanted-place}
+use Rattle.cdi_live.specs.{ChainGone.AreRightChains, Places.same_place_equiv}
 
 -- ---- after a commit
 

@@ -4,27 +4,21 @@ use Rattle.cdi_live.proofs.Common.{bytes_eq, and_parts, false≢true, Decl, Bean
 use Rattle.cdi_live.proofs.Common.{list_any-append, ChoiceKey, is_wanted, ◌++◌, subst, bytes_decides, same_place, ChainKey, is_touched}
 use Rattle.cdi_live.proofs.Common.{Chains, touched_where_seen_differs, beans, EventKey, same_quals, same_quals-decides, ObserverId, Events}
 use Rattle.cdi_live.proofs.Common.{event_sees, ByEvent, required, Answers, Choice, Key, knows_in, Memos, Ok, if◌then◌else◌, chain_of}
-use Rattle.cdi_live.proofs.Common.{answer, Removes, IfSome, eqb-true, after_key, with_known, chosen, is_gone, Gone}
+use Rattle.cdi_live.proofs.Common.{answer, Removes, IfSome, eqb-true, after_key, with_known, is_gone, Gone}
 use Rattle.std.proofs.Common.{◌==◌}
 use Rattle.std.proofs.lemmas.List.{nil_from_length}
-use Rattle.cdi_model.specs.Quals.{put_use}
-use Rattle.cdi_model.specs.SameUse.{same_quals_equiv}
-use Rattle.cdi_model.specs.Work.{with_one}
+use Rattle.cdi_model.specs.{Quals.put_use, SameUse.same_quals_equiv, Work.with_one}
 use Rattle.cdi_effective.specs.Qualifiers.{default_use}
-use Rattle.cdi_observe.specs.Kept.{work_with, Kept}
-use Rattle.cdi_observe.specs.Observers.{notified}
-use Rattle.cdi_observe.specs.Sees.{SeenOfEvent}
-use Rattle.cdi_observe.proofs.SeenLemmas.{notified_rest_on_seen}
-use Rattle.cdi_resolve.specs.Choices.{eligible}
-use Rattle.cdi_resolve.specs.Sees.{sees, Seen}
-use Rattle.cdi_resolve.proofs.SeenLemmas.{choice_rests_on_seen}
-use Rattle.cdi_seen.specs.Touched.{ByChoice}
-use Rattle.cdi_live.specs.Kept.{AreGoing, Forgets}
 use Rattle.cdi_index.specs.State.{committed as index_committed, committed_to, State as IndexState}
-use Rattle.cdi_live.specs.State.{AreKept, AreRight, HasDefault, IsDefaultOrNone, IsGoing, IsLive, MayGo}
-use Rattle.cdi_live.specs.declared.memos.Going.{Going}
+use Rattle.cdi_resolve.specs.{Choices.chosen, Choices.eligible, Sees.sees, Sees.Seen}
+use Rattle.cdi_resolve.proofs.SeenLemmas.{choice_rests_on_seen}
+use Rattle.cdi_observe.specs.{Kept.work_with, Kept.Kept, Observers.notified, Sees.SeenOfEvent}
+use Rattle.cdi_observe.proofs.SeenLemmas.{notified_rest_on_seen}
+use Rattle.cdi_seen.specs.Touched.{ByChoice}
 use Rattle.cdi_live.proofs.LiveChainLemmas.{known-chain-with, places-after, places-with, right-chains-after, right-chains-with}
 use Rattle.cdi_live.proofs.PartLemmas.{nothing-more}
+use Rattle.cdi_live.specs.State.{AreKept, AreRight, HasDefault, IsDefaultOrNone, IsGoing, IsLive, MayGo}
+use Rattle.cdi_live.specs.{Kept.AreGoing, Kept.Forgets, declared.memos.Going.Going}
 
 abbrev pub Choices : Type 0
 Choices = Answers (List Qual) Choice

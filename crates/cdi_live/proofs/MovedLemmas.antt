@@ -2,9 +2,8 @@
 use Rattle.cdi_live.proofs.Common.{◌≡◌, Bool, true, false, ◌&&◌, List, [], ◌∷◌, refl, sym, ap, ◌∙◌, inl, inr, list_any, option_eq, bytes_eq}
 use Rattle.cdi_live.proofs.Common.{and_parts, false≢true, or_cases, or_left, or_right, BeanPlace, Qual, ℕ, ◌||◌, Option, Some, None, has}
 use Rattle.cdi_live.proofs.Common.{subst, bytes_decides, same_place, zero, suc, same_quals, is_gone_chain, GoneChain, is_gone, Gone}
-use Rattle.cdi_live.proofs.Common.{option_copied}
+use Rattle.cdi_live.proofs.Common.{option_copied, slice_get}
 use Rattle.std.proofs.Common.{Bor}
-use Rattle.std.specs.Prelude.{slice_get}
 
 -- a name that is one of some others is among them
 among : (names : List (List ℕ)) (k : ℕ) (name n : List ℕ) → option_eq bytes_eq (slice_get names k) (Some name) ≡ true

@@ -1,12 +1,11 @@
 -- The declarations that read another one are those of the list of its readers.
-use Rattle.base_options.proofs.Booleans.{same-bool}
-use Rattle.cdi_live.proofs.Common.{◌≡◌, Bool, true, false, ◌&&◌, List, [], ◌∷◌, refl, sym, ap, ◌∙◌, list_any, and_from, and_parts}
-use Rattle.cdi_live.proofs.Common.{false≢true, or_left, or_right, Decl, ℕ, ◌||◌, Option, Some, None, DeclKey, key_of, same_key, find_decl}
+use Rattle.cdi_live.proofs.Common.{same-bool, ◌≡◌, Bool, true, false, ◌&&◌, List, [], ◌∷◌, refl, sym, ap, ◌∙◌, list_any, and_from}
+use Rattle.cdi_live.proofs.Common.{and_parts, false≢true, or_left, or_right, Decl, ℕ, ◌||◌, Option, Some, None, DeclKey, key_of, find_decl}
 use Rattle.cdi_live.proofs.Common.{AreDistinct, is_among, IsPresent, all_present, found_any, witness, option_map, key_at, as_binding}
 use Rattle.cdi_live.proofs.Common.{as_bean, made_of, made_of_bean, made_of_binding, made_of_interceptor, reads, key-found, made_of_type}
 use Rattle.cdi_live.proofs.Common.{Kind}
+use Rattle.cdi_model.specs.DeclKey.{same_key, same_key_equiv}
 use Rattle.cdi_model.specs.declared.decl.Kind.TheVariants as kinds
-use Rattle.cdi_model.specs.DeclKey.{same_key_equiv}
 use Rattle.cdi_live.proofs.AskedLemmas.{any-among}
 
 -- what read something is made of a declaration that is there

@@ -3,17 +3,15 @@ use Rattle.cdi_live.proofs.Common.{◌≡◌, Bool, true, false, ◌&&◌, List,
 use Rattle.cdi_live.proofs.Common.{list_any, bytes_eq, and_parts, false≢true, or_right, Decl, ℕ, ◌||◌, Option, Some, None, bytes_eq-turned}
 use Rattle.cdi_live.proofs.Common.{option_map_or, list_any-append, DeclKey, key_of, find_decl, AreDistinct, is_among, ◌++◌, ObserverDecl}
 use Rattle.cdi_live.proofs.Common.{has, Effective, Word, same_word, word_at, words_have, subst, or_from, or_parts, position, slice_get}
-use Rattle.cdi_live.proofs.Common.{arith, nat_eq_equiv, is_of, position-found, position-there, own-position, is_listed, words_at}
-use Rattle.cdi_live.proofs.Common.{words_typed, eqb-true, ◌<◌, Kind, ◌≤◌, All, limit, is_listed_by, words_observed, AreListed}
-use Rattle.std.proofs.Common.{get_or}
-use Rattle.std.proofs.Math.Bool.{and-true}
-use Rattle.std.proofs.lemmas.List.Folds.{list_any_at}
-use Rattle.std.proofs.lemmas.Option.{slice_get_within}
-use Rattle.cdi_postings.specs.declared.word.Reason.TheVariants as reasons
+use Rattle.cdi_live.proofs.Common.{arith, is_of, position-found, position-there, own-position, is_listed, words_at, words_typed, eqb-true}
+use Rattle.cdi_live.proofs.Common.{◌<◌, Kind, All, limit, is_listed_by, words_observed, AreListed}
+use Rattle.std.proofs.Common.{◌≤◌, get_or}
+use Rattle.std.proofs.{lemmas.Cmp.nat_eq_equiv, Math.Bool.and-true, lemmas.List.Folds.list_any_at, lemmas.Option.slice_get_within}
 use Rattle.cdi_postings.specs.Listing.{under, Listing}
+use Rattle.cdi_postings.specs.declared.word.Reason.TheVariants as reasons
 use Rattle.cdi_index.proofs.SoughtLemmas.{types-have}
-use Rattle.cdi_live.specs.Sought.{is_listed_for}
 use Rattle.cdi_live.proofs.AskedLemmas.{any-among, any-elim}
+use Rattle.cdi_live.specs.Sought.{is_listed_for}
 
 -- ---- where they are listed
 

@@ -1,28 +1,26 @@
 -- Choices for types that are not suspect see the same after edits.
 use Rattle.cdi_live.proofs.Common.{◌≡◌, Bool, true, false, cond, ◌&&◌, List, [], ◌∷◌, map, filter, refl, sym, ap, ◌∙◌, inl, inr, list_all}
-use Rattle.cdi_live.proofs.Common.{list_any, bytes_eq, and_from, and_parts, false≢true, or_cases, or_left, or_right, Decl, Qual}
-use Rattle.cdi_live.proofs.Common.{ℕ, ◌||◌, flat_map, list_any-append, Edit, DeclKey, key_of, kind_of, name_of_decl, bytes_eq-turned}
-use Rattle.cdi_live.proofs.Common.{same_key, AreDistinct, edited_all, edited_keys, is_among, mentions, Mention, BodyOf, CallOf, EventOf}
-use Rattle.cdi_live.proofs.Common.{MethodOf, PointOf, StereotypeOf, TypeIn, UseOf, edits_keep_decl, key_exact, asks_for, asks_in, IsPresent}
-use Rattle.cdi_live.proofs.Common.{all_present, found_any, witness, ◌++◌, option_to_list, BeanDecl, has, own_records, Effective, Word}
-use Rattle.cdi_live.proofs.Common.{same_word, word_at, words_have, words_named, words_named_in, words_of_bindings, words_of_observer}
-use Rattle.cdi_live.proofs.Common.{words_of_record, words_of_uses, words_by, among-named, Tells, or_parts, key_at, Avoid, as_bean, has_one}
-use Rattle.cdi_live.proofs.Common.{each_all, holds, entries, same_quals, same_quals-decides, records, records_declared, records_in}
-use Rattle.cdi_live.proofs.Common.{same_word_equiv, words-of-asker, required, are_alike, suspects, offers, see_same_beans, asked_in}
-use Rattle.cdi_live.proofs.Common.{asked_types, concerned, types_of_edited, types_of_key, types_of_records}
-use Rattle.cdi_live.proofs.ListedLemmas.{holds-append, of-passing}
+use Rattle.cdi_live.proofs.Common.{list_any, bytes_eq, and_from, and_parts, false≢true, or_cases, or_left, or_right, Decl, Qual, ℕ, ◌||◌}
+use Rattle.cdi_live.proofs.Common.{flat_map, list_any-append, Edit, DeclKey, key_of, kind_of, name_of_decl, bytes_eq-turned, AreDistinct}
+use Rattle.cdi_live.proofs.Common.{edited_all, edited_keys, is_among, mentions, Mention, PointOf, TypeIn, edits_keep_decl, key_exact}
+use Rattle.cdi_live.proofs.Common.{asks_for, asks_in, IsPresent, all_present, found_any, witness, ◌++◌, option_to_list, BeanDecl, has}
+use Rattle.cdi_live.proofs.Common.{own_records, Effective, Word, same_word, word_at, words_have, words_named, words_named_in}
+use Rattle.cdi_live.proofs.Common.{words_of_bindings, words_of_observer, words_of_record, words_of_uses, words_by, among-named, Tells}
+use Rattle.cdi_live.proofs.Common.{or_parts, key_at, Avoid, as_bean, has_one, each_all, holds, entries, same_quals, same_quals-decides}
+use Rattle.cdi_live.proofs.Common.{records, records_declared, records_in, same_word_equiv, words-of-asker, required, are_alike, suspects}
+use Rattle.cdi_live.proofs.Common.{offers, see_same_beans, asked_in, asked_types, concerned, types_of_edited, types_of_key}
+use Rattle.cdi_live.proofs.Common.{types_of_records, words-append}
+use Rattle.cdi_model.specs.DeclKey.{same_key}
 use Rattle.cdi_model.specs.declared.decl.Decl.TheVariants as decls
 use Rattle.cdi_model.specs.declared.decl.Kind.TheVariants as kinds
 use Rattle.cdi_effective.specs.Reads.{qualifier_reads}
 use Rattle.cdi_postings.specs.declared.word.Reason.TheVariants as reasons
 use Rattle.cdi_index.specs.declared.asked.Question.TheVariants as questions
-use Rattle.cdi_index.proofs.SoughtLemmas.{words-append}
 use Rattle.cdi_resolve.specs.Sees.{seen_bean}
-use Rattle.cdi_seen.specs.Contribution.{contribution, seen_of}
-use Rattle.cdi_seen.specs.Touched.{declare_alike}
-use Rattle.cdi_seen.proofs.ContributionLemmas.{seen_same}
-use Rattle.cdi_seen.proofs.TouchedLemmas.{edits_keep_declared, edits_keep_seen}
+use Rattle.cdi_seen.specs.{Contribution.contribution, Contribution.seen_of, Touched.declare_alike}
+use Rattle.cdi_seen.proofs.{ContributionLemmas.seen_same, TouchedLemmas.edits_keep_declared, TouchedLemmas.edits_keep_seen}
 use Rattle.cdi_seen.proofs.GatherLemmas.{quals_are_own}
+use Rattle.cdi_live.proofs.ListedLemmas.{holds-append, of-passing}
 
 -- ---- lists of names
 

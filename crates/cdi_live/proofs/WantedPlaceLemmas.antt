@@ -1,9 +1,8 @@
 -- A chain is asked for where the bean of its class has its place.
-use Rattle.base_options.proofs.Booleans.{same-bool}
-use Rattle.cdi_live.proofs.Common.{◌≡◌, Bool, true, false, ◌&&◌, List, [], ◌∷◌, map, refl, sym, ap, ◌∙◌, list_any, bytes_eq, and_from}
-use Rattle.cdi_live.proofs.Common.{and_parts, false≢true, Decl, BeanPlace, ℕ, ◌||◌, Option, Some, None, option_map_or, AreDistinct}
-use Rattle.cdi_live.proofs.Common.{is_wanted, IsPresent, all_present, found_any, witness, BeanDecl, same_place, ChainKey, one_text}
-use Rattle.cdi_live.proofs.Common.{as_bean, find_bean, has_place, is_place_of, places_of, has_key, wanted_by, same_text}
+use Rattle.cdi_live.proofs.Common.{same-bool, ◌≡◌, Bool, true, false, ◌&&◌, List, [], ◌∷◌, map, refl, sym, ap, ◌∙◌, list_any, bytes_eq}
+use Rattle.cdi_live.proofs.Common.{and_from, and_parts, false≢true, Decl, BeanPlace, ℕ, ◌||◌, Option, Some, None, option_map_or}
+use Rattle.cdi_live.proofs.Common.{AreDistinct, is_wanted, IsPresent, all_present, found_any, witness, BeanDecl, same_place, ChainKey}
+use Rattle.cdi_live.proofs.Common.{one_text, as_bean, find_bean, has_place, is_place_of, places_of, has_key, wanted_by, same_text}
 use Rattle.cdi_model.specs.declared.decl.Decl.TheVariants as decls
 use Rattle.cdi_model.specs.declared.decl.Kind.TheVariants as kinds
 use Rattle.cdi_observe.proofs.BeanPlaceLemmas.{has-it}

@@ -1,23 +1,13 @@
 -- The test of brought binding types is the relation, and their list has just these.
-use Rattle.std.proofs.Common.{◌≡◌, ℕ, true, List, [], ◌∷◌, ◌++◌, flat_map, refl, map, sym, ap, ◌∙◌, subst, inl, inr, arith}
-use Rattle.std.specs.Bool.{Decides}
+use Rattle.cdi_match.proofs.Common.{◌≡◌, ℕ, true, List, [], ◌∷◌, ◌++◌, flat_map, refl, map, sym, ap, ◌∙◌, subst, inl, inr, arith, Decides}
+use Rattle.cdi_match.proofs.Common.{IsStrictlySortedBy, bytes_eq, false≢true, or_cases, or_left, or_right, one_text, same_text, byte_order}
+use Rattle.cdi_match.proofs.Common.{name_of_use, Decl, Qual, brings_type, brought, brought_by, types_brought, with_brought, has, as_binding}
 use Rattle.std.specs.List.{Contains}
-use Rattle.std.specs.List.Sorted.{IsStrictlySortedBy}
-use Rattle.std.specs.Str.{bytes_eq}
-use Rattle.std.proofs.lemmas.Bool.{false≢true, or_cases, or_left, or_right}
 use Rattle.std.proofs.lemmas.List.Elements.{Contains-append_cases, Contains-append_left, Contains-append_right}
-use Rattle.base_numbers.proofs.Texts.{one_text, same_text}
-use Rattle.cdi_model.specs.Bytes.{byte_order}
-use Rattle.cdi_model.specs.Quals.{name_of_use}
-use Rattle.cdi_model.specs.declared.decl.Decl.{Decl}
 use Rattle.cdi_model.specs.declared.decl.Kind.TheVariants as kinds
-use Rattle.cdi_model.specs.declared.quals.Qual.{Qual}
-use Rattle.cdi_match.specs.Bindings.{brings_type, brought, brought_by, types_brought, with_brought}
-use Rattle.cdi_match.specs.Bindings.{BringsType, BroughtAreThese}
-use Rattle.cdi_match.specs.Chain.{has}
-use Rattle.cdi_match.specs.Filling.{as_binding}
 use Rattle.cdi_match.proofs.ClosureLemmas.{led_decides, led-has, led-is}
 use Rattle.cdi_match.proofs.Listed.{Lists}
+use Rattle.cdi_match.specs.Bindings.{BringsType, BroughtAreThese}
 
 -- the types of the uses that a declaration declares
 abbrev pub bindings_in : Lists

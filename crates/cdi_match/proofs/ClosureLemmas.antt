@@ -1,16 +1,8 @@
 -- The names to which chains lead from some names, by what the declarations of one kind list: the test is the relation, and the list
 -- of them has just these.
-use Rattle.std.proofs.Common.{◌≡◌, ℕ, true, Bool, List, [], ◌++◌, length, filter, flat_map, Some, None, ◌∙◌, subst, inl, inr}
-use Rattle.std.specs.Bool.{Decides}
-use Rattle.std.specs.List.Sorted.{IsStrictlySortedBy}
-use Rattle.std.specs.Str.{bytes_eq}
-use Rattle.std.proofs.lemmas.Bool.{or_left, or_right}
-use Rattle.std.proofs.lemmas.List.Folds.{list_any-append}
-use Rattle.cdi_model.specs.Bytes.{byte_order}
-use Rattle.cdi_model.specs.declared.decl.Decl.{Decl}
-use Rattle.cdi_model.specs.declared.decl.Kind.{Kind}
-use Rattle.cdi_match.specs.Chain.{ChainFromOne, has, leads, reaches_from_one}
-use Rattle.cdi_match.specs.Order.{in_order}
+use Rattle.cdi_match.proofs.Common.{◌≡◌, ℕ, true, Bool, List, [], ◌++◌, length, filter, flat_map, Some, None, ◌∙◌, subst, inl, inr, Decides}
+use Rattle.cdi_match.proofs.Common.{IsStrictlySortedBy, bytes_eq, or_left, or_right, list_any-append, byte_order, Decl, Kind, ChainFromOne}
+use Rattle.cdi_match.proofs.Common.{has, leads, reaches_from_one, in_order}
 use Rattle.cdi_match.proofs.Chains.{reaches_from_one_decides, chain_end}
 use Rattle.cdi_match.proofs.Listed.{Lists, listed, names_of, length-names_of, listed_only, listed_within}
 use Rattle.cdi_match.proofs.OrderLemmas.{AreAmong, in_order-rises, in_order-filter, in_order-is}

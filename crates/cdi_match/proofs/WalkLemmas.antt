@@ -1,31 +1,21 @@
 -- The search that keeps positions: what one more found declaration changes, and what is found when none is left.
-use Rattle.std.proofs.Common.{◌≡◌, ◌≢◌, ◌<◌, ◌+◌, ℕ, zero, suc, Bool, true, false, not, cond, List, [], ◌∷◌, ◌++◌, length}
-use Rattle.std.proofs.Common.{Option, Some, None, is_some, option_map, refl, sym, ◌∙◌, subst, inl, inr, ap, arith, length-append, zero-add, ◌⊎◌, position, slice_get}
-use Rattle.std.proofs.Common.{slice_index_or, slice_set}
-use Rattle.std.specs.List.{filter}
-use Rattle.std.specs.Option.{option_to_list}
-use Rattle.std.specs.Str.{bytes_eq}
-use Rattle.std.proofs.lemmas.Bool.{or_cases, or_left, or_right, cases_Bool, cases_eq, false≢true, both_ways}
-use Rattle.std.proofs.lemmas.Bool.Decides.{same_from_decides}
-use Rattle.std.proofs.lemmas.List.{get_or-set_same, get_or-set_other, length-set}
-use Rattle.std.proofs.lemmas.List.Concat.{flat_map-append}
-use Rattle.base_numbers.proofs.Texts.{one_text, same_text}
+use Rattle.cdi_match.proofs.Common.{◌≡◌, ◌<◌, ◌+◌, ℕ, zero, suc, Bool, true, false, not, cond, List, [], ◌∷◌, ◌++◌, length, Option, Some}
+use Rattle.cdi_match.proofs.Common.{None, is_some, refl, sym, ◌∙◌, subst, inl, inr, ap, arith, length-append, ◌⊎◌, position, slice_index_or}
+use Rattle.cdi_match.proofs.Common.{slice_set, filter, option_to_list, bytes_eq, or_cases, or_left, or_right, cases_Bool, false≢true}
+use Rattle.cdi_match.proofs.Common.{both_ways, same_from_decides, one_text, same_text, HasOneMore, name_of_decl, find_decl, is_of, Decl}
+use Rattle.cdi_match.proofs.Common.{Kind, Links, Walk, ChainFromOne, Steps, has, leads, Adds, Closing, is_led_to, next_of, declared_among}
+use Rattle.cdi_match.proofs.Common.{has_mark, IsWalking, Meets, HasMarks, tasks}
+use Rattle.std.proofs.Common.{◌≢◌, option_map, zero-add, slice_get}
+use Rattle.std.proofs.lemmas.{Bool.cases_eq, List.get_or-set_same, List.get_or-set_other, List.length-set, List.Concat.flat_map-append}
+use Rattle.cdi_positions.proofs.MarkLemmas.{length-marked_from, marked_from-none, marked_from-set, marked_from-unset}
 use Rattle.cdi_positions.specs.Marks.{marked_count, marked_from}
-use Rattle.cdi_positions.proofs.MarkLemmas.{length-marked_from, marked_from-none, marked_from-set, marked_from-unset, HasOneMore}
-use Rattle.cdi_model.specs.Decl.{name_of_decl}
-use Rattle.cdi_model.specs.DeclList.{find_decl, is_of, limit}
-use Rattle.cdi_model.specs.declared.decl.Decl.{Decl}
-use Rattle.cdi_model.specs.declared.decl.Kind.{Kind}
 use Rattle.cdi_model.proofs.PositionLemmas.{name-found, one_position, position-found, position-there}
-use Rattle.cdi_match.specs.declared.followers.Links.{Links}
-use Rattle.cdi_match.specs.declared.followers.Links.TheVariants as links
-use Rattle.cdi_match.specs.declared.walk.Walk.{Walk}
-use Rattle.cdi_match.specs.Chain.{ChainFromOne, Steps, has, leads}
-use Rattle.cdi_match.specs.Search.{Adds, Closing, is_led_to, kind_of, listed_by, next_of}
-use Rattle.cdi_match.specs.Walk.{declared_among, has_met, has_mark, IsWalking, Meets}
-use Rattle.cdi_match.specs.Walk.{HasMarks, names_at, names_left, next_declared, tasks}
+use Rattle.cdi_model.specs.DeclList.{limit}
 use Rattle.cdi_match.proofs.SearchLemmas.{Adds-again, Adds-new, Adds-none, Adds-then, Closing-all, Closing-start, Closing-step}
 use Rattle.cdi_match.proofs.SearchLemmas.{is_led_to_decides}
+use Rattle.cdi_match.specs.Walk.{has_met, names_at, names_left, next_declared}
+use Rattle.cdi_match.specs.Search.{kind_of, listed_by}
+use Rattle.cdi_match.specs.declared.followers.Links.TheVariants as links
 
 -- ---- marks
 

@@ -1,17 +1,13 @@
 -- What a change of the answers of one name does to all.
-use Rattle.std.proofs.Common.{◌≡◌, ℕ, ◌<◌, Bool, true, false, cond, not, ◌&&◌, List, [], ◌∷◌, length, Option, Some, None, unwrap_or, Result, Ok, Err, refl, sym, ap, ◌∙◌, subst, arith}
-use Rattle.std.specs.Cmp.Lexicographic.{bytes_decides}
-use Rattle.std.specs.List.{IsDistinct}
-use Rattle.std.specs.Map.{keys_of, lookup, set_value}
+use Rattle.std.proofs.Common.{◌≡◌, ℕ, ◌<◌, Bool, true, false, cond, not, ◌&&◌, List, [], ◌∷◌, length, Option, Some, None, unwrap_or, refl}
+use Rattle.std.proofs.Common.{sym, ap, ◌∙◌, subst, arith}
+use Rattle.std.specs.{Cmp.Lexicographic.bytes_decides, List.IsDistinct, Map.keys_of, Map.lookup, Map.set_value, Str.bytes_eq}
 use Rattle.std.specs.Option.{option_map, option_map_or, IfSome}
-use Rattle.std.specs.Result.{OnErr}
-use Rattle.std.specs.Str.{bytes_eq}
-use Rattle.std.proofs.lemmas.Bool.{false≢true}
-use Rattle.std.proofs.lemmas.Map.Made.{keys_of-map_values, lookup-map_values}
+use Rattle.std.proofs.lemmas.{Bool.false≢true, Map.Made.keys_of-map_values, Map.Made.lookup-map_values}
 use Rattle.indexmap.specs.IndexMap.{IndexMap}
+use Rattle.cdi_memo.proofs.QuestionLemmas.{differ-nil}
 use Rattle.cdi_memo.specs.Answers.{answer, answers_in, how_many, parts_under, Answers}
 use Rattle.cdi_memo.specs.Laws.{AreOnce, NamesHaveParts}
-use Rattle.cdi_memo.proofs.QuestionLemmas.{differ-nil}
 
 pub turned : (b s : Bool) → s ≡ not b → b ≡ not s
 turned true s is = ap not (sym is)

@@ -1,22 +1,13 @@
 -- The questions that have an answer: which they are, and how many.
-use Rattle.std.proofs.Common.{◌≡◌, ℕ, suc, ◌+◌, ◌<◌, ◌≤◌, Bool, true, false, cond, ◌&&◌, ◌||◌, List, [], ◌∷◌, ◌++◌, length, map, filter, Option, Some, None, unwrap_or, refl, sym, ap, ◌∙◌, subst, length-append, arith}
-use Rattle.std.specs.Cmp.{IsEquivalence, and_equiv, on_equiv}
-use Rattle.std.specs.List.{AllByRecursion, IsDistinct, list_any}
-use Rattle.std.specs.Map.{keys_of, lookup}
+use Rattle.std.proofs.Common.{◌≡◌, ℕ, suc, ◌+◌, ◌<◌, ◌≤◌, Bool, true, false, cond, ◌&&◌, ◌||◌, List, [], ◌∷◌, ◌++◌, length, map, filter}
+use Rattle.std.proofs.Common.{Option, Some, None, unwrap_or, refl, sym, ap, ◌∙◌, subst, length-append, arith}
+use Rattle.std.specs.{Cmp.IsEquivalence, Cmp.and_equiv, Cmp.on_equiv, List.IsDistinct, List.list_any, Map.keys_of, Map.lookup, Str.bytes_eq}
 use Rattle.std.specs.Option.{is_some, option_map_or, IfSome}
-use Rattle.std.specs.Str.{bytes_eq}
-use Rattle.std.proofs.lemmas.Bool.{false≢true}
-use Rattle.std.proofs.lemmas.Cmp.{nat_list_eq_equiv}
-use Rattle.std.proofs.lemmas.List.{length-map}
-use Rattle.std.proofs.lemmas.List.Folds.{list_any-append}
-use Rattle.std.proofs.lemmas.Map.{lookup-none}
-use Rattle.std.proofs.lemmas.Map.Entries.{none_past_head}
-use Rattle.std.proofs.lemmas.Map.Keys.{IsDistinct-cons, IsDistinct-head, IsDistinct-tail}
-use Rattle.std.proofs.lemmas.Map.Made.{is_member-filter, is_some-lookup, length-from_same_keys}
-use Rattle.std.proofs.lemmas.Map.Steps.{list_any_congr}
+use Rattle.std.proofs.lemmas.{Cmp.nat_list_eq_equiv, List.length-map, List.Folds.list_any-append, Map.lookup-none}
+use Rattle.std.proofs.lemmas.Map.{Entries.none_past_head, Keys.IsDistinct-cons, Keys.IsDistinct-head, Keys.IsDistinct-tail}
+use Rattle.std.proofs.lemmas.Map.{Made.is_member-filter, Made.is_some-lookup, Made.length-from_same_keys, Steps.list_any_congr}
 use Rattle.std.proofs.Math.Bool.{or-false}
-use Rattle.base_lists.proofs.Each.{all-filter}
-use Rattle.base_lists.proofs.Any.{none-passes, each-fails}
+use Rattle.base_lists.proofs.{Each.all-filter, Any.none-passes, Any.each-fails}
 use Rattle.cdi_memo.specs.Answers.{answer, how_many, is_kept, parts_under, questions, same_question, Answers, Keeps, Question, Removes}
 use Rattle.cdi_memo.specs.Laws.{AreOnce, CountsAnswered, NamesHaveParts, PartsAreKept}
 

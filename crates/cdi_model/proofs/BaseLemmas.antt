@@ -1,15 +1,6 @@
 -- A map of declarations that are put into it one after another.
-use Rattle.std.proofs.Common.{◌≡◌, List, [], ◌∷◌, ◌++◌, Global}
-use Rattle.std.proofs.Common.{sym, ap, ◌∙◌, subst, append_assoc}
-use Rattle.std.specs.List.{IsDistinct}
-use Rattle.std.specs.declared.rc.Rc.{Rc}
-use Rattle.indexmap.specs.IndexMap.{insert_entry}
-use Rattle.cdi_model.specs.Decl.{key_of}
-use Rattle.cdi_model.specs.DeclKey.{same_key}
-use Rattle.cdi_model.specs.Entries.{Entry, decls_of, AreKeyed}
-use Rattle.cdi_model.specs.Layers.{keys_in}
-use Rattle.cdi_model.specs.declared.decl.Decl.{Decl}
-use Rattle.cdi_model.specs.declared.key.DeclKey.{DeclKey}
+use Rattle.cdi_model.proofs.Common.{◌≡◌, List, [], ◌∷◌, ◌++◌, Global, sym, ap, ◌∙◌, subst, append_assoc, IsDistinct, Rc, insert_entry}
+use Rattle.cdi_model.proofs.Common.{key_of, same_key, Entry, decls_of, AreKeyed, keys_in, Decl, DeclKey}
 use Rattle.cdi_model.proofs.EntryLemmas.{put-insert, AreKeyed-insert}
 use Rattle.cdi_model.proofs.ListedLemmas.{put-last}
 

@@ -1,15 +1,12 @@
 -- What it means to be the text of a call site.
-use Rattle.std.proofs.Common.{◌≡◌, ℕ, Bool, true, false, List, [], ◌∷◌, ◌++◌, length, Option, Some, None, refl, sym, ap, ◌∙◌}
-use Rattle.std.specs.Prelude.{◌==◌, ◌↔◌, nat_le}
-use Rattle.std.specs.List.{AllByRecursion}
-use Rattle.std.proofs.lemmas.Bool.{and_parts, eqb-true}
-use Rattle.std.proofs.lemmas.Option.{none-some, same_Some}
-use Rattle.cdi_model.specs.Bytes.{dot}
-use Rattle.cdi_model.specs.CallText.{around_dot, call_between, call_of, text_of_call, SpellsCall}
-use Rattle.cdi_model.specs.Grammar.{is_letter, is_word, are_words, is_ident_text, is_ident}
-use Rattle.cdi_model.specs.declared.decl.CallDecl.{CallDecl}
+use Rattle.cdi_model.proofs.Common.{◌≡◌, ℕ, Bool, true, false, List, [], ◌∷◌, ◌++◌, length, Option, Some, None, refl, sym, ap, ◌∙◌, ◌==◌}
+use Rattle.cdi_model.proofs.Common.{◌↔◌, nat_le, AllByRecursion, and_parts, eqb-true, same_Some, dot, around_dot, is_letter, is_word}
+use Rattle.cdi_model.proofs.Common.{are_words, is_ident_text, is_ident}
+use Rattle.std.proofs.lemmas.Option.{none-some}
 use Rattle.cdi_model.proofs.GrammarLemmas.{no_dot}
 use Rattle.cdi_model.proofs.BeanNameLemmas.{letter_is_word}
+use Rattle.cdi_model.specs.CallText.{call_between, call_of, text_of_call, SpellsCall}
+use Rattle.cdi_model.specs.declared.decl.CallDecl.{CallDecl}
 
 -- no dot stands in the text
 abbrev HasNoDot : List ℕ → Type 0

@@ -1,12 +1,8 @@
 -- What declarations give rests on those that edits leave.
-use Rattle.std.proofs.Common.{◌≡◌, Bool, true, false, cond, not, List, [], ◌∷◌, ◌++◌, flat_map, refl, sym, ap, ◌∙◌}
-use Rattle.std.specs.List.{AllByRecursion}
-use Rattle.cdi_model.specs.Decl.{key_of}
-use Rattle.cdi_model.specs.Edits.{edited_all, edited_keys, is_among, others}
-use Rattle.cdi_model.specs.Giving.{EditsKeepGiven}
-use Rattle.cdi_model.specs.declared.decl.Decl.{Decl}
-use Rattle.cdi_model.specs.declared.key.DeclKey.{DeclKey}
+use Rattle.cdi_model.proofs.Common.{◌≡◌, Bool, true, false, cond, not, List, [], ◌∷◌, ◌++◌, flat_map, refl, sym, ap, ◌∙◌, AllByRecursion}
+use Rattle.cdi_model.proofs.Common.{key_of, edited_all, edited_keys, is_among, others, Decl, DeclKey}
 use Rattle.cdi_model.proofs.EditLemmas.{edits_keep_others}
+use Rattle.cdi_model.specs.Giving.{EditsKeepGiven}
 
 -- those apart from some keys, with one more where it has none of them
 abbrev with_other : List DeclKey → Bool → Decl → List Decl → List Decl

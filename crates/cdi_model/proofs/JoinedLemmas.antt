@@ -1,14 +1,8 @@
 -- Lists of declarations of which one stands after another.
-use Rattle.std.proofs.Common.{◌≡◌, ◌+◌, ◌-◌, ℕ, suc, Bool, true, false, cond, List, [], ◌∷◌, ◌++◌, length, Option, Some, None, is_some}
-use Rattle.std.proofs.Common.{refl, sym, ap, ◌∙◌, position, arith, option_map, inl, inr}
+use Rattle.cdi_model.proofs.Common.{◌≡◌, ◌+◌, ◌-◌, ℕ, suc, Bool, true, false, cond, List, [], ◌∷◌, ◌++◌, length, Option, Some, None}
+use Rattle.cdi_model.proofs.Common.{is_some, refl, sym, ap, ◌∙◌, position, arith, option_map, inl, inr, cases_Bool, position-cons, key_of}
+use Rattle.cdi_model.proofs.Common.{kind_of, name_of_decl, same_key, find_decl, is_of, put_in, remove_from, Decl, Kind}
 use Rattle.std.specs.Option.{option_or}
-use Rattle.std.proofs.lemmas.Bool.{cases_Bool}
-use Rattle.base_lists.proofs.Places.{position-cons}
-use Rattle.cdi_model.specs.Decl.{key_of, kind_of, name_of_decl}
-use Rattle.cdi_model.specs.DeclKey.{same_key}
-use Rattle.cdi_model.specs.DeclList.{find_decl, is_of, put_in, remove_from}
-use Rattle.cdi_model.specs.declared.decl.Decl.{Decl}
-use Rattle.cdi_model.specs.declared.decl.Kind.{Kind}
 
 pub find-joined : (kind : Kind) (name : List ℕ) (xs ys : List Decl)
     → find_decl kind name (xs ++ ys) ≡ option_or (find_decl kind name xs) (find_decl kind name ys)

@@ -1,14 +1,7 @@
 -- What is kept of a list of declarations of which some places are marked.
-use Rattle.std.proofs.Common.{◌≡◌, ◌+◌, ◌<◌, ◌≤◌, ℕ, zero, suc, Bool, true, false, List, [], ◌∷◌, ◌++◌, length, None}
-use Rattle.std.proofs.Common.{refl, sym, ap, subst, slice_get, slice_set, arith}
-use Rattle.std.specs.List.{AllByRecursion, IsDistinct, remove}
-use Rattle.cdi_positions.specs.Marks.{is_marked, marked_count, count_below}
-use Rattle.cdi_model.specs.Decl.{key_of}
-use Rattle.cdi_model.specs.DeclKey.{same_key}
-use Rattle.cdi_model.specs.DeclList.{find_decl, put_in, remove_from}
-use Rattle.cdi_model.specs.Layers.{kept, keys_in}
-use Rattle.cdi_model.specs.declared.decl.Decl.{Decl}
-use Rattle.cdi_model.specs.declared.key.DeclKey.{DeclKey}
+use Rattle.cdi_model.proofs.Common.{◌≡◌, ◌+◌, ◌<◌, ◌≤◌, ℕ, zero, suc, Bool, true, false, List, [], ◌∷◌, ◌++◌, length, None, refl, sym, ap}
+use Rattle.cdi_model.proofs.Common.{subst, slice_get, slice_set, arith, AllByRecursion, IsDistinct, remove, is_marked, marked_count}
+use Rattle.cdi_model.proofs.Common.{count_below, key_of, same_key, find_decl, put_in, remove_from, kept, keys_in, Decl, DeclKey}
 use Rattle.cdi_model.proofs.EntryLemmas.{key_exact}
 use Rattle.cdi_model.proofs.PlaceLemmas.{First, Nowhere}
 

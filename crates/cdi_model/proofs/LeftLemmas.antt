@@ -1,11 +1,8 @@
 -- What is left of what is kept.
-use Rattle.std.proofs.Common.{◌≡◌, ◌+◌, ◌-◌, ◌<◌, ◌≤◌, ℕ, zero, suc, Bool, true, false, List, [], ◌∷◌, length, drop, Option, Some, None, MatchOption, Bor, Global}
-use Rattle.std.proofs.Common.{refl, sym, ap, ◌∙◌, slice_get, arith, option_map, inl, inr, add-one}
-use Rattle.std.specs.declared.rc.Rc.{Rc}
-use Rattle.std.proofs.lemmas.Bool.{cases_lt}
-use Rattle.cdi_positions.specs.Marks.{is_marked}
-use Rattle.cdi_model.specs.Layers.{kept}
-use Rattle.cdi_model.specs.declared.decl.Decl.{Decl}
+use Rattle.cdi_model.proofs.Common.{◌≡◌, ◌+◌, ◌-◌, ◌<◌, ◌≤◌, ℕ, zero, suc, Bool, true, false, List, [], ◌∷◌, length, drop, Option, Some}
+use Rattle.cdi_model.proofs.Common.{None, MatchOption, Global, refl, sym, ap, ◌∙◌, slice_get, arith, option_map, inl, inr, Rc, is_marked}
+use Rattle.cdi_model.proofs.Common.{kept, Decl}
+use Rattle.std.proofs.{Common.Bor, Common.add-one, lemmas.Bool.cases_lt}
 
 -- from a place on
 abbrev pub kept_from : ℕ → List Bool → List Decl → List Decl

@@ -1,19 +1,12 @@
 -- Lists of declarations of which no two have one key.
-use Rattle.std.proofs.Common.{◌≡◌, ◌≢◌, ◌+◌, ◌≤◌, ℕ, Bool, true, false, cond, List, [], ◌∷◌, ◌++◌, length, is_some, nat_le, inl, inr}
-use Rattle.std.proofs.Common.{refl, sym, ap, ◌∙◌, subst, arith}
-use Rattle.std.specs.List.{AllByRecursion, IsDistinct, list_any}
-use Rattle.std.proofs.lemmas.Bool.{cases_Bool, both_ways, leb-false}
-use Rattle.std.proofs.lemmas.List.Elements.{All-from_recursion}
-use Rattle.std.proofs.lemmas.List.Kept.{AllPairs-cons}
-use Rattle.std.proofs.lemmas.Map.Keys.{IsDistinct-push}
-use Rattle.cdi_model.specs.Decl.{key_of, kind_of, name_of_decl}
-use Rattle.cdi_model.specs.DeclKey.{same_key, same_key_equiv}
-use Rattle.cdi_model.specs.DeclList.{find_decl, put_in, remove_from, is_too_many, limit, AreDistinct}
-use Rattle.cdi_model.specs.Layers.{keys_in, AreListed}
-use Rattle.cdi_model.specs.declared.decl.Decl.{Decl}
-use Rattle.cdi_model.specs.declared.decl.Kind.{Kind}
-use Rattle.cdi_model.specs.declared.key.DeclKey.{DeclKey}
+use Rattle.cdi_model.proofs.Common.{◌≡◌, ◌≢◌, ◌+◌, ◌≤◌, ℕ, Bool, true, false, cond, List, [], ◌∷◌, ◌++◌, length, is_some, nat_le, inl, inr}
+use Rattle.cdi_model.proofs.Common.{refl, sym, ap, ◌∙◌, subst, arith, AllByRecursion, IsDistinct, cases_Bool, both_ways, key_of, kind_of}
+use Rattle.cdi_model.proofs.Common.{name_of_decl, same_key, same_key_equiv, find_decl, put_in, remove_from, is_too_many, keys_in, AreListed}
+use Rattle.cdi_model.proofs.Common.{Decl, Kind, DeclKey}
+use Rattle.std.specs.List.{list_any}
+use Rattle.std.proofs.lemmas.{Bool.leb-false, List.Elements.All-from_recursion, List.Kept.AllPairs-cons, Map.Keys.IsDistinct-push}
 use Rattle.cdi_model.proofs.EntryLemmas.{key_exact}
+use Rattle.cdi_model.specs.DeclList.{limit, AreDistinct}
 
 other_key : (k l : DeclKey) → same_key k l ≡ false → k ≢ l
 other_key k l other same = both_ways (same_key k l) other (ap (same_key k) (sym same) ∙ same_key_equiv.refl k)

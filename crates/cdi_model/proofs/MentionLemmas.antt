@@ -1,7 +1,5 @@
 -- What a declaration names, one by one.
-use Rattle.std.proofs.Common.{◌≡◌, List, [], ◌∷◌, ◌++◌, refl, ap, ◌∙◌}
-use Rattle.std.specs.List.{flat_map}
-use Rattle.std.proofs.lemmas.List.{append_assoc}
+use Rattle.cdi_model.proofs.Common.{◌≡◌, List, [], ◌∷◌, ◌++◌, refl, ap, ◌∙◌, flat_map, append_assoc}
 use Rattle.cdi_model.specs.Mentions.{Mention}
 
 -- ---- methods of a bean

@@ -1,8 +1,6 @@
 -- The first place of a list at which a test passes.
-use Rattle.std.proofs.Common.{◌≡◌, ◌<◌, ℕ, zero, suc, Bool, true, false, cond, List, [], ◌∷◌, length, map, Option, Some, None, option_map}
-use Rattle.std.proofs.Common.{refl, sym, ap, ◌∙◌, position, slice_get, slice_index_or, arith}
-use Rattle.std.specs.List.{AllByRecursion}
-use Rattle.base_lists.proofs.Places.{position-cons}
+use Rattle.cdi_model.proofs.Common.{◌≡◌, ◌<◌, ℕ, zero, suc, Bool, true, false, cond, List, [], ◌∷◌, length, Option, Some, None, option_map}
+use Rattle.cdi_model.proofs.Common.{refl, sym, ap, ◌∙◌, position, slice_get, slice_index_or, arith, AllByRecursion, position-cons}
 
 -- the test passes at a place, and at none before it
 abbrev pub First : {X : Type 0} → (X → Bool) → ℕ → List X → Type 0

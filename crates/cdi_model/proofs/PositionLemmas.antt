@@ -1,15 +1,7 @@
 -- Where the declaration of a kind and name stands.
-use Rattle.std.proofs.Common.{◌≡◌, ℕ, zero, suc, Bool, true, false, cond, List, [], ◌∷◌, Option, Some, None, is_some, option_map}
-use Rattle.std.proofs.Common.{refl, sym, ap, ◌∙◌, slice_get, position, arith}
-use Rattle.std.specs.Map.{keys_of}
-use Rattle.base_lists.proofs.Places.{position-cons}
-use Rattle.cdi_model.specs.declared.decl.Decl.{Decl}
-use Rattle.cdi_model.specs.declared.decl.Kind.{Kind}
-use Rattle.cdi_model.specs.declared.key.DeclKey.{DeclKey}
-use Rattle.cdi_model.specs.Decl.{key_of, name_of_decl}
-use Rattle.cdi_model.specs.DeclKey.{same_key, key_at}
-use Rattle.cdi_model.specs.DeclList.{find_decl, is_of}
-use Rattle.cdi_model.specs.Entries.{Entry, decls_of, AreKeyed}
+use Rattle.cdi_model.proofs.Common.{◌≡◌, ℕ, zero, suc, Bool, true, false, cond, List, [], ◌∷◌, Option, Some, None, is_some, option_map}
+use Rattle.cdi_model.proofs.Common.{refl, sym, ap, ◌∙◌, slice_get, position, keys_of, position-cons, Decl, Kind, DeclKey, key_of}
+use Rattle.cdi_model.proofs.Common.{name_of_decl, same_key, key_at, find_decl, is_of, Entry, decls_of, AreKeyed}
 use Rattle.cdi_model.proofs.EntryLemmas.{key_exact}
 
 -- by the keys of the map

@@ -1,14 +1,8 @@
 -- Declarations that replaced others at their places.
-use Rattle.std.proofs.Common.{◌≡◌, ◌≢◌, ◌<◌, ℕ, zero, suc, nat_eq, Bool, true, false, List, [], ◌∷◌, ◌++◌, length, map, Some, None}
-use Rattle.std.proofs.Common.{refl, sym, ap, ◌∙◌, subst, slice_get, slice_set, arith}
-use Rattle.std.specs.List.{AllByRecursion}
-use Rattle.std.proofs.lemmas.Bool.{eqb-true, eqb-false, both_ways}
-use Rattle.std.proofs.lemmas.List.{length-set, set-set, set_comm}
-use Rattle.cdi_positions.specs.Marks.{is_marked}
-use Rattle.cdi_model.specs.Decl.{key_of}
-use Rattle.cdi_model.specs.Layers.{changed_by, is_at, keys_in, AreMarked}
-use Rattle.cdi_model.specs.declared.decl.Decl.{Decl}
-use Rattle.cdi_model.specs.declared.kept.Replaced.{Replaced}
+use Rattle.cdi_model.proofs.Common.{◌≡◌, ◌≢◌, ◌<◌, ℕ, zero, suc, nat_eq, Bool, true, false, List, [], ◌∷◌, ◌++◌, length, map, Some, None}
+use Rattle.cdi_model.proofs.Common.{refl, sym, ap, ◌∙◌, subst, slice_get, slice_set, arith, AllByRecursion, eqb-true, both_ways, length-set}
+use Rattle.cdi_model.proofs.Common.{is_marked, key_of, changed_by, is_at, keys_in, AreMarked, Decl, Replaced}
+use Rattle.std.proofs.lemmas.{Bool.eqb-false, List.set-set, List.set_comm}
 use Rattle.cdi_model.proofs.EntryLemmas.{key_exact}
 use Rattle.cdi_model.proofs.KeptLemmas.{has_key}
 use Rattle.cdi_model.proofs.PlaceLemmas.{First, Nowhere}

@@ -1,16 +1,8 @@
 -- Declarations that are shared, looked through one after another.
-use Rattle.std.proofs.Common.{◌≡◌, ℕ, zero, suc, List, [], ◌∷◌, ◌++◌, Option, Some, None, is_some, Global}
-use Rattle.std.proofs.Common.{refl, sym, ap, ◌∙◌, position, slice_set}
-use Rattle.std.specs.List.{remove}
-use Rattle.std.specs.declared.rc.Rc.{Rc}
+use Rattle.cdi_model.proofs.Common.{◌≡◌, ℕ, zero, suc, List, [], ◌∷◌, ◌++◌, Option, Some, None, is_some, Global, refl, sym, ap, ◌∙◌}
+use Rattle.cdi_model.proofs.Common.{position, slice_set, remove, Rc, position-map, kind_of, name_of_decl, key_at, find_decl, is_of, put_in}
+use Rattle.cdi_model.proofs.Common.{remove_from, shared_in, Decl, Kind}
 use Rattle.std.proofs.lemmas.List.{map-set, map-append}
-use Rattle.base_lists.proofs.Places.{position-map}
-use Rattle.cdi_model.specs.Decl.{kind_of, name_of_decl}
-use Rattle.cdi_model.specs.DeclKey.{key_at}
-use Rattle.cdi_model.specs.DeclList.{find_decl, is_of, put_in, remove_from}
-use Rattle.cdi_model.specs.Layers.{shared_in}
-use Rattle.cdi_model.specs.declared.decl.Decl.{Decl}
-use Rattle.cdi_model.specs.declared.decl.Kind.{Kind}
 use Rattle.cdi_model.proofs.KeptLemmas.{has_key, none_removed, put_stands, put_nowhere, remove_stands}
 use Rattle.cdi_model.proofs.PlaceLemmas.{First, First-position, Nowhere, Nowhere-position}
 use Rattle.cdi_model.proofs.PositionLemmas.{position-found}

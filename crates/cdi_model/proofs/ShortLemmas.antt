@@ -1,12 +1,6 @@
 -- Edits keep the lists of declarations short.
-use Rattle.std.proofs.Common.{ℕ, zero, suc, Bool, true, false, cond, List, [], ◌∷◌, refl, subst}
-use Rattle.std.proofs.lemmas.Option.{same_Some}
-use Rattle.cdi_model.specs.declared.decl.Decl.{Decl}
-use Rattle.cdi_model.specs.declared.decl.Kind.{Kind}
-use Rattle.cdi_model.specs.declared.edit.Edit.TheVariants.{Put, Remove}
-use Rattle.cdi_model.specs.Decl.{kind_of, name_of_decl}
-use Rattle.cdi_model.specs.DeclList.{is_of, put_in, remove_from}
-use Rattle.cdi_model.specs.Edits.{edited}
+use Rattle.cdi_model.proofs.Common.{ℕ, zero, suc, Bool, true, false, cond, List, [], ◌∷◌, refl, subst, same_Some, Decl, Kind, Put, Remove}
+use Rattle.cdi_model.proofs.Common.{kind_of, name_of_decl, is_of, put_in, remove_from, edited}
 use Rattle.cdi_model.specs.Short.{AreShort, HasShortLists}
 
 pub none_short : AreShort []

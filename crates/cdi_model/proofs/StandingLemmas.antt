@@ -1,21 +1,14 @@
 -- What is found, and what an edit leaves, of a base of which some is gone and some replaced.
-use Rattle.std.proofs.Common.{◌≡◌, ◌+◌, ◌<◌, ◌≤◌, ℕ, zero, suc, Bool, true, false, List, [], ◌∷◌, length, Option, Some, None, is_some}
-use Rattle.std.proofs.Common.{refl, sym, ap, ◌∙◌, subst, position, slice_get, slice_set, arith}
-use Rattle.std.specs.List.{IsDistinct}
-use Rattle.std.proofs.lemmas.List.{length-set}
-use Rattle.base_lists.proofs.Places.{position-map}
-use Rattle.cdi_positions.specs.Marks.{is_marked, count_below, marked_count, IsOutside}
+use Rattle.cdi_model.proofs.Common.{◌≡◌, ◌+◌, ◌<◌, ◌≤◌, ℕ, zero, suc, Bool, true, false, List, [], ◌∷◌, length, Option, Some, None, is_some}
+use Rattle.cdi_model.proofs.Common.{refl, sym, ap, ◌∙◌, subst, position, slice_get, slice_set, arith, IsDistinct, length-set, position-map}
+use Rattle.cdi_model.proofs.Common.{is_marked, count_below, marked_count, key_of, kind_of, name_of_decl, same_key, key_at, find_decl, is_of}
+use Rattle.cdi_model.proofs.Common.{put_in, remove_from, changed_by, kept, keys_in, AreKept, AreMarked, Decl, Kind, Replaced}
 use Rattle.cdi_positions.specs.Marks as positions
-use Rattle.cdi_model.specs.Decl.{key_of, kind_of, name_of_decl}
-use Rattle.cdi_model.specs.DeclKey.{same_key, key_at}
-use Rattle.cdi_model.specs.DeclList.{find_decl, is_of, put_in, remove_from}
-use Rattle.cdi_model.specs.Layers.{changed_by, kept, keys_in, unmarked, AreKept, AreMarked}
-use Rattle.cdi_model.specs.declared.decl.Decl.{Decl}
-use Rattle.cdi_model.specs.declared.decl.Kind.{Kind}
-use Rattle.cdi_model.specs.declared.kept.Replaced.{Replaced}
-use Rattle.cdi_model.proofs.KeptLemmas.{has_key, StandsAt, stands-first, first-stands, none_found, none_removed, none_kept, gone_kept, find_kept, rank_kept, length_kept, few_kept, put_kept, remove_kept}
+use Rattle.cdi_model.proofs.KeptLemmas.{has_key, StandsAt, stands-first, first-stands, none_found, none_removed, none_kept, gone_kept}
+use Rattle.cdi_model.proofs.KeptLemmas.{find_kept, rank_kept, length_kept, few_kept, put_kept, remove_kept}
 use Rattle.cdi_model.proofs.PlaceLemmas.{First, First-position, First-within, Nowhere, Nowhere-position, position-First, position-Nowhere}
 use Rattle.cdi_model.proofs.ReplacedLemmas.{length-changed, keys-set}
+use Rattle.cdi_model.specs.Layers.{unmarked}
 
 -- where keys are the same, a key has the same place
 keys-position : (kind : Kind) (name : List ℕ) (ds es : List Decl) → keys_in ds ≡ keys_in es

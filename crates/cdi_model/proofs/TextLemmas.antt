@@ -1,9 +1,7 @@
 -- Names and identifiers are UTF-8.
-use Rattle.std.proofs.Common.{◌≡◌, ℕ, ◌<◌, List, [], ◌∷◌, true, zero, suc, arith}
-use Rattle.std.specs.List.{AllByRecursion}
+use Rattle.cdi_model.proofs.Common.{◌≡◌, ℕ, ◌<◌, List, [], ◌∷◌, true, zero, suc, arith, AllByRecursion, is_name, is_ident}
 use Rattle.std.specs.Str.{IsAscii, IsUtf8}
 use Rattle.std.proofs.lemmas.Str.{IsUtf8-from_ascii}
-use Rattle.cdi_model.specs.Grammar.{is_name, is_ident}
 use Rattle.cdi_model.proofs.GrammarLemmas.{is_name-ascii, is_ident-ascii}
 
 ascii_each : (bytes : List ℕ) → AllByRecursion (λ b. b < 128) bytes → IsAscii bytes

@@ -1,9 +1,7 @@
 -- The members of a use, by those that are left to print.
-use Rattle.std.proofs.Common.{◌≡◌, ℕ, ℤ, List, [], ◌∷◌, ◌++◌, refl, sym, ◌∙◌, ap, append_assoc}
-use Rattle.std.specs.Fmt.{signed_decimal}
-use Rattle.std.proofs.lemmas.List.{append-nil}
-use Rattle.cdi_model.specs.UseText.{text_of_pair, text_of_pairs}
-use Rattle.cdi_model.specs.Bytes.{comma, equals_sign}
+use Rattle.cdi_model.proofs.Common.{◌≡◌, ℕ, List, [], ◌∷◌, ◌++◌, refl, sym, ◌∙◌, ap, append_assoc, signed_decimal, equals_sign}
+use Rattle.std.proofs.{Common.ℤ, lemmas.List.append-nil}
+use Rattle.cdi_model.specs.{UseText.text_of_pair, UseText.text_of_pairs, Bytes.comma}
 
 -- the first stands behind this separator, each other one behind a comma
 abbrev pub pairs_behind : List ℕ → List (List ℕ × ℤ) → List ℕ

@@ -1,18 +1,15 @@
 -- The names of the interceptors around a bean tell which of them stand around it.
 use Rattle.cdi_observe.proofs.Common.{◌≡◌, ℕ, zero, suc, Bool, true, false, cond, not, ◌&&◌, ◌||◌, List, [], ◌∷◌, ◌++◌, map, length, Some}
-use Rattle.cdi_observe.proofs.Common.{Ok, Result, Err, get_or, refl, sym, ap, ◌∙◌, AllByRecursion, flat_map, list_any, bytes_eq, false≢true}
-use Rattle.cdi_observe.proofs.Common.{or_left, or_right, recursion_from_All, list_any-append, slice_get-get_or, find_decl, AreDistinct}
-use Rattle.cdi_observe.proofs.Common.{BeanDecl, Decl, BeanPlace, Refusal, find_bean, own-found, chain_told, has_place, places_of, one_text}
-use Rattle.cdi_observe.proofs.Common.{names_at, names_of_bean}
-use Rattle.std.proofs.Common.{nat_eq}
-use Rattle.std.specs.List.{filter, slice_get}
-use Rattle.std.proofs.Math.Bool.{and-false}
-use Rattle.std.proofs.lemmas.Option.{none-some, same_Some}
+use Rattle.cdi_observe.proofs.Common.{Ok, Err, get_or, refl, sym, ap, ◌∙◌, AllByRecursion, flat_map, list_any, bytes_eq, false≢true}
+use Rattle.cdi_observe.proofs.Common.{or_left, or_right, recursion_from_All, slice_get-get_or, find_decl, AreDistinct, BeanDecl, Decl}
+use Rattle.cdi_observe.proofs.Common.{BeanPlace, Refusal, find_bean, own-found, chain_told, has_place, places_of, one_text, names_at}
+use Rattle.cdi_observe.proofs.Common.{names_of_bean, filter, slice_get}
+use Rattle.std.proofs.{Common.Result, Common.nat_eq, Math.Bool.and-false, lemmas.Option.none-some, lemmas.Option.same_Some}
 use Rattle.base_lists.proofs.Any.{any-flat_map, any-same, any-left, some_left}
 use Rattle.base_lists.proofs.Sorting.{any-sorted}
 use Rattle.base_numbers.proofs.Texts.{same_text}
-use Rattle.cdi_model.specs.declared.decl.Decl.TheVariants as decls
 use Rattle.cdi_model.specs.declared.decl.InterceptorDecl.{InterceptorDecl}
+use Rattle.cdi_model.specs.declared.decl.Decl.TheVariants as decls
 use Rattle.cdi_model.specs.declared.decl.Kind.TheVariants as kinds
 use Rattle.cdi_match.specs.Chain.{has}
 use Rattle.cdi_effective.specs.Bindings.{class_bindings}

@@ -1,15 +1,12 @@
 -- The places of a bean.
 use Rattle.cdi_observe.proofs.Common.{◌≡◌, Bool, true, false, cond, not, ◌&&◌, ◌||◌, List, [], ◌∷◌, ◌++◌, map, Some, refl, sym, ap, ◌∙◌}
 use Rattle.cdi_observe.proofs.Common.{AllByRecursion, list_any, bytes_eq, or_left, or_right, list_any-append, BeanDecl, BeanPlace, or-false}
-use Rattle.cdi_observe.proofs.Common.{has_place, places_of, filter, same_place}
+use Rattle.cdi_observe.proofs.Common.{has_place, places_of, filter, same_place, methods_of, observers_of, producers_of}
 use Rattle.std.proofs.Common.{is_some, option_map}
 use Rattle.std.specs.List.{find}
 use Rattle.base_numbers.proofs.Texts.{bytes_eq-turned}
-use Rattle.cdi_model.specs.declared.decl.MethodDecl.{MethodDecl}
-use Rattle.cdi_model.specs.declared.decl.ObserverDecl.{ObserverDecl}
-use Rattle.cdi_model.specs.declared.decl.ProducerDecl.{ProducerDecl}
+use Rattle.cdi_model.specs.declared.decl.{MethodDecl.MethodDecl, ObserverDecl.ObserverDecl, ProducerDecl.ProducerDecl}
 use Rattle.cdi_model.specs.declared.place.BeanPlace.TheVariants as places
-use Rattle.cdi_intercept.specs.Sets.{methods_of, observers_of, producers_of}
 use Rattle.cdi_observe.proofs.KeyLemmas.{same_place-decides}
 
 found-any : {X : Type 0} {Y : Type 0} (q r : X → Bool) (f : X → Y) (xs : List X) → ((x : X) → q x ≡ r x)

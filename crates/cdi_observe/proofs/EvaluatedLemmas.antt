@@ -1,8 +1,8 @@
 -- Evaluations of keys in other orders, and of keys that stand twice.
 use Rattle.cdi_observe.proofs.Common.{◌≡◌, ℕ, zero, suc, Bool, true, false, cond, ◌&&◌, ◌||◌, List, [], ◌∷◌, refl, sym, ap, ◌∙◌}
-use Rattle.cdi_observe.proofs.Common.{AllByRecursion, false≢true, or_left, or_right, Decl, take, inl, inr, and_from}
-use Rattle.cdi_observe.proofs.Common.{or_cases, All-from_recursion, with_one, Key, same_key, has_key, each_once, is_wanted, Kept}
-use Rattle.cdi_observe.proofs.Common.{with_known, work_with, after_key, evaluated, EvaluatesSome}
+use Rattle.cdi_observe.proofs.Common.{AllByRecursion, false≢true, or_left, or_right, Decl, take, inl, inr, and_from, or_cases}
+use Rattle.cdi_observe.proofs.Common.{All-from_recursion, with_one, Key, same_key, has_key, each_once, is_wanted, Kept, with_known}
+use Rattle.cdi_observe.proofs.Common.{work_with, after_key, evaluated, EvaluatesSome}
 use Rattle.std.proofs.Common.{◌⊎◌}
 use Rattle.cdi_observe.proofs.KeyLemmas.{same_key-decides, same_key-equiv}
 use Rattle.cdi_observe.proofs.KeptLemmas.{after_known, each-among}

@@ -1,19 +1,15 @@
 -- What evaluations of keys leave.
-use Rattle.cdi_observe.proofs.Common.{◌≡◌, ℕ, suc, Bool, true, false, cond, not, ◌&&◌, ◌||◌, List, [], ◌∷◌, ◌++◌, length, Ok, Result, Err}
-use Rattle.cdi_observe.proofs.Common.{get_or, refl, sym, ap, ◌∙◌, AllByRecursion, false≢true, or_left, or_right, recursion_from_All, Decl}
-use Rattle.cdi_observe.proofs.Common.{take, list_all, and_parts, All-from_recursion, with_one, Key, same_key, has_key, is_wanted, Kept}
-use Rattle.cdi_observe.proofs.Common.{with_known, work_with, after_key, evaluated, EvaluatesSome, All, ◌≢◌, ◌<◌, ◌+◌, AllPairs, IsDistinct}
-use Rattle.cdi_observe.proofs.Common.{or_assoc, or-false, AllPass-from_list_all, wanted}
-use Rattle.std.specs.Result.{OnErr, OnOk}
+use Rattle.cdi_observe.proofs.Common.{◌≡◌, ℕ, suc, Bool, true, false, cond, not, ◌&&◌, ◌||◌, List, [], ◌∷◌, ◌++◌, length, get_or, refl, sym}
+use Rattle.cdi_observe.proofs.Common.{ap, ◌∙◌, AllByRecursion, false≢true, or_left, or_right, recursion_from_All, Decl, take, list_all}
+use Rattle.cdi_observe.proofs.Common.{and_parts, All-from_recursion, with_one, Key, same_key, has_key, is_wanted, Kept, with_known}
+use Rattle.cdi_observe.proofs.Common.{work_with, after_key, evaluated, EvaluatesSome, All, ◌≢◌, ◌<◌, ◌+◌, AllPairs, IsDistinct, or_assoc}
+use Rattle.cdi_observe.proofs.Common.{or-false, AllPass-from_list_all, wanted, filter}
 use Rattle.std.specs.Fn.{iterate}
-use Rattle.std.specs.List.{filter}
-use Rattle.std.proofs.lemmas.List.{take_more}
-use Rattle.std.proofs.lemmas.List.Elements.{All-take}
-use Rattle.std.proofs.lemmas.List.Sums.{fold-append, list_all-from_AllPass}
+use Rattle.std.proofs.lemmas.List.{take_more, Elements.All-take, Sums.fold-append, Sums.list_all-from_AllPass}
 use Rattle.std.proofs.lemmas.Map.Made.{IsDistinct-from_AllPairs}
-use Rattle.cdi_observe.specs.Kept.{with_all, unknown, KnowsWanted}
 use Rattle.cdi_observe.proofs.KeyLemmas.{same_key-decides, same_key-equiv}
 use Rattle.cdi_observe.proofs.WantedLemmas.{has-wanted, wanted-distinct, wanted_stand_once}
+use Rattle.cdi_observe.specs.Kept.{with_all, unknown, KnowsWanted}
 
 -- ---- keys one after another
 

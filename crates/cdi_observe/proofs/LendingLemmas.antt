@@ -1,15 +1,14 @@
 -- Answers that may be asked for.
-use Rattle.cdi_observe.proofs.Common.{◌≡◌, true, false, not, ◌||◌, List, [], ◌∷◌, ◌++◌, refl, sym, ap, ◌∙◌, or_right}
-use Rattle.cdi_observe.proofs.Common.{Decl, inl, inr, and_from, and_parts, Key, is_wanted, Kept, after_key, evaluated, subst}
-use Rattle.cdi_observe.proofs.Common.{wanted, cases_Bool, is_answerable, asked_by, chains_by, events_by, wanted_by}
-use Rattle.std.proofs.Common.{append-nil}
-use Rattle.std.proofs.lemmas.List.Folds.{list_all-append}
-use Rattle.cdi_observe.specs.Lending.{are_answerable, IsEvaluated}
+use Rattle.cdi_observe.proofs.Common.{◌≡◌, true, false, not, ◌||◌, List, [], ◌∷◌, ◌++◌, refl, sym, ap, ◌∙◌, or_right, Decl, inl, inr}
+use Rattle.cdi_observe.proofs.Common.{and_from, and_parts, Key, is_wanted, Kept, after_key, evaluated, subst, wanted, cases_Bool}
+use Rattle.cdi_observe.proofs.Common.{is_answerable, asked_by, chains_by, events_by, wanted_by}
+use Rattle.std.proofs.{Common.append-nil, lemmas.List.Folds.list_all-append}
 use Rattle.cdi_observe.proofs.FoundLemmas.{IsFound}
 use Rattle.cdi_observe.proofs.KeyLemmas.{all-pass}
 use Rattle.cdi_observe.proofs.KeptLemmas.{knows_wanted}
 use Rattle.cdi_observe.proofs.RestLemmas.{keys-known}
 use Rattle.cdi_observe.proofs.WantedLemmas.{has-wanted}
+use Rattle.cdi_observe.specs.Lending.{are_answerable, IsEvaluated}
 
 -- all are where none is kept
 unkept-answerable : (kept : Kept) (keys : List Key) → kept.keeps ≡ false → are_answerable kept keys ≡ true

@@ -1,8 +1,7 @@
 -- The observer methods of some beans, one bean after another.
 use Rattle.cdi_observe.proofs.Common.{◌≡◌, ℕ, suc, Bool, List, ◌∷◌, ◌++◌, map, length, get_or, sym, ap, ◌∙◌, Decl, Effective, filter, ◌<◌}
 use Rattle.cdi_observe.proofs.Common.{◌+◌, drop, append_assoc, arith, Observer, declared_by, observers}
-use Rattle.std.proofs.Math.Seq.{drop-cons}
-use Rattle.std.proofs.lemmas.List.Elements.{filter-append}
+use Rattle.std.proofs.{Math.Seq.drop-cons, lemmas.List.Elements.filter-append}
 use Rattle.cdi_observe.specs.Observers.{enabled_bean}
 
 -- those of one more bean, which may be lent, of which a test holds

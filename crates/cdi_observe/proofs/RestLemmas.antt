@@ -2,12 +2,12 @@
 use Rattle.cdi_observe.proofs.Common.{◌≡◌, ℕ, Bool, true, List, [], ◌∷◌, map, refl, sym, ap, ◌∙◌, AllByRecursion, flat_map, list_any}
 use Rattle.cdi_observe.proofs.Common.{false≢true, Decl, take, inl, inr, list_all, or_cases, Key, has_key, is_wanted, Kept, evaluated}
 use Rattle.cdi_observe.proofs.Common.{EvaluatesSome, All, wanted, cases_Bool, wanted_by, asked_key, is_told, AskedKey}
-use Rattle.cdi_observe.specs.Wanted.{AskForRest}
 use Rattle.cdi_observe.proofs.FoundLemmas.{found-any, IsFound}
 use Rattle.cdi_observe.proofs.KeyLemmas.{all-within}
 use Rattle.cdi_observe.proofs.EvaluatedLemmas.{evaluated-rest, evaluates_some, has-take}
 use Rattle.cdi_observe.proofs.ToldLemmas.{told-of}
 use Rattle.cdi_observe.proofs.WantedLemmas.{has-each, has-wanted}
+use Rattle.cdi_observe.specs.Wanted.{AskForRest}
 
 -- all declarations ask for each wanted key
 pub all-ask : (ds es : List Decl) (knows : Key → Bool) → es ≡ ds → AskForRest ds knows es

@@ -2,16 +2,15 @@
 use Rattle.cdi_observe.proofs.Common.{◌≡◌, ℕ, Bool, true, false, cond, ◌&&◌, ◌||◌, List, [], ◌∷◌, ◌++◌, map, refl, sym, ap, ◌∙◌, list_any}
 use Rattle.cdi_observe.proofs.Common.{bytes_eq, Decl, Qual, Effective, filter, list_all, Observer, is_notified, observer_id, one_text}
 use Rattle.std.proofs.Common.{codes, Option}
-use Rattle.std.specs.Map.{keys_of}
-use Rattle.std.specs.Option.{option_eq}
+use Rattle.std.specs.{Map.keys_of, Option.option_eq}
 use Rattle.cdi_model.specs.declared.decl.QualifierDecl.{QualifierDecl}
 use Rattle.cdi_model.specs.declared.decl.UseKind.TheVariants as use_kinds
 use Rattle.cdi_match.specs.Covering.{agree_at, covers, covers_by, given_name, is_binding}
-use Rattle.cdi_match.specs.Filled.{FilledUse, filled}
 use Rattle.cdi_match.specs.Filling.{fill, find_qualifier, members_of, value_of}
-use Rattle.cdi_observe.specs.declared.observers.ObserverId.{ObserverId}
+use Rattle.cdi_match.specs.Filled.{FilledUse, filled}
 use Rattle.cdi_observe.specs.Observers.{event_has, notified, observing, resolved}
 use Rattle.cdi_observe.specs.Sees.{NotifiedRestOnSeen, SeenObserver, SeenOfEvent, event_sees, seen_observer}
+use Rattle.cdi_observe.specs.declared.observers.ObserverId.{ObserverId}
 
 -- ---- covering by filled uses
 

@@ -1,11 +1,9 @@
 -- What is made of wires is made of the points that they tell.
 use Rattle.std.proofs.Common.{◌≡◌, ◌++◌, List, [], ◌∷◌, flat_map, map, refl, ap, ◌∙◌}
 use Rattle.cdi_faults.specs.declared.fault.Fault.{Fault}
-use Rattle.cdi_graph.specs.declared.plan.Wire.{Wire}
-use Rattle.cdi_graph.specs.Edges.{chosen, owned}
-use Rattle.cdi_graph.specs.Red.{point_node}
-use Rattle.cdi_picture.specs.Told.{told_choice, told_node, told_owned, told_wire}
+use Rattle.cdi_graph.specs.{declared.plan.Wire.Wire, Edges.chosen, Edges.owned, Red.point_node}
 use Rattle.cdi_container.specs.Points.{ToldPoint}
+use Rattle.cdi_picture.specs.Told.{told_choice, told_node, told_owned, told_wire}
 
 choices_of : (ws : List Wire) → flat_map chosen ws ≡ flat_map told_choice (map told_wire ws)
 choices_of [] = refl

@@ -1,3 +1,4 @@
+mod Common
 pub mod MarkLemmas
 pub mod SetLemmas
 pub mod WordLemmas

@@ -1,11 +1,11 @@
 -- Marks of words that have equally many each, one word after another.
-use Rattle.std.proofs.Common.{◌≡◌, ℕ, zero, suc, ◌+◌, ◌*◌, ◌<◌, ◌≤◌, Bool, true, false, List, [], ◌∷◌, ◌++◌, length, take, set, get_or, refl, sym, ap, ◌∙◌, arith, add-one, zero-add, length-append}
-use Rattle.std.specs.List.{filter, flat_map}
-use Rattle.std.proofs.lemmas.List.{length-take, take_all, take-append-le, get_or_append_left, get_or-append-add, set-append_left}
-use Rattle.std.proofs.lemmas.List.Elements.{filter-append}
+use Rattle.cdi_positions.proofs.Common.{◌≡◌, ℕ, zero, suc, ◌+◌, ◌*◌, ◌<◌, ◌≤◌, Bool, true, false, List, [], ◌∷◌, ◌++◌, length, take, set}
+use Rattle.cdi_positions.proofs.Common.{get_or, refl, sym, ap, ◌∙◌, arith, length-take, take_all, false≢true, count_below, is_marked}
+use Rattle.cdi_positions.proofs.Common.{marked_count, marked_from, IsOutside}
+use Rattle.std.proofs.lemmas.List.{take-append-le, get_or_append_left, get_or-append-add, set-append_left}
 use Rattle.std.specs.Prelude.{if◌then◌else◌}
-use Rattle.std.proofs.lemmas.Bool.{false≢true}
-use Rattle.cdi_positions.specs.Marks.{count_below, is_marked, marked_count, marked_from, IsOutside}
+use Rattle.std.proofs.{Common.add-one, Common.zero-add, Common.length-append, lemmas.List.Elements.filter-append}
+use Rattle.std.specs.List.{filter, flat_map}
 
 pub marked_count-append : (a b : List Bool) → marked_count (a ++ b) ≡ marked_count a + marked_count b
 marked_count-append a b = ap length (filter-append (λ m. m) a b) ∙ length-append (filter (λ m. m) a) (filter (λ m. m) b)

@@ -1,15 +1,15 @@
 -- The marks of a set by its words.
-use Rattle.std.proofs.Common.{◌≡◌, ◌≢◌, ℕ, ◌+◌, ◌-◌, ◌*◌, ◌/◌, ◌%◌, ◌^◌, ◌<◌, ◌≤◌, Bool, true, false, not, eqb, List, [], ◌∷◌, ◌++◌, length, take, drop, set, get_or, replicate, sym, ap, ap₂, ◌∙◌, arith}
-use Rattle.std.specs.Prelude.{count_ones, bit_and, bit_or}
-use Rattle.std.specs.Int.Count.{count_trailing_zeros}
-use Rattle.std.proofs.lemmas.List.{get_or-drop, get_or-replicate, drop_more, get_or-set_other, get_or_past, length-replicate, length-set, length-take, take-append-drop}
-use Rattle.std.proofs.lemmas.Grind.{flat_map-append}
-use Rattle.std.proofs.lemmas.Nat.Bits.{bit_at-zero}
-use Rattle.std.proofs.Math.Decide.{dec_le}
-use Rattle.cdi_positions.specs.Marks.{count_below, is_marked, marked_count, marked_from, IsOutside}
-use Rattle.cdi_positions.specs.Words.{marks_in, marks_of, positions_left, BeginsAt, EndsAt}
-use Rattle.cdi_positions.proofs.MarkLemmas.{at-row, count-row, count-whole, count_below-past, marked_count-append, marked_count-le, marked_count-none, marked_from-none, length-rows, set-row, take-rows}
-use Rattle.cdi_positions.proofs.WordLemmas.{at-marks_in, clear-marks_in, count-marks_in, lowest-bit, first-marks_in, length-marks_in, none-marks_in, set-marks_in, test-bit, test-fresh}
+use Rattle.cdi_positions.proofs.Common.{◌≡◌, ◌≢◌, ℕ, ◌+◌, ◌-◌, ◌*◌, ◌/◌, ◌%◌, ◌^◌, ◌<◌, ◌≤◌, Bool, true, false, not, eqb, List, [], ◌∷◌}
+use Rattle.cdi_positions.proofs.Common.{◌++◌, length, take, set, get_or, replicate, sym, ap, ap₂, ◌∙◌, arith, count_ones, bit_and, bit_or}
+use Rattle.cdi_positions.proofs.Common.{count_trailing_zeros, get_or-set_other, get_or_past, length-set, length-take, count_below}
+use Rattle.cdi_positions.proofs.Common.{is_marked, marked_count, marked_from, IsOutside, marks_in, marks_of, positions_left, BeginsAt}
+use Rattle.cdi_positions.proofs.Common.{EndsAt}
+use Rattle.std.proofs.lemmas.List.{get_or-drop, get_or-replicate, drop_more, length-replicate, take-append-drop}
+use Rattle.std.proofs.{Common.drop, lemmas.Grind.flat_map-append, lemmas.Nat.Bits.bit_at-zero, Math.Decide.dec_le}
+use Rattle.cdi_positions.proofs.MarkLemmas.{at-row, count-row, count-whole, count_below-past, marked_count-append, marked_count-le}
+use Rattle.cdi_positions.proofs.MarkLemmas.{marked_count-none, marked_from-none, length-rows, set-row, take-rows}
+use Rattle.cdi_positions.proofs.WordLemmas.{at-marks_in, clear-marks_in, count-marks_in, lowest-bit, first-marks_in, length-marks_in}
+use Rattle.cdi_positions.proofs.WordLemmas.{none-marks_in, set-marks_in, test-bit, test-fresh}
 
 pub length-marks_of : (ws : List ℕ) → length (marks_of ws) ≡ length ws * 64
 length-marks_of ws = length-rows marks_in 64 length-marks_in ws

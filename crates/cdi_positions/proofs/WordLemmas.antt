@@ -1,18 +1,15 @@
 -- The marks of a word by its bits.
-use Rattle.std.proofs.Common.{◌≡◌, ◌≢◌, ℕ, zero, suc, ◌+◌, ◌-◌, ◌*◌, ◌/◌, ◌%◌, ◌^◌, ◌<◌, ◌≤◌, min, Bool, true, false, not, eqb, List, ◌∷◌, ◌++◌, length, take, set, refl, sym, ap, ap₂, ◌∙◌, ◌⊎◌, inl, inr, arith, length-set, get_or-set_same, get_or-set_other}
-use Rattle.std.specs.Prelude.{count_ones, bit_and, bit_or}
-use Rattle.std.specs.Int.{bit_at, w64}
-use Rattle.std.specs.Int.Count.{ones_step, ones-le, count_trailing_zeros, under}
-use Rattle.std.specs.Int.Bits.{and_step, and_self, mask_lt}
-use Rattle.std.proofs.lemmas.Nat.Bits.{bit_at_lowest, bit_at-suc, bit_at-lt, bit_at_and, bit_at_ones, bit_at_set_same, bit_at_set_other, bit_at-trailing_zeros, shr_and_one, and_pow}
-use Rattle.std.proofs.lemmas.Nat.{one_shl}
-use Rattle.std.proofs.lemmas.List.{ext_get_or}
-use Rattle.std.proofs.lemmas.Bool.{false≢true}
-use Rattle.std.proofs.lemmas.Bool.Decides.{nat_tests}
-use Rattle.std.proofs.Math.Pow.{ones_lt}
+use Rattle.cdi_positions.proofs.Common.{◌≡◌, ◌≢◌, ℕ, zero, suc, ◌+◌, ◌-◌, ◌*◌, ◌/◌, ◌%◌, ◌^◌, ◌<◌, ◌≤◌, Bool, true, false, not, eqb, List}
+use Rattle.cdi_positions.proofs.Common.{◌∷◌, ◌++◌, length, take, set, refl, sym, ap, ap₂, ◌∙◌, arith, length-set, get_or-set_other}
+use Rattle.cdi_positions.proofs.Common.{count_ones, bit_and, bit_or, ones-le, count_trailing_zeros, false≢true, count_below, is_marked}
+use Rattle.cdi_positions.proofs.Common.{marked_count, marked_from, marks_in}
 use borrow.Author.Tests.{eqb-true, eq-eqb}
-use Rattle.cdi_positions.specs.Marks.{count_below, is_marked, marked_count, marked_from}
-use Rattle.cdi_positions.specs.Words.{low_marks, marks_in}
+use Rattle.std.proofs.Common.{min, ◌⊎◌, inl, inr, get_or-set_same}
+use Rattle.std.proofs.lemmas.Nat.Bits.{bit_at_lowest, bit_at-suc, bit_at-lt, bit_at_and, bit_at_ones, bit_at_set_same, bit_at_set_other}
+use Rattle.std.proofs.lemmas.Nat.Bits.{bit_at-trailing_zeros, shr_and_one, and_pow}
+use Rattle.std.specs.Int.{bit_at, w64, Count.ones_step, Count.under, Bits.and_step, Bits.and_self, Bits.mask_lt}
+use Rattle.std.proofs.{lemmas.Nat.one_shl, lemmas.List.ext_get_or, lemmas.Bool.Decides.nat_tests, Math.Pow.ones_lt}
+use Rattle.cdi_positions.specs.Words.{low_marks}
 
 length-low : (k n : ℕ) → length (low_marks k n) ≡ k
 unfolding low_marks

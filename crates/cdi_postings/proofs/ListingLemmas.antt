@@ -1,17 +1,14 @@
 -- What a change of the set of one word does to what is listed.
-use Rattle.std.proofs.Common.{◌≡◌, ℕ, nat_eq, Bool, true, false, cond, not, ◌&&◌, ◌||◌, List, [], ◌∷◌, length, arith, Option, Some, None, unwrap_or, Result, Ok, Err, refl, sym, ap, ◌∙◌}
-use Rattle.std.specs.Result.{OnErr}
-use Rattle.std.specs.List.{list_any}
-use Rattle.std.specs.Option.{option_map, option_map_or}
+use Rattle.std.proofs.Common.{◌≡◌, ℕ, nat_eq, Bool, true, false, cond, not, ◌&&◌, ◌||◌, List, [], length, Option, Some, None, unwrap_or}
+use Rattle.std.proofs.Common.{refl, sym, ap, ◌∙◌}
+use Rattle.std.specs.{List.list_any, Option.option_map, Option.option_map_or}
 use Rattle.std.proofs.lemmas.Map.Made.{lookup-map_values}
-use Rattle.indexmap.specs.IndexMap.{IndexMap, get}
-use Rattle.indexmap.specs.IndexSet.{IndexSet, contains}
+use Rattle.indexmap.specs.{IndexMap.IndexMap, IndexMap.get, IndexSet.IndexSet, IndexSet.contains}
 use Rattle.base_lists.proofs.Places.{empty-from_length}
 use Rattle.base_options.proofs.Booleans.{cond-or}
-use Rattle.cdi_postings.specs.Listing.{Listing, listings, under, is_listed, is_in, Lists, Unlists, ListTheSame}
-use Rattle.cdi_postings.specs.Words.{same_word}
-use Rattle.cdi_postings.specs.declared.word.Word.{Word}
 use Rattle.cdi_postings.proofs.WordLemmas.{word_exact}
+use Rattle.cdi_postings.specs.Listing.{Listing, listings, under, is_listed, is_in, Lists, Unlists, ListTheSame}
+use Rattle.cdi_postings.specs.{Words.same_word, declared.word.Word.Word}
 
 -- ---- what is seen of the map
 

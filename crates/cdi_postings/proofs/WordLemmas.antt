@@ -3,10 +3,8 @@ use Rattle.std.proofs.Common.{◌≡◌, ℕ, zero, suc, nat_eq, true, List, ref
 use Rattle.std.specs.Cmp.Lexicographic.{pointwise, bytes_decides}
 use Rattle.std.proofs.lemmas.Bool.{and_parts, eqb-true}
 use Rattle.cdi_model.specs.declared.decl.Kind.TheVariants as kinds
-use Rattle.cdi_postings.specs.Words.{reason_number, same_word}
-use Rattle.cdi_postings.specs.declared.word.Reason.{Reason}
+use Rattle.cdi_postings.specs.{Words.reason_number, Words.same_word, declared.word.Reason.Reason, declared.word.Word.Word}
 use Rattle.cdi_postings.specs.declared.word.Reason.TheVariants as reasons
-use Rattle.cdi_postings.specs.declared.word.Word.{Word}
 
 -- the reason of a number, counted from that of what writes a name
 writing : ℕ → Reason

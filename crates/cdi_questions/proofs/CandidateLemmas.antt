@@ -2,31 +2,22 @@
 use Rattle.std.proofs.Common.{◌≡◌, ℕ, Bool, true, false, cond, not, ◌&&◌, List, [], ◌∷◌, ◌++◌, map, flat_map, filter, Option, Some, None}
 use Rattle.std.proofs.Common.{is_some, refl, sym, ap, ◌∙◌}
 use Rattle.std.specs.List.{list_any, slice_get}
-use Rattle.std.proofs.lemmas.Bool.{or_parts, and_right}
-use Rattle.std.proofs.lemmas.List.Elements.{filter-append}
-use Rattle.std.proofs.lemmas.Grind.{flat_map-append}
-use Rattle.cdi_model.specs.declared.decl.BeanDecl.{BeanDecl}
-use Rattle.cdi_model.specs.declared.decl.Decl.{Decl}
-use Rattle.cdi_model.specs.declared.decl.Decl.TheVariants as decls
-use Rattle.cdi_model.specs.declared.decl.ObserverDecl.{ObserverDecl}
-use Rattle.cdi_model.specs.declared.decl.ProducerDecl.{ProducerDecl}
-use Rattle.cdi_model.specs.declared.quals.Qual.{Qual}
-use Rattle.cdi_model.specs.DeclList.{AreDistinct}
-use Rattle.cdi_match.specs.Chain.{has}
-use Rattle.cdi_match.specs.Types.{types_of}
-use Rattle.cdi_effective.specs.Beans.{beans, effective, entries, managed_where, product_where}
-use Rattle.cdi_effective.specs.Disposers.{find_bean}
-use Rattle.cdi_effective.specs.Specialized.{is_replaced}
-use Rattle.cdi_effective.specs.declared.records.Effective.{Effective}
-use Rattle.cdi_effective.proofs.PlaceLemmas.{own-place, place-found}
+use Rattle.std.proofs.lemmas.{Bool.or_parts, Bool.and_right, List.Elements.filter-append}
 use Rattle.base_lists.specs.Sorting.{sorted_by}
 use Rattle.base_lists.proofs.Flat.{flat-twice}
+use Rattle.cdi_model.specs.declared.decl.{BeanDecl.BeanDecl, Decl.Decl, ObserverDecl.ObserverDecl, ProducerDecl.ProducerDecl}
+use Rattle.cdi_model.specs.{declared.quals.Qual.Qual, DeclList.AreDistinct}
+use Rattle.cdi_model.specs.declared.decl.Decl.TheVariants as decls
+use Rattle.cdi_match.specs.{Chain.has, Types.types_of}
+use Rattle.cdi_effective.specs.Beans.{beans, effective, entries, managed_where, product_where}
+use Rattle.cdi_effective.specs.{Disposers.find_bean, Specialized.is_replaced, declared.records.Effective.Effective}
+use Rattle.cdi_effective.proofs.PlaceLemmas.{own-place, place-found}
 use Rattle.cdi_index.specs.Under.{has_name, observes_one}
 use Rattle.cdi_index.proofs.SoughtLemmas.{filter-under}
 use Rattle.cdi_resolve.specs.Choices.{candidate, choice_of, chosen_by_name, is_named, named, offers, HasEnough}
+use Rattle.cdi_observe.specs.Observers.{Observer, declared_by, enabled_bean, is_before, is_notified, notified, observer_id, observers}
+use Rattle.cdi_observe.specs.Observers.{observes, observing, resolved}
 use Rattle.cdi_observe.specs.declared.observers.ObserverId.{ObserverId}
-use Rattle.cdi_observe.specs.Observers.{Observer, declared_by, enabled_bean, is_before, is_notified, notified, observer_id}
-use Rattle.cdi_observe.specs.Observers.{observers, observes, observing, resolved}
 
 -- ---- choices
 

@@ -8,19 +8,18 @@ use Rattle.cdi_report.proofs.Common.{class_reads, link_reads, product_reads, rec
 use Rattle.cdi_report.proofs.Common.{specialized, Effective, BeanId, PointDecl, One, Word, same_word, word_at, made_of_bean, reads_in}
 use Rattle.cdi_report.proofs.Common.{words_have, words_named, words_named_in, words_of_observer, words_of_record, words_of_uses}
 use Rattle.cdi_report.proofs.Common.{words_written_in, Tells, answer_to, points_of, IsApart, IsStill, AreQualifiersSpared, IsBindingSpared}
-use Rattle.cdi_report.proofs.Common.{IsSpared, same_word_equiv}
+use Rattle.cdi_report.proofs.Common.{IsSpared, found-name}
 use Rattle.cdi_model.specs.declared.decl.Decl.TheVariants as decls
 use Rattle.cdi_model.specs.declared.decl.Kind.TheVariants as kinds
 use Rattle.cdi_model.specs.declared.decl.UseKind.TheVariants as uses
-use Rattle.cdi_effective.specs.Beans.{unless_replaced}
-use Rattle.cdi_effective.specs.Specialized.{is_replaced}
+use Rattle.cdi_effective.specs.{Beans.unless_replaced, Specialized.is_replaced}
 use Rattle.cdi_effective.proofs.RecordLemmas.{records_are_own}
-use Rattle.cdi_effective.proofs.ChainLemmas.{found-name}
+use Rattle.cdi_postings.specs.Words.{same_word_equiv}
 use Rattle.cdi_postings.specs.declared.word.Reason.TheVariants as reasons
 use Rattle.cdi_index.specs.Made.{words_of_bean, words_of_bindings}
 use Rattle.cdi_subjects.specs.Rests.{IsAnsweredAlike}
-use Rattle.cdi_report.specs.Spared.{AreBindingsSpared, IsSpecializedSpared}
 use Rattle.cdi_report.proofs.BeanLemmas.{bean-alike}
+use Rattle.cdi_report.specs.Spared.{AreBindingsSpared, IsSpecializedSpared}
 
 -- ---- words
 

@@ -2,14 +2,14 @@
 use Rattle.cdi_report.proofs.Common.{◌≡◌, ℕ, true, List, [], ◌∷◌, ◌++◌, map, flat_map, refl, sym, ap, subst, ◌∙◌, AllByRecursion}
 use Rattle.cdi_report.proofs.Common.{option_to_list, or_left, or_right, list_any-append, key_at, mentions, Mention, UseOf, BeanDecl, Decl}
 use Rattle.cdi_report.proofs.Common.{Qual, own_records, PointDecl, Word, same_word, word_at, words_have, words_named, words_named_in}
-use Rattle.cdi_report.proofs.Common.{words_of_observer, words_of_record, words_of_uses, points_of, ◌||◌, key_of, BeanPlace}
-use Rattle.cdi_report.proofs.Common.{required, places_of, words_by, ChainKey, ChoiceKey, EventKey, Key, asked_by, chains_by, events_by}
-use Rattle.cdi_report.proofs.Common.{key_of_point, wanted_by, append_assoc, PointOf, StereotypeOf, TypeIn, BindingDecl, StereotypeDecl}
-use Rattle.cdi_report.proofs.Common.{TypeDecl, UseKind, TypePlace, words_of_point, among-named, point_named}
-use Rattle.cdi_model.specs.Mentions.{EventOf}
+use Rattle.cdi_report.proofs.Common.{words_of_observer, words_of_record, words_of_uses, points_of, ◌||◌, key_of, BeanPlace, required}
+use Rattle.cdi_report.proofs.Common.{places_of, words_by, ChainKey, ChoiceKey, EventKey, Key, asked_by, chains_by, events_by, key_of_point}
+use Rattle.cdi_report.proofs.Common.{wanted_by, PointOf, StereotypeOf, TypeIn, BindingDecl, StereotypeDecl, TypeDecl, UseKind, TypePlace}
+use Rattle.cdi_report.proofs.Common.{words_of_point, among-named, point_named}
+use Rattle.std.proofs.Common.{append_assoc}
+use Rattle.cdi_model.specs.{Mentions.EventOf, declared.decl.QualifierDecl.QualifierDecl}
 use Rattle.cdi_model.specs.declared.decl.Decl.TheVariants as decls
 use Rattle.cdi_model.specs.declared.decl.Kind.TheVariants as kinds
-use Rattle.cdi_model.specs.declared.decl.QualifierDecl.{QualifierDecl}
 use Rattle.cdi_model.specs.declared.decl.UseKind.TheVariants as uses
 use Rattle.cdi_model.specs.declared.mention.TypePlace.TheVariants as types
 use Rattle.cdi_postings.specs.declared.word.Reason.TheVariants as reasons

@@ -2,16 +2,15 @@
 use Rattle.cdi_report.proofs.Common.{◌≡◌, Bool, true, false, cond, List, [], ◌∷◌, ◌++◌, flat_map, Option, Some, None, refl, sym, ap, ◌∙◌}
 use Rattle.cdi_report.proofs.Common.{AllByRecursion, key_at, find_decl, edited_all, edited_keys, is_among, BeanDecl, Decl, Edit, DeclKey}
 use Rattle.cdi_report.proofs.Common.{as_bean, Effective, BeanId, Tells, ◌||◌, BeanPlace, places_of, not, ◌&&◌, length, find, list_any}
-use Rattle.cdi_report.proofs.Common.{bytes_eq, edits_keep_decl, name-found, records, class_bindings, chain_of, nat_eq, is_some, has_place}
+use Rattle.cdi_report.proofs.Common.{bytes_eq, edits_keep_decl, records, class_bindings, chain_of, nat_eq, is_some, has_place}
 use Rattle.std.proofs.Common.{codes}
+use Rattle.cdi_model.proofs.PositionLemmas.{name-found}
 use Rattle.cdi_model.specs.declared.decl.Decl.TheVariants as decls
 use Rattle.cdi_model.specs.declared.decl.Kind.TheVariants as kinds
 use Rattle.cdi_observe.specs.Around.{names_at, names_of_bean}
-use Rattle.cdi_observe.proofs.AroundLemmas.{some-names, told-same, told-names}
-use Rattle.cdi_observe.proofs.BeanPlaceLemmas.{has-each_place}
+use Rattle.cdi_observe.proofs.{AroundLemmas.some-names, AroundLemmas.told-same, AroundLemmas.told-names, BeanPlaceLemmas.has-each_place}
 use Rattle.cdi_subjects.specs.Proxies.{is_intercepted, is_normal, is_told_by, needs_subclass_as, needs_subclass_by, needs_subclass_of}
-use Rattle.cdi_subjects.specs.Rests.{IsBeanAlike}
-use Rattle.cdi_subjects.specs.Sites.{methods_in}
+use Rattle.cdi_subjects.specs.{Rests.IsBeanAlike, Sites.methods_in}
 use Rattle.cdi_subjects.proofs.ProxyLemmas.{own-bindings}
 use Rattle.cdi_report.proofs.SparedLemmas.{class-stays, not-edited, records-stay}
 

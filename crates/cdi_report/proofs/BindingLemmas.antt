@@ -1,21 +1,16 @@
 -- Edits that avoid the binding types that some uses bring leave these uses, and whether two of them differ.
-use Rattle.cdi_report.proofs.Common.{◌≡◌, ℕ, Bool, true, List, [], ◌∷◌, map, option_map, refl, sym, ap, ◌∙◌, inl, inr, same_text}
-use Rattle.cdi_report.proofs.Common.{AllByRecursion, cases_Bool, false≢true, or_left, or_right, key_at, find_decl, edited_all, edited_keys}
-use Rattle.cdi_report.proofs.Common.{is_among, name_of_use, Decl, Edit, Qual, ◌||◌, not, ◌&&◌, list_any, bytes_eq, edits_keep_decl}
-use Rattle.cdi_report.proofs.Common.{◌⊎◌, arith, Avoid, brought, brought_types, types_brought, with_brought, has, as_binding, binding_reads}
-use Rattle.cdi_report.proofs.Common.{brings_type_decides, types_brought-has, has_conflict}
-use Rattle.std.specs.List.{Contains}
-use Rattle.std.specs.Option.{unwrap_or}
+use Rattle.cdi_report.proofs.Common.{◌≡◌, ℕ, true, List, [], ◌∷◌, map, option_map, refl, sym, ap, ◌∙◌, inl, inr, same_text, AllByRecursion}
+use Rattle.cdi_report.proofs.Common.{cases_Bool, false≢true, or_left, or_right, key_at, find_decl, edited_all, edited_keys, is_among}
+use Rattle.cdi_report.proofs.Common.{name_of_use, Decl, Edit, Qual, not, ◌&&◌, list_any, bytes_eq, edits_keep_decl, ◌⊎◌, arith, Avoid}
+use Rattle.cdi_report.proofs.Common.{brought, brought_types, types_brought, with_brought, has, as_binding, binding_reads}
+use Rattle.cdi_report.proofs.Common.{brings_type_decides, types_brought-has, has_conflict, all-weaker, avoid-names}
 use Rattle.std.proofs.lemmas.List.Elements.{Contains-append_cases, Contains-append_left, Contains-append_right, Contains-push}
 use Rattle.std.proofs.lemmas.List.Elements.{Contains-push_cases}
-use Rattle.base_lists.proofs.Each.{all-weaker}
+use Rattle.std.specs.{List.Contains, Option.unwrap_or}
 use Rattle.base_lists.proofs.Any.{any-alike}
 use Rattle.cdi_model.specs.declared.decl.Kind.TheVariants as kinds
-use Rattle.cdi_match.specs.Bindings.{BringsType}
-use Rattle.cdi_match.specs.Covering.{agrees_by, are_alike}
-use Rattle.cdi_match.proofs.BindingLemmas.{brought_are_these}
-use Rattle.cdi_match.proofs.Chains.{chain_more}
-use Rattle.cdi_match.proofs.LocalityLemmas.{edits_keep_bindings, avoid-names}
+use Rattle.cdi_match.specs.{Bindings.BringsType, Covering.agrees_by, Covering.are_alike}
+use Rattle.cdi_match.proofs.{BindingLemmas.brought_are_these, Chains.chain_more, LocalityLemmas.edits_keep_bindings}
 use Rattle.cdi_intercept.specs.Conflicts.{are_opposed}
 
 -- ---- what holds of each

@@ -5,9 +5,9 @@ use Rattle.std.specs.Bool.{Decides}
 use Rattle.std.proofs.lemmas.Bool.Decides.{same_from_decides, Decides-like}
 use Rattle.cdi_model.specs.Edits.{others}
 use Rattle.cdi_model.proofs.EditLemmas.{same_decl}
-use Rattle.cdi_match.specs.Chain.{reaches_from_one, ChainFromOne}
 use Rattle.cdi_match.proofs.Chains.{chain_back, chain_over, reaches_from_one_decides, AgreeFrom}
 use Rattle.cdi_match.proofs.Listed.{length-names_of, listed, listed_only, names_of, Lists}
+use Rattle.cdi_match.specs.Chain.{reaches_from_one, ChainFromOne}
 
 module _ (kind : Kind) (lists : Lists) (none : lists None ≡ []) (keys : List DeclKey) (ds es : List Decl) (x : List ℕ)
     (same : others keys ds ≡ others keys es)

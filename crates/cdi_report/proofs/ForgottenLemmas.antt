@@ -1,9 +1,8 @@
 -- What is settled stays so where the keys go whose declarations are not there.
-use Rattle.base_lists.proofs.Each.{all-weaker}
-use Rattle.cdi_report.proofs.Common.{◌≡◌, Bool, true, false, cond, List, [], ◌∷◌, Option, Some, refl, sym, ap, subst, ◌∙◌, inl, inr}
-use Rattle.cdi_report.proofs.Common.{AllByRecursion, cases_Bool, false≢true, kind_of, name_of_decl, same_key, same_key_equiv, find_decl}
-use Rattle.cdi_report.proofs.Common.{Decl, DeclKey, ◌||◌, key_of, Key, not, list_any, is_some, filter, contains, Promised, is_of, key_exact}
-use Rattle.cdi_report.proofs.Common.{closed_of, is_open, is_present, AreSettled, HaveNoneTogether, Unsettled}
+use Rattle.cdi_report.proofs.Common.{all-weaker, ◌≡◌, Bool, true, false, cond, List, [], ◌∷◌, Option, Some, refl, sym, ap, subst, ◌∙◌, inl}
+use Rattle.cdi_report.proofs.Common.{inr, AllByRecursion, cases_Bool, false≢true, kind_of, name_of_decl, same_key, same_key_equiv}
+use Rattle.cdi_report.proofs.Common.{find_decl, Decl, DeclKey, ◌||◌, key_of, Key, not, list_any, is_some, filter, contains, Promised, is_of}
+use Rattle.cdi_report.proofs.Common.{key_exact, closed_of, is_open, is_present, AreSettled, HaveNoneTogether, Unsettled}
 
 -- ---- the keys that are left
 

@@ -1,18 +1,13 @@
 -- Edits that avoid what a type, a binding type or a stereotype rests on leave whether it reaches itself.
-use Rattle.cdi_report.proofs.Common.{◌≡◌, ℕ, true, false, List, [], ◌∷◌, map, refl, sym, ap, ◌∙◌, inr, false≢true, key_at, edited_all}
-use Rattle.cdi_report.proofs.Common.{edited_keys, is_among, name_of_use, Decl, Edit, DeclKey, ◌||◌, bytes_eq, Avoid, brought, brought_types}
-use Rattle.cdi_report.proofs.Common.{types_brought, has, binding_reads, brings_type_decides, types_brought-has, suc, leads, Chain, Kind}
-use Rattle.cdi_report.proofs.Common.{zero, brings_itself, stereotype_reads, inherits_itself, stereotypes_of, extends_itself, supers_of}
-use Rattle.cdi_report.proofs.Common.{types_of, is_type_decides, types_of-has, edits_keep_others}
-use Rattle.std.specs.Cmp.{nat_eq_equiv}
+use Rattle.cdi_report.proofs.Common.{◌≡◌, ℕ, true, false, List, map, refl, sym, ap, ◌∙◌, inr, false≢true, key_at, edited_all, edited_keys}
+use Rattle.cdi_report.proofs.Common.{is_among, name_of_use, Decl, Edit, DeclKey, Avoid, brought, brought_types, types_brought}
+use Rattle.cdi_report.proofs.Common.{binding_reads, brings_type_decides, types_brought-has, suc, leads, Chain, zero, brings_itself}
+use Rattle.cdi_report.proofs.Common.{stereotype_reads, inherits_itself, stereotypes_of, extends_itself, supers_of, types_of}
+use Rattle.cdi_report.proofs.Common.{is_type_decides, types_of-has, edits_keep_others, avoid-names}
 use Rattle.cdi_model.specs.declared.decl.Kind.TheVariants as kinds
-use Rattle.cdi_model.specs.DeclKey.{kind_number}
-use Rattle.cdi_match.specs.Locality.{type_reads}
-use Rattle.cdi_match.specs.Stereotypes.{inherited}
-use Rattle.cdi_match.specs.Types.{supers}
+use Rattle.cdi_match.specs.{Locality.type_reads, Stereotypes.inherited, Types.supers}
 use Rattle.cdi_match.proofs.BindingLemmas.{bindings_in}
 use Rattle.cdi_match.proofs.StereotypeLemmas.{has_stereotype_decides, stereotypes_in, stereotypes_of-has}
-use Rattle.cdi_match.proofs.LocalityLemmas.{among-names, avoid-names}
 use Rattle.cdi_report.proofs.CircleLemmas.{circle-kept}
 
 module _ (edits : List Edit) (ds : List Decl) where

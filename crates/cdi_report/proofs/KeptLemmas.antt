@@ -3,21 +3,16 @@ use Rattle.cdi_report.proofs.Common.{◌≡◌, Bool, true, false, cond, List, [
 use Rattle.cdi_report.proofs.Common.{inl, inr, AllByRecursion, cases_Bool, false≢true, or_left, kind_of, name_of_decl, find_decl}
 use Rattle.cdi_report.proofs.Common.{edited_all, edited_keys, is_among, Decl, Edit, DeclKey, key_of, not, edits_keep_decl, filter, Promised}
 use Rattle.cdi_report.proofs.Common.{is_of, closed_of, is_open, AreSettled, Unsettled, edits_keep_others, AreDistinct, is_name, Moved}
-use Rattle.cdi_report.proofs.Common.{Staged, each-found, IsFound, knows, State, subjects_at_fault, IsAlike, AreNamed, IsLeft}
-use Rattle.std.specs.List.{flat_map}
-use Rattle.std.proofs.lemmas.Bool.{not-true}
-use Rattle.base_lists.proofs.Each.{all-weaker}
+use Rattle.cdi_report.proofs.Common.{Staged, each-found, IsFound, knows, State, subjects_at_fault, IsAlike, AreNamed, IsLeft, flat_map}
+use Rattle.cdi_report.proofs.Common.{not-true, all-weaker}
 use Rattle.cdi_live.specs.State.{TakesOver}
-use Rattle.cdi_faults.specs.FaultText.{in_text_order}
-use Rattle.cdi_faults.specs.declared.fault.Code.{Code}
+use Rattle.cdi_faults.specs.{FaultText.in_text_order, declared.fault.Code.Code, Codes.all_codes}
 use Rattle.cdi_faults.specs.declared.fault.Fault.TheVariants as faults_are
 use Rattle.cdi_validate.specs.Faults.{faults_of_code}
-use Rattle.cdi_report.specs.Settled.{IsSettled}
-use Rattle.cdi_report.specs.Stays.{IsReadied, SettledStay}
 use Rattle.cdi_report.proofs.StayLemmas.{left_alike, left_stay, left_were_present}
 use Rattle.cdi_report.proofs.UnmovedLemmas.{not-edited}
 use Rattle.cdi_report.proofs.TogetherLemmas.{all-passed, filter-filter, together-stay}
-use Rattle.cdi_faults.specs.Codes.{all_codes}
+use Rattle.cdi_report.specs.{Settled.IsSettled, Stays.IsReadied, Stays.SettledStay}
 
 -- the faults of a declaration are the same where those of each code are
 same-faults : (ds es : List Decl) (book : List Promised) (d : Decl)

@@ -1,10 +1,10 @@
 -- A bean that is chosen for a type is of a declaration that offers it.
+use Rattle.cdi_report.proofs.Common.{◌≡◌, ℕ, Bool, true, false, cond, List, [], ◌∷◌, map, refl, sym, ap, ◌∙◌, inl, inr, one_text}
+use Rattle.cdi_report.proofs.Common.{AllByRecursion, false≢true, or_left, or_right, BeanDecl, Decl, Qual, entries, as_bean, Effective}
+use Rattle.cdi_report.proofs.Common.{BeanId, One, ◌||◌, required, ◌&&◌, list_any, bytes_eq, records, filter, has, same_text, AreDistinct}
+use Rattle.cdi_report.proofs.Common.{or_cases, effective, product, ProducerDecl, records_declared, records_in, and_from, and_parts, beans}
+use Rattle.cdi_report.proofs.Common.{chosen}
 use Rattle.base_lists.proofs.Any.{any-map, any-flat_map, any-more}
-use Rattle.cdi_report.proofs.Common.{◌≡◌, ℕ, Bool, true, false, cond, List, [], ◌∷◌, map, flat_map, refl, sym, ap, ◌∙◌, inl, inr, one_text}
-use Rattle.cdi_report.proofs.Common.{AllByRecursion, false≢true, or_left, or_right, list_any-append, BeanDecl, Decl, Qual, entries, as_bean}
-use Rattle.cdi_report.proofs.Common.{Effective, BeanId, One, ◌||◌, required, ◌&&◌, list_any, bytes_eq, records, filter, has, same_text}
-use Rattle.cdi_report.proofs.Common.{AreDistinct, or_cases, effective, product, ProducerDecl, records_declared, records_in}
-use Rattle.cdi_report.proofs.Common.{and_from, and_parts, beans, chosen}
 use Rattle.cdi_model.specs.declared.decl.Decl.TheVariants as decls
 use Rattle.cdi_effective.specs.Qualifiers.{cover_all}
 use Rattle.cdi_resolve.specs.Choices.{alternatives, among, candidate, choice_of, eligible, greatest, is_eligible, is_greatest, offers, only}

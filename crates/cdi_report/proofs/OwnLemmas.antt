@@ -1,18 +1,17 @@
 -- What holds of each binding that a bean writes holds of those at each of its places.
-use Rattle.base_lists.proofs.Each.{all-front, all-back}
 use Rattle.cdi_report.proofs.Common.{◌≡◌, Bool, true, false, cond, List, [], ◌∷◌, ◌++◌, flat_map, Option, Some, None, IfSome, option_map}
 use Rattle.cdi_report.proofs.Common.{AllByRecursion, key_at, is_among, mentions, Mention, name_of_use, BeanDecl, DeclKey, Qual}
 use Rattle.cdi_report.proofs.Common.{IsBindingSpared, BeanPlace, TypeIn, not, ◌&&◌, find, bytes_eq, ProducerDecl, own_at}
+use Rattle.base_lists.proofs.Each.{all-front, all-back}
+use Rattle.cdi_model.specs.Mentions.{of_attributes, of_bindings, of_disposer, of_method, of_observer, of_part, of_parts, of_point}
+use Rattle.cdi_model.specs.Mentions.{of_producer, of_qualifiers, part_place_of}
+use Rattle.cdi_model.specs.declared.decl.{MethodDecl.MethodDecl, ObserverDecl.ObserverDecl}
 use Rattle.cdi_model.specs.declared.decl.Decl.TheVariants as decls
 use Rattle.cdi_model.specs.declared.decl.Kind.TheVariants as kinds
-use Rattle.cdi_model.specs.declared.decl.MethodDecl.{MethodDecl}
-use Rattle.cdi_model.specs.declared.decl.ObserverDecl.{ObserverDecl}
 use Rattle.cdi_model.specs.declared.mention.PointPlace.TheVariants as points
 use Rattle.cdi_model.specs.declared.mention.TypePlace.TheVariants as types
 use Rattle.cdi_model.specs.declared.place.BeanPlace.TheVariants as places
 use Rattle.cdi_model.specs.declared.place.PartPlace.TheVariants as parts
-use Rattle.cdi_model.specs.Mentions.{of_attributes, of_bindings, of_disposer, of_method, of_observer, of_part, of_parts, of_point}
-use Rattle.cdi_model.specs.Mentions.{of_producer, of_qualifiers, part_place_of}
 
 -- what holds of all that some things lead to holds of what one leads to that is found
 all-found : {A B : Type 0} (P : B → Type 0) (f : A → List B) (test : A → Bool) (xs : List A) → AllByRecursion P (flat_map f xs)

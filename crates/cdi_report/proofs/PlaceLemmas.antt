@@ -1,12 +1,10 @@
 -- Edits that avoid the bindings of a bean and of its places leave whether two of them differ.
-use Rattle.base_lists.proofs.Each.{all-append, all-filter}
-use Rattle.cdi_report.proofs.Common.{◌≡◌, List, Option, Some, None, IfSome, refl, sym, ap, ◌∙◌, AllByRecursion, edited_all, BeanDecl, Decl}
-use Rattle.cdi_report.proofs.Common.{Edit, Qual, class_reads, BeanPlace, not, class_bindings, filter, Avoid, with_brought, binding_reads}
-use Rattle.cdi_report.proofs.Common.{has_conflict, own_at, avoid-first, avoid-second, set_by}
+use Rattle.cdi_report.proofs.Common.{all-append, all-filter, ◌≡◌, List, Option, Some, None, IfSome, refl, sym, ap, ◌∙◌, AllByRecursion}
+use Rattle.cdi_report.proofs.Common.{edited_all, BeanDecl, Decl, Edit, Qual, class_reads, BeanPlace, not, class_bindings, filter, Avoid}
+use Rattle.cdi_report.proofs.Common.{with_brought, binding_reads, has_conflict, own_at, avoid-first, avoid-second, set_by}
 use Rattle.cdi_model.specs.declared.place.BeanPlace.TheVariants as places
 use Rattle.cdi_match.specs.Stereotypes.{stereotype_decls}
-use Rattle.cdi_effective.specs.Bindings.{in_place_of, stereotype_bindings}
-use Rattle.cdi_effective.specs.Qualifiers.{uses_one}
+use Rattle.cdi_effective.specs.{Bindings.in_place_of, Bindings.stereotype_bindings, Qualifiers.uses_one}
 use Rattle.cdi_intercept.specs.Sets.{around_method, of_method, of_observer, of_producer}
 use Rattle.cdi_report.proofs.BindingLemmas.{brought-alike, brought-stay, conflict-alike, IsDeclaredAlike}
 

@@ -3,10 +3,8 @@ use Rattle.cdi_report.proofs.Common.{◌≡◌, ℕ, Bool, true, false, cond, Li
 use Rattle.cdi_report.proofs.Common.{inr, cases_Bool, false≢true, same_key, same_key_equiv, Decl, DeclKey, ◌||◌, key_of, list_any, nat_eq}
 use Rattle.cdi_report.proofs.Common.{filter, arith, contains, is_of, key_exact, is_open, Unsettled, AreDistinct, open_of, option_map_or}
 use Rattle.cdi_report.proofs.Common.{is_marked, marked_from, decls_at, is_at}
-use Rattle.std.proofs.Common.{position, slice_get, get_or}
-use Rattle.std.proofs.lemmas.Bool.{eq-eqb, eqb-true}
-use Rattle.std.proofs.lemmas.List.Quantifiers.{position-Some}
-use Rattle.std.proofs.lemmas.Option.{slice_get-get_or}
+use Rattle.std.proofs.{Common.position, Common.slice_get, Common.get_or, lemmas.Bool.eq-eqb, lemmas.Bool.eqb-true}
+use Rattle.std.proofs.lemmas.{List.Quantifiers.position-Some, Option.slice_get-get_or}
 use Rattle.cdi_effective.proofs.PlaceLemmas.{own-position}
 use Rattle.cdi_index.proofs.UnderLemmas.{walk}
 

@@ -1,20 +1,17 @@
 -- A report that looks at some declarations tells the faults of all.
-use Rattle.cdi_report.proofs.Common.{◌≡◌, Bool, true, false, cond, List, [], ◌∷◌, ◌++◌, map, Some, None, refl, sym, ap, ◌∙◌, inl, inr}
+use Rattle.cdi_report.proofs.Common.{◌≡◌, Bool, true, false, cond, List, [], ◌∷◌, map, Some, None, refl, sym, ap, ◌∙◌, inl, inr}
 use Rattle.cdi_report.proofs.Common.{AllByRecursion, cases_Bool, false≢true, or_left, or_right, kind_of, name_of_decl, same_key, find_decl}
 use Rattle.cdi_report.proofs.Common.{Decl, DeclKey, PointDecl, points_of, ◌||◌, key_of, ChainKey, Key, wanted_by, not, ◌&&◌, length}
 use Rattle.cdi_report.proofs.Common.{list_any, filter, ◌⊎◌, arith, contains, Promised, is_of, is_open, AreSettled, HaveNoneTogether}
-use Rattle.cdi_report.proofs.Common.{Unsettled, AreDistinct, each-found, IsFound, or_cases, and_from, open_of, list_all, has_key}
-use Rattle.cdi_report.proofs.Common.{is_wanted, AskForRest, EvaluatesSome, faults_of, has_faults, AreChainsKnown, IsKnown}
-use Rattle.cdi_observe.proofs.KeyLemmas.{all-pass, each-passes}
-use Rattle.std.specs.List.{flat_map, All}
-use Rattle.std.proofs.Common.{nat_lt}
-use Rattle.std.proofs.lemmas.Bool.{ltb-false}
-use Rattle.base_lists.proofs.Each.{all-weaker, all-filter}
+use Rattle.cdi_report.proofs.Common.{Unsettled, AreDistinct, each-found, IsFound, or_cases, and_from, open_of, list_all, has_key, is_wanted}
+use Rattle.cdi_report.proofs.Common.{AskForRest, EvaluatesSome, faults_of, has_faults, AreChainsKnown, IsKnown, each-passes, flat_map}
+use Rattle.cdi_report.proofs.Common.{all-weaker, all-filter}
+use Rattle.std.specs.List.{All}
+use Rattle.std.proofs.{Common.nat_lt, lemmas.Bool.ltb-false}
 use Rattle.base_lists.proofs.Flat.{flat-filter}
 use Rattle.cdi_model.specs.DeclKey.{same_key_equiv as same_decl_equiv}
-use Rattle.cdi_observe.specs.Kept.{Kept, evaluated}
-use Rattle.cdi_observe.specs.Wanted.{wanted}
-use Rattle.cdi_observe.proofs.KeptLemmas.{evaluated-apart, knows_wanted}
+use Rattle.cdi_observe.proofs.{KeyLemmas.all-pass, KeptLemmas.evaluated-apart, KeptLemmas.knows_wanted}
+use Rattle.cdi_observe.specs.{Kept.Kept, Kept.evaluated, Wanted.wanted}
 use Rattle.cdi_observe.proofs.FoundLemmas.{all-lent, found-any}
 use Rattle.cdi_report.proofs.TogetherLemmas.{together-filtered}
 

@@ -1,25 +1,20 @@
 -- What the faults of a declaration rest on stays where edits spare it.
-use Rattle.base_lists.proofs.Each.{all-weaker}
-use Rattle.cdi_report.proofs.Common.{◌≡◌, ℕ, Bool, true, false, cond, List, [], ◌∷◌, ◌++◌, map, flat_map, Option, Some, None, IfSome}
-use Rattle.cdi_report.proofs.Common.{option_map, refl, sym, ap, ◌∙◌, inl, inr, AllByRecursion, cases_Bool, false≢true, kind_of, one_text}
-use Rattle.cdi_report.proofs.Common.{name_of_decl, key_at, same_key, find_decl, edited_all, edited_keys, is_among, mentions, name_of_use}
-use Rattle.cdi_report.proofs.Common.{BeanDecl, Decl, Edit, DeclKey, Qual, entries, as_bean, bean_keys, bean_reads, chain_reads, class_reads}
-use Rattle.cdi_report.proofs.Common.{link_reads, product_reads, record_reads, specialized_reads, bean_named, behind, extended, specialized}
-use Rattle.cdi_report.proofs.Common.{Effective, made_of_bean, reads_in, Tells, AreQualifiersSpared, IsBindingSpared, IsSpared, ◌||◌}
-use Rattle.cdi_report.proofs.Common.{BeanPlace, BindingDecl, StereotypeDecl, bytes_eq, edits_keep_decl, name-found, records, class_bindings}
+use Rattle.cdi_report.proofs.Common.{all-weaker, ◌≡◌, ℕ, Bool, true, false, cond, List, [], ◌∷◌, ◌++◌, map, flat_map, Option, Some, None}
+use Rattle.cdi_report.proofs.Common.{IfSome, option_map, refl, sym, ap, ◌∙◌, inl, inr, AllByRecursion, cases_Bool, false≢true, kind_of}
+use Rattle.cdi_report.proofs.Common.{one_text, name_of_decl, key_at, same_key, find_decl, edited_all, edited_keys, is_among, mentions}
+use Rattle.cdi_report.proofs.Common.{name_of_use, BeanDecl, Decl, Edit, DeclKey, Qual, entries, as_bean, bean_keys, bean_reads, chain_reads}
+use Rattle.cdi_report.proofs.Common.{class_reads, link_reads, product_reads, record_reads, specialized_reads, bean_named, behind, extended}
+use Rattle.cdi_report.proofs.Common.{specialized, Effective, made_of_bean, reads_in, Tells, AreQualifiersSpared, IsBindingSpared, IsSpared}
+use Rattle.cdi_report.proofs.Common.{◌||◌, BeanPlace, BindingDecl, StereotypeDecl, bytes_eq, edits_keep_decl, records, class_bindings}
 use Rattle.cdi_report.proofs.Common.{arith, Avoid, types_brought, has, as_binding, binding_reads, brings_type_decides, types_brought-has}
 use Rattle.cdi_report.proofs.Common.{suc, Chain, Kind, key_exact, zero, brings_itself, stereotype_reads, inherits_itself, same_text}
-use Rattle.cdi_report.proofs.Common.{extends_itself, or_cases, effective, product, records_declared, records_in, own_at}
-use Rattle.cdi_report.proofs.Common.{avoid-first, avoid-second, made_of, made_of_binding, made_of_type, IsNotEdited, named_in, find_bean}
+use Rattle.cdi_report.proofs.Common.{extends_itself, or_cases, effective, product, records_declared, records_in, own_at, avoid-first}
+use Rattle.cdi_report.proofs.Common.{avoid-second, made_of, made_of_binding, made_of_type, IsNotEdited, named_in, among-names, found-name}
+use Rattle.cdi_model.proofs.EditLemmas.{avoid-head}
 use Rattle.cdi_model.specs.declared.decl.Decl.TheVariants as decls
 use Rattle.cdi_model.specs.declared.decl.Kind.TheVariants as kinds
-use Rattle.cdi_model.proofs.EditLemmas.{avoid-head}
-use Rattle.cdi_match.specs.Bindings.{brings, brought_by}
-use Rattle.cdi_match.specs.Filling.{find_binding}
-use Rattle.cdi_match.specs.Stereotypes.{as_stereotype, inherited_of}
-use Rattle.cdi_match.proofs.LocalityLemmas.{among-names}
+use Rattle.cdi_match.specs.{Bindings.brings, Bindings.brought_by, Filling.find_binding, Stereotypes.as_stereotype, Stereotypes.inherited_of}
 use Rattle.cdi_effective.specs.Beans.{managed}
-use Rattle.cdi_effective.proofs.ChainLemmas.{found-name}
 use Rattle.cdi_effective.proofs.PlaceLemmas.{bean-decl}
 use Rattle.cdi_index.specs.Made.{is_kept}
 use Rattle.cdi_subjects.specs.Rests.{specialized_seen, types_and_name, AreAlike, AreProductsAlike, DifferAlike, HasQualifiersAlike}

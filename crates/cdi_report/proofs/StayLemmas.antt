@@ -10,9 +10,9 @@ use Rattle.cdi_effective.proofs.RecordLemmas.{edits_keep_own_records}
 use Rattle.cdi_index.specs.State.{Drafted}
 use Rattle.cdi_validate.proofs.FoundLemmas.{bean-records}
 use Rattle.cdi_report.proofs.Laws.{apart_are_spared, spared_keep_faults, unconcerned_are_apart}
-use Rattle.cdi_report.specs.Stays.{LeftStay, LeftWerePresent, Stays}
 use Rattle.cdi_report.proofs.StillLemmas.{known-after, own-chains-stay, unconcerned, IsGivenUp}
 use Rattle.cdi_report.proofs.UnmovedLemmas.{not-affected, not-edited}
+use Rattle.cdi_report.specs.Stays.{LeftStay, LeftWerePresent, Stays}
 
 -- ---- what is left by a draft
 

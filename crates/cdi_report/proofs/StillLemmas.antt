@@ -6,27 +6,24 @@ use Rattle.cdi_report.proofs.Common.{One, Tells, answer_to, points_of, key_of, B
 use Rattle.cdi_report.proofs.Common.{EventKey, Key, asked_by, chains_by, events_by, key_of_point, wanted_by, not, ◌&&◌, list_any, bytes_eq}
 use Rattle.cdi_report.proofs.Common.{edits_keep_decl, class_bindings, chain_of, has_place, has, AreDistinct, Moved, or_cases, same_text}
 use Rattle.cdi_report.proofs.Common.{and_from, and_parts, beans, chosen, set_by, option_map_or, list_all, has_key, is_wanted}
-use Rattle.cdi_report.proofs.Common.{AreChainsKnown, IsKnown, find_bean, still_known, is_concerned, IsUnconcerned}
-use Rattle.cdi_report.proofs.OfferLemmas.{offers_type, one-offers}
-use Rattle.std.proofs.Common.{Result, Ok, Err}
-use Rattle.std.proofs.lemmas.List.Folds.{list_all-append}
+use Rattle.cdi_report.proofs.Common.{AreChainsKnown, IsKnown, still_known, is_concerned, IsUnconcerned, each-passes}
+use Rattle.std.proofs.{Common.Result, Common.Ok, Common.Err, lemmas.List.Folds.list_all-append}
+use Rattle.cdi_model.specs.declared.refusal.Refusal.{Refusal}
 use Rattle.cdi_model.specs.declared.decl.Decl.TheVariants as decls
 use Rattle.cdi_model.specs.declared.decl.Kind.TheVariants as kinds
-use Rattle.cdi_model.specs.declared.refusal.Refusal.{Refusal}
 use Rattle.cdi_model.specs.declared.refusal.Refusal.TheVariants as refusals
-use Rattle.cdi_intercept.specs.Chains.{chain_by, chain_told}
+use Rattle.cdi_effective.specs.Disposers.{find_bean}
 use Rattle.cdi_intercept.specs.Sees.{sees_at, Seen as SeenAround}
+use Rattle.cdi_intercept.specs.Chains.{chain_by, chain_told}
 use Rattle.cdi_intercept.proofs.SeenLemmas.{told_rests_on_seen}
 use Rattle.cdi_resolve.specs.Sees.{sees, Seen}
 use Rattle.cdi_resolve.proofs.SeenLemmas.{choice_rests_on_seen}
 use Rattle.cdi_observe.specs.Keys.{same_place}
-use Rattle.cdi_observe.proofs.BeanPlaceLemmas.{has-it}
-use Rattle.cdi_observe.proofs.AskedLemmas.{chosen-required}
-use Rattle.cdi_seen.proofs.NameLemmas.{only-chains}
+use Rattle.cdi_observe.proofs.{BeanPlaceLemmas.has-it, AskedLemmas.chosen-required}
+use Rattle.cdi_seen.proofs.{NameLemmas.only-chains, SameLemmas.touched_where_seen_differs}
 use Rattle.cdi_seen.specs.Touched.{is_touched, ByChain, ByChoice}
-use Rattle.cdi_seen.proofs.SameLemmas.{touched_where_seen_differs}
 use Rattle.cdi_live.proofs.WantedPlaceLemmas.{wanted-place}
-use Rattle.cdi_observe.proofs.KeyLemmas.{each-passes}
+use Rattle.cdi_report.proofs.OfferLemmas.{offers_type, one-offers}
 use Rattle.cdi_report.proofs.AskedLemmas.{points-listed, wanted-listed, IsListed, IsPointListed}
 use Rattle.cdi_report.proofs.UnmovedLemmas.{no-affected, no-chain, no-choice, no-event, not-affected, not-classed}
 

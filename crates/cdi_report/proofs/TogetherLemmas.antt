@@ -1,17 +1,15 @@
 -- Declarations that have no faults together.
-use Rattle.std.proofs.lemmas.Bool.{not-true, not_from_false}
-use Rattle.cdi_report.proofs.Common.{◌≡◌, Bool, true, false, cond, List, [], ◌∷◌, ◌++◌, refl, sym, ap, subst, ◌∙◌, inl, inr, AllByRecursion}
-use Rattle.cdi_report.proofs.Common.{cases_Bool, false≢true, Decl, DeclKey, key_of, not, filter, closed_of, is_open, HaveNoneTogether}
-use Rattle.cdi_report.proofs.Common.{Unsettled, AreDistinct, IsAlike, AreNamed, and_parts, beans, open_of, list_all, is_chainless}
-use Rattle.cdi_report.proofs.Common.{is_nameless, is_needless, faults_together, looks_at_all, Together}
-use Rattle.cdi_validate.specs.Among.{HaveNoneAnew}
-use Rattle.cdi_validate.specs.Faults.{circles, name_clashes, name_prefixes}
-use Rattle.cdi_validate.specs.Twice.{specialized_twice}
-use Rattle.cdi_validate.specs.Together.{HaveNoCircle, HaveNoClash, HaveNoneTwice}
+use Rattle.cdi_report.proofs.Common.{not-true, ◌≡◌, Bool, true, false, cond, List, [], ◌∷◌, ◌++◌, refl, sym, ap, subst, ◌∙◌, inl, inr}
+use Rattle.cdi_report.proofs.Common.{AllByRecursion, cases_Bool, false≢true, Decl, DeclKey, key_of, not, filter, closed_of, is_open}
+use Rattle.cdi_report.proofs.Common.{HaveNoneTogether, Unsettled, AreDistinct, IsAlike, AreNamed, and_parts, beans, open_of, list_all}
+use Rattle.cdi_report.proofs.Common.{is_chainless, is_nameless, is_needless, faults_together, looks_at_all, Together}
+use Rattle.std.proofs.lemmas.Bool.{not_from_false}
 use Rattle.cdi_validate.proofs.ChainlessLemmas.{no_twice_faults, twice_filtered, twice_stays, twice_whole}
+use Rattle.cdi_validate.proofs.NamelessLemmas.{clash_filtered, clash_stays, clash_whole, no_name_faults}
+use Rattle.cdi_validate.specs.{Among.HaveNoneAnew, Faults.circles, Faults.name_clashes, Faults.name_prefixes, Twice.specialized_twice}
+use Rattle.cdi_validate.specs.Together.{HaveNoCircle, HaveNoClash, HaveNoneTwice}
 use Rattle.cdi_validate.proofs.CirclelessLemmas.{circle_whole, no_circle_faults}
 use Rattle.cdi_validate.proofs.CircleStayLemmas.{circle_filtered, circle_stays, named_outside}
-use Rattle.cdi_validate.proofs.NamelessLemmas.{clash_filtered, clash_stays, clash_whole, no_name_faults}
 use Rattle.cdi_report.specs.Settled.{IsSettledAnyway, LooksAtMore, MoreIsSettled}
 
 -- ---- lists of which some are left out

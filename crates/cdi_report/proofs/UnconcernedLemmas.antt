@@ -1,17 +1,17 @@
 -- What is not to be looked at again has no word of what edits move.
-use Rattle.std.proofs.lemmas.Grind.{flat_map-append}
 use Rattle.cdi_report.proofs.Common.{◌≡◌, ℕ, Bool, true, false, cond, List, [], ◌∷◌, ◌++◌, map, flat_map, Some, None, refl, sym, ap, subst}
 use Rattle.cdi_report.proofs.Common.{◌∙◌, inl, inr, AllByRecursion, option_to_list, cases_Bool, false≢true, or_left, or_parts, or_right}
 use Rattle.cdi_report.proofs.Common.{list_any-append, kind_of, name_of_decl, key_at, same_key, same_key_equiv, find_decl, edited_all}
 use Rattle.cdi_report.proofs.Common.{edited_keys, is_among, mentions, Mention, UseOf, BeanDecl, Decl, Edit, DeclKey, Qual, own_records}
 use Rattle.cdi_report.proofs.Common.{Effective, BeanId, PointDecl, One, Word, same_word, word_at, words_have, words_named, words_named_in}
 use Rattle.cdi_report.proofs.Common.{words_of_observer, words_of_record, words_of_uses, Tells, answer_to, points_of, IsApart, IsStill, ◌||◌}
-use Rattle.cdi_report.proofs.Common.{key_of, BeanPlace, required, words_by, append_assoc, PointOf, StereotypeOf, TypeIn, StereotypeDecl}
-use Rattle.cdi_report.proofs.Common.{UseKind, TypePlace, words_of_point, among-named, point_named, ◌&&◌, list_any, bytes_eq, chain_of}
-use Rattle.cdi_report.proofs.Common.{filter, ◌⊎◌, Avoid, has, Kind, is_of, key_exact, stereotype_reads, stereotypes_of, one_text, same_text}
-use Rattle.cdi_report.proofs.Common.{AreDistinct, Moved, or_cases, records_in, made_of, IsNotEdited, named_in, IsUnconcerned}
-use Rattle.cdi_report.proofs.Common.{words_writing, has_one, keys_of_classes, keys_of_stereotypes, keys_under, names_of_kind, offered}
-use Rattle.cdi_report.proofs.Common.{reads_one, types_of_beans, words_asking, words_sought}
+use Rattle.cdi_report.proofs.Common.{key_of, BeanPlace, required, words_by, PointOf, StereotypeOf, TypeIn, StereotypeDecl, UseKind}
+use Rattle.cdi_report.proofs.Common.{TypePlace, words_of_point, among-named, point_named, ◌&&◌, list_any, bytes_eq, chain_of, filter, ◌⊎◌}
+use Rattle.cdi_report.proofs.Common.{Avoid, has, Kind, is_of, key_exact, stereotype_reads, stereotypes_of, one_text, same_text, AreDistinct}
+use Rattle.cdi_report.proofs.Common.{Moved, or_cases, records_in, made_of, IsNotEdited, named_in, IsUnconcerned, words_writing, has_one}
+use Rattle.cdi_report.proofs.Common.{keys_of_classes, keys_of_stereotypes, keys_under, names_of_kind, offered, reads_one, words_asking}
+use Rattle.cdi_report.proofs.Common.{words_sought}
+use Rattle.std.proofs.lemmas.Grind.{flat_map-append}
 use Rattle.cdi_model.specs.declared.decl.Decl.TheVariants as decls
 use Rattle.cdi_model.specs.declared.decl.Kind.TheVariants as kinds
 use Rattle.cdi_model.specs.declared.mention.TypePlace.TheVariants as types
@@ -21,12 +21,12 @@ use Rattle.cdi_postings.specs.declared.word.Reason.TheVariants as reasons
 use Rattle.cdi_index.specs.Made.{reads}
 use Rattle.cdi_index.proofs.NamedLemmas.{among-written}
 use Rattle.cdi_live.proofs.AskedLemmas.{any-among}
-use Rattle.cdi_concern.specs.Concern.{is_inherited, is_of_kind, is_stereotype}
-use Rattle.cdi_report.specs.Spared.{AreInheritedSpared}
+use Rattle.cdi_concern.specs.Concern.{types_of_beans, is_inherited, is_of_kind, is_stereotype}
 use Rattle.cdi_report.proofs.ApartLemmas.{first-has}
 use Rattle.cdi_report.proofs.OfferLemmas.{offers_type, one-offers}
 use Rattle.cdi_report.proofs.SparedLemmas.{among-map}
 use Rattle.cdi_report.proofs.WrittenLemmas.{declares-apart, inherits-apart, supers-apart, written-apart}
+use Rattle.cdi_report.specs.Spared.{AreInheritedSpared}
 
 -- ---- none of a list
 

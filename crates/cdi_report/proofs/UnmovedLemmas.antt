@@ -1,13 +1,12 @@
 -- What a draft moves is none of what an unconcerned declaration asks for.
 use Rattle.cdi_report.proofs.Common.{◌≡◌, ℕ, Bool, true, false, List, [], ◌∷◌, ◌++◌, map, flat_map, Some, sym, ap, ◌∙◌, inl, inr, one_text}
-use Rattle.cdi_report.proofs.Common.{cases_Bool, false≢true, or_left, or_parts, or_right, kind_of, name_of_decl, key_at}
-use Rattle.cdi_report.proofs.Common.{same_key, same_key_equiv, find_decl, is_among, Decl, DeclKey, Word, word_at, words_have}
-use Rattle.cdi_report.proofs.Common.{◌||◌, key_of, words_by, list_any, bytes_eq, has, Moved, or_cases, is_concerned}
-use Rattle.cdi_report.proofs.Common.{words_writing, has_one, keys_of_classes, keys_of_stereotypes, keys_under, names_of_kind, offered}
-use Rattle.cdi_report.proofs.Common.{reads_one, words_asking, words_sought}
-use Rattle.cdi_report.proofs.OfferLemmas.{offers_type}
+use Rattle.cdi_report.proofs.Common.{cases_Bool, false≢true, or_left, or_parts, or_right, kind_of, name_of_decl, key_at, same_key}
+use Rattle.cdi_report.proofs.Common.{same_key_equiv, find_decl, is_among, Decl, DeclKey, Word, word_at, words_have, ◌||◌, key_of, words_by}
+use Rattle.cdi_report.proofs.Common.{list_any, bytes_eq, has, Moved, or_cases, is_concerned, words_writing, has_one, keys_of_classes}
+use Rattle.cdi_report.proofs.Common.{keys_of_stereotypes, keys_under, names_of_kind, offered, reads_one, words_asking, words_sought}
 use Rattle.cdi_model.specs.declared.decl.Kind.TheVariants as kinds
 use Rattle.cdi_postings.specs.declared.word.Reason.TheVariants as reasons
+use Rattle.cdi_report.proofs.OfferLemmas.{offers_type}
 use Rattle.cdi_report.proofs.UnconcernedLemmas.{class-offers, found-among, named-among, none-back, none-front, none-named}
 
 -- ---- names

@@ -1,19 +1,17 @@
 -- What is not to be looked at again writes no edited name.
-use Rattle.base_lists.proofs.Each.{all-append}
-use Rattle.cdi_report.proofs.Common.{◌≡◌, ℕ, Bool, true, false, List, [], ◌∷◌, ◌++◌, map, flat_map, Some, option_map, refl, sym, ap, ◌∙◌}
-use Rattle.cdi_report.proofs.Common.{inl, inr, AllByRecursion, option_to_list, cases_Bool, false≢true, or_left, or_parts, or_right}
+use Rattle.cdi_report.proofs.Common.{all-append, ◌≡◌, ℕ, Bool, true, false, List, [], ◌∷◌, ◌++◌, map, flat_map, Some, option_map, refl, sym}
+use Rattle.cdi_report.proofs.Common.{ap, ◌∙◌, inl, inr, AllByRecursion, option_to_list, cases_Bool, false≢true, or_left, or_parts, or_right}
 use Rattle.cdi_report.proofs.Common.{list_any-append, key_at, same_key, find_decl, edited_all, edited_keys, is_among, mentions, Mention}
 use Rattle.cdi_report.proofs.Common.{UseOf, name_of_use, Decl, Edit, DeclKey, Qual, Word, same_word, word_at, reads_in, words_have}
 use Rattle.cdi_report.proofs.Common.{words_written_in, Tells, ◌||◌, PointOf, StereotypeOf, TypeIn, BindingDecl, StereotypeDecl, TypeDecl}
 use Rattle.cdi_report.proofs.Common.{list_any, bytes_eq, types_brought, has, as_binding, brings_type_decides, types_brought-has, same_text}
 use Rattle.cdi_report.proofs.Common.{suc, Kind, key_exact, supers_of, types_of, is_type_decides, types_of-has, or_cases, made_of_binding}
-use Rattle.cdi_report.proofs.Common.{made_of_type, IsNotEdited, named_in, words_writing}
+use Rattle.cdi_report.proofs.Common.{made_of_type, IsNotEdited, named_in, words_writing, among-names}
 use Rattle.cdi_model.specs.Decl.{declared_as}
 use Rattle.cdi_model.specs.declared.decl.Decl.TheVariants as decls
 use Rattle.cdi_model.specs.declared.decl.Kind.TheVariants as kinds
 use Rattle.cdi_model.specs.declared.decl.UseKind.TheVariants as uses
 use Rattle.cdi_model.specs.declared.mention.TypePlace.TheVariants as places
-use Rattle.cdi_match.proofs.LocalityLemmas.{among-names}
 use Rattle.cdi_postings.specs.declared.word.Reason.TheVariants as reasons
 use Rattle.cdi_report.proofs.ApartLemmas.{first-has}
 

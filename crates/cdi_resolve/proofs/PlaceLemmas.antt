@@ -1,23 +1,17 @@
 -- The places of beans, noted one bean after another.
-use Rattle.std.proofs.Common.{◌≡◌, ◌<◌, ◌+◌, ℕ, Bool, true, false, cond, Less, Option, Some, None, refl, sym, ap, ◌∙◌, subst}
-use Rattle.std.proofs.Common.{List, [], ◌∷◌, ◌++◌, length, drop, take, get_or, map, filter, append-nil, append_assoc}
-use Rattle.std.specs.Prelude.{All, position}
-use Rattle.std.specs.List.{AllByRecursion, position_from, slice_get}
-use Rattle.std.specs.List.Sorted.{IsStrictlySortedBy}
-use Rattle.std.specs.Option.{option_or}
-use Rattle.std.specs.Str.{bytes_eq}
-use Rattle.std.proofs.lemmas.List.{at_drop_more, map-append, take_more}
-use Rattle.std.proofs.lemmas.List.Elements.{All-from_recursion}
+use Rattle.std.proofs.Common.{◌≡◌, ◌<◌, ◌+◌, ℕ, Bool, true, false, cond, Less, Option, Some, None, refl, sym, ap, ◌∙◌, subst, List, [], ◌∷◌}
+use Rattle.std.proofs.Common.{◌++◌, length, drop, take, get_or, map, filter, append-nil, append_assoc}
+use Rattle.std.specs.{Prelude.All, Prelude.position, List.AllByRecursion, List.position_from, List.slice_get, Option.option_or}
+use Rattle.std.specs.{List.Sorted.IsStrictlySortedBy, Str.bytes_eq}
+use Rattle.std.proofs.lemmas.List.{at_drop_more, map-append, take_more, Elements.All-from_recursion}
 use Rattle.std.proofs.lemmas.Option.{slice_get_read, slice_get_within}
 use Rattle.base_numbers.proofs.Texts.{one_text, bytes_eq-turned}
 use Rattle.base_options.proofs.Options.{option_or-more}
 use Rattle.cdi_model.specs.Bytes.{byte_order}
 use Rattle.cdi_match.specs.Chain.{has}
 use Rattle.cdi_match.proofs.Names.{at_name}
-use Rattle.cdi_effective.specs.Records.{is_of_class}
-use Rattle.cdi_effective.specs.declared.records.Effective.{Effective}
-use Rattle.cdi_resolve.specs.Choices.{HasEnough, offers}
-use Rattle.cdi_resolve.specs.Places.{same_name}
+use Rattle.cdi_effective.specs.{Records.is_of_class, declared.records.Effective.Effective}
+use Rattle.cdi_resolve.specs.{Choices.HasEnough, Choices.offers, Places.same_name}
 
 -- a function of what is left of a list, where its next element is known
 pub next-left : {X Y : Type 0} (f : List X → Y) (xs : List X) (i : ℕ) (x : X) → i < length xs → x ≡ get_or xs i x

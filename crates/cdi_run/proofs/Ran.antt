@@ -2,14 +2,10 @@
 use Rattle.std.proofs.Common.{◌≤◌, refl}
 use Rattle.cdi_model.specs.declared.outcome.Outcome.{Outcome}
 use Rattle.cdi_contexts.specs.Standing.{Standing}
-use Rattle.cdi_scene.specs.Sound.{Bodies, IsSound}
-use Rattle.cdi_scene.specs.declared.scene.Scene.{Scene}
-use Rattle.cdi_legal.specs.Laws.{HasCause, IsFaultless, IsOrdered}
-use Rattle.cdi_legal.specs.LegalRun.{Command, LegalRun, Runs}
+use Rattle.cdi_scene.specs.{Sound.Bodies, Sound.IsSound, declared.scene.Scene.Scene}
+use Rattle.cdi_legal.specs.{Laws.HasCause, Laws.IsFaultless, Laws.IsOrdered, LegalRun.Command, LegalRun.LegalRun, LegalRun.Runs}
 use Rattle.cdi_legal.specs.Moment.{beginning, Moment}
-use Rattle.cdi_legal.proofs.Bounding.{commands_keep_budget}
-use Rattle.cdi_legal.proofs.Causing.{commands_fail_for_causes}
-use Rattle.cdi_legal.proofs.Faultless.{commands_are_faultless}
+use Rattle.cdi_legal.proofs.{Bounding.commands_keep_budget, Causing.commands_fail_for_causes, Faultless.commands_are_faultless}
 use Rattle.cdi_legal.proofs.Ordering.{commands_are_ordered}
 
 module _ {s : Scene} {c : Command} {before : Standing} {o : Outcome} {m : Moment} (runs : Runs s c (beginning before) o m) where

@@ -1,38 +1,25 @@
 -- What runs rest on stays along their steps.
 use Rattle.std.proofs.Common.{◌≡◌, ℕ, ◌+◌, ◌≤◌, List, [], Option, Some, None, ap, subst, arith, length, slice_get, refl, sym, ◌∙◌}
 use Rattle.std.proofs.lemmas.Option.{slice_get_within}
-use Rattle.cdi_contexts.specs.Rising.{IsOwnerOf, IsRising}
-use Rattle.cdi_contexts.specs.Standing.{Standing}
-use Rattle.cdi_contexts.specs.declared.instance.Actor.TheVariants.{Target}
-use Rattle.cdi_contexts.specs.declared.instance.Instance.{Instance}
-use Rattle.cdi_contexts.specs.declared.instance.InstanceId.{InstanceId}
-use Rattle.cdi_contexts.specs.declared.instance.Owner.{Owner}
-use Rattle.cdi_scene.specs.Scene.{managed_at, product_at, observer_at}
-use Rattle.cdi_scene.specs.Sound.{IsNamed, home_of, params_at}
-use Rattle.cdi_scene.specs.declared.place.Place.{Place}
+use Rattle.cdi_model.specs.declared.outcome.Outcome.{Outcome}
+use Rattle.cdi_contexts.specs.{Rising.IsOwnerOf, Rising.IsRising, Standing.Standing, declared.instance.Actor.TheVariants.Target}
+use Rattle.cdi_contexts.specs.declared.instance.{Instance.Instance, InstanceId.InstanceId, Owner.Owner}
+use Rattle.cdi_scene.specs.{Scene.managed_at, Scene.product_at, Scene.observer_at, Sound.IsNamed, Sound.home_of, Sound.params_at}
+use Rattle.cdi_scene.specs.declared.{place.Place.Place, place.Seat.Seat, scene.CallSite.CallSite, scene.Managed.Managed}
+use Rattle.cdi_scene.specs.declared.scene.{Observer.Observer, Product.Product, Scene.Scene}
 use Rattle.cdi_scene.specs.declared.place.Place.TheVariants as places
-use Rattle.cdi_scene.specs.declared.place.Seat.{Seat}
-use Rattle.cdi_scene.specs.declared.scene.CallSite.{CallSite}
-use Rattle.cdi_scene.specs.declared.scene.Managed.{Managed}
-use Rattle.cdi_scene.specs.declared.scene.Observer.{Observer}
-use Rattle.cdi_scene.specs.declared.scene.Product.{Product}
-use Rattle.cdi_scene.specs.declared.scene.Scene.{Scene}
-use Rattle.cdi_legal.specs.Ends.{Held, seat_on, seat_of_class}
 use Rattle.cdi_legal.specs.Furnished.{HasDependents, IsDependent, IsFurnished, IsServed}
-use Rattle.cdi_legal.specs.Legal.{Legal, Node, Answer, at, create, dependent_of, failure_is, for_param, held_is, inject, made_is}
-use Rattle.cdi_legal.specs.Legal.{obtain, reach, supply}
+use Rattle.cdi_legal.specs.Legal.{Legal, Node, Answer, at, create, dependent_of, failure_is, for_param, held_is, inject, made_is, obtain}
+use Rattle.cdi_legal.specs.Legal.{reach, supply}
 use Rattle.cdi_legal.specs.LegalRun.{LegalEnd, LegalRequestEnd, Runs, Command}
-use Rattle.cdi_legal.specs.Moment.{Moment, put}
-use Rattle.cdi_legal.specs.declared.entry.Entry.{Entry}
-use Rattle.cdi_legal.specs.declared.entry.Entry.TheVariants as entries
 use Rattle.cdi_legal.specs.declared.entry.Made.TheVariants.{Instance as Obtained}
-use Rattle.cdi_legal.proofs.Keeping.{WasGiven, owned-param}
-use Rattle.cdi_legal.proofs.Reaching.{reaches, reached_has}
 use Rattle.cdi_legal.proofs.Settling.{Begins, IsApart, Settled, begin, created_has, has-after, has-injected, legal_settled, obtained_has}
 use Rattle.cdi_legal.proofs.Settling.{context_settled, runs_settled, sound_apart}
+use Rattle.cdi_legal.specs.{Ends.Held, Ends.seat_on, Ends.seat_of_class, Moment.Moment, Moment.put, declared.entry.Entry.Entry}
+use Rattle.cdi_legal.proofs.{Keeping.WasGiven, Keeping.owned-param, Reaching.reaches, Reaching.reached_has}
 use Rattle.cdi_legal.proofs.Supplying.{AreHeld, held-after, supplied_has}
+use Rattle.cdi_legal.specs.declared.entry.Entry.TheVariants as entries
 use Rattle.cdi_ending.specs.Staged.{Staged}
-use Rattle.cdi_model.specs.declared.outcome.Outcome.{Outcome}
 use Rattle.cdi_run.specs.Known.{HostHas, IsBegun, IsSettled}
 
 -- ---- forms

@@ -1,27 +1,21 @@
 -- Commands that are answered alike.
-use Rattle.std.proofs.Common.{◌≡◌, ℕ, ◌<◌, List, [], ◌∷◌, length, refl, ap, ap₂, sym, ◌∙◌, subst, inl, inr}
-use Rattle.std.specs.Prelude.{nat_lt, flat_map, Option, Some, None, option_to_list, Result, Ok, Err, if◌then◌else◌}
-use Rattle.std.proofs.lemmas.List.{length-map}
-use Rattle.std.proofs.lemmas.Bool.{lt-ltb}
-use Rattle.std.specs.declared.alloc.AllocError.{AllocError}
-use Rattle.cdi_model.specs.declared.decl.Decl.{Decl}
+use Rattle.cdi_script.proofs.Common.{◌≡◌, ℕ, ◌<◌, List, [], ◌∷◌, length, refl, ap, sym, ◌∙◌, subst, inl, inr, Option, Some, None}
+use Rattle.cdi_script.proofs.Common.{option_to_list, Result, Ok, Err, if◌then◌else◌, AllocError, Decl, Command, Edit, ServesText, Answer}
+use Rattle.cdi_script.proofs.Common.{change_of, State, RunnerOn, Runs, RunsStep, Tries, ServesEdits, ServesCommand, ServesCompleted}
+use Rattle.std.proofs.{Common.ap₂, lemmas.List.length-map, lemmas.Bool.lt-ltb}
+use Rattle.std.specs.Prelude.{nat_lt, flat_map}
 use Rattle.cdi_model.specs.declared.refusal.Refusal.TheVariants.{TooLong, BatchTooLong}
-use Rattle.cdi_text.specs.Reading.{decl_of}
-use Rattle.cdi_lines.specs.declared.command.Command.{Command}
-use Rattle.cdi_lines.specs.declared.command.Command.TheVariants.{Edit as EditCommand, Batch as BatchCommand}
-use Rattle.cdi_lines.specs.declared.edit.Edit.{Edit}
-use Rattle.cdi_lines.specs.declared.edit.Edit.TheVariants as edits
-use Rattle.cdi_lines.specs.Kept.{ServesText}
-use Rattle.cdi_container.specs.declared.answer.Answer.{Answer}
-use Rattle.cdi_container.specs.declared.answer.Answer.TheVariants.{Done, Chosen, Intercepted, Observed, Reported, Counted, Worked, Given, Refused}
-use Rattle.cdi_container.specs.Editing.{Reason, alone, put_of, change_of, changes_in, asked_by, refusal_of_change, first_refusal, refusal_of_batch}
-use Rattle.cdi_container.specs.History.{State, Acts, AsksSome, EditsFrom, LegalAnswer, asked, emptied, evaluates, refusal_of, runs, untold}
-use Rattle.cdi_script.specs.Runner.{RunnerOn, Runs, RunsStep, Tries}
 use Rattle.cdi_model.specs.Edits.{edited_all}
+use Rattle.cdi_lines.specs.declared.command.Command.TheVariants.{Edit as EditCommand, Batch as BatchCommand}
+use Rattle.cdi_lines.specs.declared.edit.Edit.TheVariants as edits
+use Rattle.cdi_text.specs.Reading.{decl_of}
+use Rattle.cdi_container.specs.declared.answer.Answer.TheVariants.{Done, Chosen, Intercepted, Observed, Reported, Counted, Worked, Given}
+use Rattle.cdi_container.specs.declared.answer.Answer.TheVariants.{Refused}
+use Rattle.cdi_container.specs.Editing.{Reason, alone, put_of, changes_in, asked_by, refusal_of_change, first_refusal, refusal_of_batch}
 use Rattle.cdi_container.specs.Editing.{changes_of_all}
-use Rattle.cdi_script.specs.Left.{left_by_change, left_unless}
-use Rattle.cdi_script.specs.Begun.{ServesEdits, ServesCommand, ServesCompleted}
+use Rattle.cdi_container.specs.History.{Acts, AsksSome, EditsFrom, LegalAnswer, asked, emptied, evaluates, refusal_of, runs, untold}
 use Rattle.cdi_script.proofs.Runs.{runs_none, runs_one}
+use Rattle.cdi_script.specs.Left.{left_by_change, left_unless}
 
 -- what one does that evaluates nothing, another does
 does : (old new : State) (kept command : Command) (given : Answer) → evaluates old kept ≡ [] → evaluates old command ≡ []

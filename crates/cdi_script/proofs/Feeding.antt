@@ -1,32 +1,21 @@
 -- What an intake has printed and sent as it takes bytes.
-use Rattle.std.proofs.Common.{◌≡◌, ℕ, List, [], ◌∷◌, ◌++◌, refl, ap, sym, ◌∙◌, subst, take, drop, inl, inr, Option, append_assoc}
-use Rattle.std.specs.Prelude.{◌||◌, ◌==◌}
+use Rattle.cdi_script.proofs.Common.{◌≡◌, ℕ, List, [], ◌∷◌, ◌++◌, refl, ap, sym, ◌∙◌, subst, take, drop, inl, inr, Option, append_assoc}
+use Rattle.cdi_script.proofs.Common.{◌||◌, ◌==◌, Appends, append-nil, map-append, take-append-drop, feed, ended_from, begun_from, last_line}
+use Rattle.cdi_script.proofs.Common.{Command, Mode, outside, commands_of_line, commands_of_lines, mode_of_lines, complete_commands}
+use Rattle.cdi_script.proofs.Common.{commands, unclosed, AreFirst, State, text_of_step, is_refused, RunnerOn, runner_on, Runs, Tries}
+use Rattle.cdi_script.proofs.Common.{IntakeOn, intake_on, Advances, EndsLastLine, EndsMode, TriesBytes, TriesLastLine, ServesLine}
+use Rattle.cdi_script.proofs.Common.{ServesMode, Setting, WroteAll, Feeds, FeedsBeforeMemory, FeedsPart, EndsBeforeMemory, EndsPart}
+use Rattle.cdi_script.proofs.Common.{SettlesPart, Runner, Intake}
 use Rattle.std.specs.List.{list_any}
-use Rattle.std.specs.Io.KnownBytes.{Appends}
-use Rattle.std.proofs.lemmas.List.{append-nil, map-append, take-append-drop}
-use Rattle.std.proofs.lemmas.List.Folds.{list_any-append}
-use Rattle.std.proofs.lemmas.Grind.{flat_map-append}
-use Rattle.cdi_model.specs.Bytes.{feed}
-use Rattle.cdi_lines.specs.Lines.{ended_from, begun_from, ended_lines, begun_line, last_line}
-use Rattle.cdi_lines.specs.declared.command.Command.{Command}
-use Rattle.cdi_script.specs.Commands.{Mode, outside, commands_of_line, mode_after, commands_of_lines, mode_of_lines, complete_commands}
-use Rattle.cdi_script.specs.Commands.{mode_of, commands, unclosed, AreFirst}
-use Rattle.cdi_container.specs.History.{State}
-use Rattle.cdi_script.specs.Text.{text_of, text_of_step, is_refused, is_out_of_memory}
-use Rattle.cdi_script.specs.Runner.{RunnerOn, runner_on, Runs, Tries}
-use Rattle.cdi_script.specs.Intake.{IntakeOn, intake_on, Keeps, Advances, EndsLastLine, EndsMode, TriesBytes, TriesLastLine, TriesMode}
-use Rattle.cdi_lines.specs.Kept.{ServesLine}
-use Rattle.cdi_script.specs.Begun.{ServesMode}
-use Rattle.cdi_script.specs.Run.{Setting, WroteAll, WrotePart, WroteAllBut, WrotePartBut}
-use Rattle.cdi_script.specs.Run.{Printed, Stands, Sends, SendsPart, SendsLast, Feeds}
-use Rattle.cdi_script.specs.Run.{FeedsBeforeMemory, FeedsPart, RunsWhole, Ends, EndsBeforeMemory, EndsPart, contents_of, Settles, SettlesPart}
+use Rattle.std.proofs.lemmas.{List.Folds.list_any-append, Grind.flat_map-append, Bool.cases_Bool}
 use Rattle.cdi_devices.specs.declared.counted.Counted.{Counted}
-use Rattle.cdi_script.specs.declared.runner.Runner.{Runner}
-use Rattle.cdi_script.specs.declared.intake.Intake.{Intake}
+use Rattle.cdi_devices.proofs.Known.{Appends-more}
+use Rattle.cdi_lines.specs.Lines.{ended_lines, begun_line}
 use Rattle.cdi_script.proofs.Runs.{LegalHistory-append, cc_append, cc_or}
 use Rattle.cdi_script.proofs.Trying.{tries_among, tries_behind}
-use Rattle.cdi_devices.proofs.Known.{Appends-more}
-use Rattle.std.proofs.lemmas.Bool.{cases_Bool}
+use Rattle.cdi_script.specs.Run.{WrotePart, WroteAllBut, WrotePartBut, Printed, Stands, Sends, SendsPart, SendsLast, RunsWhole, Ends}
+use Rattle.cdi_script.specs.Run.{contents_of, Settles}
+use Rattle.cdi_script.specs.{Commands.mode_after, Commands.mode_of, Text.text_of, Text.is_out_of_memory, Intake.Keeps, Intake.TriesMode}
 
 pub begun_from-append : (b xs ys : List ℕ) → begun_from b (xs ++ ys) ≡ begun_from (begun_from b xs) ys
 begun_from-append b [] ys = refl

@@ -1,27 +1,18 @@
 -- A run from one read to the next, and how it ends.
-use Rattle.std.proofs.Common.{◌≡◌, ℕ, List, [], ◌∷◌, ◌++◌, take, refl, ap, sym, ◌∙◌, subst, Option, Some, None, length, true, false, inl}
-use Rattle.std.proofs.Common.{inr, append_assoc, arith}
-use Rattle.std.specs.Prelude.{Bool, Err, ◌<◌, ◌≤◌, ◌&&◌, not, alloc_error}
-use Rattle.std.proofs.lemmas.Bool.{false≢true, true≢false}
-use Rattle.std.specs.Io.KnownBytes.{Appends, Consumes}
-use Rattle.std.proofs.lemmas.List.{append-nil, length-append, length-take}
-use Rattle.cdi_lines.specs.declared.command.Command.{Command}
-use Rattle.cdi_script.specs.Commands.{outside, complete_commands, commands, AreFirst}
-use Rattle.cdi_devices.specs.Counted.{inner_of, bytes_of, has_failed, is_flushed, is_settled}
-use Rattle.cdi_devices.specs.Devices.{Gives}
-use Rattle.cdi_lines.specs.Kept.{ServesLine}
-use Rattle.cdi_staging.specs.Naming.{names_of}
-use Rattle.cdi_container.specs.History.{State, Unserved, runs as is_run}
-use Rattle.cdi_script.specs.Runner.{Tries}
-use Rattle.cdi_script.specs.Begun.{ServesMode}
-use Rattle.cdi_script.specs.Intake.{IntakeOn, intake_on, IsFresh}
-use Rattle.cdi_script.specs.Run.{Setting, WroteAll, AnswersFirst, Leaves, RunsOutOfMemoryTo, FailsToWriteTo, Goes, Feeds, FeedsBeforeMemory}
-use Rattle.cdi_script.specs.Run.{FeedsPart, EndsBeforeMemory, EndsPart}
-use Rattle.cdi_devices.specs.declared.counted.Counted.{Counted}
-use Rattle.cdi_script.specs.declared.intake.Intake.{Intake}
+use Rattle.cdi_script.proofs.Common.{◌≡◌, ℕ, List, [], ◌∷◌, ◌++◌, take, refl, ap, sym, ◌∙◌, subst, Option, Some, None, length, true, false}
+use Rattle.cdi_script.proofs.Common.{inl, inr, append_assoc, arith, Bool, Err, ◌<◌, ◌≤◌, Appends, append-nil, length-append, Command}
+use Rattle.cdi_script.proofs.Common.{outside, complete_commands, commands, AreFirst, bytes_of, has_failed, ServesLine, names_of, State}
+use Rattle.cdi_script.proofs.Common.{Tries, ServesMode, IntakeOn, intake_on, Setting, WroteAll, RunsOutOfMemoryTo, FailsToWriteTo, Goes}
+use Rattle.cdi_script.proofs.Common.{Feeds, FeedsBeforeMemory, FeedsPart, EndsBeforeMemory, EndsPart, Intake}
+use Rattle.std.specs.Prelude.{◌&&◌, not, alloc_error}
+use Rattle.std.proofs.lemmas.{Bool.false≢true, Bool.true≢false, List.length-take}
+use Rattle.std.specs.Io.KnownBytes.{Consumes}
+use Rattle.cdi_devices.specs.{Counted.inner_of, Counted.is_flushed, Counted.is_settled, Devices.Gives, declared.counted.Counted.Counted}
 use Rattle.cdi_devices.proofs.Known.{Consumes-more}
+use Rattle.cdi_container.specs.History.{Unserved, runs as is_run}
 use Rattle.cdi_script.proofs.Feeding.{first_complete}
 use Rattle.cdi_script.proofs.Serving.{serves_itself}
+use Rattle.cdi_script.specs.{Intake.IsFresh, Run.AnswersFirst, Run.Leaves}
 
 Appends-none : (known : Option (List ℕ)) → Appends known known []
 Appends-none None = tt

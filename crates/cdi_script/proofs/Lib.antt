@@ -1,3 +1,4 @@
+mod Common
 mod Runs
 mod Ran
 mod Serving

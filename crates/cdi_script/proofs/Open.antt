@@ -1,23 +1,18 @@
 -- What is kept of a batch and of a put block that are open serves for all of them.
-use Rattle.std.proofs.Common.{◌≡◌, ℕ, ◌<◌, List, [], ◌∷◌, ◌++◌, refl, ap, sym, ◌∙◌, subst, true, false, Bool, inl, inr, arith}
-use Rattle.std.specs.Prelude.{Option, Some, None, Result, Ok, Err}
-use Rattle.std.proofs.lemmas.List.{length-append, map-append}
+use Rattle.cdi_script.proofs.Common.{◌≡◌, ℕ, ◌<◌, List, [], ◌∷◌, ◌++◌, refl, ap, sym, ◌∙◌, subst, true, false, Bool, inl, inr, arith}
+use Rattle.cdi_script.proofs.Common.{Option, Some, None, Result, Ok, Err, length-append, map-append, Command, Unreadable, Edit}
+use Rattle.cdi_script.proofs.Common.{said_of_line, ServesLine, ServesText, change_of, Mode, taken, is_dot, unclosed, ServesEdits}
+use Rattle.cdi_script.proofs.Common.{ServesMode, ServesCommand, ServesCompleted, ServesTaken}
 use Rattle.cdi_model.specs.declared.refusal.Refusal.{Refusal}
-use Rattle.cdi_lines.specs.declared.command.Command.{Command}
-use Rattle.cdi_lines.specs.declared.command.Command.TheVariants.{Unreadable}
 use Rattle.cdi_lines.specs.declared.command.Said.{Said}
 use Rattle.cdi_lines.specs.declared.command.Said.TheVariants as said
-use Rattle.cdi_lines.specs.declared.edit.Edit.{Edit}
 use Rattle.cdi_lines.specs.declared.edit.Edit.TheVariants as edits
-use Rattle.cdi_lines.specs.Command.{said_of_line}
-use Rattle.cdi_lines.specs.Kept.{ServesLine, ServesText}
-use Rattle.cdi_container.specs.Editing.{change_of}
-use Rattle.cdi_script.specs.Commands.{OpenBatch, Edits, Spoiled, Mode, Taken, with_edit, command_of_batch, edited, commanded, batch_begun}
-use Rattle.cdi_script.specs.Commands.{batch_ended, taken, taken_at, taken_said, taken_in_put, is_dot, unclosed, unclosed_at}
-use Rattle.cdi_script.specs.Begun.{ServesEdits, ServesOpen, ServesBatch, ServesBlock, ServesMode, ServesCommand, ServesCompleted, ServesTaken}
 use Rattle.cdi_script.proofs.Runs.{cc_append}
 use Rattle.cdi_script.proofs.Serving.{serves_command, serves_dot, serves_with_line, serves_serving_text}
 use Rattle.cdi_script.proofs.Alike.{asked_alike, serves_edit, serves_batch, asks_alike}
+use Rattle.cdi_script.specs.Commands.{OpenBatch, Edits, Spoiled, Taken, with_edit, command_of_batch, edited, commanded, batch_begun}
+use Rattle.cdi_script.specs.Commands.{batch_ended, taken_at, taken_said, taken_in_put, unclosed_at}
+use Rattle.cdi_script.specs.Begun.{ServesOpen, ServesBatch, ServesBlock}
 
 -- ---- edits
 

@@ -1,15 +1,8 @@
 -- A call of the container and the printing after it make one step.
-use Rattle.std.proofs.Common.{◌++◌, refl, ap, ◌∙◌}
-use Rattle.std.specs.Prelude.{[], Ok, if◌then◌else◌}
-use Rattle.cdi_staging.specs.Naming.{names_of}
-use Rattle.cdi_lines.specs.declared.command.Command.{Command}
-use Rattle.cdi_container.specs.declared.answer.Answer.{Answer}
-use Rattle.cdi_container.specs.Seen.{IsStep}
-use Rattle.cdi_container.specs.History.{State}
+use Rattle.cdi_script.proofs.Common.{◌++◌, refl, ap, ◌∙◌, [], Ok, if◌then◌else◌, names_of, Command, Answer, IsStep, State, runner_on}
+use Rattle.cdi_script.proofs.Common.{RunsStep, Runner}
 use Rattle.cdi_container.proofs.Telling.{step_tells}
-use Rattle.cdi_script.specs.Text.{text_of_answer}
-use Rattle.cdi_script.specs.Runner.{runner_on, RunsStep, Prints}
-use Rattle.cdi_script.specs.declared.runner.Runner.{Runner}
+use Rattle.cdi_script.specs.{Text.text_of_answer, Runner.Prints}
 
 pub ran : (old new : Runner) (before after : State) (command : Command) (answer : Answer) → IsStep before command (Ok answer) after
     → Prints after old new answer → RunsStep (runner_on old before) (runner_on new after) command

@@ -1,12 +1,8 @@
 -- Runs of no command, of one, and one behind another.
-use Rattle.std.proofs.Common.{◌≡◌, List, [], ◌∷◌, ◌++◌, refl, subst, ap, sym, ◌∙◌, false}
-use Rattle.std.specs.Prelude.{Bool, ◌||◌}
-use Rattle.std.proofs.lemmas.List.{append-nil}
+use Rattle.cdi_script.proofs.Common.{◌≡◌, List, [], ◌∷◌, ◌++◌, refl, subst, ap, sym, ◌∙◌, false, Bool, ◌||◌, append-nil, Command, State}
+use Rattle.cdi_script.proofs.Common.{text_of_step, is_refused, RunnerOn, Runs, RunsStep}
 use Rattle.std.proofs.Math.Bool.{or-false}
-use Rattle.cdi_lines.specs.declared.command.Command.{Command}
-use Rattle.cdi_container.specs.History.{State, History, LegalHistory}
-use Rattle.cdi_script.specs.Text.{text_of_step, is_refused}
-use Rattle.cdi_script.specs.Runner.{RunnerOn, Runs, RunsStep}
+use Rattle.cdi_container.specs.History.{History, LegalHistory}
 
 pub cc_append : {A : Type 0} (a b c d : List A) → a ≡ b → c ≡ d → a ++ c ≡ b ++ d
 cc_append a b c d e f = cc

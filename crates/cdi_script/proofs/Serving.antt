@@ -1,16 +1,12 @@
 -- What is kept of a line or a put block serves for all of it.
-use Rattle.std.proofs.Common.{◌≡◌, ℕ, ◌+◌, ◌<◌, ◌≤◌, List, [], ◌∷◌, ◌++◌, length, refl, ap, sym, ◌∙◌, subst, false, inl, inr}
-use Rattle.std.proofs.Common.{append_assoc, arith}
+use Rattle.cdi_script.proofs.Common.{◌≡◌, ℕ, ◌+◌, ◌<◌, ◌≤◌, List, [], ◌∷◌, ◌++◌, length, refl, ap, sym, ◌∙◌, subst, false, inl, inr}
+use Rattle.cdi_script.proofs.Common.{append_assoc, arith, ◌==◌, append-nil, length-append, feed, said_of_line, ServesLine, ServesText}
+use Rattle.cdi_script.proofs.Common.{is_dot}
 use Rattle.std.proofs.Math.Bool.{and-false}
-use Rattle.std.specs.Prelude.{◌==◌, codes}
-use Rattle.std.specs.Str.{bytes_eq}
-use Rattle.std.proofs.lemmas.List.{append-nil, length-append}
-use Rattle.cdi_model.specs.Bytes.{dot, feed}
-use Rattle.cdi_lines.specs.Words.{without_return}
-use Rattle.cdi_lines.specs.Command.{said_of_line}
-use Rattle.cdi_lines.specs.Kept.{ServesLine, ServesText, with_line}
+use Rattle.std.specs.{Prelude.codes, Str.bytes_eq}
+use Rattle.cdi_model.specs.Bytes.{dot}
+use Rattle.cdi_lines.specs.{Words.without_return, Kept.with_line}
 use Rattle.cdi_lines.proofs.LongLemmas.{length-without_return}
-use Rattle.cdi_script.specs.Commands.{is_dot}
 
 pub serves_command : (kept line : List ℕ) → ServesLine kept line → said_of_line kept ≡ said_of_line line
 serves_command kept line (inl h) = ap said_of_line h

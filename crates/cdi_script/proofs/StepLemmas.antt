@@ -1,18 +1,12 @@
 -- The declarations that the commands of a script leave, where what is kept of its lines serves for them.
-use Rattle.std.proofs.Common.{◌≡◌, ℕ, List, [], ◌∷◌, ◌++◌, refl, ap, sym, ◌∙◌, append_assoc, subst}
-use Rattle.std.specs.Prelude.{Option, Some, None, option_to_list}
-use Rattle.std.proofs.lemmas.List.{append-nil}
-use Rattle.cdi_model.specs.Bytes.{feed}
-use Rattle.cdi_model.specs.declared.decl.Decl.{Decl}
-use Rattle.cdi_lines.specs.declared.command.Command.{Command}
-use Rattle.cdi_lines.specs.Lines.{NoFeed, begun_from, ended_from, last_line, lines}
-use Rattle.cdi_script.specs.Begun.{ServesCompleted, ServesTaken}
-use Rattle.cdi_script.specs.Commands.{Mode, commands_of_lines, mode_of_lines, outside, taken, unclosed}
-use Rattle.cdi_script.specs.Left.{left_by, left_by_all}
-use Rattle.cdi_script.specs.Reads.{left_commands, Reads}
+use Rattle.cdi_script.proofs.Common.{◌≡◌, ℕ, List, [], ◌∷◌, ◌++◌, refl, ap, sym, ◌∙◌, append_assoc, subst, Option, Some, None}
+use Rattle.cdi_script.proofs.Common.{option_to_list, append-nil, feed, Decl, Command, NoFeed, begun_from, ended_from, last_line}
+use Rattle.cdi_script.proofs.Common.{ServesCompleted, ServesTaken, Mode, commands_of_lines, mode_of_lines, outside, taken, unclosed}
+use Rattle.cdi_lines.specs.Lines.{lines}
 use Rattle.cdi_script.proofs.Open.{serves_serving_taken, serves_taken, serves_unclosed}
 use Rattle.cdi_script.proofs.Serving.{serves_itself}
 use Rattle.cdi_script.proofs.Taking.{ended_from-no_feed, begun_from-no_feed}
+use Rattle.cdi_script.specs.{Left.left_by, Left.left_by_all, Reads.left_commands, Reads.Reads}
 
 pub left-append : (ds : List Decl) (before after : List Command) → left_by_all ds (before ++ after) ≡ left_by_all (left_by_all ds before) after
 left-append ds [] after = refl

@@ -1,22 +1,15 @@
 -- Taking lines.
-use Rattle.std.proofs.Common.{◌≡◌, ℕ, List, [], ◌∷◌, ◌++◌, refl, ap, sym, ◌∙◌, subst, append_assoc}
-use Rattle.std.specs.Prelude.{Option, Some, None}
-use Rattle.std.proofs.lemmas.List.{append-nil}
-use Rattle.cdi_model.specs.Bytes.{feed}
-use Rattle.cdi_lines.specs.declared.command.Command.{Command}
-use Rattle.cdi_lines.specs.declared.command.Command.TheVariants.{Unreadable}
-use Rattle.cdi_lines.specs.Lines.{NoFeed, ended_from, begun_from, last_line}
-use Rattle.cdi_lines.specs.Kept.{ServesLine}
-use Rattle.cdi_script.specs.Commands.{Mode, commands_of_line, commands_of_lines, mode_of_lines, taken, unclosed}
-use Rattle.cdi_script.specs.Begun.{ServesMode, ServesTaken}
-use Rattle.cdi_script.specs.Runner.{Runs, RunsStep, Tries}
-use Rattle.cdi_script.specs.Intake.{IntakeOn, TakesLine, Advances, EndsLastLine, EndsMode, Tried, TriesLine, TriesBytes, TriesLastLine}
+use Rattle.cdi_script.proofs.Common.{◌≡◌, ℕ, List, [], ◌∷◌, ◌++◌, refl, ap, sym, ◌∙◌, subst, append_assoc, Option, Some, None, append-nil}
+use Rattle.cdi_script.proofs.Common.{feed, Command, Unreadable, NoFeed, ended_from, begun_from, last_line, ServesLine, Mode}
+use Rattle.cdi_script.proofs.Common.{commands_of_line, commands_of_lines, mode_of_lines, taken, unclosed, ServesMode, ServesTaken, Runs}
+use Rattle.cdi_script.proofs.Common.{RunsStep, Tries, IntakeOn, Advances, EndsLastLine, EndsMode, TriesBytes, TriesLastLine}
 use Rattle.cdi_script.proofs.Runs.{runs_none, runs_one}
 use Rattle.cdi_script.proofs.Serving.{serves_serving, serves_more, serves_itself, serves_started}
 use Rattle.cdi_script.proofs.Alike.{runs_no_command, runs_command, tries_command}
 use Rattle.cdi_script.proofs.Open.{serves_taken, serves_serving_taken, serves_unclosed}
 use Rattle.cdi_script.proofs.Trying.{tries_among}
 use Rattle.cdi_script.proofs.Feeding.{ended_from-append, commands_of_lines-append}
+use Rattle.cdi_script.specs.Intake.{TakesLine, Tried, TriesLine}
 
 -- what was done with a line serves for all that it stands for
 all_of : (kept : List ℕ) (old new mode : Mode) (command : Option Command) (line : List ℕ) → ServesTaken command new (taken old kept)

@@ -1,14 +1,7 @@
 -- What was carried out where memory was wanted.
-use Rattle.std.proofs.Common.{List, [], ◌∷◌, ◌++◌, refl, ap, sym, ◌∙◌, inl, inr, append_assoc}
-use Rattle.std.specs.Prelude.{Result, Ok, Err, OnErr}
-use Rattle.std.specs.declared.alloc.AllocError.{AllocError}
-use Rattle.cdi_staging.specs.Naming.{names_of}
-use Rattle.cdi_lines.specs.declared.command.Command.{Command}
-use Rattle.cdi_container.specs.declared.answer.Answer.{Answer}
-use Rattle.cdi_script.specs.Commands.{AreFirst}
-use Rattle.cdi_container.specs.History.{State, trace_behind}
-use Rattle.cdi_container.specs.Seen.{IsStep}
-use Rattle.cdi_script.specs.Runner.{Tries}
+use Rattle.cdi_script.proofs.Common.{List, [], ◌∷◌, ◌++◌, refl, ap, sym, ◌∙◌, inl, inr, append_assoc, Result, AllocError, names_of, Command}
+use Rattle.cdi_script.proofs.Common.{Answer, AreFirst, State, IsStep, Tries}
+use Rattle.cdi_container.specs.History.{trace_behind}
 
 -- the first of the first ones
 pub first_of_first : (a b c : List Command) → AreFirst a b → AreFirst b c → AreFirst a c

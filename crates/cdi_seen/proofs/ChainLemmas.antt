@@ -1,37 +1,32 @@
 -- A chain that is not at stake sees the same.
 use Rattle.cdi_seen.proofs.Common.{◌≡◌, ℕ, ℤ, Bool, true, false, cond, List, [], ◌∷◌, ◌++◌, map, filter, flat_map, Option, Some, None}
 use Rattle.cdi_seen.proofs.Common.{option_map, unwrap_or, refl, sym, ap, ◌∙◌, IsStrictWeakOrder, list_any, bytes_eq, and_right, or_from}
-use Rattle.cdi_seen.proofs.Common.{or_left, or_right, map-append, filter-append, key_at, same_key, AreDistinct, edited_all, Avoid}
-use Rattle.cdi_seen.proofs.Common.{name_of_use, BeanDecl, Decl, Edit, BeanPlace, Qual, edits_keep_decl, avoid-first, avoid-head, same_text}
-use Rattle.cdi_seen.proofs.Common.{avoid-second, has, FilledUse, filled, filled_by, binding_reads, effective, class_bindings}
-use Rattle.cdi_seen.proofs.Common.{in_place_of, as_bean, find_bean, uses_one, record_reads, Effective, edits_keep_own_records}
-use Rattle.cdi_seen.proofs.Common.{around_method, of_method, of_observer, of_producer, set_by, sorted_by, sorted_map, ChainKey, unranked}
-use Rattle.cdi_seen.proofs.Common.{IsPresent, given_reads, own_bindings, own_reads, TellsAffected, use_reads, IsUnmet, names_under}
-use Rattle.cdi_seen.proofs.Common.{SeenInterceptor}
-use Rattle.std.proofs.Common.{is_some}
-use Rattle.std.specs.Cmp.{int_cmp_total}
-use Rattle.std.specs.Cmp.Lexicographic.{options_total}
-use Rattle.std.specs.Option.{option_to_list}
-use Rattle.std.proofs.lemmas.List.Sorted.{ranks_by}
+use Rattle.cdi_seen.proofs.Common.{or_left, or_right, map-append, filter-append, key_at, AreDistinct, edited_all, Avoid, name_of_use}
+use Rattle.cdi_seen.proofs.Common.{BeanDecl, Decl, Edit, BeanPlace, Qual, edits_keep_decl, avoid-first, avoid-head, same_text, avoid-second}
+use Rattle.cdi_seen.proofs.Common.{has, FilledUse, filled, filled_by, binding_reads, effective, class_bindings, in_place_of, as_bean}
+use Rattle.cdi_seen.proofs.Common.{find_bean, uses_one, record_reads, Effective, edits_keep_own_records, around_method, of_method}
+use Rattle.cdi_seen.proofs.Common.{of_observer, of_producer, set_by, sorted_by, sorted_map, ChainKey, unranked, IsPresent, given_reads}
+use Rattle.cdi_seen.proofs.Common.{own_bindings, own_reads, TellsAffected, use_reads, IsUnmet, names_under, SeenInterceptor}
+use Rattle.std.proofs.{Common.is_some, lemmas.List.Sorted.ranks_by}
+use Rattle.std.specs.{Cmp.int_cmp_total, Cmp.Lexicographic.options_total, Option.option_to_list}
 use Rattle.base_lists.proofs.Any.{any-map}
+use Rattle.cdi_model.specs.{DeclKey.same_key, declared.decl.InterceptorDecl.InterceptorDecl}
 use Rattle.cdi_model.specs.declared.decl.Decl.TheVariants as decls
-use Rattle.cdi_model.specs.declared.decl.InterceptorDecl.{InterceptorDecl}
 use Rattle.cdi_model.specs.declared.decl.Kind.TheVariants as kinds
 use Rattle.cdi_model.specs.declared.decl.UseKind.TheVariants as uses
 use Rattle.cdi_model.specs.declared.place.BeanPlace.TheVariants as places
 use Rattle.cdi_match.specs.Filling.{as_binding, find_binding}
 use Rattle.cdi_match.proofs.LocalityLemmas.{edits_keep_bindings}
-use Rattle.cdi_intercept.specs.Bindings.{in_text_order, set_at, set_of}
 use Rattle.cdi_intercept.specs.Chains.{as_interceptor, in_order, interceptors, is_before, is_enabled, part_for}
 use Rattle.cdi_intercept.specs.Sees.{is_seen, seen_interceptor, sees_at, sees_by, shares_type}
+use Rattle.cdi_intercept.specs.Bindings.{in_text_order, set_at, set_of}
 use Rattle.cdi_intercept.proofs.UseLemmas.{any-in_text_order}
-use Rattle.cdi_seen.specs.Gives.{InterceptorsByDeclaration, interceptor_at, interceptor_given, is_before_interceptor, ranked_interceptor}
-use Rattle.cdi_seen.specs.Rests.{place_reads}
-use Rattle.cdi_seen.specs.Words.{Intercepts, types_bound_by}
 use Rattle.cdi_seen.proofs.GatherLemmas.{avoid_given, gather, Leaves}
 use Rattle.cdi_seen.proofs.SetLemmas.{avoid_set_types}
 use Rattle.cdi_seen.proofs.SortLemmas.{each_given, filtered_in_order}
 use Rattle.cdi_seen.proofs.UseLemmas.{read_same, uses_by_name}
+use Rattle.cdi_seen.specs.Gives.{InterceptorsByDeclaration, interceptor_at, interceptor_given, is_before_interceptor, ranked_interceptor}
+use Rattle.cdi_seen.specs.{Rests.place_reads, Words.Intercepts, Words.types_bound_by}
 
 -- ---- interceptors by declaration
 

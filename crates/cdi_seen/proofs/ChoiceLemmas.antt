@@ -9,9 +9,9 @@ use Rattle.cdi_model.specs.declared.decl.Decl.TheVariants as decls
 use Rattle.cdi_model.specs.declared.decl.Kind.TheVariants as kinds
 use Rattle.cdi_resolve.specs.Sees.{sees}
 use Rattle.cdi_seen.proofs.ContributionLemmas.{edits_keep_seen_beans, seen_same}
-use Rattle.cdi_seen.specs.Words.{HasType}
 use Rattle.cdi_seen.proofs.GatherLemmas.{avoid_given, avoid_quals, keep_records, leave_given, Leaves}
 use Rattle.cdi_seen.proofs.UseLemmas.{read_same}
+use Rattle.cdi_seen.specs.Words.{HasType}
 
 -- ---- what is not affected gives the same
 

@@ -3,14 +3,13 @@ use Rattle.cdi_seen.proofs.Common.{◌≡◌, ℕ, Bool, true, false, cond, List
 use Rattle.cdi_seen.proofs.Common.{map-append, filter-append, key_at, edited_all, Avoid, Decl, Edit, Qual, edits_keep_decl, avoid-first}
 use Rattle.cdi_seen.proofs.Common.{avoid-head, avoid-second, filled, record_reads, Effective, as_qualifier, beans, records, offers}
 use Rattle.cdi_seen.proofs.Common.{seen_bean, contribution, seen_of, edited_keys, is_among, DeclKey, entries, qualifier_reads}
+pub use Rattle.cdi_model.proofs.GivingLemmas.{edits_keep_given}
 use Rattle.cdi_model.specs.declared.decl.Kind.TheVariants as kinds
 use Rattle.cdi_model.specs.declared.decl.UseKind.TheVariants as uses
-use Rattle.cdi_match.specs.Filling.{fill, members_of}
-use Rattle.cdi_match.specs.Covering.{given_name}
+use Rattle.cdi_match.specs.{Filling.fill, Filling.members_of, Covering.given_name}
 use Rattle.cdi_effective.proofs.RecordLemmas.{edits_keep_records}
 use Rattle.cdi_resolve.specs.Choices.{candidate}
 use Rattle.cdi_seen.specs.Contribution.{SeenByDeclaration, EditsKeepContribution, EditsKeepSeenBeans}
-pub use Rattle.cdi_model.proofs.GivingLemmas.{edits_keep_given}
 
 -- ---- what is seen, declaration by declaration
 

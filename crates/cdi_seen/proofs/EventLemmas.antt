@@ -5,24 +5,21 @@ use Rattle.cdi_seen.proofs.Common.{AreDistinct, edited_all, Avoid, BeanDecl, Dec
 use Rattle.cdi_seen.proofs.Common.{filled, filled_by, effective, as_bean, find_bean, Effective, sorted_by, sorted_map, unranked, same_text}
 use Rattle.cdi_seen.proofs.Common.{IsPresent, own_reads, TellsAffected, use_reads, IsUnmet, names_under, as_qualifier, find_qualifier}
 use Rattle.cdi_seen.proofs.Common.{beans, records, entries, method_reads, EventKey, observing, SeenObserver}
-use Rattle.std.proofs.lemmas.Grind.{flat_map-append}
-use Rattle.std.proofs.lemmas.List.{append-nil}
+use Rattle.std.proofs.lemmas.{Grind.flat_map-append, List.append-nil}
+use Rattle.cdi_model.specs.declared.decl.{ObserverDecl.ObserverDecl, ProducerDecl.ProducerDecl}
 use Rattle.cdi_model.specs.declared.decl.Decl.TheVariants as decls
 use Rattle.cdi_model.specs.declared.decl.Kind.TheVariants as kinds
-use Rattle.cdi_model.specs.declared.decl.ObserverDecl.{ObserverDecl}
-use Rattle.cdi_model.specs.declared.decl.ProducerDecl.{ProducerDecl}
 use Rattle.cdi_model.specs.declared.decl.UseKind.TheVariants as uses
-use Rattle.cdi_match.specs.Locality.{type_reads}
-use Rattle.cdi_match.specs.Types.{types_of}
+use Rattle.cdi_match.specs.{Locality.type_reads, Types.types_of}
 use Rattle.cdi_match.proofs.LocalityLemmas.{edits_keep_closure}
 use Rattle.cdi_effective.specs.Beans.{managed, product}
 use Rattle.cdi_observe.specs.Observers.{Observer, declared_by, enabled_bean, is_before, observers, observes, observer_id, priority_of}
 use Rattle.cdi_observe.specs.Sees.{event_sees, seen_observer}
-use Rattle.cdi_seen.specs.Gives.{ObserversByDeclaration, is_before_observer, observer_given, ranked_observer}
-use Rattle.cdi_seen.specs.Words.{Observes}
 use Rattle.cdi_seen.proofs.GatherLemmas.{avoid_given, avoid_methods, gather, keep_records, Leaves, still_present}
 use Rattle.cdi_seen.proofs.SortLemmas.{each_given}
 use Rattle.cdi_seen.proofs.UseLemmas.{read_same}
+use Rattle.cdi_seen.specs.Gives.{ObserversByDeclaration, is_before_observer, observer_given, ranked_observer}
+use Rattle.cdi_seen.specs.Words.{Observes}
 
 -- ---- observer methods by declaration
 

@@ -4,12 +4,12 @@ use Rattle.cdi_seen.proofs.Common.{edited_all, Avoid, BeanDecl, Decl, Edit, edit
 use Rattle.cdi_seen.proofs.Common.{record_reads, Effective, edits_keep_own_records, IsPresent, given_reads, own_reads, TellsAffected, not}
 use Rattle.cdi_seen.proofs.Common.{◌&&◌, own_records, records, unless_replaced, is_replaced, records_are_own, edited_keys, is_among}
 use Rattle.cdi_seen.proofs.Common.{qualifier_reads, method_reads, key_of, kind_of, name_of_decl, wanted_by}
-use Rattle.cdi_model.specs.declared.decl.Decl.TheVariants as decls
-use Rattle.cdi_model.specs.declared.decl.Kind.TheVariants as kinds
 use Rattle.cdi_model.specs.Giving.{LeaveGiven}
 use Rattle.cdi_model.proofs.GivingLemmas.{edits_keep_given}
-use Rattle.cdi_seen.specs.Rests.{rests}
+use Rattle.cdi_model.specs.declared.decl.Decl.TheVariants as decls
+use Rattle.cdi_model.specs.declared.decl.Kind.TheVariants as kinds
 use Rattle.cdi_seen.proofs.PresentLemmas.{all_present, each_all}
+use Rattle.cdi_seen.specs.Rests.{rests}
 
 -- ---- the parts of what a declaration rests on
 

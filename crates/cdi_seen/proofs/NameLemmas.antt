@@ -2,10 +2,9 @@
 use Rattle.cdi_seen.proofs.Common.{◌≡◌, ℕ, false, List, [], ◌∷◌, ◌++◌, map, flat_map, refl, ap, ◌∙◌, Decl, BeanPlace, ChainKey}
 use Rattle.cdi_seen.proofs.Common.{list_any-append, wanted_by, ◌||◌, has_key}
 use Rattle.std.proofs.Math.Bool.{or-false}
-use Rattle.cdi_model.specs.Mentions.{Mention, EventOf, mentions}
-use Rattle.cdi_model.specs.declared.decl.PointDecl.{PointDecl}
-use Rattle.cdi_observe.specs.Keys.{same_key}
+use Rattle.cdi_model.specs.{Mentions.Mention, Mentions.EventOf, Mentions.mentions, declared.decl.PointDecl.PointDecl}
 use Rattle.cdi_observe.specs.Wanted.{asked_by, chains_by, event_in, events_by, key_of_point, points_of}
+use Rattle.cdi_observe.specs.Keys.{same_key}
 
 points-ask_no_chain : (class : List ℕ) (place : BeanPlace) (points : List PointDecl)
     → has_key (map key_of_point points) (ChainKey class place) ≡ false

@@ -1,7 +1,7 @@
 -- Declarations that are present.
-use Rattle.cdi_seen.proofs.Common.{◌≡◌, ℕ, Bool, true, false, cond, List, [], ◌∷◌, Some, refl, sym, ap, ◌∙◌, list_any, or_left, or_right}
-use Rattle.cdi_seen.proofs.Common.{same_key, AreDistinct, Decl, IsPresent, key_of, kind_of, name_of_decl, ◌≢◌, ◌<◌, zero, suc, inl, inr}
-use Rattle.cdi_seen.proofs.Common.{arith, AllByRecursion, false≢true, or_cases, same_key_equiv, find_decl, Kind, key_exact, length}
+use Rattle.cdi_seen.proofs.Common.{◌≡◌, ℕ, Bool, true, false, cond, List, [], ◌∷◌, Some, refl, ap, ◌∙◌, list_any, or_left, or_right}
+use Rattle.cdi_seen.proofs.Common.{AreDistinct, Decl, IsPresent, key_of, kind_of, name_of_decl, ◌≢◌, ◌<◌, zero, suc, inl, inr, arith}
+use Rattle.cdi_seen.proofs.Common.{AllByRecursion, false≢true, or_cases, same_key_equiv, find_decl, Kind, length}
 use Rattle.std.specs.Prelude.{slice_index_or}
 use Rattle.cdi_model.specs.DeclList.{is_of}
 use Rattle.cdi_effective.proofs.PlaceLemmas.{other-key}

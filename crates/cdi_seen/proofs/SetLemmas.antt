@@ -1,21 +1,22 @@
 -- The types of the bindings at a place are among what their sets rest on.
 use Rattle.cdi_seen.proofs.Common.{◌≡◌, ℕ, Bool, true, false, cond, List, [], ◌∷◌, ◌++◌, map, filter, flat_map, Option, Some, None}
-use Rattle.cdi_seen.proofs.Common.{unwrap_or, refl, sym, ap, ◌∙◌, bytes_eq, or_from, or_left, or_right, map-append, key_at, same_key, Avoid}
+use Rattle.cdi_seen.proofs.Common.{unwrap_or, refl, sym, ap, ◌∙◌, bytes_eq, or_from, or_left, or_right, map-append, key_at, Avoid}
 use Rattle.cdi_seen.proofs.Common.{name_of_use, BeanDecl, Decl, Edit, BeanPlace, Qual, avoid-first, avoid-second, has, binding_reads}
 use Rattle.cdi_seen.proofs.Common.{class_bindings, in_place_of, uses_one, record_reads, around_method, of_method, of_observer, same_text}
 use Rattle.cdi_seen.proofs.Common.{of_producer, set_by, own_bindings, use_reads, not, both_ways, false_from_ne_true, or_parts}
-use Rattle.cdi_seen.proofs.Common.{list_any-append, is_among, DeclKey, ◌||◌, inl, inr, false≢true, or_cases, same_key_equiv, key_exact}
+use Rattle.cdi_seen.proofs.Common.{list_any-append, is_among, DeclKey, ◌||◌, inl, inr, false≢true, or_cases, same_key_equiv}
 use Rattle.std.proofs.Common.{◌⊎◌}
 use Rattle.base_numbers.proofs.Texts.{one_text}
+use Rattle.cdi_model.specs.DeclKey.{same_key}
+use Rattle.cdi_model.proofs.EntryLemmas.{key_exact}
 use Rattle.cdi_model.specs.declared.decl.Kind.TheVariants as kinds
 use Rattle.cdi_model.specs.declared.decl.UseKind.TheVariants as uses
 use Rattle.cdi_model.specs.declared.place.BeanPlace.TheVariants as places
 use Rattle.cdi_match.specs.Bindings.{BringsType, brings, brought, types_brought, with_brought}
 use Rattle.cdi_match.specs.Stereotypes.{stereotype_decls}
-use Rattle.cdi_match.proofs.BindingLemmas.{brings_type_decides, types_brought-has}
-use Rattle.cdi_match.proofs.Chains.{chain_more}
-use Rattle.cdi_effective.specs.Bindings.{stereotype_bindings}
+use Rattle.cdi_match.proofs.{BindingLemmas.brings_type_decides, BindingLemmas.types_brought-has, Chains.chain_more}
 use Rattle.cdi_effective.specs.Reads.{bean_reads, chain_reads, class_reads, product_reads}
+use Rattle.cdi_effective.specs.Bindings.{stereotype_bindings}
 
 -- ---- uses bring no type but those that are reached
 

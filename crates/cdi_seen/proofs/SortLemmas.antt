@@ -1,10 +1,8 @@
 -- What is put in order and then filtered is what is filtered and then put in order.
 use Rattle.cdi_seen.proofs.Common.{◌≡◌, Bool, true, false, cond, List, [], ◌∷◌, ◌++◌, filter, flat_map, refl, sym, ap, ◌∙◌}
-use Rattle.cdi_seen.proofs.Common.{IsStrictWeakOrder, sorted_by, inl, inr, AllByRecursion}
-use Rattle.std.proofs.Common.{subst}
-use Rattle.std.proofs.lemmas.Bool.{cases_Bool}
-use Rattle.base_lists.specs.Sorting.{put}
+use Rattle.cdi_seen.proofs.Common.{IsStrictWeakOrder, sorted_by}
 use Rattle.base_lists.proofs.Sorting.{NoneBefore, Rises, none-lower, sorted-rises}
+use Rattle.base_lists.specs.Sorting.{put}
 use Rattle.cdi_seen.specs.Gives.{FilteredInOrder}
 
 module _ {X : Type 0} (lt : X → X → Bool) (o : IsStrictWeakOrder lt) where

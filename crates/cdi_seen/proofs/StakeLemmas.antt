@@ -1,19 +1,17 @@
 -- A wanted key that is not at stake is not touched.
-use Rattle.std.proofs.lemmas.Bool.{not-true}
 use Rattle.cdi_seen.proofs.Common.{◌≡◌, Bool, true, false, List, refl, sym, ap, ◌∙◌, edited_all, Avoid, Decl, edits_keep_decl, has}
 use Rattle.cdi_seen.proofs.Common.{ChainKey, IsPresent, own_reads, IsUnmet, not, ◌&&◌, both_ways, false_from_ne_true, ChoiceKey}
 use Rattle.cdi_seen.proofs.Common.{edited_keys, is_among, EventKey, key_of, kind_of, name_of_decl, wanted_by, ◌||◌, has_key, key_sees}
 use Rattle.cdi_seen.proofs.Common.{is_touched, ByChain, ByChoice, ByEvent}
-use Rattle.cdi_observe.specs.Keys.{Key}
-use Rattle.cdi_observe.specs.Wanted.{is_wanted}
-use Rattle.cdi_seen.specs.Touched.{still_known}
+use Rattle.std.proofs.lemmas.Bool.{not-true}
+use Rattle.cdi_observe.specs.{Keys.Key, Wanted.is_wanted}
 use Rattle.cdi_seen.proofs.SameLemmas.{touched_where_seen_differs}
-use Rattle.cdi_seen.specs.Stakes.{MetAreAtStake, OthersStayWanted, SuspectsDecideKnown, UnmetStayUntouched}
-use Rattle.cdi_seen.specs.Words.{sought}
 use Rattle.cdi_seen.proofs.ChainLemmas.{chain_sees_same}
 use Rattle.cdi_seen.proofs.ChoiceLemmas.{choice_sees_same}
 use Rattle.cdi_seen.proofs.EventLemmas.{event_sees_same}
 use Rattle.cdi_seen.proofs.PresentLemmas.{all_present, found_any, witness}
+use Rattle.cdi_seen.specs.Stakes.{MetAreAtStake, OthersStayWanted, SuspectsDecideKnown, UnmetStayUntouched}
+use Rattle.cdi_seen.specs.{Touched.still_known, Words.sought}
 
 pub untouched : (ds es : List Decl) (key : Key) → key_sees es key ≡ key_sees ds key → is_touched ds es key ≡ false
 untouched ds es key same = not-true (is_touched ds es key) ((touched_where_seen_differs ds es key).1 (sym same))

@@ -1,8 +1,8 @@
 -- Uses whose declarations are not edited, and names among others.
+use Rattle.cdi_seen.proofs.Common.{◌≡◌, ℕ, List, [], ◌∷◌, map, Option, refl, ap, ◌∙◌, bytes_eq, key_at, edited_all, Avoid, name_of_use}
+use Rattle.cdi_seen.proofs.Common.{Decl, Edit, Qual, edits_keep_decl, avoid-head, avoid-second, has, uses_one, DeclKey, ◌||◌, find_decl}
+use Rattle.cdi_seen.proofs.Common.{Kind}
 use Rattle.base_numbers.proofs.Texts.{bytes_eq-turned}
-use Rattle.cdi_seen.proofs.Common.{◌≡◌, ℕ, Bool, List, [], ◌∷◌, map, Option, refl, ap, ◌∙◌, list_any, bytes_eq, key_at, edited_all, Avoid}
-use Rattle.cdi_seen.proofs.Common.{name_of_use, Decl, Edit, Qual, edits_keep_decl, avoid-head, avoid-second, has, uses_one, DeclKey, ◌||◌}
-use Rattle.cdi_seen.proofs.Common.{find_decl, Kind}
 
 -- ---- uses by the declarations of what is used
 

@@ -2,10 +2,8 @@
 use Rattle.std.proofs.Common.{◌≡◌, ◌<◌, ◌∙◌, zero, suc, true, false, true≢false, [], ◌∷◌, codes, arith, ap, ap₂, sym, refl, inl, inr}
 use Rattle.std.proofs.Common.{slice_index}
 use Rattle.std.specs.Str.{bytes_eq}
-use Rattle.clap.specs.Built.{FitsChain, HasDistinctIds}
-use Rattle.clap.specs.Walk.{Rule, Text}
+use Rattle.clap.specs.{Built.FitsChain, Built.HasDistinctIds, Walk.Rule, Walk.Text, declared.builder.arg.Arg.Arg}
 use Rattle.cdi_session.specs.Options.{IsArgument}
-use Rattle.clap.specs.declared.builder.arg.Arg.{Arg}
 
 -- an id that begins with a letter between those of `help` and `version` is neither's, and not empty
 pub fits : (a : Arg) (rule : Rule) → IsArgument rule a → 104 < slice_index rule.id 0 → slice_index rule.id 0 < 118 → FitsChain a

@@ -1,10 +1,7 @@
 -- What the kind of an error of `clap` says of the words.
 use Rattle.std.proofs.Common.{◌≡◌, ◌∙◌, ℕ, List, [], ◌∷◌, Option, inl, inr, sym, subst}
-use Rattle.clap.specs.Kinds.{Kinds, IsAmong, HasKind}
-use Rattle.clap.specs.Values.{kind_of}
-use Rattle.clap.specs.declared.error.Error.{Error}
-use Rattle.clap.specs.declared.error.kind.ErrorKind.{ErrorKind}
-use Rattle.clap.specs.declared.error.kind.ErrorKind.TheVariants.{DisplayHelp, OutOfMemory}
+use Rattle.clap.specs.{Kinds.Kinds, Kinds.IsAmong, Kinds.HasKind, Values.kind_of, declared.error.Error.Error}
+use Rattle.clap.specs.declared.error.kind.ErrorKind.{ErrorKind, TheVariants.DisplayHelp, TheVariants.OutOfMemory}
 use Rattle.cdi_devices.specs.declared.counted.Counted.{Counted}
 use Rattle.cdi_session.specs.Session.{LacksMemory, RefusesWords}
 

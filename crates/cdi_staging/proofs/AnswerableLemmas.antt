@@ -5,24 +5,18 @@ use Rattle.cdi_staging.proofs.Common.{slice_get-get_or, AreDistinct, BeanDecl, D
 use Rattle.cdi_staging.proofs.Common.{PointDecl, ProducerDecl, BeanPlace, own-found, in_order, has_place, in_order-declared, are_answerable}
 use Rattle.cdi_staging.proofs.Common.{key_of_event, key_of_point, chains-answerable, IsFireable}
 use Rattle.std.specs.List.{list_all}
-use Rattle.std.proofs.lemmas.Bool.{and_from}
-use Rattle.std.proofs.lemmas.List.Folds.{list_all-append, list_all-map}
+use Rattle.std.proofs.lemmas.{Bool.and_from, List.Folds.list_all-append, List.Folds.list_all-map}
 use Rattle.cdi_model.specs.Mentions.{Mention, mentions, of_attributes, of_bindings, of_disposer, of_event, of_method, of_observer, of_part}
 use Rattle.cdi_model.specs.Mentions.{of_parts, of_point, of_producer, of_qualifiers, part_place_of, CallOf, EventOf}
+use Rattle.cdi_model.specs.declared.{decl.EventDecl.EventDecl, place.PartPlace.PartPlace}
 use Rattle.cdi_model.specs.declared.decl.Decl.TheVariants as decls
-use Rattle.cdi_model.specs.declared.decl.EventDecl.{EventDecl}
 use Rattle.cdi_model.specs.declared.mention.PointPlace.TheVariants as points_are
-use Rattle.cdi_model.specs.declared.place.PartPlace.{PartPlace}
 use Rattle.cdi_model.specs.declared.place.PartPlace.TheVariants as parts_are
 use Rattle.cdi_intercept.specs.Sets.{places_of}
-use Rattle.cdi_observe.specs.Keys.{Key, ChainKey, same_place}
-use Rattle.cdi_observe.specs.Kept.{Kept}
-use Rattle.cdi_observe.specs.Lending.{is_answerable, IsEvaluated}
+use Rattle.cdi_observe.specs.{Keys.Key, Keys.ChainKey, Keys.same_place, Kept.Kept, Lending.is_answerable, Lending.IsEvaluated}
 use Rattle.cdi_observe.specs.Wanted.{event_in}
-use Rattle.cdi_observe.proofs.BeanPlaceLemmas.{has-it}
-use Rattle.cdi_observe.proofs.KeyLemmas.{same_place-decides}
+use Rattle.cdi_observe.proofs.{BeanPlaceLemmas.has-it, KeyLemmas.same_place-decides, FoundLemmas.IsFound}
 use Rattle.cdi_observe.proofs.LendingLemmas.{events-answerable, points-answerable}
-use Rattle.cdi_observe.proofs.FoundLemmas.{IsFound}
 use Rattle.cdi_subjects.specs.Sites.{declared_points, observed, params_of}
 use Rattle.cdi_subjects.proofs.AnsweredLemmas.{points-declared}
 

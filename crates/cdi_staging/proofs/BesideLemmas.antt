@@ -1,12 +1,10 @@
 -- Two lists, place by place; and what is found in lists.
 use Rattle.cdi_staging.proofs.Common.{◌≡◌, ℕ, zero, suc, Bool, true, false, List, [], ◌∷◌, ◌++◌, map, Some, None, refl, sym, ap, subst, ◌∙◌}
-use Rattle.cdi_staging.proofs.Common.{arith, flat_map, slice_get, false≢true, ◌+◌, cond, filter, length, inl, inr, ◌⊎◌, find, position}
-use Rattle.cdi_staging.proofs.Common.{position_from, option_or, position_from-zero, same_Some}
+use Rattle.cdi_staging.proofs.Common.{arith, flat_map, slice_get, false≢true, ◌+◌, cond, filter, inl, inr, find, position, position_from}
+use Rattle.cdi_staging.proofs.Common.{option_or, position_from-zero, at-back, at-joined}
 use Rattle.std.specs.List.{AllByRecursion}
 use Rattle.base_lists.specs.Sorting.{sorted_by}
-use Rattle.base_lists.proofs.Each.{all-at}
-use Rattle.base_lists.proofs.Places.{at-back, at-joined}
-use Rattle.base_lists.proofs.Sorting.{all-sorted}
+use Rattle.base_lists.proofs.{Each.all-at, Sorting.all-sorted}
 
 -- at each place of two lists stand two that belong together
 abbrev pub Beside : {X Y : Type 0} → (X → Y → Type 0) → List X → List Y → Type 0

@@ -1,20 +1,20 @@
 -- The bean that is chosen for an injection point stands in the scene.
 use Rattle.cdi_staging.proofs.Common.{◌≡◌, ℕ, zero, Bool, true, List, [], ◌∷◌, map, Option, Some, None, refl, sym, ap, subst, ◌∙◌, one_text}
 use Rattle.cdi_staging.proofs.Common.{slice_get, and_parts, false≢true, AreDistinct, BeanDecl, Decl, ProducerDecl, own-found, cond, filter}
-use Rattle.cdi_staging.proofs.Common.{length, inl, inr, ◌⊎◌, same_Some, ◌≢◌, ◌&&◌, unwrap_or, bytes_eq, Qual, has, same_text}
-use Rattle.cdi_staging.proofs.Common.{Promised, Bean, Managed, Product, as_managed, bean_at, beans, entries, managed, product, effective}
-use Rattle.cdi_staging.proofs.Common.{as_bean, find_bean, BeanId, Effective, is_told_by, One, position_of_bean, position_of_class}
-use Rattle.cdi_staging.proofs.Common.{managed_form, scene_of, staged_beans, staged_product, unused_managed}
+use Rattle.cdi_staging.proofs.Common.{length, inl, inr, same_Some, ◌≢◌, ◌&&◌, unwrap_or, bytes_eq, Qual, has, same_text, Promised, Bean}
+use Rattle.cdi_staging.proofs.Common.{Managed, Product, as_managed, bean_at, beans, entries, managed, product, effective, as_bean}
+use Rattle.cdi_staging.proofs.Common.{find_bean, BeanId, Effective, is_told_by, One, position_of_bean, position_of_class, managed_form}
+use Rattle.cdi_staging.proofs.Common.{scene_of, staged_beans, staged_product, unused_managed, at-map}
+use Rattle.std.proofs.Common.{◌⊎◌}
 use Rattle.std.specs.Option.{option_eq}
-use Rattle.base_lists.proofs.Places.{at-map}
 use Rattle.cdi_model.specs.declared.decl.Decl.TheVariants as decls
 use Rattle.cdi_scene.specs.declared.scene.Form.TheVariants as forms
 use Rattle.cdi_effective.specs.Qualifiers.{required, cover_all}
 use Rattle.cdi_resolve.specs.Choices.{Candidate, candidate, choice_of, chosen, eligible, is_eligible, only, among, greatest, is_greatest}
 use Rattle.cdi_resolve.specs.Choices.{alternatives, offers}
 use Rattle.cdi_subjects.proofs.RecordLemmas.{product-producer}
-use Rattle.cdi_staging.specs.Staged.{staged_managed}
 use Rattle.cdi_staging.proofs.BesideLemmas.{Beside, beside-map, beside-flat, second-at, found, from-filter, in-flat}
+use Rattle.cdi_staging.specs.Staged.{staged_managed}
 
 -- ---- the one that is chosen
 

@@ -2,21 +2,17 @@
 use Rattle.cdi_staging.proofs.Common.{◌≡◌, ℕ, zero, suc, Bool, true, false, List, [], ◌∷◌, ◌++◌, map, Some, Contains, refl, sym, ap, subst}
 use Rattle.cdi_staging.proofs.Common.{◌∙◌, slice_get, false≢true, slice_get-get_or, AreDistinct, BeanDecl, Decl, InterceptorDecl, same_text}
 use Rattle.cdi_staging.proofs.Common.{MethodDecl, ObserverDecl, ProducerDecl, BeanPlace, in_order, has_place, ◌+◌, cond, filter, length}
-use Rattle.cdi_staging.proofs.Common.{◌≢◌, ◌&&◌, bytes_eq, has, ◌<◌, not, get_or, is_some, option_map, append_assoc}
-use Rattle.cdi_staging.proofs.Common.{slice_get-map, class_bindings, surrounds, surrounds_one, set_by, sets_of, names_at, around_in}
-use Rattle.cdi_staging.proofs.Common.{names_among, Around, around_of, chain_at, injections_around, injections_from, places_from, targets}
-use Rattle.cdi_staging.proofs.Common.{Injection}
-use Rattle.std.proofs.lemmas.List.{map-id}
-use Rattle.std.proofs.lemmas.Option.{get_or_from_slice_get, slice_get_within}
-use Rattle.std.proofs.lemmas.Simd.{map-map}
-use Rattle.base_lists.proofs.Places.{at-map}
+use Rattle.cdi_staging.proofs.Common.{◌≢◌, ◌&&◌, bytes_eq, has, ◌<◌, not, get_or, is_some, option_map, append_assoc, slice_get-map}
+use Rattle.cdi_staging.proofs.Common.{class_bindings, surrounds, surrounds_one, set_by, sets_of, names_at, around_in, names_among, Around}
+use Rattle.cdi_staging.proofs.Common.{around_of, chain_at, injections_around, injections_from, places_from, targets, Injection, at-map}
+use Rattle.std.proofs.lemmas.{List.map-id, Option.get_or_from_slice_get, Option.slice_get_within, Simd.map-map}
 use Rattle.cdi_model.specs.declared.place.BeanPlace.TheVariants as spots
+use Rattle.cdi_contexts.specs.declared.instance.Actor.TheVariants.{Interceptor as By}
 use Rattle.cdi_intercept.specs.Chains.{chain_by}
 use Rattle.cdi_observe.specs.Around.{names_of_bean}
 use Rattle.cdi_observe.proofs.AroundLemmas.{has-names, has-names_at}
-use Rattle.cdi_staging.specs.declared.around.Around.{Around as Shown}
-use Rattle.cdi_contexts.specs.declared.instance.Actor.TheVariants.{Interceptor as By}
 use Rattle.cdi_staging.proofs.BesideLemmas.{found}
+use Rattle.cdi_staging.specs.declared.around.Around.{Around as Shown}
 
 -- ---- tests that agree on each element
 

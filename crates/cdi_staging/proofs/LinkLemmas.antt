@@ -1,24 +1,24 @@
 -- Interceptors in the scene: where they stand, what is chosen for their injection points, and their bodies.
-use Rattle.base_lists.proofs.Places.{at-back, at-joined, at-map}
-use Rattle.cdi_staging.proofs.Common.{◌≡◌, ℕ, zero, suc, Bool, true, false, List, [], ◌∷◌, ◌++◌, map, Option, Some, None, refl, sym, ap}
-use Rattle.cdi_staging.proofs.Common.{subst, ◌∙◌, arith, slice_get, and_parts, false≢true, AreDistinct, BeanDecl, Decl, InterceptorDecl}
-use Rattle.cdi_staging.proofs.Common.{PartDecl, BeanPlace, in_order, in_order-declared, ◌+◌, cond, inl, inr, same_Some, Promised, beans}
-use Rattle.cdi_staging.proofs.Common.{managed_form, scene_of, is_some, option_map, slice_get-map, class_bindings, surrounds, surrounds_one}
-use Rattle.cdi_staging.proofs.Common.{set_by, sets_of, Around, around_of, chain_at, injections_around, injections_from, places_from}
-use Rattle.cdi_staging.proofs.Common.{targets, Injection, option_and_then, bit_and, none-some, Has, managed_at, home_of, IsAllowedAt}
-use Rattle.cdi_staging.proofs.Common.{IsNamed, IsOwnPoint, IsSoundAt, Place, Seat, Part, Via, Own, Param, AreFineAround, IsFinePart}
-use Rattle.cdi_staging.proofs.Common.{fired_at, site_of, staged_interceptor, staged_part, Target}
+use Rattle.cdi_staging.proofs.Common.{at-back, at-joined, at-map, ◌≡◌, ℕ, zero, suc, Bool, true, false, List, [], ◌∷◌, ◌++◌, map, Option}
+use Rattle.cdi_staging.proofs.Common.{Some, None, refl, sym, ap, subst, ◌∙◌, arith, slice_get, and_parts, false≢true, AreDistinct, BeanDecl}
+use Rattle.cdi_staging.proofs.Common.{Decl, InterceptorDecl, PartDecl, BeanPlace, in_order, in_order-declared, ◌+◌, cond, inl, inr}
+use Rattle.cdi_staging.proofs.Common.{same_Some, Promised, beans, managed_form, scene_of, is_some, option_map, slice_get-map}
+use Rattle.cdi_staging.proofs.Common.{class_bindings, surrounds, surrounds_one, set_by, sets_of, Around, around_of, chain_at}
+use Rattle.cdi_staging.proofs.Common.{injections_around, injections_from, places_from, targets, Injection, option_and_then, bit_and}
+use Rattle.cdi_staging.proofs.Common.{none-some, Has, managed_at, home_of, IsAllowedAt, IsNamed, IsOwnPoint, IsSoundAt, Place, Seat, Part}
+use Rattle.cdi_staging.proofs.Common.{Via, Own, Param, AreFineAround, IsFinePart, fired_at, site_of, staged_interceptor, staged_part}
+use Rattle.cdi_staging.proofs.Common.{Target}
 use Rattle.cdi_bodies.specs.Flags as flags
-use Rattle.cdi_contexts.specs.declared.instance.Actor.{Actor}
 use Rattle.cdi_contexts.specs.declared.instance.Actor.TheVariants.{Target as ByTarget, Interceptor as By}
+use Rattle.cdi_contexts.specs.declared.instance.Actor.{Actor}
 use Rattle.cdi_scene.specs.Scene.{interceptor_at, part_for}
 use Rattle.cdi_scene.specs.declared.place.Place.TheVariants as places
 use Rattle.cdi_intercept.specs.Chains.{part_for as declared_for}
-use Rattle.cdi_staging.specs.Faultless.{IsFineAround}
 use Rattle.cdi_staging.proofs.BesideLemmas.{in-append-left}
 use Rattle.cdi_staging.proofs.PartLemmas.{NamesVia, part-sound, seen}
 use Rattle.cdi_staging.proofs.SoundLemmas.{none-satisfied, part-there}
 use Rattle.cdi_staging.proofs.ChosenLemmas.{IsUsed}
+use Rattle.cdi_staging.specs.Faultless.{IsFineAround}
 
 -- ---- who stands in a chain
 

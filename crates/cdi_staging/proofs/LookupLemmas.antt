@@ -1,14 +1,13 @@
 -- What is chosen for a look-up from outside stands in the scene, and has its methods there.
 use Rattle.cdi_staging.proofs.Common.{◌≡◌, true, None, refl, sym, ap, ◌∙◌, as_managed, beans, position_of_bean, scene_of, is_some}
 use Rattle.cdi_staging.proofs.Common.{none-some, Own, as_product, HasMethod, CallSite, Scene, method_of}
-use Rattle.cdi_scene.specs.declared.place.Place.TheVariants as places
 use Rattle.cdi_scene.specs.declared.scene.Form.{Form}
+use Rattle.cdi_scene.specs.declared.place.Place.TheVariants as places
 use Rattle.cdi_scene.specs.declared.scene.Form.TheVariants as forms
-use Rattle.cdi_staging.specs.Lookups.{ChosenStands, ChosenHasMethods}
-use Rattle.cdi_staging.specs.Sites.{managed_class}
 use Rattle.cdi_staging.proofs.ChosenLemmas.{chosen-offered, managed_in, reached}
 use Rattle.cdi_staging.proofs.PartLemmas.{method-there}
 use Rattle.cdi_staging.proofs.SoundLemmas.{place_in, product_in}
+use Rattle.cdi_staging.specs.{Lookups.ChosenStands, Lookups.ChosenHasMethods, Sites.managed_class}
 
 pub chosen-stands : ChosenStands
 chosen-stands ds book t quals id distinct one =

@@ -3,17 +3,14 @@ use Rattle.cdi_staging.proofs.Common.{◌≡◌, ℕ, Bool, true, false, List, m
 use Rattle.cdi_staging.proofs.Common.{AreDistinct, BeanDecl, Decl, ObserverDecl, cond, length, same_Some, ◌&&◌, unwrap_or, Qual, same_text}
 use Rattle.cdi_staging.proofs.Common.{Promised, beans, managed, find_bean, Effective, position_of_class, managed_form, scene_of, not}
 use Rattle.cdi_staging.proofs.Common.{is_some, option_map, slice_get-map, none-some, Observer, is_observer, notified_as, observer_declared}
-use Rattle.cdi_staging.proofs.Common.{staged_observer}
-use Rattle.std.specs.List.{filter}
-use Rattle.base_lists.proofs.Places.{at-map}
-use Rattle.cdi_match.specs.Types.{types_of}
+use Rattle.cdi_staging.proofs.Common.{staged_observer, filter, at-map}
 use Rattle.cdi_scene.specs.Sound.{IsSoundNotified}
+use Rattle.cdi_match.specs.Types.{types_of}
 use Rattle.cdi_observe.specs.Observers.{Observer as Declared, declared_by, enabled_bean, is_before, is_notified, observer_id, observers}
 use Rattle.cdi_observe.specs.Observers.{observes, observing, resolved}
-use Rattle.cdi_staging.specs.Lookups.{NotifiedStand}
-use Rattle.cdi_staging.specs.Notifying.{notified_at}
 use Rattle.cdi_staging.proofs.BesideLemmas.{found, from-filter, from-flat, from-sorted, second-at}
 use Rattle.cdi_staging.proofs.ChosenLemmas.{Stands, all-stand, bean-found, host-used, named-decl, of-none}
+use Rattle.cdi_staging.specs.{Lookups.NotifiedStand, Notifying.notified_at}
 
 -- ---- whose observer methods they are
 

@@ -6,18 +6,17 @@ use Rattle.cdi_staging.proofs.Common.{find_bean, BeanId, One, position_of_bean, 
 use Rattle.cdi_staging.proofs.Common.{targets, bit_and, Has, Part, Via, Own, Param, IsFinePart, fired_at, site_of, staged_part, Target}
 use Rattle.cdi_staging.proofs.Common.{HasMethod, CallSite, method_of, ◌≤◌, length-map, list_limit, is_named, promise_of, IsSoundPart}
 use Rattle.cdi_staging.proofs.Common.{Notified, answer_to, IsFit, AreSatisfied, target_of, is_method, is_point, part_of, part_with}
-use Rattle.cdi_staging.proofs.Common.{staged_method}
+use Rattle.cdi_staging.proofs.Common.{staged_method, at-map}
 use Rattle.std.proofs.Common.{codes}
-use Rattle.base_lists.proofs.Places.{at-map}
 use Rattle.cdi_model.specs.declared.decl.CallDecl.{CallDecl}
 use Rattle.cdi_bodies.specs.declared.promise.Promise.{Promise}
 use Rattle.cdi_scene.specs.Sound.{AreObservers, IsInBook, IsSoundSite}
 use Rattle.cdi_subjects.specs.Sites.{has_method, methods_in}
-use Rattle.cdi_staging.specs.Faultless.{IsSatisfied, IsLed}
-use Rattle.cdi_staging.specs.Sites.{Sight, nowhere, class_with, method_declared, site_at, site_among, target_at}
 use Rattle.cdi_staging.proofs.BesideLemmas.{of-find, no-position, find-append}
 use Rattle.cdi_staging.proofs.ChosenLemmas.{Reached, chosen-offered, reached}
 use Rattle.cdi_staging.proofs.NotifiedLemmas.{notified_stand}
+use Rattle.cdi_staging.specs.Sites.{Sight, nowhere, class_with, method_declared, site_at, site_among, target_at}
+use Rattle.cdi_staging.specs.Faultless.{IsSatisfied, IsLed}
 
 -- ---- bodies
 

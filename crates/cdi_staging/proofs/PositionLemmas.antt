@@ -1,7 +1,6 @@
 -- The places of beans, noted one bean after another.
-use Rattle.cdi_staging.proofs.Common.{◌≡◌, ℕ, Bool, true, false, List, ◌∷◌, map, Option, Some, None, refl, sym, ap, ◌∙◌, ◌+◌, cond, length}
-use Rattle.cdi_staging.proofs.Common.{position_from, option_or, BeanId, Effective, is_told_by, ◌<◌, get_or, drop, same_id}
-use Rattle.std.specs.Prelude.{position}
+use Rattle.cdi_staging.proofs.Common.{◌≡◌, ℕ, List, ◌∷◌, map, Option, Some, None, sym, ap, ◌∙◌, ◌+◌, cond, length, position_from, option_or}
+use Rattle.cdi_staging.proofs.Common.{BeanId, Effective, is_told_by, ◌<◌, get_or, drop, same_id, position}
 use Rattle.std.proofs.lemmas.List.{at_drop_more}
 use Rattle.base_options.proofs.Options.{option_or-more}
 

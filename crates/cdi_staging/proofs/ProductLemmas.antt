@@ -1,5 +1,5 @@
 -- Records beside producer methods, and what is made of them one by one.
-use Rattle.cdi_staging.proofs.Common.{◌≡◌, suc, List, [], ◌∷◌, ◌++◌, map, Contains, refl, sym, ap, ◌∙◌, arith, BeanDecl, Decl, ProducerDecl}
+use Rattle.cdi_staging.proofs.Common.{◌≡◌, suc, List, [], ◌∷◌, ◌++◌, map, Contains, sym, ap, ◌∙◌, arith, BeanDecl, Decl, ProducerDecl}
 use Rattle.cdi_staging.proofs.Common.{product, Effective, append_assoc}
 
 pub first-product : (ds : List Decl) (bean : BeanDecl) (xs xs' : List Effective) (ps ps' : List ProducerDecl) (x : Effective)

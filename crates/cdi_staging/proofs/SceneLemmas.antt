@@ -9,21 +9,19 @@ use Rattle.cdi_staging.proofs.Common.{chain_at, injections_around, injections_fr
 use Rattle.cdi_staging.proofs.Common.{managed_at, home_of, IsNamed, IsOwnPoint, IsSoundAt, Place, Seat, Part, Via, Own, Param}
 use Rattle.cdi_staging.proofs.Common.{AreFineAround, Target, as_product, CallSite, Scene, Observer, staged_observer, ◌≤◌, length-map}
 use Rattle.cdi_staging.proofs.Common.{list_limit, answer_to, IsFit, AreSatisfied, target_of, Invocable, AreFine, IsFineManaged}
-use Rattle.cdi_staging.proofs.Common.{IsFineProducer, disposer_named, product_form, unused_product}
+use Rattle.cdi_staging.proofs.Common.{IsFineProducer, disposer_named, product_form, unused_product, at-back, at-joined, at-map}
 use Rattle.std.proofs.lemmas.Option.{option_and_then_some}
-use Rattle.base_lists.proofs.Places.{at-back, at-joined, at-map}
 use Rattle.cdi_model.specs.declared.decl.Decl.TheVariants as decls
 use Rattle.cdi_model.specs.declared.place.BeanPlace.TheVariants as spots
 use Rattle.cdi_bodies.specs.Flags as flags
 use Rattle.cdi_contexts.specs.declared.instance.Actor.TheVariants.{Target as ByTarget}
-use Rattle.cdi_scene.specs.Scene.{product_at, invocable_at, target_part}
 use Rattle.cdi_scene.specs.Sound.{params_at, AreBeans, IsSound, IsSoundForm, IsSoundInvocable, IsSoundManaged, IsSoundProduct, IsStatic}
+use Rattle.cdi_scene.specs.Scene.{product_at, invocable_at, target_part}
 use Rattle.cdi_scene.specs.declared.place.Place.TheVariants as places
 use Rattle.cdi_effective.specs.Disposers.{disposer_of}
-use Rattle.cdi_intercept.specs.Chains.{part_for}
 use Rattle.cdi_intercept.proofs.ChainLemmas.{IsPlace, construct_place, method_place, post_place, pre_place, observer_place, producer_place}
 use Rattle.cdi_intercept.proofs.ChainLemmas.{surrounds_some}
-use Rattle.cdi_staging.specs.Staged.{disposer_for, disposer_part}
+use Rattle.cdi_intercept.specs.Chains.{part_for}
 use Rattle.cdi_staging.proofs.BesideLemmas.{second-at, found, of-find, in-flat}
 use Rattle.cdi_staging.proofs.ChosenLemmas.{IsUsed, Stands, all-stand, host-used, managed_in, of-none, told-self, told-is}
 use Rattle.cdi_staging.proofs.PartLemmas.{IsSoundFor, NamesVia, disposer-sound, point-reached}
@@ -34,6 +32,7 @@ use Rattle.cdi_staging.proofs.SoundLemmas.{fine-product, no-call-disposal, obser
 use Rattle.cdi_staging.proofs.SoundLemmas.{no-load-disposal, no-proceed-disposal, no-store-disposal, no-load-class, no-proceed-class}
 use Rattle.cdi_staging.proofs.SoundLemmas.{no-store-class, own-good, part_in, producer-good, producer_in, product_in, stands-at}
 use Rattle.cdi_staging.proofs.SoundLemmas.{static-part}
+use Rattle.cdi_staging.specs.Staged.{disposer_for, disposer_part}
 
 -- ---- what is invoked at a place
 

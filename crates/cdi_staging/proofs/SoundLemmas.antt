@@ -1,24 +1,22 @@
 -- A deployment without faults has a sound scene.
-use Rattle.base_lists.proofs.Places.{at-map}
-use Rattle.cdi_staging.proofs.Common.{◌≡◌, ℕ, Bool, true, false, List, [], ◌++◌, map, Option, Some, None, refl, sym, ap, subst, ◌∙◌, arith}
-use Rattle.cdi_staging.proofs.Common.{slice_get, and_parts, false≢true, AreDistinct, BeanDecl, Decl, MethodDecl, ObserverDecl, PartDecl}
-use Rattle.cdi_staging.proofs.Common.{PointDecl, ProducerDecl, BeanPlace, cond, inl, inr, find, same_Some, Promised, Bean, Managed, Product}
-use Rattle.cdi_staging.proofs.Common.{as_managed, bean_at, beans, managed, product, effective, managed_form, scene_of, unused_managed}
-use Rattle.cdi_staging.proofs.Common.{chain_at, targets, bit_and, none-some, IsAllowedAt, Place, Part, IsFinePart, fired_at, site_of}
-use Rattle.cdi_staging.proofs.Common.{staged_part, as_product, CallSite, Observer, staged_observer, is_named, promise_of, IsSoundPart}
-use Rattle.cdi_staging.proofs.Common.{Notified, IsFit, AreSatisfied, part_of, part_with, staged_method, Invocable, AreFine, IsFineManaged}
-use Rattle.cdi_staging.proofs.Common.{IsFineProducer, product_form, unused_product}
+use Rattle.cdi_staging.proofs.Common.{at-map, ◌≡◌, ℕ, Bool, true, false, List, [], ◌++◌, map, Option, Some, None, refl, sym, ap, subst, ◌∙◌}
+use Rattle.cdi_staging.proofs.Common.{arith, slice_get, and_parts, false≢true, AreDistinct, BeanDecl, Decl, MethodDecl, ObserverDecl}
+use Rattle.cdi_staging.proofs.Common.{PartDecl, PointDecl, ProducerDecl, BeanPlace, cond, inl, inr, find, same_Some, Promised, Bean}
+use Rattle.cdi_staging.proofs.Common.{Managed, Product, as_managed, bean_at, beans, managed, product, effective, managed_form, scene_of}
+use Rattle.cdi_staging.proofs.Common.{unused_managed, chain_at, targets, bit_and, none-some, IsAllowedAt, Place, Part, IsFinePart, fired_at}
+use Rattle.cdi_staging.proofs.Common.{site_of, staged_part, as_product, CallSite, Observer, staged_observer, is_named, promise_of}
+use Rattle.cdi_staging.proofs.Common.{IsSoundPart, Notified, IsFit, AreSatisfied, part_of, part_with, staged_method, Invocable, AreFine}
+use Rattle.cdi_staging.proofs.Common.{IsFineManaged, IsFineProducer, product_form, unused_product}
 use Rattle.cdi_model.specs.declared.decl.Decl.TheVariants as decls
 use Rattle.cdi_model.specs.declared.place.BeanPlace.TheVariants as spots
 use Rattle.cdi_bodies.specs.Flags as flags
-use Rattle.cdi_scene.specs.Scene.{place_of}
-use Rattle.cdi_scene.specs.Sound.{Lacks}
+use Rattle.cdi_scene.specs.{Scene.place_of, Sound.Lacks}
 use Rattle.cdi_scene.specs.declared.place.Place.TheVariants as places
-use Rattle.cdi_staging.specs.Sites.{method_sight}
-use Rattle.cdi_staging.specs.Staged.{empty_place, sight_of, staged_place, producer_chain}
 use Rattle.cdi_staging.proofs.BesideLemmas.{First, first-at, of-find}
 use Rattle.cdi_staging.proofs.ChosenLemmas.{IsUsed, Stands, all-stand, managed_in}
 use Rattle.cdi_staging.proofs.PartLemmas.{IsSoundFor, Names, from-option, part-sound, seen}
+use Rattle.cdi_staging.specs.Staged.{empty_place, sight_of, staged_place, producer_chain}
+use Rattle.cdi_staging.specs.Sites.{method_sight}
 
 -- ---- what the places allow
 

@@ -1,9 +1,8 @@
 -- What is found by a name among the bodies is what is found among their names and promises.
-use Rattle.std.proofs.Common.{◌≡◌, ℕ, Bool, true, false, cond, List, [], ◌∷◌, map, find, position, Option, Some, None, option_map, refl, sym}
+use Rattle.std.proofs.Common.{◌≡◌, ℕ, Bool, true, false, cond, List, [], ◌∷◌, map, find, position, Some, option_map, refl, sym}
 use Rattle.base_lists.proofs.Places.{position-map}
 use Rattle.cdi_bodies.specs.Book.{is_named, position_of, promise_of as promise_by}
-use Rattle.cdi_stock.specs.Table.{has_name, promise_of, promised}
-use Rattle.cdi_stock.specs.declared.stock.Stock.{Stock}
+use Rattle.cdi_stock.specs.{Table.has_name, Table.promise_of, Table.promised, declared.stock.Stock.Stock}
 
 pub position_named : (bodies : List Stock) (name : List ℕ) → position (has_name name) bodies ≡ position_of (map promised bodies) name
 position_named bodies name = sym (position-map promised (is_named name) bodies)

@@ -1,38 +1,24 @@
 -- Of what a declaration names: its injection points stand in the order in which they are declared, and its call sites have no other
 -- parameters than them.
 use Rattle.std.proofs.Common.{◌≡◌, Bool, true, false, cond, List, [], ◌∷◌, ◌++◌, map, Option, Some, None, refl, sym, ap, subst, ◌∙◌}
-use Rattle.std.proofs.Common.{append-nil}
-use Rattle.std.specs.List.{find, flat_map, AllByRecursion}
-use Rattle.std.specs.Option.{option_to_list}
-use Rattle.std.proofs.lemmas.Bool.{and_from, and_parts}
-use Rattle.std.proofs.lemmas.Grind.{flat_map-append}
-use Rattle.std.proofs.lemmas.Option.{none-some, same_Some}
+use Rattle.std.proofs.Common.{append-nil, flat_map}
+use Rattle.std.specs.{List.find, List.AllByRecursion, Option.option_to_list}
+use Rattle.std.proofs.lemmas.{Bool.and_from, Bool.and_parts, Grind.flat_map-append, Option.none-some, Option.same_Some}
 use Rattle.base_lists.proofs.Each.{all-append}
-use Rattle.cdi_model.specs.declared.decl.Attributes.{Attributes}
-use Rattle.cdi_model.specs.declared.decl.BeanDecl.{BeanDecl}
-use Rattle.cdi_model.specs.declared.decl.CallDecl.{CallDecl}
-use Rattle.cdi_model.specs.declared.decl.Decl.{Decl}
+use Rattle.cdi_model.specs.Mentions.{Mention, TypeIn, UseOf, StereotypeOf, CallOf, mentions, listed_types, of_attributes, of_bindings}
+use Rattle.cdi_model.specs.Mentions.{of_disposer, of_event, of_method, of_observer, of_part, of_parts, of_point, of_producer, of_qualifiers}
+use Rattle.cdi_model.specs.Mentions.{part_place_of}
+use Rattle.cdi_model.specs.declared.decl.{Attributes.Attributes, BeanDecl.BeanDecl, CallDecl.CallDecl, Decl.Decl, DisposerDecl.DisposerDecl}
+use Rattle.cdi_model.specs.declared.decl.{EventDecl.EventDecl, MethodDecl.MethodDecl, ObserverDecl.ObserverDecl, PartDecl.PartDecl}
+use Rattle.cdi_model.specs.declared.{decl.PointDecl.PointDecl, decl.ProducerDecl.ProducerDecl, mention.PointPlace.PointPlace}
+use Rattle.cdi_model.specs.declared.{place.PartPlace.PartPlace, quals.Qual.Qual}
 use Rattle.cdi_model.specs.declared.decl.Decl.TheVariants as decls
-use Rattle.cdi_model.specs.declared.decl.DisposerDecl.{DisposerDecl}
-use Rattle.cdi_model.specs.declared.decl.EventDecl.{EventDecl}
-use Rattle.cdi_model.specs.declared.decl.MethodDecl.{MethodDecl}
-use Rattle.cdi_model.specs.declared.decl.ObserverDecl.{ObserverDecl}
-use Rattle.cdi_model.specs.declared.decl.PartDecl.{PartDecl}
-use Rattle.cdi_model.specs.declared.decl.PointDecl.{PointDecl}
-use Rattle.cdi_model.specs.declared.decl.ProducerDecl.{ProducerDecl}
 use Rattle.cdi_model.specs.declared.decl.UseKind.TheVariants as uses
-use Rattle.cdi_model.specs.declared.mention.PointPlace.{PointPlace}
 use Rattle.cdi_model.specs.declared.mention.PointPlace.TheVariants as points_are
 use Rattle.cdi_model.specs.declared.mention.TypePlace.TheVariants as types_are
-use Rattle.cdi_model.specs.declared.place.PartPlace.{PartPlace}
 use Rattle.cdi_model.specs.declared.place.PartPlace.TheVariants as parts_are
-use Rattle.cdi_model.specs.declared.quals.Qual.{Qual}
-use Rattle.cdi_model.specs.Mentions.{Mention, TypeIn, UseOf, StereotypeOf, CallOf, mentions, listed_types}
-use Rattle.cdi_model.specs.Mentions.{of_attributes, of_bindings, of_disposer, of_event, of_method, of_observer, of_part, of_parts, of_point}
-use Rattle.cdi_model.specs.Mentions.{of_producer, of_qualifiers, part_place_of}
-use Rattle.cdi_observe.specs.Kept.{Kept}
-use Rattle.cdi_observe.specs.Lending.{are_answerable, is_answerable}
 use Rattle.cdi_observe.specs.Wanted.{asked_by, key_of_point, point_named, points_of}
+use Rattle.cdi_observe.specs.{Kept.Kept, Lending.are_answerable, Lending.is_answerable}
 use Rattle.cdi_subjects.specs.Sites.{declared_points, own_points, observed, params_given, params_of}
 
 -- ---- what holds of each

@@ -1,34 +1,27 @@
 -- What one look at all that a declaration names tells of its faults.
-use Rattle.std.proofs.Common.{◌≡◌, Bool, true, false, not, ◌||◌, ◌&&◌, List, [], ◌∷◌, ◌++◌, Option, Some, None, option_map, refl, sym, ap}
-use Rattle.std.proofs.Common.{◌∙◌}
-use Rattle.std.specs.List.{list_any}
-use Rattle.std.specs.Option.{is_some, option_to_list}
-use Rattle.std.proofs.Math.Bool.{or_assoc}
-use Rattle.std.proofs.lemmas.Bool.{false≢true, or_parts}
+use Rattle.std.proofs.Common.{◌≡◌, Bool, true, false, not, ◌||◌, ◌&&◌, List, [], ◌∷◌, ◌++◌, Option, None, option_map, refl, sym, ap, ◌∙◌}
+use Rattle.std.proofs.Common.{is_some}
+use Rattle.std.specs.{List.list_any, Option.option_to_list}
+use Rattle.std.proofs.{Math.Bool.or_assoc, lemmas.Bool.false≢true, lemmas.Bool.or_parts}
 use Rattle.base_options.proofs.Options.{none-from_is_some}
-use Rattle.cdi_bodies.specs.Book.{Promised}
+use Rattle.cdi_model.specs.Mentions.{Mention, CallOf, PointOf, mentions}
 use Rattle.cdi_model.specs.declared.decl.Decl.{Decl}
 use Rattle.cdi_model.specs.declared.decl.Decl.TheVariants as decls
-use Rattle.cdi_model.specs.Mentions.{Mention, CallOf, PointOf, mentions}
-use Rattle.cdi_effective.specs.Beans.{entries, managed}
-use Rattle.cdi_effective.specs.Specialized.{specialized}
-use Rattle.cdi_effective.specs.declared.records.Effective.{Effective}
+use Rattle.cdi_bodies.specs.Book.{Promised}
+use Rattle.cdi_effective.specs.{Beans.entries, Beans.managed, Specialized.specialized, declared.records.Effective.Effective}
 use Rattle.cdi_resolve.specs.declared.choice.Choice.{Choice}
 use Rattle.cdi_resolve.specs.declared.choice.Choice.TheVariants as choices_are
 use Rattle.cdi_observe.specs.Answers.{answer_to}
-use Rattle.cdi_faults.specs.declared.fault.Code.TheVariants as codes_of
 use Rattle.cdi_faults.specs.declared.fault.Subject.{Subject}
+use Rattle.cdi_faults.specs.declared.fault.Code.TheVariants as codes_of
 use Rattle.cdi_faults.specs.declared.fault.Subject.TheVariants as subjects
-use Rattle.cdi_subjects.specs.declared.glance.Glance.{Glance}
-use Rattle.cdi_subjects.specs.declared.points.Verdict.TheVariants as verdicts
+use Rattle.cdi_subjects.proofs.SpecializedLemmas.{none-specialized}
 use Rattle.cdi_subjects.specs.Filter.{found_in, is_enabled_in, producer_of_point, some_if}
 use Rattle.cdi_subjects.specs.Glance.{is_call, is_wrong_in, requires_final_in, with_mention, MissesNothing}
-use Rattle.cdi_subjects.specs.Parts.{unfit_in}
-use Rattle.cdi_subjects.specs.Proxies.{needs_subclass}
-use Rattle.cdi_subjects.specs.Sites.{lost_in}
 use Rattle.cdi_subjects.specs.Specializing.{has_name, is_specializing, lacked_types, lacks_specialized, renames_specialized, types_beyond}
 use Rattle.cdi_subjects.specs.Subjects.{bad_kind_in, bad_use_in, has_verdict, point_in, unknown_in, whole_if}
-use Rattle.cdi_subjects.proofs.SpecializedLemmas.{none-specialized}
+use Rattle.cdi_subjects.specs.{declared.glance.Glance.Glance, Parts.unfit_in, Proxies.needs_subclass, Sites.lost_in}
+use Rattle.cdi_subjects.specs.declared.points.Verdict.TheVariants as verdicts
 
 -- ---- a look that has come to some places
 

@@ -1,19 +1,14 @@
 -- The record of a bean has the bindings of its class.
 use Rattle.std.proofs.Common.{◌≡◌, ℕ, Bool, true, false, cond, List, [], ◌∷◌, map, Some, is_some, sym, ap, ◌∙◌}
 use Rattle.std.specs.List.{find}
-use Rattle.std.proofs.lemmas.Bool.{false≢true}
-use Rattle.std.proofs.lemmas.Option.{none-some, same_Some}
-use Rattle.cdi_model.specs.DeclList.{find_decl}
-use Rattle.cdi_model.specs.declared.decl.BeanDecl.{BeanDecl}
-use Rattle.cdi_model.specs.declared.decl.Decl.{Decl}
-use Rattle.cdi_model.specs.declared.decl.Decl.TheVariants as decls
-use Rattle.cdi_model.specs.declared.decl.Kind.TheVariants as kinds
+use Rattle.std.proofs.lemmas.{Bool.false≢true, Option.none-some, Option.same_Some}
+use Rattle.cdi_model.specs.{DeclList.find_decl, declared.decl.BeanDecl.BeanDecl, declared.decl.Decl.Decl}
 use Rattle.cdi_model.specs.declared.decl.ProducerDecl.{ProducerDecl}
 use Rattle.cdi_model.proofs.PositionLemmas.{name-found}
+use Rattle.cdi_model.specs.declared.decl.Decl.TheVariants as decls
+use Rattle.cdi_model.specs.declared.decl.Kind.TheVariants as kinds
 use Rattle.cdi_effective.specs.Beans.{effective, managed, product, records}
-use Rattle.cdi_effective.specs.Bindings.{class_bindings}
-use Rattle.cdi_effective.specs.Disposers.{as_bean}
-use Rattle.cdi_effective.specs.Records.{records_declared, records_in}
+use Rattle.cdi_effective.specs.{Bindings.class_bindings, Disposers.as_bean, Records.records_declared, Records.records_in}
 use Rattle.cdi_effective.specs.declared.records.Effective.{Effective}
 
 -- a bean that is found by a name has it, and is found by its own

@@ -1,28 +1,20 @@
 -- What the records of a bean declaration say of its parts.
 use Rattle.std.proofs.Common.{◌≡◌, ℕ, Bool, true, false, not, cond, List, [], ◌∷◌, ◌++◌, map, filter, length, nat_lt, Option, Some, None}
-use Rattle.std.proofs.Common.{unwrap_or, refl, ap, ◌∙◌}
-use Rattle.std.specs.List.{AllByRecursion, flat_map}
-use Rattle.std.specs.Option.{option_to_list}
-use Rattle.std.specs.Str.{bytes_eq}
-use Rattle.std.proofs.lemmas.Bool.{or_left, or_right}
-use Rattle.std.proofs.lemmas.Map.Views.{any-filter_same}
+use Rattle.std.proofs.Common.{unwrap_or, refl, ap, ◌∙◌, flat_map}
+use Rattle.std.specs.{List.AllByRecursion, Option.option_to_list, Str.bytes_eq}
+use Rattle.std.proofs.lemmas.{Bool.or_left, Bool.or_right, Map.Views.any-filter_same}
 use Rattle.base_lists.proofs.Filters.{filter-alike}
 use Rattle.base_numbers.proofs.Texts.{one_text, same_text}
-use Rattle.cdi_model.specs.declared.decl.BeanDecl.{BeanDecl}
-use Rattle.cdi_model.specs.declared.decl.Decl.{Decl}
+use Rattle.cdi_model.specs.declared.decl.{BeanDecl.BeanDecl, Decl.Decl, ProducerDecl.ProducerDecl}
 use Rattle.cdi_model.specs.declared.decl.Decl.TheVariants as decls
-use Rattle.cdi_model.specs.declared.decl.ProducerDecl.{ProducerDecl}
-use Rattle.cdi_match.specs.Chain.{has}
-use Rattle.cdi_match.specs.Types.{object, types_of}
+use Rattle.cdi_match.specs.{Chain.has, Types.object, Types.types_of}
 use Rattle.cdi_effective.specs.Beans.{is_kept, restricted, effective, entries, managed, product}
-use Rattle.cdi_effective.specs.Bindings.{class_bindings}
-use Rattle.cdi_effective.specs.Disposers.{disposes}
-use Rattle.cdi_effective.specs.declared.records.Effective.{Effective}
+use Rattle.cdi_effective.specs.{Bindings.class_bindings, Disposers.disposes, declared.records.Effective.Effective}
+use Rattle.cdi_faults.specs.declared.fault.Subject.TheVariants as parts
 use Rattle.cdi_subjects.specs.Subjects.{binding_conflicts, conditional_dependents, disposers_at_fault, typed, wrongly_listed}
 use Rattle.cdi_subjects.specs.Records.{conditional_by, conflicts_by, conflicts_in, lacked_by, not_had, not_had_by, typed_by, with_two}
 use Rattle.cdi_subjects.specs.Records.{without_product}
 use Rattle.cdi_subjects.specs.Specializing.{lacked_types}
-use Rattle.cdi_faults.specs.declared.fault.Subject.TheVariants as parts
 
 -- ---- what a record is told by
 

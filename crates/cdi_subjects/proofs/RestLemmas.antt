@@ -1,52 +1,34 @@
 -- The faults of a declaration rest on its records, the answers to its points, what the names that it writes are declared as, and the bean
 -- that it specializes.
 use Rattle.std.proofs.Common.{◌≡◌, ℕ, Bool, true, false, not, cond, ◌&&◌, ◌||◌, List, [], ◌∷◌, ◌++◌, map, filter, length, nat_lt, codes}
-use Rattle.std.proofs.Common.{Option, Some, None, is_some, option_map, refl, sym, ap, ◌∙◌}
-use Rattle.std.specs.List.{AllByRecursion, find, flat_map, list_any}
-use Rattle.std.specs.Option.{option_to_list, unwrap_or}
-use Rattle.std.specs.Str.{bytes_eq}
-use Rattle.base_lists.proofs.Each.{all-weaker, all-append}
-use Rattle.base_lists.proofs.Any.{any-alike}
-use Rattle.base_lists.proofs.Filters.{filter-alike, filter-same}
-use Rattle.base_lists.proofs.Flat.{flat-same}
-use Rattle.cdi_bodies.specs.Book.{Promised}
-use Rattle.cdi_model.specs.DeclList.{find_decl}
+use Rattle.std.proofs.Common.{Option, Some, None, is_some, option_map, refl, sym, ap, ◌∙◌, flat_map, unwrap_or}
+use Rattle.std.specs.{List.AllByRecursion, List.find, List.list_any, Option.option_to_list, Str.bytes_eq}
+use Rattle.base_lists.proofs.{Each.all-weaker, Each.all-append, Any.any-alike, Filters.filter-alike, Filters.filter-same, Flat.flat-same}
 use Rattle.cdi_model.specs.Mentions.{Mention, TypeIn, UseOf, StereotypeOf, PointOf, CallOf, mentions}
-use Rattle.cdi_model.specs.declared.decl.BeanDecl.{BeanDecl}
-use Rattle.cdi_model.specs.declared.decl.Decl.{Decl}
+use Rattle.cdi_model.specs.{DeclList.find_decl, declared.decl.BeanDecl.BeanDecl, declared.decl.Decl.Decl}
+use Rattle.cdi_model.specs.declared.{decl.DisposerDecl.DisposerDecl, decl.PointDecl.PointDecl, mention.TypePlace.TypePlace, quals.Qual.Qual}
+use Rattle.cdi_model.specs.declared.place.{BeanPlace.BeanPlace, PartPlace.PartPlace}
 use Rattle.cdi_model.specs.declared.decl.Decl.TheVariants as decls
-use Rattle.cdi_model.specs.declared.decl.DisposerDecl.{DisposerDecl}
 use Rattle.cdi_model.specs.declared.decl.Kind.TheVariants as kinds
-use Rattle.cdi_model.specs.declared.decl.PointDecl.{PointDecl}
 use Rattle.cdi_model.specs.declared.decl.UseKind.TheVariants as uses
-use Rattle.cdi_model.specs.declared.mention.TypePlace.{TypePlace}
 use Rattle.cdi_model.specs.declared.mention.TypePlace.TheVariants as types_are
-use Rattle.cdi_model.specs.declared.place.BeanPlace.{BeanPlace}
 use Rattle.cdi_model.specs.declared.place.BeanPlace.TheVariants as spots
-use Rattle.cdi_model.specs.declared.place.PartPlace.{PartPlace}
 use Rattle.cdi_model.specs.declared.place.PartPlace.TheVariants as places
-use Rattle.cdi_model.specs.declared.quals.Qual.{Qual}
-use Rattle.cdi_match.specs.Chain.{has}
-use Rattle.cdi_match.specs.Covering.{covers, covers_by}
-use Rattle.cdi_match.specs.Filling.{as_binding, as_qualifier}
-use Rattle.cdi_match.specs.Misuse.{misuses}
+use Rattle.cdi_bodies.specs.Book.{Promised}
+use Rattle.cdi_match.specs.{Chain.has, Covering.covers, Covering.covers_by, Filling.as_binding, Filling.as_qualifier, Misuse.misuses}
 use Rattle.cdi_match.specs.Types.{object}
 use Rattle.cdi_effective.specs.Beans.{entries, managed, product, records}
-use Rattle.cdi_effective.specs.Bindings.{class_bindings}
-use Rattle.cdi_effective.specs.Disposers.{disposes}
-use Rattle.cdi_effective.specs.Qualifiers.{cover_all, required, some_covers}
-use Rattle.cdi_effective.specs.Specialized.{specialized}
-use Rattle.cdi_effective.specs.declared.records.BeanId.{BeanId}
-use Rattle.cdi_effective.specs.declared.records.Effective.{Effective}
+use Rattle.cdi_effective.specs.{Bindings.class_bindings, Disposers.disposes, Specialized.specialized, declared.records.BeanId.BeanId}
+use Rattle.cdi_effective.specs.{Qualifiers.cover_all, Qualifiers.required, Qualifiers.some_covers, declared.records.Effective.Effective}
 use Rattle.cdi_resolve.specs.declared.choice.Choice.{Choice}
 use Rattle.cdi_resolve.specs.declared.choice.Choice.TheVariants as choices
-use Rattle.cdi_observe.specs.Answers.{answer_to}
-use Rattle.cdi_observe.specs.Wanted.{point_named}
-use Rattle.cdi_faults.specs.declared.fault.Code.TheVariants as codes_of
+use Rattle.cdi_observe.specs.{Answers.answer_to, Wanted.point_named}
 use Rattle.cdi_faults.specs.declared.fault.Subject.{Subject}
+use Rattle.cdi_faults.specs.declared.fault.Code.TheVariants as codes_of
 use Rattle.cdi_faults.specs.declared.fault.Subject.TheVariants as subjects
+use Rattle.cdi_subjects.proofs.AnsweredLemmas.{all-parts, each-given, each-own}
+use Rattle.cdi_subjects.proofs.RecordLemmas.{conditional_by_entries, disposers_of_records, typed_by_entries}
 use Rattle.cdi_subjects.specs.Filter.{found_in, is_enabled_in, producer_of_part, producer_of_point, some_if}
-use Rattle.cdi_subjects.specs.Proxies.{is_final_decl, is_unproxyable, needs_subclass}
 use Rattle.cdi_subjects.specs.Records.{conditional_by, conflict_at, conflicts_in, part_at, typed_by, with_two, without_product}
 use Rattle.cdi_subjects.specs.Rests.{AreAlike, DifferAlike, FaultsRestOn, HasQualifiersAlike, IsAnsweredAlike, IsBeanAlike, IsSeenAlike}
 use Rattle.cdi_subjects.specs.Rests.{AreProductsAlike, named_in, specialized_seen, types_and_name}
@@ -54,10 +36,8 @@ use Rattle.cdi_subjects.specs.Sites.{is_lost_among, lacks_method, lost_in, own_p
 use Rattle.cdi_subjects.specs.Specializing.{has_name, lacked_types, lacks_specialized, renames_specialized, specialized_bean, types_beyond}
 use Rattle.cdi_subjects.specs.Subjects.{bad_kind_in, bad_use_in, disposers_at_fault, form_of, has_verdict, is_class_form, is_interface_form}
 use Rattle.cdi_subjects.specs.Subjects.{is_known_in, point_in, scope_conflicts, subjects_at_fault, unknown_in, whole_if}
-use Rattle.cdi_subjects.specs.declared.points.Verdict.{Verdict}
+use Rattle.cdi_subjects.specs.{Proxies.is_final_decl, Proxies.is_unproxyable, Proxies.needs_subclass, declared.points.Verdict.Verdict}
 use Rattle.cdi_subjects.specs.declared.points.Verdict.TheVariants as verdicts
-use Rattle.cdi_subjects.proofs.AnsweredLemmas.{all-parts, each-given, each-own}
-use Rattle.cdi_subjects.proofs.RecordLemmas.{conditional_by_entries, disposers_of_records, typed_by_entries}
 
 -- ---- what holds of each
 

@@ -1,14 +1,10 @@
 -- The bean that a bean specializes.
-use Rattle.std.proofs.Common.{◌≡◌, ℕ, Bool, true, false, cond, List, Option, Some, None, option_map, slice_get, refl, sym, ap, ◌∙◌}
+use Rattle.std.proofs.Common.{◌≡◌, ℕ, false, cond, List, Option, Some, None, option_map, slice_get, refl, sym, ap, ◌∙◌}
 use Rattle.cdi_model.proofs.PositionLemmas.{name-found}
-use Rattle.cdi_model.specs.DeclList.{find_decl}
-use Rattle.cdi_model.specs.declared.decl.BeanDecl.{BeanDecl}
-use Rattle.cdi_model.specs.declared.decl.Decl.{Decl}
+use Rattle.cdi_model.specs.{DeclList.find_decl, declared.decl.BeanDecl.BeanDecl, declared.decl.Decl.Decl}
 use Rattle.cdi_model.specs.declared.decl.Decl.TheVariants as decls
 use Rattle.cdi_model.specs.declared.decl.Kind.TheVariants as kinds
-use Rattle.cdi_effective.specs.Beans.{managed}
-use Rattle.cdi_effective.specs.Disposers.{as_bean, find_bean}
-use Rattle.cdi_effective.specs.Records.{records_declared, records_in}
+use Rattle.cdi_effective.specs.{Beans.managed, Disposers.as_bean, Disposers.find_bean, Records.records_declared, Records.records_in}
 use Rattle.cdi_effective.specs.Specialized.{bean_named, extended, specialized}
 use Rattle.cdi_effective.proofs.ChainLemmas.{specialized-found}
 use Rattle.cdi_subjects.specs.Specializing.{specialized_bean}

@@ -1,38 +1,20 @@
 -- What sound tables spell, as a check of a declaration sees it: uses and events that have their forms, and lists that repeat nothing and are short.
-use Rattle.std.proofs.Common.{◌≡◌, ◌≤◌, ◌+◌, ℕ, Bool, true, false, not, List, [], ◌∷◌, map, length, codes, Option, Some, None}
-use Rattle.std.proofs.Common.{unwrap_or, option_and_then, option_map, refl, ap, sym, ◌∙◌, arith, nat_lt}
-use Rattle.std.proofs.lemmas.Bool.{and_parts, not-false, or_from, or_parts}
-use Rattle.std.proofs.lemmas.Bool.Decides.{nat_tests}
+use Rattle.cdi_text.proofs.Common.{◌≡◌, ◌≤◌, ◌+◌, ℕ, Bool, true, false, not, List, [], ◌∷◌, map, length, codes, Option, Some, None}
+use Rattle.cdi_text.proofs.Common.{unwrap_or, option_and_then, option_map, refl, ap, sym, ◌∙◌, arith, nat_lt, and_parts, not-false, or_from}
+use Rattle.cdi_text.proofs.Common.{or_parts, nat_tests, list_any, flat_map, option_to_list, Data, string, table, Items, no_items, item}
+use Rattle.cdi_text.proofs.Common.{Members, get_member, as_array, as_str, as_table, of_part, list_limit, IsShortPart, PartDecl, PointDecl}
+use Rattle.cdi_text.proofs.Common.{PartPlace, event_of, has_twice, quals_from, use_of, BadName, Twice, Item, Call, Event, Name, Table}
+use Rattle.cdi_text.proofs.Common.{Schema, One, Many, are_sound, is_sound, is_sound_value, is_misspelt, misspell, count_of, labels_of}
+use Rattle.cdi_text.proofs.Common.{some_repeats, shape_of, calls_at, each, each_at, events_at, events_in, items_at, one_at, part_decl}
+use Rattle.cdi_text.proofs.Common.{quals_at, text_at, texts, texts_at, with_front, is_long, is_long_part, is_malformed, HasNone}
+use Rattle.cdi_text.proofs.Common.{none-append, none-false, none-flat_map, none-map}
 use Rattle.std.proofs.lemmas.List.{length-map}
-use Rattle.std.specs.List.{list_any, flat_map}
-use Rattle.std.specs.Option.{option_to_list}
-use Rattle.toml.specs.Data.{Data, string, table, Items, no_items, item, Members, get_member, as_array, as_str, as_table}
-use Rattle.cdi_model.specs.Mentions.{of_event, of_part, CallOf}
-use Rattle.cdi_model.specs.Quals.{list_limit}
-use Rattle.cdi_model.specs.Short.{IsShortPart}
-use Rattle.cdi_model.specs.declared.decl.EventDecl.{EventDecl}
-use Rattle.cdi_model.specs.declared.decl.PartDecl.{PartDecl}
-use Rattle.cdi_model.specs.declared.decl.PointDecl.{PointDecl}
-use Rattle.cdi_model.specs.declared.place.PartPlace.{PartPlace}
-use Rattle.cdi_model.specs.declared.quals.Qual.{Qual}
-use Rattle.cdi_uses.specs.Events.{event_of, is_event}
-use Rattle.cdi_uses.specs.Twice.{has_twice}
-use Rattle.cdi_uses.specs.Uses.{quals_from, use_of}
-use Rattle.cdi_text.specs.declared.conditions.Condition.TheVariants.{BadName, Twice}
-use Rattle.cdi_text.specs.declared.schema.Item.{Item}
-use Rattle.cdi_text.specs.declared.schema.Item.TheVariants.{Call, Event, Name, Table}
-use Rattle.cdi_text.specs.declared.schema.Schema.{Schema}
-use Rattle.cdi_text.specs.declared.schema.Shape.TheVariants.{One, Many}
-use Rattle.cdi_text.specs.Conditions.{are_sound, is_sound, is_sound_value}
-use Rattle.cdi_text.specs.Grammar.{is_misspelt, misspell}
-use Rattle.cdi_text.specs.Lists.{count_of, labels_of, list_repeats, some_repeats}
-use Rattle.cdi_text.specs.Schema.{shape_of}
-use Rattle.cdi_text.specs.Spelled.{calls_at, each, each_at, events_at, events_in, items_at, one_at, part_decl, quals_at, text_at, texts, texts_at, with_front}
+use Rattle.cdi_model.specs.{Mentions.of_event, Mentions.CallOf, declared.decl.EventDecl.EventDecl, declared.quals.Qual.Qual}
+use Rattle.cdi_uses.specs.Events.{is_event}
+use Rattle.cdi_admission.proofs.UseLemmas.{none-from, spelt-event}
 use Rattle.cdi_text.proofs.ShortLemmas.{length-each, short-part}
 use Rattle.cdi_text.proofs.Soundness.{count_at, list_at, table_at, tables_at}
-use Rattle.cdi_admission.specs.Admission.{is_long, is_long_part, is_malformed}
-use Rattle.cdi_admission.proofs.AnyLemmas.{HasNone, none-append, none-false, none-flat_map, none-map}
-use Rattle.cdi_admission.proofs.UseLemmas.{none-from, spelt-event}
+use Rattle.cdi_text.specs.Lists.{list_repeats}
 
 -- ---- tables inside a sound table
 

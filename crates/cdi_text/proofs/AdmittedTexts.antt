@@ -1,56 +1,38 @@
 -- What a text spells is not refused.
-use Rattle.std.proofs.Common.{◌≡◌, ℕ, Bool, true, false, cond, not, ◌||◌, List, [], ◌∷◌, ◌++◌, map, codes, Option, Some, None, is_some, unwrap_or, refl, ap, sym, ◌∙◌}
-use Rattle.std.proofs.Common.{option_and_then, subst}
-use Rattle.std.proofs.lemmas.Bool.{and_parts, false≢true, not-false, or_from, or_parts}
-use Rattle.std.specs.List.{AllByRecursion, list_any, flat_map}
+use Rattle.cdi_text.proofs.Common.{◌≡◌, ℕ, Bool, true, false, cond, not, ◌||◌, List, [], ◌∷◌, ◌++◌, map, codes, Option, Some, None, is_some}
+use Rattle.cdi_text.proofs.Common.{unwrap_or, refl, ap, sym, ◌∙◌, option_and_then, subst, and_parts, false≢true, not-false, or_from}
+use Rattle.cdi_text.proofs.Common.{or_parts, AllByRecursion, list_any, flat_map, option_to_list, string, table, Items, no_items, item}
+use Rattle.cdi_text.proofs.Common.{Members, get_member, as_array, is_name, of_part, Kind, PartDecl, PointDecl, PartPlace, is_event_use}
+use Rattle.cdi_text.proofs.Common.{has_twice, is_text_among, is_named, is_own_use, is_use, use_name, use_of, BadName, Twice, Item, Declared}
+use Rattle.cdi_text.proofs.Common.{Name, ObservedUse, OwnUse, Table, Use, Schema, One, Many, are_sound, holds_ident, holds_name, is_sound}
+use Rattle.cdi_text.proofs.Common.{is_required, is_misspelt, has_param_among, has_such_param_at, tables_of, schema_of, spelled, rows}
+use Rattle.cdi_text.proofs.Common.{shape_of, bean_decl, each, each_at, interceptor_decl, items_at, method_decl, observer_decl, one_at}
+use Rattle.cdi_text.proofs.Common.{part_decl, point_decl, producer_decl, quals_at, text_at, texts_at, is_built_in, is_long, is_long_part}
+use Rattle.cdi_text.proofs.Common.{is_malformed, HasNone, none-append, none-false, none-flat_map, none-map}
 use Rattle.std.proofs.lemmas.List.Concat.{flat_map_single}
-use Rattle.std.specs.Option.{option_to_list}
-use Rattle.toml.specs.Data.{string, table, Items, no_items, item, Members, get_member, as_array}
 use Rattle.base_lists.proofs.Any.{any-map}
-use Rattle.cdi_model.specs.Decl.{kind_of, name_of_decl}
-use Rattle.cdi_model.specs.Grammar.{is_name}
 use Rattle.cdi_model.specs.Mentions.{TypeIn, UseOf, StereotypeOf, listed_types, mentions, of_attributes, of_bindings, of_disposer}
-use Rattle.cdi_model.specs.Mentions.{of_method, of_observer, of_part, of_parts, of_point, of_producer, of_qualifiers, part_place_of}
-use Rattle.cdi_model.specs.declared.decl.Kind.{Kind}
-use Rattle.cdi_model.specs.declared.decl.Kind.TheVariants as kinds
-use Rattle.cdi_model.specs.declared.decl.MemberDecl.{MemberDecl}
-use Rattle.cdi_model.specs.declared.decl.ObserverDecl.{ObserverDecl}
-use Rattle.cdi_model.specs.declared.decl.PartDecl.{PartDecl}
-use Rattle.cdi_model.specs.declared.decl.PointDecl.{PointDecl}
-use Rattle.cdi_model.specs.declared.decl.UseKind.TheVariants as uses
+use Rattle.cdi_model.specs.Mentions.{of_method, of_observer, of_parts, of_point, of_producer, of_qualifiers, part_place_of}
+use Rattle.cdi_model.specs.{Decl.kind_of, Decl.name_of_decl, declared.decl.MemberDecl.MemberDecl, declared.decl.ObserverDecl.ObserverDecl}
 use Rattle.cdi_model.specs.declared.mention.PointPlace.{PointPlace}
+use Rattle.cdi_model.specs.declared.decl.Kind.TheVariants as kinds
+use Rattle.cdi_model.specs.declared.decl.UseKind.TheVariants as uses
 use Rattle.cdi_model.specs.declared.mention.PointPlace.TheVariants as points
 use Rattle.cdi_model.specs.declared.mention.TypePlace.TheVariants as places
-use Rattle.cdi_model.specs.declared.place.PartPlace.{PartPlace}
 use Rattle.cdi_model.specs.declared.place.PartPlace.TheVariants as parts
 use Rattle.cdi_model.specs.declared.refusal.Refusal.TheVariants as refusals
-use Rattle.cdi_uses.specs.Events.{is_event_use}
-use Rattle.cdi_uses.specs.Twice.{has_twice, is_text_among}
-use Rattle.cdi_uses.specs.Uses.{is_named, is_own_use, is_use, use_name, use_of}
-use Rattle.cdi_text.specs.declared.conditions.Condition.TheVariants.{BadName, Twice}
-use Rattle.cdi_text.specs.declared.schema.Item.{Item}
-use Rattle.cdi_text.specs.declared.schema.Item.TheVariants.{Declared, Name, ObservedUse, OwnUse, Table, Use}
-use Rattle.cdi_text.specs.declared.schema.Schema.{Schema}
-use Rattle.cdi_text.specs.declared.schema.Schema.TheVariants as schemas
-use Rattle.cdi_text.specs.declared.schema.Shape.TheVariants.{One, Many}
-use Rattle.cdi_text.specs.Conditions.{are_sound, holds_ident, holds_name, is_sound, is_required}
-use Rattle.cdi_text.specs.Grammar.{is_misspelt}
-use Rattle.cdi_text.specs.Params.{has_param_among, has_such_param_at, tables_of}
-use Rattle.cdi_text.specs.Params as params
-use Rattle.cdi_text.specs.Reading.{schema_of, spelled}
-use Rattle.cdi_text.specs.Schema.{rows, shape_of}
-use Rattle.cdi_text.specs.Spelled.{attributes_of, bean_decl, disposer_decl, each, each_at, interceptor_decl, items_at, member_decl}
-use Rattle.cdi_text.specs.Spelled.{method_decl, observer_decl, one_at, part_decl, point_decl, producer_decl}
-use Rattle.cdi_text.specs.Spelled.{quals_at, stereotype_decl, text_at, texts_at, the_text_at, type_decl}
-use Rattle.cdi_text.proofs.FromTables.{from-text}
-use Rattle.cdi_text.proofs.Soundness.{no_condition, required_at, required_ident_at, sound_at, tables_at, text_found}
-use Rattle.cdi_admission.specs.Admission.{declares_named, has_bad_name, has_long_list, has_long_part, has_param_named_as_point, is_built_in, is_long, is_long_part, is_malformed, is_no_use}
+use Rattle.cdi_admission.specs.Admission.{declares_named, has_bad_name, has_long_list, has_long_part, has_param_named_as_point, is_no_use}
 use Rattle.cdi_admission.specs.Admission.{is_of_default, is_of_named, lists_of_attributes, lists_of_producer, name_lists, observes_default}
 use Rattle.cdi_admission.specs.Admission.{is_long_one, point_names, refusal_of_decl, repeats_name, shares_name}
-use Rattle.cdi_text.specs.Admitted.{TextsAreAdmitted}
-use Rattle.cdi_admission.proofs.AnyLemmas.{HasNone, none-append, none-false, none-flat_map, none-map}
-use Rattle.cdi_text.proofs.AdmittedTables.{IsProper, labels-at, none-each_at, none-one_at, none-part, none-quals, proper-each, proper-names, short-body}
 use Rattle.cdi_admission.proofs.UseLemmas.{spelt, spelt-event_use, spelt-own}
+use Rattle.cdi_text.proofs.FromTables.{from-text}
+use Rattle.cdi_text.proofs.Soundness.{no_condition, required_at, required_ident_at, sound_at, tables_at, text_found}
+use Rattle.cdi_text.proofs.AdmittedTables.{IsProper, labels-at, none-each_at, none-one_at, none-part, none-quals, proper-each, proper-names}
+use Rattle.cdi_text.proofs.AdmittedTables.{short-body}
+use Rattle.cdi_text.specs.Spelled.{attributes_of, disposer_decl, member_decl, stereotype_decl, the_text_at, type_decl}
+use Rattle.cdi_text.specs.Admitted.{TextsAreAdmitted}
+use Rattle.cdi_text.specs.declared.schema.Schema.TheVariants as schemas
+use Rattle.cdi_text.specs.Params as params
 
 none-of_four : (a b c d : Bool) → a ≡ false → b ≡ false → c ≡ false → d ≡ false → (a || b || c || d) ≡ false
 none-of_four a b c d ha hb hc hd = rw (ha, hb, hc, hd) refl

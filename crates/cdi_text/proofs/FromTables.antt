@@ -1,25 +1,13 @@
 -- What a table spells that is in a sound table, and what a text spells, is spelled by a sound table.
-use Rattle.std.proofs.Common.{◌≡◌, ℕ, zero, suc, Bool, true, false, not, cond, List, length, Option, Some, None, unwrap_or, option_map}
-use Rattle.std.proofs.Common.{option_and_then, is_some, Result, Ok, Err, refl, subst, ap, nat_lt}
+use Rattle.cdi_text.proofs.Common.{◌≡◌, ℕ, zero, suc, Bool, true, false, not, cond, List, length, Option, Some, None, unwrap_or, option_map}
+use Rattle.cdi_text.proofs.Common.{option_and_then, is_some, Result, Ok, Err, refl, subst, ap, nat_lt, is_ok, result_ok, and_parts}
+use Rattle.cdi_text.proofs.Common.{false≢true, none-some, same_Some, Data, table, Items, no_items, item, Members, get_member, as_table}
+use Rattle.cdi_text.proofs.Common.{as_array, Decl, Kind, Refusal, TooLong, Condition, Table, Schema, One, Many, first_condition, is_sound}
+use Rattle.cdi_text.proofs.Common.{is_sound_value, are_sound, decl_of, decl_of_members, decl_of_tree, refused_or, schema_of, spelled}
+use Rattle.cdi_text.proofs.Common.{tree_of, shape_of, one_at, each, each_at}
 use Rattle.std.specs.List.{slice_get}
-use Rattle.std.specs.Result.{is_ok, result_ok}
-use Rattle.std.proofs.lemmas.Bool.{and_parts, false≢true}
-use Rattle.std.proofs.lemmas.Option.{none-some, same_Some}
-use Rattle.toml.specs.Data.{Data, table, Items, no_items, item, Members, get_member, as_table, as_array}
-use Rattle.cdi_model.specs.declared.decl.Decl.{Decl}
-use Rattle.cdi_model.specs.declared.decl.Kind.{Kind}
-use Rattle.cdi_model.specs.declared.refusal.Refusal.{Refusal}
-use Rattle.cdi_model.specs.declared.refusal.Refusal.TheVariants.{TooLong}
-use Rattle.cdi_text.specs.declared.conditions.Condition.{Condition}
-use Rattle.cdi_text.specs.declared.schema.Item.TheVariants.{Table}
-use Rattle.cdi_text.specs.declared.schema.Schema.{Schema}
-use Rattle.cdi_text.specs.declared.schema.Shape.TheVariants.{One, Many}
-use Rattle.cdi_text.specs.Conditions.{first_condition, is_sound, is_sound_value, are_sound}
-use Rattle.cdi_text.specs.Reading.{decl_of, decl_of_kind, decl_of_members, decl_of_tree, kind_in, refused_or}
-use Rattle.cdi_text.specs.Reading.{schema_of, spelled, tree_of}
-use Rattle.cdi_text.specs.Schema.{shape_of}
-use Rattle.cdi_text.specs.Spelled.{one_at, each, each_at}
 use Rattle.cdi_text.proofs.Soundness.{table_at, tables_at}
+use Rattle.cdi_text.specs.Reading.{decl_of_kind, kind_in}
 
 -- ---- tables inside a table
 

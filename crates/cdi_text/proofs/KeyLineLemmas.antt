@@ -1,7 +1,6 @@
 -- The only place at which a word stands, and the line feeds before a place.
-use Rattle.std.proofs.Common.{◌≡◌, ℕ, suc, ◌+◌, ◌-◌, ◌<◌, Bool, true, false, List, [], ◌∷◌, ◌++◌, Option, Some, None, is_some, refl, ap, ◌∙◌, arith}
-use Rattle.std.proofs.lemmas.Bool.{false≢true}
-use Rattle.std.specs.List.{filter, range_with_len}
+use Rattle.cdi_text.proofs.Common.{◌≡◌, ℕ, suc, ◌+◌, ◌-◌, ◌<◌, Bool, true, false, List, [], ◌∷◌, ◌++◌, Option, Some, None, is_some, refl}
+use Rattle.cdi_text.proofs.Common.{ap, ◌∙◌, arith, false≢true, filter, range_with_len}
 use Rattle.cdi_text.specs.KeyLines.{only}
 
 -- the places found so far

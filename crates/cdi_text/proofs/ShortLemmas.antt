@@ -1,33 +1,16 @@
 -- The lists of a declaration that was read are short.
-use Rattle.std.proofs.Common.{◌≡◌, ◌≤◌, ◌+◌, ℕ, true, List, codes, length}
-use Rattle.std.proofs.Common.{Option, Some, None, unwrap_or, option_map, option_and_then, Result, Ok, Err}
-use Rattle.std.proofs.Common.{refl, subst, arith}
-use Rattle.std.specs.Result.{IfOk}
-use Rattle.toml.specs.Data.{Items, no_items, item, Members, get_member, as_str, as_table, as_array}
-use Rattle.cdi_model.specs.Answering.{Answers}
+use Rattle.cdi_text.proofs.Common.{◌≡◌, ◌≤◌, ◌+◌, ℕ, true, List, codes, length, Option, Some, None, unwrap_or, option_map, option_and_then}
+use Rattle.cdi_text.proofs.Common.{Result, Ok, Err, refl, subst, arith, IfOk, Items, no_items, item, Members, get_member, as_str, as_table}
+use Rattle.cdi_text.proofs.Common.{as_array, Answers, list_limit, IsShortPart, Decl, Kind, PartDecl, Error, event_of, Call, Event, Table}
+use Rattle.cdi_text.proofs.Common.{Schema, One, Many, is_sound, count_of, decl_of, schema_of, spelled, shape_of, with_front, items_at}
+use Rattle.cdi_text.proofs.Common.{calls_in, calls_at, events_in, events_at, one_at, each, each_at, part_decl, method_decl, point_decl}
+use Rattle.cdi_text.proofs.Common.{producer_decl, observer_decl, bean_decl, interceptor_decl}
+use Rattle.cdi_model.specs.Short.{HasShortLists, IsShortBean, IsShortInterceptor, IsShortObserver, IsShortProducer}
 use Rattle.cdi_model.specs.CallText.{call_of}
-use Rattle.cdi_model.specs.Quals.{list_limit}
-use Rattle.cdi_model.specs.Short.{HasShortLists, IsShortBean, IsShortInterceptor, IsShortObserver, IsShortPart, IsShortProducer}
-use Rattle.cdi_model.specs.declared.decl.Decl.{Decl}
-use Rattle.cdi_model.specs.declared.decl.Kind.{Kind}
 use Rattle.cdi_model.specs.declared.decl.Kind.TheVariants as kinds
-use Rattle.cdi_model.specs.declared.decl.PartDecl.{PartDecl}
-use Rattle.cdi_model.specs.declared.refusal.Error.{Error}
-use Rattle.cdi_uses.specs.Events.{event_of}
-use Rattle.cdi_text.specs.declared.schema.Item.TheVariants.{Call, Event, Table}
-use Rattle.cdi_text.specs.declared.schema.Schema.{Schema}
-use Rattle.cdi_text.specs.declared.schema.Schema.TheVariants as schemas
-use Rattle.cdi_text.specs.declared.schema.Shape.TheVariants.{One, Many}
-use Rattle.cdi_text.specs.Conditions.{is_sound}
-use Rattle.cdi_text.specs.Lists.{count_of}
-use Rattle.cdi_text.specs.Reading.{decl_of}
-use Rattle.cdi_text.specs.Reading.{schema_of, spelled}
-use Rattle.cdi_text.specs.Schema.{shape_of}
-use Rattle.cdi_text.specs.Spelled.{with_front, items_at, calls_in, calls_at, events_in, events_at, one_at, each, each_at}
-use Rattle.cdi_text.specs.Spelled.{part_decl, method_decl, point_decl, producer_decl, observer_decl, bean_decl}
-use Rattle.cdi_text.specs.Spelled.{interceptor_decl}
 use Rattle.cdi_text.proofs.FromTables.{from-one, from-each_at, from-text}
 use Rattle.cdi_text.proofs.Soundness.{count_at}
+use Rattle.cdi_text.specs.declared.schema.Schema.TheVariants as schemas
 
 -- ---- lists
 

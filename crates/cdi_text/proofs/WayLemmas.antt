@@ -1,29 +1,16 @@
 -- A way that is found leads to a place of which the condition holds.
-use Rattle.std.proofs.Common.{◌≡◌, ◌⊎◌, codes, ◌<◌, ℕ, zero, suc, Bool, true, false, ◌||◌, List, [], ◌∷◌, length, get_or, Option, Some, None, is_some, IfSome, String, string_bytes, Vec, refl, sym, ap, subst, ◌∙◌, inl, inr}
-use Rattle.std.proofs.lemmas.Bool.{or_left, or_right}
-use Rattle.std.proofs.lemmas.Option.{none-some, same_Some}
+use Rattle.cdi_text.proofs.Common.{◌≡◌, ◌⊎◌, codes, ◌<◌, ℕ, zero, suc, Bool, true, false, ◌||◌, List, [], ◌∷◌, length, get_or, Option, Some}
+use Rattle.cdi_text.proofs.Common.{None, is_some, string_bytes, refl, sym, ap, subst, ◌∙◌, inl, inr, or_left, or_right, none-some}
+use Rattle.cdi_text.proofs.Common.{same_Some, Data, array, table, Items, no_items, item, Members, get_item, are_tables, view, items_view}
+use Rattle.cdi_text.proofs.Common.{members_view, Value, Condition, Item, Table, Twice, Schema, Shape, One, Many, Entry, table_has}
+use Rattle.cdi_text.proofs.Common.{value_has, inside_has, items_have, members_have, holds, HasKey, has_such_param_at, shape_of}
+use Rattle.std.proofs.Common.{IfSome, String, Vec}
 use Rattle.std.specs.declared.alloc.Global.{Global}
-use Rattle.toml.specs.Data.{Data, array, table, Items, no_items, item, Members, get_item}
-use Rattle.toml.specs.Text.{are_tables}
-use Rattle.toml.specs.View.{view, items_view, members_view}
-use Rattle.toml.specs.declared.value.Value.{Value}
-use Rattle.cdi_text.specs.declared.conditions.Condition.{Condition}
-use Rattle.cdi_text.specs.declared.schema.Item.{Item}
-use Rattle.cdi_text.specs.declared.schema.Item.TheVariants.{Table}
-use Rattle.cdi_text.specs.declared.conditions.Condition.TheVariants.{Twice}
-use Rattle.cdi_text.specs.declared.schema.Schema.{Schema}
-use Rattle.cdi_text.specs.declared.schema.Schema.TheVariants as schemas
-use Rattle.cdi_text.specs.declared.schema.Shape.{Shape}
-use Rattle.cdi_text.specs.declared.schema.Shape.TheVariants.{One, Many}
-use Rattle.cdi_text.specs.declared.steps.Step.{Step}
-use Rattle.cdi_text.specs.declared.steps.Step.TheVariants.{Entry}
-use Rattle.cdi_text.specs.Conditions.{table_has, value_has, inside_has, items_have, members_have, holds}
-use Rattle.cdi_text.specs.Meaning.{HasKey}
-use Rattle.cdi_text.specs.Places.{Finds, IsBadEntry, IsByKey, IsToParams, LeadsFrom, LeadsTo}
-use Rattle.cdi_text.specs.Params.{FindsMethodAt, IsSuchMethod, has_param_named_as_point, has_such_param_at}
-use Rattle.cdi_text.specs.Schema.{shape_of}
 use Rattle.cdi_text.proofs.MeaningLemmas.{has_some}
 use Rattle.cdi_text.proofs.ParamLemmas.{item_at, same_entry}
+use Rattle.cdi_text.specs.Places.{Finds, IsBadEntry, IsByKey, IsToParams, LeadsFrom, LeadsTo}
+use Rattle.cdi_text.specs.{declared.steps.Step.Step, Params.FindsMethodAt, Params.IsSuchMethod, Params.has_param_named_as_point}
+use Rattle.cdi_text.specs.declared.schema.Schema.TheVariants as schemas
 
 abbrev Way : Type 0
 Way = Vec Step Global

@@ -1,15 +1,11 @@
 -- A text cut at a byte, and put together again.
-use Rattle.std.proofs.Common.{◌≡◌, ◌≢◌, ℕ, ◌+◌, ◌-◌, ◌<◌, Bool, true, false, cond, List, [], ◌∷◌, ◌++◌, length, take, get_or, Option, Some}
-use Rattle.std.proofs.Common.{None, refl, ap, sym, ◌∙◌, inl, inr, arith}
-use Rattle.std.specs.Prelude.{◌==◌, slice_index}
-use Rattle.std.specs.List.{AllByRecursion, join_with_byte}
-use Rattle.std.proofs.lemmas.Bool.{cases_Bool, eqb-true, eq-eqb, false≢true}
+use Rattle.cdi_uses.proofs.Common.{◌≡◌, ◌≢◌, ℕ, ◌+◌, ◌-◌, ◌<◌, Bool, true, false, cond, List, [], ◌∷◌, ◌++◌, length, take, get_or, Option}
+use Rattle.cdi_uses.proofs.Common.{Some, None, refl, ap, sym, ◌∙◌, inl, inr, arith, ◌==◌, AllByRecursion, join_with_byte, cases_Bool}
+use Rattle.cdi_uses.proofs.Common.{eqb-true, false≢true, none-some, same_Some, closing, cut, split, pieces, before_close}
 use Rattle.std.proofs.lemmas.List.{length-append, take_all, take_at, get_or-append-add, take_more}
-use Rattle.std.proofs.lemmas.Option.{none-some, same_Some}
+use Rattle.std.specs.Prelude.{slice_index}
+use Rattle.std.proofs.lemmas.Bool.{eq-eqb}
 use Rattle.base_numbers.proofs.Numbers.{==-refl}
-use Rattle.cdi_model.specs.Bytes.{closing}
-use Rattle.cdi_uses.specs.Pieces.{cut, split, pieces}
-use Rattle.cdi_uses.specs.Uses.{before_close}
 use Rattle.cdi_uses.proofs.PieceLemmas.{split-cut}
 
 -- the byte doesn't stand in the text

@@ -1,27 +1,15 @@
 -- What it means to be an event text, and what is read back.
-use Rattle.std.proofs.Common.{◌≡◌, ◌≢◌, ℕ, Bool, true, false, List, [], ◌∷◌, ◌++◌, map, codes, refl, ap, sym, ◌∙◌, inl, inr, subst, arith}
-use Rattle.std.proofs.Common.{Less, Greater, Ok, append_assoc, append-nil}
-use Rattle.std.specs.Prelude.{◌==◌, ◌↔◌, ◌||◌, not}
-use Rattle.std.specs.List.{AllByRecursion, join_with_byte, list_all, list_any}
-use Rattle.std.specs.List.Sorted.{IsStrictlySortedBy}
-use Rattle.std.specs.Str.{bytes_eq}
-use Rattle.std.proofs.lemmas.Bool.{and_parts, and_from, not-true}
-use Rattle.cdi_model.specs.Bytes.{byte_order, closing, comma, opening, space}
-use Rattle.cdi_model.specs.EventText.{text_of_event, text_of_uses}
-use Rattle.cdi_model.specs.Grammar.{is_name}
-use Rattle.cdi_model.specs.Quals.{name_of_use, put_use}
-use Rattle.cdi_model.specs.UseText.{text_of_use}
-use Rattle.cdi_model.specs.declared.quals.Qual.{Qual}
-use Rattle.cdi_uses.specs.Events.{SpellsEventUse, SpellsEvent, is_event_use, type_in, uses_in, is_event, IsOfEvent}
-use Rattle.cdi_uses.specs.Events.{EventsReadBack}
-use Rattle.cdi_uses.specs.Meaning.{SpellsUse}
-use Rattle.cdi_uses.specs.Reading.{qual_of}
-use Rattle.cdi_uses.specs.Twice.{has_twice}
-use Rattle.cdi_uses.specs.Uses.{is_use, use_name, use_of, repeats_member, quals_from}
+use Rattle.cdi_uses.proofs.Common.{◌≡◌, ◌≢◌, ℕ, Bool, true, false, List, [], ◌∷◌, ◌++◌, map, codes, refl, ap, sym, ◌∙◌, inl, inr, subst}
+use Rattle.cdi_uses.proofs.Common.{arith, Less, Greater, Ok, append_assoc, append-nil, ◌==◌, ◌↔◌, ◌||◌, not, AllByRecursion, join_with_byte}
+use Rattle.cdi_uses.proofs.Common.{list_all, list_any, IsStrictlySortedBy, bytes_eq, and_parts, and_from, not-true, closing, comma, opening}
+use Rattle.cdi_uses.proofs.Common.{space, is_name, text_of_use, Qual, is_event_use, uses_in, SpellsUse, qual_of, has_twice, is_use}
+use Rattle.cdi_uses.proofs.Common.{use_name, use_of, repeats_member, quals_from}
+use Rattle.cdi_model.specs.{Bytes.byte_order, EventText.text_of_event, EventText.text_of_uses, Quals.name_of_use, Quals.put_use}
 use Rattle.cdi_uses.proofs.CutLemmas.{Lacks, split-joined, joined-split}
 use Rattle.cdi_uses.proofs.PieceLemmas.{split-cut}
 use Rattle.cdi_uses.proofs.ReadBackLemmas.{turned, none_twice, uses_read_back}
 use Rattle.cdi_uses.proofs.MeaningLemmas.{IsOutside, name_lacks, members_lack, appended_lacks, not_text, other_text, use_meaning}
+use Rattle.cdi_uses.specs.Events.{SpellsEventUse, SpellsEvent, type_in, is_event, IsOfEvent, EventsReadBack}
 
 -- ---- no space stands in a use
 

@@ -1,22 +1,19 @@
 -- What it means to be a use of a qualifier.
-use Rattle.std.proofs.Common.{◌≡◌, ◌≢◌, ℕ, ℤ, Bool, true, false, List, [], ◌∷◌, ◌++◌, length, codes, Option, Some, None, refl, ap, sym, ◌∙◌}
-use Rattle.std.proofs.Common.{inl, inr, subst, ◌<◌, arith}
-use Rattle.std.specs.Prelude.{◌==◌, ◌↔◌, not, nat_le, is_some}
-use Rattle.std.specs.List.{AllByRecursion, join_with_byte}
-use Rattle.std.specs.Str.{bytes_eq}
-use Rattle.std.specs.Cmp.Lexicographic.{bytes_decides}
-use Rattle.std.proofs.lemmas.Bool.{cases_Bool, and_parts, and_from, or_parts, not-true, eqb-true, ne_eqb, false≢true}
+use Rattle.cdi_uses.proofs.Common.{◌≡◌, ◌≢◌, ℕ, ℤ, Bool, true, false, List, [], ◌∷◌, ◌++◌, length, codes, Option, Some, None, refl, ap, sym}
+use Rattle.cdi_uses.proofs.Common.{◌∙◌, inl, inr, subst, ◌<◌, arith, ◌==◌, ◌↔◌, not, nat_le, AllByRecursion, join_with_byte, bytes_eq}
+use Rattle.cdi_uses.proofs.Common.{cases_Bool, and_parts, and_from, not-true, eqb-true, ne_eqb, false≢true, closing, comma, equals_sign}
+use Rattle.cdi_uses.proofs.Common.{minus, opening, is_name, number_of, cut, split, are_pairs, before_close, is_named, is_use, WritesMember}
+use Rattle.cdi_uses.proofs.Common.{SpellsUse}
+use Rattle.std.specs.{Prelude.is_some, Cmp.Lexicographic.bytes_decides}
+use Rattle.std.proofs.lemmas.Bool.{or_parts}
 use Rattle.base_numbers.proofs.Texts.{one_text}
-use Rattle.cdi_model.specs.Bytes.{closing, comma, dot, equals_sign, minus, opening}
-use Rattle.cdi_model.specs.Grammar.{is_letter, is_word, are_words, is_ident_text, is_ident, begins, goes_on, is_name}
+use Rattle.cdi_model.specs.Grammar.{is_letter, is_word, are_words, is_ident_text, is_ident, begins, goes_on}
+use Rattle.cdi_model.specs.Bytes.{dot}
 use Rattle.cdi_model.proofs.BeanNameLemmas.{letter_is_word}
-use Rattle.cdi_uses.specs.Numbers.{number_of}
-use Rattle.cdi_uses.specs.Pieces.{cut, split}
-use Rattle.cdi_uses.specs.Uses.{pair_in, pair_of, are_pairs, before_close, is_named, is_plain, is_inside, is_use_of, is_use}
-use Rattle.cdi_uses.specs.Meaning.{WritesMember, SpellsUse}
 use Rattle.cdi_uses.proofs.CutLemmas.{Lacks, rejoined, cut-none, cut-at, cut-joined, before_close-at, before_close-joined, split-joined}
 use Rattle.cdi_uses.proofs.CutLemmas.{split-some, joined-split}
 use Rattle.cdi_uses.proofs.NumberLemmas.{number_plain}
+use Rattle.cdi_uses.specs.Uses.{pair_in, pair_of, is_plain, is_inside, is_use_of}
 
 -- ---- bytes that stand in no name
 

@@ -1,14 +1,11 @@
 -- The text of a number is read back as it.
-use Rattle.std.proofs.Common.{◌≡◌, ℕ, ℤ, pos, negsuc, suc, ◌+◌, ◌-◌, ◌*◌, ◌/◌, ◌%◌, ◌^◌, ◌<◌, ◌≤◌, Bool, true, false, List, [], ◌∷◌, ◌++◌}
-use Rattle.std.proofs.Common.{length, decimal, Option, Some, None, refl, ap, sym, ◌∙◌, inl, inr, arith}
-use Rattle.std.specs.Prelude.{◌==◌, nat_le, option_map}
-use Rattle.std.specs.List.{AllByRecursion}
-use Rattle.std.specs.Prelude.{neg_ℤ}
-use Rattle.std.proofs.lemmas.Bool.{cases_Bool, and_parts, and_from, le-leb, leb-true, ne_eqb, eqb-true}
-use Rattle.std.proofs.lemmas.Option.{none-some, same_Some}
-use Rattle.std.proofs.lemmas.Fmt.{decimal_by_steps, decimal_nonempty}
-use Rattle.cdi_model.specs.Bytes.{digit_nine, digit_zero, minus}
-use Rattle.cdi_uses.specs.Numbers.{is_digit, value_after, magnitude, within, number_of}
+use Rattle.cdi_uses.proofs.Common.{◌≡◌, ℕ, ℤ, pos, suc, ◌+◌, ◌-◌, ◌*◌, ◌<◌, ◌≤◌, Bool, true, false, List, [], ◌∷◌, ◌++◌, length, Option}
+use Rattle.cdi_uses.proofs.Common.{Some, None, refl, ap, sym, ◌∙◌, inl, inr, arith, ◌==◌, nat_le, option_map, AllByRecursion, neg_ℤ}
+use Rattle.cdi_uses.proofs.Common.{cases_Bool, and_parts, and_from, leb-true, ne_eqb, eqb-true, none-some, same_Some, digit_zero, minus}
+use Rattle.cdi_uses.proofs.Common.{is_digit, value_after, magnitude, within, number_of}
+use Rattle.std.proofs.Common.{negsuc, ◌/◌, ◌%◌, ◌^◌, decimal}
+use Rattle.std.proofs.lemmas.{Bool.le-leb, Fmt.decimal_by_steps, Fmt.decimal_nonempty}
+use Rattle.cdi_model.specs.Bytes.{digit_nine}
 use Rattle.cdi_uses.specs.Meaning.{NumbersReadBack}
 
 digit : (d : ℕ) → d < 10 → is_digit (digit_zero + d) ≡ true

@@ -1,30 +1,18 @@
 -- The text of a use of a qualifier is read back as it.
-use Rattle.std.proofs.Common.{◌≡◌, ℕ, ℤ, true, false, cond, List, [], ◌∷◌, ◌++◌, map, codes, Ordering, Less, Greater, Some, None, Ok, refl}
-use Rattle.std.proofs.Common.{inl, inr, ap, sym, ◌∙◌, append_assoc, append-nil}
-use Rattle.std.specs.Prelude.{not, ◌&&◌, unwrap_or}
-use Rattle.std.specs.BTreeMap.{insert_entry}
+use Rattle.cdi_uses.proofs.Common.{◌≡◌, ℕ, ℤ, true, false, cond, List, [], ◌∷◌, ◌++◌, map, codes, Ordering, Less, Greater, Some, None, Ok}
+use Rattle.cdi_uses.proofs.Common.{refl, inl, inr, ap, sym, ◌∙◌, append_assoc, append-nil, not, unwrap_or, insert_entry, AllByRecursion}
+use Rattle.cdi_uses.proofs.Common.{join_with_byte, IsStrictlySortedBy, keys_of, nat_cmp, is_eq, ordering_reverse, bytes_eq, slice_cmp}
+use Rattle.cdi_uses.proofs.Common.{nat_list_cmp_total, is_eq-slice_cmp, closing, comma, equals_sign, opening, text_of_use, Qual, cut, split}
+use Rattle.cdi_uses.proofs.Common.{has_twice, is_text_among, member_names, members_from, with_pair, is_named, is_use, repeats_member}
+use Rattle.cdi_uses.proofs.Common.{arguments_inside, arguments_in, use_of, qual_of, WritesMember, IsMember, CanBeSpelled}
+use Rattle.std.specs.Prelude.{◌&&◌}
 use Rattle.std.specs.Fmt.{signed_decimal}
-use Rattle.std.specs.List.{AllByRecursion, join_with_byte}
-use Rattle.std.specs.List.Sorted.{IsStrictlySortedBy}
-use Rattle.std.specs.Map.{keys_of}
-use Rattle.std.specs.Ordering.{nat_cmp, is_eq, ordering_reverse}
-use Rattle.std.specs.Str.{bytes_eq}
-use Rattle.std.specs.Cmp.Lexicographic.{slice_cmp, nat_list_cmp_total}
-use Rattle.std.proofs.lemmas.Map.Text.{is_eq-slice_cmp}
-use Rattle.cdi_model.specs.Bytes.{closing, comma, equals_sign, opening}
-use Rattle.cdi_model.specs.UseText.{text_of_pair, text_of_pairs, text_of_use}
-use Rattle.cdi_model.specs.declared.quals.Arguments.{Arguments}
+use Rattle.cdi_model.specs.{UseText.text_of_pair, UseText.text_of_pairs, declared.quals.Arguments.Arguments}
 use Rattle.cdi_model.specs.declared.quals.Arguments.TheVariants as arguments
-use Rattle.cdi_model.specs.declared.quals.Qual.{Qual}
-use Rattle.cdi_uses.specs.Pieces.{cut, split}
-use Rattle.cdi_uses.specs.Twice.{has_twice, is_text_among}
-use Rattle.cdi_uses.specs.Uses.{member_names, members_from, with_pair, is_named, is_use, repeats_inside, repeats_in, repeats_member}
-use Rattle.cdi_uses.specs.Uses.{arguments_inside, arguments_in, use_of}
-use Rattle.cdi_uses.specs.Reading.{qual_of}
-use Rattle.cdi_uses.specs.Meaning.{WritesMember, IsMember, CanBeSpelled, UsesReadBack}
 use Rattle.cdi_uses.proofs.CutLemmas.{cut-none, cut-at, before_close-at, joined-split}
 use Rattle.cdi_uses.proofs.NumberLemmas.{numbers_read_back}
 use Rattle.cdi_uses.proofs.MeaningLemmas.{ident_lacks, name_lacks, pair_written, members_lack_commas, other_text, use_meaning}
+use Rattle.cdi_uses.specs.{Uses.repeats_inside, Uses.repeats_in, Meaning.UsesReadBack}
 
 abbrev order : List ℕ → List ℕ → Ordering
 order = slice_cmp nat_cmp

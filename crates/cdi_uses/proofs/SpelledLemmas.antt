@@ -1,24 +1,16 @@
 -- What a use says is such that a text can spell it.
-use Rattle.std.proofs.Common.{◌≡◌, ◌≢◌, ℕ, ℤ, pos, zero, suc, ◌≤◌, Bool, true, false, cond, List, [], ◌∷◌, ◌++◌, codes, Ordering, Less}
-use Rattle.std.proofs.Common.{Equal, Greater, Option, Some, None, refl, ap, sym, ◌∙◌, inl, inr, subst, arith}
-use Rattle.std.specs.Prelude.{◌==◌, neg_ℤ, nat_le, option_map, unwrap_or, FitsSigned}
-use Rattle.std.specs.Int.{w64}
-use Rattle.std.specs.BTreeMap.{insert_entry}
-use Rattle.std.specs.List.{AllByRecursion, join_with_byte}
-use Rattle.std.specs.List.Sorted.{IsStrictlySortedBy}
-use Rattle.std.specs.Map.{keys_of}
-use Rattle.std.specs.Ordering.{nat_cmp, ordering_reverse}
-use Rattle.std.specs.Cmp.Lexicographic.{slice_cmp, nat_list_cmp_total}
-use Rattle.std.proofs.lemmas.Bool.{cases_Bool, leb-true}
-use Rattle.std.proofs.lemmas.Option.{none-some, same_Some}
-use Rattle.cdi_model.specs.Bytes.{closing, comma, minus, opening}
+use Rattle.cdi_uses.proofs.Common.{◌≡◌, ◌≢◌, ℕ, ℤ, pos, suc, ◌≤◌, Bool, true, false, cond, List, [], ◌∷◌, ◌++◌, codes, Ordering, Less}
+use Rattle.cdi_uses.proofs.Common.{Greater, Option, Some, None, refl, ap, sym, ◌∙◌, inl, inr, subst, arith, ◌==◌, neg_ℤ, nat_le, option_map}
+use Rattle.cdi_uses.proofs.Common.{unwrap_or, insert_entry, AllByRecursion, join_with_byte, IsStrictlySortedBy, keys_of, nat_cmp}
+use Rattle.cdi_uses.proofs.Common.{ordering_reverse, slice_cmp, nat_list_cmp_total, cases_Bool, leb-true, none-some, same_Some, closing}
+use Rattle.cdi_uses.proofs.Common.{comma, minus, opening, magnitude, within, number_of, cut, split, with_pair, members_from, is_use}
+use Rattle.cdi_uses.proofs.Common.{arguments_inside, arguments_in, use_of, WritesMember, SpellsUse, IsMember, CanBeSpelled}
+use Rattle.std.proofs.Common.{zero, Equal}
+use Rattle.std.specs.{Prelude.FitsSigned, Int.w64}
 use Rattle.cdi_model.specs.declared.quals.Arguments.TheVariants as arguments
-use Rattle.cdi_uses.specs.Numbers.{magnitude, within, number_of}
-use Rattle.cdi_uses.specs.Pieces.{cut, split}
-use Rattle.cdi_uses.specs.Uses.{with_pair, members_from, is_use, arguments_inside, arguments_in, use_of}
-use Rattle.cdi_uses.specs.Meaning.{WritesMember, SpellsUse, IsMember, AreArgumentsOf, CanBeSpelled}
 use Rattle.cdi_uses.proofs.CutLemmas.{cut-none, cut-at, before_close-at, joined-split}
 use Rattle.cdi_uses.proofs.MeaningLemmas.{name_lacks, pair_written, members_lack_commas, other_text, use_meaning}
+use Rattle.cdi_uses.specs.Meaning.{AreArgumentsOf}
 
 abbrev order : List ℕ → List ℕ → Ordering
 order = slice_cmp nat_cmp

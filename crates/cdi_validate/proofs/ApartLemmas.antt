@@ -1,10 +1,9 @@
 -- Lists of which each is apart from the later ones.
 use Rattle.cdi_validate.proofs.Common.{◌≡◌, List, ◌++◌, sym, ap, ◌∙◌, flat_map, ◌≢◌, ◌<◌, ℕ, zero, suc, Bool, true, false, cond, [], ◌∷◌}
 use Rattle.cdi_validate.proofs.Common.{length, map, filter, Ordering, Less, Equal, refl, arith, AllByRecursion, AllPairs}
-use Rattle.cdi_validate.proofs.Common.{IsStrictlySortedBy, tied_itself}
-use Rattle.std.specs.List.{slice_index_or}
-use Rattle.std.specs.Cmp.{IsTotalOrder}
-use Rattle.base_lists.proofs.Each.{all-weaker, all-append, all-front, all-back, all-filter}
+use Rattle.cdi_validate.proofs.Common.{IsStrictlySortedBy, tied_itself, all-weaker, all-append, all-back}
+use Rattle.std.specs.{List.slice_index_or, Cmp.IsTotalOrder}
+use Rattle.base_lists.proofs.Each.{all-front, all-filter}
 
 -- ---- each apart from the later ones
 

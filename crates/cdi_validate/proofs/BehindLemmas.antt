@@ -1,19 +1,16 @@
 -- Of a reported pair of names the second is the first, a dot and a text, which is a name where the second is one by the grammar.
 use Rattle.cdi_validate.proofs.Common.{◌≡◌, List, ◌++◌, sym, ap, ◌∙◌, flat_map, beans, circles, faults, faults_of, name_clashes}
 use Rattle.cdi_validate.proofs.Common.{name_prefixes, specialized_twice, ℕ, Bool, true, false, [], ◌∷◌, length, map, filter, refl, arith}
-use Rattle.cdi_validate.proofs.Common.{AllByRecursion, ◌≤◌, nat_eq, ◌==◌, and_parts, eqb-true, false≢true, le-leb, leb-true}
-use Rattle.cdi_validate.proofs.Common.{All-from_recursion, recursion_from_All, dot, begins, continues, is_letter, is_name, is_word, Fault}
-use Rattle.cdi_validate.proofs.Common.{enabled_names, goes_on}
-use Rattle.std.specs.Prelude.{nat_le}
+use Rattle.cdi_validate.proofs.Common.{AllByRecursion, ◌≤◌, nat_eq, ◌==◌, and_parts, eqb-true, false≢true, le-leb, leb-true, dot, begins}
+use Rattle.cdi_validate.proofs.Common.{continues, is_letter, is_name, is_word, Fault, enabled_names, nat_le, all-weaker, all-append}
+use Rattle.std.proofs.lemmas.List.Elements.{All-from_recursion, recursion_from_All, All-contains, filter_passes}
 use Rattle.std.proofs.lemmas.Bool.{and_from}
-use Rattle.std.proofs.lemmas.List.Elements.{All-contains, filter_passes}
-use Rattle.base_lists.proofs.Each.{all-weaker, all-append}
 use Rattle.cdi_model.specs.Grammar.{goes_on as continues_name}
 use Rattle.cdi_faults.specs.declared.fault.Fault.TheVariants as faults_are
-use Rattle.cdi_validate.specs.Faults.{IsNameBehind, PrefixesGoOn}
 use Rattle.cdi_validate.proofs.ApartLemmas.{all-map}
 use Rattle.cdi_validate.proofs.OnceLemmas.{circles-each, clashes-tagged, declared-tagged, is-declared}
 use Rattle.cdi_validate.proofs.TwiceLemmas.{twice-each}
+use Rattle.cdi_validate.specs.Faults.{goes_on, IsNameBehind, PrefixesGoOn}
 
 -- ---- names
 

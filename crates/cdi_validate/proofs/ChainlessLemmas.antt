@@ -1,19 +1,17 @@
 -- Declarations of which no two enabled beans specialize one.
-use Rattle.base_lists.proofs.Each.{all-weaker}
-use Rattle.base_lists.proofs.Flat.{flat-filter}
-use Rattle.cdi_validate.proofs.Common.{◌≡◌, List, ◌++◌, sym, ap, ◌∙◌, append_assoc, flat_map, Decl, specialized_twice, ℕ, Bool, true, false}
-use Rattle.cdi_validate.proofs.Common.{cond, [], ◌∷◌, length, map, filter, refl, AllByRecursion, AllPairs, eqb-true, false≢true, Fault, not}
-use Rattle.cdi_validate.proofs.Common.{◌&&◌, subst, find, option_to_list, bytes_eq, or_left, nil_from_length, filter-append, AreDistinct}
-use Rattle.cdi_validate.proofs.Common.{BeanDecl, has, records_in, chain, class_names, text_of_fault, IsAlike, is_first_enabled, same_text}
-use Rattle.cdi_validate.proofs.Common.{specializing, specializing_by, is_chainless, enabled_bean, enabled_beans, faults_of_pairs}
-use Rattle.cdi_validate.proofs.Common.{faults_of_two, in_line_order, of_pairs, twice}
+use Rattle.cdi_validate.proofs.Common.{all-weaker, flat-filter, ◌≡◌, List, ◌++◌, sym, ap, ◌∙◌, append_assoc, flat_map, Decl}
+use Rattle.cdi_validate.proofs.Common.{specialized_twice, ℕ, Bool, true, false, cond, [], ◌∷◌, length, map, filter, refl, AllByRecursion}
+use Rattle.cdi_validate.proofs.Common.{AllPairs, eqb-true, false≢true, Fault, not, ◌&&◌, subst, find, option_to_list, bytes_eq, or_left}
+use Rattle.cdi_validate.proofs.Common.{nil_from_length, filter-append, AreDistinct, BeanDecl, has, records_in, chain, class_names}
+use Rattle.cdi_validate.proofs.Common.{text_of_fault, IsAlike, is_first_enabled, same_text, specializing, specializing_by, is_chainless}
+use Rattle.cdi_validate.proofs.Common.{enabled_bean, enabled_beans, faults_of_pairs, faults_of_two, in_line_order, of_pairs, twice}
 use Rattle.cdi_model.specs.declared.decl.Decl.TheVariants as decls
-use Rattle.cdi_validate.specs.Together.{HaveNoneTwice}
-use Rattle.cdi_validate.proofs.ApartLemmas.{Apart, apart-by, apart-filter, apart-more, apart-pairs, flat-all}
-use Rattle.cdi_validate.proofs.ApartLemmas.{flat-same, pairs-apart, pairs-left}
+use Rattle.cdi_validate.proofs.ApartLemmas.{Apart, apart-by, apart-filter, apart-more, apart-pairs, flat-all, flat-same, pairs-apart}
+use Rattle.cdi_validate.proofs.ApartLemmas.{pairs-left}
 use Rattle.cdi_validate.proofs.FoundLemmas.{bean-records}
 use Rattle.cdi_validate.proofs.LinkLemmas.{filtered, specializing-own}
 use Rattle.cdi_validate.proofs.TwiceLemmas.{behind_two, both-apart, lines_of, lines-told, pairs-behind, two-of-enabled}
+use Rattle.cdi_validate.specs.Together.{HaveNoneTwice}
 
 -- they have no fault together
 abbrev AreFaultless : List Decl → BeanDecl → BeanDecl → Type 0

@@ -3,22 +3,20 @@ use Rattle.cdi_validate.proofs.Common.{◌≡◌, List, ◌++◌, sym, ap, ◌�
 use Rattle.cdi_validate.proofs.Common.{length, map, filter, refl, AllByRecursion, and_parts, false≢true, dot, begins, is_letter, is_name}
 use Rattle.cdi_validate.proofs.Common.{is_word, ◌&&◌, subst, option_to_list, bytes_eq, or_left, AreDistinct, BeanDecl, has, same_text}
 use Rattle.cdi_validate.proofs.Common.{IsAlike, Circle, leads, Steps, between, dependents, needed_by, Some, ◌⊎◌, inl, inr, append-nil}
-use Rattle.cdi_validate.proofs.Common.{nat_le, slice_get, and-false, cases_Bool, or_cases, or_right, same_Some, slash, name_of_decl}
-use Rattle.cdi_validate.proofs.Common.{find_decl, InterceptorDecl, PointDecl, BeanPlace, Mention, PointOf, mentions, effective, one_text}
-use Rattle.cdi_validate.proofs.Common.{entries, managed, product_where, text_of_id, as_bean, find_bean, Effective, own-found, is_enabled}
+use Rattle.cdi_validate.proofs.Common.{nat_le, slice_get, and-false, or_cases, or_right, same_Some, slash, name_of_decl, find_decl}
+use Rattle.cdi_validate.proofs.Common.{InterceptorDecl, PointDecl, BeanPlace, Mention, PointOf, mentions, effective, one_text, entries}
+use Rattle.cdi_validate.proofs.Common.{managed, product_where, text_of_id, as_bean, find_bean, Effective, own-found, is_enabled}
 use Rattle.cdi_validate.proofs.Common.{stands_around, answer_to, names_of_bean, point_named, stands-named, points-declared, Need}
 use Rattle.cdi_validate.proofs.Common.{chosen_for, chosen_one, is_dependent, managed_id, need_around, need_in, needs_in, dependents_in}
-use Rattle.cdi_validate.proofs.Common.{HaveNoCircle}
-use Rattle.std.proofs.Common.{◌==◌}
+use Rattle.cdi_validate.proofs.Common.{HaveNoCircle, ◌==◌}
+use Rattle.std.proofs.lemmas.Bool.{cases_Bool}
 use Rattle.cdi_model.specs.Grammar.{goes_on}
 use Rattle.cdi_model.specs.declared.decl.Decl.TheVariants as decls
 use Rattle.cdi_model.specs.declared.decl.Kind.TheVariants as kinds
 use Rattle.cdi_intercept.specs.Sets.{has_place, places_of}
 use Rattle.cdi_observe.specs.Around.{names_at}
-use Rattle.cdi_observe.proofs.AroundLemmas.{told-names, told-same}
-use Rattle.cdi_observe.proofs.BeanPlaceLemmas.{has-each_place}
-use Rattle.cdi_validate.specs.Circles.{bean_of_point}
-use Rattle.cdi_validate.specs.Together.{next_in}
+use Rattle.cdi_observe.proofs.{AroundLemmas.told-names, AroundLemmas.told-same, BeanPlaceLemmas.has-each_place}
+use Rattle.cdi_validate.specs.{Circles.bean_of_point, Together.next_in}
 
 -- ---- what is in a list
 

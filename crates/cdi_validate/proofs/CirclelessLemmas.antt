@@ -7,36 +7,27 @@ use Rattle.cdi_validate.proofs.Common.{needed_by, needs_itself, circle, Some, in
 use Rattle.cdi_validate.proofs.Common.{name_of_decl, find_decl, InterceptorDecl, PointDecl, Mention, PointOf, mentions, effective, one_text}
 use Rattle.cdi_validate.proofs.Common.{entries, product_where, text_of_id, Effective, own-found, is_enabled, stands_around, names_of_bean}
 use Rattle.cdi_validate.proofs.Common.{stands-named, Need, chosen_for, is_dependent, managed_id, need_around, need_in, needs_in}
-use Rattle.cdi_validate.proofs.Common.{dependents_in, HaveNoCircle, ◌||◌, Option, None, list_any, list_any-append, none-some, Qual}
-use Rattle.cdi_validate.proofs.Common.{is_replaced, is_empty, is_needless, AreNamed}
+use Rattle.cdi_validate.proofs.Common.{dependents_in, HaveNoCircle, ◌||◌, Option, None, list_any, none-some, Qual, is_replaced, is_empty}
+use Rattle.cdi_validate.proofs.Common.{is_needless, AreNamed, all-each, all-append, flat-empty}
 use Rattle.std.proofs.lemmas.Bool.{false_from_ne_true}
-use Rattle.base_lists.proofs.Each.{all-each, all-append, all-at}
-use Rattle.base_lists.proofs.Any.{any-flat_map, any-more}
-use Rattle.base_lists.proofs.Flat.{flat-empty}
+use Rattle.base_lists.proofs.{Each.all-at, Any.any-flat_map, Any.any-more}
 use Rattle.cdi_model.specs.Grammar.{goes_on as continues_name}
-use Rattle.cdi_model.specs.declared.decl.Attributes.{Attributes}
+use Rattle.cdi_model.specs.Mentions.{BodyOf, CallOf, StereotypeOf, TypeIn, UseOf, listed_types, of_attributes, of_bindings, of_disposer}
+use Rattle.cdi_model.specs.Mentions.{of_event, of_method, of_observer, of_part, of_parts, of_point, of_producer, of_qualifiers}
+use Rattle.cdi_model.specs.declared.decl.{Attributes.Attributes, DisposerDecl.DisposerDecl, EventDecl.EventDecl, MethodDecl.MethodDecl}
+use Rattle.cdi_model.specs.declared.{decl.ObserverDecl.ObserverDecl, decl.PartDecl.PartDecl, place.PartPlace.PartPlace}
 use Rattle.cdi_model.specs.declared.decl.Decl.TheVariants as decls
-use Rattle.cdi_model.specs.declared.decl.DisposerDecl.{DisposerDecl}
-use Rattle.cdi_model.specs.declared.decl.EventDecl.{EventDecl}
 use Rattle.cdi_model.specs.declared.decl.Kind.TheVariants as kinds
-use Rattle.cdi_model.specs.declared.decl.MethodDecl.{MethodDecl}
-use Rattle.cdi_model.specs.declared.decl.ObserverDecl.{ObserverDecl}
-use Rattle.cdi_model.specs.declared.decl.PartDecl.{PartDecl}
 use Rattle.cdi_model.specs.declared.decl.UseKind.TheVariants as uses
 use Rattle.cdi_model.specs.declared.mention.PointPlace.TheVariants as points
 use Rattle.cdi_model.specs.declared.mention.TypePlace.TheVariants as places
-use Rattle.cdi_model.specs.declared.place.PartPlace.{PartPlace}
 use Rattle.cdi_model.specs.declared.place.PartPlace.TheVariants as parts
-use Rattle.cdi_model.specs.Mentions.{BodyOf, CallOf, StereotypeOf, TypeIn, UseOf, listed_types, of_attributes, of_bindings, of_disposer}
-use Rattle.cdi_model.specs.Mentions.{of_event, of_method, of_observer, of_part, of_parts, of_point, of_producer, of_qualifiers}
-use Rattle.cdi_effective.specs.Beans.{records_where}
-use Rattle.cdi_effective.specs.BeanText.{text_of_producer}
-use Rattle.cdi_validate.specs.Circles.{needs_to_run}
-use Rattle.cdi_validate.specs.Together.{next_in}
+use Rattle.cdi_effective.specs.{Beans.records_where, BeanText.text_of_producer}
 use Rattle.cdi_validate.proofs.ApartLemmas.{all-map}
 use Rattle.cdi_validate.proofs.CircleLemmas.{needs_itself_on_circle}
 use Rattle.cdi_validate.proofs.NeedLemmas.{has-by_text}
 use Rattle.cdi_validate.proofs.CircleStayLemmas.{stands-enabled}
+use Rattle.cdi_validate.specs.{Circles.needs_to_run, Together.next_in}
 
 -- ---- no circle, no fault
 

@@ -5,13 +5,13 @@ use Rattle.cdi_validate.proofs.Common.{tied_itself, enabled_names, ◌&&◌, sub
 use Rattle.cdi_validate.proofs.Common.{Some, append-nil, or_cases, Effective, ◌||◌, Option, None, list_any, list_any-append, ◌+◌, one_text}
 use Rattle.cdi_validate.proofs.Common.{fold, take, get_or, ⊎_elim, get, is_at, lookup, is_some, unwrap_or, slice_cmp, nat_cmp, or-false}
 use Rattle.cdi_validate.proofs.Common.{flat_map-append, map-append, nat_list_cmp_total, fold-append, at_name, candidate, other_text}
-use Rattle.cdi_validate.proofs.Common.{choice_of, chosen_by_name, is_named, named, leading, nobody, with_candidate, Leaders, is_ambiguous}
-use Rattle.cdi_validate.proofs.Common.{enabled_name, leaders_in, AreLed, AreNames}
-use Rattle.std.proofs.lemmas.List.{take_more}
+use Rattle.cdi_validate.proofs.Common.{choice_of, chosen_by_name, is_named, leading, nobody, with_candidate, Leaders, is_ambiguous}
+use Rattle.cdi_validate.proofs.Common.{enabled_name, leaders_in, AreLed, AreNames, take_more}
+use Rattle.cdi_resolve.specs.Choices.{named}
 use Rattle.cdi_resolve.proofs.LeaderLemmas.{leaders_choose}
 use Rattle.cdi_faults.specs.declared.fault.Fault.TheVariants as faults_are
-use Rattle.cdi_validate.specs.Names.{with_bean}
 use Rattle.cdi_validate.proofs.NameLemmas.{enabled_names-are}
+use Rattle.cdi_validate.specs.Names.{with_bean}
 
 abbrev order : List ℕ → List ℕ → Ordering
 order = slice_cmp nat_cmp

@@ -1,15 +1,15 @@
 -- Names of enabled beans, as they are counted.
-use Rattle.base_lists.proofs.Flat.{map-empty}
 use Rattle.cdi_validate.proofs.Common.{◌≡◌, List, ◌++◌, sym, ap, ◌∙◌, flat_map, Decl, beans, name_prefixes, ◌<◌, ℕ, suc, Bool, true, false}
-use Rattle.cdi_validate.proofs.Common.{cond, [], ◌∷◌, length, map, filter, Ordering, Less, Equal, refl, arith, AllByRecursion, AllPairs}
-use Rattle.cdi_validate.proofs.Common.{◌≤◌, nat_eq, false≢true, Fault, enabled_names, goes_on, ◌&&◌, subst, bytes_eq, or_left, has}
-use Rattle.cdi_validate.proofs.Common.{inl, inr, or_cases, or_right, entries, Effective, ◌||◌, ◌+◌, get_or, one_text, same_text}
-use Rattle.cdi_validate.proofs.Common.{flat_map-append, enabled_name, drop, Greater, list_all, insert_key, at_drop_more, length-append}
-use Rattle.cdi_validate.proofs.Common.{byte_order, in_order, in_order-has, in_order-rises, one_order, is_nameless, names_by, AreNamesApart}
-use Rattle.cdi_validate.proofs.Common.{HaveNoClash}
+use Rattle.cdi_validate.proofs.Common.{cond, [], ◌∷◌, length, map, filter, Ordering, refl, arith, AllByRecursion, AllPairs, ◌≤◌, nat_eq}
+use Rattle.cdi_validate.proofs.Common.{false≢true, Fault, enabled_names, ◌&&◌, subst, bytes_eq, or_left, has, inl, inr, or_cases, or_right}
+use Rattle.cdi_validate.proofs.Common.{entries, Effective, ◌||◌, ◌+◌, get_or, one_text, same_text, flat_map-append, enabled_name, drop}
+use Rattle.cdi_validate.proofs.Common.{Greater, list_all, insert_key, at_drop_more, length-append, byte_order, in_order, in_order-has}
+use Rattle.cdi_validate.proofs.Common.{in_order-rises, one_order, is_nameless, names_by, AreNamesApart, HaveNoClash}
+use Rattle.base_lists.proofs.Flat.{map-empty}
 use Rattle.cdi_faults.specs.declared.fault.Fault.TheVariants as faults_are
 use Rattle.cdi_validate.proofs.ApartLemmas.{Apart, apart-by, apart-pairs}
 use Rattle.cdi_validate.proofs.FoundLemmas.{records-next}
+use Rattle.cdi_validate.specs.Faults.{goes_on}
 
 -- ---- names among others
 

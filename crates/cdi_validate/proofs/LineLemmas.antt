@@ -2,19 +2,18 @@
 use Rattle.cdi_validate.proofs.Common.{◌≡◌, List, ◌++◌, sym, ap, ◌∙◌, flat_map, Decl, circles, name_clashes, name_prefixes, ◌<◌, ℕ, Bool}
 use Rattle.cdi_validate.proofs.Common.{true, false, [], ◌∷◌, map, filter, Ordering, Less, Equal, refl, arith, AllByRecursion, same_text}
 use Rattle.cdi_validate.proofs.Common.{IsStrictlySortedBy, tied_itself, ◌==◌, and_parts, eqb-true, dot, begins, continues, is_letter}
-use Rattle.cdi_validate.proofs.Common.{is_name, is_word, Fault, enabled_names, goes_on, subst, bytes_eq, or_left, has}
-use Rattle.cdi_validate.proofs.Common.{text_of_fault, BeanId, circular, circle, or_right, text_of_id, Effective, nat_cmp, chosen_by_name}
-use Rattle.cdi_validate.proofs.Common.{is_ambiguous, enabled_name, AreNames, Greater, byte_order, in_order-has, in_order-rises}
-use Rattle.cdi_validate.proofs.Common.{ordering_then, nat_cmp_total, IsStrictlySortedBy-filter, LinesRise}
+use Rattle.cdi_validate.proofs.Common.{is_name, is_word, Fault, enabled_names, subst, bytes_eq, or_left, has, text_of_fault, BeanId}
+use Rattle.cdi_validate.proofs.Common.{circular, circle, or_right, text_of_id, Effective, nat_cmp, chosen_by_name, is_ambiguous}
+use Rattle.cdi_validate.proofs.Common.{enabled_name, AreNames, Greater, byte_order, in_order-has, in_order-rises, ordering_then}
+use Rattle.cdi_validate.proofs.Common.{nat_cmp_total, IsStrictlySortedBy-filter, LinesRise, all-weaker, all-each, all-append}
 use Rattle.std.specs.Prelude.{codes}
-use Rattle.std.proofs.lemmas.Bool.{lt-ltb}
-use Rattle.std.proofs.lemmas.Bool.Decides.{nat_tests}
-use Rattle.base_lists.proofs.Each.{all-weaker, all-each, all-append}
-use Rattle.cdi_model.specs.Bytes.{space}
+use Rattle.std.proofs.lemmas.Bool.{lt-ltb, Decides.nat_tests}
 use Rattle.cdi_model.specs.Grammar.{goes_on as continues_name}
+use Rattle.cdi_model.specs.Bytes.{space}
 use Rattle.cdi_faults.specs.declared.fault.Fault.TheVariants as faults_are
 use Rattle.cdi_validate.proofs.NeedLemmas.{circular-rise}
 use Rattle.cdi_validate.proofs.ApartLemmas.{all-map}
+use Rattle.cdi_validate.specs.Faults.{goes_on}
 
 -- ---- lists that rise
 

@@ -3,23 +3,18 @@ use Rattle.cdi_validate.proofs.Common.{◌≡◌, List, ◌++◌, sym, ap, ◌�
 use Rattle.cdi_validate.proofs.Common.{false, cond, [], ◌∷◌, length, map, filter, refl, AllByRecursion, nat_eq, eqb-true, false≢true, ◌&&◌}
 use Rattle.cdi_validate.proofs.Common.{subst, find, option_to_list, bytes_eq, filter-append, AreDistinct, BeanDecl, has, same_text}
 use Rattle.cdi_validate.proofs.Common.{records_in, class_names, is_first_enabled, specializing, specializing_by, enabled_bean, other_text}
-use Rattle.cdi_validate.proofs.Common.{in_line_order, of_pairs, twice, Some, inl, inr, append-nil, cases_Bool, find_decl, managed, as_bean}
-use Rattle.cdi_validate.proofs.Common.{find_bean, ◌||◌, Option, None, flat_map-append, is_of, AllZip, eq-eqb, key_of, key_at}
-use Rattle.cdi_validate.proofs.Common.{same_key, limit, behind, chain_behind, specialized, faults_between, faults_of_chains, first_marked}
-use Rattle.cdi_validate.proofs.Common.{has_position, is_marked, links_to, KeepsChain}
-use Rattle.std.proofs.Common.{is_some, position}
-use Rattle.std.specs.Option.{option_map}
-use Rattle.std.proofs.lemmas.List.Quantifiers.{position-Some}
-use Rattle.cdi_model.proofs.EntryLemmas.{key_exact}
+use Rattle.cdi_validate.proofs.Common.{in_line_order, of_pairs, twice, Some, append-nil, find_decl, managed, as_bean, find_bean, ◌||◌}
+use Rattle.cdi_validate.proofs.Common.{Option, None, flat_map-append, is_of, AllZip, eq-eqb, limit, behind, faults_between}
+use Rattle.cdi_validate.proofs.Common.{faults_of_chains, first_marked, has_position, is_marked, links_to, KeepsChain, is_some, option_map}
+use Rattle.std.proofs.{Common.position, lemmas.List.Quantifiers.position-Some}
 use Rattle.cdi_model.proofs.PositionLemmas.{one_position, position-found}
 use Rattle.cdi_model.specs.declared.decl.Decl.TheVariants as decls
 use Rattle.cdi_model.specs.declared.decl.Kind.TheVariants as kinds
-use Rattle.cdi_effective.specs.Specialized.{bean_named, extended, on_from}
+use Rattle.cdi_effective.specs.Specialized.{chain_behind, specialized, bean_named, extended, on_from}
 use Rattle.cdi_effective.proofs.ChainLemmas.{named, found-name}
-use Rattle.cdi_validate.specs.declared.twice.BeanChain.{BeanChain}
-use Rattle.cdi_validate.specs.declared.twice.Link.{Link}
 use Rattle.cdi_validate.proofs.FoundLemmas.{bean-records, found-next}
 use Rattle.cdi_validate.proofs.TwiceLemmas.{behind_two, pairs-behind}
+use Rattle.cdi_validate.specs.declared.twice.{BeanChain.BeanChain, Link.Link}
 
 -- ---- the beans of a chain are declared
 

@@ -1,17 +1,15 @@
 -- Names that go on behind others, among names in byte order.
 use Rattle.cdi_validate.proofs.Common.{◌≡◌, List, ◌++◌, sym, ap, ◌∙◌, flat_map, ◌<◌, ℕ, zero, suc, Bool, true, false, cond, [], ◌∷◌, length}
 use Rattle.cdi_validate.proofs.Common.{map, filter, Ordering, Less, Equal, refl, AllByRecursion, IsStrictlySortedBy, tied_itself, nat_eq}
-use Rattle.cdi_validate.proofs.Common.{and_parts, eqb-true, false≢true, dot, Fault, enabled_names, goes_on, ◌&&◌, subst, has, Effective}
-use Rattle.cdi_validate.proofs.Common.{list_any, ◌+◌, get_or, is_at, slice_cmp, nat_cmp, nat_list_cmp_total, enabled_name, drop, Greater}
+use Rattle.cdi_validate.proofs.Common.{and_parts, eqb-true, false≢true, dot, Fault, enabled_names, ◌&&◌, subst, has, Effective, list_any}
+use Rattle.cdi_validate.proofs.Common.{◌+◌, get_or, is_at, slice_cmp, nat_cmp, nat_list_cmp_total, enabled_name, drop, Greater}
 use Rattle.cdi_validate.proofs.Common.{at_drop_more, in_order, in_order-has, in_order-rises, one_order, ordering_then, nat_cmp_total}
 use Rattle.cdi_validate.proofs.Common.{starts_with, has-by_order, prefix_pairs}
-use Rattle.std.proofs.lemmas.List.{drop_more}
+use Rattle.std.proofs.{lemmas.List.drop_more, Math.Bool.and_assoc, Math.Bool.and-true, lemmas.Bool.Decides.Decides-eqb}
 use Rattle.std.specs.Ordering.{ordering_reverse}
-use Rattle.std.proofs.Math.Bool.{and_assoc, and-true}
-use Rattle.std.proofs.lemmas.Bool.Decides.{Decides-eqb}
 use Rattle.std.proofs.lemmas.Map.Lookups.{exact_unsigned}
 use Rattle.cdi_faults.specs.declared.fault.Fault.TheVariants as faults_are
-use Rattle.cdi_validate.specs.Names.{has_dot_at}
+use Rattle.cdi_validate.specs.{Faults.goes_on, Names.has_dot_at}
 
 abbrev order : List ℕ → List ℕ → Ordering
 order = slice_cmp nat_cmp

@@ -1,18 +1,17 @@
 -- Declarations whose enabled beans have names that are apart.
-use Rattle.base_lists.proofs.Each.{all-weaker, all-each, all-back}
-use Rattle.base_lists.proofs.Flat.{flat-empty, flat-filter}
-use Rattle.cdi_validate.proofs.Common.{◌≡◌, List, ◌++◌, sym, ap, ◌∙◌, flat_map, Decl, beans, name_clashes, name_prefixes, ℕ, Bool, true}
-use Rattle.cdi_validate.proofs.Common.{false, cond, [], ◌∷◌, length, map, filter, refl, AllByRecursion, AllPairs, eqb-true, false≢true}
-use Rattle.cdi_validate.proofs.Common.{enabled_names, goes_on, ◌&&◌, subst, bytes_eq, nil_from_length, has, IsAlike, ◌⊎◌, inl, same_text}
-use Rattle.cdi_validate.proofs.Common.{inr, or_cases, Effective, list_any-append, candidate, choice_of, chosen_by_name, is_named, one_text}
-use Rattle.cdi_validate.proofs.Common.{named, is_ambiguous, enabled_name, in_order-has, is_nameless, names_by, AreNamesApart, HaveNoClash}
-use Rattle.cdi_validate.proofs.Common.{or_parts}
+use Rattle.cdi_validate.proofs.Common.{all-weaker, all-each, all-back, flat-empty, flat-filter, ◌≡◌, List, ◌++◌, sym, ap, ◌∙◌, flat_map}
+use Rattle.cdi_validate.proofs.Common.{Decl, beans, name_clashes, name_prefixes, ℕ, Bool, true, false, cond, [], ◌∷◌, length, map, filter}
+use Rattle.cdi_validate.proofs.Common.{refl, AllByRecursion, AllPairs, eqb-true, false≢true, enabled_names, ◌&&◌, subst, bytes_eq}
+use Rattle.cdi_validate.proofs.Common.{nil_from_length, has, IsAlike, ◌⊎◌, inl, same_text, inr, or_cases, Effective, list_any-append}
+use Rattle.cdi_validate.proofs.Common.{candidate, choice_of, chosen_by_name, is_named, one_text, is_ambiguous, enabled_name, in_order-has}
+use Rattle.cdi_validate.proofs.Common.{is_nameless, names_by, AreNamesApart, HaveNoClash, or_parts}
+use Rattle.cdi_resolve.specs.Choices.{named}
 use Rattle.cdi_faults.specs.declared.fault.Fault.TheVariants as faults_are
-use Rattle.cdi_validate.proofs.ApartLemmas.{Apart, apart-back, apart-more, flat-same, pairs-apart}
-use Rattle.cdi_validate.proofs.ApartLemmas.{pairs-left}
+use Rattle.cdi_validate.proofs.ApartLemmas.{Apart, apart-back, apart-more, flat-same, pairs-apart, pairs-left}
 use Rattle.cdi_validate.proofs.ClashLemmas.{is_its_name}
 use Rattle.cdi_validate.proofs.NameLemmas.{goes_on-itself}
 use Rattle.cdi_validate.proofs.CountLemmas.{all-has, has-all, names-all, Differ, NoneGoesOn}
+use Rattle.cdi_validate.specs.Faults.{goes_on}
 
 -- ---- the names of some declarations
 

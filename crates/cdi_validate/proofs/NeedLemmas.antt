@@ -1,15 +1,17 @@
 -- What beans need, as it is found: the dependent beans by their texts, and the edges between them.
 use Rattle.cdi_validate.proofs.Common.{◌≡◌, List, ◌++◌, sym, ap, ◌∙◌, append_assoc, flat_map, Decl, beans, ℕ, Bool, true, false, cond, []}
 use Rattle.cdi_validate.proofs.Common.{◌∷◌, map, filter, Ordering, Less, Equal, refl, AllByRecursion, IsStrictlySortedBy, subst, bytes_eq}
-use Rattle.cdi_validate.proofs.Common.{filter-append, has, keys_of, filter_agree, Edges, next_in, BeanId, between, circular, dependents}
+use Rattle.cdi_validate.proofs.Common.{filter-append, has, keys_of, filter_agree, Edges, BeanId, between, circular, dependents}
 use Rattle.cdi_validate.proofs.Common.{dependents_by_text, needed_by, needs_itself, ◌⊎◌, append-nil, InterceptorDecl, PointDecl, one_text}
 use Rattle.cdi_validate.proofs.Common.{text_of_id, Effective, is_enabled, stands_around, answer_to, Need, chosen_for, chosen_one}
 use Rattle.cdi_validate.proofs.Common.{is_dependent, managed_id, need_around, ◌||◌, fold, ⊎_elim, is_at, lookup, is_some, or-false}
 use Rattle.cdi_validate.proofs.Common.{flat_map-append, Greater, insert_key, byte_order, in_order, in_order-has, in_order-rises}
-use Rattle.cdi_validate.proofs.Common.{IsStrictlySortedBy-filter, has-by_order, insert_entry, or_assoc, or_comm, same_name, Choice}
-use Rattle.cdi_validate.proofs.Common.{with_dependent, AddsNeeds}
+use Rattle.cdi_validate.proofs.Common.{IsStrictlySortedBy-filter, has-by_order, or_assoc, or_comm, same_name, Choice, with_dependent}
+use Rattle.cdi_validate.proofs.Common.{AddsNeeds}
+use Rattle.std.specs.BTreeMap.{insert_entry}
 use Rattle.std.proofs.lemmas.Map.Made.{is_some-lookup}
 use Rattle.cdi_model.specs.declared.decl.Decl.TheVariants as decls
+use Rattle.cdi_circles.specs.Edges.{next_in}
 
 abbrev Entries : Type 0
 Entries = List (List ℕ × BeanId)

@@ -1,23 +1,20 @@
 -- No fault stands twice.
-use Rattle.base_lists.proofs.Each.{all-weaker, all-each, all-append}
-use Rattle.cdi_validate.proofs.Common.{◌≡◌, List, ◌++◌, sym, ap, ◌∙◌, append_assoc, flat_map, Promised, Decl, beans, circles, faults}
-use Rattle.cdi_validate.proofs.Common.{faults_of, name_clashes, name_prefixes, specialized_twice, ◌≢◌, ℕ, Bool, true, false, [], ◌∷◌, map}
-use Rattle.cdi_validate.proofs.Common.{filter, refl, arith, AllByRecursion, AllPairs, false≢true, Fault, enabled_names, goes_on, subst}
-use Rattle.cdi_validate.proofs.Common.{AreDistinct, text_of_fault, BeanId, circular, circle, Some, name_of_decl, text_of_id, Effective}
-use Rattle.cdi_validate.proofs.Common.{Option, None, nat_list_cmp_total, enabled_name, in_order-rises, kind_of, key_of, DeclKey}
-use Rattle.cdi_validate.proofs.Common.{in_text_order, faults_of_code, subjects_in_order}
-use Rattle.cdi_faults.specs.Codes.{all_codes, code_of}
+use Rattle.cdi_validate.proofs.Common.{all-weaker, all-each, all-append, ◌≡◌, List, ◌++◌, sym, ap, ◌∙◌, append_assoc, flat_map, Promised}
+use Rattle.cdi_validate.proofs.Common.{Decl, beans, circles, faults, faults_of, name_clashes, name_prefixes, specialized_twice, ◌≢◌, ℕ}
+use Rattle.cdi_validate.proofs.Common.{Bool, true, false, [], ◌∷◌, map, filter, refl, arith, AllByRecursion, AllPairs, false≢true, Fault}
+use Rattle.cdi_validate.proofs.Common.{enabled_names, subst, AreDistinct, text_of_fault, BeanId, circular, circle, Some, name_of_decl}
+use Rattle.cdi_validate.proofs.Common.{text_of_id, Effective, Option, None, nat_list_cmp_total, enabled_name, in_order-rises, kind_of}
+use Rattle.cdi_validate.proofs.Common.{key_of, DeclKey, in_text_order, faults_of_code, subjects_in_order}
+use Rattle.cdi_faults.specs.{Codes.all_codes, Codes.code_of, declared.fault.Code.Code, declared.fault.Subject.Subject}
 use Rattle.cdi_faults.proofs.CodeLemmas.{codes_rise, code_order-total}
-use Rattle.cdi_faults.specs.declared.fault.Code.{Code}
-use Rattle.cdi_faults.specs.declared.fault.Fault.TheVariants as faults_are
-use Rattle.cdi_faults.specs.declared.fault.Subject.{Subject}
 use Rattle.cdi_faults.specs.FaultText.{text_of_subject}
+use Rattle.cdi_faults.specs.declared.fault.Fault.TheVariants as faults_are
 use Rattle.cdi_subjects.specs.Subjects.{subjects_at_fault}
-use Rattle.cdi_validate.specs.Faults.{FaultsStandOnce}
-use Rattle.cdi_validate.proofs.ApartLemmas.{Differ, Tagged, all-map, apart-filter, apart-more, apart-pairs}
-use Rattle.cdi_validate.proofs.ApartLemmas.{differ-append, differ-by, differ-flat_map, differ-map, pairs-apart, rising-differ}
+use Rattle.cdi_validate.proofs.ApartLemmas.{Differ, Tagged, all-map, apart-filter, apart-more, apart-pairs, differ-append, differ-by}
+use Rattle.cdi_validate.proofs.ApartLemmas.{differ-flat_map, differ-map, pairs-apart, rising-differ}
 use Rattle.cdi_validate.proofs.NeedLemmas.{circular-rise}
 use Rattle.cdi_validate.proofs.TwiceLemmas.{twice-each, twice_rise}
+use Rattle.cdi_validate.specs.Faults.{goes_on, FaultsStandOnce}
 
 -- ---- faults of one declaration
 

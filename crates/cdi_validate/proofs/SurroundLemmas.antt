@@ -1,22 +1,22 @@
 -- Beans by the binding types at their places, and that an interceptor stands around none but those of its first binding type.
 use Rattle.cdi_validate.proofs.Common.{◌≡◌, List, ◌++◌, sym, ap, ◌∙◌, flat_map, Decl, ◌<◌, ℕ, zero, suc, Bool, true, false, cond, [], ◌∷◌}
 use Rattle.cdi_validate.proofs.Common.{length, map, filter, refl, IsStrictlySortedBy, and_parts, false≢true, ◌&&◌, bytes_eq, or_left}
-use Rattle.cdi_validate.proofs.Common.{AreDistinct, BeanDecl, has, Edges, next_in, between, Some, inl, inr, append-nil, slice_get, one_text}
-use Rattle.cdi_validate.proofs.Common.{and-false, or_cases, or_right, same_Some, InterceptorDecl, BeanPlace, text_of_id}
-use Rattle.cdi_validate.proofs.Common.{own-found, is_enabled, stands_around, managed_id, need_around, ◌||◌, Option, None, none-some, Qual}
-use Rattle.cdi_validate.proofs.Common.{◌+◌, get_or, unwrap_or, flat_map-append, map-append, drop, list_all, byte_order, slice_get-get_or}
-use Rattle.cdi_validate.proofs.Common.{IsFound, or_assoc, AddsNeeds, Vec, Global, name_of_use, class_bindings, sets_of, next-left}
-use Rattle.cdi_validate.proofs.Common.{rise-next, beans_in, has_binding_in, with_binding, AreByBinding}
-use Rattle.std.proofs.Common.{option_map}
+use Rattle.cdi_validate.proofs.Common.{AreDistinct, BeanDecl, has, Edges, between, Some, inl, inr, append-nil, slice_get, one_text}
+use Rattle.cdi_validate.proofs.Common.{and-false, or_cases, or_right, same_Some, InterceptorDecl, BeanPlace, text_of_id, own-found}
+use Rattle.cdi_validate.proofs.Common.{is_enabled, stands_around, managed_id, need_around, ◌||◌, Option, None, none-some, Qual, ◌+◌, get_or}
+use Rattle.cdi_validate.proofs.Common.{unwrap_or, flat_map-append, map-append, drop, list_all, byte_order, IsFound, or_assoc, AddsNeeds}
+use Rattle.cdi_validate.proofs.Common.{Vec, Global, name_of_use, class_bindings, sets_of, next-left, rise-next, has_binding_in}
+use Rattle.cdi_validate.proofs.Common.{with_binding, AreByBinding, option_map}
+use Rattle.std.proofs.lemmas.Option.{slice_get-get_or, slice_get-map}
 use Rattle.std.specs.Borrow.{Bor}
-use Rattle.std.proofs.lemmas.Option.{slice_get-map}
 use Rattle.cdi_model.specs.declared.decl.Decl.TheVariants as decls
 use Rattle.cdi_model.specs.declared.decl.UseKind.TheVariants as use_kinds
 use Rattle.cdi_match.specs.Covering.{covers, covers_by}
 use Rattle.cdi_intercept.specs.Chains.{binds, covered_in, surrounds, surrounds_one}
 use Rattle.cdi_resolve.proofs.PlaceLemmas.{none-after}
-use Rattle.cdi_validate.specs.Surrounded.{has_binding_at_place, may_surround, BeansByBinding}
+use Rattle.cdi_circles.specs.Edges.{next_in}
 use Rattle.cdi_validate.proofs.NeedLemmas.{between-append, between-none}
+use Rattle.cdi_validate.specs.Surrounded.{beans_in, has_binding_at_place, may_surround, BeansByBinding}
 
 -- ---- lists, one element after another
 

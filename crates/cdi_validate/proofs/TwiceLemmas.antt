@@ -1,23 +1,23 @@
 -- Enabled beans whose chains share a bean.
-use Rattle.cdi_validate.proofs.Common.{◌≡◌, List, ◌++◌, sym, ap, ◌∙◌, flat_map, Decl, specialized_twice, ◌≢◌, ℕ, zero, suc, Bool, true}
-use Rattle.cdi_validate.proofs.Common.{false, cond, [], ◌∷◌, map, filter, Ordering, Less, Equal, refl, AllByRecursion, IsStrictlySortedBy}
-use Rattle.cdi_validate.proofs.Common.{and_parts, false≢true, Fault, not, ◌&&◌, subst, find, option_to_list, bytes_eq, or_left, AreDistinct}
-use Rattle.cdi_validate.proofs.Common.{BeanDecl, has, chain, class_names, text_of_fault, specializing, enabled_bean, one_text, same_text}
+use Rattle.cdi_validate.proofs.Common.{◌≡◌, List, ◌++◌, sym, ap, ◌∙◌, flat_map, Decl, specialized_twice, ◌≢◌, ℕ, Bool, true, false, cond}
+use Rattle.cdi_validate.proofs.Common.{[], ◌∷◌, map, filter, Ordering, Less, Equal, refl, AllByRecursion, IsStrictlySortedBy, and_parts}
+use Rattle.cdi_validate.proofs.Common.{false≢true, Fault, not, ◌&&◌, subst, find, option_to_list, bytes_eq, or_left, AreDistinct, BeanDecl}
+use Rattle.cdi_validate.proofs.Common.{has, chain, class_names, text_of_fault, specializing, enabled_bean, one_text, same_text}
 use Rattle.cdi_validate.proofs.Common.{enabled_beans, faults_of_pairs, faults_of_two, of_pairs, twice, keys_of, Some, inl, inr, or_cases}
-use Rattle.cdi_validate.proofs.Common.{or_right, effective, managed, ◌||◌, Option, None, list_any, is_replaced, fold, other_text}
-use Rattle.cdi_validate.proofs.Common.{Greater, insert_key, byte_order, in_order, in_order-rises, key_of, key_at, limit, behind}
-use Rattle.cdi_validate.proofs.Common.{chain_behind, specialized, or_parts, insert_entry, or_assoc, or_comm, same_name, by_line, with_line}
+use Rattle.cdi_validate.proofs.Common.{or_right, effective, managed, ◌||◌, Option, None, list_any, is_replaced, fold, other_text, Greater}
+use Rattle.cdi_validate.proofs.Common.{insert_key, byte_order, in_order, in_order-rises, key_of, limit, behind, or_parts, or_assoc, or_comm}
+use Rattle.cdi_validate.proofs.Common.{same_name, by_line, with_line, all-weaker, all-append}
 use Rattle.std.proofs.lemmas.Bool.{not-true}
-use Rattle.base_lists.proofs.Each.{all-weaker, all-append}
 use Rattle.base_numbers.proofs.Texts.{bytes_eq-turned}
+use Rattle.cdi_model.specs.DeclKey.{key_at}
 use Rattle.cdi_model.specs.declared.decl.Decl.TheVariants as decls
 use Rattle.cdi_model.specs.declared.decl.Kind.TheVariants as kinds
 use Rattle.cdi_match.proofs.OrderLemmas.{has-insert}
 use Rattle.cdi_effective.specs.Specialized.{is_offered, replaced_by}
 use Rattle.cdi_effective.proofs.StepLemmas.{ends-none}
-use Rattle.cdi_validate.specs.Twice.{are_apart, first_shared, is_in_chain, AreTold, SharersAreTold}
 use Rattle.cdi_validate.proofs.ApartLemmas.{Apart, apart-by, apart-pairs, flat-same, pairs-apart}
 use Rattle.cdi_validate.proofs.NeedLemmas.{keys-insert}
+use Rattle.cdi_validate.specs.Twice.{are_apart, first_shared, is_in_chain, AreTold, SharersAreTold}
 
 -- ---- pairs
 

@@ -1,57 +1,39 @@
 -- What is known of each declaration of a deployment without faults, and that such a deployment has a sound scene.
 use Rattle.std.proofs.Common.{◌≡◌, ◌==◌, ◌&&◌, ℕ, zero, suc, Bool, true, false, not, cond, List, [], ◌∷◌, ◌++◌, map, Option, Some, None}
 use Rattle.std.proofs.Common.{option_map, Contains, refl, sym, subst, ap, ◌∙◌, arith, bit_and}
-use Rattle.std.specs.List.{find, flat_map, slice_get}
-use Rattle.std.specs.Option.{option_eq, option_to_list}
-use Rattle.std.specs.Str.{bytes_eq}
 use Rattle.std.proofs.lemmas.Bool.{false≢true, true≢false, not-false, or_left, or_right}
-use Rattle.std.proofs.lemmas.Bool.Decides.{nat_tests}
-use Rattle.std.proofs.lemmas.Grind.{flat_map-append}
+use Rattle.std.specs.{List.find, List.flat_map, List.slice_get, Option.option_eq, Option.option_to_list, Str.bytes_eq}
+use Rattle.std.proofs.lemmas.{Bool.Decides.nat_tests, Grind.flat_map-append}
 use Rattle.base_lists.proofs.Flat.{map-empty, append-empty}
 use Rattle.base_numbers.proofs.Texts.{same_text}
-use Rattle.cdi_model.specs.Decl.{kind_of, name_of_decl}
 use Rattle.cdi_model.specs.Mentions.{Mention, BodyOf, CallOf, MethodOf, TypeIn, mentions, of_attributes, of_bindings, of_disposer, of_event}
 use Rattle.cdi_model.specs.Mentions.{of_method, of_observer, of_part, of_parts, of_point, of_producer, of_qualifiers, part_place_of}
 use Rattle.cdi_model.specs.Short.{AreShort, IsShortPart, IsShortBean, IsShortInterceptor}
-use Rattle.cdi_model.specs.declared.decl.BeanDecl.{BeanDecl}
-use Rattle.cdi_model.specs.declared.decl.CallDecl.{CallDecl}
-use Rattle.cdi_model.specs.declared.decl.Decl.{Decl}
+use Rattle.cdi_model.specs.{Decl.kind_of, Decl.name_of_decl, declared.decl.BeanDecl.BeanDecl, declared.decl.CallDecl.CallDecl}
+use Rattle.cdi_model.specs.declared.decl.{Decl.Decl, DisposerDecl.DisposerDecl, InterceptorDecl.InterceptorDecl, MethodDecl.MethodDecl}
+use Rattle.cdi_model.specs.declared.decl.{ObserverDecl.ObserverDecl, PartDecl.PartDecl, PointDecl.PointDecl, ProducerDecl.ProducerDecl}
+use Rattle.cdi_model.specs.declared.{mention.PointPlace.PointPlace, place.PartPlace.PartPlace}
 use Rattle.cdi_model.specs.declared.decl.Decl.TheVariants as decls
-use Rattle.cdi_model.specs.declared.decl.DisposerDecl.{DisposerDecl}
-use Rattle.cdi_model.specs.declared.decl.InterceptorDecl.{InterceptorDecl}
-use Rattle.cdi_model.specs.declared.decl.MethodDecl.{MethodDecl}
-use Rattle.cdi_model.specs.declared.decl.ObserverDecl.{ObserverDecl}
-use Rattle.cdi_model.specs.declared.decl.PartDecl.{PartDecl}
-use Rattle.cdi_model.specs.declared.decl.PointDecl.{PointDecl}
-use Rattle.cdi_model.specs.declared.decl.ProducerDecl.{ProducerDecl}
-use Rattle.cdi_model.specs.declared.mention.PointPlace.{PointPlace}
 use Rattle.cdi_model.specs.declared.mention.PointPlace.TheVariants as points_are
 use Rattle.cdi_model.specs.declared.mention.TypePlace.TheVariants as types_are
-use Rattle.cdi_model.specs.declared.place.PartPlace.{PartPlace}
 use Rattle.cdi_model.specs.declared.place.PartPlace.TheVariants as places
-use Rattle.cdi_bodies.specs.Book.{Promised, promise_of}
-use Rattle.cdi_bodies.specs.Flags as flags
-use Rattle.cdi_bodies.specs.declared.promise.Promise.{Promise}
+use Rattle.cdi_bodies.specs.{Book.Promised, Book.promise_of, declared.promise.Promise.Promise}
 use Rattle.cdi_bodies.proofs.FlagLemmas.{keeps_each}
-use Rattle.cdi_effective.specs.Beans.{entries, managed, product}
-use Rattle.cdi_effective.specs.declared.records.BeanId.{BeanId}
+use Rattle.cdi_bodies.specs.Flags as flags
+use Rattle.cdi_effective.specs.{Beans.entries, Beans.managed, Beans.product, declared.records.BeanId.BeanId}
+use Rattle.cdi_intercept.specs.Chains.{is_enabled}
 use Rattle.cdi_resolve.specs.declared.choice.Choice.{Choice}
 use Rattle.cdi_resolve.specs.declared.choice.Choice.TheVariants as choices
-use Rattle.cdi_intercept.specs.Chains.{is_enabled}
 use Rattle.cdi_observe.specs.Answers.{answer_to}
-use Rattle.cdi_faults.specs.Codes.{all_codes}
-use Rattle.cdi_faults.specs.FaultText.{in_text_order}
-use Rattle.cdi_faults.specs.declared.fault.Code.{Code}
+use Rattle.cdi_faults.specs.{Codes.all_codes, FaultText.in_text_order, declared.fault.Code.Code, declared.fault.Subject.Subject}
+use Rattle.cdi_faults.proofs.{CodeLemmas.has_code, OrderLemmas.none_in_order}
 use Rattle.cdi_faults.specs.declared.fault.Code.TheVariants as codes_of
 use Rattle.cdi_faults.specs.declared.fault.Fault.TheVariants as faults_are
-use Rattle.cdi_faults.specs.declared.fault.Subject.{Subject}
 use Rattle.cdi_faults.specs.declared.fault.Subject.TheVariants as subjects
-use Rattle.cdi_faults.proofs.CodeLemmas.{has_code}
-use Rattle.cdi_faults.proofs.OrderLemmas.{none_in_order}
 use Rattle.cdi_subjects.specs.Filter.{found_in, has_enabled, is_enabled_in, producer_of_part, producer_of_point, some_if}
-use Rattle.cdi_subjects.specs.Parts.{allowed_in, is_fit, unfit_in}
 use Rattle.cdi_subjects.specs.Sites.{has_method, is_lost, is_lost_among, lacks_method, lost_in, own_points, points_seen}
 use Rattle.cdi_subjects.specs.Subjects.{is_ambiguous, is_unsatisfied, point_in, subjects_at_fault}
+use Rattle.cdi_subjects.specs.Parts.{allowed_in, is_fit, unfit_in}
 use Rattle.cdi_subjects.proofs.RecordLemmas.{managed-producer, product-producer}
 use Rattle.cdi_validate.specs.Faults.{faults, faults_of, faults_of_code}
 use Rattle.cdi_staging.specs.Faultless.{AreFine, AreFineAround, IsFineAround, AreSatisfied, IsFineManaged, IsFinePart, allowed_to}

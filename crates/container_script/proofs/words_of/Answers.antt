@@ -1,7 +1,6 @@
 use Rattle.std.proofs.Common.{◌≡◌, refl, length}
 use Rattle.std.specs.Vec.Iter.{into_iter_items, into_iter_len}
-use Rattle.std.proofs.lemmas.Iterator.{items_from_collect}
-use Rattle.std.proofs.lemmas.Iterator.Adapters.{YieldsList-from_vec}
+use Rattle.std.proofs.lemmas.Iterator.{items_from_collect, Adapters.YieldsList-from_vec}
 use Rattle.container_script.proofs.words_of.Goals as goal
 
 pub returns : goal.returns

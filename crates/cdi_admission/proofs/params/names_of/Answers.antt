@@ -1,10 +1,9 @@
 use Rattle.std.proofs.Common.{◌+◌, ◌||◌, ℕ, List, ◌∷◌, drop, ap, sym, ◌∙◌}
 use Rattle.std.proofs.lemmas.List.{drop_more}
 use Rattle.cdi_model.specs.declared.decl.PointDecl.{PointDecl}
-use Rattle.cdi_admission.proofs.SetLemmas.{one_more}
-use Rattle.cdi_admission.specs.TextSets.{has_text}
 use Rattle.cdi_uses.specs.Twice.{is_text_among}
-use Rattle.cdi_admission.specs.Admission.{point_names}
+use Rattle.cdi_admission.proofs.SetLemmas.{one_more}
+use Rattle.cdi_admission.specs.{TextSets.has_text, Admission.point_names}
 use Rattle.cdi_admission.proofs.params.names_of.Goals as goal
 
 pub loop-point-preserved : goal.loop-point-preserved

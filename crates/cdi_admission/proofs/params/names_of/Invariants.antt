@@ -1,7 +1,6 @@
 use Rattle.std.proofs.Common.{◌≡◌, ◌||◌, ℕ, List, drop}
-use Rattle.cdi_admission.specs.TextSets.{has_text}
 use Rattle.cdi_uses.specs.Twice.{is_text_among}
-use Rattle.cdi_admission.specs.Admission.{point_names}
+use Rattle.cdi_admission.specs.{TextSets.has_text, Admission.point_names}
 use Rattle.cdi_admission.proofs.params.names_of.Given as goal
 
 abbrev pub invariant-loop-point : goal.invariant-loop-point

@@ -1,8 +1,7 @@
-use Rattle.std.proofs.Common.{◌≡◌, ◌+◌, ◌∷◌, ◌++◌, refl, ap, sym, ◌∙◌}
-use Rattle.std.specs.Prelude.{drop}
+use Rattle.std.proofs.Common.{◌≡◌, ◌+◌, ◌∷◌, ◌++◌, refl, ap, sym, ◌∙◌, drop}
 use Rattle.std.proofs.lemmas.List.{drop_more}
-use Rattle.cdi_assembly.specs.Put.{left_by_sources, refused_from, told}
 use Rattle.cdi_assembly.proofs.PutLemmas.{is_one, one_put, one_told}
+use Rattle.cdi_assembly.specs.Put.{left_by_sources, refused_from, told}
 use Rattle.cdi_assembly.proofs.assembly.assemble.Goals as goal
 
 pub loop-position-init : goal.loop-position-init

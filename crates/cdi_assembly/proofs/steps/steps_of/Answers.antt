@@ -1,7 +1,6 @@
 use Rattle.std.proofs.Common.{sym, subst}
 use Rattle.cdi_lines.specs.Lines.{lines}
-use Rattle.cdi_script.specs.Commands.{commands, outside}
-use Rattle.cdi_script.specs.Reads.{Reads}
+use Rattle.cdi_script.specs.{Commands.commands, Commands.outside, Reads.Reads}
 use Rattle.cdi_script.proofs.StepLemmas.{reads_all, reads_line}
 use Rattle.cdi_assembly.specs.Steps.{commands_of_steps}
 use Rattle.cdi_assembly.proofs.steps.steps_of.Goals as goal

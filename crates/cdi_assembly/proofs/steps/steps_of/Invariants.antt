@@ -1,7 +1,6 @@
 use Rattle.std.proofs.Common.{length}
 use Rattle.cdi_lines.specs.Lines.{lines}
-use Rattle.cdi_script.specs.Commands.{commands}
-use Rattle.cdi_script.specs.Reads.{Reads}
+use Rattle.cdi_script.specs.{Commands.commands, Reads.Reads}
 use Rattle.cdi_assembly.specs.Steps.{commands_of_steps}
 use Rattle.cdi_assembly.proofs.steps.steps_of.Given as goal
 

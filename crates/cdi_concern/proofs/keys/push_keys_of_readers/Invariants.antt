@@ -1,6 +1,5 @@
 use Rattle.std.proofs.Common.{◌≡◌, ◌||◌, take}
-use Rattle.cdi_model.specs.declared.key.DeclKey.{DeclKey}
-use Rattle.cdi_model.specs.Edits.{is_among}
+use Rattle.cdi_model.specs.{declared.key.DeclKey.DeclKey, Edits.is_among}
 use Rattle.cdi_concern.specs.Concern.{reads_one}
 use Rattle.cdi_concern.proofs.keys.push_keys_of_readers.Given as goal
 

@@ -1,8 +1,8 @@
 use Rattle.std.proofs.Common.{◌++◌, flat_map, ap, ◌∙◌}
 use Rattle.std.proofs.lemmas.Result.{on_ok_weaker}
 use Rattle.cdi_positions.specs.Marks.{marked_from}
-use Rattle.cdi_concern.specs.Concern.{keys_at}
 use Rattle.cdi_concern.proofs.KeyLemmas.{keys-marked}
+use Rattle.cdi_concern.specs.Concern.{keys_at}
 use Rattle.cdi_concern.proofs.keys.push_keys_under.Goals as goal
 
 pub returns : goal.returns

@@ -1,7 +1,6 @@
 use Rattle.cdi_container.proofs.Common.{refl, subst, sym, length, ap, ◌∙◌, kept_in, EvaluatesSome, faults, OnErr-from}
 use Rattle.cdi_observe.specs.Lending.{IsEvaluated}
-use Rattle.cdi_observe.proofs.KeptLemmas.{evaluates_all}
-use Rattle.cdi_observe.proofs.LendingLemmas.{evaluated-all}
+use Rattle.cdi_observe.proofs.{KeptLemmas.evaluates_all, LendingLemmas.evaluated-all}
 use Rattle.cdi_container.proofs.found.find_wiring.Goals as goal
 
 pub report-requires-clause-keeps : goal.report-requires-clause-keeps

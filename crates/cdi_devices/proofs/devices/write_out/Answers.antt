@@ -1,6 +1,6 @@
 use Rattle.std.proofs.Common.{◌++◌, ap, sym, ◌∙◌}
-use Rattle.cdi_devices.specs.Counted.{has_failed, inner_of}
 use Rattle.cdi_devices.proofs.Known.{written_more, still_same}
+use Rattle.cdi_devices.specs.Counted.{has_failed, inner_of}
 use Rattle.cdi_devices.proofs.devices.write_out.Goals as goal
 
 pub loop-rest-preserved : goal.loop-rest-preserved

@@ -1,6 +1,6 @@
-use Rattle.std.proofs.Common.{◌≡◌, map, rules}
-use Rattle.cdi_differences.specs.Holds.{shown_line}
+use Rattle.std.proofs.Common.{map, rules}
 use Rattle.cdi_differences.proofs.LineLemmas.{one_line_more}
+use Rattle.cdi_differences.specs.Holds.{shown_line}
 use Rattle.cdi_differences.proofs.line.table_of.Goals as goal
 
 pub loop-line-preserved-in_ok-insert : goal.loop-line-preserved-in_ok-insert

@@ -1,7 +1,6 @@
 use Rattle.std.proofs.Common.{◌≡◌, ℕ, List, map}
 use Rattle.std.specs.Option.{option_or}
-use Rattle.cdi_differences.specs.Differences.{text_at}
-use Rattle.cdi_differences.specs.Holds.{shown_line, text_in}
+use Rattle.cdi_differences.specs.{Differences.text_at, Holds.shown_line, Holds.text_in}
 use Rattle.cdi_differences.proofs.line.table_of.Given as goal
 
 abbrev pub invariant-loop-line : goal.invariant-loop-line

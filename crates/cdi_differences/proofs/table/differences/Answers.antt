@@ -1,6 +1,6 @@
 use Rattle.std.proofs.Common.{map}
-use Rattle.cdi_differences.specs.Differences.{shown}
 use Rattle.cdi_differences.proofs.ToldLemmas.{told}
+use Rattle.cdi_differences.specs.Differences.{shown}
 use Rattle.cdi_differences.proofs.table.differences.Goals as goal
 
 pub returns-clause-told : goal.returns-clause-told

@@ -1,6 +1,5 @@
 use Rattle.std.proofs.Common.{◌≡◌, ◌++◌, flat_map, map}
-use Rattle.cdi_differences.specs.Holds.{shown_line}
-use Rattle.cdi_differences.specs.Wiring.{chain_lines}
+use Rattle.cdi_differences.specs.{Holds.shown_line, Wiring.chain_lines}
 use Rattle.cdi_differences.proofs.wiring.add_chains.Given as goal
 
 abbrev pub invariant-loop-decl : goal.invariant-loop-decl

@@ -1,6 +1,5 @@
 use Rattle.std.proofs.Common.{◌≡◌, ◌++◌, drop, flat_map, map}
-use Rattle.cdi_differences.specs.Holds.{shown_line}
-use Rattle.cdi_differences.specs.Wiring.{chain_lines_at}
+use Rattle.cdi_differences.specs.{Holds.shown_line, Wiring.chain_lines_at}
 use Rattle.cdi_differences.proofs.wiring.add_chains_of.Given as goal
 
 abbrev pub invariant-loop-place : goal.invariant-loop-place

@@ -1,6 +1,5 @@
 use Rattle.std.proofs.Common.{◌≡◌, ◌∙◌, ◌++◌, OnOk, map, subst}
-use Rattle.cdi_differences.specs.Holds.{shown_line}
-use Rattle.cdi_differences.specs.Wiring.{fault_line}
+use Rattle.cdi_differences.specs.{Holds.shown_line, Wiring.fault_line}
 use Rattle.cdi_differences.proofs.wiring.add_faults.Goals as goal
 
 pub returns-in-Ok : goal.returns-in-Ok

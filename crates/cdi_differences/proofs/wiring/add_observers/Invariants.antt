@@ -1,6 +1,5 @@
 use Rattle.std.proofs.Common.{◌≡◌, ◌++◌, flat_map, map}
-use Rattle.cdi_differences.specs.Holds.{shown_line}
-use Rattle.cdi_differences.specs.Wiring.{observer_lines}
+use Rattle.cdi_differences.specs.{Holds.shown_line, Wiring.observer_lines}
 use Rattle.cdi_differences.proofs.wiring.add_observers.Given as goal
 
 abbrev pub invariant-loop-owner : goal.invariant-loop-owner

@@ -1,6 +1,5 @@
 use Rattle.std.proofs.Common.{◌≡◌, ◌++◌, flat_map, map}
-use Rattle.cdi_differences.specs.Holds.{shown_line}
-use Rattle.cdi_differences.specs.Wiring.{observer_lines, observer_lines_in}
+use Rattle.cdi_differences.specs.{Holds.shown_line, Wiring.observer_lines, Wiring.observer_lines_in}
 use Rattle.cdi_differences.proofs.wiring.add_observers_of.Given as goal
 
 abbrev pub invariant-loop-mention : goal.invariant-loop-mention

@@ -1,6 +1,5 @@
 use Rattle.std.proofs.Common.{◌≡◌, ◌++◌, flat_map, map}
-use Rattle.cdi_differences.specs.Holds.{shown_line}
-use Rattle.cdi_differences.specs.Wiring.{point_lines}
+use Rattle.cdi_differences.specs.{Holds.shown_line, Wiring.point_lines}
 use Rattle.cdi_differences.proofs.wiring.add_points.Given as goal
 
 abbrev pub invariant-loop-owner : goal.invariant-loop-owner

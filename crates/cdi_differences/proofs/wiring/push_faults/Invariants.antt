@@ -1,6 +1,5 @@
 use Rattle.std.proofs.Common.{◌≡◌, ◌++◌, map, take}
-use Rattle.cdi_differences.specs.Holds.{shown_line}
-use Rattle.cdi_differences.specs.Wiring.{fault_line}
+use Rattle.cdi_differences.specs.{Holds.shown_line, Wiring.fault_line}
 use Rattle.cdi_differences.proofs.wiring.push_faults.Given as goal
 
 abbrev pub invariant-loop-fault : goal.invariant-loop-fault

@@ -1,5 +1,5 @@
-use Rattle.std.proofs.Common.{◌≡◌, fold, take, string_bytes}
-use Rattle.cdi_differences.specs.Wiring.{joined, text_of_names}
+use Rattle.std.proofs.Common.{◌≡◌, take, string_bytes}
+use Rattle.cdi_differences.specs.Wiring.{text_of_names}
 use Rattle.cdi_differences.proofs.words.text_of_names.Given as goal
 
 abbrev pub invariant-loop-name : goal.invariant-loop-name

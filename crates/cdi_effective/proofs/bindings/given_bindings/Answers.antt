@@ -1,6 +1,5 @@
 use Rattle.cdi_effective.proofs.Common.{List, ap, ◌∙◌, Bor, option_to_list, find_stereotype, Qual, uses_in, stereotype_bindings, arith}
-use Rattle.cdi_effective.proofs.Common.{◌++◌, common_steps}
-use Rattle.std.proofs.Common.{flat_map}
+use Rattle.cdi_effective.proofs.Common.{◌++◌, common_steps, flat_map}
 use Rattle.cdi_effective.proofs.BindingLemmas.{given_by_stereotypes}
 use Rattle.cdi_effective.proofs.bindings.given_bindings.Goals as goal
 

@@ -1,5 +1,5 @@
 use Rattle.cdi_effective.proofs.Common.{◌≡◌, option_to_list, find_stereotype, stereotype_decls, uses_in, stereotype_bindings, ◌++◌}
-use Rattle.std.proofs.Common.{flat_map}
+use Rattle.cdi_effective.proofs.Common.{flat_map}
 use Rattle.cdi_effective.proofs.bindings.given_bindings.Given as goal
 
 abbrev pub invariant-loop-name : goal.invariant-loop-name

@@ -1,5 +1,5 @@
-use Rattle.base_lists.proofs.Places.{empty-from_length}
 use Rattle.cdi_effective.proofs.Common.{◌≡◌, [], length, sym, ap, ◌∙◌, uses_in, arith, common_steps, qualifiers_of, IfOk-weaker}
+use Rattle.base_lists.proofs.Places.{empty-from_length}
 use Rattle.cdi_effective.proofs.QualifierLemmas.{built-in-order}
 use Rattle.cdi_effective.proofs.qualifiers.qualifiers_of.Goals as goal
 

@@ -1,5 +1,4 @@
-use Rattle.cdi_effective.proofs.Common.{◌≡◌, ◌++◌, link_reads, chain_reads, beans_in}
-use Rattle.std.proofs.Common.{flat_map}
+use Rattle.cdi_effective.proofs.Common.{◌≡◌, ◌++◌, link_reads, chain_reads, beans_in, flat_map}
 use Rattle.cdi_effective.proofs.reads.push_chain_reads.Given as goal
 
 abbrev pub invariant-loop-other : goal.invariant-loop-other

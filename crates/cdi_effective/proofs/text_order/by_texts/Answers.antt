@@ -1,7 +1,7 @@
 use Rattle.cdi_effective.proofs.Common.{◌≡◌, ℕ, Bool, List, ap, ◌∙◌, Qual, nat_list_cmp_total, is_lt, ranks_by, byte_order, sorted_by}
 use Rattle.cdi_effective.proofs.Common.{is_before_in_text, rules, IfOk-weaker, always_returns_same, written_in}
-use Rattle.cdi_effective.specs.declared.written.Written.{Written}
 use Rattle.cdi_effective.proofs.SortLemmas.{sorted_from_sort, sorted_map}
+use Rattle.cdi_effective.specs.declared.written.Written.{Written}
 use Rattle.cdi_effective.proofs.text_order.by_texts.Goals as goal
 
 abbrev text : Written → List ℕ

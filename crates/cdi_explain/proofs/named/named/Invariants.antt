@@ -1,6 +1,5 @@
 use Rattle.std.proofs.Common.{◌≡◌, ◌++◌, drop, filter}
-use Rattle.cdi_explain.specs.Lent.{lent_in}
-use Rattle.cdi_explain.specs.Names.{has_name}
+use Rattle.cdi_explain.specs.{Lent.lent_in, Names.has_name}
 use Rattle.cdi_explain.proofs.named.named.Given as goal
 
 abbrev pub invariant-loop-bean : goal.invariant-loop-bean

@@ -1,7 +1,6 @@
 use Rattle.std.proofs.Common.{◌≡◌, subst, ap, ◌∙◌, IfOk, List}
-use Rattle.cdi_explain.specs.Lent.{lent_in}
-use Rattle.cdi_explain.specs.declared.verdict.Verdict.{Verdict}
 use Rattle.cdi_explain.proofs.NameLemmas.{judged}
+use Rattle.cdi_explain.specs.{Lent.lent_in, declared.verdict.Verdict.Verdict}
 use Rattle.cdi_explain.proofs.named.verdicts_on_name.Goals as goal
 
 pub returns-clause-verdicts : goal.returns-clause-verdicts

@@ -1,6 +1,6 @@
 use Rattle.std.proofs.Common.{subst}
-use Rattle.cdi_explain.specs.Counts.{AreApart}
 use Rattle.cdi_explain.proofs.FarLemmas.{far-apart, stays-nearest}
+use Rattle.cdi_explain.specs.Counts.{AreApart}
 use Rattle.cdi_explain.proofs.near.nearer_known.Goals as goal
 
 pub returns-then-are_apart-clause-near : goal.returns-then-are_apart-clause-near

@@ -1,7 +1,6 @@
 use Rattle.std.proofs.Common.{◌≡◌, ◌+◌, ◌≤◌, drop, filter, length, map}
 use Rattle.cdi_resolve.specs.Choices.{candidate}
-use Rattle.cdi_explain.specs.Lent.{lent_in}
-use Rattle.cdi_explain.specs.Verdicts.{is_kept_by}
+use Rattle.cdi_explain.specs.{Lent.lent_in, Verdicts.is_kept_by}
 use Rattle.cdi_explain.proofs.rivals.count_kept.Given as goal
 
 abbrev pub invariant-loop-bean : goal.invariant-loop-bean

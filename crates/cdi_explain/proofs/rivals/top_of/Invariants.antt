@@ -1,7 +1,6 @@
 use Rattle.std.proofs.Common.{◌≡◌, drop, fold, map}
 use Rattle.cdi_resolve.specs.Choices.{alternatives, candidate}
-use Rattle.cdi_explain.specs.Lent.{lent_in}
-use Rattle.cdi_explain.specs.Verdicts.{raise, top}
+use Rattle.cdi_explain.specs.{Lent.lent_in, Verdicts.raise, Verdicts.top}
 use Rattle.cdi_explain.proofs.rivals.top_of.Given as goal
 
 abbrev pub invariant-loop-bean : goal.invariant-loop-bean

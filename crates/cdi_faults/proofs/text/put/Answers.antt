@@ -1,9 +1,8 @@
 use Rattle.std.proofs.Common.{◌++◌, ◌∙◌, ap}
 use Rattle.std.specs.BTreeMap.{insert_entry}
 use Rattle.cdi_model.specs.Bytes.{byte_order}
-use Rattle.cdi_faults.specs.FaultText.{text_of_subject}
-use Rattle.cdi_faults.specs.TextTree.{entries_in}
 use Rattle.cdi_faults.proofs.TreeLemmas.{shown, shown-insert}
+use Rattle.cdi_faults.specs.{FaultText.text_of_subject, TextTree.entries_in}
 use Rattle.cdi_faults.proofs.text.put.Goals as goal
 
 pub returns : goal.returns

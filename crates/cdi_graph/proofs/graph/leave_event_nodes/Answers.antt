@@ -1,5 +1,4 @@
-use Rattle.std.proofs.Common.{rules}
-use Rattle.std.proofs.lemmas.Fn.{filter_same}
+use Rattle.cdi_graph.proofs.Common.{rules, filter_same}
 use Rattle.cdi_graph.proofs.graph.leave_event_nodes.Goals as goal
 
 pub returns : goal.returns

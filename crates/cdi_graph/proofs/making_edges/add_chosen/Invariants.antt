@@ -1,6 +1,4 @@
-use Rattle.std.proofs.Common.{◌≡◌, ◌++◌, drop}
-use Rattle.std.specs.List.{flat_map}
-use Rattle.cdi_graph.specs.Edges.{chosen}
+use Rattle.cdi_graph.proofs.Common.{◌≡◌, ◌++◌, drop, flat_map, chosen}
 use Rattle.cdi_graph.proofs.making_edges.add_chosen.Given as goal
 
 abbrev pub invariant-loop-wire : goal.invariant-loop-wire

@@ -1,5 +1,4 @@
-use Rattle.std.proofs.Common.{◌≡◌, filter}
-use Rattle.cdi_graph.specs.Edges.{is_choice, is_owned}
+use Rattle.cdi_graph.proofs.Common.{◌≡◌, filter, is_choice, is_owned}
 use Rattle.cdi_graph.proofs.making_edges.add_notified.Given as goal
 
 abbrev pub invariant-loop-observer : goal.invariant-loop-observer

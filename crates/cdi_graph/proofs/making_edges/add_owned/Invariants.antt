@@ -1,5 +1,4 @@
-use Rattle.std.proofs.Common.{◌≡◌, ◌++◌, drop, map}
-use Rattle.cdi_graph.specs.Edges.{owned}
+use Rattle.cdi_graph.proofs.Common.{◌≡◌, ◌++◌, drop, map, owned}
 use Rattle.cdi_graph.proofs.making_edges.add_owned.Given as goal
 
 abbrev pub invariant-loop-wire : goal.invariant-loop-wire

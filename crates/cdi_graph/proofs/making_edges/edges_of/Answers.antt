@@ -1,6 +1,4 @@
-use Rattle.std.proofs.Common.{◌++◌, filter, ap, ◌∙◌}
-use Rattle.std.specs.List.{flat_map}
-use Rattle.cdi_graph.specs.Edges.{chosen, is_choice, is_owned}
+use Rattle.cdi_graph.proofs.Common.{◌++◌, filter, ap, ◌∙◌, flat_map, chosen, is_choice, is_owned}
 use Rattle.cdi_graph.proofs.SortLemmas.{choices_among, owned_among}
 use Rattle.cdi_graph.proofs.making_edges.edges_of.Goals as goal
 

@@ -1,5 +1,4 @@
-use Rattle.std.proofs.Common.{◌≡◌, filter}
-use Rattle.cdi_graph.specs.Nodes.{is_bean, is_point}
+use Rattle.cdi_graph.proofs.Common.{◌≡◌, filter, is_bean, is_point}
 use Rattle.cdi_graph.proofs.making_nodes.add_events.Given as goal
 
 abbrev pub invariant-loop-one : goal.invariant-loop-one

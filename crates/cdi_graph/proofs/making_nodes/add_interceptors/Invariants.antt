@@ -1,4 +1,4 @@
-use Rattle.std.proofs.Common.{◌≡◌, ◌++◌, drop, map}
+use Rattle.cdi_graph.proofs.Common.{◌≡◌, ◌++◌, drop, map}
 use Rattle.cdi_graph.specs.declared.node.Node.TheVariants as nodes
 use Rattle.cdi_graph.proofs.making_nodes.add_interceptors.Given as goal
 

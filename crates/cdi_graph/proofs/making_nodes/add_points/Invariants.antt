@@ -1,6 +1,5 @@
-use Rattle.std.proofs.Common.{◌≡◌, ◌++◌, List, drop, map}
-use Rattle.cdi_faults.specs.declared.fault.Fault.{Fault}
-use Rattle.cdi_graph.specs.Red.{point_node, HoldsRed}
+use Rattle.cdi_graph.proofs.Common.{◌≡◌, ◌++◌, List, drop, map, Fault, point_node}
+use Rattle.cdi_graph.specs.Red.{HoldsRed}
 use Rattle.cdi_graph.proofs.making_nodes.add_points.Given as goal
 
 abbrev pub invariant-loop-wire : goal.invariant-loop-wire

@@ -1,8 +1,6 @@
-use Rattle.std.proofs.Common.{◌++◌, map, filter, ap, ◌∙◌}
-use Rattle.cdi_graph.specs.declared.node.Node.TheVariants as nodes
-use Rattle.cdi_graph.specs.Nodes.{is_bean, is_point}
-use Rattle.cdi_graph.specs.Red.{point_node}
+use Rattle.cdi_graph.proofs.Common.{◌++◌, map, filter, ap, ◌∙◌, is_bean, is_point, point_node}
 use Rattle.cdi_graph.proofs.SortLemmas.{beans_among, points_among}
+use Rattle.cdi_graph.specs.declared.node.Node.TheVariants as nodes
 use Rattle.cdi_graph.proofs.making_nodes.nodes_of.Goals as goal
 
 pub returns-clause-points : goal.returns-clause-points

@@ -1,8 +1,4 @@
-use Rattle.std.proofs.Common.{◌≡◌, take}
-use Rattle.indexmap.specs.IndexSet.{contains}
-use Rattle.cdi_graph.specs.declared.node.PointId.{PointId}
-use Rattle.cdi_graph.specs.Red.{is_ambiguous}
-use Rattle.cdi_graph.specs.SamePoint.{same_point}
+use Rattle.cdi_graph.proofs.Common.{◌≡◌, take, contains, PointId, is_ambiguous, same_point}
 use Rattle.cdi_graph.proofs.red.ambiguous_points.Given as goal
 
 abbrev pub invariant-loop-fault : goal.invariant-loop-fault

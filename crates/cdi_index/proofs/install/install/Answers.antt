@@ -1,6 +1,6 @@
-use Rattle.base_lists.proofs.Places.{empty-from_length}
 use Rattle.cdi_index.proofs.Common.{◌≡◌, [], ◌∷◌, ap, ◌∙◌, DeclKey, same_key, inl, inr, stored, ◌+◌, cond, length, applied, stored_as}
 use Rattle.cdi_index.proofs.Common.{arith, length-append}
+use Rattle.base_lists.proofs.Places.{empty-from_length}
 use Rattle.cdi_index.proofs.ChangeLemmas.{applied-next}
 use Rattle.cdi_index.proofs.InstallLemmas.{free-left, sound-left}
 use Rattle.cdi_index.proofs.install.install.Goals as goal

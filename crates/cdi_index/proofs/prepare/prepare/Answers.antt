@@ -2,12 +2,11 @@ use Rattle.cdi_index.proofs.Common.{◌≡◌, List, map, refl, sym, ap, ◌∙�
 use Rattle.cdi_index.proofs.Common.{Change, change_of, arith, length-map, keys_changed, turned, subst, lookup, get, touches, is_at_stake}
 use Rattle.cdi_index.proofs.Common.{records_after, Tells}
 use Rattle.cdi_model.specs.declared.decl.Kind.TheVariants as kinds
-use Rattle.cdi_index.specs.Counted.{raised}
-use Rattle.cdi_index.specs.State.{Drafted}
 use Rattle.cdi_index.proofs.KeyLemmas.{keys-made}
 use Rattle.cdi_index.proofs.NextLemmas.{affected-hits, counted, exact-same, kept-of-others, prepared, shelf-same, sound-same}
 use Rattle.cdi_index.proofs.ReplacedLemmas.{turned-are}
 use Rattle.cdi_index.proofs.ToldLemmas.{tells}
+use Rattle.cdi_index.specs.{Counted.raised, State.Drafted}
 use Rattle.cdi_index.proofs.prepare.prepare.Goals as goal
 
 pub change_affected-requires-clause-kept : goal.change_affected-requires-clause-kept

@@ -1,10 +1,9 @@
 use Rattle.cdi_index.proofs.Common.{◌≡◌, ℕ, Bool, false, ◌||◌, List, [], ◌∷◌, Option, Some, None, refl, sym, ap, ◌∙◌, list_any}
 use Rattle.cdi_index.proofs.Common.{option_map_or, Word, under, ◌+◌, length, is_some, ◌<◌, arith, ◌≤◌, get_or, take, list_any_more}
-use Rattle.cdi_index.proofs.Common.{take_all}
+use Rattle.cdi_index.proofs.Common.{take_all, or-false}
 use Rattle.std.proofs.Common.{IfSome}
-use Rattle.std.proofs.Math.Bool.{or-false}
-use Rattle.cdi_index.proofs.under.only_slot.Goals as goal
 use Rattle.cdi_index.proofs.under.only_slot.Goals.{in-empty, in-len1}
+use Rattle.cdi_index.proofs.under.only_slot.Goals as goal
 
 none-listed : (p : ℕ → Bool) (slots : List ℕ) → length slots < 1 → list_any p slots ≡ false
 none-listed p [] few = refl

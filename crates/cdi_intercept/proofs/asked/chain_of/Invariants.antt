@@ -1,7 +1,6 @@
 use Rattle.std.proofs.Common.{◌≡◌, ◌++◌, map}
 use Rattle.cdi_match.specs.Bindings.{uses_in}
-use Rattle.cdi_intercept.specs.Chains.{chain_by}
-use Rattle.cdi_intercept.specs.Lent.{lent_in}
+use Rattle.cdi_intercept.specs.{Chains.chain_by, Lent.lent_in}
 use Rattle.cdi_intercept.proofs.asked.chain_of.Given as goal
 
 abbrev pub invariant-loop-interceptor : goal.invariant-loop-interceptor

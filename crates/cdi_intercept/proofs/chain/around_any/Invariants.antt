@@ -1,6 +1,5 @@
 use Rattle.std.proofs.Common.{◌≡◌, ◌++◌, drop, filter, map}
-use Rattle.cdi_intercept.specs.Chains.{surrounds_one}
-use Rattle.cdi_intercept.specs.Lent.{lent_in, uses_at}
+use Rattle.cdi_intercept.specs.{Chains.surrounds_one, Lent.lent_in, Lent.uses_at}
 use Rattle.cdi_intercept.proofs.chain.around_any.Given as goal
 
 abbrev pub invariant-loop-interceptor : goal.invariant-loop-interceptor

@@ -1,7 +1,6 @@
 use Rattle.std.proofs.Common.{◌≡◌, ◌++◌, drop, filter}
 use Rattle.cdi_match.specs.Bindings.{uses_in}
-use Rattle.cdi_intercept.specs.Chains.{surrounds}
-use Rattle.cdi_intercept.specs.Lent.{lent_in}
+use Rattle.cdi_intercept.specs.{Chains.surrounds, Lent.lent_in}
 use Rattle.cdi_intercept.proofs.chain.chain_among.Given as goal
 
 abbrev pub invariant-loop-interceptor : goal.invariant-loop-interceptor

@@ -1,6 +1,5 @@
 use Rattle.std.proofs.Common.{◌≡◌, ◌++◌, filter}
-use Rattle.cdi_intercept.specs.Chains.{interceptors, is_enabled}
-use Rattle.cdi_intercept.specs.Lent.{lent_in}
+use Rattle.cdi_intercept.specs.{Chains.interceptors, Chains.is_enabled, Lent.lent_in}
 use Rattle.cdi_intercept.proofs.chain.enabled.Given as goal
 
 abbrev pub invariant-loop-decl : goal.invariant-loop-decl

@@ -1,14 +1,9 @@
-use Rattle.std.proofs.Common.{◌≡◌, ap, ◌∙◌, rules}
-use Rattle.std.specs.Borrow.{Bor}
-use Rattle.std.specs.Cmp.{int_cmp_total}
-use Rattle.std.specs.Cmp.Lexicographic.{options_total}
-use Rattle.std.specs.Prelude.{ℤ, Option}
-use Rattle.std.proofs.lemmas.Fn.{always_returns_same}
-use Rattle.std.proofs.lemmas.List.Sorted.{ranks_by}
+use Rattle.std.proofs.Common.{◌≡◌, ap, ◌∙◌, rules, Option}
+use Rattle.std.specs.{Borrow.Bor, Cmp.int_cmp_total, Cmp.Lexicographic.options_total, Prelude.ℤ}
+use Rattle.std.proofs.lemmas.{Fn.always_returns_same, List.Sorted.ranks_by}
 use Rattle.cdi_model.specs.declared.decl.InterceptorDecl.{InterceptorDecl}
 use Rattle.cdi_effective.proofs.SortLemmas.{sorted_from_sort, sorted_map}
-use Rattle.cdi_intercept.specs.Chains.{is_before}
-use Rattle.cdi_intercept.specs.Lent.{lent_in}
+use Rattle.cdi_intercept.specs.{Chains.is_before, Lent.lent_in}
 use Rattle.cdi_intercept.proofs.chain.sorted_by_priority.Goals as goal
 
 abbrev key : Bor InterceptorDecl → Option ℤ

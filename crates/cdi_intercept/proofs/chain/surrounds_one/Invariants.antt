@@ -1,6 +1,5 @@
 use Rattle.std.proofs.Common.{◌≡◌, drop, map}
-use Rattle.cdi_intercept.specs.Chains.{surrounds_one}
-use Rattle.cdi_intercept.specs.Lent.{uses_at}
+use Rattle.cdi_intercept.specs.{Chains.surrounds_one, Lent.uses_at}
 use Rattle.cdi_intercept.proofs.chain.surrounds_one.Given as goal
 
 abbrev pub invariant-loop-place : goal.invariant-loop-place

@@ -3,8 +3,8 @@ use Rattle.std.specs.BTreeMap.{get}
 use Rattle.cdi_model.specs.Bytes.{byte_order}
 use Rattle.cdi_match.specs.Bindings.{uses_in}
 use Rattle.cdi_match.proofs.Names.{at_name}
-use Rattle.cdi_intercept.specs.Conflicts.{differs, use_at}
 use Rattle.cdi_intercept.proofs.ConflictLemmas.{differ-first, differ-more, put-at}
+use Rattle.cdi_intercept.specs.Conflicts.{differs, use_at}
 use Rattle.cdi_intercept.proofs.conflict.has_conflict.Goals as goal
 
 pub loop-index-init : goal.loop-index-init

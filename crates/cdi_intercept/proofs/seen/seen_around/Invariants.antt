@@ -1,6 +1,5 @@
 use Rattle.std.proofs.Common.{◌≡◌, ◌++◌, drop, filter}
-use Rattle.cdi_intercept.specs.Lent.{lent_in}
-use Rattle.cdi_intercept.specs.Sees.{is_seen}
+use Rattle.cdi_intercept.specs.{Lent.lent_in, Sees.is_seen}
 use Rattle.cdi_intercept.proofs.seen.seen_around.Given as goal
 
 abbrev pub invariant-loop-interceptor : goal.invariant-loop-interceptor

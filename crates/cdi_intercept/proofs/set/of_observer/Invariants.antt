@@ -1,6 +1,5 @@
 use Rattle.std.proofs.Common.{◌≡◌, drop}
-use Rattle.std.specs.List.{find}
-use Rattle.std.specs.Str.{bytes_eq}
+use Rattle.std.specs.{List.find, Str.bytes_eq}
 use Rattle.cdi_intercept.proofs.set.of_observer.Given as goal
 
 abbrev pub invariant-loop-observer : goal.invariant-loop-observer

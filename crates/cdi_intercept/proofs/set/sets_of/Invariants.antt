@@ -1,6 +1,5 @@
 use Rattle.std.proofs.Common.{◌≡◌, map, take}
-use Rattle.cdi_intercept.specs.Lent.{uses_at}
-use Rattle.cdi_intercept.specs.Sets.{with_set}
+use Rattle.cdi_intercept.specs.{Lent.uses_at, Sets.with_set}
 use Rattle.cdi_intercept.proofs.set.sets_of.Given as goal
 
 abbrev pub invariant-loop-place : goal.invariant-loop-place

@@ -1,5 +1,5 @@
-use Rattle.cdi_live.proofs.Common.{◌≡◌, ◌&&◌, List, ap, ◌∙◌, list_any, bytes_eq, BeanPlace, ℕ, parts_under, same_place, goes}
-use Rattle.cdi_live.proofs.Common.{is_gone_chain, AreGoneChains, IfOk-weaker}
+use Rattle.cdi_live.proofs.Common.{◌≡◌, ◌&&◌, List, ap, ◌∙◌, list_any, bytes_eq, BeanPlace, ℕ, parts_under, same_place, goes, is_gone_chain}
+use Rattle.cdi_live.proofs.Common.{AreGoneChains, IfOk-weaker}
 use Rattle.cdi_live.proofs.ChainGoneLemmas.{chains-between}
 use Rattle.cdi_live.proofs.chain_stage.gone_chains_after.Goals as goal
 

@@ -1,6 +1,5 @@
-use Rattle.std.proofs.Math.Bool.{or_assoc}
-use Rattle.cdi_live.proofs.Common.{◌≡◌, Bool, true, false, refl, ap, ◌∙◌, list_any, bytes_eq, ◌||◌, key_at, brings_to, classes_bound}
-use Rattle.cdi_live.proofs.Common.{is_bound_by, holds, contains}
+use Rattle.cdi_live.proofs.Common.{or_assoc, ap, ◌∙◌, list_any, bytes_eq, ◌||◌, key_at, brings_to, classes_bound, is_bound_by, holds}
+use Rattle.cdi_live.proofs.Common.{contains}
 use Rattle.cdi_model.specs.declared.decl.Kind.TheVariants as kinds
 use Rattle.cdi_live.proofs.ReaderLemmas.{of-readers}
 use Rattle.cdi_live.proofs.chain_suspects.add_intercepted.Goals as goal

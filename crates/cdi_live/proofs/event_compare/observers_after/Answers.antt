@@ -1,7 +1,7 @@
-use Rattle.cdi_live.proofs.Common.{◌≡◌, false, List, map, filter, sym, ap, ◌∙◌, Decl, ℕ, flat_map, Some, AreDistinct, Effective}
-use Rattle.cdi_live.proofs.Common.{slice_get, beans, is_marked, marked_from, records_at, types_of, sorted_by, observes_one, is_before}
-use Rattle.cdi_live.proofs.Common.{observers, observes, observing, IfOk-weaker}
-use Rattle.cdi_observe.specs.Lent.{lent_in}
+use Rattle.cdi_live.proofs.Common.{◌≡◌, false, List, map, filter, sym, ap, ◌∙◌, Decl, ℕ, flat_map, Some, AreDistinct, Effective, slice_get}
+use Rattle.cdi_live.proofs.Common.{beans, is_marked, marked_from, records_at, types_of, sorted_by, observes_one, observers, observes}
+use Rattle.cdi_live.proofs.Common.{observing, IfOk-weaker}
+use Rattle.cdi_observe.specs.{Observers.is_before, Lent.lent_in}
 use Rattle.cdi_live.proofs.EventCompareLemmas.{seen-after}
 use Rattle.cdi_live.proofs.event_compare.observers_after.Goals as goal
 

@@ -1,6 +1,6 @@
 use Rattle.cdi_live.proofs.Common.{◌≡◌, List, map, filter, ap, ◌∙◌, ℕ, flat_map, AreDistinct, Effective, beans, entries, types_of}
-use Rattle.cdi_live.proofs.Common.{sorted_by, observes_one, is_before, observers, observes, observing, IfOk-weaker}
-use Rattle.cdi_observe.specs.Lent.{lent_in}
+use Rattle.cdi_live.proofs.Common.{sorted_by, observes_one, observers, observes, observing, IfOk-weaker}
+use Rattle.cdi_observe.specs.{Observers.is_before, Lent.lent_in}
 use Rattle.cdi_live.proofs.EventCompareLemmas.{seen-before}
 use Rattle.cdi_live.proofs.event_compare.observing_before.Goals as goal
 

@@ -1,5 +1,5 @@
-use Rattle.cdi_live.proofs.Common.{◌≡◌, false, map, sym, ap, ◌∙◌, list_any, ℕ, ◌||◌, option_map_or, word_at, has_one, slice_get}
-use Rattle.cdi_live.proofs.Common.{is_listed, is_marked, marked_from, is_place_of_one}
+use Rattle.cdi_live.proofs.Common.{◌≡◌, false, map, sym, ap, ◌∙◌, list_any, ℕ, ◌||◌, option_map_or, word_at, has_one, slice_get, is_listed}
+use Rattle.cdi_live.proofs.Common.{is_marked, marked_from, is_place_of_one}
 use Rattle.cdi_postings.specs.declared.word.Reason.TheVariants as reasons
 use Rattle.cdi_live.proofs.EventCompareLemmas.{unobserved}
 use Rattle.cdi_live.proofs.event_compare.positions_observing.Goals as goal

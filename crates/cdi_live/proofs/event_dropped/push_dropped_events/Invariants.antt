@@ -1,4 +1,5 @@
-use Rattle.cdi_live.proofs.Common.{◌≡◌, List, list_any, Qual, ℕ, ◌||◌, is_dropped_at, is_gone, take, drops_before}
+use Rattle.cdi_live.proofs.Common.{◌≡◌, List, list_any, Qual, ℕ, ◌||◌, is_gone, take, drops_before}
+use Rattle.cdi_live.specs.EventDropped.{is_dropped_at}
 use Rattle.cdi_live.proofs.event_dropped.push_dropped_events.Given as goal
 
 abbrev pub invariant-loop-key : goal.invariant-loop-key

@@ -1,6 +1,6 @@
-use Rattle.cdi_live.proofs.Common.{refl, ap, ◌∙◌, list_any, bytes_eq, ◌||◌, is_dropped_at, drops_before}
-use Rattle.cdi_live.specs.declared.event_dropped.EventWants.{EventWants}
+use Rattle.cdi_live.proofs.Common.{refl, ap, ◌∙◌, list_any, bytes_eq, ◌||◌, drops_before}
 use Rattle.cdi_live.proofs.EventGoneLemmas.{gone-between}
+use Rattle.cdi_live.specs.{EventDropped.is_dropped_at, declared.event_dropped.EventWants.EventWants}
 use Rattle.cdi_live.proofs.event_stage.gone_events_after.Goals as goal
 
 pub returns : goal.returns

@@ -1,5 +1,4 @@
-use Rattle.std.proofs.Math.Bool.{or_assoc}
-use Rattle.cdi_live.proofs.Common.{◌≡◌, Bool, true, false, refl, sym, ap, ◌∙◌, bytes_eq, ◌||◌, holds, arith, keys_of, take, contains}
+use Rattle.cdi_live.proofs.Common.{or_assoc, sym, ap, ◌∙◌, bytes_eq, ◌||◌, holds, arith, keys_of, take, contains}
 use Rattle.cdi_live.proofs.PartLemmas.{any-next, take-whole, within}
 use Rattle.cdi_live.proofs.event_suspects.add_kept.Goals as goal
 

@@ -1,5 +1,5 @@
-use Rattle.cdi_live.proofs.Common.{◌≡◌, filter, ap, ◌∙◌, in_order, is_seen, sorted_by, IfOk-weaker, lent_in}
-use Rattle.cdi_intercept.specs.Chains.{is_before}
+use Rattle.cdi_live.proofs.Common.{◌≡◌, filter, ap, ◌∙◌, in_order, is_seen, sorted_by, IfOk-weaker}
+use Rattle.cdi_intercept.specs.{Lent.lent_in, Chains.is_before}
 use Rattle.cdi_live.proofs.InterceptorLemmas.{seen-gathered}
 use Rattle.cdi_live.proofs.interceptors.seen_at.Goals as goal
 

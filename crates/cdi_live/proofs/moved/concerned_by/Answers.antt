@@ -1,9 +1,8 @@
 use Rattle.cdi_live.proofs.Common.{◌≡◌, refl, DeclKey, is_among, IfOk-weaker}
-use Rattle.cdi_concern.specs.Concern.{is_concerned}
-use Rattle.cdi_concern.specs.declared.moved.Moved.{Moved}
-use Rattle.cdi_live.specs.Concerned.{AreConcerned}
 use Rattle.cdi_live.proofs.MovedLemmas.{classes-moved, types-moved}
+use Rattle.cdi_live.specs.Concerned.{AreConcerned}
 use Rattle.cdi_live.proofs.moved.concerned_by.Goals as goal
+use Rattle.cdi_concern.specs.{Concern.is_concerned, declared.moved.Moved.Moved}
 
 pub returns : goal.returns
 returns c =

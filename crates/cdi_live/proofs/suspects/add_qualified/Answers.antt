@@ -1,5 +1,4 @@
-use Rattle.cdi_live.proofs.Common.{[], ◌∷◌, ap, ◌∙◌, bytes_eq, ◌||◌, word_at, has_one, holds, arith, walk, concerned, contains}
-use Rattle.std.specs.List.{slice_get}
+use Rattle.cdi_live.proofs.Common.{[], ◌∷◌, ap, ◌∙◌, bytes_eq, ◌||◌, word_at, has_one, holds, arith, walk, concerned, contains, slice_get}
 use Rattle.cdi_postings.specs.declared.word.Reason.TheVariants as reasons
 use Rattle.cdi_live.proofs.suspects.add_qualified.Goals as goal
 

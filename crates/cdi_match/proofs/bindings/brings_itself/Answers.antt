@@ -1,5 +1,5 @@
-use Rattle.cdi_match.specs.declared.followers.Links.TheVariants.{Bindings}
 use Rattle.cdi_match.proofs.SearchLemmas.{circle_means}
+use Rattle.cdi_match.specs.declared.followers.Links.TheVariants.{Bindings}
 use Rattle.cdi_match.proofs.bindings.brings_itself.Goals as goal
 
 pub returns-clause-meaning : goal.returns-clause-meaning

@@ -1,5 +1,4 @@
-use Rattle.std.proofs.Common.{◌≡◌, ◌++◌, take}
-use Rattle.cdi_match.specs.Bindings.{uses_in}
+use Rattle.cdi_match.proofs.Common.{◌≡◌, ◌++◌, take, uses_in}
 use Rattle.cdi_match.proofs.bindings.push_uses.Given as goal
 
 abbrev pub invariant-loop-binding : goal.invariant-loop-binding

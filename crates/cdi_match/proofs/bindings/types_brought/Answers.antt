@@ -1,9 +1,5 @@
-use Rattle.std.proofs.Common.{arith, ◌≡◌, ℕ, List, map, sym, ap, ◌∙◌}
-use Rattle.std.proofs.lemmas.Grind.{common_steps}
-use Rattle.std.proofs.lemmas.Result.{IfOk-weaker}
-use Rattle.cdi_model.specs.Quals.{name_of_use}
-use Rattle.cdi_match.specs.Bindings.{brings_type, uses_in}
-use Rattle.cdi_match.specs.Chain.{has}
+use Rattle.cdi_match.proofs.Common.{arith, ◌≡◌, ℕ, List, map, sym, ap, ◌∙◌, common_steps, IfOk-weaker, name_of_use, brings_type, uses_in}
+use Rattle.cdi_match.proofs.Common.{has}
 use Rattle.cdi_match.proofs.BindingLemmas.{types_brought-is}
 use Rattle.cdi_match.proofs.Names.{has-by_order}
 use Rattle.cdi_match.proofs.SearchLemmas.{led_to-binding}

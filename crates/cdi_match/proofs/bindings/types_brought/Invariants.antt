@@ -1,6 +1,4 @@
-use Rattle.std.proofs.Common.{◌≡◌, map, take}
-use Rattle.cdi_model.specs.Quals.{name_of_use}
-use Rattle.cdi_match.specs.Bindings.{uses_in}
+use Rattle.cdi_match.proofs.Common.{◌≡◌, map, take, name_of_use, uses_in}
 use Rattle.cdi_match.proofs.bindings.types_brought.Given as goal
 
 abbrev pub invariant-loop-binding : goal.invariant-loop-binding

@@ -1,6 +1,5 @@
-use Rattle.std.proofs.Common.{◌≡◌, length, ap, arith}
+use Rattle.cdi_match.proofs.Common.{◌≡◌, length, ap, arith, uses_in}
 use Rattle.std.proofs.lemmas.List.{nil_from_length}
-use Rattle.cdi_match.specs.Bindings.{uses_in}
 use Rattle.cdi_match.proofs.BindingLemmas.{brought_are_these, none_brought}
 use Rattle.cdi_match.proofs.bindings.with_brought.Goals as goal
 

@@ -1,5 +1,4 @@
-use Rattle.std.proofs.Common.{◌≡◌, ◌++◌, flat_map}
-use Rattle.cdi_match.specs.Bindings.{brought, uses_in, with_brought}
+use Rattle.cdi_match.proofs.Common.{◌≡◌, ◌++◌, flat_map, brought, uses_in, with_brought}
 use Rattle.cdi_match.proofs.bindings.with_brought.Given as goal
 
 abbrev pub invariant-loop-name : goal.invariant-loop-name

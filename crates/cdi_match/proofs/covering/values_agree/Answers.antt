@@ -1,9 +1,6 @@
-use Rattle.std.proofs.Common.{◌≡◌, [], ◌∷◌, ◌++◌, length, refl, sym, ap, ◌∙◌, arith}
-use Rattle.std.specs.List.{list_all}
-use Rattle.std.specs.Map.{keys_of}
+use Rattle.cdi_match.proofs.Common.{◌≡◌, [], ◌∷◌, ◌++◌, length, refl, sym, ap, ◌∙◌, arith, list_all, keys_of, Values, declared_of, counted}
 use Rattle.std.proofs.lemmas.Bool.{eqb-true}
-use Rattle.cdi_match.specs.Filling.{Values, declared_of}
-use Rattle.cdi_match.specs.Covering.{agree_filled, counted}
+use Rattle.cdi_match.specs.Covering.{agree_filled}
 use Rattle.cdi_match.proofs.covering.values_agree.Goals as goal
 
 none_in : (values : Values) → length values ≡ 0 → keys_of values ≡ []

@@ -1,5 +1,4 @@
-use Rattle.std.proofs.Common.{◌≡◌, length}
-use Rattle.cdi_match.specs.Walk.{declared_among}
+use Rattle.cdi_match.proofs.Common.{◌≡◌, length, declared_among}
 use Rattle.cdi_match.proofs.walk.first_declared.Given as goal
 
 abbrev pub invariant-undeclared : goal.invariant-undeclared

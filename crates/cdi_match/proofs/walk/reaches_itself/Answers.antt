@@ -1,7 +1,4 @@
-use Rattle.std.proofs.Common.{is_some, position, ap, sym, ◌∙◌}
-use Rattle.cdi_model.specs.DeclList.{find_decl, is_of}
-use Rattle.cdi_match.specs.Search.{next_of}
-use Rattle.cdi_match.specs.Walk.{declared_among, has_mark}
+use Rattle.cdi_match.proofs.Common.{is_some, position, ap, sym, ◌∙◌, find_decl, is_of, next_of, declared_among, has_mark}
 use Rattle.cdi_match.proofs.WalkLemmas.{back-none, walk-all, walk-sound}
 use Rattle.cdi_match.proofs.walk.reaches_itself.Goals as goal
 

@@ -1,5 +1,4 @@
-use Rattle.cdi_match.specs.Search.{next_of}
-use Rattle.cdi_match.specs.Walk.{HasMarks, IsWalking, tasks}
+use Rattle.cdi_match.proofs.Common.{next_of, HasMarks, IsWalking, tasks}
 use Rattle.cdi_match.proofs.walk.reaches_itself.Given as goal
 
 abbrev pub invariant-taken : goal.invariant-taken

@@ -1,12 +1,9 @@
 use Rattle.std.proofs.Common.{not, cond, Some, sym, ap, ◌∙◌, subst}
-use Rattle.std.specs.Map.{lookup}
-use Rattle.std.specs.Option.{IsSome, is_some, option_copied_mut}
-use Rattle.std.specs.Str.{bytes_eq}
+use Rattle.std.specs.{Map.lookup, Option.IsSome, Option.is_some, Option.option_copied_mut, Str.bytes_eq}
 use Rattle.indexmap.specs.IndexMap.{get}
 use Rattle.base_options.proofs.Results.{OnErr-from}
-use Rattle.cdi_memo.specs.Answers.{answers_in}
-use Rattle.cdi_memo.specs.Laws.{NamesHaveParts}
 use Rattle.cdi_memo.proofs.ChangeLemmas.{answer_at, answer-in, changed, named, once, some-there, stays-there, turned}
+use Rattle.cdi_memo.specs.{Answers.answers_in, Laws.NamesHaveParts}
 use Rattle.cdi_memo.proofs.memo.keep_in.Goals as goal
 
 pub returns-in_err-old-clause-err : goal.returns-in_err-old-clause-err

@@ -1,13 +1,11 @@
 use Rattle.std.proofs.Common.{cond, Some, None, sym, ap, ◌∙◌}
-use Rattle.std.specs.Map.{lookup}
-use Rattle.std.specs.Option.{IsSome, is_some, option_copied_mut}
-use Rattle.std.specs.Str.{bytes_eq}
+use Rattle.std.specs.{Map.lookup, Option.IsSome, Option.is_some, Option.option_copied_mut, Str.bytes_eq}
 use Rattle.std.proofs.lemmas.List.{nil_from_length}
 use Rattle.indexmap.specs.IndexMap.{get}
 use Rattle.base_options.proofs.Booleans.{cond-twice}
-use Rattle.cdi_memo.specs.Answers.{answer, answers_in}
 use Rattle.cdi_memo.proofs.ChangeLemmas.{absent, answer_at, answer-in, changed, named, not-empty, once}
 use Rattle.cdi_memo.proofs.QuestionLemmas.{differ-nil}
+use Rattle.cdi_memo.specs.Answers.{answer, answers_in}
 use Rattle.cdi_memo.proofs.memo.remove_in.Goals as goal
 
 pub returns-in_default-clause-removed : goal.returns-in_default-clause-removed

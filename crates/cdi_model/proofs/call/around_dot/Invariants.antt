@@ -1,5 +1,4 @@
-use Rattle.std.proofs.Common.{◌≡◌, ◌++◌, take, drop, option_map}
-use Rattle.cdi_model.specs.CallText.{around_dot}
+use Rattle.cdi_model.proofs.Common.{◌≡◌, ◌++◌, take, drop, option_map, around_dot}
 use Rattle.cdi_model.proofs.call.around_dot.Given as goal
 
 abbrev pub invariant-loop-index : goal.invariant-loop-index

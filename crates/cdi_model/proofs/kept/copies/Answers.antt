@@ -1,4 +1,4 @@
-use Rattle.std.proofs.Common.{◌≡◌, map, arith}
+use Rattle.cdi_model.proofs.Common.{◌≡◌, map, arith}
 use Rattle.std.proofs.lemmas.Grind.{common_steps}
 use Rattle.cdi_model.proofs.ReplacedLemmas.{pair_of, same-changed, same-marked}
 use Rattle.cdi_model.proofs.kept.copies.Goals as goal

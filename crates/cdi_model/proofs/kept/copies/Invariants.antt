@@ -1,4 +1,4 @@
-use Rattle.std.proofs.Common.{◌≡◌, ◌++◌, drop, map}
+use Rattle.cdi_model.proofs.Common.{◌≡◌, ◌++◌, drop, map}
 use Rattle.cdi_model.proofs.ReplacedLemmas.{pair_of}
 use Rattle.cdi_model.proofs.kept.copies.Given as goal
 

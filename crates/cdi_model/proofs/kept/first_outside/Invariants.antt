@@ -1,5 +1,4 @@
-use Rattle.std.proofs.Common.{◌≡◌, ◌<◌, ◌≤◌, ℕ, true}
-use Rattle.cdi_positions.specs.Marks.{is_marked}
+use Rattle.cdi_model.proofs.Common.{◌≡◌, ◌<◌, ◌≤◌, ℕ, true, is_marked}
 use Rattle.cdi_model.proofs.kept.first_outside.Given as goal
 
 abbrev pub invariant-loop-place : goal.invariant-loop-place

@@ -1,5 +1,4 @@
-use Rattle.std.proofs.Common.{position, sym, ap, ◌∙◌}
-use Rattle.cdi_model.specs.Layers.{changed_by, is_at}
+use Rattle.cdi_model.proofs.Common.{position, sym, ap, ◌∙◌, changed_by, is_at}
 use Rattle.cdi_model.proofs.PlaceLemmas.{First-position, Nowhere-position}
 use Rattle.cdi_model.proofs.ReplacedLemmas.{replaced_again, replaced_more}
 use Rattle.cdi_model.proofs.kept.put_at.Goals as goal

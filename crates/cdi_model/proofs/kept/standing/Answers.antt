@@ -1,6 +1,5 @@
-use Rattle.std.proofs.Common.{slice_index_or, sym, ◌∙◌}
+use Rattle.cdi_model.proofs.Common.{slice_index_or, sym, ◌∙◌, is_at}
 use Rattle.std.proofs.lemmas.Option.{slice_get_within}
-use Rattle.cdi_model.specs.Layers.{is_at}
 use Rattle.cdi_model.proofs.PlaceLemmas.{First-position, First-get, Nowhere-position}
 use Rattle.cdi_model.proofs.ReplacedLemmas.{replaced_first, replaced_nowhere, replaced_past, unmarked-nowhere}
 use Rattle.cdi_model.proofs.kept.standing.Goals as goal

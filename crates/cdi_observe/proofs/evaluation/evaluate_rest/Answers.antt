@@ -1,6 +1,5 @@
-use Rattle.base_options.proofs.Results.{OnErr-from}
-use Rattle.cdi_observe.proofs.Common.{◌≡◌, List, map, ap, ◌∙◌, AllByRecursion, flat_map, Decl, take, list_all, evaluated, wanted_by}
-use Rattle.cdi_observe.proofs.Common.{asked_key}
+use Rattle.cdi_observe.proofs.Common.{OnErr-from, ◌≡◌, List, map, ap, ◌∙◌, AllByRecursion, flat_map, Decl, take, list_all, evaluated}
+use Rattle.cdi_observe.proofs.Common.{wanted_by, asked_key}
 use Rattle.cdi_observe.proofs.LendingLemmas.{evaluated-all}
 use Rattle.cdi_observe.proofs.FoundLemmas.{each-lent, IsFound}
 use Rattle.cdi_observe.proofs.RestLemmas.{keys-known, keys-told, rest-evaluated, some-keys}

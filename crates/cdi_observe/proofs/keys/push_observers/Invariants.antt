@@ -1,8 +1,5 @@
-use Rattle.std.proofs.Common.{◌≡◌, ◌++◌, drop, map}
+use Rattle.cdi_observe.proofs.Common.{◌≡◌, ◌++◌, drop, map, observers_of, ChainKey, asked_key}
 use Rattle.cdi_model.specs.declared.place.BeanPlace.TheVariants as places
-use Rattle.cdi_intercept.specs.Sets.{observers_of}
-use Rattle.cdi_observe.specs.Keys.{ChainKey}
-use Rattle.cdi_observe.specs.Asked.{asked_key}
 use Rattle.cdi_observe.proofs.keys.push_observers.Given as goal
 
 abbrev pub invariant-loop-observer : goal.invariant-loop-observer

@@ -1,8 +1,5 @@
-use Rattle.std.proofs.Common.{◌≡◌, ◌++◌, drop, filter, map, not}
+use Rattle.cdi_observe.proofs.Common.{◌≡◌, ◌++◌, drop, filter, map, not, producers_of, ChainKey, asked_key}
 use Rattle.cdi_model.specs.declared.place.BeanPlace.TheVariants as places
-use Rattle.cdi_intercept.specs.Sets.{producers_of}
-use Rattle.cdi_observe.specs.Keys.{ChainKey}
-use Rattle.cdi_observe.specs.Asked.{asked_key}
 use Rattle.cdi_observe.proofs.keys.push_producers.Given as goal
 
 abbrev pub invariant-loop-producer : goal.invariant-loop-producer

@@ -1,13 +1,8 @@
 use Rattle.cdi_observe.proofs.Common.{◌≡◌, ap, ◌∙◌, lent_in}
-use Rattle.std.proofs.Common.{rules}
-use Rattle.std.specs.Cmp.{int_cmp_total}
-use Rattle.std.specs.Prelude.{ℤ}
-use Rattle.std.proofs.lemmas.Fn.{always_returns_same}
-use Rattle.std.proofs.lemmas.List.Sorted.{ranks_by}
+use Rattle.std.proofs.{Common.rules, lemmas.Fn.always_returns_same, lemmas.List.Sorted.ranks_by}
+use Rattle.std.specs.{Cmp.int_cmp_total, Prelude.ℤ}
 use Rattle.cdi_effective.proofs.SortLemmas.{sorted_from_sort, sorted_map}
-use Rattle.cdi_observe.specs.declared.lent_observers.LentObserver.{LentObserver}
-use Rattle.cdi_observe.specs.Lent.{lent_at}
-use Rattle.cdi_observe.specs.Observers.{is_before, priority_of}
+use Rattle.cdi_observe.specs.{declared.lent_observers.LentObserver.LentObserver, Lent.lent_at, Observers.is_before, Observers.priority_of}
 use Rattle.cdi_observe.proofs.lent_observers.in_order.Goals as goal
 
 abbrev key : LentObserver → ℤ

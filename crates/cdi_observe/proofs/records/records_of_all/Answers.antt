@@ -1,6 +1,5 @@
 use Rattle.cdi_observe.proofs.Common.{◌≡◌, suc, ◌++◌, map, Some, sym, ap, ◌∙◌, AreDistinct, own-found, subst, append_assoc, slice_get}
-use Rattle.cdi_observe.proofs.Common.{entries}
-use Rattle.std.proofs.Common.{flat_map}
+use Rattle.cdi_observe.proofs.Common.{entries, flat_map}
 use Rattle.cdi_observe.proofs.records.records_of_all.Goals as goal
 
 pub loop-decl-init : goal.loop-decl-init

@@ -1,5 +1,4 @@
-use Rattle.cdi_observe.proofs.Common.{◌≡◌, ℕ, ◌++◌, map, Some, find_decl, Decl, kind_of, name_of_decl, slice_get, entries}
-use Rattle.std.proofs.Common.{flat_map}
+use Rattle.cdi_observe.proofs.Common.{◌≡◌, ℕ, ◌++◌, map, Some, find_decl, Decl, kind_of, name_of_decl, slice_get, entries, flat_map}
 use Rattle.cdi_observe.proofs.records.records_of_all.Given as goal
 
 abbrev pub invariant-loop-decl : goal.invariant-loop-decl

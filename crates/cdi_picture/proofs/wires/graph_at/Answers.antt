@@ -1,9 +1,8 @@
 use Rattle.std.proofs.Common.{◌≡◌, ◌∙◌, ap, IfOk, filter, map, subst}
+use Rattle.cdi_graph.specs.{Edges.is_choice, Edges.is_owned, Nodes.is_point}
 use Rattle.cdi_container.specs.PointsLent.{points_lent}
-use Rattle.cdi_graph.specs.Edges.{is_choice, is_owned}
-use Rattle.cdi_graph.specs.Nodes.{is_point}
-use Rattle.cdi_picture.specs.Told.{told_wire}
 use Rattle.cdi_picture.proofs.WireLemmas.{choices_told, nodes_told, owned_told}
+use Rattle.cdi_picture.specs.Told.{told_wire}
 use Rattle.cdi_picture.proofs.wires.graph_at.Goals as goal
 
 pub returns-clause-choices : goal.returns-clause-choices

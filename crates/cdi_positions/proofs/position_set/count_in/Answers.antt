@@ -1,5 +1,4 @@
-use Rattle.std.proofs.Common.{◌+◌, ap, sym, ◌∙◌, get_or, arith}
-use Rattle.std.specs.Prelude.{count_ones}
+use Rattle.cdi_positions.proofs.Common.{◌+◌, ap, sym, ◌∙◌, get_or, arith, count_ones}
 use Rattle.cdi_positions.proofs.SetLemmas.{count-more, count-room}
 use Rattle.cdi_positions.proofs.position_set.count_in.Goals as goal
 

@@ -1,6 +1,4 @@
-use Rattle.std.proofs.Common.{◌≡◌, take}
-use Rattle.cdi_positions.specs.Marks.{marked_count}
-use Rattle.cdi_positions.specs.Words.{marks_of}
+use Rattle.cdi_positions.proofs.Common.{◌≡◌, take, marked_count, marks_of}
 use Rattle.cdi_positions.proofs.position_set.count_in.Given as goal
 
 abbrev pub invariant-loop-word : goal.invariant-loop-word

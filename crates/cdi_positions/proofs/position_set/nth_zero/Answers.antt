@@ -1,11 +1,9 @@
-use Rattle.std.proofs.Common.{◌≡◌, ◌+◌, ◌<◌, true, false, Bool, ℕ, ap, sym, ◌∙◌, refl, arith}
-use Rattle.std.proofs.lemmas.List.{take_all}
-use Rattle.cdi_positions.specs.Marks.{count_below, is_marked, marked_count, IsOutside}
-use Rattle.cdi_positions.specs.Words.{marks_in}
+use Rattle.cdi_positions.proofs.Common.{◌≡◌, ◌+◌, ◌<◌, true, false, Bool, ℕ, ap, sym, ◌∙◌, refl, arith, take_all, count_below, is_marked}
+use Rattle.cdi_positions.proofs.Common.{marked_count, IsOutside, marks_in}
 use Rattle.cdi_positions.proofs.MarkLemmas.{count_below_more, count_below_same}
 use Rattle.cdi_positions.proofs.WordLemmas.{length-marks_in, set-bit, unset-bit}
-use Rattle.cdi_positions.proofs.position_set.nth_zero.Goals as goal
 use Rattle.cdi_positions.proofs.position_set.nth_zero.Goals.{then-word-bit-eq0+else-left-eq0, else-word-bit-eq0}
+use Rattle.cdi_positions.proofs.position_set.nth_zero.Goals as goal
 
 pub returns-then-left-eq0 : goal.returns-then-left-eq0
 returns-then-left-eq0 c = record {

@@ -1,6 +1,4 @@
-use Rattle.std.proofs.Common.{◌≡◌, ◌+◌}
-use Rattle.cdi_positions.specs.Marks.{count_below}
-use Rattle.cdi_positions.specs.Words.{marks_in}
+use Rattle.cdi_positions.proofs.Common.{◌≡◌, ◌+◌, count_below, marks_in}
 use Rattle.cdi_positions.proofs.position_set.nth_zero.Given as goal
 
 abbrev pub invariant-loop-bit : goal.invariant-loop-bit

@@ -1,10 +1,9 @@
 use Rattle.std.proofs.Common.{nat_eq, true, cond, Some, sym, ap, ◌∙◌}
-use Rattle.std.specs.Option.{IsSome, is_some, option_copied_mut}
-use Rattle.std.specs.List.{list_any}
+use Rattle.std.specs.{Option.IsSome, Option.is_some, Option.option_copied_mut, List.list_any}
 use Rattle.indexmap.specs.IndexMap.{get}
 use Rattle.base_options.proofs.Results.{OnErr-from}
-use Rattle.cdi_postings.specs.Words.{same_word}
 use Rattle.cdi_postings.proofs.ListingLemmas.{holds_one, more-listed, same-listed}
+use Rattle.cdi_postings.specs.Words.{same_word}
 use Rattle.cdi_postings.proofs.postings.list_in.Goals as goal
 
 pub returns-in_err-insert-clause-err : goal.returns-in_err-insert-clause-err

@@ -2,9 +2,8 @@ use Rattle.std.proofs.Common.{nat_eq, false, cond, Some, None, sym, ap, ◌∙�
 use Rattle.std.specs.Option.{IsSome, is_some, option_copied_mut}
 use Rattle.indexmap.specs.IndexMap.{get}
 use Rattle.base_options.proofs.Booleans.{cond-twice}
-use Rattle.cdi_postings.specs.Words.{same_word}
-use Rattle.cdi_postings.specs.Listing.{is_in}
 use Rattle.cdi_postings.proofs.ListingLemmas.{holds_one, less-listed, none-left, none-listed}
+use Rattle.cdi_postings.specs.{Words.same_word, Listing.is_in}
 use Rattle.cdi_postings.proofs.postings.unlist_in.Goals as goal
 
 pub returns-in_default : goal.returns-in_default

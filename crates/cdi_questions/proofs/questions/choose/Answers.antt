@@ -1,8 +1,7 @@
 use Rattle.std.proofs.Common.{◌≡◌, List, filter, map, sym, ap, subst, ◌∙◌}
 use Rattle.std.proofs.lemmas.Result.{IfOk-weaker}
 use Rattle.cdi_match.specs.Chain.{has}
-use Rattle.cdi_effective.specs.Beans.{beans}
-use Rattle.cdi_effective.specs.declared.records.Effective.{Effective}
+use Rattle.cdi_effective.specs.{Beans.beans, declared.records.Effective.Effective}
 use Rattle.cdi_resolve.specs.Choices.{chosen, HasEnough}
 use Rattle.cdi_questions.proofs.CandidateLemmas.{has_enough}
 use Rattle.cdi_questions.proofs.questions.choose.Goals as goal

@@ -2,8 +2,7 @@ use Rattle.std.proofs.Common.{◌≡◌, ℕ, List, filter, flat_map, map, sym, 
 use Rattle.std.proofs.lemmas.Result.{IfOk-weaker}
 use Rattle.cdi_model.specs.DeclList.{AreDistinct}
 use Rattle.cdi_match.specs.Types.{types_of}
-use Rattle.cdi_effective.specs.Beans.{beans, entries}
-use Rattle.cdi_effective.specs.declared.records.Effective.{Effective}
+use Rattle.cdi_effective.specs.{Beans.beans, Beans.entries, declared.records.Effective.Effective}
 use Rattle.cdi_index.specs.Under.{observes_one}
 use Rattle.cdi_observe.specs.Observers.{notified}
 use Rattle.cdi_questions.proofs.CandidateLemmas.{observing_enough}

@@ -1,6 +1,5 @@
 use Rattle.cdi_report.proofs.Common.{◌++◌, map, sym, ap, subst, ◌∙◌, same_key, key_of, ◌&&◌, list_any, AreDistinct, open_of, faults_of}
-use Rattle.cdi_report.proofs.Common.{has_faults, faults_together, IfOk-weaker}
-use Rattle.std.specs.List.{flat_map}
+use Rattle.cdi_report.proofs.Common.{has_faults, faults_together, IfOk-weaker, flat_map}
 use Rattle.cdi_report.proofs.SettledLemmas.{open-found}
 use Rattle.cdi_report.proofs.TogetherLemmas.{none-anew, together-told}
 use Rattle.cdi_report.proofs.report.find.Goals as goal

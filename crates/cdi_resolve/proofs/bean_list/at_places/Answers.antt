@@ -1,5 +1,5 @@
-use Rattle.cdi_resolve.proofs.PlaceLemmas.{place-read}
 use Rattle.std.proofs.Common.{refl}
+use Rattle.cdi_resolve.proofs.PlaceLemmas.{place-read}
 use Rattle.cdi_resolve.proofs.bean_list.at_places.Goals as goal
 
 pub loop-place-preserved : goal.loop-place-preserved

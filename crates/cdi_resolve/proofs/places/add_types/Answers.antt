@@ -1,5 +1,5 @@
-use Rattle.cdi_resolve.specs.Places.{places_at}
 use Rattle.cdi_resolve.proofs.PlaceLemmas.{name-next, rise-next}
+use Rattle.cdi_resolve.specs.Places.{places_at}
 use Rattle.cdi_resolve.proofs.places.add_types.Goals as goal
 
 pub loop-name-preserved : goal.loop-name-preserved

@@ -1,11 +1,10 @@
 use Rattle.std.proofs.Common.{◌≡◌, None, ap, sym, ◌∙◌, rules}
-use Rattle.indexmap.specs.IndexMap.{get}
-use Rattle.std.specs.List.{position_from}
-use Rattle.std.specs.Option.{option_or}
+use Rattle.std.specs.{List.position_from, Option.option_or}
 use Rattle.std.proofs.lemmas.Iterator.Adapters.{position_from-zero}
+use Rattle.indexmap.specs.IndexMap.{get}
 use Rattle.cdi_effective.specs.Records.{is_of_class}
-use Rattle.cdi_resolve.specs.Places.{same_name}
 use Rattle.cdi_resolve.proofs.PlaceLemmas.{class-next}
+use Rattle.cdi_resolve.specs.Places.{same_name}
 use Rattle.cdi_resolve.proofs.places.places_of_classes.Goals as goal
 
 pub loop-place-init : goal.loop-place-init

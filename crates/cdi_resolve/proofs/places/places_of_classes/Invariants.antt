@@ -1,7 +1,5 @@
 use Rattle.std.proofs.Common.{◌≡◌, ℕ, List, drop}
-use Rattle.std.specs.List.{position_from}
-use Rattle.std.specs.Option.{option_or}
-use Rattle.std.specs.Prelude.{position}
+use Rattle.std.specs.{List.position_from, Option.option_or, Prelude.position}
 use Rattle.indexmap.specs.IndexMap.{get}
 use Rattle.cdi_effective.specs.Records.{is_of_class}
 use Rattle.cdi_resolve.specs.Places.{same_name}

@@ -1,10 +1,9 @@
 use Rattle.std.proofs.Common.{◌≡◌, ◌&&◌, ◌++◌, ◌∷◌, [], cond, ap, ◌∙◌, sym, append-nil}
 use Rattle.cdi_match.specs.Chain.{has}
-use Rattle.cdi_resolve.specs.Choices.{offers}
-use Rattle.cdi_resolve.specs.Places.{places_at}
 use Rattle.cdi_resolve.proofs.PlaceLemmas.{bean-next}
-use Rattle.cdi_resolve.proofs.places.places_of_types.Goals as goal
 use Rattle.cdi_resolve.proofs.places.places_of_types.Goals.{then-bean+in_ok-add_types, else-bean}
+use Rattle.cdi_resolve.specs.{Choices.offers, Places.places_at}
+use Rattle.cdi_resolve.proofs.places.places_of_types.Goals as goal
 
 pub loop-place-preserved : goal.loop-place-preserved
 loop-place-preserved c t =

@@ -1,7 +1,6 @@
 use Rattle.std.proofs.Common.{◌≡◌, ◌++◌, ℕ, List, Some, drop, map, filter}
 use Rattle.std.specs.List.{slice_get}
-use Rattle.cdi_resolve.specs.Choices.{offers}
-use Rattle.cdi_resolve.specs.Places.{places_at}
+use Rattle.cdi_resolve.specs.{Choices.offers, Places.places_at}
 use Rattle.cdi_resolve.proofs.places.places_of_types.Given as goal
 
 abbrev pub invariant-loop-place : goal.invariant-loop-place

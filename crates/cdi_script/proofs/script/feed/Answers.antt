@@ -1,10 +1,6 @@
-use Rattle.std.proofs.Common.{◌≡◌, refl, take, [], ◌++◌, subst, sym, ◌∙◌, ap}
-use Rattle.std.proofs.lemmas.Result.{on_ok_weaker, IfErr-at_err}
-use Rattle.std.specs.Prelude.{Err}
-use Rattle.cdi_lines.proofs.FeedLemmas.{no_items}
-use Rattle.cdi_devices.specs.declared.devices.RunFault.TheVariants.{Memory, Write}
-use Rattle.cdi_script.specs.Intake.{intake_on}
-use Rattle.cdi_script.specs.Run.{Feeds, FeedsBeforeMemory, FeedsPart, SettlesPart}
+use Rattle.cdi_script.proofs.Common.{◌≡◌, refl, take, [], ◌++◌, subst, sym, ◌∙◌, ap, on_ok_weaker, Err, no_items, Memory, Write, intake_on}
+use Rattle.cdi_script.proofs.Common.{Feeds, FeedsBeforeMemory, FeedsPart, SettlesPart}
+use Rattle.std.proofs.lemmas.Result.{IfErr-at_err}
 use Rattle.cdi_script.proofs.Feeding.{feeds_more, feeds_part_more, feeds_memory_more, feeds_rest}
 use Rattle.cdi_script.proofs.script.feed.Goals as goal
 

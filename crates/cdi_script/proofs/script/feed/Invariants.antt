@@ -1,7 +1,4 @@
-use Rattle.std.proofs.Common.{◌≡◌, ℕ, List, ◌++◌, length}
-use Rattle.cdi_devices.specs.Counted.{has_failed}
-use Rattle.cdi_script.specs.Intake.{intake_on}
-use Rattle.cdi_script.specs.Run.{Feeds}
+use Rattle.cdi_script.proofs.Common.{◌≡◌, ℕ, List, ◌++◌, length, has_failed, intake_on, Feeds}
 use Rattle.cdi_script.proofs.script.feed.Given as goal
 
 abbrev pub invariant-loop-rest : goal.invariant-loop-rest

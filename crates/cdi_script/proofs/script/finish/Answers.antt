@@ -1,6 +1,4 @@
-use Rattle.std.proofs.Common.{◌≡◌}
-use Rattle.cdi_devices.specs.declared.devices.RunFault.TheVariants.{Memory, Write}
-use Rattle.cdi_script.specs.Intake.{intake_on}
+use Rattle.cdi_script.proofs.Common.{◌≡◌, Memory, Write, intake_on}
 use Rattle.cdi_script.proofs.Feeding.{ends_whole, ends_part, last_line_memory, last_line_part, end_memory, end_part}
 use Rattle.cdi_script.proofs.script.finish.Goals as goal
 

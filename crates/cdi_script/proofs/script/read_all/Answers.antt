@@ -1,10 +1,5 @@
-use Rattle.std.proofs.Common.{◌≡◌, ◌∙◌, refl, ap, arith, subst, take}
-use Rattle.std.specs.Prelude.{Err}
-use Rattle.cdi_devices.specs.Counted.{has_failed}
-use Rattle.cdi_devices.specs.Console.{reader_of, writer_of}
-use Rattle.cdi_devices.specs.declared.devices.RunFault.TheVariants.{Memory, Write}
-use Rattle.cdi_script.specs.Intake.{intake_on}
-use Rattle.cdi_script.specs.Run.{setting_from, Feeds, FeedsBeforeMemory, FeedsPart, EndsBeforeMemory, EndsPart}
+use Rattle.cdi_script.proofs.Common.{◌≡◌, ◌∙◌, refl, ap, arith, subst, take, Err, has_failed, reader_of, writer_of, Memory, Write}
+use Rattle.cdi_script.proofs.Common.{intake_on, setting_from, Feeds, FeedsBeforeMemory, FeedsPart, EndsBeforeMemory, EndsPart}
 use Rattle.cdi_script.proofs.Going.{goes_first, goes_on, feeds_to_memory, feeds_to_write, ends_in_memory, ends_in_write}
 use Rattle.cdi_script.proofs.script.read_all.Goals as goal
 

@@ -1,8 +1,6 @@
+use Rattle.cdi_script.proofs.Common.{bytes_of, reader_of, writer_of, intake_on, Goes, setting_from}
 use Rattle.std.proofs.Common.{◌-◌}
-use Rattle.cdi_devices.specs.Counted.{bytes_of}
-use Rattle.cdi_devices.specs.Console.{reader_of, writer_of, KeepsStreams}
-use Rattle.cdi_script.specs.Intake.{intake_on}
-use Rattle.cdi_script.specs.Run.{Goes, setting_from}
+use Rattle.cdi_devices.specs.Console.{KeepsStreams}
 use Rattle.cdi_script.proofs.script.read_all.Given as goal
 
 abbrev pub invariant-loop-fault : goal.invariant-loop-fault

@@ -1,7 +1,6 @@
-use Rattle.std.proofs.Common.{subst}
+use Rattle.cdi_script.proofs.Common.{subst, reader_of, writer_of, setting_from, RunsScriptTo, FailsToReadTo, RunsOutOfMemoryTo}
+use Rattle.cdi_script.proofs.Common.{FailsToWriteTo}
 use Rattle.std.proofs.lemmas.Result.{IfOk-weaker}
-use Rattle.cdi_devices.specs.Console.{reader_of, writer_of}
-use Rattle.cdi_script.specs.Run.{setting_from, RunsScriptTo, FailsToReadTo, RunsOutOfMemoryTo, FailsToWriteTo}
 use Rattle.cdi_script.proofs.script.run.Goals as goal
 
 pub returns-clause-ok : goal.returns-clause-ok

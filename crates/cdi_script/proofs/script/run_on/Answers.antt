@@ -1,8 +1,7 @@
-use Rattle.std.proofs.Common.{subst}
+use Rattle.cdi_script.proofs.Common.{subst, Write, Memory, reader_of, writer_of, setting_from, RunsScriptTo, FailsToReadTo}
+use Rattle.cdi_script.proofs.Common.{RunsOutOfMemoryTo, FailsToWriteTo}
 use Rattle.std.specs.Prelude.{IfOk, IsErrOf}
-use Rattle.cdi_devices.specs.declared.devices.RunFault.TheVariants.{Read, Write, Memory}
-use Rattle.cdi_devices.specs.Console.{reader_of, writer_of}
-use Rattle.cdi_script.specs.Run.{setting_from, RunsScriptTo, FailsToReadTo, RunsOutOfMemoryTo, FailsToWriteTo}
+use Rattle.cdi_devices.specs.declared.devices.RunFault.TheVariants.{Read}
 use Rattle.cdi_script.proofs.Going.{out_of_memory_first}
 use Rattle.cdi_script.proofs.script.run_on.Goals as goal
 

@@ -1,5 +1,4 @@
-use Rattle.std.proofs.Common.{refl}
-use Rattle.std.proofs.lemmas.Result.{on_ok_weaker, on_err_weaker}
+use Rattle.cdi_script.proofs.Common.{refl, on_ok_weaker, on_err_weaker}
 use Rattle.cdi_script.proofs.Feeding.{settles, part_settles}
 use Rattle.cdi_script.proofs.script.settle.Goals as goal
 

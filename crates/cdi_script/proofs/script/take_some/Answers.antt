@@ -1,8 +1,4 @@
-use Rattle.std.proofs.Common.{◌≡◌, take, [], subst}
-use Rattle.std.proofs.lemmas.List.{append-nil}
-use Rattle.cdi_devices.specs.declared.devices.RunFault.TheVariants.{Memory, Write}
-use Rattle.cdi_script.specs.Intake.{intake_on}
-use Rattle.cdi_script.specs.Run.{Feeds}
+use Rattle.cdi_script.proofs.Common.{◌≡◌, take, [], subst, append-nil, Memory, Write, intake_on, Feeds}
 use Rattle.cdi_script.proofs.Feeding.{feeds_advance, feeds_more, feeds_part_more, memory_here, part_here, part_in_front}
 use Rattle.cdi_script.proofs.script.take_some.Goals as goal
 

@@ -1,18 +1,13 @@
 use Rattle.std.proofs.Common.{ap, ap₂, codes, true, false, is_some, subst, [], ◌∷◌, ◌≡◌, ◌∙◌, refl, zero, suc, lit<, arith}
 use Rattle.std.specs.List.{All}
 use Rattle.std.proofs.lemmas.Result.{IfOk-weaker}
-use Rattle.clap.specs.Built.{FitsChain}
-use Rattle.clap.specs.Facts.{args_of, groups_of}
-use Rattle.clap.specs.Walk.{Rule, Text}
 use Rattle.clap.specs.Simple.{app_of, app_of_fields, new_app, with_rule}
-use Rattle.clap.specs.declared.builder.arg.Arg.{Arg}
-use Rattle.clap.specs.Matches.{found_of, first_value}
-use Rattle.clap.specs.declared.builder.command.Command.{Command}
-use Rattle.clap.specs.declared.builder.command.Command.TheOpen.{Command-F}
-use Rattle.clap.specs.declared.builder.command.Command.TheViews.{out-Command}
+use Rattle.clap.specs.{Built.FitsChain, Facts.args_of, Facts.groups_of, Walk.Rule, Walk.Text, declared.builder.arg.Arg.Arg}
+use Rattle.clap.specs.{Matches.found_of, Matches.first_value, declared.builder.command.Command.Command}
+use Rattle.clap.specs.declared.builder.command.Command.{TheOpen.Command-F, TheViews.out-Command}
 use Rattle.clap.proofs.CallerLemmas.{required_in_chain}
-use Rattle.cdi_session.specs.Options.{script_app}
 use Rattle.cdi_session.proofs.CommandFacts.{fits, distinct}
+use Rattle.cdi_session.specs.Options.{script_app}
 use Rattle.cdi_session.proofs.command_line.script_command.Goals as goal
 
 pub returns-clause-app : goal.returns-clause-app

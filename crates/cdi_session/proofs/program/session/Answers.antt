@@ -1,7 +1,7 @@
 use Rattle.std.proofs.Common.{◌∙◌, ap, inl, inr, refl, sym}
-use Rattle.cdi_session.specs.Session.{status_of}
 use Rattle.cdi_session.proofs.Refusals.{accepted_lacks, refused_words}
 use Rattle.cdi_session.proofs.program.session.Goals.{in-Err-ending, in_default}
+use Rattle.cdi_session.specs.Session.{status_of}
 use Rattle.cdi_session.proofs.program.session.Goals as goal
 
 pub returns-after-ending-clause-accepted : goal.returns-after-ending-clause-accepted

@@ -1,5 +1,5 @@
 use Rattle.cdi_staging.proofs.Common.{◌≡◌, suc, ◌++◌, Some, sym, ap, subst, ◌∙◌, flat_map, own-found, entries, append_assoc, names_in}
-use Rattle.std.proofs.Common.{slice_get}
+use Rattle.cdi_staging.proofs.Common.{slice_get}
 use Rattle.cdi_staging.proofs.names.names_of.Goals as goal
 
 pub loop-decl-init : goal.loop-decl-init

@@ -1,5 +1,4 @@
-use Rattle.cdi_staging.proofs.Common.{◌≡◌, ℕ, ◌++◌, Some, flat_map, Decl, names_in, kind_of, name_of_decl, find_decl}
-use Rattle.std.proofs.Common.{slice_get}
+use Rattle.cdi_staging.proofs.Common.{◌≡◌, ℕ, ◌++◌, Some, flat_map, Decl, names_in, kind_of, name_of_decl, find_decl, slice_get}
 use Rattle.cdi_staging.proofs.names.names_of.Given as goal
 
 abbrev pub invariant-loop-decl : goal.invariant-loop-decl

@@ -1,6 +1,5 @@
 use Rattle.cdi_staging.proofs.Common.{◌≡◌, [], ◌++◌, map, sym, ap, ◌∙◌, product, append-nil, iter_rest, product_names}
-use Rattle.std.proofs.Common.{⊎_elim}
-use Rattle.std.proofs.lemmas.Slice.Zip.{either_empty_from_Zip}
+use Rattle.std.proofs.{Common.⊎_elim, lemmas.Slice.Zip.either_empty_from_Zip}
 use Rattle.base_lists.proofs.Flat.{map-empty}
 use Rattle.cdi_staging.proofs.ProductLemmas.{first-product, pushed}
 use Rattle.cdi_staging.proofs.names.push_products.Goals as goal

@@ -3,10 +3,9 @@ use Rattle.cdi_staging.proofs.Common.{length, bytes_eq, find_bean, Effective, po
 use Rattle.cdi_staging.proofs.Common.{notified_as, observer_declared, drop, IsHost}
 use Rattle.std.proofs.Common.{drop-cons}
 use Rattle.cdi_observe.specs.declared.observers.ObserverId.{ObserverId}
-use Rattle.cdi_staging.specs.declared.notifying.Host.{Host}
-use Rattle.cdi_staging.specs.Notifying.{notified_in}
-use Rattle.cdi_staging.proofs.notifying.positions_of.Goals as goal
 use Rattle.cdi_staging.proofs.notifying.positions_of.Goals.{then-ne, else-ne}
+use Rattle.cdi_staging.specs.{declared.notifying.Host.Host, Notifying.notified_in}
+use Rattle.cdi_staging.proofs.notifying.positions_of.Goals as goal
 
 -- an observer method by the bean declaration of its class
 named : (ds : List Decl) (list : List Effective) (host : Host) (id : ObserverId) → IsHost ds list host → host.class ≡ id.class

@@ -1,5 +1,4 @@
-use Rattle.cdi_staging.proofs.Common.{◌≡◌, map, position_from, option_or, BeanId, is_told_by, drop, same_id, get}
-use Rattle.std.specs.Prelude.{position}
+use Rattle.cdi_staging.proofs.Common.{◌≡◌, map, position_from, option_or, BeanId, is_told_by, drop, same_id, get, position}
 use Rattle.cdi_staging.proofs.positions.places_of.Given as goal
 
 abbrev pub invariant-loop-place : goal.invariant-loop-place

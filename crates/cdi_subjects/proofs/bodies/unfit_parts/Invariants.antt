@@ -1,6 +1,5 @@
 use Rattle.std.proofs.Common.{◌≡◌, ◌++◌}
-use Rattle.cdi_subjects.specs.Filter.{found_in}
-use Rattle.cdi_subjects.specs.Parts.{unfit_in, unfit_parts}
+use Rattle.cdi_subjects.specs.{Filter.found_in, Parts.unfit_in, Parts.unfit_parts}
 use Rattle.cdi_subjects.proofs.bodies.unfit_parts.Given as goal
 
 abbrev pub invariant-loop-mention : goal.invariant-loop-mention

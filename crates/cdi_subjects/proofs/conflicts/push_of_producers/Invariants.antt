@@ -1,5 +1,4 @@
-use Rattle.std.proofs.Common.{◌≡◌, ◌++◌, drop, filter, not}
-use Rattle.std.specs.List.{flat_map}
+use Rattle.std.proofs.Common.{◌≡◌, ◌++◌, drop, filter, not, flat_map}
 use Rattle.cdi_model.specs.declared.place.BeanPlace.TheVariants as spots
 use Rattle.cdi_subjects.specs.Records.{conflict_at, conflicts_at_producers}
 use Rattle.cdi_subjects.proofs.conflicts.push_of_producers.Given as goal

@@ -1,8 +1,7 @@
 use Rattle.std.proofs.Common.{◌++◌, ap, sym, ◌∙◌}
 use Rattle.cdi_effective.specs.Beans.{entries}
-use Rattle.cdi_subjects.specs.Subjects.{disposers_at_fault}
-use Rattle.cdi_subjects.specs.Records.{without_product, with_two}
 use Rattle.cdi_subjects.proofs.RecordLemmas.{disposers_of_records}
+use Rattle.cdi_subjects.specs.{Subjects.disposers_at_fault, Records.without_product, Records.with_two}
 use Rattle.cdi_subjects.proofs.disposing.disposers_at_fault.Goals as goal
 
 pub returns : goal.returns

@@ -1,6 +1,5 @@
 use Rattle.std.proofs.Common.{nat_lt, ap, rules, tests}
-use Rattle.std.proofs.lemmas.Iterator.{YieldsList-from_slice}
-use Rattle.std.proofs.lemmas.Iterator.Consumers.{count_from_yields_List, YieldsList-from_filter}
+use Rattle.std.proofs.lemmas.Iterator.{YieldsList-from_slice, Consumers.count_from_yields_List, Consumers.YieldsList-from_filter}
 use Rattle.cdi_effective.specs.Disposers.{disposes}
 use Rattle.cdi_subjects.proofs.disposing.has_two.Goals as goal
 

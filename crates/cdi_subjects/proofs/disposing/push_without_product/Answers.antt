@@ -5,8 +5,8 @@ use Rattle.cdi_effective.specs.Disposers.{disposes}
 use Rattle.cdi_faults.specs.declared.fault.Subject.{Subject}
 use Rattle.cdi_faults.specs.declared.fault.Subject.TheVariants as parts
 use Rattle.cdi_subjects.proofs.PushLemmas.{pushed, passed_over}
-use Rattle.cdi_subjects.proofs.disposing.push_without_product.Goals as goal
 use Rattle.cdi_subjects.proofs.disposing.push_without_product.Goals.{then-not-has_product+in_ok-push, else-not-has_product}
+use Rattle.cdi_subjects.proofs.disposing.push_without_product.Goals as goal
 
 pub loop-disposer-preserved : goal.loop-disposer-preserved
 loop-disposer-preserved c =

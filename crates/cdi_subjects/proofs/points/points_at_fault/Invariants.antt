@@ -1,10 +1,6 @@
-use Rattle.std.proofs.Common.{◌≡◌, ◌++◌, true, map}
-use Rattle.std.specs.List.{flat_map}
-use Rattle.cdi_observe.specs.Answers.{answer_to}
-use Rattle.cdi_observe.specs.Lending.{are_answerable}
-use Rattle.cdi_observe.specs.Wanted.{key_of_point, point_named}
-use Rattle.cdi_subjects.specs.Filter.{found_in}
-use Rattle.cdi_subjects.specs.Subjects.{has_verdict, point_in, points_at_fault}
+use Rattle.std.proofs.Common.{◌≡◌, ◌++◌, true, map, flat_map}
+use Rattle.cdi_observe.specs.{Answers.answer_to, Lending.are_answerable, Wanted.key_of_point, Wanted.point_named}
+use Rattle.cdi_subjects.specs.{Filter.found_in, Subjects.has_verdict, Subjects.point_in, Subjects.points_at_fault}
 use Rattle.cdi_subjects.proofs.points.points_at_fault.Given as goal
 
 abbrev pub invariant-loop-mention : goal.invariant-loop-mention

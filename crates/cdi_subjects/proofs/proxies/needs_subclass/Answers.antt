@@ -2,8 +2,8 @@ use Rattle.std.proofs.Common.{Some, sym, ap, ◌∙◌}
 use Rattle.std.specs.List.{find}
 use Rattle.cdi_model.specs.DeclList.{find_decl}
 use Rattle.cdi_model.specs.declared.decl.Kind.TheVariants as kinds
-use Rattle.cdi_subjects.specs.Proxies.{is_told_by}
 use Rattle.cdi_subjects.proofs.ProxyLemmas.{found-own, own-bindings, records-of}
+use Rattle.cdi_subjects.specs.Proxies.{is_told_by}
 use Rattle.cdi_subjects.proofs.proxies.needs_subclass.Goals as goal
 
 pub needs_subclass_by-requires-clause-found : goal.needs_subclass_by-requires-clause-found

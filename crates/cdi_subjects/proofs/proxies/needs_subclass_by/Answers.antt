@@ -1,8 +1,7 @@
 use Rattle.std.proofs.Common.{◌≡◌, ◌||◌, ◌&&◌, false, not, nat_eq, length, is_some, sym, ap, ◌∙◌, arith}
 use Rattle.cdi_model.specs.declared.decl.Decl.TheVariants as decls
 use Rattle.cdi_effective.specs.Disposers.{as_bean}
-use Rattle.cdi_observe.proofs.AroundLemmas.{some-names}
-use Rattle.cdi_observe.proofs.LendingLemmas.{chains-answerable}
+use Rattle.cdi_observe.proofs.{AroundLemmas.some-names, LendingLemmas.chains-answerable}
 use Rattle.cdi_subjects.specs.Proxies.{is_intercepted, is_normal}
 use Rattle.cdi_subjects.proofs.proxies.needs_subclass_by.Goals as goal
 

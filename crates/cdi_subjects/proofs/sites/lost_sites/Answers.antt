@@ -1,10 +1,8 @@
-use Rattle.std.proofs.Common.{◌≡◌, map, ap, ◌∙◌, rules}
-use Rattle.std.specs.List.{flat_map}
+use Rattle.std.proofs.Common.{◌≡◌, map, ap, ◌∙◌, rules, flat_map}
 use Rattle.cdi_model.specs.Mentions.{mentions}
-use Rattle.cdi_observe.specs.Lending.{are_answerable}
-use Rattle.cdi_observe.specs.Wanted.{key_of_point}
-use Rattle.cdi_subjects.specs.Sites.{params_given}
+use Rattle.cdi_observe.specs.{Lending.are_answerable, Wanted.key_of_point}
 use Rattle.cdi_subjects.proofs.AnsweredLemmas.{own-answerable, params-answerable}
+use Rattle.cdi_subjects.specs.Sites.{params_given}
 use Rattle.cdi_subjects.proofs.sites.lost_sites.Goals as goal
 
 pub loop-mention-init : goal.loop-mention-init

@@ -1,10 +1,6 @@
-use Rattle.std.proofs.Common.{◌≡◌, ◌++◌, true, map}
-use Rattle.std.specs.List.{flat_map}
-use Rattle.cdi_observe.specs.Answers.{answer_to}
-use Rattle.cdi_observe.specs.Lending.{are_answerable}
-use Rattle.cdi_observe.specs.Wanted.{key_of_point}
-use Rattle.cdi_subjects.specs.Filter.{found_in}
-use Rattle.cdi_subjects.specs.Sites.{lost_in, lost_sites, params_given}
+use Rattle.std.proofs.Common.{◌≡◌, ◌++◌, true, map, flat_map}
+use Rattle.cdi_observe.specs.{Answers.answer_to, Lending.are_answerable, Wanted.key_of_point}
+use Rattle.cdi_subjects.specs.{Filter.found_in, Sites.lost_in, Sites.lost_sites, Sites.params_given}
 use Rattle.cdi_subjects.proofs.sites.lost_sites.Given as goal
 
 abbrev pub invariant-loop-mention : goal.invariant-loop-mention

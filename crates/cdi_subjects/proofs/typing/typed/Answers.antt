@@ -1,9 +1,8 @@
-use Rattle.std.proofs.Common.{◌++◌, ap, sym, ◌∙◌, append-nil}
-use Rattle.std.specs.List.{flat_map}
+use Rattle.std.proofs.Common.{◌++◌, ap, sym, ◌∙◌, append-nil, flat_map}
 use Rattle.std.specs.Slice.Iter.{iter_rest}
 use Rattle.std.proofs.lemmas.Slice.Zip.{either_empty_from_Zip}
-use Rattle.cdi_subjects.specs.Records.{not_had}
 use Rattle.cdi_subjects.proofs.PushLemmas.{zip-empty}
+use Rattle.cdi_subjects.specs.Records.{not_had}
 use Rattle.cdi_subjects.proofs.typing.typed.Goals as goal
 
 pub returns : goal.returns

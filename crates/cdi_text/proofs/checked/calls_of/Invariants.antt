@@ -1,6 +1,4 @@
-use Rattle.std.proofs.Common.{◌≡◌, ◌++◌, drop}
-use Rattle.toml.specs.View.{items_view}
-use Rattle.cdi_text.specs.Spelled.{calls_in}
+use Rattle.cdi_text.proofs.Common.{◌≡◌, ◌++◌, drop, items_view, calls_in}
 use Rattle.cdi_text.proofs.checked.calls_of.Given as goal
 
 abbrev pub invariant-loop-value : goal.invariant-loop-value

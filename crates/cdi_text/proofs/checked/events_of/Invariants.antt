@@ -1,9 +1,4 @@
-use Rattle.std.proofs.Common.{◌≡◌, false, ◌++◌, drop}
-use Rattle.toml.specs.View.{items_view}
-use Rattle.cdi_text.specs.declared.schema.Item.TheVariants.{Event}
-use Rattle.cdi_text.specs.Grammar.{misspell}
-use Rattle.cdi_text.specs.Lists.{some_is_long}
-use Rattle.cdi_text.specs.Spelled.{events_in}
+use Rattle.cdi_text.proofs.Common.{◌≡◌, false, ◌++◌, drop, items_view, Event, misspell, some_is_long, events_in}
 use Rattle.cdi_text.proofs.checked.events_of.Given as goal
 
 abbrev pub invariant-loop-value : goal.invariant-loop-value

@@ -1,5 +1,4 @@
-use Rattle.std.proofs.Common.{◌∷◌, ap, ◌∙◌}
-use Rattle.cdi_text.specs.declared.steps.Step.TheVariants.{Key}
+use Rattle.cdi_text.proofs.Common.{◌∷◌, ap, ◌∙◌, Key}
 use Rattle.cdi_text.proofs.explanations.explain_kind.Goals as goal
 
 pub returns-clause-path : goal.returns-clause-path

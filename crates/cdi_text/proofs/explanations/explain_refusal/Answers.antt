@@ -1,13 +1,8 @@
-use Rattle.std.proofs.Common.{◌≡◌, ◌≤◌, arith, Some, None, sym, ap, ◌∙◌, subst, length}
-use Rattle.std.proofs.lemmas.Bool.{true≢false}
-use Rattle.std.specs.Prelude.{ok_or}
+use Rattle.cdi_text.proofs.Common.{◌≡◌, ◌≤◌, arith, Some, None, sym, ap, ◌∙◌, subst, length, true≢false, ok_or, table_view, Refusal}
+use Rattle.cdi_text.proofs.Common.{NotToml, tree_of}
 use Rattle.std.specs.Result.{result_err}
-use Rattle.toml.specs.View.{table_view}
-use Rattle.cdi_model.specs.declared.refusal.Refusal.{Refusal}
-use Rattle.cdi_model.specs.declared.refusal.Refusal.TheVariants.{NotToml}
-use Rattle.cdi_text.specs.Places.{IsLineOf}
-use Rattle.cdi_text.specs.Reading.{tree_of}
 use Rattle.cdi_text.proofs.ReadingLemmas.{no_tree, of_no_tree, of_tree, tree_found}
+use Rattle.cdi_text.specs.Places.{IsLineOf}
 use Rattle.cdi_text.proofs.explanations.explain_refusal.Goals as goal
 
 pub returns-in-Ok-clause-refusal : goal.returns-in-Ok-clause-refusal

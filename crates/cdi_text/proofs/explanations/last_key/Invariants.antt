@@ -1,4 +1,4 @@
-use Rattle.std.proofs.Common.{◌≡◌, drop, option_map}
+use Rattle.cdi_text.proofs.Common.{◌≡◌, drop, option_map}
 use Rattle.std.specs.Option.{option_or}
 use Rattle.cdi_text.specs.Places.{last_key}
 use Rattle.cdi_text.proofs.explanations.last_key.Given as goal

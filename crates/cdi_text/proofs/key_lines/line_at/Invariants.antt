@@ -1,4 +1,5 @@
-use Rattle.std.proofs.Common.{◌≡◌, ◌==◌, ◌≤◌, ◌+◌, take}
+use Rattle.cdi_text.proofs.Common.{◌≡◌, ◌==◌, ◌≤◌, ◌+◌}
+use Rattle.std.proofs.Common.{take}
 use Rattle.std.specs.List.{count_by}
 use Rattle.cdi_text.proofs.key_lines.line_at.Given as goal
 

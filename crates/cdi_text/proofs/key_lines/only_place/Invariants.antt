@@ -1,7 +1,6 @@
-use Rattle.std.proofs.Common.{◌≡◌, ◌++◌, ◌-◌, length}
-use Rattle.std.specs.List.{filter, range_with_len}
-use Rattle.cdi_text.specs.KeyLines.{stands_at, places}
+use Rattle.cdi_text.proofs.Common.{◌≡◌, ◌++◌, ◌-◌, length, filter, range_with_len}
 use Rattle.cdi_text.proofs.KeyLineLemmas.{so_far}
+use Rattle.cdi_text.specs.KeyLines.{stands_at, places}
 use Rattle.cdi_text.proofs.key_lines.only_place.Given as goal
 
 abbrev pub invariant-loop-place : goal.invariant-loop-place

@@ -1,6 +1,4 @@
-use Rattle.std.proofs.Common.{◌≡◌, drop}
-use Rattle.toml.specs.View.{items_view}
-use Rattle.cdi_text.specs.Lists.{some_is_long}
+use Rattle.cdi_text.proofs.Common.{◌≡◌, drop, items_view, some_is_long}
 use Rattle.cdi_text.proofs.lists.some_is_long.Given as goal
 
 abbrev pub invariant-loop-value : goal.invariant-loop-value

@@ -1,8 +1,6 @@
-use Rattle.std.proofs.Common.{◌≡◌, ℕ, List, map, codes, Some, IfOk, option_and_then, unwrap_or, sym, subst, ap, ◌∙◌}
-use Rattle.toml.specs.Data.{Items, no_items, get_member, as_array}
-use Rattle.toml.specs.View.{array_view, table_view}
-use Rattle.cdi_admission.specs.TextSets.{HasTexts}
-use Rattle.cdi_text.specs.Params.{FindsMethod, point_names}
+use Rattle.cdi_text.proofs.Common.{◌≡◌, ℕ, List, map, codes, Some, IfOk, option_and_then, unwrap_or, sym, subst, ap, ◌∙◌, Items, no_items}
+use Rattle.cdi_text.proofs.Common.{get_member, as_array, array_view, table_view, HasTexts, FindsMethod}
+use Rattle.cdi_text.specs.Params.{point_names}
 use Rattle.cdi_text.proofs.params.first_such_method.Goals as goal
 
 pub returns-in_ok-points-in-Some-2 : goal.returns-in_ok-points-in-Some-2

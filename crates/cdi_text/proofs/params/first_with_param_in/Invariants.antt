@@ -1,8 +1,4 @@
-use Rattle.std.proofs.Common.{◌≡◌, ℕ, List, drop}
-use Rattle.std.specs.List.{list_any}
-use Rattle.toml.specs.View.{items_view}
-use Rattle.cdi_admission.specs.TextSets.{HasTexts}
-use Rattle.cdi_text.specs.Params.{has_param_among, tables_of}
+use Rattle.cdi_text.proofs.Common.{◌≡◌, ℕ, List, drop, list_any, items_view, HasTexts, has_param_among, tables_of}
 use Rattle.cdi_text.proofs.params.first_with_param_in.Given as goal
 
 abbrev pub invariant-loop-index : goal.invariant-loop-index

@@ -1,11 +1,7 @@
-use Rattle.std.proofs.Common.{◌≡◌, codes, map, ap, sym, ◌∙◌}
-use Rattle.std.specs.List.{list_any}
+use Rattle.cdi_text.proofs.Common.{◌≡◌, codes, map, ap, sym, ◌∙◌, list_any, table, view, table_view, is_text_among, is_such}
 use Rattle.toml.proofs.Views.{view-Table}
-use Rattle.toml.specs.Data.{table}
-use Rattle.toml.specs.View.{view, table_view}
-use Rattle.cdi_uses.specs.Twice.{is_text_among}
-use Rattle.cdi_text.specs.Params.{is_such, point_names}
 use Rattle.cdi_text.proofs.ParamLemmas.{some_in}
+use Rattle.cdi_text.specs.Params.{point_names}
 use Rattle.cdi_text.proofs.params.has_param_in.Goals as goal
 
 pub returns-in_ok-params-in-Table : goal.returns-in_ok-params-in-Table

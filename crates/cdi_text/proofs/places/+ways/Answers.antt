@@ -1,7 +1,4 @@
-use Rattle.std.proofs.Common.{ap, ◌∙◌, sym, string_bytes, ◌≡◌, ℕ, Some}
-use Rattle.toml.specs.Data.{get_item}
-use Rattle.toml.specs.View.{view, items_view, array_view, table_view}
-use Rattle.cdi_text.specs.Schema.{shape_of}
+use Rattle.cdi_text.proofs.Common.{ap, ◌∙◌, sym, string_bytes, ◌≡◌, ℕ, Some, get_item, view, items_view, array_view, table_view, shape_of}
 use Rattle.cdi_text.proofs.ParamLemmas.{item_at}
 use Rattle.cdi_text.proofs.WayLemmas.{by_next, by_found, has_next, has_later, without_next}
 use Rattle.cdi_text.proofs.places.+ways.Goals as goal

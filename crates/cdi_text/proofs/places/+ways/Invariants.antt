@@ -1,8 +1,4 @@
-use Rattle.std.proofs.Common.{◌≡◌, ℕ, List, drop}
-use Rattle.toml.specs.Data.{Data}
-use Rattle.toml.specs.View.{items_view, members_view}
-use Rattle.cdi_text.specs.Conditions.{members_have, items_have}
-use Rattle.cdi_text.specs.Meaning.{HasKey}
+use Rattle.cdi_text.proofs.Common.{◌≡◌, ℕ, List, drop, Data, items_view, members_view, members_have, items_have, HasKey}
 use Rattle.cdi_text.proofs.places.+ways.Given as goal
 
 abbrev pub invariant-way_in_table-loop-key : goal.invariant-way_in_table-loop-key

@@ -1,7 +1,5 @@
-use Rattle.std.proofs.Common.{◌≡◌, drop, map}
-use Rattle.toml.specs.View.{table_view}
+use Rattle.cdi_text.proofs.Common.{◌≡◌, drop, map, table_view, rows, row_view}
 use Rattle.cdi_text.specs.Places.{first_missing}
-use Rattle.cdi_text.specs.Schema.{rows, row_view}
 use Rattle.cdi_text.proofs.places.first_missing.Given as goal
 
 abbrev pub invariant-loop-row : goal.invariant-loop-row

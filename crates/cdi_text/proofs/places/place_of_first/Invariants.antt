@@ -1,6 +1,4 @@
-use Rattle.std.proofs.Common.{◌≡◌, drop}
-use Rattle.toml.specs.View.{table_view}
-use Rattle.cdi_text.specs.Conditions.{first_of}
+use Rattle.cdi_text.proofs.Common.{◌≡◌, drop, table_view, first_of}
 use Rattle.cdi_text.proofs.places.place_of_first.Given as goal
 
 abbrev pub invariant-loop-condition : goal.invariant-loop-condition

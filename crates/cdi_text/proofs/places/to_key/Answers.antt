@@ -1,4 +1,4 @@
-use Rattle.std.proofs.lemmas.Result.{IfOk-weaker}
+use Rattle.cdi_text.proofs.Common.{IfOk-weaker}
 use Rattle.cdi_text.proofs.places.to_key.Goals as goal
 
 pub returns : goal.returns

@@ -1,6 +1,4 @@
-use Rattle.std.proofs.Common.{◌∷◌, ap, ◌∙◌}
-use Rattle.std.proofs.lemmas.Result.{IfOk-weaker}
-use Rattle.cdi_text.specs.declared.steps.Step.TheVariants.{Key, Entry}
+use Rattle.cdi_text.proofs.Common.{◌∷◌, ap, ◌∙◌, IfOk-weaker, Key, Entry}
 use Rattle.cdi_text.proofs.places.to_params.Goals as goal
 
 pub returns : goal.returns

@@ -1,5 +1,4 @@
-use Rattle.std.proofs.lemmas.Result.{IfOk-weaker}
-use Rattle.toml.specs.View.{array_view}
+use Rattle.cdi_text.proofs.Common.{IfOk-weaker, array_view}
 use Rattle.cdi_text.proofs.WayLemmas.{to_entry}
 use Rattle.cdi_text.proofs.places.way_to_entry.Goals as goal
 

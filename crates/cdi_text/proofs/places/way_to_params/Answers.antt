@@ -1,4 +1,4 @@
-use Rattle.toml.specs.View.{table_view}
+use Rattle.cdi_text.proofs.Common.{table_view}
 use Rattle.cdi_text.proofs.WayLemmas.{to_producer, to_observer}
 use Rattle.cdi_text.proofs.places.way_to_params.Goals as goal
 

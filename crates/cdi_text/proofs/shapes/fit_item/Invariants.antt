@@ -1,6 +1,4 @@
-use Rattle.std.proofs.Common.{◌≡◌, drop}
-use Rattle.toml.specs.View.{items_view}
-use Rattle.cdi_text.specs.Shapes.{fit_item}
+use Rattle.cdi_text.proofs.Common.{◌≡◌, drop, items_view, fit_item}
 use Rattle.cdi_text.proofs.shapes.fit_item.Given as goal
 
 abbrev pub invariant-loop-value : goal.invariant-loop-value

@@ -1,8 +1,4 @@
-use Rattle.std.proofs.Common.{◌≡◌, option_map}
-use Rattle.std.specs.List.{list_all}
-use Rattle.cdi_model.specs.Bytes.{space}
-use Rattle.cdi_uses.specs.Events.{is_event_use}
-use Rattle.cdi_uses.specs.Pieces.{pieces, left_of}
+use Rattle.cdi_uses.proofs.Common.{◌≡◌, option_map, list_all, space, is_event_use, pieces, left_of}
 use Rattle.cdi_uses.proofs.events.are_event_uses.Given as goal
 
 abbrev pub invariant-loop-rest : goal.invariant-loop-rest

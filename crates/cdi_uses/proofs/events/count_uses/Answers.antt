@@ -1,6 +1,4 @@
-use Rattle.std.proofs.Common.{◌<◌, ◌+◌, length, arith, ap, option_map}
-use Rattle.cdi_model.specs.Bytes.{space}
-use Rattle.cdi_uses.specs.Pieces.{pieces, left_of}
+use Rattle.cdi_uses.proofs.Common.{◌<◌, ◌+◌, length, arith, ap, option_map, space, pieces, left_of}
 use Rattle.cdi_uses.proofs.PieceLemmas.{left_of-cut}
 use Rattle.cdi_uses.proofs.events.count_uses.Goals as goal
 

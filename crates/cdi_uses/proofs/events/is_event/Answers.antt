@@ -1,4 +1,4 @@
-use Rattle.std.proofs.Common.{sym, ◌∙◌}
+use Rattle.cdi_uses.proofs.Common.{sym, ◌∙◌}
 use Rattle.cdi_uses.proofs.EventLemmas.{event_meaning}
 use Rattle.cdi_uses.proofs.events.is_event.Goals as goal
 

@@ -1,10 +1,5 @@
-use Rattle.std.proofs.Common.{◌≡◌, ◌≤◌, ◌+◌, true, [], length, option_map}
-use Rattle.std.specs.List.{list_all}
-use Rattle.cdi_model.specs.Bytes.{space}
+use Rattle.cdi_uses.proofs.Common.{◌≡◌, ◌≤◌, ◌+◌, true, [], length, option_map, list_all, space, is_event_use, pieces, left_of, quals_from}
 use Rattle.cdi_model.specs.Quals.{list_limit}
-use Rattle.cdi_uses.specs.Events.{is_event_use}
-use Rattle.cdi_uses.specs.Pieces.{pieces, left_of}
-use Rattle.cdi_uses.specs.Uses.{quals_from}
 use Rattle.cdi_uses.proofs.events.quals_in.Given as goal
 
 abbrev pub invariant-loop-rest : goal.invariant-loop-rest

@@ -1,7 +1,4 @@
-use Rattle.std.proofs.Common.{◌≡◌, ◌++◌, map, option_map}
-use Rattle.cdi_model.specs.Bytes.{space}
-use Rattle.cdi_uses.specs.Events.{uses_in}
-use Rattle.cdi_uses.specs.Pieces.{pieces, left_of}
+use Rattle.cdi_uses.proofs.Common.{◌≡◌, ◌++◌, map, option_map, space, uses_in, pieces, left_of}
 use Rattle.cdi_uses.proofs.events.uses_in.Given as goal
 
 abbrev pub invariant-loop-rest : goal.invariant-loop-rest

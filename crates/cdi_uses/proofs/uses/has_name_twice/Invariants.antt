@@ -1,5 +1,4 @@
-use Rattle.std.proofs.Common.{◌≡◌, ◌++◌, map, drop}
-use Rattle.cdi_uses.specs.Uses.{use_name}
+use Rattle.cdi_uses.proofs.Common.{◌≡◌, ◌++◌, map, drop, use_name}
 use Rattle.cdi_uses.proofs.uses.has_name_twice.Given as goal
 
 abbrev pub invariant-loop-text : goal.invariant-loop-text

@@ -1,4 +1,4 @@
-use Rattle.std.proofs.Common.{sym, ◌∙◌}
+use Rattle.cdi_uses.proofs.Common.{sym, ◌∙◌}
 use Rattle.cdi_uses.proofs.MeaningLemmas.{use_meaning}
 use Rattle.cdi_uses.proofs.uses.is_use.Goals as goal
 

@@ -1,6 +1,4 @@
-use Rattle.std.proofs.Common.{◌≡◌, map, drop}
-use Rattle.std.specs.List.{list_any}
-use Rattle.cdi_uses.specs.Uses.{repeats_member}
+use Rattle.cdi_uses.proofs.Common.{◌≡◌, map, drop, list_any, repeats_member}
 use Rattle.cdi_uses.proofs.uses.repeats_some_member.Given as goal
 
 abbrev pub invariant-loop-text : goal.invariant-loop-text

@@ -1,9 +1,6 @@
-use Rattle.std.proofs.Common.{◌≡◌, ℕ, List, true, Result, Ok, Err, sym, subst}
-use Rattle.std.specs.Prelude.{IfOk}
-use Rattle.std.specs.declared.alloc.AllocError.{AllocError}
-use Rattle.cdi_model.specs.declared.quals.Qual.{Qual}
-use Rattle.cdi_uses.specs.Uses.{is_use, use_of}
-use Rattle.cdi_uses.specs.Meaning.{CanBeSpelled}
+use Rattle.cdi_uses.proofs.Common.{◌≡◌, ℕ, List, true, Ok, sym, subst, Qual, is_use, use_of, CanBeSpelled}
+use Rattle.std.proofs.Common.{Result, Err}
+use Rattle.std.specs.{Prelude.IfOk, declared.alloc.AllocError.AllocError}
 use Rattle.cdi_uses.proofs.SpelledLemmas.{says_what_spells}
 use Rattle.cdi_uses.proofs.uses.use_of.Goals as goal
 

@@ -1,6 +1,5 @@
-use Rattle.base_lists.proofs.Each.{all-append}
-use Rattle.cdi_validate.proofs.Common.{◌≡◌, ◌++◌, sym, ap, ◌∙◌, append_assoc, flat_map, true, [], ◌∷◌, is_name, subst, dependents_by_text}
-use Rattle.cdi_validate.proofs.Common.{append-nil, name_of_decl, entries, AreNamed, fold, fold-append, with_dependent}
+use Rattle.cdi_validate.proofs.Common.{all-append, ◌≡◌, ◌++◌, sym, ap, ◌∙◌, append_assoc, flat_map, true, [], ◌∷◌, is_name, subst}
+use Rattle.cdi_validate.proofs.Common.{dependents_by_text, append-nil, name_of_decl, entries, AreNamed, fold, fold-append, with_dependent}
 use Rattle.cdi_validate.proofs.FoundLemmas.{all-gone, found-next, records-next}
 use Rattle.cdi_validate.proofs.circles.dependents_of.Goals as goal
 

@@ -2,9 +2,9 @@ use Rattle.cdi_validate.proofs.Common.{◌≡◌, List, sym, ap, ◌∙◌, Decl
 use Rattle.cdi_validate.proofs.Common.{BeanDecl, entries, as_bean, Effective, names_of_bean, is_dependent, ◌||◌, list_any, is_empty}
 use Rattle.cdi_validate.proofs.Common.{is_needless, IsFound, chains-answerable}
 use Rattle.cdi_model.specs.declared.decl.Decl.TheVariants as decls
-use Rattle.cdi_validate.proofs.circles.is_needless.Goals as goal
 use Rattle.cdi_validate.proofs.circles.is_needless.Goals.{then-not-is_empty-via-then-not-is_empty}
 use Rattle.cdi_validate.proofs.circles.is_needless.Goals.{then-not-is_empty-via-else-not-is_empty+then-not-is_empty-2}
+use Rattle.cdi_validate.proofs.circles.is_needless.Goals as goal
 
 -- what is found of the beans of a declaration
 found-dependent : (ds : List Decl) (d : Decl) (records : List Effective) (has is : Bool) → records ≡ entries ds d

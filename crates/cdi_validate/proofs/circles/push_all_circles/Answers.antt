@@ -1,5 +1,4 @@
-use Rattle.cdi_validate.proofs.Common.{◌++◌, sym, ap, ◌∙◌, IfOk-weaker}
-use Rattle.std.proofs.lemmas.List.{append-nil}
+use Rattle.cdi_validate.proofs.Common.{◌++◌, sym, ap, ◌∙◌, IfOk-weaker, append-nil}
 use Rattle.cdi_validate.proofs.CircleLemmas.{circles_found, no_circles}
 use Rattle.cdi_validate.proofs.circles.push_all_circles.Goals as goal
 

@@ -1,8 +1,7 @@
 use Rattle.cdi_validate.proofs.Common.{sym, ap, ◌∙◌, beans, faults, name_prefixes, subst, LinesRise, subjects_in_order, IfOk-weaker}
 use Rattle.std.specs.Result.{OnOk}
 use Rattle.base_options.proofs.Results.{OnOk-from, OnErr-from}
-use Rattle.cdi_observe.specs.Kept.{EvaluatesSome}
-use Rattle.cdi_observe.specs.Lending.{IsEvaluated}
+use Rattle.cdi_observe.specs.{Kept.EvaluatesSome, Lending.IsEvaluated}
 use Rattle.cdi_observe.proofs.KeptLemmas.{evaluates_all}
 use Rattle.cdi_validate.proofs.BehindLemmas.{prefixes_go_on}
 use Rattle.cdi_validate.proofs.TwiceLemmas.{sharers_are_told}

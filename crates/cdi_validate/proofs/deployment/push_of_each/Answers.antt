@@ -1,8 +1,6 @@
 use Rattle.cdi_validate.proofs.Common.{◌≡◌, ◌++◌, sym, ap, ◌∙◌, append_assoc, flat_map, Decl, faults_of, Bool, [], ◌∷◌, length, map, arith}
 use Rattle.cdi_validate.proofs.Common.{◌≤◌, ◌&&◌, append-nil, ◌||◌, list_any, list_any-append, ◌+◌, take, or-false, flat_map-append, key_of}
-use Rattle.cdi_validate.proofs.Common.{same_key, DeclKey, take_all, has_faults, ℕ, List, get_or, map-append}
-use Rattle.std.proofs.Common.{◌<◌}
-use Rattle.std.proofs.lemmas.List.{take_more}
+use Rattle.cdi_validate.proofs.Common.{same_key, DeclKey, take_all, has_faults, ℕ, List, get_or, map-append, ◌<◌, take_more}
 use Rattle.cdi_validate.proofs.deployment.push_of_each.Goals as goal
 
 -- one more

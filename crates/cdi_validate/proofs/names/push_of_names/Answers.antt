@@ -6,8 +6,8 @@ use Rattle.cdi_validate.proofs.ClashLemmas.{clashes-led, keys-named}
 use Rattle.cdi_validate.proofs.CountLemmas.{apart-if_as_many}
 use Rattle.cdi_validate.proofs.NameLemmas.{pairs-behind}
 use Rattle.cdi_validate.proofs.PushLemmas.{none-pushed}
-use Rattle.cdi_validate.proofs.names.push_of_names.Goals as goal
 use Rattle.cdi_validate.proofs.names.push_of_names.Goals.{then-len-before, else-len-before}
+use Rattle.cdi_validate.proofs.names.push_of_names.Goals as goal
 
 pub returns-clause-faults : goal.returns-clause-faults
 returns-clause-faults g c =

@@ -1,6 +1,7 @@
-use Rattle.cdi_validate.proofs.Common.{◌++◌, sym, ap, ◌∙◌, append_assoc, map, filter, IsStrictlySortedBy, goes_on, subst, slice_cmp}
-use Rattle.cdi_validate.proofs.Common.{nat_cmp, prefix_pairs}
+use Rattle.cdi_validate.proofs.Common.{◌++◌, sym, ap, ◌∙◌, append_assoc, map, filter, IsStrictlySortedBy, subst, slice_cmp, nat_cmp}
+use Rattle.cdi_validate.proofs.Common.{prefix_pairs}
 use Rattle.cdi_faults.specs.declared.fault.Fault.TheVariants as faults_are
+use Rattle.cdi_validate.specs.Faults.{goes_on}
 use Rattle.cdi_validate.proofs.names.push_prefixes.Goals as goal
 
 pub taken-preserved : goal.taken-preserved

@@ -1,7 +1,7 @@
 use Rattle.std.proofs.Common.{ap, sym, ◌∙◌}
+use Rattle.std.specs.List.{list_any}
 use Rattle.cdi_admission.proofs.ListLemmas.{long-view}
 use Rattle.cdi_admission.specs.Admission.{is_long}
-use Rattle.std.specs.List.{list_any}
 use Rattle.cdi_admission.proofs.lists.NameLists.has_long.Goals as goal
 
 pub returns : goal.returns

@@ -1,8 +1,7 @@
-use Rattle.std.proofs.Common.{◌≡◌, ap}
-use Rattle.std.specs.Prelude.{Result, Ok, Err, OnOk}
+use Rattle.std.proofs.Common.{ap}
 use Rattle.base_options.proofs.Results.{OnOk-from}
-use Rattle.cdi_container.specs.History.{State}
 use Rattle.cdi_text.specs.Reading.{decl_of}
+use Rattle.cdi_container.specs.History.{State}
 use Rattle.cdi_assembly.proofs.PutLemmas.{left_if_accepted, left_if_refused}
 use Rattle.cdi_assembly.proofs.assembly.Assembly.put.Goals as goal
 

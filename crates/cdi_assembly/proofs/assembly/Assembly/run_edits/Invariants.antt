@@ -1,6 +1,5 @@
 use Rattle.std.proofs.Common.{◌≡◌}
-use Rattle.cdi_script.specs.Commands.{commands}
-use Rattle.cdi_script.specs.Left.{left_by_all}
+use Rattle.cdi_script.specs.{Commands.commands, Left.left_by_all}
 use Rattle.cdi_assembly.specs.Steps.{commands_of_steps}
 use Rattle.cdi_assembly.proofs.assembly.Assembly.run_edits.Given as goal
 

@@ -1,12 +1,10 @@
-use Rattle.std.proofs.Common.{◌≡◌, ◌<◌, ◌+◌, ◌++◌, [], ◌∷◌, ℕ, Bool, true, false, cond, List, length, map, take, get_or, string_bytes, sym, ap, ◌∙◌}
-use Rattle.std.proofs.lemmas.List.{map-append, append-nil}
-use Rattle.std.proofs.lemmas.List.Elements.{filter_more}
-use Rattle.cdi_faults.specs.declared.fault.Fault.{Fault}
-use Rattle.cdi_faults.specs.FaultText.{text_of_fault}
-use Rattle.cdi_assembly.specs.declared.findings.Telling.{Telling}
-use Rattle.cdi_assembly.specs.Told.{faults_told, is_told}
-use Rattle.cdi_assembly.proofs.findings.Teller.findings.Goals as goal
+use Rattle.std.proofs.Common.{◌≡◌, ◌<◌, ◌+◌, ◌++◌, [], ◌∷◌, ℕ, Bool, true, false, cond, List, length, map, take, get_or, string_bytes, sym}
+use Rattle.std.proofs.Common.{ap, ◌∙◌}
+use Rattle.std.proofs.lemmas.List.{map-append, append-nil, Elements.filter_more}
+use Rattle.cdi_faults.specs.{declared.fault.Fault.Fault, FaultText.text_of_fault}
 use Rattle.cdi_assembly.proofs.findings.Teller.findings.Goals.{then-is_told+in_ok-finding+in_ok-push, else-is_told}
+use Rattle.cdi_assembly.specs.{declared.findings.Telling.Telling, Told.faults_told, Told.is_told}
+use Rattle.cdi_assembly.proofs.findings.Teller.findings.Goals as goal
 
 -- the faults that are told, and one more that is told or not
 told-next : (telling : Telling) (fs : List Fault) (i : ℕ) (f : Fault) (b : Bool) → i < length fs → f ≡ get_or fs i f → is_told telling f ≡ b

@@ -1,7 +1,7 @@
 use Rattle.std.proofs.Common.{◌≡◌, [], rules}
 use Rattle.cdi_script.proofs.StepLemmas.{reads_last}
-use Rattle.cdi_assembly.specs.Steps.{commands_of_steps}
 use Rattle.cdi_assembly.proofs.StepLemmas.{ended}
+use Rattle.cdi_assembly.specs.Steps.{commands_of_steps}
 use Rattle.cdi_assembly.proofs.steps.Reading.end.Goals as goal
 
 pub returns : goal.returns

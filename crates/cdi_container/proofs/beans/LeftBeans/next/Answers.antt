@@ -1,5 +1,4 @@
-use Rattle.cdi_container.proofs.Common.{◌≡◌, sym, [], ◌++◌, ap, ◌∙◌, suc, slice_get}
-use Rattle.std.proofs.Common.{flat_map}
+use Rattle.cdi_container.proofs.Common.{◌≡◌, sym, [], ◌++◌, ap, ◌∙◌, suc, slice_get, flat_map}
 use Rattle.std.proofs.lemmas.List.{nil_from_length}
 use Rattle.cdi_effective.specs.Beans.{entries}
 use Rattle.cdi_container.proofs.beans.LeftBeans.next.Goals as goal

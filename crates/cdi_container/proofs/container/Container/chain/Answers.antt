@@ -1,6 +1,5 @@
 use Rattle.cdi_container.proofs.Common.{subst, sym, [], ◌∷◌, ap, ◌∙◌, Deployed, Answers, ChainKey, chain_of, State, left_by, trace_names}
-use Rattle.cdi_container.proofs.Common.{RestsOnScene}
-use Rattle.std.specs.Prelude.{List, ℕ}
+use Rattle.cdi_container.proofs.Common.{RestsOnScene, List, ℕ}
 use Rattle.cdi_container.proofs.Asking.{asked_left, chain_left, chain_told, failure, same_state}
 use Rattle.cdi_container.proofs.Playing.{rests_asked}
 use Rattle.cdi_container.proofs.container.Container.chain.Goals as goal

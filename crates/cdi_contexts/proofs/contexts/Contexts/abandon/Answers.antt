@@ -1,6 +1,5 @@
 use Rattle.std.proofs.Common.{ap, ◌∙◌}
-use Rattle.cdi_contexts.specs.Standing.{Standing, states_without}
-use Rattle.cdi_contexts.specs.Storage.{Storage}
+use Rattle.cdi_contexts.specs.{Standing.Standing, Standing.states_without, Storage.Storage}
 use Rattle.cdi_contexts.proofs.contexts.Contexts.abandon.Goals as goal
 
 pub returns-clause-standing : goal.returns-clause-standing

@@ -1,6 +1,6 @@
 use Rattle.std.proofs.Common.{sym, ap, ◌∙◌}
-use Rattle.cdi_contexts.specs.Standing.{found}
 use Rattle.cdi_contexts.proofs.HomeLemmas.{found-dependent}
+use Rattle.cdi_contexts.specs.Standing.{found}
 use Rattle.cdi_contexts.proofs.contexts.Contexts.find.Goals as goal
 
 pub returns-in-Dependent : goal.returns-in-Dependent

@@ -1,5 +1,4 @@
-use Rattle.std.proofs.Common.{rules}
-use Rattle.std.proofs.lemmas.List.Sorted.{answers_always}
+use Rattle.std.proofs.{Common.rules, lemmas.List.Sorted.answers_always}
 use Rattle.cdi_contexts.proofs.Places.{placed}
 use Rattle.cdi_contexts.proofs.contexts.Contexts.place_of.Goals as goal
 

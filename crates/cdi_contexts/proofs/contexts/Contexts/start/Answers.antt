@@ -1,7 +1,7 @@
 use Rattle.std.proofs.Common.{refl, ap, sym, ◌+◌}
-use Rattle.cdi_contexts.specs.Storage.{Storage}
 use Rattle.cdi_contexts.proofs.HomeLemmas.{homes-more}
 use Rattle.cdi_contexts.proofs.Rising.{IsRising-more, IsOwnerOf_along}
+use Rattle.cdi_contexts.specs.Storage.{Storage}
 use Rattle.cdi_contexts.proofs.contexts.Contexts.start.Goals as goal
 
 pub invariant_of-self-2 : goal.invariant_of-self-2

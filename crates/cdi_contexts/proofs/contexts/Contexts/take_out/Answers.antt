@@ -1,9 +1,9 @@
 use Rattle.std.proofs.Common.{Some, refl, ap, drop, ◌∙◌}
 use Rattle.std.proofs.lemmas.List.{take_rest}
-use Rattle.cdi_contexts.specs.Homes.{lives_at, oldest_at, left_of, kept_at}
 use Rattle.cdi_contexts.proofs.HomeLemmas.{homes-removed}
 use Rattle.cdi_contexts.proofs.Places.{without_nowhere, without_there, place_along}
 use Rattle.cdi_contexts.proofs.Rising.{IsRising_along, IsRising-without}
+use Rattle.cdi_contexts.specs.Homes.{lives_at, oldest_at, left_of, kept_at}
 use Rattle.cdi_contexts.proofs.contexts.Contexts.take_out.Goals as goal
 
 pub invariant_of-self : goal.invariant_of-self

@@ -1,9 +1,8 @@
 use Rattle.std.proofs.Common.{rules, ◌∙◌, ap, refl, leb, List}
 use Rattle.std.proofs.lemmas.List.Sorted.{IsPartitionPoint-from_clause}
-use Rattle.cdi_contexts.specs.Standing.{last_of}
-use Rattle.cdi_contexts.specs.declared.instance.Instance.{Instance}
 use Rattle.cdi_contexts.proofs.Last.{young_if}
 use Rattle.cdi_contexts.proofs.Younger.{parted_along, younger_along, last_young}
+use Rattle.cdi_contexts.specs.{Standing.last_of, declared.instance.Instance.Instance}
 use Rattle.cdi_contexts.proofs.contexts.Contexts.younger.Goals as goal
 
 pub returns-clause-value : goal.returns-clause-value

@@ -1,5 +1,5 @@
-use Rattle.cdi_contexts.specs.Homes.{kept_at}
 use Rattle.cdi_contexts.proofs.HomeLemmas.{joined-nobodys}
+use Rattle.cdi_contexts.specs.Homes.{kept_at}
 use Rattle.cdi_contexts.proofs.homes.Homes.settle.Goals as goal
 
 pub returns-in-None-clause-ok : goal.returns-in-None-clause-ok

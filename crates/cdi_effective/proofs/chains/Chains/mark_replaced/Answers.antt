@@ -1,8 +1,8 @@
 use Rattle.cdi_effective.proofs.Common.{◌<◌, false, ◌||◌, get_or, refl, sym, ap, ◌∙◌, subst, AllByRecursion, has, behind, replaced_by}
-use Rattle.cdi_effective.specs.Places.{is_offered_by}
 use Rattle.cdi_effective.proofs.MarkLemmas.{link-given, marks-none, none-replaced}
 use Rattle.cdi_effective.proofs.PlaceLemmas.{places-tell, places-within}
 use Rattle.cdi_effective.proofs.StepLemmas.{is-offered, none-offered}
+use Rattle.cdi_effective.specs.Places.{is_offered_by}
 use Rattle.cdi_effective.proofs.chains.Chains.mark_replaced.Goals as goal
 
 pub returns-in_default : goal.returns-in_default

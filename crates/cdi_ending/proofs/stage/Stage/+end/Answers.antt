@@ -1,10 +1,9 @@
 use Rattle.std.proofs.Common.{rules, ◌≡◌, ◌<◌, ◌+◌, ◌*◌, ◌-◌, nat_le, true, false, Some, None, arith, ap}
 use Rattle.cdi_contexts.specs.Standing.{last_of}
-use Rattle.cdi_legal.specs.Ends.{Ends}
-use Rattle.cdi_legal.specs.Moment.{Moment}
-use Rattle.cdi_ending.specs.Room.{Shrinks, IsCounted}
+use Rattle.cdi_legal.specs.{Ends.Ends, Moment.Moment}
 use Rattle.cdi_ending.proofs.Shrinking.{Shrinks-trans, Shrinks-lower, Shrinks-gone, fewer}
 use Rattle.cdi_ending.proofs.Costs.{last_counted, cost_from-le, counted_costs, gone_costs}
+use Rattle.cdi_ending.specs.Room.{Shrinks, IsCounted}
 use Rattle.cdi_ending.proofs.stage.Stage.+end.Goals as goal
 
 pub destroy-destroy_dependents-requires : goal.destroy-destroy_dependents-requires

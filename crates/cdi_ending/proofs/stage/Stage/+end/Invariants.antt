@@ -1,6 +1,5 @@
 use Rattle.std.proofs.Common.{◌+◌, ◌-◌, ◌*◌, length}
-use Rattle.cdi_legal.specs.Ends.{Ends, dependents}
-use Rattle.cdi_legal.specs.Moment.{Moment}
+use Rattle.cdi_legal.specs.{Ends.Ends, Ends.dependents, Moment.Moment}
 use Rattle.cdi_ending.specs.Room.{Shrinks, Pays}
 use Rattle.cdi_ending.proofs.stage.Stage.+end.Given as goal
 

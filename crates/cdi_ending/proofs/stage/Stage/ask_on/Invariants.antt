@@ -1,8 +1,7 @@
 use Rattle.std.proofs.Common.{◌≡◌, ℕ, ◌≤◌, ◌+◌, ◌-◌, length}
 use Rattle.cdi_model.specs.declared.outcome.Outcome.{Outcome}
 use Rattle.cdi_scene.specs.declared.place.Place.TheVariants.{Pre}
-use Rattle.cdi_legal.specs.Ends.{Ends, asks_back, seat_on}
-use Rattle.cdi_legal.specs.Moment.{Moment}
+use Rattle.cdi_legal.specs.{Ends.Ends, Ends.asks_back, Ends.seat_on, Moment.Moment}
 use Rattle.cdi_ending.specs.Room.{IsSteady}
 use Rattle.cdi_ending.proofs.stage.Stage.ask_on.Given as goal
 

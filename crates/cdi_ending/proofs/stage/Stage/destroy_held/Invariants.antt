@@ -1,6 +1,5 @@
 use Rattle.std.proofs.Common.{length, ◌≤◌}
-use Rattle.cdi_legal.specs.Ends.{Ends, held}
-use Rattle.cdi_legal.specs.Moment.{Moment}
+use Rattle.cdi_legal.specs.{Ends.Ends, Ends.held, Moment.Moment}
 use Rattle.cdi_ending.proofs.stage.Stage.destroy_held.Given as goal
 
 abbrev pub invariant-loop-left : goal.invariant-loop-left

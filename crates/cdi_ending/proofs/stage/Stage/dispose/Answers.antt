@@ -1,6 +1,5 @@
 use Rattle.std.proofs.Common.{◌≡◌, Some, arith}
-use Rattle.cdi_legal.specs.Acts.{ending}
-use Rattle.cdi_legal.specs.Ends.{Ends}
+use Rattle.cdi_legal.specs.{Acts.ending, Ends.Ends}
 use Rattle.cdi_ending.proofs.stage.Stage.dispose.Goals as goal
 
 pub returns-clause-legal : goal.returns-clause-legal

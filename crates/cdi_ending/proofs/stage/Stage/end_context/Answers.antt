@@ -1,8 +1,8 @@
 use Rattle.std.proofs.Common.{◌≡◌, true, false, Some, None, arith}
 use Rattle.cdi_contexts.specs.Standing.{last_in}
 use Rattle.cdi_legal.specs.Ends.{Ends}
-use Rattle.cdi_ending.specs.Room.{IsCounted}
 use Rattle.cdi_ending.proofs.Costs.{last_counted, cost_from-le}
+use Rattle.cdi_ending.specs.Room.{IsCounted}
 use Rattle.cdi_ending.proofs.stage.Stage.end_context.Goals as goal
 
 pub loop-youngest-preserved : goal.loop-youngest-preserved

@@ -1,6 +1,5 @@
 use Rattle.std.proofs.Common.{length}
-use Rattle.cdi_legal.specs.Ends.{Ends, context}
-use Rattle.cdi_legal.specs.Moment.{Moment}
+use Rattle.cdi_legal.specs.{Ends.Ends, Ends.context, Moment.Moment}
 use Rattle.cdi_ending.specs.Room.{Pays}
 use Rattle.cdi_ending.proofs.stage.Stage.end_context.Given as goal
 

@@ -1,6 +1,5 @@
 use Rattle.std.proofs.Common.{◌≡◌, ◌++◌, drop, map}
-use Rattle.cdi_explain.specs.Lent.{lent_in}
-use Rattle.cdi_explain.specs.Verdicts.{verdict_by}
+use Rattle.cdi_explain.specs.{Lent.lent_in, Verdicts.verdict_by}
 use Rattle.cdi_explain.proofs.choice.Wanted.verdicts.Given as goal
 
 abbrev pub invariant-loop-bean : goal.invariant-loop-bean

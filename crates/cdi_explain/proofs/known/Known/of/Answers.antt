@@ -1,7 +1,7 @@
 use Rattle.std.proofs.Common.{◌≡◌, length, count_by, subst, sym, ap, ◌∙◌, arith}
 use Rattle.std.specs.Str.{chars}
-use Rattle.cdi_explain.specs.Counts.{is_of_class, AreCounted}
 use Rattle.cdi_explain.proofs.FarLemmas.{counted-more}
+use Rattle.cdi_explain.specs.Counts.{is_of_class, AreCounted}
 use Rattle.cdi_explain.proofs.known.Known.of.Goals as goal
 
 pub loop-class-preserved : goal.loop-class-preserved

@@ -1,4 +1,4 @@
-use Rattle.indexmap.specs.IndexSet.{contains}
+use Rattle.cdi_graph.proofs.Common.{contains}
 use Rattle.cdi_graph.specs.Around.{same_node}
 use Rattle.cdi_graph.proofs.graph.Graph.around.Goals as goal
 

@@ -1,5 +1,4 @@
-use Rattle.cdi_index.proofs.Common.{false, ap, ◌∙◌, option_map_or, has_one, State}
-use Rattle.std.proofs.Common.{slice_get}
+use Rattle.cdi_index.proofs.Common.{false, ap, ◌∙◌, option_map_or, has_one, State, slice_get}
 use Rattle.cdi_index.proofs.UnderLemmas.{marked-are}
 use Rattle.cdi_index.proofs.index.Index.positions_under.Goals as goal
 

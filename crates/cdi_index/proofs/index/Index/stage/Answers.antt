@@ -1,7 +1,7 @@
 use Rattle.cdi_index.proofs.Common.{None, ap, ◌∙◌, same_key, false≢true, arith, lookup, Result, Ok, Err, OnOk, State}
-use Rattle.cdi_index.proofs.NextLemmas.{exact-same, free-same, shelf-same, sound-same}
-use Rattle.std.specs.Result.{IsErr, OnErr}
+use Rattle.std.specs.Result.{IsErr}
 use Rattle.base_options.proofs.Results.{OnErr-from}
+use Rattle.cdi_index.proofs.NextLemmas.{exact-same, free-same, shelf-same, sound-same}
 use Rattle.cdi_index.specs.State.{with_staged}
 use Rattle.cdi_index.proofs.index.Index.stage.Goals as goal
 

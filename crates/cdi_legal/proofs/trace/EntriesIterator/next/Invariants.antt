@@ -1,6 +1,5 @@
 use Rattle.cdi_legal.proofs.Common.{◌≡◌, length, ◌++◌, map}
-use Rattle.cdi_legal.specs.Packed.{entry_of}
-use Rattle.cdi_legal.specs.Traced.{kept_in}
+use Rattle.cdi_legal.specs.{Packed.entry_of, Traced.kept_in}
 use Rattle.cdi_legal.proofs.trace.EntriesIterator.next.Given as goal
 
 abbrev pub invariant-empty : goal.invariant-empty

@@ -1,7 +1,7 @@
 use Rattle.cdi_live.proofs.Common.{◌≡◌, length, subst, arith, ◌-◌, State, KnownAreWanted}
 use Rattle.std.proofs.Common.{◌^◌, min}
-use Rattle.cdi_live.specs.Known.{known_of}
 use Rattle.cdi_live.proofs.KnownLemmas.{count-wanted, known-wanted}
+use Rattle.cdi_live.specs.Known.{known_of}
 use Rattle.cdi_live.proofs.live.Live.known.Goals as goal
 
 pub returns-clause-count : goal.returns-clause-count

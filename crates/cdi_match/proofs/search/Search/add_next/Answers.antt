@@ -1,6 +1,6 @@
-use Rattle.std.proofs.Common.{◌∷◌, [], subst, sym}
-use Rattle.cdi_match.specs.Search.{Finds, has_found}
+use Rattle.cdi_match.proofs.Common.{◌∷◌, [], subst, sym, Finds}
 use Rattle.cdi_match.proofs.SearchLemmas.{Adds-none, Adds-then}
+use Rattle.cdi_match.specs.Search.{has_found}
 use Rattle.cdi_match.proofs.search.Search.add_next.Goals as goal
 
 pub loop-follower-preserved : goal.loop-follower-preserved

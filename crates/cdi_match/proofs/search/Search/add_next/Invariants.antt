@@ -1,5 +1,5 @@
+use Rattle.cdi_match.proofs.Common.{Finds, next_of}
 use Rattle.cdi_match.specs.declared.search.Search.{Search}
-use Rattle.cdi_match.specs.Search.{Finds, next_of}
 use Rattle.cdi_match.proofs.search.Search.add_next.Given as goal
 
 abbrev pub invariant-loop-follower : goal.invariant-loop-follower

@@ -1,5 +1,4 @@
-use Rattle.std.proofs.Common.{subst, sym}
-use Rattle.cdi_match.specs.Walk.{Meets}
+use Rattle.cdi_match.proofs.Common.{subst, sym, Meets}
 use Rattle.cdi_match.proofs.WalkLemmas.{Meets-cons, Meets-none}
 use Rattle.cdi_match.proofs.walk.Walk.add_all.Goals as goal
 

@@ -1,5 +1,4 @@
-use Rattle.cdi_match.specs.declared.walk.Walk.{Walk}
-use Rattle.cdi_match.specs.Walk.{HasMarks, Meets}
+use Rattle.cdi_match.proofs.Common.{Walk, HasMarks, Meets}
 use Rattle.cdi_match.proofs.walk.Walk.add_all.Given as goal
 
 abbrev pub invariant-loop-name : goal.invariant-loop-name

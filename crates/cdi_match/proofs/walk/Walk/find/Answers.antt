@@ -1,8 +1,6 @@
-use Rattle.std.proofs.Common.{◌≡◌, ◌∷◌, [], Bool, List, true, false, ap, subst, ◌∙◌, sym, slice_index_or, slice_set}
-use Rattle.std.proofs.lemmas.Bool.{not-true, not-false}
+use Rattle.cdi_match.proofs.Common.{◌≡◌, ◌∷◌, [], Bool, List, true, false, ap, subst, ◌∙◌, sym, slice_index_or, slice_set, not-true}
+use Rattle.cdi_match.proofs.Common.{not-false, Walk, Meets}
 use Rattle.std.proofs.lemmas.List.{set-get_or}
-use Rattle.cdi_match.specs.declared.walk.Walk.{Walk}
-use Rattle.cdi_match.specs.Walk.{Meets}
 use Rattle.cdi_match.proofs.WalkLemmas.{Meets-again, Meets-new}
 use Rattle.cdi_match.proofs.walk.Walk.find.Goals as goal
 

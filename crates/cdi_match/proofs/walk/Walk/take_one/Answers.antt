@@ -1,6 +1,4 @@
-use Rattle.std.proofs.Common.{ap, ◌∙◌, refl, sym, arith}
-use Rattle.cdi_match.specs.declared.walk.Walk.{Walk}
-use Rattle.cdi_match.specs.Search.{next_of}
+use Rattle.cdi_match.proofs.Common.{ap, ◌∙◌, refl, sym, arith, Walk, next_of}
 use Rattle.cdi_match.proofs.WalkLemmas.{fewer-tasks, walk-gone, walk-step}
 use Rattle.cdi_match.proofs.walk.Walk.take_one.Goals as goal
 

@@ -1,7 +1,6 @@
 use Rattle.std.proofs.Common.{length, ap, subst, arith}
-use Rattle.cdi_memo.specs.Answers.{answers_in}
-use Rattle.cdi_memo.specs.Laws.{CountsAnswered}
 use Rattle.cdi_memo.proofs.QuestionLemmas.{counts-answered, names-below}
+use Rattle.cdi_memo.specs.{Answers.answers_in, Laws.CountsAnswered}
 use Rattle.cdi_memo.proofs.memo.Memo.count.Goals as goal
 
 pub returns-clause-answered : goal.returns-clause-answered

@@ -1,6 +1,6 @@
 use Rattle.std.proofs.Common.{sym, ap, ◌∙◌}
-use Rattle.cdi_memo.specs.Answers.{answer}
 use Rattle.cdi_memo.proofs.ChangeLemmas.{answer_at, answer-in}
+use Rattle.cdi_memo.specs.Answers.{answer}
 use Rattle.cdi_memo.proofs.memo.Memo.get.Goals as goal
 
 pub returns-in-Some : goal.returns-in-Some

@@ -1,7 +1,7 @@
 use Rattle.std.proofs.Common.{not, sym, ap, ◌∙◌, arith}
-use Rattle.cdi_memo.specs.Answers.{answers_in, is_kept}
 use Rattle.cdi_memo.proofs.ChangeLemmas.{turned}
 use Rattle.cdi_memo.proofs.QuestionLemmas.{count-more, count-put}
+use Rattle.cdi_memo.specs.Answers.{answers_in, is_kept}
 use Rattle.cdi_memo.proofs.memo.Memo.keep.Goals as goal
 
 pub invariant_of-self-then-branch : goal.invariant_of-self-then-branch

@@ -1,8 +1,6 @@
 use Rattle.std.proofs.Common.{length, slice_get, sym, ap, ◌∙◌, arith}
-use Rattle.std.specs.Map.{keys_of}
-use Rattle.std.specs.Option.{option_map}
-use Rattle.std.proofs.lemmas.Map.Entries.{length-keys_of}
-use Rattle.std.proofs.lemmas.Option.{slice_get_past, slice_get-map}
+use Rattle.std.specs.{Map.keys_of, Option.option_map}
+use Rattle.std.proofs.lemmas.{Map.Entries.length-keys_of, Option.slice_get_past, Option.slice_get-map}
 use Rattle.cdi_memo.proofs.ChangeLemmas.{keys-seen}
 use Rattle.cdi_memo.proofs.memo.Memo.name_at.Goals as goal
 

@@ -1,8 +1,6 @@
 use Rattle.std.proofs.Common.{length, slice_get, sym, ap, ◌∙◌, arith}
-use Rattle.std.specs.Map.{keys_of}
-use Rattle.std.specs.Option.{is_some, option_copied, option_map}
-use Rattle.std.proofs.lemmas.Map.Entries.{length-keys_of}
-use Rattle.std.proofs.lemmas.Option.{slice_get_past, slice_get-map}
+use Rattle.std.specs.{Map.keys_of, Option.is_some, Option.option_copied, Option.option_map}
+use Rattle.std.proofs.lemmas.{Map.Entries.length-keys_of, Option.slice_get_past, Option.slice_get-map}
 use Rattle.cdi_memo.proofs.ChangeLemmas.{answer_at, answer-seen, parts_at, parts-seen}
 use Rattle.cdi_memo.proofs.QuestionLemmas.{parts-kept}
 use Rattle.cdi_memo.proofs.memo.Memo.part_at.Goals as goal

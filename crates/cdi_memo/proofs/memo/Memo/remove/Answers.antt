@@ -1,6 +1,6 @@
 use Rattle.std.proofs.Common.{sym, ◌∙◌, arith}
-use Rattle.cdi_memo.specs.Answers.{answers_in}
 use Rattle.cdi_memo.proofs.QuestionLemmas.{count-less, count-stays}
+use Rattle.cdi_memo.specs.Answers.{answers_in}
 use Rattle.cdi_memo.proofs.memo.Memo.remove.Goals as goal
 
 pub overflow_sub-self : goal.overflow_sub-self

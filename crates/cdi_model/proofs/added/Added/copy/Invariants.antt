@@ -1,5 +1,4 @@
-use Rattle.std.proofs.Common.{◌≡◌, ◌++◌, drop}
-use Rattle.cdi_model.specs.Layers.{shared_in}
+use Rattle.cdi_model.proofs.Common.{◌≡◌, ◌++◌, drop, shared_in}
 use Rattle.cdi_model.proofs.added.Added.copy.Given as goal
 
 abbrev pub invariant-loop-decl : goal.invariant-loop-decl

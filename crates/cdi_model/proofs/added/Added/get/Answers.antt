@@ -1,4 +1,4 @@
-use Rattle.std.proofs.Common.{sym, ◌∙◌}
+use Rattle.cdi_model.proofs.Common.{sym, ◌∙◌}
 use Rattle.cdi_model.proofs.PositionLemmas.{position-there, position-absent}
 use Rattle.cdi_model.proofs.added.Added.get.Goals as goal
 

@@ -1,5 +1,4 @@
-use Rattle.std.proofs.Common.{position, ap, ◌∙◌}
-use Rattle.cdi_model.specs.DeclList.{is_of}
+use Rattle.cdi_model.proofs.Common.{position, ap, ◌∙◌, is_of}
 use Rattle.cdi_model.proofs.SharedLemmas.{place_among, position-shared}
 use Rattle.cdi_model.proofs.added.Added.position.Goals as goal
 

@@ -1,7 +1,4 @@
-use Rattle.std.proofs.Common.{Some, None, sym, ap, ◌∙◌}
-use Rattle.cdi_model.specs.Decl.{kind_of, name_of_decl}
-use Rattle.cdi_model.specs.DeclList.{put_in}
-use Rattle.cdi_model.specs.Layers.{shared_in}
+use Rattle.cdi_model.proofs.Common.{Some, None, sym, ap, ◌∙◌, kind_of, name_of_decl, put_in, shared_in}
 use Rattle.cdi_model.proofs.SharedLemmas.{same-place, shared-put, shared-more}
 use Rattle.cdi_model.proofs.added.Added.put.Goals as goal
 

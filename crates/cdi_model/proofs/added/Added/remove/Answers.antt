@@ -1,6 +1,4 @@
-use Rattle.std.proofs.Common.{is_some, sym, ap, ◌∙◌}
-use Rattle.cdi_model.specs.DeclList.{find_decl, remove_from}
-use Rattle.cdi_model.specs.Layers.{shared_in}
+use Rattle.cdi_model.proofs.Common.{is_some, sym, ap, ◌∙◌, find_decl, remove_from, shared_in}
 use Rattle.cdi_model.proofs.SharedLemmas.{place_among, shared-found, shared-absent, shared-removed}
 use Rattle.cdi_model.proofs.added.Added.remove.Goals as goal
 

@@ -1,7 +1,4 @@
-use Rattle.std.proofs.Common.{position, ap, ◌∙◌}
-use Rattle.std.specs.Map.{keys_of}
-use Rattle.cdi_model.specs.DeclKey.{key_at, same_key}
-use Rattle.cdi_model.specs.DeclList.{is_of}
+use Rattle.cdi_model.proofs.Common.{position, ap, ◌∙◌, keys_of, key_at, same_key, is_of}
 use Rattle.cdi_model.proofs.PositionLemmas.{position-keys}
 use Rattle.cdi_model.proofs.base.Base.place_of.Goals as goal
 

@@ -1,4 +1,4 @@
-use Rattle.std.proofs.Common.{sym, ◌∙◌}
+use Rattle.cdi_model.proofs.Common.{sym, ◌∙◌}
 use Rattle.cdi_model.proofs.CallLemmas.{call_meaning}
 use Rattle.cdi_model.proofs.decl.CallDecl.parse.Goals as goal
 

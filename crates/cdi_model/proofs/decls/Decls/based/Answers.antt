@@ -1,8 +1,4 @@
-use Rattle.std.proofs.Common.{subst, ap, ◌∙◌}
-use Rattle.std.specs.List.{IsDistinct}
-use Rattle.cdi_model.specs.Decl.{key_of}
-use Rattle.cdi_model.specs.DeclKey.{same_key}
-use Rattle.cdi_model.specs.Layers.{keys_in}
+use Rattle.cdi_model.proofs.Common.{subst, ap, ◌∙◌, IsDistinct, key_of, same_key, keys_in}
 use Rattle.cdi_model.proofs.BaseLemmas.{put-more}
 use Rattle.cdi_model.proofs.decls.Decls.based.Goals as goal
 

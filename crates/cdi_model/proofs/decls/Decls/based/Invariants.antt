@@ -1,4 +1,4 @@
-use Rattle.std.proofs.Common.{length}
+use Rattle.cdi_model.proofs.Common.{length}
 use Rattle.cdi_model.proofs.BaseLemmas.{IsPut}
 use Rattle.cdi_model.proofs.decls.Decls.based.Given as goal
 

@@ -1,5 +1,4 @@
-use Rattle.std.proofs.Common.{Some, None, ap, ◌∙◌}
-use Rattle.cdi_model.specs.DeclList.{find_decl}
+use Rattle.cdi_model.proofs.Common.{Some, None, ap, ◌∙◌, find_decl}
 use Rattle.cdi_model.proofs.JoinedLemmas.{found-first, found-second}
 use Rattle.cdi_model.proofs.decls.Decls.get.Goals as goal
 

@@ -1,5 +1,4 @@
-use Rattle.std.proofs.Common.{◌++◌, sym, subst, ◌∙◌}
-use Rattle.cdi_model.specs.Layers.{AreListed}
+use Rattle.cdi_model.proofs.Common.{◌++◌, sym, subst, ◌∙◌, AreListed}
 use Rattle.cdi_model.proofs.ListedLemmas.{listed-nil}
 use Rattle.cdi_model.proofs.decls.Decls.new.Goals as goal
 

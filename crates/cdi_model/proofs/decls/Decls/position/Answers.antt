@@ -1,5 +1,4 @@
-use Rattle.std.proofs.Common.{◌+◌, Some, None, is_some, position, sym, ap, ◌∙◌}
-use Rattle.cdi_model.specs.DeclList.{is_of}
+use Rattle.cdi_model.proofs.Common.{◌+◌, Some, None, is_some, position, sym, ap, ◌∙◌, is_of}
 use Rattle.cdi_model.proofs.JoinedLemmas.{place-first, place-second}
 use Rattle.cdi_model.proofs.PositionLemmas.{position-found, position-there}
 use Rattle.cdi_model.proofs.decls.Decls.position.Goals as goal

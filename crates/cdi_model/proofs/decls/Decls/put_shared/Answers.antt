@@ -1,6 +1,4 @@
-use Rattle.std.proofs.Common.{◌++◌, cond, sym, subst, ap, ◌∙◌}
-use Rattle.cdi_model.specs.DeclList.{put_in, is_too_many}
-use Rattle.cdi_model.specs.Layers.{AreListed}
+use Rattle.cdi_model.proofs.Common.{◌++◌, cond, sym, subst, ap, ◌∙◌, put_in, is_too_many, AreListed}
 use Rattle.cdi_model.proofs.JoinedLemmas.{put-first, put-second}
 use Rattle.cdi_model.proofs.ListedLemmas.{listed-put}
 use Rattle.cdi_model.proofs.decls.Decls.put_shared.Goals as goal

@@ -1,4 +1,4 @@
-use Rattle.std.proofs.Common.{◌≡◌, ◌++◌, length, map}
+use Rattle.cdi_model.proofs.Common.{◌≡◌, ◌++◌, length, map}
 use Rattle.cdi_model.proofs.decls.Decls.shared.Given as goal
 
 abbrev pub invariant-loop-decl : goal.invariant-loop-decl

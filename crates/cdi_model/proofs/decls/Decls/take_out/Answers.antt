@@ -1,6 +1,4 @@
-use Rattle.std.proofs.Common.{◌++◌, is_some, sym, subst, ap, ◌∙◌}
-use Rattle.cdi_model.specs.DeclList.{find_decl, remove_from}
-use Rattle.cdi_model.specs.Layers.{AreListed}
+use Rattle.cdi_model.proofs.Common.{◌++◌, is_some, sym, subst, ap, ◌∙◌, find_decl, remove_from, AreListed}
 use Rattle.cdi_model.proofs.EditLemmas.{remove_from-absent}
 use Rattle.cdi_model.proofs.JoinedLemmas.{removed-first, removed-second, found-joined_first, found-joined_second}
 use Rattle.cdi_model.proofs.ListedLemmas.{listed-removed}

@@ -1,5 +1,4 @@
-use Rattle.std.proofs.Common.{take}
-use Rattle.std.specs.Fmt.{HasWritten, IsPlainFormatter}
+use Rattle.cdi_model.proofs.Common.{take, HasWritten, IsPlainFormatter}
 use Rattle.cdi_model.specs.EventText.{text_of_uses}
 use Rattle.cdi_model.proofs.display.ListedDisplay.fmt.Given as goal
 

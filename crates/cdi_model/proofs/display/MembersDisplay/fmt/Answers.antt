@@ -1,7 +1,5 @@
-use Rattle.std.proofs.Common.{ap, ◌∙◌, [], ◌++◌, ◌∷◌, refl, rules}
-use Rattle.std.specs.Fmt.{signed_decimal}
+use Rattle.cdi_model.proofs.Common.{ap, ◌∙◌, [], ◌++◌, ◌∷◌, refl, rules, signed_decimal, equals_sign}
 use Rattle.std.proofs.Output.{has_written_append, has_written_of_eq}
-use Rattle.cdi_model.specs.Bytes.{equals_sign}
 use Rattle.cdi_model.proofs.UseTextLemmas.{pairs_behind, pairs_behind_more, pairs_behind_done}
 use Rattle.cdi_model.proofs.display.MembersDisplay.fmt.Goals as goal
 

@@ -1,7 +1,6 @@
-use Rattle.std.proofs.Common.{◌≡◌, ℕ, List, [], ◌++◌}
+use Rattle.cdi_model.proofs.Common.{◌≡◌, ℕ, List, [], ◌++◌, HasWritten, IsPlainFormatter}
 use denote.Shadow.{shadow}
 use denote.Text.{Utf8}
-use Rattle.std.specs.Fmt.{HasWritten, IsPlainFormatter}
 use Rattle.cdi_model.proofs.UseTextLemmas.{pairs_behind}
 use Rattle.cdi_model.proofs.display.MembersDisplay.fmt.Given as goal
 

@@ -1,6 +1,5 @@
-use Rattle.std.proofs.Common.{◌≤◌, length, slice_get, arith, ap, sym, ◌∙◌}
+use Rattle.cdi_model.proofs.Common.{◌≤◌, length, slice_get, arith, ap, sym, ◌∙◌, changed_by, kept}
 use Rattle.std.proofs.lemmas.Option.{slice_get_past}
-use Rattle.cdi_model.specs.Layers.{changed_by, kept}
 use Rattle.cdi_model.proofs.KeptLemmas.{get_kept}
 use Rattle.cdi_model.proofs.StandingLemmas.{few}
 use Rattle.cdi_model.proofs.kept.Kept.at.Goals as goal

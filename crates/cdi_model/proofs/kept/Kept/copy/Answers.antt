@@ -1,5 +1,4 @@
-use Rattle.std.proofs.Common.{length, subst, sym, ap, ◌∙◌}
-use Rattle.cdi_model.specs.Layers.{changed_by, keys_in, AreListed, AreMarked}
+use Rattle.cdi_model.proofs.Common.{length, subst, sym, ap, ◌∙◌, changed_by, keys_in, AreListed, AreMarked}
 use Rattle.cdi_model.proofs.kept.Kept.copy.Goals as goal
 
 pub invariant_of-result : goal.invariant_of-result

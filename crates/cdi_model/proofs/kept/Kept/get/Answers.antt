@@ -1,6 +1,4 @@
-use Rattle.std.proofs.Common.{slice_get, ap, sym, ◌∙◌}
-use Rattle.cdi_model.specs.DeclList.{find_decl}
-use Rattle.cdi_model.specs.Layers.{changed_by}
+use Rattle.cdi_model.proofs.Common.{slice_get, ap, sym, ◌∙◌, find_decl, changed_by}
 use Rattle.cdi_model.proofs.StandingLemmas.{absent, found}
 use Rattle.cdi_model.proofs.kept.Kept.get.Goals as goal
 

@@ -1,5 +1,4 @@
-use Rattle.std.proofs.Common.{length, arith, ap, ◌∙◌}
-use Rattle.cdi_positions.specs.Marks.{count_below}
+use Rattle.cdi_model.proofs.Common.{length, arith, ap, ◌∙◌, count_below}
 use Rattle.cdi_model.proofs.StandingLemmas.{count-kept}
 use Rattle.cdi_model.proofs.kept.Kept.len.Goals as goal
 

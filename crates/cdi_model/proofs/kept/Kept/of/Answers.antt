@@ -1,5 +1,4 @@
-use Rattle.std.proofs.Common.{ap, ◌∙◌}
-use Rattle.cdi_model.specs.Layers.{changed_by, kept}
+use Rattle.cdi_model.proofs.Common.{ap, ◌∙◌, changed_by, kept}
 use Rattle.cdi_model.proofs.StandingLemmas.{all_kept}
 use Rattle.cdi_model.proofs.kept.Kept.of.Goals as goal
 

@@ -1,6 +1,4 @@
-use Rattle.std.proofs.Common.{◌≡◌, ◌+◌, ◌-◌, position, arith, ap, sym, ◌∙◌}
-use Rattle.cdi_positions.specs.Marks.{count_below}
-use Rattle.cdi_model.specs.DeclList.{is_of}
+use Rattle.cdi_model.proofs.Common.{◌≡◌, ◌+◌, ◌-◌, position, arith, ap, sym, ◌∙◌, count_below, is_of}
 use Rattle.cdi_model.proofs.KeptLemmas.{count-le}
 use Rattle.cdi_model.proofs.StandingLemmas.{rank, unplaced}
 use Rattle.cdi_model.proofs.kept.Kept.position.Goals as goal

@@ -1,6 +1,4 @@
-use Rattle.std.proofs.Common.{is_some, ap, sym, ◌∙◌}
-use Rattle.cdi_model.specs.DeclList.{find_decl, remove_from}
-use Rattle.cdi_model.specs.Layers.{changed_by, kept}
+use Rattle.cdi_model.proofs.Common.{is_some, ap, sym, ◌∙◌, find_decl, remove_from, changed_by, kept}
 use Rattle.cdi_model.proofs.StandingLemmas.{absent, is_found, removed, unremoved}
 use Rattle.cdi_model.proofs.kept.Kept.remove.Goals as goal
 

@@ -1,8 +1,6 @@
-use Rattle.std.proofs.Common.{◌<◌, Some, None, true, false, length, is_some, slice_set, arith, subst, ap, sym, ◌∙◌}
+use Rattle.cdi_model.proofs.Common.{◌<◌, Some, None, true, false, length, is_some, slice_set, arith, subst, ap, sym, ◌∙◌, kind_of}
+use Rattle.cdi_model.proofs.Common.{name_of_decl, find_decl, put_in, changed_by, kept, AreKept}
 use Rattle.std.proofs.lemmas.List.{get_or-set_same}
-use Rattle.cdi_model.specs.Decl.{kind_of, name_of_decl}
-use Rattle.cdi_model.specs.DeclList.{find_decl, put_in}
-use Rattle.cdi_model.specs.Layers.{changed_by, kept, AreKept}
 use Rattle.cdi_model.proofs.ReplacedLemmas.{marked-set}
 use Rattle.cdi_model.proofs.StandingLemmas.{absent, is_found, replaced, same-unmarked, stands, still-kept}
 use Rattle.cdi_model.proofs.kept.Kept.replace.Goals as goal

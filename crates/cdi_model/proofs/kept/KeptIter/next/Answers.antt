@@ -1,5 +1,4 @@
-use Rattle.std.proofs.Common.{◌≡◌, ◌+◌, ◌<◌, ◌≤◌, [], ◌∷◌, length, MatchOption, arith, sym, subst, ◌∙◌}
-use Rattle.cdi_model.specs.Layers.{changed_by}
+use Rattle.cdi_model.proofs.Common.{◌≡◌, ◌+◌, ◌<◌, ◌≤◌, [], ◌∷◌, length, MatchOption, arith, sym, subst, ◌∙◌, changed_by}
 use Rattle.cdi_model.proofs.LeftLemmas.{kept_from, next-kept, none-after, none-left}
 use Rattle.cdi_model.proofs.ReplacedLemmas.{length-changed}
 use Rattle.cdi_model.proofs.kept.KeptIter.next.Goals as goal

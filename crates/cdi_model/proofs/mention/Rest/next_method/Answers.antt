@@ -1,11 +1,11 @@
-use Rattle.std.proofs.Common.{rules, ◌∷◌, [], ◌++◌, flat_map}
+use Rattle.cdi_model.proofs.Common.{rules, ◌∷◌, [], ◌++◌, flat_map, of_point}
 use Rattle.std.proofs.lemmas.List.{nil_from_length}
-use Rattle.cdi_model.specs.declared.mention.PointPlace.TheVariants as points
-use Rattle.cdi_model.specs.declared.place.PartPlace.TheVariants as parts
-use Rattle.cdi_model.specs.Mentions.{BodyOf, left_before, of_attributes, of_bindings, of_disposer, of_method, of_observer, of_part}
-use Rattle.cdi_model.specs.Mentions.{of_point, of_producer, of_qualifiers, part_place_of}
 use Rattle.cdi_model.proofs.MentionLemmas.{any-first, disposer-first, listed-first, method-first, none-listed, observer-first}
 use Rattle.cdi_model.proofs.MentionLemmas.{producer-first}
+use Rattle.cdi_model.specs.Mentions.{BodyOf, left_before, of_attributes, of_bindings, of_disposer, of_method, of_observer, of_part}
+use Rattle.cdi_model.specs.Mentions.{of_producer, of_qualifiers, part_place_of}
+use Rattle.cdi_model.specs.declared.mention.PointPlace.TheVariants as points
+use Rattle.cdi_model.specs.declared.place.PartPlace.TheVariants as parts
 use Rattle.cdi_model.proofs.mention.Rest.next_method.Goals as goal
 
 pub returns-in-Some : goal.returns-in-Some

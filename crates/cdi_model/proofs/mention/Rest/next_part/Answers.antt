@@ -1,6 +1,6 @@
-use Rattle.std.proofs.Common.{◌++◌, flat_map, ap, sym, ◌∙◌}
-use Rattle.cdi_model.specs.Mentions.{left_behind, names_left, of_point, parts_left, sites_left}
+use Rattle.cdi_model.proofs.Common.{◌++◌, flat_map, ap, sym, ◌∙◌, of_point}
 use Rattle.cdi_model.proofs.MentionLemmas.{part-first}
+use Rattle.cdi_model.specs.Mentions.{left_behind, names_left, parts_left, sites_left}
 use Rattle.cdi_model.proofs.mention.Rest.next_part.Goals as goal
 
 pub returns-in-Some : goal.returns-in-Some

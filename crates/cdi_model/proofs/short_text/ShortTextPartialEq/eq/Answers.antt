@@ -1,7 +1,6 @@
-use Rattle.std.proofs.Common.{◌≡◌, ℕ, ◌-◌, ◌≤◌, Bool, true, false, List, length, take, drop, replicate, refl, sym, ap, ◌∙◌}
-use Rattle.std.specs.Str.{bytes_eq}
+use Rattle.cdi_model.proofs.Common.{◌≡◌, ℕ, ◌-◌, ◌≤◌, Bool, true, false, List, length, take, drop, replicate, refl, sym, ap, ◌∙◌}
+use Rattle.std.specs.{Str.bytes_eq, Bool.Decides}
 use Rattle.std.proofs.lemmas.Slice.Eq.{bytes_eq-Decides}
-use Rattle.std.specs.Bool.{Decides}
 use Rattle.cdi_model.specs.ShortText.{fields_again, padded}
 use Rattle.cdi_model.proofs.short_text.ShortTextPartialEq.eq.Goals as goal
 

@@ -1,4 +1,4 @@
-use Rattle.std.proofs.Common.{◌/◌, ◌<◌, true, ap, ◌∙◌, length, set, arith}
+use Rattle.cdi_positions.proofs.Common.{◌/◌, ◌<◌, true, ap, ◌∙◌, length, set, arith}
 use Rattle.cdi_positions.proofs.SetLemmas.{set-mark, BeginsAt-set, EndsAt-set}
 use Rattle.cdi_positions.proofs.position_queue.PositionQueue.put.Goals as goal
 

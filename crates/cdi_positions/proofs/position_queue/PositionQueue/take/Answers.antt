@@ -1,7 +1,5 @@
-use Rattle.std.proofs.Common.{◌+◌, ◌*◌, ◌/◌, false, ap, sym, ◌∙◌, get_or, set, arith}
-use Rattle.std.specs.Int.Count.{count_trailing_zeros}
-use Rattle.cdi_positions.specs.Marks.{is_marked, marked_count}
-use Rattle.cdi_positions.specs.Words.{marks_of}
+use Rattle.cdi_positions.proofs.Common.{◌+◌, ◌*◌, ◌/◌, false, ap, sym, ◌∙◌, get_or, set, arith, count_trailing_zeros, is_marked}
+use Rattle.cdi_positions.proofs.Common.{marked_count, marks_of}
 use Rattle.cdi_positions.proofs.MarkLemmas.{marked_count-none}
 use Rattle.cdi_positions.proofs.SetLemmas.{lowest-marked, lowest-taken, unmarked-zero, zeros-all}
 use Rattle.cdi_positions.proofs.position_queue.PositionQueue.take.Goals as goal

@@ -1,5 +1,4 @@
-use Rattle.std.proofs.Common.{◌≡◌, ◌-◌}
-use Rattle.cdi_positions.specs.Words.{word_count, BeginsAt, EndsAt}
+use Rattle.cdi_positions.proofs.Common.{◌≡◌, ◌-◌, word_count, BeginsAt, EndsAt}
 use Rattle.cdi_positions.proofs.position_queue.PositionQueue.take.Given as goal
 
 abbrev pub invariant-filled : goal.invariant-filled

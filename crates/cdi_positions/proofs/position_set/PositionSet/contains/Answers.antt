@@ -1,8 +1,4 @@
-use Rattle.std.proofs.Common.{◌%◌, ◌/◌, ◌^◌, eqb, false, ap, sym, ◌∙◌, arith}
-use Rattle.std.specs.Prelude.{bit_and}
-use Rattle.std.proofs.lemmas.List.{get_or_past}
-use Rattle.cdi_positions.specs.Marks.{is_marked}
-use Rattle.cdi_positions.specs.Words.{marks_of}
+use Rattle.cdi_positions.proofs.Common.{◌%◌, ◌/◌, ◌^◌, eqb, false, ap, sym, ◌∙◌, arith, bit_and, get_or_past, is_marked, marks_of}
 use Rattle.cdi_positions.proofs.SetLemmas.{length-marks_of, test-mark}
 use Rattle.cdi_positions.proofs.position_set.PositionSet.contains.Goals as goal
 

@@ -1,7 +1,5 @@
-use Rattle.std.proofs.Common.{◌≡◌, ◌+◌, ◌-◌, ◌*◌, ◌%◌, ◌/◌, ◌^◌, ◌<◌, ℕ, List, length, get_or, ap, ap₂, subst, sym, ◌∙◌, take, arith}
-use Rattle.std.specs.Prelude.{bit_and, count_ones}
-use Rattle.cdi_positions.specs.Marks.{count_below, marked_count}
-use Rattle.cdi_positions.specs.Words.{marks_of}
+use Rattle.cdi_positions.proofs.Common.{◌≡◌, ◌+◌, ◌-◌, ◌*◌, ◌%◌, ◌/◌, ◌^◌, ◌<◌, ℕ, List, length, get_or, ap, ap₂, subst, sym, ◌∙◌, take}
+use Rattle.cdi_positions.proofs.Common.{arith, bit_and, count_ones, count_below, marked_count, marks_of}
 use Rattle.cdi_positions.proofs.MarkLemmas.{count_below-le}
 use Rattle.cdi_positions.proofs.SetLemmas.{count-mark, count-past}
 use Rattle.cdi_positions.proofs.WordLemmas.{count_below-marks_in}

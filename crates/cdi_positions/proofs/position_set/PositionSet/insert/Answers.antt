@@ -1,5 +1,4 @@
-use Rattle.std.proofs.Common.{◌/◌, ◌<◌, true, not, ap, ◌∙◌, length, set, arith}
-use Rattle.cdi_positions.specs.Marks.{is_marked}
+use Rattle.cdi_positions.proofs.Common.{◌/◌, ◌<◌, true, not, ap, ◌∙◌, length, set, arith, is_marked}
 use Rattle.cdi_positions.proofs.SetLemmas.{fresh-mark, set-mark}
 use Rattle.cdi_positions.proofs.position_set.PositionSet.insert.Goals as goal
 

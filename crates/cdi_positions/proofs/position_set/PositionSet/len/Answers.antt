@@ -1,5 +1,4 @@
-use Rattle.std.proofs.Common.{ap, ◌∙◌}
-use Rattle.cdi_positions.specs.Marks.{marked_count}
+use Rattle.cdi_positions.proofs.Common.{ap, ◌∙◌, marked_count}
 use Rattle.cdi_positions.proofs.SetLemmas.{count-used}
 use Rattle.cdi_positions.proofs.position_set.PositionSet.len.Goals as goal
 

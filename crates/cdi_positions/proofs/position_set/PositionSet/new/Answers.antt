@@ -1,4 +1,4 @@
-use Rattle.std.proofs.Common.{replicate, arith}
+use Rattle.cdi_positions.proofs.Common.{replicate, arith}
 use Rattle.cdi_positions.proofs.SetLemmas.{length-marks_of, unmarked-past, EndsAt-none}
 use Rattle.cdi_positions.proofs.position_set.PositionSet.new.Goals as goal
 

@@ -1,7 +1,4 @@
-use Rattle.std.proofs.Common.{◌+◌, ◌*◌, get_or, subst, ap, arith}
-use Rattle.std.specs.Int.Count.{ones-le}
-use Rattle.cdi_positions.specs.Marks.{marked_count, IsOutside}
-use Rattle.cdi_positions.specs.Words.{marks_in}
+use Rattle.cdi_positions.proofs.Common.{◌+◌, ◌*◌, get_or, subst, ap, arith, ones-le, marked_count, IsOutside, marks_in}
 use Rattle.cdi_positions.proofs.MarkLemmas.{count-whole, outside-row}
 use Rattle.cdi_positions.proofs.SetLemmas.{count-past, outside-past}
 use Rattle.cdi_positions.proofs.WordLemmas.{count-marks_in, length-marks_in}

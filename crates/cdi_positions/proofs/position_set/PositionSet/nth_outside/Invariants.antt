@@ -1,6 +1,4 @@
-use Rattle.std.proofs.Common.{◌≡◌, ◌*◌, ◌+◌}
-use Rattle.cdi_positions.specs.Marks.{count_below}
-use Rattle.cdi_positions.specs.Words.{marks_of}
+use Rattle.cdi_positions.proofs.Common.{◌≡◌, ◌*◌, ◌+◌, count_below, marks_of}
 use Rattle.cdi_positions.proofs.position_set.PositionSet.nth_outside.Given as goal
 
 abbrev pub invariant-loop-index : goal.invariant-loop-index

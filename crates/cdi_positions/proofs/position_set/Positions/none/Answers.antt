@@ -1,4 +1,4 @@
-use Rattle.std.proofs.Common.{replicate, refl, arith}
+use Rattle.cdi_positions.proofs.Common.{replicate, refl, arith}
 use Rattle.cdi_positions.proofs.SetLemmas.{none-left, EndsAt-none}
 use Rattle.cdi_positions.proofs.position_set.Positions.none.Goals as goal
 

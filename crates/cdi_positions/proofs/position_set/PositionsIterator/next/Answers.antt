@@ -1,4 +1,5 @@
-use Rattle.std.proofs.Common.{sym, ◌∙◌, arith, rules}
+use Rattle.cdi_positions.proofs.Common.{sym, ◌∙◌, arith}
+use Rattle.std.proofs.Common.{rules}
 use Rattle.cdi_positions.proofs.SetLemmas.{left-first, left-next, none-left}
 use Rattle.cdi_positions.proofs.position_set.PositionsIterator.next.Goals as goal
 

@@ -1,5 +1,4 @@
-use Rattle.std.proofs.Common.{◌≡◌, ◌-◌, ◌<◌}
-use Rattle.cdi_positions.specs.Words.{positions_left, word_count, EndsAt}
+use Rattle.cdi_positions.proofs.Common.{◌≡◌, ◌-◌, ◌<◌, positions_left, word_count, EndsAt}
 use Rattle.cdi_positions.proofs.position_set.PositionsIterator.next.Given as goal
 
 abbrev pub invariant-filled : goal.invariant-filled

@@ -1,6 +1,5 @@
 use Rattle.cdi_report.proofs.Common.{refl, is_present}
-use Rattle.std.proofs.Common.{rules}
-use Rattle.std.proofs.lemmas.Fn.{filter_same}
+use Rattle.std.proofs.{Common.rules, lemmas.Fn.filter_same}
 use Rattle.cdi_report.proofs.ForgottenLemmas.{left-are-present, settled-forgotten}
 use Rattle.cdi_report.proofs.unsettled.Unsettled.forget_gone.Goals as goal
 

@@ -1,13 +1,11 @@
 use Rattle.cdi_report.proofs.Common.{false, ◌++◌, refl, sym, ap, subst, ◌∙◌, same_key, key_of, ◌&&◌, list_any, closed_of, AreSettled}
 use Rattle.cdi_report.proofs.Common.{HaveNoneTogether, Unsettled, open_of, EvaluatesSome, faults_of, has_faults, faults_together}
-use Rattle.cdi_report.proofs.Common.{looks_at_all}
-use Rattle.std.specs.List.{flat_map}
+use Rattle.cdi_report.proofs.Common.{looks_at_all, flat_map}
 use Rattle.std.proofs.Common.{◌≢◌, AllPairs}
 use Rattle.base_options.proofs.Results.{OnErr-from}
 use Rattle.cdi_observe.specs.Lending.{IsEvaluated}
 use Rattle.cdi_observe.proofs.KeptLemmas.{evaluates_all}
-use Rattle.cdi_validate.proofs.AmongLemmas.{told-all}
-use Rattle.cdi_validate.proofs.OnceLemmas.{faults_stand_once}
+use Rattle.cdi_validate.proofs.{AmongLemmas.told-all, OnceLemmas.faults_stand_once}
 use Rattle.cdi_report.proofs.SettledLemmas.{all-knew, all-knows, rest-asked, settled-now, settled-still, some-still, tells-all}
 use Rattle.cdi_report.proofs.unsettled.Unsettled.report.Goals as goal
 

@@ -1,9 +1,9 @@
-use Rattle.std.proofs.lemmas.Bool.{not-false}
 use Rattle.cdi_report.proofs.Common.{sym, ap, ◌∙◌, false≢true, list_all, is_chainless, is_nameless, is_needless}
+use Rattle.std.proofs.lemmas.Bool.{not-false}
 use Rattle.cdi_report.proofs.SettledLemmas.{open-found}
 use Rattle.cdi_report.proofs.TogetherLemmas.{whole-chains, whole-circles, whole-names}
-use Rattle.cdi_report.proofs.unsettled.Unsettled.together.Goals as goal
 use Rattle.cdi_report.proofs.unsettled.Unsettled.together.Goals.{then-self, else-self, then-self-2, else-self-2+in_ok-circles}
+use Rattle.cdi_report.proofs.unsettled.Unsettled.together.Goals as goal
 
 pub are_nameless-requires : goal.are_nameless-requires
 are_nameless-requires g c =

@@ -1,8 +1,8 @@
 use Rattle.std.proofs.Common.{◌≡◌, Some, map, filter, ap, ◌∙◌}
 use Rattle.std.specs.List.{slice_get}
 use Rattle.std.proofs.lemmas.Result.{IfOk-weaker}
-use Rattle.cdi_resolve.specs.Choices.{offers}
 use Rattle.cdi_resolve.proofs.PlaceLemmas.{places-within, places-enough}
+use Rattle.cdi_resolve.specs.Choices.{offers}
 use Rattle.cdi_resolve.proofs.bean_list.BeanList.choose.Goals as goal
 
 pub at_places-requires : goal.at_places-requires

@@ -1,25 +1,20 @@
 use Rattle.std.proofs.Common.{rules, ◌≡◌, ◌<◌, ◌≤◌, ◌+◌, ◌-◌, length, [], Some, None, IsSome, arith, sym, ◌∙◌, refl, ap, true, false}
 use Rattle.std.proofs.lemmas.Grind.{common_steps}
-use Rattle.cdi_model.specs.declared.outcome.Outcome.TheVariants.{Value}
-use Rattle.cdi_model.specs.declared.outcome.Val.{Val}
+use Rattle.cdi_model.specs.declared.outcome.{Outcome.TheVariants.Value, Val.Val}
 use Rattle.cdi_contexts.specs.declared.instance.Actor.TheVariants.{Target}
-use Rattle.cdi_scene.specs.Scene.{product_at}
-use Rattle.cdi_scene.specs.Sound.{IsSoundAt}
 use Rattle.cdi_scene.specs.declared.place.Place.TheVariants.{Construct, Post, Method, Producer, Observer as Observing}
-use Rattle.cdi_legal.specs.Acts.{ending, Permits}
-use Rattle.cdi_legal.specs.Ends.{Ends, seat_on, seat_of_class}
+use Rattle.cdi_scene.specs.{Scene.product_at, Sound.IsSoundAt}
 use Rattle.cdi_legal.specs.Legal.{Legal, IsInactive, at, is_normal}
+use Rattle.cdi_legal.specs.{Acts.ending, Acts.Permits, Ends.Ends, Ends.seat_on, Ends.seat_of_class, Moment.Moment}
 use Rattle.cdi_legal.specs.Furnished.{HasDependents, IsDependent, IsServed}
-use Rattle.cdi_legal.specs.Moment.{Moment}
-use Rattle.cdi_legal.proofs.Growing.{legal_grows}
-use Rattle.cdi_legal.proofs.Settling.{has-after}
+use Rattle.cdi_legal.proofs.{Growing.legal_grows, Settling.has-after}
 use Rattle.cdi_ending.proofs.Before.{some_of}
-use Rattle.cdi_run.specs.Known.{IsPlaced, IsSettled}
 use Rattle.cdi_run.proofs.Beans.{form_of, never, some_bean, begun_grows, with_outcome, with_both}
-use Rattle.cdi_run.proofs.player.Player.+run.Goals.{ask_on-then-not-may_ask}
-use Rattle.cdi_run.proofs.player.Player.+run.Goals.{ask_on-else-not-may_ask+in-Some, ask_on-else-not-may_ask+in_default+then-len-eq64}
+use Rattle.cdi_run.proofs.player.Player.+run.Goals.{ask_on-then-not-may_ask, ask_on-else-not-may_ask+in-Some}
+use Rattle.cdi_run.proofs.player.Player.+run.Goals.{ask_on-else-not-may_ask+in_default+then-len-eq64}
 use Rattle.cdi_run.proofs.Staying.{created, injected, never_unmade, obtained, owned_by_param, reached, served_after, served_alone}
 use Rattle.cdi_run.proofs.Staying.{served_class, served_host, served_observer, served_same, settled_after, settled_begun, settled_same}
+use Rattle.cdi_run.specs.Known.{IsPlaced, IsSettled}
 use Rattle.cdi_run.proofs.player.Player.+run.Goals as goal
 
 pub act_on-returns-in_ok-note-in-Call-2 : goal.act_on-returns-in_ok-note-in-Call-2

@@ -1,7 +1,6 @@
 use Rattle.std.proofs.Common.{◌≡◌, ◌≤◌, ◌+◌, ◌-◌, ◌*◌, [], false, length}
 use Rattle.cdi_legal.specs.Legal.{Legal, Answer, inject, supply, asks, fire}
-use Rattle.cdi_legal.specs.Moment.{Moment}
-use Rattle.cdi_legal.specs.Furnished.{IsServed}
+use Rattle.cdi_legal.specs.{Moment.Moment, Furnished.IsServed}
 use Rattle.cdi_run.specs.Known.{IsBegun, IsSettled}
 use Rattle.cdi_run.proofs.player.Player.+run.Given as goal
 

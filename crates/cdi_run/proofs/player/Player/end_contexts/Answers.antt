@@ -1,14 +1,11 @@
 use Rattle.std.proofs.Common.{◌≡◌, ap}
 use Rattle.cdi_contexts.specs.Standing.{Standing, closed}
 use Rattle.cdi_scene.specs.declared.scene.Scene.{Scene}
-use Rattle.cdi_legal.specs.LegalRun.{LegalEnd}
-use Rattle.cdi_legal.specs.Moment.{Moment, beginning}
-use Rattle.cdi_legal.proofs.Commands.{end_follows, end_single}
-use Rattle.cdi_legal.proofs.Faultless.{commands_are_faultless}
-use Rattle.cdi_legal.proofs.Ordering.{commands_are_ordered}
-use Rattle.cdi_run.specs.Known.{EndsAll}
+use Rattle.cdi_legal.specs.{LegalRun.LegalEnd, Moment.Moment, Moment.beginning}
+use Rattle.cdi_legal.proofs.{Commands.end_follows, Commands.end_single, Faultless.commands_are_faultless, Ordering.commands_are_ordered}
 use Rattle.cdi_legal.proofs.Housing.{both_ends_leave_nothing, end_rooted}
 use Rattle.cdi_run.proofs.Staying.{end_stays}
+use Rattle.cdi_run.specs.Known.{EndsAll}
 use Rattle.cdi_run.proofs.player.Player.end_contexts.Goals as goal
 
 -- both contexts ended, and then the request was closed

@@ -1,14 +1,10 @@
 use Rattle.std.proofs.Common.{◌≡◌, ap}
-use Rattle.cdi_contexts.specs.Standing.{Standing, closed}
 use Rattle.cdi_model.specs.declared.decl.Scope.TheVariants.{Request}
+use Rattle.cdi_contexts.specs.Standing.{Standing, closed}
 use Rattle.cdi_scene.specs.declared.scene.Scene.{Scene}
-use Rattle.cdi_legal.specs.Ends.{Ends, context}
-use Rattle.cdi_legal.specs.LegalRun.{LegalRequestEnd}
-use Rattle.cdi_legal.specs.Moment.{Moment, beginning}
-use Rattle.cdi_legal.proofs.Commands.{request_end_follows, request_end_single}
-use Rattle.cdi_legal.proofs.Housing.{request_end_rooted}
-use Rattle.cdi_legal.proofs.Faultless.{commands_are_faultless}
-use Rattle.cdi_legal.proofs.Ordering.{commands_are_ordered}
+use Rattle.cdi_legal.specs.{Ends.Ends, Ends.context, LegalRun.LegalRequestEnd, Moment.Moment, Moment.beginning}
+use Rattle.cdi_legal.proofs.{Commands.request_end_follows, Commands.request_end_single, Housing.request_end_rooted}
+use Rattle.cdi_legal.proofs.{Faultless.commands_are_faultless, Ordering.commands_are_ordered}
 use Rattle.cdi_run.proofs.Staying.{request_end_stays}
 use Rattle.cdi_run.proofs.player.Player.end_request.Goals as goal
 

@@ -1,13 +1,9 @@
 use Rattle.std.proofs.Common.{refl, ap}
-use Rattle.cdi_legal.specs.LegalRun.{Runs}
-use Rattle.cdi_legal.specs.Moment.{Moment}
-use Rattle.cdi_legal.proofs.Following.{legal_follows}
-use Rattle.cdi_legal.proofs.Housing.{runs_rooted}
-use Rattle.cdi_legal.proofs.Keeping.{runs_keep}
-use Rattle.cdi_legal.proofs.Sharing.{legal_single}
-use Rattle.cdi_run.specs.Known.{IsSettled}
+use Rattle.cdi_legal.specs.{LegalRun.Runs, Moment.Moment}
+use Rattle.cdi_legal.proofs.{Following.legal_follows, Housing.runs_rooted, Keeping.runs_keep, Sharing.legal_single}
 use Rattle.cdi_run.proofs.Ran.{run_budget, run_cause, run_faultless, run_ordered}
 use Rattle.cdi_run.proofs.Staying.{settled_after, settled_same}
+use Rattle.cdi_run.specs.Known.{IsSettled}
 use Rattle.cdi_run.proofs.player.Player.fire.Goals as goal
 
 pub returns-in-Ok-clause-legal : goal.returns-in-Ok-clause-legal

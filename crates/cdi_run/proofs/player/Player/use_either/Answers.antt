@@ -1,6 +1,5 @@
 use Rattle.std.proofs.Common.{◌≡◌, arith, true, false}
-use Rattle.cdi_legal.specs.Legal.{is_normal}
-use Rattle.cdi_legal.specs.LegalRun.{Runs}
+use Rattle.cdi_legal.specs.{Legal.is_normal, LegalRun.Runs}
 use Rattle.cdi_run.proofs.Staying.{created, obtained, settled_after}
 use Rattle.cdi_run.proofs.player.Player.use_either.Goals as goal
 

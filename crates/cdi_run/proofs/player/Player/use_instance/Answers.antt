@@ -1,13 +1,9 @@
 use Rattle.std.proofs.Common.{rules, ◌≡◌, [], None, IsSome, arith, ap, refl}
 use Rattle.std.proofs.lemmas.Grind.{common_steps}
-use Rattle.cdi_model.specs.declared.outcome.Outcome.TheVariants.{Value}
-use Rattle.cdi_model.specs.declared.outcome.Val.{Val}
+use Rattle.cdi_model.specs.declared.outcome.{Outcome.TheVariants.Value, Val.Val}
 use Rattle.cdi_contexts.specs.declared.instance.Actor.TheVariants.{Target}
-use Rattle.cdi_scene.specs.Scene.{product_at}
-use Rattle.cdi_scene.specs.declared.place.Place.TheVariants.{Method}
-use Rattle.cdi_legal.specs.Ends.{seat_on}
-use Rattle.cdi_legal.specs.Furnished.{IsServed}
-use Rattle.cdi_legal.specs.LegalRun.{Uses}
+use Rattle.cdi_scene.specs.{Scene.product_at, declared.place.Place.TheVariants.Method}
+use Rattle.cdi_legal.specs.{Ends.seat_on, Furnished.IsServed, LegalRun.Uses}
 use Rattle.cdi_run.proofs.Staying.{served_alone}
 use Rattle.cdi_run.proofs.player.Player.use_instance.Goals as goal
 

@@ -1,12 +1,9 @@
 use Rattle.std.proofs.Common.{ap}
 use Rattle.cdi_legal.specs.Moment.{Moment}
-use Rattle.cdi_legal.proofs.Following.{runs_follow}
-use Rattle.cdi_legal.proofs.Housing.{runs_rooted}
-use Rattle.cdi_legal.proofs.Keeping.{runs_keep}
-use Rattle.cdi_legal.proofs.Sharing.{runs_single}
-use Rattle.cdi_run.specs.Known.{IsSettled}
+use Rattle.cdi_legal.proofs.{Following.runs_follow, Housing.runs_rooted, Keeping.runs_keep, Sharing.runs_single}
 use Rattle.cdi_run.proofs.Ran.{run_budget, run_cause, run_faultless, run_ordered}
 use Rattle.cdi_run.proofs.Staying.{runs_stay, settled_same}
+use Rattle.cdi_run.specs.Known.{IsSettled}
 use Rattle.cdi_run.proofs.player.Player.use_one.Goals as goal
 
 pub returns-in-Ok-clause-follows : goal.returns-in-Ok-clause-follows

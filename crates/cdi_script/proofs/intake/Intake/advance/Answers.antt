@@ -1,7 +1,4 @@
-use Rattle.std.proofs.Common.{◌+◌, ◌++◌, ap, sym, ◌∙◌, subst, inl, refl, drop}
-use Rattle.std.proofs.lemmas.List.{take-append-drop}
-use Rattle.base_options.proofs.Results.{OnErr-from}
-use Rattle.cdi_script.specs.Intake.{intake_on, Advances}
+use Rattle.cdi_script.proofs.Common.{◌+◌, ◌++◌, ap, sym, ◌∙◌, subst, inl, refl, drop, take-append-drop, OnErr-from, intake_on, Advances}
 use Rattle.cdi_lines.proofs.FeedLemmas.{CutsAtFeed-taken}
 use Rattle.cdi_script.proofs.Taking.{tries_more_bytes}
 use Rattle.cdi_script.proofs.intake.Intake.advance.Goals as goal

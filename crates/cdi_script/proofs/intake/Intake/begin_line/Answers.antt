@@ -1,5 +1,4 @@
-use Rattle.std.proofs.Common.{refl}
-use Rattle.cdi_script.specs.Intake.{intake_on}
+use Rattle.cdi_script.proofs.Common.{refl, intake_on}
 use Rattle.cdi_script.proofs.Taking.{begins}
 use Rattle.cdi_script.proofs.intake.Intake.begin_line.Goals as goal
 

@@ -1,7 +1,5 @@
-use Rattle.std.proofs.Common.{length, ap, ◌∙◌}
-use Rattle.std.proofs.lemmas.Result.{on_ok_weaker, on_err_weaker}
+use Rattle.cdi_script.proofs.Common.{length, ap, ◌∙◌, on_ok_weaker, on_err_weaker, intake_on}
 use borrow.Author.Tests.{both_ways, eq-eqb}
-use Rattle.cdi_script.specs.Intake.{intake_on}
 use Rattle.cdi_script.proofs.Taking.{ends_last, tries_last}
 use Rattle.cdi_script.proofs.intake.Intake.end_last_line.Goals as goal
 

@@ -1,9 +1,5 @@
-use Rattle.std.proofs.Common.{◌≡◌, [], ◌++◌, ap, refl, sym, ◌∙◌, subst, inl}
-use Rattle.std.proofs.lemmas.Result.{on_ok_weaker, on_err_weaker}
-use Rattle.base_options.proofs.Results.{OnErr-from}
-use Rattle.cdi_lines.specs.Kept.{ServesLine}
-use Rattle.cdi_lines.proofs.FeedLemmas.{no_items}
-use Rattle.cdi_script.specs.Intake.{intake_on}
+use Rattle.cdi_script.proofs.Common.{◌≡◌, [], ◌++◌, ap, refl, sym, ◌∙◌, subst, inl, on_ok_weaker, on_err_weaker, OnErr-from, ServesLine}
+use Rattle.cdi_script.proofs.Common.{no_items, intake_on}
 use Rattle.cdi_script.proofs.Taking.{ends, tries_end}
 use Rattle.cdi_script.proofs.intake.Intake.end_line.Goals as goal
 

@@ -1,7 +1,4 @@
-use Rattle.std.proofs.Common.{◌∷◌, [], ap, ◌∙◌, if◌then◌else◌}
-use Rattle.std.proofs.lemmas.Result.{on_ok_weaker}
-use Rattle.cdi_lines.specs.declared.command.Command.TheVariants.{Unreadable}
-use Rattle.cdi_script.specs.Intake.{intake_on}
+use Rattle.cdi_script.proofs.Common.{◌∷◌, [], ap, ◌∙◌, if◌then◌else◌, on_ok_weaker, Unreadable, intake_on}
 use Rattle.cdi_script.proofs.Taking.{refuses_open}
 use Rattle.cdi_script.proofs.intake.Intake.end_mode.Goals as goal
 

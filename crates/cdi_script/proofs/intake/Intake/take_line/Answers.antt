@@ -1,8 +1,4 @@
-use Rattle.std.proofs.Common.{refl, subst}
-use Rattle.std.proofs.lemmas.Result.{on_ok_weaker, on_err_weaker}
-use Rattle.cdi_script.specs.Commands.{taken}
-use Rattle.cdi_script.specs.Begun.{ServesTaken}
-use Rattle.cdi_script.specs.Intake.{intake_on}
+use Rattle.cdi_script.proofs.Common.{refl, subst, on_ok_weaker, on_err_weaker, taken, ServesTaken, intake_on}
 use Rattle.cdi_script.proofs.Taking.{takes_none, takes_some, tries_some}
 use Rattle.cdi_script.proofs.intake.Intake.take_line.Goals as goal
 

@@ -1,5 +1,4 @@
-use Rattle.std.proofs.lemmas.Result.{on_ok_weaker, on_err_weaker}
-use Rattle.base_options.proofs.Results.{OnErr-from}
+use Rattle.cdi_script.proofs.Common.{on_ok_weaker, on_err_weaker, OnErr-from}
 use Rattle.cdi_script.proofs.Ran.{ran}
 use Rattle.cdi_script.proofs.Trying.{tried_step}
 use Rattle.cdi_script.proofs.runner.Runner.execute.Goals as goal

@@ -2,8 +2,8 @@ use Rattle.cdi_staging.proofs.Common.{◌≡◌, ℕ, Bool, List, [], ◌∷◌,
 use Rattle.cdi_staging.proofs.Common.{as_bean, class_bindings, surrounds_one, sets_of, around_in, around_of, injections_around}
 use Rattle.cdi_staging.proofs.Common.{injections_from, drop, drop_more, append-nil}
 use Rattle.std.proofs.lemmas.List.{drop_all}
-use Rattle.cdi_contexts.specs.declared.instance.Actor.TheVariants.{Interceptor as By, Target as ByTarget}
 use Rattle.cdi_model.specs.declared.decl.Decl.TheVariants as decls
+use Rattle.cdi_contexts.specs.declared.instance.Actor.TheVariants.{Interceptor as By, Target as ByTarget}
 use Rattle.cdi_staging.proofs.ClassLemmas.{injected-next, injected-past, injections-named}
 use Rattle.cdi_staging.proofs.stage.Stage.injections.Goals.{else-contains, then-contains+in_ok-position_at+in_ok-push_injections}
 use Rattle.cdi_staging.proofs.stage.Stage.injections.Goals as goal

@@ -1,5 +1,4 @@
-use Rattle.cdi_staging.proofs.Common.{◌≡◌, suc, ◌++◌, Some, sym, ap, subst, ◌∙◌, flat_map, own-found, staged_beans, append_assoc}
-use Rattle.std.proofs.Common.{slice_get}
+use Rattle.cdi_staging.proofs.Common.{◌≡◌, suc, ◌++◌, Some, sym, ap, subst, ◌∙◌, flat_map, own-found, staged_beans, append_assoc, slice_get}
 use Rattle.cdi_staging.proofs.stage.Stage.staged_beans.Goals as goal
 
 pub loop-decl-init : goal.loop-decl-init

@@ -1,7 +1,7 @@
 use Rattle.std.proofs.Common.{◌∙◌, ap, sym, find, is_some, option_map}
 use Rattle.cdi_bodies.proofs.BookLemmas.{if_there}
-use Rattle.cdi_stock.specs.Table.{has_name, promise_of, table}
 use Rattle.cdi_stock.proofs.NameLemmas.{promise_named}
+use Rattle.cdi_stock.specs.Table.{has_name, promise_of, table}
 use Rattle.cdi_stock.proofs.stock_bodies.StockBodiesBodies.ask.Goals as goal
 
 pub returns-in_err-body-clause-known : goal.returns-in_err-body-clause-known

@@ -1,7 +1,6 @@
-use Rattle.std.proofs.Common.{◌∙◌, ap}
-use Rattle.std.specs.List.{position}
-use Rattle.cdi_stock.specs.Table.{has_name, table}
+use Rattle.std.proofs.Common.{◌∙◌, ap, position}
 use Rattle.cdi_stock.proofs.NameLemmas.{position_named}
+use Rattle.cdi_stock.specs.Table.{has_name, table}
 use Rattle.cdi_stock.proofs.stock_bodies.StockBodiesBodies.position.Goals as goal
 
 pub returns-clause-value : goal.returns-clause-value

@@ -1,6 +1,6 @@
 use Rattle.std.proofs.Common.{◌∙◌, ap, find, option_map, Some}
-use Rattle.cdi_stock.specs.Table.{has_name, promise_of, table}
 use Rattle.cdi_stock.proofs.NameLemmas.{promise_named}
+use Rattle.cdi_stock.specs.Table.{has_name, promise_of, table}
 use Rattle.cdi_stock.proofs.stock_bodies.StockBodiesBodies.promise.Goals as goal
 
 pub returns-in_err-body : goal.returns-in_err-body

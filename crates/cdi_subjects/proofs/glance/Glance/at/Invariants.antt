@@ -1,6 +1,6 @@
 use Rattle.std.proofs.Common.{◌≡◌}
-use Rattle.cdi_subjects.specs.Glance.{glance_at}
 use Rattle.cdi_subjects.proofs.GlanceLemmas.{behind}
+use Rattle.cdi_subjects.specs.Glance.{glance_at}
 use Rattle.cdi_subjects.proofs.glance.Glance.at.Given as goal
 
 abbrev pub invariant-loop-mention : goal.invariant-loop-mention

@@ -1,6 +1,4 @@
-use Rattle.std.proofs.Common.{◌≡◌, Some, option_and_then, sym}
-use Rattle.toml.specs.Data.{get_member, as_array}
-use Rattle.toml.specs.View.{table_view, array_view}
+use Rattle.cdi_text.proofs.Common.{◌≡◌, Some, option_and_then, sym, get_member, as_array, table_view, array_view}
 use Rattle.cdi_text.proofs.Soundness.{events_at, events_short}
 use Rattle.cdi_text.proofs.checked.Checked.events.Goals as goal
 

@@ -1,6 +1,4 @@
-use Rattle.std.proofs.Common.{◌≡◌, Some, sym}
-use Rattle.toml.specs.Data.{get_member}
-use Rattle.toml.specs.View.{view, table_view}
+use Rattle.cdi_text.proofs.Common.{◌≡◌, Some, sym, get_member, view, table_view}
 use Rattle.cdi_text.proofs.Soundness.{table_at}
 use Rattle.cdi_text.proofs.checked.Checked.table.Goals as goal
 

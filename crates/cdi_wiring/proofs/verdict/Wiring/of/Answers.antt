@@ -1,9 +1,8 @@
 use Rattle.std.proofs.Common.{◌≡◌, List, [], map, sym, subst, ap, ◌∙◌}
 use Rattle.std.proofs.lemmas.List.{nil_from_length}
-use Rattle.cdi_effective.specs.Beans.{beans}
-use Rattle.cdi_effective.specs.declared.records.Effective.{Effective}
-use Rattle.cdi_staging.specs.Listed.{ArePositions}
+use Rattle.cdi_effective.specs.{Beans.beans, declared.records.Effective.Effective}
 use Rattle.cdi_validate.specs.Faults.{faults}
+use Rattle.cdi_staging.specs.Listed.{ArePositions}
 use Rattle.cdi_wiring.proofs.FaultLemmas.{faultless_is_sound}
 use Rattle.cdi_wiring.proofs.verdict.Wiring.of.Goals as goal
 
