@@ -3,19 +3,12 @@ use Rattle.std.proofs.Common.{◌≡◌, ◌≢◌, ◌∙◌, ap, sym, refl, su
 use Rattle.std.proofs.Common.{List, [], ◌∷◌, ◌++◌, map, length, drop, get_or, slice_get, position, find, Option, Some, None, option_map}
 use Rattle.std.specs.List.{AllPairs, IsDistinct, list_any, position_or_len}
 use Rattle.std.proofs.lemmas.List.{append-nil, append_assoc, drop_all, drop_more, get_or_append_left, length-append, length-map}
-use Rattle.std.specs.{Cmp.Lexicographic.bytes_decides, Cmp.Lexicographic.pointwise, Option.IfSome}
-use Rattle.std.proofs.{lemmas.Bool.ltb-false, Math.Seq.get_or-append_seam, lemmas.List.Folds.find_at}
 use Rattle.std.proofs.lemmas.Map.Made.{AllPairs-from_IsDistinct, is_member-Decides}
 use Rattle.std.proofs.lemmas.Option.{slice_get_past, slice_get-get_or, slice_get-map}
 use Rattle.indexmap.specs.IndexSet.{insert_key}
 use Rattle.base_lists.proofs.Places.{position-map}
 use Rattle.cdi_bodies.specs.Book.{Promised, promise_of, position_of, is_named, AreDistinct}
 use Rattle.cdi_bodies.specs.declared.promise.Promise.{Promise}
-
-module _ {X Y : Type 0} (f : X → Y) (p : Y → Bool) where
-  first_passing-map : (xs : List X) → position_or_len p (map f xs) ≡ position_or_len (λ x. p (f x)) xs
-  first_passing-map [] = refl
-  first_passing-map (x ∷ xs) = ap (λ n. cond (not (p (f x))) (1 + n) 0) (first_passing-map xs)
 
 module _ {X : Type 0} (p : X → Bool) (xs : List X) where
   -- what passes first is found at its place
