@@ -3,6 +3,8 @@ use Rattle.std.proofs.Common.{◌≡◌, ◌≢◌, ◌∙◌, ap, sym, refl, su
 use Rattle.std.proofs.Common.{List, [], ◌∷◌, ◌++◌, map, length, drop, get_or, slice_get, position, find, Option, Some, None, option_map}
 use Rattle.std.specs.List.{AllPairs, IsDistinct, list_any, position_or_len}
 use Rattle.std.proofs.lemmas.List.{append-nil, append_assoc, drop_all, drop_more, get_or_append_left, length-append, length-map}
+use Rattle.std.specs.{Cmp.Lexicographic.bytes_decides, Cmp.Lexicographic.pointwise, Option.IfSome}
+use Rattle.std.proofs.{lemmas.Bool.ltb-false, Math.Seq.get_or-append_seam, lemmas.List.Folds.find_at}
 use Rattle.std.proofs.lemmas.Map.Made.{AllPairs-from_IsDistinct, is_member-Decides}
 use Rattle.std.proofs.lemmas.Option.{slice_get_past, slice_get-get_or, slice_get-map}
 use Rattle.indexmap.specs.IndexSet.{insert_key}

@@ -3,6 +3,7 @@ use Rattle.std.proofs.Common.{◌≡◌, ◌∙◌, ℕ, ap, sym, bit_and}
 use Rattle.std.specs.Int.Bits.{and_self}
 use Rattle.std.proofs.lemmas.Nat.{and_assoc}
 use Rattle.cdi_bodies.specs.declared.act.Act.TheVariants.{Load, Store, Call, Fire, Proceed, Return, Fail}
+use Rattle.cdi_bodies.specs.{Within.Has, Within.IsAllowed, Within.CoversNoMore, declared.promise.Promise.Promise}
 
 -- what has all bits has each flag
 pub keeps_each : (promise : Promise) (allowed : ℕ) → bit_and allowed promise.0 ≡ promise.0 → (flag : ℕ)

@@ -1,5 +1,5 @@
 -- Whether one stands around some place: by the interceptors in order, and by the places.
-use Rattle.std.proofs.Common.{◌≡◌, Bool, true, false, not, ◌||◌, List, [], ◌∷◌, length, map, filter, nat_eq, refl, sym, ap, ◌∙◌}
+use Rattle.std.proofs.Common.{◌≡◌, Bool, not, ◌||◌, List, [], ◌∷◌, length, map, filter, nat_eq, refl, sym, ap, ◌∙◌}
 use Rattle.std.specs.List.{list_any}
 use Rattle.base_lists.proofs.Any.{any-same, any-or, any-none, any-left}
 use Rattle.base_lists.specs.Sorting.{sorted_by}
@@ -8,12 +8,6 @@ use Rattle.cdi_model.specs.declared.{decl.BeanDecl.BeanDecl, decl.Decl.Decl, dec
 use Rattle.cdi_model.specs.declared.place.BeanPlace.{BeanPlace}
 use Rattle.cdi_intercept.specs.Chains.{around_any, in_order, interceptors, is_before, is_enabled, surrounds, surrounds_one}
 use Rattle.cdi_intercept.specs.Sets.{places_of, set_by, sets_of, with_set}
-
-or-both : (a b c d : Bool) → ((a || b) || (c || d)) ≡ ((a || c) || (b || d))
-or-both true b c d = refl
-or-both false true true d = refl
-or-both false true false d = refl
-or-both false false c d = refl
 
 -- two lists may be gone through in either order
 any-turned : {X Y : Type 0} (q : X → Y → Bool) (xs : List X) (ys : List Y)

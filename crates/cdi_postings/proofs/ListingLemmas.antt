@@ -2,7 +2,7 @@
 use Rattle.std.proofs.Common.{◌≡◌, ℕ, nat_eq, Bool, true, false, cond, not, ◌&&◌, ◌||◌, List, [], length, Option, Some, None, unwrap_or}
 use Rattle.std.proofs.Common.{refl, sym, ap, ◌∙◌}
 use Rattle.std.specs.{List.list_any, Option.option_map, Option.option_map_or}
-use Rattle.std.proofs.lemmas.Map.Made.{lookup-map_values}
+use Rattle.std.proofs.{lemmas.Map.Made.lookup-map_values, Math.Bool.or-false}
 use Rattle.indexmap.specs.{IndexMap.IndexMap, IndexMap.get, IndexSet.IndexSet, IndexSet.contains}
 use Rattle.base_lists.proofs.Places.{empty-from_length}
 use Rattle.base_options.proofs.Booleans.{cond-or}
@@ -54,10 +54,6 @@ module _ {S T : Type 0} (m n : IndexMap Word (IndexSet ℕ T) S) (ls : List List
 
 -- ---- changes of the set of one word
 
-or-false : (b : Bool) → b ≡ (b || false)
-or-false true = refl
-or-false false = refl
-
 and-true : (b : Bool) → b ≡ (b && true)
 and-true true = refl
 and-true false = refl
@@ -92,7 +88,7 @@ module _ {T : Type 0} (word : Word) (slot : ℕ) where
       by : (b : Bool) → same_word word w ≡ b → holds g w k ≡ (holds f w k || (b && nat_eq slot k))
       by true e = ap (λ o. holds_one o k) (made w ∙ ap (λ b. cond b (Some t) (f w)) e) ∙ put k
           ∙ ap (λ v. cond (nat_eq slot k) true (holds f v k)) (word_exact word w e) ∙ cond-or (nat_eq slot k) (holds f w k)
-      by false e = ap (λ o. holds_one o k) (made w ∙ ap (λ b. cond b (Some t) (f w)) e) ∙ or-false (holds f w k)
+      by false e = ap (λ o. holds_one o k) (made w ∙ ap (λ b. cond b (Some t) (f w)) e) ∙ sym (or-false (holds f w k))
 
   -- the set of the word stays
   pub same-listed : (f g : Word → Option (IndexSet ℕ T)) (s t : IndexSet ℕ T) → f word ≡ Some s → t.keys ≡ s.keys

@@ -1,4 +1,5 @@
 use Rattle.std.proofs.Common.{◌≡◌, ◌++◌, drop, map, nat_eq}
+use Rattle.std.specs.{Cmp.Lexicographic.pointwise, List.IsDistinct}
 use Rattle.cdi_bodies.proofs.book.names_of.Given as goal
 
 abbrev pub invariant-loop-body : goal.invariant-loop-body
