@@ -108,10 +108,15 @@ impl Glance {
 fn is_wrong_in<B: Bodies>(decls: &Decls, book: &B, decl: &Decl, mention: &Mention<'_>) -> bool
     ensures { result ≡ is_wrong_in decls.now (B.promises book.now) decl.now (shown mention.now) }
 {
-    unknown_in(decls, mention).is_some()
-        || bad_kind_in(decls, decl, mention).is_some()
-        || is_bad_use(decls, mention)
-        || unfit_in(book, decl, mention).is_some()
+    match mention {
+        Mention::Type(..) => {
+            unknown_in(decls, mention).is_some() || bad_kind_in(decls, decl, mention).is_some()
+        }
+        Mention::Use(..) => unknown_in(decls, mention).is_some() || is_bad_use(decls, mention),
+        Mention::Stereotype(_) => unknown_in(decls, mention).is_some(),
+        Mention::Body(..) => unfit_in(book, decl, mention).is_some(),
+        _ => false,
+    }
 }
 
 /// Whether it is an injection point that has no bean, or several.
