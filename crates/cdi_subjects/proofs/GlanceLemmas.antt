@@ -5,10 +5,11 @@ use Rattle.std.specs.{List.list_any, Option.option_to_list}
 use Rattle.std.proofs.{Math.Bool.or_assoc, lemmas.Bool.false≢true, lemmas.Bool.or_parts}
 use Rattle.base_options.proofs.Options.{none-from_is_some}
 use Rattle.cdi_model.specs.Mentions.{Mention, CallOf, PointOf, mentions}
-use Rattle.cdi_model.specs.declared.decl.Decl.{Decl}
+use Rattle.cdi_model.specs.declared.{decl.Decl.Decl, decl.PointDecl.PointDecl, mention.PointPlace.PointPlace}
 use Rattle.cdi_model.specs.declared.decl.Decl.TheVariants as decls
 use Rattle.cdi_bodies.specs.Book.{Promised}
 use Rattle.cdi_effective.specs.{Beans.entries, Beans.managed, Specialized.specialized, declared.records.Effective.Effective}
+use Rattle.cdi_effective.specs.declared.records.BeanId.{BeanId}
 use Rattle.cdi_resolve.specs.declared.choice.Choice.{Choice}
 use Rattle.cdi_resolve.specs.declared.choice.Choice.TheVariants as choices_are
 use Rattle.cdi_observe.specs.Answers.{answer_to}
@@ -17,10 +18,10 @@ use Rattle.cdi_faults.specs.declared.fault.Code.TheVariants as codes_of
 use Rattle.cdi_faults.specs.declared.fault.Subject.TheVariants as subjects
 use Rattle.cdi_subjects.proofs.SpecializedLemmas.{none-specialized}
 use Rattle.cdi_subjects.specs.Filter.{found_in, is_enabled_in, producer_of_point, some_if}
-use Rattle.cdi_subjects.specs.Glance.{is_call, is_wrong_in, requires_final_in, with_mention, MissesNothing}
+use Rattle.cdi_subjects.specs.Glance.{is_call, is_wrong_in, requires_final_in, with_mention, MissesNothing, is_unresolved, is_unresolved_in}
 use Rattle.cdi_subjects.specs.Specializing.{has_name, is_specializing, lacked_types, lacks_specialized, renames_specialized, types_beyond}
 use Rattle.cdi_subjects.specs.Subjects.{bad_kind_in, bad_use_in, has_verdict, point_in, unknown_in, whole_if}
-use Rattle.cdi_subjects.specs.{declared.glance.Glance.Glance, Parts.unfit_in, Proxies.needs_subclass, Sites.lost_in}
+use Rattle.cdi_subjects.specs.{Parts.unfit_in, Proxies.needs_subclass, Sites.lost_in, declared.glance.Glance.Glance}
 use Rattle.cdi_subjects.specs.declared.points.Verdict.TheVariants as verdicts
 
 -- ---- a look that has come to some places
@@ -29,18 +30,26 @@ use Rattle.cdi_subjects.specs.declared.points.Verdict.TheVariants as verdicts
 abbrev pub behind : List Decl → List Promised → Decl → Glance → List Mention → Glance
 behind ds book d glance ms = record {
   is_wrong = glance.is_wrong || list_any (is_wrong_in ds book d) ms;
+  is_unresolved = glance.is_unresolved || list_any (is_unresolved_in ds) ms;
   requires_final = glance.requires_final || list_any (requires_final_in ds) ms;
   calls = glance.calls || list_any is_call ms;
   specializes = glance.specializes;
 }
 
-pub behind-next : (ds : List Decl) (book : List Promised) (d : Decl) (glance : Glance) (m : Mention) (ms : List Mention)
+behind-next : (ds : List Decl) (book : List Promised) (d : Decl) (glance : Glance) (m : Mention) (ms : List Mention)
     → behind ds book d (with_mention ds book d glance m) ms ≡ behind ds book d glance (m ∷ ms)
 behind-next ds book d glance m ms =
     let wrong = or_assoc glance.is_wrong (is_wrong_in ds book d m) (list_any (is_wrong_in ds book d) ms) in
+    let unresolved = or_assoc glance.is_unresolved (is_unresolved_in ds m) (list_any (is_unresolved_in ds) ms) in
     let final = or_assoc glance.requires_final (requires_final_in ds m) (list_any (requires_final_in ds) ms) in
     let call = or_assoc glance.calls (is_call m) (list_any is_call ms) in
-    rw (wrong, final, call) refl
+    rw (wrong, unresolved, final, call) refl
+
+-- it tells the same in all once it has come to the next
+pub looked-next : (ds : List Decl) (book : List Promised) (d : Decl) (glance next all : Glance) (m : Mention) (ms left : List Mention)
+    → next ≡ with_mention ds book d glance m → left ≡ m ∷ ms → behind ds book d glance left ≡ all → behind ds book d next ms ≡ all
+looked-next ds book d glance next all m ms left is stands told =
+    ap (λ g. behind ds book d g ms) is ∙ behind-next ds book d glance m ms ∙ ap (behind ds book d glance) (sym stands) ∙ told
 
 -- ---- where nothing is found
 
@@ -71,20 +80,38 @@ right-use ds book d m right =
 fit-body : (ds : List Decl) (book : List Promised) (d : Decl) (m : Mention) → is_wrong_in ds book d m ≡ false → unfit_in book d m ≡ None
 fit-body ds book d m right = none-from_is_some (unfit_in book d m) (or_parts _ (is_some (unfit_in book d m)) right).1
 
--- a point whose type lets subclasses be is not at fault for them
+-- a point that does not pass the test is not at fault
+point-passes : (test : PointDecl → Choice → Bool) (answer : PointDecl → Choice) (bs : List Effective) (d : Decl) (place : PointPlace)
+    (p : PointDecl) → test p (answer p) ≡ false → point_in test answer bs d (PointOf place p) ≡ None
+point-passes test answer bs d place p fails =
+    let subject = subjects.Point place p.name in
+    ap (λ t. some_if (is_enabled_in d bs (producer_of_point place) && t) subject) fails
+    ∙ apart (is_enabled_in d bs (producer_of_point place)) subject
+  where
+    apart : (b : Bool) (s : Subject) → some_if (b && false) s ≡ None
+    apart true s = refl
+    apart false s = refl
+
+-- nor is one that has one bean, where the test fails for one
+resolved : (ds : List Decl) (test : PointDecl → Choice → Bool) → ((p : PointDecl) (id : BeanId) → test p (choices_are.One id) ≡ false)
+    → (bs : List Effective) (d : Decl) (m : Mention) → is_unresolved_in ds m ≡ false → point_in test (answer_to ds) bs d m ≡ None
+resolved ds test fails bs d (PointOf place p) one = point-passes test (answer_to ds) bs d place p (by (answer_to ds p) one)
+  where
+    by : (c : Choice) → is_unresolved c ≡ false → test p c ≡ false
+    by (choices_are.One id) one = fails p id
+    by choices_are.Unsatisfied one = absurd (false≢true (sym one))
+    by (choices_are.Ambiguous ids) one = absurd (false≢true (sym one))
+resolved ds test fails bs d other one = refl
+
+-- nor one whose type lets subclasses be, for these
 not-final : (ds : List Decl) (bs : List Effective) (d : Decl) (m : Mention) → requires_final_in ds m ≡ false
     → point_in (has_verdict ds verdicts.Unproxyable) (answer_to ds) bs d m ≡ None
 not-final ds bs d (PointOf place p) lets =
-    ap (λ t. some_if (is_enabled_in d bs (producer_of_point place) && t) (subjects.Point place p.name)) (fits (answer_to ds p))
-    ∙ apart (is_enabled_in d bs (producer_of_point place)) (subjects.Point place p.name)
+    point-passes (has_verdict ds verdicts.Unproxyable) (answer_to ds) bs d place p (fits (answer_to ds p))
   where
     fits : (c : Choice) → has_verdict ds verdicts.Unproxyable p c ≡ false
     fits (choices_are.One id) = ap (λ t. t && needs_subclass ds id) lets
     fits other = refl
-
-    apart : (b : Bool) (s : Subject) → some_if (b && false) s ≡ None
-    apart true s = refl
-    apart false s = refl
 not-final ds bs d other lets = refl
 
 no-call : (ds : List Decl) (bs : List Effective) (d : Decl) (m : Mention) → is_call m ≡ false → lost_in ds (answer_to ds) bs d m ≡ None
@@ -116,6 +143,10 @@ misses_nothing ds book d codes_of.UnknownName none = found-none (unknown_in ds) 
 misses_nothing ds book d codes_of.BadKind none = found-none (bad_kind_in ds d) _ (right-form ds book d) (mentions d) none
 misses_nothing ds book d codes_of.Member none = found-none (bad_use_in ds) _ (right-use ds book d) (mentions d) none
 misses_nothing ds book d codes_of.Body none = found-none (unfit_in book d) _ (fit-body ds book d) (mentions d) none
+misses_nothing ds book d codes_of.Unsatisfied none =
+    found-none _ _ (resolved ds (has_verdict ds verdicts.Unsatisfied) (λ p id. refl) (entries ds d) d) (mentions d) none
+misses_nothing ds book d codes_of.Ambiguous none =
+    found-none _ _ (resolved ds (has_verdict ds verdicts.Ambiguous) (λ p id. refl) (entries ds d) d) (mentions d) none
 misses_nothing ds book d codes_of.Unproxyable none = found-none _ _ (not-final ds (entries ds d) d) (mentions d) none
 misses_nothing ds book d codes_of.Site none = found-none _ _ (no-call ds (entries ds d) d) (mentions d) none
 misses_nothing ds book d codes_of.NameClash none = refl

@@ -232,7 +232,7 @@ fn push_of_decl<V: View, B: Bodies>(
     ensures { OnOk result (faults.new.items ≡ faults.old.items ++ faults_of (V.list view.now) (B.promises book.now) decl.now) }
 {
     let beans = records_of_decl(view, decl);
-    let glance = Glance::at(view.decls(), book, decl);
+    let glance = Glance::at(alloc, view, book, decl)?;
     for code in Code::all() {
         if !glance.may_find(code) {
             continue;

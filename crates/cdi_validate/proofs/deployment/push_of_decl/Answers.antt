@@ -3,7 +3,7 @@ use Rattle.cdi_validate.proofs.Common.{in_text_order, faults_of_code}
 use Rattle.std.proofs.lemmas.List.{get_or_default}
 use Rattle.cdi_faults.specs.declared.fault.Code.TheVariants as codes_of
 use Rattle.cdi_faults.specs.declared.fault.Fault.TheVariants as the_faults
-use Rattle.cdi_subjects.specs.Glance.{glance_at, may_find}
+use Rattle.cdi_subjects.specs.Glance.{may_find}
 use Rattle.cdi_validate.proofs.PushLemmas.{appended, skipped}
 use Rattle.cdi_validate.proofs.deployment.push_of_decl.Goals as goal
 
@@ -33,9 +33,8 @@ loop-code-preserved-then-not-may_find g c =
     let codes = c.all-code-items.result in
     let code = get_or codes i codes_of.UnknownName in
     let within = subst (λ cs. i < length cs) (sym c.all-code-items.ensures.value) c.loop-code-test.true in
-    let seen = c.at-glance.ensures.value ∙ ap (λ l. glance_at l book d) c.decls.ensures.value in
-    let none = c.at-glance.ensures.nothing ds book d code
-    (ap (λ glance. may_find glance code) (sym seen) ∙ sym c.may_find.ensures ∙ c.if-not-may_find.true) in
+    let none = c.in_ok-glance.ensures.nothing ds book d code
+    (ap (λ glance. may_find glance code) (sym c.in_ok-glance.ensures.value) ∙ sym c.may_find.ensures ∙ c.if-not-may_find.true) in
     skipped (faults_of_code ds book d) codes i code c.loop-code.faults.items _ within
     (get_or_default codes i codes_of.UnknownName code within)
     (ap (λ ms. map (the_faults.Declared code (kind_of d) (name_of_decl d)) (in_text_order ms)) none) c.loop-code.invariant

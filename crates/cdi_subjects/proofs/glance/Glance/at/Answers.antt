@@ -1,14 +1,11 @@
-use Rattle.std.proofs.Common.{sym, ap, ◌∙◌}
+use Rattle.std.proofs.{Common.arith, lemmas.Grind.common_steps}
 use Rattle.cdi_model.specs.Mentions.{shown}
-use Rattle.cdi_subjects.proofs.GlanceLemmas.{behind, behind-next}
+use Rattle.cdi_subjects.proofs.GlanceLemmas.{looked-next}
 use Rattle.cdi_subjects.proofs.glance.Glance.at.Goals as goal
 
 pub loop-mention-preserved : goal.loop-mention-preserved
-loop-mention-preserved g c =
-    let ds = c.args.decls.now in
-    let book = g.B.Bodies.promises c.args.book.now in
-    let d = c.args.decl.now in
-    ap (λ glance. behind ds book d glance c.next.new.self) c.with-glance.ensures
-    ∙ behind-next ds book d c.loop-mention.glance (shown c.in-Some.mention) c.next.new.self
-    ∙ ap (behind ds book d c.loop-mention.glance) (sym c.in-Some.ensures.steps)
-    ∙ c.loop-mention.invariant
+loop-mention-preserved g c = record {
+  looked = looked-next (g.V.View.list c.args.view.now) (g.B.Bodies.promises c.args.book.now) c.args.decl.now c.loop-mention.glance _ _
+      (shown c.in-Some.mention) c.next.new.self _ c.in_ok-glance.ensures c.in-Some.ensures.steps c.loop-mention.invariant.looked;
+  answerable = grind (arith, common_steps);
+}
