@@ -97,6 +97,8 @@ pub use Rattle.cdi_validate.specs.Faults.{faults_of}
 pub use Rattle.cdi_validate.specs.Among.{has_faults, faults_together, looks_at_all}
 pub use Rattle.cdi_validate.specs.Together.{AreNamed, is_chainless, is_nameless, is_needless}
 pub use Rattle.cdi_validate.specs.declared.deployment.Together.{Together}
+pub use Rattle.cdi_validate.proofs.AmongLemmas.{told-all}
+pub use Rattle.cdi_validate.proofs.OnceLemmas.{faults_stand_once}
 pub use Rattle.cdi_report.specs.Spared.{AreQualifiersSpared, IsBindingSpared, IsSpared, IsNotEdited}
 pub use Rattle.cdi_report.specs.Settled.{closed_of, is_open, is_present, AreSettled, HaveNoneTogether, open_of}
 pub use Rattle.cdi_report.specs.declared.unsettled.Unsettled.{Unsettled}

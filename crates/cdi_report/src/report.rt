@@ -1,5 +1,5 @@
 //! A report.
-ghost use Rattle.std.specs.Prelude.{◌≡◌, ◌≢◌, ◌&&◌, ◌++◌, AllPairs, true, flat_map, IfOk, OnOk, OnErr};
+ghost use Rattle.std.specs.Prelude.{◌≡◌, ◌≢◌, ◌&&◌, ◌++◌, AllPairs, true, flat_map, map, IfOk, OnOk, OnErr};
 ghost use Rattle.std.specs.List.{list_all, list_any};
 ghost use Rattle.indexmap.specs.IndexSet.{contains};
 ghost use Rattle.cdi_model.specs.Decl.{key_of};
@@ -7,7 +7,7 @@ ghost use Rattle.cdi_model.specs.DeclKey.{same_key};
 ghost use Rattle.cdi_model.specs.DeclList.{AreDistinct};
 ghost use Rattle.cdi_observe.specs.Kept.{evaluated, EvaluatesSome};
 ghost use Rattle.cdi_observe.specs.Lending.{IsEvaluated};
-ghost use Rattle.cdi_observe.specs.Wanted.{wanted, AskForRest};
+ghost use Rattle.cdi_observe.specs.Wanted.{wanted};
 ghost use Rattle.cdi_validate.specs.Among.{faults_together, has_faults, looks_at_all};
 ghost use Rattle.cdi_validate.specs.Faults.{faults, faults_of};
 ghost use Rattle.cdi_report.specs.Settled.{closed_of, open_of, AreSettled, HaveNoneTogether};
@@ -15,6 +15,7 @@ ghost use Rattle.cdi_report.specs.Settled.{closed_of, open_of, AreSettled, HaveN
 use crate::unsettled::Unsettled;
 use cdi_bodies::Bodies;
 use cdi_faults::Fault;
+use cdi_model::Decl;
 use cdi_observe::{View, evaluate_rest};
 use cdi_validate::{Found, faults_among};
 use std::alloc::{AllocError, Global};
@@ -43,8 +44,11 @@ impl Unsettled {
         ensures once { IfOk result (λ list. AllPairs (λ f g. f ≢ g) list.items) }
         ensures settled { AreSettled (V.list view.new) (V.kept view.new).knows (B.promises book.now) self.new }
     {
-        ask_open(alloc, view, self)?;
-        let found = find(alloc, &*view, book, self)?;
+        // The view is asked while its declarations are gone through, so these are a copy.
+        let decls = view.decls().copy()?;
+        let list = self.among(alloc, &decls)?;
+        evaluate_rest(alloc, view, list.as_slice())?;
+        let found = find(alloc, &*view, book, self, list.as_slice())?;
         *self = Unsettled {
             is_each: false,
             keys: found.keys,
@@ -54,31 +58,17 @@ impl Unsettled {
     }
 }
 
-/// Asks for all that is not known.
-fn ask_open<V: View>(alloc: Global, view: &mut V, open: &Unsettled) -> Result<(), AllocError>
-    requires { AreDistinct (V.list view.old) → AskForRest (V.list view.old) (V.kept view.old).knows (open_of open.now (V.list view.old)) }
-    ensures list { V.list view.new ≡ V.list view.old }
-    ensures counts { V.counts view.new ≡ V.counts view.old }
-    ensures ok { OnOk result (V.kept view.new ≡ evaluated (V.list view.old) (wanted (V.list view.old)) (V.kept view.old)) }
-    ensures err { OnErr result (EvaluatesSome (V.list view.old) (V.kept view.old) (V.kept view.new)) }
-    ensures staged { list_all (V.kept view.old).knows (wanted (V.list view.old)) ≡ true → V.staged view.new ≡ V.staged view.old }
-    ensures evaluated { OnOk result (IsEvaluated (V.list view.old) (V.kept view.new)) }
-    ensures distinct { AreDistinct (V.list view.old) }
-{
-    // The view is asked while its declarations are gone through, so these are a copy.
-    let decls = view.decls().copy()?;
-    let list = open.among(alloc, &decls)?;
-    evaluate_rest(alloc, view, list.as_slice())
-}
-
-/// What is found, where each wanted key is known or the view keeps nothing.
+/// What is found among the declarations at which a report looks, where each wanted key is known or the view keeps nothing.
 fn find<V: View, B: Bodies>(
     alloc: Global,
     view: &V,
     book: &B,
     open: &Unsettled,
+    decls: &[&Decl],
 ) -> Result<Found, AllocError>
+    requires distinct { AreDistinct (V.list view.now) }
     requires evaluated { IsEvaluated (V.list view.now) (V.kept view.now) }
+    requires decls { map (λ d. d.now) decls.now ≡ open_of open.now (V.list view.now) }
     requires apart { HaveNoneTogether (V.list view.now) (closed_of open.now (V.list view.now)) open.now.anew }
     ensures faults { IfOk result (λ found. found.faults.items
         ≡ flat_map (faults_of (V.list view.now) (B.promises book.now)) (open_of open.now (V.list view.now))
@@ -87,7 +77,6 @@ fn find<V: View, B: Bodies>(
         ≡ list_any (λ d. same_key (key_of d) k && has_faults (V.list view.now) (B.promises book.now) d) (open_of open.now (V.list view.now))) }
     ensures together { IfOk result (λ found. HaveNoneTogether (V.list view.now) (V.list view.now) found.together) }
 {
-    let list = open.among(alloc, view.decls())?;
-    let together = open.together(alloc, view, list.as_slice())?;
-    faults_among(alloc, view, book, list.as_slice(), together)
+    let together = open.together(alloc, view, decls)?;
+    faults_among(alloc, view, book, decls, together)
 }
