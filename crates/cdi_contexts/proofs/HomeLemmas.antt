@@ -2,7 +2,7 @@
 use Rattle.std.proofs.Common.{◌≡◌, ℕ, zero, suc, ◌<◌, Bool, true, false, ◌==◌, ◌&&◌, cond, List, [], ◌∷◌, ◌++◌, map, length, get_or, drop}
 use Rattle.std.proofs.Common.{Option, Some, None, refl, arith, ap, sym, subst, ◌∙◌}
 use Rattle.std.specs.{List.find, List.remove, Option.option_map, Option.option_or}
-use Rattle.std.proofs.lemmas.{Bool.Decides.nat_tests, List.Folds.find-append}
+use Rattle.std.proofs.lemmas.{Bool.Decides.nat_tests, List.Folds.find-append, Bool.cond-false}
 use Rattle.base_options.proofs.Booleans.{and-false}
 use Rattle.cdi_model.specs.declared.outcome.Val.{Val}
 use Rattle.cdi_model.specs.declared.decl.Scope.TheVariants as scopes
@@ -57,10 +57,6 @@ found-dependent (i ∷ is) b = none (i.id.bean == b) (is_of scopes.Dependent i.o
 
 -- ---- who is found is found by number
 
-pub skipped : (b : Bool) (i : Instance) (o : Option Instance) → b ≡ false → cond b (Some i) o ≡ o
-skipped true i o h = cc
-skipped false i o h = refl
-
 -- who is found is found by its number, which is above this one
 abbrev IsNumbered : ℕ → List Instance → Instance → Type 0
 IsNumbered low live j = (low < j.id.number) × (numbered live j.id.number ≡ Some j)
@@ -76,7 +72,7 @@ later_numbered : (low : ℕ) (i j : Instance) (is : List Instance) → low < i.i
 later_numbered low i j is less rest =
     let above = rest.0 in
     let apart : (i.id.number == j.id.number) ≡ false = grind (arith, nat_tests, above) in
-    (omega (arith, less, above), skipped (i.id.number == j.id.number) i (numbered is j.id.number) apart ∙ rest.1)
+    (omega (arith, less, above), cond-false (i.id.number == j.id.number) (Some i) (numbered is j.id.number) apart ∙ rest.1)
 
 found_step : (b : Bool) (low : ℕ) (i j : Instance) (is : List Instance) (o : Option Instance) → low < i.id.number
     → cond b (Some i) o ≡ Some j → (o ≡ Some j → IsNumbered i.id.number is j) → IsNumbered low (i ∷ is) j

@@ -3,9 +3,8 @@ use Rattle.std.proofs.Common.{◌≡◌, ◌≢◌, ℕ, zero, suc, ◌<◌, ◌
 use Rattle.std.proofs.Common.{length, get_or, set, Option, Some, None, Result, Ok, Err, refl, arith, ap, sym, subst, ◌∙◌}
 use Rattle.std.specs.{List.remove, List.All, List.Sorted.IsSearchInRange, List.Sorted.IsBinarySearchResult, Result.result_ok}
 use Rattle.std.specs.Ordering.{nat_cmp, ordering_index}
-use Rattle.std.proofs.lemmas.{Cmp.ranked, Bool.Decides.nat_tests, List.Elements.All-tail}
+use Rattle.std.proofs.lemmas.{Cmp.ranked, Bool.Decides.nat_tests, List.Elements.All-tail, Bool.cond-false}
 use Rattle.cdi_model.specs.declared.outcome.Val.{Val}
-use Rattle.cdi_contexts.proofs.HomeLemmas.{skipped}
 use Rattle.cdi_contexts.specs.Standing.{numbered, without, finish, keep}
 use Rattle.cdi_contexts.specs.{Places.IsPlace, Rising.IsRising, Rising.RisesFrom, Storage.Storage, declared.instance.Instance.Instance}
 
@@ -65,7 +64,7 @@ other-tail n i is a = All-tail (λ (x : Instance). x.id.number ≢ n) i is a
 pub numbered_nowhere : (n : ℕ) (live : List Instance) → IsPlace live n None → numbered live n ≡ None
 numbered_nowhere n [] a = refl
 numbered_nowhere n (i ∷ is) a =
-    skipped (i.id.number == n) i (numbered is n) (other-head n i is a) ∙ numbered_nowhere n is (other-tail n i is a)
+    cond-false (i.id.number == n) (Some i) (numbered is n) (other-head n i is a) ∙ numbered_nowhere n is (other-tail n i is a)
 
 kept : (b : Bool) (i : Instance) (is : List Instance) → b ≡ false → cond (not b) (i ∷ is) is ≡ i ∷ is
 kept true i is h = cc
@@ -117,7 +116,7 @@ numbered-at low given n [] k d r h e = absurd (omega (arith, h))
 numbered-at low given n (i ∷ is) zero d r h e = taken (i.id.number == n) i (numbered is n) (is_it i.id.number n e)
 numbered-at low given n (i ∷ is) (suc k) d r h e =
     let b : k < length is = omega (arith, h) in
-    skipped (i.id.number == n) i (numbered is n) (before n given i is k d r.2 b e)
+    cond-false (i.id.number == n) (Some i) (numbered is n) (before n given i is k d r.2 b e)
     ∙ numbered-at i.id.number given n is k d r.2 b e
 
 pub numbered_there : (given n : ℕ) (live : List Instance) (k : ℕ) (i : Instance) → IsRising given live → IsPlace live n (Some k)
