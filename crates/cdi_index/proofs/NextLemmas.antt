@@ -24,11 +24,6 @@ any-elim {B = B} p (x ∷ xs) e f = by (p x) refl e (λ more. any-elim p xs more
     by true is h more = f x is
     by false is h more = more h
 
-    by : (b : Bool) → p x ≡ b → (b || list_any p xs) ≡ true → (list_any p xs ≡ true → list_any q xs ≡ true)
-        → (q x || list_any q xs) ≡ true
-    by true is f more = ap (λ b. b || list_any q xs) (h x is)
-    by false is f more = step (q x) (list_any q xs) (more f)
-
 module _ (ds : List Decl) (shelf : Shelf) (listings : List Listing) (is : IsShelf shelf) (exact : IsExact ds (stored shelf))
     (sound : IsSound (stored shelf) listings) (k key : DeclKey) where
   -- a reader that is listed is one
