@@ -1,20 +1,18 @@
 -- The limits of a command: how often it asks bodies, and what is live at each point of its trace.
-use Rattle.cdi_legal.proofs.Common.{◌≡◌, ◌<◌, ℕ, false, refl, IsFull, InstanceId, Owner, Nobody, Scene, Ends, End, Moment, is_create, Entry}
-use Rattle.cdi_legal.proofs.Common.{Create, suc, ◌+◌, ◌≤◌, inl, inr, Bool, true, List, [], ◌∷◌, length, arith, ap, subst, sym, ◌∙◌}
-use Rattle.cdi_legal.proofs.Common.{AllByRecursion, false≢true, Scope, context_of, is_of, Standing, closed, Target, Interceptor, Instance}
-use Rattle.cdi_legal.proofs.Common.{Request, Application, Point, is_normal, applied, beginning, effect, step, Effect, Throughout}
-use Rattle.cdi_legal.proofs.Common.{all-weaker}
-use Rattle.std.proofs.lemmas.{Bool.cases_Bool, List.length-append}
+use Rattle.cdi_legal.proofs.Common.{◌≡◌, ◌<◌, ℕ, false, refl, IsFull, InstanceId, Owner, Scene, Ends, End, Moment, is_create, Entry, Create}
+use Rattle.cdi_legal.proofs.Common.{suc, ◌≤◌, Bool, true, List, [], ◌∷◌, length, arith, ap, subst, sym, ◌∙◌, AllByRecursion, context_of}
+use Rattle.cdi_legal.proofs.Common.{is_of, Standing, closed, Target, Interceptor, Instance, Request, is_normal, applied, beginning, effect}
+use Rattle.cdi_legal.proofs.Common.{step, Effect, Throughout, all-weaker}
+use Rattle.std.proofs.lemmas.List.{length-append}
 use Rattle.cdi_model.specs.declared.decl.Scope.TheVariants as scopes
 use Rattle.cdi_legal.proofs.Along.{ends_along, runs_along, IsAlong, Nothing}
-use Rattle.cdi_legal.proofs.Course.{IsOutside, MayBegin}
+use Rattle.cdi_legal.proofs.Course.{MayBegin}
 use Rattle.cdi_legal.proofs.Everywhere.{each_point, everywhere, kept_everywhere, then, Holds, HoldsAfterEach, Lasts}
 use Rattle.cdi_legal.proofs.Furnishing.{all-step, ends-all}
 use Rattle.cdi_legal.proofs.Keeping.{all-more}
 use Rattle.cdi_legal.proofs.Rooting.{context-gone}
 use Rattle.cdi_legal.proofs.Sharing.{count, fewer_after, single-calm, single_along, Test}
-use Rattle.cdi_legal.specs.Laws.{CommandsKeepBudget, CommandsKeepThroughout, IsKeptByCommands, IsKeptThroughout, IsRequested, IsSingleAt}
-use Rattle.cdi_legal.specs.Laws.{IsWithinLimit}
+use Rattle.cdi_legal.specs.Laws.{CommandsKeepBudget, CommandsKeepThroughout, IsKeptByCommands, IsKeptThroughout, IsRequested, IsWithinLimit}
 use Rattle.cdi_legal.specs.Moment as effects
 
 -- ---- how often it asks
@@ -26,16 +24,7 @@ abbrev asked_of : Moment → ℕ
 asked_of m = m.asked
 
 budget_along : (s : Scene) → IsAlong s Nothing WithinBudget
-budget_along s = record {
-  keeps = record {
-    none = λ m h. h;
-    then = λ a b c p q h. q (p h);
-    entry = λ e m m' other is h. omega (arith, ap asked_of is, h);
-  };
-  asking = λ m m' few is h. omega (arith, ap asked_of is, few);
-  may = λ b o m may. tt;
-  create = λ b i o m m' may room of_bean is h. omega (arith, ap asked_of is, h);
-}
+budget_along s = grind (arith, then)
 
 pub commands_keep_budget : CommandsKeepBudget
 commands_keep_budget s command before trace outcome after l = runs_along (budget_along s) l.runs (omega arith)
@@ -53,22 +42,11 @@ module _ (P : Scene → Standing → Type 0) (calm : (s : Scene) (e : Entry) (x 
   ends s p = ends_along (kept_everywhere (P s) (calm s)) p
 
   pub throughout : IsKeptThroughout P
-  throughout = record {
-    run = λ s command before trace outcome after l holds.
-        traced s before trace l.end l.pushed holds (runs_along (along s) l.runs holds);
-    request_end = λ s before trace after l holds. traced s before trace l.end l.pushed holds (ends s l.ends holds);
-    end = λ s before trace after l holds.
-        traced s before trace l.end l.pushed holds (then (P s) (beginning before) l.middle l.end (ends s l.first) (ends s l.then) holds);
-  }
+  throughout = grind (arith, traced, runs_along, ends, then, beginning)
 
   -- and behind each command, where no more is asked once no request is active
   pub behind : ((s : Scene) (x : Standing) → P s x → P s (closed x)) → IsKeptByCommands (λ s before after. P s before → P s after)
-  behind close = record {
-    run = λ s command before trace outcome after l holds. subst (P s) (sym l.leaves) (runs_along (along s) l.runs holds).end;
-    request_end = λ s before trace after l holds. subst (P s) (sym l.leaves) (close s l.end.standing (ends s l.ends holds).end);
-    end = λ s before trace after l holds.
-        subst (P s) (sym l.leaves) (close s l.end.standing (ends s l.then (ends s l.first holds).end).end);
-  }
+  behind close = grind (arith, runs_along, ends)
 
 -- ---- how many are live
 
@@ -87,10 +65,7 @@ fewer-than : (n : ℕ) → (1024 ≤ n → ⊥) → n < 1024
 fewer-than n h = omega (arith, h)
 
 limit-begins : (s : Scene) (i : InstanceId) (o : Owner) (x : Standing) → (IsFull x → ⊥) → IsWithinLimit s (step x (Create i o))
-limit-begins s i o x room =
-    let few : length x.live < 1024 = fewer-than (length x.live) (λ full. room (inl full)) in
-    let more : length (step x (Create i o)).live ≡ length x.live + 1 = length-append x.live _ in
-    omega (arith, few, more)
+limit-begins s i o x room = grind (arith, length, fewer-than, step, length-append)
 
 limit_along : (s : Scene) → IsAlong s (MayBegin s) (Holds (IsWithinLimit s))
 limit_along s = everywhere (IsWithinLimit s) (limit-calm s) s (λ b i o m may room of_bean within. limit-begins s i o m.standing room)
@@ -112,25 +87,7 @@ requested-calm s e x h requested =
 
 -- an owner that is the request context begins an instance only while a request is active
 active-where : (s : Scene) (b : ℕ) (o : Owner) (m : Moment) → MayBegin s b o m → o ≡ Request → m.standing.active ≡ true
-active-where s b o m may is = by may.bean.scope refl
-  where
-    of-request : (e : may.bean.scope ≡ scopes.Request) → m.standing.active ≡ true
-    of-request e = elim (cases_Bool m.standing.active) [
-      | inl active ↦ active
-      | inr inactive ↦ absurd (may.active (ap is_normal e) (record { request = e; inactive = inactive }))
-    ]
-
-    by : (scope : Scope) → may.bean.scope ≡ scope → m.standing.active ≡ true
-    by scopes.Request e = of-request e
-    by scopes.Application e =
-        let other : Application ≡ Request = sym (may.owner (ap is_normal e) ∙ ap context_of e) ∙ is in cc
-    by scopes.Dependent e = absurd (false≢true (sym (outside-request o is (may.outside (ap is_normal e)))))
-      where
-        outside-request : (o : Owner) → o ≡ Request → IsOutside o → true ≡ false
-        outside-request Request e out = out scopes.Request
-        outside-request Application e out = let never : Application ≡ Request = e in cc
-        outside-request (Point n actor p) e out = let never : Point n actor p ≡ Request = e in cc
-        outside-request Nobody e out = let never : Nobody ≡ Request = e in cc
+active-where s b o m may is = grind (arith, is_normal, context_of)
 
 requested-begins : (s : Scene) (b : ℕ) (i : InstanceId) (o : Owner) (m : Moment) → MayBegin s b o m → IsRequested s m.standing
     → IsRequested s (step m.standing (Create i o))
@@ -148,21 +105,9 @@ unrequested s x none =
     (λ z other is. sym other ∙ ap (is_of scopes.Request) is) none
 
 pub commands_keep_requested : IsKeptByCommands (λ s before after. IsRequested s before → IsRequested s after)
-commands_keep_requested = record {
-  run = λ s command before trace outcome after l requested.
-      subst (IsRequested s) (sym l.leaves) (runs_along (requested_along s) l.runs requested).end;
-  request_end = λ s before trace after l requested.
-      subst (IsRequested s) (sym l.leaves) (unrequested s l.end.standing (context-gone l.ends));
-  end = λ s before trace after l requested.
-      subst (IsRequested s) (sym l.leaves) (unrequested s l.end.standing
-      (ends-all (λ id o. is_of scopes.Request o ≡ false) l.then (context-gone l.first)));
-}
+commands_keep_requested = grind (arith, runs_along, requested_along, unrequested, context-gone, ends-all, is_of)
 
 -- ---- at each point
 
 pub commands_keep_throughout : CommandsKeepThroughout
-commands_keep_throughout = record {
-  single = throughout IsSingleAt single-calm single_along;
-  limit = throughout IsWithinLimit limit-calm limit_along;
-  requested = throughout IsRequested requested-calm requested_along;
-}
+commands_keep_throughout = grind (arith, throughout, single-calm, single_along, limit-calm, limit_along, requested-calm, requested_along)

@@ -1,11 +1,11 @@
 -- Each failure of a run has its cause.
 use Rattle.cdi_legal.proofs.Common.{◌≡◌, ◌<◌, ℕ, false, None, Some, refl, Outcome, Act, IsFull, InstanceId, Owner, Nobody, Seat, Scene}
-use Rattle.cdi_legal.proofs.Common.{Ends, End, Answer, Legal, Node, Uses, Use, Runs, Command, Moment, put, ask_more, ◌+◌, ◌≤◌, Bool, true}
-use Rattle.cdi_legal.proofs.Common.{List, ◌∷◌, arith, ap, subst, sym, ◌∙◌, Scope, Standing, Point, is_normal, beginning, Option, Failure}
-use Rattle.cdi_legal.proofs.Common.{Value, Val, Null, as_product, bean_at, Bean, Product, Permits, Held, Follows, for_param, outcome_is}
-use Rattle.cdi_legal.proofs.Common.{creation, frame, opened, Opening, link, producer, target, IsCalledAt, Refused}
+use Rattle.cdi_legal.proofs.Common.{Ends, End, Answer, Legal, Node, Uses, Use, Runs, Command, Moment, put, ask_more, ◌+◌, ◌≤◌, Bool, List}
+use Rattle.cdi_legal.proofs.Common.{◌∷◌, arith, ap, subst, sym, ◌∙◌, Standing, Point, is_normal, beginning, Option, Failure, Value, Val}
+use Rattle.cdi_legal.proofs.Common.{as_product, bean_at, Bean, Product, Held, Follows, for_param, outcome_is, creation, frame, opened}
+use Rattle.cdi_legal.proofs.Common.{Opening, link, producer, target, IsCalledAt, Refused}
 use Rattle.std.proofs.Common.{IfSome}
-use Rattle.cdi_model.specs.declared.outcome.{Outcome.TheVariants.Failed, Val.TheVariants.Int}
+use Rattle.cdi_model.specs.declared.outcome.Outcome.TheVariants.{Failed}
 use Rattle.cdi_model.specs.declared.decl.Scope.TheVariants as scopes
 use Rattle.cdi_model.specs.declared.outcome.Failure.TheVariants as failures
 use Rattle.cdi_bodies.specs.declared.act.Act.TheVariants.{Fail}
@@ -56,20 +56,10 @@ abbrev asked_of : Moment → ℕ
 asked_of m = m.asked
 
 onward_kept : IsKept Onward
-onward_kept = record {
-  none = λ m. record { follows = follows_kept.none m; asked = omega arith };
-  then = λ a b c p q. record { follows = follows_kept.then a b c p.follows q.follows; asked = omega (arith, p.asked, q.asked) };
-  entry = λ e m m' calm is. record { follows = follows_kept.entry e m m' calm is; asked = omega (arith, ap asked_of is) };
-}
+onward_kept = grind (arith, follows, follows_kept, asked)
 
 onward_along : (s : Scene) → IsAlong s Nothing Onward
-onward_along s = record {
-  keeps = onward_kept;
-  asking = λ m m' few is. record { follows = (follows_along s).asking m m' few is; asked = omega (arith, ap asked_of is) };
-  may = λ b o m may. tt;
-  create = λ b i o m m' may room of_bean is.
-      record { follows = (follows_along s).create b i o m m' may room of_bean is; asked = omega (arith, ap asked_of is) };
-}
+onward_along s = grind (arith, onward_kept, asking, follows, follows_along, asked)
 
 -- what goes on from the end of a part goes on from its beginning
 onward : {s : Scene} {k : ℕ} {x : Node} {a : Answer} {m m₁ m' : Moment} → Legal s k x m a m₁ → Onward m₁ m' → Onward m m'
@@ -114,23 +104,14 @@ module _ (s : Scene) (before : Standing) (end : Moment) (within : end.asked ≤ 
   created : {k j b : ℕ} {o : Owner} (i : InstanceId) {m m' : Moment} → k ≡ j + 1 → MayBegin s b o m → (IsFull m.standing → ⊥)
       → i.bean ≡ b → m' ≡ put (entries.Create i o) m → Here k m → Here j m'
   created {j = j} {b = b} {o = o} i {m = m} {m' = m'} fewer may few of_bean is h =
-      let room : HasRoom j (creation i ∷ opened m.trace) =
-      record { calm = h.room.calm; room = omega (arith, h.room.room, fewer); each = (tt, h.room.each) } in
-      let there = step s (entries.Create i o) m m' (creation i ∷ opened m.trace) is h.good
-      (there-bean s b i.bean may.bean of_bean may.there) refl (limits room) in
-      goes ((follows_along s).create b i o m m' tt few of_bean is) there.0 (subst (HasRoom j) (sym there.1) room) h
+      grind (arith, creation, opened, step, there-bean, limits, goes, follows_along)
 
   -- ---- frames
 
   -- a frame is left here
   passes_left : {k : ℕ} {m : Moment} (o : Outcome) → Here k m → Onward (put (entries.Leave o) m) end
       → Passes before end (put (entries.Leave o) m)
-  passes_left {m = m} o h to =
-      let left : Moment = put (entries.Leave o) m in
-      record {
-        first = follows_kept.then (beginning before) m left h.first (follows_kept.entry (entries.Leave o) m left refl refl);
-        then = to.follows;
-      }
+  passes_left {m = m} o h to = grind (arith, put, follows_kept, beginning)
 
   -- the rest of a frame, which is then left with its outcome
   asks_caused : {k l j : ℕ} {c : Bool} {seat : Seat} {held : Held} {r : Answered} {m m' : Moment}
@@ -141,30 +122,18 @@ module _ (s : Scene) (before : Standing) (end : Moment) (within : end.asked ≤ 
       Cause.out_of_budget (omega (arith, much, to.asked, within))
   asks_caused (Legal.ended _ _ _ _ _ _ _ (Value v) _ _ _ _ _ _) called h p older top to = tt
   asks_caused (Legal.ended _ _ j _ seat _ x (Failed f) m m' few is permits ends) called h p older top to =
-      Cause.by_body f seat m' (passes_left (Failed f) (asked few is h) to)
-      (record { within = false; acts = j; proceedings = p; older = older; youngest = asking-opened s m m' is ∙ top })
-      (subst (Permits s seat) (fails x f ends) permits)
+      grind (arith, passes_left, asked, asking-opened, fails)
   asks_caused (Legal.stopped _ _ _ seat _ x m m' few is permits ends) called h p older top to =
       Cause.too_many_acts seat x p older m' (passes_left (Failed failures.Steps) (asked few is h) to)
       (asking-opened s m m' is ∙ top) permits ends
   asks_caused (Legal.went_on k _ j _ _ seat _ x _ _ m m₁ m₂ _ few is permits acts does rest) called h p older top to =
-      let now = asked few is h in
-      let top₁ : opened m₁.trace ≡ frame seat false j p ∷ older = asking-opened s m m₁ is ∙ top in
-      let one = legal_ordered does permits now.good called j p older acts top₁ now.room in
-      let room : HasRoom k (opened m₂.trace) =
-      subst (HasRoom k) (sym one.same) (room-more s k seat j p one.proceedings older acts (subst (HasRoom k) top₁ now.room)) in
-      asks_caused rest called (goes (legal_follows does) one.good room now) one.proceedings older one.same to
+      grind (arith, asks_caused rest called (goes (legal_follows does) one.good room now) one.proceedings older one.same to, asked, opened, frame, false, asking-opened, legal_ordered, room-more, goes)
 
   frame_caused : {k l j : ℕ} {seat : Seat} {held : Held} (arg : Val) {o : Outcome} {c : Bool} {m m₁ m₂ m' : Moment} → k ≡ j + 1
       → m₁ ≡ put (entries.Enter seat arg) m → Legal s j (nodes.asks seat held l 0 false) m₁ (nodes.answered_is (answered o c)) m₂
       → m' ≡ put (entries.Leave o) m₂ → IsCalledAt s seat → Here k m → Onward m' end → IsCaused (failed o)
   frame_caused {j = j} {seat = seat} arg {m = m} {m₁ = m₁} fewer enters rest leaves called h to =
-      let room : HasRoom j (frame seat false 0 0 ∷ opened m.trace) =
-      record { calm = h.room.calm; room = omega (arith, h.room.room, fewer); each = (omega arith, h.room.each) } in
-      let there = entered s seat arg m m₁ false h.room.calm h.good called enters (limits room) in
-      asks_caused rest called
-      (goes (follows_kept.entry (entries.Enter seat arg) m m₁ refl enters) there.0 (subst (HasRoom j) (sym there.1) room) h)
-      0 (opened m.trace) there.1 (subst (λ (x : Moment). Onward x end) leaves to)
+      grind (arith, frame, opened, entered, limits, asks_caused, goes, follows_kept)
 
   -- ---- outcomes
 
@@ -179,25 +148,8 @@ module _ (s : Scene) (before : Standing) (end : Moment) (within : end.asked ≤ 
   produced_caused : {k : ℕ} {i : InstanceId} {x : Bean} {product : Product} {host : Option InstanceId} {o : Outcome} {m m' : Moment}
       → bean_at s i.bean ≡ Some x → as_product x.form ≡ Some product → Legal s k (nodes.produce i product host) m (outcome_is o) m'
       → Here k m → Onward m' end → IsCaused (failed o) → IsCaused (failed (produced x.scope o))
-  produced_caused {k} {i} {x} {product} {host} {o} {m} {m'} there is l h to c = by x.scope o refl l c
-    where
-      illegal : is_normal x.scope ≡ true → Legal s k (nodes.produce i product host) m (outcome_is (Value Null)) m'
-          → Cause s before end failures.IllegalProduct
-      illegal normal l =
-          Cause.illegal_product k i x product host m m' (passes h (onward l to))
-          (record { first = follows_kept.then (beginning before) m m' h.first (legal_follows l); then = to.follows })
-          there is normal l
-
-      by : (scope : Scope) (o : Outcome) → x.scope ≡ scope → Legal s k (nodes.produce i product host) m (outcome_is o) m'
-          → IsCaused (failed o) → IsCaused (failed (produced scope o))
-      by scopes.Dependent (Value v) e l c = tt
-      by scopes.Dependent (Failed f) e l c = c
-      by scopes.Request (Value Null) e l c = illegal (ap is_normal e) l
-      by scopes.Request (Value (Int n)) e l c = tt
-      by scopes.Request (Failed f) e l c = c
-      by scopes.Application (Value Null) e l c = illegal (ap is_normal e) l
-      by scopes.Application (Value (Int n)) e l c = tt
-      by scopes.Application (Failed f) e l c = c
+  produced_caused {k} {i} {x} {product} {host} {o} {m} {m'} there is l h to c =
+      grind (arith, is_normal, outcome_is, passes, onward, follows_kept, beginning, legal_follows)
 
   -- ---- nodes
 
@@ -242,9 +194,7 @@ module _ (s : Scene) (before : Standing) (end : Moment) (within : end.asked ≤ 
   legal_caused (Legal.no_more_points _ _ _ _ _ _) _ _ _ = tt
   legal_caused (Legal.proxy_injected _ _ _ _ _ _ _ _ _ _ _ _ p3) _ h to = legal_caused p3 tt h to
   legal_caused (Legal.dependent_injected _ _ _ i _ point x _ m _ _ _ p1 p2 p3 p4) _ h to =
-      let o : Owner = Point i.number point.actor point.point in
-      let may = own_begins s point.bean x o m p1 p2 (outside-point i.number point.actor point.point) in
-      legal_caused p4 tt (past p3 (legal_ordered p3 may) h) to
+      grind (arith, legal_caused p4 tt (past p3 (legal_ordered p3 may) h) to, own_begins, outside-point, past, legal_ordered)
   legal_caused (Legal.injection_failed _ _ i _ point x _ m _ _ p1 p2 p3) _ h to =
       let o : Owner = Point i.number point.actor point.point in
       legal_caused p3 (own_begins s point.bean x o m p1 p2 (outside-point i.number point.actor point.point)) h to
@@ -305,14 +255,8 @@ module _ (s : Scene) (before : Standing) (end : Moment) (within : end.asked ≤ 
   runs_caused (Runs.fired _ _ _ _ _ p0) h to = legal_caused p0 tt h to
 
   begins_here : Here depth (beginning before)
-  begins_here = record {
-    first = follows_kept.none (beginning before);
-    good = nothing-open s before;
-    room = record { calm = refl; room = refl; each = tt };
-  }
+  begins_here = grind (arith, follows_kept, beginning, nothing-open)
 
 pub commands_fail_for_causes : CommandsFailForCauses
 commands_fail_for_causes s command before trace outcome after l f is =
-    let within : l.end.asked ≤ 20000 = commands_keep_budget s command before trace outcome after l in
-    subst (λ (o : Outcome). IfSome (failed o) (Cause s before l.end)) is
-    (runs_caused s before l.end within l.runs (begins_here s before l.end within) (onward_kept.none l.end))
+    grind (arith, commands_keep_budget, runs_caused, begins_here, onward_kept)

@@ -1,6 +1,6 @@
 -- The laws of whole commands.
-use Rattle.cdi_legal.proofs.Common.{◌≡◌, refl, Outcome, Scene, Ends, Command, Moment, Entry, ◌≤◌, List, [], arith, ap, subst, sym, ◌∙◌}
-use Rattle.cdi_legal.proofs.Common.{Scope, Standing, closed, Instance, beginning, Follows, last_in, context, after, IsRising, IsFurnished}
+use Rattle.cdi_legal.proofs.Common.{◌≡◌, Outcome, Scene, Ends, Command, Moment, Entry, ◌≤◌, List, [], arith, ap, subst, sym, ◌∙◌, Scope}
+use Rattle.cdi_legal.proofs.Common.{Standing, closed, Instance, beginning, Follows, last_in, context, after, IsRising, IsFurnished}
 use Rattle.cdi_legal.proofs.Common.{LegalRun, LegalRequestEnd, LegalEnd, IsSingle}
 use Rattle.cdi_model.specs.declared.decl.Scope.TheVariants as scopes
 use Rattle.cdi_legal.proofs.Following.{ends_follow, runs_follow, then}
@@ -27,11 +27,7 @@ pub end_single : {s : Scene} {a : Standing} {t : List Entry} {b : Standing} → 
 end_single {s} {a} {t} {b} l q = single_of s b (closed l.end.standing) l.leaves (ends_single l.then (ends_single l.first q))
 
 pub commands_keep_single : CommandsKeepSingle
-commands_keep_single = record {
-  run = λ s c a t o b l. run_single l;
-  request_end = λ s a t b l. request_end_single l;
-  end = λ s a t b l. end_single l;
-}
+commands_keep_single = grind (arith, run_single, request_end_single, end_single)
 
 -- ---- numbers
 
@@ -47,11 +43,7 @@ pub end_grows : {s : Scene} {a : Standing} {t : List Entry} {b : Standing} → L
 end_grows l = omega (arith, ends_grow l.first, ends_grow l.then, ap (λ (x : Standing). x.given) l.leaves)
 
 pub commands_raise_given : CommandsRaiseGiven
-commands_raise_given = record {
-  run = λ s c a t o b l. run_grows l;
-  request_end = λ s a t b l. request_end_grows l;
-  end = λ s a t b l. end_grows l;
-}
+commands_raise_given = grind (arith, run_grows, request_end_grows, end_grows)
 
 -- ---- the fold of the entries
 
@@ -81,22 +73,7 @@ ends_empty : (s : Scene) (scope : Scope) (before : Standing) → before.live ≡
 ends_empty s scope before h = Ends.context_empty _ _ (ap (λ (live : List Instance). last_in live scope) h)
 
 pub empty_ends : EmptyEnds
-empty_ends = record {
-  request_end = λ s before h. record {
-    end = beginning before;
-    ends = ends_empty s scopes.Request before h;
-    pushed = refl;
-    leaves = refl;
-  };
-  end = λ s before h. record {
-    middle = beginning before;
-    end = beginning before;
-    first = ends_empty s scopes.Request before h;
-    then = ends_empty s scopes.Application before h;
-    pushed = refl;
-    leaves = refl;
-  };
-}
+empty_ends = grind (arith, beginning, ends_empty, then)
 
 -- ---- dependent objects
 
@@ -107,14 +84,4 @@ settled_of s b m x e given live h =
     (rw (given, live) (h.rises, h.furnished))
 
 pub commands_keep_furnished : CommandsKeepFurnished
-commands_keep_furnished = record {
-  run = λ s c a t o b l book sound r f.
-      settled_of s l.end.standing l.end b l.leaves refl refl
-      (runs_settled (sound_apart book s sound) l.runs (record { rises = r; furnished = f }));
-  request_end = λ s a t b l book sound r f.
-      settled_of s (closed l.end.standing) l.end b l.leaves refl refl
-      (context_settled l.ends (record { rises = r; furnished = f }));
-  end = λ s a t b l book sound r f.
-      settled_of s (closed l.end.standing) l.end b l.leaves refl refl
-      (context_settled l.then (context_settled l.first (record { rises = r; furnished = f })));
-}
+commands_keep_furnished = grind (arith, settled_of, runs_settled, sound_apart, closed, context_settled)

@@ -1,14 +1,14 @@
 -- The names that several proofs cite, passed on from one place. Declares nothing.
-pub use Rattle.std.proofs.Common.{◌≡◌, ◌<◌, ℕ, false, refl, suc, ◌+◌, ◌≤◌, inl, inr, Bool, true, List, [], ◌∷◌, length, arith, ap, subst}
-pub use Rattle.std.proofs.Common.{sym, ◌∙◌, None, Some, Option, ◌++◌, not, ◌==◌, ◌&&◌, map, if◌then◌else◌, slice_get, zero, ◌⊎◌, IsSome}
+pub use Rattle.std.proofs.Common.{◌≡◌, ◌<◌, ℕ, false, refl, suc, ◌≤◌, Bool, true, List, [], ◌∷◌, length, arith, ap, subst, sym, ◌∙◌, None}
+pub use Rattle.std.proofs.Common.{Some, ◌+◌, Option, ◌++◌, not, ◌==◌, map, if◌then◌else◌, inl, inr, slice_get, zero, ◌⊎◌, IsSome}
 pub use Rattle.std.proofs.Common.{option_map, append_assoc, nat_lt}
 pub use Rattle.std.specs.List.{AllByRecursion, find}
-pub use Rattle.std.proofs.lemmas.Bool.{false≢true, false_from_ne_true, and_parts}
 pub use Rattle.std.proofs.lemmas.Option.{same_Some, slice_get_within}
 pub use Rattle.std.proofs.lemmas.Bool.Decides.{nat_tests}
+pub use Rattle.std.proofs.lemmas.Bool.{false_from_ne_true}
 pub use Rattle.base_lists.proofs.Each.{all-weaker}
-pub use Rattle.cdi_model.specs.declared.decl.Scope.{Scope}
 pub use Rattle.cdi_model.specs.declared.outcome.Outcome.{Outcome}
+pub use Rattle.cdi_model.specs.declared.decl.Scope.{Scope}
 pub use Rattle.cdi_model.specs.declared.outcome.Val.{Val}
 pub use Rattle.cdi_model.specs.declared.outcome.Val.TheVariants.{Null}
 pub use Rattle.cdi_model.specs.declared.outcome.Failure.{Failure}
@@ -18,10 +18,10 @@ pub use Rattle.cdi_bodies.specs.declared.act.Act.TheVariants.{Call, Proceed, Loa
 pub use Rattle.cdi_contexts.specs.Standing.{IsFull, Standing, closed, found, without, keep, finish, last_of, numbered, made_for, last_in}
 pub use Rattle.cdi_contexts.specs.declared.instance.InstanceId.{InstanceId}
 pub use Rattle.cdi_contexts.specs.declared.instance.Owner.{Owner}
-pub use Rattle.cdi_contexts.specs.declared.instance.Owner.TheVariants.{Nobody, Request, Application, Point}
 pub use Rattle.cdi_contexts.specs.Owned.{context_of, is_of, is_part_of, is_at, same_actor}
 pub use Rattle.cdi_contexts.specs.declared.instance.Actor.TheVariants.{Target, Interceptor}
 pub use Rattle.cdi_contexts.specs.declared.instance.Instance.{Instance}
+pub use Rattle.cdi_contexts.specs.declared.instance.Owner.TheVariants.{Request, Nobody, Point, Application}
 pub use Rattle.cdi_contexts.specs.declared.instance.Actor.{Actor}
 pub use Rattle.cdi_contexts.specs.Rising.{IsRising, IsOwnerOf}
 pub use Rattle.cdi_contexts.proofs.Rising.{IsRising-without, IsRising-finished, IsRising-stored, IsRising-more}

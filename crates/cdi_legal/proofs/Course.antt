@@ -1,10 +1,11 @@
 -- The scheme of what holds along legal trees and ends: each case is gone through here, once.
-use Rattle.cdi_legal.proofs.Common.{◌≡◌, ◌<◌, ℕ, false, None, Some, refl, Outcome, Act, Call, Proceed, IsFull, Actor, InstanceId, Owner}
-use Rattle.cdi_legal.proofs.Common.{Nobody, Seat, Scene, Touches, Ends, End, Answer, Legal, Node, Moment, put, ask_more, Entry, Create, ◌+◌}
-use Rattle.cdi_legal.proofs.Common.{Bool, true, ap, sym, ◌∙◌, false≢true, Scope, context_of, is_of, Target, Point, is_normal, Option}
+use Rattle.cdi_legal.proofs.Common.{arith, ◌≡◌, ◌<◌, ℕ, false, None, Some, refl, Outcome, Act, Call, Proceed, IsFull, Actor, InstanceId}
+use Rattle.cdi_legal.proofs.Common.{Owner, Nobody, Seat, Scene, Touches, Ends, End, Answer, Legal, Node, Moment, put, ask_more, Entry}
+use Rattle.cdi_legal.proofs.Common.{Create, ◌+◌, Bool, true, ap, sym, ◌∙◌, Scope, context_of, is_of, Target, Point, is_normal, Option}
 use Rattle.cdi_legal.proofs.Common.{Failure, Val, as_product, bean_at, Bean, Product, Permits, for_param, link, producer, target}
 use Rattle.cdi_legal.proofs.Common.{IsCalledAt, found, managed_at, product_at, Injection, Managed, create, disposer, Destroy, Enter, Gone}
 use Rattle.cdi_legal.proofs.Common.{Got, Leave, Proceeded, Skip}
+use Rattle.std.proofs.lemmas.Bool.{false≢true}
 use Rattle.cdi_model.specs.declared.decl.Scope.TheVariants as scopes
 use Rattle.cdi_bodies.specs.declared.act.Act.TheVariants.{Fire}
 use Rattle.cdi_scene.specs.{Scene.invocable_at, Scene.observer_at, Scene.place_of, declared.scene.Observer.Observer}
@@ -259,9 +260,7 @@ legal_course law (Legal.run_on_host k _ _ _ _ _ _ m m₁ m' p0 p1) _ =
 legal_course law (Legal.no_more_points k _ _ _ m _) _ = law.ends.none (outside k) m
 legal_course law (Legal.proxy_injected _ _ _ _ _ _ _ _ _ _ _ _ p3) _ = legal_course law p3 tt
 legal_course law (Legal.dependent_injected k _ _ i _ point x _ m m₁ m' _ p1 p2 p3 p4) _ =
-    law.ends.then (outside k) m m₁ m'
-    (legal_course law p3 (for_point law i point x m p1 p2))
-    (legal_course law p4 tt)
+    grind (arith, legal_course law p3 (for_point law i point x m p1 p2), legal_course law p4 tt, outside, for_point)
 legal_course law (Legal.injection_failed _ _ i _ point x _ m _ _ p1 p2 p3) _ =
     legal_course law p3 (for_point law i point x m p1 p2)
 legal_course law (Legal.no_more_params k _ _ _ _ m _) _ = law.ends.none (outside k) m

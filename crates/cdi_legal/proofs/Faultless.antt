@@ -1,7 +1,7 @@
 -- In a sound scene bodies run at sound seats alone.
-use Rattle.cdi_legal.proofs.Common.{◌≡◌, ℕ, None, Some, refl, Act, Seat, Scene, Entry, List, subst, Option, as_product, bean_at, Bean}
-use Rattle.cdi_legal.proofs.Common.{Product, opened, Opening, link, producer, target, IsCalledAt, product_at, disposer, same_Some, Bodies}
-use Rattle.cdi_legal.proofs.Common.{IsSound, IsSoundForm, Form, IsOrdered, MayAct}
+use Rattle.cdi_legal.proofs.Common.{arith, ◌≡◌, ℕ, None, Some, Act, Seat, Scene, Entry, List, subst, as_product, bean_at, Product, opened}
+use Rattle.cdi_legal.proofs.Common.{Opening, link, producer, target, IsCalledAt, product_at, disposer, same_Some, Bodies, IsSound}
+use Rattle.cdi_legal.proofs.Common.{IsSoundForm, Form, IsOrdered, MayAct}
 use Rattle.cdi_scene.specs.Sound.{IsSoundAt, IsSoundProduct}
 use Rattle.cdi_scene.specs.declared.scene.Form.TheVariants as forms
 use Rattle.cdi_legal.proofs.Ordering.{commands_are_ordered}
@@ -14,12 +14,7 @@ module _ (book : Bodies) (s : Scene) (sound : IsSound book s) where
   of_form b (forms.Product product) x is form = subst (IsSoundProduct book s b) (same_Some product x is) form
 
   product : (b : ℕ) (x : Product) → product_at s b ≡ Some x → IsSoundProduct book s b x
-  product b x is = of_bean (bean_at s b) refl is
-    where
-      of_bean : (o : Option Bean) → bean_at s b ≡ o → (elim o [ Some bean ↦ as_product bean.form | None ↦ None ]) ≡ Some x
-          → IsSoundProduct book s b x
-      of_bean None there h = let never : None ≡ Some x = h in cc
-      of_bean (Some bean) there h = of_form b bean.form x h (sound.beans b bean there)
+  product b x is = grind (arith, bean_at, as_product, of_form)
 
   sound_seat : (seat : Seat) → IsCalledAt s seat → IsSoundAt book s seat
   sound_seat _ (link i place x l q there linked) = (sound.invocables i.bean place x there).links l q i.number linked

@@ -2,10 +2,9 @@
 use Rattle.cdi_legal.proofs.Common.{all-weaker, ◌≡◌, ◌<◌, ℕ, false, None, Some, refl, Outcome, Act, Load, Store, Actor, InstanceId, Owner}
 use Rattle.cdi_legal.proofs.Common.{Scene, Touches, Ends, End, Moment, put, is_create, Entry, suc, ◌≤◌, Bool, true, List, [], ◌∷◌, arith}
 use Rattle.cdi_legal.proofs.Common.{ap, subst, sym, ◌∙◌, AllByRecursion, Scope, is_of, Standing, Target, Interceptor, Instance, Request}
-use Rattle.cdi_legal.proofs.Common.{Application, Point, applied, effect, step, Effect, Val, Held, last_in, not, ◌==◌, ◌&&◌, map, slice_get}
-use Rattle.cdi_legal.proofs.Common.{zero, if◌then◌else◌, and_parts, is_at, is_part_of, same_actor, IsOwnerOf, without, keep, finish}
-use Rattle.cdi_legal.proofs.Common.{last_of, made_for, IsRising-without, IsRising-finished, IsRising-stored, HasDependents, IsStill}
-use Rattle.cdi_legal.proofs.Common.{is_beginning}
+use Rattle.cdi_legal.proofs.Common.{Application, Point, applied, effect, step, Effect, Val, Held, last_in, ◌==◌, map, slice_get, zero}
+use Rattle.cdi_legal.proofs.Common.{is_at, is_part_of, same_actor, IsOwnerOf, without, keep, finish, last_of, made_for, IsRising-without}
+use Rattle.cdi_legal.proofs.Common.{IsRising-finished, IsRising-stored, HasDependents, IsStill, is_beginning}
 use Rattle.cdi_contexts.specs.Rising.{RisesFrom}
 use Rattle.cdi_contexts.proofs.{Last.last_of_all, Rising.rises_bound}
 use Rattle.cdi_legal.proofs.Along.{IsKept, ends_along, touch_along}
@@ -26,14 +25,7 @@ all-both P Q (x ∷ xs) a b = ((a.0, b.0), all-both P Q xs a.1 b.1)
 pub found-such : (P : Instance → Type 0) (f : Test) (live : List Instance) (i : Instance) → AllByRecursion P live
     → found_by f live ≡ Some i → P i × (f i.id i.owner ≡ true)
 found-such P f [] i a e = cc
-found-such P f (x ∷ xs) i a e = by (f x.id x.owner) refl (found-such P f xs i a.1) e
-  where
-    by : (b : Bool) → f x.id x.owner ≡ b → (found_by f xs ≡ Some i → P i × (f i.id i.owner ≡ true))
-        → (if b then Some x else found_by f xs) ≡ Some i → P i × (f i.id i.owner ≡ true)
-    by true is rest h =
-        let q : x ≡ i = cc in
-        (subst P q a.0, subst (λ (z : Instance). f z.id z.owner ≡ true) q is)
-    by false is rest h = rest h
+found-such P f (x ∷ xs) i a e = grind (arith, found-such P f xs i a.1, a.1, a.0, found_by)
 
 -- ---- numbers
 
@@ -99,11 +91,7 @@ abbrev pub IsSpare : (ℕ → Type 0) → ℕ → List Instance → Type 0
 IsSpare K n live = AllByRecursion (λ z. z.id.number ≡ n → Outside K z.owner) live
 
 inside : (K : ℕ → Type 0) (n : ℕ) (actor : Actor) (p : ℕ) (o : Owner) → is_at n actor p o ≡ true → K n → Outside K o → ⊥
-inside K n actor p (Point m who q) e k out =
-    let part = and_parts ((m == n) && same_actor who actor) (q == p) e in
-    let first = (and_parts (m == n) (same_actor who actor) part.0).0 in
-    let same : m ≡ n = grind (arith, first) in
-    out (subst K (sym same) k)
+inside K n actor p (Point m who q) e k out = grind (arith, same_actor)
 inside K n actor p Request e k out = cc
 inside K n actor p other e k out = cc
 
@@ -151,11 +139,7 @@ rises-after (effects.stores number (Interceptor q) value) s h r = r
 rises-after effects.none s h r = r
 
 pub rises-kept : IsKept (λ m m'. Rises m.standing → Rises m'.standing)
-rises-kept = record {
-  none = λ m r. r;
-  then = λ x y z p q r. q (p r);
-  entry = λ e m m' other h r. subst (λ (x : Moment). Rises x.standing) (sym h) (rises-after (effect e) m.standing other r);
-}
+rises-kept = grind (arith, rises-after, effect)
 
 pub ends-rise : {s : Scene} {e : End} {m m' : Moment} → Ends s e m m' → Rises m.standing → Rises m'.standing
 ends-rise p = ends_along rises-kept p
@@ -221,12 +205,7 @@ Others K n k = K k × (k ≡ n → ⊥)
 
 pub none-left : (n : ℕ) (live : List Instance) → AllByRecursion (λ i. i.id.number ≡ n → ⊥) (without n live)
 none-left n [] = tt
-none-left n (i ∷ is) = by (i.id.number == n) refl (none-left n is)
-  where
-    by : (b : Bool) → (i.id.number == n) ≡ b → AllByRecursion (λ i. i.id.number ≡ n → ⊥) (without n is)
-        → AllByRecursion (λ i. i.id.number ≡ n → ⊥) (if not b then i ∷ without n is else without n is)
-    by true e rest = rest
-    by false e rest = (λ h. absurd (grind arith), rest)
+none-left n (i ∷ is) = grind (arith, none-left n is, without)
 
 -- the others keep their dependent objects where the one that goes is none of them
 pub furnished-without : (K : ℕ → Type 0) (s : Scene) (n : ℕ) (live : List Instance) → IsSpare K n live

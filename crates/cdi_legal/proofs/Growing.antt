@@ -18,19 +18,10 @@ grows_by : (e : Entry) (m m' : Moment) → m' ≡ put e m → Grows m m'
 grows_by e m m' h = omega (arith, ap given_of h, grows m.standing (effect e))
 
 grows_kept : IsKept Grows
-grows_kept = record {
-  none = λ m. omega arith;
-  then = λ a b c p q. omega (arith, p, q);
-  entry = λ e m m' other h. grows_by e m m' h;
-}
+grows_kept = grind (arith, grows_by)
 
 grows_along : (s : Scene) → IsAlong s Nothing Grows
-grows_along s = record {
-  keeps = grows_kept;
-  asking = λ m m' few h. omega (arith, ap given_of h);
-  may = λ b o m may. tt;
-  create = λ b i o m m' may room of_bean h. grows_by (entries.Create i o) m m' h;
-}
+grows_along s = grind (arith, grows_kept, grows_by)
 
 pub ends_grow : {s : Scene} {e : End} {m m' : Moment} → Ends s e m m' → Grows m m'
 ends_grow e = ends_along grows_kept e

@@ -1,9 +1,9 @@
 -- A new instance has its dependent objects once its injection has ended.
 use Rattle.cdi_legal.proofs.Common.{false_from_ne_true, ◌≡◌, ◌<◌, ℕ, false, None, Some, refl, Actor, InstanceId, Owner, Scene, Legal}
-use Rattle.cdi_legal.proofs.Common.{Moment, ◌+◌, ◌≤◌, inl, inr, Bool, true, List, [], ◌∷◌, length, arith, ap, subst, sym, ◌∙◌}
-use Rattle.cdi_legal.proofs.Common.{AllByRecursion, Target, Interceptor, Instance, Point, is_normal, Option, Val, Null, bean_at, Bean}
-use Rattle.cdi_legal.proofs.Common.{Injection, create, ◌++◌, ◌==◌, ◌&&◌, map, slice_get, if◌then◌else◌, and_parts, is_at, same_actor}
-use Rattle.cdi_legal.proofs.Common.{IsOwnerOf, finish, ◌⊎◌, IsRising-more, made_is, nat_lt, slice_get_within, nat_tests, IsDependent}
+use Rattle.cdi_legal.proofs.Common.{Moment, ◌+◌, ◌≤◌, inl, inr, true, List, [], ◌∷◌, length, arith, ap, subst, sym, ◌∙◌, AllByRecursion}
+use Rattle.cdi_legal.proofs.Common.{Target, Interceptor, Instance, Point, is_normal, Option, Val, Null, bean_at, Bean, Injection, create}
+use Rattle.cdi_legal.proofs.Common.{◌++◌, ◌==◌, map, slice_get, is_at, same_actor, IsOwnerOf, finish, ◌⊎◌, IsRising-more, made_is, nat_lt}
+use Rattle.cdi_legal.proofs.Common.{slice_get_within, nat_tests, IsDependent}
 use Rattle.cdi_legal.proofs.Growing.{legal_grows}
 use Rattle.cdi_legal.proofs.Keeping.{Terms, Test, found_by, IsFree, Rises, Older, legal_older, older, begun}
 use Rattle.cdi_legal.proofs.Sharing.{same-finish}
@@ -21,30 +21,13 @@ none-found f (x ∷ xs) a = rw a.0 (none-found f xs a.1)
 found-more : (f : Test) (live : List Instance) (x : Instance) → found_by f live ≡ None → f x.id x.owner ≡ true
     → found_by f (live ++ x ∷ []) ≡ Some x
 found-more f [] x e h = rw h refl
-found-more f (y ∷ ys) x e h = by (f y.id y.owner) refl (found-more f ys x) e
-  where
-    by : (b : Bool) → f y.id y.owner ≡ b → (found_by f ys ≡ None → f x.id x.owner ≡ true
-        → found_by f (ys ++ x ∷ []) ≡ Some x)
-        → (if b then Some y else found_by f ys) ≡ None → (if b then Some y else found_by f (ys ++ x ∷ [])) ≡ Some x
-    by true is rest none = cc
-    by false is rest none = rest none h
+found-more f (y ∷ ys) x e h = grind (arith, found-more f ys x, found_by)
 
 found-finish : (f : Test) (n : ℕ) (product : Option Val) (live : List Instance) (i : Instance)
     → found_by f live ≡ Some i
     → found_by f (map (finish n product) live) ≡ Some (finish n product i)
 found-finish f n product [] i e = cc
-found-finish f n product (x ∷ xs) i e =
-    let same = same-finish n product x in
-    let test : f (finish n product x).id (finish n product x).owner ≡ f x.id x.owner = rw (same.0, same.1) refl in
-    rw test (by (f x.id x.owner) (found-finish f n product xs i) e)
-  where
-    by : (b : Bool) → (found_by f xs ≡ Some i → found_by f (map (finish n product) xs) ≡ Some (finish n product i))
-        → (if b then Some x else found_by f xs) ≡ Some i
-        → (if b then Some (finish n product x) else found_by f (map (finish n product) xs)) ≡ Some (finish n product i)
-    by true rest h =
-        let q : x ≡ i = cc in
-        ap (λ z. Some (finish n product z)) q
-    by false rest h = rest h
+found-finish f n product (x ∷ xs) i e = grind (arith, found-finish f n product xs i, same-finish, finish, found_by, map)
 
 finished-ready : (n : ℕ) (product : Option Val) (i : Instance) → i.id.number ≡ n → (finish n product i).is_ready ≡ true
 finished-ready n None i e =
@@ -113,20 +96,12 @@ actor-self Target = refl
 actor-self (Interceptor q) = grind arith
 
 at-self : (n : ℕ) (a : Actor) (p : ℕ) → is_at n a p (Point n a p) ≡ true
-at-self n a p =
-    let first : (n == n) ≡ true = grind arith in
-    let last : (p == p) ≡ true = grind arith in
-    rw (first, actor-self a, last) refl
+at-self n a p = grind (arith, actor-self)
 
 -- it is one point of one instance
 pub at-same : (n : ℕ) (a : Actor) (p m : ℕ) (b : Actor) (q : ℕ) → is_at n a p (Point m b q) ≡ true
     → (m ≡ n) × (b ≡ a) × (q ≡ p)
-at-same n a p m b q e =
-    let both = and_parts ((m == n) && same_actor b a) (q == p) e in
-    let first = and_parts (m == n) (same_actor b a) both.0 in
-    let one : m ≡ n = grind (arith, first.0) in
-    let last : q ≡ p = grind (arith, both.1) in
-    (one, same-by b a first.1, last)
+at-same n a p m b q e = grind (arith, same_actor, same-by)
 
 not-free : (n : ℕ) (a : Actor) (p low : ℕ) (o : Owner) → n ≤ low → IsFree low o → is_at n a p o ≡ true → ⊥
 not-free n a p low (Point m b q) l free e = absurd (omega (arith, l, free, (at-same n a p m b q e).0))
@@ -148,13 +123,7 @@ open_terms n low l a p = record {
 -- ---- injection
 
 pub nat_cases : (j p : ℕ) → j ≤ p → (j ≡ p) ⊎ (j < p)
-nat_cases j p l = by (nat_lt j p) refl
-  where
-    by : (b : Bool) → nat_lt j p ≡ b → (j ≡ p) ⊎ (j < p)
-    by true e = inr (grind (arith, nat_tests))
-    by false e =
-        let no : p ≤ j = grind (arith, nat_tests) in
-        inl (omega (arith, no, l))
+nat_cases j p l = grind (arith, nat_lt, nat_tests)
 
 -- no two are of one actor and point
 abbrev pub AreApart : List Injection → Type 0
@@ -173,11 +142,7 @@ AreMade s n ps p live =
     (k : ℕ) (point : Injection) → k < p → slice_get ps k ≡ Some point → IsDependent s point.bean → IsMade live n point
 
 pub shared-clash : (s : Scene) (b : ℕ) (x : Bean) → bean_at s b ≡ Some x → is_normal x.scope ≡ true → IsDependent s b → ⊥
-shared-clash s b x there normal own =
-    let same : Some x ≡ Some own.bean = sym there ∙ own.there in
-    let q : x ≡ own.bean = cc in
-    let clash : true ≡ false = sym normal ∙ ap (λ (z : Bean). is_normal z.scope) q ∙ own.scoped in
-    cc
+shared-clash s b x there normal own = grind (arith, there, is_normal)
 
 pub injected : {s : Scene} {k p : ℕ} {i : InstanceId} {ps : List Injection} {m m' : Moment}
     → Legal s k (inject i ps p) m (failure_is None) m'

@@ -35,8 +35,7 @@ IsSteadyChange change =
 
 ready-if : (b : Bool) (x y : Instance) → (x.is_ready ≡ true → y.is_ready ≡ true) → x.is_ready ≡ true
     → (if b then y else x).is_ready ≡ true
-ready-if true x y h e = h e
-ready-if false x y h e = e
+ready-if b x y h e = grind arith
 
 steady-keep : (n : ℕ) (v : Val) → IsSteadyChange (keep n v)
 steady-keep n v i =
@@ -54,26 +53,13 @@ steady-finish n (Some v) i =
 still_if : (b : Bool) (x y i : Instance) (r s : Option Instance) → y.id ≡ x.id → y.owner ≡ x.owner
     → (x.is_ready ≡ true → y.is_ready ≡ true) → (r ≡ Some i → IsStill i s)
     → (if b then Some x else r) ≡ Some i → IsStill i (if b then Some y else s)
-still_if true x y i r s d o ready rest e =
-    let q : x ≡ i = cc in
-    record {
-      same = y;
-      there = refl;
-      id = d ∙ ap (λ (z : Instance). z.id) q;
-      owner = o ∙ ap (λ (z : Instance). z.owner) q;
-      ready = λ h. ready (ap (λ (z : Instance). z.is_ready) q ∙ h);
-    }
+still_if true x y i r s d o ready rest e = grind (arith, ready)
 still_if false x y i r s d o ready rest e = rest e
 
 still-map : (f : Test) (change : Instance → Instance) (live : List Instance) (i : Instance) → IsSteadyChange change
     → found_by f live ≡ Some i → IsStill i (found_by f (map change live))
 still-map f change [] i same e = cc
-still-map f change (x ∷ xs) i same e =
-    let test : f (change x).id (change x).owner ≡ f x.id x.owner = rw ((same x).0, (same x).1) refl in
-    subst (λ (b : Bool). IsStill i (if b then Some (change x) else found_by f (map change xs))) (sym test)
-    (still_if (f x.id x.owner) x (change x) i (found_by f xs) (found_by f (map change xs)) (same x).0 (same x).1
-    (same x).2
-    (still-map f change xs i same) e)
+still-map f change (x ∷ xs) i same e = grind (arith, still-map f change xs i same, map, still_if)
 
 pub still-more : (f : Test) (live : List Instance) (x i : Instance) → found_by f live ≡ Some i
     → IsStill i (found_by f (live ++ x ∷ []))
@@ -173,8 +159,7 @@ hold-finish t n (Some v) false i e l h = rw e h
 hold-keep : (t : Terms) (n : ℕ) (v : Val) (b : Bool) (i : Instance) → (i.id.number == n) ≡ b
     → t.holds i.id i.owner i.is_ready
     → t.holds (keep n v i).id (keep n v i).owner (keep n v i).is_ready
-hold-keep t n v true i e h = rw e h
-hold-keep t n v false i e h = rw e h
+hold-keep t n v b i e h = grind arith
 
 -- ---- entries
 
@@ -563,15 +548,7 @@ older g = record { low = g; holds = λ id o r. Unit {0}; young = λ id o l p h. 
 
 numbered-is : (live : List Instance) (n : ℕ) (i : Instance) → numbered live n ≡ Some i → i.id.number ≡ n
 numbered-is [] n i e = cc
-numbered-is (x ∷ xs) n i e = by (x.id.number == n) refl (numbered-is xs n i) e
-  where
-    by : (b : Bool) → (x.id.number == n) ≡ b → (numbered xs n ≡ Some i → i.id.number ≡ n)
-        → (if b then Some x else numbered xs n) ≡ Some i → i.id.number ≡ n
-    by true is rest h =
-        let q : x ≡ i = cc in
-        let same : x.id.number ≡ n = grind arith in
-        ap (λ (z : Instance). z.id.number) (sym q) ∙ same
-    by false is rest h = rest h
+numbered-is (x ∷ xs) n i e = grind (arith, numbered-is xs n i, numbered)
 
 -- a look-up, a call or an event leaves all that was live
 pub runs_keep : {s : Scene} {c : Command} {m : Moment} {o : Outcome} {m' : Moment} → Runs s c m o m'

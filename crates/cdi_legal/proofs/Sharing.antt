@@ -3,8 +3,8 @@ use Rattle.cdi_legal.proofs.Common.{◌≡◌, ℕ, false, None, Some, refl, Out
 use Rattle.cdi_legal.proofs.Common.{Runs, Command, Moment, put, is_create, Entry, ◌+◌, ◌≤◌, Bool, true, List, [], ◌∷◌, length, arith, ap}
 use Rattle.cdi_legal.proofs.Common.{subst, sym, ◌∙◌, Scope, context_of, is_of, Standing, Target, Interceptor, Instance, is_normal, applied}
 use Rattle.cdi_legal.proofs.Common.{effect, step, Effect, Option, Val, Null, bean_at, Bean, IsSingle, found, ◌++◌, same_Some, not, ◌==◌}
-use Rattle.cdi_legal.proofs.Common.{◌&&◌, map, if◌then◌else◌, without, keep, finish, is_beginning, nat_tests}
-use Rattle.std.proofs.Common.{filter}
+use Rattle.cdi_legal.proofs.Common.{map, if◌then◌else◌, without, keep, finish, is_beginning, nat_tests}
+use Rattle.std.proofs.Common.{◌&&◌, filter}
 use Rattle.cdi_model.specs.declared.decl.Scope.TheVariants as scopes
 use Rattle.cdi_legal.proofs.Along.{asks_for, ends_along, legal_along, runs_along, IsAlong}
 use Rattle.cdi_legal.proofs.Course.{Given, MayBegin}
@@ -26,22 +26,15 @@ one_if true = 1
 one_if false = 0
 
 counted : (b : Bool) (i : Instance) (is : List Instance) → length (if b then i ∷ is else is) ≡ one_if b + length is
-counted true i is = omega arith
-counted false i is = omega arith
+counted b i is = grind arith
 
 pub count-end : (f : Test) (live : List Instance) (i : Instance) → count f (live ++ i ∷ []) ≡ count f live + one_if (f i.id i.owner)
 count-end f [] i = omega (arith, counted (f i.id i.owner) i [])
-count-end f (j ∷ js) i =
-    let after = counted (f j.id j.owner) j (filter (λ i. f i.id i.owner) (js ++ i ∷ [])) in
-    let before = counted (f j.id j.owner) j (filter (λ i. f i.id i.owner) js) in
-    omega (arith, after, before, count-end f js i)
+count-end f (j ∷ js) i = grind (arith, count-end f js i, counted, filter)
 
 dropped : (f : Test) (b : Bool) (i : Instance) (is js : List Instance) → count f js ≤ count f is
     → count f (if b then i ∷ js else js) ≤ count f (i ∷ is)
-dropped f true i is js h =
-    let less = counted (f i.id i.owner) i (filter (λ i. f i.id i.owner) js) in
-    let more = counted (f i.id i.owner) i (filter (λ i. f i.id i.owner) is) in
-    omega (arith, less, more, h)
+dropped f true i is js h = grind (arith, counted, filter)
 dropped f false i is js h =
     let more = counted (f i.id i.owner) i (filter (λ i. f i.id i.owner) is) in
     omega (arith, more, h)
@@ -60,16 +53,11 @@ told f i j d o = rw (d, o) refl
 count-map : (f : Test) (change : Instance → Instance) (live : List Instance) → IsSame change
     → count f (map change live) ≡ count f live
 count-map f change [] same = refl
-count-map f change (i ∷ is) same =
-    let after = counted (f (change i).id (change i).owner) (change i) (filter (λ i. f i.id i.owner) (map change is)) in
-    let before = counted (f i.id i.owner) i (filter (λ i. f i.id i.owner) is) in
-    let head = ap one_if (told f i (change i) (same i).0 (same i).1) in
-    omega (arith, after, before, head, count-map f change is same)
+count-map f change (i ∷ is) same = grind (arith, count-map f change is same, counted, filter, map, told)
 
 kept_if : (b : Bool) (i j : Instance) → j.id ≡ i.id → j.owner ≡ i.owner
     → ((if b then j else i).id ≡ i.id) × ((if b then j else i).owner ≡ i.owner)
-kept_if true i j d o = (d, o)
-kept_if false i j d o = (refl, refl)
+kept_if b i j d o = grind arith
 
 pub same-keep : (n : ℕ) (v : Val) → IsSame (keep n v)
 same-keep n v i = kept_if (i.id.number == n) i (record i { state = v }) refl refl
@@ -108,14 +96,10 @@ NoneLives s b o live =
     (x : Bean) → bean_at s b ≡ Some x → is_normal x.scope ≡ true → (length (instances_of b live) ≡ 0) × (is_of x.scope o ≡ true)
 
 first_one : (c : Bool) (old new : ℕ) → new ≡ old + one_if c → old ≤ 1 → (c ≡ true → old ≡ 0) → new ≤ 1
-first_one true old new e h none = let zero : old ≡ 0 = none refl in omega (arith, e, zero)
-first_one false old new e h none = omega (arith, e, h)
+first_one c old new e h none = grind arith
 
 no_stray : (c d : Bool) (old new : ℕ) → new ≡ old + one_if (c && not d) → old ≡ 0 → (c ≡ true → d ≡ true) → new ≡ 0
-no_stray true true old new e h inside = omega (arith, e, h)
-no_stray true false old new e h inside = let never : false ≡ true = inside refl in cc
-no_stray false true old new e h inside = omega (arith, e, h)
-no_stray false false old new e h inside = omega (arith, e, h)
+no_stray c d old new e h inside = grind arith
 
 is_it : (a b : ℕ) → (a == b) ≡ true → a ≡ b
 is_it a b h = grind (arith, nat_tests)
@@ -144,20 +128,12 @@ by_create {s} i o m m' e p may q =
 -- where none is found, all are strays
 unfound : (p r : Bool) (i : Instance) (rest : Option Instance) (all strays : ℕ) → (if p && r then Some i else rest) ≡ None
     → (rest ≡ None → all ≤ strays) → one_if p + all ≤ one_if (p && not r) + strays
-unfound true true i rest all strays e h = cc
-unfound true false i rest all strays e h = omega (arith, h e)
-unfound false true i rest all strays e h = omega (arith, h e)
-unfound false false i rest all strays e h = omega (arith, h e)
+unfound p r i rest all strays e h = grind arith
 
 none_found : (b : ℕ) (scope : Scope) (live : List Instance) → found live scope b ≡ None
     → length (instances_of b live) ≤ length (strays_of b scope live)
 none_found b scope [] e = omega arith
-none_found b scope (i ∷ is) e =
-    let rest = unfound (i.id.bean == b) (is_of scope i.owner) i (found is scope b) (length (instances_of b is))
-    (length (strays_of b scope is)) e (none_found b scope is) in
-    let all = counted (i.id.bean == b) i (instances_of b is) in
-    let strays = counted ((i.id.bean == b) && not (is_of scope i.owner)) i (strays_of b scope is) in
-    omega (arith, rest, all, strays)
+none_found b scope (i ∷ is) e = grind (arith, none_found b scope is, unfound, is_of, found, length, counted)
 
 in_context : (scope : Scope) → is_normal scope ≡ true → is_of scope (context_of scope) ≡ true
 in_context scopes.Dependent h = cc
