@@ -1,19 +1,14 @@
 -- The interceptors around a place are among those that its chain sees.
 use Rattle.cdi_live.proofs.Common.{◌≡◌, Bool, true, false, not, ◌&&◌, List, [], ◌∷◌, length, map, filter, nat_eq, is_some, refl, sym, ap}
-use Rattle.cdi_live.proofs.Common.{◌∙◌, list_all, list_any, option_eq, bytes_eq, and_from, and_parts, false≢true, or_left, Decl}
-use Rattle.cdi_live.proofs.Common.{InterceptorDecl, BeanPlace, Qual, uses_one, in_text_order, chain_by, in_order, part_for, surrounds}
-use Rattle.cdi_live.proofs.Common.{is_seen, names_around, shares_type, any-in_text_order}
+use Rattle.cdi_live.proofs.Common.{◌∙◌, list_all, list_any, and_from, and_parts, false≢true, or_left, Decl, InterceptorDecl, BeanPlace}
+use Rattle.cdi_live.proofs.Common.{Qual, uses_one, in_text_order, chain_by, in_order, part_for, surrounds, is_seen, names_around}
+use Rattle.cdi_live.proofs.Common.{shares_type, any-in_text_order}
 use Rattle.std.proofs.lemmas.List.Elements.{filter_agree}
 use Rattle.base_lists.proofs.Filters.{filter-both}
 use Rattle.cdi_model.specs.declared.decl.UseKind.TheVariants as use_kinds
-use Rattle.cdi_match.specs.{Covering.agree, Covering.covers, Covering.given_name, Filling.declared_of}
+use Rattle.cdi_match.specs.Covering.{covers}
 use Rattle.cdi_intercept.specs.Chains.{binds, covered_in}
 use Rattle.cdi_intercept.proofs.SeenLemmas.{covered-used}
-
-    -- what is said beside the names
-    rest : Qual → Bool
-    rest u = option_eq bytes_eq (given_name u.arguments) (given_name want.arguments) && agree
-        (declared_of ds use_kinds.Binding u.name) u want
 
 -- one that binds shares a type
 first-shared : (ds : List Decl) (set bindings : List Qual) → (not (nat_eq (length bindings) 0) && list_all (covered_in ds set) bindings)

@@ -5,7 +5,7 @@ pub use Rattle.std.proofs.Common.{slice_get, arith, zero, suc, ◌+◌, ◌<◌,
 pub use Rattle.std.specs.List.{list_any, list_all, All}
 pub use Rattle.std.specs.Str.{bytes_eq}
 pub use Rattle.std.proofs.lemmas.Bool.{and_from, and_parts, false≢true, or_cases, or_left, or_right, not-true, eqb-true, or_parts, or_from}
-pub use Rattle.std.specs.Option.{option_map_or, option_to_list, option_copied, option_eq}
+pub use Rattle.std.specs.Option.{option_map_or, option_to_list, option_copied}
 pub use Rattle.std.specs.Cmp.Lexicographic.{bytes_decides}
 pub use Rattle.std.specs.Map.{keys_of}
 pub use Rattle.std.proofs.lemmas.List.Folds.{list_any-append}

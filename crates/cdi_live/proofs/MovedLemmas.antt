@@ -1,8 +1,9 @@
 -- The names of what goes.
-use Rattle.cdi_live.proofs.Common.{◌≡◌, Bool, true, false, ◌&&◌, List, [], ◌∷◌, refl, sym, ap, ◌∙◌, inl, inr, list_any, option_eq, bytes_eq}
-use Rattle.cdi_live.proofs.Common.{and_parts, false≢true, or_cases, or_left, or_right, BeanPlace, Qual, ℕ, ◌||◌, Option, Some, None, has}
-use Rattle.cdi_live.proofs.Common.{subst, bytes_decides, same_place, zero, suc, same_quals, is_gone_chain, GoneChain, is_gone, Gone}
-use Rattle.cdi_live.proofs.Common.{option_copied, slice_get}
+use Rattle.cdi_live.proofs.Common.{◌≡◌, Bool, true, false, ◌&&◌, List, [], ◌∷◌, refl, sym, ap, ◌∙◌, inl, inr, list_any, bytes_eq, and_parts}
+use Rattle.cdi_live.proofs.Common.{false≢true, or_cases, or_left, or_right, BeanPlace, Qual, ℕ, ◌||◌, Option, Some, None, has, subst}
+use Rattle.cdi_live.proofs.Common.{bytes_decides, same_place, zero, suc, same_quals, is_gone_chain, GoneChain, is_gone, Gone, option_copied}
+use Rattle.cdi_live.proofs.Common.{slice_get}
+use Rattle.std.specs.Option.{option_eq}
 use Rattle.std.proofs.Common.{Bor}
 
 -- a name that is one of some others is among them

@@ -270,7 +270,6 @@ allowed-around : (place : Place) (part : Part) → IsIntercepted place
 allowed-around places.Pre part is kept = record {
   calls_nothing = λ has. no-call-around (kept flags.call has);
   fires_nothing = λ has. no-fire-around (kept flags.fire has);
-allowed-around other part is kept = tt
 }
 allowed-around (places.Disposer b) part is kept = absurd is
 allowed-around (places.Observer o) part is kept = tt
