@@ -1,18 +1,19 @@
 -- The limits of a command: how often it asks bodies, and what is live at each point of its trace.
-use Rattle.cdi_legal.proofs.Common.{◌≡◌, ◌<◌, ℕ, false, refl, IsFull, InstanceId, Owner, Scene, Ends, End, Moment, is_create, Entry, Create}
-use Rattle.cdi_legal.proofs.Common.{suc, ◌≤◌, Bool, true, List, [], ◌∷◌, length, arith, ap, subst, sym, ◌∙◌, AllByRecursion, context_of}
-use Rattle.cdi_legal.proofs.Common.{is_of, Standing, closed, Target, Interceptor, Instance, Request, is_normal, applied, beginning, effect}
-use Rattle.cdi_legal.proofs.Common.{step, Effect, Throughout, all-weaker}
-use Rattle.std.proofs.lemmas.List.{length-append}
+use Rattle.cdi_legal.proofs.Common.{◌≡◌, ◌<◌, ℕ, false, refl, IsFull, InstanceId, Owner, Nobody, Scene, Ends, End, Moment, is_create, Entry}
+use Rattle.cdi_legal.proofs.Common.{Create, suc, ◌≤◌, inl, inr, Bool, true, List, [], ◌∷◌, length, arith, ap, subst, sym, ◌∙◌}
+use Rattle.cdi_legal.proofs.Common.{AllByRecursion, false≢true, Scope, context_of, is_of, Standing, closed, Target, Interceptor, Instance}
+use Rattle.cdi_legal.proofs.Common.{Request, Application, Point, is_normal, applied, beginning, effect, step, Effect, Throughout}
+use Rattle.cdi_legal.proofs.Common.{all-weaker, length-append, CommandsKeepBudget, CommandsKeepThroughout, IsKeptByCommands}
+use Rattle.cdi_legal.proofs.Common.{IsKeptThroughout, IsRequested, IsWithinLimit}
+use Rattle.std.proofs.lemmas.Bool.{cases_Bool}
 use Rattle.cdi_model.specs.declared.decl.Scope.TheVariants as scopes
+use Rattle.cdi_legal.proofs.Course.{IsOutside, MayBegin}
 use Rattle.cdi_legal.proofs.Along.{ends_along, runs_along, IsAlong, Nothing}
-use Rattle.cdi_legal.proofs.Course.{MayBegin}
 use Rattle.cdi_legal.proofs.Everywhere.{each_point, everywhere, kept_everywhere, then, Holds, HoldsAfterEach, Lasts}
 use Rattle.cdi_legal.proofs.Furnishing.{all-step, ends-all}
 use Rattle.cdi_legal.proofs.Keeping.{all-more}
 use Rattle.cdi_legal.proofs.Rooting.{context-gone}
 use Rattle.cdi_legal.proofs.Sharing.{count, fewer_after, single-calm, single_along, Test}
-use Rattle.cdi_legal.specs.Laws.{CommandsKeepBudget, CommandsKeepThroughout, IsKeptByCommands, IsKeptThroughout, IsRequested, IsWithinLimit}
 use Rattle.cdi_legal.specs.Moment as effects
 
 -- ---- how often it asks
@@ -42,11 +43,22 @@ module _ (P : Scene → Standing → Type 0) (calm : (s : Scene) (e : Entry) (x 
   ends s p = ends_along (kept_everywhere (P s) (calm s)) p
 
   pub throughout : IsKeptThroughout P
-  throughout = grind (arith, traced, runs_along, ends, then, beginning)
+  throughout = record {
+    run = λ s command before trace outcome after l holds.
+        traced s before trace l.end l.pushed holds (runs_along (along s) l.runs holds);
+    request_end = λ s before trace after l holds. traced s before trace l.end l.pushed holds (ends s l.ends holds);
+    end = λ s before trace after l holds.
+        traced s before trace l.end l.pushed holds (then (P s) (beginning before) l.middle l.end (ends s l.first) (ends s l.then) holds);
+  }
 
   -- and behind each command, where no more is asked once no request is active
   pub behind : ((s : Scene) (x : Standing) → P s x → P s (closed x)) → IsKeptByCommands (λ s before after. P s before → P s after)
-  behind close = grind (arith, runs_along, ends)
+  behind close = record {
+    run = λ s command before trace outcome after l holds. subst (P s) (sym l.leaves) (runs_along (along s) l.runs holds).end;
+    request_end = λ s before trace after l holds. subst (P s) (sym l.leaves) (close s l.end.standing (ends s l.ends holds).end);
+    end = λ s before trace after l holds.
+        subst (P s) (sym l.leaves) (close s l.end.standing (ends s l.then (ends s l.first holds).end).end);
+  }
 
 -- ---- how many are live
 
@@ -87,7 +99,25 @@ requested-calm s e x h requested =
 
 -- an owner that is the request context begins an instance only while a request is active
 active-where : (s : Scene) (b : ℕ) (o : Owner) (m : Moment) → MayBegin s b o m → o ≡ Request → m.standing.active ≡ true
-active-where s b o m may is = grind (arith, is_normal, context_of)
+active-where s b o m may is = by may.bean.scope refl
+  where
+    of-request : (e : may.bean.scope ≡ scopes.Request) → m.standing.active ≡ true
+    of-request e = elim (cases_Bool m.standing.active) [
+      | inl active ↦ active
+      | inr inactive ↦ absurd (may.active (ap is_normal e) (record { request = e; inactive = inactive }))
+    ]
+
+    by : (scope : Scope) → may.bean.scope ≡ scope → m.standing.active ≡ true
+    by scopes.Request e = of-request e
+    by scopes.Application e =
+        let other : Application ≡ Request = sym (may.owner (ap is_normal e) ∙ ap context_of e) ∙ is in cc
+    by scopes.Dependent e = absurd (false≢true (sym (outside-request o is (may.outside (ap is_normal e)))))
+      where
+        outside-request : (o : Owner) → o ≡ Request → IsOutside o → true ≡ false
+        outside-request Request e out = out scopes.Request
+        outside-request Application e out = let never : Application ≡ Request = e in cc
+        outside-request (Point n actor p) e out = let never : Point n actor p ≡ Request = e in cc
+        outside-request Nobody e out = let never : Nobody ≡ Request = e in cc
 
 requested-begins : (s : Scene) (b : ℕ) (i : InstanceId) (o : Owner) (m : Moment) → MayBegin s b o m → IsRequested s m.standing
     → IsRequested s (step m.standing (Create i o))

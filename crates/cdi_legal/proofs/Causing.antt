@@ -1,11 +1,10 @@
 -- Each failure of a run has its cause.
-use Rattle.cdi_legal.proofs.Common.{◌≡◌, ◌<◌, ℕ, false, None, Some, refl, Outcome, Act, IsFull, InstanceId, Owner, Nobody, Seat, Scene}
 use Rattle.cdi_legal.proofs.Common.{Ends, End, Answer, Legal, Node, Uses, Use, Runs, Command, Moment, put, ask_more, ◌+◌, ◌≤◌, Bool, List}
 use Rattle.cdi_legal.proofs.Common.{◌∷◌, arith, ap, subst, sym, ◌∙◌, Standing, Point, is_normal, beginning, Option, Failure, Value, Val}
-use Rattle.cdi_legal.proofs.Common.{as_product, bean_at, Bean, Product, Held, Follows, for_param, outcome_is, creation, frame, opened}
-use Rattle.cdi_legal.proofs.Common.{Opening, link, producer, target, IsCalledAt, Refused}
+use Rattle.cdi_legal.proofs.Common.{as_product, bean_at, Bean, Product, Permits, Held, Follows, for_param, outcome_is, creation, frame}
+use Rattle.cdi_legal.proofs.Common.{opened, Opening, link, producer, target, IsCalledAt, Refused, Failed, ◌≡◌, ◌<◌, ℕ, false, None, Some}
+use Rattle.cdi_legal.proofs.Common.{refl, Outcome, Act, IsFull, InstanceId, Owner, Nobody, Seat, Scene}
 use Rattle.std.proofs.Common.{IfSome}
-use Rattle.cdi_model.specs.declared.outcome.Outcome.TheVariants.{Failed}
 use Rattle.cdi_model.specs.declared.decl.Scope.TheVariants as scopes
 use Rattle.cdi_model.specs.declared.outcome.Failure.TheVariants as failures
 use Rattle.cdi_bodies.specs.declared.act.Act.TheVariants.{Fail}
@@ -56,10 +55,20 @@ abbrev asked_of : Moment → ℕ
 asked_of m = m.asked
 
 onward_kept : IsKept Onward
-onward_kept = grind (arith, follows, follows_kept, asked)
+onward_kept = record {
+  none = λ m. record { follows = follows_kept.none m; asked = omega arith };
+  then = λ a b c p q. record { follows = follows_kept.then a b c p.follows q.follows; asked = omega (arith, p.asked, q.asked) };
+  entry = λ e m m' calm is. record { follows = follows_kept.entry e m m' calm is; asked = omega (arith, ap asked_of is) };
+}
 
 onward_along : (s : Scene) → IsAlong s Nothing Onward
-onward_along s = grind (arith, onward_kept, asking, follows, follows_along, asked)
+onward_along s = record {
+  keeps = onward_kept;
+  asking = λ m m' few is. record { follows = (follows_along s).asking m m' few is; asked = omega (arith, ap asked_of is) };
+  may = λ b o m may. tt;
+  create = λ b i o m m' may room of_bean is.
+      record { follows = (follows_along s).create b i o m m' may room of_bean is; asked = omega (arith, ap asked_of is) };
+}
 
 -- what goes on from the end of a part goes on from its beginning
 onward : {s : Scene} {k : ℕ} {x : Node} {a : Answer} {m m₁ m' : Moment} → Legal s k x m a m₁ → Onward m₁ m' → Onward m m'
@@ -104,7 +113,11 @@ module _ (s : Scene) (before : Standing) (end : Moment) (within : end.asked ≤ 
   created : {k j b : ℕ} {o : Owner} (i : InstanceId) {m m' : Moment} → k ≡ j + 1 → MayBegin s b o m → (IsFull m.standing → ⊥)
       → i.bean ≡ b → m' ≡ put (entries.Create i o) m → Here k m → Here j m'
   created {j = j} {b = b} {o = o} i {m = m} {m' = m'} fewer may few of_bean is h =
-      grind (arith, creation, opened, step, there-bean, limits, goes, follows_along)
+      let room : HasRoom j (creation i ∷ opened m.trace) =
+      record { calm = h.room.calm; room = omega (arith, h.room.room, fewer); each = (tt, h.room.each) } in
+      let there = step s (entries.Create i o) m m' (creation i ∷ opened m.trace) is h.good
+      (there-bean s b i.bean may.bean of_bean may.there) refl (limits room) in
+      goes ((follows_along s).create b i o m m' tt few of_bean is) there.0 (subst (HasRoom j) (sym there.1) room) h
 
   -- ---- frames
 
@@ -122,12 +135,19 @@ module _ (s : Scene) (before : Standing) (end : Moment) (within : end.asked ≤ 
       Cause.out_of_budget (omega (arith, much, to.asked, within))
   asks_caused (Legal.ended _ _ _ _ _ _ _ (Value v) _ _ _ _ _ _) called h p older top to = tt
   asks_caused (Legal.ended _ _ j _ seat _ x (Failed f) m m' few is permits ends) called h p older top to =
-      grind (arith, passes_left, asked, asking-opened, fails)
+      Cause.by_body f seat m' (passes_left (Failed f) (asked few is h) to)
+      (record { within = false; acts = j; proceedings = p; older = older; youngest = asking-opened s m m' is ∙ top })
+      (subst (Permits s seat) (fails x f ends) permits)
   asks_caused (Legal.stopped _ _ _ seat _ x m m' few is permits ends) called h p older top to =
       Cause.too_many_acts seat x p older m' (passes_left (Failed failures.Steps) (asked few is h) to)
       (asking-opened s m m' is ∙ top) permits ends
   asks_caused (Legal.went_on k _ j _ _ seat _ x _ _ m m₁ m₂ _ few is permits acts does rest) called h p older top to =
-      grind (arith, asks_caused rest called (goes (legal_follows does) one.good room now) one.proceedings older one.same to, asked, opened, frame, false, asking-opened, legal_ordered, room-more, goes)
+      let now = asked few is h in
+      let top₁ : opened m₁.trace ≡ frame seat false j p ∷ older = asking-opened s m m₁ is ∙ top in
+      let one = legal_ordered does permits now.good called j p older acts top₁ now.room in
+      let room : HasRoom k (opened m₂.trace) =
+      subst (HasRoom k) (sym one.same) (room-more s k seat j p one.proceedings older acts (subst (HasRoom k) top₁ now.room)) in
+      asks_caused rest called (goes (legal_follows does) one.good room now) one.proceedings older one.same to
 
   frame_caused : {k l j : ℕ} {seat : Seat} {held : Held} (arg : Val) {o : Outcome} {c : Bool} {m m₁ m₂ m' : Moment} → k ≡ j + 1
       → m₁ ≡ put (entries.Enter seat arg) m → Legal s j (nodes.asks seat held l 0 false) m₁ (nodes.answered_is (answered o c)) m₂
@@ -194,7 +214,9 @@ module _ (s : Scene) (before : Standing) (end : Moment) (within : end.asked ≤ 
   legal_caused (Legal.no_more_points _ _ _ _ _ _) _ _ _ = tt
   legal_caused (Legal.proxy_injected _ _ _ _ _ _ _ _ _ _ _ _ p3) _ h to = legal_caused p3 tt h to
   legal_caused (Legal.dependent_injected _ _ _ i _ point x _ m _ _ _ p1 p2 p3 p4) _ h to =
-      grind (arith, legal_caused p4 tt (past p3 (legal_ordered p3 may) h) to, own_begins, outside-point, past, legal_ordered)
+      let o : Owner = Point i.number point.actor point.point in
+      let may = own_begins s point.bean x o m p1 p2 (outside-point i.number point.actor point.point) in
+      legal_caused p4 tt (past p3 (legal_ordered p3 may) h) to
   legal_caused (Legal.injection_failed _ _ i _ point x _ m _ _ p1 p2 p3) _ h to =
       let o : Owner = Point i.number point.actor point.point in
       legal_caused p3 (own_begins s point.bean x o m p1 p2 (outside-point i.number point.actor point.point)) h to
@@ -255,7 +277,11 @@ module _ (s : Scene) (before : Standing) (end : Moment) (within : end.asked ≤ 
   runs_caused (Runs.fired _ _ _ _ _ p0) h to = legal_caused p0 tt h to
 
   begins_here : Here depth (beginning before)
-  begins_here = grind (arith, follows_kept, beginning, nothing-open)
+  begins_here = record {
+    first = follows_kept.none (beginning before);
+    good = nothing-open s before;
+    room = record { calm = refl; room = refl; each = tt };
+  }
 
 pub commands_fail_for_causes : CommandsFailForCauses
 commands_fail_for_causes s command before trace outcome after l f is =

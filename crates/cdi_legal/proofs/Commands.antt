@@ -1,6 +1,6 @@
 -- The laws of whole commands.
-use Rattle.cdi_legal.proofs.Common.{◌≡◌, Outcome, Scene, Ends, Command, Moment, Entry, ◌≤◌, List, [], arith, ap, subst, sym, ◌∙◌, Scope}
-use Rattle.cdi_legal.proofs.Common.{Standing, closed, Instance, beginning, Follows, last_in, context, after, IsRising, IsFurnished}
+use Rattle.cdi_legal.proofs.Common.{◌≡◌, refl, Outcome, Scene, Ends, Command, Moment, Entry, ◌≤◌, List, [], arith, ap, subst, sym, ◌∙◌}
+use Rattle.cdi_legal.proofs.Common.{Scope, Standing, closed, Instance, beginning, Follows, last_in, context, after, IsRising, IsFurnished}
 use Rattle.cdi_legal.proofs.Common.{LegalRun, LegalRequestEnd, LegalEnd, IsSingle}
 use Rattle.cdi_model.specs.declared.decl.Scope.TheVariants as scopes
 use Rattle.cdi_legal.proofs.Following.{ends_follow, runs_follow, then}
@@ -27,7 +27,11 @@ pub end_single : {s : Scene} {a : Standing} {t : List Entry} {b : Standing} → 
 end_single {s} {a} {t} {b} l q = single_of s b (closed l.end.standing) l.leaves (ends_single l.then (ends_single l.first q))
 
 pub commands_keep_single : CommandsKeepSingle
-commands_keep_single = grind (arith, run_single, request_end_single, end_single)
+commands_keep_single = record {
+  run = λ s c a t o b l. run_single l;
+  request_end = λ s a t b l. request_end_single l;
+  end = λ s a t b l. end_single l;
+}
 
 -- ---- numbers
 
@@ -43,7 +47,11 @@ pub end_grows : {s : Scene} {a : Standing} {t : List Entry} {b : Standing} → L
 end_grows l = omega (arith, ends_grow l.first, ends_grow l.then, ap (λ (x : Standing). x.given) l.leaves)
 
 pub commands_raise_given : CommandsRaiseGiven
-commands_raise_given = grind (arith, run_grows, request_end_grows, end_grows)
+commands_raise_given = record {
+  run = λ s c a t o b l. run_grows l;
+  request_end = λ s a t b l. request_end_grows l;
+  end = λ s a t b l. end_grows l;
+}
 
 -- ---- the fold of the entries
 
@@ -73,7 +81,22 @@ ends_empty : (s : Scene) (scope : Scope) (before : Standing) → before.live ≡
 ends_empty s scope before h = Ends.context_empty _ _ (ap (λ (live : List Instance). last_in live scope) h)
 
 pub empty_ends : EmptyEnds
-empty_ends = grind (arith, beginning, ends_empty, then)
+empty_ends = record {
+  request_end = λ s before h. record {
+    end = beginning before;
+    ends = ends_empty s scopes.Request before h;
+    pushed = refl;
+    leaves = refl;
+  };
+  end = λ s before h. record {
+    middle = beginning before;
+    end = beginning before;
+    first = ends_empty s scopes.Request before h;
+    then = ends_empty s scopes.Application before h;
+    pushed = refl;
+    leaves = refl;
+  };
+}
 
 -- ---- dependent objects
 

@@ -1,20 +1,21 @@
 -- Along a legal tree each live instance has a home: its context, or the instance that it was made for.
-use Rattle.cdi_legal.proofs.Common.{all-weaker, ◌≡◌, ℕ, false, None, Some, refl, Outcome, Act, Actor, InstanceId, Owner, Nobody, Scene}
-use Rattle.cdi_legal.proofs.Common.{Touches, Ends, End, Answer, Legal, Node, Uses, Use, Runs, Command, Moment, put, ask_more, Entry, ◌+◌}
-use Rattle.cdi_legal.proofs.Common.{inl, inr, true, List, [], ◌∷◌, length, arith, ap, subst, sym, ◌∙◌, AllByRecursion, Scope, context_of}
-use Rattle.cdi_legal.proofs.Common.{is_of, Standing, Instance, Request, Application, is_normal, beginning, Option, Failure, bean_at, Bean}
-use Rattle.cdi_legal.proofs.Common.{Held, for_param, Refused, IsRising, LegalRun, LegalRequestEnd, LegalEnd, create, ◌++◌, ◌==◌, slice_get}
-use Rattle.cdi_legal.proofs.Common.{is_part_of, IsOwnerOf, ◌⊎◌, IsSome, numbered, destroy, dependents, held, made_is, held_is, IsHome}
+use Rattle.cdi_legal.proofs.Common.{all-weaker, ◌≡◌, ◌<◌, ℕ, false, None, Some, refl, Outcome, Act, Actor, InstanceId, Owner, Nobody, Scene}
+use Rattle.cdi_legal.proofs.Common.{◌≤◌, inl, inr, true, List, [], ◌∷◌, length, arith, ap, subst, sym, ◌∙◌, AllByRecursion, Scope}
+use Rattle.cdi_legal.proofs.Common.{context_of, is_of, Standing, Instance, Request, Application, Point, is_normal, beginning, Option}
+use Rattle.cdi_legal.proofs.Common.{Failure, bean_at, Bean, Held, for_param, Refused, IsRising, LegalRun, LegalRequestEnd, LegalEnd, create}
+use Rattle.cdi_legal.proofs.Common.{◌++◌, ◌==◌, slice_get, is_part_of, IsOwnerOf, ◌⊎◌, IsSome, numbered, IsRising-more, destroy, dependents}
+use Rattle.cdi_legal.proofs.Common.{held, made_is, held_is, IsHome, Touches, Ends, End, Answer, Legal, Node, Uses, Use, Runs, Command}
+use Rattle.cdi_legal.proofs.Common.{Moment, put, ask_more, Entry, ◌+◌}
 use Rattle.cdi_model.specs.declared.decl.Scope.TheVariants as scopes
+use Rattle.cdi_legal.proofs.Rooting.{AreHome, Also, AlsoParts, Free, IsCalm, IsIn, NoNumber, Stay, calm-begins, context-gone}
+use Rattle.cdi_legal.proofs.Rooting.{dependents-gone, destroyed-home, ends-home, held-home, home-entry, home-lost, home-stay, home-touch}
+use Rattle.cdi_legal.proofs.Rooting.{narrower, no-parts, of_number, some-of, stay-still, wider}
 use Rattle.cdi_legal.proofs.Along.{touch_along}
 use Rattle.cdi_legal.proofs.Growing.{legal_grows}
 use Rattle.cdi_legal.proofs.Keeping.{Rises, all-more, begun, given-more, legal_older, older, owned-context, owned-param, still-more}
 use Rattle.cdi_legal.proofs.Furnishing.{all-above, all-given, ends-all, ends-rise, found-such, none-left, rises-kept}
 use Rattle.cdi_legal.proofs.Settling.{Begins, owns, same-given, new_one}
 use Rattle.cdi_legal.proofs.Supplying.{kept-in, last-in}
-use Rattle.cdi_legal.proofs.Rooting.{AreHome, Also, Free, IsCalm, IsIn, Stay, calm-begins, context-gone, dependents-gone, destroyed-home}
-use Rattle.cdi_legal.proofs.Rooting.{ends-home, held-home, home-entry, home-lost, home-touch, narrower, no-parts, of_number, some-of}
-use Rattle.cdi_legal.proofs.Rooting.{stay-still, wider}
 use Rattle.cdi_legal.specs.declared.entry.Made.TheVariants.{Instance as Obtained}
 use Rattle.cdi_legal.specs.{Laws.BothEndsLeaveNothing, Laws.CommandsKeepRooted, Rooted.IsRooted}
 use Rattle.cdi_legal.specs.Legal as nodes
@@ -31,13 +32,19 @@ Path L m m' = Rests L m → Rests L m'
 -- ---- steps
 
 entry : (L : Free) (e : Entry) (m m' : Moment) → m' ≡ put e m → IsCalm e → Path L m m'
-entry L e m m' is p h = grind (arith, rises, rises-kept, calm-begins, is, home, home-entry)
+entry L e m m' is p h = record {
+  rises = rises-kept.entry e m m' (calm-begins e p) is h.rises;
+  home = home-entry L e m m' is p h.home;
+}
 
 asking : (L : Free) (m m' : Moment) → m' ≡ ask_more m → Path L m m'
 asking L m m' is h = subst (Rests L) (sym is) (record { rises = h.rises; home = h.home })
 
 touch : (L : Free) (n : ℕ) (actor : Actor) (x : Act) (m : Moment) (o : Outcome) (m' : Moment) → Touches n actor x m o m' → Path L m m'
-touch L n actor x m o m' t h = grind (arith, rises, touch_along, rises-kept, home, home-touch)
+touch L n actor x m o m' t h = record {
+  rises = touch_along rises-kept n actor x m o m' t h.rises;
+  home = home-touch L n actor x m o m' t h.home;
+}
 
 ends : (L : Free) {s : Scene} {e : End} {m m' : Moment} → Ends s e m m' → Path L m m'
 ends L p h = record { rises = ends-rise p h.rises; home = ends-home L p h.home }
@@ -46,7 +53,11 @@ ends L p h = record { rises = ends-rise p h.rises; home = ends-home L p h.home }
 stays-after : {s : Scene} {k : ℕ} {x : Node} {a : Answer} {m m' : Moment} → Legal s k x m a m' → Begins x m → Rises m.standing
     → Stay m.standing.live m'.standing.live
 stays-after {s} {k} {x} {a} {m} {m'} p b r =
-    grind (arith, legal_older, older, owns, same-given, stay-still, of_number, found-such, all-given)
+    let step = legal_older (older m.standing.given) p (owns (older m.standing.given) x m (λ o id l w. tt) b) (same-given m) r in
+    stay-still m.standing.live m'.standing.live
+    (λ n i e. step.keeps (of_number n) i
+    (found-such (λ z. z.id.number ≤ m.standing.given) (of_number n) m.standing.live i
+    (all-given 0 m.standing.given m.standing.live r) e).0 e)
 
 -- ---- a new instance
 
@@ -63,12 +74,40 @@ begun-lives i o m m' e is =
 -- it has a home, or needs none
 begin : (L : Free) (i : InstanceId) (o : Owner) (m m' : Moment) → i.number ≡ m.standing.given + 1 → m' ≡ put (entries.Create i o) m
     → IsOwnerOf (m.standing.given + 1) o → IsHome m.standing.live o ⊎ L i.number o → Path L m m'
-begin L i o m m' e is owned home h = grind (arith, is, rises, new_one, home, all-more, all-weaker, stay-still, still-more)
+begin L i o m m' e is owned home h = subst (Rests L) (sym is) (record {
+  rises = IsRising-more m.standing.given m.standing.live (new_one i o m) h.rises refl owned;
+  home = all-more (λ z. IsHome after z.owner ⊎ L z.id.number z.owner) m.standing.live (new_one i o m)
+      (all-weaker (λ z. IsHome m.standing.live z.owner ⊎ L z.id.number z.owner) (λ z. IsHome after z.owner ⊎ L z.id.number z.owner)
+      m.standing.live (λ z home. moved z.id.number z.owner home) h.home)
+      (subst (λ n. IsHome after o ⊎ L n o) e (moved i.number o home));
+})
+  where
+    after : List Instance
+    after = m.standing.live ++ new_one i o m ∷ []
+
+    stay : Stay m.standing.live after
+    stay = stay-still m.standing.live after (λ n d f. still-more (of_number n) m.standing.live (new_one i o m) d f)
+
+    moved : (n : ℕ) (x : Owner) → IsHome m.standing.live x ⊎ L n x → IsHome after x ⊎ L n x
+    moved n x (inl there) = inl (home-stay m.standing.live after x stay there)
+    moved n x (inr free) = inr free
 
 -- where its creation fails nothing is left of it
 broke : (L : Free) {s : Scene} {m m₁ m' : Moment} (i : InstanceId) (f : Failure) → m₁ ≡ put (entries.Broken i f) m
     → Ends s (dependents i.number) m₁ m' → Rests (Also L i.number) m → Rests L m'
-broke L {s} {m} {m₁} {m'} i f is p h = grind (arith, is, home-lost, none-left, narrower, is_part_of, no-parts, dependents-gone)
+broke L {s} {m} {m₁} {m'} i f is p h =
+    let M : Free = AlsoParts (Also L i.number) i.number in
+    let home₁ : AreHome M m₁.standing.live =
+    subst (λ (y : Moment). AreHome M y.standing.live) (sym is) (home-lost (Also L i.number) i.number m.standing.live h.home) in
+    let none₁ : NoNumber i.number m₁.standing.live =
+    subst (λ (y : Moment). NoNumber i.number y.standing.live) (sym is) (none-left i.number m.standing.live) in
+    let without_parts : AreHome (Also L i.number) m'.standing.live =
+    narrower (Also L i.number) (λ n o. is_part_of i.number o ≡ true) m'.standing.live
+    (no-parts i.number m'.standing.live (dependents-gone p)) (ends-home M p home₁) in
+    record {
+      rises = ends-rise p (rises-kept.entry (entries.Broken i f) m m₁ refl is h.rises);
+      home = narrower L (λ n o. n ≡ i.number) m'.standing.live (ends-all (λ id o. id.number ≡ i.number → ⊥) p none₁) without_parts;
+    }
 
 -- further ones need no home
 also : (L M : Free) (m : Moment) → Rests L m → Rests (λ n o. L n o ⊎ M n o) m
@@ -134,7 +173,10 @@ refused L o f live n e = cc
 houses-param : (L : Free) (b d : ℕ) (h : Held) {a : Answer} (product : Option InstanceId) (p : ℕ) (live : List Instance)
     → GoesOn (h ++ Some (nodes.at b d) ∷ []) a → Feeds L product a live → Houses L (for_param product p) (made_is (Obtained d)) live
 houses-param L b d h (Some i) p live g f = λ n e. inl f
-houses-param L b d h None p live g f = grind (arith, length, last-in)
+houses-param L b d h None p live g f = λ n e.
+    let same : d ≡ n = cc in
+    inr (subst (λ x. L x Nobody) same
+    (f g.all g.failure (length h) (nodes.at b d) g.is (g.keeps (length h) (Some (nodes.at b d)) (last-in h (Some (nodes.at b d))))))
 
 -- one that belongs to nobody is destroyed where it was made
 own : (L : Free) (n : ℕ) (live : List Instance) → Houses (Also L n) Nobody (made_is (Obtained n)) live
@@ -153,7 +195,10 @@ abbrev IsShared : Scene → ℕ → Type 0
 IsShared s b = (x : Bean) → bean_at s b ≡ Some x → is_normal x.scope ≡ true
 
 shared : (s : Scene) (b : ℕ) (d : Bean) → bean_at s b ≡ Some d → is_normal d.scope ≡ true → IsShared s b
-shared s b d there normal x here = grind (arith, is, is_normal)
+shared s b d there normal x here =
+    let both : Some d ≡ Some x = sym there ∙ here in
+    let is : d ≡ x = cc in
+    subst (λ (z : Bean). is_normal z.scope ≡ true) is normal
 
 home-context : (live : List Instance) (scope : Scope) → is_normal scope ≡ true → IsHome live (context_of scope)
 home-context live scopes.Dependent e = cc
@@ -183,7 +228,9 @@ legal_rests L (Legal.made _ _ _ _ o i _ m m₁ m₂ m' _ _ _ _ p4 p5 p6 p7) b n 
     entry L _ m₂ m' p7 tt
     (legal_rests L p6 (begun i o m m₁ p4 p5) (begun-lives i o m m₁ p4 p5) (begin L i o m m₁ p4 p5 b (n i.number refl) h))
 legal_rests L (Legal.broken _ _ _ o i f m m₁ m₂ m₃ m' _ _ _ p3 p4 p5 p6 p7) b n h =
-    grind (arith, legal_rests (Also L i.number) p5 (begun i o m m₁ p3 p4) (begun-lives i o m m₁ p3 p4) (begin (Also L i.number) i o m m₁ p3 p4 b (inr (inr refl)) (also-one L i.number m h)), broke, begun, begun-lives, begin, also-one)
+    broke L i f p6 p7
+    (legal_rests (Also L i.number) p5 (begun i o m m₁ p3 p4) (begun-lives i o m m₁ p3 p4)
+    (begin (Also L i.number) i o m m₁ p3 p4 b (inr (inr refl)) (also-one L i.number m h)))
 legal_rests L (Legal.uninjected _ _ _ _ _ _ _ p1) b n h = legal_rests L p1 b n h
 legal_rests L (Legal.construction_failed _ _ _ _ _ _ _ _ _ p1 p2) b n h = legal_rests L p2 tt tt (legal_rests L p1 b n h)
 legal_rests L (Legal.not_constructed _ _ _ _ _ _ _ _ p1 p2) b n h = legal_rests L p2 tt tt (legal_rests L p1 b n h)
@@ -197,7 +244,9 @@ legal_rests {s} L (Legal.produced_on_shared _ _ i _ d product _ m _ _ _ _ _ p3 p
     (legal_rests L p5 tt (shared s product.declaring d p3 p4) h)
 legal_rests L (Legal.no_own_host _ _ _ _ f m _ _ _ _ _ p4) b n h = legal_rests L p4 tt (refused L Nobody f m.standing.live) h
 legal_rests L (Legal.produced_on_own _ c i _ _ _ _ m _ _ _ _ _ _ _ _ p5 p6 p7) b n h =
-    grind (arith, legal_rests (Also L c) p6 (omega (arith, b, legal_grows p5)) (stays-after p5 tt h.rises i.number n) (legal_rests (Also L c) p5 tt (own L c m.standing.live) (also-one L c m h)), legal_rests (Also L c) p5 tt (own L c m.standing.live) (also-one L c m h), destroyed, legal_grows, stays-after, own, also-one)
+    destroyed L p7
+    (legal_rests (Also L c) p6 (omega (arith, b, legal_grows p5)) (stays-after p5 tt h.rises i.number n)
+    (legal_rests (Also L c) p5 tt (own L c m.standing.live) (also-one L c m h)))
 legal_rests L (Legal.unsupplied _ _ _ _ _ _ _ _ p0) b n h = legal_rests L p0 b n h
 legal_rests L (Legal.run_statically _ _ _ _ _ _ _ _ _ p0 p1) b n h = legal_rests L p1 tt tt (legal_rests L p0 b n h)
 legal_rests L (Legal.run_on_host _ _ _ _ _ _ _ _ _ _ p0 p1) b n h = legal_rests L p1 tt tt (legal_rests L p0 b n h)
@@ -210,7 +259,10 @@ legal_rests L (Legal.injection_failed _ _ _ _ _ _ _ _ _ _ _ _ p3) b n h = legal_
 legal_rests L (Legal.no_more_params _ _ _ _ _ _ _) b n h = h
 legal_rests L (Legal.proxy_supplied _ _ _ _ _ _ _ _ _ _ _ _ _ p3) b n h = legal_rests L p3 b n h
 legal_rests L (Legal.dependent_supplied _ p c d product _ had _ a m m₁ _ _ _ _ p3 p4) b n h =
-    grind (arith, legal_rests L p4 (given-more product m.standing.given m₁.standing.given b (legal_grows p3)) (feeds-on L product a m.standing.live m₁.standing.live (stays-after p3 owned h.rises) n) (legal_rests L p3 owned (houses-param L c d had product p m.standing.live (goes-on p4) n) h), legal_rests L p3 owned (houses-param L c d had product p m.standing.live (goes-on p4) n) h, owned-param, given-more, legal_grows, feeds-on, stays-after, houses-param, goes-on)
+    let owned = owned-param product p m.standing.given b in
+    legal_rests L p4 (given-more product m.standing.given m₁.standing.given b (legal_grows p3))
+    (feeds-on L product a m.standing.live m₁.standing.live (stays-after p3 owned h.rises) n)
+    (legal_rests L p3 owned (houses-param L c d had product p m.standing.live (goes-on p4) n) h)
 legal_rests L (Legal.supply_failed _ p _ product _ _ _ f m _ _ _ _ p3) b n h =
     legal_rests L p3 (owned-param product p m.standing.given b) (refused L (for_param product p) f m.standing.live) h
 legal_rests L (Legal.linked _ _ _ _ _ _ _ _ _ _ _ _ _ p2) b n h = legal_rests L p2 tt tt h
@@ -328,8 +380,25 @@ none-stands : (live : List Instance) (given : ℕ) → IsRising given live → I
     → AllByRecursion (λ z. is_of scopes.Request z.owner ≡ false) live → AllByRecursion (λ z. is_of scopes.Application z.owner ≡ false) live
     → live ≡ []
 none-stands [] given r h a b = refl
-none-stands (x ∷ xs) given r h a b =
-    grind (arith, a.0, b.0, h.0, r.1, r.2, is, older, numbered, some-of, found-such, of_number, all-weaker, all-above)
+none-stands (x ∷ xs) given r h a b = absurd (by x.owner h.0 r.1 a.0 b.0)
+  where
+    -- none is older than the first
+    late : (n : ℕ) → n < x.id.number → IsSome (numbered (x ∷ xs) n) → ⊥
+    late n low there =
+        let one = some-of (numbered (x ∷ xs) n) there in
+        let found = found-such (λ z. x.id.number ≤ z.id.number) (of_number n) (x ∷ xs) one.0 (
+          omega arith,
+          all-weaker (λ z. x.id.number < z.id.number) (λ z. x.id.number ≤ z.id.number) xs (λ z l. omega (arith, l))
+              (all-above x.id.number given xs r.2),
+        ) one.1 in
+        let is : one.0.id.number ≡ n = grind (arith, found.1) in
+        absurd (omega (arith, found.0, is, low))
+
+    by : (o : Owner) → IsHome (x ∷ xs) o → IsOwnerOf x.id.number o → is_of scopes.Request o ≡ false
+        → is_of scopes.Application o ≡ false → ⊥
+    by (Point n actor p) home owned p0 p1 = late n owned home
+    by Nobody home owned p0 p1 = absurd home
+    by other home owned p0 p1 = cc
 
 pub both_ends_leave_nothing : BothEndsLeaveNothing
 both_ends_leave_nothing s a t b r h l = grind (arith, both-ended, none-stands, home-rooted, ends-all, is_of, context-gone)

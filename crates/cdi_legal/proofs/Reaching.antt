@@ -1,12 +1,12 @@
 -- What a call site names is there: whoever runs has the dependent object that it leads to.
-use Rattle.cdi_legal.proofs.Common.{arith, ◌≡◌, ℕ, Some, Seat, Scene, Legal, Moment, List, Instance, Held, IsFurnished, made_for}
-use Rattle.cdi_legal.proofs.Common.{HasDependents, made_is, IsDependent, option_map}
+use Rattle.cdi_legal.proofs.Common.{◌≡◌, ℕ, None, Some, Seat, Scene, Legal, Moment, true, List, ap, subst, ◌∙◌, Instance, Held, IsFurnished}
+use Rattle.cdi_legal.proofs.Common.{made_for, HasDependents, made_is, IsDependent, option_map, at, dependent_of, reach, IsServed, arith}
 use Rattle.cdi_scene.specs.{Sound.IsNamed, declared.scene.CallSite.CallSite, declared.scene.Via.Via}
 use Rattle.cdi_scene.specs.declared.scene.Via.TheVariants.{Own, Param}
 use Rattle.cdi_legal.proofs.Furnishing.{at as at_point, found-such}
 use Rattle.cdi_legal.proofs.Settling.{IsApart, Settled, obtained_has}
 use Rattle.cdi_legal.specs.declared.entry.Made.TheVariants.{Instance as Obtained}
-use Rattle.cdi_legal.specs.{Legal.at, Legal.dependent_of, Legal.reach, Furnished.IsServed}
+use Rattle.cdi_legal.specs.Legal.{number_of}
 
 -- the instance is there, and has its own dependent objects
 pub record IsReached (s : Scene) (live : List Instance) (seat : Seat) (h : Held) (via : Via) (b : ℕ) : Type 0 where
@@ -17,8 +17,26 @@ pub record IsReached (s : Scene) (live : List Instance) (seat : Seat) (h : Held)
 pub reaches : (s : Scene) (live : List Instance) (seat : Seat) (h : Held) (via : Via) (b : ℕ) → IsFurnished s live
     → IsServed s live seat h → IsNamed s seat via b → IsDependent s b → IsReached s live seat h via b
 reaches s live seat h (Own p) b furnished served named own =
-    grind (arith, found-such, at_point, number, reached, option_map, made_for, has)
-reaches s live seat h (Param p) b furnished served named own = grind (arith, number, reached, has)
+    let m = served.own named.number named.seated named.managed named.place _ named.there named.injected own in
+    let had = found-such (λ z. z.is_ready ≡ true → HasDependents s live z.id) (at_point named.number seat.actor p)
+    live m.made furnished
+    m.there in
+    record {
+      number = m.made.id.number;
+      reached = ap (λ o. elim o [
+        | Some n ↦ option_map (λ i. i.id.number) (made_for live n seat.actor p)
+        | None ↦ None
+      ]) named.seated
+          ∙ ap (option_map (λ i. i.id.number)) m.there;
+      has = subst (λ (c : ℕ). HasDependents s live (at c m.made.id.number)) m.bean (had.0 m.ready);
+    }
+reaches s live seat h (Param p) b furnished served named own =
+    let one = served.params p b named own in
+    record {
+      number = one.number;
+      reached = ap (λ o. elim o [ Some made ↦ number_of made | None ↦ None ]) one.there;
+      has = one.has;
+    }
 
 -- what a call site has reached has its own dependent objects
 pub reached_has : {s : Scene} {k n : ℕ} {seat : Seat} {h : Held} {c : CallSite} {m m' : Moment} → IsApart s

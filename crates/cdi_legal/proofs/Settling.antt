@@ -1,23 +1,23 @@
 -- Along a legal tree each ready instance has its dependent objects.
-use Rattle.cdi_legal.proofs.Common.{false_from_ne_true, all-weaker, ◌≡◌, ◌<◌, ℕ, false, None, Some, refl, Outcome, Act, Actor, InstanceId}
-use Rattle.cdi_legal.proofs.Common.{Owner, Nobody, Scene, Touches, Ends, Answer, Legal, Node, Uses, Use, Runs, Command, Moment, put}
-use Rattle.cdi_legal.proofs.Common.{ask_more, Entry, ◌+◌, ◌≤◌, inl, inr, Bool, true, List, [], ◌∷◌, length, arith, ap, subst, sym, ◌∙◌}
-use Rattle.cdi_legal.proofs.Common.{AllByRecursion, Scope, is_of, Instance, Point, Option, Failure, Value, Val, Null, as_product, bean_at}
-use Rattle.cdi_legal.proofs.Common.{Bean, Product, Held, outcome_is, context, IsFurnished, managed_at, Managed, create, ◌++◌, Bodies}
-use Rattle.cdi_legal.proofs.Common.{IsSound, IsSoundForm, Form, ◌==◌, map, slice_get, is_at, IsOwnerOf, finish, IsRising-finished}
-use Rattle.cdi_legal.proofs.Common.{HasDependents, ◌⊎◌, IsRising-more, destroy, dependents, held, made_is, held_is, nat_lt}
-use Rattle.cdi_legal.proofs.Common.{slice_get_within, nat_tests}
+use Rattle.cdi_legal.proofs.Common.{IsSound, IsSoundForm, Form, ◌==◌, ◌&&◌, map, slice_get, and_parts, is_at, IsOwnerOf, finish}
+use Rattle.cdi_legal.proofs.Common.{IsRising-finished, HasDependents, ◌⊎◌, IsRising-more, destroy, dependents, held, made_is, held_is}
+use Rattle.cdi_legal.proofs.Common.{nat_lt, slice_get_within, nat_tests, false_from_ne_true, all-weaker, ◌≡◌, ◌<◌, ℕ, false, None, Some}
+use Rattle.cdi_legal.proofs.Common.{refl, Outcome, Act, Actor, InstanceId, Owner, Nobody, Scene, Touches, Ends, Answer, Legal, Node, Uses}
+use Rattle.cdi_legal.proofs.Common.{Use, Runs, Command, Moment, put, ask_more, Entry, ◌+◌, ◌≤◌, inl, inr, Bool, true, List, [], ◌∷◌, length}
+use Rattle.cdi_legal.proofs.Common.{arith, ap, subst, sym, ◌∙◌, AllByRecursion, Scope, is_of, Instance, Point, Option, Failure, Value, Val}
+use Rattle.cdi_legal.proofs.Common.{Null, as_product, bean_at, Bean, Product, Held, outcome_is, context, IsFurnished, managed_at, Managed}
+use Rattle.cdi_legal.proofs.Common.{create, ◌++◌, Bodies}
 use Rattle.cdi_scene.specs.Scene.{as_managed}
 use Rattle.cdi_scene.specs.declared.scene.Form.TheVariants as forms
+use Rattle.cdi_legal.proofs.Keeping.{given-more, legal_older, older, owned-context, owned-param, still-finish, still-more, Test, uses_older}
+use Rattle.cdi_legal.proofs.Keeping.{Admits, AdmitsFor, IsFree, Older, Owns, Rises, Terms, WasGiven, all-more, all-map, begun, created}
+use Rattle.cdi_legal.proofs.Injecting.{AreApart, injected}
 use Rattle.cdi_legal.proofs.Along.{touch_along}
 use Rattle.cdi_legal.proofs.Growing.{legal_grows}
-use Rattle.cdi_legal.proofs.Keeping.{Admits, AdmitsFor, IsFree, Older, Owns, Rises, Terms, WasGiven, all-more, all-map, begun, created}
-use Rattle.cdi_legal.proofs.Keeping.{given-more, legal_older, older, owned-context, owned-param, still-finish, still-more, uses_older}
 use Rattle.cdi_legal.proofs.Sharing.{same-finish}
 use Rattle.cdi_legal.proofs.Furnishing.{AllSpare, AreFurnished, IsPlain, IsSpare, Others, Outside, all-both, all-given, all-owned, at}
 use Rattle.cdi_legal.proofs.Furnishing.{ends-all, ends-rise, ends_furnished, fewer, found-such, furnished-without, has-still, none-left}
 use Rattle.cdi_legal.proofs.Furnishing.{plain, rises-kept, touch-furnished, is_plain_kept}
-use Rattle.cdi_legal.proofs.Injecting.{AreApart, injected}
 use Rattle.cdi_legal.specs.declared.entry.Made.TheVariants.{Instance as Obtained}
 use Rattle.cdi_legal.specs.Legal as nodes
 use Rattle.cdi_legal.specs.declared.entry.Entry.TheVariants as entries
@@ -466,8 +466,11 @@ legal_young apart (Legal.attended_own _ _ _ _ _ _ _ m m₁ m₂ m' _ _ _ _ p4 p5
 legal_young apart (Legal.not_supplied _ _ _ _ had _ _ m m₁ m' p0 p1) a = λ h.
     held-ended m.standing.given had (length had) p1 (supplied-spare m.standing.given p0 h.rises tt)
     (wrap p0 tt (legal_young apart p0 tt) h)
-legal_young apart (Legal.attended _ _ _ _ had _ _ _ m m₁ m₂ m' p0 p1 p2) a =
-    grind (arith, legal_young apart p0 tt, legal_young apart p1 tt, wrap, held-ended, length, spare-after, supplied-spare)
+legal_young apart (Legal.attended _ _ _ _ had _ _ _ m m₁ m₂ m' p0 p1 p2) a = λ h.
+    let settled = wrap p0 tt (legal_young apart p0 tt) h in
+    held-ended m.standing.given had (length had) p2
+    (spare-after m.standing.given had p1 tt settled.rises (supplied-spare m.standing.given p0 h.rises tt))
+    (wrap p1 tt (legal_young apart p1 tt) settled)
 legal_young apart (Legal.inactive _ _ _ m _ _) a =
     young (none m)
 legal_young apart (Legal.present _ _ _ _ m _ _ _ _) a =
@@ -591,7 +594,11 @@ legal_settled apart p b h = wrap p b (legal_young apart p b) h
 -- what ends keeps this too, where what is destroyed was made for none that stays
 pub context_settled : {s : Scene} {scope : Scope} {m m' : Moment} → Ends s (context scope) m m' → Settled s m
     → Settled s m'
-context_settled {s} {scope} {m} {m'} p h = grind (arith, rises, ends-rise, furnished, all-of, ends_furnished, only)
+context_settled {s} {scope} {m} {m'} p h = record {
+  rises = ends-rise p h.rises;
+  furnished = all-of s m'.standing.live
+      (ends_furnished (λ n. Unit {0}) p h.rises tt (only s (λ n. Unit {0}) m.standing.live h.furnished));
+}
 
 -- ---- what is made and what is obtained
 
@@ -613,7 +620,12 @@ created_has {s} apart (Legal.made k j b x o i v m m₁ m₂ m' p0 p1 p2 p3 p4 p5
 pub obtained_has : {s : Scene} {k b n : ℕ} {m m' : Moment} → IsApart s
     → Legal s k (nodes.obtain b) m (made_is (Obtained n)) m'
     → Settled s m → HasDependents s m'.standing.live (nodes.at b n)
-obtained_has {s} apart (Legal.present _ b x i m _ _ p2 p3) h = grind (arith, is_of, found-such)
+obtained_has {s} apart (Legal.present _ b x i m _ _ p2 p3) h =
+    let f : Test = λ id o. (id.bean == b) && is_of x.scope o in
+    let had = found-such (λ z. z.is_ready ≡ true → HasDependents s m.standing.live z.id) f m.standing.live i
+    h.furnished p2 in
+    let bean : i.id.bean ≡ b = grind (arith, (and_parts (i.id.bean == b) (is_of x.scope i.owner) had.1).0) in
+    subst (λ (c : ℕ). HasDependents s m.standing.live (nodes.at c i.id.number)) bean (had.0 p3)
 obtained_has apart (Legal.absent _ _ x _ m _ _ _ _ p3) h =
     created_has apart p3 (owned-context (older 0) (m.standing.given + 1) x.scope).0 h
 
@@ -632,7 +644,17 @@ runs_settled apart (Runs.refused_shared _ _ _ _ _ _ _ _ p2) h = legal_settled ap
 runs_settled apart (Runs.used_shared _ _ _ _ _ _ _ _ _ _ p2 p3) h = uses_settled apart p3 (legal_settled apart p2 tt h)
 runs_settled apart (Runs.refused_own _ _ _ _ _ _ _ _ p2) h = legal_settled apart p2 tt h
 runs_settled {s} apart (Runs.used_own b x u n o m m₁ m₂ m' _ _ p2 p3 p4) h =
-    grind (arith, legal_settled, uses_settled, made-low, uses_older, same-given, created-spare, rises, ends-rise)
+    let settled = legal_settled apart p2 tt h in
+    let after = uses_settled apart p3 settled in
+    let low : n ≤ m₁.standing.given = made-low p2 in
+    let t : Terms = spare_terms (λ k. Unit {0}) n m₁.standing.given low in
+    let spared = (uses_older t p3 (same-given m₁) settled.rises).all (created-spare (λ k. Unit {0}) p2 h.rises) in
+    record {
+      rises = ends-rise p4 after.rises;
+      furnished = all-of s m'.standing.live
+          (ends_furnished (λ k. Unit {0}) p4 after.rises spared (only s (λ k. Unit {0}) m₂.standing.live
+          after.furnished));
+    }
 runs_settled apart (Runs.fired _ _ _ _ _ p0) h = legal_settled apart p0 tt h
 
 -- ---- sound scenes
