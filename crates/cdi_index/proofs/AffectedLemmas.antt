@@ -1,10 +1,10 @@
 -- Which declarations edits affect, and that what is made of the others stays.
-use Rattle.cdi_index.proofs.Common.{arith, any-same, any-or, ◌≡◌, ℕ, Bool, true, false, ◌&&◌, ◌||◌, List, [], ◌∷◌, map, Option, Some, None}
-use Rattle.cdi_index.proofs.Common.{option_map, refl, sym, ap, ◌∙◌, list_any, or_parts, BeanDecl, Decl, Kind, Edit, DeclKey, key_at}
-use Rattle.cdi_index.proofs.Common.{same_key, find_decl, edited_all, edited_keys, is_among, edits_keep_decl, key_exact, Qual, name_of_use}
-use Rattle.cdi_index.proofs.Common.{find_binding, own_records, Effective, as_bean, find_bean, record_reads, replaced_by, Made, is_kept}
-use Rattle.cdi_index.proofs.Common.{made_of, made_of_bean, made_of_binding, made_of_interceptor, made_of_type, reads}
-use Rattle.cdi_model.specs.{declared.decl.BindingDecl.BindingDecl, Edits.Avoid}
+use Rattle.cdi_index.proofs.Common.{any-same, any-or, and-false, ◌≡◌, ℕ, Bool, true, false, ◌&&◌, ◌||◌, List, [], ◌∷◌, map, Option, Some}
+use Rattle.cdi_index.proofs.Common.{None, option_map, refl, sym, ap, ◌∙◌, list_any, or_parts, BeanDecl, BindingDecl, Decl, Kind, Edit}
+use Rattle.cdi_index.proofs.Common.{DeclKey, key_at, same_key, find_decl, edited_all, edited_keys, is_among, edits_keep_decl, key_exact}
+use Rattle.cdi_index.proofs.Common.{Qual, name_of_use, find_binding, own_records, Effective, as_bean, find_bean, record_reads, replaced_by}
+use Rattle.cdi_index.proofs.Common.{Made, is_kept, made_of, made_of_bean, made_of_binding, made_of_interceptor, made_of_type, reads}
+use Rattle.cdi_model.specs.Edits.{Avoid}
 use Rattle.cdi_model.specs.declared.decl.Kind.TheVariants as kinds
 use Rattle.cdi_model.specs.declared.decl.Decl.TheVariants as decls
 use Rattle.cdi_match.specs.{Bindings.brings_type, Bindings.types_brought, Filling.as_binding, Locality.binding_reads}
@@ -19,7 +19,11 @@ abbrev pub hits : List Decl → DeclKey → DeclKey → Bool
 hits ds k key = (is_kept key.kind && same_key key k) || reads (made_of ds k) key
 
 kept_same : (key k : DeclKey) → (is_kept key.kind && same_key key k) ≡ (is_kept k.kind && same_key key k)
-kept_same key k = grind (arith, same_key, is_kept, key_exact)
+kept_same key k = by (same_key key k) refl
+  where
+    by : (b : Bool) → same_key key k ≡ b → (is_kept key.kind && b) ≡ (is_kept k.kind && b)
+    by true e = ap (λ (x : DeclKey). is_kept x.kind && true) (key_exact key k e)
+    by false e = and-false (is_kept key.kind) ∙ sym (and-false (is_kept k.kind))
 
 any-and : (b : Bool) (p : DeclKey → Bool) (keys : List DeclKey) → list_any (λ x. b && p x) keys ≡ (b && list_any p keys)
 any-and true p keys = refl

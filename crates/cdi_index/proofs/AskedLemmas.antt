@@ -1,14 +1,15 @@
 -- The declarations that ask for a bean of a type, or for who observes an event of it, are found by its word.
-use Rattle.cdi_index.proofs.Common.{arith, ◌≡◌, ℕ, Bool, true, false, ◌&&◌, ◌||◌, List, [], ◌∷◌, map, Option, Some, None, option_map, refl}
-use Rattle.cdi_index.proofs.Common.{sym, ap, ◌∙◌, list_any, Decl, DeclKey, key_at, find_decl, is_among, Qual, own_records, as_bean}
-use Rattle.cdi_index.proofs.Common.{made_of_bean, made_of_interceptor, not, ◌++◌, flat_map, option_map_or, option_to_list, bytes_eq}
-use Rattle.cdi_index.proofs.Common.{and_from, and_parts, false≢true, list_any-append, key_of, kind_of, name_of_decl, AreDistinct, mentions}
-use Rattle.cdi_index.proofs.Common.{Mention, StereotypeOf, TypeIn, UseOf, required, Word, Listing, under, same_word, word_at, asks_for}
-use Rattle.cdi_index.proofs.Common.{asks_in, is_asked, is_asker_at, Asked, Kept, Shelf, kept_at, stored, IsExact, IsShelf, IsSound}
-use Rattle.cdi_index.proofs.Common.{words_have, words_named, words_named_in, words_of_observer, words_of_record, words_of_uses, words_by}
-use Rattle.cdi_index.proofs.Common.{same-bool}
+use Rattle.cdi_index.proofs.Common.{◌≡◌, ℕ, Bool, true, false, ◌&&◌, ◌||◌, List, [], ◌∷◌, map, Option, Some, None, option_map, refl, sym}
+use Rattle.cdi_index.proofs.Common.{ap, ◌∙◌, list_any, Decl, DeclKey, key_at, find_decl, is_among, Qual, own_records, as_bean, made_of_bean}
+use Rattle.cdi_index.proofs.Common.{made_of_interceptor, not, ◌++◌, flat_map, option_map_or, option_to_list, bytes_eq, and_from, and_parts}
+use Rattle.cdi_index.proofs.Common.{false≢true, or_cases, or_left, or_right, list_any-append, inl, inr, key_of, kind_of, name_of_decl}
+use Rattle.cdi_index.proofs.Common.{AreDistinct, mentions, Mention, BodyOf, CallOf, EventOf, MethodOf, PointOf, StereotypeOf, TypeIn, UseOf}
+use Rattle.cdi_index.proofs.Common.{required, Word, Listing, under, same_word, word_at, asks_for, asks_in, is_asked, bytes_eq-turned}
+use Rattle.cdi_index.proofs.Common.{is_asker_at, Asked, Kept, Shelf, kept_at, stored, IsExact, IsShelf, IsSound, words_have, words_named}
+use Rattle.cdi_index.proofs.Common.{words_named_in, words_of_observer, words_of_record, words_of_uses, words_by, same-bool}
+use Rattle.std.specs.Cmp.Lexicographic.{pointwise}
 use Rattle.cdi_model.specs.declared.{decl.TypeDecl.TypeDecl, decl.UseKind.UseKind, mention.TypePlace.TypePlace}
-use Rattle.cdi_model.specs.Mentions.{of_bindings}
+use Rattle.cdi_model.specs.{SameUse.same_qual, Mentions.of_bindings}
 use Rattle.cdi_model.specs.declared.decl.Decl.TheVariants as decls
 use Rattle.cdi_model.specs.declared.decl.Kind.TheVariants as kinds
 use Rattle.cdi_model.specs.declared.mention.TypePlace.TheVariants as places
@@ -28,11 +29,35 @@ module _ (q : Question) (t : List ℕ) (us : List Qual) where
 
   -- what asks in one place has the word there
   asked-in : (m : Mention) → asks_in q t us m ≡ true → words_have (words_named_in m) word ≡ true
-  asked-in m h = grind (arith, asks_in, words_have, words_named_in, word_at, bytes_eq, required, words_of_uses)
+  asked-in m h = by q m h
+    where
+      by : (q : Question) (m : Mention) → asks_in q t us m ≡ true → words_have (words_named_in m) (word_at (reason_of q) t) ≡ true
+      by questions.Choice (PointOf place point) h =
+          let parts = and_parts (bytes_eq t point.required_type) (pointwise same_qual us (required point.qualifiers)) h in
+          or_left (bytes_eq point.required_type t) (words_have (words_of_uses (required point.qualifiers)) (word_at reasons.Asks t))
+          (bytes_eq-turned point.required_type t ∙ parts.0)
+      by questions.Choice (TypeIn place x) h = absurd (false≢true h)
+      by questions.Choice (UseOf kind u) h = absurd (false≢true h)
+      by questions.Choice (StereotypeOf s) h = absurd (false≢true h)
+      by questions.Choice (MethodOf m) h = absurd (false≢true h)
+      by questions.Choice (BodyOf place body) h = absurd (false≢true h)
+      by questions.Choice (CallOf place params call) h = absurd (false≢true h)
+      by questions.Choice (EventOf e) h = absurd (false≢true h)
+      by questions.Event (EventOf e) h =
+          let parts = and_parts (bytes_eq t e.event_type) (pointwise same_qual us e.qualifiers) h in
+          or_left (bytes_eq e.event_type t) (words_have (words_of_uses e.qualifiers) (word_at reasons.Fires t))
+          (bytes_eq-turned e.event_type t ∙ parts.0)
+      by questions.Event (PointOf place point) h = absurd (false≢true h)
+      by questions.Event other h = absurd (false≢true h)
 
   asked-among : (ms : List Mention) → list_any (asks_in q t us) ms ≡ true → words_have (flat_map words_named_in ms) word ≡ true
   asked-among [] h = absurd (false≢true h)
-  asked-among (m ∷ ms) h = grind (arith, list_any-append, same_word, words_named_in, flat_map, asks_in, list_any, words_have, asked-in)
+  asked-among (m ∷ ms) h =
+      list_any-append (λ v. same_word v word) (words_named_in m) (flat_map words_named_in ms)
+      ∙ elim (or_cases (asks_in q t us m) (list_any (asks_in q t us) ms) h) [
+        | inl here ↦ or_left (words_have (words_named_in m) word) (words_have (flat_map words_named_in ms) word) (asked-in m here)
+        | inr later ↦ or_right (words_have (words_named_in m) word) (words_have (flat_map words_named_in ms) word) (asked-among ms later)
+      ]
 
   named : (d : Decl) → asks_for q t us d ≡ true → words_have (words_named d) word ≡ true
   unfolding asks_for
@@ -41,15 +66,27 @@ module _ (q : Question) (t : List ℕ) (us : List Qual) where
   -- declarations without points ask for nothing
   no-type : (place : TypePlace) (xs : List (List ℕ)) → list_any (asks_in q t us) (map (TypeIn place) xs) ≡ false
   no-type place [] = refl
-  no-type place (x ∷ xs) = grind (arith, no-type place xs, list_any, asks_in, map)
+  no-type place (x ∷ xs) = ap (λ b. b || list_any (asks_in q t us) (map (TypeIn place) xs)) (by q) ∙ no-type place xs
+    where
+      by : (q : Question) → asks_in q t us (TypeIn place x) ≡ false
+      by questions.Choice = refl
+      by questions.Event = refl
 
   no-use : (kind : UseKind) (xs : List Qual) → list_any (asks_in q t us) (map (UseOf kind) xs) ≡ false
   no-use kind [] = refl
-  no-use kind (x ∷ xs) = grind (arith, no-use kind xs, list_any, asks_in, map)
+  no-use kind (x ∷ xs) = ap (λ b. b || list_any (asks_in q t us) (map (UseOf kind) xs)) (by q) ∙ no-use kind xs
+    where
+      by : (q : Question) → asks_in q t us (UseOf kind x) ≡ false
+      by questions.Choice = refl
+      by questions.Event = refl
 
   no-stereotype : (xs : List (List ℕ)) → list_any (asks_in q t us) (map StereotypeOf xs) ≡ false
   no-stereotype [] = refl
-  no-stereotype (x ∷ xs) = grind (arith, no-stereotype xs, list_any, asks_in, map)
+  no-stereotype (x ∷ xs) = ap (λ b. b || list_any (asks_in q t us) (map StereotypeOf xs)) (by q) ∙ no-stereotype xs
+    where
+      by : (q : Question) → asks_in q t us (StereotypeOf x) ≡ false
+      by questions.Choice = refl
+      by questions.Event = refl
 
   neither : (xs ys : List Mention) → list_any (asks_in q t us) xs ≡ false → list_any (asks_in q t us) ys ≡ false
       → list_any (asks_in q t us) (xs ++ ys) ≡ false
@@ -63,7 +100,10 @@ module _ (q : Question) (t : List ℕ) (us : List Qual) where
       → words_have (words_by ds d) w ≡ true
   unfolding asks_for mentions
   words-of-asker ds (decls.Bean b) w asking has =
-      grind (arith, flat_map, words_of_record, own_records, words_of_observer, list_any-append, same_word, words_named, words_have)
+      let own : List Word = flat_map words_of_record (own_records ds b) in
+      let more : List Word = flat_map words_of_observer b.observers in
+      list_any-append (λ v. same_word v w) (own ++ more) (words_named (decls.Bean b))
+      ∙ or_right (words_have (own ++ more) w) (words_have (words_named (decls.Bean b)) w) has
   words-of-asker ds (decls.Interceptor i) w asking has = has
   words-of-asker ds (decls.Type d) w asking has = absurd (false≢true (sym (neither (extends d) (map (TypeIn places.Implements) d.implements)
       (no-type places.Extends (option_to_list d.extends)) (no-type places.Implements d.implements)) ∙ asking))

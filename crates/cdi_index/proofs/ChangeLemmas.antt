@@ -1,8 +1,8 @@
 -- Changes that are taken over one after another, and those that are made of declarations.
-use Rattle.cdi_index.proofs.Common.{arith, ◌≡◌, ℕ, Bool, true, false, ◌&&◌, ◌||◌, List, [], ◌∷◌, map, Option, Some, None, option_map, refl}
-use Rattle.cdi_index.proofs.Common.{sym, ap, ◌∙◌, list_any, Decl, Kind, DeclKey, same_key, is_among, key_exact, Made, made_of, ◌++◌}
-use Rattle.cdi_index.proofs.Common.{false≢true, suc, ◌+◌, cond, length, filter, is_some, slice_get, same_key_equiv, Change, is_of_kind}
-use Rattle.cdi_index.proofs.Common.{Stored, made_in, applied, change_of, is_made, stored_as, any-same}
+use Rattle.cdi_index.proofs.Common.{◌≡◌, ℕ, Bool, true, false, ◌&&◌, ◌||◌, List, [], ◌∷◌, map, Option, Some, None, option_map, refl, sym}
+use Rattle.cdi_index.proofs.Common.{ap, ◌∙◌, list_any, Decl, Kind, DeclKey, same_key, is_among, key_exact, Made, made_of, ◌++◌, false≢true}
+use Rattle.cdi_index.proofs.Common.{or_left, or_right, suc, ◌+◌, cond, length, filter, is_some, slice_get, same_key_equiv, Change}
+use Rattle.cdi_index.proofs.Common.{is_of_kind, Stored, made_in, applied, change_of, is_made, stored_as, any-same}
 use Rattle.std.proofs.Math.Nat.{add-zero, add-suc, suc-add}
 
 abbrev pub StoredBy : Type 0
@@ -50,7 +50,11 @@ applied-next n cs rest c m o is made k =
 -- ---- changes that are made of the declarations of some keys
 
 made-as : (n : ℕ) (c : Change) → made_in (stored_as n c) ≡ c.made
-made-as n c = grind (arith, made_in, option_map)
+made-as n c = by c.made
+  where
+    by : (o : Option Made) → made_in (option_map {U = Stored} (λ made. (n, made)) o) ≡ o
+    by None = refl
+    by (Some made) = refl
 
 -- what is kept after them is what is made, and of other declarations what was kept
 pub applied-made : (n : ℕ) (es : List Decl) (ks : List DeclKey) (m : StoredBy) (k : DeclKey)
@@ -94,7 +98,15 @@ applied-comes n es (l ∷ ks) m k s made e = by (same_key l k) refl e (applied-c
 pub count-made : (kind : Kind) (es : List Decl) (ks : List DeclKey)
     → length (filter (is_made kind) (map (change_of es) ks)) ≡ length (filter (λ k. is_of_kind kind k && is_some (made_of es k)) ks)
 count-made kind es [] = refl
-count-made kind es (k ∷ ks) = grind (arith, count-made kind es ks, is_of_kind, is_some, made_of, length, filter, is_made, map, change_of)
+count-made kind es (k ∷ ks) = by (is_of_kind kind k && is_some (made_of es k)) (count-made kind es ks)
+  where
+    by : (b : Bool)
+        → length (filter (is_made kind) (map (change_of es) ks)) ≡ length (filter (λ k. is_of_kind kind k && is_some (made_of es k)) ks)
+        → length (cond b (change_of es k ∷ filter (is_made kind) (map (change_of es) ks)) (filter (is_made kind) (map (change_of es) ks)))
+        ≡ length (cond b (k ∷ filter (λ k. is_of_kind kind k && is_some (made_of es k)) ks)
+        (filter (λ k. is_of_kind kind k && is_some (made_of es k)) ks))
+    by true more = ap suc more
+    by false more = more
 
 -- ---- keys among others
 
@@ -116,4 +128,8 @@ none-of p (l ∷ keys) key none among = by (same_key l key) refl (p l) refl (non
 
 pub any-of : (p : DeclKey → Bool) (keys : List DeclKey) (key : DeclKey) → p key ≡ true → is_among keys key ≡ true → list_any p keys ≡ true
 any-of p [] key passes among = absurd (false≢true among)
-any-of p (l ∷ keys) key passes among = grind (arith, any-of p keys key passes, same_key, is_among, list_any, key_exact)
+any-of p (l ∷ keys) key passes among = by (same_key l key) refl (any-of p keys key passes)
+  where
+    by : (b : Bool) → same_key l key ≡ b → (is_among keys key ≡ true → list_any p keys ≡ true) → list_any p (l ∷ keys) ≡ true
+    by true e more = or_left (p l) (list_any p keys) (ap p (key_exact l key e) ∙ passes)
+    by false e more = or_right (p l) (list_any p keys) (more (sym (ap (λ x. x || is_among keys key) e) ∙ among))

@@ -4,10 +4,9 @@ use Rattle.cdi_index.proofs.Common.{ap, ◌∙◌, list_any, BeanDecl, Decl, Kin
 use Rattle.cdi_index.proofs.Common.{edited_keys, is_among, edits_keep_decl, key_exact, find_bean, record_reads, made_of, made_of_bean}
 use Rattle.cdi_index.proofs.Common.{made_of_type, reads, not, false≢true, key_of, AreDistinct, suc, cond, length, filter, is_some}
 use Rattle.cdi_index.proofs.Common.{same_key_equiv, is_of_kind, change_of, is_made, ◌≢◌, ◌<◌, nat_eq, arith, AllByRecursion, IsDistinct}
-use Rattle.cdi_index.proofs.Common.{length-map, type_reads, computed, is_recorded}
+use Rattle.cdi_index.proofs.Common.{length-map, type_reads, computed, is_recorded, and-false}
 use Rattle.std.specs.{Bool.Decides, List.AllPairs}
 use Rattle.std.proofs.lemmas.{List.get_or-map, Map.Made.is_member-filter, Map.Made.length-from_same_keys, Map.Made.IsDistinct-from_AllPairs}
-use Rattle.base_options.proofs.Booleans.{and-false}
 use Rattle.cdi_model.specs.DeclKey.{kind_number}
 use Rattle.cdi_model.specs.declared.decl.Kind.TheVariants as kinds
 use Rattle.cdi_index.proofs.AffectedLemmas.{hits, hit-parts}
@@ -20,7 +19,12 @@ use Rattle.cdi_index.specs.Counted.{is_computed, is_computed_of, reads_of}
 apart-filter : (k : DeclKey) (p : DeclKey → Bool) (ls : List DeclKey) → AllByRecursion (λ l. same_key k l ≡ false) ls
     → AllByRecursion (λ l. same_key k l ≡ false) (filter p ls)
 apart-filter k p [] a = a
-apart-filter k p (l ∷ ls) a = grind (arith, apart-filter k p ls a.1, a.1, a.0, same_key, filter)
+apart-filter k p (l ∷ ls) a = by (p l) (apart-filter k p ls a.1)
+  where
+    by : (b : Bool) → AllByRecursion (λ l. same_key k l ≡ false) (filter p ls)
+        → AllByRecursion (λ l. same_key k l ≡ false) (cond b (l ∷ filter p ls) (filter p ls))
+    by true more = (a.0, more)
+    by false more = more
 
 distinct-filter : (p : DeclKey → Bool) (ks : List DeclKey) → IsDistinct same_key ks → IsDistinct same_key (filter p ks)
 unfolding IsDistinct
@@ -46,17 +50,36 @@ keys-distinct ds distinct = IsDistinct-from_AllPairs key_decides (map key_of ds)
 
 found-key : (q : DeclKey) (ds : List Decl) → list_any (same_key q) (map key_of ds) ≡ is_some (find_decl q.kind q.name ds)
 found-key q [] = refl
-found-key q (d ∷ ds) = grind (arith, found-key q ds, same_key, key_of, list_any, map, is_some, find_decl)
+found-key q (d ∷ ds) = by (same_key q (key_of d)) (found-key q ds)
+  where
+    by : (b : Bool) → list_any (same_key q) (map key_of ds) ≡ is_some (find_decl q.kind q.name ds)
+        → (b || list_any (same_key q) (map key_of ds)) ≡ is_some (cond b (Some d) (find_decl q.kind q.name ds))
+    by true more = refl
+    by false more = more
 
 count-keys : (r : DeclKey → Bool) (ds : List Decl) → length (filter (λ d. r (key_of d)) ds) ≡ length (filter r (map key_of ds))
 count-keys r [] = refl
-count-keys r (d ∷ ds) = grind (arith, count-keys r ds, key_of, length, filter, map)
+count-keys r (d ∷ ds) = by (r (key_of d)) (count-keys r ds)
+  where
+    by : (b : Bool) → length (filter (λ d. r (key_of d)) ds) ≡ length (filter r (map key_of ds)) → length (cond b (d ∷ filter (λ d. r (key_of d)) ds) (filter (λ d. r (key_of d)) ds))
+        ≡ length (cond b (key_of d ∷ filter r (map key_of ds)) (filter r (map key_of ds)))
+    by true more = ap suc more
+    by false more = more
 
 -- ---- one key
 
 tests : (a r f g c : Bool) → (a ≡ false → f ≡ g) → (a ≡ true → g ≡ true → r ≡ true)
     → ((a || r) && (c && f)) ≡ (f && (c && (not g || r)))
-tests a r f g c kept read = grind arith
+tests true r f g false kept read = sym (and-false f)
+tests true r true true true kept read = sym (read refl refl)
+tests true r true false true kept read = refl
+tests true r false g true kept read = refl
+tests false r f g false kept read = and-false r ∙ sym (and-false f)
+tests false true true true true kept read = refl
+tests false false true true true kept read = refl
+tests false r true false true kept read = absurd (false≢true (sym (kept refl)))
+tests false true false g true kept read = refl
+tests false false false g true kept read = refl
 
 some-map : {X Y : Type 0} (f : X → Y) (o : Option X) → is_some (option_map f o) ≡ is_some o
 some-map f None = refl

@@ -1,5 +1,5 @@
 -- What is kept at slots, where one is taken out or put in.
-use Rattle.cdi_index.proofs.Common.{arith, ◌≡◌, ℕ, Bool, true, false, Option, Some, None, option_map, refl, sym, ap, ◌∙◌, DeclKey, same_key}
+use Rattle.cdi_index.proofs.Common.{◌≡◌, ℕ, Bool, true, false, Option, Some, None, option_map, refl, sym, ap, ◌∙◌, DeclKey, same_key}
 use Rattle.cdi_index.proofs.Common.{key_exact, Made, false≢true, Kept, cond, same_key_equiv, Stored, nat_eq, eqb-true, stored_at, Result}
 use Rattle.cdi_index.proofs.Common.{Ok, Err, OnOk, nat_eq-refl}
 use Rattle.std.specs.Result.{IsOk}
@@ -85,7 +85,11 @@ module _ (f f' : Slots) (g g' : Entries) (key : DeclKey) (slot : ℕ) (entry : K
       by false e = ap (stored_at g') (taken k ∙ ap (λ b. cond b None (f k)) e) ∙ at_slot e (f k) refl
 
   pub take-owns : Owns f' g'
-  take-owns k s h = grind (arith, same_key, key, option_map, other-slot)
+  take-owns k s h = by (same_key key k) refl (sym (taken k) ∙ h)
+    where
+      by : (b : Bool) → same_key key k ≡ b → cond b None (f k) ≡ Some s → option_map (λ (e : Kept). e.key) (g' s) ≡ Some k
+      by true e none = absurd (let no : None ≡ Some s = none in cc)
+      by false e some = ap (option_map (λ (e : Kept). e.key)) (left s ∙ ap (λ b. cond b None (g s)) (other-slot k s e some)) ∙ owns k s some
 
   pub take-owned : IsOwned f' g'
   take-owned s e h = by (nat_eq slot s) refl (sym (left s) ∙ h)

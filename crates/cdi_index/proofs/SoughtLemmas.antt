@@ -1,14 +1,13 @@
 -- The beans that are sought are among those of the declarations that have the words.
-use Rattle.cdi_index.proofs.Common.{arith, ◌≡◌, ℕ, Bool, true, false, ◌||◌, List, [], ◌∷◌, map, Option, Some, None, refl, sym, ap, ◌∙◌}
-use Rattle.cdi_index.proofs.Common.{list_any, or_parts, BeanDecl, Decl, Qual, own_records, Effective, ◌++◌, flat_map, option_to_list}
-use Rattle.cdi_index.proofs.Common.{bytes_eq, list_any-append, mentions, Mention, StereotypeOf, TypeIn, UseOf, required, Word, same_word}
-use Rattle.cdi_index.proofs.Common.{word_at, words_have, words_named, words_named_in, words_of_observer, words_of_record, words_of_uses}
-use Rattle.cdi_index.proofs.Common.{suc, cond, filter, slice_get, words_written_in, has, is_replaced, unless_replaced, records_are_own}
-use Rattle.cdi_index.proofs.Common.{entries, beans_under, has_one, beans, has_name, observes_one, or-false, any-same, any-or}
+use Rattle.cdi_index.proofs.Common.{◌≡◌, ℕ, Bool, true, false, ◌||◌, List, [], ◌∷◌, map, Option, Some, None, refl, sym, ap, ◌∙◌, list_any}
+use Rattle.cdi_index.proofs.Common.{or_parts, BeanDecl, Decl, Qual, own_records, Effective, ◌++◌, flat_map, option_to_list, bytes_eq}
+use Rattle.cdi_index.proofs.Common.{list_any-append, mentions, Mention, BodyOf, CallOf, EventOf, MethodOf, PointOf, StereotypeOf, TypeIn}
+use Rattle.cdi_index.proofs.Common.{UseOf, required, Word, same_word, word_at, words_have, words_named, words_named_in, bytes_eq-turned}
+use Rattle.cdi_index.proofs.Common.{words_of_observer, words_of_record, words_of_uses, suc, cond, filter, slice_get, words_written_in, has}
+use Rattle.cdi_index.proofs.Common.{is_replaced, unless_replaced, records_are_own, entries, beans_under, has_one, beans, has_name}
+use Rattle.cdi_index.proofs.Common.{observes_one, or-false, any-same, any-or}
 use Rattle.std.proofs.lemmas.List.Elements.{filter-append}
 use Rattle.base_lists.proofs.{Any.any-none, Filters.filter-each, Filters.filter-same}
-use Rattle.base_numbers.proofs.Texts.{bytes_eq-turned}
-use Rattle.cdi_model.specs.Mentions.{BodyOf, CallOf, EventOf, MethodOf, PointOf}
 use Rattle.cdi_model.specs.declared.decl.ObserverDecl.{ObserverDecl}
 use Rattle.cdi_model.specs.declared.decl.Decl.TheVariants as decls
 use Rattle.cdi_model.specs.declared.decl.UseKind.TheVariants as uses
@@ -82,11 +81,23 @@ module _ (w : Word) where
 
 no-type : (t : List ℕ) (r : Bool) (x : Effective) → words_have (words_of_record x) (word_at reasons.HasType t) ≡ false
     → has (unless_replaced r x).types t ≡ false
-no-type t r x none = grind (arith, word_at, map, option_to_list, words_of_uses, words_have, words-append, types-have)
+no-type t r x none =
+    let w : Word = word_at reasons.HasType t in
+    let types : List Word = map (word_at reasons.HasType) x.types in
+    let more : List Word = map (word_at reasons.HasName) (option_to_list x.name) ++ (words_of_uses x.qualifiers ++ words_of_bindings x.bindings) in
+    let parts = or_parts (words_have types w) (words_have more w) (sym (words-append w types more) ∙ none) in
+    sym (types-have x.types t) ∙ parts.0
 
 no-name : (n : List ℕ) (r : Bool) (x : Effective) → words_have (words_of_record x) (word_at reasons.HasName n) ≡ false
     → has_name n (unless_replaced r x) ≡ false
-no-name n r x none = grind (arith, word_at, map, option_to_list, words_of_uses, words_have, words-append, name-has)
+no-name n r x none =
+    let w : Word = word_at reasons.HasName n in
+    let types : List Word = map (word_at reasons.HasType) x.types in
+    let name : List Word = map (word_at reasons.HasName) (option_to_list x.name) in
+    let uses : List Word = words_of_uses x.qualifiers ++ words_of_bindings x.bindings in
+    let parts = or_parts (words_have types w) (words_have (name ++ uses) w) (sym (words-append w types (name ++ uses)) ∙ none) in
+    let more = or_parts (words_have name w) (words_have uses w) (sym (words-append w name uses) ∙ parts.1) in
+    sym (name-has x.name n x refl) ∙ more.0
 
 -- a declaration that has not the word of a type has no bean of it
 pub none-of-type : (ds : List Decl) (d : Decl) (t : List ℕ) → has_one ds (word_at reasons.HasType t ∷ []) d ≡ false
@@ -96,7 +107,10 @@ none-of-type ds d t none = none-given (word_at reasons.HasType t) (λ b. has b.t
 pub of-type : (ds : List Decl) (t : List ℕ)
     → filter (λ b. has b.types t) (beans_under ds (word_at reasons.HasType t ∷ [])) ≡ filter (λ b. has b.types t) (beans ds)
 unfolding beans
-of-type ds t = grind (arith, word_at, filter-under, entries, has_one, has, none-of-type)
+of-type ds t =
+    let w : Word = word_at reasons.HasType t in
+    filter-under (entries ds) (has_one ds (w ∷ [])) (λ b. has b.types t) ds
+    (λ i d there. none-of-type ds d t)
 
 pub of-name : (ds : List Decl) (n : List ℕ)
     → filter (has_name n) (beans_under ds (word_at reasons.HasName n ∷ [])) ≡ filter (has_name n) (beans ds)
@@ -193,7 +207,12 @@ observed : (observers : List ObserverDecl) (t : List ℕ)
     ≡ list_any (λ o. bytes_eq t o.event_type) observers
 observed [] t = refl
 observed (o ∷ observers) t =
-    grind (arith, observed observers t, word_at, flat_map, words_of_observer, words-append, bytes_eq, words_have, none-used, bytes_eq-turned)
+    let w : Word = word_at reasons.Observes t in
+    let rest : List Word = flat_map words_of_observer observers in
+    words-append w (words_of_observer o) rest
+    ∙ ap (λ b. (bytes_eq o.event_type t || b) || words_have rest w) (none-used o.qualifiers t)
+    ∙ ap (λ b. b || words_have rest w) (or-false (bytes_eq o.event_type t) ∙ bytes_eq-turned o.event_type t)
+    ∙ ap (λ b. bytes_eq t o.event_type || b) (observed observers t)
 
 words-observed : (ds : List Decl) (b : BeanDecl) (t : List ℕ)
     → words_have (words_of_bean ds b) (word_at reasons.Observes t) ≡ list_any (λ o. bytes_eq t o.event_type) b.observers

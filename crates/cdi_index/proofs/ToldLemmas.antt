@@ -1,11 +1,12 @@
 -- What a stage tells, and the declarations after it.
-use Rattle.cdi_index.proofs.Common.{arith, ◌≡◌, ℕ, true, false, List, [], ◌∷◌, map, Option, refl, sym, ◌∙◌, list_any, Decl, DeclKey}
-use Rattle.cdi_index.proofs.Common.{same_key, is_among, is_kept, made_of, reads, AreDistinct, Listing, Shelf, stored, IsExact, IsShelf}
-use Rattle.cdi_index.proofs.Common.{IsSound, suc, Change, Stored, made_in, applied, change_of, stored_as, made_after, is_at_stake, Tells}
+use Rattle.cdi_index.proofs.Common.{◌≡◌, ℕ, Bool, true, false, ◌&&◌, List, [], ◌∷◌, map, Option, Some, None, refl, sym, ap, ◌∙◌, list_any}
+use Rattle.cdi_index.proofs.Common.{or_parts, Decl, DeclKey, key_at, same_key, is_among, Made, is_kept, made_of, reads, and_from, or_left}
+use Rattle.cdi_index.proofs.Common.{AreDistinct, Listing, Shelf, stored, IsExact, IsShelf, IsSound, suc, cond, Change, Stored, made_in}
+use Rattle.cdi_index.proofs.Common.{applied, change_of, stored_as, made_after, lent, is_at_stake, replaced_records, Tells}
 use Rattle.cdi_model.specs.declared.decl.Kind.TheVariants as kinds
 use Rattle.cdi_index.proofs.AffectedLemmas.{hits, hit-parts}
 use Rattle.cdi_index.proofs.ChangeLemmas.{none-of}
-use Rattle.cdi_index.proofs.ReplacedLemmas.{unaffected}
+use Rattle.cdi_index.proofs.ReplacedLemmas.{flag-spared, lent-are, spared, unaffected}
 
 module _ (ds es : List Decl) (keys ks told : List DeclKey) (shelf : Shelf) (listings : List Listing) (distinct : AreDistinct ds)
     (apart : AreDistinct es) (is : IsShelf shelf) (exact : IsExact ds (stored shelf)) (sound : IsSound (stored shelf) listings)
@@ -20,10 +21,30 @@ module _ (ds es : List Decl) (keys ks told : List DeclKey) (shelf : Shelf) (list
   not-hit k none = sym (affected k) ∙ unaffected ds es ks shelf listings distinct apart is exact sound others k (none-at-stake k none)
 
   edited-told : (k : DeclKey) → is_kept k.kind ≡ true → is_among keys k ≡ true → is_among told k ≡ true
-  edited-told k kept among = grind (arith, is_among, not-hit, hit-parts, is_kept, list_any, reads)
+  edited-told k kept among = by (is_among told k) refl
+    where
+      by : (b : Bool) → is_among told k ≡ b → b ≡ true
+      by true e = refl
+      by false e = sym (not-hit k e) ∙ hit-parts ds keys k
+          ∙ or_left (is_kept k.kind && is_among keys k) (list_any (reads (made_of ds k)) keys)
+          (and_from (is_kept k.kind) (is_among keys k) kept among)
 
   pub tells : Tells ds es keys told
-  tells = grind (arith, edited-told, none-of, reads, made_of, is_kept, is_among, list_any, hit-parts)
+  tells = record {
+    edited = edited-told;
+    apart = λ k none key among. none-of (reads (made_of ds k)) keys key
+        (or_parts (is_kept k.kind && is_among keys k) (list_any (reads (made_of ds k)) keys)
+        (sym (hit-parts ds keys k) ∙ not-hit k none)).1 among;
+    records = λ class none.
+        let k = key_at kinds.Bean class in
+        sym (lent-are es class)
+        ∙ ap (λ o. lent o (made_of es k)) (spared ds es ks shelf listings distinct apart is exact sound others k (none-at-stake k none))
+        ∙ ap (lent (replaced_records ds k))
+        (others k (unaffected ds es ks shelf listings distinct apart is exact sound others k (none-at-stake k none)))
+        ∙ lent-are ds class;
+    turned = λ class none. flag-spared ds es ks shelf listings distinct apart is exact sound others (key_at kinds.Bean class)
+        (none-at-stake (key_at kinds.Bean class) none);
+  }
 
 -- ---- after changes
 
@@ -31,5 +52,13 @@ module _ (ds es : List Decl) (keys ks told : List DeclKey) (shelf : Shelf) (list
 pub made-applied : (n : ℕ) (cs : List Change) (m : DeclKey → Option Stored) (k : DeclKey)
     → made_after cs (made_in (m k)) k ≡ made_in (applied n cs m k)
 made-applied n [] m k = refl
-made-applied n (c ∷ cs) m k =
-    grind (arith, made-applied (suc n) cs m k, same_key, suc, made_in, stored_as, made_after, applied, true, false)
+made-applied n (c ∷ cs) m k = by (same_key c.key k) (made-applied (suc n) cs m k)
+  where
+    at : (o : Option Made) → o ≡ made_in (stored_as n (record { key = c.key; made = o }))
+    at None = refl
+    at (Some made) = refl
+
+    by : (b : Bool) → made_after cs (made_in (m k)) k ≡ made_in (applied (suc n) cs m k)
+        → cond b c.made (made_after cs (made_in (m k)) k) ≡ made_in (cond b (stored_as n c) (applied (suc n) cs m k))
+    by true more = at c.made
+    by false more = more

@@ -1,6 +1,6 @@
 -- Turns that are taken over one after another, and those of some beans.
-use Rattle.cdi_index.proofs.Common.{arith, ◌≡◌, true, false, List, [], ◌∷◌, map, Option, refl, sym, ap, ◌∙◌, list_any, DeclKey, same_key}
-use Rattle.cdi_index.proofs.Common.{key_exact, Effective, ◌++◌, ◌+◌, cond, same_key_equiv, Turn, turned}
+use Rattle.cdi_index.proofs.Common.{◌≡◌, Bool, true, false, ◌||◌, List, [], ◌∷◌, map, Option, refl, sym, ap, ◌∙◌, list_any, DeclKey}
+use Rattle.cdi_index.proofs.Common.{same_key, key_exact, Effective, ◌++◌, ◌+◌, cond, same_key_equiv, Turn, turned}
 
 abbrev pub RecordsOf : Type 0
 RecordsOf = DeclKey → Option (List Effective)
@@ -28,5 +28,10 @@ turn_to after k = record { key = k; records = after k }
 pub turned-all : (after : RecordsOf) (ks : List DeclKey) (f : RecordsOf) (k : DeclKey)
     → turned (map (turn_to after) ks) f k ≡ cond (list_any (same_key k) ks) (after k) (f k)
 turned-all after [] f k = refl
-turned-all after (l ∷ ks) f k =
-    grind (arith, turned-all after ks f k, same_key, turned, map, list_any, key_exact, same_key_equiv)
+turned-all after (l ∷ ks) f k = by (same_key l k) refl (turned-all after ks f k)
+  where
+    by : (b : Bool) → same_key l k ≡ b → turned (map (turn_to after) ks) f k ≡ cond (list_any (same_key k) ks) (after k) (f k)
+        → cond b (after l) (turned (map (turn_to after) ks) f k) ≡ cond (same_key k l || list_any (same_key k) ks) (after k) (f k)
+    by true e more = ap after (key_exact l k e)
+        ∙ ap (λ c. cond (c || list_any (same_key k) ks) (after k) (f k)) (sym (same_key_equiv.symm k l ∙ e))
+    by false e more = more ∙ ap (λ c. cond (c || list_any (same_key k) ks) (after k) (f k)) (sym (same_key_equiv.symm k l ∙ e))

@@ -1,17 +1,18 @@
 -- The declarations that are under words, by their positions.
-use Rattle.cdi_index.proofs.Common.{◌≡◌, ℕ, Bool, true, false, List, [], ◌∷◌, Option, Some, None, option_map, refl, sym, ap, ◌∙◌, list_any}
-use Rattle.cdi_index.proofs.Common.{BeanDecl, Decl, Kind, DeclKey, key_at, same_key, find_decl, key_exact, find_binding, as_bean, Made}
-use Rattle.cdi_index.proofs.Common.{made_of, made_of_bean, made_of_binding, made_of_interceptor, made_of_type, flat_map, option_map_or}
-use Rattle.cdi_index.proofs.Common.{false≢true, key_of, AreDistinct, Word, Listing, under, Kept, Shelf, kept_at, stored, IsExact, IsShelf}
-use Rattle.cdi_index.proofs.Common.{IsSound, words_have, words_by, suc, ◌+◌, cond, filter, same_key_equiv, made_in, nat_eq, arith, position}
-use Rattle.cdi_index.proofs.Common.{stored_at, is_of, records_in, entries, made_by, beans_under, has_one, is_at, records_at, is_marked}
-use Rattle.cdi_index.proofs.Common.{marked_from, is_at_slots, is_at_words, slice_get, same-bool}
-use Rattle.cdi_model.proofs.PositionLemmas.{position-there}
+use Rattle.cdi_index.proofs.Common.{◌≡◌, ℕ, Bool, true, false, ◌||◌, List, [], ◌∷◌, Option, Some, None, option_map, refl, sym, ap, ◌∙◌}
+use Rattle.cdi_index.proofs.Common.{list_any, BeanDecl, BindingDecl, Decl, Kind, DeclKey, key_at, same_key, find_decl, key_exact}
+use Rattle.cdi_index.proofs.Common.{find_binding, as_bean, Made, made_of, made_of_bean, made_of_binding, made_of_interceptor, made_of_type}
+use Rattle.cdi_index.proofs.Common.{◌++◌, flat_map, option_map_or, false≢true, or_right, key_of, AreDistinct, Word, Listing, under, Kept}
+use Rattle.cdi_index.proofs.Common.{Shelf, kept_at, stored, IsExact, IsShelf, IsSound, words_have, words_by, suc, ◌+◌, cond, filter}
+use Rattle.cdi_index.proofs.Common.{same_key_equiv, Stored, made_in, nat_eq, arith, slot_of, position, classes_have, keys_have, eqb-true}
+use Rattle.cdi_index.proofs.Common.{stored_at, is_of, records_declared, records_in, position-there, entries, made_by, beans_under, has_one}
+use Rattle.cdi_index.proofs.Common.{is_at, records_at, is_marked, marked_from, is_at_slots, is_at_words, slice_get, any-more, nat_eq-refl}
+use Rattle.cdi_index.proofs.Common.{same-bool}
 use Rattle.cdi_model.specs.declared.decl.Decl.TheVariants as decls
 use Rattle.cdi_model.specs.declared.decl.Kind.TheVariants as kinds
 use Rattle.cdi_effective.proofs.PlaceLemmas.{own-found, own-place, own-position, place-found}
-use Rattle.cdi_effective.specs.Records.{records_declared}
 use Rattle.cdi_index.proofs.NextLemmas.{any-elim}
+use Rattle.cdi_index.proofs.ShelfLemmas.{found}
 
 -- ---- the records at a position
 
@@ -25,7 +26,15 @@ records-of-bean ds p bean distinct at =
 -- a declaration that is found has the key
 pub key-found : (kind : Kind) (name : List ℕ) (ds : List Decl) (d : Decl) → find_decl kind name ds ≡ Some d → key_at kind name ≡ key_of d
 key-found kind name [] d e = absurd (let no : None ≡ Some d = e in cc)
-key-found kind name (x ∷ ds) d e = grind (arith, key-found kind name ds d, is_of, find_decl, key_at, key_of, key_exact)
+key-found kind name (x ∷ ds) d e = by (is_of kind name x) refl e (key-found kind name ds d)
+  where
+    by : (b : Bool) → is_of kind name x ≡ b → cond b (Some x) (find_decl kind name ds) ≡ Some d
+        → (find_decl kind name ds ≡ Some d → key_at kind name ≡ key_of d) → key_at kind name ≡ key_of d
+    by true is f more =
+        let one : Some x ≡ Some d = f in
+        let same : x ≡ d = cc in
+        key_exact (key_at kind name) (key_of x) is ∙ ap key_of same
+    by false is f more = more f
 
 -- ---- what is marked
 
@@ -38,11 +47,20 @@ record At (ds : List Decl) (w : Word) (kept : Option Kept) (p : ℕ) : Type 0 wh
 
 is-at : (ds : List Decl) (w : Word) (kept : Option Kept) (p : ℕ) → is_at ds w kept p ≡ true → At ds w kept p
 is-at ds w None p h = absurd (false≢true h)
-is-at ds w (Some e) p h = grind (arith, words_have, position, is_of, option_map_or, nat_eq, entry)
+is-at ds w (Some e) p h = by (words_have e.made.words w) refl (position (is_of e.key.kind e.key.name) ds) refl h
+  where
+    by : (b : Bool) → words_have e.made.words w ≡ b → (o : Option ℕ) → position (is_of e.key.kind e.key.name) ds ≡ o
+        → option_map_or (λ i. nat_eq i p) (cond b o None) false ≡ true → At ds w (Some e) p
+    by false is o at f = absurd (false≢true f)
+    by true is None at f = absurd (false≢true f)
+    by true is (Some i) at f = record { entry = e; there = refl; has = is; place = at ∙ ap Some (eqb-true i p f) }
 
 at-is : (ds : List Decl) (w : Word) (kept : Option Kept) (p : ℕ) (e : Kept) → kept ≡ Some e → words_have e.made.words w ≡ true
     → position (is_of e.key.kind e.key.name) ds ≡ Some p → is_at ds w kept p ≡ true
-at-is ds w kept p e there has place = grind (arith, is_at, there, option_map_or, nat_eq, position, is_of, has)
+at-is ds w kept p e there has place =
+    ap (λ k. is_at ds w k p) there
+    ∙ ap (λ b. option_map_or (λ i. nat_eq i p) (cond b (position (is_of e.key.kind e.key.name) ds) None) false) has
+    ∙ ap (λ o. option_map_or (λ i. nat_eq i p) o false) place ∙ nat_eq-refl p
 
 -- what is made has a word, so it is of a declaration which has that
 abbrev OfDecl : List Decl → List Word → ℕ → Type 0
@@ -53,18 +71,63 @@ some-made a b h = cc
 
 of-decl : (ds : List Decl) (kind : Kind) (name : List ℕ) (made : Made) (w : Word) (p : ℕ) → made_by kind name ds ≡ Some made
     → words_have made.words w ≡ true → position (is_of kind name) ds ≡ Some p → OfDecl ds made.words p
-of-decl ds kinds.Type name made w p is has at = grind (arith, find_decl, option_map, made_of_type, words_have, some-made, has)
-of-decl ds kinds.Bean name made w p is has at = grind (arith, find_decl, option_map, made_of_bean, as_bean, position-there, some-made)
+of-decl ds kinds.Type name made w p is has at = absurd (by (find_decl kinds.Type name ds) is)
+  where
+    by : (o : Option Decl) → option_map (λ d. made_of_type ds name) o ≡ Some made → ⊥
+    by None e = let no : None ≡ Some made = e in cc
+    by (Some d) e = false≢true (ap (λ (m : Made). words_have m.words w) (some-made (made_of_type ds name) made e) ∙ has)
+of-decl ds kinds.Bean name made w p is has at = by (find_decl kinds.Bean name ds) refl is
+  where
+    none : (o : Option Made) → o ≡ None → o ≡ Some made → OfDecl ds made.words p
+    none o e f = absurd (let no : None ≡ Some made = sym e ∙ f in cc)
+
+    by : (o : Option Decl) → find_decl kinds.Bean name ds ≡ o → option_map (made_of_bean ds) (as_bean o) ≡ Some made
+        → OfDecl ds made.words p
+    by None e f = none None refl f
+    by (Some (decls.Bean b)) e f = (
+      decls.Bean b,
+      position-there kinds.Bean name ds p at ∙ e,
+      ap (λ (m : Made). m.words) (some-made (made_of_bean ds b) made f),
+    )
+    by (Some (decls.Type d)) e f = none None refl f
+    by (Some (decls.Qualifier d)) e f = none None refl f
+    by (Some (decls.Binding d)) e f = none None refl f
+    by (Some (decls.Stereotype d)) e f = none None refl f
+    by (Some (decls.Interceptor d)) e f = none None refl f
 of-decl ds kinds.Qualifier name made w p is has at = absurd (let no : None ≡ Some made = is in cc)
-of-decl ds kinds.Binding name made w p is has at = grind (arith, find_binding, option_map, made_of_binding, words_have, some-made, has)
+of-decl ds kinds.Binding name made w p is has at = absurd (by (find_binding name ds) is)
+  where
+    by : (o : Option BindingDecl) → option_map (made_of_binding ds) o ≡ Some made → ⊥
+    by None e = let no : None ≡ Some made = e in cc
+    by (Some d) e = false≢true (ap (λ (m : Made). words_have m.words w) (some-made (made_of_binding ds d) made e) ∙ has)
 of-decl ds kinds.Stereotype name made w p is has at = absurd (let no : None ≡ Some made = is in cc)
-of-decl ds kinds.Interceptor name made w p is has at =
-    grind (arith, find_decl, same_key, key_at, key_of, key-found, same_key_equiv, option_map)
+of-decl ds kinds.Interceptor name made w p is has at = by (find_decl kinds.Interceptor name ds) refl is
+  where
+    other : (d : Decl) → same_key (key_at kinds.Interceptor name) (key_of d) ≡ false
+        → find_decl kinds.Interceptor name ds ≡ Some d → OfDecl ds made.words p
+    other d apart e = absurd (false≢true (sym apart ∙ ap (same_key (key_at kinds.Interceptor name)) (sym (key-found kinds.Interceptor name ds d e))
+        ∙ same_key_equiv.refl (key_at kinds.Interceptor name)))
+
+    by : (o : Option Decl) → find_decl kinds.Interceptor name ds ≡ o → option_map made_of_interceptor o ≡ Some made → OfDecl ds made.words p
+    by None e f = absurd (let no : None ≡ Some made = f in cc)
+    by (Some (decls.Interceptor i)) e f = (
+      decls.Interceptor i,
+      position-there kinds.Interceptor name ds p at ∙ e,
+      ap (λ (m : Made). m.words) (some-made (made_of_interceptor (decls.Interceptor i)) made f),
+    )
+    by (Some (decls.Bean d)) e f = other (decls.Bean d) refl e
+    by (Some (decls.Type d)) e f = other (decls.Type d) refl e
+    by (Some (decls.Qualifier d)) e f = other (decls.Qualifier d) refl e
+    by (Some (decls.Binding d)) e f = other (decls.Binding d) refl e
+    by (Some (decls.Stereotype d)) e f = other (decls.Stereotype d) refl e
 
 module _ (ds : List Decl) (shelf : Shelf) (listings : List Listing) (shelved : IsShelf shelf) (exact : IsExact ds (stored shelf))
     (sound : IsSound (stored shelf) listings) (distinct : AreDistinct ds) where
   pub made-at : (s : ℕ) (e : Kept) → kept_at shelf s ≡ Some e → made_of ds e.key ≡ Some e.made
-  made-at s e there = grind (arith, made_in, stored_at, kept_at, there, option_map)
+  made-at s e there =
+      sym (exact e.key)
+      ∙ ap (λ o. made_in (stored_at (kept_at shelf) o)) (shelved.owned s e there)
+      ∙ ap (λ o. made_in (option_map {U = Stored} (λ k. (s, k.made)) o)) there
 
   one-decl : (p : ℕ) (d e : Decl) → slice_get ds p ≡ Some d → slice_get ds p ≡ Some e → e ≡ d
   one-decl p d e first second = let same : Some e ≡ Some d = sym second ∙ first in cc
@@ -72,12 +135,27 @@ module _ (ds : List Decl) (shelf : Shelf) (listings : List Listing) (shelved : I
   -- a slot that marks a position is of the declaration there, which has the word
   marks-only : (p s : ℕ) (w : Word) → is_at ds w (kept_at shelf s) p ≡ true
       → (d : Decl) × (slice_get ds p ≡ Some d) × (words_have (words_by ds d) w ≡ true)
-  marks-only p s w h = grind (arith, is-at, kept_at, of-decl, made-at, words_have)
+  marks-only p s w h =
+      let at = is-at ds w (kept_at shelf s) p h in
+      let of = of-decl ds at.entry.key.kind at.entry.key.name at.entry.made w p (made-at s at.entry at.there) at.has at.place in
+      (of.0, of.1, ap (λ ws. words_have ws w) of.2 ∙ at.has)
 
   -- what is made of a declaration has a word, so a test that says so of its slot is true of one that is listed
   pub listed-at : (w : Word) (k : DeclKey) (m : Made) (test : ℕ → Bool) → made_of ds k ≡ Some m → words_have m.words w ≡ true
       → ((s : ℕ) (e : Kept) → kept_at shelf s ≡ Some e → e.key ≡ k → e.made ≡ m → test s ≡ true) → list_any test (under listings w) ≡ true
-  listed-at w k m test is has says = grind (arith, stored, made_in, list_any, under, some-made, words_have, has)
+  listed-at w k m test is has says = by (stored shelf k) refl (exact k ∙ is)
+    where
+      by : (o : Option Stored) → stored shelf k ≡ o → made_in o ≡ Some m → list_any test (under listings w) ≡ true
+      by None here none = absurd (let no : None ≡ Some m = none in cc)
+      by (Some (s, made)) here one =
+          let same : made ≡ m = some-made made m one in
+          let words : words_have made.words w ≡ true = ap (λ (x : Made). words_have x.words w) same ∙ has in
+          let it = found (slot_of shelf) (kept_at shelf) shelved.owns k s made here in
+          any-more (nat_eq s) test (under listings w)
+          (λ t equal. ap test (sym (eqb-true s t equal)) ∙ says s it.entry it.there it.key (it.is ∙ same))
+          (sound w k s made here
+          (or_right (keys_have made.reads w) (classes_have made.replaces w || words_have made.words w)
+          (or_right (classes_have made.replaces w) (words_have made.words w) words)))
 
   -- so its position is marked by its slot
   marks-from : (p : ℕ) (w : Word) (k : DeclKey) (m : Made) → made_of ds k ≡ Some m → position (is_of k.kind k.name) ds ≡ Some p
@@ -93,7 +171,10 @@ module _ (ds : List Decl) (shelf : Shelf) (listings : List Listing) (shelved : I
       let place = own-place ds p b distinct at in
       marks-from p w (key_at kinds.Bean b.name) (made_of_bean ds b) (ap (option_map (made_of_bean ds)) (place-found ds b p place)) place.0 has
   marks-if p (decls.Interceptor i) w at has =
-      grind (arith, key_at, marks-from, made_of_interceptor, option_map, own-found, own-position, has)
+      let k = key_at kinds.Interceptor i.name in
+      marks-from p w k (made_of_interceptor (decls.Interceptor i))
+      (ap (option_map made_of_interceptor) (own-found ds p (decls.Interceptor i) distinct at))
+      (own-position ds p (decls.Interceptor i) distinct at) has
   marks-if p (decls.Type d) w at has = absurd (false≢true has)
   marks-if p other w at has = absurd (false≢true has)
 
@@ -103,7 +184,26 @@ module _ (ds : List Decl) (shelf : Shelf) (listings : List Listing) (shelved : I
   -- the marked positions are those of the declarations that have one of the words
   pub marked-are : (words : List Word) (p : ℕ)
       → is_at_words ds shelf listings words p ≡ option_map_or (has_one ds words) (slice_get ds p) false
-  marked-are words p = grind (arith, same-bool, is_at_words, option_map_or, has_one, slice_get, any-elim)
+  marked-are words p = same-bool (is_at_words ds shelf listings words p) (option_map_or (has_one ds words) (slice_get ds p) false) only back
+    where
+      only : is_at_words ds shelf listings words p ≡ true → option_map_or (has_one ds words) (slice_get ds p) false ≡ true
+      only h = by (slice_get ds p) refl
+        where
+          by : (o : Option Decl) → slice_get ds p ≡ o → option_map_or (has_one ds words) o false ≡ true
+          by None none = any-elim (at_slots p) words h (λ w at. any-elim (λ s. is_at ds w (kept_at shelf s) p) (under listings w) at (λ s one.
+              let it = marks-only p s w one in absurd (let no : None ≡ Some it.0 = sym none ∙ it.1 in cc)))
+          by (Some d) there = any-more (at_slots p) (words_have (words_by ds d)) words
+              (λ w at. any-elim (λ s. is_at ds w (kept_at shelf s) p) (under listings w) at (λ s one.
+              let it = marks-only p s w one in
+              ap (λ x. words_have (words_by ds x) w) (one-decl p it.0 d it.1 there) ∙ it.2)) h
+
+      back : option_map_or (has_one ds words) (slice_get ds p) false ≡ true → is_at_words ds shelf listings words p ≡ true
+      back h = by (slice_get ds p) refl h
+        where
+          by : (o : Option Decl) → slice_get ds p ≡ o → option_map_or (has_one ds words) o false ≡ true
+              → is_at_words ds shelf listings words p ≡ true
+          by None none f = absurd (false≢true f)
+          by (Some d) there f = any-more (words_have (words_by ds d)) (at_slots p) words (λ w has. marks-if p d w there has) f
 
 -- ---- a walk over marked positions
 
@@ -121,7 +221,21 @@ module _ {X Y : Type 0} (f : X → List Y) (test : X → Bool) (all : List X) wh
   walk n [] xs here marked = sym (ap (flat_map f) (none-pass xs marked))
   walk n (true ∷ ms) [] here marked = absurd (false≢true (sym (marked 0)))
   walk n (false ∷ ms) [] here marked = walk (n + 1) ms [] (λ i. ap (slice_get all) (omega arith) ∙ here (suc i)) (λ i. marked (suc i))
-  walk n (m ∷ ms) (x ∷ xs) here marked = grind (arith, slice_get, option_map_or, flat_map, marked_from, filter)
+  walk n (m ∷ ms) (x ∷ xs) here marked =
+      let rest = walk (n + 1) ms xs (λ i. ap (slice_get all) (omega arith) ∙ here (suc i)) (λ i. marked (suc i)) in
+      by m refl (test x) refl (marked 0) rest
+    where
+      first : found_at n ≡ f x
+      first = ap (λ o. option_map_or f o []) (ap (slice_get all) (omega arith) ∙ here 0)
+
+      by : (b : Bool) → m ≡ b → (t : Bool) → test x ≡ t → b ≡ t
+          → flat_map found_at (marked_from (n + 1) ms) ≡ flat_map f (filter test xs)
+          → flat_map found_at (cond b (n ∷ marked_from (n + 1) ms) (marked_from (n + 1) ms))
+          ≡ flat_map f (cond t (x ∷ filter test xs) (filter test xs))
+      by true e true g h rest = ap (λ ys. ys ++ flat_map found_at (marked_from (n + 1) ms)) first ∙ ap (λ ys. f x ++ ys) rest
+      by true e false g h rest = absurd (false≢true (sym h))
+      by false e true g h rest = absurd (false≢true h)
+      by false e false g h rest = rest
 
 -- so the records at marked positions are those of the declarations that have one of the words
 pub walked : (ds : List Decl) (words : List Word) (marks : List Bool)
