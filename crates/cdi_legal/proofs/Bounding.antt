@@ -1,11 +1,10 @@
 -- The limits of a command: how often it asks bodies, and what is live at each point of its trace.
 use Rattle.cdi_legal.proofs.Common.{◌≡◌, ◌<◌, ℕ, false, refl, IsFull, InstanceId, Owner, Nobody, Scene, Ends, End, Moment, is_create, Entry}
 use Rattle.cdi_legal.proofs.Common.{Create, suc, ◌≤◌, inl, inr, Bool, true, List, [], ◌∷◌, length, arith, ap, subst, sym, ◌∙◌}
-use Rattle.cdi_legal.proofs.Common.{AllByRecursion, false≢true, Scope, context_of, is_of, Standing, closed, Target, Interceptor, Instance}
-use Rattle.cdi_legal.proofs.Common.{Request, Application, Point, is_normal, applied, beginning, effect, step, Effect, Throughout}
-use Rattle.cdi_legal.proofs.Common.{all-weaker, length-append, CommandsKeepBudget, CommandsKeepThroughout, IsKeptByCommands}
-use Rattle.cdi_legal.proofs.Common.{IsKeptThroughout, IsRequested, IsWithinLimit}
-use Rattle.std.proofs.lemmas.Bool.{cases_Bool}
+use Rattle.cdi_legal.proofs.Common.{AllByRecursion, Scope, context_of, is_of, Standing, closed, Target, Interceptor, Instance, Request}
+use Rattle.cdi_legal.proofs.Common.{Application, Point, is_normal, applied, beginning, effect, step, Effect, Throughout, all-weaker}
+use Rattle.cdi_legal.proofs.Common.{false≢true}
+use Rattle.std.proofs.lemmas.{List.length-append, Bool.cases_Bool}
 use Rattle.cdi_model.specs.declared.decl.Scope.TheVariants as scopes
 use Rattle.cdi_legal.proofs.Course.{IsOutside, MayBegin}
 use Rattle.cdi_legal.proofs.Along.{ends_along, runs_along, IsAlong, Nothing}
@@ -14,6 +13,7 @@ use Rattle.cdi_legal.proofs.Furnishing.{all-step, ends-all}
 use Rattle.cdi_legal.proofs.Keeping.{all-more}
 use Rattle.cdi_legal.proofs.Rooting.{context-gone}
 use Rattle.cdi_legal.proofs.Sharing.{count, fewer_after, single-calm, single_along, Test}
+use Rattle.cdi_legal.specs.Laws.{CommandsKeepBudget, CommandsKeepThroughout, IsKeptByCommands, IsKeptThroughout, IsRequested, IsWithinLimit}
 use Rattle.cdi_legal.specs.Moment as effects
 
 -- ---- how often it asks

@@ -2,9 +2,10 @@
 use Rattle.cdi_legal.proofs.Common.{Ends, End, Answer, Legal, Node, Uses, Use, Runs, Command, Moment, put, ask_more, ◌+◌, ◌≤◌, Bool, List}
 use Rattle.cdi_legal.proofs.Common.{◌∷◌, arith, ap, subst, sym, ◌∙◌, Standing, Point, is_normal, beginning, Option, Failure, Value, Val}
 use Rattle.cdi_legal.proofs.Common.{as_product, bean_at, Bean, Product, Permits, Held, Follows, for_param, outcome_is, creation, frame}
-use Rattle.cdi_legal.proofs.Common.{opened, Opening, link, producer, target, IsCalledAt, Refused, Failed, ◌≡◌, ◌<◌, ℕ, false, None, Some}
-use Rattle.cdi_legal.proofs.Common.{refl, Outcome, Act, IsFull, InstanceId, Owner, Nobody, Seat, Scene}
+use Rattle.cdi_legal.proofs.Common.{opened, Opening, link, producer, target, IsCalledAt, Refused, ◌≡◌, ◌<◌, ℕ, false, None, Some, refl}
+use Rattle.cdi_legal.proofs.Common.{Outcome, Act, IsFull, InstanceId, Owner, Nobody, Seat, Scene}
 use Rattle.std.proofs.Common.{IfSome}
+use Rattle.cdi_model.specs.declared.outcome.Outcome.TheVariants.{Failed}
 use Rattle.cdi_model.specs.declared.decl.Scope.TheVariants as scopes
 use Rattle.cdi_model.specs.declared.outcome.Failure.TheVariants as failures
 use Rattle.cdi_bodies.specs.declared.act.Act.TheVariants.{Fail}

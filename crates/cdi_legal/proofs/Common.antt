@@ -1,19 +1,18 @@
 -- The names that several proofs cite, passed on from one place. Declares nothing.
 pub use Rattle.std.proofs.Common.{◌≡◌, ◌<◌, ℕ, false, refl, suc, ◌≤◌, inl, inr, Bool, true, List, [], ◌∷◌, length, arith, ap, subst, sym}
-pub use Rattle.std.proofs.Common.{◌∙◌, None, Some, ◌+◌, Option, ◌++◌, not, ◌==◌, map, if◌then◌else◌, slice_get, zero, ◌⊎◌, IsSome}
+pub use Rattle.std.proofs.Common.{◌∙◌, None, Some, ◌+◌, Option, ◌++◌, not, ◌==◌, map, if◌then◌else◌, ◌&&◌, slice_get, zero, ◌⊎◌, IsSome}
 pub use Rattle.std.proofs.Common.{option_map, append_assoc, nat_lt}
 pub use Rattle.std.specs.List.{AllByRecursion, find}
-pub use Rattle.std.proofs.lemmas.List.{length-append}
+pub use Rattle.std.proofs.lemmas.Bool.{false≢true, false_from_ne_true}
 pub use Rattle.std.proofs.lemmas.Option.{same_Some, slice_get_within}
 pub use Rattle.std.proofs.lemmas.Bool.Decides.{nat_tests}
-pub use Rattle.std.proofs.lemmas.Bool.{false_from_ne_true}
 pub use Rattle.base_lists.proofs.Each.{all-weaker}
 pub use Rattle.cdi_model.specs.declared.decl.Scope.{Scope}
 pub use Rattle.cdi_model.specs.declared.outcome.Outcome.{Outcome}
 pub use Rattle.cdi_model.specs.declared.outcome.Val.{Val}
 pub use Rattle.cdi_model.specs.declared.outcome.Val.TheVariants.{Null}
 pub use Rattle.cdi_model.specs.declared.outcome.Failure.{Failure}
-pub use Rattle.cdi_model.specs.declared.outcome.Outcome.TheVariants.{Value, Failed}
+pub use Rattle.cdi_model.specs.declared.outcome.Outcome.TheVariants.{Value}
 pub use Rattle.cdi_bodies.specs.declared.act.Act.{Act}
 pub use Rattle.cdi_bodies.specs.declared.act.Act.TheVariants.{Call, Proceed, Load, Store}
 pub use Rattle.cdi_contexts.specs.Standing.{IsFull, Standing, closed, found, without, keep, finish, last_of, numbered, made_for, last_in}
@@ -39,18 +38,16 @@ pub use Rattle.cdi_legal.specs.Ends.{Ends, End, Held, context, destroy, dependen
 pub use Rattle.cdi_legal.specs.Moment.{Moment, is_create, applied, beginning, effect, step, Effect, put, is_beginning, ask_more}
 pub use Rattle.cdi_legal.specs.declared.entry.Entry.{Entry}
 pub use Rattle.cdi_legal.specs.declared.entry.Entry.TheVariants.{Create, Destroy, Enter, Gone, Got, Leave, Proceeded, Skip}
-pub use Rattle.cdi_legal.specs.Legal.{is_normal, Answer, Legal, Node, held_is, for_param, create, made_is, at, dependent_of, reach}
-pub use Rattle.cdi_legal.specs.Legal.{outcome_is}
+pub use Rattle.cdi_legal.specs.Legal.{is_normal, Answer, Legal, Node, held_is, for_param, create, made_is, outcome_is}
 pub use Rattle.cdi_legal.specs.Throughout.{Throughout, AtEachEntry, AtEachPoint}
-pub use Rattle.cdi_legal.specs.Laws.{CommandsKeepBudget, CommandsKeepThroughout, IsKeptByCommands, IsKeptThroughout, IsRequested}
-pub use Rattle.cdi_legal.specs.Laws.{IsWithinLimit, IsOrdered}
 pub use Rattle.cdi_legal.specs.LegalRun.{Runs, Command, Uses, Use, LegalRun, LegalRequestEnd, LegalEnd}
 pub use Rattle.cdi_legal.specs.Single.{IsSingle}
-pub use Rattle.cdi_legal.specs.Furnished.{IsDependent, IsFurnished, HasDependents, IsServed}
+pub use Rattle.cdi_legal.specs.Furnished.{IsDependent, IsFurnished, HasDependents}
 pub use Rattle.cdi_legal.specs.Acts.{Touches, Permits}
 pub use Rattle.cdi_legal.specs.Placed.{link, producer, target, IsCalledAt, disposer, MayAct}
 pub use Rattle.cdi_legal.specs.Keeps.{IsStill}
 pub use Rattle.cdi_legal.specs.Rooted.{IsHome}
 pub use Rattle.cdi_legal.specs.Follows.{Follows, after}
 pub use Rattle.cdi_legal.specs.Opened.{opened, Opening, creation, frame}
+pub use Rattle.cdi_legal.specs.Laws.{IsOrdered}
 pub use Rattle.cdi_legal.specs.declared.entry.Made.TheVariants.{Refused}

@@ -4,8 +4,7 @@ use Rattle.cdi_legal.proofs.Common.{Owner, Nobody, Seat, Scene, Touches, Ends, E
 use Rattle.cdi_legal.proofs.Common.{Create, ◌+◌, Bool, true, ap, sym, ◌∙◌, Scope, context_of, is_of, Target, Point, is_normal, Option}
 use Rattle.cdi_legal.proofs.Common.{Failure, Val, as_product, bean_at, Bean, Product, Permits, for_param, link, producer, target}
 use Rattle.cdi_legal.proofs.Common.{IsCalledAt, found, managed_at, product_at, Injection, Managed, create, disposer, Destroy, Enter, Gone}
-use Rattle.cdi_legal.proofs.Common.{Got, Leave, Proceeded, Skip}
-use Rattle.std.proofs.lemmas.Bool.{false≢true}
+use Rattle.cdi_legal.proofs.Common.{Got, Leave, Proceeded, Skip, false≢true}
 use Rattle.cdi_model.specs.declared.decl.Scope.TheVariants as scopes
 use Rattle.cdi_bodies.specs.declared.act.Act.TheVariants.{Fire}
 use Rattle.cdi_scene.specs.{Scene.invocable_at, Scene.observer_at, Scene.place_of, declared.scene.Observer.Observer}

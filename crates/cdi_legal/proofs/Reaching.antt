@@ -1,12 +1,13 @@
 -- What a call site names is there: whoever runs has the dependent object that it leads to.
 use Rattle.cdi_legal.proofs.Common.{◌≡◌, ℕ, None, Some, Seat, Scene, Legal, Moment, true, List, ap, subst, ◌∙◌, Instance, Held, IsFurnished}
-use Rattle.cdi_legal.proofs.Common.{made_for, HasDependents, made_is, IsDependent, option_map, at, dependent_of, reach, IsServed, arith}
+use Rattle.cdi_legal.proofs.Common.{made_for, HasDependents, made_is, IsDependent, option_map, arith}
 use Rattle.cdi_scene.specs.{Sound.IsNamed, declared.scene.CallSite.CallSite, declared.scene.Via.Via}
 use Rattle.cdi_scene.specs.declared.scene.Via.TheVariants.{Own, Param}
 use Rattle.cdi_legal.proofs.Furnishing.{at as at_point, found-such}
 use Rattle.cdi_legal.proofs.Settling.{IsApart, Settled, obtained_has}
+use Rattle.cdi_legal.specs.Legal.{at, dependent_of, reach, number_of}
 use Rattle.cdi_legal.specs.declared.entry.Made.TheVariants.{Instance as Obtained}
-use Rattle.cdi_legal.specs.Legal.{number_of}
+use Rattle.cdi_legal.specs.Furnished.{IsServed}
 
 -- the instance is there, and has its own dependent objects
 pub record IsReached (s : Scene) (live : List Instance) (seat : Seat) (h : Held) (via : Via) (b : ℕ) : Type 0 where

@@ -1,12 +1,13 @@
 -- Along a legal tree each ready instance has its dependent objects.
-use Rattle.cdi_legal.proofs.Common.{IsSound, IsSoundForm, Form, ◌==◌, ◌&&◌, map, slice_get, and_parts, is_at, IsOwnerOf, finish}
-use Rattle.cdi_legal.proofs.Common.{IsRising-finished, HasDependents, ◌⊎◌, IsRising-more, destroy, dependents, held, made_is, held_is}
-use Rattle.cdi_legal.proofs.Common.{nat_lt, slice_get_within, nat_tests, false_from_ne_true, all-weaker, ◌≡◌, ◌<◌, ℕ, false, None, Some}
-use Rattle.cdi_legal.proofs.Common.{refl, Outcome, Act, Actor, InstanceId, Owner, Nobody, Scene, Touches, Ends, Answer, Legal, Node, Uses}
-use Rattle.cdi_legal.proofs.Common.{Use, Runs, Command, Moment, put, ask_more, Entry, ◌+◌, ◌≤◌, inl, inr, Bool, true, List, [], ◌∷◌, length}
+use Rattle.cdi_legal.proofs.Common.{◌&&◌, IsSound, IsSoundForm, Form, ◌==◌, map, slice_get, is_at, IsOwnerOf, finish, IsRising-finished}
+use Rattle.cdi_legal.proofs.Common.{HasDependents, ◌⊎◌, IsRising-more, destroy, dependents, held, made_is, held_is, nat_lt}
+use Rattle.cdi_legal.proofs.Common.{slice_get_within, nat_tests, false_from_ne_true, all-weaker, ◌≡◌, ◌<◌, ℕ, false, None, Some, refl}
+use Rattle.cdi_legal.proofs.Common.{Outcome, Act, Actor, InstanceId, Owner, Nobody, Scene, Touches, Ends, Answer, Legal, Node, Uses, Use}
+use Rattle.cdi_legal.proofs.Common.{Runs, Command, Moment, put, ask_more, Entry, ◌+◌, ◌≤◌, inl, inr, Bool, true, List, [], ◌∷◌, length}
 use Rattle.cdi_legal.proofs.Common.{arith, ap, subst, sym, ◌∙◌, AllByRecursion, Scope, is_of, Instance, Point, Option, Failure, Value, Val}
 use Rattle.cdi_legal.proofs.Common.{Null, as_product, bean_at, Bean, Product, Held, outcome_is, context, IsFurnished, managed_at, Managed}
 use Rattle.cdi_legal.proofs.Common.{create, ◌++◌, Bodies}
+use Rattle.std.proofs.lemmas.Bool.{and_parts}
 use Rattle.cdi_scene.specs.Scene.{as_managed}
 use Rattle.cdi_scene.specs.declared.scene.Form.TheVariants as forms
 use Rattle.cdi_legal.proofs.Keeping.{given-more, legal_older, older, owned-context, owned-param, still-finish, still-more, Test, uses_older}

@@ -3,8 +3,8 @@ use Rattle.cdi_legal.proofs.Common.{◌≡◌, ℕ, false, None, Some, refl, Out
 use Rattle.cdi_legal.proofs.Common.{Runs, Command, Moment, put, is_create, Entry, ◌+◌, ◌≤◌, Bool, true, List, [], ◌∷◌, length, arith, ap}
 use Rattle.cdi_legal.proofs.Common.{subst, sym, ◌∙◌, Scope, context_of, is_of, Standing, Target, Interceptor, Instance, is_normal, applied}
 use Rattle.cdi_legal.proofs.Common.{effect, step, Effect, Option, Val, Null, bean_at, Bean, IsSingle, found, ◌++◌, same_Some, not, ◌==◌}
-use Rattle.cdi_legal.proofs.Common.{map, if◌then◌else◌, without, keep, finish, is_beginning, nat_tests}
-use Rattle.std.proofs.Common.{◌&&◌, filter}
+use Rattle.cdi_legal.proofs.Common.{map, if◌then◌else◌, without, keep, finish, is_beginning, nat_tests, ◌&&◌}
+use Rattle.std.proofs.Common.{filter}
 use Rattle.cdi_model.specs.declared.decl.Scope.TheVariants as scopes
 use Rattle.cdi_legal.proofs.Along.{asks_for, ends_along, legal_along, runs_along, IsAlong}
 use Rattle.cdi_legal.proofs.Course.{Given, MayBegin}
