@@ -1,19 +1,20 @@
 -- The limits of a command: how often it asks bodies, and what is live at each point of its trace.
 use Rattle.cdi_legal.proofs.Common.{◌≡◌, ◌<◌, ℕ, false, refl, IsFull, InstanceId, Owner, Nobody, Scene, Ends, End, Moment, is_create, Entry}
-use Rattle.cdi_legal.proofs.Common.{Create, suc, ◌≤◌, inl, inr, Bool, true, List, [], ◌∷◌, length, arith, ap, subst, sym, ◌∙◌}
-use Rattle.cdi_legal.proofs.Common.{AllByRecursion, Scope, context_of, is_of, Standing, closed, Target, Interceptor, Instance, Request}
-use Rattle.cdi_legal.proofs.Common.{Application, Point, is_normal, applied, beginning, effect, step, Effect, Throughout, all-weaker}
-use Rattle.cdi_legal.proofs.Common.{false≢true}
-use Rattle.std.proofs.lemmas.{List.length-append, Bool.cases_Bool}
+use Rattle.cdi_legal.proofs.Common.{Create, suc, ◌+◌, ◌≤◌, inl, inr, Bool, true, List, [], ◌∷◌, length, arith, ap, subst, sym, ◌∙◌}
+use Rattle.cdi_legal.proofs.Common.{AllByRecursion, false≢true, Scope, context_of, is_of, Standing, closed, Target, Interceptor, Instance}
+use Rattle.cdi_legal.proofs.Common.{Request, Application, Point, is_normal, applied, beginning, effect, step, Effect, Throughout}
+use Rattle.cdi_legal.proofs.Common.{all-weaker}
+use Rattle.std.proofs.lemmas.{Bool.cases_Bool, List.length-append}
 use Rattle.cdi_model.specs.declared.decl.Scope.TheVariants as scopes
-use Rattle.cdi_legal.proofs.Course.{IsOutside, MayBegin}
 use Rattle.cdi_legal.proofs.Along.{ends_along, runs_along, IsAlong, Nothing}
+use Rattle.cdi_legal.proofs.Course.{IsOutside, MayBegin}
 use Rattle.cdi_legal.proofs.Everywhere.{each_point, everywhere, kept_everywhere, then, Holds, HoldsAfterEach, Lasts}
 use Rattle.cdi_legal.proofs.Furnishing.{all-step, ends-all}
 use Rattle.cdi_legal.proofs.Keeping.{all-more}
 use Rattle.cdi_legal.proofs.Rooting.{context-gone}
 use Rattle.cdi_legal.proofs.Sharing.{count, fewer_after, single-calm, single_along, Test}
-use Rattle.cdi_legal.specs.Laws.{CommandsKeepBudget, CommandsKeepThroughout, IsKeptByCommands, IsKeptThroughout, IsRequested, IsWithinLimit}
+use Rattle.cdi_legal.specs.Laws.{CommandsKeepBudget, CommandsKeepThroughout, IsKeptByCommands, IsKeptThroughout, IsRequested, IsSingleAt}
+use Rattle.cdi_legal.specs.Laws.{IsWithinLimit}
 use Rattle.cdi_legal.specs.Moment as effects
 
 -- ---- how often it asks
@@ -25,7 +26,16 @@ abbrev asked_of : Moment → ℕ
 asked_of m = m.asked
 
 budget_along : (s : Scene) → IsAlong s Nothing WithinBudget
-budget_along s = grind (arith, then)
+budget_along s = record {
+  keeps = record {
+    none = λ m h. h;
+    then = λ a b c p q h. q (p h);
+    entry = λ e m m' other is h. omega (arith, ap asked_of is, h);
+  };
+  asking = λ m m' few is h. omega (arith, ap asked_of is, few);
+  may = λ b o m may. tt;
+  create = λ b i o m m' may room of_bean is h. omega (arith, ap asked_of is, h);
+}
 
 pub commands_keep_budget : CommandsKeepBudget
 commands_keep_budget s command before trace outcome after l = runs_along (budget_along s) l.runs (omega arith)
@@ -77,7 +87,10 @@ fewer-than : (n : ℕ) → (1024 ≤ n → ⊥) → n < 1024
 fewer-than n h = omega (arith, h)
 
 limit-begins : (s : Scene) (i : InstanceId) (o : Owner) (x : Standing) → (IsFull x → ⊥) → IsWithinLimit s (step x (Create i o))
-limit-begins s i o x room = grind (arith, length, fewer-than, step, length-append)
+limit-begins s i o x room =
+    let few : length x.live < 1024 = fewer-than (length x.live) (λ full. room (inl full)) in
+    let more : length (step x (Create i o)).live ≡ length x.live + 1 = length-append x.live _ in
+    omega (arith, few, more)
 
 limit_along : (s : Scene) → IsAlong s (MayBegin s) (Holds (IsWithinLimit s))
 limit_along s = everywhere (IsWithinLimit s) (limit-calm s) s (λ b i o m may room of_bean within. limit-begins s i o m.standing room)
@@ -135,9 +148,21 @@ unrequested s x none =
     (λ z other is. sym other ∙ ap (is_of scopes.Request) is) none
 
 pub commands_keep_requested : IsKeptByCommands (λ s before after. IsRequested s before → IsRequested s after)
-commands_keep_requested = grind (arith, runs_along, requested_along, unrequested, context-gone, ends-all, is_of)
+commands_keep_requested = record {
+  run = λ s command before trace outcome after l requested.
+      subst (IsRequested s) (sym l.leaves) (runs_along (requested_along s) l.runs requested).end;
+  request_end = λ s before trace after l requested.
+      subst (IsRequested s) (sym l.leaves) (unrequested s l.end.standing (context-gone l.ends));
+  end = λ s before trace after l requested.
+      subst (IsRequested s) (sym l.leaves) (unrequested s l.end.standing
+      (ends-all (λ id o. is_of scopes.Request o ≡ false) l.then (context-gone l.first)));
+}
 
 -- ---- at each point
 
 pub commands_keep_throughout : CommandsKeepThroughout
-commands_keep_throughout = grind (arith, throughout, single-calm, single_along, limit-calm, limit_along, requested-calm, requested_along)
+commands_keep_throughout = record {
+  single = throughout IsSingleAt single-calm single_along;
+  limit = throughout IsWithinLimit limit-calm limit_along;
+  requested = throughout IsRequested requested-calm requested_along;
+}

@@ -1,11 +1,11 @@
 -- Each failure of a run has its cause.
-use Rattle.cdi_legal.proofs.Common.{Ends, End, Answer, Legal, Node, Uses, Use, Runs, Command, Moment, put, ask_more, ◌+◌, ◌≤◌, Bool, List}
-use Rattle.cdi_legal.proofs.Common.{◌∷◌, arith, ap, subst, sym, ◌∙◌, Standing, Point, is_normal, beginning, Option, Failure, Value, Val}
-use Rattle.cdi_legal.proofs.Common.{as_product, bean_at, Bean, Product, Permits, Held, Follows, for_param, outcome_is, creation, frame}
-use Rattle.cdi_legal.proofs.Common.{opened, Opening, link, producer, target, IsCalledAt, Refused, ◌≡◌, ◌<◌, ℕ, false, None, Some, refl}
-use Rattle.cdi_legal.proofs.Common.{Outcome, Act, IsFull, InstanceId, Owner, Nobody, Seat, Scene}
+use Rattle.cdi_legal.proofs.Common.{◌≡◌, ◌<◌, ℕ, false, None, Some, refl, Outcome, Act, IsFull, InstanceId, Owner, Nobody, Seat, Scene}
+use Rattle.cdi_legal.proofs.Common.{Ends, End, Answer, Legal, Node, Uses, Use, Runs, Command, Moment, put, ask_more, ◌+◌, ◌≤◌, Bool, true}
+use Rattle.cdi_legal.proofs.Common.{List, ◌∷◌, arith, ap, subst, sym, ◌∙◌, Scope, Standing, Point, is_normal, beginning, Option, Failure}
+use Rattle.cdi_legal.proofs.Common.{Value, Val, Null, as_product, bean_at, Bean, Product, Permits, Held, Follows, for_param, outcome_is}
+use Rattle.cdi_legal.proofs.Common.{creation, frame, opened, Opening, link, producer, target, IsCalledAt, Refused}
 use Rattle.std.proofs.Common.{IfSome}
-use Rattle.cdi_model.specs.declared.outcome.Outcome.TheVariants.{Failed}
+use Rattle.cdi_model.specs.declared.outcome.{Outcome.TheVariants.Failed, Val.TheVariants.Int}
 use Rattle.cdi_model.specs.declared.decl.Scope.TheVariants as scopes
 use Rattle.cdi_model.specs.declared.outcome.Failure.TheVariants as failures
 use Rattle.cdi_bodies.specs.declared.act.Act.TheVariants.{Fail}
@@ -125,7 +125,12 @@ module _ (s : Scene) (before : Standing) (end : Moment) (within : end.asked ≤ 
   -- a frame is left here
   passes_left : {k : ℕ} {m : Moment} (o : Outcome) → Here k m → Onward (put (entries.Leave o) m) end
       → Passes before end (put (entries.Leave o) m)
-  passes_left {m = m} o h to = grind (arith, put, follows_kept, beginning)
+  passes_left {m = m} o h to =
+      let left : Moment = put (entries.Leave o) m in
+      record {
+        first = follows_kept.then (beginning before) m left h.first (follows_kept.entry (entries.Leave o) m left refl refl);
+        then = to.follows;
+      }
 
   -- the rest of a frame, which is then left with its outcome
   asks_caused : {k l j : ℕ} {c : Bool} {seat : Seat} {held : Held} {r : Answered} {m m' : Moment}
@@ -154,7 +159,12 @@ module _ (s : Scene) (before : Standing) (end : Moment) (within : end.asked ≤ 
       → m₁ ≡ put (entries.Enter seat arg) m → Legal s j (nodes.asks seat held l 0 false) m₁ (nodes.answered_is (answered o c)) m₂
       → m' ≡ put (entries.Leave o) m₂ → IsCalledAt s seat → Here k m → Onward m' end → IsCaused (failed o)
   frame_caused {j = j} {seat = seat} arg {m = m} {m₁ = m₁} fewer enters rest leaves called h to =
-      grind (arith, frame, opened, entered, limits, asks_caused, goes, follows_kept)
+      let room : HasRoom j (frame seat false 0 0 ∷ opened m.trace) =
+      record { calm = h.room.calm; room = omega (arith, h.room.room, fewer); each = (omega arith, h.room.each) } in
+      let there = entered s seat arg m m₁ false h.room.calm h.good called enters (limits room) in
+      asks_caused rest called
+      (goes (follows_kept.entry (entries.Enter seat arg) m m₁ refl enters) there.0 (subst (HasRoom j) (sym there.1) room) h)
+      0 (opened m.trace) there.1 (subst (λ (x : Moment). Onward x end) leaves to)
 
   -- ---- outcomes
 
@@ -169,8 +179,25 @@ module _ (s : Scene) (before : Standing) (end : Moment) (within : end.asked ≤ 
   produced_caused : {k : ℕ} {i : InstanceId} {x : Bean} {product : Product} {host : Option InstanceId} {o : Outcome} {m m' : Moment}
       → bean_at s i.bean ≡ Some x → as_product x.form ≡ Some product → Legal s k (nodes.produce i product host) m (outcome_is o) m'
       → Here k m → Onward m' end → IsCaused (failed o) → IsCaused (failed (produced x.scope o))
-  produced_caused {k} {i} {x} {product} {host} {o} {m} {m'} there is l h to c =
-      grind (arith, is_normal, outcome_is, passes, onward, follows_kept, beginning, legal_follows)
+  produced_caused {k} {i} {x} {product} {host} {o} {m} {m'} there is l h to c = by x.scope o refl l c
+    where
+      illegal : is_normal x.scope ≡ true → Legal s k (nodes.produce i product host) m (outcome_is (Value Null)) m'
+          → Cause s before end failures.IllegalProduct
+      illegal normal l =
+          Cause.illegal_product k i x product host m m' (passes h (onward l to))
+          (record { first = follows_kept.then (beginning before) m m' h.first (legal_follows l); then = to.follows })
+          there is normal l
+
+      by : (scope : Scope) (o : Outcome) → x.scope ≡ scope → Legal s k (nodes.produce i product host) m (outcome_is o) m'
+          → IsCaused (failed o) → IsCaused (failed (produced scope o))
+      by scopes.Dependent (Value v) e l c = tt
+      by scopes.Dependent (Failed f) e l c = c
+      by scopes.Request (Value Null) e l c = illegal (ap is_normal e) l
+      by scopes.Request (Value (Int n)) e l c = tt
+      by scopes.Request (Failed f) e l c = c
+      by scopes.Application (Value Null) e l c = illegal (ap is_normal e) l
+      by scopes.Application (Value (Int n)) e l c = tt
+      by scopes.Application (Failed f) e l c = c
 
   -- ---- nodes
 
@@ -286,4 +313,6 @@ module _ (s : Scene) (before : Standing) (end : Moment) (within : end.asked ≤ 
 
 pub commands_fail_for_causes : CommandsFailForCauses
 commands_fail_for_causes s command before trace outcome after l f is =
-    grind (arith, commands_keep_budget, runs_caused, begins_here, onward_kept)
+    let within : l.end.asked ≤ 20000 = commands_keep_budget s command before trace outcome after l in
+    subst (λ (o : Outcome). IfSome (failed o) (Cause s before l.end)) is
+    (runs_caused s before l.end within l.runs (begins_here s before l.end within) (onward_kept.none l.end))

@@ -107,4 +107,14 @@ settled_of s b m x e given live h =
     (rw (given, live) (h.rises, h.furnished))
 
 pub commands_keep_furnished : CommandsKeepFurnished
-commands_keep_furnished = grind (arith, settled_of, runs_settled, sound_apart, closed, context_settled)
+commands_keep_furnished = record {
+  run = λ s c a t o b l book sound r f.
+      settled_of s l.end.standing l.end b l.leaves refl refl
+      (runs_settled (sound_apart book s sound) l.runs (record { rises = r; furnished = f }));
+  request_end = λ s a t b l book sound r f.
+      settled_of s (closed l.end.standing) l.end b l.leaves refl refl
+      (context_settled l.ends (record { rises = r; furnished = f }));
+  end = λ s a t b l book sound r f.
+      settled_of s (closed l.end.standing) l.end b l.leaves refl refl
+      (context_settled l.then (context_settled l.first (record { rises = r; furnished = f })));
+}

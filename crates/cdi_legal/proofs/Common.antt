@@ -1,6 +1,6 @@
 -- The names that several proofs cite, passed on from one place. Declares nothing.
-pub use Rattle.std.proofs.Common.{◌≡◌, ◌<◌, ℕ, false, refl, suc, ◌≤◌, inl, inr, Bool, true, List, [], ◌∷◌, length, arith, ap, subst, sym}
-pub use Rattle.std.proofs.Common.{◌∙◌, None, Some, ◌+◌, Option, ◌++◌, not, ◌==◌, map, if◌then◌else◌, ◌&&◌, slice_get, zero, ◌⊎◌, IsSome}
+pub use Rattle.std.proofs.Common.{◌≡◌, ◌<◌, ℕ, false, refl, suc, ◌+◌, ◌≤◌, inl, inr, Bool, true, List, [], ◌∷◌, length, arith, ap, subst}
+pub use Rattle.std.proofs.Common.{sym, ◌∙◌, None, Some, Option, ◌++◌, not, ◌==◌, map, if◌then◌else◌, ◌&&◌, slice_get, zero, ◌⊎◌, IsSome}
 pub use Rattle.std.proofs.Common.{option_map, append_assoc, nat_lt}
 pub use Rattle.std.specs.List.{AllByRecursion, find}
 pub use Rattle.std.proofs.lemmas.Bool.{false≢true, false_from_ne_true}

@@ -1,21 +1,21 @@
 -- Along a legal tree each live instance has a home: its context, or the instance that it was made for.
 use Rattle.cdi_legal.proofs.Common.{all-weaker, ◌≡◌, ◌<◌, ℕ, false, None, Some, refl, Outcome, Act, Actor, InstanceId, Owner, Nobody, Scene}
-use Rattle.cdi_legal.proofs.Common.{◌≤◌, inl, inr, true, List, [], ◌∷◌, length, arith, ap, subst, sym, ◌∙◌, AllByRecursion, Scope}
+use Rattle.cdi_legal.proofs.Common.{Touches, Ends, End, Answer, Legal, Node, Uses, Use, Runs, Command, Moment, put, ask_more, Entry, ◌+◌}
+use Rattle.cdi_legal.proofs.Common.{◌≤◌, inl, inr, Bool, true, List, [], ◌∷◌, length, arith, ap, subst, sym, ◌∙◌, AllByRecursion, Scope}
 use Rattle.cdi_legal.proofs.Common.{context_of, is_of, Standing, Instance, Request, Application, Point, is_normal, beginning, Option}
 use Rattle.cdi_legal.proofs.Common.{Failure, bean_at, Bean, Held, for_param, Refused, IsRising, LegalRun, LegalRequestEnd, LegalEnd, create}
-use Rattle.cdi_legal.proofs.Common.{◌++◌, ◌==◌, slice_get, is_part_of, IsOwnerOf, ◌⊎◌, IsSome, numbered, IsRising-more, destroy, dependents}
-use Rattle.cdi_legal.proofs.Common.{held, made_is, held_is, IsHome, Touches, Ends, End, Answer, Legal, Node, Uses, Use, Runs, Command}
-use Rattle.cdi_legal.proofs.Common.{Moment, put, ask_more, Entry, ◌+◌}
+use Rattle.cdi_legal.proofs.Common.{◌++◌, ◌==◌, slice_get, if◌then◌else◌, is_part_of, IsOwnerOf, ◌⊎◌, IsSome, numbered, IsRising-more}
+use Rattle.cdi_legal.proofs.Common.{destroy, dependents, held, made_is, held_is, IsHome}
 use Rattle.cdi_model.specs.declared.decl.Scope.TheVariants as scopes
-use Rattle.cdi_legal.proofs.Rooting.{AreHome, Also, AlsoParts, Free, IsCalm, IsIn, NoNumber, Stay, calm-begins, context-gone}
-use Rattle.cdi_legal.proofs.Rooting.{dependents-gone, destroyed-home, ends-home, held-home, home-entry, home-lost, home-stay, home-touch}
-use Rattle.cdi_legal.proofs.Rooting.{narrower, no-parts, of_number, some-of, stay-still, wider}
 use Rattle.cdi_legal.proofs.Along.{touch_along}
 use Rattle.cdi_legal.proofs.Growing.{legal_grows}
 use Rattle.cdi_legal.proofs.Keeping.{Rises, all-more, begun, given-more, legal_older, older, owned-context, owned-param, still-more}
 use Rattle.cdi_legal.proofs.Furnishing.{all-above, all-given, ends-all, ends-rise, found-such, none-left, rises-kept}
 use Rattle.cdi_legal.proofs.Settling.{Begins, owns, same-given, new_one}
 use Rattle.cdi_legal.proofs.Supplying.{kept-in, last-in}
+use Rattle.cdi_legal.proofs.Rooting.{AreHome, Also, AlsoParts, Free, IsCalm, IsIn, NoNumber, Stay, calm-begins, context-gone}
+use Rattle.cdi_legal.proofs.Rooting.{dependents-gone, destroyed-home, ends-home, held-home, home-entry, home-lost, home-stay, home-touch}
+use Rattle.cdi_legal.proofs.Rooting.{narrower, no-parts, of_number, some-of, stay-still, wider}
 use Rattle.cdi_legal.specs.declared.entry.Made.TheVariants.{Instance as Obtained}
 use Rattle.cdi_legal.specs.{Laws.BothEndsLeaveNothing, Laws.CommandsKeepRooted, Rooted.IsRooted}
 use Rattle.cdi_legal.specs.Legal as nodes
@@ -63,7 +63,11 @@ stays-after {s} {k} {x} {a} {m} {m'} p b r =
 
 some-more : (n : ℕ) (live : List Instance) (x : Instance) → x.id.number ≡ n → IsSome (numbered (live ++ x ∷ []) n)
 some-more n [] x e = let is : (x.id.number == n) ≡ true = grind arith in rw is refl
-some-more n (y ∷ ys) x e = grind (arith, some-more n ys x e, numbered)
+some-more n (y ∷ ys) x e = by (y.id.number == n) (some-more n ys x e)
+  where
+    by : (b : Bool) → IsSome (numbered (ys ++ x ∷ []) n) → IsSome (if b then Some y else numbered (ys ++ x ∷ []) n)
+    by true h = refl
+    by false h = h
 
 begun-lives : (i : InstanceId) (o : Owner) (m m' : Moment) → i.number ≡ m.standing.given + 1 → m' ≡ put (entries.Create i o) m
     → IsSome (numbered m'.standing.live i.number)
@@ -373,7 +377,11 @@ pub end_rises : {s : Scene} {a : Standing} {t : List Entry} {b : Standing} → L
 end_rises l r h = subst (λ (x : Standing). IsRising x.given x.live) (sym l.leaves) (both-ended l r h).rises
 
 pub commands_keep_rooted : CommandsKeepRooted
-commands_keep_rooted = grind (arith, run_rises, run_rooted, request_end_rises, request_end_rooted, end_rises, end_rooted)
+commands_keep_rooted = record {
+  run = λ s c a t o b l r h. (run_rises l r h, run_rooted l r h);
+  request_end = λ s a t b l r h. (request_end_rises l r h, request_end_rooted l r h);
+  end = λ s a t b l r h. (end_rises l r h, end_rooted l r h);
+}
 
 -- the oldest could only have been made for an older one
 none-stands : (live : List Instance) (given : ℕ) → IsRising given live → IsRooted live
@@ -401,4 +409,8 @@ none-stands (x ∷ xs) given r h a b = absurd (by x.owner h.0 r.1 a.0 b.0)
     by other home owned p0 p1 = cc
 
 pub both_ends_leave_nothing : BothEndsLeaveNothing
-both_ends_leave_nothing s a t b r h l = grind (arith, both-ended, none-stands, home-rooted, ends-all, is_of, context-gone)
+both_ends_leave_nothing s a t b r h l =
+    let end = both-ended l r h in
+    let nothing = none-stands l.end.standing.live l.end.standing.given end.rises (home-rooted l.end.standing.live end.home)
+    (ends-all (λ id o. is_of scopes.Request o ≡ false) l.then (context-gone l.first)) (context-gone l.then) in
+    ap (λ (x : Standing). x.live) l.leaves ∙ nothing

@@ -1,11 +1,11 @@
 -- What a call site names is there: whoever runs has the dependent object that it leads to.
-use Rattle.cdi_legal.proofs.Common.{◌≡◌, ℕ, None, Some, Seat, Scene, Legal, Moment, true, List, ap, subst, ◌∙◌, Instance, Held, IsFurnished}
-use Rattle.cdi_legal.proofs.Common.{made_for, HasDependents, made_is, IsDependent, option_map, arith}
+use Rattle.cdi_legal.proofs.Common.{◌≡◌, ℕ, None, Some, Seat, Scene, Legal, Moment, true, List, ap, subst, sym, ◌∙◌, Instance, Held}
+use Rattle.cdi_legal.proofs.Common.{IsFurnished, made_for, HasDependents, made_is, IsDependent, option_map}
 use Rattle.cdi_scene.specs.{Sound.IsNamed, declared.scene.CallSite.CallSite, declared.scene.Via.Via}
 use Rattle.cdi_scene.specs.declared.scene.Via.TheVariants.{Own, Param}
 use Rattle.cdi_legal.proofs.Furnishing.{at as at_point, found-such}
 use Rattle.cdi_legal.proofs.Settling.{IsApart, Settled, obtained_has}
-use Rattle.cdi_legal.specs.Legal.{at, dependent_of, reach, number_of}
+use Rattle.cdi_legal.specs.Legal.{at, dependent_of, number_of, reach}
 use Rattle.cdi_legal.specs.declared.entry.Made.TheVariants.{Instance as Obtained}
 use Rattle.cdi_legal.specs.Furnished.{IsServed}
 
@@ -44,4 +44,9 @@ pub reached_has : {s : Scene} {k n : ℕ} {seat : Seat} {h : Held} {c : CallSite
     → Legal s k (reach seat h c) m (made_is (Obtained n)) m' → Settled s m → IsServed s m.standing.live seat h
     → IsNamed s seat c.via c.bean → HasDependents s m'.standing.live (at c.bean n)
 reached_has apart (Legal.reached_shared _ _ _ _ _ _ _ _ _ _ p2) settled served named = obtained_has apart p2 settled
-reached_has {s} apart (Legal.reached_own _ seat h c x n m p0 p1 p2) settled served named = grind (arith, reaches)
+reached_has {s} apart (Legal.reached_own _ seat h c x n m p0 p1 p2) settled served named =
+    let own : IsDependent s c.bean = record { bean = x; there = p0; scoped = p1 } in
+    let r = reaches s m.standing.live seat h c.via c.bean settled.furnished served named own in
+    let both : Some r.number ≡ Some n = sym r.reached ∙ p2 in
+    let same : r.number ≡ n = cc in
+    subst (λ (d : ℕ). HasDependents s m.standing.live (at c.bean d)) same r.has

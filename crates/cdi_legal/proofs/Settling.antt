@@ -1,24 +1,24 @@
 -- Along a legal tree each ready instance has its dependent objects.
-use Rattle.cdi_legal.proofs.Common.{◌&&◌, IsSound, IsSoundForm, Form, ◌==◌, map, slice_get, is_at, IsOwnerOf, finish, IsRising-finished}
+use Rattle.cdi_legal.proofs.Common.{false_from_ne_true, all-weaker, ◌≡◌, ◌<◌, ℕ, false, None, Some, refl, Outcome, Act, Actor, InstanceId}
+use Rattle.cdi_legal.proofs.Common.{Owner, Nobody, Scene, Touches, Ends, Answer, Legal, Node, Uses, Use, Runs, Command, Moment, put}
+use Rattle.cdi_legal.proofs.Common.{ask_more, Entry, ◌+◌, ◌≤◌, inl, inr, Bool, true, List, [], ◌∷◌, length, arith, ap, subst, sym, ◌∙◌}
+use Rattle.cdi_legal.proofs.Common.{AllByRecursion, Scope, is_of, Instance, Point, Option, Failure, Value, Val, Null, as_product, bean_at}
+use Rattle.cdi_legal.proofs.Common.{Bean, Product, Held, outcome_is, context, IsFurnished, managed_at, Managed, create, ◌++◌, Bodies}
+use Rattle.cdi_legal.proofs.Common.{IsSound, IsSoundForm, Form, ◌==◌, ◌&&◌, map, slice_get, is_at, IsOwnerOf, finish, IsRising-finished}
 use Rattle.cdi_legal.proofs.Common.{HasDependents, ◌⊎◌, IsRising-more, destroy, dependents, held, made_is, held_is, nat_lt}
-use Rattle.cdi_legal.proofs.Common.{slice_get_within, nat_tests, false_from_ne_true, all-weaker, ◌≡◌, ◌<◌, ℕ, false, None, Some, refl}
-use Rattle.cdi_legal.proofs.Common.{Outcome, Act, Actor, InstanceId, Owner, Nobody, Scene, Touches, Ends, Answer, Legal, Node, Uses, Use}
-use Rattle.cdi_legal.proofs.Common.{Runs, Command, Moment, put, ask_more, Entry, ◌+◌, ◌≤◌, inl, inr, Bool, true, List, [], ◌∷◌, length}
-use Rattle.cdi_legal.proofs.Common.{arith, ap, subst, sym, ◌∙◌, AllByRecursion, Scope, is_of, Instance, Point, Option, Failure, Value, Val}
-use Rattle.cdi_legal.proofs.Common.{Null, as_product, bean_at, Bean, Product, Held, outcome_is, context, IsFurnished, managed_at, Managed}
-use Rattle.cdi_legal.proofs.Common.{create, ◌++◌, Bodies}
+use Rattle.cdi_legal.proofs.Common.{slice_get_within, nat_tests}
 use Rattle.std.proofs.lemmas.Bool.{and_parts}
 use Rattle.cdi_scene.specs.Scene.{as_managed}
 use Rattle.cdi_scene.specs.declared.scene.Form.TheVariants as forms
-use Rattle.cdi_legal.proofs.Keeping.{given-more, legal_older, older, owned-context, owned-param, still-finish, still-more, Test, uses_older}
-use Rattle.cdi_legal.proofs.Keeping.{Admits, AdmitsFor, IsFree, Older, Owns, Rises, Terms, WasGiven, all-more, all-map, begun, created}
-use Rattle.cdi_legal.proofs.Injecting.{AreApart, injected}
 use Rattle.cdi_legal.proofs.Along.{touch_along}
 use Rattle.cdi_legal.proofs.Growing.{legal_grows}
+use Rattle.cdi_legal.proofs.Keeping.{Admits, AdmitsFor, IsFree, Older, Owns, Rises, Terms, WasGiven, all-more, all-map, begun, created}
+use Rattle.cdi_legal.proofs.Keeping.{given-more, legal_older, older, owned-context, owned-param, still-finish, still-more, Test, uses_older}
 use Rattle.cdi_legal.proofs.Sharing.{same-finish}
 use Rattle.cdi_legal.proofs.Furnishing.{AllSpare, AreFurnished, IsPlain, IsSpare, Others, Outside, all-both, all-given, all-owned, at}
 use Rattle.cdi_legal.proofs.Furnishing.{ends-all, ends-rise, ends_furnished, fewer, found-such, furnished-without, has-still, none-left}
 use Rattle.cdi_legal.proofs.Furnishing.{plain, rises-kept, touch-furnished, is_plain_kept}
+use Rattle.cdi_legal.proofs.Injecting.{AreApart, at-same, injected}
 use Rattle.cdi_legal.specs.declared.entry.Made.TheVariants.{Instance as Obtained}
 use Rattle.cdi_legal.specs.Legal as nodes
 use Rattle.cdi_legal.specs.declared.entry.Entry.TheVariants as entries
@@ -114,7 +114,11 @@ old-part {s} {k} {x} {a} {m} {m'} p b h =
     had e) h.furnished))
 
 either : (n g : ℕ) → (n ≤ g) ⊎ (g < n)
-either n g = grind (arith, nat_lt, nat_tests)
+either n g = by (nat_lt g n) refl
+  where
+    by : (b : Bool) → nat_lt g n ≡ b → (n ≤ g) ⊎ (g < n)
+    by true e = inr (grind (arith, nat_tests))
+    by false e = inl (grind (arith, nat_tests))
 
 join : (s : Scene) (g : ℕ) (live : List Instance) → AreFurnished (Up g) s live → AreFurnished (Above g) s live
     → IsFurnished s live
@@ -138,10 +142,16 @@ abbrev Young : Scene → Moment → Moment → Type 0
 Young s m m' = Settled s m → AreFurnished (Above m.standing.given) s m'.standing.live
 
 only : (s : Scene) (K : ℕ → Type 0) (live : List Instance) → IsFurnished s live → AreFurnished K s live
-only s K live a = grind (arith, all-weaker)
+only s K live a =
+    all-weaker (λ z. z.is_ready ≡ true → HasDependents s live z.id) (λ z. K z.id.number → z.is_ready ≡ true
+    → HasDependents s live z.id)
+    live (λ z h k e. h e) a
 
 all-of : (s : Scene) (live : List Instance) → AreFurnished (λ n. Unit {0}) s live → IsFurnished s live
-all-of s live a = grind (arith, all-weaker)
+all-of s live a =
+    all-weaker (λ z. Unit {0} → z.is_ready ≡ true → HasDependents s live z.id) (λ z. z.is_ready ≡ true
+    → HasDependents s live z.id)
+    live (λ z h e. h tt e) a
 
 young : {s : Scene} {m m' : Moment} → Path s m m' → Young s m m'
 young {s} {m} {m'} p h = only s (Above m.standing.given) m'.standing.live (p h).furnished
@@ -182,7 +192,17 @@ touch {s} n actor x m o m' t h = record {
 -- nothing was made for a point of the newest
 fresh : (m : Moment) (n : ℕ) (actor : Actor) (p : ℕ) → Rises m.standing → n ≡ m.standing.given
     → AllByRecursion (λ z. is_at n actor p z.owner ≡ false) m.standing.live
-fresh m n actor p r e = grind (arith, all-weaker, is_at, false_from_ne_true, all-both, all-owned, all-given)
+fresh m n actor p r e =
+    all-weaker (λ z. IsOwnerOf z.id.number z.owner × (z.id.number ≤ m.standing.given)) (λ z. is_at n actor p z.owner ≡
+    false) m.standing.live
+    (λ z h. false_from_ne_true (is_at n actor p z.owner) (by z z.owner h.0 h.1))
+    (all-both (λ z. IsOwnerOf z.id.number z.owner) (λ z. z.id.number ≤ m.standing.given) m.standing.live
+    (all-owned 0 m.standing.given m.standing.live r) (all-given 0 m.standing.given m.standing.live r))
+  where
+    by : (z : Instance) (o : Owner) → IsOwnerOf z.id.number o → z.id.number ≤ m.standing.given
+        → is_at n actor p o ≡ true → ⊥
+    by z (Point k who q) owned l is = absurd (omega (arith, owned, l, e, (at-same n actor p k who q is).0))
+    by z other owned l is = cc
 
 -- after the injection
 pub has-injected : {s : Scene} {k : ℕ} {i : InstanceId} {b : Managed} {m m' : Moment} → IsApart s
@@ -200,7 +220,15 @@ has-injected {s} {k} {i} {b} {m} {m'} apart there p r e = λ managed j point at_
 no-managed : (s : Scene) (b : ℕ) (x : Bean) (p : Product) (managed : Managed) → bean_at s b ≡ Some x
     → as_product x.form ≡ Some p
     → managed_at s b ≡ Some managed → ⊥
-no-managed s b x p managed there made is = grind (arith, as_product)
+no-managed s b x p managed there made is = by x.form made (sym (ap (λ o. elim o [
+  | Some y ↦ as_managed y.form
+  | None ↦
+      None
+]) there) ∙ is)
+  where
+    by : (f : Form) → as_product f ≡ Some p → as_managed f ≡ Some managed → ⊥
+    by (forms.Managed one) e h = cc
+    by (forms.Product one) e h = cc
 
 -- what is set up has its dependent objects
 pub set_up : {s : Scene} {k : ℕ} {i : InstanceId} {a : Answer} {m m' : Moment} → IsApart s
@@ -256,7 +284,12 @@ IsOnly i live = AllByRecursion (λ z. z.id.number ≡ i.number → z.id ≡ i) l
 begun-only : (i : InstanceId) (o : Owner) (m m' : Moment) → i.number ≡ m.standing.given + 1
     → m' ≡ put (entries.Create i o) m
     → Rises m.standing → IsOnly i m'.standing.live
-begun-only i o m m' e is r = grind (arith, all-more, all-weaker, all-given)
+begun-only i o m m' e is r =
+    subst (λ (y : Moment). IsOnly i y.standing.live) (sym is)
+    (all-more (λ z. z.id.number ≡ i.number → z.id ≡ i) m.standing.live (new_one i o m)
+    (all-weaker (λ z. z.id.number ≤ m.standing.given) (λ z. z.id.number ≡ i.number → z.id ≡ i) m.standing.live
+    (λ z l same. absurd (omega (arith, l, same, e))) (all-given 0 m.standing.given m.standing.live r))
+    (λ same. ap (λ n. record { bean = i.bean; number = n }) (sym e)))
 
 abbrev only_terms : (i : InstanceId) (low : ℕ) → i.number ≤ low → Terms
 only_terms i low l = record {
@@ -311,7 +344,13 @@ ready {s} i product m m' is alone had h = subst (Settled s) (sym is) (record {
 
 -- what is not younger is spare for those that are
 spare : (g n : ℕ) (m : Moment) → Rises m.standing → n ≤ g + 1 → IsSpare (Above g) n m.standing.live
-spare g n m r l = grind (arith, all-weaker, all-owned)
+spare g n m r l =
+    all-weaker (λ z. IsOwnerOf z.id.number z.owner) (λ z. z.id.number ≡ n → Outside (Above g) z.owner) m.standing.live
+    (λ z owned same. by z z.owner owned same) (all-owned 0 m.standing.given m.standing.live r)
+  where
+    by : (z : Instance) (o : Owner) → IsOwnerOf z.id.number o → z.id.number ≡ n → Outside (Above g) o
+    by z (Point k who q) owned same = λ above. absurd (omega (arith, above, owned, same, l))
+    by z other owned same = tt
 
 -- where one is destroyed that was made within, the younger ones keep their dependent objects
 ended : {s : Scene} {i : InstanceId} {m m' : Moment} (g : ℕ) → Ends s (destroy i) m m' → i.number ≡ g + 1 → Settled s m
@@ -669,4 +708,9 @@ form_apart book s b (forms.Managed one) managed sound e =
 form_apart book s b (forms.Product one) managed sound e = cc
 
 pub sound_apart : (book : Bodies) (s : Scene) → IsSound book s → IsApart s
-sound_apart book s sound b managed e = grind (arith, bean_at, form_apart)
+sound_apart book s sound b managed e = by (bean_at s b) refl e
+  where
+    by : (o : Option Bean) → bean_at s b ≡ o → (elim o [ Some y ↦ as_managed y.form | None ↦ None ]) ≡ Some managed
+        → AreApart managed.injections
+    by None there is = cc
+    by (Some bean) there is = form_apart book s b bean.form managed (sound.beans b bean there) is
