@@ -10,7 +10,7 @@ use Rattle.cdi_effective.proofs.PlaceLemmas.{other-key}
 
 present-after : (d e : Decl) (ds : List Decl) → key_of d ≢ key_of e → IsPresent ds e → IsPresent (d ∷ ds) e
 present-after d e ds other found =
-    ap (λ b. cond b (Some d) (find_decl (kind_of e) (name_of_decl e) ds)) (other-key d e other) ∙ found
+    ap (λ b. cond b (Some d) (find_decl (kind_of e) (name_of_decl e) ds)) (other-key e d other) ∙ found
 
 from-apart : (d : Decl) (ds : List Decl) → ((k : ℕ) (f : Decl) → k < length ds → key_of d ≢ key_of (slice_index_or ds k f))
     → AllByRecursion (λ e. key_of d ≢ key_of e) ds

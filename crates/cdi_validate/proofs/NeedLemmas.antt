@@ -18,7 +18,7 @@ Entries = List (List ℕ × BeanId)
 
 -- ---- the dependent beans by their texts
 
-pub keys-insert : (text : List ℕ) (id : BeanId) (es : Entries)
+pub keys-insert : {V : Type 0} (text : List ℕ) (id : V) (es : List (List ℕ × V))
     → keys_of (insert_entry byte_order es text id) ≡ insert_key byte_order (keys_of es) text
 keys-insert text id [] = refl
 keys-insert text id (e ∷ es) = by (byte_order text e.0) refl (keys-insert text id es)
