@@ -168,7 +168,8 @@ spot-body : (d : BeanDecl) (place : Place) (spot : BeanPlace) (i : InterceptorDe
     → part_for spot i ≡ body_of place i
 spot-body d (places.Method m) spot i e = ap (λ s. part_for s i) e.2
 spot-body d (places.Observer o) spot i e = ap (λ s. part_for s i) e.2
-spot-body d other spot i e = absurd e
+spot-body d (places.Producer b) spot i e = absurd e
+spot-body d (places.Disposer b) spot i e = absurd e
 spot-body d other spot i e = ap (λ s. part_for s i) e
 
 own-links : (ds : List Decl) (book : List Promised) (b : ℕ) (place : Place) (d : BeanDecl) → AreDistinct ds → AreFineAround ds book

@@ -55,16 +55,13 @@ is_behind x y is =
 abbrev GoesOn : Fault → Type 0
 GoesOn (faults_are.NamePrefix x y) = goes_on x y ≡ true
 GoesOn other = Unit {0}
-GoesOn other = Unit {0}
 
 of_declared : (f : Fault) → is-declared f ≡ 0 → GoesOn f
 of_declared (faults_are.NamePrefix x y) is = absurd (omega (arith, is))
 of_declared other is = tt
-of_declared other is = tt
 
 of_clash : (f : Fault) → is-declared f ≡ 1 → GoesOn f
 of_clash (faults_are.NamePrefix x y) is = absurd (omega (arith, is))
-of_clash other is = tt
 of_clash other is = tt
 
 pairs-go_on : (all xs : List (List ℕ)) → AllByRecursion GoesOn (flat_map (λ x. map (faults_are.NamePrefix x) (filter (goes_on x) all)) xs)

@@ -113,7 +113,6 @@ clashes-differ bs = differ-map faults_are.NameClash one-name _ (apart-filter (λ
 abbrev shorter-of : Fault → Option (List ℕ)
 shorter-of (faults_are.NamePrefix name longer) = Some name
 shorter-of other = None
-shorter-of other = None
 
 some-name : (k l : List ℕ) → Some k ≡ Some l → k ≡ l
 some-name k l e = cc
