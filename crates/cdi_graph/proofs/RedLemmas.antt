@@ -1,6 +1,6 @@
 -- A point is red exactly where a fault says so.
 use Rattle.cdi_graph.proofs.Common.{◌≡◌, ℕ, Bool, true, false, List, [], ◌∷◌, refl, ap, ◌∙◌, Fault, PointId, is_ambiguous, is_unsatisfied}
-use Rattle.std.proofs.Common.{◌≢◌, ◌⊎◌, inl, inr, Option, Some, None, if◌then◌else◌, Contains, sym, ⊎_elim, arith}
+use Rattle.std.proofs.Common.{◌≢◌, ◌⊎◌, ◌||◌, inl, inr, Option, Some, None, if◌then◌else◌, Contains, sym, ⊎_elim, arith}
 use Rattle.std.specs.List.{list_any}
 use Rattle.std.proofs.lemmas.{Bool.false≢true, Bool.or_cases, List.Elements.Contains-append_right, List.Folds.list_any_at, Option.same_Some}
 use Rattle.cdi_model.specs.{declared.decl.Kind.Kind, DeclKey.key_at}
@@ -12,6 +12,10 @@ use Rattle.cdi_graph.specs.Red.{ambiguous_at, is_this, point_in, state_of, unsat
 use Rattle.cdi_graph.specs.{declared.node.PointState.PointState, RedLaws.IsAtFault, RedLaws.RedAreAtFault, RedLaws.UnsatisfiedAreAtFault}
 use Rattle.cdi_graph.specs.SamePoint.{same_point-decides}
 use Rattle.cdi_graph.specs.declared.node.PointState.TheVariants as states
+
+pub or_none : (b : Bool) → b ≡ (b || false)
+or_none true = refl
+or_none false = refl
 
 -- ---- one fault
 
