@@ -1,1 +1,2 @@
 //! Lemmas about numbers, and about texts as lists of numbers. It has no code.
+#![tactic(auto)]

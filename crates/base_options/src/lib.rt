@@ -1,1 +1,2 @@
 //! Lemmas about truth values, options, results and orderings. It has no code.
+#![tactic(auto)]
