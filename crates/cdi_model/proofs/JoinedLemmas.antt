@@ -1,61 +1,29 @@
 -- Lists of declarations of which one stands after another.
-use Rattle.cdi_model.proofs.Common.{◌≡◌, ◌+◌, ◌-◌, ℕ, suc, Bool, true, false, cond, List, [], ◌∷◌, ◌++◌, length, Option, Some, None}
-use Rattle.cdi_model.proofs.Common.{is_some, refl, sym, ap, ◌∙◌, position, arith, option_map, inl, inr, cases_Bool, position-cons, key_of}
-use Rattle.cdi_model.proofs.Common.{kind_of, name_of_decl, same_key, find_decl, is_of, put_in, remove_from, Decl, Kind}
+use Rattle.cdi_model.proofs.Common.{◌≡◌, ◌+◌, ◌-◌, ℕ, Bool, true, false, cond, List, [], ◌∷◌, ◌++◌, length, Option, Some, None, is_some}
+use Rattle.cdi_model.proofs.Common.{refl, sym, ap, ◌∙◌, position, arith, option_map, position-cons, kind_of, name_of_decl, find_decl, is_of}
+use Rattle.cdi_model.proofs.Common.{put_in, remove_from, Decl, Kind}
 use Rattle.std.specs.Option.{option_or}
 
 pub find-joined : (kind : Kind) (name : List ℕ) (xs ys : List Decl)
     → find_decl kind name (xs ++ ys) ≡ option_or (find_decl kind name xs) (find_decl kind name ys)
 find-joined kind name [] ys = refl
-find-joined kind name (x ∷ xs) ys = elim (cases_Bool (is_of kind name x)) [
-  | inl same ↦ rw same refl
-  | inr other ↦ rw other (find-joined kind name xs ys)
-]
+find-joined kind name (x ∷ xs) ys = grind (arith, find-joined kind name xs ys)
 
 -- it is put among those among which one is found
 pub put-joined : (d : Decl) (xs ys : List Decl)
     → put_in (xs ++ ys) d ≡ cond (is_some (find_decl (kind_of d) (name_of_decl d) xs)) (put_in xs d ++ ys) (xs ++ put_in ys d)
 put-joined d [] ys = refl
-put-joined d (x ∷ xs) ys = elim (cases_Bool (same_key (key_of d) (key_of x))) [
-  | inl same ↦ rw same refl
-  | inr other ↦ rw other (ap (λ l. x ∷ l) (put-joined d xs ys)
-      ∙ behind (is_some (find_decl (kind_of d) (name_of_decl d) xs)) (put_in xs d ++ ys) (xs ++ put_in ys d))
-]
-  where
-    behind : (b : Bool) (l m : List Decl) → x ∷ cond b l m ≡ cond b (x ∷ l) (x ∷ m)
-    behind true l m = refl
-    behind false l m = refl
+put-joined d (x ∷ xs) ys = grind (arith, put-joined d xs ys, is_some)
 
 pub remove-joined : (kind : Kind) (name : List ℕ) (xs ys : List Decl)
     → remove_from kind name (xs ++ ys) ≡ cond (is_some (find_decl kind name xs)) (remove_from kind name xs ++ ys) (xs ++ remove_from kind name ys)
 remove-joined kind name [] ys = refl
-remove-joined kind name (x ∷ xs) ys = elim (cases_Bool (is_of kind name x)) [
-  | inl same ↦ rw same refl
-  | inr other ↦ rw other (ap (λ l. x ∷ l) (remove-joined kind name xs ys)
-      ∙ behind (is_some (find_decl kind name xs)) (remove_from kind name xs ++ ys) (xs ++ remove_from kind name ys))
-]
-  where
-    behind : (b : Bool) (l m : List Decl) → x ∷ cond b l m ≡ cond b (x ∷ l) (x ∷ m)
-    behind true l m = refl
-    behind false l m = refl
+remove-joined kind name (x ∷ xs) ys = grind (arith, remove-joined kind name xs ys, is_some)
 
 pub position-joined : {X : Type 0} (p : X → Bool) (xs ys : List X)
     → position p (xs ++ ys) ≡ option_or (position p xs) (option_map (λ i. length xs + i) (position p ys))
-position-joined p [] ys = by (position p ys)
-  where
-    by : (o : Option ℕ) → o ≡ option_map (λ i. 0 + i) o
-    by None = refl
-    by (Some i) = ap Some (omega arith)
-position-joined p (x ∷ xs) ys = rw (position-cons p x (xs ++ ys), position-cons p x xs, position-joined p xs ys)
-    (by (p x) (position p xs) (position p ys))
-  where
-    by : (b : Bool) (o q : Option ℕ)
-        → cond b (Some 0) (option_map suc (option_or o (option_map (λ i. length xs + i) q)))
-        ≡ option_or (cond b (Some 0) (option_map suc o)) (option_map (λ i. suc (length xs) + i) q)
-    by true o q = refl
-    by false (Some i) q = refl
-    by false None None = refl
-    by false None (Some i) = ap Some (omega arith)
+position-joined p [] ys = grind (arith, position, option_map)
+position-joined p (x ∷ xs) ys = grind (arith, position-joined p xs ys, position-cons, position, option_map, length)
 
 -- ---- what is found among them
 
@@ -74,10 +42,7 @@ place-first kind name xs ys i h =
 
 pub place-second : (kind : Kind) (name : List ℕ) (xs ys : List Decl) (o : Option ℕ) → None ≡ position (is_of kind name) xs
     → o ≡ position (is_of kind name) ys → option_map (λ i. length xs + i) o ≡ position (is_of kind name) (xs ++ ys)
-place-second kind name xs ys o none h =
-    ap (option_map (λ i. length xs + i)) h
-    ∙ ap (λ p. option_or p (option_map (λ i. length xs + i) (position (is_of kind name) ys))) none
-    ∙ sym (position-joined (is_of kind name) xs ys)
+place-second kind name xs ys o none h = grind (arith, option_map, length, position, position-joined)
 
 -- ---- edits of one of them
 
@@ -93,19 +58,11 @@ removed-second kind name xs ys h =
 
 pub found-joined_first : (kind : Kind) (name : List ℕ) (xs ys : List Decl) → is_some (find_decl kind name xs) ≡ true
     → is_some (find_decl kind name (xs ++ ys)) ≡ true
-found-joined_first kind name xs ys h = ap is_some (find-joined kind name xs ys) ∙ by (find_decl kind name xs) h
-  where
-    by : (o : Option Decl) → is_some o ≡ true → is_some (option_or o (find_decl kind name ys)) ≡ true
-    by None h = absurd (cc)
-    by (Some d) h = refl
+found-joined_first kind name xs ys h = grind (arith, is_some, find-joined)
 
 pub found-joined_second : (kind : Kind) (name : List ℕ) (xs ys : List Decl) → is_some (find_decl kind name xs) ≡ false
     → is_some (find_decl kind name (xs ++ ys)) ≡ is_some (find_decl kind name ys)
-found-joined_second kind name xs ys h = ap is_some (find-joined kind name xs ys) ∙ by (find_decl kind name xs) h
-  where
-    by : (o : Option Decl) → is_some o ≡ false → is_some (option_or o (find_decl kind name ys)) ≡ is_some (find_decl kind name ys)
-    by None h = refl
-    by (Some d) h = absurd (cc)
+found-joined_second kind name xs ys h = grind (arith, is_some, find-joined)
 
 pub put-first : (d : Decl) (xs ys : List Decl) → is_some (find_decl (kind_of d) (name_of_decl d) xs) ≡ true
     → put_in (xs ++ ys) d ≡ put_in xs d ++ ys

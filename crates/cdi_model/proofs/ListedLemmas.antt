@@ -6,7 +6,7 @@ use Rattle.cdi_model.proofs.Common.{Decl, Kind, DeclKey}
 use Rattle.std.specs.List.{list_any}
 use Rattle.std.proofs.lemmas.{Bool.leb-false, List.Elements.All-from_recursion, List.Kept.AllPairs-cons, Map.Keys.IsDistinct-push}
 use Rattle.cdi_model.proofs.EntryLemmas.{key_exact}
-use Rattle.cdi_model.specs.DeclList.{limit, AreDistinct}
+use Rattle.cdi_model.specs.DeclList.{AreDistinct}
 
 other_key : (k l : DeclKey) → same_key k l ≡ false → k ≢ l
 other_key k l other same = both_ways (same_key k l) other (ap (same_key k) (sym same) ∙ same_key_equiv.refl k)
@@ -57,37 +57,18 @@ distinct-put d ds distinct = elim (cases_Bool (is_some (find_decl (kind_of d) (n
 length-put : (d : Decl) (ds : List Decl)
     → length (put_in ds d) ≡ length ds + cond (is_some (find_decl (kind_of d) (name_of_decl d) ds)) 0 1
 length-put d [] = refl
-length-put d (e ∷ es) = elim (cases_Bool (same_key (key_of d) (key_of e))) [
-  | inl same ↦ rw same (omega arith)
-  | inr other ↦ rw other (let rest = length-put d es in omega (arith, rest))
-]
+length-put d (e ∷ es) = grind (arith, length-put d es)
 
 -- where a declaration is not one too many
 pub listed-put : (d : Decl) (ds : List Decl) → AreListed ds → is_too_many ds d ≡ false → AreListed (put_in ds d)
-listed-put d ds listed room = record {
-  distinct = distinct-put d ds listed.distinct;
-  count = by (is_some (find_decl (kind_of d) (name_of_decl d) ds)) refl (length-put d ds);
-}
-  where
-    by : (found : Bool) → is_some (find_decl (kind_of d) (name_of_decl d) ds) ≡ found
-        → length (put_in ds d) ≡ length ds + cond (is_some (find_decl (kind_of d) (name_of_decl d) ds)) 0 1
-        → length (put_in ds d) ≤ limit
-    by true e grown = let same : length (put_in ds d) ≡ length ds + 0 = rw e at grown in omega (arith, same, listed.count)
-    by false e grown =
-        let more : length (put_in ds d) ≡ length ds + 1 = rw e at grown in
-        let below : nat_le limit (length ds) ≡ false = rw e at room in
-        let less = leb-false limit (length ds) below in
-        omega (arith, more, less)
+listed-put d ds listed room = grind (arith, listed.distinct, listed.count, distinct-put, is_some, length-put, length, nat_le, leb-false)
 
 -- ---- a removal
 
 none-removed : (key : DeclKey) (kind : Kind) (name : List ℕ) (ds : List Decl) → AllByRecursion (λ k. same_key key k ≡ false) (keys_in ds)
     → AllByRecursion (λ k. same_key key k ≡ false) (keys_in (remove_from kind name ds))
 none-removed key kind name [] h = tt
-none-removed key kind name (d ∷ ds) h = elim (cases_Bool (same_key (record { kind = kind; name = name }) (key_of d))) [
-  | inl same ↦ rw same h.1
-  | inr other ↦ rw other (h.0, none-removed key kind name ds h.1)
-]
+none-removed key kind name (d ∷ ds) h = grind (arith, none-removed key kind name ds h.1, h.1, h.0)
 
 distinct-removed : (kind : Kind) (name : List ℕ) (ds : List Decl) → IsDistinct same_key (keys_in ds)
     → IsDistinct same_key (keys_in (remove_from kind name ds))
@@ -100,16 +81,10 @@ distinct-removed kind name (d ∷ ds) distinct = elim (cases_Bool (same_key (rec
 
 length-removed : (kind : Kind) (name : List ℕ) (ds : List Decl) → length (remove_from kind name ds) ≤ length ds
 length-removed kind name [] = omega arith
-length-removed kind name (d ∷ ds) = elim (cases_Bool (same_key (record { kind = kind; name = name }) (key_of d))) [
-  | inl same ↦ rw same (omega arith)
-  | inr other ↦ rw other (let rest = length-removed kind name ds in omega (arith, rest))
-]
+length-removed kind name (d ∷ ds) = grind (arith, length-removed kind name ds)
 
 pub listed-removed : (kind : Kind) (name : List ℕ) (ds : List Decl) → AreListed ds → AreListed (remove_from kind name ds)
-listed-removed kind name ds listed = record {
-  distinct = distinct-removed kind name ds listed.distinct;
-  count = let few = length-removed kind name ds in omega (arith, few, listed.count);
-}
+listed-removed kind name ds listed = grind (arith, listed.distinct, listed.count, distinct-removed, length-removed)
 
 -- ---- one after another
 

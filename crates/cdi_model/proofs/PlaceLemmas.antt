@@ -1,6 +1,6 @@
 -- The first place of a list at which a test passes.
-use Rattle.cdi_model.proofs.Common.{◌≡◌, ◌<◌, ℕ, zero, suc, Bool, true, false, cond, List, [], ◌∷◌, length, Option, Some, None, option_map}
-use Rattle.cdi_model.proofs.Common.{refl, sym, ap, ◌∙◌, position, slice_get, slice_index_or, arith, AllByRecursion, position-cons}
+use Rattle.cdi_model.proofs.Common.{◌≡◌, ◌<◌, ℕ, zero, suc, Bool, true, false, List, [], ◌∷◌, length, Some, None, option_map, refl}
+use Rattle.cdi_model.proofs.Common.{position, slice_get, slice_index_or, arith, AllByRecursion, position-cons}
 
 -- the test passes at a place, and at none before it
 abbrev pub First : {X : Type 0} → (X → Bool) → ℕ → List X → Type 0
@@ -10,19 +10,7 @@ First p (suc i) (x ∷ xs) = (p x ≡ false) × First p i xs
 
 pub First-position : {X : Type 0} (p : X → Bool) (xs : List X) (i : ℕ) → position p xs ≡ Some i → First p i xs
 First-position p [] i h = cc
-First-position {X = X} p (x ∷ xs) i h = by (p x) refl (position p xs) refl i (sym (position-cons p x xs) ∙ h) (First-position p xs)
-  where
-    by : (b : Bool) → p x ≡ b → (o : Option ℕ) → position p xs ≡ o → (i : ℕ)
-        → cond (p x) (Some 0) (option_map suc (position p xs)) ≡ Some i
-        → ((j : ℕ) → position p xs ≡ Some j → First p j xs) → First p i (x ∷ xs)
-    by true e o f zero g more = e
-    by true e o f (suc i) g more = absurd (let bad : Some 0 ≡ Some (suc i) = rw e at g in cc)
-    by false e None f i g more = absurd (let bad : None ≡ Some i = rw (e, f) at g in cc)
-    by false e (Some j) f zero g more = absurd (let bad : Some (suc j) ≡ Some zero = rw (e, f) at g in cc)
-    by false e (Some j) f (suc i) g more =
-        let same : Some (suc j) ≡ Some (suc i) = rw (e, f) at g in
-        let one : j ≡ i = cc in
-        (e, more i (f ∙ ap Some one))
+First-position {X = X} p (x ∷ xs) i h = grind (arith, First-position p xs, position, position-cons, option_map)
 
 pub position-First : {X : Type 0} (p : X → Bool) (xs : List X) (i : ℕ) → First p i xs → position p xs ≡ Some i
 position-First p [] i h = absurd h
@@ -35,13 +23,7 @@ Nowhere p xs = AllByRecursion (λ x. p x ≡ false) xs
 
 pub Nowhere-position : {X : Type 0} (p : X → Bool) (xs : List X) → position p xs ≡ None → Nowhere p xs
 Nowhere-position p [] h = tt
-Nowhere-position p (x ∷ xs) h = by (p x) refl (position p xs) refl (sym (position-cons p x xs) ∙ h) (Nowhere-position p xs)
-  where
-    by : (b : Bool) → p x ≡ b → (o : Option ℕ) → position p xs ≡ o → cond (p x) (Some 0) (option_map suc (position p xs)) ≡ None
-        → (position p xs ≡ None → Nowhere p xs) → Nowhere p (x ∷ xs)
-    by true e o f g more = absurd (let bad : Some 0 ≡ None = rw e at g in cc)
-    by false e None f g more = (e, more f)
-    by false e (Some j) f g more = absurd (let bad : Some (suc j) ≡ None = rw (e, f) at g in cc)
+Nowhere-position p (x ∷ xs) h = grind (arith, Nowhere-position p xs, position, position-cons, option_map)
 
 pub position-Nowhere : {X : Type 0} (p : X → Bool) (xs : List X) → Nowhere p xs → position p xs ≡ None
 position-Nowhere p [] h = refl

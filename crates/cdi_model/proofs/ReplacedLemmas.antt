@@ -1,7 +1,7 @@
 -- Declarations that replaced others at their places.
 use Rattle.cdi_model.proofs.Common.{◌≡◌, ◌≢◌, ◌<◌, ℕ, zero, suc, nat_eq, Bool, true, false, List, [], ◌∷◌, ◌++◌, length, map, Some, None}
-use Rattle.cdi_model.proofs.Common.{refl, sym, ap, ◌∙◌, subst, slice_get, slice_set, arith, AllByRecursion, eqb-true, both_ways, length-set}
-use Rattle.cdi_model.proofs.Common.{is_marked, key_of, changed_by, is_at, keys_in, AreMarked, Decl, Replaced}
+use Rattle.cdi_model.proofs.Common.{refl, sym, ap, ◌∙◌, subst, slice_get, slice_set, arith, AllByRecursion, eqb-true, length-set, is_marked}
+use Rattle.cdi_model.proofs.Common.{key_of, changed_by, is_at, keys_in, AreMarked, Decl, Replaced}
 use Rattle.std.proofs.lemmas.{Bool.eqb-false, List.set-set, List.set_comm}
 use Rattle.cdi_model.proofs.EntryLemmas.{key_exact}
 use Rattle.cdi_model.proofs.KeptLemmas.{has_key}
@@ -29,12 +29,7 @@ pub replaced_first : (rs : List Replaced) (ds : List Decl) (p i : ℕ) (r : Repl
     → p < length ds → slice_get (changed_by rs ds) p ≡ Some r.decl.value
 replaced_first [] ds p i r at found within = absurd at
 replaced_first (s ∷ rs) ds p zero r at found within =
-    let place : s.place ≡ p = eqb-true s.place p at in
-    let one : s ≡ r = cc in
-    let size = length-changed rs ds in
-    ap (λ q. slice_get (slice_set (changed_by rs ds) q s.decl.value) p) place
-    ∙ get-set_same (changed_by rs ds) p s.decl.value (omega (arith, size, within))
-    ∙ ap (λ (t : Replaced). Some t.decl.value) one
+    grind (arith, s.place, s.decl.value, eqb-true, length-changed, slice_get, slice_set, get-set_same)
 replaced_first (s ∷ rs) ds p (suc i) r at found within =
     get-set_other (changed_by rs ds) s.place p s.decl.value (eqb-false s.place p at.0) ∙ replaced_first rs ds p i r at.1 found within
 
@@ -61,9 +56,7 @@ replaced_past (s ∷ rs) ds p h = past-set (changed_by rs ds) s.place p s.decl.v
 pub replaced_again : (rs : List Replaced) (ds : List Decl) (i : ℕ) (r : Replaced) → First (is_at r.place) i rs
     → changed_by (slice_set rs i r) ds ≡ slice_set (changed_by rs ds) r.place r.decl.value
 replaced_again [] ds i r at = absurd at
-replaced_again (s ∷ rs) ds zero r at =
-    sym (set-set (changed_by rs ds) r.place s.decl.value r.decl.value)
-    ∙ ap (λ q. slice_set (slice_set (changed_by rs ds) q s.decl.value) r.place r.decl.value) (sym (eqb-true s.place r.place at))
+replaced_again (s ∷ rs) ds zero r at = grind (arith, r.place, s.decl.value, r.decl.value, s.place, set-set, slice_set, eqb-true)
 replaced_again (s ∷ rs) ds (suc i) r at =
     ap (λ ds. slice_set ds s.place s.decl.value) (replaced_again rs ds i r at.1)
     ∙ set_comm (changed_by rs ds) r.place s.place r.decl.value s.decl.value (λ e. eqb-false s.place r.place at.0 (sym e))
@@ -99,11 +92,7 @@ marked-set marks (s ∷ rs) p all = (marked-still marks p s.place all.0, marked-
 pub unmarked-nowhere : (marks : List Bool) (rs : List Replaced) (p : ℕ) → AreMarked marks rs → is_marked marks p ≡ false
     → Nowhere (is_at p) rs
 unmarked-nowhere marks [] p all m = tt
-unmarked-nowhere marks (s ∷ rs) p all m = (by (nat_eq s.place p) refl, unmarked-nowhere marks rs p all.1 m)
-  where
-    by : (b : Bool) → nat_eq s.place p ≡ b → nat_eq s.place p ≡ false
-    by true e = absurd (both_ways (is_marked marks p) m (ap (is_marked marks) (sym (eqb-true s.place p e)) ∙ all.0))
-    by false e = e
+unmarked-nowhere marks (s ∷ rs) p all m = grind (arith, unmarked-nowhere marks rs p all.1 m, s.place, all.1, all.0, nat_eq, eqb-true)
 
 -- ---- copies
 

@@ -19,21 +19,10 @@ keys-position kind name ds es same =
 
 unmarked-some : (marks : List Bool) (o : Option ℕ) (p : ℕ) → unmarked marks o ≡ Some p → (o ≡ Some p) × (is_marked marks p ≡ false)
 unmarked-some marks None p h = absurd (cc)
-unmarked-some marks (Some q) p h = by (is_marked marks q) refl
-  where
-    by : (b : Bool) → is_marked marks q ≡ b → (Some q ≡ Some p) × (is_marked marks p ≡ false)
-    by true e = absurd (let bad : None ≡ Some p = rw e at h in cc)
-    by false e =
-        let same : Some q ≡ Some p = rw e at h in
-        let one : q ≡ p = cc in
-        (same, ap (is_marked marks) (sym one) ∙ e)
+unmarked-some marks (Some q) p h = grind arith
 
 unmarked-none : (marks : List Bool) (p : ℕ) → unmarked marks (Some p) ≡ None → is_marked marks p ≡ true
-unmarked-none marks p h = by (is_marked marks p) refl
-  where
-    by : (b : Bool) → is_marked marks p ≡ b → is_marked marks p ≡ true
-    by true e = e
-    by false e = absurd (let bad : Some p ≡ None = rw e at h in cc)
+unmarked-none marks p h = grind arith
 
 module _ (base : List Decl) (gone changed : List Bool) (rs : List Replaced) (k : AreKept base gone changed rs) where
   -- the declaration at the place is the only one of its kind and name, and it is kept
@@ -103,15 +92,10 @@ module _ (base : List Decl) (gone changed : List Bool) (rs : List Replaced) (k :
   unplaced kind name h = position-Nowhere (has_key (key_at kind name)) (kept gone (changed_by rs base)) (nowhere kind name h)
 
   pub count-kept : count_below (length base) gone + length (kept gone (changed_by rs base)) ≡ length base
-  count-kept =
-      ap (λ n. count_below n gone + length (kept gone (changed_by rs base))) (sym (length-changed rs base))
-      ∙ length_kept gone (changed_by rs base) ∙ length-changed rs base
+  count-kept = grind (arith, length, length-changed, length_kept)
 
   pub few : marked_count gone + length (kept gone (changed_by rs base)) ≤ positions.limit
-  few =
-      let size = length-changed rs base in
-      let low = few_kept gone (changed_by rs base) (omega (arith, size, k.listed.count, k.gone_size)) in
-      omega (arith, low, k.gone_size)
+  few = grind (arith, length-changed, few_kept)
 
   -- a removal of what is kept
   pub removed : (kind : Kind) (name : List ℕ) (p : ℕ) → unmarked gone (position (is_of kind name) base) ≡ Some p
@@ -132,13 +116,7 @@ module _ (base : List Decl) (gone changed : List Bool) (rs : List Replaced) (k :
   pub still-kept : (d : Decl) (p : ℕ) (more : List Replaced) → unmarked gone (position (is_of (kind_of d) (name_of_decl d)) base) ≡ Some p
       → changed_by more base ≡ slice_set (changed_by rs base) p d → AreMarked (slice_set changed p true) more
       → AreKept base gone (slice_set changed p true) more
-  still-kept d p more h e m = let s = stands (kind_of d) (name_of_decl d) p h in record {
-    listed = k.listed;
-    gone_size = k.gone_size;
-    changed_size = length-set changed p true ∙ k.changed_size;
-    marked = m;
-    alike = ap keys_in e ∙ keys-set d (changed_by rs base) p (first-stands (key_of d) (changed_by rs base) p s.only) ∙ k.alike;
-  }
+  still-kept d p more h e m = grind (arith, stands, length-set, keys-set, first-stands)
 
 -- by the same kind and name
 pub same-unmarked : (a kind : Kind) (n name : List ℕ) (base : List Decl) (gone : List Bool) (o : Option ℕ) → a ≡ kind → n ≡ name
